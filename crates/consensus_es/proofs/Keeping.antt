@@ -1,0 +1,22 @@
+-- A letter is kept.
+use Rattle.std.proofs.Common.{◌≡◌, ℕ, refl, sym, subst, Bool, true, cond, [], ◌&&◌}
+use Rattle.process_api.specs.Answer.{still}
+use Rattle.process_api.specs.Coordinator.{Coordinator, keep}
+use Rattle.process_api.specs.declared.consensus.Estimate.{Estimate}
+use Rattle.consensus_es.specs.declared.letters.Letters.{Letters}
+use Rattle.consensus_es.specs.declared.progress.Progress.{Progress}
+use Rattle.consensus_es.specs.Kept.{by_sender}
+use Rattle.consensus_es.specs.State.{state_of, Does}
+
+pub both : (a b : Bool) → a ≡ true → b ≡ true → (a && b) ≡ true
+both a b e f = λ i. e i && f i
+
+module _ (s : Progress) (b : Bool) (counts : b ≡ true) where
+  abbrev m : Coordinator
+  m = state_of s
+
+  pub kept_estimate : (new : Letters Estimate) (r sender : ℕ) (e : Estimate) → by_sender new ≡ keep (by_sender s.estimates) r sender e
+      → Does (record s { estimates = new }) [] [] (still (cond b (record m { kept = record m.kept { estimates = keep m.kept.estimates r sender e } }) m))
+  kept_estimate new r sender e h =
+      subst (λ z. Does (record s { estimates = new }) [] [] (still (cond z (record m { kept = record m.kept { estimates = keep m.kept.estimates r sender e } }) m))) (sym counts)
+      (record { state = λ i. record m { kept = record m.kept { estimates = h i } }; actions = refl })

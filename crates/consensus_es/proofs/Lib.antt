@@ -1,0 +1,7 @@
+mod Slots
+mod Dropping
+mod Settled
+mod Settling
+mod Keeping
+mod Bound
+mod Best

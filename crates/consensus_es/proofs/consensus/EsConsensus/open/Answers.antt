@@ -1,0 +1,10 @@
+use Rattle.std.proofs.Common.{subst, sym}
+use Rattle.consensus_es.specs.Orderly.{IsOrderly}
+use Rattle.consensus_es.proofs.Bound.{opening_orderly}
+use Rattle.consensus_es.proofs.consensus.EsConsensus.open.Goals as goal
+
+pub invariant_of-result : goal.invariant_of-result
+invariant_of-result c =
+    let n = c.new.result.processes in
+    let own = c.new.result.own in
+    record { orderly = λ alive. subst (IsOrderly n own) (sym c.open.ensures) (opening_orderly n own c.unwrap.result) }

@@ -1,0 +1,41 @@
+use Rattle.std.proofs.Common.{ap, subst, sym, length, arith}
+use Rattle.std.specs.FinSet as set
+use Rattle.process_api.proofs.Allowed.{algorithm_allowed}
+use Rattle.process_api.specs.Coordinator.{step_coordinator}
+use Rattle.process_api.specs.Mind.{Coordinating}
+use Rattle.process_api.specs.React.{react_algorithm}
+use Rattle.consensus_es.specs.Orderly.{IsOrderly}
+use Rattle.consensus_es.specs.State.{state_of}
+use Rattle.consensus_es.specs.Whole.{place_of, algorithm_of}
+use Rattle.consensus_es.proofs.Bound.{same_itself, step_few, untrue, within}
+use Rattle.consensus_es.proofs.consensus.EsConsensusAlgorithm.take.Goals as goal
+
+pub invariant_of-self : goal.invariant_of-self
+invariant_of-self c =
+    let m = c.args.self.now.membership in
+    let s = state_of c.args.self.now.progress in
+    let few = step_few m.processes m.own m.from_one m.one_of_them (set.contains c.args.suspects.now) (untrue _ c.requires) c.args.input.now s (c.args.self.now.orderly c.if-self.false) in
+    record { orderly = λ alive. subst (IsOrderly m.processes m.own) (sym c.in-Ok.ensures.state) few.0 }
+
+pub returns-in-Ok-clause-state : goal.returns-in-Ok-clause-state
+unfolding react_algorithm
+returns-in-Ok-clause-state c = ap (Coordinating (place_of c.args.self.now)) c.in-Ok.ensures.state
+
+pub returns-in-Ok-clause-actions : goal.returns-in-Ok-clause-actions
+unfolding react_algorithm
+returns-in-Ok-clause-actions c = c.in-Ok.ensures.actions
+
+pub returns-in-Ok-clause-allowed : goal.returns-in-Ok-clause-allowed
+returns-in-Ok-clause-allowed c =
+    let m = c.args.self.now.membership in
+    let place = place_of c.args.self.now in
+    algorithm_allowed place (algorithm_of c.args.self.now) c.args.input.now c.args.suspects.now (omega (arith, m.from_one, m.one_of_them)) (same_itself place)
+
+pub returns-in-Ok-clause-few : goal.returns-in-Ok-clause-few
+unfolding react_algorithm
+returns-in-Ok-clause-few c =
+    let m = c.args.self.now.membership in
+    let s = state_of c.args.self.now.progress in
+    let q = set.contains c.args.suspects.now in
+    let bound = step_few m.processes m.own m.from_one m.one_of_them q (untrue _ c.requires) c.args.input.now s (c.args.self.now.orderly c.if-self.false) in
+    within (length (step_coordinator m.processes m.own q c.args.input.now s).actions) m.processes bound.1 m.few

@@ -1,0 +1,19 @@
+use Rattle.consensus_es.proofs.Settled.{settled, settles_on, settles_here}
+use Rattle.consensus_es.proofs.Bound.{step_few, opening_orderly}
+use Rattle.consensus_es.proofs.Best.{best_is}
+use Rattle.consensus_es.proofs.laws.law_settled.Goals as goal
+
+pub returns-clause-over : goal.returns-clause-over
+returns-clause-over c n own is_suspected input s = settled n own is_suspected input s
+
+pub returns-clause-opens : goal.returns-clause-opens
+returns-clause-opens c n own proposal = opening_orderly n own proposal
+
+pub returns-clause-little : goal.returns-clause-little
+returns-clause-little c n own first last is_suspected not_itself input s orderly = step_few n own first last is_suspected not_itself input s orderly
+
+pub returns-clause-ends : goal.returns-clause-ends
+returns-clause-ends c n own is_suspected s = (settles_on n own is_suspected s, settles_here n own is_suspected s)
+
+pub returns-clause-best : goal.returns-clause-best
+returns-clause-best c n of_sender e is = best_is n of_sender e is

@@ -1,0 +1,12 @@
+use Rattle.std.proofs.Common.{◌+◌, cond}
+use Rattle.std.specs.FinSet as set
+use Rattle.process_api.specs.Coordinator.{waits_left}
+use Rattle.consensus_es.specs.State.{state_of}
+use Rattle.consensus_es.proofs.Settling.{Going}
+use Rattle.consensus_es.proofs.progress.Progress.settle.Given as goal
+
+abbrev pub invariant-loop-more : goal.invariant-loop-more
+invariant-loop-more l = Going l.fn.membership.processes l.fn.membership.own (set.contains l.fn.suspects) l.fn.self l.self l.fn.out.items l.out.items l.more
+
+abbrev pub decreases-loop-more : goal.decreases-loop-more
+decreases-loop-more l = waits_left l.fn.membership.processes l.fn.membership.own (state_of l.self) + cond l.more 1 0

@@ -1,0 +1,6 @@
+pub mod Kept
+pub mod Rounds
+pub mod State
+pub mod Orderly
+pub mod Whole
+pub mod Laws

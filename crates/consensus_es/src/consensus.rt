@@ -1,0 +1,78 @@
+//! Consensus by rotating coordinators.
+ghost use Rattle.std.specs.Prelude.{◌≡◌, Bool, false, IsSome, IfOk, unwrap_or};
+ghost use Rattle.process_api.specs.Coordinator.{opening_coordinator};
+ghost use Rattle.process_api.specs.Mind.{Coordinating};
+ghost use Rattle.scenario.specs.Opening.{place_of};
+ghost use Rattle.consensus_es.specs.Orderly.{IsOrderly};
+ghost use Rattle.consensus_es.specs.State.{state_of};
+
+use crate::membership::Membership;
+use crate::progress::Progress;
+use process_api::{Action, Algorithm, ProcSet, StepInput};
+use scenario::Opening;
+use std::alloc::{AllocError, Global};
+
+/// One process's part in consensus by rotating coordinators (Chandra and Toueg, Journal of the ACM 43(2), 1996). In each
+/// round, from 1 to 1,000,000,000,000, one process is the coordinator: it collects estimates from a majority, proposes the
+/// one adopted last, and where a majority acknowledges that, broadcasts it as the decision. The others wait for its
+/// proposal or until they suspect it. Decisions spread by diffusion, see [`Diffusion`](crate::Diffusion).
+///
+/// Contracts see the state of `process_api`'s definition, `Coordinator`, and whether a call has answered `Err`. Memory
+/// grows with the letters kept, those of the own round and of later ones, and with the rounds whose decision was seen.
+#[derive(Drop)]
+pub struct EsConsensus {
+    membership: Membership,
+    // the tick at which the run ends
+    horizon: u32,
+    progress: Progress,
+    failed: bool,
+    // why one input makes few actions; after an `Err` it may be broken
+    ghost orderly: { failed ≡ false → IsOrderly membership.processes membership.own (state_of progress) },
+}
+
+impl EsConsensus {
+    /// The process of this opening, before its start. Its estimate is its proposal, with the stamp 0.
+    ///
+    /// # Errors
+    ///
+    /// `AllocError` where memory was refused.
+    pub fn open(alloc: Global, opening: &Opening) -> Result<EsConsensus, AllocError>
+        requires { IsSome opening.now.proposal }
+        ensures opens { IfOk result (λ c. ⟦<EsConsensus as Algorithm>⟧.state c ≡ Coordinating (place_of opening.now) (opening_coordinator (unwrap_or opening.now.proposal 0))) }
+        ensures works { IfOk result (λ c. ⟦<EsConsensus as Algorithm>⟧.has_failed c ≡ false) }
+    {
+        Ok(EsConsensus {
+            membership: Membership::new(opening.own, opening.processes),
+            horizon: opening.horizon,
+            progress: Progress::open(alloc, opening.proposal.unwrap()),
+            failed: false,
+        })
+    }
+}
+
+impl Algorithm for EsConsensus {
+    ghost use Rattle.consensus_es.specs.Whole.{algorithm_of, answered_err};
+
+    ghost state = { algorithm_of };
+
+    ghost has_failed = { answered_err };
+
+    fn take(
+        &mut self,
+        _now: u32,
+        input: &StepInput,
+        suspects: &ProcSet,
+        out: &mut Vec<Action>,
+    ) -> Result<(), AllocError> {
+        if self.failed {
+            return Err(AllocError);
+        }
+        match self.progress.take(&self.membership, input, suspects, out) {
+            Ok(()) => Ok(()),
+            Err(error) => {
+                self.failed = true;
+                Err(error)
+            }
+        }
+    }
+}

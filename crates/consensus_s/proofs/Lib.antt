@@ -1,0 +1,4 @@
+pub mod Counting
+pub mod Slots
+pub mod Settled
+pub mod Allowed

@@ -1,0 +1,7 @@
+use Rattle.std.proofs.Common.{◌≡◌, None}
+use Rattle.process_api.specs.Cells.{cell}
+use Rattle.process_api.specs.ConsensusS.{first_to}
+use Rattle.consensus_s.proofs.vectors.first_value.Given as goal
+
+abbrev pub invariant-loop-before : goal.invariant-loop-before
+invariant-loop-before l = first_to l.before (cell l.fn.cells) ≡ None

@@ -1,0 +1,73 @@
+//! Consensus with S as a part of a machine.
+ghost use Rattle.std.specs.Prelude.{◌≡◌, false};
+ghost use Rattle.std.proofs.Props.{props};
+ghost use Rattle.consensus_s.specs.State.{exchange_of, IsOrderly};
+
+use crate::exchange::Exchange;
+use process_api::{Action, Algorithm, ProcSet, StepInput};
+use scenario::Opening;
+use std::alloc::{AllocError, Global};
+
+/// Consensus with a detector of class S at one process (Chandra and Toueg, Journal of the ACM 43(2), 1996).
+#[derive(Debug, Drop)]
+pub struct SConsensus {
+    pub(crate) opening: Opening,
+    exchange: Exchange,
+    failed: bool,
+    ghost orderly: { failed ≡ false → IsOrderly opening.own (exchange_of exchange) } by { Prim.hlevel props },
+}
+
+impl SConsensus {
+    ghost use Rattle.std.specs.Prelude.{IsSome, IfOk, unwrap_or};
+    ghost use Rattle.process_api.specs.ConsensusS.{opening_exchange};
+    ghost use Rattle.process_api.specs.Mind.{Exchanging};
+    ghost use Rattle.scenario.specs.Opening.{place_of};
+    ghost use Rattle.consensus_s.specs.Machine.{state_of, is_failed};
+
+    /// The algorithm of a process that has a proposal, before its start.
+    ///
+    /// # Errors
+    ///
+    /// `AllocError` where memory was refused.
+    pub fn open(alloc: Global, opening: &Opening) -> Result<SConsensus, AllocError>
+        requires { IsSome opening.now.proposal }
+        ensures state { IfOk result (λ s. state_of s ≡ Exchanging (place_of opening.now) (opening_exchange opening.now.processes opening.now.own (unwrap_or opening.now.proposal 0))) }
+        ensures alive { IfOk result (λ s. is_failed s ≡ false) }
+    {
+        let proposal = opening.proposal.unwrap();
+        let exchange = Exchange::open(alloc, opening, proposal)?;
+        Ok(SConsensus {
+            opening: *opening,
+            exchange,
+            failed: false,
+        })
+    }
+}
+
+impl Algorithm for SConsensus {
+    ghost use Rattle.consensus_s.specs.Machine.{state_of, is_failed};
+
+    ghost state = { state_of };
+
+    ghost has_failed = { is_failed };
+
+    #[tactic(auto, unfolding(process_api::specs::React::react_algorithm))]
+    fn take(
+        &mut self,
+        _now: u32,
+        input: &StepInput,
+        suspects: &ProcSet,
+        out: &mut Vec<Action>,
+    ) -> Result<(), AllocError> {
+        if self.failed {
+            return Err(AllocError);
+        }
+        match self.exchange.step(&self.opening, input, suspects, out) {
+            Ok(()) => Ok(()),
+            Err(e) => {
+                self.failed = true;
+                Err(e)
+            }
+        }
+    }
+}

@@ -1,0 +1,9 @@
+pub mod Allowed
+pub mod BitWords
+pub mod Keeping
+pub mod KeyOrder
+pub mod Lists
+pub mod Minds
+pub mod Rising
+pub mod OneCrash
+pub mod Alone

@@ -1,0 +1,41 @@
+//! The words that every crate of the bench speaks: processes and sets of them, keys, letters, inputs, actions,
+//! notes and entries; and the traits of machines.
+//!
+//! A machine is one simulated process. It takes inputs (its start, letters, wakes), each at a tick, and answers with
+//! actions (letters, wakes, notes). What it means is a *mind*, plain data, and one definition, `react`, says what
+//! an input makes of a mind and which actions it causes (`specs/React.antt`). The one contract for the layers above
+//! is that of [`Process`]: on `Ok`, `on_input` is `react`, and nothing else.
+//!
+//! A mind has parts, each with a definition of its own in `specs/`: a detector (`Timeout`), perhaps a reduction
+//! over it (`Reduction`), and perhaps a consensus algorithm (`ConsensusS`, `Coordinator` with `Diffusion`). The
+//! crates that implement a part meet [`Detector`] or [`Algorithm`].
+#![tactic(auto)]
+
+mod action;
+mod cells;
+mod consensus;
+mod entry;
+mod key;
+mod message;
+mod numbers;
+mod parts;
+mod pid;
+mod proc_set;
+mod process;
+mod trace;
+
+pub use action::{Action, Note, note_that, send_to, wake_after};
+pub use cells::Cells;
+pub use consensus::{Estimate, Phase};
+pub use entry::{Entry, Kind};
+pub use key::Key;
+pub use message::{Letter, Payload, StepInput, Tag};
+pub use numbers::{DetectorNumbers, Watch};
+pub use parts::{Algorithm, Detector};
+pub use pid::Pid;
+pub use proc_set::{Members, ProcSet};
+pub use process::Process;
+pub use trace::Trace;
+
+#[cfg(test)]
+mod tests;

@@ -1,0 +1,58 @@
+//! Letters and inputs.
+
+use crate::cells::Cells;
+use crate::key::Key;
+use crate::pid::Pid;
+use crate::proc_set::ProcSet;
+
+/// What a wake is for.
+#[derive(Clone, Copy, Debug, PartialEq, Eq)]
+pub enum Tag {
+    /// The time-out detector sends its next Alive letters.
+    Beat,
+    /// The time-out detector looks for processes that were silent for too long.
+    Check,
+    /// The reduction shares what the detector below it suspects.
+    Share,
+}
+
+/// What a letter says. Rounds are 1 to 1,000,000,000,000, and values 0 to 4,294,967,295.
+#[derive(Debug, Drop)]
+pub enum Payload {
+    /// The time-out detector: the sender is alive.
+    Alive,
+    /// The reduction: whom the sender's base detector suspects.
+    Suspects(ProcSet),
+    /// Consensus with S: what the round before brought the sender.
+    Vector { round: u64, cells: Cells },
+    /// Consensus with S, the last round: all that the sender knows.
+    Last { cells: Cells },
+    /// The rotating coordinator: what the sender would decide, and since which round (0: from the start).
+    Estimate { round: u64, value: u32, stamp: u64 },
+    /// The rotating coordinator: what the round's coordinator proposes.
+    Proposal { round: u64, value: u32 },
+    /// The rotating coordinator: whether the sender adopted the round's proposal.
+    Reply { round: u64, ack: bool },
+    /// Diffusion: the decision of a round.
+    Decide { round: u64, value: u32 },
+}
+
+/// What a process takes in one step.
+#[derive(Debug, Drop)]
+pub enum StepInput {
+    /// The process starts. Each process gets one start, at tick 0.
+    Start,
+    /// A letter came.
+    Letter { sender: Pid, payload: Payload },
+    /// A wake that the process set itself has come.
+    Wake(Tag),
+}
+
+/// A letter on its way: the key of the event that it becomes, and what it says.
+#[derive(Debug, Drop)]
+pub struct Letter {
+    /// When, by whom and from whom it is taken, and its number on its link.
+    pub key: Key,
+    /// What it says.
+    pub payload: Payload,
+}

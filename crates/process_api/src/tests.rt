@@ -1,0 +1,158 @@
+mod alone;
+
+use crate::*;
+use std::alloc::{AllocError, Global};
+use std::test::Fail;
+
+#[test]
+fn processes_are_numbered_1_to_64(rt: HostRuntime) -> Result<(), Fail> {
+    for number in [0, 65, 1000, 65535] {
+        assert!(rt; Pid::new(number).is_none(), "at {number}");
+    }
+    for number in [1, 2, 33, 63, 64] {
+        let pid = Pid::new(number).ok_or("refused")?;
+        assert_eq!(rt; pid.number(), number);
+    }
+    Ok(())
+}
+
+// The members as they come, and as the set tells them.
+fn numbers(alloc: Global, set: &ProcSet) -> Result<Vec<u16>, AllocError> {
+    let mut numbers = Vec::new(alloc);
+    for member in set.iter() {
+        numbers.push(member.number())?;
+    }
+    Ok(numbers)
+}
+
+#[test]
+fn members_come_in_rising_order(rt: HostRuntime) -> Result<(), Fail> {
+    let alloc = rt.alloc();
+    let mut set = ProcSet::new();
+    assert!(rt; set.is_empty());
+    assert!(rt; numbers(alloc, &set)?.is_empty());
+    for number in [64, 1, 33, 2, 33] {
+        set.insert(Pid::new(number).ok_or("refused")?);
+    }
+    assert_eq!(rt; numbers(alloc, &set)?.as_slice(), [1, 2, 33, 64].as_slice());
+    assert_eq!(rt; set.len(), 4);
+    assert!(rt; !set.is_empty());
+    let mut came = Vec::new(alloc);
+    for member in &set {
+        came.push(member.number())?;
+    }
+    assert_eq!(rt; came.as_slice(), [1, 2, 33, 64].as_slice());
+    Ok(())
+}
+
+#[test]
+fn sets_gain_and_lose_members(rt: HostRuntime) -> Result<(), Fail> {
+    let alloc = rt.alloc();
+    let two = Pid::new(2).ok_or("refused")?;
+    let five = Pid::new(5).ok_or("refused")?;
+    let mut set = ProcSet::new();
+    set.insert(two);
+    set.insert(five);
+    let kept = set.copy();
+    set.remove(two);
+    set.remove(two);
+    assert!(rt; set.contains(five) && !set.contains(two));
+    assert!(rt; kept.contains(five) && kept.contains(two));
+    let mut other = ProcSet::new();
+    other.insert(Pid::new(64).ok_or("refused")?);
+    let both = kept.union(&other);
+    assert_eq!(rt; numbers(alloc, &both)?.as_slice(), [2, 5, 64].as_slice());
+    assert_eq!(rt;
+        numbers(alloc, &both.up_to(5))?.as_slice(),
+        [2, 5].as_slice()
+    );
+    assert_eq!(rt; numbers(alloc, &both.up_to(4))?.as_slice(), [2].as_slice());
+    assert_eq!(rt; both.up_to(0).len(), 0);
+    assert_eq!(rt; both.up_to(64).len(), 3);
+    Ok(())
+}
+
+#[test]
+fn keys_rise_by_tick_receiver_sender_and_number(rt: HostRuntime) -> Result<(), Fail> {
+    let one = Pid::new(1).ok_or("refused")?;
+    let two = Pid::new(2).ok_or("refused")?;
+    let key = |tick: u32, receiver: Pid, sender: Pid, number: u64| Key {
+        tick,
+        receiver,
+        sender,
+        number,
+    };
+    let rising = [
+        key(3, one, one, 9),
+        key(3, one, two, 1),
+        key(3, one, two, 2),
+        key(3, two, one, 1),
+        key(4, one, one, 0),
+    ];
+    for (place, earlier) in rising.iter().enumerate() {
+        for (other, later) in rising.iter().enumerate() {
+            assert_eq!(rt;
+                earlier.is_before(later),
+                place < other,
+                "{place} and {other}"
+            );
+            assert_eq!(rt; earlier < later, place < other, "{place} and {other}");
+        }
+    }
+    Ok(())
+}
+
+#[test]
+fn cells_are_copied(rt: HostRuntime) -> Result<(), Fail> {
+    let alloc = rt.alloc();
+    let cells = Cells::new(vec![in alloc; None, Some(20u32), None]?);
+    let copied = cells.copy()?;
+    assert_eq!(rt; copied.len(), 3);
+    assert!(rt; !copied.is_empty());
+    assert_eq!(rt; copied.get(Pid::new(2).ok_or("refused")?), Some(20));
+    assert_eq!(rt; copied.get(Pid::new(3).ok_or("refused")?), None);
+    assert_eq!(rt; copied.get(Pid::new(4).ok_or("refused")?), None);
+    assert_eq!(rt; copied.into_vec().as_slice(), cells.into_vec().as_slice());
+    Ok(())
+}
+
+#[test]
+fn actions_are_appended(rt: HostRuntime) -> Result<(), Fail> {
+    let alloc = rt.alloc();
+    let one = Pid::new(1).ok_or("refused")?;
+    let mut out = Vec::new(alloc);
+    send_to(&mut out, one, Payload::Alive)?;
+    wake_after(&mut out, 7, Tag::Share)?;
+    note_that(&mut out, Note::Round(1))?;
+    let text = format!(in alloc; "{out:?}")?;
+    assert_eq!(rt;
+        text.as_str(),
+        "[Send { to: Pid { number: 1 }, payload: Alive }, Wake { pause: 7, tag: Share }, Note(Round(1))]"
+    );
+    Ok(())
+}
+
+#[test]
+fn a_trace_gives_its_entries(rt: HostRuntime) -> Result<(), Fail> {
+    let alloc = rt.alloc();
+    let one = Pid::new(1).ok_or("refused")?;
+    let key = Key {
+        tick: 0,
+        receiver: one,
+        sender: one,
+        number: 0,
+    };
+    let entry = Entry {
+        key,
+        kind: Kind::Start,
+        sent: 2,
+        lost: 0,
+        notes: Vec::new(alloc),
+    };
+    let mut entries = Vec::new(alloc);
+    entries.push(entry)?;
+    let trace = Trace::new(entries);
+    assert_eq!(rt; trace.entries().len(), 1);
+    assert_eq!(rt; trace.into_vec().len(), 1);
+    Ok(())
+}

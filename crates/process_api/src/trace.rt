@@ -1,0 +1,50 @@
+//! Traces.
+ghost use Rattle.std.specs.Prelude.{◌≡◌, IsTrue};
+ghost use Rattle.process_api.specs.Order.{is_rising};
+
+use crate::entry::Entry;
+use std::marker::Model;
+
+/// The entries of a run, with strictly rising keys. Contracts see their list.
+#[derive(Debug, Drop)]
+pub struct Trace {
+    entries: Vec<Entry>,
+}
+
+impl Model for Trace {
+    ghost use Rattle.std.specs.Prelude.{List, IsTrue};
+    ghost use Rattle.process_api.specs.EntryRecord.{EntryRecord};
+    ghost use Rattle.process_api.specs.Order.{is_rising};
+
+    ghost Value = { List EntryRecord };
+
+    ghost view = { λ t. t.entries.items };
+
+    ghost invariant = { λ t. IsTrue (is_rising t.entries.items) };
+}
+
+impl Trace {
+    /// The trace of these entries.
+    pub fn new(entries: Vec<Entry>) -> Trace
+        requires { IsTrue (is_rising entries.items) }
+        ensures { result ≡ entries.items }
+    {
+        Trace { entries }
+    }
+
+    /// The entries, in the order of their keys.
+    pub fn entries(&self) -> &[Entry]
+        ensures value { result.now ≡ self.now }
+        ensures rising { IsTrue (is_rising result.now) }
+    {
+        self.entries.as_slice()
+    }
+
+    /// The entries, in the order of their keys.
+    pub fn into_vec(self) -> Vec<Entry>
+        ensures value { result.items ≡ self }
+        ensures rising { IsTrue (is_rising result.items) }
+    {
+        self.entries
+    }
+}

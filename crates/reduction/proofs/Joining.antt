@@ -1,0 +1,101 @@
+-- A base detector's step and then the reduction's are the step of the two together.
+use Rattle.std.proofs.Common.{◌≡◌, ◌≤◌, ◌++◌, ℕ, List, length, ap, sym, subst, refl, ◌∙◌, arith, append_assoc, length-append, Option, None, Some}
+use Rattle.std.specs.List.{All}
+use Rattle.std.proofs.lemmas.List.Elements.{All-append}
+use Rattle.process_api.specs.Sets.{Processes, changes}
+use Rattle.process_api.specs.Place.{Place}
+use Rattle.process_api.specs.Answer.{Answer}
+use Rattle.process_api.specs.Actions.{IsAllowed, notes_of_layer}
+use Rattle.process_api.specs.Mind.{Lower, layer_of, suspects_of, most_actions}
+use Rattle.process_api.specs.React.{react_lower}
+use Rattle.process_api.specs.Reduction.{ReductionState, step_reduction}
+use Rattle.process_api.specs.Timeout.{DetectorState, step_detector}
+use Rattle.process_api.specs.declared.action.Action.{Action}
+use Rattle.process_api.specs.declared.message.StepInput.{StepInput}
+use Rattle.reduction.proofs.LayerNotes.{notes_of_layer-append, detector_notes, reduction_notes}
+use Rattle.reduction.proofs.Bounds.{reduction_allowed, reduction_few}
+
+-- on layer 1 there is no reduction
+base_alone : (m : Lower) → layer_of m ≡ 1 → m.reduction ≡ None
+base_alone m h = go m.reduction h
+  where
+    go : (o : Option ReductionState) → elim o as (λ z. ℕ) [ None ↦ 1 | Some r ↦ 2 ] ≡ 1 → o ≡ None
+    go None e = refl
+    go (Some r) e = absurd (omega (arith, e))
+
+module _ (m : Lower) (base : layer_of m ≡ 1) (r : ReductionState) (now : ℕ) (input : StepInput) where
+  abbrev below : Answer DetectorState
+  below = step_detector m.place m.numbers m.detector now input
+
+  abbrev over : Answer ReductionState
+  over = step_reduction m.place r below.state.suspects input
+
+  abbrev top : Lower
+  top = record m { reduction = Some r }
+
+  none : m.reduction ≡ None
+  none = base_alone m base
+
+  one_acts : react_lower (record m { reduction = None }) now input ≡ record { state = record m { detector = below.state; reduction = None }; actions = below.actions }
+  unfolding react_lower
+  one_acts = refl
+
+  alone : react_lower m now input ≡ record { state = record m { detector = below.state; reduction = None }; actions = below.actions }
+  alone = ap (λ o. react_lower (record m { reduction = o }) now input) none ∙ one_acts
+
+  both_act : react_lower top now input ≡ record { state = record top { detector = below.state; reduction = Some over.state }; actions = below.actions ++ over.actions }
+  unfolding react_lower
+  both_act = refl
+
+  abbrev answered : Answer Lower → List Action
+  answered a = a.actions
+
+  base_actions : (react_lower m now input).actions ≡ below.actions
+  base_actions = ap answered alone
+
+  top_actions : (react_lower top now input).actions ≡ below.actions ++ over.actions
+  top_actions = ap answered both_act
+
+  pub joined_few : m.place.processes ≤ 64 → length (react_lower m now input).actions ≤ most_actions m → length (react_lower top now input).actions ≤ 1024
+  joined_few few f =
+      omega (
+        arith,
+        few,
+        subst (λ o. length (react_lower m now input).actions ≤ elim o as (λ z. ℕ) [ None ↦ 512 | Some reduction ↦ 1024 ]) none f,
+        ap length base_actions,
+        ap length top_actions,
+        length-append below.actions over.actions,
+        reduction_few m.place r below.state.suspects input few,
+      )
+
+  pub joined_allowed : 1 ≤ r.period → All (IsAllowed m.place.processes) (react_lower m now input).actions → All (IsAllowed m.place.processes) (react_lower top now input).actions
+  joined_allowed period f =
+      subst (All (IsAllowed m.place.processes)) (sym top_actions)
+      (All-append (IsAllowed m.place.processes) below.actions over.actions (subst (All (IsAllowed m.place.processes)) base_actions f) (reduction_allowed m.place r below.state.suspects input period))
+
+  -- the two steps as the code takes them
+  module _ (next : Lower) (after : ReductionState) (s : Processes) (place : Place) (here : place ≡ m.place)
+      (lower_is : next ≡ (react_lower m now input).state) (s_is : s ≡ suspects_of next) (after_is : after ≡ (step_reduction place r s input).state) where
+    next_is : next ≡ record m { detector = below.state; reduction = None }
+    next_is = lower_is ∙ ap (λ (a : Answer Lower). a.state) alone
+
+    seen : s ≡ below.state.suspects
+    seen = s_is ∙ ap suspects_of next_is
+
+    over_is : after ≡ over.state
+    over_is = after_is ∙ (λ i. (step_reduction (here i) r (seen i) input).state)
+
+    pub joined_state : record next { reduction = Some after } ≡ (react_lower top now input).state
+    joined_state = (λ i. record (next_is i) { reduction = Some (over_is i) }) ∙ sym (ap (λ (a : Answer Lower). a.state) both_act)
+
+    pub joined_actions : (old one two : List Action) → one ≡ old ++ (react_lower m now input).actions → two ≡ one ++ (step_reduction place r s input).actions → two ≡ old ++ (react_lower top now input).actions
+    joined_actions old one two f g =
+        g ∙ ((λ i. (f ∙ ap (λ xs. old ++ xs) base_actions) i ++ (step_reduction (here i) r (seen i) input).actions)
+        ∙ (append_assoc old below.actions over.actions ∙ ap (λ xs. old ++ xs) (sym top_actions)))
+
+    pub joined_changes : notes_of_layer 2 (react_lower top now input).actions ≡ changes 2 m.place.processes r.output after.output
+    joined_changes =
+        ap (notes_of_layer 2) top_actions
+        ∙ (notes_of_layer-append 2 below.actions over.actions
+        ∙ ((λ i. detector_notes m.place m.numbers m.detector now input i ++ reduction_notes m.place r below.state.suspects input i)
+        ∙ ap (λ (t : ReductionState). changes 2 m.place.processes r.output t.output) (sym over_is)))

@@ -1,0 +1,5 @@
+pub mod Numbering
+pub mod Sets
+pub mod LayerNotes
+pub mod Bounds
+pub mod Joining

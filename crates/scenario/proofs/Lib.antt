@@ -1,0 +1,11 @@
+pub mod FieldFacts
+pub mod NumberFacts
+pub mod ProposalFacts
+pub mod Slots
+pub mod KeyFacts
+pub mod Steps
+pub mod Taking
+pub mod Places
+pub mod BelowFacts
+pub mod RangeFacts
+pub mod Reading

@@ -1,0 +1,87 @@
+-- Lemmas on the first of some rules that applies.
+use Rattle.std.proofs.Common.{◌≡◌, ℕ, zero, suc, ◌<◌, ◌≤◌, ◌==◌, Option, Bool, true, false, refl, sym, ap, ◌∙◌, List, [], ◌∷◌, ◌++◌, arith, subst, Result, Ok, Err, IfErr, IsErrAnd}
+use Rattle.std.proofs.lemmas.Bool.{eqb-true}
+use Rattle.toml.specs.Data.{Members}
+use Rattle.scenario.specs.Refusals.{Rule, rule_at, number_of, is_memory, NamesPair, IsFirst}
+use Rattle.scenario.specs.Groups.{Passes, Decided, Stops, StopsAt}
+use Rattle.scenario.specs.declared.error.ScenarioError.{ScenarioError}
+
+pub passes_all : (rs : List Rule) (d : Option Members) → Passes rs d → (k : ℕ) → (rule_at rs k).applies d ≡ false
+passes_all [] d passes k = refl
+passes_all (r ∷ rs) d passes zero = passes.0
+passes_all (r ∷ rs) d passes (suc k) = passes_all rs d passes.1 k
+
+pub passes_joined : (xs ys : List Rule) (d : Option Members) → Passes xs d → Passes ys d → Passes (xs ++ ys) d
+passes_joined [] ys d passes also = also
+passes_joined (r ∷ xs) ys d passes also = (passes.0, passes_joined xs ys d passes.1 also)
+
+-- the first rule applies
+pub first_here : (r : Rule) (rs : List Rule) (d : Option Members) (e : ScenarioError) → r.number ≡ number_of e → r.applies d ≡ true → NamesPair d e → IsFirst (r ∷ rs) d e
+first_here r rs d e number applied pair = record { place = 0; number = number; applied = applied; none_before = λ k lt. absurd (omega arith); pair = pair }
+
+-- none of some rules applies
+pub first_after : (xs ys : List Rule) (d : Option Members) (e : ScenarioError) → Passes xs d → IsFirst ys d e → IsFirst (xs ++ ys) d e
+first_after [] ys d e passes first = first
+first_after (r ∷ xs) ys d e passes first =
+    let rest : IsFirst (xs ++ ys) d e = first_after xs ys d e passes.1 first in
+    record {
+      place = suc rest.place;
+      number = rest.number;
+      applied = rest.applied;
+      none_before = λ k lt. before r (xs ++ ys) d rest.place passes.0 rest.none_before k lt;
+      pair = rest.pair;
+    }
+  where
+    before : (r : Rule) (rs : List Rule) (d : Option Members) (place : ℕ) → r.applies d ≡ false → ((k : ℕ) → k < place → (rule_at rs k).applies d ≡ false)
+        → (k : ℕ) → k < suc place → (rule_at (r ∷ rs) k).applies d ≡ false
+    before r rs d place here rest zero lt = here
+    before r rs d place here rest (suc k) lt = rest k (omega arith)
+
+-- rules that come after don't matter
+widened_at : (xs ys : List Rule) (place : ℕ) (d : Option Members) → (rule_at xs place).applies d ≡ true → (k : ℕ) → k ≤ place → rule_at (xs ++ ys) k ≡ rule_at xs k
+widened_at [] ys place d applied k le = cc
+widened_at (r ∷ xs) ys place d applied zero le = refl
+widened_at (r ∷ xs) ys zero d applied (suc k) le = absurd (omega arith)
+widened_at (r ∷ xs) ys (suc place) d applied (suc k) le = widened_at xs ys place d applied k (omega arith)
+
+pub first_widened : (xs ys : List Rule) (d : Option Members) (e : ScenarioError) → IsFirst xs d e → IsFirst (xs ++ ys) d e
+first_widened xs ys d e first =
+    let here : rule_at (xs ++ ys) first.place ≡ rule_at xs first.place = widened_at xs ys first.place d first.applied first.place (omega arith) in
+    record {
+      place = first.place;
+      number = ap (λ r. r.number) here ∙ first.number;
+      applied = ap (λ r. r.applies d) here ∙ first.applied;
+      none_before = λ k lt. ap (λ r. r.applies d) (widened_at xs ys first.place d first.applied k (omega arith)) ∙ first.none_before k lt;
+      pair = first.pair;
+    }
+
+pub first_of_stops : (rs : List Rule) (d : Option Members) (e : ScenarioError) → Stops (number_of e) rs d → NamesPair d e → IsFirst rs d e
+first_of_stops [] d e stops pair = absurd stops
+first_of_stops (r ∷ rs) d e stops pair =
+    let split : (b : Bool) → (r.number == number_of e) ≡ b → Decided b (r.applies d ≡ true) ((r.applies d ≡ false) × Stops (number_of e) rs d) → IsFirst (r ∷ rs) d e =
+    λ b. elim b as (λ v. (r.number == number_of e) ≡ v → Decided v (r.applies d ≡ true) ((r.applies d ≡ false) × Stops (number_of e) rs d) → IsFirst (r ∷ rs) d e) [
+      | true ↦ λ same applied. first_here r rs d e (eqb-true r.number (number_of e) same) applied pair
+      | false ↦ λ other rest. first_after (r ∷ []) rs d e (rest.0, tt) (first_of_stops rs d e rest.1 pair)
+    ] in
+    split (r.number == number_of e) refl stops
+
+-- one rule applies, after some that don't
+pub first_at : (before : List Rule) (r : Rule) (after : List Rule) (d : Option Members) (e : ScenarioError) → Passes before d
+    → r.number ≡ number_of e → r.applies d ≡ true → NamesPair d e → IsFirst (before ++ (r ∷ after)) d e
+first_at before r after d e passes number applied pair = first_after before (r ∷ after) d e passes (first_here r after d e number applied pair)
+
+-- the same, of a refusal that is one of these
+pub first_named : (before : List Rule) (r : Rule) (after : List Rule) (d : Option Members) (e is : ScenarioError) → Passes before d
+    → e ≡ is → r.number ≡ number_of is → r.applies d ≡ true → NamesPair d is → IsFirst (before ++ (r ∷ after)) d e
+first_named before r after d e is passes same number applied pair =
+    subst (λ x. IsFirst (before ++ (r ∷ after)) d x) (sym same) (first_at before r after d is passes number applied pair)
+
+-- an error that `?` passes on
+pub carried : {A : Type 0} (P : ScenarioError → Type 0) (r : Result A ScenarioError) (x : ScenarioError) → IsErrAnd r (λ y. y ≡ x) → P x → IfErr r P
+carried P (Ok a) x e p = tt
+carried P (Err y) x e p = subst P (sym e) p
+
+-- a group stops, after some rules and before others
+pub first_in : (before group after : List Rule) (d : Option Members) (e : ScenarioError) → Passes before d → StopsAt group d e → is_memory e ≡ false → IsFirst (before ++ (group ++ after)) d e
+first_in before group after d e passes stops other =
+    first_after before (group ++ after) d e passes (first_widened group after d e (let s = stops other in first_of_stops group d e s.0 s.1))

@@ -1,0 +1,11 @@
+pub mod Numbers
+pub mod Opening
+pub mod Record
+pub mod Ranges
+pub mod Table
+pub mod Keys
+pub mod Text
+pub mod Rules
+pub mod Refusals
+pub mod Groups
+pub mod Parts

@@ -1,0 +1,80 @@
+-- What the code has read so far, seen as parts of the definitions.
+use Rattle.std.specs.Prelude.{◌≡◌, ◌≤◌, ◌<◌, ◌^◌, ℕ, ◌+◌, ◌-◌, ◌*◌, List, Bool, map, find, length, Option, Some, None, option_map, get_or, codes}
+use Rattle.toml.specs.Data.{Members}
+use Rattle.toml.specs.View.{table_view}
+use Rattle.scenario.specs.Record.{no_link}
+use Rattle.scenario.specs.Table as table
+use Rattle.scenario.specs.Table.{has_unlisted, has_lacking, has_mistyped, integers_at, table_at, table_or_empty, tables_at}
+use Rattle.scenario.specs.Text.{number_at, natural, algorithm_in, processes_of, detector_of, share_of, delays_of, pair_of, same_pair, links_among, crash_process, crash_tick, crashes_among}
+use Rattle.scenario.specs.Rules.{same_process}
+use Rattle.scenario.specs.declared.field.Field.{Field}
+use Rattle.scenario.specs.declared.keys.Tables.{Tables}
+use Rattle.scenario.specs.declared.keys.Fault.{Fault}
+use Rattle.scenario.specs.declared.keys.Fault.TheVariants.{Unlisted, Lacking, Mistyped}
+use Rattle.scenario.specs.declared.numbers.TopNumbers.{TopNumbers}
+use Rattle.scenario.specs.declared.parts.Parts.{Parts}
+use Rattle.scenario.specs.declared.link.Link.{Link}
+
+-- a key of the code's lists
+abbrev pub field_of : Field → table.Field
+field_of f = record { key = f.key.now; kind = f.kind; needed = f.needed }
+
+abbrev pub fields_of : List Field → List table.Field
+fields_of fs = map field_of fs
+
+abbrev pub fault_of : Fault → List table.Field → Members → Bool
+fault_of Unlisted = has_unlisted
+fault_of Lacking = has_lacking
+fault_of Mistyped = has_mistyped
+
+-- the tables are those of the top table
+pub record AreTables (s : Tables) : Type 0 where
+  pub detector : option_map (λ m. table_view m.now) s.detector ≡ table_at (codes "detector") (table_view s.top.now)
+  pub share : option_map (λ m. table_view m.now) s.share ≡ table_at (codes "share") (table_view s.top.now)
+  pub link : option_map (λ m. table_view m.now) s.link ≡ table_at (codes "link") (table_view s.top.now)
+  pub links : map (λ m. table_view m.now) s.links.items ≡ tables_at (codes "links") (table_view s.top.now)
+  pub crashes : map (λ m. table_view m.now) s.crashes.items ≡ tables_at (codes "crash") (table_view s.top.now)
+
+-- the numbers are those of the table
+pub record AreNumbersOf (t : Members) (n : TopNumbers) : Type 0 where
+  pub processes : n.processes ≡ processes_of t
+  pub processes_low : 1 ≤ n.processes
+  pub processes_high : n.processes ≤ 64
+  pub horizon : n.horizon ≡ number_at (codes "horizon") 0 t
+  pub lookahead : n.lookahead ≡ number_at (codes "lookahead") 0 t
+  pub limit : n.limit ≡ number_at (codes "limit") 1000000 t
+  pub seed : n.seed ≡ number_at (codes "seed") 0 t
+  pub seed_high : n.seed < 2 ^ 63
+
+-- the parts are those of the table
+pub record ArePartsOf (t : Members) (p : Parts) : Type 0 where
+  pub algorithm : Some p.algorithm ≡ algorithm_in t
+  pub proposals : p.proposals.items ≡ map natural (integers_at (codes "proposals") t)
+  pub detector : p.detector ≡ detector_of (table_or_empty (codes "detector") t)
+  pub share : p.share ≡ option_map share_of (table_at (codes "share") t)
+  pub crashes : p.crashes.items ≡ crashes_among (tables_at (codes "crash") t) (processes_of t)
+  pub links : p.links.items ≡ links_among (delays_of (table_or_empty (codes "link") t)) (tables_at (codes "links") t) (processes_of t)
+
+-- the number is one of 1 to n
+pub record IsProcess (n p : ℕ) : Type 0 where
+  pub low : 1 ≤ p
+  pub high : p ≤ n
+
+-- both of a pair are
+pub record AreProcesses (n : ℕ) (pair : ℕ × ℕ) : Type 0 where
+  pub from : IsProcess n pair.0
+  pub to : IsProcess n pair.1
+
+-- the link of a pair among n processes, in a list by sender and then by receiver
+abbrev pub link_in : ℕ → List Link → ℕ × ℕ → Link
+link_in n links pair = get_or links ((pair.0 - 1) * n + (pair.1 - 1)) no_link
+
+-- of n processes: each pair's place holds the link of the pair's table, if it has one
+pub record HoldLinks (n : ℕ) (links : List (Option Link)) (tables : List Members) : Type 0 where
+  pub full : length links ≡ n * n
+  pub held : (pair : ℕ × ℕ) → AreProcesses n pair → get_or links ((pair.0 - 1) * n + (pair.1 - 1)) None ≡ option_map delays_of (find (λ l. same_pair (pair_of l) pair) tables)
+
+-- of n processes: each process's place holds the tick of the process's table, if it has one
+pub record HoldCrashes (n : ℕ) (ticks : List (Option ℕ)) (tables : List Members) : Type 0 where
+  pub full : length ticks ≡ n
+  pub held : (p : ℕ) → IsProcess n p → get_or ticks (p - 1) None ≡ option_map crash_tick (find (λ c. same_process (crash_process c) p) tables)

@@ -1,0 +1,155 @@
+-- The rules by which a scenario's table is refused, each by itself.
+use Rattle.std.specs.Prelude.{ℕ, ◌==◌, nat_le, nat_lt, ℤ, pos, List, [], ◌∷◌, length, map, filter, find, Bool, true, false, not, ◌&&◌, ◌||◌, Option, Some, is_some, is_none, codes}
+use Rattle.std.specs.List.{list_any, range_with_len, flat_map}
+use Rattle.std.specs.Option.{option_map_or}
+use Rattle.toml.specs.Data.{Members}
+use Rattle.scenario.specs.Record.{Record, link}
+use Rattle.scenario.specs.Table.{number_or, integers_at, has_key, table_at, table_or_empty, tables_at, has_unlisted, has_lacking, has_mistyped}
+use Rattle.scenario.specs.Keys.{some_table}
+use Rattle.scenario.specs.Text.{natural_of, algorithm_in, watch_in, delays_of, pair_of, same_pair, crash_process, processes_of, record_of}
+use Rattle.scenario.specs.declared.algorithm.AlgorithmKind.{AlgorithmKind}
+use Rattle.scenario.specs.declared.link.Link.{Link}
+use Rattle.scenario.specs.declared.algorithm.AlgorithmKind.TheVariants as kind
+
+-- ---- words
+
+-- the number lies between the ends
+abbrev pub is_within : ℕ → ℕ → ℤ → Bool
+is_within low high z = option_map_or (λ n. nat_le low n && nat_le n high) (natural_of z) false
+
+-- the number at a key, or its default, lies outside these ends
+unfoldable pub is_outside : ℕ → ℕ → List ℕ → ℕ → Members → Bool
+is_outside low high key default t = not (is_within low high (number_or key (pos default) t))
+
+-- the number at a key, or its default, is below 0
+unfoldable pub is_negative : List ℕ → ℕ → Members → Bool
+is_negative key default t = is_none (natural_of (number_or key (pos default) t))
+
+-- two of the tables have the same key
+abbrev pub has_repeat : {K : Type 0} → (K → K → Bool) → (Members → K) → List Members → Bool
+has_repeat same key [] = false
+has_repeat same key (t ∷ ts) = list_any (λ u. same (key t) (key u)) ts || has_repeat same key ts
+
+abbrev pub same_process : ℕ → ℕ → Bool
+same_process p q = p == q
+
+-- ---- the keys
+
+abbrev pub unknown_key : Members → Bool
+unknown_key t = some_table has_unlisted t
+
+abbrev pub missing_key : Members → Bool
+missing_key t = some_table has_lacking t
+
+abbrev pub wrong_kind : Members → Bool
+wrong_kind t = some_table has_mistyped t
+
+-- ---- the numbers of the top table
+
+abbrev pub version_refused : Members → Bool
+version_refused t = is_outside 1 1 (codes "version") 0 t
+
+abbrev pub processes_refused : Members → Bool
+processes_refused t = is_outside 1 64 (codes "processes") 0 t
+
+abbrev pub horizon_refused : Members → Bool
+horizon_refused t = is_outside 1 10000000 (codes "horizon") 0 t
+
+abbrev pub lookahead_refused : Members → Bool
+lookahead_refused t = is_outside 1 1000000 (codes "lookahead") 0 t
+
+abbrev pub limit_refused : Members → Bool
+limit_refused t = is_outside 1 100000000 (codes "limit") 1000000 t
+
+abbrev pub seed_refused : Members → Bool
+seed_refused t = is_negative (codes "seed") 0 t
+
+-- ---- the algorithm and its proposals
+
+abbrev pub algorithm_refused : Members → Bool
+algorithm_refused t = is_none (algorithm_in t)
+
+abbrev pub is_bad_proposal : ℤ → Bool
+is_bad_proposal z = not (is_within 0 4294967295 z)
+
+-- there are no proposals, or other ones than n numbers in their range
+unfoldable pub are_other_than : ℕ → Bool → List ℤ → Bool
+are_other_than n is_there zs = not is_there || (not (length zs == n) || list_any is_bad_proposal zs)
+
+-- without an algorithm there are proposals; with one they aren't one of each of n processes
+abbrev pub are_bad_proposals : Option AlgorithmKind → ℕ → Bool → List ℤ → Bool
+are_bad_proposals (Some kind.Idle) n is_there zs = is_there
+are_bad_proposals _ n is_there zs = are_other_than n is_there zs
+
+abbrev pub proposals_refused : Members → Bool
+proposals_refused t =
+    are_bad_proposals (algorithm_in t) (processes_of t) (has_key (codes "proposals") t) (integers_at (codes "proposals") t)
+
+-- ---- the detector and the reduction
+
+unfoldable pub is_bad_detector : Members → Bool
+is_bad_detector d =
+    is_outside 1 1000000 (codes "period") 0 d || (is_outside 1 1000000 (codes "check") 0 d
+    || (is_outside 1 1000000 (codes "timeout") 0 d || (is_outside 1 1000000 (codes "grow") 1 d
+    || is_none (watch_in d))))
+
+abbrev pub detector_refused : Members → Bool
+detector_refused t = is_bad_detector (table_or_empty (codes "detector") t)
+
+abbrev pub is_bad_share : Members → Bool
+is_bad_share s = is_outside 1 1000000 (codes "period") 0 s
+
+abbrev pub share_refused : Members → Bool
+share_refused t = option_map_or is_bad_share (table_at (codes "share") t) false
+
+-- ---- the links
+
+-- min or max out of range, min above max, or loss out of range
+unfoldable pub is_bad_link : Members → Bool
+is_bad_link l =
+    is_outside 1 1000000 (codes "min") 0 l || (is_outside 1 1000000 (codes "max") 0 l
+    || (nat_lt (delays_of l).max (delays_of l).min || is_outside 0 1000 (codes "loss") 0 l))
+
+-- of n processes: the delays are refused, from or to isn't a process, or both are one
+unfoldable pub is_bad_pair : ℕ → Members → Bool
+is_bad_pair n l =
+    is_bad_link l || (is_outside 1 n (codes "from") 0 l || (is_outside 1 n (codes "to") 0 l
+    || (pair_of l).0 == (pair_of l).1))
+
+-- some table is refused by itself, or two are of one pair
+abbrev pub are_bad_pairs : ℕ → List Members → Bool
+are_bad_pairs n tables = list_any (is_bad_pair n) tables || has_repeat same_pair pair_of tables
+
+abbrev pub links_refused : Members → Bool
+links_refused t = is_bad_link (table_or_empty (codes "link") t) || are_bad_pairs (processes_of t) (tables_at (codes "links") t)
+
+-- the pairs of different processes of 1 to n, by from, then to
+abbrev pub pairs_from : ℕ → ℕ → List (ℕ × ℕ)
+pairs_from n from = map (λ to. (from, to)) (filter (λ to. not (to == from)) (range_with_len 1 n))
+
+abbrev pub pairs : ℕ → List (ℕ × ℕ)
+pairs n = flat_map (pairs_from n) (range_with_len 1 n)
+
+-- the pair's link has its min below the lookahead
+abbrev pub is_below : (ℕ × ℕ → Link) → ℕ → ℕ × ℕ → Bool
+is_below links lookahead pair = nat_lt (links pair).min lookahead
+
+-- the least pair, by from, then to, whose link has its min below the lookahead
+unfoldable pub pair_below : Record → Option (ℕ × ℕ)
+pair_below s = find (is_below (λ pair. link s pair.0 pair.1) s.lookahead) (pairs s.processes)
+
+abbrev pub below_refused : Members → Bool
+below_refused t = is_some (pair_below (record_of t))
+
+-- ---- the crashes
+
+-- of n processes: the process isn't one of them, or the tick is out of range
+unfoldable pub is_bad_crash : ℕ → Members → Bool
+is_bad_crash n c = is_outside 1 n (codes "process") 0 c || is_outside 0 10000000 (codes "at") 0 c
+
+-- some table is refused by itself, or two are of one process
+abbrev pub are_bad_crashes : ℕ → List Members → Bool
+are_bad_crashes n tables = list_any (is_bad_crash n) tables || has_repeat same_process crash_process tables
+
+abbrev pub crashes_refused : Members → Bool
+crashes_refused t = are_bad_crashes (processes_of t) (tables_at (codes "crash") t)

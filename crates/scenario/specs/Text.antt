@@ -1,0 +1,117 @@
+-- The record that a scenario's table stands for, defaults filled in.
+use Rattle.std.specs.Prelude.{ℕ, ◌==◌, ℤ, pos, negsuc, List, [], map, find, Bool, ◌&&◌, Option, Some, None, option_map, unwrap_or, codes, if◌then◌else◌}
+use Rattle.std.specs.List.{range_with_len, flat_map}
+use Rattle.toml.specs.Data.{Members}
+use Rattle.process_api.specs.declared.numbers.DetectorNumbers.{DetectorNumbers}
+use Rattle.process_api.specs.declared.numbers.Watch.{Watch}
+use Rattle.process_api.specs.declared.numbers.Watch.TheVariants as watch
+use Rattle.scenario.specs.Record.{Record}
+use Rattle.scenario.specs.Table.{number_or, text_or, integers_at, same_text, table_at, table_or_empty, tables_at}
+use Rattle.scenario.specs.declared.algorithm.AlgorithmKind.{AlgorithmKind}
+use Rattle.scenario.specs.declared.algorithm.AlgorithmKind.TheVariants as kind
+use Rattle.scenario.specs.declared.link.Link.{Link}
+
+-- the number, where it isn't negative
+abbrev pub natural_of : ℤ → Option ℕ
+natural_of (pos n) = Some n
+natural_of (negsuc n) = None
+
+-- the number; 0 for a negative one
+abbrev pub natural : ℤ → ℕ
+natural z = unwrap_or (natural_of z) 0
+
+-- the number at a key, or its default; 0 for a negative one
+unfoldable pub number_at : List ℕ → ℕ → Members → ℕ
+number_at key default t = natural (number_or key (pos default) t)
+
+-- ---- names
+
+unfoldable pub algorithm_named : List ℕ → Option AlgorithmKind
+algorithm_named name =
+    if same_text name (codes "none") then Some kind.Idle
+    else if same_text name (codes "s") then Some kind.Strong
+    else if same_text name (codes "es") then Some kind.EventuallyStrong
+    else None
+
+unfoldable pub watch_named : List ℕ → Option Watch
+watch_named name =
+    if same_text name (codes "all") then Some watch.All
+    else if same_text name (codes "next") then Some watch.Next
+    else None
+
+abbrev pub algorithm_in : Members → Option AlgorithmKind
+algorithm_in t = algorithm_named (text_or (codes "algorithm") [] t)
+
+abbrev pub watch_in : Members → Option Watch
+watch_in d = watch_named (text_or (codes "watch") (codes "all") d)
+
+-- ---- the parts of the record
+
+abbrev pub detector_of : Members → DetectorNumbers
+detector_of d = record {
+  period = number_at (codes "period") 0 d;
+  check = number_at (codes "check") 0 d;
+  timeout = number_at (codes "timeout") 0 d;
+  grow = number_at (codes "grow") 1 d;
+  watch = unwrap_or (watch_in d) watch.All;
+}
+
+abbrev pub share_of : Members → ℕ
+share_of s = number_at (codes "period") 0 s
+
+-- what `link` or a table of `links` says of letters
+abbrev pub delays_of : Members → Link
+delays_of l = record {
+  min = number_at (codes "min") 0 l;
+  max = number_at (codes "max") 0 l;
+  loss = number_at (codes "loss") 0 l;
+}
+
+-- the pair of a table of `links`
+abbrev pub pair_of : Members → ℕ × ℕ
+pair_of l = (number_at (codes "from") 0 l, number_at (codes "to") 0 l)
+
+abbrev pub same_pair : ℕ × ℕ → ℕ × ℕ → Bool
+same_pair a b = (a.0 == b.0) && (a.1 == b.1)
+
+-- the link of a pair: that of its table where it has one, else the common link
+unfoldable pub link_among : Link → List Members → ℕ × ℕ → Link
+link_among common tables pair = unwrap_or (option_map delays_of (find (λ l. same_pair (pair_of l) pair) tables)) common
+
+-- the links from each of 1 to n to each, by sender and then by receiver
+unfoldable pub links_among : Link → List Members → ℕ → List Link
+links_among common tables n = flat_map (λ from. map (λ to. link_among common tables (from, to)) (range_with_len 1 n)) (range_with_len 1 n)
+
+-- the process of a table of `crash`
+abbrev pub crash_process : Members → ℕ
+crash_process c = number_at (codes "process") 0 c
+
+-- the tick of a table of `crash`
+abbrev pub crash_tick : Members → ℕ
+crash_tick c = number_at (codes "at") 0 c
+
+-- the tick at which a process crashes: that of its table, if it has one
+unfoldable pub crash_among : List Members → ℕ → Option ℕ
+crash_among tables p = option_map crash_tick (find (λ c. crash_process c == p) tables)
+
+unfoldable pub crashes_among : List Members → ℕ → List (Option ℕ)
+crashes_among tables n = map (crash_among tables) (range_with_len 1 n)
+
+abbrev pub processes_of : Members → ℕ
+processes_of t = number_at (codes "processes") 0 t
+
+-- the record that a table stands for
+abbrev pub record_of : Members → Record
+record_of t = record {
+  processes = processes_of t;
+  horizon = number_at (codes "horizon") 0 t;
+  lookahead = number_at (codes "lookahead") 0 t;
+  limit = number_at (codes "limit") 1000000 t;
+  seed = number_at (codes "seed") 0 t;
+  algorithm = unwrap_or (algorithm_in t) kind.Idle;
+  detector = detector_of (table_or_empty (codes "detector") t);
+  share = option_map share_of (table_at (codes "share") t);
+  proposals = map natural (integers_at (codes "proposals") t);
+  crashes = crashes_among (tables_at (codes "crash") t) (processes_of t);
+  links = links_among (delays_of (table_or_empty (codes "link") t)) (tables_at (codes "links") t) (processes_of t);
+}

@@ -1,0 +1,72 @@
+//! Why a scenario's file is refused.
+
+use process_api::Pid;
+use std::alloc::AllocError;
+use thiserror::Error;
+
+/// Why a scenario's file is refused, in the order in which the rules are tried: of several faults the first is
+/// answered. Contracts know the refusals by their numbers (`specs/Refusals.antt`).
+#[derive(Debug, Drop, Error)]
+pub enum ScenarioError {
+    /// The bytes are no UTF-8, or no TOML.
+    #[error("the file is no TOML")]
+    NotToml,
+    /// A table has a key that isn't one of its keys.
+    #[error("a key is unknown")]
+    UnknownKey,
+    /// A key that must be there is missing.
+    #[error("a key is missing")]
+    MissingKey,
+    /// A key has a value of another kind than its own.
+    #[error("a value is of another kind")]
+    WrongKind,
+    /// `version` isn't 1.
+    #[error("the version isn't known")]
+    Version,
+    /// `processes` isn't 1 to 64.
+    #[error("the number of processes is out of range")]
+    Processes,
+    /// `horizon` isn't 1 to 10,000,000.
+    #[error("the horizon is out of range")]
+    Horizon,
+    /// `lookahead` isn't 1 to 1,000,000.
+    #[error("the lookahead is out of range")]
+    Lookahead,
+    /// `limit` isn't 1 to 100,000,000.
+    #[error("the limit is out of range")]
+    Limit,
+    /// `seed` is below 0.
+    #[error("the seed is negative")]
+    Seed,
+    /// `algorithm` isn't `none`, `s` or `es`.
+    #[error("the algorithm isn't known")]
+    AlgorithmName,
+    /// There are proposals without an algorithm, or an algorithm has other proposals than one of each process, each
+    /// below 2^32.
+    #[error("the proposals don't fit the algorithm")]
+    Proposals,
+    /// A number of the detector isn't 1 to 1,000,000, or `watch` isn't `all` or `next`.
+    #[error("the detector's numbers are out of range")]
+    DetectorNumbers,
+    /// The period of the shares isn't 1 to 1,000,000.
+    #[error("the period of the shares is out of range")]
+    Share,
+    /// A link has a delay that isn't 1 to 1,000,000, or a `min` above its `max`, or a loss above 1,000 thousandths;
+    /// or a table of `links` is of no pair of different processes, or of the pair of another one.
+    #[error("a link's numbers are out of range")]
+    LinkNumbers,
+    /// A letter between two different processes may take fewer ticks than the lookahead.
+    #[error("the link from {} to {} is below the lookahead", .from.number(), .to.number())]
+    BelowLookahead {
+        /// The sender of the least pair of which this is so, by sender and then by receiver.
+        from: Pid,
+        /// The receiver of that pair.
+        to: Pid,
+    },
+    /// A table of `crash` is of no process, or of the process of another one, or its tick is above 10,000,000.
+    #[error("a crash isn't possible")]
+    CrashLine,
+    /// Memory was refused. This may come at any point.
+    #[error("out of memory")]
+    Memory(#[from(alloc)] AllocError),
+}

@@ -1,0 +1,323 @@
+//! The tables of a scenario's file, and the faults of their keys.
+ghost use Rattle.std.specs.Prelude.{◌≡◌, false, Some, map, IfOk, IfErr, OnOk, option_map};
+ghost use Rattle.std.specs.List.{list_any};
+ghost use Rattle.std.specs.Option.{option_map_or};
+ghost use Rattle.toml.specs.View.{table_view};
+ghost use Rattle.scenario.specs.Parts.{fields_of, fault_of, AreTables};
+ghost use Rattle.scenario.specs.Keys.{some_table, top_fields, detector_fields, share_fields, link_fields, pair_fields, crash_fields};
+ghost use Rattle.scenario.specs.Refusals.{key_rules};
+ghost use Rattle.scenario.specs.Groups.{Passes, StopsAt};
+
+use crate::error::ScenarioError;
+use crate::field::{Field, Kind};
+use crate::table::{
+    has_lacking_key, has_mistyped_key, has_unlisted_key, inner_table, inner_tables,
+};
+use std::alloc::{AllocError, Global};
+use toml::Table;
+
+const TOP: [Field; 13] = [
+    Field {
+        key: "version",
+        kind: Kind::Number,
+        needed: true,
+    },
+    Field {
+        key: "processes",
+        kind: Kind::Number,
+        needed: true,
+    },
+    Field {
+        key: "horizon",
+        kind: Kind::Number,
+        needed: true,
+    },
+    Field {
+        key: "lookahead",
+        kind: Kind::Number,
+        needed: true,
+    },
+    Field {
+        key: "seed",
+        kind: Kind::Number,
+        needed: true,
+    },
+    Field {
+        key: "limit",
+        kind: Kind::Number,
+        needed: false,
+    },
+    Field {
+        key: "algorithm",
+        kind: Kind::Text,
+        needed: true,
+    },
+    Field {
+        key: "proposals",
+        kind: Kind::Numbers,
+        needed: false,
+    },
+    Field {
+        key: "detector",
+        kind: Kind::Table,
+        needed: true,
+    },
+    Field {
+        key: "link",
+        kind: Kind::Table,
+        needed: true,
+    },
+    Field {
+        key: "share",
+        kind: Kind::Table,
+        needed: false,
+    },
+    Field {
+        key: "links",
+        kind: Kind::Tables,
+        needed: false,
+    },
+    Field {
+        key: "crash",
+        kind: Kind::Tables,
+        needed: false,
+    },
+];
+
+const DETECTOR: [Field; 5] = [
+    Field {
+        key: "period",
+        kind: Kind::Number,
+        needed: true,
+    },
+    Field {
+        key: "check",
+        kind: Kind::Number,
+        needed: true,
+    },
+    Field {
+        key: "timeout",
+        kind: Kind::Number,
+        needed: true,
+    },
+    Field {
+        key: "grow",
+        kind: Kind::Number,
+        needed: false,
+    },
+    Field {
+        key: "watch",
+        kind: Kind::Text,
+        needed: false,
+    },
+];
+
+const SHARE: [Field; 1] = [Field {
+    key: "period",
+    kind: Kind::Number,
+    needed: true,
+}];
+
+const LINK: [Field; 3] = [
+    Field {
+        key: "min",
+        kind: Kind::Number,
+        needed: true,
+    },
+    Field {
+        key: "max",
+        kind: Kind::Number,
+        needed: true,
+    },
+    Field {
+        key: "loss",
+        kind: Kind::Number,
+        needed: false,
+    },
+];
+
+const PAIR: [Field; 5] = [
+    Field {
+        key: "from",
+        kind: Kind::Number,
+        needed: true,
+    },
+    Field {
+        key: "to",
+        kind: Kind::Number,
+        needed: true,
+    },
+    Field {
+        key: "min",
+        kind: Kind::Number,
+        needed: true,
+    },
+    Field {
+        key: "max",
+        kind: Kind::Number,
+        needed: true,
+    },
+    Field {
+        key: "loss",
+        kind: Kind::Number,
+        needed: false,
+    },
+];
+
+const CRASH: [Field; 2] = [
+    Field {
+        key: "process",
+        kind: Kind::Number,
+        needed: true,
+    },
+    Field {
+        key: "at",
+        kind: Kind::Number,
+        needed: true,
+    },
+];
+
+/// The tables of a file. Where a value isn't of its kind its table, or all of its tables, are left out.
+#[derive(Drop)]
+pub(crate) struct Tables<'a> {
+    pub(crate) top: &'a Table,
+    pub(crate) detector: Option<&'a Table>,
+    pub(crate) share: Option<&'a Table>,
+    pub(crate) link: Option<&'a Table>,
+    pub(crate) links: Vec<&'a Table>,
+    pub(crate) crashes: Vec<&'a Table>,
+}
+
+/// A fault of a table's keys.
+#[derive(Clone, Copy)]
+pub(crate) enum Fault {
+    /// A key that isn't listed.
+    Unlisted,
+    /// A needed key that is missing.
+    Lacking,
+    /// A listed key whose value is of another kind.
+    Mistyped,
+}
+
+impl Fault {
+    /// Whether a table has the fault.
+    fn is_in(self, fields: &[Field], table: &Table) -> bool
+        ensures { result ≡ fault_of self (fields_of fields.now) (table_view table.now) }
+    {
+        match self {
+            Fault::Unlisted => has_unlisted_key(fields, table),
+            Fault::Lacking => has_lacking_key(fields, table),
+            Fault::Mistyped => has_mistyped_key(fields, table),
+        }
+    }
+
+    /// Whether a table is there and has the fault.
+    fn is_in_optional(self, fields: &[Field], table: Option<&Table>) -> bool
+        ensures { result ≡ option_map_or (fault_of self (fields_of fields.now)) (option_map (λ m. table_view m.now) table.entry) false }
+    {
+        match table {
+            Some(table) => self.is_in(fields, table),
+            None => false,
+        }
+    }
+
+    /// Whether some table has the fault.
+    fn is_in_any(self, fields: &[Field], tables: &[&Table]) -> bool
+        ensures { result ≡ list_any (fault_of self (fields_of fields.now)) (map (λ m. table_view m.now) tables.now) }
+    {
+        for table in tables {
+            if self.is_in(fields, table) {
+                return true;
+            }
+        }
+        false
+    }
+
+    fn is_in_top(self, table: &Table) -> bool
+        ensures { result ≡ fault_of self top_fields (table_view table.now) }
+    {
+        self.is_in(&TOP, table)
+    }
+
+    fn is_in_detector(self, table: Option<&Table>) -> bool
+        ensures { result ≡ option_map_or (fault_of self detector_fields) (option_map (λ m. table_view m.now) table.entry) false }
+    {
+        self.is_in_optional(&DETECTOR, table)
+    }
+
+    fn is_in_share(self, table: Option<&Table>) -> bool
+        ensures { result ≡ option_map_or (fault_of self share_fields) (option_map (λ m. table_view m.now) table.entry) false }
+    {
+        self.is_in_optional(&SHARE, table)
+    }
+
+    fn is_in_link(self, table: Option<&Table>) -> bool
+        ensures { result ≡ option_map_or (fault_of self link_fields) (option_map (λ m. table_view m.now) table.entry) false }
+    {
+        self.is_in_optional(&LINK, table)
+    }
+
+    fn is_in_links(self, tables: &[&Table]) -> bool
+        ensures { result ≡ list_any (fault_of self pair_fields) (map (λ m. table_view m.now) tables.now) }
+    {
+        self.is_in_any(&PAIR, tables)
+    }
+
+    fn is_in_crashes(self, tables: &[&Table]) -> bool
+        ensures { result ≡ list_any (fault_of self crash_fields) (map (λ m. table_view m.now) tables.now) }
+    {
+        self.is_in_any(&CRASH, tables)
+    }
+
+    /// Whether some table of the file has the fault.
+    #[tactic(auto, unfolding(crate::specs::Keys::some_table))]
+    fn is_in_some(self, tables: &Tables) -> bool
+        requires { AreTables tables.now }
+        ensures { result ≡ some_table (fault_of self) (table_view tables.now.top.now) }
+    {
+        self.is_in_top(tables.top)
+            || self.is_in_detector(tables.detector)
+            || self.is_in_share(tables.share)
+            || self.is_in_link(tables.link)
+            || self.is_in_links(&tables.links)
+            || self.is_in_crashes(&tables.crashes)
+    }
+}
+
+/// The tables of a file.
+pub(crate) fn tables_of<'a>(alloc: Global, top: &'a Table) -> Result<Tables<'a>, AllocError>
+    ensures { IfOk result (λ s. (table_view s.top.now ≡ table_view top.now) × AreTables s) }
+{
+    let links = inner_tables(alloc, top, "links")?;
+    let crashes = inner_tables(alloc, top, "crash")?;
+    let detector = inner_table(top, "detector");
+    let share = inner_table(top, "share");
+    let link = inner_table(top, "link");
+    Ok(Tables {
+        top,
+        detector,
+        share,
+        link,
+        links,
+        crashes,
+    })
+}
+
+/// Refuses a file of which some table has a fault of its keys: keys that aren't listed first, then missing ones, then
+/// values of another kind.
+pub(crate) fn check_keys(tables: &Tables) -> Result<(), ScenarioError>
+    requires { AreTables tables.now }
+    ensures ok { OnOk result (Passes key_rules (Some (table_view tables.now.top.now))) }
+    ensures err { IfErr result (StopsAt key_rules (Some (table_view tables.now.top.now))) }
+{
+    if Fault::Unlisted.is_in_some(tables) {
+        return Err(ScenarioError::UnknownKey);
+    }
+    if Fault::Lacking.is_in_some(tables) {
+        return Err(ScenarioError::MissingKey);
+    }
+    if Fault::Mistyped.is_in_some(tables) {
+        return Err(ScenarioError::WrongKind);
+    }
+    Ok(())
+}

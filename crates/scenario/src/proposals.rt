@@ -1,0 +1,100 @@
+//! The proposals of the processes.
+ghost use Rattle.std.specs.Prelude.{◌≡◌, ◌≤◌, true, false, Some, map, codes, is_none, MatchOption, OnOk, IfOk, IfErr, IfSome};
+ghost use Rattle.std.specs.List.{list_any};
+ghost use Rattle.toml.specs.View.{items_view, table_view};
+ghost use Rattle.scenario.specs.Table.{the_integers, integers_at, has_key};
+ghost use Rattle.scenario.specs.Text.{natural, natural_of};
+ghost use Rattle.scenario.specs.Rules.{is_bad_proposal, are_other_than, are_bad_proposals};
+ghost use Rattle.scenario.specs.Refusals.{is_memory};
+
+use crate::algorithm::AlgorithmKind;
+use crate::error::ScenarioError;
+use crate::numbers::natural;
+use crate::table::{has, inner_array};
+use std::alloc::{AllocError, Global};
+use toml::{Table, Value};
+
+/// The proposal that a number is, where it is below 2^32.
+fn proposal_of(number: i64) -> Option<u32>
+    ensures none { is_none result ≡ is_bad_proposal number }
+    ensures value { IfSome result (λ p. p ≡ natural number) }
+{
+    let Some(value) = natural(number) else {
+        return None;
+    };
+    if value > u64::from(u32::MAX) {
+        return None;
+    }
+    Some(value as u32)
+}
+
+/// The proposals among some values, where each number is below 2^32.
+fn proposals_among(alloc: Global, values: &[Value]) -> Result<Option<Vec<u32>>, AllocError>
+    ensures { IfOk result (λ found. MatchOption found (list_any is_bad_proposal (the_integers (items_view values.now)) ≡ true) (λ v. (list_any is_bad_proposal (the_integers (items_view values.now)) ≡ false) × (v.items ≡ map natural (the_integers (items_view values.now))))) }
+{
+    let mut found = Vec::new(alloc);
+    for value in values {
+        let Some(number) = value.as_integer() else {
+            continue;
+        };
+        let Some(proposal) = proposal_of(number) else {
+            return Ok(None);
+        };
+        found.push(proposal)?;
+    }
+    Ok(Some(found))
+}
+
+/// The proposals of the processes of a scenario without an algorithm: there may be none.
+fn read_no_proposals(alloc: Global, top: &Table) -> Result<Vec<u32>, ScenarioError>
+    ensures ok { OnOk result (has_key (codes "proposals") (table_view top.now) ≡ false) }
+    ensures value { IfOk result (λ v. v.items ≡ map natural (integers_at (codes "proposals") (table_view top.now))) }
+    ensures err { IfErr result (λ e. is_memory e ≡ false → (e ≡ ScenarioError.Proposals) × (has_key (codes "proposals") (table_view top.now) ≡ true)) }
+{
+    if has(top, "proposals") {
+        return Err(ScenarioError::Proposals);
+    }
+    Ok(Vec::new(alloc))
+}
+
+/// The proposals of n processes that run an algorithm: one of each.
+fn read_each_proposal(alloc: Global, top: &Table, n: u16) -> Result<Vec<u32>, ScenarioError>
+    requires { 1 ≤ n }
+    ensures ok { OnOk result (are_other_than n (has_key (codes "proposals") (table_view top.now)) (integers_at (codes "proposals") (table_view top.now)) ≡ false) }
+    ensures value { IfOk result (λ v. v.items ≡ map natural (integers_at (codes "proposals") (table_view top.now))) }
+    ensures err { IfErr result (λ e. is_memory e ≡ false → (e ≡ ScenarioError.Proposals) × (are_other_than n (has_key (codes "proposals") (table_view top.now)) (integers_at (codes "proposals") (table_view top.now)) ≡ true)) }
+{
+    let Some(values) = inner_array(top, "proposals") else {
+        return Err(ScenarioError::Proposals);
+    };
+    match proposals_among(alloc, values) {
+        Ok(Some(found)) => {
+            if found.len() != usize::from(n) {
+                return Err(ScenarioError::Proposals);
+            }
+            Ok(found)
+        }
+        Ok(None) => Err(ScenarioError::Proposals),
+        Err(error) => Err(ScenarioError::Memory(error)),
+    }
+}
+
+/// What n processes propose, of process 1 first; nothing where there is no algorithm.
+pub(crate) fn read_proposals(
+    alloc: Global,
+    top: &Table,
+    algorithm: AlgorithmKind,
+    n: u16,
+) -> Result<Vec<u32>, ScenarioError>
+    requires { 1 ≤ n }
+    ensures ok { OnOk result (are_bad_proposals (Some algorithm) n (has_key (codes "proposals") (table_view top.now)) (integers_at (codes "proposals") (table_view top.now)) ≡ false) }
+    ensures value { IfOk result (λ v. v.items ≡ map natural (integers_at (codes "proposals") (table_view top.now))) }
+    ensures err { IfErr result (λ e. is_memory e ≡ false → (e ≡ ScenarioError.Proposals) × (are_bad_proposals (Some algorithm) n (has_key (codes "proposals") (table_view top.now)) (integers_at (codes "proposals") (table_view top.now)) ≡ true)) }
+{
+    match algorithm {
+        AlgorithmKind::Idle => read_no_proposals(alloc, top),
+        AlgorithmKind::Strong | AlgorithmKind::EventuallyStrong => read_each_proposal(
+            alloc, top, n,
+        ),
+    }
+}

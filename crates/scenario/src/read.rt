@@ -1,0 +1,57 @@
+//! How a scenario's file is read.
+ghost use Rattle.std.specs.Prelude.{◌≡◌, false, Some, OnOk, IfOk, IfErr};
+ghost use Rattle.toml.specs.View.{table_view};
+ghost use Rattle.scenario.specs.Text.{record_of};
+ghost use Rattle.scenario.specs.Refusals.{Accepts, Refuses, is_memory, table_rules};
+ghost use Rattle.scenario.specs.Groups.{Passes, StopsFirst};
+
+use crate::error::ScenarioError;
+use crate::keys::{check_keys, tables_of};
+use crate::numbers::read_numbers;
+use crate::parts::read_parts;
+use crate::record::Scenario;
+use std::alloc::{AllocError, Global};
+use toml::Table;
+
+/// Reads a scenario's file.
+///
+/// `Ok` is the record that the file stands for, defaults filled in. An error is the refusal of the first rule that
+/// applies (`specs/Refusals.antt` has the list), or `Memory`, which comes where memory was refused, at any point.
+pub fn read_scenario(alloc: Global, bytes: &[u8]) -> Result<Scenario, ScenarioError>
+    ensures ok { IfOk result (Accepts bytes.now) }
+    ensures err { IfErr result (λ e. is_memory e ≡ false → Refuses bytes.now e) }
+{
+    match toml::table_from_slice(alloc, bytes) {
+        Ok(table) => read_table(alloc, &table),
+        Err(error) if error.is_memory() => Err(ScenarioError::Memory(AllocError)),
+        Err(_) => Err(ScenarioError::NotToml),
+    }
+}
+
+/// Reads a scenario from its table.
+fn read_table(alloc: Global, table: &Table) -> Result<Scenario, ScenarioError>
+    ensures ok { OnOk result (Passes table_rules (Some (table_view table.now))) }
+    ensures value { IfOk result (λ s. s ≡ record_of (table_view table.now)) }
+    ensures err { IfErr result (StopsFirst table_rules (Some (table_view table.now))) }
+{
+    let tables = match tables_of(alloc, table) {
+        Ok(tables) => tables,
+        Err(error) => return Err(ScenarioError::Memory(error)),
+    };
+    check_keys(&tables)?;
+    let numbers = read_numbers(tables.top)?;
+    let parts = read_parts(alloc, &tables, &numbers)?;
+    Ok(Scenario {
+        processes: numbers.processes,
+        horizon: numbers.horizon,
+        lookahead: numbers.lookahead,
+        limit: numbers.limit,
+        seed: numbers.seed,
+        algorithm: parts.algorithm,
+        detector: parts.detector,
+        share: parts.share,
+        proposals: parts.proposals,
+        crashes: parts.crashes,
+        links: parts.links,
+    })
+}

@@ -1,0 +1,204 @@
+//! What a TOML table holds at its keys, and the faults of its keys.
+ghost use Rattle.std.specs.Prelude.{◌≡◌, map, IfOk, option_map, option_and_then};
+ghost use Rattle.toml.specs.View.{view, array_view, items_view, table_view};
+ghost use Rattle.toml.specs.Data.{as_array, get_member};
+ghost use Rattle.scenario.specs.Table.{number_or, text_or, has_key, table_at, tables_at, the_tables, all_items, is_number, is_table, is_of, is_listed, has_unlisted, is_lacking, has_lacking, is_mistyped, has_mistyped};
+ghost use Rattle.scenario.specs.Parts.{field_of, fields_of};
+
+use crate::field::{Field, Kind};
+use std::alloc::{AllocError, Global};
+use toml::{Table, Value};
+
+/// The integer at a key, or the default where there is none.
+pub(crate) fn number(table: &Table, key: &str, default: i64) -> i64
+    ensures { result ≡ number_or key.now default (table_view table.now) }
+{
+    match table.get(key) {
+        Some(value) => value.as_integer().unwrap_or(default),
+        None => default,
+    }
+}
+
+/// Whether the key is there.
+pub(crate) fn has(table: &Table, key: &str) -> bool
+    ensures { result ≡ has_key key.now (table_view table.now) }
+{
+    table.get(key).is_some()
+}
+
+/// The text at a key, or the default where there is none.
+pub(crate) fn text<'a>(table: &'a Table, key: &str, default: &'a str) -> &'a str
+    ensures { result.now ≡ text_or key.now default.entry.now (table_view table.now) }
+{
+    match table.get(key) {
+        Some(value) => match value.as_str() {
+            Some(word) => word,
+            None => default,
+        },
+        None => default,
+    }
+}
+
+/// The table at a key, if there is one.
+pub(crate) fn inner_table<'a>(table: &'a Table, key: &str) -> Option<&'a Table>
+    ensures { option_map (λ m. table_view m.now) result ≡ table_at key.now (table_view table.now) }
+{
+    match table.get(key) {
+        Some(value) => value.as_table(),
+        None => None,
+    }
+}
+
+/// Whether each value is an integer.
+fn are_numbers(values: &[Value]) -> bool
+    ensures { result ≡ all_items is_number (items_view values.now) }
+{
+    for value in values {
+        if !value.is_integer() {
+            return false;
+        }
+    }
+    true
+}
+
+/// Whether each value is a table.
+fn are_tables(values: &[Value]) -> bool
+    ensures { result ≡ all_items is_table (items_view values.now) }
+{
+    for value in values {
+        if !value.is_table() {
+            return false;
+        }
+    }
+    true
+}
+
+/// The tables among some values.
+fn tables_among<'a>(alloc: Global, values: &'a [Value]) -> Result<Vec<&'a Table>, AllocError>
+    ensures { IfOk result (λ v. map (λ m. table_view m.now) v.items ≡ the_tables (items_view values.now)) }
+{
+    let mut found = Vec::new(alloc);
+    for value in values {
+        let Some(inner) = value.as_table() else {
+            continue;
+        };
+        found.push(inner)?;
+    }
+    Ok(found)
+}
+
+/// The array at a key, if there is one.
+pub(crate) fn inner_array<'a>(table: &'a Table, key: &str) -> Option<&'a Vec<Value>>
+    ensures { option_map (λ v. array_view v.now) result ≡ option_and_then as_array (get_member key.now (table_view table.now)) }
+{
+    match table.get(key) {
+        Some(value) => value.as_array(),
+        None => None,
+    }
+}
+
+/// The tables of the array of tables at a key; none where there is no such array.
+pub(crate) fn inner_tables<'a>(
+    alloc: Global,
+    table: &'a Table,
+    key: &str,
+) -> Result<Vec<&'a Table>, AllocError>
+    ensures { IfOk result (λ v. map (λ m. table_view m.now) v.items ≡ tables_at key.now (table_view table.now)) }
+{
+    match inner_array(table, key) {
+        Some(values) => {
+            if are_tables(values) {
+                tables_among(alloc, values)
+            } else {
+                Ok(Vec::new(alloc))
+            }
+        }
+        None => Ok(Vec::new(alloc)),
+    }
+}
+
+/// Whether the key is one of these.
+fn is_listed_key(fields: &[Field], key: &str) -> bool
+    ensures { result ≡ is_listed (fields_of fields.now) key.now }
+{
+    for field in fields {
+        if field.key == key {
+            return true;
+        }
+    }
+    false
+}
+
+/// Whether some key of the table isn't one of these.
+pub(crate) fn has_unlisted_key(fields: &[Field], table: &Table) -> bool
+    ensures { result ≡ has_unlisted (fields_of fields.now) (table_view table.now) }
+{
+    for key in table.keys() {
+        if !is_listed_key(fields, key.as_str()) {
+            return true;
+        }
+    }
+    false
+}
+
+/// Whether the field is needed and missing.
+fn is_lacking_field(field: &Field, table: &Table) -> bool
+    ensures { result ≡ is_lacking (field_of field.now) (table_view table.now) }
+{
+    field.needed && table.get(field.key).is_none()
+}
+
+/// Whether some needed key is missing.
+pub(crate) fn has_lacking_key(fields: &[Field], table: &Table) -> bool
+    ensures { result ≡ has_lacking (fields_of fields.now) (table_view table.now) }
+{
+    for field in fields {
+        if is_lacking_field(field, table) {
+            return true;
+        }
+    }
+    false
+}
+
+impl Kind {
+    /// Whether the value is of this kind.
+    fn takes(self, value: &Value) -> bool
+        ensures { result ≡ is_of self (view value.now) }
+    {
+        match self {
+            Kind::Number => value.is_integer(),
+            Kind::Text => value.is_str(),
+            Kind::Numbers => match value.as_array() {
+                Some(values) => are_numbers(values),
+                None => false,
+            },
+            Kind::Table => value.is_table(),
+            Kind::Tables => match value.as_array() {
+                Some(values) => are_tables(values),
+                None => false,
+            },
+        }
+    }
+}
+
+/// Whether the field is there and of another kind.
+fn is_mistyped_field(field: &Field, table: &Table) -> bool
+    ensures { result ≡ is_mistyped (field_of field.now) (table_view table.now) }
+{
+    match table.get(field.key) {
+        Some(value) => !field.kind.takes(value),
+        None => false,
+    }
+}
+
+/// Whether some listed key has a value of another kind.
+pub(crate) fn has_mistyped_key(fields: &[Field], table: &Table) -> bool
+    ensures { result ≡ has_mistyped (fields_of fields.now) (table_view table.now) }
+{
+    for field in fields {
+        if is_mistyped_field(field, table) {
+            return true;
+        }
+    }
+    false
+}

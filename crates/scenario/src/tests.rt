@@ -1,0 +1,69 @@
+//! Files that are read, and files that are refused.
+mod accepted;
+mod corners;
+mod least;
+mod refused;
+mod sizes;
+
+use crate::{Scenario, ScenarioError, read_scenario};
+use std::alloc::Global;
+use std::test::Fail;
+
+/// Two processes, of which the second crashes at tick 3.
+const CRASH_FILE: &str = "version = 1
+processes = 2
+horizon = 10
+lookahead = 2
+seed = 1
+algorithm = \"none\"
+
+[detector]
+period = 4
+check = 3
+timeout = 5
+grow = 1
+
+[link]
+min = 2
+max = 2
+
+[[crash]]
+process = 2
+at = 3
+";
+
+/// The text with a part of it, where it first stands, changed.
+fn changed(alloc: Global, text: &str, old: &str, new: &str) -> Result<String, Fail> {
+    let (before, after) = text.split_once(old).ok_or("the text has no such part")?;
+    Ok(format!(in alloc; "{before}{new}{after}")?)
+}
+
+/// The name of an answer.
+fn name_of(answer: &Result<Scenario, ScenarioError>) -> &'static str {
+    match answer {
+        Ok(_) => "accepted",
+        Err(ScenarioError::NotToml) => "NotToml",
+        Err(ScenarioError::UnknownKey) => "UnknownKey",
+        Err(ScenarioError::MissingKey) => "MissingKey",
+        Err(ScenarioError::WrongKind) => "WrongKind",
+        Err(ScenarioError::Version) => "Version",
+        Err(ScenarioError::Processes) => "Processes",
+        Err(ScenarioError::Horizon) => "Horizon",
+        Err(ScenarioError::Lookahead) => "Lookahead",
+        Err(ScenarioError::Limit) => "Limit",
+        Err(ScenarioError::Seed) => "Seed",
+        Err(ScenarioError::AlgorithmName) => "AlgorithmName",
+        Err(ScenarioError::Proposals) => "Proposals",
+        Err(ScenarioError::DetectorNumbers) => "DetectorNumbers",
+        Err(ScenarioError::Share) => "Share",
+        Err(ScenarioError::LinkNumbers) => "LinkNumbers",
+        Err(ScenarioError::BelowLookahead { .. }) => "BelowLookahead",
+        Err(ScenarioError::CrashLine) => "CrashLine",
+        Err(ScenarioError::Memory(_)) => "Memory",
+    }
+}
+
+/// What the reading of a text answers, by name.
+fn answer(alloc: Global, text: &str) -> &'static str {
+    name_of(&read_scenario(alloc, text.as_bytes()))
+}

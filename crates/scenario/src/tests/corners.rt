@@ -1,0 +1,90 @@
+//! Forms of TOML that a file may take.
+use crate::read_scenario;
+use crate::tests::{CRASH_FILE, answer, changed};
+use std::test::Fail;
+
+/// Changes of the crash file, and what they get.
+const CHANGES: [(&str, &str, &str); 29] = [
+    ("horizon = 10", "horizon = 0x0a", "accepted"),
+    ("horizon = 10", "horizon = 0o12", "accepted"),
+    ("horizon = 10", "horizon = 0b1010", "accepted"),
+    ("horizon = 10", "horizon = +10", "accepted"),
+    ("horizon = 10", "horizon = 1_0", "accepted"),
+    ("horizon = 10", "\"horizon\" = 10 # ticks", "accepted"),
+    ("\"none\"", "'none'", "accepted"),
+    (
+        "[link]\nmin = 2\nmax = 2",
+        "[link]\nmax = 2\n\"min\" = 2",
+        "accepted",
+    ),
+    ("seed = 1", "seed = 1\nlinks = []", "accepted"),
+    ("[[crash]]\nprocess = 2\nat = 3", "", "accepted"),
+    (
+        "\n[[crash]]\nprocess = 2\nat = 3",
+        "\n[share]\nperiod = 4",
+        "accepted",
+    ),
+    (
+        "seed = 1",
+        "seed = 1\nlinks = [{ from = 2, to = 1, min = 2, max = 3 }]",
+        "accepted",
+    ),
+    ("seed = 1", "seed = 1\nshare.period = 4", "accepted"),
+    ("seed = 1", "seed = 0", "accepted"),
+    ("seed = 1", "seed = 9223372036854775807", "accepted"),
+    ("seed = 1", "seed = 9223372036854775808", "NotToml"),
+    ("seed = 1", "seed = 1\nseed = 1", "NotToml"),
+    ("seed = 1", "seed = 1\n\"\" = 1", "UnknownKey"),
+    (
+        "seed = 1",
+        "seed = 1\nlinks = [{ colour = 1 }]",
+        "UnknownKey",
+    ),
+    (
+        "seed = 1",
+        "seed = 1\nlinks = [{ colour = 1 }, 5]",
+        "WrongKind",
+    ),
+    ("seed = 1", "seed = 1\nlinks = { from = 1 }", "WrongKind"),
+    ("seed = 1", "seed = 1\nproposals = []", "Proposals"),
+    ("seed = 1", "seed = 1.0", "WrongKind"),
+    ("seed = 1", "seed = true", "WrongKind"),
+    ("seed = 1", "seed = 2026-11-22", "WrongKind"),
+    ("version = 1", "version = 2\noutage = []", "UnknownKey"),
+    ("processes = 2", "processes = 1", "CrashLine"),
+    (
+        "[link]\nmin = 2\nmax = 2",
+        "[link]\nmin = 2\nmax = 2\n[colour]",
+        "UnknownKey",
+    ),
+    ("[[crash]]", "[[crash]]\n[[crash]]", "MissingKey"),
+];
+
+#[test]
+fn forms(rt: HostRuntime) -> Result<(), Fail> {
+    for (old, new, name) in CHANGES {
+        let text = changed(rt.alloc(), CRASH_FILE, old, new)?;
+        assert_eq!(rt; answer(rt.alloc(), text.as_str()), name, "{new}");
+    }
+    assert!(rt;
+        matches!(
+            read_scenario(rt.alloc(), b"\xff"),
+            Err(crate::ScenarioError::NotToml)
+        )
+    );
+    Ok(())
+}
+
+/// The delays of the common link are below the lookahead, but no pair uses it.
+#[test]
+fn unused_common_link(rt: HostRuntime) -> Result<(), Fail> {
+    let low = changed(rt.alloc(), CRASH_FILE, "min = 2", "min = 1")?;
+    let own =
+        "[[links]]\nfrom = 2\nto = 1\nmin = 2\nmax = 2\n[[links]]\nfrom = 1\nto = 2\nmin = 3\nmax = 4\n";
+    let text = format!(in rt.alloc(); "{low}{own}")?;
+    assert_eq!(rt; answer(rt.alloc(), text.as_str()), "accepted");
+    let one = changed(rt.alloc(), low.as_str(), "processes = 2", "processes = 1")?;
+    let alone = changed(rt.alloc(), one.as_str(), "process = 2", "process = 1")?;
+    assert_eq!(rt; answer(rt.alloc(), alone.as_str()), "accepted");
+    Ok(())
+}

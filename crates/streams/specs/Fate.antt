@@ -1,0 +1,29 @@
+-- What becomes of a letter to another process: by its place on its link alone, never by what was drawn before.
+use Rattle.std.specs.Prelude.{ℕ, ◌+◌, ◌-◌, ◌*◌, ◌%◌, ◌^◌, List, ◌++◌, replicate, nat_lt, if◌then◌else◌}
+use Rattle.std.specs.Int.{w64, to_le_bytes}
+use Rattle.rand_chacha.specs.ChaCha.{word_at, key_of}
+use Rattle.scenario.specs.Record.{Record, link}
+use Rattle.scenario.specs.declared.link.Link.{Link}
+use Rattle.streams.specs.declared.fate.Fate.{Fate}
+use Rattle.streams.specs.declared.fate.Fate.TheVariants.{Lost, Delay}
+
+-- the key: the seed as 8 bytes, the least first, and then 24 zero bytes
+unfoldable pub key_of_seed : ℕ → List ℕ
+key_of_seed seed = key_of (to_le_bytes w64 seed ++ replicate 24 0)
+
+-- the stream of the link from one process to another
+abbrev pub stream_of : (from to : ℕ) → ℕ
+stream_of from to = (from - 1) * 65536 + (to - 1)
+
+-- the 32-bit word at a place of the link's stream, of ChaCha with 8 rounds, which are 4 double rounds. Places are counted up to 2^68
+unfoldable pub word : (seed from to place : ℕ) → ℕ
+word seed from to place = word_at 4 (key_of_seed seed) (stream_of from to) (place % 2 ^ 68)
+
+-- the fate by a letter's two words: so many of 1,000 are lost, others take a delay from min to max
+abbrev pub fate_by : Link → (a b : ℕ) → Fate
+fate_by l a b = if nat_lt (a % 1000) l.loss then Lost else Delay (l.min + b % (l.max - l.min + 1))
+
+-- the fate of a letter by its number on the link, from 1: letter k has the words at places 2(k - 1) and 2(k - 1) + 1
+unfoldable pub fate_of : Record → (from to number : ℕ) → Fate
+fate_of s from to number =
+    fate_by (link s from to) (word s.seed from to (2 * (number - 1))) (word s.seed from to (2 * (number - 1) + 1))

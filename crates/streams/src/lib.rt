@@ -1,0 +1,21 @@
+//! Numbered streams of random words, and the fates that they give to letters.
+//!
+//! Each link from one process to another has a stream of its own: ChaCha with 8 rounds (Bernstein, 2008) under the
+//! scenario's seed, with the link's number as its stream. The k-th letter of a link, lost ones counted too, takes the
+//! two words of its place. So a letter's fate depends on its place alone: another loss on one link changes nothing
+//! on any other, and threads may ask in any order.
+//!
+//! The one contract for the layers above: [`Streams::fate`] is `fate_of` (`specs/Fate.antt`), for every letter.
+//!
+//! As an example, under loss 300 and delays 2 to 9 with seed 1, letters 1 to 8 from process 1 to 2 take 6, 3, 8, 6, 9
+//! and 3 ticks, the seventh is lost, and the eighth takes 7 ticks.
+#![tactic(auto)]
+
+mod fate;
+mod streams;
+
+pub use fate::Fate;
+pub use streams::Streams;
+
+#[cfg(test)]
+mod tests;

@@ -1,0 +1,177 @@
+//! Words and fates with values from outside: they were computed by a program of its own, written apart from this one
+//! and checked with the block of RFC 8439, section 2.3.2, and the 8-round vectors of
+//! draft-strombergson-chacha-test-vectors.
+use super::{Fate, Streams};
+use process_api::Pid;
+use rand_chacha::ChaCha8Rng;
+use rand_core::{Rng, SeedableRng};
+use scenario::{Scenario, read_scenario};
+use std::alloc::Global;
+use std::test::Fail;
+
+const LINKS_OF_FIVE: &str = "[link]\nmin = 2\nmax = 9\nloss = 300\n";
+
+/// A scenario of so many processes with this seed and these links.
+fn scenario(alloc: Global, processes: u16, seed: u64, links: &str) -> Result<Scenario, Fail> {
+    let text = format!(in alloc;
+        "version = 1\nprocesses = {processes}\nhorizon = 200\nlookahead = 2\nseed = {seed}\nalgorithm = \"none\"\n[detector]\nperiod = 5\ncheck = 3\ntimeout = 12\ngrow = 2\n{links}"
+    )?;
+    Ok(read_scenario(alloc, text.as_bytes())?)
+}
+
+fn pid(number: u16) -> Result<Pid, Fail> {
+    Ok(Pid::new(number).ok_or("no process")?)
+}
+
+/// Letters 1 to 12 of a link: their delays, and 0 for a lost one.
+fn delays(scenario: &Scenario, from: u16, to: u16) -> Result<[u32; 12], Fail> {
+    let streams = Streams::new(scenario);
+    let (from, to) = (pid(from)?, pid(to)?);
+    let mut delays = [0u32; 12];
+    if from == to || from.number() > scenario.processes() || to.number() > scenario.processes() {
+        return Ok(delays);
+    }
+    for place in 0..12usize {
+        if let Fate::Delay(ticks) = streams.fate(from, to, place as u64 + 1) {
+            delays[place] = ticks;
+        }
+    }
+    Ok(delays)
+}
+
+#[test]
+fn words_of_five_streams(rt: HostRuntime) -> Result<(), Fail> {
+    let places = [0u128, 1, 2, 15, 16, 17, 1000];
+    let rows = [
+        (
+            1u64,
+            1u16,
+            1u16,
+            [
+                0xa0e95ecfu32,
+                0x61a94a49,
+                0xedd5053e,
+                0xc8e3fad8,
+                0x7d5a35b4,
+                0x6788dd93,
+                0x06bca377,
+            ],
+        ),
+        (
+            1,
+            1,
+            2,
+            [
+                0x8c6fea14, 0x1a8125d4, 0xac499192, 0x2c2ddfdd, 0x6c38c98a, 0xdf48c9ef, 0xeb23cab2,
+            ],
+        ),
+        (
+            1,
+            2,
+            1,
+            [
+                0xd03b2e30, 0x95ae2983, 0x9fcec436, 0xca586cf0, 0xe201d0ab, 0x678ff9b2, 0xbf9f41bd,
+            ],
+        ),
+        (
+            258,
+            1,
+            2,
+            [
+                0x29d55c06, 0xfe70b8e5, 0xa808c2a6, 0xedf88f46, 0x34722d1d, 0x99771e02, 0xd305ea68,
+            ],
+        ),
+        (
+            9223372036854775807,
+            64,
+            63,
+            [
+                0xc5c7d6ac, 0xc4c40c80, 0x8a018642, 0x1f968f22, 0x0ca62962, 0x87d10b86, 0x5c835e1a,
+            ],
+        ),
+    ];
+    for (seed, from, to, words) in rows {
+        let scenario = scenario(rt.alloc(), 64, seed, LINKS_OF_FIVE)?;
+        let streams = Streams::new(&scenario);
+        for (place, word) in places.iter().zip(words.iter()) {
+            let place = *place;
+            assert!(rt; place <= 1000);
+            let (first, _) = streams.words(pid(from)?, pid(to)?, place);
+            assert_eq!(rt; first, *word, "seed {seed}, from {from} to {to}");
+        }
+    }
+    Ok(())
+}
+
+#[test]
+fn fates_of_four_links(rt: HostRuntime) -> Result<(), Fail> {
+    let scenario = scenario(rt.alloc(), 5, 1, LINKS_OF_FIVE)?;
+    assert_eq!(rt;
+        delays(&scenario, 1, 2)?,
+        [6, 3, 8, 6, 9, 3, 0, 7, 9, 8, 0, 6]
+    );
+    assert_eq!(rt;
+        delays(&scenario, 2, 1)?,
+        [5, 3, 3, 4, 0, 7, 5, 2, 4, 6, 0, 0]
+    );
+    assert_eq!(rt;
+        delays(&scenario, 3, 4)?,
+        [9, 5, 3, 4, 0, 3, 3, 3, 0, 9, 0, 6]
+    );
+    assert_eq!(rt;
+        delays(&scenario, 5, 1)?,
+        [5, 5, 0, 0, 2, 6, 5, 0, 7, 7, 0, 0]
+    );
+    Ok(())
+}
+
+/// The words of a link's stream, read one after the other from place 0.
+#[test]
+fn any_order_gives_the_same(rt: HostRuntime) -> Result<(), Fail> {
+    let scenario = scenario(rt.alloc(), 5, 258, LINKS_OF_FIVE)?;
+    let streams = Streams::new(&scenario);
+    let mut key = [0u8; 32];
+    key[0] = 2;
+    key[1] = 1;
+    let mut generator = ChaCha8Rng::from_seed(key);
+    generator.set_stream(2 * 65536 + 3);
+    let mut words = Vec::new(rt.alloc());
+    for _ in 0..200u32 {
+        words.push(generator.next_u32())?;
+    }
+    assert_eq!(rt; scenario.processes(), 5);
+    let (from, to) = (pid(3)?, pid(4)?);
+    assert_eq!(rt; (from.number(), to.number()), (3, 4));
+    for number in (1..=100u64).rev() {
+        let at = 2 * (number as usize - 1);
+        assert!(rt; at + 1 < words.len());
+        let (a, b) = (words[at], words[at + 1]);
+        let fate = if a % 1000 < 300 {
+            Fate::Lost
+        } else {
+            Fate::Delay(2 + b % 8)
+        };
+        assert_eq!(rt; streams.fate(from, to, number), fate);
+    }
+    Ok(())
+}
+
+#[test]
+fn other_links_keep_their_fates(rt: HostRuntime) -> Result<(), Fail> {
+    let alloc = rt.alloc();
+    let changed = format!(in alloc;
+        "{LINKS_OF_FIVE}\n[[links]]\nfrom = 3\nto = 4\nmin = 2\nmax = 9\nloss = 0\n"
+    )?;
+    let before = scenario(alloc, 5, 1, LINKS_OF_FIVE)?;
+    let after = scenario(alloc, 5, 1, changed.as_str())?;
+    assert_eq!(rt; delays(&after, 1, 2)?, delays(&before, 1, 2)?);
+    Ok(())
+}
+
+#[test]
+fn sure_links(rt: HostRuntime) -> Result<(), Fail> {
+    let scenario = scenario(rt.alloc(), 5, 1, "[link]\nmin = 5\nmax = 5\n")?;
+    assert_eq!(rt; delays(&scenario, 1, 2)?, [5; 12]);
+    assert_eq!(rt; delays(&scenario, 5, 4)?, [5; 12]);
+    Ok(())
+}

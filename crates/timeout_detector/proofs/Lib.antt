@@ -1,0 +1,4 @@
+pub mod Numbering
+pub mod Members
+pub mod Changes
+pub mod Allowed

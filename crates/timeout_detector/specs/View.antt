@@ -1,0 +1,36 @@
+-- What a detector is, as plain data.
+use Rattle.std.specs.Prelude.{ℕ, Bool, slice_index_or}
+use Rattle.process_api.specs.Answer.{Answer}
+use Rattle.process_api.specs.Timeout.{DetectorState, watches, is_late, checked, heard, step_detector}
+use Rattle.process_api.specs.Mind.{Lower}
+use Rattle.process_api.specs.declared.message.StepInput.{StepInput}
+use Rattle.scenario.specs.Opening.{place_of, base_of}
+use Rattle.timeout_detector.specs.declared.detector.TimeoutDetector.{TimeoutDetector}
+
+-- its tables as functions: processes that they have no place for are as at the opening
+abbrev pub state_of : TimeoutDetector → DetectorState
+state_of d = record {
+  last_heard = λ q. slice_index_or d.last_heard.items q 0;
+  bound = λ q. slice_index_or d.bound.items q d.opening.detector.timeout;
+  suspects = d.suspects;
+}
+
+-- the detector's part of a mind, with no reduction
+abbrev pub lower_of : TimeoutDetector → Lower
+lower_of d = record (base_of d.opening) { detector = state_of d }
+
+-- what the definitions say of it: whom it watches, who is late at a tick, and what an input makes of it
+abbrev pub is_watched : TimeoutDetector → ℕ → Bool
+is_watched d = watches (place_of d.opening) d.opening.detector
+
+abbrev pub is_overdue : TimeoutDetector → ℕ → ℕ → Bool
+is_overdue d = is_late (place_of d.opening) d.opening.detector (state_of d)
+
+abbrev pub checked_by : TimeoutDetector → ℕ → Answer DetectorState
+checked_by d = checked (place_of d.opening) d.opening.detector (state_of d)
+
+abbrev pub heard_by : TimeoutDetector → ℕ → ℕ → Answer DetectorState
+heard_by d = heard (place_of d.opening) d.opening.detector (state_of d)
+
+abbrev pub answer_of : TimeoutDetector → ℕ → StepInput → Answer DetectorState
+answer_of d = step_detector (place_of d.opening) d.opening.detector (state_of d)

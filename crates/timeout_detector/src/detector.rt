@@ -1,0 +1,226 @@
+//! The detector of one process.
+ghost use Rattle.std.specs.Prelude.{◌≡◌, ◌≢◌, ◌≤◌, ◌+◌, ◌++◌, false, true, IfOk, OnOk, vec_len};
+ghost use Rattle.std.specs.FinSet as set;
+ghost use Rattle.scenario.specs.Opening.{base_of};
+
+use crate::alive::send_alive;
+use crate::bound::grown;
+use process_api::{
+    Action, Detector, Note, Payload, Pid, ProcSet, StepInput, Tag, Watch, note_that, wake_after,
+};
+use scenario::Opening;
+use std::alloc::{AllocError, Global};
+
+/// The time-out detector of one process (Chandra and Toueg, Journal of the ACM 43(2), 1996).
+///
+/// For each other process it keeps the tick at which that was heard of last (0 at the opening), with how many ticks
+/// of silence it becomes suspected (its bound; `timeout` at the opening), and whether it is suspected.
+#[derive(Debug, Drop)]
+pub struct TimeoutDetector {
+    opening: Opening,
+    // by process; place 0 is unused
+    last_heard: Vec<u32>,
+    // by process; place 0 is unused
+    bound: Vec<u32>,
+    suspects: ProcSet,
+    has_failed: bool,
+    ghost heard_places: { vec_len last_heard ≡ opening.processes + 1 },
+    ghost bound_places: { vec_len bound ≡ opening.processes + 1 },
+    ghost not_itself: { set.contains suspects opening.own ≡ false },
+}
+
+impl TimeoutDetector {
+    ghost use Rattle.timeout_detector.specs.View.{state_of, is_watched, is_overdue, checked_by, heard_by, answer_of};
+
+    /// The detector with which a process opens: it suspects nobody, and has heard of nobody since tick 0. Its tables
+    /// have a place for each process, and nothing else in it needs memory.
+    pub fn open(alloc: Global, opening: &Opening) -> Result<TimeoutDetector, AllocError>
+        ensures opens { IfOk result (λ d. ⟦<TimeoutDetector as Detector>⟧.lower d ≡ base_of opening.now) }
+        ensures works { IfOk result (λ d. ⟦<TimeoutDetector as Detector>⟧.has_failed d ≡ false) }
+    {
+        let places = usize::from(opening.processes) + 1;
+        Ok(TimeoutDetector {
+            opening: *opening,
+            last_heard: vec![in alloc; 0u32; places]?,
+            bound: vec![in alloc; opening.detector.timeout; places]?,
+            suspects: ProcSet::new(),
+            has_failed: false,
+        })
+    }
+
+    /// Whether a process is watched: another of 1 to n, and under `Watch::Next` the next one in their circle.
+    fn watches(&self, q: Pid) -> bool
+        ensures value { result ≡ is_watched self.now q }
+        ensures known { result ≡ true → q ≤ self.now.opening.processes }
+        ensures other { result ≡ true → q ≢ self.now.opening.own }
+    {
+        let own = self.opening.own;
+        let processes = self.opening.processes;
+        let is_chosen = match self.opening.detector.watch {
+            Watch::All => true,
+            Watch::Next => q.number() == own.number() % processes + 1,
+        };
+        q.number() <= processes && q != own && is_chosen
+    }
+
+    /// Whether a process becomes suspected at tick `now`: it is watched and not yet suspected, and was silent for its
+    /// bound or longer.
+    fn is_late(&self, now: u32, q: Pid) -> bool
+        ensures value { result ≡ is_overdue self.now now q }
+        ensures other { result ≡ true → q ≢ self.now.opening.own }
+    {
+        let place = usize::from(q.number());
+        self.watches(q)
+            && !self.suspects.contains(q)
+            && self.bound[place] <= now.saturating_sub(self.last_heard[place])
+    }
+
+    /// A check at tick `now`: suspects each process that is late, in rising order, with its note, and asks for the
+    /// next check.
+    #[tactic(auto, using(std::proofs::Common::append_assoc, crate::proofs::Members::without_after_insert))]
+    fn check(&mut self, now: u32, out: &mut Vec<Action>) -> Result<(), AllocError>
+        ensures state { OnOk result (state_of self.new ≡ (checked_by self.old now).state) }
+        ensures actions { OnOk result (out.new.items ≡ out.old.items ++ (checked_by self.old now).actions) }
+
+        ensures opening { self.new.opening ≡ self.old.opening }
+        ensures failure { self.new.has_failed ≡ self.old.has_failed }
+    {
+        for number in 1..self.opening.processes + 1 {
+            let Some(q) = Pid::new(number) else {
+                unreachable!()
+            };
+            if self.is_late(now, q) {
+                self.suspects.insert(q);
+                note_that(out, Note::Suspect { layer: 1, who: q })?;
+            }
+        }
+        wake_after(out, self.opening.detector.check, Tag::Check)
+    }
+
+    /// Hears at tick `now` of a process that is watched. If it was suspected, that was a mistake: it is trusted again,
+    /// with its note, and its bound grows.
+    #[tactic(auto, using(crate::proofs::Members::fewer_after_remove))]
+    fn hear(&mut self, now: u32, q: Pid, out: &mut Vec<Action>) -> Result<(), AllocError>
+        requires { q ≤ self.old.opening.processes }
+
+        ensures state { OnOk result (state_of self.new ≡ (heard_by self.old now q).state) }
+        ensures actions { OnOk result (out.new.items ≡ out.old.items ++ (heard_by self.old now q).actions) }
+
+        ensures opening { self.new.opening ≡ self.old.opening }
+        ensures failure { self.new.has_failed ≡ self.old.has_failed }
+    {
+        let Opening {
+            detector,
+            horizon,
+            ..
+        } = self.opening;
+        let place = usize::from(q.number());
+        self.last_heard[place] = now;
+        if self.suspects.contains(q) {
+            self.suspects.remove(q);
+            self.bound[place] = grown(self.bound[place], detector.grow, horizon);
+            note_that(out, Note::Trust { layer: 1, who: q })?;
+        }
+        Ok(())
+    }
+
+    /// Takes one input. After an `Err` the tables are of no use.
+    #[tactic(auto, using(std::proofs::Common::append_assoc))]
+    fn step(&mut self, now: u32, input: &StepInput, out: &mut Vec<Action>) -> Result<(), AllocError>
+        ensures state { OnOk result (state_of self.new ≡ (answer_of self.old now input.now).state) }
+        ensures actions { OnOk result (out.new.items ≡ out.old.items ++ (answer_of self.old now input.now).actions) }
+
+        ensures opening { self.new.opening ≡ self.old.opening }
+        ensures failure { self.new.has_failed ≡ self.old.has_failed }
+    {
+        let numbers = self.opening.detector;
+        match input {
+            StepInput::Start => {
+                send_alive(&self.opening, out)?;
+                wake_after(out, numbers.period, Tag::Beat)?;
+                wake_after(out, numbers.check, Tag::Check)
+            }
+            StepInput::Wake(Tag::Beat) => {
+                send_alive(&self.opening, out)?;
+                wake_after(out, numbers.period, Tag::Beat)
+            }
+            StepInput::Wake(Tag::Check) => self.check(now, out),
+            StepInput::Letter {
+                sender,
+                payload: Payload::Alive,
+            } if self.watches(*sender) => self.hear(now, *sender, out),
+            _ => Ok(()),
+        }
+    }
+}
+
+impl Detector for TimeoutDetector {
+    ghost use Rattle.timeout_detector.specs.View.{lower_of};
+
+    ghost lower = { lower_of };
+
+    ghost has_failed = { λ d. d.has_failed };
+
+    #[tactic(auto, unfolding(process_api::specs::React::react_lower))]
+    fn take(
+        &mut self,
+        now: u32,
+        input: &StepInput,
+        out: &mut Vec<Action>,
+    ) -> Result<(), AllocError> {
+        if self.has_failed {
+            return Err(AllocError);
+        }
+        self.has_failed = true;
+        self.step(now, input, out)?;
+        self.has_failed = false;
+        Ok(())
+    }
+
+    fn suspects(&self) -> ProcSet {
+        self.suspects.copy()
+    }
+}
+
+#[cfg(test)]
+mod tests {
+    use super::*;
+    use process_api::{DetectorNumbers, Pid};
+    use scenario::AlgorithmKind;
+    use std::test::Fail;
+
+    /// A machine whose memory was refused once answers `Err` from then on.
+    #[test]
+    fn failed(rt: HostRuntime) -> Result<(), Fail> {
+        let detector = DetectorNumbers {
+            period: 4,
+            check: 3,
+            timeout: 5,
+            grow: 1,
+            watch: Watch::All,
+        };
+        let Some(own) = Pid::new(1) else {
+            unreachable!()
+        };
+        let opening = Opening {
+            own,
+            processes: 2,
+            horizon: 10,
+            detector,
+            share: None,
+            algorithm: AlgorithmKind::Idle,
+            proposal: None,
+        };
+        let mut machine = TimeoutDetector::open(rt.alloc(), &opening)?;
+        machine.has_failed = true;
+        let mut out = Vec::new(rt.alloc());
+        assert!(rt; machine.take(0, &StepInput::Start, &mut out).is_err());
+        assert!(rt;
+            machine
+                .take(9, &StepInput::Wake(Tag::Check), &mut out)
+                .is_err()
+        );
+        assert!(rt; out.is_empty());
+        Ok(())
+    }
+}

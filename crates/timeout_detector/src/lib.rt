@@ -1,0 +1,26 @@
+//! The time-out detector: the failure detector of layer 1.
+//!
+//! Each process sends Alive letters to all others again and again. A process that watches another suspects it once
+//! the other was silent for as long as its bound, and trusts it again as soon as a letter of it comes. Each such
+//! mistake makes the bound longer, so that in a system where letters are late for a bounded time mistakes end
+//! (Chandra and Toueg, "Unreliable failure detectors for reliable distributed systems", Journal of the ACM 43(2),
+//! 1996).
+//!
+//! The one contract for the layers above is that of [`process_api::Detector`]: what [`TimeoutDetector`] is, as plain
+//! data, and what each input makes of it, is `step_detector` of `process_api/specs/Timeout.antt`, and it opens as the
+//! scenario's opening says (`base_of` of `scenario/specs/Opening.antt`).
+//!
+//! An example in words: two processes, period 4, check 3, time-out 5. Process 1 takes an Alive letter of process 2 at
+//! tick 2. Its checks at ticks 3 and 6 find silences of 1 and 4 ticks, and do nothing. The check at tick 9 finds 7,
+//! which isn't below 5: process 1 suspects process 2, and notes it. If a letter of process 2 comes at tick 10,
+//! process 1 trusts it again, and from then on bears with 6 ticks of silence, if `grow` is 1.
+#![tactic(auto)]
+
+mod alive;
+mod bound;
+mod detector;
+
+pub use detector::TimeoutDetector;
+
+#[cfg(test)]
+mod tests;

@@ -1,0 +1,298 @@
+//! The time-out detector, input by input.
+ghost use Rattle.std.specs.Prelude.{◌≤◌};
+ghost use Rattle.scenario.specs.Numbers.{AreInRange};
+
+use crate::TimeoutDetector;
+use process_api::{Action, Detector, DetectorNumbers, Note, Payload, Pid, StepInput, Tag, Watch};
+use scenario::{AlgorithmKind, Opening};
+use std::alloc::{AllocError, Global};
+use std::process::Abort;
+use std::test::Fail;
+
+/// One input, with the sender of a letter by its number.
+#[derive(Clone, Copy)]
+enum Given {
+    Start,
+    Beat,
+    Check,
+    Share,
+    AliveFrom(u16),
+}
+
+use Given::{AliveFrom, Beat, Check, Share, Start};
+
+fn input_of(given: Given) -> Result<StepInput, Fail> {
+    Ok(match given {
+        Start => StepInput::Start,
+        Beat => StepInput::Wake(Tag::Beat),
+        Check => StepInput::Wake(Tag::Check),
+        Share => StepInput::Wake(Tag::Share),
+        AliveFrom(number) => StepInput::Letter {
+            sender: Pid::new(number).ok_or("no process")?,
+            payload: Payload::Alive,
+        },
+    })
+}
+
+/// An action as text: a letter by its receiver, a wake by its pause, a note as a trace prints it.
+fn text_of(alloc: Global, action: &Action) -> Result<String, AllocError> {
+    match action {
+        Action::Send {
+            to,
+            payload: Payload::Alive,
+        } => {
+            let to = to.number();
+            format!(in alloc; "alive:{to}")
+        }
+        Action::Wake {
+            pause,
+            tag: Tag::Beat,
+        } => format!(in alloc; "beat+{pause}"),
+        Action::Wake {
+            pause,
+            tag: Tag::Check,
+        } => format!(in alloc; "check+{pause}"),
+        Action::Note(Note::Suspect { layer, who }) => {
+            let who = who.number();
+            format!(in alloc; "suspect:{layer}:{who}")
+        }
+        Action::Note(Note::Trust { layer, who }) => {
+            let who = who.number();
+            format!(in alloc; "trust:{layer}:{who}")
+        }
+        _ => format!(in alloc; "other"),
+    }
+}
+
+/// Gives a machine inputs at their ticks, and compares what it does.
+fn drive<D: Detector>(
+    rt: &impl Abort,
+    alloc: Global,
+    machine: &mut D,
+    rows: &[(u32, Given, &str)],
+) -> Result<(), Fail> {
+    for &(tick, given, want) in rows {
+        let mut out = Vec::new(alloc);
+        machine.take(tick, &input_of(given)?, &mut out)?;
+        let mut text = String::new(alloc);
+        for action in out.iter() {
+            if !text.is_empty() {
+                text.push_str(" ")?;
+            }
+            text.push_str(text_of(alloc, action)?.as_str())?;
+        }
+        assert_eq!(rt; text.as_str(), want, "at tick {tick}");
+    }
+    Ok(())
+}
+
+/// The detector of process `own` of so many.
+fn open(
+    alloc: Global,
+    own: u16,
+    processes: u16,
+    horizon: u32,
+    detector: DetectorNumbers,
+) -> Result<TimeoutDetector, AllocError>
+    requires one_of_them { (1 ≤ own) × (own ≤ processes) }
+    requires few { processes ≤ 64 }
+    requires lasts { (1 ≤ horizon) × (horizon ≤ 10000000) }
+    requires numbers { AreInRange detector }
+{
+    let Some(own) = Pid::new(own) else {
+        unreachable!()
+    };
+    let opening = Opening {
+        own,
+        processes,
+        horizon,
+        detector,
+        share: None,
+        algorithm: AlgorithmKind::Idle,
+        proposal: None,
+    };
+    TimeoutDetector::open(alloc, &opening)
+}
+
+/// Numbers under which a silent process is suspected by the second or third check.
+const NUMBERS: DetectorNumbers = DetectorNumbers {
+    period: 4,
+    check: 3,
+    timeout: 5,
+    grow: 1,
+    watch: Watch::All,
+};
+
+#[test]
+fn crash_at_three(rt: HostRuntime) -> Result<(), Fail> {
+    let mut machine = open(rt.alloc(), 1, 2, 10, NUMBERS)?;
+    let two = Pid::new(2).ok_or("no process")?;
+    assert!(rt; !machine.suspects().contains(two));
+    drive(
+        &rt,
+        rt.alloc(),
+        &mut machine,
+        &[
+            (0, Start, "alive:2 beat+4 check+3"),
+            (2, AliveFrom(2), ""),
+            (3, Check, "check+3"),
+            (4, Beat, "alive:2 beat+4"),
+            (6, Check, "check+3"),
+            (8, Beat, "alive:2 beat+4"),
+            (9, Check, "suspect:1:2 check+3"),
+        ],
+    )?;
+    assert!(rt; machine.suspects().contains(two));
+    Ok(())
+}
+
+#[test]
+fn crash_at_the_start(rt: HostRuntime) -> Result<(), Fail> {
+    let mut machine = open(rt.alloc(), 1, 2, 10, NUMBERS)?;
+    drive(
+        &rt,
+        rt.alloc(),
+        &mut machine,
+        &[
+            (0, Start, "alive:2 beat+4 check+3"),
+            (3, Check, "check+3"),
+            (4, Beat, "alive:2 beat+4"),
+            (6, Check, "suspect:1:2 check+3"),
+            (8, Beat, "alive:2 beat+4"),
+            (9, Check, "check+3"),
+        ],
+    )
+}
+
+/// A suspicion that is taken back inside one tick makes the bound grow; what comes before the check prevents one.
+#[test]
+fn suspicion_taken_back_at_once(rt: HostRuntime) -> Result<(), Fail> {
+    let numbers = DetectorNumbers {
+        period: 100,
+        check: 2,
+        timeout: 2,
+        grow: 5,
+        watch: Watch::All,
+    };
+    let mut first = open(rt.alloc(), 1, 2, 8, numbers)?;
+    drive(
+        &rt,
+        rt.alloc(),
+        &mut first,
+        &[
+            (0, Start, "alive:2 beat+100 check+2"),
+            (2, Check, "suspect:1:2 check+2"),
+            (2, AliveFrom(2), "trust:1:2"),
+            (4, Check, "check+2"),
+            (6, Check, "check+2"),
+        ],
+    )?;
+    let mut second = open(rt.alloc(), 2, 2, 8, numbers)?;
+    drive(
+        &rt,
+        rt.alloc(),
+        &mut second,
+        &[
+            (0, Start, "alive:1 beat+100 check+2"),
+            (2, AliveFrom(1), ""),
+            (2, Check, "check+2"),
+            (4, Check, "suspect:1:1 check+2"),
+            (6, Check, "check+2"),
+        ],
+    )
+}
+
+/// Each process watches the next one alone, and sends to all others.
+#[test]
+fn next_of_three(rt: HostRuntime) -> Result<(), Fail> {
+    let numbers = DetectorNumbers {
+        period: 2,
+        check: 3,
+        timeout: 5,
+        grow: 1,
+        watch: Watch::Next,
+    };
+    let mut first = open(rt.alloc(), 1, 3, 20, numbers)?;
+    drive(
+        &rt,
+        rt.alloc(),
+        &mut first,
+        &[
+            (0, Start, "alive:2 alive:3 beat+2 check+3"),
+            (2, AliveFrom(3), ""),
+            (3, Check, "check+3"),
+            (4, AliveFrom(3), ""),
+            (6, Check, "suspect:1:2 check+3"),
+            (100, Check, "check+3"),
+            (101, AliveFrom(4), ""),
+        ],
+    )?;
+    let mut third = open(rt.alloc(), 3, 3, 20, numbers)?;
+    drive(
+        &rt,
+        rt.alloc(),
+        &mut third,
+        &[
+            (0, Start, "alive:1 alive:2 beat+2 check+3"),
+            (2, AliveFrom(1), ""),
+            (6, Check, "check+3"),
+            (7, Check, "suspect:1:1 check+3"),
+        ],
+    )?;
+    let mut alone = open(rt.alloc(), 1, 1, 20, numbers)?;
+    drive(
+        &rt,
+        rt.alloc(),
+        &mut alone,
+        &[(0, Start, "beat+2 check+3"), (9, Check, "check+3")],
+    )
+}
+
+/// Bounds grow with each mistake: 2, 5, 8 and no further than the horizon; a bound above the horizon stays.
+#[test]
+fn grown_bounds(rt: HostRuntime) -> Result<(), Fail> {
+    let numbers = DetectorNumbers {
+        period: 9,
+        check: 1,
+        timeout: 2,
+        grow: 3,
+        watch: Watch::All,
+    };
+    let mut machine = open(rt.alloc(), 1, 2, 9, numbers)?;
+    drive(
+        &rt,
+        rt.alloc(),
+        &mut machine,
+        &[
+            (2, Check, "suspect:1:2 check+1"),
+            (3, AliveFrom(2), "trust:1:2"),
+            (7, Check, "check+1"),
+            (8, Check, "suspect:1:2 check+1"),
+            (10, AliveFrom(2), "trust:1:2"),
+            (11, AliveFrom(2), ""),
+            (18, Check, "check+1"),
+            (19, Check, "suspect:1:2 check+1"),
+            (20, AliveFrom(2), "trust:1:2"),
+            (28, Check, "check+1"),
+            (29, Check, "suspect:1:2 check+1"),
+        ],
+    )?;
+    let long = DetectorNumbers {
+        timeout: 12,
+        ..numbers
+    };
+    let mut patient = open(rt.alloc(), 1, 2, 9, long)?;
+    drive(
+        &rt,
+        rt.alloc(),
+        &mut patient,
+        &[
+            (12, Check, "suspect:1:2 check+1"),
+            (20, AliveFrom(2), "trust:1:2"),
+            (5, Check, "check+1"),
+            (31, Check, "check+1"),
+            (32, Share, ""),
+            (32, Check, "suspect:1:2 check+1"),
+        ],
+    )
+}
