@@ -1,0 +1,107 @@
+-- A run of the list, step by step.
+use Rattle.std.proofs.Common.{◌≡◌, ◌≢◌, ℕ, zero, suc, ◌-◌, ◌<◌, refl, sym, ap, ◌∙◌, subst, List, [], ◌∷◌, ◌++◌, length, Some, arith, cond, true, false, nat_eq, slice_get, slice_set, get_or, map}
+use borrow.Author.Tests.{eqb-true, eqb-false}
+use Rattle.std.specs.FinMap as events
+use Rattle.process_api.specs.EntryRecord.{EntryRecord}
+use Rattle.process_api.specs.Mind.{Mind}
+use Rattle.process_api.specs.declared.key.Key.{Key}
+use Rattle.process_api.specs.declared.message.StepInput.{StepInput}
+use Rattle.process_api.proofs.Minds.{mind_place, same_own}
+use Rattle.scenario.specs.Record.{Record, place_in}
+use Rattle.event_list.specs.ScenarioSetting.{setting_of}
+use Rattle.event_list.specs.Pending.{IsEmpty}
+use Rattle.event_list.specs.Setting.{Setting, IsSound, IsProcess}
+use Rattle.event_list.specs.Standing.{IsReached, Stands, IsStepped}
+use Rattle.event_list.specs.Step.{Events, Process, step}
+use Rattle.event_list.specs.World.{Has, IsLeast, taken, joined, IsTrace}
+use Rattle.event_list.proofs.Reaching.{reached_next, reached_end, reached_longer}
+use Rattle.event_list.proofs.Sets.{not_None, same_Some}
+use Rattle.event_list.proofs.Worlds.{taken_world}
+
+none_below : (i : ℕ) → i < 0 → ⊥
+none_below i h = omega arith
+
+one_less : (i n : ℕ) → suc i < suc n → i < n
+one_less i n h = omega arith
+
+-- what stands at a place where a list was changed, and at another one
+set_same : {X : Type 0} (xs : List X) (i : ℕ) (v : X) → i < length xs → slice_get (slice_set xs i v) i ≡ Some v
+set_same [] i v h = absurd (none_below i h)
+set_same (x ∷ xs) zero v h = refl
+set_same (x ∷ xs) (suc i) v h = set_same xs i v (one_less i (length xs) h)
+
+set_other : {X : Type 0} (xs : List X) (i j : ℕ) (v : X) → i ≢ j → slice_get (slice_set xs i v) j ≡ slice_get xs j
+set_other [] i j v apart = refl
+set_other (x ∷ xs) zero zero v apart = absurd (apart refl)
+set_other (x ∷ xs) zero (suc j) v apart = refl
+set_other (x ∷ xs) (suc i) zero v apart = refl
+set_other (x ∷ xs) (suc i) (suc j) v apart = set_other xs i j v (λ e. apart (ap suc e))
+
+module _ (S : Setting Mind) (processes : List (Process Mind)) (before : Events) (trace : List EntryRecord) (is : Stands S processes before trace) (key : Key) (input : StepInput) (first : IsLeast before key input) where
+  world_least : IsLeast is.world.pending key input
+  world_least = subst (λ m. IsLeast m key input) (sym is.events) first
+
+  pub first_receiver : IsProcess S key.receiver
+  first_receiver = is.is_world.received key input world_least.there
+
+  due : key.tick < S.horizon
+  due = is.is_world.below key input world_least.there
+
+  pub first_process : slice_get processes (key.receiver - 1) ≡ Some (is.world.process key.receiver)
+  first_process = is.process key.receiver first_receiver
+
+  -- every trace is longer
+  pub first_longer : (whole : List EntryRecord) → IsTrace S whole → length trace < length whole
+  first_longer = reached_longer S is.world trace key input is.reached world_least due
+
+  -- after its step
+  module _ (sound : IsSound S) (long : length processes ≡ S.processes) (after : Events) (removed : after ≡ events.remove before key) (later : List (Process Mind)) (joins : Events) (entry : EntryRecord)
+      (made : IsStepped {S = S} processes later after joins key entry (step S (is.world.process key.receiver) key input)) where
+    next_process : (p : ℕ) → IsProcess S p → slice_get later (p - 1) ≡ Some ((taken S is.world key input).process p)
+    next_process p own =
+        elim (nat_eq p key.receiver) as (λ b. nat_eq p key.receiver ≡ b → slice_get later (p - 1) ≡ Some (cond b (step S (is.world.process key.receiver) key input).process (is.world.process p))) [
+          | true ↦ λ e.
+              let same : p ≡ key.receiver = eqb-true p key.receiver e in
+              ap (λ n. slice_get later (n - 1)) same ∙ (ap (λ ps. slice_get ps (key.receiver - 1)) made.processes
+              ∙ set_same processes (key.receiver - 1) _ (omega (arith, long, first_receiver.0, first_receiver.1)))
+          | false ↦ λ e.
+              let apart : key.receiver - 1 ≢ p - 1 = λ h. eqb-false p key.receiver e (omega (arith, h, own.0, first_receiver.0)) in
+              ap (λ ps. slice_get ps (p - 1)) made.processes ∙ (set_other processes (key.receiver - 1) (p - 1) _ apart ∙ is.process p own)
+        ] refl
+
+    pub stands_next : Stands S later joins (trace ++ entry ∷ [])
+    stands_next = record {
+      world = taken S is.world key input;
+      is_world = taken_world S is.world key input sound is.is_world world_least.there;
+      reached = subst (λ e. IsReached S (taken S is.world key input) (trace ++ e ∷ [])) (sym made.entry_is) (reached_next S is.world trace key input world_least due is.reached);
+      process = next_process;
+      events = sym (made.pending ∙ ap (λ m. joined m (step S (is.world.process key.receiver) key input).added) (removed ∙ ap (λ m. events.remove m key) (sym is.events)));
+    }
+
+-- the receiver's mind knows its number
+pub first_own : (s : Record) (processes : List (Process Mind)) (before : Events) (trace : List EntryRecord) (is : Stands (setting_of s) processes before trace) (key : Key) (input : StepInput) → IsLeast before key input
+    → (p : Process Mind) → slice_get processes (key.receiver - 1) ≡ Some p → p.mind.lower.place.own ≡ key.receiver
+first_own s processes before trace is key input first p there =
+    let S = setting_of s in
+    let own : IsProcess S key.receiver = first_receiver S processes before trace is key input first in
+    let same : is.world.process key.receiver ≡ p = same_Some _ _ (sym (first_process S processes before trace is key input first) ∙ there) in
+    let mind = (is.world.process key.receiver).mind in
+    ap (λ (q : Process Mind). q.mind.lower.place.own) (sym same) ∙ same_own mind.lower.place (place_in s key.receiver) (mind_place (place_in s key.receiver) mind (is.is_world.minds key.receiver own))
+
+-- where nothing is pending, the trace is whole
+pub stands_end : (S : Setting Mind) (processes : List (Process Mind)) (pending : Events) (trace : List EntryRecord) → Stands S processes pending trace → IsEmpty pending → IsTrace S trace
+stands_end S processes pending trace is none = reached_end S is.world trace is.reached (λ q x h. absurd (none q x (subst (λ m. Has m q x) is.events h)))
+
+-- what a list's images have at a place
+pub place_is : {X Y : Type 0} (f : X → Y) (xs : List X) (i : ℕ) (d : X) (b : Y) → slice_get (map f xs) i ≡ Some b → f (get_or xs i d) ≡ b
+place_is f [] i d b e = absurd (not_None b e)
+place_is f (x ∷ xs) zero d b e = same_Some (f x) b e
+place_is f (x ∷ xs) (suc i) d b e = place_is f xs i d b e
+
+image_there : {X Y : Type 0} (f : X → Y) (xs : List X) (i : ℕ) (d : X) → i < length xs → slice_get (map f xs) i ≡ Some (f (get_or xs i d))
+image_there f [] i d h = absurd (none_below i h)
+image_there f (x ∷ xs) zero d h = refl
+image_there f (x ∷ xs) (suc i) d h = image_there f xs i d (one_less i (length xs) h)
+
+pub image_at : {X Y : Type 0} (f : X → Y) (xs : List X) (i : ℕ) (x : X) → i < length xs → x ≡ get_or xs i x → slice_get (map f xs) i ≡ Some (f x)
+image_at f xs i x h e = image_there f xs i x h ∙ ap (λ y. Some (f y)) (sym e)

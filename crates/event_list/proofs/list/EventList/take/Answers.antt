@@ -1,0 +1,57 @@
+use Rattle.std.proofs.Common.{◌≡◌, ◌++◌, ◌+◌, ◌-◌, ◌<◌, length, get_or, slice_get, slice_set, map, ap, sym, subst, ◌∙◌, arith}
+use Rattle.std.proofs.lemmas.List.{map-set}
+use Rattle.std.proofs.lemmas.List.Elements.{All-set, All-weaker, All-get_or}
+use Rattle.event_list.specs.ScenarioSetting.{setting_of}
+use Rattle.event_list.specs.Seat.{process_of, IsSeated}
+use Rattle.event_list.specs.Standing.{IsStepped}
+use Rattle.event_list.specs.Step.{step}
+use Rattle.event_list.specs.World.{joined}
+use Rattle.event_list.proofs.Standing.{place_is, image_at}
+use Rattle.event_list.proofs.list.EventList.take.Goals as goal
+
+pub turn-requires-clause-own : goal.turn-requires-clause-own
+turn-requires-clause-own g c κs within =
+    let f = process_of g.M.Process.mind in
+    let xs = c.args.self.now.seats.items in
+    let i = c.from-place.result - 1 in
+    let old = c.index_mut-seat.result.now in
+    let at : i ≡ c.args.key.receiver - 1 = ap (λ n. n - 1) (c.from-place.ensures ∙ c.number.ensures.value) in
+    let inside : i < length xs = omega (arith, c.from-place.ensures, c.number.ensures.value, c.requires.receiver.0, c.requires.receiver.1, c.requires.count, c.args.self.now.seats.ok.0) in
+    let there : old ≡ get_or xs i old = c.index_mut-seat.ensures.value in
+    sym (c.requires.own (f old) (ap (slice_get (map f xs)) (sym at) ∙ image_at f xs i old inside there))
+
+pub returns-clause-seated : goal.returns-clause-seated
+returns-clause-seated g c =
+    let mind = g.M.Process.mind in
+    let s = c.args.streams.now in
+    let xs = c.args.self.now.seats.items in
+    let i = c.from-place.result - 1 in
+    let old = c.index_mut-seat.result.now in
+    let inside : i < length xs = omega (arith, c.from-place.ensures, c.number.ensures.value, c.requires.receiver.0, c.requires.receiver.1, c.requires.count, c.args.self.now.seats.ok.0) in
+    let there : old ≡ get_or xs i old = c.index_mut-seat.ensures.value in
+    λ most all.
+    let was : IsSeated mind s most old = subst (IsSeated mind s most) (sym there) (All-get_or (IsSeated mind s most) xs i old inside all) in
+    All-set (IsSeated mind s (most + 4096)) xs i c.turn.new.self (c.in_ok-entry.ensures.seated most was)
+    (All-weaker (IsSeated mind s most) (IsSeated mind s (most + 4096)) (λ x h. record { low = h.low; high = h.high; is_mind = h.is_mind; horizon = h.horizon; crash = h.crash; places = h.places; counts = λ q. omega (arith, h.counts q) }) xs all)
+
+pub returns-clause-stepped : goal.returns-clause-stepped
+returns-clause-stepped g c =
+    let mind = g.M.Process.mind in
+    let f = process_of mind in
+    let S = setting_of c.args.streams.now in
+    let key = c.args.key in
+    let xs = c.args.self.now.seats.items in
+    let i = c.from-place.result - 1 in
+    let old = c.index_mut-seat.result.now in
+    let made = step S (f old) key c.args.input.now in
+    let at : i ≡ key.receiver - 1 = ap (λ n. n - 1) (c.from-place.ensures ∙ c.number.ensures.value) in
+    let there : old ≡ get_or xs i old = c.index_mut-seat.ensures.value in
+    let added : c.turn.new.added.items ≡ made.added = c.in_ok-entry.ensures.added ∙ ap (λ es. es ++ made.added) c.clear.ensures.items in
+    λ before is.
+    let same : f old ≡ before = ap f there ∙ place_is f xs i old before (ap (λ n. slice_get (map f xs) n) at ∙ is) in
+    subst (λ b. IsStepped {S = S} (map f xs) (map f (slice_set xs i c.turn.new.self)) c.args.self.now.pending c.join_all.new.self key c.in_ok-entry.entry (step S b key c.args.input.now)) same
+    (record {
+      processes = map-set f xs i c.turn.new.self ∙ (λ k. slice_set (map f xs) (at k) (c.in_ok-entry.ensures.process k));
+      entry_is = c.in_ok-entry.ensures.entry;
+      pending = c.in_ok-join_all.ensures ∙ ap (joined c.args.self.now.pending) added;
+    })

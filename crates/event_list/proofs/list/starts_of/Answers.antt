@@ -1,0 +1,13 @@
+use Rattle.std.proofs.Common.{◌≡◌, suc, ap, sym, ◌∙◌, add-one}
+use Rattle.std.specs.FinMap as events
+use Rattle.process_api.specs.declared.message.StepInput.TheVariants.{Start}
+use Rattle.event_list.specs.World.{starts, start_of}
+use Rattle.event_list.proofs.list.starts_of.Goals as goal
+
+pub loop-before-preserved : goal.loop-before-preserved
+loop-before-preserved c =
+    let p = c.in-Some.p in
+    let is : p ≡ suc c.loop-before.before = c.in-Some.ensures.value ∙ add-one _ in
+    c.in_ok-join-in-Some.ensures.ok
+    ∙ ((λ i. events.insert (c.loop-before.invariant i) (start_of (is i)) Start)
+    ∙ sym (ap starts (add-one c.loop-before.before)))

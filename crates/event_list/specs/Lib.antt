@@ -1,0 +1,10 @@
+pub mod Setting
+pub mod ScenarioSetting
+pub mod Step
+pub mod World
+pub mod History
+pub mod Theorems
+pub mod Plain
+pub mod Pending
+pub mod Seat
+pub mod Standing

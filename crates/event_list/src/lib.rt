@@ -1,0 +1,37 @@
+//! The single event list: what a scenario's trace is, and the run that gives it.
+//!
+//! A world is the processes, how much each put on its links, and a finite set of pending events. The list takes the
+//! least pending event, by tick, receiver, sender and number, again and again. The receiver takes the event's input,
+//! and what it does counts on its links and adds events; a crashed receiver does nothing. Events at the horizon or
+//! later never join. Each step is an entry of the trace. All this is defined for any kind of minds, any reaction and
+//! any fates (`specs/Setting.antt`, `Step.antt`, `World.antt`), from any world up to any tick; one definition says
+//! what a scenario is to it (`specs/ScenarioSetting.antt`).
+//!
+//! The one contract for the layers above: [`run_list`], on `Ok`, gives the defined trace, and it answers `Limit`
+//! only where the whole trace has more entries than the scenario's limit. [`law_only_history`] says what a trace is
+//! without any list: it is the only closed history of its scenario (`specs/History.antt`), in which each entry but the
+//! starts has one cause, and each event that is added below the horizon is taken once.
+//!
+//! One call makes the step of a process, [`Seat::turn`]: a machine with its link counts, a key and an input go in, an
+//! entry and the events that join come out. The list calls it, and so may whoever runs processes apart from one
+//! another; [`Pending`] is their set of pending events.
+//!
+//! As an example, two processes send each other a letter at tick 0 that takes 2 ticks, and the second crashes at
+//! tick 1. The trace has a `start` of each at tick 0, process 1 takes its letter at tick 2, and the letter to process
+//! 2 at tick 2 is `dead`.
+#![tactic(auto)]
+
+mod error;
+mod laws;
+mod links;
+mod list;
+mod pending;
+mod seat;
+#[cfg(test)]
+mod tests;
+
+pub use error::RunError;
+pub use laws::law_only_history;
+pub use list::run_list;
+pub use pending::Pending;
+pub use seat::Seat;

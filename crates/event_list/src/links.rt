@@ -1,0 +1,220 @@
+//! What a process puts on its links.
+ghost use Rattle.std.specs.Prelude.{◌≡◌, ◌≤◌, ◌<◌, ◌+◌, ◌^◌, ◌++◌, ℕ, IfOk, OnOk, length, replicate, vec_len};
+ghost use Rattle.std.specs.List.{AllByRecursion};
+ghost use Rattle.process_api.specs.Actions.{IsAllowed};
+ghost use Rattle.event_list.specs.ScenarioSetting.{setting_of};
+ghost use Rattle.event_list.specs.Seat.{count_of};
+ghost use Rattle.event_list.specs.Step.{raised, in_time, joining, lost_by, counts_after, added as added_by, sent as sent_by_all, lost as lost_by_all, noted, dead};
+
+use process_api::{Action, Entry, Key, Kind, Payload, Pid, StepInput, Tag};
+use std::alloc::{AllocError, Global};
+use streams::{Fate, Streams};
+
+/// How much a process put on the link to each process so far: letters, lost ones too, and wakes.
+#[derive(Drop)]
+pub struct Links {
+    // events of this tick or later don't join
+    horizon: u32,
+    // by receiver; place 0 is unused
+    counts: Vec<u64>,
+}
+
+/// Adds the event, so many ticks after the tick of its key, where that is below the horizon.
+fn join_after(
+    added: &mut Vec<(Key, StepInput)>,
+    horizon: u32,
+    sent: Key,
+    ticks: u32,
+    input: StepInput,
+) -> Result<(), AllocError>
+    ensures { OnOk result (added.new.items ≡ added.old.items ++ in_time horizon (record sent { tick = sent.tick + ticks }) input) }
+{
+    let tick = u64::from(sent.tick) + u64::from(ticks);
+    if tick < u64::from(horizon) {
+        let key = Key {
+            tick: tick as u32,
+            ..sent
+        };
+        added.push((key, input))?;
+    }
+    Ok(())
+}
+
+/// A count of 0 for each process, and one for place 0.
+fn zeros(alloc: Global, processes: u16) -> Result<Vec<u64>, AllocError>
+    ensures { IfOk result (λ v. v.items ≡ replicate (processes + 1) 0) }
+{
+    let mut counts = Vec::new(alloc);
+    for _k in 0..usize::from(processes) + 1 {
+        counts.push(0)?;
+    }
+    Ok(counts)
+}
+
+impl Links {
+    /// The links of a process that put nothing on any of them.
+    pub fn new(alloc: Global, horizon: u32, processes: u16) -> Result<Links, AllocError>
+        ensures horizon { IfOk result (λ l. l.horizon ≡ horizon) }
+        ensures counts { IfOk result (λ l. l.counts.items ≡ replicate (processes + 1) 0) }
+    {
+        let counts = zeros(alloc, processes)?;
+        Ok(Links { horizon, counts })
+    }
+
+    /// The entry of an event that comes to a crashed process: nothing is put on any link.
+    pub fn dead_entry(&self, key: Key) -> Entry
+        ensures { result ≡ dead key }
+    {
+        Entry {
+            key,
+            kind: Kind::Dead,
+            sent: 0,
+            lost: 0,
+            notes: Vec::new(*self.counts.allocator()),
+        }
+    }
+
+    /// One more on the link to a process. The new count is the number of what was put on it.
+    fn raise(&mut self, to: Pid) -> u64
+        requires there { to < vec_len self.old.counts }
+        requires room { count_of self.old.counts.items to + 1 < 2 ^ 64 }
+        ensures raised { count_of self.new.counts.items ≡ raised (count_of self.old.counts.items) to }
+        ensures number { result ≡ count_of self.old.counts.items to + 1 }
+        ensures places { vec_len self.new.counts ≡ vec_len self.old.counts }
+        ensures horizon { self.new.horizon ≡ self.old.horizon }
+    {
+        let place = usize::from(to.number());
+        self.counts[place] += 1;
+        self.counts[place]
+    }
+
+    /// Puts a letter on its link, in the step of `key`. Answers how many letters were lost, 0 or 1.
+    fn post(
+        &mut self,
+        streams: &Streams<'_>,
+        key: Key,
+        to: Pid,
+        payload: Payload,
+        added: &mut Vec<(Key, StepInput)>,
+    ) -> Result<u32, AllocError>
+        requires horizon { self.old.horizon ≡ streams.now.horizon }
+        requires own { key.receiver ≤ streams.now.processes }
+        requires to { to ≤ streams.now.processes }
+        requires there { to < vec_len self.old.counts }
+        requires room { count_of self.old.counts.items to + 1 < 2 ^ 64 }
+
+        ensures counts { OnOk result (count_of self.new.counts.items ≡ raised (count_of self.old.counts.items) to) }
+        ensures places { vec_len self.new.counts ≡ vec_len self.old.counts }
+        ensures horizon { self.new.horizon ≡ self.old.horizon }
+        ensures added { OnOk result (added.new.items ≡ added.old.items ++ joining (setting_of streams.now) key.receiver key.tick (count_of self.old.counts.items) (Action.Send to payload)) }
+        ensures lost { IfOk result (λ lost. lost ≡ lost_by (setting_of streams.now) key.receiver key.tick (count_of self.old.counts.items) (Action.Send to payload)) }
+    {
+        let own = key.receiver;
+        let number = self.raise(to);
+        let sent = Key {
+            tick: key.tick,
+            receiver: to,
+            sender: own,
+            number,
+        };
+        let input = StepInput::Letter {
+            sender: own,
+            payload,
+        };
+        if to == own {
+            join_after(added, self.horizon, sent, 1, input)?;
+            return Ok(0);
+        }
+        match streams.fate(own, to, number) {
+            Fate::Lost => Ok(1),
+            Fate::Delay(ticks) => {
+                join_after(added, self.horizon, sent, ticks, input)?;
+                Ok(0)
+            }
+        }
+    }
+
+    /// Sets a wake, in the step of `key`.
+    fn set_wake(
+        &mut self,
+        key: Key,
+        pause: u32,
+        tag: Tag,
+        added: &mut Vec<(Key, StepInput)>,
+    ) -> Result<(), AllocError>
+        requires there { key.receiver < vec_len self.old.counts }
+        requires room { count_of self.old.counts.items key.receiver + 1 < 2 ^ 64 }
+
+        ensures counts { OnOk result (count_of self.new.counts.items ≡ raised (count_of self.old.counts.items) key.receiver) }
+        ensures places { vec_len self.new.counts ≡ vec_len self.old.counts }
+        ensures horizon { self.new.horizon ≡ self.old.horizon }
+        ensures added { OnOk result (added.new.items ≡ added.old.items ++ in_time self.old.horizon (record {
+          tick = key.tick + pause;
+          receiver = key.receiver;
+          sender = key.receiver;
+          number = count_of self.old.counts.items key.receiver + 1;
+        }) (StepInput.Wake tag)) }
+    {
+        let own = key.receiver;
+        let number = self.raise(own);
+        let set = Key {
+            tick: key.tick,
+            receiver: own,
+            sender: own,
+            number,
+        };
+        join_after(added, self.horizon, set, pause, StepInput::Wake(tag))
+    }
+
+    /// Does what the actions of the step of `key` say, in their order, adds the events that join, and makes the step's
+    /// entry. The actions are used up.
+    pub fn perform(
+        &mut self,
+        streams: &Streams<'_>,
+        key: Key,
+        kind: Kind,
+        actions: &mut Vec<Action>,
+        added: &mut Vec<(Key, StepInput)>,
+    ) -> Result<Entry, AllocError>
+        requires horizon { self.old.horizon ≡ streams.now.horizon }
+        requires places { vec_len self.old.counts ≡ streams.now.processes + 1 }
+        requires own { key.receiver ≤ streams.now.processes }
+        requires room { (q : ℕ) → count_of self.old.counts.items q + 4096 < 2 ^ 64 }
+        requires allowed { AllByRecursion (IsAllowed streams.now.processes) actions.old.items }
+        requires few { length actions.old.items ≤ 4096 }
+
+        ensures counts { OnOk result (count_of self.new.counts.items ≡ counts_after key.receiver (count_of self.old.counts.items) actions.old.items) }
+        ensures places { OnOk result (vec_len self.new.counts ≡ vec_len self.old.counts) }
+        ensures horizon { OnOk result (self.new.horizon ≡ self.old.horizon) }
+        ensures room { OnOk result ((q : ℕ) → count_of self.new.counts.items q ≤ count_of self.old.counts.items q + 4096) }
+        ensures added { OnOk result (added.new.items ≡ added.old.items ++ added_by (setting_of streams.now) key.receiver key.tick (count_of self.old.counts.items) actions.old.items) }
+        ensures entry { IfOk result (λ e. e ≡ record {
+          key = key;
+          kind = kind;
+          sent = sent_by_all actions.old.items;
+          lost = lost_by_all (setting_of streams.now) key.receiver key.tick (count_of self.old.counts.items) actions.old.items;
+          notes = noted actions.old.items;
+        }) }
+    {
+        let mut sent = 0u32;
+        let mut lost = 0u32;
+        let mut notes = Vec::new(*self.counts.allocator());
+        for action in actions.drain(..) {
+            match action {
+                Action::Send { to, payload } => {
+                    lost += self.post(streams, key, to, payload, added)?;
+                    sent += 1;
+                }
+                Action::Wake { pause, tag } => self.set_wake(key, pause, tag, added)?,
+                Action::Note(note) => notes.push(note)?,
+            }
+        }
+        Ok(Entry {
+            key,
+            kind,
+            sent,
+            lost,
+            notes,
+        })
+    }
+}

@@ -1,0 +1,185 @@
+//! The single event list.
+ghost use Rattle.std.specs.Prelude.{◌≡◌, ◌≤◌, ◌<◌, ◌+◌, ◌-◌, ◌*◌, ◌^◌, [], ◌∷◌, ℕ, List, length, ◌⊎◌, IfErr, IfOk, OnOk, IsErrOf, IsTrue, Some, slice_get, All, map, vec_len};
+ghost use Rattle.process_api.specs.EntryRecord.{EntryRecord};
+ghost use Rattle.process_api.specs.Mind.{Mind};
+ghost use Rattle.process_api.specs.Numbers.{numbers_to};
+ghost use Rattle.process_api.specs.Order.{is_rising};
+ghost use Rattle.scenario.specs.Record.{opening_mind};
+ghost use Rattle.event_list.specs.ScenarioSetting.{setting_of};
+ghost use Rattle.event_list.specs.Seat.{process_of, IsMindIn, IsSeated};
+ghost use Rattle.event_list.specs.Setting.{IsProcess};
+ghost use Rattle.event_list.specs.Standing.{Stands, IsStepped};
+ghost use Rattle.event_list.specs.Step.{Process, step};
+ghost use Rattle.event_list.specs.World.{starts, opened, IsTrace};
+
+use crate::error::RunError;
+use crate::pending::Pending;
+use crate::seat::Seat;
+use process_api::{Action, Entry, Key, Pid, Process, StepInput, Trace};
+use scenario::Scenario;
+use std::alloc::{AllocError, Global};
+use streams::Streams;
+
+/// A run of the list: who sits where, what is pending, and room for what one step makes.
+#[derive(Drop)]
+struct EventList<M> {
+    // of process 1 first
+    seats: Vec<Seat<M>>,
+    pending: Pending,
+    actions: Vec<Action>,
+    added: Vec<(Key, StepInput)>,
+}
+
+/// The machines, each in its seat.
+fn seats_of<M: Process>(
+    alloc: Global,
+    scenario: &Scenario,
+    machines: Vec<M>,
+) -> Result<Vec<Seat<M>>, AllocError>
+    requires { All (λ m. IsMindIn scenario.now (M.mind m)) machines.items }
+    ensures processes { IfOk result (λ v. map (process_of M.mind) v.items ≡ map opened (map M.mind machines.items)) }
+    ensures seated { IfOk result (λ v. All (IsSeated M.mind scenario.now 0) v.items) }
+{
+    let mut seats = Vec::new(alloc);
+    for machine in machines {
+        seats.push(Seat::new(alloc, scenario, machine)?)?;
+    }
+    Ok(seats)
+}
+
+/// The start of each process.
+fn starts_of(alloc: Global, processes: u16) -> Result<Pending, AllocError>
+    requires { processes ≤ 64 }
+    ensures { IfOk result (λ m. m ≡ starts processes) }
+{
+    let mut pending = Pending::new(alloc);
+    for before in 0..processes {
+        match Pid::new(before + 1) {
+            Some(p) => {
+                let key = Key {
+                    tick: 0,
+                    receiver: p,
+                    sender: p,
+                    number: 0,
+                };
+                pending.join(key, StepInput::Start)?;
+            }
+            None => unreachable!(),
+        }
+    }
+    Ok(pending)
+}
+
+impl<M: Process> EventList<M> {
+    /// The list at the opening of a run.
+    fn open(
+        alloc: Global,
+        scenario: &Scenario,
+        machines: Vec<M>,
+    ) -> Result<EventList<M>, AllocError>
+        requires { map M.mind machines.items ≡ map (opening_mind scenario.now) (numbers_to scenario.now.processes) }
+        ensures seated { IfOk result (λ l. All (IsSeated M.mind scenario.now 0) l.seats.items) }
+        ensures count { IfOk result (λ l. vec_len l.seats ≡ scenario.now.processes) }
+        ensures opening { IfOk result (λ l. Stands (setting_of scenario.now) (map (process_of M.mind) l.seats.items) l.pending []) }
+    {
+        let processes = scenario.processes();
+        let seats = seats_of(alloc, scenario, machines)?;
+        let pending = starts_of(alloc, processes)?;
+        Ok(EventList {
+            seats,
+            pending,
+            actions: Vec::new(alloc),
+            added: Vec::new(alloc),
+        })
+    }
+
+    /// Makes the step of an event that was taken from the pending ones: its receiver's turn, and the events that it
+    /// causes join.
+    fn take(
+        &mut self,
+        streams: &Streams<'_>,
+        key: Key,
+        input: &StepInput,
+    ) -> Result<Entry, AllocError>
+        requires seated { (most : ℕ) × All (IsSeated M.mind streams.now most) self.old.seats.items × (most + 4096 < 2 ^ 64) }
+        requires count { vec_len self.old.seats ≡ streams.now.processes }
+        requires receiver { IsProcess (setting_of streams.now) key.receiver }
+        requires own { (before : Process Mind) → slice_get (map (process_of M.mind) self.old.seats.items) (key.receiver - 1) ≡ Some before → before.mind.lower.place.own ≡ key.receiver }
+
+        ensures count { OnOk result (vec_len self.new.seats ≡ vec_len self.old.seats) }
+        ensures seated { OnOk result ((most : ℕ) → All (IsSeated M.mind streams.now most) self.old.seats.items → All (IsSeated M.mind streams.now (most + 4096)) self.new.seats.items) }
+        ensures stepped { IfOk result (λ e. (before : Process Mind) → slice_get (map (process_of M.mind) self.old.seats.items) (key.receiver - 1) ≡ Some before →
+            IsStepped (map (process_of M.mind) self.old.seats.items) (map (process_of M.mind) self.new.seats.items) self.old.pending self.new.pending key e (step (setting_of streams.now) before key input.now)) }
+    {
+        let place = usize::from(key.receiver.number()) - 1;
+        self.added.clear();
+        let seat = &mut self.seats[place];
+        let entry = seat.turn(streams, key, input, &mut self.actions, &mut self.added)?;
+        self.pending.join_all(&mut self.added)?;
+        Ok(entry)
+    }
+
+    /// Takes the least pending event again and again, until none is left.
+    fn run(mut self, alloc: Global, scenario: &Scenario) -> Result<Vec<Entry>, RunError>
+        requires seated { All (IsSeated M.mind scenario.now 0) self.seats.items }
+        requires count { vec_len self.seats ≡ scenario.now.processes }
+        requires opening { Stands (setting_of scenario.now) (map (process_of M.mind) self.seats.items) self.pending [] }
+        ensures trace { IfOk result (λ t. IsTrace (setting_of scenario.now) t.items) }
+        ensures within { IfOk result (λ t. vec_len t ≤ scenario.now.limit) }
+        ensures errors { IfErr result (λ e. (e ≡ RunError.Limit) ⊎ (e ≡ RunError.Memory)) }
+        ensures limit { IsErrOf result RunError.Limit → (whole : List EntryRecord) → IsTrace (setting_of scenario.now) whole → scenario.now.limit < length whole }
+    {
+        let streams = Streams::new(scenario);
+        let limit = scenario.limit();
+        let mut trace = Vec::new(alloc);
+        while let Some((key, input)) = self.pending.take_least() {
+            if trace.len() as u64 >= limit {
+                return Err(RunError::Limit);
+            }
+            let entry = self.take(&streams, key, &input)?;
+            drop(input);
+            trace.push(entry)?;
+        }
+        Ok(trace)
+    }
+}
+
+/// The entries of a run of machines.
+fn run_machines<M: Process>(
+    alloc: Global,
+    scenario: &Scenario,
+    machines: Vec<M>,
+) -> Result<Vec<Entry>, RunError>
+    requires { map M.mind machines.items ≡ map (opening_mind scenario.now) (numbers_to scenario.now.processes) }
+    ensures trace { IfOk result (λ t. IsTrace (setting_of scenario.now) t.items) }
+    ensures rising { IfOk result (λ t. IsTrue (is_rising t.items)) }
+    ensures within { IfOk result (λ t. vec_len t ≤ scenario.now.limit) }
+    ensures errors { IfErr result (λ e. (e ≡ RunError.Limit) ⊎ (e ≡ RunError.Memory)) }
+    ensures limit { IsErrOf result RunError.Limit → (whole : List EntryRecord) → IsTrace (setting_of scenario.now) whole → scenario.now.limit < length whole }
+{
+    let _horizon = scenario.horizon();
+    EventList::open(alloc, scenario, machines)?.run(alloc, scenario)
+}
+
+/// Runs machines by one event list, up to the horizon. There is one machine for each process, of process 1 first, and
+/// each opens as the scenario says.
+///
+/// # Errors
+///
+/// `Limit` where the whole trace has more entries than the scenario's limit, `Memory` where memory was refused. The
+/// machines are gone then, and there is no trace.
+pub fn run_list(
+    alloc: Global,
+    scenario: &Scenario,
+    machines: Vec<Box<dyn Process>>,
+) -> Result<Trace, RunError>
+    requires { map mind machines.items ≡ map (opening_mind scenario.now) (numbers_to scenario.now.processes) }
+
+    ensures trace { IfOk result (λ t. IsTrace (setting_of scenario.now) t) }
+    ensures within { IfOk result (λ t. length t ≤ scenario.now.limit) }
+    ensures errors { IfErr result (λ e. (e ≡ RunError.Limit) ⊎ (e ≡ RunError.Memory)) }
+    ensures limit { IsErrOf result RunError.Limit → (whole : List EntryRecord) → IsTrace (setting_of scenario.now) whole → scenario.now.limit < length whole }
+{
+    let entries = run_machines(alloc, scenario, machines)?;
+    Ok(Trace::new(entries))
+}

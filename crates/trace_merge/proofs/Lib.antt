@@ -1,0 +1,3 @@
+pub mod Rising
+pub mod Merging
+pub mod Disjoint

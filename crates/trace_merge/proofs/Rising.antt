@@ -1,0 +1,66 @@
+-- Rising entries.
+use Rattle.std.proofs.Common.{◌≡◌, ◌≢◌, ◌⊎◌, inl, inr, refl, sym, ap, ◌∙◌, subst, Bool, true, false, ◌&&◌, IsTrue, List, [], ◌∷◌, ◌++◌, Less, Equal, Greater, Ordering, true≢false}
+use Rattle.std.specs.List.{AllByRecursion, list_all}
+use Rattle.process_api.specs.Order.{key_cmp, is_less, is_before, is_rising}
+use Rattle.process_api.specs.EntryRecord.{EntryRecord}
+use Rattle.process_api.proofs.KeyOrder.{keys_total, before_or_not}
+
+-- one entry is before another
+abbrev pub Before : EntryRecord → EntryRecord → Type 0
+Before a b = is_before a.key b.key ≡ true
+
+abbrev pub Rising : List EntryRecord → Type 0
+Rising [] = Unit {0}
+Rising (e ∷ es) = AllByRecursion (Before e) es × Rising es
+
+less_is : (r : Ordering) → is_less r ≡ true → r ≡ Less
+less_is Less e = refl
+less_is Equal e = absurd (true≢false (sym e))
+less_is Greater e = absurd (true≢false (sym e))
+
+pub before-trans : (a b c : EntryRecord) → Before a b → Before b c → Before a c
+before-trans a b c h k = ap is_less (keys_total.trans a.key b.key c.key (less_is _ h) (less_is _ k))
+
+-- of two entries with different keys one is before the other
+pub before_of_apart : (a b : EntryRecord) → is_before b.key a.key ≡ false → a.key ≢ b.key → Before a b
+before_of_apart a b not_before apart = go (before_or_not a.key b.key)
+  where
+    go : (key_cmp a.key b.key ≡ Less) ⊎ ((a.key ≡ b.key) ⊎ (key_cmp b.key a.key ≡ Less)) → Before a b
+    go (inl e) = ap is_less e
+    go (inr (inl e)) = absurd (apart e)
+    go (inr (inr e)) = absurd (true≢false (sym (ap is_less e) ∙ not_before))
+
+-- ---- the test and the fact
+
+both_true : (a b : Bool) → (a && b) ≡ true → (a ≡ true) × (b ≡ true)
+both_true true b h = (refl, h)
+both_true false b h = absurd (true≢false (sym h))
+
+all_true : {X : Type 0} (p : X → Bool) (xs : List X) → list_all p xs ≡ true → AllByRecursion (λ x. p x ≡ true) xs
+all_true p [] e = tt
+all_true p (x ∷ xs) e = let parts = both_true (p x) (list_all p xs) e in (parts.0, all_true p xs parts.1)
+
+true_all : {X : Type 0} (p : X → Bool) (xs : List X) → AllByRecursion (λ x. p x ≡ true) xs → list_all p xs ≡ true
+true_all p [] h = refl
+true_all p (x ∷ xs) h = ap (λ b. b && list_all p xs) h.0 ∙ true_all p xs h.1
+
+pub rising_of_test : (es : List EntryRecord) → IsTrue (is_rising es) → Rising es
+rising_of_test [] h = tt
+rising_of_test (e ∷ es) h =
+    let parts = both_true (list_all (λ f. is_before e.key f.key) es) (is_rising es) h in
+    (all_true (λ f. is_before e.key f.key) es parts.0, rising_of_test es parts.1)
+
+pub test_of_rising : (es : List EntryRecord) → Rising es → IsTrue (is_rising es)
+test_of_rising [] h = refl
+test_of_rising (e ∷ es) h =
+    subst IsTrue (sym (ap (λ b. b && is_rising es) (true_all (λ f. is_before e.key f.key) es h.0))) (test_of_rising es h.1)
+
+-- ---- lists that are joined
+
+pub rising_joined : (xs ys : List EntryRecord) → Rising xs → Rising ys → AllByRecursion (λ x. AllByRecursion (Before x) ys) xs → Rising (xs ++ ys)
+rising_joined [] ys h k before = k
+rising_joined (x ∷ xs) ys h k before = (all_joined _ xs ys h.0 before.0, rising_joined xs ys h.1 k before.1)
+  where
+    all_joined : (P : EntryRecord → Type 0) (xs ys : List EntryRecord) → AllByRecursion P xs → AllByRecursion P ys → AllByRecursion P (xs ++ ys)
+    all_joined P [] ys a b = b
+    all_joined P (x ∷ xs) ys a b = (a.0, all_joined P xs ys a.1 b)
