@@ -1,5 +1,5 @@
 -- The rules by which a scenario's table is refused, each by itself.
-use Rattle.std.specs.Prelude.{ℕ, ◌==◌, nat_le, nat_lt, ℤ, pos, List, [], ◌∷◌, length, map, filter, find, Bool, true, false, not, ◌&&◌, ◌||◌, Option, Some, is_some, is_none, codes}
+use Rattle.std.specs.Prelude.{ℕ, ◌==◌, nat_le, nat_lt, ℤ, pos, List, [], ◌∷◌, length, map, filter, find, Bool, false, not, ◌&&◌, ◌||◌, Option, Some, is_some, is_none, codes}
 use Rattle.std.specs.List.{list_any, range_with_len, flat_map}
 use Rattle.std.specs.Option.{option_map_or}
 use Rattle.toml.specs.Data.{Members}

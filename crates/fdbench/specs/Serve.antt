@@ -1,0 +1,60 @@
+-- What the program does for a command line.
+use Rattle.std.specs.Prelude.{◌≡◌, ◌⊎◌, ℕ, List, codes, Option, IfSome}
+use Rattle.std.specs.Io.KnownBytes.{Appends}
+use Rattle.clap.specs.Words.{Text, IsAmong, fault_of}
+use Rattle.clap.specs.declared.builder.value_parser.ValueParser.{ValueParser}
+use Rattle.clap.specs.declared.error.kind.ErrorKind.TheVariants.{DisplayHelp}
+use Rattle.event_list.specs.ScenarioSetting.{setting_of}
+use Rattle.event_list.specs.World.{IsTrace}
+use Rattle.fdbench.specs.Order.{States, TakesPrints, whole_app}
+use Rattle.fdbench.specs.Outlet.{Grows}
+use Rattle.fdbench.specs.Printed.{printed}
+use Rattle.fdbench.specs.declared.bench.PrintChoice.{PrintChoice}
+use Rattle.fdbench.specs.declared.order.Order.{Order}
+use Rattle.fdbench.specs.declared.order.Order.TheVariants as order
+use Rattle.process_api.specs.EntryRecord.{EntryRecord}
+use Rattle.scenario.specs.Refusals.{Accepts}
+use Rattle.scenario.specs.Record.{Record}
+
+-- the scenario is that of the file's bytes. Of a path other than `-` they aren't known
+pub record IsScenarioAt (input : Option (List ℕ)) (path : Text) (s : Record) : Type 0 where
+  pub bytes : List ℕ
+  pub is_input : path ≡ codes "-" → IfSome input (λ all. bytes ≡ all)
+  pub accepted : Accepts bytes s
+
+-- clap shows help for the words
+pub record AsksHelp (words : List Text) : Type 0 where
+  pub prints : ValueParser
+  pub takes : TakesPrints prints
+  pub help : IsAmong DisplayHelp (fault_of (whole_app prints) words)
+
+-- `check` answers that the scenario is accepted
+pub record IsCheckAnswer (input : Option (List ℕ)) (path : Text) (piece : List ℕ) : Type 0 where
+  pub scenario : Record
+  pub stands : IsScenarioAt input path scenario
+  pub text : piece ≡ codes "ok\n"
+
+-- `list` answers with the texts of the scenario's trace
+pub record IsListAnswer (input : Option (List ℕ)) (path : Text) (print : PrintChoice) (piece : List ℕ) : Type 0 where
+  pub scenario : Record
+  pub stands : IsScenarioAt input path scenario
+  pub trace : List EntryRecord
+  pub is_trace : IsTrace (setting_of scenario) trace
+  pub text : piece ≡ printed print trace
+
+-- the piece is what the order asks for
+abbrev pub Answers : Option (List ℕ) → Order → List ℕ → Type 0
+Answers input (order.Check path) piece = IsCheckAnswer input path.now piece
+Answers input (order.List path print) piece = IsListAnswer input path.now print piece
+
+-- the piece is what the words ask for; of help its text isn't said
+abbrev pub Serves : Option (List ℕ) → List Text → List ℕ → Type 0
+Serves input words piece = ((asked : Order) × States words asked × Answers input asked piece) ⊎ AsksHelp words
+
+-- known bytes grow by a piece that is wanted
+abbrev pub Went : (List ℕ → Type 0) → Option (List ℕ) → Option (List ℕ) → Type 0
+Went IsWanted old new = (piece : List ℕ) × IsWanted piece × Appends old new piece
+
+-- known bytes grow by a front part of such a piece
+abbrev pub WentPart : (List ℕ → Type 0) → Option (List ℕ) → Option (List ℕ) → Type 0
+WentPart IsWanted old new = (piece : List ℕ) × IsWanted piece × Grows old new piece

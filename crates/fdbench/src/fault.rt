@@ -1,0 +1,135 @@
+//! Why a run of the program ends without having done what it was asked, and how it says so.
+ghost use Rattle.std.specs.Prelude.{◌≡◌, ◌^◌, ◌-◌, ◌+◌, ◌<◌, ◌≤◌};
+ghost use Rattle.fdbench.specs.Fault.{status_of};
+
+use crate::outlet::{Outlet, put_all};
+use event_list::RunError;
+use itoa::Buffer;
+use process_api::Pid;
+use scenario::ScenarioError;
+
+/// Why the program did not do what it was asked.
+#[derive(Debug, Drop)]
+pub(crate) enum Fault {
+    /// The command, the path or what to print is missing.
+    Form,
+    /// Memory was refused while words were read.
+    WordsMemory,
+    /// A read failed.
+    Unreadable,
+    /// The scenario file is too long.
+    TooLong,
+    /// The scenario is refused.
+    Scenario(ScenarioError),
+    /// The run is refused, or writing failed.
+    Run(RunError),
+}
+
+impl Fault {
+    /// The exit status.
+    pub(crate) fn status(&self) -> u8
+        ensures { result ≡ status_of self.now }
+    {
+        match self {
+            Fault::Form | Fault::WordsMemory => 2,
+            Fault::Unreadable | Fault::TooLong | Fault::Scenario(_) => 1,
+            Fault::Run(RunError::Write) => 4,
+            Fault::Run(_) => 3,
+        }
+    }
+
+    /// Writes the fault's line and answers the exit status. Where the line can't be written, nobody is told.
+    pub(crate) fn report<O: Outlet>(&self, faults: &mut O) -> u8
+        requires { O.failed faults.old < 2 ^ 64 - 1 }
+        ensures status { result ≡ status_of self.now }
+        ensures told { O.failed faults.new ≤ O.failed faults.old + 1 }
+    {
+        self.put_line(faults);
+        self.status()
+    }
+
+    /// Writes the fault's line.
+    fn put_line<O: Outlet>(&self, faults: &mut O)
+        requires { O.failed faults.old < 2 ^ 64 - 1 }
+        ensures { O.failed faults.new ≤ O.failed faults.old + 1 }
+    {
+        match self {
+            Fault::Form => put_pieces(faults, &["fdbench: words: Form\n"]),
+            Fault::WordsMemory => put_pieces(faults, &["fdbench: words: Memory\n"]),
+            Fault::Unreadable => put_pieces(faults, &["fdbench: input: unreadable\n"]),
+            Fault::TooLong => put_pieces(faults, &["fdbench: input: too long\n"]),
+            Fault::Scenario(ScenarioError::BelowLookahead { from, to }) => put_pair(
+                faults, *from, *to,
+            ),
+            Fault::Scenario(error) => put_pieces(
+                faults,
+                &["fdbench: scenario: ", name_of_scenario_error(error), "\n"],
+            ),
+            Fault::Run(error) => put_pieces(
+                faults,
+                &["fdbench: run: ", name_of_run_error(*error), "\n"],
+            ),
+        }
+    }
+}
+
+/// Writes the pieces one after the other, up to the first that fails.
+fn put_pieces<O: Outlet>(outlet: &mut O, pieces: &[&str])
+    requires { O.failed outlet.old < 2 ^ 64 - 1 }
+    ensures { O.failed outlet.new ≤ O.failed outlet.old + 1 }
+{
+    for piece in pieces {
+        if !put_all(outlet, piece.as_bytes()) {
+            break;
+        }
+    }
+}
+
+/// Writes the line of a link that is below the lookahead.
+fn put_pair<O: Outlet>(faults: &mut O, from: Pid, to: Pid)
+    requires { O.failed faults.old < 2 ^ 64 - 1 }
+    ensures { O.failed faults.new ≤ O.failed faults.old + 1 }
+{
+    let mut from_text = Buffer::new();
+    let mut to_text = Buffer::new();
+    let from = from_text.format(from.number());
+    let to = to_text.format(to.number());
+    put_pieces(
+        faults,
+        &["fdbench: scenario: BelowLookahead ", from, " ", to, "\n"],
+    );
+}
+
+/// The name of a refusal of a scenario.
+fn name_of_scenario_error(error: &ScenarioError) -> &'static str {
+    match error {
+        ScenarioError::NotToml => "NotToml",
+        ScenarioError::UnknownKey => "UnknownKey",
+        ScenarioError::MissingKey => "MissingKey",
+        ScenarioError::WrongKind => "WrongKind",
+        ScenarioError::Version => "Version",
+        ScenarioError::Processes => "Processes",
+        ScenarioError::Horizon => "Horizon",
+        ScenarioError::Lookahead => "Lookahead",
+        ScenarioError::Limit => "Limit",
+        ScenarioError::Seed => "Seed",
+        ScenarioError::AlgorithmName => "AlgorithmName",
+        ScenarioError::Proposals => "Proposals",
+        ScenarioError::DetectorNumbers => "DetectorNumbers",
+        ScenarioError::Share => "Share",
+        ScenarioError::LinkNumbers => "LinkNumbers",
+        ScenarioError::BelowLookahead { .. } => "BelowLookahead",
+        ScenarioError::CrashLine => "CrashLine",
+        ScenarioError::Memory(_) => "Memory",
+    }
+}
+
+/// The name of a refusal of a run.
+fn name_of_run_error(error: RunError) -> &'static str {
+    match error {
+        RunError::Limit => "Limit",
+        RunError::Memory => "Memory",
+        RunError::Spawn => "Spawn",
+        RunError::Write => "Write",
+    }
+}

@@ -1,0 +1,114 @@
+//! Files that are refused, and how the program says so.
+
+use crate::memory_outlet::MemoryOutlet;
+use crate::serve::serve;
+use crate::tests::files::ONE_CRASH;
+use crate::tests::runs::{changed, run};
+use std::alloc::Global;
+use std::io::{self, Read};
+use std::process::Abort;
+use std::rt::Files;
+use std::test::Fail;
+
+/// `check` refuses the file with this line, and writes nothing else.
+fn refuses<R: Files + Abort>(rt: &R, alloc: Global, file: &[u8], line: &str) -> Result<(), Fail> {
+    let ran = run(rt, alloc, &["check", "-"], file)?;
+    assert_eq!(rt; ran.faults.as_str(), line);
+    assert_eq!(rt; ran.out.as_str(), "");
+    assert_eq!(rt; ran.status, 1);
+    Ok(())
+}
+
+#[test]
+fn scenarios(rt: HostRuntime) -> Result<(), Fail> {
+    let alloc = rt.alloc();
+    for (old, new, name) in [
+        ("processes = 2", "processes =", "NotToml"),
+        ("version = 1", "version = 1\ncolour = 1", "UnknownKey"),
+        ("horizon = 10\n", "", "MissingKey"),
+        ("horizon = 10", "horizon = \"10\"", "WrongKind"),
+        (
+            "version = 1\nprocesses = 2\nhorizon = 10",
+            "version = 3\nprocesses = 2\nhorizon = 0",
+            "Version",
+        ),
+        ("processes = 2", "processes = 65", "Processes"),
+        ("horizon = 10", "horizon = 10000001", "Horizon"),
+        ("lookahead = 2", "lookahead = 0", "Lookahead"),
+        ("seed = 1", "seed = 1\nlimit = 0", "Limit"),
+        ("seed = 1", "seed = -1", "Seed"),
+        ("\"none\"", "\"x\"", "AlgorithmName"),
+        ("\"none\"", "\"s\"", "Proposals"),
+        ("\"none\"", "\"none\"\nproposals = [1, 2]", "Proposals"),
+        ("period = 4", "period = 0", "DetectorNumbers"),
+        ("[link]", "[share]\nperiod = 0\n\n[link]", "Share"),
+        ("min = 2", "min = 3", "LinkNumbers"),
+        ("min = 2", "min = 1", "BelowLookahead 1 2"),
+        ("at = 3", "at = 10000001", "CrashLine"),
+        (
+            "at = 3",
+            "at = 3\n\n[[crash]]\nprocess = 2\nat = 4",
+            "CrashLine",
+        ),
+    ] {
+        let file = changed(alloc, ONE_CRASH, old, new)?;
+        let line = format!(in alloc; "fdbench: scenario: {name}\n")?;
+        refuses(&rt, alloc, file.as_bytes(), &line)?;
+    }
+    refuses(&rt, alloc, b"", "fdbench: scenario: MissingKey\n")?;
+    Ok(())
+}
+
+/// A comment that fills the file up to the most bytes that are read is nothing to the scenario. One byte more is too
+/// much.
+#[test]
+fn long_files(rt: HostRuntime) -> Result<(), Fail> {
+    let alloc = rt.alloc();
+    let mut file = Vec::from_slice(alloc, ONE_CRASH.as_bytes())?;
+    file.push(b'#')?;
+    for _ in 0..8_388_608usize {
+        if file.len() < 8_388_608 {
+            file.push(b'.')?;
+        }
+    }
+    let ran = run(&rt, alloc, &["check", "-"], &file)?;
+    assert_eq!(rt; ran.out.as_str(), "ok\n");
+    assert_eq!(rt; ran.faults.as_str(), "");
+    assert_eq!(rt; ran.status, 0);
+    file.push(b'.')?;
+    refuses(&rt, alloc, &file, "fdbench: input: too long\n")?;
+    Ok(())
+}
+
+/// A reader that gives a part of a file and then fails.
+#[derive(Drop)]
+struct Torn {
+    is_torn: bool,
+}
+
+impl Read for Torn {
+    fn read(&mut self, buffer: &mut [u8]) -> io::Result<usize> {
+        if self.is_torn || buffer.is_empty() {
+            return Err(io::Error::from(io::ErrorKind::Other));
+        }
+        self.is_torn = true;
+        buffer[0] = b'#';
+        Ok(1)
+    }
+}
+
+#[test]
+fn unreadable(rt: HostRuntime) -> Result<(), Fail> {
+    let alloc = rt.alloc();
+    for path in ["-", "no_such_folder/scenario.toml"] {
+        let mut outlet = MemoryOutlet::new(alloc);
+        let mut faults = MemoryOutlet::new(alloc);
+        let input = Torn { is_torn: false };
+        let words = ["fdbench", "check", path];
+        let status = serve(&rt, alloc, &words, input, &mut outlet, &mut faults);
+        assert_eq!(rt; status, 1);
+        assert_eq!(rt; outlet.bytes().len(), 0);
+        assert!(rt; faults.bytes() == b"fdbench: input: unreadable\n".as_slice());
+    }
+    Ok(())
+}

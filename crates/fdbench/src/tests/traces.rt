@@ -1,0 +1,186 @@
+//! Traces of detectors alone.
+
+use crate::bench::{PrintChoice, Summary};
+use crate::memory_outlet::MemoryOutlet;
+use crate::outlet::Outlet;
+use crate::serve::list;
+use crate::tests::files::{FIVE, ONE_CRASH, ONE_PROCESS, TAKEN_BACK, WATCH_NEXT};
+use crate::tests::runs::{changed, run, trace_of};
+use scenario::read_scenario;
+use std::test::Fail;
+
+/// The trace of one crash.
+const CRASH_AT_3: &str = "tick,receiver,sender,number,kind,sent,lost,notes
+0,1,1,0,start,1,0,
+0,2,2,0,start,1,0,
+2,1,2,1,alive,0,0,
+2,2,1,1,alive,0,0,
+3,1,1,2,check,0,0,
+3,2,2,2,dead,0,0,
+4,1,1,1,beat,1,0,
+4,2,2,1,dead,0,0,
+6,1,1,3,check,0,0,
+6,2,1,2,dead,0,0,
+8,1,1,4,beat,1,0,
+9,1,1,5,check,0,0,suspect:1:2
+";
+
+/// Where the process crashes at its start, each of its events is dead, and the other hears nothing of it.
+const CRASH_AT_0: &str = "tick,receiver,sender,number,kind,sent,lost,notes
+0,1,1,0,start,1,0,
+0,2,2,0,dead,0,0,
+2,2,1,1,dead,0,0,
+3,1,1,2,check,0,0,
+4,1,1,1,beat,1,0,
+6,1,1,3,check,0,0,suspect:1:2
+6,2,1,2,dead,0,0,
+8,1,1,4,beat,1,0,
+9,1,1,5,check,0,0,
+";
+
+/// A crash at the horizon is none.
+const CRASH_AT_HORIZON: &str = "tick,receiver,sender,number,kind,sent,lost,notes
+0,1,1,0,start,1,0,
+0,2,2,0,start,1,0,
+2,1,2,1,alive,0,0,
+2,2,1,1,alive,0,0,
+3,1,1,2,check,0,0,
+3,2,2,2,check,0,0,
+4,1,1,1,beat,1,0,
+4,2,2,1,beat,1,0,
+6,1,1,3,check,0,0,
+6,1,2,2,alive,0,0,
+6,2,1,2,alive,0,0,
+6,2,2,3,check,0,0,
+8,1,1,4,beat,1,0,
+8,2,2,4,beat,1,0,
+9,1,1,5,check,0,0,
+9,2,2,5,check,0,0,
+";
+
+/// A suspicion and its end in one tick.
+const TAKEN_BACK_TRACE: &str = "tick,receiver,sender,number,kind,sent,lost,notes
+0,1,1,0,start,1,0,
+0,2,2,0,start,1,0,
+2,1,1,2,check,0,0,suspect:1:2
+2,1,2,1,alive,0,0,trust:1:2
+2,2,1,1,alive,0,0,
+2,2,2,2,check,0,0,
+4,1,1,3,check,0,0,
+4,2,2,3,check,0,0,suspect:1:1
+6,1,1,4,check,0,0,
+6,2,2,4,check,0,0,
+";
+
+/// No letter comes.
+const ALL_LOST: &str = "tick,receiver,sender,number,kind,sent,lost,notes
+0,1,1,0,start,1,1,
+0,2,2,0,start,1,1,
+3,1,1,2,check,0,0,
+3,2,2,2,dead,0,0,
+4,1,1,1,beat,1,1,
+4,2,2,1,dead,0,0,
+6,1,1,3,check,0,0,suspect:1:2
+8,1,1,4,beat,1,1,
+9,1,1,5,check,0,0,
+";
+
+#[test]
+fn one_crash(rt: HostRuntime) -> Result<(), Fail> {
+    let alloc = rt.alloc();
+    for (at, want) in [
+        ("at = 3", CRASH_AT_3),
+        ("at = 0", CRASH_AT_0),
+        ("at = 10", CRASH_AT_HORIZON),
+    ] {
+        let file = changed(alloc, ONE_CRASH, "at = 3", at)?;
+        let trace = trace_of(&rt, alloc, file.as_str())?;
+        assert_eq!(rt; trace.as_str(), want, "{at}");
+    }
+    Ok(())
+}
+
+#[test]
+fn summary_of_one_crash(rt: HostRuntime) -> Result<(), Fail> {
+    let alloc = rt.alloc();
+    let scenario = read_scenario(alloc, ONE_CRASH.as_bytes())?;
+    let mut outlet = MemoryOutlet::new(alloc);
+    let summary = list(alloc, &scenario, PrintChoice::Trace, &mut outlet)?;
+    let want = Summary {
+        entries: 12,
+        sent: 4,
+        lost: 0,
+    };
+    assert_eq!(rt; summary, want);
+    assert_eq!(rt; outlet.failures(), 0);
+    Ok(())
+}
+
+#[test]
+fn one_process(rt: HostRuntime) -> Result<(), Fail> {
+    let trace = trace_of(&rt, rt.alloc(), ONE_PROCESS)?;
+    assert_eq!(rt; trace.len(), 68);
+    assert_eq!(rt;
+        trace.as_str(),
+        "tick,receiver,sender,number,kind,sent,lost,notes\n0,1,1,0,start,0,0,\n"
+    );
+    Ok(())
+}
+
+#[test]
+fn suspicion_taken_back(rt: HostRuntime) -> Result<(), Fail> {
+    let trace = trace_of(&rt, rt.alloc(), TAKEN_BACK)?;
+    assert_eq!(rt; trace.as_str(), TAKEN_BACK_TRACE);
+    Ok(())
+}
+
+#[test]
+fn all_letters_lost(rt: HostRuntime) -> Result<(), Fail> {
+    let alloc = rt.alloc();
+    let file = changed(alloc, ONE_CRASH, "max = 2\n", "max = 2\nloss = 1000\n")?;
+    let trace = trace_of(&rt, alloc, file.as_str())?;
+    assert_eq!(rt; trace.as_str(), ALL_LOST);
+    Ok(())
+}
+
+#[test]
+fn watch_next(rt: HostRuntime) -> Result<(), Fail> {
+    let trace = trace_of(&rt, rt.alloc(), WATCH_NEXT)?;
+    for line in [
+        "\n6,1,1,5,check,0,0,suspect:1:2\n",
+        "\n9,1,1,11,suspects,0,0,suspect:2:2\n",
+        "\n10,3,1,6,suspects,0,0,suspect:2:2\n",
+    ] {
+        assert!(rt; trace.as_str().contains(line), "{line}");
+    }
+    Ok(())
+}
+
+/// Over links that lose and delay letters at random a run is the same each time.
+#[test]
+fn same_each_time(rt: HostRuntime) -> Result<(), Fail> {
+    let alloc = rt.alloc();
+    let consensus = "algorithm = \"es\"\nproposals = [1, 2, 3, 4, 5]\n";
+    let file = changed(alloc, FIVE, consensus, "algorithm = \"none\"\n")?;
+    let first = trace_of(&rt, alloc, file.as_str())?;
+    let second = trace_of(&rt, alloc, file.as_str())?;
+    assert!(rt; first.as_str() == second.as_str());
+    assert!(rt; first.as_str().contains(",alive,"));
+    Ok(())
+}
+
+/// A limit of as many entries as the trace has is kept; with one less nothing is written.
+#[test]
+fn limits(rt: HostRuntime) -> Result<(), Fail> {
+    let alloc = rt.alloc();
+    let words = ["list", "-", "--print", "trace"];
+    let enough = changed(alloc, ONE_CRASH, "seed = 1\n", "seed = 1\nlimit = 12\n")?;
+    let trace = trace_of(&rt, alloc, enough.as_str())?;
+    assert_eq!(rt; trace.as_str(), CRASH_AT_3);
+    let short = changed(alloc, ONE_CRASH, "seed = 1\n", "seed = 1\nlimit = 11\n")?;
+    let ran = run(&rt, alloc, &words, short.as_bytes())?;
+    assert_eq!(rt; ran.status, 3);
+    assert_eq!(rt; ran.out.as_str(), "");
+    assert_eq!(rt; ran.faults.as_str(), "fdbench: run: Limit\n");
+    Ok(())
+}

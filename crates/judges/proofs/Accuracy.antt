@@ -1,0 +1,81 @@
+-- The accuracies that are a yes or a no: no pair is mistaken.
+use Rattle.std.proofs.Common.{◌≡◌, ℕ, zero, suc, ◌<◌, ◌≤◌, min, Bool, true, false, cond, not, ◌&&◌, ◌||◌, inl, inr, refl, sym, ap, ◌∙◌, arith, List}
+use Rattle.std.proofs.lemmas.Bool.{cases_eq, lt-ltb, ltb-true, ltb-false, both_ways, or_parts, not-true, not_from_false}
+use Rattle.process_api.specs.EntryRecord.{EntryRecord}
+use Rattle.scenario.specs.Record.{Record}
+use Rattle.judges.specs.Crashes.{crash_tick, is_up, is_crashed, is_correct, end_of}
+use Rattle.judges.specs.Ticks.{all_below, any_below}
+use Rattle.judges.specs.Out.{suspects}
+use Rattle.judges.specs.Verdicts.{strong_accuracy, weak_accuracy}
+use Rattle.judges.specs.declared.track.Track.{Track}
+use Rattle.judges.proofs.Judged.{AreTracks, judged_strong_accuracy, judged_weak_accuracy}
+use Rattle.judges.proofs.Below.{all_below-at, all_below-from}
+use Rattle.judges.proofs.Lasting.{same_tests}
+
+any_below-none : (f : ℕ → Bool) (n : ℕ) → ((u : ℕ) → u < n → f u ≡ false) → any_below f n ≡ false
+any_below-none f zero h = refl
+any_below-none f (suc t) h = ap (λ x. x || any_below f t) (h t (omega arith)) ∙ any_below-none f t (λ u l. h u (omega arith))
+
+any_below-at : (f : ℕ → Bool) (n : ℕ) → any_below f n ≡ false → (u : ℕ) → u < n → f u ≡ false
+any_below-at f zero e u l = absurd (omega arith)
+any_below-at f (suc t) e u l =
+    let parts = or_parts (f t) (any_below f t) e in
+    elim (cases_eq u t) [ inl same ↦ ap f same ∙ parts.0 | inr n ↦ any_below-at f t parts.1 u (omega arith) ]
+
+any_below-same : (f g : ℕ → Bool) (n : ℕ) → ((u : ℕ) → u < n → f u ≡ g u) → any_below f n ≡ any_below g n
+any_below-same f g zero h = refl
+any_below-same f g (suc t) h = ap (λ x. x || any_below f t) (h t (omega arith)) ∙ ap (λ x. g t || x) (any_below-same f g t (λ u l. h u (omega arith)))
+
+-- what holds where a condition does
+where_at : (which test : Bool) → cond which test true ≡ true → which ≡ true → test ≡ true
+where_at true test e w = e
+where_at false test e w = absurd (both_ways false refl w)
+
+where_from : (which test : Bool) → (which ≡ true → test ≡ true) → cond which test true ≡ true
+where_from true test h = h refl
+where_from false test h = refl
+
+module _ (S : Record) (trace : List EntryRecord) (layer : ℕ) (track : ℕ → ℕ → Track) (known : AreTracks S trace layer track) where
+  module _ (i j : ℕ) (l : i < S.processes) (m : j < S.processes) where
+    mistaken_is : (track i j).mistaken ≡ any_below (suspects layer trace (suc i) (suc j)) (end_of S (suc i) (suc j))
+    mistaken_is =
+        let k = known i j l m in
+        k.0.mistaken ∙ ap (any_below (suspects layer trace (suc i) (suc j))) (let e : min (track i j).tick (track i j).end ≡ end_of S (suc i) (suc j) = omega (arith, k.1, k.2) in e)
+
+    unmistaken_at : not (track i j).mistaken ≡ true → (t : ℕ) → t < end_of S (suc i) (suc j) → suspects layer trace (suc i) (suc j) t ≡ false
+    unmistaken_at e t x = any_below-at (suspects layer trace (suc i) (suc j)) (end_of S (suc i) (suc j)) (sym mistaken_is ∙ not-true (track i j).mistaken e) t x
+
+    unmistaken_from : ((t : ℕ) → t < end_of S (suc i) (suc j) → suspects layer trace (suc i) (suc j) t ≡ false) → not (track i j).mistaken ≡ true
+    unmistaken_from h = not_from_false (track i j).mistaken (mistaken_is ∙ any_below-none (suspects layer trace (suc i) (suc j)) (end_of S (suc i) (suc j)) h)
+
+  pub strong_accuracy_is : strong_accuracy S trace layer ≡ judged_strong_accuracy S track
+  strong_accuracy_is =
+      same_tests _ _
+      (λ e. all_below-from _ S.processes (λ i l. all_below-from _ S.processes (λ j m. unmistaken_from i j l m (λ t x.
+      let at_tick = all_below-at _ S.horizon e t (omega arith) in
+      let observer = where_at (is_up S (suc i) t) _ (all_below-at _ S.processes at_tick i l) (lt-ltb t (crash_tick S (suc i)) (omega arith)) in
+      let subject = where_at (is_up S (suc j) t) _ (all_below-at _ S.processes observer j m) (lt-ltb t (crash_tick S (suc j)) (omega arith)) in
+      not-true (suspects layer trace (suc i) (suc j) t) subject))))
+      (λ e. all_below-from _ S.horizon (λ t x. all_below-from _ S.processes (λ i l. where_from (is_up S (suc i) t) _ (λ q_up.
+      all_below-from _ S.processes (λ j m. where_from (is_up S (suc j) t) _ (λ p_up.
+      let q : t < crash_tick S (suc i) = ltb-true t (crash_tick S (suc i)) q_up in
+      let p : t < crash_tick S (suc j) = ltb-true t (crash_tick S (suc j)) p_up in
+      not_from_false (suspects layer trace (suc i) (suc j) t)
+      (unmistaken_at i j l m (all_below-at _ S.processes (all_below-at _ S.processes e i l) j m) t (omega arith))))))))
+
+  pub weak_accuracy_is : weak_accuracy S trace layer ≡ judged_weak_accuracy S track
+  weak_accuracy_is = any_below-same _ _ S.processes (λ j m. go j m (is_correct S (suc j)) refl)
+    where
+      go : (j : ℕ) → j < S.processes → (b : Bool) → is_correct S (suc j) ≡ b
+          → (b && all_below (λ t. all_below (λ i. cond (is_up S (suc i) t) (not (suspects layer trace (suc i) (suc j) t)) true) S.processes) S.horizon)
+          ≡ (b && all_below (λ i. not (track i j).mistaken) S.processes)
+      go j m false e = refl
+      go j m true e =
+          let correct : S.horizon ≤ crash_tick S (suc j) = ltb-false (crash_tick S (suc j)) S.horizon (not-true (is_crashed S (suc j)) e) in
+          same_tests _ _
+          (λ h. all_below-from _ S.processes (λ i l. unmistaken_from i j l m (λ t x.
+          not-true (suspects layer trace (suc i) (suc j) t)
+          (where_at (is_up S (suc i) t) _ (all_below-at _ S.processes (all_below-at _ S.horizon h t (omega arith)) i l) (lt-ltb t (crash_tick S (suc i)) (omega arith))))))
+          (λ h. all_below-from _ S.horizon (λ t x. all_below-from _ S.processes (λ i l. where_from (is_up S (suc i) t) _ (λ q_up.
+          let q : t < crash_tick S (suc i) = ltb-true t (crash_tick S (suc i)) q_up in
+          not_from_false (suspects layer trace (suc i) (suc j) t) (unmistaken_at i j l m (all_below-at _ S.processes h i l) t (omega arith))))))

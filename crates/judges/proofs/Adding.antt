@@ -1,0 +1,49 @@
+-- One more entry after all others of a rising list.
+use Rattle.std.proofs.Common.{◌≡◌, ℕ, zero, suc, true, ◌&&◌, refl, ap, ◌∙◌, List, [], ◌∷◌, ◌++◌, length, get_or, arith, Ordering, Less, Equal, Greater}
+use Rattle.std.specs.List.{list_all}
+use Rattle.std.proofs.lemmas.List.Folds.{list_all-append}
+use Rattle.std.proofs.lemmas.Bool.{and_parts, and_from}
+use Rattle.process_api.specs.Order.{is_less, is_before, is_rising}
+use Rattle.process_api.specs.EntryRecord.{EntryRecord}
+use Rattle.process_api.proofs.KeyOrder.{keys_total}
+
+less_from : (o : Ordering) → is_less o ≡ true → o ≡ Less
+less_from Less e = refl
+less_from Equal e = absurd (cc)
+less_from Greater e = absurd (cc)
+
+before-trans : (a b c : EntryRecord) → is_before a.key b.key ≡ true → is_before b.key c.key ≡ true → is_before a.key c.key ≡ true
+before-trans a b c h k = ap is_less (keys_total.trans a.key b.key c.key (less_from _ h) (less_from _ k))
+
+-- the last entry of a list comes before another
+abbrev LastBefore : List EntryRecord → EntryRecord → Type 0
+LastBefore [] e = Unit {0}
+LastBefore (x ∷ []) e = is_before x.key e.key ≡ true
+LastBefore (x ∷ y ∷ ys) e = LastBefore (y ∷ ys) e
+
+last_before : (xs : List EntryRecord) (e d : EntryRecord) (k : ℕ) → suc k ≡ length xs → is_before (get_or xs k d).key e.key ≡ true → LastBefore xs e
+last_before [] e d k l h = tt
+last_before (x ∷ []) e d zero l h = h
+last_before (x ∷ []) e d (suc k) l h = absurd (omega arith)
+last_before (x ∷ y ∷ ys) e d zero l h = absurd (omega arith)
+last_before (x ∷ y ∷ ys) e d (suc k) l h = last_before (y ∷ ys) e d k (omega arith) h
+
+after_all : (x : EntryRecord) (xs : List EntryRecord) (e : EntryRecord) → is_rising (x ∷ xs) ≡ true → LastBefore (x ∷ xs) e → (is_before x.key e.key ≡ true) × (is_rising ((x ∷ xs) ++ e ∷ []) ≡ true)
+after_all x [] e h l = (l, ap (λ b. (b && true) && true) l)
+after_all x (y ∷ ys) e h l =
+    let parts = and_parts (list_all (λ f. is_before x.key f.key) (y ∷ ys)) (is_rising (y ∷ ys)) h in
+    let rest = after_all y ys e parts.1 l in
+    let first = (and_parts (is_before x.key y.key) (list_all (λ f. is_before x.key f.key) ys) parts.0).0 in
+    let before = before-trans x y e first rest.0 in (
+      before,
+      and_from (list_all (λ f. is_before x.key f.key) ((y ∷ ys) ++ e ∷ [])) (is_rising ((y ∷ ys) ++ e ∷ []))
+          (list_all-append (λ f. is_before x.key f.key) (y ∷ ys) (e ∷ []) ∙ and_from (list_all (λ f. is_before x.key f.key) (y ∷ ys)) (is_before x.key e.key && true) parts.0 (ap (λ b. b && true) before)) rest.1,
+    )
+
+pub rising_first : (xs : List EntryRecord) (e : EntryRecord) → length xs ≡ 0 → is_rising (xs ++ e ∷ []) ≡ true
+rising_first [] e l = refl
+rising_first (x ∷ xs) e l = absurd (omega arith)
+
+pub rising_more : (xs : List EntryRecord) (e d : EntryRecord) (k : ℕ) → suc k ≡ length xs → is_rising xs ≡ true → is_before (get_or xs k d).key e.key ≡ true → is_rising (xs ++ e ∷ []) ≡ true
+rising_more [] e d k l h is = refl
+rising_more (x ∷ xs) e d k l h is = (after_all x xs e h (last_before (x ∷ xs) e d k l is)).1

@@ -1,0 +1,17 @@
+pub mod Below
+pub mod Lasting
+pub mod Tracks
+pub mod Feeding
+pub mod Turning
+pub mod Reaching
+pub mod Judged
+pub mod Accuracy
+pub mod Judging
+pub mod Noting
+pub mod Meaning
+pub mod Entering
+pub mod Opening
+pub mod Closing
+pub mod Outcoming
+pub mod Order
+pub mod Adding

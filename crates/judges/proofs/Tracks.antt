@@ -1,0 +1,138 @@
+-- What a track knows as it goes on, and what it tells at the end.
+use Rattle.std.proofs.Common.{◌≡◌, ℕ, zero, suc, ◌-◌, ◌<◌, ◌≤◌, min, Bool, true, false, cond, not, ◌&&◌, ◌||◌, inl, inr, refl, sym, ap, ◌∙◌, subst, arith, ltb, None, Some}
+use Rattle.std.proofs.lemmas.Bool.{cases_lt, lt-ltb, le-ltb, le-leb, lt-leb, cond-true, cond-false, both_ways, true≢false, false_from_ne_true, or_left, or_right}
+use mathlib.Core.Bool.{beq}
+use Rattle.judges.specs.Ticks.{any_below, all_from, before}
+use Rattle.judges.specs.Track.{Knows, IsSteady, IsReached, gone, passed, suspected_from, trusted_from}
+use Rattle.judges.specs.declared.track.Track.{Track}
+use Rattle.judges.proofs.Lasting.{all_from-at, all_from-from, last_before}
+
+beq-same : (x y : Bool) → x ≡ y → beq x y ≡ true
+beq-same true true e = refl
+beq-same false false e = refl
+beq-same true false e = absurd (true≢false e)
+beq-same false true e = absurd (true≢false (sym e))
+
+not_other : (x y : Bool) → (x ≡ y → ⊥) → x ≡ not y
+not_other true true n = absurd (n refl)
+not_other true false n = refl
+not_other false true n = refl
+not_other false false n = absurd (n refl)
+
+before_last : (f : ℕ → Bool) (a b : ℕ) (now : Bool) → a < b → ((u : ℕ) → a ≤ u → u < b → f u ≡ now) → before f b ≡ now
+before_last f a zero now l same = absurd (omega arith)
+before_last f a (suc v) now l same = same v (omega arith) (omega arith)
+
+-- `any` over a stretch of one state
+any_below-one : (f : ℕ → Bool) (n s : ℕ) → s < n → f s ≡ true → any_below f n ≡ true
+any_below-one f zero s l e = absurd (omega arith)
+any_below-one f (suc t) s l e =
+    elim (cases_lt s t) [
+      | inl p ↦ or_right (f t) (any_below f t) (any_below-one f t s p e)
+      | inr p ↦ or_left (f t) (any_below f t) (ap f (let q : t ≡ s = omega arith in q) ∙ e)
+    ]
+
+any_below-flat : (f : ℕ → Bool) (a b : ℕ) → a ≤ b → ((u : ℕ) → a ≤ u → u < b → f u ≡ false) → any_below f b ≡ any_below f a
+any_below-flat f a zero l h = ap (any_below f) (let e : 0 ≡ a = omega arith in e)
+any_below-flat f a (suc t) l h =
+    elim (cases_lt t a) [
+      | inl p ↦ ap (any_below f) (let e : suc t ≡ a = omega arith in e)
+      | inr p ↦ ap (λ x. x || any_below f t) (h t p (omega arith)) ∙ any_below-flat f a t p (λ u x y. h u x (omega arith))
+    ]
+
+or_none : (x : Bool) → (x || false) ≡ x
+or_none true = refl
+or_none false = refl
+
+or_all : (x : Bool) → (x || true) ≡ true
+or_all true = refl
+or_all false = refl
+
+module _ (f : ℕ → Bool) (end : ℕ) where
+  any_stretch : (a b : ℕ) (now : Bool) → a < b → ((u : ℕ) → a ≤ u → u < b → f u ≡ now) → (any_below f (min a end) || (now && ltb a end)) ≡ any_below f (min b end)
+  any_stretch a b false l same = or_none _ ∙ sym (any_below-flat f (min a end) (min b end) (omega arith) (λ u x y. same u (omega arith) (omega arith)))
+  any_stretch a b true l same =
+      elim (cases_lt a end) [
+        | inl p ↦ ap (λ x. any_below f (min a end) || x) (lt-ltb a end p) ∙ or_all _ ∙ sym (any_below-one f (min b end) a (omega arith) (same a (omega arith) l))
+        | inr p ↦ ap (λ x. any_below f (min a end) || x) (le-ltb a end p) ∙ or_none _ ∙ ap (any_below f) (let e : min a end ≡ min b end = omega arith in e)
+      ]
+
+  steady_on : (was now : Bool) (since a b : ℕ) → a < b → IsSteady f was since a → before f a ≡ was → ((u : ℕ) → a ≤ u → u < b → f u ≡ now) → (r : Bool) → beq now was ≡ r → IsSteady f now (cond r since a) b
+  steady_on was now since a b l s e same true is =
+      let eq : now ≡ was = beq_true now was is in
+      record {
+        below = omega (arith, s.below);
+        on = λ u x y. elim (cases_lt u a) [ inl p ↦ s.on u x p ∙ sym eq | inr p ↦ same u p y ];
+        not_before = λ v h. s.not_before v h ∙ ap not (sym eq);
+      }
+    where
+      beq_true : (x y : Bool) → beq x y ≡ true → x ≡ y
+      beq_true true true e = refl
+      beq_true false false e = refl
+      beq_true true false e = absurd (true≢false (sym e))
+      beq_true false true e = absurd (true≢false (sym e))
+  steady_on was now since a b l s e same false is = record {
+    below = omega arith;
+    on = same;
+    not_before = λ v h. earlier v (sym h);
+  }
+    where
+      other : (x y : Bool) → beq x y ≡ false → y ≡ not x
+      other true true e = absurd (true≢false e)
+      other false false e = absurd (true≢false e)
+      other true false e = refl
+      other false true e = refl
+
+      earlier : (v : ℕ) → suc v ≡ a → f v ≡ not now
+      earlier v h = ap (before f) h ∙ e ∙ other now was is
+
+  pub knows_gone : (t : Track) (until : ℕ) → t.end ≡ end → t.tick < until → Knows f t → ((u : ℕ) → t.tick ≤ u → u < until → f u ≡ t.current) → Knows f (gone until t)
+  knows_gone t until is l k same = record {
+    was = sym (before_last f t.tick until t.current l same);
+    steady = steady_on t.was t.current t.since t.tick until l k.steady (sym k.was) same (beq t.current t.was) refl;
+    mistaken = ap (λ x. x || (t.current && ltb t.tick t.end)) k.mistaken ∙ subst (λ e. (any_below f (min t.tick e) || (t.current && ltb t.tick e)) ≡ any_below f (min until e)) (sym is) (any_stretch t.tick until t.current l same);
+  }
+
+  pub knows_passed : (t : Track) (until : ℕ) → t.end ≡ end → Knows f t → ((u : ℕ) → t.tick ≤ u → u < until → f u ≡ t.current) → Knows f (passed until t)
+  knows_passed t until is k same =
+      elim (cases_lt t.tick until) [
+        | inl l ↦ subst (Knows f) (sym (cond-true _ _ _ (lt-ltb t.tick until l))) (knows_gone t until is l k same)
+        | inr l ↦ subst (Knows f) (sym (cond-false _ _ _ (le-ltb t.tick until l))) k
+      ]
+
+-- what a track tells of the ticks below its own
+module _ (f : ℕ → Bool) (tick : ℕ) where
+  nothing_lasts : before f tick ≡ false → (u : ℕ) → u < tick → all_from f u tick ≡ false
+  nothing_lasts e u l = false_from_ne_true _ (λ all. let last = last_before f tick e u l in both_ways (f last.0) last.3 (all_from-at f u tick last.0 all last.1 last.2))
+
+  lasts_from : (s : ℕ) → ((u : ℕ) → s ≤ u → u < tick → f u ≡ true) → ((v : ℕ) → s ≡ suc v → f v ≡ false) → s ≤ tick - 1 → IsReached (λ u. all_from f u tick) tick (Some s)
+  lasts_from s on not_before below u l =
+      elim (cases_lt u s) [
+        | inl p ↦ nothing (last_before f s (early s refl) u p) ∙ sym (lt-leb s u p)
+        | inr p ↦ all_from-from f u tick (λ v x y. on v (omega arith) y) ∙ sym (le-leb s u p)
+      ]
+    where
+      early : (n : ℕ) → s ≡ n → before f n ≡ false
+      early zero e = refl
+      early (suc v) e = not_before v e
+
+      nothing : (v : ℕ) × (u ≤ v) × (v < s) × (f v ≡ false) → all_from f u tick ≡ false
+      nothing last = false_from_ne_true _ (λ all. both_ways (f last.0) last.3 (all_from-at f u tick last.0 all last.1 (omega (arith, last.2))))
+
+before_not : (f : ℕ → Bool) (t : ℕ) → 0 < t → before (λ u. not (f u)) t ≡ not (before f t)
+before_not f zero l = absurd (omega arith)
+before_not f (suc v) l = refl
+
+pub suspected_reached : (f : ℕ → Bool) (t : Track) → Knows f t → IsReached (λ u. all_from f u t.tick) t.tick (suspected_from t)
+suspected_reached f t k = go t.was refl
+  where
+    go : (b : Bool) → t.was ≡ b → IsReached (λ u. all_from f u t.tick) t.tick (cond b (Some t.since) None)
+    go true e = lasts_from f t.tick t.since (λ u x y. k.steady.on u x y ∙ e) (λ v h. k.steady.not_before v h ∙ ap not e) k.steady.below
+    go false e = λ u l. nothing_lasts f t.tick (sym k.was ∙ e) u l
+
+pub trusted_reached : (f : ℕ → Bool) (t : Track) → 0 < t.tick → Knows f t → IsReached (λ u. all_from (λ v. not (f v)) u t.tick) t.tick (trusted_from t)
+trusted_reached f t some k = go t.was refl
+  where
+    go : (b : Bool) → t.was ≡ b → IsReached (λ u. all_from (λ v. not (f v)) u t.tick) t.tick (cond b None (Some t.since))
+    go true e = λ u l. nothing_lasts (λ v. not (f v)) t.tick (before_not f t.tick some ∙ ap not (sym k.was ∙ e)) u l
+    go false e = lasts_from (λ v. not (f v)) t.tick t.since (λ u x y. ap not (k.steady.on u x y ∙ e)) (λ v h. ap not (k.steady.not_before v h ∙ ap not e)) k.steady.below

@@ -1,0 +1,7 @@
+use Rattle.std.proofs.Common.{◌≡◌, if◌then◌else◌, Some}
+use Rattle.judges.specs.Track.{trusted_from, latest_below}
+use Rattle.judges.specs.Grid.{place, counts_as_correct}
+use Rattle.judges.proofs.grid.column_trusted.Given as goal
+
+abbrev pub invariant-loop-i : goal.invariant-loop-i
+invariant-loop-i l = l.found ≡ latest_below (λ i. if counts_as_correct l.tracks l.n l.horizon i then trusted_from (place l.tracks l.n i l.j) else Some 0) l.i

@@ -1,0 +1,7 @@
+use Rattle.std.proofs.Common.{◌≡◌, not}
+use Rattle.judges.specs.Ticks.{all_below}
+use Rattle.judges.specs.Grid.{place}
+use Rattle.judges.proofs.grid.row_right.Given as goal
+
+abbrev pub invariant-loop-j : goal.invariant-loop-j
+invariant-loop-j l = l.found ≡ all_below (λ j. not (place l.tracks l.n l.i j).mistaken) l.j

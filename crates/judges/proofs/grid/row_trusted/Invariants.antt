@@ -1,0 +1,7 @@
+use Rattle.std.proofs.Common.{◌≡◌, if◌then◌else◌, Some}
+use Rattle.judges.specs.Track.{trusted_from, latest_below}
+use Rattle.judges.specs.Grid.{place, counts_as_correct}
+use Rattle.judges.proofs.grid.row_trusted.Given as goal
+
+abbrev pub invariant-loop-j : goal.invariant-loop-j
+invariant-loop-j l = l.found ≡ latest_below (λ j. if counts_as_correct l.tracks l.n l.horizon j then trusted_from (place l.tracks l.n l.i j) else Some 0) l.j

@@ -1,0 +1,7 @@
+use Rattle.std.proofs.Common.{◌≡◌, ◌&&◌}
+use Rattle.judges.specs.Ticks.{any_below}
+use Rattle.judges.specs.Grid.{column_right, counts_as_correct}
+use Rattle.judges.proofs.grid.weak_accuracy.Given as goal
+
+abbrev pub invariant-loop-j : goal.invariant-loop-j
+invariant-loop-j l = l.found ≡ any_below (λ j. counts_as_correct l.tracks l.n l.horizon j && column_right l.tracks l.n l.horizon j) l.j

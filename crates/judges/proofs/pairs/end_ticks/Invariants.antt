@@ -1,0 +1,9 @@
+use Rattle.std.proofs.Common.{◌≡◌, ℕ, suc, ◌<◌, get_or, vec_len}
+use Rattle.judges.specs.Pairs.{end_tick}
+use Rattle.judges.proofs.pairs.end_ticks.Given as goal
+
+abbrev pub invariant-loop-before : goal.invariant-loop-before
+invariant-loop-before l = record {
+  count : vec_len l.ends ≡ l.before;
+  each : (i : ℕ) (d : ℕ) → i < l.before → get_or l.ends.items i d ≡ end_tick l.scenario (suc i);
+}

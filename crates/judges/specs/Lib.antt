@@ -1,0 +1,11 @@
+pub mod Ticks
+pub mod Crashes
+pub mod Out
+pub mod Verdicts
+pub mod Meaning
+pub mod Outcomes
+pub mod Noting
+pub mod Track
+pub mod Grid
+pub mod Pairs
+pub mod Judging

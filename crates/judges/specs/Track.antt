@@ -1,0 +1,70 @@
+-- The steps of a track, and what it knows of a pair whose suspicion is given tick by tick.
+use Rattle.std.specs.Prelude.{◌≡◌, ℕ, zero, suc, ◌-◌, ◌<◌, ◌≤◌, min, max, Bool, false, not, ◌&&◌, ◌||◌, if◌then◌else◌, nat_lt, nat_le, Option, None, Some}
+use mathlib.Core.Bool.{beq}
+use Rattle.judges.specs.Ticks.{any_below, before}
+use Rattle.judges.specs.declared.track.Track.{Track}
+
+abbrev pub opened : (end : ℕ) → Track
+opened end = record { end = end; tick = 0; was = false; current = false; since = 0; mistaken = false }
+
+-- the ticks up to another are as it is now
+abbrev pub gone : (until : ℕ) → Track → Track
+gone until t = record t {
+  tick = until;
+  was = t.current;
+  since = if beq t.current t.was then t.since else t.tick;
+  mistaken = t.mistaken || (t.current && nat_lt t.tick t.end);
+}
+
+abbrev pub passed : (until : ℕ) → Track → Track
+passed until t = if nat_lt t.tick until then gone until t else t
+
+-- from a tick on there is suspicion, or there is none
+abbrev pub turned : (tick : ℕ) → (suspected : Bool) → Track → Track
+turned tick suspected t = if beq suspected t.current then t else record (passed tick t) { current = suspected }
+
+abbrev pub suspected_from : Track → Option ℕ
+suspected_from t = if t.was then Some t.since else None
+
+abbrev pub trusted_from : Track → Option ℕ
+trusted_from t = if t.was then None else Some t.since
+
+-- the state stood from `since` up to the tick, and was another before
+pub record IsSteady (suspected : ℕ → Bool) (was : Bool) (since tick : ℕ) : Type 0 where
+  pub below : since ≤ tick - 1
+  pub on : (u : ℕ) → since ≤ u → u < tick → suspected u ≡ was
+  pub not_before : (v : ℕ) → since ≡ suc v → suspected v ≡ not was
+
+pub record Knows (suspected : ℕ → Bool) (t : Track) : Type 0 where
+  pub was : t.was ≡ before suspected t.tick
+  pub steady : IsSteady suspected t.was t.since t.tick
+  pub mistaken : t.mistaken ≡ any_below suspected (min t.tick t.end)
+
+-- whether a tick is at or after the one given, if one is
+abbrev pub reached : Option ℕ → ℕ → Bool
+reached None t = false
+reached (Some s) t = nat_le s t
+
+-- of the ticks below an end, a test passes just from one on, or at none
+abbrev pub IsReached : (ℕ → Bool) → (end : ℕ) → Option ℕ → Type 0
+IsReached test end o = (t : ℕ) → t < end → test t ≡ reached o t
+
+-- the later of two, where none is later than all, and the earlier
+abbrev pub latest : Option ℕ → Option ℕ → Option ℕ
+latest None b = None
+latest (Some x) None = None
+latest (Some x) (Some y) = Some (max x y)
+
+abbrev pub earliest : Option ℕ → Option ℕ → Option ℕ
+earliest None b = b
+earliest (Some x) None = Some x
+earliest (Some x) (Some y) = Some (min x y)
+
+-- of 0 to end - 1
+abbrev pub latest_below : (ℕ → Option ℕ) → (end : ℕ) → Option ℕ
+latest_below o zero = Some 0
+latest_below o (suc i) = latest (latest_below o i) (o i)
+
+abbrev pub earliest_below : (ℕ → Option ℕ) → (end : ℕ) → Option ℕ
+earliest_below o zero = None
+earliest_below o (suc i) = earliest (earliest_below o i) (o i)

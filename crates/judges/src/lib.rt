@@ -1,0 +1,30 @@
+//! Judges of a run: which properties of Chandra and Toueg (Journal of the ACM 43(2), 1996) its failure detectors had,
+//! and what its processes decided.
+//!
+//! Both calls read a finished trace. [`judge`] gives the six [`Verdicts`] on one layer of detectors: whom a process
+//! suspects at a tick is read from its notes, as they stand at the end of that tick, and 'eventually' ends at the
+//! horizon. [`decisions`] gives one [`Outcome`] for each process. The one contract: on `Ok`, the verdicts are those
+//! that `specs/Verdicts.antt` counts out and `specs/Meaning.antt` states by quantifiers over processes and ticks, and
+//! the outcomes are those of `specs/Outcomes.antt`, for every scenario and every trace.
+//!
+//! A trace is walked once. For each pair of processes a judge keeps since when the one suspects the other, or doesn't,
+//! and moves that on only where a note changes it. So the work grows with the notes of the trace and with the number
+//! of pairs, and not with the ticks.
+//!
+//! As an example, let process 2 of two crash at tick 3 of 10, and process 1 note at tick 9 that it suspects it. Both
+//! completenesses hold from tick 9, the eventual accuracies from tick 0, and the other two hold.
+#![tactic(auto)]
+
+mod grid;
+mod numbers;
+mod outcomes;
+mod pairs;
+mod running;
+mod track;
+mod verdicts;
+
+pub use outcomes::{Answer, Outcome, decisions};
+pub use verdicts::{Verdicts, judge};
+
+#[cfg(test)]
+mod tests;

@@ -1,0 +1,135 @@
+//! What the processes of a run decided.
+ghost use Rattle.std.specs.Prelude.{◌≡◌, ◌≤◌, ◌++◌, ◌∷◌, ℕ, List, [], IfOk};
+ghost use Rattle.process_api.specs.EntryRecord.{EntryRecord};
+ghost use Rattle.judges.specs.Outcomes.{outcome, outcomes};
+ghost use Rattle.judges.specs.Noting.{all_noted, noted};
+
+use crate::numbers::process_after;
+use process_api::{Entry, Note, Pid, Trace};
+use scenario::Scenario;
+use std::alloc::{AllocError, Global};
+
+/// What a process decided.
+#[derive(Clone, Copy, Debug, PartialEq, Eq)]
+pub enum Answer {
+    /// It noted no decision.
+    None,
+    /// Its algorithm ended with no value.
+    NoValue,
+    /// It decided this value.
+    Value(u32),
+}
+
+/// What became of one process.
+#[derive(Clone, Copy, Debug, PartialEq, Eq)]
+pub struct Outcome {
+    /// The process.
+    pub pid: Pid,
+    /// What it decided first.
+    pub value: Answer,
+    /// The tick at which it noted that, if it did.
+    pub tick: Option<u32>,
+    /// The greatest round that it noted; 0 where it noted none.
+    pub rounds: u64,
+}
+
+impl Outcome {
+    /// Nothing is noted.
+    fn open(pid: Pid) -> Outcome
+        ensures { result ≡ outcome [] pid }
+    {
+        Outcome {
+            pid,
+            value: Answer::None,
+            tick: None,
+            rounds: 0,
+        }
+    }
+}
+
+/// One more note of the process.
+fn note(outcome: &mut Outcome, tick: u32, note: &Note)
+    ensures { outcome.new ≡ noted outcome.old tick note.now }
+{
+    match *note {
+        Note::Suspect { .. } | Note::Trust { .. } => {}
+        Note::Round(round) => outcome.rounds = outcome.rounds.max(round),
+        Note::Decided(value) => {
+            if let Answer::None = outcome.value {
+                outcome.value = Answer::Value(value);
+                outcome.tick = Some(tick);
+            }
+        }
+        Note::NoValue => {
+            if let Answer::None = outcome.value {
+                outcome.value = Answer::NoValue;
+                outcome.tick = Some(tick);
+            }
+        }
+    }
+}
+
+fn note_all(outcome: &mut Outcome, tick: u32, notes: &[Note])
+    ensures { outcome.new ≡ all_noted outcome.old tick notes.now }
+{
+    for one in notes {
+        note(outcome, tick, one);
+    }
+}
+
+/// The outcomes of all processes, fed with the entries of a trace. All its room is made as it opens. Contracts see
+/// the list of outcomes so far.
+#[derive(Debug, Drop)]
+pub(crate) struct RunningOutcomes {
+    // of process 1 first
+    outcomes: Vec<Outcome>,
+}
+
+impl RunningOutcomes {
+    /// Nothing is noted.
+    pub fn open(alloc: Global, scenario: &Scenario) -> Result<RunningOutcomes, AllocError>
+        ensures { IfOk result (λ r. r.outcomes.items ≡ outcomes [] scenario.now.processes) }
+    {
+        let mut outcomes = Vec::with_capacity(alloc, usize::from(scenario.processes()))?;
+        for before in 0..scenario.processes() {
+            outcomes.push(Outcome::open(process_after(before)))?;
+        }
+        Ok(RunningOutcomes { outcomes })
+    }
+
+    /// One more entry. Takes no memory.
+    pub fn feed(&mut self, entry: &Entry)
+        ensures { (n : ℕ) (trace : List EntryRecord) → self.old.outcomes.items ≡ outcomes trace n → self.new.outcomes.items ≡ outcomes (trace ++ entry.now ∷ []) n }
+    {
+        let place = usize::from(entry.key.receiver.number()) - 1;
+        if let Some(outcome) = self.outcomes.get_mut(place) {
+            note_all(outcome, entry.key.tick, entry.notes.as_slice());
+        }
+    }
+
+    /// The outcomes, as no entry follows. Takes no memory.
+    pub fn close(self) -> Vec<Outcome>
+        ensures { result.items ≡ self.outcomes.items }
+    {
+        self.outcomes
+    }
+}
+
+/// What each process of a finished trace decided first, when, and the greatest round that it noted; process 1 first.
+///
+/// # Errors
+///
+/// Where a growth was refused.
+pub fn decisions(
+    alloc: Global,
+    scenario: &Scenario,
+    trace: &Trace,
+) -> Result<Vec<Outcome>, AllocError>
+    ensures { IfOk result (λ v. v.items ≡ outcomes trace.now scenario.now.processes) }
+{
+    let mut running = RunningOutcomes::open(alloc, scenario)?;
+    for entry in trace.entries() {
+        running.feed(entry);
+    }
+    Ok(running.close())
+}

@@ -1,0 +1,66 @@
+//! A judge that runs beside a trace.
+ghost use Rattle.std.specs.Prelude.{◌≡◌, ℕ, ◌*◌, ◌++◌, ◌∷◌, List, [], vec_len, IfOk};
+
+use crate::grid::grid_verdicts;
+use crate::pairs::{end_ticks, note_all, open_tracks, pass_all};
+use crate::track::Track;
+use crate::verdicts::Verdicts;
+use process_api::Entry;
+use scenario::Scenario;
+use std::alloc::{AllocError, Global};
+
+/// Judges one layer, fed with the entries of a trace in the order of their keys. All its room is made as it opens.
+#[derive(Debug, Drop)]
+pub(crate) struct RunningJudge {
+    layer: u8,
+    processes: usize,
+    horizon: u32,
+    // by observer and then by subject
+    tracks: Vec<Track>,
+    ghost square: { vec_len tracks ≡ processes * processes },
+}
+
+impl RunningJudge {
+    ghost use Rattle.process_api.specs.EntryRecord.{EntryRecord};
+    ghost use Rattle.scenario.specs.Record.{Record};
+    ghost use Rattle.judges.specs.Judging.{AreUntil, IsJudging};
+    ghost use Rattle.judges.specs.Verdicts.{verdicts};
+
+    /// A judge of a layer that was fed with nothing.
+    pub fn open(alloc: Global, scenario: &Scenario, layer: u8) -> Result<RunningJudge, AllocError>
+        ensures { IfOk result (λ j. IsJudging scenario.now layer [] j) }
+    {
+        let ends = end_ticks(alloc, scenario)?;
+        let tracks = open_tracks(alloc, &ends)?;
+        Ok(RunningJudge {
+            layer,
+            processes: ends.len(),
+            horizon: scenario.horizon(),
+            tracks,
+        })
+    }
+
+    /// One more entry. Takes no memory.
+    pub fn feed(&mut self, entry: &Entry)
+        ensures { (S : Record) (layer : ℕ) (trace : List EntryRecord) → IsJudging S layer trace self.old → AreUntil trace entry.now.key.tick → IsJudging S layer (trace ++ entry.now ∷ []) self.new }
+    {
+        if entry.key.tick < self.horizon {
+            note_all(
+                &mut self.tracks,
+                self.processes,
+                self.layer,
+                &entry.key,
+                entry.notes.as_slice(),
+            );
+        }
+    }
+
+    /// The verdicts, as no entry follows. Takes no memory.
+    pub fn close(self) -> Verdicts
+        ensures { (S : Record) (layer : ℕ) (trace : List EntryRecord) → IsJudging S layer trace self → result ≡ verdicts S trace layer }
+    {
+        let mut tracks = self.tracks;
+        pass_all(&mut tracks, self.horizon);
+        grid_verdicts(&tracks, self.processes, self.horizon)
+    }
+}

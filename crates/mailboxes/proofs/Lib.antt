@@ -1,0 +1,4 @@
+pub mod Totals
+pub mod Accounts
+pub mod Lists
+pub mod Homes

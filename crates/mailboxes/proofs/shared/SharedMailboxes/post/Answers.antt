@@ -1,0 +1,72 @@
+use Rattle.std.proofs.Common.{◌≡◌, ℕ, ◌+◌, ◌-◌, ◌<◌, ◌≤◌, ◌++◌, ◌∷◌, [], List, length, map, set, get_or, sym, ap, ◌∙◌, arith, Result, Ok, Err, OnOk, OnErr}
+use Rattle.std.proofs.lemmas.List.{get_or-map, length-map, map-set, set-get_or}
+use Rattle.process_api.specs.declared.message.Letter.{Letter}
+use Rattle.mailboxes.specs.Mailbox.{MailboxId, TicketView}
+use Rattle.mailboxes.specs.Mailboxes.{SlipView, slip_of}
+use Rattle.mailboxes.proofs.Homes.{slip_with}
+use Rattle.mailboxes.proofs.shared.SharedMailboxes.post.Goals as goal
+
+abbrev whose : TicketView → MailboxId
+whose t = t.mailbox
+
+abbrev posted_by : TicketView → List Letter
+posted_by t = t.posted
+
+place : (i receiver n m : ℕ) → i + 1 ≡ receiver → receiver ≤ n → m ≡ n → i < m
+place i receiver n m e le s = omega arith
+
+index_is : (i receiver : ℕ) → i + 1 ≡ receiver → i ≡ receiver - 1
+index_is i receiver e = omega arith
+
+on_ok : {A E : Type 0} (r : Result A E) (P Q : Type 0) → (P → Q) → OnOk r P → OnOk r Q
+on_ok (Ok x) P Q f h = f h
+on_ok (Err x) P Q f h = h
+
+on_err : {A E : Type 0} (r : Result A E) (P Q : Type 0) → (P → Q) → OnErr r P → OnErr r Q
+on_err (Ok x) P Q f h = h
+on_err (Err x) P Q f h = f h
+
+-- one ticket of the slip is changed to another of the same mailbox
+module _ (tickets : List TicketView) (i : ℕ) (old new : TicketView) (was : old ≡ get_or tickets i old) (same : new.mailbox ≡ old.mailbox) (lt : i < length tickets) where
+  whose_same : map whose (set tickets i new) ≡ map whose tickets
+  whose_same =
+      map-set whose tickets i new ∙ ap (λ q. set (map whose tickets) i q) (same ∙ ap whose was ∙ sym (get_or-map whose tickets i old (whose old) lt))
+      ∙ set-get_or (map whose tickets) i (whose old)
+
+  posted_more : (x : Letter) → new.posted ≡ old.posted ++ x ∷ [] → map posted_by (set tickets i new) ≡ set (map posted_by tickets) i (get_or (map posted_by tickets) i [] ++ x ∷ [])
+  posted_more x more =
+      map-set posted_by tickets i new
+      ∙ ap (λ l. set (map posted_by tickets) i l) (more ∙ ap (λ l. l ++ x ∷ []) (ap posted_by was ∙ sym (get_or-map posted_by tickets i old [] lt)))
+
+pub returns-clause-slip : goal.returns-clause-slip
+returns-clause-slip g c =
+    let tickets = c.slip.inside.tickets.items in
+    let mine : map whose tickets ≡ c.args.self.now = ap (λ (s : SlipView). s.mailboxes) c.slip.view_is ∙ c.requires.slip in
+    let lt : c.place_of-at.result < length tickets = place _ _ _ _ c.place_of-at.ensures c.requires.receiver (sym (length-map tickets whose) ∙ ap length mine) in
+    whose_same tickets c.place_of-at.result c.index_mut.result.now c.post.new.ticket c.index_mut.ensures.value c.post.ensures.mailbox lt ∙ mine
+
+pub returns-clause-ok : goal.returns-clause-ok
+returns-clause-ok g c =
+    let tickets = c.slip.inside.tickets.items in
+    let i = c.place_of-at.result in
+    let x = c.args.letter in
+    let at : i ≡ x.key.receiver - 1 = index_is _ _ c.place_of-at.ensures in
+    let whole : map whose tickets ≡ c.args.slip.now.mailboxes = ap (λ (s : SlipView). s.mailboxes) c.slip.view_is in
+    let rows : map posted_by tickets ≡ c.args.slip.now.posted = ap (λ (s : SlipView). s.posted) c.slip.view_is in
+    let lt : i < length tickets = place _ _ _ _ c.place_of-at.ensures c.requires.receiver (sym (length-map tickets whose) ∙ ap length (whole ∙ c.requires.slip)) in
+    on_ok c.post.result _ _
+    (λ p.
+    let same = whose_same tickets i c.index_mut.result.now c.post.new.ticket c.index_mut.ensures.value c.post.ensures.mailbox lt ∙ whole in
+    let more =
+    posted_more tickets i c.index_mut.result.now c.post.new.ticket c.index_mut.ensures.value c.post.ensures.mailbox lt x (ap posted_by p)
+    ∙ (λ j. set (rows j) (at j) (get_or (rows j) (at j) [] ++ x ∷ [])) in
+    λ j. slip_of (same j) (more j))
+    c.post.ensures.ok
+
+pub returns-clause-err : goal.returns-clause-err
+returns-clause-err g c =
+    let tickets = c.slip.inside.tickets.items in
+    let i = c.place_of-at.result in
+    on_err c.post.result _ _
+    (λ p. ap slip_with (ap (λ t. set tickets i t) (p ∙ c.index_mut.ensures.value) ∙ set-get_or tickets i c.index_mut.result.now) ∙ c.slip.view_is)
+    c.post.ensures.err

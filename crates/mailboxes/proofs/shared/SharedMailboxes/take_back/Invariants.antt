@@ -1,0 +1,9 @@
+use Rattle.std.proofs.Common.{◌≡◌, length, map}
+use Rattle.mailboxes.specs.Mailbox.{all_back}
+use Rattle.mailboxes.proofs.shared.SharedMailboxes.take_back.Given as goal
+
+abbrev pub invariant-loop-ticket : goal.invariant-loop-ticket
+invariant-loop-ticket l =
+    (goal.iterator-loop-ticket).can_next l.ticket-iterator ×
+    (goal.iterator-loop-ticket).is_finite l.ticket-iterator ×
+    (l.at ≡ length l.yielded) × (l.homes.items ≡ all_back l.initial.homes.items (map (λ t. t.posted) l.yielded))

@@ -1,0 +1,32 @@
+//! Mailboxes: the letters that the workers of a window post to other processes, until the window ends.
+//!
+//! There is a mailbox for each receiver, 1 to n: an unbounded queue that all workers share. A worker posts by a *slip*,
+//! which it owns, and which remembers, in contracts alone, what was posted by it. When the workers have ended, their
+//! slips come back and the mailboxes are emptied.
+//!
+//! The one contract for the layers above is that of [`Mailboxes::collect`]: under every schedule of the threads, the
+//! list of receiver r has the letters that the slips posted to r, each as often as it was posted, and no others. In
+//! which order a list has them isn't said. It rests on a rule of the queue (`specs/Account.antt`): what all passes have
+//! put is, counted with repetitions, what they have taken and what the queue holds. Nothing is promised about how long
+//! a call waits, or that it returns.
+//!
+//! In words: with three mailboxes and two slips, one thread posts letter a to 2 and letter b to 3 by the first slip,
+//! while another posts letter c to 2 by the second; then `collect` with both slips gives an empty list, a list of a and
+//! c in one order or the other, and the list of b alone.
+//!
+//! What threads share by reference is [`SharedMailboxes`]; [`Mailboxes`] has it, and beside it the owner's passes, by
+//! which slips are made and taken back and which no other thread may touch.
+#![tactic(auto)]
+
+mod mailbox;
+mod mailboxes;
+mod rule;
+mod shared;
+mod slip;
+
+pub use mailboxes::Mailboxes;
+pub use shared::SharedMailboxes;
+pub use slip::Slip;
+
+#[cfg(test)]
+mod tests;

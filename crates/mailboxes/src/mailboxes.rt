@@ -1,0 +1,111 @@
+//! The mailboxes whole: the queues, and the owner's pass of each.
+ghost use Rattle.std.specs.Prelude.{◌≡◌, ◌≤◌, ◌+◌, ℕ, length, IfOk, IfErr, OnOk, OnErr, vec_len};
+ghost use Rattle.std.specs.List.{All};
+ghost use Rattle.std.specs.List.Sorted.{IsPermutation};
+ghost use Rattle.event_list.specs.declared.error.RunError.TheVariants.{Memory};
+ghost use Rattle.mailboxes.specs.Mailboxes.{IsSlipOf, unused, with_letter, posted_to, list_of, letters_in, mailboxes_of};
+
+use crate::mailbox::Home;
+use crate::shared::SharedMailboxes;
+use crate::slip::Slip;
+use event_list::RunError;
+use process_api::Letter;
+use std::alloc::{AllocError, Global};
+use std::marker::Model;
+use std::sync::Wait;
+
+/// A mailbox for each receiver, 1 to n. Contracts see which they are, and how many slips were made.
+#[derive(Drop)]
+pub struct Mailboxes {
+    shared: SharedMailboxes,
+    homes: Vec<Home>,
+    slips: u64,
+}
+
+impl Model for Mailboxes {
+    ghost use Rattle.std.specs.Prelude.{◌≡◌, map, []};
+    ghost use Rattle.std.specs.List.{All};
+    ghost use Rattle.mailboxes.specs.Mailboxes.{MailboxesView, mailboxes_of};
+
+    ghost Value = { MailboxesView };
+
+    ghost view = { λ m. mailboxes_of m.shared m.slips };
+
+    ghost invariant = { λ m. (m.shared ≡ map (λ h. h.mailbox) m.homes.items)
+        × All (λ h. (h.out ≡ m.slips) × (h.back ≡ [])) m.homes.items };
+}
+
+impl Mailboxes {
+    /// A mailbox for each receiver, 1 to n. The error is that memory was refused.
+    pub fn new(alloc: Global, n: u16) -> Result<Mailboxes, AllocError>
+        ensures count { IfOk result (λ m. length m.mailboxes ≡ n) }
+        ensures slips { IfOk result (λ m. m.slips ≡ 0) }
+    {
+        let (shared, homes) = SharedMailboxes::open(alloc, n)?;
+        Ok(Mailboxes {
+            shared,
+            homes,
+            slips: 0,
+        })
+    }
+
+    /// The part that threads share, by which they post.
+    pub fn shared(&self) -> &SharedMailboxes
+        ensures { result.now ≡ self.now.mailboxes }
+    {
+        &self.shared
+    }
+
+    /// One more slip, by which nothing was posted yet. The error is that memory was refused, or that 2^64 - 1 slips were
+    /// made; then nothing changes.
+    pub fn slip(&mut self, alloc: Global) -> Result<Slip, AllocError>
+        ensures mailboxes { IfOk result (λ _. self.new ≡ mailboxes_of self.old.mailboxes (self.old.slips + 1)) }
+        ensures slip { IfOk result (λ s. s ≡ unused self.old.mailboxes) }
+        ensures err { OnErr result (self.new ≡ self.old) }
+    {
+        let slips = self.slips.checked_add(1).ok_or(AllocError)?;
+        let slip = self.shared.slip(alloc, &mut self.homes)?;
+        self.slips = slips;
+        Ok(slip)
+    }
+
+    /// Posts a letter to its receiver, 1 to n. Where memory is refused the letter comes back, and the slip and the
+    /// mailboxes are as they were. Threads that share the mailboxes post by [`Mailboxes::shared`].
+    pub fn post<R: Wait>(&self, rt: &R, slip: &mut Slip, letter: Letter) -> Result<(), Letter>
+        requires slip { IsSlipOf self.now.mailboxes slip.old }
+        requires receiver { letter.key.receiver ≤ length self.now.mailboxes }
+        ensures slip { IsSlipOf self.now.mailboxes slip.new }
+        ensures ok { OnOk result (slip.new ≡ with_letter slip.old letter) }
+        ensures err { OnErr result (slip.new ≡ slip.old) }
+        ensures back { IfErr result (λ x. x ≡ letter) }
+    {
+        self.shared.post(rt, slip, letter)
+    }
+
+    /// The letters of each receiver, the list of receiver r at place r - 1: those that the slips posted to it, each as
+    /// often as it was posted, and no others. The slips are all that were made. In which order a list has its letters
+    /// isn't said. The error is that memory was refused; then the letters are gone.
+    pub fn collect<R: Wait>(
+        self,
+        rt: &R,
+        alloc: Global,
+        slips: Vec<Slip>,
+    ) -> Result<Vec<Vec<Letter>>, RunError>
+        requires all { vec_len slips ≡ self.slips }
+        requires slips { All (IsSlipOf self.mailboxes) slips.items }
+        ensures count { IfOk result (λ lists. vec_len lists ≡ length self.mailboxes) }
+        ensures letters { IfOk result (λ lists. (r : ℕ) → 1 ≤ r → r ≤ length self.mailboxes →
+            IsPermutation (posted_to slips.items r) (list_of (letters_in lists.items) r)) }
+        ensures err { IfErr result (λ e. e ≡ Memory) }
+    {
+        let Mailboxes {
+            shared,
+            mut homes,
+            ..
+        } = self;
+        for slip in slips {
+            shared.take_back(&mut homes, slip);
+        }
+        Ok(shared.empty(rt, alloc, homes)?)
+    }
+}

@@ -1,0 +1,120 @@
+ghost use Rattle.std.specs.Prelude.{◌≡◌, ◌≤◌, length, IfSome, IfOk};
+ghost use Rattle.mailboxes.specs.Mailboxes.{IsSlipOf};
+
+use crate::*;
+use process_api::{Key, Letter, Payload, Pid};
+use std::alloc::{AllocError, Global};
+use std::sync::Wait;
+use std::test::Fail;
+use std::thread;
+
+// A letter of process 1 with this number.
+fn letter(receiver: Pid, number: u64) -> Option<Letter>
+    ensures { IfSome result (λ x. x.key.receiver ≡ receiver) }
+{
+    let sender = Pid::new(1)?;
+    let key = Key {
+        tick: 7,
+        receiver,
+        sender,
+        number,
+    };
+    let payload = Payload::Alive;
+    Some(Letter { key, payload })
+}
+
+// The numbers of a list's letters, least first.
+fn numbers(alloc: Global, letters: &Vec<Letter>) -> Result<Vec<u64>, AllocError> {
+    let mut numbers = Vec::new(alloc);
+    for letter in letters {
+        numbers.push(letter.key.number)?;
+    }
+    numbers.sort()?;
+    Ok(numbers)
+}
+
+#[test]
+fn three_letters_of_two_slips(rt: HostRuntime) -> Result<(), Fail> {
+    let alloc = rt.alloc();
+    let two = Pid::new(2).ok_or("refused")?;
+    let three = Pid::new(3).ok_or("refused")?;
+    let mut mailboxes = Mailboxes::new(alloc, 3)?;
+    let mut first = mailboxes.slip(alloc)?;
+    let mut second = mailboxes.slip(alloc)?;
+    mailboxes.post(&rt, &mut first, letter(two, 1).ok_or("refused")?)?;
+    mailboxes.post(&rt, &mut first, letter(three, 2).ok_or("refused")?)?;
+    mailboxes.post(&rt, &mut second, letter(two, 3).ok_or("refused")?)?;
+    let lists = mailboxes.collect(&rt, alloc, vec![in alloc; first, second]?)?;
+    assert_eq!(rt; lists.len(), 3);
+    assert_eq!(rt; numbers(alloc, &lists[0])?.as_slice(), [].as_slice());
+    assert_eq!(rt; numbers(alloc, &lists[1])?.as_slice(), [1, 3].as_slice());
+    assert_eq!(rt; numbers(alloc, &lists[2])?.as_slice(), [2].as_slice());
+    Ok(())
+}
+
+#[test]
+fn a_letter_posted_twice_comes_twice(rt: HostRuntime) -> Result<(), Fail> {
+    let alloc = rt.alloc();
+    let two = Pid::new(2).ok_or("refused")?;
+    let mut mailboxes = Mailboxes::new(alloc, 3)?;
+    let mut slip = mailboxes.slip(alloc)?;
+    mailboxes.post(&rt, &mut slip, letter(two, 1).ok_or("refused")?)?;
+    mailboxes.post(&rt, &mut slip, letter(two, 1).ok_or("refused")?)?;
+    let lists = mailboxes.collect(&rt, alloc, vec![in alloc; slip]?)?;
+    assert_eq!(rt; lists.len(), 3);
+    assert_eq!(rt; numbers(alloc, &lists[1])?.as_slice(), [1, 1].as_slice());
+    Ok(())
+}
+
+#[test]
+fn no_slip_no_letter(rt: HostRuntime) -> Result<(), Fail> {
+    let alloc = rt.alloc();
+    for n in [0, 1, 64] {
+        let lists = Mailboxes::new(alloc, n)?.collect(&rt, alloc, Vec::new(alloc))?;
+        assert_eq!(rt; lists.len(), usize::from(n));
+        assert!(rt; lists.iter().all(|list| list.is_empty()));
+    }
+    Ok(())
+}
+
+// Posts letters with 1,000 numbers from `first` to this receiver.
+fn post_many<R: Wait>(
+    rt: &R,
+    mailboxes: &SharedMailboxes,
+    mut slip: Slip,
+    receiver: Pid,
+    first: u64,
+) -> Option<Slip>
+    requires slip { IsSlipOf mailboxes.now slip }
+    requires receiver { receiver ≤ length mailboxes.now }
+    requires first { first ≤ 1000000 }
+    ensures { IfSome result (λ s. IsSlipOf mailboxes.now s) }
+{
+    for number in first..first + 1000 {
+        mailboxes
+            .post(rt, &mut slip, letter(receiver, number)?)
+            .ok()?;
+    }
+    Some(slip)
+}
+
+#[test]
+fn two_threads_post_to_one_receiver(rt: HostRuntime) -> Result<(), Fail> {
+    let alloc = rt.alloc();
+    let two = Pid::new(2).ok_or("refused")?;
+    let mut mailboxes = Mailboxes::new(alloc, 3)?;
+    let first = mailboxes.slip(alloc)?;
+    let second = mailboxes.slip(alloc)?;
+    let shared = mailboxes.shared();
+    let (first, second) = thread::join(
+        &rt,
+        || post_many(&rt, shared, first, two, 1),
+        || post_many(&rt, shared, second, two, 1001),
+    );
+    let first = first.ok_or("refused")?;
+    let second = second.ok_or("refused")?;
+    let lists = mailboxes.collect(&rt, alloc, vec![in alloc; first, second]?)?;
+    let numbers = numbers(alloc, lists.get(1).ok_or("no list")?)?;
+    assert!(rt; numbers.iter().copied().eq(1..=2000));
+    Ok(())
+}
