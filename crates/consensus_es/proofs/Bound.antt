@@ -1,4 +1,4 @@
--- One input makes at most 6 n + 3 actions, because at most n rounds are left in it: no process passes Await as the coordinator before its own proposal came.
+-- At most n rounds are left in one input, because no process passes Await as the coordinator before its own proposal came. So it makes at most 6 n + 3 actions.
 use Rattle.std.proofs.Common.{◌≡◌, ◌≢◌, ◌⊎◌, ℕ, zero, suc, ◌+◌, ◌-◌, ◌*◌, ◌/◌, ◌%◌, ◌<◌, ◌≤◌, inl, inr, refl, sym, ap, ◌∙◌, subst, Bool, true, false, cond, ◌&&◌, not, arith, nat_lt, nat_le, nat_eq, Option, None, Some, is_some, unwrap_or, true≢false, List, [], ◌∷◌, ◌++◌, map, length, length-append, mod-lt, mod-eq_of_lt}
 use Rattle.std.proofs.Math.Nat.{mod-add-div', add-mul-mod_self_right, add-mod_right}
 use Rattle.std.proofs.lemmas.Bool.{ltb-false, eqb-true, eq-eqb}
@@ -50,7 +50,8 @@ length_all what (q ∷ qs) = ap suc (length_all what qs)
 length_to_all : (n : ℕ) (what : Payload) → length (to_all n what) ≡ n
 length_to_all n what = length_all what (numbers_to n) ∙ length_numbers n
 
-module _ (n own : ℕ) (first : 1 ≤ own) (last : own ≤ n) where
+-- process own of n, in an input that comes to no round past top
+module _ (n own top : ℕ) (first : 1 ≤ own) (last : own ≤ n) where
   own_at : (r : ℕ) → r % n ≡ own - 1 → is_own n own r ≡ true
   own_at r e = eq-eqb _ _ (let h : r % n ≡ own - 1 = e in omega arith)
 
@@ -90,12 +91,20 @@ module _ (n own : ℕ) (first : 1 ≤ own) (last : own ≤ n) where
   abbrev IsOrderly : Coordinator → Type 0
   IsOrderly s = orderly_of.IsOrderly n own s
 
-  -- at most c actions come
+  -- the round is its own: its proposal didn't come yet, or a further own round is still in reach
+  abbrev AwaitsItself : Coordinator → ℕ → Type 0
+  AwaitsItself s c = (is_own n own s.round ≡ true) × ((s.kept.proposals s.round ≡ None) ⊎ ((5 * n + 1 ≤ c) × (s.round + n ≤ top)))
+
+  -- the round is another's: the next of its own is d rounds on
+  abbrev AwaitsAnother : Coordinator → ℕ → Type 0
+  AwaitsAnother s c = (is_own n own s.round ≡ false) × (d : ℕ) × (is_own n own (s.round + d) ≡ true) × (3 * d + n ≤ c) × (s.round + d ≤ top)
+
+  -- at most c actions come, and no round past top
   abbrev Costs : Phase → Coordinator → ℕ → Type 0
   Costs Opening s c = Unit {0}
   Costs Collect s c = (s.kept.proposals s.round ≡ None) × (n ≤ c)
-  Costs Await s c = ((is_own n own s.round ≡ true) × ((s.kept.proposals s.round ≡ None) ⊎ (5 * n + 1 ≤ c))) ⊎ ((is_own n own s.round ≡ false) × (d : ℕ) × (is_own n own (s.round + d) ≡ true) × (3 * d + n ≤ c))
-  Costs Tally s c = 5 * n ≤ c
+  Costs Await s c = AwaitsItself s c ⊎ AwaitsAnother s c
+  Costs Tally s c = (5 * n ≤ c) × (s.round + n ≤ top)
   Costs Decided s c = Unit {0}
   Costs Ended s c = Unit {0}
 
@@ -104,7 +113,7 @@ module _ (n own : ℕ) (first : 1 ≤ own) (last : own ≤ n) where
   none_or (Some v) = inr (v, refl)
 
   abbrev Cheap : ℕ → Answer Coordinator → Type 0
-  Cheap c a = IsOrderly a.state × (c2 : ℕ) × Costs a.state.phase a.state c2 × (length a.actions + c2 ≤ c)
+  Cheap c a = IsOrderly a.state × (c2 : ℕ) × Costs a.state.phase a.state c2 × (length a.actions + c2 ≤ c) × (a.state.round ≤ top)
 
   abbrev Good : ℕ → Option (Answer Coordinator) → Type 0
   Good c None = Unit {0}
@@ -112,8 +121,8 @@ module _ (n own : ℕ) (first : 1 ≤ own) (last : own ≤ n) where
 
   -- the next round is entered
   entered : (s : Coordinator) (r c d : ℕ) → s.round < r → ((k v : ℕ) → s.kept.proposals k ≡ Some v → is_own n own k ≡ true → k < s.round + 1)
-      → is_own n own (r + d) ≡ true → 3 * d + n ≤ c → Cheap (c + 2) (enter n own r s)
-  entered s r c d later kept there some = go (is_own n own r) refl
+      → is_own n own (r + d) ≡ true → 3 * d + n ≤ c → r + d ≤ top → Cheap (c + 2) (enter n own r s)
+  entered s r c d later kept there some low = go (is_own n own r) refl
     where
       gone : (k v : ℕ) (b : Bool) → cond b None (s.kept.proposals k) ≡ Some v → s.kept.proposals k ≡ Some v
       gone k v true h = absurd (none_some v h)
@@ -130,80 +139,80 @@ module _ (n own : ℕ) (first : 1 ≤ own) (last : own ≤ n) where
           by (inr (v, e)) = let l : r < s.round + 1 = kept r v (gone r v (nat_lt r r) e) is in absurd (omega arith)
 
       go : (b : Bool) → is_own n own r ≡ b → Cheap (c + 2) (record { state = record (enter n own r s).state { phase = cond b Collect Await }; actions = (enter n own r s).actions })
-      go true is = (orderly Collect (omega arith) is, c, (nothing is, omega arith), omega arith)
-      go false is = (orderly Await (omega arith) refl, c, inr (is, d, there, some), omega arith)
+      go true is = (orderly Collect (omega arith) is, c, (nothing is, omega arith), omega arith, omega arith)
+      go false is = (orderly Await (omega arith) refl, c, inr (is, d, there, some, low), omega arith, omega arith)
 
   left : (s : Coordinator) (c d : ℕ) → ((k v : ℕ) → s.kept.proposals k ≡ Some v → is_own n own k ≡ true → k < s.round + 1)
-      → is_own n own (s.round + 1 + d) ≡ true → 3 * d + n ≤ c → Cheap (c + 2) (leave n own s)
-  left s c d kept there some = go (nat_lt s.round greatest_round)
+      → is_own n own (s.round + 1 + d) ≡ true → 3 * d + n ≤ c → s.round + 1 + d ≤ top → Cheap (c + 2) (leave n own s)
+  left s c d kept there some low = go (nat_lt s.round greatest_round)
     where
       go : (b : Bool) → Cheap (c + 2) (cond b (enter n own (s.round + 1) s) (still (record s { phase = Ended })))
-      go true = entered s (s.round + 1) c d (omega arith) kept there some
-      go false = (record { own_kept = kept; in_place = refl }, 0, tt, omega arith)
+      go true = entered s (s.round + 1) c d (omega arith) kept there some low
+      go false = (record { own_kept = kept; in_place = refl }, 0, tt, omega arith, omega arith)
 
   -- some actions before
   cheap_after : (c : ℕ) (more : List Action) (a : Answer Coordinator) → Cheap c a → Cheap (length more + c) (after more a)
-  cheap_after c more a l = (l.0, l.1, l.2, let e : length (more ++ a.actions) ≡ length more + length a.actions = length-append more a.actions in let h : length a.actions + l.1 ≤ c = l.3 in omega arith)
+  cheap_after c more a l = (l.0, l.1, l.2, let e : length (more ++ a.actions) ≡ length more + length a.actions = length-append more a.actions in let h : length a.actions + l.1 ≤ c = l.3 in omega arith, l.4)
 
   cheaper : (c e : ℕ) (a : Answer Coordinator) → c ≤ e → Cheap c a → Cheap e a
-  cheaper c e a h l = (l.0, l.1, l.2, let k : length a.actions + l.1 ≤ c = l.3 in omega arith)
+  cheaper c e a h l = (l.0, l.1, l.2, let k : length a.actions + l.1 ≤ c = l.3 in omega arith, l.4)
 
   module _ (is_suspected : ℕ → Bool) (not_itself : is_suspected own ≡ false) (round : ℕ) (e : Estimate) (kept : Kept) (seen : ℕ → Bool) where
     abbrev at : Phase → Coordinator
     at phase = record { round = round; phase = phase; estimate = e; kept = kept; seen = seen }
 
-    waited : (phase : Phase) (c : ℕ) → IsOrderly (at phase) → Costs phase (at phase) c → Good c (end_wait n own is_suspected (at phase))
-    waited Opening c o l = tt
-    waited Collect c o l = go (nat_le (majority n) (count_to n (λ q. is_some (kept.estimates round q))))
+    waited : (phase : Phase) (c : ℕ) → IsOrderly (at phase) → Costs phase (at phase) c → round ≤ top → Good c (end_wait n own is_suspected (at phase))
+    waited Opening c o l low = tt
+    waited Collect c o l low = go (nat_le (majority n) (count_to n (λ q. is_some (kept.estimates round q))))
       where
         chose : (b : Option Estimate) → Good c (elim b [ None ↦ None | Some best ↦ Some (propose n own (at Collect) best) ])
         chose None = tt
         chose (Some best) =
             let k : length (to_all n (payload.Proposal round best.value)) ≡ n = length_to_all n (payload.Proposal round best.value) in
             let some : n ≤ c = l.1 in
-            (record { own_kept = λ r v h own2. let m : r < round = o.own_kept r v h own2 in omega arith; in_place = refl }, 0, inl (o.in_place, inl l.0), omega arith)
+            (record { own_kept = λ r v h own2. let m : r < round = o.own_kept r v h own2 in omega arith; in_place = refl }, 0, inl (o.in_place, inl l.0), omega arith, low)
 
         go : (b : Bool) → Good c (cond b (elim (best_to n (kept.estimates round)) [ None ↦ None | Some best ↦ Some (propose n own (at Collect) best) ]) None)
         go true = chose (best_to n (kept.estimates round))
         go false = tt
-    waited Await c o l = go (kept.proposals round) refl
+    waited Await c o l low = go (kept.proposals round) refl
       where
         -- another's round is left
-        onward : (ack : Bool) (d2 : Estimate) → is_own n own round ≡ false → (d : ℕ) → is_own n own (round + d) ≡ true → 3 * d + n ≤ c
+        onward : (ack : Bool) (d2 : Estimate) → is_own n own round ≡ false → (d : ℕ) → is_own n own (round + d) ≡ true → 3 * d + n ≤ c → round + d ≤ top
             → Cheap c (after (action.Send (coordinator n round) (payload.Reply round ack) ∷ []) (leave n own (record (at Await) { estimate = d2 })))
-        onward ack d2 is zero there some = absurd (true≢false (sym there ∙ ap (is_own n own) (let z : round + 0 ≡ round = omega arith in z) ∙ is))
-        onward ack d2 is (suc d) there some =
+        onward ack d2 is zero there some near_by = absurd (true≢false (sym there ∙ ap (is_own n own) (let z : round + 0 ≡ round = omega arith in z) ∙ is))
+        onward ack d2 is (suc d) there some near_by =
             cheaper (1 + (3 * d + n + 2)) c (after (action.Send (coordinator n round) (payload.Reply round ack) ∷ []) (leave n own (record (at Await) { estimate = d2 }))) (omega arith)
             (cheap_after (3 * d + n + 2) (action.Send (coordinator n round) (payload.Reply round ack) ∷ []) (leave n own (record (at Await) { estimate = d2 }))
-            (left (record (at Await) { estimate = d2 }) (3 * d + n) d o.own_kept (subst (λ z. is_own n own z ≡ true) (let z : round + suc d ≡ round + 1 + d = omega arith in z) there) (omega arith)))
+            (left (record (at Await) { estimate = d2 }) (3 * d + n) d o.own_kept (subst (λ z. is_own n own z ≡ true) (let z : round + suc d ≡ round + 1 + d = omega arith in z) there) (omega arith) (omega arith)))
 
-        tallied : (ack : Bool) (d2 : Estimate) → is_own n own round ≡ true → 5 * n + 1 ≤ c → Cheap c (after (action.Send (coordinator n round) (payload.Reply round ack) ∷ []) (still (record (at Await) { phase = Tally; estimate = d2 })))
-        tallied ack d2 is some = (record { own_kept = o.own_kept; in_place = is }, 5 * n, omega arith, omega arith)
+        tallied : (ack : Bool) (d2 : Estimate) → is_own n own round ≡ true → 5 * n + 1 ≤ c → round + n ≤ top → Cheap c (after (action.Send (coordinator n round) (payload.Reply round ack) ∷ []) (still (record (at Await) { phase = Tally; estimate = d2 })))
+        tallied ack d2 is some further = (record { own_kept = o.own_kept; in_place = is }, 5 * n, (omega arith, further), omega arith, low)
 
         or_left : (b ack : Bool) (d2 : Estimate) → is_own n own round ≡ b → (kept.proposals round ≢ None) → Cheap c (after (action.Send (coordinator n round) (payload.Reply round ack) ∷ []) (cond b (still (record (at Await) { phase = Tally; estimate = d2 })) (leave n own (record (at Await) { estimate = d2 }))))
         or_left true ack d2 is some = by l
           where
-            by : ((is_own n own round ≡ true) × ((kept.proposals round ≡ None) ⊎ (5 * n + 1 ≤ c))) ⊎ ((is_own n own round ≡ false) × (d : ℕ) × (is_own n own (round + d) ≡ true) × (3 * d + n ≤ c))
+            by : AwaitsItself (at Await) c ⊎ AwaitsAnother (at Await) c
                 → Cheap c (after (action.Send (coordinator n round) (payload.Reply round ack) ∷ []) (still (record (at Await) { phase = Tally; estimate = d2 })))
             by (inl (is2, inl none)) = absurd (some none)
-            by (inl (is2, inr m)) = tallied ack d2 is m
-            by (inr (is2, d, there, m)) = absurd (true≢false (sym is ∙ is2))
+            by (inl (is2, inr (m, further))) = tallied ack d2 is m further
+            by (inr (is2, d, there, m, further)) = absurd (true≢false (sym is ∙ is2))
         or_left false ack d2 is some = by l
           where
-            by : ((is_own n own round ≡ true) × ((kept.proposals round ≡ None) ⊎ (5 * n + 1 ≤ c))) ⊎ ((is_own n own round ≡ false) × (d : ℕ) × (is_own n own (round + d) ≡ true) × (3 * d + n ≤ c))
+            by : AwaitsItself (at Await) c ⊎ AwaitsAnother (at Await) c
                 → Cheap c (after (action.Send (coordinator n round) (payload.Reply round ack) ∷ []) (leave n own (record (at Await) { estimate = d2 })))
             by (inl (is2, m)) = absurd (true≢false (sym is2 ∙ is))
-            by (inr (is2, d, there, m)) = onward ack d2 is d there m
+            by (inr (is2, d, there, m, further)) = onward ack d2 is d there m further
 
         -- suspected, so another's
         nacked : (b : Bool) → is_own n own round ≡ b → is_suspected (coordinator n round) ≡ true → Cheap c (after (action.Send (coordinator n round) (payload.Reply round false) ∷ []) (cond b (still (record (at Await) { phase = Tally })) (leave n own (at Await))))
         nacked true is sus = absurd (true≢false (sym sus ∙ ap is_suspected (eqb-true _ _ is) ∙ not_itself))
         nacked false is sus = by l
           where
-            by : ((is_own n own round ≡ true) × ((kept.proposals round ≡ None) ⊎ (5 * n + 1 ≤ c))) ⊎ ((is_own n own round ≡ false) × (d : ℕ) × (is_own n own (round + d) ≡ true) × (3 * d + n ≤ c))
+            by : AwaitsItself (at Await) c ⊎ AwaitsAnother (at Await) c
                 → Cheap c (after (action.Send (coordinator n round) (payload.Reply round false) ∷ []) (leave n own (at Await)))
             by (inl (is2, m)) = absurd (true≢false (sym is2 ∙ is))
-            by (inr (is2, d, there, m)) = onward false e is d there m
+            by (inr (is2, d, there, m, further)) = onward false e is d there m further
 
         or_not : (b : Bool) → is_suspected (coordinator n round) ≡ b → Good c (cond b (Some (reply n own false (at Await))) None)
         or_not true sus = nacked (is_own n own round) refl sus
@@ -215,23 +224,23 @@ module _ (n own : ℕ) (first : 1 ≤ own) (last : own ≤ n) where
         ])
         go (Some v) is = or_left (is_own n own round) true (record { value = v; stamp = round }) refl (λ none. none_some v (sym none ∙ is))
         go None is = or_not (is_suspected (coordinator n round)) refl
-    waited Tally c o l = go (nat_le (majority n) (count_to n (λ q. is_some (kept.replies round q))))
+    waited Tally c o l low = go (nat_le (majority n) (count_to n (λ q. is_some (kept.replies round q))))
       where
         away : Cheap (3 * (n - 1) + n + 2) (leave n own (at Tally))
-        away = left (at Tally) (3 * (n - 1) + n) (n - 1) o.own_kept (subst (λ z. is_own n own z ≡ true) (let z : round + n ≡ round + 1 + (n - 1) = omega arith in z) (own_again round o.in_place)) (omega arith)
+        away = left (at Tally) (3 * (n - 1) + n) (n - 1) o.own_kept (subst (λ z. is_own n own z ≡ true) (let z : round + n ≡ round + 1 + (n - 1) = omega arith in z) (own_again round o.in_place)) (omega arith) (omega (arith, l.1))
 
         spread : (b : Bool) → Cheap c (after (cond b (to_all n (payload.Decide round e.value)) []) (leave n own (at Tally)))
         spread true =
             let k : length (to_all n (payload.Decide round e.value)) ≡ n = length_to_all n (payload.Decide round e.value) in
-            let some : 5 * n ≤ c = l in
+            let some : 5 * n ≤ c = l.0 in
             cheaper (length (to_all n (payload.Decide round e.value)) + (3 * (n - 1) + n + 2)) c (after (to_all n (payload.Decide round e.value)) (leave n own (at Tally))) (omega arith) (cheap_after (3 * (n - 1) + n + 2) (to_all n (payload.Decide round e.value)) (leave n own (at Tally)) away)
-        spread false = let some : 5 * n ≤ c = l in cheaper (3 * (n - 1) + n + 2) c (leave n own (at Tally)) (omega arith) away
+        spread false = let some : 5 * n ≤ c = l.0 in cheaper (3 * (n - 1) + n + 2) c (leave n own (at Tally)) (omega arith) away
 
         go : (b : Bool) → Good c (cond b (Some (after (cond (nat_le (majority n) (count_to n (λ q. unwrap_or (kept.replies round q) false))) (to_all n (payload.Decide round e.value)) []) (leave n own (at Tally)))) None)
         go true = spread (nat_le (majority n) (count_to n (λ q. unwrap_or (kept.replies round q) false)))
         go false = tt
-    waited Decided c o l = tt
-    waited Ended c o l = tt
+    waited Decided c o l low = tt
+    waited Ended c o l low = tt
 
   -- the kept letters of an orderly process
   keep_one_cases : (kept : ℕ → Option ℕ) (round x r y : ℕ) → keep_one kept round x r ≡ Some y → (kept r ≡ Some y) ⊎ (r ≡ round)
@@ -246,8 +255,8 @@ module _ (n own : ℕ) (first : 1 ≤ own) (last : own ≤ n) where
   off false e = refl
 
   -- whatever waits: all that it can cost
-  costs_all : (s : Coordinator) → IsOrderly s → Costs s.phase s (5 * n + 1)
-  costs_all s o = go s.phase o.own_kept o.in_place
+  costs_all : (s : Coordinator) → IsOrderly s → s.round + n ≤ top → Costs s.phase s (5 * n + 1)
+  costs_all s o far = go s.phase o.own_kept o.in_place
     where
       go : (phase : Phase) → ((r v : ℕ) → s.kept.proposals r ≡ Some v → is_own n own r ≡ true → r < bound phase s.round) → InPlace phase s.round → Costs phase s (5 * n + 1)
       go Opening k r = tt
@@ -259,9 +268,9 @@ module _ (n own : ℕ) (first : 1 ≤ own) (last : own ≤ n) where
       go Await k r = by (is_own n own s.round) refl
         where
           by : (b : Bool) → is_own n own s.round ≡ b → Costs Await s (5 * n + 1)
-          by true is = inl (is, inr (omega arith))
-          by false is = let d = near s.round in inr (is, d.0, d.2, let l : d.0 < n = d.1 in omega arith)
-      go Tally k r = omega arith
+          by true is = inl (is, inr (omega arith, far))
+          by false is = let d = near s.round in let l : d.0 < n = d.1 in inr (is, d.0, d.2, omega arith, omega arith)
+      go Tally k r = (omega arith, far)
       go Decided k r = tt
       go Ended k r = tt
 
@@ -332,33 +341,33 @@ module _ (n own : ℕ) (first : 1 ≤ own) (last : own ≤ n) where
 
   -- what an input does before any wait ends
   abbrev Begun : Answer Coordinator → Type 0
-  Begun a = IsOrderly a.state × (length a.actions ≤ n + 2)
+  Begun a = Cheap (6 * n + 3) a
 
-  begun_still : (s : Coordinator) → IsOrderly s → Begun (still s)
-  begun_still s o = (o, omega arith)
+  begun_still : (s : Coordinator) → IsOrderly s → s.round + n ≤ top → Begun (still s)
+  begun_still s o far = (o, 5 * n + 1, costs_all s o far, omega arith, omega arith)
 
-  received : (sender : ℕ) (what : Payload) (s : Coordinator) → IsOrderly s → Begun (receive n own sender what s)
-  received sender payload.Alive s o = begun_still s o
-  received sender (payload.Suspects shared) s o = begun_still s o
-  received sender (payload.Vector r cells) s o = begun_still s o
-  received sender (payload.Last cells) s o = begun_still s o
-  received sender (payload.Estimate r v t) s o = (go (is_timely n own s sender r && is_own n own r), omega arith)
+  received : (sender : ℕ) (what : Payload) (s : Coordinator) → IsOrderly s → s.round + n ≤ top → Begun (receive n own sender what s)
+  received sender payload.Alive s o far = begun_still s o far
+  received sender (payload.Suspects shared) s o far = begun_still s o far
+  received sender (payload.Vector r cells) s o far = begun_still s o far
+  received sender (payload.Last cells) s o far = begun_still s o far
+  received sender (payload.Estimate r v t) s o far = go (is_timely n own s sender r && is_own n own r)
     where
-      go : (b : Bool) → IsOrderly (cond b (record s { kept = record s.kept { estimates = keep s.kept.estimates r sender (record { value = v; stamp = t }) } }) s)
-      go true = record { own_kept = o.own_kept; in_place = o.in_place }
-      go false = o
-  received sender (payload.Proposal r v) s o = (go (is_timely n own s sender r && (nat_eq sender (coordinator n r) && not (is_early n own s sender))) refl, omega arith)
+      go : (b : Bool) → Begun (still (cond b (record s { kept = record s.kept { estimates = keep s.kept.estimates r sender (record { value = v; stamp = t }) } }) s))
+      go true = begun_still (record s { kept = record s.kept { estimates = keep s.kept.estimates r sender (record { value = v; stamp = t }) } }) (record { own_kept = o.own_kept; in_place = o.in_place }) far
+      go false = begun_still s o far
+  received sender (payload.Proposal r v) s o far = go (is_timely n own s sender r && (nat_eq sender (coordinator n r) && not (is_early n own s sender))) refl
     where
       go : (b : Bool) → (is_timely n own s sender r && (nat_eq sender (coordinator n r) && not (is_early n own s sender))) ≡ b
-          → IsOrderly (cond b (record s { kept = record s.kept { proposals = keep_one s.kept.proposals r v } }) s)
-      go true is = proposal_orderly s o sender r v is
-      go false is = o
-  received sender (payload.Reply r ack) s o = (go (is_timely n own s sender r && is_own n own r), omega arith)
+          → Begun (still (cond b (record s { kept = record s.kept { proposals = keep_one s.kept.proposals r v } }) s))
+      go true is = begun_still (record s { kept = record s.kept { proposals = keep_one s.kept.proposals r v } }) (proposal_orderly s o sender r v is) far
+      go false is = begun_still s o far
+  received sender (payload.Reply r ack) s o far = go (is_timely n own s sender r && is_own n own r)
     where
-      go : (b : Bool) → IsOrderly (cond b (record s { kept = record s.kept { replies = keep s.kept.replies r sender ack } }) s)
-      go true = record { own_kept = o.own_kept; in_place = o.in_place }
-      go false = o
-  received sender (payload.Decide r v) s o = go (nat_le 1 r && nat_le r greatest_round) (s.seen r)
+      go : (b : Bool) → Begun (still (cond b (record s { kept = record s.kept { replies = keep s.kept.replies r sender ack } }) s))
+      go true = begun_still (record s { kept = record s.kept { replies = keep s.kept.replies r sender ack } }) (record { own_kept = o.own_kept; in_place = o.in_place }) far
+      go false = begun_still s o far
+  received sender (payload.Decide r v) s o far = go (nat_le 1 r && nat_le r greatest_round) (s.seen r)
     where
       few : (b d : Bool) → length (cond b [] (to_all n (payload.Decide r v)) ++ cond d [] (action.Note (note.Decided v) ∷ [])) ≤ n + 2
       few true true = omega arith
@@ -373,61 +382,70 @@ module _ (n own : ℕ) (first : 1 ≤ own) (last : own ≤ n) where
       })
 
       go : (b c : Bool) → Begun (cond b (deliver_or c) (still s))
-      go true true = begun_still s o
-      go true false = (record { own_kept = λ k w h own2. let l : k < bound s.phase s.round = o.own_kept k w h own2 in omega (arith, bound_low s.phase s.round); in_place = refl }, few (is_own n own r) (is_decided s.phase))
-      go false c = begun_still s o
+      go true true = begun_still s o far
+      go true false = (record { own_kept = λ k w h own2. let l : k < bound s.phase s.round = o.own_kept k w h own2 in omega (arith, bound_low s.phase s.round); in_place = refl }, 0, tt, omega (arith, few (is_own n own r) (is_decided s.phase)), omega arith)
+      go false c = begun_still s o far
 
-  begun : (x : StepInput) (s : Coordinator) → IsOrderly s → Begun (begin n own x s)
-  begun input.Start s o = go s.phase o.own_kept o.in_place
+  begun : (x : StepInput) (s : Coordinator) → IsOrderly s → s.round + n ≤ top → Begun (begin n own x s)
+  begun input.Start s o far = go s.phase o.own_kept o.in_place
     where
       entering : s.round ≡ 0 → ((r v : ℕ) → s.kept.proposals r ≡ Some v → is_own n own r ≡ true → r < s.round + 1) → Begun (enter n own 1 s)
-      entering zero_round kept = let d = near 1 in ((entered s 1 (3 * d.0 + n) d.0 (omega arith) kept d.2 (omega arith)).0, omega arith)
+      entering zero_round kept = let d = near 1 in let l : d.0 < n = d.1 in cheaper (3 * d.0 + n + 2) (6 * n + 3) (enter n own 1 s) (omega arith) (entered s 1 (3 * d.0 + n) d.0 (omega arith) kept d.2 (omega arith) (omega arith))
 
       go : (phase : Phase) → ((r v : ℕ) → s.kept.proposals r ≡ Some v → is_own n own r ≡ true → r < bound phase s.round) → InPlace phase s.round → Begun (cond (is_opening phase) (enter n own 1 s) (still (record s { phase = phase })))
       go Opening k r = entering (eqb-true s.round 0 r) k
-      go Collect k r = begun_still (record s { phase = Collect }) (record { own_kept = k; in_place = r })
-      go Await k r = begun_still (record s { phase = Await }) (record { own_kept = k; in_place = r })
-      go Tally k r = begun_still (record s { phase = Tally }) (record { own_kept = k; in_place = r })
-      go Decided k r = begun_still (record s { phase = Decided }) (record { own_kept = k; in_place = r })
-      go Ended k r = begun_still (record s { phase = Ended }) (record { own_kept = k; in_place = r })
-  begun (input.Wake tag) s o = begun_still s o
-  begun (input.Letter sender what) s o = go (is_opening s.phase) (nat_le sender n)
+      go Collect k r = begun_still (record s { phase = Collect }) (record { own_kept = k; in_place = r }) far
+      go Await k r = begun_still (record s { phase = Await }) (record { own_kept = k; in_place = r }) far
+      go Tally k r = begun_still (record s { phase = Tally }) (record { own_kept = k; in_place = r }) far
+      go Decided k r = begun_still (record s { phase = Decided }) (record { own_kept = k; in_place = r }) far
+      go Ended k r = begun_still (record s { phase = Ended }) (record { own_kept = k; in_place = r }) far
+  begun (input.Wake tag) s o far = begun_still s o far
+  begun (input.Letter sender what) s o far = go (is_opening s.phase) (nat_le sender n)
     where
       go : (b c : Bool) → Begun (cond b (still s) (cond c (receive n own sender what s) (still s)))
-      go true c = begun_still s o
-      go false true = received sender what s o
-      go false false = begun_still s o
+      go true c = begun_still s o far
+      go false true = received sender what s o far
+      go false false = begun_still s o far
 
   module _ (is_suspected : ℕ → Bool) (not_itself : is_suspected own ≡ false) where
     abbrev onward : ℕ → Coordinator → Option (Answer Coordinator) → Answer Coordinator
     onward k s a = elim a [ None ↦ still s | Some a ↦ after a.actions (end_waits n own k is_suspected a.state) ]
 
-    all_waited : (k : ℕ) (s : Coordinator) (c : ℕ) → IsOrderly s → Costs s.phase s c → IsOrderly (end_waits n own k is_suspected s).state × (length (end_waits n own k is_suspected s).actions ≤ c)
-    all_waited zero s c o l = (o, omega arith)
-    all_waited (suc k) s c o l = go (end_wait n own is_suspected s) (waited is_suspected not_itself s.round s.estimate s.kept s.seen s.phase c o l) (all_waited k)
+    -- what comes of it all
+    abbrev Waited : ℕ → Answer Coordinator → Type 0
+    Waited c a = IsOrderly a.state × (length a.actions ≤ c) × (a.state.round ≤ top)
+
+    all_waited : (k : ℕ) (s : Coordinator) (c : ℕ) → IsOrderly s → Costs s.phase s c → s.round ≤ top → Waited c (end_waits n own k is_suspected s)
+    all_waited zero s c o l low = (o, omega arith, low)
+    all_waited (suc k) s c o l low = go (end_wait n own is_suspected s) (waited is_suspected not_itself s.round s.estimate s.kept s.seen s.phase c o l low) (all_waited k)
       where
         go : (a : Option (Answer Coordinator)) → Good c a
-            → ((s : Coordinator) (c : ℕ) → IsOrderly s → Costs s.phase s c → IsOrderly (end_waits n own k is_suspected s).state × (length (end_waits n own k is_suspected s).actions ≤ c))
-            → IsOrderly (onward k s a).state × (length (onward k s a).actions ≤ c)
-        go None good rest = (o, omega arith)
+            → ((s : Coordinator) (c : ℕ) → IsOrderly s → Costs s.phase s c → s.round ≤ top → Waited c (end_waits n own k is_suspected s))
+            → Waited c (onward k s a)
+        go None good rest = (o, omega arith, low)
         go (Some a) good rest =
-            let r = rest a.state good.1 good.0 good.2 in
+            let r = rest a.state good.1 good.0 good.2 good.4 in
             let few : length (end_waits n own k is_suspected a.state).actions ≤ good.1 = r.1 in
             let sum : length a.actions + good.1 ≤ c = good.3 in
             let e : length (a.actions ++ (end_waits n own k is_suspected a.state).actions) ≡ length a.actions + length (end_waits n own k is_suspected a.state).actions = length-append a.actions (end_waits n own k is_suspected a.state).actions in
-            (r.0, omega arith)
+            (r.0, omega arith, r.2)
 
-    -- one input leaves an orderly process orderly, with at most 6 n + 3 actions
-    pub step_few : (x : StepInput) (s : Coordinator) → IsOrderly s
-        → IsOrderly (step_coordinator n own is_suspected x s).state × (length (step_coordinator n own is_suspected x s).actions ≤ 6 * n + 3)
-    step_few x s o =
-        let b = begun x s o in
-        let w = all_waited (waits_left n own (begin n own x s).state) (begin n own x s).state (5 * n + 1) b.0 (costs_all (begin n own x s).state b.0) in
-        let few : length (begin n own x s).actions ≤ n + 2 = b.1 in
-        let more : length (end_waits n own (waits_left n own (begin n own x s).state) is_suspected (begin n own x s).state).actions ≤ 5 * n + 1 = w.1 in
+    step_within : (x : StepInput) (s : Coordinator) → IsOrderly s → s.round + n ≤ top → Waited (6 * n + 3) (step_coordinator n own is_suspected x s)
+    step_within x s o far =
+        let b = begun x s o far in
+        let w = all_waited (waits_left n own (begin n own x s).state) (begin n own x s).state b.1 b.0 b.2 b.4 in
+        let sum : length (begin n own x s).actions + b.1 ≤ 6 * n + 3 = b.3 in
+        let few : length (end_waits n own (waits_left n own (begin n own x s).state) is_suspected (begin n own x s).state).actions ≤ b.1 = w.1 in
         let e : length (step_coordinator n own is_suspected x s).actions ≡ length (begin n own x s).actions + length (end_waits n own (waits_left n own (begin n own x s).state) is_suspected (begin n own x s).state).actions
         = length-append (begin n own x s).actions (end_waits n own (waits_left n own (begin n own x s).state) is_suspected (begin n own x s).state).actions in
-        (w.0, omega arith)
+        (w.0, omega arith, w.2)
+
+-- one input leaves an orderly process orderly, with at most 6 n + 3 actions and at most n rounds on
+pub step_few : (n own : ℕ) → 1 ≤ own → own ≤ n → (is_suspected : ℕ → Bool) → is_suspected own ≡ false → (x : StepInput) (s : Coordinator) → orderly_of.IsOrderly n own s
+    → orderly_of.IsOrderly n own (step_coordinator n own is_suspected x s).state
+    × (length (step_coordinator n own is_suspected x s).actions ≤ 6 * n + 3)
+    × ((step_coordinator n own is_suspected x s).state.round ≤ s.round + n)
+step_few n own first last is_suspected not_itself x s o = step_within n own (s.round + n) first last is_suspected not_itself x s o (omega arith)
 
 pub opening_orderly : (n own proposal : ℕ) → orderly_of.IsOrderly n own (opening_coordinator proposal)
 opening_orderly n own proposal = record { own_kept = λ r v h own2. absurd (none_some v h); in_place = refl }

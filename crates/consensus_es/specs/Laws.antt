@@ -1,4 +1,4 @@
--- Waits end as long as one can, one input makes few actions, and the best estimate is chosen.
+-- Waits end as long as one can, one input makes few actions and leaves few rounds, and the best estimate is chosen.
 use Rattle.std.specs.Prelude.{◌≡◌, ◌⊎◌, ℕ, ◌+◌, ◌*◌, ◌<◌, ◌≤◌, Bool, false, Option, None, Some, length}
 use Rattle.process_api.specs.Answer.{Answer, after, still}
 use Rattle.process_api.specs.Coordinator.{Coordinator, best_to, end_wait, settle, step_coordinator, opening_coordinator}
@@ -24,6 +24,11 @@ OpensOrderly = (n own proposal : ℕ) → IsOrderly n own (opening_coordinator p
 abbrev pub ActsLittle : Type 0
 ActsLittle = (n own : ℕ) → 1 ≤ own → own ≤ n → (is_suspected : ℕ → Bool) → is_suspected own ≡ false → (input : StepInput) (s : Coordinator) → IsOrderly n own s
     → IsOrderly n own (step_coordinator n own is_suspected input s).state × (length (step_coordinator n own is_suspected input s).actions ≤ 6 * n + 3)
+
+-- an orderly process leaves at most n rounds in one input
+abbrev pub LeavesFewRounds : Type 0
+LeavesFewRounds = (n own : ℕ) → 1 ≤ own → own ≤ n → (is_suspected : ℕ → Bool) → is_suspected own ≡ false → (input : StepInput) (s : Coordinator) → IsOrderly n own s
+    → (step_coordinator n own is_suspected input s).state.round ≤ s.round + n
 
 -- the estimate d of process p is behind the estimate e of process q: its stamp is smaller, or the same and its sender no less
 abbrev pub IsBehind : Estimate → ℕ → ℕ → Estimate → Type 0

@@ -15,8 +15,8 @@
 //!
 //! [`Diffusion`] is the second half of that by itself: the rounds whose decision was received, and who passes a decision
 //! on. [`Membership`] is what both know of their surroundings: the own number, and among how many. [`law_settled`] says
-//! what follows from the definition: that waits end as long as one can, that one input makes few actions, and that the
-//! best estimate is chosen.
+//! what follows from the definition: that waits end as long as one can, that one input makes few actions and leaves few
+//! rounds, and that the best estimate is chosen.
 #![tactic(auto)]
 
 mod consensus;

@@ -1,5 +1,5 @@
 -- What a run writes.
-use Rattle.std.specs.Prelude.{◌≡◌, ℕ, List, Option}
+use Rattle.std.specs.Prelude.{◌≡◌, ◌≤◌, ℕ, List, length, Option}
 use Rattle.std.specs.Io.KnownBytes.{Appends}
 use Rattle.event_list.specs.ScenarioSetting.{setting_of}
 use Rattle.event_list.specs.World.{IsTrace}
@@ -16,10 +16,11 @@ use Rattle.scenario.specs.Record.{Record}
 abbrev pub printed : PrintChoice → List EntryRecord → List ℕ
 printed choice.Trace trace = trace_text trace
 
--- known bytes grow by the text of the scenario's trace, and the summary is that trace's
+-- known bytes grow by the text of the scenario's trace, which is within its limit, and the summary is that trace's
 pub record Writes (s : Record) (print : PrintChoice) (old new : Option (List ℕ)) (summary : Summary) : Type 0 where
   pub trace : List EntryRecord
   pub is_trace : IsTrace (setting_of s) trace
+  pub within : length trace ≤ s.limit
   pub text : Appends old new (printed print trace)
   pub summed : summary ≡ summary_of trace
 
@@ -27,4 +28,5 @@ pub record Writes (s : Record) (print : PrintChoice) (old new : Option (List ℕ
 pub record WritesPart (s : Record) (print : PrintChoice) (old new : Option (List ℕ)) : Type 0 where
   pub trace : List EntryRecord
   pub is_trace : IsTrace (setting_of s) trace
+  pub within : length trace ≤ s.limit
   pub text : Grows old new (printed print trace)

@@ -1,11 +1,12 @@
 -- What the program does for a command line.
-use Rattle.std.specs.Prelude.{◌≡◌, ◌⊎◌, ℕ, List, codes, Option, IfSome}
+use Rattle.std.specs.Prelude.{◌≡◌, ◌≤◌, ◌⊎◌, ℕ, List, length, codes, Option, IfSome}
 use Rattle.std.specs.Io.KnownBytes.{Appends}
 use Rattle.clap.specs.Words.{Text, IsAmong, fault_of}
 use Rattle.clap.specs.declared.builder.value_parser.ValueParser.{ValueParser}
 use Rattle.clap.specs.declared.error.kind.ErrorKind.TheVariants.{DisplayHelp}
 use Rattle.event_list.specs.ScenarioSetting.{setting_of}
 use Rattle.event_list.specs.World.{IsTrace}
+use Rattle.fdbench.specs.Input.{most_bytes}
 use Rattle.fdbench.specs.Order.{States, TakesPrints, whole_app}
 use Rattle.fdbench.specs.Outlet.{Grows}
 use Rattle.fdbench.specs.Printed.{printed}
@@ -16,9 +17,10 @@ use Rattle.process_api.specs.EntryRecord.{EntryRecord}
 use Rattle.scenario.specs.Refusals.{Accepts}
 use Rattle.scenario.specs.Record.{Record}
 
--- the scenario is that of the file's bytes. Of a path other than `-` they aren't known
+-- the scenario is that of the file's bytes, which are not too many. Of a path other than `-` they aren't known
 pub record IsScenarioAt (input : Option (List ℕ)) (path : Text) (s : Record) : Type 0 where
   pub bytes : List ℕ
+  pub is_short : length bytes ≤ most_bytes
   pub is_input : path ≡ codes "-" → IfSome input (λ all. bytes ≡ all)
   pub accepted : Accepts bytes s
 
@@ -34,12 +36,13 @@ pub record IsCheckAnswer (input : Option (List ℕ)) (path : Text) (piece : List
   pub stands : IsScenarioAt input path scenario
   pub text : piece ≡ codes "ok\n"
 
--- `list` answers with the texts of the scenario's trace
+-- `list` answers with the texts of the scenario's trace, which is within its limit
 pub record IsListAnswer (input : Option (List ℕ)) (path : Text) (print : PrintChoice) (piece : List ℕ) : Type 0 where
   pub scenario : Record
   pub stands : IsScenarioAt input path scenario
   pub trace : List EntryRecord
   pub is_trace : IsTrace (setting_of scenario) trace
+  pub within : length trace ≤ scenario.limit
   pub text : piece ≡ printed print trace
 
 -- the piece is what the order asks for

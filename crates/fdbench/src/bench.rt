@@ -1,5 +1,5 @@
 //! Runs, from a scenario and its machines to the text that goes out.
-ghost use Rattle.std.specs.Prelude.{◌≡◌, ◌≢◌, ◌^◌, ◌-◌, ◌+◌, ◌<◌, List, length, map, Err, OnOk, IfOk, IsErrOf};
+ghost use Rattle.std.specs.Prelude.{◌≡◌, ◌≢◌, ◌^◌, ◌-◌, ◌+◌, ◌<◌, ◌≤◌, List, length, map, Err, OnOk, IfOk, IsErrOf};
 ghost use Rattle.std.specs.Io.KnownBytes.{Appends};
 ghost use Rattle.event_list.specs.ScenarioSetting.{setting_of};
 ghost use Rattle.event_list.specs.World.{IsTrace};
@@ -121,6 +121,7 @@ pub fn bench_list<O: Outlet>(
     ensures memory { result ≡ Err RunError.Memory → (O.told outlet.new ≡ O.told outlet.old) × (O.failed outlet.new ≡ O.failed outlet.old) }
     ensures limit { result ≡ Err RunError.Limit → (O.told outlet.new ≡ O.told outlet.old) × (O.failed outlet.new ≡ O.failed outlet.old) }
     ensures long { IsErrOf result RunError.Limit → (whole : List EntryRecord) → IsTrace (setting_of scenario.now) whole → scenario.now.limit < length whole }
+    ensures within { IfOk result (λ summary. summary.entries ≤ scenario.now.limit) }
     ensures threads { result ≢ Err RunError.Spawn }
 {
     let trace = run_list(alloc, scenario, machines)?;

@@ -13,9 +13,17 @@ use std::alloc::Global;
 #[derive(Clone, Copy, Debug)]
 pub enum Order<'a> {
     /// To say whether the scenario file is accepted.
-    Check { path: &'a str },
+    Check {
+        /// Where the scenario file is.
+        path: &'a str,
+    },
     /// To run the scenario by one global event list.
-    List { path: &'a str, print: PrintChoice },
+    List {
+        /// Where the scenario file is.
+        path: &'a str,
+        /// Which texts of the run are written.
+        print: PrintChoice,
+    },
 }
 
 /// Why words are refused.

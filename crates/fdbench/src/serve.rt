@@ -1,10 +1,11 @@
 //! One run of the program.
-ghost use Rattle.std.specs.Prelude.{◌≡◌, ◌≢◌, ◌⊎◌, ◌∷◌, [], ◌^◌, ◌-◌, ◌+◌, ◌<◌, ◌≤◌, ℕ, List, Contains, IfOk, IfErr, IfSome, OnOk, Err, codes, map};
-ghost use Rattle.std.specs.Io.KnownBytes.{Appends};
+ghost use Rattle.std.specs.Prelude.{◌≡◌, ◌≢◌, ◌⊎◌, ◌∷◌, [], ◌^◌, ◌-◌, ◌+◌, ◌<◌, ◌≤◌, ℕ, List, Contains, IfOk, IfErr, IfSome, OnOk, Err, codes, length, map};
+ghost use Rattle.std.specs.Io.KnownBytes.{Appends, Keeps};
 ghost use Rattle.clap.specs.Words.{kind_of};
 ghost use Rattle.clap.specs.declared.error.kind.ErrorKind.TheVariants.{DisplayHelp};
 ghost use Rattle.scenario.specs.Opening.{mind_of};
 ghost use Rattle.fdbench.specs.Fault.{status_of};
+ghost use Rattle.fdbench.specs.Input.{most_bytes};
 ghost use Rattle.fdbench.specs.Outlet.{Grows};
 ghost use Rattle.fdbench.specs.Printed.{Writes, WritesPart};
 ghost use Rattle.fdbench.specs.Serve.{Answers, IsCheckAnswer, IsListAnswer, IsScenarioAt, Serves, Went, WentPart};
@@ -37,7 +38,8 @@ fn bytes_at<R: Files, I: Read + Drop>(
     path: &str,
     input: I,
 ) -> Result<Vec<u8>, InputError>
-    ensures { IfOk result (λ bytes. path.now ≡ codes "-" → IfSome (I.remaining input) (λ all. bytes.items ≡ all)) }
+    ensures whole { IfOk result (λ bytes. path.now ≡ codes "-" → IfSome (I.remaining input) (λ all. bytes.items ≡ all)) }
+    ensures short { IfOk result (λ bytes. length bytes.items ≤ most_bytes) }
 {
     if path == "-" {
         return read_all(alloc, input);
@@ -80,6 +82,7 @@ pub(crate) fn list<O: Outlet>(
     requires { O.failed outlet.old < 2 ^ 64 - 1 }
     ensures whole { IfOk result (λ summary. Writes scenario.now print (O.told outlet.old) (O.told outlet.new) summary × (O.failed outlet.new ≡ O.failed outlet.old)) }
     ensures part { result ≡ Err RunError.Write → WritesPart scenario.now print (O.told outlet.old) (O.told outlet.new) × (O.failed outlet.new ≡ O.failed outlet.old + 1) }
+    ensures within { IfOk result (λ summary. summary.entries ≤ scenario.now.limit) }
     ensures others { IfErr result (λ error. error ≢ RunError.Write → (O.told outlet.new ≡ O.told outlet.old) × (O.failed outlet.new ≡ O.failed outlet.old)) }
 {
     let machines = make_all(
@@ -165,7 +168,7 @@ fn serve_list<R: Files, I: Read + Drop, O: Outlet>(
 }
 
 /// Does what an order asks for.
-fn obey<R: Files, I: Read + Drop, O: Outlet>(
+fn carry_out<R: Files, I: Read + Drop, O: Outlet>(
     rt: &R,
     alloc: Global,
     order: Order<'_>,
@@ -252,7 +255,7 @@ pub fn serve<R: Files, I: Read + Drop, O: Outlet, F: Outlet>(
         Err(WordsError::Memory) => return Fault::WordsMemory.report(faults),
         Err(WordsError::Form) => return Fault::Form.report(faults),
     };
-    match obey(rt, alloc, order, input, outlet) {
+    match carry_out(rt, alloc, order, input, outlet) {
         Ok(()) => 0,
         Err(fault) => fault.report(faults),
     }
@@ -266,7 +269,10 @@ pub fn finish<W: Write + Drop, F: Outlet>(
     faults: &mut F,
 ) -> u8
     requires { F.failed faults.old < 2 ^ 64 - 1 }
-    ensures { (result ≡ status) ⊎ ((status ≡ 0) × (result ≡ 4)) }
+    ensures status { (result ≡ status) ⊎ ((status ≡ 0) × (result ≡ 4)) }
+    ensures kept { Keeps (W.contents outlet.old.writer) (W.contents outlet.new.writer) }
+    ensures failures { outlet.new.failures ≡ outlet.old.failures }
+    ensures told { F.failed faults.new ≤ F.failed faults.old + 1 }
 {
     match outlet.flush() {
         Err(_) if status == 0 => Fault::Run(RunError::Write).report(faults),

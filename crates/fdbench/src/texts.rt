@@ -120,6 +120,10 @@ fn row_of_entry(alloc: Global, entry: &Entry) -> Result<Vec<u8>, AllocError>
 }
 
 /// The text of a trace: a header, and a row for each entry.
+///
+/// # Errors
+///
+/// `AllocError` where memory was refused.
 #[tactic(auto, unfolding(crate::specs::Text::trace_text, crate::specs::Text::header))]
 pub fn text_of_trace(alloc: Global, entries: &[Entry]) -> Result<Vec<u8>, AllocError>
     ensures { IfOk result (λ text. text.items ≡ trace_text entries.now) }

@@ -1,7 +1,8 @@
 //! Traces of the rotating coordinator.
 
 use crate::tests::files::{ALONE, COORDINATORS, FIVE};
-use crate::tests::runs::{field, rows, sum_of, trace_of};
+use crate::tests::runs::{changed, field, rows, sum_of, trace_of};
+use sha2::{Digest, Sha256};
 use std::alloc::{AllocError, Global};
 use std::test::Fail;
 
@@ -110,19 +111,38 @@ fn alone(rt: HostRuntime) -> Result<(), Fail> {
     }
     assert_eq!(rt; ticks.as_str(), "0 1 2 3 4 4 ");
     assert_eq!(rt; decisions(alloc, &trace)?.as_str(), "4 1 decided:7\n");
+    assert!(rt; trace.as_str().contains("\n3,1,1,5,reply,2,0,round:2\n"));
     assert!(rt; trace.as_str().contains("\n4,1,1,6,decide,"));
     Ok(())
 }
 
-/// Five processes over links that lose and delay letters at random: the text's length is known from a program of
-/// other make. A run is the same each time.
+/// The SHA-256 digest of the text of five processes.
+const FIVE_DIGEST: [u8; 32] = [
+    0x64, 0xeb, 0xd4, 0xf1, 0x07, 0xf6, 0x4e, 0xad, 0x38, 0xec, 0x41, 0x5f, 0x6b, 0x5d, 0xe1, 0x4f,
+    0xdf, 0xce, 0x9e, 0x1f, 0xcd, 0x7f, 0x1d, 0x57, 0xba, 0xcf, 0xfe, 0x61, 0x5f, 0x12, 0x05, 0x02,
+];
+
+/// Five processes over links that lose and delay letters at random: the text is known from a program of other make.
 #[test]
 fn five(rt: HostRuntime) -> Result<(), Fail> {
     let alloc = rt.alloc();
     let trace = trace_of(&rt, alloc, FIVE)?;
     assert_eq!(rt; rows(alloc, &trace)?.len(), 1139);
     assert_eq!(rt; trace.len(), 24955);
-    let again = trace_of(&rt, alloc, FIVE)?;
-    assert!(rt; again.as_str() == trace.as_str());
+    assert!(rt; Sha256::digest(trace.as_bytes()) == FIVE_DIGEST);
+    Ok(())
+}
+
+/// With each of ten seeds a run is the same each time.
+#[test]
+fn ten_seeds(rt: HostRuntime) -> Result<(), Fail> {
+    let alloc = rt.alloc();
+    for seed in 1..11u32 {
+        let line = format!(in alloc; "seed = {seed}\n")?;
+        let file = changed(alloc, FIVE, "seed = 1\n", &line)?;
+        let first = trace_of(&rt, alloc, &file)?;
+        let again = trace_of(&rt, alloc, &file)?;
+        assert!(rt; first.as_str() == again.as_str(), "{seed}");
+    }
     Ok(())
 }

@@ -97,6 +97,65 @@ impl Read for Torn {
     }
 }
 
+/// A reader that has one byte more than a file may have, gives no other, and refuses whoever asks for more.
+#[derive(Drop)]
+struct Endless {
+    left: usize,
+}
+
+impl Read for Endless {
+    fn read(&mut self, buffer: &mut [u8]) -> io::Result<usize> {
+        if buffer.is_empty() {
+            return Ok(0);
+        }
+        if self.left == 0 {
+            return Err(io::Error::from(io::ErrorKind::Other));
+        }
+        let given = buffer.len().min(self.left);
+        buffer[..given].fill(b'#');
+        self.left -= given;
+        Ok(given)
+    }
+}
+
+/// Of an input without end no more is read than shows that it is too long.
+#[test]
+fn endless_input(rt: HostRuntime) -> Result<(), Fail> {
+    let alloc = rt.alloc();
+    let words = ["fdbench", "check", "-"];
+    let mut outlet = MemoryOutlet::new(alloc);
+    let mut faults = MemoryOutlet::new(alloc);
+    let input = Endless { left: 8_388_609 };
+    let status = serve(&rt, alloc, &words, input, &mut outlet, &mut faults);
+    assert!(rt; faults.bytes() == b"fdbench: input: too long\n".as_slice());
+    assert_eq!(rt; outlet.bytes().len(), 0);
+    assert_eq!(rt; status, 1);
+    Ok(())
+}
+
+/// A reader that finds no memory.
+#[derive(Drop)]
+struct Cramped;
+
+impl Read for Cramped {
+    fn read(&mut self, _buffer: &mut [u8]) -> io::Result<usize> {
+        Err(io::Error::from(io::ErrorKind::OutOfMemory))
+    }
+}
+
+#[test]
+fn no_memory_for_input(rt: HostRuntime) -> Result<(), Fail> {
+    let alloc = rt.alloc();
+    let words = ["fdbench", "check", "-"];
+    let mut outlet = MemoryOutlet::new(alloc);
+    let mut faults = MemoryOutlet::new(alloc);
+    let status = serve(&rt, alloc, &words, Cramped, &mut outlet, &mut faults);
+    assert!(rt; faults.bytes() == b"fdbench: scenario: Memory\n".as_slice());
+    assert_eq!(rt; outlet.bytes().len(), 0);
+    assert_eq!(rt; status, 1);
+    Ok(())
+}
+
 #[test]
 fn unreadable(rt: HostRuntime) -> Result<(), Fail> {
     let alloc = rt.alloc();

@@ -1,13 +1,21 @@
 //! Traces of detectors alone.
+ghost use Rattle.std.specs.Prelude.{◌≡◌, IfOk};
+ghost use Rattle.scenario.specs.Opening.{mind_of};
 
-use crate::bench::{PrintChoice, Summary};
+use crate::bench::{PrintChoice, Summary, write_trace};
+use crate::machines::make_all;
 use crate::memory_outlet::MemoryOutlet;
 use crate::outlet::Outlet;
 use crate::serve::list;
 use crate::tests::files::{FIVE, ONE_CRASH, ONE_PROCESS, TAKEN_BACK, WATCH_NEXT};
 use crate::tests::runs::{changed, run, trace_of};
-use scenario::read_scenario;
+use event_list::run_list;
+use process_api::Process;
+use scenario::{AlgorithmKind, Opening, read_scenario};
+use stack::{NoAlgorithm, Stack};
+use std::alloc::AllocError;
 use std::test::Fail;
+use timeout_detector::TimeoutDetector;
 
 /// The trace of one crash.
 const CRASH_AT_3: &str = "tick,receiver,sender,number,kind,sent,lost,notes
@@ -124,6 +132,35 @@ fn one_process(rt: HostRuntime) -> Result<(), Fail> {
         trace.as_str(),
         "tick,receiver,sender,number,kind,sent,lost,notes\n0,1,1,0,start,0,0,\n"
     );
+    Ok(())
+}
+
+/// A machine of one's own, its run, and the text of its trace.
+#[test]
+fn own_machine(rt: HostRuntime) -> Result<(), Fail> {
+    let alloc = rt.alloc();
+    let scenario = read_scenario(alloc, ONE_PROCESS.as_bytes())?;
+    let machines = make_all(
+        alloc,
+        &scenario,
+        |opening: Opening| -> Result<Box<dyn Process>, AllocError>
+            ensures { IfOk result (λ made. mind made ≡ mind_of opening) }
+        {
+            match (opening.share, opening.algorithm) {
+                (None, AlgorithmKind::Idle) => {
+                    let detector = TimeoutDetector::open(alloc, &opening)?;
+                    Ok(Box::new(alloc, Stack::new(opening.own, detector, NoAlgorithm))?)
+                }
+                _ => Err(AllocError),
+            }
+        },
+    )?;
+    let trace = run_list(alloc, &scenario, machines)?;
+    let mut outlet = MemoryOutlet::new(alloc);
+    write_trace(alloc, &trace, &mut outlet)?;
+    let want = b"tick,receiver,sender,number,kind,sent,lost,notes\n0,1,1,0,start,0,0,\n".as_slice();
+    assert!(rt; outlet.bytes() == want);
+    assert_eq!(rt; outlet.failures(), 0);
     Ok(())
 }
 

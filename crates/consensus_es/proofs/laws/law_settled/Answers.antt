@@ -10,7 +10,12 @@ pub returns-clause-opens : goal.returns-clause-opens
 returns-clause-opens c n own proposal = opening_orderly n own proposal
 
 pub returns-clause-little : goal.returns-clause-little
-returns-clause-little c n own first last is_suspected not_itself input s orderly = step_few n own first last is_suspected not_itself input s orderly
+returns-clause-little c n own first last is_suspected not_itself input s orderly =
+    let few = step_few n own first last is_suspected not_itself input s orderly in
+    (few.0, few.1)
+
+pub returns-clause-rounds : goal.returns-clause-rounds
+returns-clause-rounds c n own first last is_suspected not_itself input s orderly = (step_few n own first last is_suspected not_itself input s orderly).2
 
 pub returns-clause-ends : goal.returns-clause-ends
 returns-clause-ends c n own is_suspected s = (settles_on n own is_suspected s, settles_here n own is_suspected s)

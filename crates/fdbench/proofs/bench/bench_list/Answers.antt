@@ -7,6 +7,7 @@ returns-clause-whole g c = (
   record {
     trace = c.in_ok-trace.trace;
     is_trace = c.in_ok-trace.ensures.trace;
+    within = c.in_ok-trace.ensures.within;
     text = search rules;
     summed = c.summarize-summary.ensures ∙ ap summary_of c.entries.ensures.value;
   },
