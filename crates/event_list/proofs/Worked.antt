@@ -15,8 +15,8 @@ use Rattle.event_list.specs.History.{IsIn}
 use Rattle.event_list.proofs.Steady.{steady, computed, computed_trace}
 use Rattle.std.proofs.Common.{inl, inr}
 
-abbrev row : (tick receiver sender number : ℕ) → Kind → (sent lost : ℕ) → List Note → EntryRecord
-row tick receiver sender number kind sent lost notes = record { key = record { tick = tick; receiver = receiver; sender = sender; number = number }; kind = kind; sent = sent; lost = lost; notes = notes }
+abbrev entry : (tick receiver sender number : ℕ) → Kind → (sent lost : ℕ) → List Note → EntryRecord
+entry tick receiver sender number kind sent lost notes = record { key = record { tick = tick; receiver = receiver; sender = sender; number = number }; kind = kind; sent = sent; lost = lost; notes = notes }
 
 no_crash : ForSome {T = ℕ} None (λ at. at ≤ 10000000)
 no_crash = λ at e. absurd (none_is at e)
@@ -45,29 +45,29 @@ patient_in_range = record {
 }
 
 -- one process, for one tick: its start is all
-one_process : IsTrace (setting_of (steady 1 1 1 patient (None ∷ []))) (row 0 1 1 0 kind.Start 0 0 [] ∷ [])
+one_process : IsTrace (setting_of (steady 1 1 1 patient (None ∷ []))) (entry 0 1 1 0 kind.Start 0 0 [] ∷ [])
 one_process = computed_trace 1 1 1 patient (None ∷ []) (lit≤ tt, lit≤ tt) (lit≤ tt, lit≤ tt) (lit≤ tt, lit≤ tt) patient_in_range (no_crash, tt) 1 refl
 
 -- process 2 crashes at tick 3, and process 1 suspects it at tick 9
 one_crash : IsTrace (setting_of (steady 2 10 2 patient (None ∷ Some 3 ∷ []))) (
-    row 0 1 1 0 kind.Start 1 0 []
-    ∷ row 0 2 2 0 kind.Start 1 0 []
-    ∷ row 2 1 2 1 kind.Alive 0 0 []
-    ∷ row 2 2 1 1 kind.Alive 0 0 []
-    ∷ row 3 1 1 2 kind.Check 0 0 []
-    ∷ row 3 2 2 2 kind.Dead 0 0 []
-    ∷ row 4 1 1 1 kind.Beat 1 0 []
-    ∷ row 4 2 2 1 kind.Dead 0 0 []
-    ∷ row 6 1 1 3 kind.Check 0 0 []
-    ∷ row 6 2 1 2 kind.Dead 0 0 []
-    ∷ row 8 1 1 4 kind.Beat 1 0 []
-    ∷ row 9 1 1 5 kind.Check 0 0 (Suspect 1 2 ∷ [])
+    entry 0 1 1 0 kind.Start 1 0 []
+    ∷ entry 0 2 2 0 kind.Start 1 0 []
+    ∷ entry 2 1 2 1 kind.Alive 0 0 []
+    ∷ entry 2 2 1 1 kind.Alive 0 0 []
+    ∷ entry 3 1 1 2 kind.Check 0 0 []
+    ∷ entry 3 2 2 2 kind.Dead 0 0 []
+    ∷ entry 4 1 1 1 kind.Beat 1 0 []
+    ∷ entry 4 2 2 1 kind.Dead 0 0 []
+    ∷ entry 6 1 1 3 kind.Check 0 0 []
+    ∷ entry 6 2 1 2 kind.Dead 0 0 []
+    ∷ entry 8 1 1 4 kind.Beat 1 0 []
+    ∷ entry 9 1 1 5 kind.Check 0 0 (Suspect 1 2 ∷ [])
     ∷ []
     )
 one_crash =
     computed_trace 2 10 2 patient (None ∷ Some 3 ∷ []) (lit≤ tt, lit≤ tt) (lit≤ tt, lit≤ tt) (lit≤ tt, lit≤ tt) patient_in_range (no_crash, (crash_at 3 (lit≤ tt), tt)) 12 refl
 
--- ---- of the next ones not every row is told
+-- ---- of the next ones not every entry is told
 
 abbrev crash_at_once : List EntryRecord
 crash_at_once = computed 2 10 2 patient (None ∷ Some 0 ∷ []) 9
@@ -75,8 +75,8 @@ crash_at_once = computed 2 10 2 patient (None ∷ Some 0 ∷ []) 9
 -- process 2 crashes at tick 0: nine entries, of which its start is dead; process 1 suspects it at tick 6
 crashed_at_once : IsTrace (setting_of (steady 2 10 2 patient (None ∷ Some 0 ∷ []))) crash_at_once
     × (length crash_at_once ≡ 9)
-    × IsIn (row 0 2 2 0 kind.Dead 0 0 []) crash_at_once
-    × IsIn (row 6 1 1 3 kind.Check 0 0 (Suspect 1 2 ∷ [])) crash_at_once
+    × IsIn (entry 0 2 2 0 kind.Dead 0 0 []) crash_at_once
+    × IsIn (entry 6 1 1 3 kind.Check 0 0 (Suspect 1 2 ∷ [])) crash_at_once
 crashed_at_once = (
   computed_trace 2 10 2 patient (None ∷ Some 0 ∷ []) (lit≤ tt, lit≤ tt) (lit≤ tt, lit≤ tt) (lit≤ tt, lit≤ tt) patient_in_range (no_crash, (crash_at 0 (lit≤ tt), tt)) 9 refl,
   refl,
@@ -133,8 +133,8 @@ told e = (e.key.tick, e.key.receiver, e.notes)
 suspected_and_trusted : IsTrace (setting_of (steady 2 8 2 hasty (None ∷ None ∷ []))) false_suspicion
     × (length false_suspicion ≡ 10)
     × (map told (filter has_notes false_suspicion) ≡ (2, 1, Suspect 1 2 ∷ []) ∷ (2, 1, Trust 1 2 ∷ []) ∷ (4, 2, Suspect 1 1 ∷ []) ∷ [])
-    × IsIn (row 2 1 1 2 kind.Check 0 0 (Suspect 1 2 ∷ [])) false_suspicion
-    × IsIn (row 2 1 2 1 kind.Alive 0 0 (Trust 1 2 ∷ [])) false_suspicion
+    × IsIn (entry 2 1 1 2 kind.Check 0 0 (Suspect 1 2 ∷ [])) false_suspicion
+    × IsIn (entry 2 1 2 1 kind.Alive 0 0 (Trust 1 2 ∷ [])) false_suspicion
 suspected_and_trusted = (
   computed_trace 2 8 2 hasty (None ∷ None ∷ []) (lit≤ tt, lit≤ tt) (lit≤ tt, lit≤ tt) (lit≤ tt, lit≤ tt) hasty_in_range (no_crash, (no_crash, tt)) 10 refl,
   refl,

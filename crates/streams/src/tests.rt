@@ -39,66 +39,75 @@ fn delays(scenario: &Scenario, from: u16, to: u16) -> Result<[u32; 12], Fail> {
     Ok(delays)
 }
 
+/// The places of the words in `WORDS`.
+const PLACES: [u128; 7] = [0, 1, 2, 15, 16, 17, 1000];
+
+/// Words of a link's stream under a seed: the seed, the link's ends, and the words at `PLACES`.
+const WORDS: [(u64, u16, u16, [u32; 7]); 5] = [
+    (
+        1,
+        1,
+        1,
+        [
+            0xa0e95ecf, 0x61a94a49, 0xedd5053e, 0xc8e3fad8, 0x7d5a35b4, 0x6788dd93, 0x06bca377,
+        ],
+    ),
+    (
+        1,
+        1,
+        2,
+        [
+            0x8c6fea14, 0x1a8125d4, 0xac499192, 0x2c2ddfdd, 0x6c38c98a, 0xdf48c9ef, 0xeb23cab2,
+        ],
+    ),
+    (
+        1,
+        2,
+        1,
+        [
+            0xd03b2e30, 0x95ae2983, 0x9fcec436, 0xca586cf0, 0xe201d0ab, 0x678ff9b2, 0xbf9f41bd,
+        ],
+    ),
+    (
+        258,
+        1,
+        2,
+        [
+            0x29d55c06, 0xfe70b8e5, 0xa808c2a6, 0xedf88f46, 0x34722d1d, 0x99771e02, 0xd305ea68,
+        ],
+    ),
+    (
+        9223372036854775807,
+        64,
+        63,
+        [
+            0xc5c7d6ac, 0xc4c40c80, 0x8a018642, 0x1f968f22, 0x0ca62962, 0x87d10b86, 0x5c835e1a,
+        ],
+    ),
+];
+
+/// The words of a link's stream at `PLACES`.
+fn words_at(streams: &Streams, from: Pid, to: Pid) -> [u32; 7] {
+    let mut words = [0u32; 7];
+    for index in 0..7usize {
+        let place = PLACES[index];
+        if place <= 1000 {
+            words[index] = streams.words(from, to, place).0;
+        }
+    }
+    words
+}
+
 #[test]
 fn words_of_five_streams(rt: HostRuntime) -> Result<(), Fail> {
-    let places = [0u128, 1, 2, 15, 16, 17, 1000];
-    let rows = [
-        (
-            1u64,
-            1u16,
-            1u16,
-            [
-                0xa0e95ecfu32,
-                0x61a94a49,
-                0xedd5053e,
-                0xc8e3fad8,
-                0x7d5a35b4,
-                0x6788dd93,
-                0x06bca377,
-            ],
-        ),
-        (
-            1,
-            1,
-            2,
-            [
-                0x8c6fea14, 0x1a8125d4, 0xac499192, 0x2c2ddfdd, 0x6c38c98a, 0xdf48c9ef, 0xeb23cab2,
-            ],
-        ),
-        (
-            1,
-            2,
-            1,
-            [
-                0xd03b2e30, 0x95ae2983, 0x9fcec436, 0xca586cf0, 0xe201d0ab, 0x678ff9b2, 0xbf9f41bd,
-            ],
-        ),
-        (
-            258,
-            1,
-            2,
-            [
-                0x29d55c06, 0xfe70b8e5, 0xa808c2a6, 0xedf88f46, 0x34722d1d, 0x99771e02, 0xd305ea68,
-            ],
-        ),
-        (
-            9223372036854775807,
-            64,
-            63,
-            [
-                0xc5c7d6ac, 0xc4c40c80, 0x8a018642, 0x1f968f22, 0x0ca62962, 0x87d10b86, 0x5c835e1a,
-            ],
-        ),
-    ];
-    for (seed, from, to, words) in rows {
+    for (seed, from, to, words) in WORDS {
         let scenario = scenario(rt.alloc(), 64, seed, LINKS_OF_FIVE)?;
         let streams = Streams::new(&scenario);
-        for (place, word) in places.iter().zip(words.iter()) {
-            let place = *place;
-            assert!(rt; place <= 1000);
-            let (first, _) = streams.words(pid(from)?, pid(to)?, place);
-            assert_eq!(rt; first, *word, "seed {seed}, from {from} to {to}");
-        }
+        assert_eq!(rt;
+            words_at(&streams, pid(from)?, pid(to)?),
+            words,
+            "seed {seed}, from {from} to {to}"
+        );
     }
     Ok(())
 }
