@@ -10,24 +10,20 @@ use std::alloc::{AllocError, Global};
 use std::process::Abort;
 use std::test::Fail;
 
-/// One input, with the sender of a letter by its number. A cell of 0 is empty.
+/// One input, with the sender of a letter by its number.
 #[derive(Clone, Copy)]
 enum Given<'a> {
     Start,
     Wake,
     Alive(u16),
-    Vector(u16, u64, &'a [u32]),
-    Last(u16, &'a [u32]),
+    Vector(u16, u64, &'a [Option<u32>]),
+    Last(u16, &'a [Option<u32>]),
 }
 
 use Given::{Alive, Last, Start, Vector, Wake};
 
-fn cells_of(alloc: Global, values: &[u32]) -> Result<Cells, AllocError> {
-    let mut cells = Vec::new(alloc);
-    for value in values {
-        cells.push(if *value == 0 { None } else { Some(*value) })?;
-    }
-    Ok(Cells::new(cells))
+fn cells_of(alloc: Global, values: &[Option<u32>]) -> Result<Cells, AllocError> {
+    Ok(Cells::new(Vec::from_slice(alloc, values)?))
 }
 
 fn letter(sender: u16, payload: Payload) -> Result<StepInput, Fail> {
@@ -169,14 +165,14 @@ fn one_process(rt: HostRuntime) -> Result<(), Fail> {
         &mut machine,
         &[
             (0, &[], Start, "round:1 last[7]>1"),
-            (1, &[], Last(1, &[7]), "decided:7"),
+            (1, &[], Last(1, &[Some(7)]), "decided:7"),
         ],
     )
 }
 
-/// Two processes that suspect each other at tick 1, before any letter came.
+/// Two processes that suspect each other at tick 1, before any letter came: the first decides its own.
 #[test]
-fn early_suspicions(rt: HostRuntime) -> Result<(), Fail> {
+fn early_suspicion_of_the_second(rt: HostRuntime) -> Result<(), Fail> {
     let mut first = open(rt.alloc(), 1, 2, 10)?;
     drive(
         &rt,
@@ -188,18 +184,23 @@ fn early_suspicions(rt: HostRuntime) -> Result<(), Fail> {
             (
                 1,
                 &[2],
-                Vector(1, 1, &[10, 0]),
+                Vector(1, 1, &[Some(10), None]),
                 "round:2 last[10 -]>1 last[10 -]>2",
             ),
             (2, &[2], Wake, ""),
-            (2, &[2], Last(1, &[10, 0]), "decided:10"),
+            (2, &[2], Last(1, &[Some(10), None]), "decided:10"),
             (2, &[], Alive(2), ""),
-            (2, &[], Vector(2, 1, &[0, 20]), ""),
+            (2, &[], Vector(2, 1, &[None, Some(20)]), ""),
             (3, &[], Wake, ""),
-            (3, &[], Last(2, &[0, 20]), ""),
+            (3, &[], Last(2, &[None, Some(20)]), ""),
             (4, &[2], Wake, ""),
         ],
-    )?;
+    )
+}
+
+/// The same two: the second ends with no value.
+#[test]
+fn early_suspicion_of_the_first(rt: HostRuntime) -> Result<(), Fail> {
     let mut second = open(rt.alloc(), 2, 2, 20)?;
     drive(
         &rt,
@@ -211,23 +212,23 @@ fn early_suspicions(rt: HostRuntime) -> Result<(), Fail> {
             (
                 1,
                 &[1],
-                Vector(2, 1, &[0, 20]),
+                Vector(2, 1, &[None, Some(20)]),
                 "round:2 last[- 20]>1 last[- 20]>2",
             ),
             (2, &[], Alive(1), ""),
-            (2, &[], Vector(1, 1, &[10, 0]), ""),
+            (2, &[], Vector(1, 1, &[Some(10), None]), ""),
             (2, &[], Wake, ""),
-            (2, &[], Last(2, &[0, 20]), ""),
-            (3, &[], Last(1, &[10, 0]), "novalue"),
+            (2, &[], Last(2, &[None, Some(20)]), ""),
+            (3, &[], Last(1, &[Some(10), None]), "novalue"),
             (3, &[], Wake, ""),
             (4, &[1], Wake, ""),
         ],
     )
 }
 
-/// Of three processes the first is crashed at tick 0, and is suspected from tick 6 on.
+/// Of three processes the first is crashed at tick 0, and is suspected from tick 6 on: the second decides 20.
 #[test]
-fn crash_at_the_start(rt: HostRuntime) -> Result<(), Fail> {
+fn crash_seen_by_the_second(rt: HostRuntime) -> Result<(), Fail> {
     let mut second = open(rt.alloc(), 2, 3, 20)?;
     drive(
         &rt,
@@ -240,25 +241,30 @@ fn crash_at_the_start(rt: HostRuntime) -> Result<(), Fail> {
                 Start,
                 "round:1 vector:1[- 20 -]>1 vector:1[- 20 -]>2 vector:1[- 20 -]>3",
             ),
-            (1, &[], Vector(2, 1, &[0, 20, 0]), ""),
-            (2, &[], Vector(3, 1, &[0, 0, 30]), ""),
+            (1, &[], Vector(2, 1, &[None, Some(20), None]), ""),
+            (2, &[], Vector(3, 1, &[None, None, Some(30)]), ""),
             (
                 6,
                 &[1],
                 Wake,
                 "round:2 vector:2[- - 30]>1 vector:2[- - 30]>2 vector:2[- - 30]>3",
             ),
-            (7, &[1], Vector(2, 2, &[0, 0, 30]), ""),
+            (7, &[1], Vector(2, 2, &[None, None, Some(30)]), ""),
             (
                 8,
                 &[1],
-                Vector(3, 2, &[0, 20, 0]),
+                Vector(3, 2, &[None, Some(20), None]),
                 "round:3 last[- 20 30]>1 last[- 20 30]>2 last[- 20 30]>3",
             ),
-            (9, &[1], Last(2, &[0, 20, 30]), ""),
-            (10, &[1], Last(3, &[0, 20, 30]), "decided:20"),
+            (9, &[1], Last(2, &[None, Some(20), Some(30)]), ""),
+            (10, &[1], Last(3, &[None, Some(20), Some(30)]), "decided:20"),
         ],
-    )?;
+    )
+}
+
+/// The same three: the third decides 20 too.
+#[test]
+fn crash_seen_by_the_third(rt: HostRuntime) -> Result<(), Fail> {
     let mut third = open(rt.alloc(), 3, 3, 30)?;
     drive(
         &rt,
@@ -271,23 +277,23 @@ fn crash_at_the_start(rt: HostRuntime) -> Result<(), Fail> {
                 Start,
                 "round:1 vector:1[- - 30]>1 vector:1[- - 30]>2 vector:1[- - 30]>3",
             ),
-            (1, &[], Vector(3, 1, &[0, 0, 30]), ""),
-            (2, &[], Vector(2, 1, &[0, 20, 0]), ""),
+            (1, &[], Vector(3, 1, &[None, None, Some(30)]), ""),
+            (2, &[], Vector(2, 1, &[None, Some(20), None]), ""),
             (
                 6,
                 &[1],
                 Wake,
                 "round:2 vector:2[- 20 -]>1 vector:2[- 20 -]>2 vector:2[- 20 -]>3",
             ),
-            (7, &[1], Vector(3, 2, &[0, 20, 0]), ""),
+            (7, &[1], Vector(3, 2, &[None, Some(20), None]), ""),
             (
                 8,
                 &[1],
-                Vector(2, 2, &[0, 0, 30]),
+                Vector(2, 2, &[None, None, Some(30)]),
                 "round:3 last[- 20 30]>1 last[- 20 30]>2 last[- 20 30]>3",
             ),
-            (9, &[1], Last(3, &[0, 20, 30]), ""),
-            (10, &[1], Last(2, &[0, 20, 30]), "decided:20"),
+            (9, &[1], Last(3, &[None, Some(20), Some(30)]), ""),
+            (10, &[1], Last(2, &[None, Some(20), Some(30)]), "decided:20"),
         ],
     )
 }
@@ -301,26 +307,26 @@ fn dropped_inputs(rt: HostRuntime) -> Result<(), Fail> {
         rt.alloc(),
         &mut machine,
         &[
-            (0, &[2], Vector(1, 1, &[10, 0]), ""),
-            (0, &[], Vector(2, 1, &[0, 20]), ""),
+            (0, &[2], Vector(1, 1, &[Some(10), None]), ""),
+            (0, &[], Vector(2, 1, &[None, Some(20)]), ""),
             (0, &[2], Start, "round:1 vector:1[10 -]>1 vector:1[10 -]>2"),
-            (1, &[2], Vector(1, 0, &[10, 0]), ""),
-            (1, &[2], Vector(1, 2, &[10, 0]), ""),
-            (1, &[2], Vector(1, 1, &[10]), ""),
-            (1, &[2], Last(1, &[10, 0]), ""),
-            (1, &[], Vector(3, 1, &[0, 0]), ""),
-            (1, &[], Vector(1, 1, &[10, 0]), ""),
+            (1, &[2], Vector(1, 0, &[Some(10), None]), ""),
+            (1, &[2], Vector(1, 2, &[Some(10), None]), ""),
+            (1, &[2], Vector(1, 1, &[Some(10)]), ""),
+            (1, &[2], Last(1, &[Some(10), None]), ""),
+            (1, &[], Vector(3, 1, &[None, None]), ""),
+            (1, &[], Vector(1, 1, &[Some(10), None]), ""),
             (1, &[], Start, ""),
-            (2, &[], Last(2, &[10, 20]), ""),
+            (2, &[], Last(2, &[Some(10), Some(20)]), ""),
             (
                 3,
                 &[],
-                Vector(2, 1, &[0, 20]),
+                Vector(2, 1, &[None, Some(20)]),
                 "round:2 last[10 20]>1 last[10 20]>2",
             ),
-            (4, &[], Last(2, &[0, 0]), ""),
-            (5, &[], Last(1, &[10, 20]), "decided:10"),
-            (6, &[2], Last(1, &[10, 20]), ""),
+            (4, &[], Last(2, &[None, None]), ""),
+            (5, &[], Last(1, &[Some(10), Some(20)]), "decided:10"),
+            (6, &[2], Last(1, &[Some(10), Some(20)]), ""),
         ],
     )
 }

@@ -97,9 +97,6 @@ at = 0
 
 #[test]
 fn every_key(rt: HostRuntime) -> Result<(), Fail> {
-    let one = Pid::new(1).ok_or("1 is a process")?;
-    let two = Pid::new(2).ok_or("2 is a process")?;
-    let three = Pid::new(3).ok_or("3 is a process")?;
     let scenario = read_scenario(rt.alloc(), EVERY.as_bytes())?;
     assert_eq!(rt; scenario.horizon(), 10_000_000);
     assert_eq!(rt; scenario.limit(), 12);
@@ -113,40 +110,33 @@ fn every_key(rt: HostRuntime) -> Result<(), Fail> {
     };
     assert_eq!(rt; scenario.detector(), detector);
     assert_eq!(rt; scenario.share(), Some(8));
+    assert_eq!(rt; scenario.algorithm(), AlgorithmKind::EventuallyStrong);
+    Ok(())
+}
+
+/// A link that the file gives.
+fn link(min: u32, max: u32, loss: u32) -> Link {
+    Link { min, max, loss }
+}
+
+#[test]
+fn every_process(rt: HostRuntime) -> Result<(), Fail> {
+    let one = Pid::new(1).ok_or("1 is a process")?;
+    let two = Pid::new(2).ok_or("2 is a process")?;
+    let three = Pid::new(3).ok_or("3 is a process")?;
+    let scenario = read_scenario(rt.alloc(), EVERY.as_bytes())?;
     assert_eq!(rt; scenario.crash(one), Some(0));
     assert_eq!(rt; scenario.crash(two), None);
     assert_eq!(rt; scenario.crash(three), Some(10_000_000));
+    assert_eq!(rt; scenario.proposal(one), Some(0));
+    assert_eq!(rt; scenario.proposal(three), Some(4_294_967_295));
     assert!(rt; one != two && one != three && scenario.processes() == 3);
-    assert_eq!(rt;
-        scenario.link(three, one),
-        Link {
-            min: 10,
-            max: 11,
-            loss: 0
-        }
-    );
-    assert_eq!(rt;
-        scenario.link(one, two),
-        Link {
-            min: 7,
-            max: 7,
-            loss: 1000
-        }
-    );
-    assert_eq!(rt;
-        scenario.link(one, three),
-        Link {
-            min: 7,
-            max: 9,
-            loss: 300
-        }
-    );
+    assert_eq!(rt; scenario.link(three, one), link(10, 11, 0));
+    assert_eq!(rt; scenario.link(one, two), link(7, 7, 1000));
+    assert_eq!(rt; scenario.link(one, three), link(7, 9, 300));
     let opening = scenario.opening(two);
     assert_eq!(rt; opening.own, two);
     assert_eq!(rt; opening.share, Some(8));
     assert_eq!(rt; opening.proposal, Some(20));
-    assert_eq!(rt; scenario.algorithm(), AlgorithmKind::EventuallyStrong);
-    assert_eq!(rt; scenario.proposal(one), Some(0));
-    assert_eq!(rt; scenario.proposal(three), Some(4_294_967_295));
     Ok(())
 }
