@@ -188,7 +188,7 @@ impl Progress {
     {
         match self.phase {
             Phase::Collect => self.collect(membership, out),
-            Phase::Await => self.hear(membership, suspects, out),
+            Phase::Await => self.await_proposal(membership, suspects, out),
             Phase::Tally => self.tally(membership, out),
             Phase::Opening | Phase::Decided | Phase::Ended => Ok(false),
         }
@@ -220,7 +220,7 @@ impl Progress {
     }
 
     /// With the round's proposal it is adopted; else a suspected coordinator is given up.
-    fn hear(
+    fn await_proposal(
         &mut self,
         membership: &Membership,
         suspects: &ProcSet,
@@ -433,7 +433,7 @@ fn better(earlier: Option<Estimate>, later: Option<Estimate>) -> Option<Estimate
 }
 
 /// The best estimate of a round: of the largest stamp, and of these the least sender's.
-fn best(estimates: &Letters<Estimate>, membership: &Membership, round: u64) -> Option<Estimate>
+pub fn best(estimates: &Letters<Estimate>, membership: &Membership, round: u64) -> Option<Estimate>
     ensures { result ≡ best_to membership.now.processes (by_sender estimates.now round) }
 {
     let mut chosen: Option<Estimate> = None;

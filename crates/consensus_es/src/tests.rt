@@ -1,7 +1,9 @@
 //! Machines driven by hand.
 ghost use Rattle.std.specs.Prelude.{◌≡◌, ◌≤◌, Some};
 
-use crate::{Diffusion, EsConsensus, Membership, law_settled};
+mod laws;
+
+use crate::{Diffusion, EsConsensus, Membership};
 use process_api::{
     Action, Algorithm, DetectorNumbers, Note, Payload, Pid, ProcSet, StepInput, Watch,
 };
@@ -299,9 +301,4 @@ fn suspected_coordinator(rt: HostRuntime) -> Result<(), Fail> {
         "round:1 2<estimate:1:10:0 2<nack:1 round:2 3<estimate:2:10:0"
     );
     Ok(())
-}
-
-#[test]
-fn laws() {
-    law_settled();
 }

@@ -57,24 +57,24 @@ module _ {Mind : Type 0} (S : Setting Mind) (sound : IsSound S) where
           adds_above (step S before s.0.key s.1).process (mind_after before mind s (own s (inl refl))) rest (λ d i. own d (inr i)) c q y h,
         )
 
-    one_adder : (before : Process Mind) → IsTrue (S.is_mind p before.mind) → (pairs : List Pair) → Own pairs → (c d : Pair) (q : Key) (y : StepInput) → Adds S before c q y pairs → Adds S before d q y pairs → c ≡ d
+    one_adder : (before : Process Mind) → IsTrue (S.is_mind p before.mind) → (pairs : List Pair) → Own pairs → (c d : Pair) (q : Key) (y z : StepInput) → Adds S before c q y pairs → Adds S before d q z pairs → c ≡ d
     unfolding Own
-    one_adder before mind [] own c d q y h g = absurd h
-    one_adder before mind (s ∷ rest) own c d q y (inl h) (inl g) = h.0 ∙ sym g.0
-    one_adder before mind (s ∷ rest) own c d q y (inl h) (inr g) =
+    one_adder before mind [] own c d q y z h g = absurd h
+    one_adder before mind (s ∷ rest) own c d q y z (inl h) (inl g) = h.0 ∙ sym g.0
+    one_adder before mind (s ∷ rest) own c d q y z (inl h) (inr g) =
         absurd (omega (
           arith,
           (sent_at before mind s (own s (inl refl)) (q, y) h.1).within,
-          adds_above (step S before s.0.key s.1).process (mind_after before mind s (own s (inl refl))) rest (λ e i. own e (inr i)) d q y g,
+          adds_above (step S before s.0.key s.1).process (mind_after before mind s (own s (inl refl))) rest (λ e i. own e (inr i)) d q z g,
         ))
-    one_adder before mind (s ∷ rest) own c d q y (inr h) (inl g) =
+    one_adder before mind (s ∷ rest) own c d q y z (inr h) (inl g) =
         absurd (omega (
           arith,
-          (sent_at before mind s (own s (inl refl)) (q, y) g.1).within,
+          (sent_at before mind s (own s (inl refl)) (q, z) g.1).within,
           adds_above (step S before s.0.key s.1).process (mind_after before mind s (own s (inl refl))) rest (λ e i. own e (inr i)) c q y h,
         ))
-    one_adder before mind (s ∷ rest) own c d q y (inr h) (inr g) =
-        one_adder (step S before s.0.key s.1).process (mind_after before mind s (own s (inl refl))) rest (λ e i. own e (inr i)) c d q y h g
+    one_adder before mind (s ∷ rest) own c d q y z (inr h) (inr g) =
+        one_adder (step S before s.0.key s.1).process (mind_after before mind s (own s (inl refl))) rest (λ e i. own e (inr i)) c d q y z h g
 
     adds_sent : (before : Process Mind) → IsTrue (S.is_mind p before.mind) → (pairs : List Pair) → Own pairs → (c : Pair) (q : Key) (y : StepInput) → Adds S before c q y pairs → (q.sender ≡ p) × (c.0.key.tick < q.tick) × (q.tick < S.horizon)
     unfolding Own
@@ -93,20 +93,20 @@ module _ {Mind : Type 0} (S : Setting Mind) (sound : IsSound S) where
     unfolding Own
     cause_facts c q y h = adds_sent c.0.key.receiver h.0 (opening_process S c.0.key.receiver) (sound.opens c.0.key.receiver h.0) (pairs_of c.0.key.receiver history) (own_pairs c.0.key.receiver) c q y h.1
 
-    -- of two causes each is the other
-    one_cause : (c d : Pair) (q : Key) (y : StepInput) → IsCauseOf S history c q y → IsCauseOf S history d q y → d ≡ c
+    -- of two causes of a key each is the other
+    pub one_cause : (c d : Pair) (q : Key) (y z : StepInput) → IsCauseOf S history c q y → IsCauseOf S history d q z → d ≡ c
     unfolding Own
-    one_cause c d q y h g =
-        let same : d.0.key.receiver ≡ c.0.key.receiver = sym (cause_facts d q y g).0 ∙ (cause_facts c q y h).0 in
-        sym (one_adder c.0.key.receiver h.0 (opening_process S c.0.key.receiver) (sound.opens c.0.key.receiver h.0) (pairs_of c.0.key.receiver history) (own_pairs c.0.key.receiver) c d q y h.1
-        (subst (λ r. Adds S (opening_process S r) d q y (pairs_of r history)) same g.1))
+    one_cause c d q y z h g =
+        let same : d.0.key.receiver ≡ c.0.key.receiver = sym (cause_facts d q z g).0 ∙ (cause_facts c q y h).0 in
+        sym (one_adder c.0.key.receiver h.0 (opening_process S c.0.key.receiver) (sound.opens c.0.key.receiver h.0) (pairs_of c.0.key.receiver history) (own_pairs c.0.key.receiver) c d q y z h.1
+        (subst (λ r. Adds S (opening_process S r) d q z (pairs_of r history)) same g.1))
 
     pub has_one_cause : (t : Pair) → IsIn t history → ¬ (IsStart S t.0.key t.1) → (c : Pair) × IsIn c history × (key_cmp c.0.key t.0.key ≡ Less) × IsOnly (λ d. IsCauseOf S history d t.0.key t.1) c
     has_one_cause t i not_start = go ((closed.exact t.0.key t.1).0 (t.0, refl, i)).1
       where
         go : IsStart S t.0.key t.1 ⊎ IsAddedBySome S (opening_process S) t.0.key t.1 history → (c : Pair) × IsIn c history × (key_cmp c.0.key t.0.key ≡ Less) × IsOnly (λ d. IsCauseOf S history d t.0.key t.1) c
         go (inl s) = absurd (not_start s)
-        go (inr (p, is, a)) = (c, there.0, before_by_tick c.0.key t.0.key (cause_facts c t.0.key t.1 is_cause).1, (is_cause, λ d g. one_cause c d t.0.key t.1 is_cause g))
+        go (inr (p, is, a)) = (c, there.0, before_by_tick c.0.key t.0.key (cause_facts c t.0.key t.1 is_cause).1, (is_cause, λ d g. one_cause c d t.0.key t.1 t.1 is_cause g))
           where
             found : (c : Pair) × Adds S (opening_process S p) c t.0.key t.1 (pairs_of p history)
             found = adder (opening_process S p) (pairs_of p history) t.0.key t.1 a

@@ -277,6 +277,13 @@ module _ {Mind : Type 0} (S : Setting Mind) where
         other_given (Has (opening S).pending) (IsStart S) (λ k x. ((starts_given k x).1, (starts_given k x).0)) (opening_process S) S.horizon h
         (closed_of_run S sound S.horizon h (opening S) last (opening_world sound) run)
 
+    pub one_history : (h g : List Pair) → IsClosed S h → IsClosed S g → g ≡ h
+    one_history h g closed other =
+        let there = other_given (IsStart S) (Has (opening S).pending) starts_given (opening_process S) S.horizon in
+        let r = run_of_closed S sound S.horizon h (opening S) (opening_world sound) (there h closed) in
+        let l = run_of_closed S sound S.horizon g (opening S) (opening_world sound) (there g other) in
+        (one_run S S.horizon (opening S) g h l.0 r.0 l.1 r.1).0
+
     pub only_history : (h : List Pair) → IsClosed S h → (trace : List EntryRecord) → IsTrace S trace → entries h ≡ trace
     only_history h closed trace (g, last, run, is) =
         let r = run_of_closed S sound S.horizon h (opening S) (opening_world sound)

@@ -12,6 +12,7 @@ pub mod Performing
 pub mod Closed
 pub mod Alike
 pub mod Causes
+pub mod Effects
 pub mod Tree
 pub mod Simulate
 pub mod Sound

@@ -3,6 +3,7 @@ pub mod ScenarioSetting
 pub mod Step
 pub mod World
 pub mod History
+pub mod Effects
 pub mod Theorems
 pub mod Plain
 pub mod Pending

@@ -10,7 +10,8 @@
 //! The one contract for the layers above: [`run_list`], on `Ok`, gives the defined trace, and it answers `Limit`
 //! only where the whole trace has more entries than the scenario's limit. [`law_only_history`] says what a trace is
 //! without any list: it is the only closed history of its scenario (`specs/History.antt`), in which each entry but the
-//! starts has one cause, and each event that is added below the horizon is taken once.
+//! starts has one cause, and each event that is added below the horizon is taken once. [`run_list`] says these two of
+//! the trace that it gives (`specs/Effects.antt`).
 //!
 //! One call makes the step of a process, [`Seat::turn`]: a machine with its link counts, a key and an input go in, an
 //! entry and the events that join come out. The list calls it, and so may whoever runs processes apart from one

@@ -5,6 +5,7 @@ ghost use Rattle.process_api.specs.Mind.{Mind};
 ghost use Rattle.process_api.specs.Numbers.{numbers_to};
 ghost use Rattle.process_api.specs.Order.{is_rising};
 ghost use Rattle.scenario.specs.Record.{opening_mind};
+ghost use Rattle.event_list.specs.Effects.{HasCauses, TakesOnce};
 ghost use Rattle.event_list.specs.ScenarioSetting.{setting_of};
 ghost use Rattle.event_list.specs.Seat.{process_of, IsMindIn, IsSeated};
 ghost use Rattle.event_list.specs.Setting.{IsProcess};
@@ -153,6 +154,8 @@ fn run_machines<M: Process>(
     requires { map M.mind machines.items ≡ map (opening_mind scenario.now) (numbers_to scenario.now.processes) }
     ensures trace { IfOk result (λ t. IsTrace (setting_of scenario.now) t.items) }
     ensures rising { IfOk result (λ t. IsTrue (is_rising t.items)) }
+    ensures cause { IfOk result (λ t. HasCauses (setting_of scenario.now) t.items) }
+    ensures once { IfOk result (λ t. TakesOnce (setting_of scenario.now) t.items) }
     ensures within { IfOk result (λ t. vec_len t ≤ scenario.now.limit) }
     ensures errors { IfErr result (λ e. (e ≡ RunError.Limit) ⊎ (e ≡ RunError.Memory)) }
     ensures limit { IsErrOf result RunError.Limit → (whole : List EntryRecord) → IsTrace (setting_of scenario.now) whole → scenario.now.limit < length whole }
@@ -162,7 +165,8 @@ fn run_machines<M: Process>(
 }
 
 /// Runs machines by one event list, up to the horizon. There is one machine for each process, of process 1 first, and
-/// each opens as the scenario says.
+/// each opens as the scenario says. In the trace each entry but the starts has one cause, an earlier entry, and each
+/// event that a step adds below the horizon is one entry.
 ///
 /// # Errors
 ///
@@ -176,6 +180,8 @@ pub fn run_list(
     requires { map mind machines.items ≡ map (opening_mind scenario.now) (numbers_to scenario.now.processes) }
 
     ensures trace { IfOk result (λ t. IsTrace (setting_of scenario.now) t) }
+    ensures cause { IfOk result (λ t. HasCauses (setting_of scenario.now) t) }
+    ensures once { IfOk result (λ t. TakesOnce (setting_of scenario.now) t) }
     ensures within { IfOk result (λ t. length t ≤ scenario.now.limit) }
     ensures errors { IfErr result (λ e. (e ≡ RunError.Limit) ⊎ (e ≡ RunError.Memory)) }
     ensures limit { IsErrOf result RunError.Limit → (whole : List EntryRecord) → IsTrace (setting_of scenario.now) whole → scenario.now.limit < length whole }

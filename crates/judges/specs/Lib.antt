@@ -9,3 +9,6 @@ pub mod Track
 pub mod Grid
 pub mod Pairs
 pub mod Judging
+pub mod Agreement
+pub mod Blame
+pub mod BaseDetector

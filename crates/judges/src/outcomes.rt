@@ -1,6 +1,8 @@
 //! What the processes of a run decided.
 ghost use Rattle.std.specs.Prelude.{◌≡◌, ◌≤◌, ◌++◌, ◌∷◌, ℕ, List, [], IfOk};
 ghost use Rattle.process_api.specs.EntryRecord.{EntryRecord};
+ghost use Rattle.scenario.specs.Ranges.{IsInRange};
+ghost use Rattle.judges.specs.Agreement.{Agree, DecidesOnce, IsCoordinated};
 ghost use Rattle.judges.specs.Outcomes.{outcome, outcomes};
 ghost use Rattle.judges.specs.Noting.{all_noted, noted};
 
@@ -88,7 +90,8 @@ pub(crate) struct RunningOutcomes {
 impl RunningOutcomes {
     /// Nothing is noted.
     pub fn open(alloc: Global, scenario: &Scenario) -> Result<RunningOutcomes, AllocError>
-        ensures { IfOk result (λ r. r.outcomes.items ≡ outcomes [] scenario.now.processes) }
+        ensures value { IfOk result (λ r. r.outcomes.items ≡ outcomes [] scenario.now.processes) }
+        ensures ranges { IsInRange scenario.now }
     {
         let mut outcomes = Vec::with_capacity(alloc, usize::from(scenario.processes()))?;
         for before in 0..scenario.processes() {
@@ -117,6 +120,11 @@ impl RunningOutcomes {
 
 /// What each process of a finished trace decided first, when, and the greatest round that it noted; process 1 first.
 ///
+/// In the trace of a scenario with the rotating coordinator, no two outcomes have different values, each value was
+/// proposed by some process, no process ends with no value, and each notes at most one decision: under any detector
+/// settings, delays, losses and crashes. These are agreement, validity and integrity of Chandra and Toueg (Journal of
+/// the ACM 43(2), 1996). That anybody decides is not promised.
+///
 /// # Errors
 ///
 /// Where a growth was refused.
@@ -125,7 +133,9 @@ pub fn decisions(
     scenario: &Scenario,
     trace: &Trace,
 ) -> Result<Vec<Outcome>, AllocError>
-    ensures { IfOk result (λ v. v.items ≡ outcomes trace.now scenario.now.processes) }
+    ensures outcomes { IfOk result (λ v. v.items ≡ outcomes trace.now scenario.now.processes) }
+    ensures agree { IfOk result (λ v. IsCoordinated scenario.now trace.now → Agree scenario.now v.items) }
+    ensures once { IsCoordinated scenario.now trace.now → (p : ℕ) → DecidesOnce trace.now p }
 {
     let mut running = RunningOutcomes::open(alloc, scenario)?;
     for entry in trace.entries() {

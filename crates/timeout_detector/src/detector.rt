@@ -189,7 +189,7 @@ mod tests {
     use scenario::AlgorithmKind;
     use std::test::Fail;
 
-    /// A machine whose memory was refused once answers `Err` from then on.
+    /// A machine that has failed answers `Err` from then on, and does nothing.
     #[test]
     fn failed(rt: HostRuntime) -> Result<(), Fail> {
         let detector = DetectorNumbers {
