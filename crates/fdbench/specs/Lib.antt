@@ -1,7 +1,5 @@
-pub mod Outlet
-pub mod Text
-pub mod Summary
-pub mod Printed
+pub mod Compare
+pub mod Mode
 pub mod Input
 pub mod Order
 pub mod Fault

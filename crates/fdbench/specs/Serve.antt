@@ -2,20 +2,20 @@
 use Rattle.std.specs.Prelude.{◌≡◌, ◌≤◌, ◌⊎◌, ℕ, List, length, codes, Option, IfSome}
 use Rattle.std.specs.Io.KnownBytes.{Appends}
 use Rattle.clap.specs.Words.{Text, IsAmong, fault_of}
-use Rattle.clap.specs.declared.builder.value_parser.ValueParser.{ValueParser}
 use Rattle.clap.specs.declared.error.kind.ErrorKind.TheVariants.{DisplayHelp}
 use Rattle.event_list.specs.ScenarioSetting.{setting_of}
 use Rattle.event_list.specs.World.{IsTrace}
 use Rattle.fdbench.specs.Input.{most_bytes}
-use Rattle.fdbench.specs.Order.{States, TakesPrints, whole_app}
-use Rattle.fdbench.specs.Outlet.{Grows}
-use Rattle.fdbench.specs.Printed.{printed}
-use Rattle.fdbench.specs.declared.bench.PrintChoice.{PrintChoice}
+use Rattle.fdbench.specs.Order.{Prints, States, app_with}
 use Rattle.fdbench.specs.declared.order.Order.{Order}
 use Rattle.fdbench.specs.declared.order.Order.TheVariants as order
 use Rattle.process_api.specs.EntryRecord.{EntryRecord}
+use Rattle.qos_report.specs.Outlet.{Grows}
+use Rattle.qos_report.specs.Printed.{printed}
+use Rattle.qos_report.specs.declared.print_choice.PrintChoice.{PrintChoice}
 use Rattle.scenario.specs.Refusals.{Accepts}
 use Rattle.scenario.specs.Record.{Record}
+use Rattle.windows.specs.Plan.{NoneApplies}
 
 -- the scenario is that of the file's bytes, which are not too many. Of a path other than `-` they aren't known
 pub record IsScenarioAt (input : Option (List ℕ)) (path : Text) (s : Record) : Type 0 where
@@ -26,9 +26,8 @@ pub record IsScenarioAt (input : Option (List ℕ)) (path : Text) (s : Record) :
 
 -- clap shows help for the words
 pub record AsksHelp (words : List Text) : Type 0 where
-  pub prints : ValueParser
-  pub takes : TakesPrints prints
-  pub help : IsAmong DisplayHelp (fault_of (whole_app prints) words)
+  pub prints : Prints
+  pub help : IsAmong DisplayHelp (fault_of (app_with prints) words)
 
 -- `check` answers that the scenario is accepted
 pub record IsCheckAnswer (input : Option (List ℕ)) (path : Text) (piece : List ℕ) : Type 0 where
@@ -43,12 +42,34 @@ pub record IsListAnswer (input : Option (List ℕ)) (path : Text) (print : Print
   pub trace : List EntryRecord
   pub is_trace : IsTrace (setting_of scenario) trace
   pub within : length trace ≤ scenario.limit
-  pub text : piece ≡ printed print trace
+  pub text : piece ≡ printed print scenario trace
+
+-- `run` answers with the texts that `list` answers with, by any plan that nothing speaks against
+pub record IsRunAnswer (input : Option (List ℕ)) (path : Text) (workers window : ℕ) (print : PrintChoice) (piece : List ℕ) : Type 0 where
+  pub scenario : Record
+  pub stands : IsScenarioAt input path scenario
+  pub planned : NoneApplies scenario.lookahead workers window
+  pub trace : List EntryRecord
+  pub is_trace : IsTrace (setting_of scenario) trace
+  pub within : length trace ≤ scenario.limit
+  pub text : piece ≡ printed print scenario trace
+
+-- `compare` answers that both ways to run the scenario write the same texts
+pub record IsCompareAnswer (input : Option (List ℕ)) (path : Text) (workers window : ℕ) (piece : List ℕ) : Type 0 where
+  pub scenario : Record
+  pub stands : IsScenarioAt input path scenario
+  pub planned : NoneApplies scenario.lookahead workers window
+  pub trace : List EntryRecord
+  pub is_trace : IsTrace (setting_of scenario) trace
+  pub within : length trace ≤ scenario.limit
+  pub text : piece ≡ codes "same\n"
 
 -- the piece is what the order asks for
 abbrev pub Answers : Option (List ℕ) → Order → List ℕ → Type 0
 Answers input (order.Check path) piece = IsCheckAnswer input path.now piece
 Answers input (order.List path print) piece = IsListAnswer input path.now print piece
+Answers input (order.Run path workers window print) piece = IsRunAnswer input path.now workers window print piece
+Answers input (order.Compare path workers window) piece = IsCompareAnswer input path.now workers window piece
 
 -- the piece is what the words ask for; of help its text isn't said
 abbrev pub Serves : Option (List ℕ) → List Text → List ℕ → Type 0

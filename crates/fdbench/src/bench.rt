@@ -1,132 +1,92 @@
-//! Runs, from a scenario and its machines to the text that goes out.
-ghost use Rattle.std.specs.Prelude.{◌≡◌, ◌≢◌, ◌^◌, ◌-◌, ◌+◌, ◌<◌, ◌≤◌, List, length, map, Err, OnOk, IfOk, IsErrOf};
-ghost use Rattle.std.specs.Io.KnownBytes.{Appends};
-ghost use Rattle.event_list.specs.ScenarioSetting.{setting_of};
-ghost use Rattle.event_list.specs.World.{IsTrace};
-ghost use Rattle.fdbench.specs.Outlet.{Grows};
-ghost use Rattle.fdbench.specs.Summary.{summary_of};
-ghost use Rattle.fdbench.specs.Text.{trace_text};
-ghost use Rattle.fdbench.specs.Printed.{printed, Writes, WritesPart};
-ghost use Rattle.process_api.specs.EntryRecord.{EntryRecord};
-ghost use Rattle.process_api.specs.Numbers.{numbers_to};
-ghost use Rattle.scenario.specs.Record.{opening_mind};
+//! Runs of a scenario over machines that are made here.
+ghost use Rattle.std.specs.Prelude.{◌≡◌, ◌≢◌, ◌^◌, ◌-◌, ◌+◌, ◌<◌, ◌≤◌, IfErr, IfOk, Err};
+ghost use Rattle.fdbench.specs.Mode.{IsModeFor};
+ghost use Rattle.qos_report.specs.Printed.{Writes, WritesPart};
+ghost use Rattle.scenario.specs.Opening.{mind_of};
 
-use crate::outlet::{Outlet, put_all};
-use crate::texts::text_of_trace;
-use event_list::{RunError, run_list};
-use process_api::{Entry, Process, Trace};
-use scenario::Scenario;
+use crate::machines::make_all;
+use consensus_es::EsConsensus;
+use consensus_s::SConsensus;
+use event_list::RunError;
+use process_api::Process;
+use qos_report::{Outlet, PrintChoice, Summary, bench_list, bench_windows};
+use reduction::Reduced;
+use scenario::{AlgorithmKind, Opening, Scenario};
+use stack::{NoAlgorithm, Stack};
 use std::alloc::{AllocError, Global};
+use std::marker::Sync;
+use std::sync::Wait;
+use std::thread::Threads;
+use timeout_detector::TimeoutDetector;
+use windows::{OpenGate, Plan};
 
-/// Which texts of a run are written.
-#[derive(Clone, Copy, Debug, PartialEq, Eq)]
-pub enum PrintChoice {
-    /// The trace, entry by entry.
-    Trace,
+/// How a run takes its events.
+#[derive(Clone, Copy, Debug)]
+pub(crate) enum Mode {
+    /// By one global event list. Nobody waits.
+    List,
+    /// By windows that a plan's workers share.
+    Windows(Plan),
 }
 
-/// What is told of a run in a few numbers.
-#[derive(Clone, Copy, Debug, PartialEq, Eq)]
-pub struct Summary {
-    /// How many entries the trace has.
-    pub entries: u64,
-    /// How many letters were sent, those to oneself and lost ones too.
-    pub sent: u128,
-    /// How many of these letters were lost.
-    pub lost: u128,
-}
-
-/// The entries counted, and their letters.
-#[tactic(auto, using(std::proofs::lemmas::List::Sums::sum_by_more))]
-fn summarize(entries: &[Entry]) -> Summary
-    ensures { result ≡ summary_of entries.now }
-{
-    let mut sent = 0u128;
-    let mut lost = 0u128;
-    for entry in entries {
-        let (sent_here, lost_here) = (entry.sent, entry.lost);
-        sent += u128::from(sent_here);
-        lost += u128::from(lost_here);
-    }
-    Summary {
-        entries: entries.len() as u64,
-        sent,
-        lost,
-    }
-}
-
-/// Writes a text that is whole, or answers `Write` at the first put that fails.
-fn write_text<O: Outlet>(text: &[u8], outlet: &mut O) -> Result<(), RunError>
-    requires { O.failed outlet.old < 2 ^ 64 - 1 }
-    ensures whole { OnOk result (Appends (O.told outlet.old) (O.told outlet.new) text.now × (O.failed outlet.new ≡ O.failed outlet.old)) }
-    ensures part { result ≡ Err RunError.Write → Grows (O.told outlet.old) (O.told outlet.new) text.now × (O.failed outlet.new ≡ O.failed outlet.old + 1) }
-    ensures only { (result ≢ Err RunError.Limit) × (result ≢ Err RunError.Memory) × (result ≢ Err RunError.Spawn) }
-{
-    if put_all(outlet, text) {
-        Ok(())
-    } else {
-        Err(RunError::Write)
-    }
-}
-
-/// Writes the text of a trace: a header line, and a row for each entry. The whole text is formed before any of it is
-/// written.
-///
-/// # Errors
-///
-/// `Memory` where memory was refused; then nothing was written. `Write` where a put failed; then a front part of the
-/// text went out.
-pub fn write_trace<O: Outlet>(alloc: Global, trace: &Trace, outlet: &mut O) -> Result<(), RunError>
-    requires { O.failed outlet.old < 2 ^ 64 - 1 }
-    ensures whole { OnOk result (Appends (O.told outlet.old) (O.told outlet.new) (trace_text trace.now) × (O.failed outlet.new ≡ O.failed outlet.old)) }
-    ensures part { result ≡ Err RunError.Write → Grows (O.told outlet.old) (O.told outlet.new) (trace_text trace.now) × (O.failed outlet.new ≡ O.failed outlet.old + 1) }
-    ensures memory { result ≡ Err RunError.Memory → (O.told outlet.new ≡ O.told outlet.old) × (O.failed outlet.new ≡ O.failed outlet.old) }
-    ensures only { (result ≢ Err RunError.Limit) × (result ≢ Err RunError.Spawn) }
-{
-    match text_of_trace(alloc, trace.entries()) {
-        Ok(text) => write_text(&text, outlet),
-        Err(_) => Err(RunError::Memory),
-    }
-}
-
-/// The texts of a run that are asked for.
-fn text_of_run(alloc: Global, print: PrintChoice, trace: &Trace) -> Result<Vec<u8>, AllocError>
-    ensures { IfOk result (λ text. text.items ≡ printed print trace.now) }
-{
-    match print {
-        PrintChoice::Trace => text_of_trace(alloc, trace.entries()),
-    }
-}
-
-/// Runs a scenario by one global event list and writes what is asked for. All texts are formed before the first of
-/// them is written.
-///
-/// The machines are those of processes 1 to n, in this order, each in its opening state. They are consumed.
-///
-/// # Errors
-///
-/// `Limit` where the run has more entries than the scenario's limit, `Memory` where memory was refused: then nothing
-/// was written. `Write` where a put failed: then a front part of the text went out.
-pub fn bench_list<O: Outlet>(
+/// Runs a scenario in a mode, over machines that are made here, and writes what is asked for. What goes out doesn't depend
+/// on the mode.
+pub(crate) fn bench<R: Threads + Wait + Sync, O: Outlet>(
+    rt: &R,
     alloc: Global,
     scenario: &Scenario,
-    machines: Vec<Box<dyn Process>>,
+    mode: Mode,
     print: PrintChoice,
     outlet: &mut O,
 ) -> Result<Summary, RunError>
-    requires machines { map mind machines.items ≡ map (opening_mind scenario.now) (numbers_to scenario.now.processes) }
+    requires mode { IsModeFor scenario.now mode }
     requires failures { O.failed outlet.old < 2 ^ 64 - 1 }
     ensures whole { IfOk result (λ summary. Writes scenario.now print (O.told outlet.old) (O.told outlet.new) summary × (O.failed outlet.new ≡ O.failed outlet.old)) }
     ensures part { result ≡ Err RunError.Write → WritesPart scenario.now print (O.told outlet.old) (O.told outlet.new) × (O.failed outlet.new ≡ O.failed outlet.old + 1) }
-    ensures memory { result ≡ Err RunError.Memory → (O.told outlet.new ≡ O.told outlet.old) × (O.failed outlet.new ≡ O.failed outlet.old) }
-    ensures limit { result ≡ Err RunError.Limit → (O.told outlet.new ≡ O.told outlet.old) × (O.failed outlet.new ≡ O.failed outlet.old) }
-    ensures long { IsErrOf result RunError.Limit → (whole : List EntryRecord) → IsTrace (setting_of scenario.now) whole → scenario.now.limit < length whole }
     ensures within { IfOk result (λ summary. summary.entries ≤ scenario.now.limit) }
-    ensures threads { result ≢ Err RunError.Spawn }
+    ensures others { IfErr result (λ error. error ≢ RunError.Write → (O.told outlet.new ≡ O.told outlet.old) × (O.failed outlet.new ≡ O.failed outlet.old)) }
 {
-    let trace = run_list(alloc, scenario, machines)?;
-    let text = text_of_run(alloc, print, &trace)?;
-    let summary = summarize(trace.entries());
-    write_text(&text, outlet)?;
-    Ok(summary)
+    let machines = make_all(
+        alloc,
+        scenario,
+        |opening: Opening| -> Result<Box<dyn Process>, AllocError>
+            ensures { IfOk result (λ made. mind made ≡ mind_of opening) }
+        {
+            let own = opening.own;
+            let detector = TimeoutDetector::open(alloc, &opening)?;
+            match (opening.share, opening.algorithm) {
+                (None, AlgorithmKind::Idle) => {
+                    Ok(Box::new(alloc, Stack::new(own, detector, NoAlgorithm))?)
+                }
+                (None, AlgorithmKind::Strong) => {
+                    let consensus = SConsensus::open(alloc, &opening)?;
+                    Ok(Box::new(alloc, Stack::new(own, detector, consensus))?)
+                }
+                (None, AlgorithmKind::EventuallyStrong) => {
+                    let consensus = EsConsensus::open(alloc, &opening)?;
+                    Ok(Box::new(alloc, Stack::new(own, detector, consensus))?)
+                }
+                (Some(_), AlgorithmKind::Idle) => {
+                    let reduced = Reduced::open(detector, &opening);
+                    Ok(Box::new(alloc, Stack::new(own, reduced, NoAlgorithm))?)
+                }
+                (Some(_), AlgorithmKind::Strong) => {
+                    let reduced = Reduced::open(detector, &opening);
+                    let consensus = SConsensus::open(alloc, &opening)?;
+                    Ok(Box::new(alloc, Stack::new(own, reduced, consensus))?)
+                }
+                (Some(_), AlgorithmKind::EventuallyStrong) => {
+                    let reduced = Reduced::open(detector, &opening);
+                    let consensus = EsConsensus::open(alloc, &opening)?;
+                    Ok(Box::new(alloc, Stack::new(own, reduced, consensus))?)
+                }
+            }
+        },
+    )?;
+    match mode {
+        Mode::List => bench_list(alloc, scenario, machines, print, outlet),
+        Mode::Windows(plan) => bench_windows(
+            rt, alloc, scenario, machines, &plan, &OpenGate, print, outlet,
+        ),
+    }
 }

@@ -2,16 +2,17 @@
 ghost use Rattle.std.specs.Prelude.{◌≡◌, ◌^◌, ◌-◌, ◌+◌, ◌<◌, ◌≤◌};
 ghost use Rattle.fdbench.specs.Fault.{status_of};
 
-use crate::outlet::{Outlet, put_all};
 use event_list::RunError;
 use itoa::Buffer;
 use process_api::Pid;
+use qos_report::{Outlet, put_all};
 use scenario::ScenarioError;
+use windows::PlanError;
 
 /// Why the program did not do what it was asked.
 #[derive(Debug, Drop)]
 pub(crate) enum Fault {
-    /// The command, the path or what to print is missing.
+    /// The command, the path, `--workers` or `--window` is missing.
     Form,
     /// Memory was refused while words were read.
     WordsMemory,
@@ -21,8 +22,12 @@ pub(crate) enum Fault {
     TooLong,
     /// The scenario is refused.
     Scenario(ScenarioError),
+    /// The plan is refused.
+    Plan(PlanError),
     /// The run is refused, or writing failed.
     Run(RunError),
+    /// Both ways to run the scenario wrote different texts. No line is told of it.
+    Different,
 }
 
 impl Fault {
@@ -34,7 +39,7 @@ impl Fault {
             Fault::Form | Fault::WordsMemory => 2,
             Fault::Unreadable | Fault::TooLong | Fault::Scenario(_) => 1,
             Fault::Run(RunError::Write) => 4,
-            Fault::Run(_) => 3,
+            Fault::Plan(_) | Fault::Run(_) | Fault::Different => 3,
         }
     }
 
@@ -65,6 +70,11 @@ impl Fault {
                 faults,
                 &["fdbench: scenario: ", name_of_scenario_error(error), "\n"],
             ),
+            Fault::Plan(error) => put_pieces(
+                faults,
+                &["fdbench: plan: ", name_of_plan_error(*error), "\n"],
+            ),
+            Fault::Different => (),
             Fault::Run(error) => put_pieces(
                 faults,
                 &["fdbench: run: ", name_of_run_error(*error), "\n"],
@@ -121,6 +131,15 @@ fn name_of_scenario_error(error: &ScenarioError) -> &'static str {
         ScenarioError::BelowLookahead { .. } => "BelowLookahead",
         ScenarioError::CrashLine => "CrashLine",
         ScenarioError::Memory(_) => "Memory",
+    }
+}
+
+/// The name of a refusal of a plan.
+fn name_of_plan_error(error: PlanError) -> &'static str {
+    match error {
+        PlanError::Workers => "Workers",
+        PlanError::WindowZero => "WindowZero",
+        PlanError::WindowTooLong => "WindowTooLong",
     }
 }
 

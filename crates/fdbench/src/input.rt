@@ -1,12 +1,16 @@
 //! Reading a scenario's bytes.
-ghost use Rattle.std.specs.Prelude.{◌≡◌, ◌≤◌, ◌<◌, IfOk, IfSome, length, Err};
-ghost use Rattle.fdbench.specs.Input.{most_bytes};
+ghost use Rattle.std.specs.Prelude.{◌≡◌, ◌+◌, ◌≤◌, ◌<◌, IfOk, IfSome, OnOk, length, Err};
+ghost use Rattle.std.specs.Io.KnownBytes.{IsAtEnd};
+ghost use Rattle.fdbench.specs.Input.{TakesAtMost, most_bytes};
 
 use std::alloc::Global;
 use std::io::{ErrorKind, Read};
 
 /// The most bytes that a scenario file may have.
 const MOST_BYTES: usize = 8_388_608;
+
+/// How many bytes a read asks for at most.
+const PIECE_BYTES: usize = 65_536;
 
 /// Why an input is refused.
 #[derive(Clone, Copy, Debug, PartialEq, Eq)]
@@ -19,23 +23,36 @@ pub enum InputError {
     Memory,
 }
 
-/// All bytes of an input, where they are at most 8,388,608. At most one byte more than that is read.
+/// All bytes of an input, where they are at most 8,388,608. At most one byte more than that is read. A read that was
+/// interrupted is tried again.
 ///
 /// # Errors
 ///
-/// `TooLong` where there are more bytes, `Unreadable` where a read failed for any other cause than memory, and
-/// `Memory`.
-pub fn read_all<R: Read + Drop>(alloc: Global, input: R) -> Result<Vec<u8>, InputError>
+/// `TooLong` where there are more bytes, `Unreadable` where a read failed for any other cause than an interruption, and
+/// `Memory` where the bytes found no room.
+pub fn read_all<R: Read>(alloc: Global, input: &mut R) -> Result<Vec<u8>, InputError>
     ensures short { IfOk result (λ bytes. length bytes.items ≤ most_bytes) }
-    ensures whole { IfOk result (λ bytes. IfSome (R.remaining input) (λ all. bytes.items ≡ all)) }
-    ensures long { result ≡ Err InputError.TooLong → IfSome (R.remaining input) (λ all. most_bytes < length all) }
+    ensures whole { IfOk result (λ bytes. IfSome (R.remaining input.old) (λ all. bytes.items ≡ all)) }
+    ensures end { OnOk result (IsAtEnd (R.remaining input.new)) }
+    ensures long { result ≡ Err InputError.TooLong → IfSome (R.remaining input.old) (λ all. most_bytes < length all) }
+    ensures taken { TakesAtMost (most_bytes + 1) (R.remaining input.old) (R.remaining input.new) }
 {
     let mut bytes = Vec::new(alloc);
-    let mut limited = input.take(8_388_609);
-    match limited.read_to_end(&mut bytes) {
-        Ok(_) if bytes.len() <= MOST_BYTES => Ok(bytes),
-        Ok(_) => Err(InputError::TooLong),
-        Err(error) if error.kind() == ErrorKind::OutOfMemory => Err(InputError::Memory),
-        Err(_) => Err(InputError::Unreadable),
+    let mut piece = [0u8; PIECE_BYTES];
+    for _ in 0..u64::MAX {
+        let room = MOST_BYTES - bytes.len();
+        let asked = PIECE_BYTES.min(room + 1);
+        match input.read(&mut piece[..asked]) {
+            Ok(0) => return Ok(bytes),
+            Ok(count) if count > room => return Err(InputError::TooLong),
+            Ok(count) => {
+                if bytes.extend_from_slice(&piece[..count]).is_err() {
+                    return Err(InputError::Memory);
+                }
+            }
+            Err(error) if error.kind() == ErrorKind::Interrupted => {}
+            Err(_) => return Err(InputError::Unreadable),
+        }
     }
+    Err(InputError::Unreadable)
 }

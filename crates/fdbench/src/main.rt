@@ -2,35 +2,30 @@
 //!
 //! The program reads a scenario file, which says how many processes there are, what they run, how the links between
 //! them delay and lose letters, and who crashes when. `fdbench check PATH` says whether the file is accepted.
-//! `fdbench list PATH --print trace` runs it by one global event list and prints a line for each event that a process
-//! takes.
+//! `fdbench list PATH` runs it by one global event list and prints what `--print` names: a trace, with a line for each
+//! event that a process takes; a report, with the verdicts on the detectors, the measures of each pair of processes and
+//! what each process decided; or both.
 //!
 //! The one contract is that of [`serve::serve`]: with status 0 the outlet grows by what the words ask for, which for
-//! `list` is the text of the scenario's trace; with status 4 by a front part of it; with another status by nothing. The
-//! text itself is defined in `specs/Text.antt`, and the trace by the event list's definitions.
-//!
-//! The modules [`bench`], [`texts`] and [`outlet`], with [`memory_outlet`] and [`stream_outlet`], serve callers with
-//! machines of their own: they run a scenario over boxed machines and write its texts to an outlet, over memory or over
-//! any writer. [`bench::bench_list`] says what it wrote.
+//! `list` is the texts of the scenario's trace; with status 4 by a front part of it; with another status by nothing. The
+//! texts are defined by `qos_report`, in its `specs/TraceText.antt` and `specs/ReportText.antt`, and the trace by the
+//! event list's definitions.
 //!
 //! For example, `fdbench list - --print trace` on a file with two processes and a horizon of 1 tick prints the header
 //! and two rows of kind `start`.
 #![tactic(auto)]
 
-pub mod bench;
+mod bench;
 mod command;
+pub mod compare;
 mod fault;
 pub mod input;
 mod machines;
-pub mod memory_outlet;
 pub mod order;
-pub mod outlet;
 pub mod serve;
-pub mod stream_outlet;
-pub mod texts;
 
 use crate::fault::Fault;
-use crate::stream_outlet::StreamOutlet;
+use qos_report::StreamOutlet;
 use std::alloc::Global;
 use std::env;
 use std::io::{self, ErrorKind};
@@ -60,7 +55,7 @@ fn main(rt: HostRuntime) -> ExitCode {
                 &rt,
                 rt.alloc(),
                 &texts,
-                rt.stdin(),
+                &mut rt.stdin(),
                 &mut outlet,
                 &mut faults,
             ),

@@ -1,12 +1,13 @@
 //! What a command line asks for.
-ghost use Rattle.std.specs.Prelude.{◌≡◌, ◌⊎◌, IfOk, IfErr, IfSome, IsNone, Some, None, List, option_map, map, codes};
+ghost use Rattle.std.specs.Prelude.{◌≡◌, ℕ, IfOk, IfErr, IfSome, IsNone, Some, None, List, option_map, map, codes};
 ghost use Rattle.clap.specs.Words.{rows_of, found_of, first_of, subcommand_rows_of, Text, Row};
-ghost use Rattle.fdbench.specs.Order.{States, StatesCheck, StatesList, StatesIn, StatesNothingIn, Explains};
+ghost use Rattle.fdbench.specs.declared.order.Order.{Order as Asked};
+ghost use Rattle.fdbench.specs.Order.{IsNumberAt, States, StatesCheck, StatesCompare, StatesIn, StatesList, StatesNothingIn, StatesPrint, StatesRun, Explains, choice_of};
 
-use crate::bench::PrintChoice;
 use crate::command::command;
 use clap::ArgMatches;
 use clap::error::ErrorKind;
+use qos_report::PrintChoice;
 use std::alloc::Global;
 
 /// What a command line asks for. The path `-` is standard input.
@@ -24,6 +25,26 @@ pub enum Order<'a> {
         /// Which texts of the run are written.
         print: PrintChoice,
     },
+    /// To run the scenario by windows that workers share.
+    Run {
+        /// Where the scenario file is.
+        path: &'a str,
+        /// How many workers share a window; a plan takes 1 to 64.
+        workers: u64,
+        /// How many ticks a window has; a plan takes 1 to the lookahead.
+        window: u64,
+        /// Which texts of the run are written.
+        print: PrintChoice,
+    },
+    /// To run the scenario both ways, and to say whether their texts are the same.
+    Compare {
+        /// Where the scenario file is.
+        path: &'a str,
+        /// How many workers share a window; a plan takes 1 to 64.
+        workers: u64,
+        /// How many ticks a window has; a plan takes 1 to the lookahead.
+        window: u64,
+    },
 }
 
 /// Why words are refused.
@@ -33,7 +54,7 @@ pub enum WordsError {
     Clap(clap::Error),
     /// Memory was refused.
     Memory,
-    /// `clap` takes them, but the command, the path or what to print is missing.
+    /// `clap` takes them, but the command, the path, `--workers` or `--window` is missing.
     Form,
 }
 
@@ -44,10 +65,42 @@ fn text_at<'a>(found: &ArgMatches<'a>, id: &str) -> Option<&'a str>
     found.get_str(id)
 }
 
+/// The number of an argument.
+fn number_at(found: &ArgMatches<'_>, id: &str) -> Option<u64>
+    ensures stated { IfSome result (IsNumberAt id.now (rows_of (found_of found.now))) }
+    ensures missing { IsNone result → (n : ℕ) → IsNumberAt id.now (rows_of (found_of found.now)) n → ⊥ }
+{
+    found.get_one::<u64>(id)
+}
+
+/// What a word says is printed.
+#[tactic(auto, unfolding(crate::specs::Order::choice_of))]
+fn choice(word: &str) -> PrintChoice
+    ensures { result ≡ choice_of word.now }
+{
+    if word == "trace" {
+        PrintChoice::Trace
+    } else if word == "both" {
+        PrintChoice::Both
+    } else {
+        PrintChoice::Report
+    }
+}
+
+/// What is printed: the report, where nothing is said.
+fn read_print(found: &ArgMatches<'_>) -> PrintChoice
+    ensures { StatesPrint (rows_of (found_of found.now)) result }
+{
+    match text_at(found, "print") {
+        Some(word) => choice(word),
+        None => PrintChoice::Report,
+    }
+}
+
 /// What `check` asks for, if its path is there.
 fn read_check<'a>(found: &ArgMatches<'a>) -> Option<Order<'a>>
     ensures stated { IfSome result (StatesCheck (rows_of (found_of found.now))) }
-    ensures missing { IsNone result → first_of (codes "path") (rows_of (found_of found.now)) ≡ None }
+    ensures missing { IsNone result → (asked : Asked) → StatesCheck (rows_of (found_of found.now)) asked → ⊥ }
 {
     match text_at(found, "path") {
         Some(path) => Some(Order::Check { path }),
@@ -55,24 +108,66 @@ fn read_check<'a>(found: &ArgMatches<'a>) -> Option<Order<'a>>
     }
 }
 
-/// What `list` asks for, if its path and what to print are there.
+/// What `list` asks for, if its path is there.
 fn read_list<'a>(found: &ArgMatches<'a>) -> Option<Order<'a>>
     ensures stated { IfSome result (StatesList (rows_of (found_of found.now))) }
-    ensures missing { IsNone result → (first_of (codes "path") (rows_of (found_of found.now)) ≡ None) ⊎ (first_of (codes "print") (rows_of (found_of found.now)) ≡ None) }
+    ensures missing { IsNone result → (asked : Asked) → StatesList (rows_of (found_of found.now)) asked → ⊥ }
 {
     let Some(path) = text_at(found, "path") else {
         return None;
     };
-    let Some(_word) = text_at(found, "print") else {
+    let print = read_print(found);
+    Some(Order::List { path, print })
+}
+
+/// What `run` asks for, if its path, its workers and its window are there.
+
+fn read_run<'a>(found: &ArgMatches<'a>) -> Option<Order<'a>>
+    ensures stated { IfSome result (StatesRun (rows_of (found_of found.now))) }
+    ensures missing { IsNone result → (asked : Asked) → StatesRun (rows_of (found_of found.now)) asked → ⊥ }
+{
+    let Some(path) = text_at(found, "path") else {
         return None;
     };
-    Some(Order::List {
+    let Some(workers) = number_at(found, "workers") else {
+        return None;
+    };
+    let Some(window) = number_at(found, "window") else {
+        return None;
+    };
+    let print = read_print(found);
+    Some(Order::Run {
         path,
-        print: PrintChoice::Trace,
+        workers,
+        window,
+        print,
+    })
+}
+
+/// What `compare` asks for, if its path, its workers and its window are there.
+
+fn read_compare<'a>(found: &ArgMatches<'a>) -> Option<Order<'a>>
+    ensures stated { IfSome result (StatesCompare (rows_of (found_of found.now))) }
+    ensures missing { IsNone result → (asked : Asked) → StatesCompare (rows_of (found_of found.now)) asked → ⊥ }
+{
+    let Some(path) = text_at(found, "path") else {
+        return None;
+    };
+    let Some(workers) = number_at(found, "workers") else {
+        return None;
+    };
+    let Some(window) = number_at(found, "window") else {
+        return None;
+    };
+    Some(Order::Compare {
+        path,
+        workers,
+        window,
     })
 }
 
 /// What a subcommand's name and matches ask for, if nothing is missing.
+#[tactic(auto, using(crate::proofs::Words::check_asks_nothing, crate::proofs::Words::list_asks_nothing, crate::proofs::Words::run_asks_nothing, crate::proofs::Words::compare_asks_nothing))]
 fn read_found<'a>(name: &str, found: &ArgMatches<'a>) -> Option<Order<'a>>
     ensures stated { IfSome result (StatesIn name.now (rows_of (found_of found.now))) }
     ensures missing { IsNone result → StatesNothingIn name.now (rows_of (found_of found.now)) }
@@ -81,6 +176,10 @@ fn read_found<'a>(name: &str, found: &ArgMatches<'a>) -> Option<Order<'a>>
         read_check(found)
     } else if name == "list" {
         read_list(found)
+    } else if name == "run" {
+        read_run(found)
+    } else if name == "compare" {
+        read_compare(found)
     } else {
         None
     }
@@ -101,8 +200,8 @@ fn read_matches<'a>(matches: &ArgMatches<'a>) -> Option<Order<'a>>
 ///
 /// # Errors
 ///
-/// `Clap` where `clap` refuses the words or they ask for help, `Form` where it takes them but the command, the path or
-/// what to print is missing, and `Memory`.
+/// `Clap` where `clap` refuses the words or they ask for help, `Form` where it takes them but the command, the path,
+/// `--workers` or `--window` is missing, and `Memory`.
 pub fn read_words<'a>(alloc: Global, words: &'a [&'a str]) -> Result<Order<'a>, WordsError>
     ensures stated { IfOk result (States (map (λ w. w.now) words.entry.now)) }
     ensures refused { IfErr result (Explains (map (λ w. w.now) words.entry.now)) }

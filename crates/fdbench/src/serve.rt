@@ -1,64 +1,62 @@
 //! One run of the program.
-ghost use Rattle.std.specs.Prelude.{◌≡◌, ◌≢◌, ◌⊎◌, ◌∷◌, [], ◌^◌, ◌-◌, ◌+◌, ◌<◌, ◌≤◌, ℕ, List, Contains, IfOk, IfErr, IfSome, OnOk, Err, codes, length, map};
+ghost use Rattle.std.specs.Prelude.{◌≡◌, ◌≢◌, ◌⊎◌, ◌∷◌, [], ◌^◌, ◌-◌, ◌+◌, ◌<◌, ◌≤◌, ℕ, List, Contains, IfOk, IfErr, IfSome, OnOk, codes, true, length, map};
 ghost use Rattle.std.specs.Io.KnownBytes.{Appends, Keeps};
 ghost use Rattle.clap.specs.Words.{kind_of};
 ghost use Rattle.clap.specs.declared.error.kind.ErrorKind.TheVariants.{DisplayHelp};
-ghost use Rattle.scenario.specs.Opening.{mind_of};
+ghost use Rattle.qos_report.specs.Outlet.{Grows};
 ghost use Rattle.fdbench.specs.Fault.{status_of};
-ghost use Rattle.fdbench.specs.Input.{most_bytes};
-ghost use Rattle.fdbench.specs.Outlet.{Grows};
-ghost use Rattle.fdbench.specs.Printed.{Writes, WritesPart};
-ghost use Rattle.fdbench.specs.Serve.{Answers, IsCheckAnswer, IsListAnswer, IsScenarioAt, Serves, Went, WentPart};
+ghost use Rattle.fdbench.specs.Input.{TakesAtMost, most_bytes};
+ghost use Rattle.windows.specs.Plan.{IsPlanFor, NoneApplies};
+ghost use Rattle.fdbench.specs.Serve.{Answers, IsCheckAnswer, IsCompareAnswer, IsListAnswer, IsRunAnswer, IsScenarioAt, Serves, Went, WentPart};
 
-use crate::bench::{PrintChoice, Summary, bench_list};
+use crate::bench::{Mode, bench};
+use crate::compare::compare;
 use crate::fault::Fault;
 use crate::input::{InputError, read_all};
-use crate::machines::make_all;
 use crate::order::{Order, WordsError, read_words};
-use crate::outlet::{Outlet, put_all};
-use crate::stream_outlet::StreamOutlet;
 use clap::error::ErrorKind;
-use consensus_es::EsConsensus;
-use consensus_s::SConsensus;
 use event_list::RunError;
-use process_api::Process;
-use reduction::Reduced;
-use scenario::{AlgorithmKind, Opening, Scenario, ScenarioError, read_scenario};
-use stack::{NoAlgorithm, Stack};
+use qos_report::{Outlet, PrintChoice, StreamOutlet, put_all};
+use scenario::{Scenario, ScenarioError, read_scenario};
 use std::alloc::{AllocError, Global};
 use std::fs;
 use std::io::{Read, Write};
+use std::marker::Sync;
 use std::rt::Files;
-use timeout_detector::TimeoutDetector;
+use std::sync::Wait;
+use std::thread::Threads;
+use windows::Plan;
 
 /// The bytes at a path; `-` is the input.
-fn bytes_at<R: Files, I: Read + Drop>(
+fn bytes_at<R: Files, I: Read>(
     rt: &R,
     alloc: Global,
     path: &str,
-    input: I,
+    input: &mut I,
 ) -> Result<Vec<u8>, InputError>
-    ensures whole { IfOk result (λ bytes. path.now ≡ codes "-" → IfSome (I.remaining input) (λ all. bytes.items ≡ all)) }
+    ensures whole { IfOk result (λ bytes. path.now ≡ codes "-" → IfSome (I.remaining input.old) (λ all. bytes.items ≡ all)) }
     ensures short { IfOk result (λ bytes. length bytes.items ≤ most_bytes) }
+    ensures taken { TakesAtMost (most_bytes + 1) (I.remaining input.old) (I.remaining input.new) }
 {
     if path == "-" {
         return read_all(alloc, input);
     }
     match fs::open(rt, path) {
-        Ok(file) => read_all(alloc, file),
+        Ok(mut file) => read_all(alloc, &mut file),
         Err(_) => Err(InputError::Unreadable),
     }
 }
 
 /// The scenario at a path; `-` is the input.
-fn scenario_at<R: Files, I: Read + Drop>(
+fn scenario_at<R: Files, I: Read>(
     rt: &R,
     alloc: Global,
     path: &str,
-    input: I,
+    input: &mut I,
 ) -> Result<Scenario, Fault>
-    ensures stands { IfOk result (IsScenarioAt (I.remaining input) path.now) }
+    ensures stands { IfOk result (IsScenarioAt (I.remaining input.old) path.now) }
     ensures refused { IfErr result (λ fault. status_of fault ≡ 1) }
+    ensures taken { TakesAtMost (most_bytes + 1) (I.remaining input.old) (I.remaining input.new) }
 {
     let bytes = match bytes_at(rt, alloc, path, input) {
         Ok(bytes) => bytes,
@@ -72,71 +70,19 @@ fn scenario_at<R: Files, I: Read + Drop>(
     }
 }
 
-/// Runs a scenario by one global event list, over machines that are made here, and writes what is asked for.
-pub(crate) fn list<O: Outlet>(
-    alloc: Global,
-    scenario: &Scenario,
-    print: PrintChoice,
-    outlet: &mut O,
-) -> Result<Summary, RunError>
-    requires { O.failed outlet.old < 2 ^ 64 - 1 }
-    ensures whole { IfOk result (λ summary. Writes scenario.now print (O.told outlet.old) (O.told outlet.new) summary × (O.failed outlet.new ≡ O.failed outlet.old)) }
-    ensures part { result ≡ Err RunError.Write → WritesPart scenario.now print (O.told outlet.old) (O.told outlet.new) × (O.failed outlet.new ≡ O.failed outlet.old + 1) }
-    ensures within { IfOk result (λ summary. summary.entries ≤ scenario.now.limit) }
-    ensures others { IfErr result (λ error. error ≢ RunError.Write → (O.told outlet.new ≡ O.told outlet.old) × (O.failed outlet.new ≡ O.failed outlet.old)) }
-{
-    let machines = make_all(
-        alloc,
-        scenario,
-        |opening: Opening| -> Result<Box<dyn Process>, AllocError>
-            ensures { IfOk result (λ made. mind made ≡ mind_of opening) }
-        {
-            let own = opening.own;
-            let detector = TimeoutDetector::open(alloc, &opening)?;
-            match (opening.share, opening.algorithm) {
-                (None, AlgorithmKind::Idle) => {
-                    Ok(Box::new(alloc, Stack::new(own, detector, NoAlgorithm))?)
-                }
-                (None, AlgorithmKind::Strong) => {
-                    let consensus = SConsensus::open(alloc, &opening)?;
-                    Ok(Box::new(alloc, Stack::new(own, detector, consensus))?)
-                }
-                (None, AlgorithmKind::EventuallyStrong) => {
-                    let consensus = EsConsensus::open(alloc, &opening)?;
-                    Ok(Box::new(alloc, Stack::new(own, detector, consensus))?)
-                }
-                (Some(_), AlgorithmKind::Idle) => {
-                    let reduced = Reduced::open(detector, &opening);
-                    Ok(Box::new(alloc, Stack::new(own, reduced, NoAlgorithm))?)
-                }
-                (Some(_), AlgorithmKind::Strong) => {
-                    let reduced = Reduced::open(detector, &opening);
-                    let consensus = SConsensus::open(alloc, &opening)?;
-                    Ok(Box::new(alloc, Stack::new(own, reduced, consensus))?)
-                }
-                (Some(_), AlgorithmKind::EventuallyStrong) => {
-                    let reduced = Reduced::open(detector, &opening);
-                    let consensus = EsConsensus::open(alloc, &opening)?;
-                    Ok(Box::new(alloc, Stack::new(own, reduced, consensus))?)
-                }
-            }
-        },
-    )?;
-    bench_list(alloc, scenario, machines, print, outlet)
-}
-
 /// Answers `check`: `ok` and a line feed.
-fn serve_check<R: Files, I: Read + Drop, O: Outlet>(
+fn serve_check<R: Files, I: Read, O: Outlet>(
     rt: &R,
     alloc: Global,
     path: &str,
-    input: I,
+    input: &mut I,
     outlet: &mut O,
 ) -> Result<(), Fault>
     requires { O.failed outlet.old < 2 ^ 64 - 1 }
-    ensures done { OnOk result (Went (IsCheckAnswer (I.remaining input) path.now) (O.told outlet.old) (O.told outlet.new) × (O.failed outlet.new ≡ O.failed outlet.old)) }
-    ensures broken { IfErr result (λ fault. status_of fault ≡ 4 → WentPart (IsCheckAnswer (I.remaining input) path.now) (O.told outlet.old) (O.told outlet.new) × (O.failed outlet.new ≡ O.failed outlet.old + 1)) }
+    ensures done { OnOk result (Went (IsCheckAnswer (I.remaining input.old) path.now) (O.told outlet.old) (O.told outlet.new) × (O.failed outlet.new ≡ O.failed outlet.old)) }
+    ensures broken { IfErr result (λ fault. status_of fault ≡ 4 → WentPart (IsCheckAnswer (I.remaining input.old) path.now) (O.told outlet.old) (O.told outlet.new) × (O.failed outlet.new ≡ O.failed outlet.old + 1)) }
     ensures refused { IfErr result (λ fault. status_of fault ≢ 4 → (O.told outlet.new ≡ O.told outlet.old) × (O.failed outlet.new ≡ O.failed outlet.old)) }
+    ensures taken { TakesAtMost (most_bytes + 1) (I.remaining input.old) (I.remaining input.new) }
 {
     scenario_at(rt, alloc, path, input)?;
     if put_all(outlet, b"ok\n") {
@@ -147,42 +93,134 @@ fn serve_check<R: Files, I: Read + Drop, O: Outlet>(
 }
 
 /// Answers `list`: the texts of the run.
-fn serve_list<R: Files, I: Read + Drop, O: Outlet>(
+fn serve_list<R: Files + Threads + Wait + Sync, I: Read, O: Outlet>(
     rt: &R,
     alloc: Global,
     path: &str,
     print: PrintChoice,
-    input: I,
+    input: &mut I,
     outlet: &mut O,
 ) -> Result<(), Fault>
     requires { O.failed outlet.old < 2 ^ 64 - 1 }
-    ensures done { OnOk result (Went (IsListAnswer (I.remaining input) path.now print) (O.told outlet.old) (O.told outlet.new) × (O.failed outlet.new ≡ O.failed outlet.old)) }
-    ensures broken { IfErr result (λ fault. status_of fault ≡ 4 → WentPart (IsListAnswer (I.remaining input) path.now print) (O.told outlet.old) (O.told outlet.new) × (O.failed outlet.new ≡ O.failed outlet.old + 1)) }
+    ensures done { OnOk result (Went (IsListAnswer (I.remaining input.old) path.now print) (O.told outlet.old) (O.told outlet.new) × (O.failed outlet.new ≡ O.failed outlet.old)) }
+    ensures broken { IfErr result (λ fault. status_of fault ≡ 4 → WentPart (IsListAnswer (I.remaining input.old) path.now print) (O.told outlet.old) (O.told outlet.new) × (O.failed outlet.new ≡ O.failed outlet.old + 1)) }
     ensures refused { IfErr result (λ fault. status_of fault ≢ 4 → (O.told outlet.new ≡ O.told outlet.old) × (O.failed outlet.new ≡ O.failed outlet.old)) }
+    ensures taken { TakesAtMost (most_bytes + 1) (I.remaining input.old) (I.remaining input.new) }
 {
     let scenario = scenario_at(rt, alloc, path, input)?;
-    match list(alloc, &scenario, print, outlet) {
+    match bench(rt, alloc, &scenario, Mode::List, print, outlet) {
         Ok(_) => Ok(()),
         Err(error) => Err(Fault::Run(error)),
     }
 }
 
-/// Does what an order asks for.
-fn carry_out<R: Files, I: Read + Drop, O: Outlet>(
+/// The plan of a run by windows.
+fn plan_for(scenario: &Scenario, workers: u64, window: u64) -> Result<Plan, Fault>
+    ensures plan { IfOk result (λ p. IsPlanFor scenario.now p × NoneApplies scenario.now.lookahead workers window) }
+    ensures refused { IfErr result (λ fault. status_of fault ≡ 3) }
+{
+    match Plan::new(scenario, workers, window) {
+        Ok(plan) => Ok(plan),
+        Err(error) => Err(Fault::Plan(error)),
+    }
+}
+
+/// Answers `run`: the texts of the run, which are those that `list` writes.
+fn serve_run<R: Files + Threads + Wait + Sync, I: Read, O: Outlet>(
     rt: &R,
     alloc: Global,
-    order: Order<'_>,
-    input: I,
+    path: &str,
+    workers: u64,
+    window: u64,
+    print: PrintChoice,
+    input: &mut I,
     outlet: &mut O,
 ) -> Result<(), Fault>
     requires { O.failed outlet.old < 2 ^ 64 - 1 }
-    ensures done { OnOk result (Went (Answers (I.remaining input) order.entry) (O.told outlet.old) (O.told outlet.new) × (O.failed outlet.new ≡ O.failed outlet.old)) }
-    ensures broken { IfErr result (λ fault. status_of fault ≡ 4 → WentPart (Answers (I.remaining input) order.entry) (O.told outlet.old) (O.told outlet.new) × (O.failed outlet.new ≡ O.failed outlet.old + 1)) }
+    ensures done { OnOk result (Went (IsRunAnswer (I.remaining input.old) path.now workers window print) (O.told outlet.old) (O.told outlet.new) × (O.failed outlet.new ≡ O.failed outlet.old)) }
+    ensures broken { IfErr result (λ fault. status_of fault ≡ 4 → WentPart (IsRunAnswer (I.remaining input.old) path.now workers window print) (O.told outlet.old) (O.told outlet.new) × (O.failed outlet.new ≡ O.failed outlet.old + 1)) }
     ensures refused { IfErr result (λ fault. status_of fault ≢ 4 → (O.told outlet.new ≡ O.told outlet.old) × (O.failed outlet.new ≡ O.failed outlet.old)) }
+    ensures taken { TakesAtMost (most_bytes + 1) (I.remaining input.old) (I.remaining input.new) }
+{
+    let scenario = scenario_at(rt, alloc, path, input)?;
+    let plan = plan_for(&scenario, workers, window)?;
+    match bench(rt, alloc, &scenario, Mode::Windows(plan), print, outlet) {
+        Ok(_) => Ok(()),
+        Err(error) => Err(Fault::Run(error)),
+    }
+}
+
+/// Says whether both runs wrote the same: `same` or `different`, and a line feed.
+fn put_verdict<O: Outlet>(same: bool, outlet: &mut O) -> Result<(), Fault>
+    requires { O.failed outlet.old < 2 ^ 64 - 1 }
+    ensures done { OnOk result (Went (λ piece. piece ≡ codes "same\n") (O.told outlet.old) (O.told outlet.new) × (O.failed outlet.new ≡ O.failed outlet.old)) }
+    ensures broken { same ≡ true → IfErr result (λ fault. (status_of fault ≡ 4) × WentPart (λ piece. piece ≡ codes "same\n") (O.told outlet.old) (O.told outlet.new) × (O.failed outlet.new ≡ O.failed outlet.old + 1)) }
+{
+    if same {
+        if put_all(outlet, b"same\n") {
+            Ok(())
+        } else {
+            Err(Fault::Run(RunError::Write))
+        }
+    } else if put_all(outlet, b"different\n") {
+        Err(Fault::Different)
+    } else {
+        Err(Fault::Run(RunError::Write))
+    }
+}
+
+/// Answers `compare`: `same`, as both runs always write the same.
+fn serve_compare<R: Files + Threads + Wait + Sync, I: Read, O: Outlet>(
+    rt: &R,
+    alloc: Global,
+    path: &str,
+    workers: u64,
+    window: u64,
+    input: &mut I,
+    outlet: &mut O,
+) -> Result<(), Fault>
+    requires { O.failed outlet.old < 2 ^ 64 - 1 }
+    ensures done { OnOk result (Went (IsCompareAnswer (I.remaining input.old) path.now workers window) (O.told outlet.old) (O.told outlet.new) × (O.failed outlet.new ≡ O.failed outlet.old)) }
+    ensures broken { IfErr result (λ fault. status_of fault ≡ 4 → WentPart (IsCompareAnswer (I.remaining input.old) path.now workers window) (O.told outlet.old) (O.told outlet.new) × (O.failed outlet.new ≡ O.failed outlet.old + 1)) }
+    ensures refused { IfErr result (λ fault. status_of fault ≢ 4 → (O.told outlet.new ≡ O.told outlet.old) × (O.failed outlet.new ≡ O.failed outlet.old)) }
+    ensures taken { TakesAtMost (most_bytes + 1) (I.remaining input.old) (I.remaining input.new) }
+{
+    let scenario = scenario_at(rt, alloc, path, input)?;
+    let plan = plan_for(&scenario, workers, window)?;
+    match compare(rt, alloc, &scenario, plan) {
+        Ok(same) => put_verdict(same, outlet),
+        Err(error) => Err(Fault::Run(error)),
+    }
+}
+
+/// Does what an order asks for.
+fn carry_out<R: Files + Threads + Wait + Sync, I: Read, O: Outlet>(
+    rt: &R,
+    alloc: Global,
+    order: Order<'_>,
+    input: &mut I,
+    outlet: &mut O,
+) -> Result<(), Fault>
+    requires { O.failed outlet.old < 2 ^ 64 - 1 }
+    ensures done { OnOk result (Went (Answers (I.remaining input.old) order.entry) (O.told outlet.old) (O.told outlet.new) × (O.failed outlet.new ≡ O.failed outlet.old)) }
+    ensures broken { IfErr result (λ fault. status_of fault ≡ 4 → WentPart (Answers (I.remaining input.old) order.entry) (O.told outlet.old) (O.told outlet.new) × (O.failed outlet.new ≡ O.failed outlet.old + 1)) }
+    ensures refused { IfErr result (λ fault. status_of fault ≢ 4 → (O.told outlet.new ≡ O.told outlet.old) × (O.failed outlet.new ≡ O.failed outlet.old)) }
+    ensures taken { TakesAtMost (most_bytes + 1) (I.remaining input.old) (I.remaining input.new) }
 {
     match order {
         Order::Check { path } => serve_check(rt, alloc, path, input, outlet),
         Order::List { path, print } => serve_list(rt, alloc, path, print, input, outlet),
+        Order::Run {
+            path,
+            workers,
+            window,
+            print,
+        } => serve_run(rt, alloc, path, workers, window, print, input, outlet),
+        Order::Compare {
+            path,
+            workers,
+            window,
+        } => serve_compare(rt, alloc, path, workers, window, input, outlet),
     }
 }
 
@@ -229,25 +267,26 @@ fn show<O: Outlet, F: Outlet>(
 /// | 0 | done, or help was shown |
 /// | 1 | the scenario or its file is refused |
 /// | 2 | the words are refused |
-/// | 3 | the run is refused |
+/// | 3 | the plan or the run is refused |
 /// | 4 | writing to the outlet failed |
 ///
-/// Faults are looked for in this order: words, file, scenario, machines, run.
-pub fn serve<R: Files, I: Read + Drop, O: Outlet, F: Outlet>(
+/// Faults are looked for in this order: words, file, scenario, plan, machines, run.
+pub fn serve<R: Files + Threads + Wait + Sync, I: Read, O: Outlet, F: Outlet>(
     rt: &R,
     alloc: Global,
     words: &[&str],
-    input: I,
+    input: &mut I,
     outlet: &mut O,
     faults: &mut F,
 ) -> u8
     requires outlet { O.failed outlet.old < 2 ^ 64 - 1 }
     requires faults { F.failed faults.old < 2 ^ 64 - 1 }
     ensures statuses { result ≤ 4 }
-    ensures done { result ≡ 0 → Went (Serves (I.remaining input) (map (λ w. w.now) words.now)) (O.told outlet.old) (O.told outlet.new) × (O.failed outlet.new ≡ O.failed outlet.old) }
-    ensures broken { result ≡ 4 → WentPart (Serves (I.remaining input) (map (λ w. w.now) words.now)) (O.told outlet.old) (O.told outlet.new) × (O.failed outlet.new ≡ O.failed outlet.old + 1) }
+    ensures done { result ≡ 0 → Went (Serves (I.remaining input.old) (map (λ w. w.now) words.now)) (O.told outlet.old) (O.told outlet.new) × (O.failed outlet.new ≡ O.failed outlet.old) }
+    ensures broken { result ≡ 4 → WentPart (Serves (I.remaining input.old) (map (λ w. w.now) words.now)) (O.told outlet.old) (O.told outlet.new) × (O.failed outlet.new ≡ O.failed outlet.old + 1) }
     ensures refused { Contains (1 ∷ 2 ∷ 3 ∷ []) result → (O.told outlet.new ≡ O.told outlet.old) × (O.failed outlet.new ≡ O.failed outlet.old) }
     ensures told { F.failed faults.new ≤ F.failed faults.old + 1 }
+    ensures taken { TakesAtMost (most_bytes + 1) (I.remaining input.old) (I.remaining input.new) }
 {
     let order = match read_words(alloc, words) {
         Ok(order) => order,

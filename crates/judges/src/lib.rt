@@ -7,6 +7,12 @@
 //! that `specs/Verdicts.antt` counts out and `specs/Meaning.antt` states by quantifiers over processes and ticks, and
 //! the outcomes are those of `specs/Outcomes.antt`, for every scenario and every trace.
 //!
+//! Where the trace is the one that the event list defines and the algorithm is the rotating coordinator, [`decisions`]
+//! promises more (`specs/Agreement.antt`): no two outcomes have different values, each value was proposed, no process
+//! ends with no value, and each notes at most one decision, under any detector settings, delays, losses and crashes.
+//! Of the base detector the proof uses the laws in `specs/BaseDetector.antt` alone. The crates above also rest on
+//! `specs/Blame.antt`: whoever is suspected on layer 2 was suspected by some base detector before.
+//!
 //! A trace is walked once. For each pair of processes a judge keeps since when the one suspects the other, or doesn't,
 //! and moves that on only where a note changes it. So the work grows with the notes of the trace and with the number
 //! of pairs, and not with the ticks.

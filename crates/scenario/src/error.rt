@@ -35,14 +35,14 @@ pub enum ScenarioError {
     /// `limit` isn't 1 to 100,000,000.
     #[error("the limit is out of range")]
     Limit,
-    /// `seed` is below 0.
+    /// `seed` isn't 0 to 9,223,372,036,854,775,807.
     #[error("the seed is negative")]
     Seed,
     /// `algorithm` isn't `none`, `s` or `es`.
     #[error("the algorithm isn't known")]
     AlgorithmName,
     /// There are proposals without an algorithm, or an algorithm has other proposals than one of each process, each
-    /// below 2^32.
+    /// 0 to 4,294,967,295.
     #[error("the proposals don't fit the algorithm")]
     Proposals,
     /// A number of the detector isn't 1 to 1,000,000, or `watch` isn't `all` or `next`.
@@ -51,8 +51,9 @@ pub enum ScenarioError {
     /// The period of the shares isn't 1 to 1,000,000.
     #[error("the period of the shares is out of range")]
     Share,
-    /// A link has a delay that isn't 1 to 1,000,000, or a `min` above its `max`, or a loss above 1,000 thousandths;
-    /// or a table of `links` is of no pair of different processes, or of the pair of another one.
+    /// A link has a `min` or a `max` that isn't 1 to 1,000,000 ticks, a `min` above its `max`, or a `loss` that isn't
+    /// 0 to 1,000 thousandths; or a table of `links` has a `from` or a `to` that isn't 1 to the number of processes, or
+    /// the same process as both, or is of the pair of another one.
     #[error("a link's numbers are out of range")]
     LinkNumbers,
     /// A letter between two different processes may take fewer ticks than the lookahead.
@@ -63,7 +64,8 @@ pub enum ScenarioError {
         /// The receiver of that pair.
         to: Pid,
     },
-    /// A table of `crash` is of no process, or of the process of another one, or its tick is above 10,000,000.
+    /// A table of `crash` has a `process` that isn't 1 to the number of processes, or is of the process of another one,
+    /// or its `at` isn't 0 to 10,000,000.
     #[error("a crash isn't possible")]
     CrashLine,
     /// Memory was refused. This may come at any point.

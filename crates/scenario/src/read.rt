@@ -13,10 +13,12 @@ use crate::record::Scenario;
 use std::alloc::{AllocError, Global};
 use toml::Table;
 
-/// Reads a scenario's file.
+/// Reads a scenario's file. `Ok` is the record that the file stands for, defaults filled in.
 ///
-/// `Ok` is the record that the file stands for, defaults filled in. An error is the refusal of the first rule that
-/// applies (`specs/Refusals.antt` has the list), or `Memory`, which comes where memory was refused, at any point.
+/// # Errors
+///
+/// The refusal of the first rule that applies, in the order of [`ScenarioError`] (`specs/Refusals.antt` has the list),
+/// or `Memory`, which comes where memory was refused, at any point.
 pub fn read_scenario(alloc: Global, bytes: &[u8]) -> Result<Scenario, ScenarioError>
     ensures ok { IfOk result (Accepts bytes.now) }
     ensures err { IfErr result (λ e. is_memory e ≡ false → Refuses bytes.now e) }

@@ -1,10 +1,12 @@
 //! Outlets that fail.
 
-use crate::memory_outlet::MemoryOutlet;
-use crate::outlet::{Outlet, put_all};
+use crate::bench::{Mode, bench};
 use crate::serve::{finish, serve};
-use crate::stream_outlet::StreamOutlet;
 use crate::tests::files::{ONE_CRASH, ONE_PROCESS};
+use crate::tests::runs::printed;
+use event_list::RunError;
+use qos_report::{FuseOutlet, MemoryOutlet, Outlet, PrintChoice, StreamOutlet, put_all};
+use scenario::read_scenario;
 use std::io::{self, Write};
 use std::test::Fail;
 
@@ -26,24 +28,101 @@ impl Write for Stuck {
 #[test]
 fn ten_bytes(rt: HostRuntime) -> Result<(), Fail> {
     let alloc = rt.alloc();
-    let mut room = [0u8; 10];
     let words = ["fdbench", "list", "-", "--print", "trace"];
+    let mut outlet = FuseOutlet::new(alloc, 10, 1);
     let mut faults = MemoryOutlet::new(alloc);
+    let status = serve(
+        &rt,
+        alloc,
+        &words,
+        &mut ONE_PROCESS.as_bytes(),
+        &mut outlet,
+        &mut faults,
+    );
+    assert_eq!(rt; status, 4);
+    assert_eq!(rt; outlet.failures(), 1);
+    assert!(rt; outlet.bytes() == b"tick,recei".as_slice());
+    assert!(rt; faults.bytes() == b"fdbench: run: Write\n".as_slice());
+    Ok(())
+}
+
+/// A writer that is full ends a run in the same way.
+#[test]
+fn full_writer(rt: HostRuntime) -> Result<(), Fail> {
+    let alloc = rt.alloc();
+    let scenario = read_scenario(alloc, ONE_PROCESS.as_bytes())?;
+    let mut room = [0u8; 10];
     {
         let mut outlet = StreamOutlet::new(room.as_mut_slice());
-        let status = serve(
+        let ran = bench(
             &rt,
             alloc,
-            &words,
-            ONE_PROCESS.as_bytes(),
+            &scenario,
+            Mode::List,
+            PrintChoice::Trace,
             &mut outlet,
-            &mut faults,
         );
-        assert_eq!(rt; status, 4);
+        assert!(rt; matches!(ran, Err(RunError::Write)));
         assert_eq!(rt; outlet.failures(), 1);
     }
     assert!(rt; room.as_slice() == b"tick,recei".as_slice());
-    assert!(rt; faults.bytes() == b"fdbench: run: Write\n".as_slice());
+    Ok(())
+}
+
+/// An outlet that takes one byte at a time gets every byte of both texts.
+#[test]
+fn byte_by_byte(rt: HostRuntime) -> Result<(), Fail> {
+    let alloc = rt.alloc();
+    let scenario = read_scenario(alloc, ONE_CRASH.as_bytes())?;
+    for (print, word) in [
+        (PrintChoice::Trace, "trace"),
+        (PrintChoice::Report, "report"),
+        (PrintChoice::Both, "both"),
+    ] {
+        let want = printed(&rt, alloc, word, ONE_CRASH)?;
+        let mut outlet = FuseOutlet::new(alloc, 1, u64::MAX);
+        let summary = bench(&rt, alloc, &scenario, Mode::List, print, &mut outlet)?;
+        assert!(rt; outlet.bytes() == want.as_bytes());
+        assert_eq!(rt; outlet.failures(), 0);
+        assert_eq!(rt; summary.entries, 12);
+    }
+    Ok(())
+}
+
+/// An outlet that fails at a write, be it the first or a later one, holds what went out before, and nothing is tried
+/// again.
+#[test]
+fn each_write_fails(rt: HostRuntime) -> Result<(), Fail> {
+    let alloc = rt.alloc();
+    let scenario = read_scenario(alloc, ONE_CRASH.as_bytes())?;
+    let want = printed(&rt, alloc, "both", ONE_CRASH)?;
+    let whole = want.as_bytes();
+    let writes = whole.len().div_ceil(16);
+    for before in 0..writes {
+        let mut outlet = FuseOutlet::new(alloc, 16, before as u64);
+        let ran = bench(
+            &rt,
+            alloc,
+            &scenario,
+            Mode::List,
+            PrintChoice::Both,
+            &mut outlet,
+        );
+        assert!(rt; matches!(ran, Err(RunError::Write)));
+        assert_eq!(rt; outlet.failures(), 1);
+        assert_eq!(rt; outlet.bytes().len(), before.saturating_mul(16));
+        assert!(rt; whole.starts_with(outlet.bytes()));
+    }
+    let mut outlet = FuseOutlet::new(alloc, 16, writes as u64);
+    bench(
+        &rt,
+        alloc,
+        &scenario,
+        Mode::List,
+        PrintChoice::Both,
+        &mut outlet,
+    )?;
+    assert!(rt; outlet.bytes() == whole);
     Ok(())
 }
 
@@ -59,7 +138,7 @@ fn no_room(rt: HostRuntime) -> Result<(), Fail> {
             &rt,
             alloc,
             &words,
-            ONE_CRASH.as_bytes(),
+            &mut ONE_CRASH.as_bytes(),
             &mut outlet,
             &mut faults,
         );
@@ -82,7 +161,8 @@ fn nobody_is_told(rt: HostRuntime) -> Result<(), Fail> {
         let mut outlet = MemoryOutlet::new(alloc);
         let mut faults = StreamOutlet::new(room.as_mut_slice());
         let words = ["fdbench", "check", path];
-        let status = serve(&rt, alloc, &words, b"".as_slice(), &mut outlet, &mut faults);
+        let mut input = b"".as_slice();
+        let status = serve(&rt, alloc, &words, &mut input, &mut outlet, &mut faults);
         assert_eq!(rt; status, want);
         assert_eq!(rt; faults.failures(), 1);
     }

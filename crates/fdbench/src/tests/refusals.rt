@@ -1,17 +1,25 @@
 //! Files that are refused, and how the program says so.
 
-use crate::memory_outlet::MemoryOutlet;
 use crate::serve::serve;
 use crate::tests::files::ONE_CRASH;
 use crate::tests::runs::{changed, run};
+use qos_report::MemoryOutlet;
 use std::alloc::Global;
-use std::io::{self, Read};
+use std::io::{self, ErrorKind, Read};
+use std::marker::Sync;
 use std::process::Abort;
 use std::rt::Files;
+use std::sync::Wait;
 use std::test::Fail;
+use std::thread::Threads;
 
 /// `check` refuses the file with this line, and writes nothing else.
-fn refuses<R: Files + Abort>(rt: &R, alloc: Global, file: &[u8], line: &str) -> Result<(), Fail> {
+fn refuses<R: Files + Threads + Wait + Sync + Abort>(
+    rt: &R,
+    alloc: Global,
+    file: &[u8],
+    line: &str,
+) -> Result<(), Fail> {
     let ran = run(rt, alloc, &["check", "-"], file)?;
     assert_eq!(rt; ran.faults.as_str(), line);
     assert_eq!(rt; ran.out.as_str(), "");
@@ -89,7 +97,7 @@ struct Torn {
 impl Read for Torn {
     fn read(&mut self, buffer: &mut [u8]) -> io::Result<usize> {
         if self.is_torn || buffer.is_empty() {
-            return Err(io::Error::from(io::ErrorKind::Other));
+            return Err(io::Error::from(ErrorKind::Other));
         }
         self.is_torn = true;
         buffer[0] = b'#';
@@ -109,7 +117,7 @@ impl Read for Endless {
             return Ok(0);
         }
         if self.left == 0 {
-            return Err(io::Error::from(io::ErrorKind::Other));
+            return Err(io::Error::from(ErrorKind::Other));
         }
         let given = buffer.len().min(self.left);
         buffer[..given].fill(b'#');
@@ -125,34 +133,87 @@ fn endless_input(rt: HostRuntime) -> Result<(), Fail> {
     let words = ["fdbench", "check", "-"];
     let mut outlet = MemoryOutlet::new(alloc);
     let mut faults = MemoryOutlet::new(alloc);
-    let input = Endless { left: 8_388_609 };
-    let status = serve(&rt, alloc, &words, input, &mut outlet, &mut faults);
+    let mut input = Endless { left: 8_388_609 };
+    let status = serve(&rt, alloc, &words, &mut input, &mut outlet, &mut faults);
+    assert_eq!(rt; input.left, 0);
     assert!(rt; faults.bytes() == b"fdbench: input: too long\n".as_slice());
     assert_eq!(rt; outlet.bytes().len(), 0);
     assert_eq!(rt; status, 1);
     Ok(())
 }
 
-/// A reader that finds no memory.
+/// A reader that fails with an error of this kind.
 #[derive(Drop)]
-struct Cramped;
+struct Failing {
+    kind: ErrorKind,
+}
 
-impl Read for Cramped {
+impl Read for Failing {
     fn read(&mut self, _buffer: &mut [u8]) -> io::Result<usize> {
-        Err(io::Error::from(io::ErrorKind::OutOfMemory))
+        Err(io::Error::from(self.kind))
     }
 }
 
+/// A read that fails for want of memory is like any other that fails.
 #[test]
-fn no_memory_for_input(rt: HostRuntime) -> Result<(), Fail> {
+fn failing_reads(rt: HostRuntime) -> Result<(), Fail> {
+    let alloc = rt.alloc();
+    let words = ["fdbench", "check", "-"];
+    for kind in [
+        ErrorKind::OutOfMemory,
+        ErrorKind::UnexpectedEof,
+        ErrorKind::Other,
+    ] {
+        let mut outlet = MemoryOutlet::new(alloc);
+        let mut faults = MemoryOutlet::new(alloc);
+        let mut input = Failing { kind };
+        let status = serve(&rt, alloc, &words, &mut input, &mut outlet, &mut faults);
+        assert!(rt; faults.bytes() == b"fdbench: input: unreadable\n".as_slice());
+        assert_eq!(rt; outlet.bytes().len(), 0);
+        assert_eq!(rt; status, 1);
+    }
+    Ok(())
+}
+
+/// A reader of which every other read is interrupted, and which gives one byte at a time.
+#[derive(Drop)]
+struct Halting {
+    is_halted: bool,
+    given: usize,
+}
+
+impl Read for Halting {
+    fn read(&mut self, buffer: &mut [u8]) -> io::Result<usize> {
+        self.is_halted = !self.is_halted;
+        if self.is_halted {
+            return Err(io::Error::from(ErrorKind::Interrupted));
+        }
+        match (ONE_CRASH.as_bytes().get(self.given), buffer.first_mut()) {
+            (Some(byte), Some(place)) => {
+                *place = *byte;
+                self.given += 1;
+                Ok(1)
+            }
+            _ => Ok(0),
+        }
+    }
+}
+
+/// A read that was interrupted is tried again.
+#[test]
+fn interrupted_reads(rt: HostRuntime) -> Result<(), Fail> {
     let alloc = rt.alloc();
     let words = ["fdbench", "check", "-"];
     let mut outlet = MemoryOutlet::new(alloc);
     let mut faults = MemoryOutlet::new(alloc);
-    let status = serve(&rt, alloc, &words, Cramped, &mut outlet, &mut faults);
-    assert!(rt; faults.bytes() == b"fdbench: scenario: Memory\n".as_slice());
-    assert_eq!(rt; outlet.bytes().len(), 0);
-    assert_eq!(rt; status, 1);
+    let mut input = Halting {
+        is_halted: false,
+        given: 0,
+    };
+    let status = serve(&rt, alloc, &words, &mut input, &mut outlet, &mut faults);
+    assert!(rt; outlet.bytes() == b"ok\n".as_slice());
+    assert_eq!(rt; faults.bytes().len(), 0);
+    assert_eq!(rt; status, 0);
     Ok(())
 }
 
@@ -162,9 +223,9 @@ fn unreadable(rt: HostRuntime) -> Result<(), Fail> {
     for path in ["-", "no_such_folder/scenario.toml"] {
         let mut outlet = MemoryOutlet::new(alloc);
         let mut faults = MemoryOutlet::new(alloc);
-        let input = Torn { is_torn: false };
+        let mut input = Torn { is_torn: false };
         let words = ["fdbench", "check", path];
-        let status = serve(&rt, alloc, &words, input, &mut outlet, &mut faults);
+        let status = serve(&rt, alloc, &words, &mut input, &mut outlet, &mut faults);
         assert_eq!(rt; status, 1);
         assert_eq!(rt; outlet.bytes().len(), 0);
         assert!(rt; faults.bytes() == b"fdbench: input: unreadable\n".as_slice());

@@ -1,11 +1,14 @@
 //! What the tests share: one run of the program over memory.
 
-use crate::memory_outlet::MemoryOutlet;
 use crate::serve::serve;
+use qos_report::MemoryOutlet;
 use std::alloc::{AllocError, Global};
+use std::marker::Sync;
 use std::process::Abort;
 use std::rt::Files;
+use std::sync::Wait;
 use std::test::Fail;
+use std::thread::Threads;
 
 /// What a run answered, wrote and said of faults.
 #[derive(Drop)]
@@ -22,13 +25,19 @@ fn text_of(alloc: Global, bytes: &[u8]) -> Result<String, Fail> {
 }
 
 /// One run with these words after the program's name, over this input.
-pub fn run<R: Files>(rt: &R, alloc: Global, words: &[&str], input: &[u8]) -> Result<Ran, Fail> {
+pub fn run<R: Files + Threads + Wait + Sync>(
+    rt: &R,
+    alloc: Global,
+    words: &[&str],
+    input: &[u8],
+) -> Result<Ran, Fail> {
     let mut line = Vec::new(alloc);
     line.push("fdbench")?;
     line.extend_from_slice(words)?;
     let mut outlet = MemoryOutlet::new(alloc);
     let mut faults = MemoryOutlet::new(alloc);
-    let status = serve(rt, alloc, &line, input, &mut outlet, &mut faults);
+    let mut rest = input;
+    let status = serve(rt, alloc, &line, &mut rest, &mut outlet, &mut faults);
     Ok(Ran {
         status,
         out: text_of(alloc, outlet.bytes())?,
@@ -36,17 +45,35 @@ pub fn run<R: Files>(rt: &R, alloc: Global, words: &[&str], input: &[u8]) -> Res
     })
 }
 
-/// The trace that a file gives.
-pub fn trace_of<R: Files + Abort>(rt: &R, alloc: Global, file: &str) -> Result<String, Fail> {
-    let ran = run(
-        rt,
-        alloc,
-        &["list", "-", "--print", "trace"],
-        file.as_bytes(),
-    )?;
+/// What `list` prints of a file.
+pub fn printed<R: Files + Threads + Wait + Sync + Abort>(
+    rt: &R,
+    alloc: Global,
+    print: &str,
+    file: &str,
+) -> Result<String, Fail> {
+    let ran = run(rt, alloc, &["list", "-", "--print", print], file.as_bytes())?;
     assert_eq!(rt; ran.faults.as_str(), "");
     assert_eq!(rt; ran.status, 0);
     Ok(ran.out)
+}
+
+/// The trace that a file gives.
+pub fn trace_of<R: Files + Threads + Wait + Sync + Abort>(
+    rt: &R,
+    alloc: Global,
+    file: &str,
+) -> Result<String, Fail> {
+    printed(rt, alloc, "trace", file)
+}
+
+/// The report that a file gives.
+pub fn report_of<R: Files + Threads + Wait + Sync + Abort>(
+    rt: &R,
+    alloc: Global,
+    file: &str,
+) -> Result<String, Fail> {
+    printed(rt, alloc, "report", file)
 }
 
 /// The file with one of its parts changed.

@@ -2,15 +2,14 @@
 ghost use Rattle.std.specs.Prelude.{◌≡◌, IfOk};
 ghost use Rattle.scenario.specs.Opening.{mind_of};
 
-use crate::bench::{PrintChoice, Summary, write_trace};
+use crate::bench::{Mode, bench};
 use crate::machines::make_all;
-use crate::memory_outlet::MemoryOutlet;
-use crate::outlet::Outlet;
-use crate::serve::list;
 use crate::tests::files::{FIVE, ONE_CRASH, ONE_PROCESS, TAKEN_BACK, WATCH_NEXT};
 use crate::tests::runs::{changed, run, trace_of};
 use event_list::run_list;
+use judges::Answer;
 use process_api::Process;
+use qos_report::{MemoryOutlet, Outlet, PrintChoice, write_report, write_trace};
 use scenario::{AlgorithmKind, Opening, read_scenario};
 use stack::{NoAlgorithm, Stack};
 use std::alloc::AllocError;
@@ -113,13 +112,23 @@ fn summary_of_one_crash(rt: HostRuntime) -> Result<(), Fail> {
     let alloc = rt.alloc();
     let scenario = read_scenario(alloc, ONE_CRASH.as_bytes())?;
     let mut outlet = MemoryOutlet::new(alloc);
-    let summary = list(alloc, &scenario, PrintChoice::Trace, &mut outlet)?;
-    let want = Summary {
-        entries: 12,
-        sent: 4,
-        lost: 0,
-    };
-    assert_eq!(rt; summary, want);
+    let summary = bench(
+        &rt,
+        alloc,
+        &scenario,
+        Mode::List,
+        PrintChoice::Trace,
+        &mut outlet,
+    )?;
+    assert_eq!(rt; summary.entries, 12);
+    assert_eq!(rt; summary.sent, 4);
+    assert_eq!(rt; summary.lost, 0);
+    assert_eq!(rt; summary.outcomes.len(), 2);
+    for outcome in summary.outcomes.as_slice() {
+        assert_eq!(rt; outcome.value, Answer::None);
+        assert_eq!(rt; outcome.tick, None);
+        assert_eq!(rt; outcome.rounds, 0);
+    }
     assert_eq!(rt; outlet.failures(), 0);
     Ok(())
 }
@@ -135,7 +144,20 @@ fn one_process(rt: HostRuntime) -> Result<(), Fail> {
     Ok(())
 }
 
-/// A machine of one's own, its run, and the text of its trace.
+/// The report of one process that takes its start alone.
+const ALONE_REPORT: &[u8] = b"section,layer,observer,subject,measure,value
+run,0,0,0,entries,1
+run,0,0,0,sent,0
+run,0,0,0,lost,0
+verdict,1,0,0,strong_completeness,0
+verdict,1,0,0,weak_completeness,0
+verdict,1,0,0,strong_accuracy,yes
+verdict,1,0,0,weak_accuracy,yes
+verdict,1,0,0,eventual_strong_accuracy,0
+verdict,1,0,0,eventual_weak_accuracy,0
+";
+
+/// A machine of one's own, its run, and the texts of its trace.
 #[test]
 fn own_machine(rt: HostRuntime) -> Result<(), Fail> {
     let alloc = rt.alloc();
@@ -160,6 +182,10 @@ fn own_machine(rt: HostRuntime) -> Result<(), Fail> {
     write_trace(alloc, &trace, &mut outlet)?;
     let want = b"tick,receiver,sender,number,kind,sent,lost,notes\n0,1,1,0,start,0,0,\n".as_slice();
     assert!(rt; outlet.bytes() == want);
+    assert_eq!(rt; outlet.failures(), 0);
+    let mut outlet = MemoryOutlet::new(alloc);
+    write_report(alloc, &scenario, &trace, &mut outlet)?;
+    assert!(rt; outlet.bytes() == ALONE_REPORT);
     assert_eq!(rt; outlet.failures(), 0);
     Ok(())
 }

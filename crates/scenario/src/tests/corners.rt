@@ -4,7 +4,7 @@ use crate::tests::{CRASH_FILE, answer, changed};
 use std::test::Fail;
 
 /// Changes of the crash file, and what they get.
-const CHANGES: [(&str, &str, &str); 29] = [
+const CHANGES: [(&str, &str, &str); 32] = [
     ("horizon = 10", "horizon = 0x0a", "accepted"),
     ("horizon = 10", "horizon = 0o12", "accepted"),
     ("horizon = 10", "horizon = 0b1010", "accepted"),
@@ -58,6 +58,10 @@ const CHANGES: [(&str, &str, &str); 29] = [
         "UnknownKey",
     ),
     ("[[crash]]", "[[crash]]\n[[crash]]", "MissingKey"),
+    // a byte order mark, which may only come first, and a carriage return, after which a line feed must come
+    ("version = 1", "\u{feff}version = 1", "accepted"),
+    ("seed = 1", "\u{feff}seed = 1", "NotToml"),
+    ("seed = 1", "seed = 1\rlimit = 2", "NotToml"),
 ];
 
 #[test]
@@ -72,6 +76,25 @@ fn forms(rt: HostRuntime) -> Result<(), Fail> {
             Err(crate::ScenarioError::NotToml)
         )
     );
+    Ok(())
+}
+
+/// Lines that end with CR LF, and arrays in one another, as deep as the reader goes and deeper.
+#[test]
+fn line_ends_and_depth(rt: HostRuntime) -> Result<(), Fail> {
+    let mut text = String::new(rt.alloc());
+    for line in CRASH_FILE.lines() {
+        text.push_str(line)?;
+        text.push_str("\r\n")?;
+    }
+    assert_eq!(rt; answer(rt.alloc(), text.as_str()), "accepted");
+    for (depth, name) in [(80, "WrongKind"), (81, "NotToml")] {
+        let open = "[".repeat(rt.alloc(), depth)?;
+        let close = "]".repeat(rt.alloc(), depth)?;
+        let seed = format!(in rt.alloc(); "seed = {open}{close}")?;
+        let deep = changed(rt.alloc(), CRASH_FILE, "seed = 1", seed.as_str())?;
+        assert_eq!(rt; answer(rt.alloc(), deep.as_str()), name, "{depth}");
+    }
     Ok(())
 }
 

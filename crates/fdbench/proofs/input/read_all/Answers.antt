@@ -1,17 +1,57 @@
-use Rattle.std.proofs.Common.{◌≡◌, ◌<◌, ◌∙◌, ℕ, List, Option, Some, None, IfSome, length, take, min, arith, ap, option_map}
-use Rattle.std.proofs.lemmas.List.{length-take, take_all}
+use Rattle.std.proofs.Common.{◌≡◌, ◌+◌, ◌≤◌, ℕ, List, ◌++◌, length, take, arith, length-append}
+use Rattle.std.proofs.KnownBytes.{Consumes-trans, Consumes-kept}
+use Rattle.std.proofs.lemmas.Grind.{common_steps}
+use Rattle.std.proofs.lemmas.List.{length-take}
+use Rattle.std.specs.Io.KnownBytes.{Consumes}
 use Rattle.fdbench.proofs.input.read_all.Goals as goal
+use Rattle.fdbench.proofs.input.read_all.Goals.{in-Ok-2+else-is_err, in-Err}
 
--- a front that is shorter than it may be is the whole
-whole_front : (n : ℕ) (o : Option (List ℕ)) (items : List ℕ) → length items < n
-    → IfSome (option_map (take n) o) (λ xs. items ≡ xs) → IfSome o (λ xs. items ≡ xs)
-whole_front n None items short front = tt
-whole_front n (Some ys) items short front =
-    let len : length items ≡ min n (length ys) = ap length front ∙ length-take n ys in
-    front ∙ take_all n ys (omega (arith, len, short))
+-- a front of a piece adds at most its own count
+length_joined : (xs ys : List ℕ) (n : ℕ) → length (xs ++ take n ys) ≤ length xs + n
+length_joined xs ys n =
+    let e : length (xs ++ take n ys) ≡ length xs + length (take n ys) = length-append xs (take n ys) in
+    omega (arith, e, length-take n ys)
 
-pub returns-in-Ok-clause-whole : goal.returns-in-Ok-clause-whole
-returns-in-Ok-clause-whole g c =
-    let short : length c.read_to_end.new.buf.items < c.take-limited.result.limit = omega (arith, c.read_to_end.new.buf.ok.0, c.take-limited.ensures.limit) in
-    let front : IfSome (option_map (take c.take-limited.result.limit) (g.R.Read.remaining c.take-limited.result.inner)) (λ xs. c.read_to_end.new.buf.items ≡ xs) = simp c.new-bytes.ensures.items at c.in-Ok.ensures.bytes in
-    rw (← c.take-limited.ensures.inner) (whole_front c.take-limited.result.limit (g.R.Read.remaining c.take-limited.result.inner) c.read_to_end.new.buf.items short front)
+pub returns-in-Ok-clause-taken : goal.returns-in-Ok-clause-taken
+returns-in-Ok-clause-taken g c = (
+  c.loop.bytes.items ++ take c.in-Ok.count c.read.new.buf,
+  Consumes-trans _ _ _ _ _ c.loop.invariant.gone c.in-Ok.ensures.bytes.0,
+  omega (
+    arith,
+    length_joined c.loop.bytes.items c.read.new.buf c.in-Ok.count,
+    c.in-Ok.ensures.bound.0,
+    c.read.auto.buf,
+    length-take c.min-asked.result c.loop.piece,
+    c.min-asked.ensures,
+    c.len-room.ensures,
+    c.loop.invariant.within,
+  ),
+)
+
+pub returns-then-is_err-clause-taken : goal.returns-then-is_err-clause-taken
+returns-then-is_err-clause-taken g c = (
+  c.loop.bytes.items ++ take c.in-Ok.count c.read.new.buf,
+  Consumes-trans _ _ _ _ _ c.loop.invariant.gone c.in-Ok.ensures.bytes.0,
+  omega (
+    arith,
+    length_joined c.loop.bytes.items c.read.new.buf c.in-Ok.count,
+    c.if-count-room.false,
+    c.len-room.ensures,
+    c.loop.invariant.within,
+  ),
+)
+
+pub loop-preserved : goal.loop-preserved
+loop-preserved g c =
+    elim c.match-read.branch [
+      | in-Ok-2+else-is_err w ↦ record {
+        within = grind (arith, common_steps);
+        gone =
+            let joined : c.match-read.bytes.items ≡ c.loop.bytes.items ++ take w.in-Ok.count c.read.new.buf = grind (arith, common_steps) in
+            rw joined (Consumes-trans _ _ _ _ _ c.loop.invariant.gone w.in-Ok.ensures.bytes.0);
+      }
+      | in-Err w ↦ record {
+        within = rw w.bytes-is c.loop.invariant.within;
+        gone = rw w.bytes-is (Consumes-kept _ _ _ _ c.loop.invariant.gone w.in-Err.ensures.bytes);
+      }
+    ]

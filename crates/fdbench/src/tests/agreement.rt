@@ -1,0 +1,75 @@
+//! Agreement where processes suspect one another all the time: over links that lose and delay letters, with a detector
+//! that waits for one tick alone.
+
+ghost use Rattle.std.specs.Prelude.{◌≡◌, IfOk};
+ghost use Rattle.scenario.specs.Opening.{mind_of};
+
+use crate::machines::make_all;
+use crate::tests::files::FIVE;
+use crate::tests::runs::changed;
+use consensus_es::EsConsensus;
+use event_list::run_list;
+use judges::{Answer, Outcome, decisions};
+use process_api::Process;
+use scenario::{AlgorithmKind, Opening, read_scenario};
+use stack::Stack;
+use std::alloc::{AllocError, Global};
+use std::test::Fail;
+use timeout_detector::TimeoutDetector;
+
+/// What the processes of a file with the rotating coordinator, and no reduction, decide.
+fn outcomes_of(alloc: Global, file: &str) -> Result<Vec<Outcome>, Fail> {
+    let scenario = read_scenario(alloc, file.as_bytes())?;
+    let machines = make_all(
+        alloc,
+        &scenario,
+        |opening: Opening| -> Result<Box<dyn Process>, AllocError>
+            ensures { IfOk result (λ made. mind made ≡ mind_of opening) }
+        {
+            let own = opening.own;
+            let detector = TimeoutDetector::open(alloc, &opening)?;
+            match (opening.share, opening.algorithm) {
+                (None, AlgorithmKind::EventuallyStrong) => {
+                    let consensus = EsConsensus::open(alloc, &opening)?;
+                    Ok(Box::new(alloc, Stack::new(own, detector, consensus))?)
+                }
+                _ => Err(AllocError),
+            }
+        },
+    )?;
+    let trace = run_list(alloc, &scenario, machines)?;
+    Ok(decisions(alloc, &scenario, &trace)?)
+}
+
+/// The file with this seed, and a detector that suspects after one tick.
+fn hasty(alloc: Global, seed: u32) -> Result<String, AllocError> {
+    let line = format!(in alloc; "seed = {seed}\n")?;
+    let seeded = changed(alloc, FIVE, "seed = 1\n", &line)?;
+    let checking = changed(alloc, &seeded, "check = 3\n", "check = 1\n")?;
+    changed(alloc, &checking, "timeout = 12\n", "timeout = 1\n")
+}
+
+/// In each of a hundred runs of five processes that propose 1 to 5, those that decide have one value, one of these.
+#[test]
+fn hundred_seeds(rt: HostRuntime) -> Result<(), Fail> {
+    let alloc = rt.alloc();
+    let mut decided = 0u32;
+    for seed in 1..101u32 {
+        let outcomes = outcomes_of(alloc, &hasty(alloc, seed)?)?;
+        assert_eq!(rt; outcomes.len(), 5);
+        let mut values: Vec<u32> = Vec::new(alloc);
+        for outcome in outcomes.iter() {
+            assert!(rt; outcome.value != Answer::NoValue, "{seed}");
+            if let Answer::Value(value) = outcome.value {
+                values.push(value)?;
+            }
+        }
+        for value in values.iter() {
+            assert!(rt; (1..6).contains(value), "{seed}");
+            assert_eq!(rt; *value, values[0], "{seed}");
+            decided = decided.saturating_add(1);
+        }
+    }
+    assert!(rt; decided > 0);
+    Ok(())
+}

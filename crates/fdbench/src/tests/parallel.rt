@@ -1,0 +1,218 @@
+//! Runs by windows that workers share.
+
+use crate::compare::same_bytes;
+use crate::serve::serve;
+use crate::tests::files::{COORDINATORS, FIVE, ONE_CRASH, ONE_PROCESS, WATCH_NEXT};
+use crate::tests::runs::{changed, printed, run};
+use qos_report::{FuseOutlet, MemoryOutlet, Outlet};
+use std::alloc::Global;
+use std::marker::Sync;
+use std::process::Abort;
+use std::rt::Files;
+use std::sync::Wait;
+use std::test::Fail;
+use std::thread::Threads;
+
+/// Workers and windows for a lookahead of 2 ticks.
+const PLANS: [(&str, &str); 8] = [
+    ("1", "1"),
+    ("1", "2"),
+    ("2", "1"),
+    ("2", "2"),
+    ("3", "1"),
+    ("3", "2"),
+    ("64", "1"),
+    ("64", "2"),
+];
+
+/// Workers and windows that no plan for a lookahead of 2 ticks takes, with the line that says so.
+const REFUSED: [(&str, &str, &str); 6] = [
+    ("2", "3", "fdbench: plan: WindowTooLong\n"),
+    ("2", "0", "fdbench: plan: WindowZero\n"),
+    ("0", "0", "fdbench: plan: Workers\n"),
+    ("65", "0", "fdbench: plan: Workers\n"),
+    ("65", "3", "fdbench: plan: Workers\n"),
+    (
+        "64",
+        "18446744073709551615",
+        "fdbench: plan: WindowTooLong\n",
+    ),
+];
+
+/// By each plan `run` prints what `list` prints.
+fn prints_as_list<R: Files + Threads + Wait + Sync + Abort>(
+    rt: &R,
+    alloc: Global,
+    print: &str,
+    file: &str,
+) -> Result<(), Fail> {
+    let want = printed(rt, alloc, print, file)?;
+    for (workers, window) in PLANS {
+        let words = [
+            "run",
+            "-",
+            "--workers",
+            workers,
+            "--window",
+            window,
+            "--print",
+            print,
+        ];
+        let ran = run(rt, alloc, &words, file.as_bytes())?;
+        assert!(rt;
+            ran.out.as_str() == want.as_str(),
+            "{workers} {window} {print}"
+        );
+        assert_eq!(rt; ran.faults.as_str(), "");
+        assert_eq!(rt; ran.status, 0);
+    }
+    Ok(())
+}
+
+/// These words are refused with this line and status 3, and nothing is written.
+fn refuses<R: Files + Threads + Wait + Sync + Abort>(
+    rt: &R,
+    alloc: Global,
+    words: &[&str],
+    file: &str,
+    line: &str,
+) -> Result<(), Fail> {
+    let ran = run(rt, alloc, words, file.as_bytes())?;
+    assert_eq!(rt; ran.faults.as_str(), line);
+    assert_eq!(rt; ran.out.as_str(), "");
+    assert_eq!(rt; ran.status, 3);
+    Ok(())
+}
+
+#[test]
+fn coordinators(rt: HostRuntime) -> Result<(), Fail> {
+    for print in ["trace", "report", "both"] {
+        prints_as_list(&rt, rt.alloc(), print, COORDINATORS)?;
+    }
+    Ok(())
+}
+
+/// A crash, one process alone, and a reduction.
+#[test]
+fn detectors(rt: HostRuntime) -> Result<(), Fail> {
+    let alone = changed(rt.alloc(), ONE_PROCESS, "lookahead = 1", "lookahead = 2")?;
+    let alone = changed(rt.alloc(), &alone, "min = 1\nmax = 1", "min = 2\nmax = 2")?;
+    for file in [ONE_CRASH, WATCH_NEXT, &alone] {
+        prints_as_list(&rt, rt.alloc(), "both", file)?;
+    }
+    Ok(())
+}
+
+/// Over links that lose and delay letters at random.
+#[test]
+fn five(rt: HostRuntime) -> Result<(), Fail> {
+    let alloc = rt.alloc();
+    let first = printed(&rt, alloc, "both", FIVE)?;
+    prints_as_list(&rt, alloc, "both", FIVE)?;
+    let again = printed(&rt, alloc, "both", FIVE)?;
+    assert!(rt; first.as_str() == again.as_str());
+    Ok(())
+}
+
+#[test]
+fn compared(rt: HostRuntime) -> Result<(), Fail> {
+    let alloc = rt.alloc();
+    for (file, workers, window) in [
+        (COORDINATORS, "2", "2"),
+        (COORDINATORS, "64", "1"),
+        (ONE_CRASH, "2", "2"),
+        (FIVE, "3", "2"),
+    ] {
+        let words = ["compare", "-", "--workers", workers, "--window", window];
+        let ran = run(&rt, alloc, &words, file.as_bytes())?;
+        assert_eq!(rt; ran.out.as_str(), "same\n");
+        assert_eq!(rt; ran.faults.as_str(), "");
+        assert_eq!(rt; ran.status, 0);
+    }
+    Ok(())
+}
+
+#[test]
+fn plans(rt: HostRuntime) -> Result<(), Fail> {
+    let alloc = rt.alloc();
+    for (workers, window, line) in REFUSED {
+        let words = ["run", "-", "--workers", workers, "--window", window];
+        refuses(&rt, alloc, &words, COORDINATORS, line)?;
+        let words = ["compare", "-", "--workers", workers, "--window", window];
+        refuses(&rt, alloc, &words, COORDINATORS, line)?;
+    }
+    Ok(())
+}
+
+/// A file that is refused is told of before a plan that is.
+#[test]
+fn file_first(rt: HostRuntime) -> Result<(), Fail> {
+    let alloc = rt.alloc();
+    for command in ["run", "compare"] {
+        let words = [command, "-", "--workers", "0", "--window", "0"];
+        let ran = run(&rt, alloc, &words, b"")?;
+        assert_eq!(rt; ran.faults.as_str(), "fdbench: scenario: MissingKey\n");
+        assert_eq!(rt; ran.out.as_str(), "");
+        assert_eq!(rt; ran.status, 1);
+    }
+    Ok(())
+}
+
+/// A limit of as many entries as the trace has is kept; with one less nothing is written. It is crossed inside the last
+/// window, from tick 8 to the horizon.
+#[test]
+fn limits(rt: HostRuntime) -> Result<(), Fail> {
+    let alloc = rt.alloc();
+    let enough = changed(alloc, ONE_CRASH, "seed = 1\n", "seed = 1\nlimit = 12\n")?;
+    let want = printed(&rt, alloc, "trace", ONE_CRASH)?;
+    prints_as_list(&rt, alloc, "trace", &enough)?;
+    let kept = printed(&rt, alloc, "trace", &enough)?;
+    assert_eq!(rt; kept.as_str(), want.as_str());
+    let short = changed(alloc, ONE_CRASH, "seed = 1\n", "seed = 1\nlimit = 11\n")?;
+    for command in ["run", "compare"] {
+        let words = [command, "-", "--workers", "2", "--window", "2"];
+        refuses(&rt, alloc, &words, &short, "fdbench: run: Limit\n")?;
+    }
+    Ok(())
+}
+
+/// An outlet that takes 10 bytes and then fails holds the first 10 of the text.
+#[test]
+fn ten_bytes(rt: HostRuntime) -> Result<(), Fail> {
+    let alloc = rt.alloc();
+    let words = [
+        "fdbench",
+        "run",
+        "-",
+        "--workers",
+        "2",
+        "--window",
+        "2",
+        "--print",
+        "trace",
+    ];
+    let mut outlet = FuseOutlet::new(alloc, 10, 1);
+    let mut faults = MemoryOutlet::new(alloc);
+    let mut input = ONE_CRASH.as_bytes();
+    let status = serve(&rt, alloc, &words, &mut input, &mut outlet, &mut faults);
+    assert_eq!(rt; status, 4);
+    assert_eq!(rt; outlet.failures(), 1);
+    assert!(rt; outlet.bytes() == b"tick,recei".as_slice());
+    assert!(rt; faults.bytes() == b"fdbench: run: Write\n".as_slice());
+    Ok(())
+}
+
+#[test]
+fn bytes_compared(rt: HostRuntime) {
+    for (left, right, same) in [
+        ("ab", "ac", false),
+        ("ab", "a", false),
+        ("a", "ab", false),
+        ("", "a", false),
+        ("ab", "ab", true),
+        ("", "", true),
+    ] {
+        let found = same_bytes(left.as_bytes(), right.as_bytes());
+        assert_eq!(rt; found, same, "{left} {right}");
+    }
+}

@@ -1,0 +1,15 @@
+pub mod Sums
+pub mod Waits
+pub mod Passes
+pub mod Lasting
+pub mod Turning
+pub mod Entering
+pub mod Opening
+pub mod EachProcess
+pub mod Closing
+pub mod Layers
+mod Examples
+pub mod PlainRows
+pub mod Joining
+pub mod Results
+pub mod Resting

@@ -1,0 +1,16 @@
+pub mod Distances
+pub mod Measures
+pub mod Tally
+pub mod Knows
+pub mod MeterRecord
+pub mod Meter
+pub mod Panel
+pub mod Metering
+pub mod Outlet
+pub mod Rows
+pub mod Values
+pub mod TraceText
+pub mod ReportText
+pub mod Summary
+pub mod Printed
+pub mod Resting

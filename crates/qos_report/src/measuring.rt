@@ -1,0 +1,68 @@
+//! The measures of a finished trace.
+ghost use Rattle.std.specs.Prelude.{◌≡◌, ◌++◌, All, IfOk, OnOk, is_some};
+ghost use Rattle.event_list.specs.ScenarioSetting.{setting_of};
+ghost use Rattle.event_list.specs.World.{IsTrace};
+ghost use Rattle.qos_report.specs.Measures.{all_measures, layer_measures};
+ghost use Rattle.qos_report.specs.Resting.{RestsOnBlame};
+ghost use Rattle.scenario.specs.Ranges.{IsInRange};
+
+use crate::pair_measures::PairMeasures;
+use crate::panel::Panel;
+use process_api::Trace;
+use scenario::Scenario;
+use std::alloc::{AllocError, Global};
+
+/// Adds the measures on one layer.
+fn measure_layer(
+    alloc: Global,
+    scenario: &Scenario,
+    trace: &Trace,
+    layer: u8,
+    rows: &mut Vec<PairMeasures>,
+) -> Result<(), AllocError>
+    ensures { OnOk result (rows.new.items ≡ rows.old.items ++ layer_measures scenario.now trace.now layer) }
+{
+    let mut panel = Panel::open(alloc, scenario, layer)?;
+    for entry in trace.entries() {
+        panel.feed(entry);
+    }
+    panel.close(rows)
+}
+
+/// Whether there is a reduction, whose output is layer 2.
+fn is_shared(scenario: &Scenario) -> bool
+    ensures value { result ≡ is_some scenario.now.share }
+    ensures ranges { IsInRange scenario.now }
+{
+    scenario.share().is_some()
+}
+
+/// The measures of each observer and each other subject of a finished trace, on layer 1 and, where there is a share
+/// table, on layer 2: by layer, then observer, then subject, each rising.
+///
+/// Who suspects whom is read from the notes of the entries below the horizon, as it stands at the end of each tick. A
+/// trace is walked once for each layer, and a pair's counts move only at a note that changes whether it is suspected;
+/// so the work grows with the notes of the trace and with the number of pairs, and not with the ticks.
+///
+/// In the trace of the scenario, a row of layer 2 with a mistake or a detection rests on a suspicion of layer 1: by a
+/// tick at which the observer suspects the subject, some process's base detector had suspected it, whatever the
+/// algorithm, the links and the crashes.
+///
+/// # Errors
+///
+/// Where a growth was refused.
+pub fn measures(
+    alloc: Global,
+    scenario: &Scenario,
+    trace: &Trace,
+) -> Result<Vec<PairMeasures>, AllocError>
+    ensures rows { IfOk result (λ rows. rows.items ≡ all_measures scenario.now trace.now) }
+    ensures blame { IfOk result (λ rows. IsTrace (setting_of scenario.now) trace.now → All (RestsOnBlame trace.now) rows.items) }
+{
+    let mut rows = Vec::new(alloc);
+    measure_layer(alloc, scenario, trace, 1, &mut rows)?;
+    if is_shared(scenario) {
+        measure_layer(alloc, scenario, trace, 2, &mut rows)?;
+    }
+    Ok(rows)
+}

@@ -1,0 +1,403 @@
+-- What is brought together after a window.
+use Rattle.std.proofs.Common.{◌≡◌, ◌⊎◌, ◌↔◌, ℕ, zero, suc, ◌+◌, ◌-◌, ◌<◌, ◌≤◌, inl, inr, List, [], ◌∷◌, ◌++◌, length, map, replicate, set, get_or, refl, sym, ap, ◌∙◌, subst, append_assoc, append-nil, vec_len, arith}
+use Rattle.std.specs.List.{All, Contains, flat_map, swap}
+use Rattle.std.specs.List.Sorted.{IsPermutation, IsNonDecreasingBy, apply_swaps, SwapsInRange}
+use Rattle.std.proofs.lemmas.List.{map-append, map-set, get_or-map, length-map, length-set}
+use Rattle.std.proofs.lemmas.List.Concat.{flat_map-append}
+use Rattle.std.proofs.lemmas.List.Elements.{All-nil, All-cons, All-head, All-tail, All-append, Contains-append_left}
+use Rattle.std.proofs.lemmas.List.Sorted.{IsPermutation-refl, IsPermutation-trans, IsPermutation-sym, IsPermutation-middle, IsPermutation-append_left, IsPermutation-push_more, IsPermutation-map, All-permutation, Contains-permutation, length_permutation}
+use Rattle.atomic_table.specs.Seated.{TableId}
+use Rattle.process_api.specs.Mind.{Mind}
+use Rattle.process_api.specs.declared.message.Letter.{Letter}
+use Rattle.scenario.specs.Record.{Record}
+use Rattle.mailboxes.specs.Mailbox.{MailboxId}
+use Rattle.mailboxes.specs.Mailboxes.{SlipView, IsSlipOf, unused, with_letter, list_of, posted_to, letters_in}
+use Rattle.event_list.specs.History.{IsIn}
+use Rattle.event_list.specs.Seat.{own_of}
+use Rattle.event_list.specs.World.{NoneBelow}
+use Rattle.windows.proofs.Members.{contains_in, in_contains}
+use Rattle.windows.proofs.Ranked.{rises_same, sorted_is}
+use Rattle.event_list.proofs.Steps.{in_append, in_left, in_right}
+use Rattle.windows.specs.Berth.{IsBerth, RanTo, with_letters}
+use Rattle.windows.specs.Jobs.{TakerView, DealerView, taker_of}
+use Rattle.windows.specs.Workers.{Stay, stay, taken_in, left_in, all_stays, with_stays, IsSent, IsStay, IsReady, IsWork, AreWorks, AreRun, IsRest, HasLong, IsOutcome, RiseBy}
+use Rattle.windows.specs.declared.berth.Berth.{Berth}
+
+-- ---- jobs are dealt
+
+module _ {X : Type 0} where
+  len_app : (xs ys : List X) → length (xs ++ ys) ≡ length xs + length ys
+  len_app [] ys = omega arith
+  len_app (x ∷ xs) ys = let rest = len_app xs ys in omega arith
+
+  pub one_put : (ys put put' idle : List X) (b : X) → IsPermutation ys (put ++ idle) → put' ≡ put ++ b ∷ [] → IsPermutation (ys ++ b ∷ []) (put' ++ idle)
+  one_put ys put put' idle b same is =
+      IsPermutation-push_more ys (put ++ idle) (put' ++ idle) b same
+      (subst (λ l. IsPermutation (b ∷ (put ++ idle)) l) (sym (ap (λ l. l ++ idle) is ∙ append_assoc put (b ∷ []) idle)) (IsPermutation-sym _ _ (IsPermutation-middle put b idle)))
+
+  pub one_idle : (ys put idle idle' : List X) (b : X) → IsPermutation ys (put ++ idle) → idle' ≡ idle ++ b ∷ [] → IsPermutation (ys ++ b ∷ []) (put ++ idle')
+  one_idle ys put idle idle' b same is =
+      subst (IsPermutation (ys ++ b ∷ [])) (append_assoc put idle (b ∷ []) ∙ ap (λ l. put ++ l) (sym is)) (IsPermutation-append_left (b ∷ []) _ _ same)
+
+  pub put_few : (ys put idle : List X) → IsPermutation ys (put ++ idle) → length put ≤ length ys
+  put_few ys put idle same = let long = length_permutation ys (put ++ idle) same in let sum = len_app put idle in omega arith
+
+-- ---- works are brought together
+
+module _ {M : Type 0} (mind : M → Mind) (s : Record) (end : ℕ) (mailboxes : List MailboxId) where
+  pub works_none : (taken done : List (Berth M)) (slips : List SlipView) → taken ≡ [] → done ≡ [] → slips ≡ [] → AreWorks mind s end mailboxes taken done slips
+  works_none taken done slips t d p = record { stays = []; each = All-nil (IsStay mind s end); taken_are = sym t; done_are = sym d; posted = sym p }
+
+  pub works_more : (queue : TableId) (taker : TakerView (Berth M)) (slip : SlipView) (mine taken taken' done done' : List (Berth M)) (slips slips' : List SlipView)
+      → AreWorks mind s end mailboxes taken done slips → IsWork mind s end queue mailboxes taker slip mine
+      → taken' ≡ taken ++ taker.taken → done' ≡ done ++ mine → slips' ≡ slips ++ slip ∷ [] → AreWorks mind s end mailboxes taken' done' slips'
+  works_more queue taker slip mine taken taken' done done' slips slips' are work t d p =
+      let flat : all_stays (are.stays ++ work.stays ∷ []) ≡ all_stays are.stays ++ work.stays =
+      flat_map-append (λ (l : List (Stay M)). l) are.stays (work.stays ∷ []) ∙ ap (λ l. all_stays are.stays ++ l) (append-nil work.stays) in
+      record {
+        stays = are.stays ++ work.stays ∷ [];
+        each = subst (All (IsStay mind s end)) (sym flat) (All-append (IsStay mind s end) (all_stays are.stays) work.stays are.each work.each);
+        taken_are = ap taken_in flat ∙ map-append (λ (x : Stay M). x.before) (all_stays are.stays) work.stays ∙ (λ i. are.taken_are i ++ work.taken i) ∙ sym t;
+        done_are = ap left_in flat ∙ map-append (λ (x : Stay M). x.after) (all_stays are.stays) work.stays ∙ (λ i. are.done_are i ++ work.done_is i) ∙ sym d;
+        posted = map-append (with_stays (unused mailboxes)) are.stays (work.stays ∷ []) ∙ (λ i. are.posted i ++ sym work.posted i ∷ []) ∙ sym p;
+      }
+
+-- ---- which letters the slips have
+
+module _ {A B C D : Type 0} where
+  iff_or : A ↔ (B ⊎ C) → (C → D) → (D → C) → A ↔ (B ⊎ D)
+  iff_or iff f g = ((λ a. there (iff.0 a)), (λ d. iff.1 (back d)))
+    where
+      there : B ⊎ C → B ⊎ D
+      there (inl b) = inl b
+      there (inr c) = inr (f c)
+
+      back : B ⊎ D → B ⊎ C
+      back (inl b) = inl b
+      back (inr d) = inr (g d)
+
+module _ {A B C D P Q : Type 0} where
+  iff_join : A ↔ (P ⊎ Q) → P ↔ (B ⊎ C) → (C → D) → (Q → D) → (D → C ⊎ Q) → A ↔ (B ⊎ D)
+  iff_join rest here f g h = ((λ a. there (rest.0 a)), (λ d. rest.1 (back d)))
+    where
+      first : B ⊎ C → B ⊎ D
+      first (inl b) = inl b
+      first (inr c) = inr (f c)
+
+      there : P ⊎ Q → B ⊎ D
+      there (inl p) = first (here.0 p)
+      there (inr q) = inr (g q)
+
+      split : C ⊎ Q → P ⊎ Q
+      split (inl c) = inl (here.1 (inr c))
+      split (inr q) = inr q
+
+      back : B ⊎ D → P ⊎ Q
+      back (inl b) = inl (here.1 (inl b))
+      back (inr d) = split (h d)
+
+none_there : (x : Letter) (n k : ℕ) → IsIn x (get_or (replicate n []) k []) → ⊥
+none_there x zero k i = absurd i
+none_there x (suc n) zero i = absurd i
+none_there x (suc n) (suc k) i = none_there x n k i
+
+length_replicate : (n : ℕ) → length (replicate {A = List Letter} n []) ≡ n
+length_replicate zero = refl
+length_replicate (suc n) = let rest = length_replicate n in omega arith
+
+long_letters : (slip : SlipView) (letters : List Letter) → length (with_letters slip letters).posted ≡ length slip.posted
+long_letters slip [] = refl
+long_letters slip (y ∷ letters) = long_letters (with_letter slip y) letters ∙ length-set slip.posted (y.key.receiver - 1) (list_of slip.posted y.key.receiver ++ y ∷ [])
+
+-- ---- permutations lift through a function
+
+module _ {X Y : Type 0} (f : X → Y) where
+  map-swap : (xs : List X) (i j : ℕ) → map f (swap xs i j) ≡ swap (map f xs) i j
+  map-swap [] i j = refl
+  map-swap (d ∷ ys) i j = map-set f (set (d ∷ ys) i (get_or (d ∷ ys) j d)) j (get_or (d ∷ ys) i d)
+      ∙ (λ k. set ((map-set f (d ∷ ys) i (get_or (d ∷ ys) j d) ∙ ap (set (map f (d ∷ ys)) i) (sym (get_or_map (d ∷ ys) j d))) k) j (sym (get_or_map (d ∷ ys) i d) k))
+    where
+      get_or_map : (xs : List X) (i : ℕ) (d : X) → get_or (map f xs) i (f d) ≡ f (get_or xs i d)
+      get_or_map [] i d = refl
+      get_or_map (x ∷ xs) zero d = refl
+      get_or_map (x ∷ xs) (suc i) d = get_or_map xs i d
+
+  map_swaps : (xs : List X) (ps : List (ℕ × ℕ)) → map f (apply_swaps xs ps) ≡ apply_swaps (map f xs) ps
+  map_swaps xs [] = refl
+  map_swaps xs (p ∷ ps) = map-swap (apply_swaps xs ps) p.0 p.1 ∙ ap (λ l. swap l p.0 p.1) (map_swaps xs ps)
+
+  lifted : (xs : List X) (ys : List Y) → IsPermutation (map f xs) ys → (zs : List X) × IsPermutation xs zs × (map f zs ≡ ys)
+  lifted xs ys p = (apply_swaps xs p.moves, record { moves = p.moves; below = subst (λ n. SwapsInRange n p.moves) (length-map xs f) p.below; is = refl }, map_swaps xs p.moves ∙ sym p.is)
+
+module _ (x : Letter) where
+  in_row : (rows : List (List Letter)) (i k : ℕ) (y : Letter) → k < length rows → IsIn x (get_or (set rows i (get_or rows i [] ++ y ∷ [])) k []) ↔ (IsIn x (get_or rows k []) ⊎ ((x ≡ y) × (i ≡ k)))
+  in_row [] i k y lt = absurd (omega arith)
+  in_row (row ∷ rows) zero zero y lt = (there, back)
+    where
+      one : IsIn x row ⊎ IsIn x (y ∷ []) → IsIn x row ⊎ ((x ≡ y) × (zero ≡ zero))
+      one (inl i) = inl i
+      one (inr (inl e)) = inr (e, refl)
+      one (inr (inr n)) = absurd n
+
+      there : IsIn x (row ++ y ∷ []) → IsIn x row ⊎ ((x ≡ y) × (zero ≡ zero))
+      there i = one (in_append x row (y ∷ []) i)
+
+      back : IsIn x row ⊎ ((x ≡ y) × (zero ≡ zero)) → IsIn x (row ++ y ∷ [])
+      back (inl i) = in_left x row (y ∷ []) i
+      back (inr e) = in_right x row (y ∷ []) (inl e.0)
+  in_row (row ∷ rows) zero (suc k) y lt = ((λ i. inl i), back)
+    where
+      back : IsIn x (get_or rows k []) ⊎ ((x ≡ y) × (zero ≡ suc k)) → IsIn x (get_or rows k [])
+      back (inl i) = i
+      back (inr e) = let no = e.1 in absurd (omega arith)
+  in_row (row ∷ rows) (suc i) zero y lt = ((λ h. inl h), back)
+    where
+      back : IsIn x row ⊎ ((x ≡ y) × (suc i ≡ zero)) → IsIn x row
+      back (inl h) = h
+      back (inr e) = let no = e.1 in absurd (omega arith)
+  in_row (row ∷ rows) (suc i) (suc k) y lt = iff_or (in_row rows i k y (omega arith)) up down
+    where
+      up : (x ≡ y) × (i ≡ k) → (x ≡ y) × (suc i ≡ suc k)
+      up e = (e.0, ap suc e.1)
+
+      down : (x ≡ y) × (suc i ≡ suc k) → (x ≡ y) × (i ≡ k)
+      down e = (e.0, omega (arith, e.1))
+
+  module _ (r : ℕ) where
+    in_letters : (slip : SlipView) (letters : List Letter) → r - 1 < length slip.posted
+        → IsIn x (list_of (with_letters slip letters).posted r) ↔ (IsIn x (list_of slip.posted r) ⊎ (IsIn x letters × (x.key.receiver - 1 ≡ r - 1)))
+    in_letters slip [] lt = ((λ h. inl h), back)
+      where
+        back : IsIn x (list_of slip.posted r) ⊎ (IsIn x [] × (x.key.receiver - 1 ≡ r - 1)) → IsIn x (list_of slip.posted r)
+        back (inl h) = h
+        back (inr e) = absurd e.0
+    in_letters slip (y ∷ letters) lt =
+        iff_join (in_letters (with_letter slip y) letters (subst (λ n. r - 1 < n) (sym (length-set slip.posted (y.key.receiver - 1) (list_of slip.posted y.key.receiver ++ y ∷ []))) lt))
+        (in_row slip.posted (y.key.receiver - 1) (r - 1) y lt)
+        mine others (λ e. split e.0 e.1)
+      where
+        mine : (x ≡ y) × (y.key.receiver - 1 ≡ r - 1) → IsIn x (y ∷ letters) × (x.key.receiver - 1 ≡ r - 1)
+        mine e = (inl e.0, ap (λ (z : Letter). z.key.receiver - 1) e.0 ∙ e.1)
+
+        others : IsIn x letters × (x.key.receiver - 1 ≡ r - 1) → IsIn x (y ∷ letters) × (x.key.receiver - 1 ≡ r - 1)
+        others e = (inr e.0, e.1)
+
+        split : (x ≡ y) ⊎ IsIn x letters → x.key.receiver - 1 ≡ r - 1 → ((x ≡ y) × (y.key.receiver - 1 ≡ r - 1)) ⊎ (IsIn x letters × (x.key.receiver - 1 ≡ r - 1))
+        split (inl e) to = inl (e, ap (λ (z : Letter). z.key.receiver - 1) (sym e) ∙ to)
+        split (inr i) to = inr (i, to)
+
+    module _ {M : Type 0} where
+      in_stays : (slip : SlipView) (stays : List (Stay M)) → r - 1 < length slip.posted → IsIn x (list_of (with_stays slip stays).posted r) ↔ (IsIn x (list_of slip.posted r) ⊎ IsSent stays r x)
+      in_stays slip [] lt = ((λ h. inl h), back)
+        where
+          back : IsIn x (list_of slip.posted r) ⊎ IsSent {M = M} [] r x → IsIn x (list_of slip.posted r)
+          back (inl h) = h
+          back (inr e) = absurd e.1
+      in_stays slip (t ∷ stays) lt =
+          iff_join (in_stays (with_letters slip t.letters) stays (subst (λ n. r - 1 < n) (sym (long_letters slip t.letters)) lt)) (in_letters slip t.letters lt)
+          mine others apart
+        where
+          mine : IsIn x t.letters × (x.key.receiver - 1 ≡ r - 1) → IsSent (t ∷ stays) r x
+          mine e = (t, inl refl, e.0, e.1)
+
+          others : IsSent stays r x → IsSent (t ∷ stays) r x
+          others (u, i, j, to) = (u, inr i, j, to)
+
+          split : (u : Stay M) → (u ≡ t) ⊎ IsIn u stays → IsIn x u.letters → x.key.receiver - 1 ≡ r - 1 → (IsIn x t.letters × (x.key.receiver - 1 ≡ r - 1)) ⊎ IsSent stays r x
+          split u (inl e) j to = inl (subst (λ (v : Stay M). IsIn x v.letters) e j, to)
+          split u (inr i) j to = inr (u, i, j, to)
+
+          apart : IsSent (t ∷ stays) r x → (IsIn x t.letters × (x.key.receiver - 1 ≡ r - 1)) ⊎ IsSent stays r x
+          apart (u, i, j, to) = split u i j to
+
+      slips_step : (mailboxes : List MailboxId) → r - 1 < length mailboxes → (stays : List (Stay M)) (all : List (List (Stay M)))
+          → IsIn x (posted_to (map (with_stays (unused mailboxes)) all) r) ↔ IsSent (all_stays all) r x
+          → IsIn x (posted_to (map (with_stays (unused mailboxes)) (stays ∷ all)) r) ↔ IsSent (all_stays (stays ∷ all)) r x
+      slips_step mailboxes lt stays all rest = (there, back)
+        where
+          slip : SlipView
+          slip = with_stays (unused mailboxes) stays
+
+          more : List Letter
+          more = posted_to (map (with_stays (unused mailboxes)) all) r
+
+          here : IsIn x (list_of slip.posted r) ↔ (IsIn x (list_of (unused mailboxes).posted r) ⊎ IsSent stays r x)
+          here = in_stays (unused mailboxes) stays (subst (λ n. r - 1 < n) (sym (length_replicate (length mailboxes))) lt)
+
+          mine : IsIn x (list_of (unused mailboxes).posted r) ⊎ IsSent stays r x → IsSent (stays ++ all_stays all) r x
+          mine (inl i) = absurd (none_there x (length mailboxes) (r - 1) i)
+          mine (inr (t, i, j, to)) = (t, in_left t stays (all_stays all) i, j, to)
+
+          others : IsSent (all_stays all) r x → IsSent (stays ++ all_stays all) r x
+          others (t, i, j, to) = (t, in_right t stays (all_stays all) i, j, to)
+
+          one : IsIn x (list_of slip.posted r) ⊎ IsIn x more → IsSent (stays ++ all_stays all) r x
+          one (inl i) = mine (here.0 i)
+          one (inr i) = others (rest.0 i)
+
+          there : IsIn x (list_of slip.posted r ++ more) → IsSent (stays ++ all_stays all) r x
+          there i = one (in_append x (list_of slip.posted r) more i)
+
+          split : (t : Stay M) → IsIn t stays ⊎ IsIn t (all_stays all) → IsIn x t.letters → x.key.receiver - 1 ≡ r - 1 → IsIn x (list_of slip.posted r ++ more)
+          split t (inl i) j to = in_left x (list_of slip.posted r) more (here.1 (inr (t, i, j, to)))
+          split t (inr i) j to = in_right x (list_of slip.posted r) more (rest.1 (t, i, j, to))
+
+          back : IsSent (stays ++ all_stays all) r x → IsIn x (list_of slip.posted r ++ more)
+          back (t, i, j, to) = split t (in_append t stays (all_stays all) i) j to
+
+      -- each list of stays has its slip
+      pub in_slips : (mailboxes : List MailboxId) → r - 1 < length mailboxes → (all : List (List (Stay M))) → IsIn x (posted_to (map (with_stays (unused mailboxes)) all) r) ↔ IsSent (all_stays all) r x
+      in_slips mailboxes lt [] = ((λ i. absurd i), (λ e. absurd e.1))
+      in_slips mailboxes lt (stays ∷ all) = slips_step mailboxes lt stays all (in_slips mailboxes lt all)
+
+-- ---- from works to a run
+
+module _ {M : Type 0} where
+  stays_mailboxes : (slip : SlipView) (stays : List (Stay M)) → (with_stays slip stays).mailboxes ≡ slip.mailboxes
+  stays_mailboxes slip [] = refl
+  stays_mailboxes slip (t ∷ stays) = stays_mailboxes (with_letters slip t.letters) stays ∙ letters_mailboxes slip t.letters
+    where
+      letters_mailboxes : (slip : SlipView) (letters : List Letter) → (with_letters slip letters).mailboxes ≡ slip.mailboxes
+      letters_mailboxes slip [] = refl
+      letters_mailboxes slip (y ∷ letters) = letters_mailboxes (with_letter slip y) letters
+
+  slips_of : (mailboxes : List MailboxId) (all : List (List (Stay M))) → All (IsSlipOf mailboxes) (map (with_stays (unused mailboxes)) all)
+  slips_of mailboxes [] = All-nil (IsSlipOf mailboxes)
+  slips_of mailboxes (stays ∷ all) = All-cons (IsSlipOf mailboxes) (with_stays (unused mailboxes) stays) (map (with_stays (unused mailboxes)) all) (stays_mailboxes (unused mailboxes) stays) (slips_of mailboxes all)
+
+place_in : (r n m : ℕ) → 1 ≤ r → r ≤ n → m ≡ n → r - 1 < m
+place_in r n m low high e = omega arith
+
+module _ {M : Type 0} (mind : M → Mind) (s : Record) (end : ℕ) (mailboxes : List MailboxId) where
+  pub run_of_works : (taken put done : List (Berth M)) (slips : List SlipView) → AreWorks mind s end mailboxes taken done slips → IsPermutation put taken → length mailboxes ≡ s.processes
+      → AreRun mind s end mailboxes put done slips
+  run_of_works taken put done slips works same count = record {
+    stays = all_stays works.stays;
+    each = works.each;
+    olds_are = subst (λ l. IsPermutation l put) (sym works.taken_are) (IsPermutation-sym put taken same);
+    news_are = works.done_are;
+    of_mailboxes = subst (All (IsSlipOf mailboxes)) works.posted (slips_of mailboxes works.stays);
+    posted = λ r low high x. subst (λ l. IsIn x (posted_to l r) ↔ IsSent (all_stays works.stays) r x) works.posted (in_slips x r mailboxes (place_in r s.processes (length mailboxes) low high count) works.stays);
+  }
+
+  abbrev idle : List (Berth M) → List (Stay M)
+  idle bs = map (λ b. stay b b []) bs
+
+  idle_taken : (bs : List (Berth M)) → taken_in (idle bs) ≡ bs
+  idle_taken [] = refl
+  idle_taken (b ∷ bs) = ap (λ l. b ∷ l) (idle_taken bs)
+
+  idle_left : (bs : List (Berth M)) → left_in (idle bs) ≡ bs
+  idle_left [] = refl
+  idle_left (b ∷ bs) = ap (λ l. b ∷ l) (idle_left bs)
+
+  idle_silent : (bs : List (Berth M)) (t : Stay M) (x : Letter) → IsIn t (idle bs) → IsIn x t.letters → ⊥
+  idle_silent [] t x i j = absurd i
+  idle_silent (b ∷ bs) t x (inl e) j = absurd (subst (λ (u : Stay M). IsIn x u.letters) e j)
+  idle_silent (b ∷ bs) t x (inr i) j = idle_silent bs t x i j
+
+  idle_stay : (left : ℕ) (b : Berth M) → IsReady mind s left b → NoneBelow end b.pending → IsStay mind s end (stay b b [])
+  idle_stay left b ready none =
+      let len : vec_len b.part ≡ 0 = b.part.ok.0 ∙ ap length ready.1 in (
+        record { history = []; run = (none, refl, refl, refl); part = ready.1 },
+        λ p most is. subst (λ n. IsBerth mind s p n b) (omega (arith, len)) is,
+      )
+
+  idle_all : (left : ℕ) (bs : List (Berth M)) → All (IsReady mind s left) bs → All (λ b. NoneBelow end b.pending) bs → All (IsStay mind s end) (idle bs)
+  idle_all left [] ready none = All-nil (IsStay mind s end)
+  idle_all left (b ∷ bs) ready none =
+      All-cons (IsStay mind s end) (stay b b []) (idle bs) (idle_stay left b (All-head (IsReady mind s left) b bs ready) (All-head (λ (z : Berth M). NoneBelow end z.pending) b bs none))
+      (idle_all left bs (All-tail (IsReady mind s left) b bs ready) (All-tail (λ (z : Berth M). NoneBelow end z.pending) b bs none))
+
+  -- those with nothing to run join
+  pub run_with_idle : (left : ℕ) (olds put rest done news : List (Berth M)) (slips : List SlipView) → AreRun mind s end mailboxes put done slips → IsPermutation olds (put ++ rest)
+      → All (IsReady mind s left) rest → All (λ b. NoneBelow end b.pending) rest → news ≡ done ++ rest → AreRun mind s end mailboxes olds news slips
+  run_with_idle left olds put rest done news slips run same ready none is = record {
+    stays = run.stays ++ idle rest;
+    each = All-append (IsStay mind s end) run.stays (idle rest) run.each (idle_all left rest ready none);
+    olds_are = subst (λ l. IsPermutation l olds) (sym (map-append (λ (t : Stay M). t.before) run.stays (idle rest) ∙ ap (λ l. taken_in run.stays ++ l) (idle_taken rest)))
+        (IsPermutation-trans _ _ _ (IsPermutation-append_left rest _ _ run.olds_are) (IsPermutation-sym olds (put ++ rest) same));
+    news_are = map-append (λ (t : Stay M). t.after) run.stays (idle rest) ∙ (λ i. run.news_are i ++ idle_left rest i) ∙ sym is;
+    of_mailboxes = run.of_mailboxes;
+    posted = λ r low high x. ((λ i. wider r x ((run.posted r low high x).0 i)), (λ e. (run.posted r low high x).1 (narrower r x e)));
+  }
+    where
+      wider : (r : ℕ) (x : Letter) → IsSent run.stays r x → IsSent (run.stays ++ idle rest) r x
+      wider r x (t, i, j, to) = (t, in_left t run.stays (idle rest) i, j, to)
+
+      by : (r : ℕ) (x : Letter) (t : Stay M) → IsIn t run.stays ⊎ IsIn t (idle rest) → IsIn x t.letters → x.key.receiver - 1 ≡ r - 1 → IsSent run.stays r x
+      by r x t (inl i) j to = (t, i, j, to)
+      by r x t (inr i) j to = absurd (idle_silent rest t x i j)
+
+      narrower : (r : ℕ) (x : Letter) → IsSent (run.stays ++ idle rest) r x → IsSent run.stays r x
+      narrower r x (t, i, j, to) = by r x t (in_append t run.stays (idle rest) i) j to
+
+  -- ---- in the order of the processes
+
+  same_owner : (left : ℕ) (t : Stay M) → IsReady mind s left t.before → IsStay mind s end t → own_of mind t.after.seat ≡ own_of mind t.before.seat
+  same_owner left t ready ran = let was : IsBerth mind s ready.0.0 ready.0.1 t.before = ready.0.2 in (ran.1 ready.0.0 ready.0.1 was).is ∙ sym was.is
+
+  owners : (left : ℕ) (stays : List (Stay M)) → All (IsReady mind s left) (taken_in stays) → All (IsStay mind s end) stays → All (λ t. own_of mind t.after.seat ≡ own_of mind t.before.seat) stays
+  owners left [] ready ran = All-nil (λ (t : Stay M). own_of mind t.after.seat ≡ own_of mind t.before.seat)
+  owners left (t ∷ stays) ready ran =
+      All-cons (λ (u : Stay M). own_of mind u.after.seat ≡ own_of mind u.before.seat) t stays (same_owner left t (All-head (IsReady mind s left) t.before (taken_in stays) ready) (All-head (IsStay mind s end) t stays ran))
+      (owners left stays (All-tail (IsReady mind s left) t.before (taken_in stays) ready) (All-tail (IsStay mind s end) t stays ran))
+
+  pub outcome : (left : ℕ) (olds done news : List (Berth M)) (slips : List SlipView) (lists : List (List Letter)) → AreRun mind s end mailboxes olds done slips
+      → All (IsReady mind s left) olds → RiseBy (λ b. own_of mind b.seat) olds → IsPermutation done news → IsNonDecreasingBy (λ b. own_of mind b.seat) news
+      → length lists ≡ s.processes → ((r : ℕ) → 1 ≤ r → r ≤ s.processes → IsPermutation (posted_to slips r) (list_of lists r)) → IsOutcome mind s end olds news lists
+  outcome left olds done news slips lists run ready rises order up count gives =
+      let l = lifted (λ (t : Stay M). t.before) run.stays olds run.olds_are in
+      let stays : List (Stay M) = l.0 in
+      let each : All (IsStay mind s end) stays = All-permutation (IsStay mind s end) run.stays stays l.1 run.each in
+      let own : Berth M → ℕ = λ b. own_of mind b.seat in
+      let front : RiseBy own (taken_in stays) = subst (RiseBy own) (sym l.2) rises in
+      let same : All (λ (t : Stay M). own t.after ≡ own t.before) stays = owners left stays (subst (All (IsReady mind s left)) (sym l.2) ready) each in
+      let back : RiseBy own (left_in stays) = rises_same own (λ (t : Stay M). t.after) (λ (t : Stay M). t.before) stays same front in
+      let mixed : IsPermutation (left_in stays) done = subst (IsPermutation (left_in stays)) run.news_are (IsPermutation-sym _ _ (IsPermutation-map (λ (t : Stay M). t.after) run.stays stays l.1)) in
+      let is : news ≡ left_in stays = sorted_is own (left_in stays) news back (IsPermutation-trans _ _ _ mixed order) up in
+      record {
+        stays = stays;
+        each = each;
+        olds_are = l.2;
+        news_are = sym is;
+        count = count;
+        letters = λ r low high x. (
+          (λ i. moved run.stays stays l.1 r x ((run.posted r low high x).0 (in_other _ _ x (IsPermutation-sym _ _ (gives r low high)) i))),
+          (λ e. in_other _ _ x (gives r low high) ((run.posted r low high x).1 (moved stays run.stays (IsPermutation-sym _ _ l.1) r x e))),
+        );
+      }
+    where
+      in_other : (xs ys : List Letter) (x : Letter) → IsPermutation xs ys → IsIn x xs → IsIn x ys
+      in_other xs ys x p i = contains_in ys x (Contains-permutation xs ys x p (in_contains xs x i))
+
+      moved : (ts us : List (Stay M)) → IsPermutation ts us → (r : ℕ) (x : Letter) → IsSent ts r x → IsSent us r x
+      moved ts us p r x (t, i, j, to) = (t, contains_in us t (Contains-permutation ts us t p (in_contains ts t i)), j, to)
+
+-- ---- for the code
+
+module _ {X : Type 0} (P : X → Type 0) where
+  all_front : (xs ys : List X) → All P (xs ++ ys) → All P xs
+  all_front [] ys h = All-nil P
+  all_front (x ∷ xs) ys h = All-cons P x xs (All-head P x (xs ++ ys) h) (all_front xs ys (All-tail P x (xs ++ ys) h))
+
+  all_back : (xs ys : List X) → All P (xs ++ ys) → All P ys
+  all_back [] ys h = h
+  all_back (x ∷ xs) ys h = all_back xs ys (All-tail P x (xs ++ ys) h)
+
+  pub all_dealt : (olds put rest : List X) → IsPermutation olds (put ++ rest) → All P olds → All P put × All P rest
+  all_dealt olds put rest same h = let all = All-permutation P olds (put ++ rest) same h in (all_front put rest all, all_back put rest all)
+
+module _ {M : Type 0} (mind : M → Mind) (s : Record) (end : ℕ) where
+  pub long_dealt : (left : ℕ) (olds put rest : List (Berth M)) → IsPermutation olds (put ++ rest) → HasLong mind s end left put → HasLong mind s end left olds
+  long_dealt left olds put rest same (b, there, long) = (b, Contains-permutation (put ++ rest) olds b (IsPermutation-sym olds (put ++ rest) same) (Contains-append_left put rest b there), long)
+
+  pub run_of_parts : (m m1 m2 : List MailboxId) (queue : TableId) (old new : DealerView (Berth M)) (put done mine done' : List (Berth M)) (slips slips' : List SlipView) (slip : SlipView)
+      → AreWorks mind s end m1 old.taken done slips → IsRest mind s end queue m2 old new slip mine → m1 ≡ m → m2 ≡ m → old.put ≡ put → done' ≡ done ++ mine → slips' ≡ slips ++ slip ∷ []
+      → length m ≡ s.processes → AreRun mind s end m put done' slips'
+  run_of_parts m m1 m2 queue old new put done mine done' slips slips' slip works rest e1 e2 same d p count =
+      let are : AreWorks mind s end m old.taken done slips = subst (λ l. AreWorks mind s end l old.taken done slips) e1 works in
+      let work : IsWork mind s end queue m (taker_of queue old.put rest.rest) slip mine = subst (λ l. IsWork mind s end queue l (taker_of queue old.put rest.rest) slip mine) e2 rest.work in
+      let all : AreWorks mind s end m new.taken done' slips' =
+      works_more mind s end m queue (taker_of queue old.put rest.rest) slip mine old.taken new.taken done done' slips slips' are work rest.taken d p in
+      run_of_works mind s end m new.taken put done' slips' all (subst (λ l. IsPermutation l new.taken) same rest.same) count

@@ -1,0 +1,169 @@
+-- The stage at the opening of a run.
+use Rattle.std.proofs.Common.{◌≡◌, ◌≢◌, ◌⊎◌, ◌↔◌, ℕ, zero, suc, ◌+◌, ◌-◌, ◌*◌, ◌<◌, ◌≤◌, inl, inr, refl, sym, ap, ◌∙◌, subst, List, [], ◌∷◌, Some, length, map, slice_get, arith, vec_len}
+use Rattle.std.specs.FinMap as finmap
+use Rattle.std.specs.List.{All}
+use Rattle.std.proofs.lemmas.Bool.{cases_lt}
+use Rattle.std.proofs.lemmas.List.{length-map}
+use Rattle.process_api.specs.Mind.{Mind}
+use Rattle.process_api.specs.Numbers.{numbers_to}
+use Rattle.process_api.specs.Order.{key_cmp}
+use Rattle.process_api.specs.declared.key.Key.{Key}
+use Rattle.process_api.specs.declared.message.StepInput.{StepInput}
+use Rattle.process_api.specs.declared.message.StepInput.TheVariants.{Start}
+use Rattle.process_api.proofs.KeyOrder.{same_or_not}
+use Rattle.process_api.proofs.Minds.{mind_place, same_own}
+use Rattle.scenario.specs.Ranges.{IsInRange}
+use Rattle.scenario.specs.Record.{Record, opening_mind, place_in}
+use Rattle.event_list.specs.ScenarioSetting.{setting_of}
+use Rattle.event_list.specs.Seat.{process_of, own_of, IsSeated}
+use Rattle.event_list.specs.Setting.{Setting, IsSound, IsProcess}
+use Rattle.event_list.specs.Standing.{IsReached}
+use Rattle.event_list.specs.Step.{Events, Process}
+use Rattle.event_list.specs.World.{World, Has, starts, start_of, opened, opening, opening_process}
+use Rattle.event_list.proofs.Closed.{opening_world}
+use Rattle.event_list.proofs.Openings.{number_at, length-numbers_to}
+use Rattle.event_list.proofs.Reaching.{opening_reached}
+use Rattle.event_list.proofs.Sets.{inserted, insert_at, insert_other, not_None}
+use Rattle.event_list.proofs.Sound.{setting_sound, opens_with_mind}
+use Rattle.windows.specs.Berth.{IsBerth}
+use Rattle.windows.specs.Machine.{StageRecord, StandsFor}
+use Rattle.windows.specs.Stage.{of_process, stage_of, start_event, IsOpened, AreHome, IsStage}
+use Rattle.windows.specs.declared.berth.Berth.{Berth}
+use Rattle.windows.specs.declared.stage.Stage.{Stage}
+use Rattle.windows.proofs.Places.{there_map, from_map, at_process, at_nobody, all_place}
+
+none_there : (k : Key) (x : StepInput) → Has finmap.empty k x → ⊥
+none_there k x h = not_None x (sym (finmap.get-empty key_cmp k) ∙ h)
+
+-- the starts of processes 1 to n
+starts_are : (n : ℕ) (k : Key) (x : StepInput) → Has (starts n) k x → (k ≡ start_of k.receiver) × (x ≡ Start)
+starts_are zero k x h = absurd (none_there k x h)
+starts_are (suc n) k x h = go (starts_are n k x) (inserted (starts n) (start_of (suc n)) Start k x h)
+  where
+    go : (Has (starts n) k x → (k ≡ start_of k.receiver) × (x ≡ Start)) → ((k ≡ start_of (suc n)) × (x ≡ Start)) ⊎ ((k ≢ start_of (suc n)) × Has (starts n) k x) → (k ≡ start_of k.receiver) × (x ≡ Start)
+    go earlier (inl e) = (e.0 ∙ ap start_of (sym (ap (λ (z : Key). z.receiver) e.0)), e.1)
+    go earlier (inr old) = earlier old.1
+
+starts_there : (n p : ℕ) → 1 ≤ p → p ≤ n → Has (starts n) (start_of p) Start
+starts_there zero p low high = absurd (omega arith)
+starts_there (suc n) p low high = go (starts_there n p low) (same_or_not (start_of p) (start_of (suc n)))
+  where
+    go : (p ≤ n → Has (starts n) (start_of p) Start) → (start_of p ≡ start_of (suc n)) ⊎ (start_of p ≢ start_of (suc n)) → Has (starts (suc n)) (start_of p) Start
+    go earlier (inl e) = subst (λ z. Has (starts (suc n)) z Start) (sym e) (insert_at (starts n) (start_of (suc n)) Start)
+    go earlier (inr apart) =
+        let other : p ≢ suc n = λ e. apart (ap start_of e) in
+        insert_other (starts n) (start_of (suc n)) Start (start_of p) apart ∙ earlier (omega (arith, other, high))
+
+start_is : (p : ℕ) (k : Key) (x : StepInput) → Has (start_event p) k x → (k ≡ start_of p) × (x ≡ Start)
+start_is p k x h = go (inserted finmap.empty (start_of p) Start k x h)
+  where
+    go : ((k ≡ start_of p) × (x ≡ Start)) ⊎ ((k ≢ start_of p) × Has finmap.empty k x) → (k ≡ start_of p) × (x ≡ Start)
+    go (inl e) = e
+    go (inr h2) = absurd (none_there k x h2.1)
+
+opened_all : (s : Record) (xs : List ℕ) → map opened (map (opening_mind s) xs) ≡ map (λ q. opened (opening_mind s q)) xs
+opened_all s [] = refl
+opened_all s (x ∷ xs) = ap (λ ps. opened (opening_mind s x) ∷ ps) (opened_all s xs)
+
+module _ {M : Type 0} (mind : M → Mind) (stage : Stage M) (ranges : IsInRange stage.scenario.now) (at_start : stage.start ≡ 0) (no_entry : stage.entries.items ≡ [])
+    (processes : map (λ b. process_of mind b.seat) stage.berths.items ≡ map opened (map (opening_mind stage.scenario.now) (numbers_to stage.scenario.now.processes)))
+    (berths : All (IsOpened mind stage.scenario.now) stage.berths.items) where
+  abbrev s : Record
+  s = stage.scenario.now
+
+  abbrev S : Setting Mind
+  S = setting_of s
+
+  sound : IsSound S
+  sound = setting_sound s ranges
+
+  abbrev IsFirst : ℕ → Berth M → Type 0
+  IsFirst p b = (slice_get stage.berths.items (p - 1) ≡ Some b) × (process_of mind b.seat ≡ opened (opening_mind s p)) × (own_of mind b.seat ≡ p) × IsOpened mind s b
+
+  first : (p : ℕ) → IsProcess S p → (b : Berth M) × IsFirst p b
+  first p own =
+      let there = ap (λ ps. slice_get ps (p - 1)) (processes ∙ opened_all s (numbers_to s.processes)) ∙ number_at (λ q. opened (opening_mind s q)) s.processes p own.0 own.1 in
+      let b = from_map (λ (z : Berth M). process_of mind z.seat) stage.berths.items (p - 1) (opened (opening_mind s p)) there in
+      let mine : (opening_mind s p).lower.place.own ≡ p = same_own (opening_mind s p).lower.place (place_in s p) (mind_place (place_in s p) (opening_mind s p) (opens_with_mind s ranges p)) in
+      (b.0, (b.1, b.2, ap (λ (q : Process Mind). q.mind.lower.place.own) b.2 ∙ mine, all_place (IsOpened mind s) stage.berths.items berths (p - 1) b.0 b.1))
+
+  count : length stage.berths.items ≡ s.processes
+  count = sym (length-map stage.berths.items (λ b. process_of mind b.seat)) ∙ (ap length (processes ∙ opened_all s (numbers_to s.processes)) ∙ (length-map (numbers_to s.processes) (λ q. opened (opening_mind s q)) ∙ length-numbers_to s.processes))
+
+  no_entries : vec_len stage.entries ≡ 0
+  no_entries = omega (arith, stage.entries.ok.0, ap length no_entry)
+
+  is_or_not : (p : ℕ) → IsProcess S p ⊎ ¬ (IsProcess S p)
+  is_or_not p = go (cases_lt 0 p) (cases_lt S.processes p)
+    where
+      go : (0 < p) ⊎ (p ≤ 0) → (S.processes < p) ⊎ (p ≤ S.processes) → IsProcess S p ⊎ ¬ (IsProcess S p)
+      go (inl low) (inr high) = inl (low, high)
+      go (inr low) b = inr (λ is. omega (arith, is.0))
+      go a (inl high) = inr (λ is. omega (arith, is.1))
+
+  module _ (window : ℕ) where
+    abbrev g : StageRecord Mind
+    g = stage_of mind window stage
+
+    own_first : (p : ℕ) → IsProcess S p → g.own p ≡ start_event p
+    own_first p own = let b = first p own in at_process p _ b.0.pending finmap.empty own.0 (there_map (λ z. z.pending) stage.berths.items (p - 1) b.0 b.1.0) ∙ (b.1.3.1 ∙ ap start_event b.1.2)
+
+    nobody : {X : Type 0} (f : Berth M → X) (none : X) (p : ℕ) → ¬ (IsProcess S p) → of_process p (map f stage.berths.items) none ≡ none
+    nobody f none p not = at_nobody p (map f stage.berths.items) none (λ i. not (i.0, omega (arith, i.1, length-map stage.berths.items f, count)))
+
+    to_world : (p : ℕ) (k : Key) (x : StepInput) → Has (g.own p) k x → Has (opening S).pending k x × (k.receiver ≡ p)
+    to_world p k x h = go (is_or_not p)
+      where
+        by : IsProcess S p → (k ≡ start_of p) × (x ≡ Start) → Has (opening S).pending k x × (k.receiver ≡ p)
+        by own e = (subst (λ z. Has (starts S.processes) k z) (sym e.1) (subst (λ z. Has (starts S.processes) z Start) (sym e.0) (starts_there S.processes p own.0 own.1)), ap (λ (z : Key). z.receiver) e.0)
+
+        go : IsProcess S p ⊎ ¬ (IsProcess S p) → Has (opening S).pending k x × (k.receiver ≡ p)
+        go (inl own) = by own (start_is p k x (subst (λ m. Has m k x) (own_first p own) h))
+        go (inr not) = absurd (none_there k x (subst (λ m. Has m k x) (nobody (λ z. z.pending) finmap.empty p not) h))
+
+    from_world : (p : ℕ) (k : Key) (x : StepInput) → Has (opening S).pending k x × (k.receiver ≡ p) → Has (g.own p) k x
+    from_world p k x (h, to) =
+        let e = starts_are S.processes k x h in
+        let own : IsProcess S p = subst (IsProcess S) to ((opening_world S sound).received k x h) in
+        let at : k ≡ start_of p = e.0 ∙ ap start_of to in
+        subst (λ m. Has m k x) (sym (own_first p own)) (subst (λ z. Has (start_event p) k z) (sym e.1) (subst (λ z. Has (start_event p) z Start) (sym at) (insert_at finmap.empty (start_of p) Start)))
+
+    no_part : (p : ℕ) → g.part p ≡ []
+    no_part p = go (is_or_not p)
+      where
+        go : IsProcess S p ⊎ ¬ (IsProcess S p) → g.part p ≡ []
+        go (inl own) = let b = first p own in at_process p (map (λ z. z.part.items) stage.berths.items) b.0.part.items [] own.0 (there_map (λ z. z.part.items) stage.berths.items (p - 1) b.0 b.1.0) ∙ b.1.3.2
+        go (inr not) = nobody (λ z. z.part.items) [] p not
+
+    pub opening_stands : StandsFor S window g (opening S)
+    opening_stands = record {
+      process = λ p own. let b = first p own in at_process p _ (process_of mind b.0.seat) (opening_process S p) own.0 (there_map (λ z. process_of mind z.seat) stage.berths.items (p - 1) b.0 b.1.0) ∙ b.1.1;
+      own = λ p k x. (to_world p k x, from_world p k x);
+      late = λ k x h. omega (arith, at_start);
+      part = no_part;
+      status = λ p. refl;
+      tray = λ a. none_there;
+      mailbox = λ r. none_there;
+    }
+
+  home : AreHome mind s (vec_len stage.entries) stage.berths.items
+  home = record { berth = λ p own. let b = first p own in (b.0, b.1.0, at_home p b.0 b.1) }
+    where
+      at_home : (p : ℕ) (b : Berth M) → IsFirst p b → IsBerth mind s p (4096 * vec_len stage.entries) b
+      at_home p b f = record {
+        seated = subst (λ n. IsSeated mind s n b.seat) (omega (arith, no_entries)) f.3.0;
+        is = f.2;
+        own = λ k x h. ap (λ (z : Key). z.receiver) (start_is p k x (subst (λ m. Has m k x) (f.3.1 ∙ ap start_event f.2) h)).0;
+      }
+
+  pub opening_stage : IsStage mind stage
+  opening_stage = record {
+    count = omega (arith, stage.berths.ok.0, count);
+    home = home;
+    within = omega (arith, no_entries);
+    to_horizon = omega (arith, at_start);
+    world = opening S;
+    is_world = opening_world S sound;
+    stands = opening_stands;
+    reached = subst (IsReached S (opening S)) (sym no_entry) (opening_reached S);
+  }

@@ -1,0 +1,173 @@
+-- Lists that have process 1 first.
+use Rattle.std.proofs.Common.{◌≡◌, ◌≢◌, ◌⊎◌, ℕ, zero, suc, ◌+◌, ◌-◌, ◌<◌, ◌≤◌, inl, inr, refl, sym, ap, ◌∙◌, subst, List, [], ◌∷◌, ◌++◌, Some, length, map, slice_get, get_or, option_map, arith, Bool, true, false, cond, nat_eq, not, filter, Contains, ⊎_elim}
+use Rattle.std.specs.List.{All, AllByRecursion}
+use Rattle.std.specs.Prelude.{IsTrue}
+use Rattle.std.proofs.lemmas.Bool.{eqb-true, eqb-false, cases_lt}
+use Rattle.std.proofs.lemmas.List.{get_or_past, length-map, length-append}
+use Rattle.std.proofs.lemmas.List.Elements.{All-from_recursion, All-get_or}
+use Rattle.std.proofs.lemmas.Option.{slice_get-map, slice_get_within, get_or_from_slice_get}
+use Rattle.process_api.specs.EntryRecord.{EntryRecord}
+use Rattle.process_api.specs.declared.message.Letter.{Letter}
+use Rattle.event_list.specs.History.{IsIn, Pair, pairs_of}
+use Rattle.event_list.specs.Step.{Events}
+use Rattle.event_list.specs.World.{joined, entries}
+use Rattle.event_list.proofs.Sets.{not_None, same_Some}
+use Rattle.event_list.proofs.Steps.{in_append, in_left, in_right}
+use Rattle.trace_merge.specs.Parts.{all_of, AreApart, AreDisjoint}
+use Rattle.windows.specs.Berth.{event_of}
+use Rattle.windows.specs.Stage.{of_process, delivered}
+
+none_inside : (i : ℕ) → i < 0 → ⊥
+none_inside i h = omega arith
+
+one_less : (i n : ℕ) → suc i < suc n → i < n
+one_less i n h = omega arith
+
+-- ---- what stands at a place
+
+pub there : {X : Type 0} (xs : List X) (i : ℕ) → i < length xs → (x : X) × (slice_get xs i ≡ Some x)
+there [] i h = absurd (none_inside i h)
+there (x ∷ xs) zero h = (x, refl)
+there (x ∷ xs) (suc i) h = there xs i (one_less i (length xs) h)
+
+pub there_map : {X Y : Type 0} (f : X → Y) (xs : List X) (i : ℕ) (x : X) → slice_get xs i ≡ Some x → slice_get (map f xs) i ≡ Some (f x)
+there_map f xs i x h = slice_get-map f xs i ∙ ap (option_map f) h
+
+pub from_map : {X Y : Type 0} (f : X → Y) (xs : List X) (i : ℕ) (y : Y) → slice_get (map f xs) i ≡ Some y → (x : X) × (slice_get xs i ≡ Some x) × (f x ≡ y)
+from_map f [] i y h = absurd (not_None y h)
+from_map f (x ∷ xs) zero y h = (x, refl, same_Some (f x) y h)
+from_map f (x ∷ xs) (suc i) y h = from_map f xs i y h
+
+-- where two lists have the same images, what stands at a place has the same image
+pub same_at : {X Y Z : Type 0} (f : X → Z) (g : Y → Z) (xs : List X) (ys : List Y) → map f xs ≡ map g ys → (i : ℕ) (y : Y) → slice_get ys i ≡ Some y → (x : X) × (slice_get xs i ≡ Some x) × (f x ≡ g y)
+same_at f g xs ys same i y h = from_map f xs i (g y) (ap (λ zs. slice_get zs i) same ∙ there_map g ys i y h)
+
+pub at_process : {X : Type 0} (p : ℕ) (xs : List X) (x none : X) → 1 ≤ p → slice_get xs (p - 1) ≡ Some x → of_process p xs none ≡ x
+at_process zero xs x none low h = absurd (omega arith)
+at_process (suc q) xs x none low h = get_or_from_slice_get xs q x none (subst (λ i. slice_get xs i ≡ Some x) (omega arith) h)
+
+pub at_nobody : {X : Type 0} (p : ℕ) (xs : List X) (none : X) → ¬ ((1 ≤ p) × (p ≤ length xs)) → of_process p xs none ≡ none
+at_nobody zero xs none h = refl
+at_nobody (suc q) xs none h = get_or_past xs q none (past q (length xs) h)
+  where
+    past : (q n : ℕ) → ¬ ((1 ≤ suc q) × (suc q ≤ n)) → n ≤ q
+    past q n h = ⊎_elim (λ (below : q < n). absurd (h (omega arith, omega (arith, below)))) (λ (high : n ≤ q). high) (cases_lt q n)
+
+pub at_delivered : (ms : List Events) (ls : List (List Letter)) (i : ℕ) (m : Events) (l : List Letter) → slice_get ms i ≡ Some m → slice_get ls i ≡ Some l → slice_get (delivered ms ls) i ≡ Some (joined m (map event_of l))
+at_delivered [] ls i m l a b = absurd (not_None m a)
+at_delivered (n ∷ ms) [] i m l a b = absurd (not_None l b)
+at_delivered (n ∷ ms) (k ∷ ls) zero m l a b = λ i. Some (joined (same_Some n m a i) (map event_of (same_Some k l b i)))
+at_delivered (n ∷ ms) (k ∷ ls) (suc i) m l a b = at_delivered ms ls i m l a b
+
+all_by_place : {X : Type 0} (P : X → Type 0) (xs : List X) → ((i : ℕ) (x : X) → slice_get xs i ≡ Some x → P x) → AllByRecursion P xs
+all_by_place P [] each = tt
+all_by_place P (x ∷ xs) each = (each 0 x refl, all_by_place P xs (λ i y h. each (suc i) y h))
+
+pub all_at : {X : Type 0} (P : X → Type 0) (xs : List X) → ((i : ℕ) (x : X) → slice_get xs i ≡ Some x → P x) → All P xs
+all_at P xs each = All-from_recursion P xs (all_by_place P xs each)
+
+pub all_place : {X : Type 0} (P : X → Type 0) (xs : List X) → All P xs → (i : ℕ) (x : X) → slice_get xs i ≡ Some x → P x
+all_place P xs each i x at = subst P (get_or_from_slice_get xs i x x at) (All-get_or P xs i x (slice_get_within xs i x at) each)
+
+-- ---- parts whose entries are received by one process each
+
+module _ where
+  abbrev AreReceived : ℕ → List EntryRecord → Type 0
+  AreReceived p part = (e : EntryRecord) → IsIn e part → e.key.receiver ≡ p
+
+  abbrev AreReceivedFrom : ℕ → List (List EntryRecord) → Type 0
+  AreReceivedFrom k parts = (i : ℕ) (part : List EntryRecord) → slice_get parts i ≡ Some part → AreReceived (k + i) part
+
+  later : (k : ℕ) (part : List EntryRecord) (parts : List (List EntryRecord)) → AreReceivedFrom k (part ∷ parts) → AreReceivedFrom (suc k) parts
+  later k part parts all i q h = let e : k + suc i ≡ suc k + i = omega arith in subst (λ n. AreReceived n q) e (all (suc i) q h)
+
+  above : (k : ℕ) (parts : List (List EntryRecord)) → AreReceivedFrom k parts → (e : EntryRecord) → IsIn e (all_of parts) → k ≤ e.key.receiver
+  above k [] all e i = absurd i
+  above k (part ∷ parts) all e i = go (above (suc k) parts (later k part parts all) e) (in_append e part (all_of parts) i)
+    where
+      go : (IsIn e (all_of parts) → suc k ≤ e.key.receiver) → IsIn e part ⊎ IsIn e (all_of parts) → k ≤ e.key.receiver
+      go deeper (inl j) = omega (arith, all 0 part refl e j)
+      go deeper (inr j) = omega (arith, deeper j)
+
+  one_apart : (x : EntryRecord) (ys : List EntryRecord) → ((y : EntryRecord) → IsIn y ys → x.key ≢ y.key) → AllByRecursion (λ y. x.key ≢ y.key) ys
+  one_apart x [] each = tt
+  one_apart x (y ∷ ys) each = (each y (inl refl), one_apart x ys (λ z i. each z (inr i)))
+
+  apart_of : (xs ys : List EntryRecord) → ((x y : EntryRecord) → IsIn x xs → IsIn y ys → x.key ≢ y.key) → AreApart xs ys
+  apart_of [] ys each = tt
+  apart_of (x ∷ xs) ys each = (one_apart x ys (λ y j. each x y (inl refl) j), apart_of xs ys (λ z y i j. each z y (inr i) j))
+
+  pub disjoint_from : (k : ℕ) (parts : List (List EntryRecord)) → AreReceivedFrom k parts → AreDisjoint parts
+  disjoint_from k [] all = tt
+  disjoint_from k (part ∷ parts) all =
+      (apart_of part (all_of parts) differ, disjoint_from (suc k) parts (later k part parts all))
+    where
+      differ : (x y : EntryRecord) → IsIn x part → IsIn y (all_of parts) → x.key ≢ y.key
+      differ x y i j same =
+          let low : x.key.receiver ≡ k + 0 = all 0 part refl x i in
+          let high : suc k ≤ y.key.receiver = above (suc k) parts (later k part parts all) y j in
+          let one : x.key.receiver ≡ y.key.receiver = ap (λ key. key.receiver) same in
+          omega (arith, low, high, one)
+
+-- ---- how many entries the parts have
+
+module _ where
+  abbrev others : ℕ → List Pair → List Pair
+  others p list = filter (λ s. not (nat_eq s.0.key.receiver p)) list
+
+  split : (p : ℕ) (list : List Pair) → length list ≡ length (pairs_of p list) + length (others p list)
+  split p [] = refl
+  split p (s ∷ list) = go (nat_eq s.0.key.receiver p) (split p list)
+    where
+      go : (b : Bool) → length list ≡ length (pairs_of p list) + length (others p list) → suc (length list) ≡ length (cond b (s ∷ pairs_of p list) (pairs_of p list)) + length (cond (not b) (s ∷ others p list) (others p list))
+      go true h = omega (arith, h)
+      go false h = omega (arith, h)
+
+  still : (p q : ℕ) → q ≢ p → (list : List Pair) → pairs_of q (others p list) ≡ pairs_of q list
+  still p q n [] = refl
+  still p q n (s ∷ list) = go (nat_eq s.0.key.receiver p) refl (still p q n list)
+    where
+      skip : nat_eq s.0.key.receiver p ≡ true → nat_eq s.0.key.receiver q ≡ false
+      skip is = differ (nat_eq s.0.key.receiver q) refl
+        where
+          differ : (b : Bool) → nat_eq s.0.key.receiver q ≡ b → nat_eq s.0.key.receiver q ≡ false
+          differ true h = absurd (n (sym (eqb-true s.0.key.receiver q h) ∙ eqb-true s.0.key.receiver p is))
+          differ false h = h
+
+      go : (b : Bool) → nat_eq s.0.key.receiver p ≡ b → pairs_of q (others p list) ≡ pairs_of q list → pairs_of q (cond (not b) (s ∷ others p list) (others p list)) ≡ pairs_of q (s ∷ list)
+      go true is h = h ∙ ap (λ c. cond c (s ∷ pairs_of q list) (pairs_of q list)) (sym (skip is))
+      go false is h = ap (λ l. cond (nat_eq s.0.key.receiver q) (s ∷ l) l) h
+
+  -- parts that are of different processes have no more entries together than the list
+  pub no_more : (k : ℕ) (parts : List (List EntryRecord)) (list : List Pair) → ((i : ℕ) (part : List EntryRecord) → slice_get parts i ≡ Some part → part ≡ entries (pairs_of (k + i) list)) → length (all_of parts) ≤ length list
+  no_more k [] list each = omega arith
+  no_more k (part ∷ parts) list each =
+      let first : length part ≡ length (pairs_of k list) = ap length (each 0 part refl) ∙ length-map (pairs_of (k + 0) list) (λ s. s.0) ∙ ap (λ n. length (pairs_of n list)) (omega arith) in
+      let rest : length (all_of parts) ≤ length (others k list) = no_more (suc k) parts (others k list) later_parts in
+      omega (arith, first, rest, split k list, length-append part (all_of parts))
+    where
+      later_parts : (i : ℕ) (q : List EntryRecord) → slice_get parts i ≡ Some q → q ≡ entries (pairs_of (suc k + i) (others k list))
+      later_parts i q h =
+          let e : k + suc i ≡ suc k + i = omega arith in
+          let n : suc k + i ≢ k = λ z. omega (arith, z) in
+          each (suc i) q h ∙ ap (λ m. entries (pairs_of m list)) e ∙ ap entries (sym (still k (suc k + i) n list))
+
+-- ---- entries of all parts
+
+pub in_all : (parts : List (List EntryRecord)) (e : EntryRecord) → IsIn e (all_of parts) → (i : ℕ) × (part : List EntryRecord) × (slice_get parts i ≡ Some part) × IsIn e part
+in_all [] e i = absurd i
+in_all (part ∷ parts) e i = go (in_all parts e) (in_append e part (all_of parts) i)
+  where
+    go : (IsIn e (all_of parts) → (k : ℕ) × (q : List EntryRecord) × (slice_get parts k ≡ Some q) × IsIn e q) → IsIn e part ⊎ IsIn e (all_of parts) → (k : ℕ) × (q : List EntryRecord) × (slice_get (part ∷ parts) k ≡ Some q) × IsIn e q
+    go deeper (inl j) = (0, part, refl, j)
+    go deeper (inr j) = let r = deeper j in (suc r.0, r.1, r.2, r.3)
+
+pub all_in : (parts : List (List EntryRecord)) (i : ℕ) (part : List EntryRecord) → slice_get parts i ≡ Some part → (e : EntryRecord) → IsIn e part → IsIn e (all_of parts)
+all_in [] i part at e j = absurd (not_None part at)
+all_in (p ∷ parts) zero part at e j = in_left e p (all_of parts) (subst (IsIn e) (sym (same_Some p part at)) j)
+all_in (p ∷ parts) (suc i) part at e j = in_right e p (all_of parts) (all_in parts i part at e j)
+
+pub part_few : (parts : List (List EntryRecord)) (i : ℕ) (part : List EntryRecord) → slice_get parts i ≡ Some part → length part ≤ length (all_of parts)
+part_few [] i part at = absurd (not_None part at)
+part_few (p ∷ parts) zero part at = omega (arith, ap length (same_Some p part at), length-append p (all_of parts))
+part_few (p ∷ parts) (suc i) part at = omega (arith, part_few parts i part at, length-append p (all_of parts))

@@ -1,0 +1,109 @@
+use Rattle.std.proofs.Common.{rules, ◌≡◌, ◌+◌, ◌-◌, ◌≤◌, ℕ, List, min, Result, Ok, Err, OnOk, sym, ap, ◌∙◌, subst, vec_len, arith}
+use Rattle.std.specs.Global.{Vec}
+use Rattle.std.specs.List.{All}
+use Rattle.process_api.specs.Mind.{Mind}
+use Rattle.process_api.specs.declared.message.Letter.{Letter}
+use Rattle.scenario.specs.Record.{Record}
+use Rattle.event_list.specs.ScenarioSetting.{setting_of}
+use Rattle.event_list.specs.Seat.{own_of}
+use Rattle.mailboxes.specs.Mailboxes.{letters_in}
+use Rattle.windows.specs.Machine.{end_of}
+use Rattle.windows.specs.Stage.{IsClosed}
+use Rattle.windows.specs.Workers.{IsReady, HasLong, IsOutcome, RiseBy}
+use Rattle.windows.specs.declared.berth.Berth.{Berth}
+use Rattle.windows.proofs.Settled.{stage_ready, stage_rises, long_limit, outcome_rising, outcome_disjoint, outcome_limit, outcome_next}
+use Rattle.windows.proofs.window.run_window.Goals as goal
+
+sum_of : (limit len most n : ℕ) → limit ≡ most → len ≡ n → n ≤ most → (limit - len) + n ≡ most
+sum_of limit len most n a b le = omega arith
+
+on_ok : {A E : Type 0} (r : Result A E) (P Q : Type 0) → (P → Q) → OnOk r P → OnOk r Q
+on_ok (Ok x) P Q f h = f h
+on_ok (Err x) P Q f h = h
+
+module _ {M : Type 0} (mind : M → Mind) where
+  outcome_at : (s s' : Record) (e e' : ℕ) (bs bs' news : List (Berth M)) (lists : List (List Letter)) → s ≡ s' → e ≡ e' → bs ≡ bs' → IsOutcome mind s e bs news lists → IsOutcome mind s' e' bs' news lists
+  outcome_at s s' e e' bs bs' news lists p q r o =
+      subst (λ z. IsOutcome mind z e' bs' news lists) p (subst (λ z. IsOutcome mind s z bs' news lists) q (subst (λ z. IsOutcome mind s e z news lists) r o))
+
+  long_at : (s s' : Record) (e e' left : ℕ) (bs bs' : List (Berth M)) → s ≡ s' → e ≡ e' → bs ≡ bs' → HasLong mind s e left bs → HasLong mind s' e' left bs'
+  long_at s s' e e' left bs bs' p q r h = subst (λ z. HasLong mind z e' left bs') p (subst (λ z. HasLong mind s z left bs') q (subst (λ z. HasLong mind s e left z) r h))
+
+  ready_at : (s s' : Record) (left : ℕ) (bs bs' : List (Berth M)) → s ≡ s' → bs ≡ bs' → All (IsReady mind s left) bs → All (IsReady mind s' left) bs'
+  ready_at s s' left bs bs' p r h = subst (λ z. All (IsReady mind z left) bs') p (subst (All (IsReady mind s left)) r h)
+
+pub run_all-requires-clause-ready : goal.run_all-requires-clause-ready
+run_all-requires-clause-ready g c κs within =
+    let old = c.args.stage.now in
+    let sum : (c.limit.result - c.len.result) + vec_len old.entries ≡ old.scenario.now.limit = sum_of _ _ _ _ c.limit.ensures.value c.len.ensures c.requires.stage.within in
+    ready_at g.M.Process.mind old.scenario.now c.new-streams.result (c.limit.result - c.len.result) old.berths.items c.replace-berths.result.items (sym c.new-streams.ensures) (sym (ap (λ (v : Vec _). v.items) c.replace-berths.ensures.value))
+    (stage_ready g.M.Process.mind old c.processes-processes.ensures.ranges c.requires.stage (c.limit.result - c.len.result) sum)
+
+pub run_all-requires-clause-rising : goal.run_all-requires-clause-rising
+run_all-requires-clause-rising g c κs within =
+    let old = c.args.stage.now in
+    subst (RiseBy (λ (b : Berth _). own_of g.M.Process.mind b.seat)) (sym (ap (λ (v : Vec _). v.items) c.replace-berths.ensures.value))
+    (stage_rises g.M.Process.mind old c.processes-processes.ensures.ranges c.requires.stage)
+
+pub returns-in_err-berths-clause-limit : goal.returns-in_err-berths-clause-limit
+returns-in_err-berths-clause-limit g c is =
+    let old = c.args.stage.now in
+    let mind = g.M.Process.mind in
+    let left = c.limit.result - c.len.result in
+    let sum : left + vec_len old.entries ≡ old.scenario.now.limit = sum_of _ _ _ _ c.limit.ensures.value c.len.ensures c.requires.stage.within in
+    let end : c.cut_at-end.result ≡ end_of (setting_of old.scenario.now) c.args.plan.now.window old.start = c.cut_at-end.ensures ∙ (λ i. min (old.start + c.window.ensures.value i) (c.horizon.ensures.value i)) in
+    long_limit mind old c.processes-processes.ensures.ranges c.requires.stage c.args.plan.now.window c.requires.plan left sum
+    (long_at mind c.new-streams.result old.scenario.now c.cut_at-end.result _ left c.replace-berths.result.items old.berths.items c.new-streams.ensures end (ap (λ (v : Vec _). v.items) c.replace-berths.ensures.value)
+    (c.run_all.ensures.limit (search rules)))
+
+pub close-requires-clause-rising : goal.close-requires-clause-rising
+close-requires-clause-rising g c κs within =
+    let old = c.args.stage.now in
+    let mind = g.M.Process.mind in
+    let end : c.cut_at-end.result ≡ end_of (setting_of old.scenario.now) c.args.plan.now.window old.start = c.cut_at-end.ensures ∙ (λ i. min (old.start + c.window.ensures.value i) (c.horizon.ensures.value i)) in
+    let o = outcome_at mind c.new-streams.result old.scenario.now c.cut_at-end.result _ c.replace-berths.result.items old.berths.items _ _ c.new-streams.ensures end (ap (λ (v : Vec _). v.items) c.replace-berths.ensures.value) c.in_ok-berths.ensures.outcome in
+    outcome_rising mind old c.processes-processes.ensures.ranges c.requires.stage c.args.plan.now.window c.requires.plan _ _ o
+
+pub close-requires-clause-disjoint : goal.close-requires-clause-disjoint
+close-requires-clause-disjoint g c κs within =
+    let old = c.args.stage.now in
+    let mind = g.M.Process.mind in
+    let end : c.cut_at-end.result ≡ end_of (setting_of old.scenario.now) c.args.plan.now.window old.start = c.cut_at-end.ensures ∙ (λ i. min (old.start + c.window.ensures.value i) (c.horizon.ensures.value i)) in
+    let o = outcome_at mind c.new-streams.result old.scenario.now c.cut_at-end.result _ c.replace-berths.result.items old.berths.items _ _ c.new-streams.ensures end (ap (λ (v : Vec _). v.items) c.replace-berths.ensures.value) c.in_ok-berths.ensures.outcome in
+    outcome_disjoint mind old c.processes-processes.ensures.ranges c.requires.stage c.args.plan.now.window c.requires.plan _ _ o
+
+pub returns-clause-limit : goal.returns-clause-limit
+returns-clause-limit g c is =
+    let old = c.args.stage.now in
+    let mind = g.M.Process.mind in
+    let left = c.limit.result - c.len.result in
+    let sum : left + vec_len old.entries ≡ old.scenario.now.limit = sum_of _ _ _ _ c.limit.ensures.value c.len.ensures c.requires.stage.within in
+    let end : c.cut_at-end.result ≡ end_of (setting_of old.scenario.now) c.args.plan.now.window old.start = c.cut_at-end.ensures ∙ (λ i. min (old.start + c.window.ensures.value i) (c.horizon.ensures.value i)) in
+    let o = outcome_at mind c.new-streams.result old.scenario.now c.cut_at-end.result _ c.replace-berths.result.items old.berths.items _ _ c.new-streams.ensures end (ap (λ (v : Vec _). v.items) c.replace-berths.ensures.value) c.in_ok-berths.ensures.outcome in
+    outcome_limit mind old c.processes-processes.ensures.ranges c.requires.stage c.args.plan.now.window c.requires.plan _ _ o left sum (c.close.ensures.limit is)
+
+pub returns-clause-stage : goal.returns-clause-stage
+returns-clause-stage g c =
+    let old = c.args.stage.now in
+    let mind = g.M.Process.mind in
+    let left = c.limit.result - c.len.result in
+    let sum : left + vec_len old.entries ≡ old.scenario.now.limit = sum_of _ _ _ _ c.limit.ensures.value c.len.ensures c.requires.stage.within in
+    let end : c.cut_at-end.result ≡ end_of (setting_of old.scenario.now) c.args.plan.now.window old.start = c.cut_at-end.ensures ∙ (λ i. min (old.start + c.window.ensures.value i) (c.horizon.ensures.value i)) in
+    let o = outcome_at mind c.new-streams.result old.scenario.now c.cut_at-end.result _ c.replace-berths.result.items old.berths.items _ _ c.new-streams.ensures end (ap (λ (v : Vec _). v.items) c.replace-berths.ensures.value) c.in_ok-berths.ensures.outcome in
+    on_ok c.close.result _ _
+    (λ closed. (outcome_next mind old c.processes-processes.ensures.ranges c.requires.stage c.args.plan.now.window c.requires.plan _ _ o c.close.new.self c.close.ensures.scenario left sum
+    (subst (λ e. IsClosed mind left e old.entries.items c.in_ok-berths.berths.items (letters_in c.in_ok-berths.letters.items) c.close.new.self) end closed)).0)
+    c.close.ensures.closed
+
+pub returns-clause-run : goal.returns-clause-run
+returns-clause-run g c =
+    let old = c.args.stage.now in
+    let mind = g.M.Process.mind in
+    let left = c.limit.result - c.len.result in
+    let sum : left + vec_len old.entries ≡ old.scenario.now.limit = sum_of _ _ _ _ c.limit.ensures.value c.len.ensures c.requires.stage.within in
+    let end : c.cut_at-end.result ≡ end_of (setting_of old.scenario.now) c.args.plan.now.window old.start = c.cut_at-end.ensures ∙ (λ i. min (old.start + c.window.ensures.value i) (c.horizon.ensures.value i)) in
+    let o = outcome_at mind c.new-streams.result old.scenario.now c.cut_at-end.result _ c.replace-berths.result.items old.berths.items _ _ c.new-streams.ensures end (ap (λ (v : Vec _). v.items) c.replace-berths.ensures.value) c.in_ok-berths.ensures.outcome in
+    on_ok c.close.result _ _
+    (λ closed. (outcome_next mind old c.processes-processes.ensures.ranges c.requires.stage c.args.plan.now.window c.requires.plan _ _ o c.close.new.self c.close.ensures.scenario left sum
+    (subst (λ e. IsClosed mind left e old.entries.items c.in_ok-berths.berths.items (letters_in c.in_ok-berths.letters.items) c.close.new.self) end closed)).1)
+    c.close.ensures.closed

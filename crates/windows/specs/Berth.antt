@@ -1,0 +1,42 @@
+-- A machine in its berth, and what it does in one window.
+use Rattle.std.specs.Prelude.{◌≡◌, ◌⊎◌, ℕ, ◌≤◌, List, [], ◌∷◌, map}
+use Rattle.process_api.specs.Mind.{Mind}
+use Rattle.process_api.specs.declared.key.Key.{Key}
+use Rattle.process_api.specs.declared.message.Letter.{Letter}
+use Rattle.process_api.specs.declared.message.Payload.{Payload}
+use Rattle.process_api.specs.declared.message.StepInput.{StepInput}
+use Rattle.process_api.specs.declared.message.StepInput.TheVariants as input
+use Rattle.scenario.specs.Record.{Record}
+use Rattle.event_list.specs.ScenarioSetting.{setting_of}
+use Rattle.event_list.specs.Seat.{process_of, own_of, IsSeated}
+use Rattle.event_list.specs.Step.{Event}
+use Rattle.event_list.specs.World.{Pair, Has, entries}
+use Rattle.mailboxes.specs.Mailboxes.{SlipView, with_letter}
+use Rattle.windows.specs.Window.{BerthRun}
+use Rattle.windows.specs.declared.berth.Berth.{Berth}
+
+-- the event that a letter becomes
+abbrev pub event_of : Letter → Event
+event_of x = (x.key, input.Letter x.key.sender x.payload)
+
+-- an event that process p causes: one of its own, or a letter to one of processes 1 to n
+abbrev pub IsOwnOrLetter : (n p : ℕ) → Event → Type 0
+IsOwnOrLetter n p e = (e.0.receiver ≡ p) ⊎ ((e.0.receiver ≤ n) × (payload : Payload) × (e.1 ≡ input.Letter e.0.sender payload))
+
+-- a slip after further letters were posted by it, in this order
+abbrev pub with_letters : SlipView → List Letter → SlipView
+with_letters slip [] = slip
+with_letters slip (x ∷ letters) = with_letters (with_letter slip x) letters
+
+module _ {M : Type 0} (mind : M → Mind) (s : Record) where
+  -- process p in its berth: it put at most so much on each link, and its pending events are its own
+  pub record IsBerth (p most : ℕ) (berth : Berth M) : Type 0 where
+    pub seated : IsSeated mind s most berth.seat
+    pub is : own_of mind berth.seat ≡ p
+    pub own : (key : Key) (input : StepInput) → Has berth.pending key input → key.receiver ≡ p
+
+  -- process p took its events below a tick, which made its part of the window, and it posted these letters
+  pub record RanTo (p end : ℕ) (old new : Berth M) (letters : List Letter) : Type 0 where
+    pub history : List Pair
+    pub run : BerthRun (setting_of s) p end (process_of mind old.seat) old.pending history (process_of mind new.seat) new.pending (map event_of letters)
+    pub part : new.part.items ≡ entries history

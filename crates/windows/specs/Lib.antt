@@ -1,0 +1,10 @@
+pub mod Machine
+pub mod Window
+pub mod Theorems
+pub mod Plan
+pub mod Alternation
+pub mod Berth
+pub mod Stage
+pub mod Dealt
+pub mod Jobs
+pub mod Workers

@@ -1,0 +1,94 @@
+-- What a stage of the program stands for.
+use Rattle.std.specs.Prelude.{◌≡◌, ℕ, zero, suc, ◌-◌, ◌*◌, ◌≤◌, List, [], ◌∷◌, ◌++◌, length, map, IsTrue, slice_get, slice_index_or, Some, vec_len}
+use Rattle.std.specs.FinMap as events
+use Rattle.std.specs.List.{All}
+use Rattle.std.specs.List.Sorted.{IsPermutation}
+use Rattle.process_api.specs.EntryRecord.{EntryRecord}
+use Rattle.process_api.specs.Mind.{Mind}
+use Rattle.process_api.specs.Order.{is_rising}
+use Rattle.process_api.specs.declared.message.Letter.{Letter}
+use Rattle.process_api.specs.declared.message.StepInput.TheVariants.{Start}
+use Rattle.scenario.specs.Record.{Record}
+use Rattle.event_list.specs.ScenarioSetting.{setting_of}
+use Rattle.event_list.specs.Seat.{process_of, own_of, IsSeated}
+use Rattle.event_list.specs.Setting.{IsProcess}
+use Rattle.event_list.specs.Standing.{IsReached}
+use Rattle.event_list.specs.Step.{Events}
+use Rattle.event_list.specs.World.{World, IsWorld, joined, start_of, opening_process}
+use Rattle.trace_merge.specs.Parts.{all_of}
+use Rattle.windows.specs.Berth.{event_of, IsBerth}
+use Rattle.windows.specs.Machine.{StageRecord, Act, StandsFor, IsRun, end_of, first_status}
+use Rattle.windows.specs.Theorems.{IsMerge}
+use Rattle.windows.specs.Window.{IsSameStage}
+use Rattle.windows.specs.declared.berth.Berth.{Berth}
+use Rattle.windows.specs.declared.stage.Stage.{Stage}
+
+-- of a list for processes 1 to n, what process p has; another number has what is given
+abbrev pub of_process : {X : Type 0} → (p : ℕ) → List X → X → X
+of_process zero xs none = none
+of_process (suc q) xs none = slice_index_or xs q none
+
+-- the start of a process, alone
+abbrev pub start_event : ℕ → Events
+start_event p = events.insert events.empty (start_of p) Start
+
+-- each set with the letters of its list
+abbrev pub delivered : List Events → List (List Letter) → List Events
+delivered [] lists = []
+delivered (m ∷ ms) [] = []
+delivered (m ∷ ms) (letters ∷ lists) = joined m (map event_of letters) ∷ delivered ms lists
+
+module _ {M : Type 0} (mind : M → Mind) where
+  -- a berth in which nothing was done yet but that its start is pending
+  abbrev pub IsOpened : Record → Berth M → Type 0
+  IsOpened s b = IsSeated mind s 0 b.seat × (b.pending ≡ start_event (own_of mind b.seat)) × (b.part.items ≡ [])
+
+  -- the stage at the opening of a window of this length: nobody holds a process, and no letter is on its way
+  abbrev pub stage_of : (window : ℕ) → Stage M → StageRecord Mind
+  stage_of window stage =
+      let S = setting_of stage.scenario.now in
+      let own : ℕ → Events = λ p. of_process p (map (λ b. b.pending) stage.berths.items) events.empty in
+      record {
+        start = stage.start;
+        process = λ p. of_process p (map (λ b. process_of mind b.seat) stage.berths.items) (opening_process S p);
+        own = own;
+        part = λ p. of_process p (map (λ b. b.part.items) stage.berths.items) [];
+        status = λ p. first_status (end_of S window stage.start) (own p);
+        tray = λ a. events.empty;
+        mailbox = λ r. events.empty;
+      }
+
+  -- each process is in its berth, of process 1 first. It put at most 4,096 letters and wakes on each link for each entry so far
+  pub record AreHome (s : Record) (entries : ℕ) (berths : List (Berth M)) : Type 0 where
+    pub berth : (p : ℕ) → IsProcess (setting_of s) p → (b : Berth M) × (slice_get berths (p - 1) ≡ Some b) × IsBerth mind s p (4096 * entries) b
+
+  -- a stage between two windows: it stands for a world by which the list comes after the entries so far
+  pub record IsStage (stage : Stage M) : Type 0 where
+    pub count : vec_len stage.berths ≡ stage.scenario.now.processes
+    pub home : AreHome stage.scenario.now (vec_len stage.entries) stage.berths.items
+    pub within : vec_len stage.entries ≤ stage.scenario.now.limit
+    pub to_horizon : stage.start ≤ stage.scenario.now.horizon
+    pub world : World Mind
+    pub is_world : IsWorld (setting_of stage.scenario.now) world
+    pub stands : (window : ℕ) → StandsFor (setting_of stage.scenario.now) window (stage_of window stage) world
+    pub reached : IsReached (setting_of stage.scenario.now) world stage.entries.items
+
+  -- The berths that a window left took these letters, of process 1 first, and gave their parts. The entries so far have the parts, merged, at their end, and the next window starts at this tick
+  pub record IsClosed (left end : ℕ) (entries : List EntryRecord) (berths : List (Berth M)) (letters : List (List Letter)) (new : Stage M) : Type 0 where
+    pub seats : map (λ b. b.seat) new.berths.items ≡ map (λ b. b.seat) berths
+    pub pending : map (λ b. b.pending) new.berths.items ≡ delivered (map (λ b. b.pending) berths) letters
+    pub parts : All (λ b. b.part.items ≡ []) new.berths.items
+    pub merged : List EntryRecord
+    pub rising : IsTrue (is_rising merged)
+    pub same : IsPermutation (all_of (map (λ b. b.part.items) berths)) merged
+    pub few : length merged ≤ left
+    pub entries_are : new.entries.items ≡ entries ++ merged
+    pub start : new.start ≡ end
+
+  -- Some run of a window leads from one stage to the other. The entries so far are those from before and that run's parts, merged, and the next window starts where this one ended
+  abbrev pub IsWindowRun : (window : ℕ) → (old new : Stage M) → Type 0
+  IsWindowRun window old new =
+      let S = setting_of old.scenario.now in
+      (acts : List Act) × (found : StageRecord Mind) × (left : StageRecord Mind) × (merged : List EntryRecord)
+      × IsRun S window (end_of S window old.start) (stage_of window old) acts found left × IsSameStage S left (stage_of window new)
+      × IsMerge S.processes found.part merged × (new.entries.items ≡ old.entries.items ++ merged) × (new.start ≡ end_of S window old.start)

@@ -1,0 +1,56 @@
+//! Windows: the same trace by workers that share the processes.
+//!
+//! A window is a half-open stretch of ticks `[w, w + W)`, cut at the horizon and no longer than the lookahead. A letter
+//! from one process to another takes at least the lookahead, so a letter that is sent inside a window is due at its end
+//! or later, and inside the window no process can reach another. Workers may therefore take the processes in any order
+//! and run each by itself (conservative windows, as in textbooks: R. M. Fujimoto, Parallel and Distributed Simulation
+//! Systems, Wiley, 2000). A [`Plan`] says how many workers there are and how long a window is.
+//!
+//! The definition is a machine over single acts (`specs/Machine.antt`). A worker *takes* a process that waits; it makes
+//! a *turn*, the step of the least pending event of the process that it holds, whose letters to others go to the
+//! worker's tray; it *posts* a letter from its tray to the mailbox of the receiver; and it *returns* a process that has
+//! no event below the window's end. When all processes are done the window *closes*: each mailbox moves into its
+//! receiver's pending events, and the next window opens. A run is any list of allowed acts whose one close is the last.
+//!
+//! [`law_any_order`] says that the order of the acts means nothing (`specs/Theorems.antt`). From a stage that stands for
+//! a world of the event list, each run closes on a stage that stands for the world after exactly the list's steps below
+//! the window's end; the processes' parts of the trace, merged, are these steps' entries; any two runs close alike; and
+//! one of them makes its turns in the list's own order. Windows one after the other, from the opening up to the
+//! horizon, make the trace. What each process makes of a window by itself (`specs/Window.antt`) is what some run makes,
+//! so it is enough to run each process to the window's end, wherever and whenever that happens.
+//!
+//! The code runs it so. A [`Stage`] has a [`Berth`] for each process: its machine, its pending events, and its part of
+//! the trace. [`run_window`] puts the processes that have an event below the window's end into a queue of jobs and
+//! starts workers, each a thread; a worker takes a berth, tells the [`Gate`], and has [`run_berth`] run it to the
+//! window's end. When all workers are joined, the mailboxes are emptied and the parts are merged. The one contract for
+//! the layers above is that of [`run_windows`]: on `Ok`, under every schedule of the threads, it gives the trace that
+//! the event list gives.
+//!
+//! As an example, two processes send each other letters that take 2 ticks, one at tick 0 and one every 4 ticks, look at
+//! each other every 3 ticks, and the second crashes at tick 3; the horizon is 10. Windows of 2 ticks have 2, 4, 2, 2 and
+//! 2 entries, whoever runs first in each.
+#![tactic(auto)]
+
+mod berth;
+mod dealt;
+mod error;
+mod gate;
+mod gather;
+mod jobs;
+mod laws;
+mod plan;
+mod run;
+mod stage;
+#[cfg(test)]
+mod tests;
+mod window;
+mod workers;
+
+pub use berth::{Berth, run_berth};
+pub use error::PlanError;
+pub use gate::{Gate, OpenGate};
+pub use laws::law_any_order;
+pub use plan::Plan;
+pub use run::run_windows;
+pub use stage::Stage;
+pub use window::run_window;

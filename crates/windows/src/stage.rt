@@ -1,0 +1,197 @@
+//! All processes between two windows.
+ghost use Rattle.std.specs.Prelude.{◌≡◌, ◌≤◌, ◌<◌, ◌+◌, ◌++◌, [], ℕ, List, map, vec_len, length, IfErr, IfOk, OnOk, IsErrOf, IsTrue, ◌⊎◌, IsPermutation, nat_eq};
+ghost use Rattle.std.specs.List.{All};
+ghost use Rattle.process_api.specs.EntryRecord.{EntryRecord};
+ghost use Rattle.process_api.specs.Mind.{Mind};
+ghost use Rattle.process_api.specs.Numbers.{numbers_to};
+ghost use Rattle.process_api.specs.Order.{is_rising};
+ghost use Rattle.scenario.specs.Record.{opening_mind};
+ghost use Rattle.event_list.specs.ScenarioSetting.{setting_of};
+ghost use Rattle.event_list.specs.Seat.{process_of, own_of, IsMindIn, IsSeated};
+ghost use Rattle.event_list.specs.World.{opened, opening, joined};
+ghost use Rattle.mailboxes.specs.Mailboxes.{letters_in};
+ghost use Rattle.trace_merge.specs.Parts.{all_of, AreDisjoint};
+ghost use Rattle.windows.specs.Berth.{event_of};
+ghost use Rattle.windows.specs.Machine.{StandsFor};
+ghost use Rattle.windows.specs.Stage.{stage_of, start_event, delivered, IsOpened, IsClosed, IsStage};
+
+use crate::berth::Berth;
+use event_list::{Pending, RunError};
+use process_api::{Entry, Key, Letter, Pid, Process, StepInput};
+use scenario::Scenario;
+use std::alloc::{AllocError, Global};
+use std::mem::replace;
+use trace_merge::merge;
+
+/// All processes of a scenario between two windows: each in its berth, the tick at which the next window starts, and
+/// the trace's entries so far. The parameter has no bound here, so that machines may be boxed.
+#[derive(Drop)]
+pub struct Stage<'s, M> {
+    pub(crate) scenario: &'s Scenario,
+    // of process 1 first
+    pub(crate) berths: Vec<Berth<M>>,
+    pub(crate) start: u32,
+    // in the order of their keys
+    pub(crate) entries: Vec<Entry>,
+}
+
+/// The start of a process, alone.
+fn start_of(alloc: Global, p: Pid) -> Result<Pending, AllocError>
+    ensures { IfOk result (λ m. m ≡ start_event p) }
+{
+    let mut pending = Pending::new(alloc);
+    let key = Key {
+        tick: 0,
+        receiver: p,
+        sender: p,
+        number: 0,
+    };
+    pending.join(key, StepInput::Start)?;
+    Ok(pending)
+}
+
+/// The machines, each in its berth with its start.
+fn berths_of<M: Process>(
+    alloc: Global,
+    scenario: &Scenario,
+    machines: Vec<M>,
+) -> Result<Vec<Berth<M>>, AllocError>
+    requires { All (λ m. IsMindIn scenario.now (M.mind m)) machines.items }
+    ensures processes { IfOk result (λ v. map (λ b. process_of M.mind b.seat) v.items ≡ map opened (map M.mind machines.items)) }
+    ensures berths { IfOk result (λ v. All (IsOpened M.mind scenario.now) v.items) }
+{
+    let mut berths = Vec::new(alloc);
+    for machine in machines {
+        let pending = start_of(alloc, machine.pid())?;
+        berths.push(Berth::new(alloc, scenario, machine, pending)?)?;
+    }
+    Ok(berths)
+}
+
+/// A berth takes the letters of its mailbox, and gives its part of the window. The letters are used up.
+fn deliver<M: Process>(
+    alloc: Global,
+    berth: &mut Berth<M>,
+    letters: Vec<Letter>,
+) -> Result<Vec<Entry>, AllocError>
+    ensures seat { OnOk result (berth.new.seat ≡ berth.old.seat) }
+    ensures pending { OnOk result (berth.new.pending ≡ joined berth.old.pending (map event_of letters.items)) }
+    ensures part { OnOk result (berth.new.part.items ≡ []) }
+    ensures entries { IfOk result (λ v. v.items ≡ berth.old.part.items) }
+{
+    for letter in letters {
+        let Letter { key, payload } = letter;
+        let sender = key.sender;
+        berth
+            .pending
+            .join(key, StepInput::Letter { sender, payload })?;
+    }
+    Ok(replace(&mut berth.part, Vec::new(alloc)))
+}
+
+/// Each berth takes the letters of its mailbox and gives its part of the window. Both lists have process 1 first.
+fn deliver_all<M: Process>(
+    alloc: Global,
+    berths: Vec<Berth<M>>,
+    letters: Vec<Vec<Letter>>,
+) -> Result<(Vec<Berth<M>>, Vec<Vec<Entry>>), AllocError>
+    requires { vec_len letters ≡ vec_len berths }
+    ensures seats { IfOk result (λ r. map (λ b. b.seat) r.0.items ≡ map (λ b. b.seat) berths.items) }
+    ensures pending { IfOk result (λ r. map (λ b. b.pending) r.0.items ≡ delivered (map (λ b. b.pending) berths.items) (letters_in letters.items)) }
+    ensures empty { IfOk result (λ r. All (λ b. b.part.items ≡ []) r.0.items) }
+    ensures parts { IfOk result (λ r. map (λ v. v.items) r.1.items ≡ map (λ b. b.part.items) berths.items) }
+{
+    let mut done = Vec::with_capacity(alloc, berths.len())?;
+    let mut parts = Vec::with_capacity(alloc, berths.len())?;
+    let mut lists = letters.into_iter();
+    for mut berth in berths {
+        let Some(list) = lists.next() else {
+            unreachable!()
+        };
+        parts.push(deliver(alloc, &mut berth, list)?)?;
+        done.push(berth)?;
+    }
+    Ok((done, parts))
+}
+
+impl<'s, M: Process> Stage<'s, M> {
+    /// The stage at the opening of a run: each machine has its start pending, and there is no entry. There is one
+    /// machine for each process, of process 1 first, and each opens as the scenario says.
+    ///
+    /// # Errors
+    ///
+    /// `Memory` where memory was refused.
+    pub fn open(
+        alloc: Global,
+        scenario: &'s Scenario,
+        machines: Vec<M>,
+    ) -> Result<Stage<'s, M>, RunError>
+        requires { map M.mind machines.items ≡ map (opening_mind scenario.now) (numbers_to scenario.now.processes) }
+
+        ensures scenario { IfOk result (λ g. g.scenario.now ≡ scenario.now) }
+        ensures opening { IfOk result (λ g. (window : ℕ) → StandsFor (setting_of scenario.now) window (stage_of M.mind window g) (opening (setting_of scenario.now))) }
+        ensures start { IfOk result (λ g. g.start ≡ 0) }
+        ensures none { IfOk result (λ g. g.entries.items ≡ []) }
+        ensures stage { IfOk result (IsStage M.mind) }
+        ensures errors { IfErr result (λ e. e ≡ RunError.Memory) }
+    {
+        let _processes = scenario.processes();
+        let berths = berths_of(alloc, scenario, machines)?;
+        Ok(Stage {
+            scenario,
+            berths,
+            start: 0,
+            entries: Vec::new(alloc),
+        })
+    }
+
+    /// The first tick of the next window, 0 to the horizon.
+    pub fn start(&self) -> u32
+        ensures { result ≡ self.now.start }
+    {
+        self.start
+    }
+
+    /// Whether the run has come to the horizon.
+    pub fn finished(&self) -> bool
+        ensures { result ≡ nat_eq self.now.start self.now.scenario.now.horizon }
+    {
+        self.start == self.scenario.horizon()
+    }
+
+    /// Closes a window: the berths that its workers left, of process 1 first, take the letters of their mailboxes, and
+    /// their parts are merged and join the entries so far. The next window starts at tick `end`. At most `left` entries
+    /// may join.
+    ///
+    /// # Errors
+    ///
+    /// `Limit` where the parts have more than `left` entries together, and `Memory` where memory was refused. The stage
+    /// may only be dropped then.
+    pub(crate) fn close(
+        &mut self,
+        alloc: Global,
+        berths: Vec<Berth<M>>,
+        letters: Vec<Vec<Letter>>,
+        end: u32,
+        left: u64,
+    ) -> Result<(), RunError>
+        requires lists { vec_len letters ≡ vec_len berths }
+        requires rising { All (λ b. IsTrue (is_rising b.part.items)) berths.items }
+        requires disjoint { AreDisjoint (map (λ b. b.part.items) berths.items) }
+
+        ensures scenario { self.new.scenario.now ≡ self.old.scenario.now }
+        ensures closed { OnOk result (IsClosed M.mind left end self.old.entries.items berths.items (letters_in letters.items) self.new) }
+        ensures errors { IfErr result (λ e. (e ≡ RunError.Limit) ⊎ (e ≡ RunError.Memory)) }
+        ensures limit { IsErrOf result RunError.Limit → left < length (all_of (map (λ b. b.part.items) berths.items)) }
+    {
+        let (berths, parts) = deliver_all(alloc, berths, letters)?;
+        let mut merged = merge(alloc, parts)?;
+        if merged.len() as u64 > left {
+            return Err(RunError::Limit);
+        }
+        self.entries.append(&mut merged)?;
+        self.berths = berths;
+        self.start = end;
+        Ok(())
+    }
+}
