@@ -156,12 +156,20 @@ fn accepted(rt: HostRuntime) -> Result<(), Fail> {
     Ok(())
 }
 
+#[test]
+fn no_words(rt: HostRuntime) -> Result<(), Fail> {
+    let ran = run(&rt, rt.alloc(), &[], ONE_CRASH.as_bytes())?;
+    assert_eq!(rt; ran.faults.as_str(), "fdbench: words: Form\n");
+    assert_eq!(rt; ran.out.as_str(), "");
+    assert_eq!(rt; ran.status, 2);
+    Ok(())
+}
+
 /// Where `clap` takes the words but something is missing, the line names no more than that.
 #[test]
 fn missing(rt: HostRuntime) -> Result<(), Fail> {
     let alloc = rt.alloc();
     for words in [
-        [].as_slice(),
         ["check"].as_slice(),
         ["list"].as_slice(),
         ["list", "--print", "trace"].as_slice(),
