@@ -1,7 +1,6 @@
 -- What is told of a run in a few numbers.
 use Rattle.std.specs.Prelude.{◌≡◌, List, length}
 use Rattle.std.specs.List.{sum_by}
-use Rattle.judges.specs.Agreement.{Agree, IsCoordinated}
 use Rattle.judges.specs.Outcomes.{outcomes}
 use Rattle.process_api.specs.EntryRecord.{EntryRecord}
 use Rattle.scenario.specs.Record.{Record}
@@ -13,5 +12,3 @@ pub record IsSummary (S : Record) (trace : List EntryRecord) (summary : Summary)
   pub sent : summary.sent ≡ sum_by (λ e. e.sent) trace
   pub lost : summary.lost ≡ sum_by (λ e. e.lost) trace
   pub decided : summary.outcomes.items ≡ outcomes trace S.processes
-  -- in the trace of a scenario with the rotating coordinator they agree
-  pub agreed : IsCoordinated S trace → Agree S summary.outcomes.items

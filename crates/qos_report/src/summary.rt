@@ -1,6 +1,7 @@
 //! What is told of a run in a few numbers.
 ghost use Rattle.std.specs.Prelude.{◌≡◌, IfOk, length};
 ghost use Rattle.std.specs.List.{sum_by};
+ghost use Rattle.judges.specs.Agreement.{Agree, IsCoordinated};
 ghost use Rattle.qos_report.specs.Summary.{IsSummary};
 
 use judges::{Outcome, decisions};
@@ -37,7 +38,7 @@ fn count_letters(entries: &[Entry]) -> (u128, u128)
     (sent, lost)
 }
 
-/// The summary of a finished trace.
+/// The summary of a finished trace. In the trace of a scenario with the rotating coordinator its outcomes agree.
 ///
 /// # Errors
 ///
@@ -47,7 +48,8 @@ pub(crate) fn summarize(
     scenario: &Scenario,
     trace: &Trace,
 ) -> Result<Summary, AllocError>
-    ensures { IfOk result (IsSummary scenario.now trace.now) }
+    ensures summed { IfOk result (IsSummary scenario.now trace.now) }
+    ensures agree { IfOk result (λ summary. IsCoordinated scenario.now trace.now → Agree scenario.now summary.outcomes.items) }
 {
     let entries = trace.entries();
     let (sent, lost) = count_letters(entries);

@@ -4,6 +4,7 @@ ghost use Rattle.std.specs.Io.KnownBytes.{Appends};
 ghost use Rattle.qos_report.specs.Outlet.{Grows};
 ghost use Rattle.qos_report.specs.Printed.{printed};
 ghost use Rattle.qos_report.specs.ReportText.{report_text};
+ghost use Rattle.judges.specs.Agreement.{Agree, IsCoordinated};
 ghost use Rattle.qos_report.specs.Summary.{IsSummary};
 ghost use Rattle.qos_report.specs.TraceText.{trace_text};
 
@@ -128,6 +129,7 @@ pub(crate) fn write_run<O: Outlet>(
     requires { O.failed outlet.old < 2 ^ 64 - 1 }
     ensures whole { IfOk result (λ summary. Appends (O.told outlet.old) (O.told outlet.new) (printed print scenario.now trace.now) × (O.failed outlet.new ≡ O.failed outlet.old)) }
     ensures summed { IfOk result (IsSummary scenario.now trace.now) }
+    ensures agree { IfOk result (λ summary. IsCoordinated scenario.now trace.now → Agree scenario.now summary.outcomes.items) }
     ensures part { result ≡ Err RunError.Write → Grows (O.told outlet.old) (O.told outlet.new) (printed print scenario.now trace.now) × (O.failed outlet.new ≡ O.failed outlet.old + 1) }
     ensures memory { result ≡ Err RunError.Memory → (O.told outlet.new ≡ O.told outlet.old) × (O.failed outlet.new ≡ O.failed outlet.old) }
     ensures only { (result ≢ Err RunError.Limit) × (result ≢ Err RunError.Spawn) }

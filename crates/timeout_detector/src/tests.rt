@@ -202,17 +202,19 @@ fn suspicion_taken_back_at_once(rt: HostRuntime) -> Result<(), Fail> {
     )
 }
 
-/// Each process watches the next one alone, and sends to all others.
+/// Numbers under which each process watches the next one alone.
+const WATCH_NEXT: DetectorNumbers = DetectorNumbers {
+    period: 2,
+    check: 3,
+    timeout: 5,
+    grow: 1,
+    watch: Watch::Next,
+};
+
+/// The first of three watches the second, and sends to all others.
 #[test]
-fn next_of_three(rt: HostRuntime) -> Result<(), Fail> {
-    let numbers = DetectorNumbers {
-        period: 2,
-        check: 3,
-        timeout: 5,
-        grow: 1,
-        watch: Watch::Next,
-    };
-    let mut first = open(rt.alloc(), 1, 3, 20, numbers)?;
+fn first_of_three(rt: HostRuntime) -> Result<(), Fail> {
+    let mut first = open(rt.alloc(), 1, 3, 20, WATCH_NEXT)?;
     drive(
         &rt,
         rt.alloc(),
@@ -226,20 +228,30 @@ fn next_of_three(rt: HostRuntime) -> Result<(), Fail> {
             (100, Check, "check+3"),
             (101, AliveFrom(4), ""),
         ],
-    )?;
-    let mut third = open(rt.alloc(), 3, 3, 20, numbers)?;
+    )
+}
+
+/// The last of three watches the first.
+#[test]
+fn last_of_three(rt: HostRuntime) -> Result<(), Fail> {
+    let mut last = open(rt.alloc(), 3, 3, 20, WATCH_NEXT)?;
     drive(
         &rt,
         rt.alloc(),
-        &mut third,
+        &mut last,
         &[
             (0, Start, "alive:1 alive:2 beat+2 check+3"),
             (2, AliveFrom(1), ""),
             (6, Check, "check+3"),
             (7, Check, "suspect:1:1 check+3"),
         ],
-    )?;
-    let mut alone = open(rt.alloc(), 1, 1, 20, numbers)?;
+    )
+}
+
+/// A process that is alone watches nobody.
+#[test]
+fn alone(rt: HostRuntime) -> Result<(), Fail> {
+    let mut alone = open(rt.alloc(), 1, 1, 20, WATCH_NEXT)?;
     drive(
         &rt,
         rt.alloc(),
@@ -248,17 +260,19 @@ fn next_of_three(rt: HostRuntime) -> Result<(), Fail> {
     )
 }
 
-/// Bounds grow with each mistake: 2, 5, 8 and no further than the horizon; a bound above the horizon stays.
+/// Numbers under which a bound grows by 3 ticks with each mistake.
+const GROWING: DetectorNumbers = DetectorNumbers {
+    period: 9,
+    check: 1,
+    timeout: 2,
+    grow: 3,
+    watch: Watch::All,
+};
+
+/// Bounds grow with each mistake: 2, 5, 8 and no further than the horizon.
 #[test]
 fn grown_bounds(rt: HostRuntime) -> Result<(), Fail> {
-    let numbers = DetectorNumbers {
-        period: 9,
-        check: 1,
-        timeout: 2,
-        grow: 3,
-        watch: Watch::All,
-    };
-    let mut machine = open(rt.alloc(), 1, 2, 9, numbers)?;
+    let mut machine = open(rt.alloc(), 1, 2, 9, GROWING)?;
     drive(
         &rt,
         rt.alloc(),
@@ -276,10 +290,15 @@ fn grown_bounds(rt: HostRuntime) -> Result<(), Fail> {
             (28, Check, "check+1"),
             (29, Check, "suspect:1:2 check+1"),
         ],
-    )?;
+    )
+}
+
+/// A bound above the horizon stays.
+#[test]
+fn bound_above_the_horizon(rt: HostRuntime) -> Result<(), Fail> {
     let long = DetectorNumbers {
         timeout: 12,
-        ..numbers
+        ..GROWING
     };
     let mut patient = open(rt.alloc(), 1, 2, 9, long)?;
     drive(

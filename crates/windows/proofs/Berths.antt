@@ -1,6 +1,5 @@
 -- A run of a berth, event by event.
-use Rattle.std.proofs.Common.{◌≡◌, ◌⊎◌, inl, inr, ℕ, ◌<◌, ◌≤◌, ◌+◌, suc, arith, length, length-append, refl, sym, ap, ◌∙◌, subst, List, [], ◌∷◌, ◌++◌, append_assoc, append-nil, map, true, false, cond, Bool, nat_eq, ⊎_elim}
-use Rattle.std.specs.List.{filter}
+use Rattle.std.proofs.Common.{◌≡◌, ℕ, ◌<◌, ◌≤◌, arith, length, length-append, refl, sym, ap, ◌∙◌, subst, List, [], ◌∷◌, ◌++◌, append_assoc, append-nil, true, false, cond, nat_eq, ⊎_elim}
 use Rattle.std.proofs.lemmas.List.{map-append, length-map}
 use borrow.Author.Tests.{eqb-true}
 use Rattle.std.specs.FinMap as events

@@ -1,11 +1,10 @@
 -- What the closing of a window leaves.
-use Rattle.std.proofs.Common.{◌≡◌, ◌≢◌, ◌⊎◌, ◌↔◌, ℕ, zero, suc, ◌+◌, ◌-◌, ◌*◌, ◌<◌, ◌≤◌, inl, inr, refl, sym, ap, ◌∙◌, subst, List, [], ◌∷◌, ◌++◌, Some, length, map, slice_get, arith, append_assoc, append-nil, length-append, vec_len, Contains, Bool, true, false, cond, nat_eq, unwrap_or}
+use Rattle.std.proofs.Common.{◌≡◌, ◌⊎◌, ◌↔◌, ℕ, suc, ◌+◌, ◌-◌, ◌*◌, ◌<◌, ◌≤◌, inl, inr, refl, sym, ap, ◌∙◌, subst, List, [], ◌∷◌, ◌++◌, Some, length, map, slice_get, arith, append_assoc, append-nil, length-append, vec_len, Bool, true, false, cond, nat_eq, unwrap_or}
 use Rattle.std.specs.Prelude.{IsTrue}
 use Rattle.std.proofs.lemmas.Option.{slice_get_within}
 use Rattle.std.proofs.lemmas.Bool.{cases_lt}
 use Rattle.std.specs.FinMap as finmap
 use Rattle.std.specs.List.{All}
-use Rattle.std.specs.List.Sorted.{IsPermutation}
 use Rattle.std.proofs.lemmas.List.{length-map}
 use Rattle.std.proofs.lemmas.List.Sorted.{length_permutation, Contains-permutation, IsPermutation-sym}
 use Rattle.process_api.specs.EntryRecord.{EntryRecord}
@@ -22,7 +21,7 @@ use Rattle.event_list.specs.Seat.{process_of, own_of, IsSeated}
 use Rattle.event_list.specs.Setting.{Setting, IsSound, IsProcess}
 use Rattle.event_list.specs.Standing.{IsReached}
 use Rattle.event_list.specs.Step.{Event, Events, Process}
-use Rattle.event_list.specs.World.{World, IsWorld, Has, IsLeast, NoneBelow, Run, taken, joined, entries, opening_process, IsTrace}
+use Rattle.event_list.specs.World.{World, IsWorld, Has, NoneBelow, Run, taken, joined, entries, opening_process, IsTrace}
 use Rattle.event_list.proofs.Closed.{closed_of_run}
 use Rattle.event_list.proofs.Pairs.{in_pairs}
 use Rattle.event_list.proofs.Reaching.{reached_next, reached_end}
@@ -34,7 +33,7 @@ use Rattle.trace_merge.specs.Parts.{all_of, AreDisjoint}
 use Rattle.windows.specs.Berth.{event_of, RanTo, IsBerth}
 use Rattle.windows.specs.Machine.{StageRecord, Act, StandsFor, IsRun, end_of, first_status}
 use Rattle.windows.specs.Theorems.{IsListRun, IsMerge}
-use Rattle.windows.specs.Stage.{of_process, stage_of, delivered, AreHome, IsStage, IsClosed, IsWindowRun}
+use Rattle.windows.specs.Stage.{of_process, stage_of, AreHome, IsStage, IsClosed, IsWindowRun}
 use Rattle.windows.specs.Window.{BerthRun, IsPosted, AreBerths, IsSameStage}
 use Rattle.windows.specs.declared.berth.Berth.{Berth}
 use Rattle.windows.specs.declared.stage.Stage.{Stage}

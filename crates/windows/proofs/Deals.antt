@@ -1,15 +1,15 @@
 -- Each move keeps the rule of the dealt queue.
-use Rattle.std.proofs.Common.{◌≡◌, ◌≢◌, ◌≤◌, ◌-◌, ℕ, zero, suc, ◌+◌, List, [], ◌∷◌, ◌++◌, set, sym, refl, ap, ◌∙◌, subst, append_assoc, append-nil, arith, ⊎_elim}
+use Rattle.std.proofs.Common.{◌≡◌, ◌≢◌, ◌≤◌, ◌-◌, ℕ, zero, suc, ◌+◌, List, [], ◌∷◌, ◌++◌, set, sym, refl, ap, ◌∙◌, subst, append_assoc, arith, ⊎_elim}
 use Rattle.std.proofs.lemmas.List.Sums.{sum_by-cons, sum_by-append}
 use Rattle.std.proofs.lemmas.List.Sorted.{IsPermutation-refl, IsPermutation-append_left, IsPermutation-trans, IsPermutation-sym, IsPermutation-middle, Contains-permutation}
-use Rattle.std.specs.List.{flat_map, sum_by, Contains}
+use Rattle.std.specs.List.{Contains}
 use Rattle.std.specs.List.Sorted.{IsPermutation}
 use mathlib.Core.Option.{some, some-injective, some-ne-none}
 use lib.ListN.{get_elem?}
 use Rattle.crossbeam_queue.specs.Fifo.{Pushes, Pops, Forks, Merges, Learns}
 use Rattle.crossbeam_queue.proofs.Lists.{at_set, at_snoc, set_else}
 use Rattle.windows.specs.declared.dealt.Deal.{Deal}
-use Rattle.windows.specs.Dealt.{deal, IdleIsEmpty, IsKnown, taken_by_all, AllDealt}
+use Rattle.windows.specs.Dealt.{deal, taken_by_all, AllDealt}
 use Rattle.mailboxes.proofs.Totals.{total_set, gather_same, gather_more}
 use Rattle.windows.proofs.Passes.{one_set, handed, others_idle, alone, last_part}
 

@@ -1,24 +1,24 @@
 -- What is brought together after a window.
 use Rattle.std.proofs.Common.{◌≡◌, ◌⊎◌, ◌↔◌, ℕ, zero, suc, ◌+◌, ◌-◌, ◌<◌, ◌≤◌, inl, inr, List, [], ◌∷◌, ◌++◌, length, map, replicate, set, get_or, refl, sym, ap, ◌∙◌, subst, append_assoc, append-nil, vec_len, arith}
-use Rattle.std.specs.List.{All, Contains, flat_map, swap}
+use Rattle.std.specs.List.{All, swap}
 use Rattle.std.specs.List.Sorted.{IsPermutation, IsNonDecreasingBy, apply_swaps, SwapsInRange}
-use Rattle.std.proofs.lemmas.List.{map-append, map-set, get_or-map, length-map, length-set}
+use Rattle.std.proofs.lemmas.List.{map-append, map-set, length-map, length-set}
 use Rattle.std.proofs.lemmas.List.Concat.{flat_map-append}
 use Rattle.std.proofs.lemmas.List.Elements.{All-nil, All-cons, All-head, All-tail, All-append, Contains-append_left}
-use Rattle.std.proofs.lemmas.List.Sorted.{IsPermutation-refl, IsPermutation-trans, IsPermutation-sym, IsPermutation-middle, IsPermutation-append_left, IsPermutation-push_more, IsPermutation-map, All-permutation, Contains-permutation, length_permutation}
+use Rattle.std.proofs.lemmas.List.Sorted.{IsPermutation-trans, IsPermutation-sym, IsPermutation-middle, IsPermutation-append_left, IsPermutation-push_more, IsPermutation-map, All-permutation, Contains-permutation, length_permutation}
 use Rattle.atomic_table.specs.Seated.{TableId}
 use Rattle.process_api.specs.Mind.{Mind}
 use Rattle.process_api.specs.declared.message.Letter.{Letter}
 use Rattle.scenario.specs.Record.{Record}
 use Rattle.mailboxes.specs.Mailbox.{MailboxId}
-use Rattle.mailboxes.specs.Mailboxes.{SlipView, IsSlipOf, unused, with_letter, list_of, posted_to, letters_in}
+use Rattle.mailboxes.specs.Mailboxes.{SlipView, IsSlipOf, unused, with_letter, list_of, posted_to}
 use Rattle.event_list.specs.History.{IsIn}
 use Rattle.event_list.specs.Seat.{own_of}
 use Rattle.event_list.specs.World.{NoneBelow}
 use Rattle.windows.proofs.Members.{contains_in, in_contains}
 use Rattle.windows.proofs.Ranked.{rises_same, sorted_is}
 use Rattle.event_list.proofs.Steps.{in_append, in_left, in_right}
-use Rattle.windows.specs.Berth.{IsBerth, RanTo, with_letters}
+use Rattle.windows.specs.Berth.{IsBerth, with_letters}
 use Rattle.windows.specs.Jobs.{TakerView, DealerView, taker_of}
 use Rattle.windows.specs.Workers.{Stay, stay, taken_in, left_in, all_stays, with_stays, IsSent, IsStay, IsReady, IsWork, AreWorks, AreRun, IsRest, HasLong, IsOutcome, RiseBy}
 use Rattle.windows.specs.declared.berth.Berth.{Berth}

@@ -1,8 +1,7 @@
 -- What one step sends.
-use Rattle.std.proofs.Common.{◌≡◌, ◌≢◌, ◌⊎◌, ℕ, ◌+◌, ◌≤◌, inl, inr, refl, sym, ap, ◌∙◌, subst, Bool, true, false, cond, not, List, [], ◌∷◌, ◌++◌, map, arith, nat_lt, nat_eq, IsTrue}
+use Rattle.std.proofs.Common.{◌≡◌, ◌≢◌, ℕ, ◌+◌, ◌≤◌, inl, inr, refl, sym, ap, ◌∙◌, Bool, true, false, cond, not, List, [], ◌∷◌, ◌++◌, nat_lt, nat_eq, IsTrue}
 use Rattle.std.specs.List.{AllByRecursion}
 use Rattle.std.proofs.lemmas.List.Elements.{recursion_from_All}
-use borrow.Author.Tests.{eqb-true, eqb-false}
 use Rattle.process_api.specs.Actions.{IsAllowed}
 use Rattle.process_api.specs.Mind.{Mind, is_mind_at}
 use Rattle.process_api.specs.React.{react}
@@ -21,12 +20,11 @@ use Rattle.scenario.specs.Record.{Record, place_in}
 use Rattle.streams.specs.declared.fate.Fate.{Fate}
 use Rattle.streams.specs.declared.fate.Fate.TheVariants as fate
 use Rattle.event_list.specs.ScenarioSetting.{setting_of}
-use Rattle.event_list.specs.Seat.{process_of, own_of, IsSeated}
 use Rattle.event_list.specs.Setting.{Setting, has_crashed}
 use Rattle.event_list.specs.Step.{Event, Events, Process, Made, in_time, by_fate, joining, counted, added, step, made_by, dead}
 use Rattle.event_list.specs.World.{joined}
 use Rattle.mailboxes.specs.Mailboxes.{SlipView, with_letter}
-use Rattle.windows.specs.Berth.{event_of, IsOwnOrLetter, with_letters}
+use Rattle.windows.specs.Berth.{IsOwnOrLetter, with_letters}
 use Rattle.windows.specs.Machine.{for_self, for_others}
 
 -- the events of one more

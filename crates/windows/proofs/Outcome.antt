@@ -1,16 +1,16 @@
 -- What the processes of a window come to together, each by its own run.
-use Rattle.std.proofs.Common.{◌≡◌, ◌≢◌, ◌⊎◌, ℕ, ◌+◌, ◌<◌, ◌≤◌, inl, inr, refl, sym, ap, ◌∙◌, subst, List, [], ◌∷◌, arith}
+use Rattle.std.proofs.Common.{◌≡◌, ℕ, ◌+◌, ◌≤◌, inr, subst, List}
 use Rattle.process_api.specs.declared.key.Key.{Key}
 use Rattle.process_api.specs.declared.message.StepInput.{StepInput}
 use Rattle.event_list.specs.Setting.{Setting, IsSound, IsProcess}
 use Rattle.event_list.specs.Step.{Event, Events, Process}
-use Rattle.event_list.specs.World.{World, Has, NoneBelow, IsWorld, Run, entries}
+use Rattle.event_list.specs.World.{World, Has, IsWorld, Run}
 use Rattle.event_list.specs.History.{IsIn, Pair, pairs_of}
 use Rattle.event_list.proofs.Runs.{run_exists, one_run}
 use Rattle.windows.specs.Machine.{StageRecord, end_of, StandsFor}
 use Rattle.windows.specs.Window.{BerthRun}
 use Rattle.windows.proofs.Family.{IsFamily, runs_apart}
-use Rattle.windows.proofs.Solo.{IsAlone, IsSolo, solo, berth_exists}
+use Rattle.windows.proofs.Solo.{IsAlone, solo, berth_exists}
 use Rattle.windows.proofs.Order.{reach, alone, first_family}
 
 module _ {Mind : Type 0} (S : Setting Mind) (sound : IsSound S) (window : ℕ) (short : window ≤ S.lookahead)

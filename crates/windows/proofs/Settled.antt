@@ -1,6 +1,5 @@
 -- What the runs of a window's processes make of a stage.
-use Rattle.std.proofs.Common.{◌≡◌, ◌↔◌, ℕ, zero, suc, ◌+◌, ◌-◌, ◌*◌, ◌<◌, ◌≤◌, inl, inr, refl, sym, ap, ◌∙◌, subst, List, [], ◌∷◌, Some, length, map, slice_get, arith, vec_len}
-use Rattle.std.specs.FinMap as finmap
+use Rattle.std.proofs.Common.{◌≡◌, ◌↔◌, ℕ, zero, suc, ◌+◌, ◌-◌, ◌*◌, ◌<◌, ◌≤◌, inl, inr, refl, sym, ap, ◌∙◌, subst, List, [], ◌∷◌, Some, length, map, slice_get, arith, vec_len, Result, Ok, Err, OnOk}
 use Rattle.std.specs.List.{All}
 use Rattle.std.specs.Prelude.{IsTrue}
 use Rattle.std.proofs.lemmas.List.{length-map}
@@ -11,25 +10,24 @@ use Rattle.process_api.specs.Order.{is_rising}
 use Rattle.process_api.specs.declared.message.Letter.{Letter}
 use Rattle.scenario.specs.Ranges.{IsInRange}
 use Rattle.scenario.specs.Record.{Record}
-use Rattle.event_list.specs.History.{IsIn, Pair}
+use Rattle.event_list.specs.History.{IsIn}
 use Rattle.event_list.specs.ScenarioSetting.{setting_of}
 use Rattle.event_list.specs.Seat.{process_of, own_of}
 use Rattle.event_list.specs.Setting.{Setting, IsProcess}
-use Rattle.event_list.specs.Step.{Event, Events, Process}
 use Rattle.event_list.specs.World.{IsTrace}
 use Rattle.event_list.proofs.Sets.{not_None, same_Some}
 use Rattle.mailboxes.specs.Mailboxes.{list_of}
 use Rattle.trace_merge.specs.Parts.{all_of, AreDisjoint}
 use Rattle.windows.specs.Berth.{event_of, RanTo, IsBerth}
 use Rattle.windows.specs.Machine.{end_of}
-use Rattle.windows.specs.Stage.{stage_of, IsStage, IsClosed, IsWindowRun}
+use Rattle.windows.specs.Stage.{IsStage, IsClosed, IsWindowRun}
 use Rattle.windows.specs.Window.{BerthRun}
-use Rattle.windows.specs.Workers.{Stay, taken_in, left_in, IsReady, IsStay, IsLong, HasLong, IsOutcome, IsSent, AllAbove, RiseBy}
+use Rattle.windows.specs.Workers.{Stay, IsReady, IsStay, HasLong, IsOutcome, AllAbove, RiseBy}
 use Rattle.windows.specs.declared.berth.Berth.{Berth}
 use Rattle.windows.specs.declared.stage.Stage.{Stage}
 use Rattle.windows.proofs.Closing.{choice, all, run_of, map_in, berth_limit, parts_rising, parts_disjoint, parts_limit, next_stage}
 use Rattle.windows.proofs.Members.{contains_in}
-use Rattle.windows.proofs.Places.{there, there_map, from_map, at_process, all_at, all_place}
+use Rattle.windows.proofs.Places.{there, there_map, at_process, all_at, all_place}
 
 -- where an element stands
 in_place : {X : Type 0} (xs : List X) (x : X) → IsIn x xs → (i : ℕ) × (slice_get xs i ≡ Some x)
@@ -186,3 +184,23 @@ module _ {M : Type 0} (mind : M → Mind) (old : Stage M) (ranges : IsInRange ol
 
       pub outcome_next : (new : Stage M) → new.scenario.now ≡ old.scenario.now → (left : ℕ) → left + vec_len old.entries ≡ s.limit → IsClosed mind left end old.entries.items news lists new → IsStage mind new × IsWindowRun mind window old new
       outcome_next new same left sum closed = next_stage mind old ranges is window short news news_many letters.0 ran lists o.count posted new same left sum closed home
+
+-- ---- for the code: the same facts of values that are equal
+
+pub sum_of : (limit len most n : ℕ) → limit ≡ most → len ≡ n → n ≤ most → (limit - len) + n ≡ most
+sum_of limit len most n a b le = omega arith
+
+pub on_ok : {A E : Type 0} (r : Result A E) (P Q : Type 0) → (P → Q) → OnOk r P → OnOk r Q
+on_ok (Ok x) P Q f h = f h
+on_ok (Err x) P Q f h = h
+
+module _ {M : Type 0} (mind : M → Mind) where
+  pub outcome_at : (s s' : Record) (e e' : ℕ) (bs bs' news : List (Berth M)) (lists : List (List Letter)) → s ≡ s' → e ≡ e' → bs ≡ bs' → IsOutcome mind s e bs news lists → IsOutcome mind s' e' bs' news lists
+  outcome_at s s' e e' bs bs' news lists p q r o =
+      subst (λ z. IsOutcome mind z e' bs' news lists) p (subst (λ z. IsOutcome mind s z bs' news lists) q (subst (λ z. IsOutcome mind s e z news lists) r o))
+
+  pub long_at : (s s' : Record) (e e' left : ℕ) (bs bs' : List (Berth M)) → s ≡ s' → e ≡ e' → bs ≡ bs' → HasLong mind s e left bs → HasLong mind s' e' left bs'
+  long_at s s' e e' left bs bs' p q r h = subst (λ z. HasLong mind z e' left bs') p (subst (λ z. HasLong mind s z left bs') q (subst (λ z. HasLong mind s e left z) r h))
+
+  pub ready_at : (s s' : Record) (left : ℕ) (bs bs' : List (Berth M)) → s ≡ s' → bs ≡ bs' → All (IsReady mind s left) bs → All (IsReady mind s' left) bs'
+  ready_at s s' left bs bs' p r h = subst (λ z. All (IsReady mind z left) bs') p (subst (All (IsReady mind s left)) r h)

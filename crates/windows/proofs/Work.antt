@@ -1,8 +1,7 @@
 -- A worker's work grows by one berth at a time.
-use Rattle.std.proofs.Common.{◌≡◌, ◌<◌, ℕ, List, [], ◌∷◌, ◌++◌, map, refl, sym, ap, ◌∙◌, subst, Result, Ok, IfOk}
-use Rattle.std.specs.List.{All, Contains}
+use Rattle.std.proofs.Common.{◌≡◌, ℕ, List, [], ◌∷◌, ◌++◌, refl, sym, ap, ◌∙◌, subst, Result, Ok, IfOk}
 use Rattle.std.proofs.lemmas.List.{map-append}
-use Rattle.std.proofs.lemmas.List.Elements.{All-nil, All-push, All-contains}
+use Rattle.std.proofs.lemmas.List.Elements.{All-nil, All-push}
 use Rattle.atomic_table.specs.Seated.{TableId}
 use Rattle.process_api.specs.Mind.{Mind}
 use Rattle.process_api.specs.declared.message.Letter.{Letter}
@@ -11,7 +10,7 @@ use Rattle.mailboxes.specs.Mailbox.{MailboxId}
 use Rattle.mailboxes.specs.Mailboxes.{SlipView, IsSlipOf, unused}
 use Rattle.windows.specs.Berth.{with_letters}
 use Rattle.windows.specs.Jobs.{TakerView, taker_of}
-use Rattle.windows.specs.Workers.{Stay, stay, taken_in, left_in, with_stays, IsReady, IsStay, IsLong, HasLong, IsWork, IsFresh, IsAnswer}
+use Rattle.windows.specs.Workers.{Stay, stay, with_stays, IsStay, IsWork, IsFresh, IsAnswer}
 use Rattle.windows.specs.declared.berth.Berth.{Berth}
 use Rattle.windows.specs.declared.workers.Work.{Work}
 use Rattle.event_list.specs.declared.error.RunError.{RunError}

@@ -56,7 +56,7 @@ module _ {Mind : Type 0} (S : Setting Mind) (window : ℕ) where
       → IsRun S window (end_of S window g.start) g acts found left → IsRun S window (end_of S window g.start) g acts2 found2 left2
       → AreAlike found left found2 left2
 
-  -- there is a run whose turns come in the order of the list's steps, each by a worker that holds that process alone, whatever the tick from which the next window may start
+  -- there is a run whose turns come in the order of the list's steps, each by the worker that has the number of that process, whatever the tick from which the next window may start
   abbrev pub HasRun : Type 0
   HasRun = (w : World Mind) → IsWorld S w → (g : StageRecord Mind) → StandsFor S window g w
       → (history : List Pair) (after : World Mind) → Run S (end_of S window g.start) w history after

@@ -157,6 +157,9 @@ impl<M: Process> Berth<M> {
 /// join its pending ones, and each letter to another process that is due below the horizon is posted by the slip. It
 /// stops where the process's part of the window would be longer than `left` entries.
 ///
+/// The berth's part is empty, as it is when a window opens, and the process's counts on its links have room for `left`
+/// more entries: both hold of every berth of a stage, and no berth can be had otherwise.
+///
 /// Conservative windows are as in textbooks: R. M. Fujimoto, Parallel and Distributed Simulation Systems, Wiley, 2000.
 ///
 /// # Errors

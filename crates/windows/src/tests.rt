@@ -1,7 +1,13 @@
-//! Plans that are made and refused, and the law at a run in which two workers take turns.
+//! Plans that are made and refused, the law at a run in which two workers take turns, windows whose berths are called in a
+//! given order, and workers that are watched.
+mod calls;
+mod machines;
 mod orders;
 mod plans;
+mod rows;
+mod workers;
 
+use process_api::Entry;
 use scenario::{Scenario, read_scenario};
 use std::alloc::Global;
 use std::test::Fail;
@@ -29,4 +35,36 @@ at = 3
 /// The scenario of `ONE_CRASH`.
 fn one_crash(alloc: Global) -> Result<Scenario, Fail> {
     Ok(read_scenario(alloc, ONE_CRASH.as_bytes())?)
+}
+
+/// Three processes that agree by rotating coordinators, with a quiet detector and a lookahead of 2 ticks.
+const COORDINATORS: &str = "version = 1
+processes = 3
+horizon = 20
+lookahead = 2
+seed = 1
+algorithm = \"es\"
+proposals = [10, 20, 30]
+[detector]
+period = 100
+check = 100
+timeout = 100
+grow = 1
+[link]
+min = 2
+max = 2
+";
+
+/// Whether two entries are the same.
+fn is_same(a: &Entry, b: &Entry) -> bool {
+    a.key == b.key
+        && a.kind == b.kind
+        && a.sent == b.sent
+        && a.lost == b.lost
+        && a.notes.as_slice() == b.notes.as_slice()
+}
+
+/// Whether two lists have the same entries, in the same order.
+fn are_same(xs: &[Entry], ys: &[Entry]) -> bool {
+    xs.len() == ys.len() && xs.iter().zip(ys).all(|(a, b)| is_same(a, b))
 }

@@ -170,7 +170,7 @@ fn run_berths_of<M: Process, G: Gate, R: Threads + Wait + Sync>(
 }
 
 /// The berths by rising number of their processes.
-fn in_order<M: Process>(mut berths: Vec<Berth<M>>) -> Vec<Berth<M>>
+pub(crate) fn in_order<M: Process>(mut berths: Vec<Berth<M>>) -> Vec<Berth<M>>
     ensures same { IsPermutation berths.items result.items }
     ensures rising { IsNonDecreasingBy (λ b. own_of M.mind b.seat) result.items }
 {
@@ -217,7 +217,7 @@ fn run_all<M: Process, G: Gate, R: Threads + Wait + Sync>(
 }
 
 /// The end of a window, which is cut at the horizon.
-fn cut_at(end: u32, horizon: u32) -> u32
+pub(crate) fn cut_at(end: u32, horizon: u32) -> u32
     ensures { result ≡ min end horizon }
 {
     if end < horizon { end } else { horizon }

@@ -103,7 +103,7 @@ fn rank(refusal: RunError) -> u8 {
 }
 
 // Both answers, or the first of their refusals.
-fn both<A: Drop, B: Drop>(
+pub(crate) fn both<A: Drop, B: Drop>(
     left: Result<A, RunError>,
     right: Result<B, RunError>,
 ) -> Result<(A, B), RunError>

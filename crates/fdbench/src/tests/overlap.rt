@@ -67,8 +67,10 @@ impl Process for Counted {
 #[derive(Drop)]
 struct Holding {
     calls: AtomicUsize,
-    // calls of a worker at which the process that it took had taken no input of the window
+    // calls at which the process that was taken had taken no input of the window
     kept: AtomicU64,
+    // the sum of the workers' numbers
+    workers: AtomicU64,
     // how many inputs each process has taken
     first: Arc<AtomicU64, Global>,
     second: Arc<AtomicU64, Global>,
@@ -79,6 +81,7 @@ impl Holding {
         Ok(Holding {
             calls: AtomicUsize::new(0),
             kept: AtomicU64::new(0),
+            workers: AtomicU64::new(0),
             first: Arc::new(alloc, AtomicU64::new(0))?,
             second: Arc::new(alloc, AtomicU64::new(0))?,
         })
@@ -117,12 +120,13 @@ fn rises_above(taken: &AtomicU64, before: u64) -> bool {
 impl Gate for Holding {
     fn entered<R: Wait>(&self, _rt: &R, worker: u16, pid: Pid) {
         let call = self.calls.fetch_add(1, Ordering::SeqCst);
+        self.workers.fetch_add(u64::from(worker), Ordering::SeqCst);
         let Some(before) = BEFORE.get(call / 2) else {
             return;
         };
         let goes_on = call % 2 == 1 || rises_above(self.taken_by_other(pid), *before);
         let own = self.taken(pid).load(Ordering::SeqCst);
-        if goes_on && own == *before && worker > 0 {
+        if goes_on && own == *before {
             self.kept.fetch_add(1, Ordering::SeqCst);
         }
     }
@@ -198,7 +202,8 @@ fn text_of<R: Threads + Wait + Sync>(
     text_by(rt, alloc, scenario, machines, gate, start)
 }
 
-/// Each of the ten calls found its process as it was before the window, and five of them waited for the other process.
+/// Each of the ten calls found its process as it was before the window, and five of them waited for the other process. In
+/// each window worker 1 made one call, and worker 2 the other.
 fn overlaps<R: Files + Threads + Wait + Sync + Abort>(
     rt: &R,
     alloc: Global,
@@ -210,6 +215,7 @@ fn overlaps<R: Files + Threads + Wait + Sync + Abort>(
     let outlet = text_of(rt, alloc, &scenario, &gate, start)?;
     assert_eq!(rt; gate.calls.load(Ordering::SeqCst), 10);
     assert_eq!(rt; gate.kept.load(Ordering::SeqCst), 10);
+    assert_eq!(rt; gate.workers.load(Ordering::SeqCst), 15);
     assert_eq!(rt; gate.first.load(Ordering::SeqCst), IN_ALL);
     assert_eq!(rt; gate.second.load(Ordering::SeqCst), IN_ALL);
     let listed = trace_of(rt, alloc, &file)?;

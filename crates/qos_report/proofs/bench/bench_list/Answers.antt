@@ -16,4 +16,4 @@ returns-clause-whole g c = if_ok_both c.write_run.result (λ summary written sum
 )) c.write_run.ensures.whole c.write_run.ensures.summed
 
 pub returns-clause-agree : goal.returns-clause-agree
-returns-clause-agree g c = if_ok_both c.write_run.result (λ summary written summed algorithm. summed.agreed (algorithm, c.in_ok-trace.ensures.trace)) c.write_run.ensures.whole c.write_run.ensures.summed
+returns-clause-agree g c = if_ok_both c.write_run.result (λ summary written agree algorithm. agree (algorithm, c.in_ok-trace.ensures.trace)) c.write_run.ensures.whole c.write_run.ensures.agree

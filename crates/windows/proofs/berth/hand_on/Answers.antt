@@ -1,4 +1,4 @@
-use Rattle.std.proofs.Common.{◌≡◌, ap, sym, ◌∙◌, cond, true, false, true≢false, not, nat_eq, length, [], ◌∷◌, Result, Ok, Err, OnOk, is_err}
+use Rattle.std.proofs.Common.{◌≡◌, ap, sym, ◌∙◌, cond, false, true≢false, not, nat_eq, length, [], ◌∷◌, Result, Ok, Err, OnOk, is_err}
 use Rattle.std.proofs.lemmas.Bool.{eqb-false}
 use Rattle.process_api.specs.declared.message.Letter.{Letter}
 use Rattle.process_api.specs.declared.message.StepInput.{StepInput}

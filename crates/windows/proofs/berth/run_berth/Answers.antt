@@ -1,15 +1,15 @@
-use Rattle.std.proofs.Common.{◌≡◌, ◌∷◌, [], ◌++◌, ◌+◌, ◌*◌, ◌<◌, ◌≤◌, ℕ, List, map, ap, sym, subst, ◌∙◌, refl, arith, vec_len, length, length-append}
+use Rattle.std.proofs.Common.{◌≡◌, ◌∷◌, [], ◌++◌, ◌+◌, ◌*◌, List, map, ap, sym, subst, ◌∙◌, refl, arith, vec_len, length, length-append}
 use Rattle.std.specs.FinMap as events
-use Rattle.std.proofs.lemmas.List.{map-append, length-map}
+use Rattle.std.proofs.lemmas.List.{map-append}
 use Rattle.process_api.specs.declared.message.Letter.{Letter}
 use Rattle.event_list.specs.ScenarioSetting.{setting_of}
 use Rattle.event_list.specs.Seat.{process_of, own_of, IsSeated}
 use Rattle.event_list.specs.Step.{step}
 use Rattle.event_list.specs.World.{Has, joined}
-use Rattle.windows.specs.Berth.{event_of, with_letters, RanTo, IsBerth}
+use Rattle.windows.specs.Berth.{event_of, with_letters}
 use Rattle.windows.specs.Machine.{for_self, for_others}
 use Rattle.windows.specs.Window.{BerthRun}
-use Rattle.windows.proofs.Berths.{BerthStands, berth_opens, berth_next, berth_ends, berth_longer}
+use Rattle.windows.proofs.Berths.{BerthStands, berth_opens, berth_next, berth_ends}
 use Rattle.windows.proofs.Letters.{with_more}
 use Rattle.windows.proofs.berth.run_berth.Goals as goal
 

@@ -1,8 +1,7 @@
-use Rattle.std.proofs.Common.{rules, ◌≡◌, ◌++◌, ◌∷◌, [], List, ℕ, IfSome, refl, sym, ap, ◌∙◌, ◌-◌, subst, vec_len}
-use Rattle.std.specs.List.{All}
+use Rattle.std.proofs.Common.{rules, ◌≡◌, ◌++◌, [], IfSome, sym, ap, ◌∙◌, ◌-◌, subst, vec_len}
 use Rattle.std.proofs.lemmas.List.Elements.{All-pop}
 use Rattle.windows.specs.Jobs.{DealerView, dealer_of}
-use Rattle.windows.specs.Workers.{IsWork, AreWorks}
+use Rattle.windows.specs.Workers.{IsWork}
 use Rattle.windows.specs.declared.workers.Work.{Work}
 use Rattle.windows.proofs.Gathered.{works_none, works_more}
 use Rattle.windows.proofs.gather.gather.Goals as goal

@@ -1,10 +1,9 @@
-use Rattle.std.proofs.Common.{rules, ◌≡◌, ◌++◌, ◌∷◌, [], List, refl, sym, ap, ◌∙◌, subst, append_assoc, append-nil}
-use Rattle.std.specs.Global.{Vec}
+use Rattle.std.proofs.Common.{rules, ◌≡◌, ◌++◌, ◌∷◌, [], refl, sym, ap, ◌∙◌, subst, append_assoc, append-nil}
 use Rattle.std.specs.List.{Contains}
 use Rattle.std.specs.List.Sorted.{IsPermutation}
 use Rattle.std.proofs.lemmas.List.Elements.{All-contains}
 use Rattle.windows.specs.Jobs.{DealerView, taker_of, dealer_of}
-use Rattle.windows.specs.Workers.{IsReady, IsWork}
+use Rattle.windows.specs.Workers.{IsReady}
 use Rattle.windows.specs.declared.berth.Berth.{Berth}
 use Rattle.windows.proofs.Work.{work_begins, work_more, same_work}
 use Rattle.windows.proofs.gather.run_rest.Goals as goal

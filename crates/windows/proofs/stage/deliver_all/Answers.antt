@@ -1,16 +1,11 @@
-use Rattle.std.proofs.Common.{◌≡◌, ◌∷◌, [], ◌++◌, List, length, map, ap, sym, subst, ◌∙◌, append_assoc, arith}
+use Rattle.std.proofs.Common.{◌≡◌, ◌∷◌, [], ◌++◌, length, map, ap, sym, subst, ◌∙◌, append_assoc, arith}
 use Rattle.std.specs.List.{All}
 use Rattle.std.specs.Vec.Iter.{into_iter_items}
 use Rattle.std.proofs.lemmas.List.{map-append}
 use Rattle.std.proofs.lemmas.List.Elements.{All-push}
 use Rattle.std.specs.Global.{Vec}
-use Rattle.process_api.specs.EntryRecord.{EntryRecord}
 use Rattle.process_api.specs.declared.entry.Entry.{Entry}
-use Rattle.process_api.specs.declared.message.Letter.{Letter}
-use Rattle.event_list.specs.Step.{Events}
-use Rattle.event_list.specs.World.{joined}
 use Rattle.mailboxes.specs.Mailboxes.{letters_in}
-use Rattle.windows.specs.Berth.{event_of}
 use Rattle.windows.specs.Stage.{delivered}
 use Rattle.windows.specs.declared.berth.Berth.{Berth}
 use Rattle.windows.proofs.stage.deliver_all.Goals as goal

@@ -1,6 +1,5 @@
-use Rattle.std.proofs.Common.{rules, ◌≡◌, List, sym, ap, ◌∙◌, subst}
-use Rattle.std.specs.List.{All}
-use Rattle.windows.specs.Workers.{IsReady, HasLong}
+use Rattle.std.proofs.Common.{rules}
+use Rattle.windows.specs.Workers.{IsReady}
 use Rattle.windows.proofs.Gathered.{all_dealt, long_dealt, run_with_idle}
 use Rattle.windows.proofs.window.run_berths_of.Goals as goal
 

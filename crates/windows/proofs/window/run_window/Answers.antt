@@ -1,36 +1,14 @@
-use Rattle.std.proofs.Common.{rules, ◌≡◌, ◌+◌, ◌-◌, ◌≤◌, ℕ, List, min, Result, Ok, Err, OnOk, sym, ap, ◌∙◌, subst, vec_len, arith}
+use Rattle.std.proofs.Common.{rules, ◌≡◌, ◌+◌, ◌-◌, min, sym, ap, ◌∙◌, subst, vec_len}
 use Rattle.std.specs.Global.{Vec}
-use Rattle.std.specs.List.{All}
-use Rattle.process_api.specs.Mind.{Mind}
-use Rattle.process_api.specs.declared.message.Letter.{Letter}
-use Rattle.scenario.specs.Record.{Record}
 use Rattle.event_list.specs.ScenarioSetting.{setting_of}
 use Rattle.event_list.specs.Seat.{own_of}
 use Rattle.mailboxes.specs.Mailboxes.{letters_in}
 use Rattle.windows.specs.Machine.{end_of}
 use Rattle.windows.specs.Stage.{IsClosed}
-use Rattle.windows.specs.Workers.{IsReady, HasLong, IsOutcome, RiseBy}
+use Rattle.windows.specs.Workers.{RiseBy}
 use Rattle.windows.specs.declared.berth.Berth.{Berth}
-use Rattle.windows.proofs.Settled.{stage_ready, stage_rises, long_limit, outcome_rising, outcome_disjoint, outcome_limit, outcome_next}
+use Rattle.windows.proofs.Settled.{sum_of, on_ok, outcome_at, long_at, ready_at, stage_ready, stage_rises, long_limit, outcome_rising, outcome_disjoint, outcome_limit, outcome_next}
 use Rattle.windows.proofs.window.run_window.Goals as goal
-
-sum_of : (limit len most n : ℕ) → limit ≡ most → len ≡ n → n ≤ most → (limit - len) + n ≡ most
-sum_of limit len most n a b le = omega arith
-
-on_ok : {A E : Type 0} (r : Result A E) (P Q : Type 0) → (P → Q) → OnOk r P → OnOk r Q
-on_ok (Ok x) P Q f h = f h
-on_ok (Err x) P Q f h = h
-
-module _ {M : Type 0} (mind : M → Mind) where
-  outcome_at : (s s' : Record) (e e' : ℕ) (bs bs' news : List (Berth M)) (lists : List (List Letter)) → s ≡ s' → e ≡ e' → bs ≡ bs' → IsOutcome mind s e bs news lists → IsOutcome mind s' e' bs' news lists
-  outcome_at s s' e e' bs bs' news lists p q r o =
-      subst (λ z. IsOutcome mind z e' bs' news lists) p (subst (λ z. IsOutcome mind s z bs' news lists) q (subst (λ z. IsOutcome mind s e z news lists) r o))
-
-  long_at : (s s' : Record) (e e' left : ℕ) (bs bs' : List (Berth M)) → s ≡ s' → e ≡ e' → bs ≡ bs' → HasLong mind s e left bs → HasLong mind s' e' left bs'
-  long_at s s' e e' left bs bs' p q r h = subst (λ z. HasLong mind z e' left bs') p (subst (λ z. HasLong mind s z left bs') q (subst (λ z. HasLong mind s e left z) r h))
-
-  ready_at : (s s' : Record) (left : ℕ) (bs bs' : List (Berth M)) → s ≡ s' → bs ≡ bs' → All (IsReady mind s left) bs → All (IsReady mind s' left) bs'
-  ready_at s s' left bs bs' p r h = subst (λ z. All (IsReady mind z left) bs') p (subst (All (IsReady mind s left)) r h)
 
 pub run_all-requires-clause-ready : goal.run_all-requires-clause-ready
 run_all-requires-clause-ready g c κs within =

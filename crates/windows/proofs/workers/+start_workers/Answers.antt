@@ -1,7 +1,6 @@
-use Rattle.std.proofs.Common.{rules, ◌≡◌, ◌⊎◌, ⊎_elim, ◌∷◌, ◌++◌, [], List, IfSome, IfOk, IsErrOf, Ok, sym, ap, ◌∙◌, subst}
+use Rattle.std.proofs.Common.{rules, ◌≡◌, ◌⊎◌, ⊎_elim, ◌∷◌, ◌++◌, [], IfSome, IfOk, IsErrOf, Ok, subst}
 use Rattle.std.specs.List.{All}
 use Rattle.std.proofs.lemmas.List.Elements.{All-same, All-push, All-pop}
-use Rattle.windows.specs.declared.berth.Berth.{Berth}
 use Rattle.windows.specs.declared.workers.Start.{Start}
 use Rattle.windows.specs.declared.workers.Work.{Work}
 use Rattle.windows.specs.Workers.{IsFresh, IsReady, IsWork, IsAnswer, HasLong}

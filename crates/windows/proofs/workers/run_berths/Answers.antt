@@ -1,9 +1,9 @@
-use Rattle.std.proofs.Common.{rules, ◌≡◌, ◌++◌, ◌∷◌, [], List, refl, sym, ap, ◌∙◌, subst}
+use Rattle.std.proofs.Common.{rules, refl, ap, ◌∙◌, subst}
 use Rattle.std.specs.Global.{Vec}
 use Rattle.std.specs.List.{Contains}
 use Rattle.std.proofs.lemmas.List.Elements.{All-contains}
 use Rattle.windows.specs.Jobs.{TakerView}
-use Rattle.windows.specs.Workers.{IsReady, IsWork}
+use Rattle.windows.specs.Workers.{IsReady}
 use Rattle.windows.specs.declared.berth.Berth.{Berth}
 use Rattle.windows.proofs.Work.{work_begins, work_more, same_work}
 use Rattle.windows.proofs.workers.run_berths.Goals as goal

@@ -1,8 +1,7 @@
-use Rattle.std.proofs.Common.{◌≡◌, ap, subst, sym, ◌∙◌, arith, length, map, IsTrue}
+use Rattle.std.proofs.Common.{ap, subst, sym, arith, length, IsTrue}
 use Rattle.process_api.specs.Order.{is_rising}
 use Rattle.std.proofs.lemmas.List.Sorted.{length_permutation}
 use Rattle.trace_merge.specs.Parts.{all_of}
-use Rattle.windows.proofs.Closing.{next_stage}
 use Rattle.windows.proofs.Places.{all_at, all_place, same_at}
 use Rattle.windows.proofs.stage.Stage.close.Goals as goal
 
