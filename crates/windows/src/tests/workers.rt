@@ -4,9 +4,9 @@ ghost use Rattle.std.specs.Prelude.{◌≡◌, IfOk};
 ghost use Rattle.scenario.specs.Opening.{mind_of};
 
 use super::machines::{coordinator, make_all, watcher};
-use super::{COORDINATORS, are_same};
+use super::{COORDINATORS, are_same, one_crash};
 use crate::workers::both;
-use crate::{Gate, OpenGate, Plan, run_windows};
+use crate::{Gate, OpenGate, Plan, Stage, run_window, run_windows};
 use event_list::{RunError, run_list};
 use process_api::{Pid, Process};
 use scenario::{Opening, read_scenario};
@@ -74,6 +74,30 @@ fn taken_by_workers(rt: HostRuntime) -> Result<(), Fail> {
             assert_eq!(rt; taken, 12_312_312_323_123_123);
         }
     }
+    Ok(())
+}
+
+/// A window ends where the next one starts.
+#[test]
+fn first_window(rt: HostRuntime) -> Result<(), Fail> {
+    let alloc = rt.alloc();
+    let scenario = one_crash(alloc)?;
+    let plan = Plan::new(&scenario, 2, 2)?;
+    let machines = make_all(
+        alloc,
+        &scenario,
+        |opening: Opening| -> Result<Box<dyn Process>, AllocError>
+            ensures { IfOk result (λ made. mind made ≡ mind_of opening) }
+        { Ok(Box::new(alloc, watcher(alloc, &opening)?)?) },
+    )?;
+    let mut stage = Stage::open(alloc, &scenario, machines)?;
+    assert_eq!(rt; stage.start(), 0);
+    if stage.finished() {
+        return Err("a run of no ticks".into());
+    }
+    run_window(&rt, alloc, &mut stage, &plan, &OpenGate)?;
+    assert_eq!(rt; stage.start(), 2);
+    assert!(rt; !stage.finished());
     Ok(())
 }
 
