@@ -1,5 +1,5 @@
 -- The command line, as clap sees it.
-use Rattle.std.specs.Prelude.{◌≡◌, [], ◌∷◌, ℕ, nat_eq, Bool, List, Ok, Option, Some, None, map, codes, false, if◌then◌else◌}
+use Rattle.std.specs.Prelude.{◌≡◌, [], ◌∷◌, ℕ, nat_eq, Bool, List, Ok, Some, map, codes, false, if◌then◌else◌}
 use Rattle.std.specs.Cmp.Lexicographic.{pointwise}
 use Rattle.std.specs.Option.{option_map_or}
 use Rattle.std.specs.Str.Parse.{ParsesUnsigned}

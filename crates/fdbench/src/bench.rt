@@ -1,8 +1,10 @@
 //! Runs of a scenario over machines that are made here.
-ghost use Rattle.std.specs.Prelude.{◌≡◌, ◌≢◌, ◌^◌, ◌-◌, ◌+◌, ◌<◌, ◌≤◌, IfErr, IfOk, Err};
+ghost use Rattle.std.specs.Prelude.{◌≡◌, ◌≢◌, ◌^◌, ◌-◌, ◌+◌, ◌<◌, ◌≤◌, IfErr, IfOk, Err, map};
+ghost use Rattle.process_api.specs.Numbers.{numbers_to};
 ghost use Rattle.fdbench.specs.Mode.{IsModeFor};
 ghost use Rattle.qos_report.specs.Printed.{Writes, WritesPart};
 ghost use Rattle.scenario.specs.Opening.{mind_of};
+ghost use Rattle.scenario.specs.Record.{opening_mind};
 
 use crate::machines::make_all;
 use consensus_es::EsConsensus;
@@ -27,6 +29,33 @@ pub(crate) enum Mode {
     List,
     /// By windows that a plan's workers share.
     Windows(Plan),
+}
+
+/// Runs machines in a mode, and writes what is asked for. There is one for each process, of process 1 first, and each opens
+/// as the scenario says.
+fn bench_machines<R: Threads + Wait + Sync, O: Outlet>(
+    rt: &R,
+    alloc: Global,
+    scenario: &Scenario,
+    machines: Vec<Box<dyn Process>>,
+    mode: Mode,
+    print: PrintChoice,
+    outlet: &mut O,
+) -> Result<Summary, RunError>
+    requires machines { map mind machines.items ≡ map (opening_mind scenario.now) (numbers_to scenario.now.processes) }
+    requires mode { IsModeFor scenario.now mode }
+    requires failures { O.failed outlet.old < 2 ^ 64 - 1 }
+    ensures whole { IfOk result (λ summary. Writes scenario.now print (O.told outlet.old) (O.told outlet.new) summary × (O.failed outlet.new ≡ O.failed outlet.old)) }
+    ensures part { result ≡ Err RunError.Write → WritesPart scenario.now print (O.told outlet.old) (O.told outlet.new) × (O.failed outlet.new ≡ O.failed outlet.old + 1) }
+    ensures within { IfOk result (λ summary. summary.entries ≤ scenario.now.limit) }
+    ensures others { IfErr result (λ error. error ≢ RunError.Write → (O.told outlet.new ≡ O.told outlet.old) × (O.failed outlet.new ≡ O.failed outlet.old)) }
+{
+    match mode {
+        Mode::List => bench_list(alloc, scenario, machines, print, outlet),
+        Mode::Windows(plan) => bench_windows(
+            rt, alloc, scenario, machines, &plan, &OpenGate, print, outlet,
+        ),
+    }
 }
 
 /// Runs a scenario in a mode, over machines that are made here, and writes what is asked for. What goes out doesn't depend
@@ -83,10 +112,5 @@ pub(crate) fn bench<R: Threads + Wait + Sync, O: Outlet>(
             }
         },
     )?;
-    match mode {
-        Mode::List => bench_list(alloc, scenario, machines, print, outlet),
-        Mode::Windows(plan) => bench_windows(
-            rt, alloc, scenario, machines, &plan, &OpenGate, print, outlet,
-        ),
-    }
+    bench_machines(rt, alloc, scenario, machines, mode, print, outlet)
 }

@@ -2,7 +2,6 @@ use Rattle.std.proofs.Common.{◌≡◌, ◌+◌, ◌≤◌, ℕ, List, ◌++◌
 use Rattle.std.proofs.KnownBytes.{Consumes-trans, Consumes-kept}
 use Rattle.std.proofs.lemmas.Grind.{common_steps}
 use Rattle.std.proofs.lemmas.List.{length-take}
-use Rattle.std.specs.Io.KnownBytes.{Consumes}
 use Rattle.fdbench.proofs.input.read_all.Goals as goal
 use Rattle.fdbench.proofs.input.read_all.Goals.{in-Ok-2+else-is_err, in-Err}
 
