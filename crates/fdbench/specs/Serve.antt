@@ -1,5 +1,5 @@
 -- What the program does for a command line.
-use Rattle.std.specs.Prelude.{◌≡◌, ◌≤◌, ◌⊎◌, ℕ, List, length, codes, Option, IfSome}
+use Rattle.std.specs.Prelude.{◌≡◌, ◌≢◌, ◌≤◌, ◌⊎◌, ℕ, List, length, codes, Option, IfSome}
 use Rattle.std.specs.Io.KnownBytes.{Appends}
 use Rattle.clap.specs.Words.{Text, IsAmong, fault_of}
 use Rattle.clap.specs.declared.error.kind.ErrorKind.TheVariants.{DisplayHelp}
@@ -63,6 +63,17 @@ pub record IsCompareAnswer (input : Option (List ℕ)) (path : Text) (workers wi
   pub is_trace : IsTrace (setting_of scenario) trace
   pub within : length trace ≤ scenario.limit
   pub text : piece ≡ codes "same\n"
+
+-- the path that an order names
+abbrev pub path_of : Order → Text
+path_of (order.Check path) = path.now
+path_of (order.List path print) = path.now
+path_of (order.Run path workers window print) = path.now
+path_of (order.Compare path workers window) = path.now
+
+-- a fault of a run or of its plan comes after the scenario was accepted, and no fault is of the words
+abbrev pub ComesInOrder : Option (List ℕ) → Text → (status : ℕ) → Type 0
+ComesInOrder input path status = (status ≢ 2) × (status ≡ 3 → (s : Record) × IsScenarioAt input path s)
 
 -- the piece is what the order asks for
 abbrev pub Answers : Option (List ℕ) → Order → List ℕ → Type 0

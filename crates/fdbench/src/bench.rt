@@ -1,5 +1,8 @@
 //! Runs of a scenario over machines that are made here.
-ghost use Rattle.std.specs.Prelude.{◌≡◌, ◌≢◌, ◌^◌, ◌-◌, ◌+◌, ◌<◌, ◌≤◌, IfErr, IfOk, Err, map};
+ghost use Rattle.std.specs.Prelude.{◌≡◌, ◌≢◌, ◌^◌, ◌-◌, ◌+◌, ◌<◌, ◌≤◌, IfErr, IfOk, IsErrOf, Err, List, length, map};
+ghost use Rattle.event_list.specs.ScenarioSetting.{setting_of};
+ghost use Rattle.event_list.specs.World.{IsTrace};
+ghost use Rattle.process_api.specs.EntryRecord.{EntryRecord};
 ghost use Rattle.process_api.specs.Numbers.{numbers_to};
 ghost use Rattle.fdbench.specs.Mode.{IsModeFor};
 ghost use Rattle.qos_report.specs.Printed.{Writes, WritesPart};
@@ -48,6 +51,7 @@ fn bench_machines<R: Threads + Wait + Sync, O: Outlet>(
     ensures whole { IfOk result (λ summary. Writes scenario.now print (O.told outlet.old) (O.told outlet.new) summary × (O.failed outlet.new ≡ O.failed outlet.old)) }
     ensures part { result ≡ Err RunError.Write → WritesPart scenario.now print (O.told outlet.old) (O.told outlet.new) × (O.failed outlet.new ≡ O.failed outlet.old + 1) }
     ensures within { IfOk result (λ summary. summary.entries ≤ scenario.now.limit) }
+    ensures long { IsErrOf result RunError.Limit → (whole : List EntryRecord) → IsTrace (setting_of scenario.now) whole → scenario.now.limit < length whole }
     ensures others { IfErr result (λ error. error ≢ RunError.Write → (O.told outlet.new ≡ O.told outlet.old) × (O.failed outlet.new ≡ O.failed outlet.old)) }
 {
     match mode {
@@ -73,6 +77,7 @@ pub(crate) fn bench<R: Threads + Wait + Sync, O: Outlet>(
     ensures whole { IfOk result (λ summary. Writes scenario.now print (O.told outlet.old) (O.told outlet.new) summary × (O.failed outlet.new ≡ O.failed outlet.old)) }
     ensures part { result ≡ Err RunError.Write → WritesPart scenario.now print (O.told outlet.old) (O.told outlet.new) × (O.failed outlet.new ≡ O.failed outlet.old + 1) }
     ensures within { IfOk result (λ summary. summary.entries ≤ scenario.now.limit) }
+    ensures long { IsErrOf result RunError.Limit → (whole : List EntryRecord) → IsTrace (setting_of scenario.now) whole → scenario.now.limit < length whole }
     ensures others { IfErr result (λ error. error ≢ RunError.Write → (O.told outlet.new ≡ O.told outlet.old) × (O.failed outlet.new ≡ O.failed outlet.old)) }
 {
     let machines = make_all(

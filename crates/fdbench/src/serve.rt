@@ -7,7 +7,10 @@ ghost use Rattle.qos_report.specs.Outlet.{Grows};
 ghost use Rattle.fdbench.specs.Fault.{status_of};
 ghost use Rattle.fdbench.specs.Input.{TakesAtMost, most_bytes};
 ghost use Rattle.windows.specs.Plan.{IsPlanFor, NoneApplies};
-ghost use Rattle.fdbench.specs.Serve.{Answers, IsCheckAnswer, IsCompareAnswer, IsListAnswer, IsRunAnswer, IsScenarioAt, Serves, Went, WentPart};
+ghost use Rattle.scenario.specs.Record.{Record};
+ghost use Rattle.fdbench.specs.Order.{States};
+ghost use Rattle.fdbench.specs.declared.order.Order.{Order};
+ghost use Rattle.fdbench.specs.Serve.{Answers, ComesInOrder, path_of, IsCheckAnswer, IsCompareAnswer, IsListAnswer, IsRunAnswer, IsScenarioAt, Serves, Went, WentPart};
 
 use crate::bench::{Mode, bench};
 use crate::compare::compare;
@@ -82,6 +85,7 @@ fn serve_check<R: Files, I: Read, O: Outlet>(
     ensures done { OnOk result (Went (IsCheckAnswer (I.remaining input.old) path.now) (O.told outlet.old) (O.told outlet.new) × (O.failed outlet.new ≡ O.failed outlet.old)) }
     ensures broken { IfErr result (λ fault. status_of fault ≡ 4 → WentPart (IsCheckAnswer (I.remaining input.old) path.now) (O.told outlet.old) (O.told outlet.new) × (O.failed outlet.new ≡ O.failed outlet.old + 1)) }
     ensures refused { IfErr result (λ fault. status_of fault ≢ 4 → (O.told outlet.new ≡ O.told outlet.old) × (O.failed outlet.new ≡ O.failed outlet.old)) }
+    ensures in_order { IfErr result (λ fault. ComesInOrder (I.remaining input.old) path.now (status_of fault)) }
     ensures taken { TakesAtMost (most_bytes + 1) (I.remaining input.old) (I.remaining input.new) }
 {
     scenario_at(rt, alloc, path, input)?;
@@ -105,6 +109,7 @@ fn serve_list<R: Files + Threads + Wait + Sync, I: Read, O: Outlet>(
     ensures done { OnOk result (Went (IsListAnswer (I.remaining input.old) path.now print) (O.told outlet.old) (O.told outlet.new) × (O.failed outlet.new ≡ O.failed outlet.old)) }
     ensures broken { IfErr result (λ fault. status_of fault ≡ 4 → WentPart (IsListAnswer (I.remaining input.old) path.now print) (O.told outlet.old) (O.told outlet.new) × (O.failed outlet.new ≡ O.failed outlet.old + 1)) }
     ensures refused { IfErr result (λ fault. status_of fault ≢ 4 → (O.told outlet.new ≡ O.told outlet.old) × (O.failed outlet.new ≡ O.failed outlet.old)) }
+    ensures in_order { IfErr result (λ fault. ComesInOrder (I.remaining input.old) path.now (status_of fault)) }
     ensures taken { TakesAtMost (most_bytes + 1) (I.remaining input.old) (I.remaining input.new) }
 {
     let scenario = scenario_at(rt, alloc, path, input)?;
@@ -140,6 +145,7 @@ fn serve_run<R: Files + Threads + Wait + Sync, I: Read, O: Outlet>(
     ensures done { OnOk result (Went (IsRunAnswer (I.remaining input.old) path.now workers window print) (O.told outlet.old) (O.told outlet.new) × (O.failed outlet.new ≡ O.failed outlet.old)) }
     ensures broken { IfErr result (λ fault. status_of fault ≡ 4 → WentPart (IsRunAnswer (I.remaining input.old) path.now workers window print) (O.told outlet.old) (O.told outlet.new) × (O.failed outlet.new ≡ O.failed outlet.old + 1)) }
     ensures refused { IfErr result (λ fault. status_of fault ≢ 4 → (O.told outlet.new ≡ O.told outlet.old) × (O.failed outlet.new ≡ O.failed outlet.old)) }
+    ensures in_order { IfErr result (λ fault. ComesInOrder (I.remaining input.old) path.now (status_of fault)) }
     ensures taken { TakesAtMost (most_bytes + 1) (I.remaining input.old) (I.remaining input.new) }
 {
     let scenario = scenario_at(rt, alloc, path, input)?;
@@ -183,6 +189,7 @@ fn serve_compare<R: Files + Threads + Wait + Sync, I: Read, O: Outlet>(
     ensures done { OnOk result (Went (IsCompareAnswer (I.remaining input.old) path.now workers window) (O.told outlet.old) (O.told outlet.new) × (O.failed outlet.new ≡ O.failed outlet.old)) }
     ensures broken { IfErr result (λ fault. status_of fault ≡ 4 → WentPart (IsCompareAnswer (I.remaining input.old) path.now workers window) (O.told outlet.old) (O.told outlet.new) × (O.failed outlet.new ≡ O.failed outlet.old + 1)) }
     ensures refused { IfErr result (λ fault. status_of fault ≢ 4 → (O.told outlet.new ≡ O.told outlet.old) × (O.failed outlet.new ≡ O.failed outlet.old)) }
+    ensures in_order { IfErr result (λ fault. ComesInOrder (I.remaining input.old) path.now (status_of fault)) }
     ensures taken { TakesAtMost (most_bytes + 1) (I.remaining input.old) (I.remaining input.new) }
 {
     let scenario = scenario_at(rt, alloc, path, input)?;
@@ -205,6 +212,7 @@ fn carry_out<R: Files + Threads + Wait + Sync, I: Read, O: Outlet>(
     ensures done { OnOk result (Went (Answers (I.remaining input.old) order.entry) (O.told outlet.old) (O.told outlet.new) × (O.failed outlet.new ≡ O.failed outlet.old)) }
     ensures broken { IfErr result (λ fault. status_of fault ≡ 4 → WentPart (Answers (I.remaining input.old) order.entry) (O.told outlet.old) (O.told outlet.new) × (O.failed outlet.new ≡ O.failed outlet.old + 1)) }
     ensures refused { IfErr result (λ fault. status_of fault ≢ 4 → (O.told outlet.new ≡ O.told outlet.old) × (O.failed outlet.new ≡ O.failed outlet.old)) }
+    ensures in_order { IfErr result (λ fault. ComesInOrder (I.remaining input.old) (path_of order.entry) (status_of fault)) }
     ensures taken { TakesAtMost (most_bytes + 1) (I.remaining input.old) (I.remaining input.new) }
 {
     match order {
@@ -270,7 +278,8 @@ fn show<O: Outlet, F: Outlet>(
 /// | 3 | the plan or the run is refused |
 /// | 4 | writing to the outlet failed |
 ///
-/// Faults are looked for in this order: words, file, scenario, plan, machines, run.
+/// Faults are looked for in this order: words, file, scenario, plan, machines, run. So 1 and 3 come only where the words make
+/// a whole order.
 pub fn serve<R: Files + Threads + Wait + Sync, I: Read, O: Outlet, F: Outlet>(
     rt: &R,
     alloc: Global,
@@ -285,6 +294,8 @@ pub fn serve<R: Files + Threads + Wait + Sync, I: Read, O: Outlet, F: Outlet>(
     ensures done { result ≡ 0 → Went (Serves (I.remaining input.old) (map (λ w. w.now) words.now)) (O.told outlet.old) (O.told outlet.new) × (O.failed outlet.new ≡ O.failed outlet.old) }
     ensures broken { result ≡ 4 → WentPart (Serves (I.remaining input.old) (map (λ w. w.now) words.now)) (O.told outlet.old) (O.told outlet.new) × (O.failed outlet.new ≡ O.failed outlet.old + 1) }
     ensures refused { Contains (1 ∷ 2 ∷ 3 ∷ []) result → (O.told outlet.new ≡ O.told outlet.old) × (O.failed outlet.new ≡ O.failed outlet.old) }
+    ensures asked { (result ≡ 1) ⊎ (result ≡ 3) → (asked : Order) × States (map (λ w. w.now) words.now) asked }
+    ensures accepted { result ≡ 3 → (asked : Order) × States (map (λ w. w.now) words.now) asked × ((s : Record) × IsScenarioAt (I.remaining input.old) (path_of asked) s) }
     ensures told { F.failed faults.new ≤ F.failed faults.old + 1 }
     ensures taken { TakesAtMost (most_bytes + 1) (I.remaining input.old) (I.remaining input.new) }
 {
