@@ -7,9 +7,9 @@ use Rattle.std.specs.declared.cmp.Ordering.TheVariants.{Less, Equal, Greater}
 use Rattle.std.proofs.lemmas.Map.Keys.{le_from_not_gt}
 use Rattle.std.specs.Map.{lookup}
 use Rattle.std.specs.BTreeMap as tree
-use Rattle.consensus_es.specs.declared.slot.Slot.{Slot}
-use Rattle.consensus_es.specs.Kept.{slot_cmp, by_slot, since, by_number, since_round}
-use Rattle.consensus_es.proofs.Slots.{same_slot, same_number, parts}
+use Rattle.consensus_es.specs.declared.row.Row.{Row}
+use Rattle.consensus_es.specs.Kept.{by_number, by_row, in_row, since, since_round}
+use Rattle.consensus_es.proofs.Rows.{same_number}
 
 unsome : {A : Type 0} (d : A) (a b : A) → Some a ≡ Some b → a ≡ b
 unsome d a b e = ap (λ o. elim o [ None ↦ d | Some x ↦ x ]) e
@@ -23,29 +23,6 @@ either true o e = e
 either false o e = refl
 
 module _ {X : Type 0} where
-  pub first_left : (t u : BTreeMap Slot X) (round : ℕ) (first : Slot) (v : X) → slice_get t.entries 0 ≡ Some (first, v) → first.round < round
-      → (o : Option (Slot × X)) → IfSome o (λ p. t.entries ≡ p ∷ u.entries) → IfSome o (λ p. tree.Updates slot_cmp t u p.0 None) → IfNone o (tree.IsUnchanged t u)
-      → since round (by_slot u) ≡ since round (by_slot t)
-  first_left t u round first v is low None rest h same = ap (λ es. since round (λ r q. lookup (tree.is_at (slot_cmp (record { round = r; sender = q }))) es)) same
-  first_left t u round first v is low (Some p) rest h same = λ i r q. at r q i
-    where
-      key : p.0 ≡ first
-      key = ap (λ e. e.0) (unsome p p (first, v) (sym (ap (λ es. slice_get es 0) rest) ∙ is))
-
-      early : p.0.round < round
-      early = subst (λ k. k.round < round) (sym key) low
-
-      at : (r q : ℕ) → since round (by_slot u) r q ≡ since round (by_slot t) r q
-      at r q = go (nat_lt r round) refl
-        where
-          hidden : (b c : Bool) → (nat_eq r p.0.round && nat_eq q p.0.sender) ≡ b → nat_lt r round ≡ false → by_slot u r q ≡ cond b None (by_slot t r q) → by_slot u r q ≡ by_slot t r q
-          hidden true c e later same2 = absurd (true≢false (sym (lt-ltb p.0.round round early) ∙ (ap (λ z. nat_lt z round) (sym (eqb-true r p.0.round (parts (nat_eq r p.0.round) (nat_eq q p.0.sender) e).0)) ∙ later)))
-          hidden false c e later same2 = same2
-
-          go : (b : Bool) → nat_lt r round ≡ b → cond b None (by_slot u r q) ≡ cond b None (by_slot t r q)
-          go true e = refl
-          go false e = hidden (nat_eq r p.0.round && nat_eq q p.0.sender) false refl e (h.0 (record { round = r; sender = q }) ∙ ap (λ b. cond b None (by_slot t r q)) (same_slot p.0 (record { round = r; sender = q })))
-
   pub first_one_left : (t u : BTreeMap ℕ X) (round : ℕ) (first : ℕ) (v : X) → slice_get t.entries 0 ≡ Some (first, v) → first < round
       → (o : Option (ℕ × X)) → IfSome o (λ p. t.entries ≡ p ∷ u.entries) → IfSome o (λ p. tree.Updates nat_cmp t u p.0 None) → IfNone o (tree.IsUnchanged t u)
       → since_round round (by_number u) ≡ since_round round (by_number t)
@@ -70,28 +47,6 @@ module _ {X : Type 0} where
           go false e = hidden (nat_eq r p.0) refl e (h.0 r ∙ ap (λ b. cond b None (by_number t r)) (same_number p.0 r))
 
   -- where the first entry is of the round or a later one, no earlier one is there
-  pub all_since : (t : BTreeMap Slot X) (round : ℕ) (first : Slot) → round ≤ first.round → tree.IsLowerBound slot_cmp t first → by_slot t ≡ since round (by_slot t)
-  all_since t round first low least = λ i r q. at r q i
-    where
-      not_later : (o p : Ordering) → is_gt (ordering_then o p) ≡ false → is_gt o ≡ false
-      not_later Less p e = refl
-      not_later Equal p e = refl
-      not_later Greater p e = e
-
-      nothing : (r q : ℕ) (o : Option X) → by_slot t r q ≡ o → r < round → o ≡ None
-      nothing r q None is early = refl
-      nothing r q (Some x) is early =
-          let bound = least (record { round = r; sender = q }) (subst IsSome (sym is) refl) in
-          let h : first.round ≤ r = le_from_not_gt first.round r (not_later (nat_cmp first.round r) (nat_cmp first.sender q) bound) in
-          absurd (omega (arith, h, early, low))
-
-      at : (r q : ℕ) → by_slot t r q ≡ since round (by_slot t) r q
-      at r q = go (nat_lt r round) refl
-        where
-          go : (b : Bool) → nat_lt r round ≡ b → by_slot t r q ≡ cond b None (by_slot t r q)
-          go true e = nothing r q (by_slot t r q) refl (ltb-true r round e)
-          go false e = refl
-
   pub all_since_round : (t : BTreeMap ℕ X) (round first : ℕ) → round ≤ first → tree.IsLowerBound nat_cmp t first → by_number t ≡ since_round round (by_number t)
   all_since_round t round first low least = λ i r. at r i
     where
@@ -109,8 +64,13 @@ module _ {X : Type 0} where
           go false e = refl
 
   -- an empty table
-  pub none_since : (t : BTreeMap Slot X) (round : ℕ) → tree.IsEmpty t → by_slot t ≡ since round (by_slot t)
-  none_since t round empty = λ i r q. either (nat_lt r round) (by_slot t r q) (ap (lookup (tree.is_at (slot_cmp (record { round = r; sender = q })))) empty) i
-
   pub none_since_round : (t : BTreeMap ℕ X) (round : ℕ) → tree.IsEmpty t → by_number t ≡ since_round round (by_number t)
   none_since_round t round empty = λ i r. either (nat_lt r round) (by_number t r) (ap (lookup (tree.is_at (nat_cmp r))) empty) i
+
+-- rows of earlier rounds
+pub since_rows : {X : Type 0} (round : ℕ) (f : ℕ → Option (Row X)) → by_row (since_round round f) ≡ since round (by_row f)
+since_rows {X = X} round f = λ i r q. at (nat_lt r round) (f r) q i
+  where
+    at : (b : Bool) (o : Option (Row X)) (q : ℕ) → in_row (cond b None o) q ≡ cond b None (in_row o q)
+    at true o q = refl
+    at false o q = refl

@@ -1,4 +1,4 @@
-mod Slots
+mod Rows
 mod Dropping
 mod Settled
 mod Settling

@@ -1,22 +1,29 @@
 -- Tables of letters, seen by round and sender.
-use Rattle.std.specs.Prelude.{ℕ, Option, None, nat_lt, if◌then◌else◌}
-use Rattle.std.specs.Ordering.{ordering_then, nat_cmp}
-use Rattle.std.specs.declared.cmp.Ordering.{Ordering}
+use Rattle.std.specs.Prelude.{ℕ, Option, None, Some, nat_lt, if◌then◌else◌}
+use Rattle.std.specs.Ordering.{nat_cmp}
 use Rattle.std.specs.BTreeMap as tree
 use Rattle.std.specs.BTreeMap.{BTreeMap}
-use Rattle.consensus_es.specs.declared.slot.Slot.{Slot}
+use Rattle.consensus_es.specs.Cells.{cell_of}
 use Rattle.consensus_es.specs.declared.letters.Letters.{Letters}
 use Rattle.consensus_es.specs.declared.proposals.Proposals.{Proposals}
+use Rattle.consensus_es.specs.declared.row.Row.{Row}
 
--- by round, then sender
-abbrev pub slot_cmp : Slot → Slot → Ordering
-slot_cmp a b = ordering_then (nat_cmp a.round b.round) (nat_cmp a.sender b.sender)
+abbrev pub by_number : {X : Type 0} → BTreeMap ℕ X → ℕ → Option X
+by_number m = λ round. tree.get nat_cmp m round
 
-abbrev pub by_slot : {X : Type 0} → BTreeMap Slot X → ℕ → ℕ → Option X
-by_slot m = λ round sender. tree.get slot_cmp m (record { round = round; sender = sender })
+-- the letters of one round
+abbrev pub of_sender : {X : Type 0} → Row X → ℕ → Option X
+of_sender row = cell_of row.cells.items
+
+-- of a round that has no row, no letter
+abbrev pub in_row : {X : Type 0} → Option (Row X) → ℕ → Option X
+in_row row = λ q. elim row [ None ↦ None | Some r ↦ of_sender r q ]
+
+abbrev pub by_row : {X : Type 0} → (ℕ → Option (Row X)) → ℕ → ℕ → Option X
+by_row rows = λ r q. in_row (rows r) q
 
 abbrev pub by_sender : {X : Type 0} → Letters X → ℕ → ℕ → Option X
-by_sender letters = by_slot letters.by_slot
+by_sender letters = by_row (by_number letters.rows)
 
 abbrev pub no_letters : {X : Type 0} → ℕ → ℕ → Option X
 no_letters = λ r q. None
@@ -24,9 +31,6 @@ no_letters = λ r q. None
 -- of the rounds from this one on
 abbrev pub since : {X : Type 0} → ℕ → (ℕ → ℕ → Option X) → ℕ → ℕ → Option X
 since round kept = λ r q. if nat_lt r round then None else kept r q
-
-abbrev pub by_number : {X : Type 0} → BTreeMap ℕ X → ℕ → Option X
-by_number m = λ round. tree.get nat_cmp m round
 
 abbrev pub of_round : Proposals → ℕ → Option ℕ
 of_round proposals = by_number proposals.by_round

@@ -8,12 +8,14 @@ use Rattle.consensus_es.specs.Orderly.{IsOrderly}
 
 -- after an input no wait is over
 abbrev pub SettlesAlways : Type 0
-SettlesAlways = (n own : ℕ) (is_suspected : ℕ → Bool) (input : StepInput) (s : Coordinator) → end_wait n own is_suspected (step_coordinator n own is_suspected input s).state ≡ None
+SettlesAlways = (n own : ℕ) (is_suspected : ℕ → Bool) (input : StepInput) (s : Coordinator)
+    → end_wait n own is_suspected (step_coordinator n own is_suspected input s).state ≡ None
 
 -- where a wait is over, its end comes first and then what waits after it; where none is, nothing is done
 abbrev pub SettlesByEnds : Type 0
 SettlesByEnds = (n own : ℕ) (is_suspected : ℕ → Bool) (s : Coordinator)
-    → ((a : Answer Coordinator) → end_wait n own is_suspected s ≡ Some a → settle n own is_suspected (still s) ≡ after a.actions (settle n own is_suspected (still a.state)))
+    → ((a : Answer Coordinator) → end_wait n own is_suspected s ≡ Some a
+    → settle n own is_suspected (still s) ≡ after a.actions (settle n own is_suspected (still a.state)))
     × (end_wait n own is_suspected s ≡ None → settle n own is_suspected (still s) ≡ still s)
 
 -- the opening state is orderly
@@ -22,15 +24,19 @@ OpensOrderly = (n own proposal : ℕ) → IsOrderly n own (opening_coordinator p
 
 -- an orderly process stays so, and one input makes few actions
 abbrev pub ActsLittle : Type 0
-ActsLittle = (n own : ℕ) → 1 ≤ own → own ≤ n → (is_suspected : ℕ → Bool) → is_suspected own ≡ false → (input : StepInput) (s : Coordinator) → IsOrderly n own s
-    → IsOrderly n own (step_coordinator n own is_suspected input s).state × (length (step_coordinator n own is_suspected input s).actions ≤ 6 * n + 3)
+ActsLittle = (n own : ℕ) → 1 ≤ own → own ≤ n → (is_suspected : ℕ → Bool) → is_suspected own ≡ false
+    → (input : StepInput) (s : Coordinator) → IsOrderly n own s
+    → IsOrderly n own (step_coordinator n own is_suspected input s).state
+    × (length (step_coordinator n own is_suspected input s).actions ≤ 6 * n + 3)
 
 -- an orderly process leaves at most n rounds in one input
 abbrev pub LeavesFewRounds : Type 0
-LeavesFewRounds = (n own : ℕ) → 1 ≤ own → own ≤ n → (is_suspected : ℕ → Bool) → is_suspected own ≡ false → (input : StepInput) (s : Coordinator) → IsOrderly n own s
+LeavesFewRounds = (n own : ℕ) → 1 ≤ own → own ≤ n → (is_suspected : ℕ → Bool) → is_suspected own ≡ false
+    → (input : StepInput) (s : Coordinator) → IsOrderly n own s
     → (step_coordinator n own is_suspected input s).state.round ≤ s.round + n
 
--- the estimate d of process p is behind the estimate e of process q: its stamp is smaller, or the same and its sender no less
+-- the estimate d of process p is behind the estimate e of process q: its stamp is smaller, or the same and its sender
+-- no less
 abbrev pub IsBehind : Estimate → ℕ → ℕ → Estimate → Type 0
 IsBehind e q p d = (d.stamp < e.stamp) ⊎ ((d.stamp ≡ e.stamp) × (q ≤ p))
 
@@ -42,4 +48,5 @@ IsBest n of_sender e =
 
 -- what is chosen is that
 abbrev pub ChoosesBest : Type 0
-ChoosesBest = (n : ℕ) (of_sender : ℕ → Option Estimate) (e : Estimate) → best_to n of_sender ≡ Some e → IsBest n of_sender e
+ChoosesBest = (n : ℕ) (of_sender : ℕ → Option Estimate) (e : Estimate)
+    → best_to n of_sender ≡ Some e → IsBest n of_sender e

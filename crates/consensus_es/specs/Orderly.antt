@@ -26,5 +26,6 @@ module _ (n own : ℕ) where
   is_in_place Ended round = true
 
   pub record IsOrderly (s : Coordinator) : Type 0 where
-    pub own_kept : (round value : ℕ) → s.kept.proposals round ≡ Some value → is_own n own round ≡ true → round < own_below s.phase s.round
+    pub own_kept : (round value : ℕ) → s.kept.proposals round ≡ Some value → is_own n own round ≡ true
+        → round < own_below s.phase s.round
     pub in_place : is_in_place s.phase s.round ≡ true

@@ -30,7 +30,8 @@ Ends over before after out out2 None = (over ≡ false) × Does after out out2 (
 Ends over before after out out2 (Some answer) = (over ≡ true) × Does after out out2 answer
 
 abbrev pub is_collecting : Phase → Bool
-is_collecting p = elim p [ Opening ↦ false | Collect ↦ true | Await ↦ false | Tally ↦ false | Decided ↦ false | Ended ↦ false ]
+is_collecting p =
+    elim p [ Opening ↦ false | Collect ↦ true | Await ↦ false | Tally ↦ false | Decided ↦ false | Ended ↦ false ]
 
 -- how many of 1 to n acknowledge
 abbrev pub acks_of : ℕ → (ℕ → Option Bool) → ℕ

@@ -12,10 +12,11 @@ use process_api::{Action, Algorithm, ProcSet, StepInput};
 use scenario::Opening;
 use std::alloc::{AllocError, Global};
 
-/// One process's part in consensus by rotating coordinators (Chandra and Toueg, Journal of the ACM 43(2), 1996). In each
-/// round, from 1 to 1,000,000,000,000, one process is the coordinator: it collects estimates from a majority, proposes the
-/// one adopted last, and where a majority acknowledges that, broadcasts it as the decision. The others wait for its
-/// proposal or until they suspect it. Decisions spread by diffusion, see [`Diffusion`](crate::Diffusion).
+/// One process's part in consensus by rotating coordinators (Chandra and Toueg, Journal of the ACM 43(2), 1996).
+/// In each round, from 1 to 1,000,000,000,000, one process is the coordinator: it collects estimates from a
+/// majority, proposes the one adopted last, and where a majority acknowledges that, broadcasts it as the decision.
+/// The others wait for its proposal or until they suspect it. Decisions spread by diffusion, see
+/// [`Diffusion`](crate::Diffusion).
 ///
 /// Contracts see the state of `process_api`'s definition, `Coordinator`, and whether a call has answered `Err`. Memory
 /// grows with the letters kept, those of the own round and of later ones, and with the rounds whose decision was seen.
@@ -38,7 +39,8 @@ impl EsConsensus {
     /// `AllocError` where memory was refused.
     pub fn open(alloc: Global, opening: &Opening) -> Result<EsConsensus, AllocError>
         requires { IsSome opening.now.proposal }
-        ensures opens { IfOk result (λ c. ⟦<EsConsensus as Algorithm>⟧.state c ≡ Coordinating (place_of opening.now) (opening_coordinator (unwrap_or opening.now.proposal 0))) }
+        ensures opens { IfOk result (λ c. ⟦<EsConsensus as Algorithm>⟧.state c
+            ≡ Coordinating (place_of opening.now) (opening_coordinator (unwrap_or opening.now.proposal 0))) }
         ensures works { IfOk result (λ c. ⟦<EsConsensus as Algorithm>⟧.has_failed c ≡ false) }
     {
         Ok(EsConsensus {

@@ -36,8 +36,8 @@ impl Diffusion {
         self.rounds.contains(&round)
     }
 
-    /// Receives the decision of a round, and answers whether it came for the first time. Then it is passed on to all, in
-    /// order, unless the process is the round's coordinator.
+    /// Receives the decision of a round, and answers whether it came for the first time. Then it is passed on to all,
+    /// in order, unless the process is the round's coordinator.
     ///
     /// # Errors
     ///
@@ -50,8 +50,10 @@ impl Diffusion {
         out: &mut Vec<Action>,
     ) -> Result<bool, AllocError>
         ensures first { IfOk result (λ first. first ≡ not (seen_of self.old round)) }
-        ensures seen { IfOk result (λ first. seen_of self.new ≡ (if first then also_seen (seen_of self.old) round else seen_of self.old)) }
-        ensures relayed { IfOk result (λ first. out.new.items ≡ out.old.items ++ (if first then relay_of membership.now.processes membership.now.own round value else [])) }
+        ensures seen { IfOk result (λ first.
+            seen_of self.new ≡ (if first then also_seen (seen_of self.old) round else seen_of self.old)) }
+        ensures relayed { IfOk result (λ first. out.new.items ≡ out.old.items
+            ++ (if first then relay_of membership.now.processes membership.now.own round value else [])) }
         ensures unchanged { OnErr result (seen_of self.new ≡ seen_of self.old) }
     {
         if self.has_seen(round) {
@@ -93,7 +95,8 @@ fn relay(
     value: u32,
     out: &mut Vec<Action>,
 ) -> Result<(), AllocError>
-    ensures { OnOk result (out.new.items ≡ out.old.items ++ relay_of membership.now.processes membership.now.own round value) }
+    ensures { OnOk result (
+        out.new.items ≡ out.old.items ++ relay_of membership.now.processes membership.now.own round value) }
 {
     if !membership.is_coordinator(round) {
         Diffusion::broadcast(membership, round, value, out)?;

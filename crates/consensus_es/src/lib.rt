@@ -7,13 +7,13 @@
 //! `specs/Diffusion.antt` of `process_api`), and nothing else. This crate's own `specs/` only say how tables and sets
 //! in memory are seen as that definition's state, and what holds of every state that a process comes to.
 //!
-//! For example, process 1 of three opens with the proposal 10. At its start it notes round 1 and sends its estimate, 10
-//! with the stamp 0, to process 2, the coordinator of round 1. When process 2's proposal comes it adopts it, sends an
-//! ack to process 2, and enters round 2, whose coordinator is process 3. When a decision of round 1 comes it passes it
-//! on to all three, and notes that it has decided. From then on only decisions of other rounds have an effect: it
-//! passes each on once.
+//! For example, process 1 of three opens with the proposal 10. At its start it notes round 1 and sends its estimate,
+//! 10 with the stamp 0, to process 2, the coordinator of round 1. When process 2's proposal comes it adopts it, sends
+//! an ack to process 2, and enters round 2, whose coordinator is process 3. When a decision of round 1 comes it
+//! passes it on to all three, and notes that it has decided. From then on only decisions of other rounds have an
+//! effect: it passes each on once.
 //!
-//! [`Diffusion`] is the second half of that by itself: the rounds whose decision was received, and who passes a decision
+//! [`Diffusion`] is the second half of that by itself: the rounds whose decision was received, and who passes one
 //! on. [`Membership`] is what both know of their surroundings: the own number, and among how many. [`law_settled`] says
 //! what follows from the definition: that waits end as long as one can, that one input makes few actions and leaves few
 //! rounds, and that the best estimate is chosen.
@@ -26,7 +26,7 @@ mod letters;
 mod membership;
 mod progress;
 mod proposals;
-mod slot;
+mod row;
 
 pub use consensus::EsConsensus;
 pub use diffusion::Diffusion;

@@ -63,7 +63,9 @@ impl Progress {
         suspects: &ProcSet,
         out: &mut Vec<Action>,
     ) -> Result<(), AllocError>
-        ensures { OnOk result (Does self.new out.old.items out.new.items (step_coordinator membership.now.processes membership.now.own (set.contains suspects.now) input.now (state_of self.old))) }
+        ensures { OnOk result (Does self.new out.old.items out.new.items (
+            step_coordinator membership.now.processes membership.now.own
+            (set.contains suspects.now) input.now (state_of self.old))) }
     {
         self.begin(membership, input, out)?;
         self.settle(membership, suspects, out)
@@ -76,7 +78,8 @@ impl Progress {
         input: &StepInput,
         out: &mut Vec<Action>,
     ) -> Result<(), AllocError>
-        ensures { OnOk result (Does self.new out.old.items out.new.items (begin_of membership.now.processes membership.now.own input.now (state_of self.old))) }
+        ensures { OnOk result (Does self.new out.old.items out.new.items (
+            begin_of membership.now.processes membership.now.own input.now (state_of self.old))) }
     {
         match input {
             StepInput::Start => {
@@ -104,7 +107,8 @@ impl Progress {
         round: u64,
         out: &mut Vec<Action>,
     ) -> Result<(), AllocError>
-        ensures { OnOk result (Does self.new out.old.items out.new.items (enter_of membership.now.processes membership.now.own round (state_of self.old))) }
+        ensures { OnOk result (Does self.new out.old.items out.new.items (
+            enter_of membership.now.processes membership.now.own round (state_of self.old))) }
     {
         self.phase = first_phase(membership.is_coordinator(round));
         self.round = round;
@@ -128,7 +132,8 @@ impl Progress {
 
     /// Leaves the own round. Past the greatest there is no other.
     fn leave(&mut self, membership: &Membership, out: &mut Vec<Action>) -> Result<(), AllocError>
-        ensures { OnOk result (Does self.new out.old.items out.new.items (leave_of membership.now.processes membership.now.own (state_of self.old))) }
+        ensures { OnOk result (Does self.new out.old.items out.new.items (
+            leave_of membership.now.processes membership.now.own (state_of self.old))) }
     {
         if self.round < GREATEST_ROUND {
             self.enter(membership, self.round + 1, out)
@@ -145,7 +150,8 @@ impl Progress {
         ack: bool,
         out: &mut Vec<Action>,
     ) -> Result<(), AllocError>
-        ensures { OnOk result (Does self.new out.old.items out.new.items (reply_of membership.now.processes membership.now.own ack (state_of self.old))) }
+        ensures { OnOk result (Does self.new out.old.items out.new.items (
+            reply_of membership.now.processes membership.now.own ack (state_of self.old))) }
     {
         let round = self.round;
         send_to(
@@ -168,7 +174,9 @@ impl Progress {
         suspects: &ProcSet,
         out: &mut Vec<Action>,
     ) -> Result<(), AllocError>
-        ensures { OnOk result (Does self.new out.old.items out.new.items (settle_of membership.now.processes membership.now.own (set.contains suspects.now) (still (state_of self.old)))) }
+        ensures { OnOk result (Does self.new out.old.items out.new.items (
+            settle_of membership.now.processes membership.now.own
+            (set.contains suspects.now) (still (state_of self.old)))) }
     {
         let mut more = true;
         while more {
@@ -184,7 +192,8 @@ impl Progress {
         suspects: &ProcSet,
         out: &mut Vec<Action>,
     ) -> Result<bool, AllocError>
-        ensures { IfOk result (λ over. Ends over self.old self.new out.old.items out.new.items (end_wait_of membership.now.processes membership.now.own (set.contains suspects.now) (state_of self.old))) }
+        ensures { IfOk result (λ over. Ends over self.old self.new out.old.items out.new.items (
+            end_wait_of membership.now.processes membership.now.own (set.contains suspects.now) (state_of self.old))) }
     {
         match self.phase {
             Phase::Collect => self.collect(membership, out),
@@ -200,7 +209,8 @@ impl Progress {
         membership: &Membership,
         out: &mut Vec<Action>,
     ) -> Result<bool, AllocError>
-        ensures { IfOk result (λ over. Ends over self.old self.new out.old.items out.new.items (collect_of membership.now.processes membership.now.own (state_of self.old))) }
+        ensures { IfOk result (λ over. Ends over self.old self.new out.old.items out.new.items (
+            collect_of membership.now.processes membership.now.own (state_of self.old))) }
     {
         let round = self.round;
         if self.estimates.count(membership, round) < membership.majority() {
@@ -226,7 +236,8 @@ impl Progress {
         suspects: &ProcSet,
         out: &mut Vec<Action>,
     ) -> Result<bool, AllocError>
-        ensures { IfOk result (λ over. Ends over self.old self.new out.old.items out.new.items (await_of membership.now.processes membership.now.own (set.contains suspects.now) (state_of self.old))) }
+        ensures { IfOk result (λ over. Ends over self.old self.new out.old.items out.new.items (
+            await_of membership.now.processes membership.now.own (set.contains suspects.now) (state_of self.old))) }
     {
         let round = self.round;
         if let Some(value) = self.proposals.get(round) {
@@ -246,7 +257,8 @@ impl Progress {
 
     /// With a majority of replies the round is left; where a majority of acks is among them, the decision is broadcast.
     fn tally(&mut self, membership: &Membership, out: &mut Vec<Action>) -> Result<bool, AllocError>
-        ensures { IfOk result (λ over. Ends over self.old self.new out.old.items out.new.items (tally_of membership.now.processes membership.now.own (state_of self.old))) }
+        ensures { IfOk result (λ over. Ends over self.old self.new out.old.items out.new.items (
+            tally_of membership.now.processes membership.now.own (state_of self.old))) }
     {
         let round = self.round;
         if self.replies.count(membership, round) < membership.majority() {
@@ -267,7 +279,8 @@ impl Progress {
         payload: &Payload,
         out: &mut Vec<Action>,
     ) -> Result<(), AllocError>
-        ensures { OnOk result (Does self.new out.old.items out.new.items (receive_of membership.now.processes membership.now.own sender payload.now (state_of self.old))) }
+        ensures { OnOk result (Does self.new out.old.items out.new.items (
+            receive_of membership.now.processes membership.now.own sender payload.now (state_of self.old))) }
     {
         match payload {
             Payload::Alive | Payload::Suspects(_) | Payload::Vector { .. } | Payload::Last { .. } =>
@@ -305,7 +318,9 @@ impl Progress {
         round: u64,
         estimate: Estimate,
     ) -> Result<(), AllocError>
-        ensures { OnOk result (Does self.new [] [] (receive_of membership.now.processes membership.now.own sender (Payload.Estimate round estimate.value estimate.stamp) (state_of self.old))) }
+        ensures { OnOk result (Does self.new [] [] (
+            receive_of membership.now.processes membership.now.own
+            sender (Payload.Estimate round estimate.value estimate.stamp) (state_of self.old))) }
     {
         if self.is_timely(membership, sender, round) && membership.is_coordinator(round) {
             self.estimates.keep(round, sender, estimate)?;
@@ -322,7 +337,9 @@ impl Progress {
         round: u64,
         value: u32,
     ) -> Result<(), AllocError>
-        ensures { OnOk result (Does self.new [] [] (receive_of membership.now.processes membership.now.own sender (Payload.Proposal round value) (state_of self.old))) }
+        ensures { OnOk result (Does self.new [] [] (
+            receive_of membership.now.processes membership.now.own
+            sender (Payload.Proposal round value) (state_of self.old))) }
     {
         if self.is_timely(membership, sender, round)
             && sender == membership.coordinator(round)
@@ -341,7 +358,9 @@ impl Progress {
         round: u64,
         ack: bool,
     ) -> Result<(), AllocError>
-        ensures { OnOk result (Does self.new [] [] (receive_of membership.now.processes membership.now.own sender (Payload.Reply round ack) (state_of self.old))) }
+        ensures { OnOk result (Does self.new [] [] (
+            receive_of membership.now.processes membership.now.own
+            sender (Payload.Reply round ack) (state_of self.old))) }
     {
         if self.is_timely(membership, sender, round) && membership.is_coordinator(round) {
             self.replies.keep(round, sender, ack)?;
@@ -357,7 +376,8 @@ impl Progress {
         value: u32,
         out: &mut Vec<Action>,
     ) -> Result<(), AllocError>
-        ensures { OnOk result (Does self.new out.old.items out.new.items (deliver_of membership.now.processes membership.now.own round value (state_of self.old))) }
+        ensures { OnOk result (Does self.new out.old.items out.new.items (
+            deliver_of membership.now.processes membership.now.own round value (state_of self.old))) }
     {
         let first = self.diffusion.receive(membership, round, value, out)?;
         if first {
@@ -436,9 +456,12 @@ fn better(earlier: Option<Estimate>, later: Option<Estimate>) -> Option<Estimate
 pub fn best(estimates: &Letters<Estimate>, membership: &Membership, round: u64) -> Option<Estimate>
     ensures { result ≡ best_to membership.now.processes (by_sender estimates.now round) }
 {
+    let Some(row) = estimates.row(round) else {
+        return None;
+    };
     let mut chosen: Option<Estimate> = None;
     for before in 0..membership.processes {
-        chosen = better(chosen, estimates.get(round, membership.process(before)));
+        chosen = better(chosen, row.get(membership.process(before)));
     }
     chosen
 }
@@ -447,11 +470,12 @@ pub fn best(estimates: &Letters<Estimate>, membership: &Membership, round: u64) 
 fn count_acks(replies: &Letters<bool>, membership: &Membership, round: u64) -> u16
     ensures { result ≡ acks_of membership.now.processes (by_sender replies.now round) }
 {
+    let Some(row) = replies.row(round) else {
+        return 0;
+    };
     let mut count: u16 = 0;
     for before in 0..membership.processes {
-        let ack = replies
-            .get(round, membership.process(before))
-            .unwrap_or(false);
+        let ack = row.get(membership.process(before)).unwrap_or(false);
         if ack {
             count += 1;
         }
@@ -466,7 +490,8 @@ fn propose(
     value: u32,
     out: &mut Vec<Action>,
 ) -> Result<(), AllocError>
-    ensures { OnOk result (out.new.items ≡ out.old.items ++ to_all membership.now.processes (Payload.Proposal round value)) }
+    ensures { OnOk result (
+        out.new.items ≡ out.old.items ++ to_all membership.now.processes (Payload.Proposal round value)) }
 {
     for before in 0..membership.processes {
         send_to(
@@ -480,7 +505,8 @@ fn propose(
 
 /// Notes a decision, where none was made before.
 fn note_first(was_decided: bool, value: u32, out: &mut Vec<Action>) -> Result<(), AllocError>
-    ensures { OnOk result (out.new.items ≡ out.old.items ++ (if was_decided then [] else Action.Note (Note.Decided value) ∷ [])) }
+    ensures { OnOk result (out.new.items ≡ out.old.items ++ (
+        if was_decided then [] else Action.Note (Note.Decided value) ∷ [])) }
 {
     if !was_decided {
         note_that(out, Note::Decided(value))?;

@@ -1,4 +1,4 @@
 pub mod Counting
-pub mod Slots
+pub mod Rows
 pub mod Settled
 pub mod Allowed

@@ -49,6 +49,13 @@ all_each (suc n) which q is low high = go (last_or q n) (both_parts (all_to n wh
     go (inr (inr h)) parts rest = absurd (omega arith)
 
 module _ (n own : ℕ) (is_suspected : ℕ → Bool) where
+  -- a wait that is over in a round before the last enters the next
+  pub ends_round : (s : Exchange) → is_running n own s ≡ true → is_over n own is_suspected s ≡ true → nat_lt s.round n ≡ true → end_one n own is_suspected s ≡ enter n own (s.round + 1) (gather n own s)
+  ends_round s runs over early = λ i. ends (cond (runs i && over i) (Some (cond (early i) (enter n own (s.round + 1) (gather n own s)) (decide n own s))) None)
+    where
+      ends : Option (Answer Exchange) → Answer Exchange
+      ends o = elim o [ None ↦ still s | Some a ↦ a ]
+
   -- after the end of a wait fewer can end
   abbrev Fewer : ℕ → Option (Answer Exchange) → Type 0
   Fewer k None = Unit {0}
@@ -91,7 +98,7 @@ module _ (n own : ℕ) (is_suspected : ℕ → Bool) where
   settled x s = end_waits_over (waits_left n own (begin n own x s).state) (begin n own x s).state (omega arith)
 
   -- where no wait is over nothing is done
-  stops : (k : ℕ) (s : Exchange) → end_wait n own is_suspected s ≡ None → end_waits n own k is_suspected s ≡ still s
+  pub stops : (k : ℕ) (s : Exchange) → end_wait n own is_suspected s ≡ None → end_waits n own k is_suspected s ≡ still s
   stops zero s is = refl
   stops (suc k) s is = ap (onward k s) is
 

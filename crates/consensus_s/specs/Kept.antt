@@ -1,19 +1,30 @@
 -- Kept letters as a function of round and sender.
 use Rattle.std.specs.Prelude.{ℕ, Bool, false, not, is_some, Option, None, Some}
-use Rattle.std.specs.Ordering.{ordering_then, nat_cmp}
-use Rattle.std.specs.declared.cmp.Ordering.{Ordering}
+use Rattle.std.specs.Ordering.{nat_cmp}
 use Rattle.std.specs.BTreeMap as tree
-use Rattle.process_api.specs.Cells.{cell}
+use Rattle.std.specs.BTreeMap.{BTreeMap}
+use Rattle.process_api.specs.Cells.{Vector, cell}
 use Rattle.process_api.specs.ConsensusS.{Kept, any_to, first_to}
+use Rattle.consensus_s.specs.Rows.{vector_of}
 use Rattle.consensus_s.specs.declared.letters.Letters.{Letters}
-use Rattle.consensus_s.specs.declared.letters.Slot.{Slot}
+use Rattle.consensus_s.specs.declared.row.Row.{Row}
 
--- by round, then sender: the derived order
-abbrev pub slot_cmp : Slot → Slot → Ordering
-slot_cmp a b = ordering_then (nat_cmp a.round b.round) (nat_cmp a.sender b.sender)
+-- the vectors of one round
+abbrev pub of_sender : Row → ℕ → Option Vector
+of_sender row = vector_of row.vectors.items
+
+-- of a round that has no row, no vector
+abbrev pub in_row : Option Row → ℕ → Option Vector
+in_row row = λ q. elim row [ None ↦ None | Some r ↦ of_sender r q ]
+
+abbrev pub by_number : BTreeMap ℕ Row → ℕ → Option Row
+by_number m = λ round. tree.get nat_cmp m round
+
+abbrev pub by_row : (ℕ → Option Row) → Kept
+by_row rows = λ round sender. in_row (rows round) sender
 
 abbrev pub kept_of : Letters → Kept
-kept_of letters = λ round sender. tree.get slot_cmp letters.vectors (record { round = round; sender = sender })
+kept_of letters = by_row (by_number letters.rows)
 
 abbrev pub nothing_kept : Kept
 nothing_kept = λ round sender. None
@@ -24,4 +35,5 @@ told_in n kept round k = first_to n (λ q. elim (kept round q) [ None ↦ None |
 
 -- cell k is empty in some letter of a round
 abbrev pub missed_in : ℕ → Kept → ℕ → ℕ → Bool
-missed_in n kept round k = any_to n (λ q. elim (kept round q) [ None ↦ false | Some cells ↦ not (is_some (cell cells k)) ])
+missed_in n kept round k =
+    any_to n (λ q. elim (kept round q) [ None ↦ false | Some cells ↦ not (is_some (cell cells k)) ])

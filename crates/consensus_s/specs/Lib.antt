@@ -1,3 +1,5 @@
+pub mod Rows
 pub mod Kept
 pub mod State
 pub mod Machine
+pub mod Laws

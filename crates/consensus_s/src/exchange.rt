@@ -1,9 +1,9 @@
 //! The exchange of vectors at one process.
-ghost use Rattle.std.specs.Prelude.{◌≡◌, ◌≤◌, ◌<◌, ◌+◌, ◌++◌, false, None, IfOk, OnOk, length};
+ghost use Rattle.std.specs.Prelude.{◌≡◌, ◌≤◌, ◌<◌, ◌+◌, ◌++◌, false, IfOk, OnOk, length};
 ghost use Rattle.std.specs.FinSet as set;
 ghost use Rattle.process_api.specs.Answer.{to_all};
 ghost use Rattle.process_api.specs.ConsensusS.{opening_exchange, step_exchange};
-ghost use Rattle.process_api.specs.ConsensusS.{begin as begun, decide as decided, end_wait as wait_ended, enter as entered, gather as gathered, is_running as is_running_in, is_timely as is_timely_for, receive as received, receive_cells as received_cells};
+ghost use Rattle.process_api.specs.ConsensusS.{begin as begun, decide as decided, enter as entered, gather as gathered, is_running as is_running_in, is_timely as is_timely_for, receive as received, receive_cells as received_cells};
 ghost use Rattle.consensus_s.specs.State.{end_one, exchange_of, IsOrderly};
 
 use crate::letters::{Letters, process_after};
@@ -43,7 +43,8 @@ impl Exchange {
 
     /// Takes what the letters of the round tell, and leaves the round.
     fn gather(&mut self, opening: &Opening) -> Result<(), AllocError>
-        ensures { OnOk result (exchange_of self.new ≡ gathered opening.now.processes opening.now.own (exchange_of self.old)) }
+        ensures { OnOk result (exchange_of self.new
+            ≡ gathered opening.now.processes opening.now.own (exchange_of self.old)) }
     {
         let n = opening.processes;
         let known = known_after(self.alloc, &self.letters, n, self.round, &self.known)?;
@@ -61,8 +62,10 @@ impl Exchange {
         round: u64,
         out: &mut Vec<Action>,
     ) -> Result<(), AllocError>
-        ensures state { OnOk result (exchange_of self.new ≡ (entered opening.now.processes opening.now.own round (exchange_of self.old)).state) }
-        ensures actions { OnOk result (out.new.items ≡ out.old.items ++ (entered opening.now.processes opening.now.own round (exchange_of self.old)).actions) }
+        ensures state { OnOk result (exchange_of self.new
+            ≡ (entered opening.now.processes opening.now.own round (exchange_of self.old)).state) }
+        ensures actions { OnOk result (out.new.items ≡ out.old.items
+            ++ (entered opening.now.processes opening.now.own round (exchange_of self.old)).actions) }
     {
         let n = opening.processes;
         note_that(out, Note::Round(round))?;
@@ -77,8 +80,10 @@ impl Exchange {
 
     /// Decides after the last round.
     fn decide(&mut self, opening: &Opening, out: &mut Vec<Action>) -> Result<(), AllocError>
-        ensures state { OnOk result (exchange_of self.new ≡ (decided opening.now.processes opening.now.own (exchange_of self.old)).state) }
-        ensures actions { OnOk result (out.new.items ≡ out.old.items ++ (decided opening.now.processes opening.now.own (exchange_of self.old)).actions) }
+        ensures state { OnOk result (exchange_of self.new
+            ≡ (decided opening.now.processes opening.now.own (exchange_of self.old)).state) }
+        ensures actions { OnOk result (out.new.items ≡ out.old.items
+            ++ (decided opening.now.processes opening.now.own (exchange_of self.old)).actions) }
     {
         let n = opening.processes;
         let common = common_after(self.alloc, &self.letters, n, self.round, &self.known)?;
@@ -100,8 +105,12 @@ impl Exchange {
         suspects: &ProcSet,
         out: &mut Vec<Action>,
     ) -> Result<(), AllocError>
-        ensures state { OnOk result (exchange_of self.new ≡ (end_one opening.now.processes opening.now.own (set.contains suspects.now) (exchange_of self.old)).state) }
-        ensures actions { OnOk result (out.new.items ≡ out.old.items ++ (end_one opening.now.processes opening.now.own (set.contains suspects.now) (exchange_of self.old)).actions) }
+        ensures state { OnOk result (exchange_of self.new
+            ≡ (end_one opening.now.processes opening.now.own
+            (set.contains suspects.now) (exchange_of self.old)).state) }
+        ensures actions { OnOk result (out.new.items ≡ out.old.items
+            ++ (end_one opening.now.processes opening.now.own
+            (set.contains suspects.now) (exchange_of self.old)).actions) }
     {
         let n = opening.processes;
         if !self.is_running(opening) || !self.letters.is_over(n, self.round, suspects) {
@@ -125,7 +134,8 @@ impl Exchange {
 
     /// Whether a vector counts: of one of the n processes, of n cells, of the own round or, by another, of a later one.
     fn is_timely(&self, opening: &Opening, sender: Pid, round: u64, cells: &Cells) -> bool
-        ensures { result ≡ is_timely_for opening.now.processes opening.now.own (exchange_of self.now) sender round cells.now }
+        ensures { result
+            ≡ is_timely_for opening.now.processes opening.now.own (exchange_of self.now) sender round cells.now }
     {
         let n = opening.processes;
         self.is_running(opening)
@@ -143,7 +153,8 @@ impl Exchange {
         round: u64,
         cells: &Cells,
     ) -> Result<(), AllocError>
-        ensures { OnOk result (exchange_of self.new ≡ received_cells opening.now.processes opening.now.own sender round cells.now (exchange_of self.old)) }
+        ensures { OnOk result (exchange_of self.new
+            ≡ received_cells opening.now.processes opening.now.own sender round cells.now (exchange_of self.old)) }
     {
         if self.is_timely(opening, sender, round, cells) {
             self.letters.keep(round, sender, cells)?;
@@ -158,7 +169,8 @@ impl Exchange {
         sender: Pid,
         payload: &Payload,
     ) -> Result<(), AllocError>
-        ensures { OnOk result (exchange_of self.new ≡ received opening.now.processes opening.now.own sender payload.now (exchange_of self.old)) }
+        ensures { OnOk result (exchange_of self.new
+            ≡ received opening.now.processes opening.now.own sender payload.now (exchange_of self.old)) }
     {
         let last = u64::from(opening.processes);
         match payload {
@@ -181,8 +193,10 @@ impl Exchange {
         input: &StepInput,
         out: &mut Vec<Action>,
     ) -> Result<(), AllocError>
-        ensures state { OnOk result (exchange_of self.new ≡ (begun opening.now.processes opening.now.own input.now (exchange_of self.old)).state) }
-        ensures actions { OnOk result (out.new.items ≡ out.old.items ++ (begun opening.now.processes opening.now.own input.now (exchange_of self.old)).actions) }
+        ensures state { OnOk result (exchange_of self.new
+            ≡ (begun opening.now.processes opening.now.own input.now (exchange_of self.old)).state) }
+        ensures actions { OnOk result (out.new.items ≡ out.old.items
+            ++ (begun opening.now.processes opening.now.own input.now (exchange_of self.old)).actions) }
     {
         match input {
             StepInput::Start => {
@@ -197,7 +211,7 @@ impl Exchange {
     }
 
     /// Takes an input, with the suspects as they are by then. At most one wait ends, because the own letter of a round
-    /// that is entered comes later; none is over when the input is done.
+    /// that is entered comes later.
     pub fn step(
         &mut self,
         opening: &Opening,
@@ -207,11 +221,16 @@ impl Exchange {
     ) -> Result<(), AllocError>
         requires orderly { IsOrderly opening.now.own (exchange_of self.old) }
         requires not_itself { set.contains suspects.now opening.now.own ≡ false }
-        ensures state { OnOk result (exchange_of self.new ≡ (step_exchange opening.now.processes opening.now.own (set.contains suspects.now) input.now (exchange_of self.old)).state) }
-        ensures actions { OnOk result (out.new.items ≡ out.old.items ++ (step_exchange opening.now.processes opening.now.own (set.contains suspects.now) input.now (exchange_of self.old)).actions) }
+        ensures state { OnOk result (exchange_of self.new
+            ≡ (step_exchange opening.now.processes opening.now.own
+            (set.contains suspects.now) input.now (exchange_of self.old)).state) }
+        ensures actions { OnOk result (out.new.items ≡ out.old.items
+            ++ (step_exchange opening.now.processes opening.now.own
+            (set.contains suspects.now) input.now (exchange_of self.old)).actions) }
         ensures orderly { OnOk result (IsOrderly opening.now.own (exchange_of self.new)) }
-        ensures few { OnOk result (length (step_exchange opening.now.processes opening.now.own (set.contains suspects.now) input.now (exchange_of self.old)).actions ≤ opening.now.processes + 1) }
-        ensures none_over { OnOk result (wait_ended opening.now.processes opening.now.own (set.contains suspects.now) (exchange_of self.new) ≡ None) }
+        ensures few { OnOk result (
+            length (step_exchange opening.now.processes opening.now.own
+            (set.contains suspects.now) input.now (exchange_of self.old)).actions ≤ opening.now.processes + 1) }
     {
         prove!(1 <= opening.own.number());
         self.begin(opening, input, out)?;

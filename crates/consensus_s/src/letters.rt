@@ -1,26 +1,22 @@
 //! The letters that are kept, and what those of a round tell.
-ghost use Rattle.std.specs.Prelude.{◌≡◌, ◌≤◌, ◌<◌, ◌+◌, ◌||◌, false, not, is_some, None, Some, OnOk};
+ghost use Rattle.std.specs.Prelude.{◌≡◌, ◌≤◌, ℕ, ◌<◌, ◌+◌, ◌||◌, false, not, is_some, None, Some, OnOk};
 ghost use Rattle.std.specs.FinSet as set;
 ghost use Rattle.std.specs.Option.{option_copied};
 ghost use Rattle.process_api.specs.Cells.{cell};
 ghost use Rattle.process_api.specs.ConsensusS.{above, all_to, keep};
 ghost use Rattle.consensus_s.specs.Kept.{kept_of, missed_in, nothing_kept, told_in};
 
+use crate::row::Row;
 use process_api::{Cells, Pid, ProcSet};
 use std::alloc::{AllocError, Global};
 use std::collections::BTreeMap;
 
-/// Which letter: of which round, and whose.
-#[derive(Clone, Copy, Debug, PartialEq, Eq, PartialOrd, Ord)]
-pub(crate) struct Slot {
-    round: u64,
-    sender: Pid,
-}
-
-/// The first letters of the rounds that are not yet left, by round and sender. The last vectors are those of round n.
+/// The first letters of the rounds that are not yet left, by round and sender: a row for each round of which one came.
+/// The last vectors are those of round n.
 #[derive(Debug, Drop)]
 pub(crate) struct Letters {
-    vectors: BTreeMap<Slot, Cells>,
+    alloc: Global,
+    rows: BTreeMap<u64, Row>,
 }
 
 impl Letters {
@@ -29,7 +25,8 @@ impl Letters {
         ensures { kept_of result ≡ nothing_kept }
     {
         Letters {
-            vectors: BTreeMap::new(alloc),
+            alloc,
+            rows: BTreeMap::new(alloc),
         }
     }
 
@@ -37,10 +34,12 @@ impl Letters {
     pub fn keep(&mut self, round: u64, sender: Pid, cells: &Cells) -> Result<(), AllocError>
         ensures { OnOk result (kept_of self.new ≡ keep (kept_of self.old) round sender cells.now) }
     {
-        let slot = Slot { round, sender };
-        if !self.vectors.contains_key(&slot) {
-            self.vectors.insert(slot, cells.copy()?)?;
+        if let Some(row) = self.rows.get_mut(&round) {
+            return row.keep(sender, cells);
         }
+        let mut row = Row::new(self.alloc);
+        row.keep(sender, cells)?;
+        self.rows.insert(round, row)?;
         Ok(())
     }
 
@@ -48,21 +47,28 @@ impl Letters {
     pub fn leave(&mut self, round: u64)
         ensures { kept_of self.new ≡ above round (kept_of self.old) }
     {
-        self.vectors.retain(|slot, _| slot.round > round);
+        self.rows.retain(|kept, _| *kept > round);
     }
 
     /// The letter of a sender in a round.
     fn get(&self, round: u64, sender: Pid) -> Option<&Cells>
         ensures { option_copied result ≡ kept_of self.now round sender }
     {
-        self.vectors.get(&Slot { round, sender })
+        match self.rows.get(&round) {
+            Some(row) => row.get(sender),
+            None => None,
+        }
     }
 
-    /// Whether a process was heard of in a round, or is suspected.
-    fn is_settled(&self, round: u64, sender: Pid, suspects: &ProcSet) -> bool
-        ensures { result ≡ (is_some (kept_of self.now round sender) || set.contains suspects.now sender) }
+    /// The processes that were heard of in a round, or are suspected.
+    fn settled(&self, round: u64, suspects: &ProcSet) -> ProcSet
+        ensures { (q : ℕ) → set.contains result q
+            ≡ (is_some (kept_of self.now round q) || set.contains suspects.now q) }
     {
-        self.get(round, sender).is_some() || suspects.contains(sender)
+        match self.rows.get(&round) {
+            Some(row) => row.heard_or(suspects),
+            None => suspects.copy(),
+        }
     }
 
     /// Whether each of processes 1 to `n` was heard of in a round, or is suspected.
@@ -70,8 +76,9 @@ impl Letters {
         requires { n ≤ 64 }
         ensures { result ≡ all_to n (λ q. is_some (kept_of self.now round q) || set.contains suspects.now q) }
     {
+        let settled = self.settled(round, suspects);
         for before in 0..n {
-            if !self.is_settled(round, process_after(before), suspects) {
+            if !settled.contains(process_after(before)) {
                 return false;
             }
         }
@@ -101,7 +108,8 @@ impl Letters {
 
     /// Whether cell `k` is empty in the letter of a sender in a round.
     fn is_missed_by(&self, round: u64, sender: Pid, k: Pid) -> bool
-        ensures { result ≡ (elim (kept_of self.now round sender) [ None ↦ false | Some cells ↦ not (is_some (cell cells k)) ]) }
+        ensures { result
+            ≡ (elim (kept_of self.now round sender) [ None ↦ false | Some cells ↦ not (is_some (cell cells k)) ]) }
     {
         match self.get(round, sender) {
             Some(cells) => cells.get(k).is_none(),

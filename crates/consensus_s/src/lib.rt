@@ -12,14 +12,20 @@
 //! the algorithm's, of senders above n, with vectors of another length, from the process itself for a later round, or
 //! second ones. What is kept of a round goes when the round is left.
 //!
+//! [`law_settled`] says what follows from the definition: that waits end as long as one can, so that after an input
+//! none is over.
+//!
 //! One process alone with proposal 7 sends its last vector to itself at its start, and decides 7 when that comes.
 #![tactic(auto)]
 
 mod exchange;
+mod laws;
 mod letters;
 mod machine;
+mod row;
 #[cfg(test)]
 mod tests;
 mod vectors;
 
+pub use laws::law_settled;
 pub use machine::SConsensus;

@@ -31,7 +31,8 @@ impl SConsensus {
     /// `AllocError` where memory was refused.
     pub fn open(alloc: Global, opening: &Opening) -> Result<SConsensus, AllocError>
         requires { IsSome opening.now.proposal }
-        ensures state { IfOk result (λ s. state_of s ≡ Exchanging (place_of opening.now) (opening_exchange opening.now.processes opening.now.own (unwrap_or opening.now.proposal 0))) }
+        ensures state { IfOk result (λ s. state_of s ≡ Exchanging (place_of opening.now)
+            (opening_exchange opening.now.processes opening.now.own (unwrap_or opening.now.proposal 0))) }
         ensures alive { IfOk result (λ s. is_failed s ≡ false) }
     {
         let proposal = opening.proposal.unwrap();

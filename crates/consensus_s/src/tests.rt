@@ -1,6 +1,8 @@
 //! The algorithm, input by input.
 ghost use Rattle.std.specs.Prelude.{◌≤◌};
 
+mod laws;
+
 use crate::SConsensus;
 use process_api::{
     Action, Algorithm, Cells, DetectorNumbers, Note, Payload, Pid, ProcSet, StepInput, Tag, Watch,

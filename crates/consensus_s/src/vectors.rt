@@ -39,7 +39,8 @@ pub(crate) fn known_after(
     known: &Cells,
 ) -> Result<Cells, AllocError>
     requires { n ≤ 64 }
-    ensures { IfOk result (λ c. c ≡ cells_of n (λ k. or_else (cell known.now k) (told_in n (kept_of letters.now) round k))) }
+    ensures { IfOk result (λ c.
+        c ≡ cells_of n (λ k. or_else (cell known.now k) (told_in n (kept_of letters.now) round k))) }
 {
     let mut cells = Vec::new(alloc);
     for before in 0..n {
@@ -62,7 +63,8 @@ pub(crate) fn news_after(
     known: &Cells,
 ) -> Result<Cells, AllocError>
     requires { n ≤ 64 }
-    ensures { IfOk result (λ c. c ≡ cells_of n (λ k. if is_some (cell known.now k) then None else told_in n (kept_of letters.now) round k)) }
+    ensures { IfOk result (λ c. c ≡ cells_of n (λ k.
+        if is_some (cell known.now k) then None else told_in n (kept_of letters.now) round k)) }
 {
     let mut cells = Vec::new(alloc);
     for before in 0..n {
@@ -85,7 +87,8 @@ pub(crate) fn common_after(
     known: &Cells,
 ) -> Result<Cells, AllocError>
     requires { n ≤ 64 }
-    ensures { IfOk result (λ c. c ≡ cells_of n (λ k. if missed_in n (kept_of letters.now) round k then None else cell known.now k)) }
+    ensures { IfOk result (λ c. c ≡ cells_of n (λ k.
+        if missed_in n (kept_of letters.now) round k then None else cell known.now k)) }
 {
     let mut cells = Vec::new(alloc);
     for before in 0..n {

@@ -8,6 +8,7 @@ pub mod Worked
 pub mod Worlds
 pub mod Runs
 pub mod Pairs
+pub mod Popped
 pub mod Performing
 pub mod Closed
 pub mod Alike
@@ -18,3 +19,6 @@ pub mod Simulate
 pub mod Sound
 pub mod Standing
 pub mod Steady
+pub mod Falling
+pub mod Ordered
+pub mod Taken

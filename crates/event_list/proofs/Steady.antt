@@ -3,6 +3,7 @@ use Rattle.std.proofs.Common.{◌≡◌, ℕ, zero, suc, ◌+◌, ◌-◌, ◌*�
 use Rattle.std.specs.FinSet as set
 use Rattle.std.specs.List.{AllByRecursion}
 use Rattle.std.specs.Option.{ForSome}
+use Rattle.std.proofs.lemmas.List.{get_or_past}
 use Rattle.std.proofs.lemmas.Nat.{mul-add-lt}
 use Rattle.process_api.specs.EntryRecord.{EntryRecord}
 use Rattle.process_api.specs.Mind.{Mind}
@@ -113,7 +114,7 @@ module _ (processes horizon delay : ℕ) (numbers : DetectorNumbers) (crashes : 
   IsOver n = plain_left watchers n (opening_process watchers) (plain_starts processes) ≡ []
 
   module _ (few : (1 ≤ processes) × (processes ≤ 64)) (lasts : (1 ≤ horizon) × (horizon ≤ 10000000)) (ahead : (1 ≤ delay) × (delay ≤ 1000000)) (in_range : AreInRange numbers)
-      (crash_ticks : AllByRecursion (λ o. ForSome o (λ at. at ≤ 10000000)) crashes) where
+      (one_each : length crashes ≡ processes) (crash_ticks : AllByRecursion (λ o. ForSome o (λ at. at ≤ 10000000)) crashes) where
     at_link : (from to : ℕ) → 1 ≤ from → from ≤ processes → 1 ≤ to → to ≤ processes → link s from to ≡ steady_link delay
     at_link from to a b c d = there_is (processes * processes) delay _ (mul-add-lt (from - 1) processes (to - 1) processes (omega arith) (omega arith))
 
@@ -133,6 +134,8 @@ module _ (processes horizon delay : ℕ) (numbers : DetectorNumbers) (crashes : 
       proposals = λ p value e. absurd (none_is_some _ e);
       proposed = λ p low high. refl;
       crashes = λ p. crash_in crashes crash_ticks (p - 1);
+      proposed_above = λ p above. refl;
+      crashed_above = λ p above. get_or_past crashes (p - 1) None (omega (arith, one_each, above));
       linked = length-links (processes * processes) (steady_link delay);
       links = λ from to a b c d. subst IsLink (sym (at_link from to a b c d)) (record { min_low = ahead.0; min_high = omega arith; max_high = ahead.1; loss_high = omega arith });
       ahead = λ from to a b c d apart. subst (λ (l : Link). delay ≤ l.min) (sym (at_link from to a b c d)) (omega arith);

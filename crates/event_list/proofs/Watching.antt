@@ -9,7 +9,7 @@ use Rattle.process_api.specs.Numbers.{numbers_to, change}
 use Rattle.process_api.specs.Place.{Place}
 use Rattle.process_api.specs.React.{react, react_lower, react_algorithm}
 use Rattle.process_api.specs.Sets.{Processes, insert_all}
-use Rattle.process_api.specs.Timeout.{DetectorState, watches, alive_to_others, next_beat, next_check, late, step_detector}
+use Rattle.process_api.specs.Timeout.{DetectorState, watches, alive_to_others, next_beat, next_check, overdue, step_detector}
 use Rattle.process_api.specs.declared.action.Action.TheVariants as action
 use Rattle.process_api.specs.declared.action.Note.TheVariants as note
 use Rattle.process_api.specs.declared.message.Payload.TheVariants as payload
@@ -31,8 +31,8 @@ with_all f [] = f
 with_all f (q ∷ qs) = with_all (λ p. eq_by_cmp nat_cmp p q || f p) qs
 
 module _ (w : Watcher) (now : ℕ) where
-  abbrev late_ones : List ℕ
-  late_ones = filter (λ q. watches w.place w.numbers q && (not (w.suspects q) && nat_le (w.bound q) (now - w.last_heard q))) (numbers_to w.place.processes)
+  abbrev overdue_ones : List ℕ
+  overdue_ones = filter (λ q. watches w.place w.numbers q && (not (w.suspects q) && nat_le (w.bound q) (now - w.last_heard q))) (numbers_to w.place.processes)
 
   abbrev hear : ℕ → Answer Watcher
   hear q =
@@ -50,7 +50,7 @@ module _ (w : Watcher) (now : ℕ) where
   abbrev watch_once : StepInput → Answer Watcher
   watch_once input.Start = record { state = w; actions = alive_to_others w.place w.numbers ++ (next_beat w.place w.numbers ++ next_check w.place w.numbers) }
   watch_once (input.Wake tag.Beat) = record { state = w; actions = alive_to_others w.place w.numbers ++ next_beat w.place w.numbers }
-  watch_once (input.Wake tag.Check) = record { state = record w { suspects = with_all w.suspects late_ones }; actions = map (λ q. action.Note (note.Suspect 1 q)) late_ones ++ next_check w.place w.numbers }
+  watch_once (input.Wake tag.Check) = record { state = record w { suspects = with_all w.suspects overdue_ones }; actions = map (λ q. action.Note (note.Suspect 1 q)) overdue_ones ++ next_check w.place w.numbers }
   watch_once (input.Letter sender payload.Alive) = if watches w.place w.numbers sender then hear sender else record { state = w; actions = [] }
   watch_once x = record { state = w; actions = [] }
 
@@ -92,8 +92,8 @@ module _ (w : Watcher) (s : Processes) (h : Holds s w.suspects) (now : ℕ) wher
     holds : Holds suspects b.state.suspects
     actions : a.actions ≡ b.actions
 
-  same_late : late w.place w.numbers before now ≡ late_ones w now
-  same_late = λ i. filter (λ q. watches w.place w.numbers q && (not (h q i) && nat_le (w.bound q) (now - w.last_heard q))) (numbers_to w.place.processes)
+  same_overdue : overdue w.place w.numbers before now ≡ overdue_ones w now
+  same_overdue = λ i. filter (λ q. watches w.place w.numbers q && (not (h q i) && nat_le (w.bound q) (now - w.last_heard q))) (numbers_to w.place.processes)
 
   nothing : SameStep (record { state = before; actions = [] }) (record { state = w; actions = [] })
   nothing = record { suspects = s; state = refl; place = refl; numbers = refl; holds = h; actions = refl }
@@ -103,12 +103,12 @@ module _ (w : Watcher) (s : Processes) (h : Holds s w.suspects) (now : ℕ) wher
   same_once (input.Wake tag.Beat) = record { suspects = s; state = refl; place = refl; numbers = refl; holds = h; actions = refl }
   same_once (input.Wake tag.Share) = nothing
   same_once (input.Wake tag.Check) = record {
-    suspects = insert_all s (late w.place w.numbers before now);
+    suspects = insert_all s (overdue w.place w.numbers before now);
     state = refl;
     place = refl;
     numbers = refl;
-    holds = λ q. holds_all (late w.place w.numbers before now) s w.suspects h q ∙ ap (λ qs. with_all w.suspects qs q) same_late;
-    actions = ap (λ qs. map (λ q. action.Note (note.Suspect 1 q)) qs ++ next_check w.place w.numbers) same_late;
+    holds = λ q. holds_all (overdue w.place w.numbers before now) s w.suspects h q ∙ ap (λ qs. with_all w.suspects qs q) same_overdue;
+    actions = ap (λ qs. map (λ q. action.Note (note.Suspect 1 q)) qs ++ next_check w.place w.numbers) same_overdue;
   }
   same_once (input.Letter sender payload.Alive) = by_watch (watches w.place w.numbers sender)
     where

@@ -46,7 +46,7 @@ patient_in_range = record {
 
 -- one process, for one tick: its start is all
 one_process : IsTrace (setting_of (steady 1 1 1 patient (None ∷ []))) (entry 0 1 1 0 kind.Start 0 0 [] ∷ [])
-one_process = computed_trace 1 1 1 patient (None ∷ []) (lit≤ tt, lit≤ tt) (lit≤ tt, lit≤ tt) (lit≤ tt, lit≤ tt) patient_in_range (no_crash, tt) 1 refl
+one_process = computed_trace 1 1 1 patient (None ∷ []) (lit≤ tt, lit≤ tt) (lit≤ tt, lit≤ tt) (lit≤ tt, lit≤ tt) patient_in_range refl (no_crash, tt) 1 refl
 
 -- process 2 crashes at tick 3, and process 1 suspects it at tick 9
 one_crash : IsTrace (setting_of (steady 2 10 2 patient (None ∷ Some 3 ∷ []))) (
@@ -65,7 +65,7 @@ one_crash : IsTrace (setting_of (steady 2 10 2 patient (None ∷ Some 3 ∷ []))
     ∷ []
     )
 one_crash =
-    computed_trace 2 10 2 patient (None ∷ Some 3 ∷ []) (lit≤ tt, lit≤ tt) (lit≤ tt, lit≤ tt) (lit≤ tt, lit≤ tt) patient_in_range (no_crash, (crash_at 3 (lit≤ tt), tt)) 12 refl
+    computed_trace 2 10 2 patient (None ∷ Some 3 ∷ []) (lit≤ tt, lit≤ tt) (lit≤ tt, lit≤ tt) (lit≤ tt, lit≤ tt) patient_in_range refl (no_crash, (crash_at 3 (lit≤ tt), tt)) 12 refl
 
 -- ---- of the next ones not every entry is told
 
@@ -78,7 +78,7 @@ crashed_at_once : IsTrace (setting_of (steady 2 10 2 patient (None ∷ Some 0 �
     × IsIn (entry 0 2 2 0 kind.Dead 0 0 []) crash_at_once
     × IsIn (entry 6 1 1 3 kind.Check 0 0 (Suspect 1 2 ∷ [])) crash_at_once
 crashed_at_once = (
-  computed_trace 2 10 2 patient (None ∷ Some 0 ∷ []) (lit≤ tt, lit≤ tt) (lit≤ tt, lit≤ tt) (lit≤ tt, lit≤ tt) patient_in_range (no_crash, (crash_at 0 (lit≤ tt), tt)) 9 refl,
+  computed_trace 2 10 2 patient (None ∷ Some 0 ∷ []) (lit≤ tt, lit≤ tt) (lit≤ tt, lit≤ tt) (lit≤ tt, lit≤ tt) patient_in_range refl (no_crash, (crash_at 0 (lit≤ tt), tt)) 9 refl,
   refl,
   inr (inl refl),
   inr (inr (inr (inr (inr (inl refl))))),
@@ -100,7 +100,7 @@ crashed_too_late : IsTrace (setting_of (steady 2 10 2 patient (None ∷ Some 10 
     × (letters crash_too_late ≡ 6)
     × (filter has_notes crash_too_late ≡ [])
 crashed_too_late = (
-  computed_trace 2 10 2 patient (None ∷ Some 10 ∷ []) (lit≤ tt, lit≤ tt) (lit≤ tt, lit≤ tt) (lit≤ tt, lit≤ tt) patient_in_range (no_crash, (crash_at 10 (lit≤ tt), tt)) 16 refl,
+  computed_trace 2 10 2 patient (None ∷ Some 10 ∷ []) (lit≤ tt, lit≤ tt) (lit≤ tt, lit≤ tt) (lit≤ tt, lit≤ tt) patient_in_range refl (no_crash, (crash_at 10 (lit≤ tt), tt)) 16 refl,
   refl,
   refl,
   refl,
@@ -136,7 +136,7 @@ suspected_and_trusted : IsTrace (setting_of (steady 2 8 2 hasty (None ∷ None �
     × IsIn (entry 2 1 1 2 kind.Check 0 0 (Suspect 1 2 ∷ [])) false_suspicion
     × IsIn (entry 2 1 2 1 kind.Alive 0 0 (Trust 1 2 ∷ [])) false_suspicion
 suspected_and_trusted = (
-  computed_trace 2 8 2 hasty (None ∷ None ∷ []) (lit≤ tt, lit≤ tt) (lit≤ tt, lit≤ tt) (lit≤ tt, lit≤ tt) hasty_in_range (no_crash, (no_crash, tt)) 10 refl,
+  computed_trace 2 8 2 hasty (None ∷ None ∷ []) (lit≤ tt, lit≤ tt) (lit≤ tt, lit≤ tt) (lit≤ tt, lit≤ tt) hasty_in_range refl (no_crash, (no_crash, tt)) 10 refl,
   refl,
   refl,
   inr (inr (inl refl)),

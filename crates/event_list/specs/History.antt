@@ -31,23 +31,28 @@ module _ {Mind : Type 0} (S : Setting Mind) where
   -- the pairs are what the steps of a process make of their keys and inputs, one after the other
   abbrev pub AreSteps : Process Mind → List Pair → Type 0
   AreSteps before [] = Unit {0}
-  AreSteps before (s ∷ rest) = (s.0 ≡ (step S before s.0.key s.1).entry) × AreSteps (step S before s.0.key s.1).process rest
+  AreSteps before (s ∷ rest) =
+      (s.0 ≡ (step S before s.0.key s.1).entry) × AreSteps (step S before s.0.key s.1).process rest
 
   -- an event is added by one of these steps
   abbrev pub IsAdded : Key → StepInput → Process Mind → List Pair → Type 0
   IsAdded key input before [] = ⊥
-  IsAdded key input before (s ∷ rest) = IsIn (key, input) (step S before s.0.key s.1).added ⊎ IsAdded key input (step S before s.0.key s.1).process rest
+  IsAdded key input before (s ∷ rest) =
+      IsIn (key, input) (step S before s.0.key s.1).added ⊎ IsAdded key input (step S before s.0.key s.1).process rest
 
   -- an event is added by a step of some process
   abbrev pub IsAddedBySome : (ℕ → Process Mind) → Key → StepInput → List Pair → Type 0
   IsAddedBySome process key input history = (p : ℕ) × IsProcess S p × IsAdded key input (process p) (pairs_of p history)
 
-  -- A closed history from processes and the events that are given at first, up to tick end: its keys rise strictly, the pairs of each process
-  -- are that process's steps, and just the events below end that are given, or that these steps add, are taken
-  pub record IsClosedFrom (process : ℕ → Process Mind) (IsGiven : Key → StepInput → Type 0) (end : ℕ) (history : List Pair) : Type 0 where
+  -- A closed history from processes and the events that are given at first, up to tick end: its keys rise strictly,
+  -- the pairs of each process are that process's steps, and just the events below end that are given, or that these
+  -- steps add, are taken
+  pub record IsClosedFrom (process : ℕ → Process Mind) (IsGiven : Key → StepInput → Type 0) (end : ℕ)
+      (history : List Pair) : Type 0 where
     pub rising : IsTrue (is_rising (entries history))
     pub steps : (p : ℕ) → IsProcess S p → AreSteps (process p) (pairs_of p history)
-    pub exact : (key : Key) (input : StepInput) → IsTaken key input history ↔ ((key.tick < end) × (IsGiven key input ⊎ IsAddedBySome process key input history))
+    pub exact : (key : Key) (input : StepInput)
+        → IsTaken key input history ↔ ((key.tick < end) × (IsGiven key input ⊎ IsAddedBySome process key input history))
 
   -- the start of a process
   abbrev pub IsStart : Key → StepInput → Type 0
@@ -65,8 +70,11 @@ module _ {Mind : Type 0} (S : Setting Mind) where
   abbrev pub Adds : Process Mind → (c : Pair) → Key → StepInput → List Pair → Type 0
   Adds before c key input [] = ⊥
   Adds before c key input (s ∷ rest) =
-      ((c ≡ s) × IsIn (key, input) (step S before s.0.key s.1).added) ⊎ Adds (step S before s.0.key s.1).process c key input rest
+      ((c ≡ s) × IsIn (key, input) (step S before s.0.key s.1).added)
+      ⊎ Adds (step S before s.0.key s.1).process c key input rest
 
   -- c is the cause of an event in a history from the opening: its step adds it
   abbrev pub IsCauseOf : List Pair → (c : Pair) → Key → StepInput → Type 0
-  IsCauseOf history c key input = IsProcess S c.0.key.receiver × Adds (opening_process S c.0.key.receiver) c key input (pairs_of c.0.key.receiver history)
+  IsCauseOf history c key input =
+      IsProcess S c.0.key.receiver
+      × Adds (opening_process S c.0.key.receiver) c key input (pairs_of c.0.key.receiver history)

@@ -9,3 +9,4 @@ pub mod Plain
 pub mod Pending
 pub mod Seat
 pub mod Standing
+pub mod Buckets

@@ -18,4 +18,5 @@ IsLeastTick set tick = (key : Key) × (input : StepInput) × IsLeast set key inp
 abbrev pub key_code : Coded Key
 key_code =
     code_by (ℕ × (ℕ × (ℕ × ℕ))) (coded× coded_ℕ (coded× coded_ℕ (coded× coded_ℕ coded_ℕ)))
-    (λ k. (k.tick, (k.receiver, (k.sender, k.number)))) (λ p. record { tick = p.0; receiver = p.1.0; sender = p.1.1.0; number = p.1.1.1 }) (λ _. refl)
+    (λ k. (k.tick, (k.receiver, (k.sender, k.number))))
+    (λ p. record { tick = p.0; receiver = p.1.0; sender = p.1.1.0; number = p.1.1.1 }) (λ _. refl)

@@ -25,10 +25,12 @@ module _ {Mind : Type 0} (S : Setting Mind) where
   plain_steps (suc n) process [] = []
   plain_steps (suc n) process (e ∷ es) =
       ((step S (process e.0.receiver) e.0 e.1).entry, e.1)
-      ∷ plain_steps n (change process e.0.receiver (step S (process e.0.receiver) e.0 e.1).process) (puts es (step S (process e.0.receiver) e.0 e.1).added)
+      ∷ plain_steps n (change process e.0.receiver (step S (process e.0.receiver) e.0 e.1).process)
+      (puts es (step S (process e.0.receiver) e.0 e.1).added)
 
   abbrev pub plain_left : ℕ → (ℕ → Process Mind) → List Event → List Event
   plain_left zero process es = es
   plain_left (suc n) process [] = []
   plain_left (suc n) process (e ∷ es) =
-      plain_left n (change process e.0.receiver (step S (process e.0.receiver) e.0 e.1).process) (puts es (step S (process e.0.receiver) e.0 e.1).added)
+      plain_left n (change process e.0.receiver (step S (process e.0.receiver) e.0 e.1).process)
+      (puts es (step S (process e.0.receiver) e.0 e.1).added)

@@ -19,7 +19,9 @@ own_of mind seat = (mind seat.machine).lower.place.own
 
 -- a mind of a process of this scenario
 abbrev pub IsMindIn : Record → Mind → Type 0
-IsMindIn s m = (1 ≤ m.lower.place.own) × (m.lower.place.own ≤ s.processes) × IsTrue (is_mind_at (place_in s m.lower.place.own) m)
+IsMindIn s m =
+    (1 ≤ m.lower.place.own) × (m.lower.place.own ≤ s.processes)
+    × IsTrue (is_mind_at (place_in s m.lower.place.own) m)
 
 -- a machine of this scenario, which put at most so much on each link
 pub record IsSeated {M : Type 0} (mind : M → Mind) (s : Record) (most : ℕ) (seat : Seat M) : Type 0 where

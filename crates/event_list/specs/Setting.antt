@@ -1,4 +1,5 @@
--- What a scenario and its machines are to the event list. Nothing here knows which algorithm a process runs, or how a letter's fate is drawn.
+-- What a scenario and its machines are to the event list. Nothing here knows which algorithm a process runs, or how a
+-- letter's fate is drawn.
 use Rattle.std.specs.Prelude.{◌≢◌, ℕ, ◌≤◌, Bool, false, nat_le, IsTrue, Option, None, Some}
 use Rattle.std.specs.List.{All}
 use Rattle.process_api.specs.Actions.{IsAllowed}
@@ -33,14 +34,18 @@ module _ {Mind : Type 0} (S : Setting Mind) where
   IsSlow fate.Lost = Unit {0}
   IsSlow (fate.Delay ticks) = S.lookahead ≤ ticks
 
-  -- what the laws need to know of machines and links: a mind of a process stays one, sends to processes alone and pauses for a tick at least
+  -- what the laws need to know of machines and links: a mind of a process stays one, sends to processes alone and
+  -- pauses for a tick at least
   pub record IsSound : Type 0 where
     pub lasts : 1 ≤ S.horizon
     pub ahead : 1 ≤ S.lookahead
     pub opens : (p : ℕ) → IsProcess p → IsTrue (S.is_mind p (S.opening p))
-    pub keeps : (p : ℕ) (mind : Mind) (now : ℕ) (input : StepInput) → IsProcess p → IsTrue (S.is_mind p mind) → IsTrue (S.is_mind p (S.react mind now input).state)
-    pub allowed : (p : ℕ) (mind : Mind) (now : ℕ) (input : StepInput) → IsProcess p → IsTrue (S.is_mind p mind) → All (IsAllowed S.processes) (S.react mind now input).actions
-    pub slow : (from to number sent_at : ℕ) → IsProcess from → IsProcess to → from ≢ to → 1 ≤ number → IsSlow (S.fate from to number sent_at)
+    pub keeps : (p : ℕ) (mind : Mind) (now : ℕ) (input : StepInput)
+        → IsProcess p → IsTrue (S.is_mind p mind) → IsTrue (S.is_mind p (S.react mind now input).state)
+    pub allowed : (p : ℕ) (mind : Mind) (now : ℕ) (input : StepInput)
+        → IsProcess p → IsTrue (S.is_mind p mind) → All (IsAllowed S.processes) (S.react mind now input).actions
+    pub slow : (from to number sent_at : ℕ)
+        → IsProcess from → IsProcess to → from ≢ to → 1 ≤ number → IsSlow (S.fate from to number sent_at)
 
 -- whether the crash tick, if there is one, has come
 abbrev pub has_crashed : Option ℕ → ℕ → Bool

@@ -12,11 +12,15 @@ module _ {M : Type 0} (S : Setting M) where
   pub record IsReached (w : World M) (trace : List EntryRecord) : Type 0 where
     pub history : List Pair
     pub trace_is : trace ≡ entries history
-    pub goes_on : (rest : List Pair) (last : World M) → Run S S.horizon w rest last → Run S S.horizon (opening S) (history ++ rest) last
-    pub comes_by : (all : List Pair) (last : World M) → Run S S.horizon (opening S) all last → (rest : List Pair) × (all ≡ history ++ rest) × Run S S.horizon w rest last
+    pub goes_on : (rest : List Pair) (last : World M)
+        → Run S S.horizon w rest last → Run S S.horizon (opening S) (history ++ rest) last
+    pub comes_by : (all : List Pair) (last : World M)
+        → Run S S.horizon (opening S) all last
+        → (rest : List Pair) × (all ≡ history ++ rest) × Run S S.horizon w rest last
 
 -- these processes, of process 1 first, and pending events are those of a world that the list comes by after this trace
-pub record Stands (S : Setting Mind) (processes : List (Process Mind)) (pending : Events) (trace : List EntryRecord) : Type 0 where
+pub record Stands (S : Setting Mind) (processes : List (Process Mind)) (pending : Events)
+    (trace : List EntryRecord) : Type 0 where
   pub world : World Mind
   pub is_world : IsWorld S world
   pub reached : IsReached S world trace
@@ -24,7 +28,8 @@ pub record Stands (S : Setting Mind) (processes : List (Process Mind)) (pending 
   pub events : world.pending ≡ pending
 
 -- the receiver's process, the entry and the events are those that its step made
-pub record IsStepped {S : Setting Mind} (old new : List (Process Mind)) (before after : Events) (key : Key) (entry : EntryRecord) (made : Made S) : Type 0 where
+pub record IsStepped {S : Setting Mind} (old new : List (Process Mind)) (before after : Events) (key : Key)
+    (entry : EntryRecord) (made : Made S) : Type 0 where
   pub processes : new ≡ slice_set old (key.receiver - 1) made.process
   pub entry_is : entry ≡ made.entry
   pub pending : after ≡ joined before made.added

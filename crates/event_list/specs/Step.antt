@@ -113,17 +113,23 @@ by_fate horizon (fate.Delay ticks) key x = in_time horizon (record key { tick = 
 module _ {Mind : Type 0} (S : Setting Mind) where
   -- process p acts at tick now
   module _ (p now : ℕ) where
-    -- the event that joins by one action, if one does: its number is the count of its link with it. A letter to oneself takes one tick and is never lost
+    -- the event that joins by one action, if one does: its number is the count of its link with it. A letter to
+    -- oneself takes one tick and is never lost
     abbrev pub joining : (ℕ → ℕ) → Action → List Event
     joining counts (action.Send to what) =
         if nat_eq to p
-        then in_time S.horizon (record { tick = now + 1; receiver = p; sender = p; number = counts p + 1 }) (input.Letter p what)
-        else by_fate S.horizon (S.fate p to (counts to + 1) now) (record { tick = now; receiver = to; sender = p; number = counts to + 1 }) (input.Letter p what)
-    joining counts (action.Wake pause for) = in_time S.horizon (record { tick = now + pause; receiver = p; sender = p; number = counts p + 1 }) (input.Wake for)
+        then in_time S.horizon (record { tick = now + 1; receiver = p; sender = p; number = counts p + 1 })
+        (input.Letter p what)
+        else by_fate S.horizon (S.fate p to (counts to + 1) now)
+        (record { tick = now; receiver = to; sender = p; number = counts to + 1 }) (input.Letter p what)
+    joining counts (action.Wake pause for) =
+        in_time S.horizon (record { tick = now + pause; receiver = p; sender = p; number = counts p + 1 })
+        (input.Wake for)
     joining counts (action.Note note) = []
 
     abbrev pub lost_by : (ℕ → ℕ) → Action → ℕ
-    lost_by counts (action.Send to what) = if nat_eq to p then 0 else (if is_lost (S.fate p to (counts to + 1) now) then 1 else 0)
+    lost_by counts (action.Send to what) =
+        if nat_eq to p then 0 else (if is_lost (S.fate p to (counts to + 1) now) then 1 else 0)
     lost_by counts (action.Wake pause for) = 0
     lost_by counts (action.Note note) = 0
 

@@ -61,12 +61,14 @@ module _ {Mind : Type 0} (S : Setting Mind) where
   abbrev pub opening : World Mind
   opening = record { process = opening_process; pending = starts S.processes }
 
-  -- what is true of every world: each process has a mind of its own; events are below the horizon and for processes, and none has a number above its link's count
+  -- what is true of every world: each process has a mind of its own; events are below the horizon and for processes,
+  -- and none has a number above its link's count
   pub record IsWorld (w : World Mind) : Type 0 where
     pub minds : (p : ℕ) → IsProcess S p → IsTrue (S.is_mind p (w.process p).mind)
     pub below : (key : Key) (input : StepInput) → Has w.pending key input → key.tick < S.horizon
     pub received : (key : Key) (input : StepInput) → Has w.pending key input → IsProcess S key.receiver
-    pub counted : (key : Key) (input : StepInput) → Has w.pending key input → key.number ≤ (w.process key.sender).counts key.receiver
+    pub counted : (key : Key) (input : StepInput)
+        → Has w.pending key input → key.number ≤ (w.process key.sender).counts key.receiver
 
   -- what the step of an event makes
   abbrev pub made : World Mind → Key → StepInput → Made S
@@ -79,12 +81,15 @@ module _ {Mind : Type 0} (S : Setting Mind) where
     pending = joined (events.remove w.pending key) (made w key input).added;
   }
 
-  -- from old, the list takes the least pending event again and again, until none is below tick end. It makes these entries of these inputs, and leaves new
+  -- from old, the list takes the least pending event again and again, until none is below tick end. It makes these
+  -- entries of these inputs, and leaves new
   abbrev pub Run : (end : ℕ) → (old : World Mind) → List Pair → (new : World Mind) → Type 0
   Run end old [] new = NoneBelow end old.pending × (new ≡ old)
   Run end old (s ∷ rest) new =
-      IsLeast old.pending s.0.key s.1 × (s.0.key.tick < end) × (s.0 ≡ (made old s.0.key s.1).entry) × Run end (taken old s.0.key s.1) rest new
+      IsLeast old.pending s.0.key s.1 × (s.0.key.tick < end) × (s.0 ≡ (made old s.0.key s.1).entry)
+      × Run end (taken old s.0.key s.1) rest new
 
   -- these are the entries of the whole list, from the opening up to the horizon
   abbrev pub IsTrace : List EntryRecord → Type 0
-  IsTrace trace = (history : List Pair) × (last : World Mind) × Run S.horizon opening history last × (trace ≡ entries history)
+  IsTrace trace =
+      (history : List Pair) × (last : World Mind) × Run S.horizon opening history last × (trace ≡ entries history)

@@ -14,8 +14,8 @@ use scenario::Scenario;
 
 /// Cause and effect in a scenario, for every history of it. There is one trace, and it exists. With its inputs it is a
 /// closed history, and every closed history has its entries. In a closed history, each entry that isn't of a start has
-/// one cause, an earlier entry, and each event that a step adds below the horizon is taken once. The plain, slow program
-/// of the definitions makes the trace.
+/// one cause, an earlier entry, and each event that a step adds below the horizon is taken once. The plain, slow
+/// program of the definitions makes the trace.
 pub fn law_only_history(scenario: &Scenario)
     ensures worlds { StaysAWorld (setting_of scenario.now) }
     ensures trace { HasOneTrace (setting_of scenario.now) }

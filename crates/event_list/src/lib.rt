@@ -22,6 +22,7 @@
 //! 2 at tick 2 is `dead`.
 #![tactic(auto)]
 
+mod buckets;
 mod error;
 mod laws;
 mod links;

@@ -1,14 +1,15 @@
 //! What a process puts on its links.
-ghost use Rattle.std.specs.Prelude.{◌≡◌, ◌≤◌, ◌<◌, ◌+◌, ◌^◌, ◌++◌, ℕ, IfOk, OnOk, length, replicate, vec_len};
+ghost use Rattle.std.specs.Prelude.{◌≡◌, ◌≢◌, ◌≤◌, ◌<◌, ◌+◌, ◌^◌, ◌++◌, ℕ, IfOk, OnOk, length, replicate, vec_len};
 ghost use Rattle.std.specs.List.{AllByRecursion};
 ghost use Rattle.process_api.specs.Actions.{IsAllowed};
+ghost use Rattle.streams.specs.Fate.{fate_of};
 ghost use Rattle.event_list.specs.ScenarioSetting.{setting_of};
 ghost use Rattle.event_list.specs.Seat.{count_of};
 ghost use Rattle.event_list.specs.Step.{raised, in_time, joining, lost_by, counts_after, added as added_by, sent as sent_by_all, lost as lost_by_all, noted, dead};
 
 use process_api::{Action, Entry, Key, Kind, Payload, Pid, StepInput, Tag};
 use std::alloc::{AllocError, Global};
-use streams::{Fate, Streams};
+use streams::{Fate, LinkWords, Streams};
 
 /// How much a process put on the link to each process so far: letters, lost ones too, and wakes.
 #[derive(Drop)]
@@ -17,9 +18,12 @@ pub struct Links {
     horizon: u32,
     // by receiver; place 0 is unused
     counts: Vec<u64>,
+    // by receiver, as the counts; where there is none, words are drawn afresh
+    words: Vec<LinkWords>,
 }
 
 /// Adds the event, so many ticks after the tick of its key, where that is below the horizon.
+#[inline(always)]
 fn join_after(
     added: &mut Vec<(Key, StepInput)>,
     horizon: u32,
@@ -27,7 +31,8 @@ fn join_after(
     ticks: u32,
     input: StepInput,
 ) -> Result<(), AllocError>
-    ensures { OnOk result (added.new.items ≡ added.old.items ++ in_time horizon (record sent { tick = sent.tick + ticks }) input) }
+    ensures { OnOk result (added.new.items
+        ≡ added.old.items ++ in_time horizon (record sent { tick = sent.tick + ticks }) input) }
 {
     let tick = u64::from(sent.tick) + u64::from(ticks);
     if tick < u64::from(horizon) {
@@ -51,6 +56,15 @@ fn zeros(alloc: Global, processes: u16) -> Result<Vec<u64>, AllocError>
     Ok(counts)
 }
 
+/// No words yet of the link to any process.
+fn no_words(alloc: Global, processes: u16) -> Result<Vec<LinkWords>, AllocError> {
+    let mut words = Vec::new(alloc);
+    for _k in 0..usize::from(processes) + 1 {
+        words.push(LinkWords::new())?;
+    }
+    Ok(words)
+}
+
 impl Links {
     /// The links of a process that put nothing on any of them.
     pub fn new(alloc: Global, horizon: u32, processes: u16) -> Result<Links, AllocError>
@@ -58,7 +72,12 @@ impl Links {
         ensures counts { IfOk result (λ l. l.counts.items ≡ replicate (processes + 1) 0) }
     {
         let counts = zeros(alloc, processes)?;
-        Ok(Links { horizon, counts })
+        let words = no_words(alloc, processes)?;
+        Ok(Links {
+            horizon,
+            counts,
+            words,
+        })
     }
 
     /// The entry of an event that comes to a crashed process: nothing is put on any link.
@@ -75,6 +94,7 @@ impl Links {
     }
 
     /// One more on the link to a process. The new count is the number of what was put on it.
+    #[inline(always)]
     fn raise(&mut self, to: Pid) -> u64
         requires there { to < vec_len self.old.counts }
         requires room { count_of self.old.counts.items to + 1 < 2 ^ 64 }
@@ -88,7 +108,25 @@ impl Links {
         self.counts[place]
     }
 
+    /// What becomes of the letter with this number on the link to another process.
+    #[inline(always)]
+    fn fate(&mut self, streams: &Streams<'_>, own: Pid, to: Pid, number: u64) -> Fate
+        requires different { own ≢ to }
+        requires own { own ≤ streams.now.processes }
+        requires to { to ≤ streams.now.processes }
+        requires counted { 1 ≤ number }
+        ensures fate { result ≡ fate_of streams.now own to number }
+        ensures counts { self.new.counts ≡ self.old.counts }
+        ensures horizon { self.new.horizon ≡ self.old.horizon }
+    {
+        match self.words.get_mut(usize::from(to.number())) {
+            Some(words) => streams.next_fate(own, to, number, words),
+            None => streams.fate(own, to, number),
+        }
+    }
+
     /// Puts a letter on its link, in the step of `key`. Answers how many letters were lost, 0 or 1.
+    #[inline(always)]
     fn post(
         &mut self,
         streams: &Streams<'_>,
@@ -106,8 +144,12 @@ impl Links {
         ensures counts { OnOk result (count_of self.new.counts.items ≡ raised (count_of self.old.counts.items) to) }
         ensures places { vec_len self.new.counts ≡ vec_len self.old.counts }
         ensures horizon { self.new.horizon ≡ self.old.horizon }
-        ensures added { OnOk result (added.new.items ≡ added.old.items ++ joining (setting_of streams.now) key.receiver key.tick (count_of self.old.counts.items) (Action.Send to payload)) }
-        ensures lost { IfOk result (λ lost. lost ≡ lost_by (setting_of streams.now) key.receiver key.tick (count_of self.old.counts.items) (Action.Send to payload)) }
+        ensures added { OnOk result (added.new.items ≡ added.old.items
+            ++ joining (setting_of streams.now) key.receiver key.tick (count_of self.old.counts.items)
+            (Action.Send to payload)) }
+        ensures lost { IfOk result (λ lost. lost
+            ≡ lost_by (setting_of streams.now) key.receiver key.tick (count_of self.old.counts.items)
+            (Action.Send to payload)) }
     {
         let own = key.receiver;
         let number = self.raise(to);
@@ -125,7 +167,7 @@ impl Links {
             join_after(added, self.horizon, sent, 1, input)?;
             return Ok(0);
         }
-        match streams.fate(own, to, number) {
+        match self.fate(streams, own, to, number) {
             Fate::Lost => Ok(1),
             Fate::Delay(ticks) => {
                 join_after(added, self.horizon, sent, ticks, input)?;
@@ -135,6 +177,7 @@ impl Links {
     }
 
     /// Sets a wake, in the step of `key`.
+    #[inline(always)]
     fn set_wake(
         &mut self,
         key: Key,
@@ -145,7 +188,8 @@ impl Links {
         requires there { key.receiver < vec_len self.old.counts }
         requires room { count_of self.old.counts.items key.receiver + 1 < 2 ^ 64 }
 
-        ensures counts { OnOk result (count_of self.new.counts.items ≡ raised (count_of self.old.counts.items) key.receiver) }
+        ensures counts { OnOk result (count_of self.new.counts.items
+            ≡ raised (count_of self.old.counts.items) key.receiver) }
         ensures places { vec_len self.new.counts ≡ vec_len self.old.counts }
         ensures horizon { self.new.horizon ≡ self.old.horizon }
         ensures added { OnOk result (added.new.items ≡ added.old.items ++ in_time self.old.horizon (record {
@@ -183,16 +227,21 @@ impl Links {
         requires allowed { AllByRecursion (IsAllowed streams.now.processes) actions.old.items }
         requires few { length actions.old.items ≤ 4096 }
 
-        ensures counts { OnOk result (count_of self.new.counts.items ≡ counts_after key.receiver (count_of self.old.counts.items) actions.old.items) }
+        ensures counts { OnOk result (count_of self.new.counts.items
+            ≡ counts_after key.receiver (count_of self.old.counts.items) actions.old.items) }
         ensures places { OnOk result (vec_len self.new.counts ≡ vec_len self.old.counts) }
         ensures horizon { OnOk result (self.new.horizon ≡ self.old.horizon) }
-        ensures room { OnOk result ((q : ℕ) → count_of self.new.counts.items q ≤ count_of self.old.counts.items q + 4096) }
-        ensures added { OnOk result (added.new.items ≡ added.old.items ++ added_by (setting_of streams.now) key.receiver key.tick (count_of self.old.counts.items) actions.old.items) }
+        ensures room { OnOk result ((q : ℕ)
+            → count_of self.new.counts.items q ≤ count_of self.old.counts.items q + 4096) }
+        ensures added { OnOk result (added.new.items ≡ added.old.items
+            ++ added_by (setting_of streams.now) key.receiver key.tick (count_of self.old.counts.items)
+            actions.old.items) }
         ensures entry { IfOk result (λ e. e ≡ record {
           key = key;
           kind = kind;
           sent = sent_by_all actions.old.items;
-          lost = lost_by_all (setting_of streams.now) key.receiver key.tick (count_of self.old.counts.items) actions.old.items;
+          lost = lost_by_all (setting_of streams.now) key.receiver key.tick (count_of self.old.counts.items)
+              actions.old.items;
           notes = noted actions.old.items;
         }) }
     {

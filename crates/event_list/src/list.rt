@@ -81,7 +81,8 @@ impl<M: Process> EventList<M> {
         requires { map M.mind machines.items ≡ map (opening_mind scenario.now) (numbers_to scenario.now.processes) }
         ensures seated { IfOk result (λ l. All (IsSeated M.mind scenario.now 0) l.seats.items) }
         ensures count { IfOk result (λ l. vec_len l.seats ≡ scenario.now.processes) }
-        ensures opening { IfOk result (λ l. Stands (setting_of scenario.now) (map (process_of M.mind) l.seats.items) l.pending []) }
+        ensures opening { IfOk result (λ l.
+            Stands (setting_of scenario.now) (map (process_of M.mind) l.seats.items) l.pending []) }
     {
         let processes = scenario.processes();
         let seats = seats_of(alloc, scenario, machines)?;
@@ -102,15 +103,22 @@ impl<M: Process> EventList<M> {
         key: Key,
         input: &StepInput,
     ) -> Result<Entry, AllocError>
-        requires seated { (most : ℕ) × All (IsSeated M.mind streams.now most) self.old.seats.items × (most + 4096 < 2 ^ 64) }
+        requires seated { (most : ℕ)
+            × All (IsSeated M.mind streams.now most) self.old.seats.items × (most + 4096 < 2 ^ 64) }
         requires count { vec_len self.old.seats ≡ streams.now.processes }
         requires receiver { IsProcess (setting_of streams.now) key.receiver }
-        requires own { (before : Process Mind) → slice_get (map (process_of M.mind) self.old.seats.items) (key.receiver - 1) ≡ Some before → before.mind.lower.place.own ≡ key.receiver }
+        requires own { (before : Process Mind)
+            → slice_get (map (process_of M.mind) self.old.seats.items) (key.receiver - 1) ≡ Some before
+            → before.mind.lower.place.own ≡ key.receiver }
 
         ensures count { OnOk result (vec_len self.new.seats ≡ vec_len self.old.seats) }
-        ensures seated { OnOk result ((most : ℕ) → All (IsSeated M.mind streams.now most) self.old.seats.items → All (IsSeated M.mind streams.now (most + 4096)) self.new.seats.items) }
-        ensures stepped { IfOk result (λ e. (before : Process Mind) → slice_get (map (process_of M.mind) self.old.seats.items) (key.receiver - 1) ≡ Some before →
-            IsStepped (map (process_of M.mind) self.old.seats.items) (map (process_of M.mind) self.new.seats.items) self.old.pending self.new.pending key e (step (setting_of streams.now) before key input.now)) }
+        ensures seated { OnOk result ((most : ℕ)
+            → All (IsSeated M.mind streams.now most) self.old.seats.items
+            → All (IsSeated M.mind streams.now (most + 4096)) self.new.seats.items) }
+        ensures stepped { IfOk result (λ e. (before : Process Mind)
+            → slice_get (map (process_of M.mind) self.old.seats.items) (key.receiver - 1) ≡ Some before
+            → IsStepped (map (process_of M.mind) self.old.seats.items) (map (process_of M.mind) self.new.seats.items)
+            self.old.pending self.new.pending key e (step (setting_of streams.now) before key input.now)) }
     {
         let place = usize::from(key.receiver.number()) - 1;
         self.added.clear();
@@ -128,12 +136,13 @@ impl<M: Process> EventList<M> {
         ensures trace { IfOk result (λ t. IsTrace (setting_of scenario.now) t.items) }
         ensures within { IfOk result (λ t. vec_len t ≤ scenario.now.limit) }
         ensures errors { IfErr result (λ e. (e ≡ RunError.Limit) ⊎ (e ≡ RunError.Memory)) }
-        ensures limit { IsErrOf result RunError.Limit → (whole : List EntryRecord) → IsTrace (setting_of scenario.now) whole → scenario.now.limit < length whole }
+        ensures limit { IsErrOf result RunError.Limit → (whole : List EntryRecord)
+            → IsTrace (setting_of scenario.now) whole → scenario.now.limit < length whole }
     {
         let streams = Streams::new(scenario);
         let limit = scenario.limit();
         let mut trace = Vec::new(alloc);
-        while let Some((key, input)) = self.pending.take_least() {
+        while let Some((key, input)) = self.pending.take_least()? {
             if trace.len() as u64 >= limit {
                 return Err(RunError::Limit);
             }
@@ -158,7 +167,8 @@ fn run_machines<M: Process>(
     ensures once { IfOk result (λ t. TakesOnce (setting_of scenario.now) t.items) }
     ensures within { IfOk result (λ t. vec_len t ≤ scenario.now.limit) }
     ensures errors { IfErr result (λ e. (e ≡ RunError.Limit) ⊎ (e ≡ RunError.Memory)) }
-    ensures limit { IsErrOf result RunError.Limit → (whole : List EntryRecord) → IsTrace (setting_of scenario.now) whole → scenario.now.limit < length whole }
+    ensures limit { IsErrOf result RunError.Limit → (whole : List EntryRecord)
+        → IsTrace (setting_of scenario.now) whole → scenario.now.limit < length whole }
 {
     let _horizon = scenario.horizon();
     EventList::open(alloc, scenario, machines)?.run(alloc, scenario)
@@ -184,7 +194,8 @@ pub fn run_list(
     ensures once { IfOk result (λ t. TakesOnce (setting_of scenario.now) t) }
     ensures within { IfOk result (λ t. length t ≤ scenario.now.limit) }
     ensures errors { IfErr result (λ e. (e ≡ RunError.Limit) ⊎ (e ≡ RunError.Memory)) }
-    ensures limit { IsErrOf result RunError.Limit → (whole : List EntryRecord) → IsTrace (setting_of scenario.now) whole → scenario.now.limit < length whole }
+    ensures limit { IsErrOf result RunError.Limit → (whole : List EntryRecord)
+        → IsTrace (setting_of scenario.now) whole → scenario.now.limit < length whole }
 {
     let entries = run_machines(alloc, scenario, machines)?;
     Ok(Trace::new(entries))

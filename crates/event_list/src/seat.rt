@@ -99,10 +99,14 @@ impl<M: Process> Seat<M> {
         requires seated { (most : ℕ) × IsSeated M.mind streams.now most self.old × (most + 4096 < 2 ^ 64) }
         requires own { key.receiver ≡ own_of M.mind self.old }
 
-        ensures process { OnOk result (process_of M.mind self.new ≡ (step (setting_of streams.now) (process_of M.mind self.old) key input.now).process) }
-        ensures entry { IfOk result (λ e. e ≡ (step (setting_of streams.now) (process_of M.mind self.old) key input.now).entry) }
-        ensures added { OnOk result (added.new.items ≡ added.old.items ++ (step (setting_of streams.now) (process_of M.mind self.old) key input.now).added) }
-        ensures seated { OnOk result ((most : ℕ) → IsSeated M.mind streams.now most self.old → IsSeated M.mind streams.now (most + 4096) self.new) }
+        ensures process { OnOk result (process_of M.mind self.new
+            ≡ (step (setting_of streams.now) (process_of M.mind self.old) key input.now).process) }
+        ensures entry { IfOk result (λ e.
+            e ≡ (step (setting_of streams.now) (process_of M.mind self.old) key input.now).entry) }
+        ensures added { OnOk result (added.new.items ≡ added.old.items
+            ++ (step (setting_of streams.now) (process_of M.mind self.old) key input.now).added) }
+        ensures seated { OnOk result ((most : ℕ)
+            → IsSeated M.mind streams.now most self.old → IsSeated M.mind streams.now (most + 4096) self.new) }
     {
         if is_down(self.crash, key.tick) {
             return Ok(self.links.dead_entry(key));

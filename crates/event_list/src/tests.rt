@@ -26,11 +26,11 @@ fn takes_least_first(rt: HostRuntime) -> Result<(), Fail> {
     pending.join_all(&mut added)?;
     assert_eq!(rt; pending.least_tick(), Some(0));
     for (receiver, number) in [(1, 0), (2, 0)] {
-        let (key, _) = pending.take_least().ok_or("nothing is pending")?;
+        let (key, _) = pending.take_least()?.ok_or("nothing is pending")?;
         assert_eq!(rt; (key.receiver.number(), key.number), (receiver, number));
     }
-    assert!(rt; pending.take_below(3).is_none());
-    let (key, _) = pending.take_below(4).ok_or("nothing is below")?;
+    assert!(rt; pending.take_below(3)?.is_none());
+    let (key, _) = pending.take_below(4)?.ok_or("nothing is below")?;
     assert_eq!(rt; key.tick, 3);
     assert_eq!(rt; pending.least_tick(), None);
     Ok(())

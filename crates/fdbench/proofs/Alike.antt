@@ -3,12 +3,12 @@ use Rattle.std.proofs.Common.{◌≡◌, ◌∙◌, ap, sym, refl, ℕ, List, Bo
 use Rattle.event_list.specs.ScenarioSetting.{setting_of}
 use Rattle.event_list.proofs.Closed.{one_trace}
 use Rattle.qos_report.specs.Printed.{printed}
-use Rattle.qos_report.specs.declared.print_choice.PrintChoice.TheVariants.{Both}
+use Rattle.print_choice.specs.declared.PrintChoice.TheVariants.{Both}
 use Rattle.scenario.specs.Record.{Record}
 use Rattle.fdbench.specs.Compare.{IsWritten}
 
 pub written_alike : (S : Record) (a b : List ℕ) → IsWritten S a → IsWritten S b → a ≡ b
-written_alike S a b x y = x.text ∙ (ap (printed Both S) (one_trace (setting_of S) y.trace x.trace y.is_trace x.is_trace) ∙ sym y.text)
+written_alike S a b x y = x.text ∙ (ap (printed Both S) (one_trace (setting_of S) y.trace x.trace y.is_within.is_trace x.is_within.is_trace) ∙ sym y.text)
 
 pub not_different : (same : Bool) → (same ≡ false → ⊥) → same ≡ true
 not_different true h = refl

@@ -1,10 +1,14 @@
 -- The length of inputs.
-use Rattle.std.specs.Prelude.{◌≤◌, ℕ, List, Option, length}
+use Rattle.std.specs.Prelude.{◌≡◌, ◌≤◌, ℕ, List, Option, IfSome, length}
 use Rattle.std.specs.Io.KnownBytes.{Consumes}
 
 -- the most bytes that a scenario file may have
 abbrev pub most_bytes : ℕ
 most_bytes = 8388608
+
+-- the bytes are all that a known input has
+abbrev pub AreAllOf : Option (List ℕ) → List ℕ → Type 0
+AreAllOf input bytes = IfSome input (λ all. bytes ≡ all)
 
 -- at most n bytes of a known input are gone, from its front
 abbrev pub TakesAtMost : ℕ → Option (List ℕ) → Option (List ℕ) → Type 0

@@ -1,6 +1,8 @@
 pub mod Compare
 pub mod Mode
 pub mod Input
-pub mod Order
 pub mod Fault
+pub mod Scenario
+pub mod Answer
+pub mod Stop
 pub mod Serve

@@ -1,23 +1,19 @@
 //! Runs of a scenario over machines that are made here.
-ghost use Rattle.std.specs.Prelude.{◌≡◌, ◌≢◌, ◌^◌, ◌-◌, ◌+◌, ◌<◌, ◌≤◌, IfErr, IfOk, IsErrOf, Err, List, length, map};
-ghost use Rattle.event_list.specs.ScenarioSetting.{setting_of};
-ghost use Rattle.event_list.specs.World.{IsTrace};
-ghost use Rattle.process_api.specs.EntryRecord.{EntryRecord};
+ghost use Rattle.std.specs.Prelude.{◌≡◌, ◌≢◌, ◌^◌, ◌-◌, ◌<◌, IfErr, IfOk, Err, map};
 ghost use Rattle.process_api.specs.Numbers.{numbers_to};
 ghost use Rattle.fdbench.specs.Mode.{IsModeFor};
-ghost use Rattle.qos_report.specs.Printed.{Writes, WritesPart};
+ghost use Rattle.qos_report.specs.Printed.{Finishes, Refuses};
 ghost use Rattle.scenario.specs.Opening.{mind_of};
 ghost use Rattle.scenario.specs.Record.{opening_mind};
 
 use crate::machines::make_all;
-use consensus_es::EsConsensus;
-use consensus_s::SConsensus;
+use crate::stacks::{eventually_strong, idle, strong};
 use event_list::RunError;
 use process_api::Process;
 use qos_report::{Outlet, PrintChoice, Summary, bench_list, bench_windows};
 use reduction::Reduced;
-use scenario::{AlgorithmKind, Opening, Scenario};
-use stack::{NoAlgorithm, Stack};
+use scenario::AlgorithmKind::{EventuallyStrong, Idle, Strong};
+use scenario::{Opening, Scenario};
 use std::alloc::{AllocError, Global};
 use std::marker::Sync;
 use std::sync::Wait;
@@ -34,8 +30,8 @@ pub(crate) enum Mode {
     Windows(Plan),
 }
 
-/// Runs machines in a mode, and writes what is asked for. There is one for each process, of process 1 first, and each opens
-/// as the scenario says.
+/// Runs machines in a mode, and writes what is asked for. There is one for each process, of process 1 first, and each
+/// opens as the scenario says.
 fn bench_machines<R: Threads + Wait + Sync, O: Outlet>(
     rt: &R,
     alloc: Global,
@@ -48,11 +44,9 @@ fn bench_machines<R: Threads + Wait + Sync, O: Outlet>(
     requires machines { map mind machines.items ≡ map (opening_mind scenario.now) (numbers_to scenario.now.processes) }
     requires mode { IsModeFor scenario.now mode }
     requires failures { O.failed outlet.old < 2 ^ 64 - 1 }
-    ensures whole { IfOk result (λ summary. Writes scenario.now print (O.told outlet.old) (O.told outlet.new) summary × (O.failed outlet.new ≡ O.failed outlet.old)) }
-    ensures part { result ≡ Err RunError.Write → WritesPart scenario.now print (O.told outlet.old) (O.told outlet.new) × (O.failed outlet.new ≡ O.failed outlet.old + 1) }
-    ensures within { IfOk result (λ summary. summary.entries ≤ scenario.now.limit) }
-    ensures long { IsErrOf result RunError.Limit → (whole : List EntryRecord) → IsTrace (setting_of scenario.now) whole → scenario.now.limit < length whole }
-    ensures others { IfErr result (λ error. error ≢ RunError.Write → (O.told outlet.new ≡ O.told outlet.old) × (O.failed outlet.new ≡ O.failed outlet.old)) }
+    ensures done { IfOk result (Finishes scenario.now print O.told O.failed outlet.old outlet.new) }
+    ensures refused { IfErr result (Refuses scenario.now print O.told O.failed outlet.old outlet.new) }
+    ensures threads { mode ≡ Mode.List → result ≢ Err RunError.Spawn }
 {
     match mode {
         Mode::List => bench_list(alloc, scenario, machines, print, outlet),
@@ -62,8 +56,8 @@ fn bench_machines<R: Threads + Wait + Sync, O: Outlet>(
     }
 }
 
-/// Runs a scenario in a mode, over machines that are made here, and writes what is asked for. What goes out doesn't depend
-/// on the mode.
+/// Runs a scenario in a mode, over machines that are made here, and writes what is asked for. What goes out doesn't
+/// depend on the mode. By the event list no thread is started, so none is refused.
 pub(crate) fn bench<R: Threads + Wait + Sync, O: Outlet>(
     rt: &R,
     alloc: Global,
@@ -74,11 +68,9 @@ pub(crate) fn bench<R: Threads + Wait + Sync, O: Outlet>(
 ) -> Result<Summary, RunError>
     requires mode { IsModeFor scenario.now mode }
     requires failures { O.failed outlet.old < 2 ^ 64 - 1 }
-    ensures whole { IfOk result (λ summary. Writes scenario.now print (O.told outlet.old) (O.told outlet.new) summary × (O.failed outlet.new ≡ O.failed outlet.old)) }
-    ensures part { result ≡ Err RunError.Write → WritesPart scenario.now print (O.told outlet.old) (O.told outlet.new) × (O.failed outlet.new ≡ O.failed outlet.old + 1) }
-    ensures within { IfOk result (λ summary. summary.entries ≤ scenario.now.limit) }
-    ensures long { IsErrOf result RunError.Limit → (whole : List EntryRecord) → IsTrace (setting_of scenario.now) whole → scenario.now.limit < length whole }
-    ensures others { IfErr result (λ error. error ≢ RunError.Write → (O.told outlet.new ≡ O.told outlet.old) × (O.failed outlet.new ≡ O.failed outlet.old)) }
+    ensures done { IfOk result (Finishes scenario.now print O.told O.failed outlet.old outlet.new) }
+    ensures refused { IfErr result (Refuses scenario.now print O.told O.failed outlet.old outlet.new) }
+    ensures threads { mode ≡ Mode.List → result ≢ Err RunError.Spawn }
 {
     let machines = make_all(
         alloc,
@@ -86,33 +78,24 @@ pub(crate) fn bench<R: Threads + Wait + Sync, O: Outlet>(
         |opening: Opening| -> Result<Box<dyn Process>, AllocError>
             ensures { IfOk result (λ made. mind made ≡ mind_of opening) }
         {
-            let own = opening.own;
             let detector = TimeoutDetector::open(alloc, &opening)?;
-            match (opening.share, opening.algorithm) {
-                (None, AlgorithmKind::Idle) => {
-                    Ok(Box::new(alloc, Stack::new(own, detector, NoAlgorithm))?)
-                }
-                (None, AlgorithmKind::Strong) => {
-                    let consensus = SConsensus::open(alloc, &opening)?;
-                    Ok(Box::new(alloc, Stack::new(own, detector, consensus))?)
-                }
-                (None, AlgorithmKind::EventuallyStrong) => {
-                    let consensus = EsConsensus::open(alloc, &opening)?;
-                    Ok(Box::new(alloc, Stack::new(own, detector, consensus))?)
-                }
-                (Some(_), AlgorithmKind::Idle) => {
+            match opening.share {
+                None => match opening.algorithm {
+                    Idle => Ok(Box::new(alloc, idle(&opening, detector))?),
+                    Strong => Ok(Box::new(alloc, strong(alloc, &opening, detector)?)?),
+                    EventuallyStrong => {
+                        Ok(Box::new(alloc, eventually_strong(alloc, &opening, detector)?)?)
+                    }
+                },
+                Some(_) => {
                     let reduced = Reduced::open(detector, &opening);
-                    Ok(Box::new(alloc, Stack::new(own, reduced, NoAlgorithm))?)
-                }
-                (Some(_), AlgorithmKind::Strong) => {
-                    let reduced = Reduced::open(detector, &opening);
-                    let consensus = SConsensus::open(alloc, &opening)?;
-                    Ok(Box::new(alloc, Stack::new(own, reduced, consensus))?)
-                }
-                (Some(_), AlgorithmKind::EventuallyStrong) => {
-                    let reduced = Reduced::open(detector, &opening);
-                    let consensus = EsConsensus::open(alloc, &opening)?;
-                    Ok(Box::new(alloc, Stack::new(own, reduced, consensus))?)
+                    match opening.algorithm {
+                        Idle => Ok(Box::new(alloc, idle(&opening, reduced))?),
+                        Strong => Ok(Box::new(alloc, strong(alloc, &opening, reduced)?)?),
+                        EventuallyStrong => {
+                            Ok(Box::new(alloc, eventually_strong(alloc, &opening, reduced)?)?)
+                        }
+                    }
                 }
             }
         },

@@ -1,10 +1,8 @@
 //! Whether both ways to run a scenario write the same.
-ghost use Rattle.std.specs.Prelude.{◌≡◌, ◌≢◌, ◌<◌, IfErr, IfOk, IsErrOf, Err, List, length, true, false, ℕ};
-ghost use Rattle.event_list.specs.ScenarioSetting.{setting_of};
-ghost use Rattle.event_list.specs.World.{IsTrace};
-ghost use Rattle.process_api.specs.EntryRecord.{EntryRecord};
+ghost use Rattle.std.specs.Prelude.{◌≡◌, ◌≢◌, IfErr, IfOk, IsErrOf, Err, List, true, false, ℕ};
 ghost use Rattle.fdbench.specs.Compare.{IsWritten};
 ghost use Rattle.fdbench.specs.Mode.{IsModeFor};
+ghost use Rattle.fdbench.specs.Scenario.{IsTooLong};
 ghost use Rattle.windows.specs.Plan.{IsPlanFor};
 
 use crate::bench::{Mode, bench};
@@ -35,7 +33,7 @@ fn written_by<R: Threads + Wait + Sync>(
     requires { IsModeFor scenario.now mode }
     ensures written { IfOk result (λ outlet. IsWritten scenario.now outlet.bytes) }
     ensures other { IfErr result (λ error. error ≢ RunError.Write) }
-    ensures long { IsErrOf result RunError.Limit → (whole : List EntryRecord) → IsTrace (setting_of scenario.now) whole → scenario.now.limit < length whole }
+    ensures long { IsErrOf result RunError.Limit → IsTooLong scenario.now }
 {
     let mut outlet = MemoryOutlet::new(alloc);
     match bench(rt, alloc, scenario, mode, PrintChoice::Both, &mut outlet) {
@@ -45,8 +43,8 @@ fn written_by<R: Threads + Wait + Sync>(
     }
 }
 
-/// Runs a scenario by the single event list and by windows, and says whether the texts are the same, trace and report. They
-/// always are.
+/// Runs a scenario by the single event list and by windows, and says whether the texts are the same, trace and report.
+/// They always are.
 pub(crate) fn compare<R: Threads + Wait + Sync>(
     rt: &R,
     alloc: Global,
@@ -56,7 +54,7 @@ pub(crate) fn compare<R: Threads + Wait + Sync>(
     requires { IsPlanFor scenario.now plan }
     ensures same { IfOk result (λ same. (same ≡ true) × ((bytes : List ℕ) × IsWritten scenario.now bytes)) }
     ensures other { IfErr result (λ error. error ≢ RunError.Write) }
-    ensures long { IsErrOf result RunError.Limit → (whole : List EntryRecord) → IsTrace (setting_of scenario.now) whole → scenario.now.limit < length whole }
+    ensures long { IsErrOf result RunError.Limit → IsTooLong scenario.now }
 {
     let listed = written_by(rt, alloc, scenario, Mode::List)?;
     let windowed = written_by(rt, alloc, scenario, Mode::Windows(plan))?;

@@ -4,7 +4,7 @@ ghost use Rattle.std.specs.Io.KnownBytes.{IsAtEnd};
 ghost use Rattle.fdbench.specs.Input.{TakesAtMost, most_bytes};
 
 use std::alloc::Global;
-use std::io::{ErrorKind, Read};
+use std::io::Read;
 
 /// The most bytes that a scenario file may have.
 const MOST_BYTES: usize = 8_388_608;
@@ -23,13 +23,12 @@ pub enum InputError {
     Memory,
 }
 
-/// All bytes of an input, where they are at most 8,388,608. At most one byte more than that is read. A read that was
-/// interrupted is tried again.
+/// All bytes of an input, where they are at most 8,388,608. At most one byte more than that is read. The first read
+/// that fails, of whatever kind, is the last: none is tried again.
 ///
 /// # Errors
 ///
-/// `TooLong` where there are more bytes, `Unreadable` where a read failed for any other cause than an interruption, and
-/// `Memory` where the bytes found no room.
+/// `TooLong` where there are more bytes, `Unreadable` where a read failed, and `Memory` where the bytes found no room.
 pub fn read_all<R: Read>(alloc: Global, input: &mut R) -> Result<Vec<u8>, InputError>
     ensures short { IfOk result (λ bytes. length bytes.items ≤ most_bytes) }
     ensures whole { IfOk result (λ bytes. IfSome (R.remaining input.old) (λ all. bytes.items ≡ all)) }
@@ -50,7 +49,6 @@ pub fn read_all<R: Read>(alloc: Global, input: &mut R) -> Result<Vec<u8>, InputE
                     return Err(InputError::Memory);
                 }
             }
-            Err(error) if error.kind() == ErrorKind::Interrupted => {}
             Err(_) => return Err(InputError::Unreadable),
         }
     }

@@ -16,8 +16,10 @@ pub(crate) fn make_all<M: Process, F: Fn(Opening) -> Result<M, AllocError>>(
     make: F,
 ) -> Result<Vec<M>, AllocError>
     requires callable { F.IsAlwaysCallable make }
-    requires opens { (opening : _) (made : _) → F.post make opening made → IfOk made (λ machine. M.mind machine ≡ mind_of opening) }
-    ensures { IfOk result (λ machines. map M.mind machines.items ≡ map (opening_mind scenario.now) (numbers_to scenario.now.processes)) }
+    requires opens { (opening : _) (made : _) → F.post make opening made
+        → IfOk made (λ machine. M.mind machine ≡ mind_of opening) }
+    ensures { let minds = map (opening_mind scenario.now) (numbers_to scenario.now.processes) in
+        IfOk result (λ machines. map M.mind machines.items ≡ minds) }
 {
     let mut machines = Vec::new(alloc);
     for before in 0..scenario.processes() {

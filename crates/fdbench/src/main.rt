@@ -6,25 +6,30 @@
 //! event that a process takes; a report, with the verdicts on the detectors, the measures of each pair of processes and
 //! what each process decided; or both.
 //!
+//! `fdbench run PATH --workers N --window N` prints the same, from a run by windows of N ticks that N worker threads
+//! share. `fdbench compare PATH --workers N --window N` runs the file both ways, and says whether they wrote the
+//! same.
+//!
 //! The one contract is that of [`serve::serve`]: with status 0 the outlet grows by what the words ask for, which for
-//! `list` is the texts of the scenario's trace; with status 4 by a front part of it; with another status by nothing. The
-//! texts are defined by `qos_report`, in its `specs/TraceText.antt` and `specs/ReportText.antt`, and the trace by the
-//! event list's definitions.
+//! `list` and `run` is the texts of the scenario's one trace, and for `compare` is `same`; with status 4 by a front
+//! part of it; with another status by nothing. The texts are defined by `qos_report`, in its `specs/TraceText.antt`
+//! and `specs/ReportText.antt`, the trace by the event list's definitions, and the words by `command_line`. The
+//! process ends with the status, by the contract of [`serve::finish`].
 //!
 //! For example, `fdbench list - --print trace` on a file with two processes and a horizon of 1 tick prints the header
-//! and two rows of kind `start`.
+//! and two rows of kind `start`, and `fdbench compare - --workers 2 --window 1` on the same file prints `same`.
 #![tactic(auto)]
 
 mod bench;
-mod command;
 pub mod compare;
 mod fault;
 pub mod input;
 mod machines;
-pub mod order;
 pub mod serve;
+mod stacks;
 
 use crate::fault::Fault;
+pub use command_line::{Order, WordsError, read_words};
 use qos_report::StreamOutlet;
 use std::alloc::Global;
 use std::env;
@@ -66,7 +71,7 @@ fn main(rt: HostRuntime) -> ExitCode {
             _ => Fault::Form.report(&mut faults),
         },
     };
-    ExitCode::from(serve::finish(status, &mut outlet, &mut faults))
+    serve::finish(status, &mut outlet, &mut faults)
 }
 
 #[cfg(test)]

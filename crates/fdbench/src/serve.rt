@@ -1,23 +1,22 @@
 //! One run of the program.
-ghost use Rattle.std.specs.Prelude.{◌≡◌, ◌≢◌, ◌⊎◌, ◌∷◌, [], ◌^◌, ◌-◌, ◌+◌, ◌<◌, ◌≤◌, ℕ, List, Contains, IfOk, IfErr, IfSome, OnOk, codes, true, length, map};
-ghost use Rattle.std.specs.Io.KnownBytes.{Appends, Keeps};
-ghost use Rattle.clap.specs.Words.{kind_of};
-ghost use Rattle.clap.specs.declared.error.kind.ErrorKind.TheVariants.{DisplayHelp};
-ghost use Rattle.qos_report.specs.Outlet.{Grows};
-ghost use Rattle.fdbench.specs.Fault.{status_of};
-ghost use Rattle.fdbench.specs.Input.{TakesAtMost, most_bytes};
+ghost use Rattle.std.specs.Prelude.{◌≡◌, ◌≢◌, ◌⊎◌, ◌∷◌, [], ◌^◌, ◌-◌, ◌+◌, ◌<◌, ◌≤◌, Contains, IfOk, IfErr, OnOk, codes, true, length, map};
+ghost use Rattle.std.specs.Io.KnownBytes.{Keeps};
+ghost use Rattle.std.specs.Process.{exit_status};
+ghost use Rattle.command_line.specs.Told.{IsHelp};
+ghost use Rattle.qos_report.specs.Writing.{WroteNothing};
+ghost use Rattle.fdbench.specs.Answer.{Answers, AsksRun, IsCheckAnswer, IsCompareAnswer, IsListAnswer, IsRunAnswer, IsSameLine, path_of};
+ghost use Rattle.fdbench.specs.Fault.{IsFirstFault, status_of};
+ghost use Rattle.fdbench.specs.Input.{AreAllOf, TakesAtMost, most_bytes};
+ghost use Rattle.fdbench.specs.Scenario.{IsScenarioAt, input_path};
+ghost use Rattle.fdbench.specs.Serve.{IsAsked, IsRunAsked, NamesNoInput, Serves};
+ghost use Rattle.fdbench.specs.Stop.{Stops, Went, WentPart};
 ghost use Rattle.windows.specs.Plan.{IsPlanFor, NoneApplies};
-ghost use Rattle.scenario.specs.Record.{Record};
-ghost use Rattle.fdbench.specs.Order.{States};
-ghost use Rattle.fdbench.specs.declared.order.Order.{Order};
-ghost use Rattle.fdbench.specs.Serve.{Answers, ComesInOrder, path_of, IsCheckAnswer, IsCompareAnswer, IsListAnswer, IsRunAnswer, IsScenarioAt, Serves, Went, WentPart};
 
 use crate::bench::{Mode, bench};
 use crate::compare::compare;
 use crate::fault::Fault;
 use crate::input::{InputError, read_all};
-use crate::order::{Order, WordsError, read_words};
-use clap::error::ErrorKind;
+use command_line::{Order, Told, read_words, told_of};
 use event_list::RunError;
 use qos_report::{Outlet, PrintChoice, StreamOutlet, put_all};
 use scenario::{Scenario, ScenarioError, read_scenario};
@@ -25,6 +24,7 @@ use std::alloc::{AllocError, Global};
 use std::fs;
 use std::io::{Read, Write};
 use std::marker::Sync;
+use std::process::ExitCode;
 use std::rt::Files;
 use std::sync::Wait;
 use std::thread::Threads;
@@ -37,9 +37,10 @@ fn bytes_at<R: Files, I: Read>(
     path: &str,
     input: &mut I,
 ) -> Result<Vec<u8>, InputError>
-    ensures whole { IfOk result (λ bytes. path.now ≡ codes "-" → IfSome (I.remaining input.old) (λ all. bytes.items ≡ all)) }
+    ensures whole { IfOk result (λ bytes. path.now ≡ input_path → AreAllOf (I.remaining input.old) bytes.items) }
     ensures short { IfOk result (λ bytes. length bytes.items ≤ most_bytes) }
     ensures taken { TakesAtMost (most_bytes + 1) (I.remaining input.old) (I.remaining input.new) }
+    ensures untouched { path.now ≢ input_path → input.new ≡ input.old }
 {
     if path == "-" {
         return read_all(alloc, input);
@@ -60,6 +61,7 @@ fn scenario_at<R: Files, I: Read>(
     ensures stands { IfOk result (IsScenarioAt (I.remaining input.old) path.now) }
     ensures refused { IfErr result (λ fault. status_of fault ≡ 1) }
     ensures taken { TakesAtMost (most_bytes + 1) (I.remaining input.old) (I.remaining input.new) }
+    ensures untouched { path.now ≢ input_path → input.new ≡ input.old }
 {
     let bytes = match bytes_at(rt, alloc, path, input) {
         Ok(bytes) => bytes,
@@ -82,11 +84,13 @@ fn serve_check<R: Files, I: Read, O: Outlet>(
     outlet: &mut O,
 ) -> Result<(), Fault>
     requires { O.failed outlet.old < 2 ^ 64 - 1 }
-    ensures done { OnOk result (Went (IsCheckAnswer (I.remaining input.old) path.now) (O.told outlet.old) (O.told outlet.new) × (O.failed outlet.new ≡ O.failed outlet.old)) }
-    ensures broken { IfErr result (λ fault. status_of fault ≡ 4 → WentPart (IsCheckAnswer (I.remaining input.old) path.now) (O.told outlet.old) (O.told outlet.new) × (O.failed outlet.new ≡ O.failed outlet.old + 1)) }
-    ensures refused { IfErr result (λ fault. status_of fault ≢ 4 → (O.told outlet.new ≡ O.told outlet.old) × (O.failed outlet.new ≡ O.failed outlet.old)) }
-    ensures in_order { IfErr result (λ fault. ComesInOrder (I.remaining input.old) path.now (status_of fault)) }
+    ensures done { let wanted = IsCheckAnswer (I.remaining input.old) path.now in
+        OnOk result (Went O.told O.failed outlet.old outlet.new wanted) }
+    ensures stops { let wanted = IsCheckAnswer (I.remaining input.old) path.now in
+        IfErr result (Stops O.told O.failed outlet.old outlet.new wanted (I.remaining input.old) path.now) }
+    ensures no_run { IfErr result (λ fault. status_of fault ≢ 3) }
     ensures taken { TakesAtMost (most_bytes + 1) (I.remaining input.old) (I.remaining input.new) }
+    ensures untouched { path.now ≢ input_path → input.new ≡ input.old }
 {
     scenario_at(rt, alloc, path, input)?;
     if put_all(outlet, b"ok\n") {
@@ -106,11 +110,12 @@ fn serve_list<R: Files + Threads + Wait + Sync, I: Read, O: Outlet>(
     outlet: &mut O,
 ) -> Result<(), Fault>
     requires { O.failed outlet.old < 2 ^ 64 - 1 }
-    ensures done { OnOk result (Went (IsListAnswer (I.remaining input.old) path.now print) (O.told outlet.old) (O.told outlet.new) × (O.failed outlet.new ≡ O.failed outlet.old)) }
-    ensures broken { IfErr result (λ fault. status_of fault ≡ 4 → WentPart (IsListAnswer (I.remaining input.old) path.now print) (O.told outlet.old) (O.told outlet.new) × (O.failed outlet.new ≡ O.failed outlet.old + 1)) }
-    ensures refused { IfErr result (λ fault. status_of fault ≢ 4 → (O.told outlet.new ≡ O.told outlet.old) × (O.failed outlet.new ≡ O.failed outlet.old)) }
-    ensures in_order { IfErr result (λ fault. ComesInOrder (I.remaining input.old) path.now (status_of fault)) }
+    ensures done { let wanted = IsListAnswer (I.remaining input.old) path.now print in
+        OnOk result (Went O.told O.failed outlet.old outlet.new wanted) }
+    ensures stops { let wanted = IsListAnswer (I.remaining input.old) path.now print in
+        IfErr result (Stops O.told O.failed outlet.old outlet.new wanted (I.remaining input.old) path.now) }
     ensures taken { TakesAtMost (most_bytes + 1) (I.remaining input.old) (I.remaining input.new) }
+    ensures untouched { path.now ≢ input_path → input.new ≡ input.old }
 {
     let scenario = scenario_at(rt, alloc, path, input)?;
     match bench(rt, alloc, &scenario, Mode::List, print, outlet) {
@@ -122,7 +127,7 @@ fn serve_list<R: Files + Threads + Wait + Sync, I: Read, O: Outlet>(
 /// The plan of a run by windows.
 fn plan_for(scenario: &Scenario, workers: u64, window: u64) -> Result<Plan, Fault>
     ensures plan { IfOk result (λ p. IsPlanFor scenario.now p × NoneApplies scenario.now.lookahead workers window) }
-    ensures refused { IfErr result (λ fault. status_of fault ≡ 3) }
+    ensures refused { IfErr result (IsFirstFault scenario.now.lookahead workers window) }
 {
     match Plan::new(scenario, workers, window) {
         Ok(plan) => Ok(plan),
@@ -142,11 +147,12 @@ fn serve_run<R: Files + Threads + Wait + Sync, I: Read, O: Outlet>(
     outlet: &mut O,
 ) -> Result<(), Fault>
     requires { O.failed outlet.old < 2 ^ 64 - 1 }
-    ensures done { OnOk result (Went (IsRunAnswer (I.remaining input.old) path.now workers window print) (O.told outlet.old) (O.told outlet.new) × (O.failed outlet.new ≡ O.failed outlet.old)) }
-    ensures broken { IfErr result (λ fault. status_of fault ≡ 4 → WentPart (IsRunAnswer (I.remaining input.old) path.now workers window print) (O.told outlet.old) (O.told outlet.new) × (O.failed outlet.new ≡ O.failed outlet.old + 1)) }
-    ensures refused { IfErr result (λ fault. status_of fault ≢ 4 → (O.told outlet.new ≡ O.told outlet.old) × (O.failed outlet.new ≡ O.failed outlet.old)) }
-    ensures in_order { IfErr result (λ fault. ComesInOrder (I.remaining input.old) path.now (status_of fault)) }
+    ensures done { let wanted = IsRunAnswer (I.remaining input.old) path.now workers window print in
+        OnOk result (Went O.told O.failed outlet.old outlet.new wanted) }
+    ensures stops { let wanted = IsRunAnswer (I.remaining input.old) path.now workers window print in
+        IfErr result (Stops O.told O.failed outlet.old outlet.new wanted (I.remaining input.old) path.now) }
     ensures taken { TakesAtMost (most_bytes + 1) (I.remaining input.old) (I.remaining input.new) }
+    ensures untouched { path.now ≢ input_path → input.new ≡ input.old }
 {
     let scenario = scenario_at(rt, alloc, path, input)?;
     let plan = plan_for(&scenario, workers, window)?;
@@ -159,8 +165,9 @@ fn serve_run<R: Files + Threads + Wait + Sync, I: Read, O: Outlet>(
 /// Says whether both runs wrote the same: `same` or `different`, and a line feed.
 fn put_verdict<O: Outlet>(same: bool, outlet: &mut O) -> Result<(), Fault>
     requires { O.failed outlet.old < 2 ^ 64 - 1 }
-    ensures done { OnOk result (Went (λ piece. piece ≡ codes "same\n") (O.told outlet.old) (O.told outlet.new) × (O.failed outlet.new ≡ O.failed outlet.old)) }
-    ensures broken { same ≡ true → IfErr result (λ fault. (status_of fault ≡ 4) × WentPart (λ piece. piece ≡ codes "same\n") (O.told outlet.old) (O.told outlet.new) × (O.failed outlet.new ≡ O.failed outlet.old + 1)) }
+    ensures done { OnOk result (Went O.told O.failed outlet.old outlet.new IsSameLine) }
+    ensures broken { same ≡ true → IfErr result (λ _. WentPart O.told O.failed outlet.old outlet.new IsSameLine) }
+    ensures status { same ≡ true → IfErr result (λ fault. status_of fault ≡ 4) }
 {
     if same {
         if put_all(outlet, b"same\n") {
@@ -186,11 +193,12 @@ fn serve_compare<R: Files + Threads + Wait + Sync, I: Read, O: Outlet>(
     outlet: &mut O,
 ) -> Result<(), Fault>
     requires { O.failed outlet.old < 2 ^ 64 - 1 }
-    ensures done { OnOk result (Went (IsCompareAnswer (I.remaining input.old) path.now workers window) (O.told outlet.old) (O.told outlet.new) × (O.failed outlet.new ≡ O.failed outlet.old)) }
-    ensures broken { IfErr result (λ fault. status_of fault ≡ 4 → WentPart (IsCompareAnswer (I.remaining input.old) path.now workers window) (O.told outlet.old) (O.told outlet.new) × (O.failed outlet.new ≡ O.failed outlet.old + 1)) }
-    ensures refused { IfErr result (λ fault. status_of fault ≢ 4 → (O.told outlet.new ≡ O.told outlet.old) × (O.failed outlet.new ≡ O.failed outlet.old)) }
-    ensures in_order { IfErr result (λ fault. ComesInOrder (I.remaining input.old) path.now (status_of fault)) }
+    ensures done { let wanted = IsCompareAnswer (I.remaining input.old) path.now workers window in
+        OnOk result (Went O.told O.failed outlet.old outlet.new wanted) }
+    ensures stops { let wanted = IsCompareAnswer (I.remaining input.old) path.now workers window in
+        IfErr result (Stops O.told O.failed outlet.old outlet.new wanted (I.remaining input.old) path.now) }
     ensures taken { TakesAtMost (most_bytes + 1) (I.remaining input.old) (I.remaining input.new) }
+    ensures untouched { path.now ≢ input_path → input.new ≡ input.old }
 {
     let scenario = scenario_at(rt, alloc, path, input)?;
     let plan = plan_for(&scenario, workers, window)?;
@@ -209,11 +217,14 @@ fn carry_out<R: Files + Threads + Wait + Sync, I: Read, O: Outlet>(
     outlet: &mut O,
 ) -> Result<(), Fault>
     requires { O.failed outlet.old < 2 ^ 64 - 1 }
-    ensures done { OnOk result (Went (Answers (I.remaining input.old) order.entry) (O.told outlet.old) (O.told outlet.new) × (O.failed outlet.new ≡ O.failed outlet.old)) }
-    ensures broken { IfErr result (λ fault. status_of fault ≡ 4 → WentPart (Answers (I.remaining input.old) order.entry) (O.told outlet.old) (O.told outlet.new) × (O.failed outlet.new ≡ O.failed outlet.old + 1)) }
-    ensures refused { IfErr result (λ fault. status_of fault ≢ 4 → (O.told outlet.new ≡ O.told outlet.old) × (O.failed outlet.new ≡ O.failed outlet.old)) }
-    ensures in_order { IfErr result (λ fault. ComesInOrder (I.remaining input.old) (path_of order.entry) (status_of fault)) }
+    ensures done { let wanted = Answers (I.remaining input.old) order.entry in
+        OnOk result (Went O.told O.failed outlet.old outlet.new wanted) }
+    ensures stops { let wanted = Answers (I.remaining input.old) order.entry in
+        let path = path_of order.entry in
+        IfErr result (Stops O.told O.failed outlet.old outlet.new wanted (I.remaining input.old) path) }
+    ensures no_run { IfErr result (λ fault. status_of fault ≡ 3 → AsksRun order.entry) }
     ensures taken { TakesAtMost (most_bytes + 1) (I.remaining input.old) (I.remaining input.new) }
+    ensures untouched { path_of order.entry ≢ input_path → input.new ≡ input.old }
 {
     match order {
         Order::Check { path } => serve_check(rt, alloc, path, input, outlet),
@@ -232,37 +243,31 @@ fn carry_out<R: Files + Threads + Wait + Sync, I: Read, O: Outlet>(
     }
 }
 
-/// Shows what `clap` has to say: help goes to the outlet, a mistake in the words to the faults.
-fn show<O: Outlet, F: Outlet>(
-    alloc: Global,
-    error: &clap::Error,
-    outlet: &mut O,
-    faults: &mut F,
-) -> u8
+/// Tells of words that state no order: help goes to the outlet, all else to the faults.
+fn tell<O: Outlet, F: Outlet>(told: &Told, outlet: &mut O, faults: &mut F) -> u8
     requires outlet { O.failed outlet.old < 2 ^ 64 - 1 }
     requires faults { F.failed faults.old < 2 ^ 64 - 1 }
     ensures statuses { (result ≡ 0) ⊎ ((result ≡ 2) ⊎ (result ≡ 4)) }
-    ensures help { (result ≡ 0) ⊎ (result ≡ 4) → kind_of error.now ≡ DisplayHelp }
-    ensures done { result ≡ 0 → (text : List ℕ) × Appends (O.told outlet.old) (O.told outlet.new) text × (O.failed outlet.new ≡ O.failed outlet.old) }
-    ensures broken { result ≡ 4 → (text : List ℕ) × Grows (O.told outlet.old) (O.told outlet.new) text × (O.failed outlet.new ≡ O.failed outlet.old + 1) }
-    ensures refused { result ≡ 2 → (O.told outlet.new ≡ O.told outlet.old) × (O.failed outlet.new ≡ O.failed outlet.old) }
+    ensures done { result ≡ 0 → Went O.told O.failed outlet.old outlet.new (λ _. IsHelp told.now) }
+    ensures broken { result ≡ 4 → WentPart O.told O.failed outlet.old outlet.new (λ _. IsHelp told.now) }
+    ensures refused { result ≡ 2 → WroteNothing O.told O.failed outlet.old outlet.new }
+    ensures silent { result ≡ 0 → WroteNothing F.told F.failed faults.old faults.new }
     ensures told { F.failed faults.new ≤ F.failed faults.old + 1 }
 {
-    let Ok(text) = error.to_string(alloc) else {
-        return Fault::WordsMemory.report(faults);
-    };
-    match error.kind() {
-        ErrorKind::DisplayHelp => {
+    match told {
+        Told::Help(text) => {
             if put_all(outlet, text.as_bytes()) {
                 0
             } else {
                 Fault::Run(RunError::Write).report(faults)
             }
         }
-        _ => {
+        Told::Mistake(text) => {
             put_all(faults, text.as_bytes());
             2
         }
+        Told::Form => Fault::Form.report(faults),
+        Told::Memory => Fault::WordsMemory.report(faults),
     }
 }
 
@@ -278,8 +283,9 @@ fn show<O: Outlet, F: Outlet>(
 /// | 3 | the plan or the run is refused |
 /// | 4 | writing to the outlet failed |
 ///
-/// Faults are looked for in this order: words, file, scenario, plan, machines, run. So 1 and 3 come only where the words make
-/// a whole order.
+/// Faults are looked for in this order: words, file, scenario, plan, machines, run. So 1 and 3 come only where the
+/// words make a whole order, and 3 only where it asks for a run. Nothing of the input is taken but for an order that
+/// names `-`.
 pub fn serve<R: Files + Threads + Wait + Sync, I: Read, O: Outlet, F: Outlet>(
     rt: &R,
     alloc: Global,
@@ -291,19 +297,21 @@ pub fn serve<R: Files + Threads + Wait + Sync, I: Read, O: Outlet, F: Outlet>(
     requires outlet { O.failed outlet.old < 2 ^ 64 - 1 }
     requires faults { F.failed faults.old < 2 ^ 64 - 1 }
     ensures statuses { result ≤ 4 }
-    ensures done { result ≡ 0 → Went (Serves (I.remaining input.old) (map (λ w. w.now) words.now)) (O.told outlet.old) (O.told outlet.new) × (O.failed outlet.new ≡ O.failed outlet.old) }
-    ensures broken { result ≡ 4 → WentPart (Serves (I.remaining input.old) (map (λ w. w.now) words.now)) (O.told outlet.old) (O.told outlet.new) × (O.failed outlet.new ≡ O.failed outlet.old + 1) }
-    ensures refused { Contains (1 ∷ 2 ∷ 3 ∷ []) result → (O.told outlet.new ≡ O.told outlet.old) × (O.failed outlet.new ≡ O.failed outlet.old) }
-    ensures asked { (result ≡ 1) ⊎ (result ≡ 3) → (asked : Order) × States (map (λ w. w.now) words.now) asked }
-    ensures accepted { result ≡ 3 → (asked : Order) × States (map (λ w. w.now) words.now) asked × ((s : Record) × IsScenarioAt (I.remaining input.old) (path_of asked) s) }
+    ensures done { let wanted = Serves (I.remaining input.old) (map (λ w. w.now) words.now) in
+        result ≡ 0 → Went O.told O.failed outlet.old outlet.new wanted }
+    ensures broken { let wanted = Serves (I.remaining input.old) (map (λ w. w.now) words.now) in
+        result ≡ 4 → WentPart O.told O.failed outlet.old outlet.new wanted }
+    ensures refused { Contains (1 ∷ 2 ∷ 3 ∷ []) result → WroteNothing O.told O.failed outlet.old outlet.new }
+    ensures asked { result ≡ 1 → IsAsked (map (λ w. w.now) words.now) }
+    ensures accepted { result ≡ 3 → IsRunAsked (I.remaining input.old) (map (λ w. w.now) words.now) }
+    ensures silent { result ≡ 0 → WroteNothing F.told F.failed faults.old faults.new }
     ensures told { F.failed faults.new ≤ F.failed faults.old + 1 }
     ensures taken { TakesAtMost (most_bytes + 1) (I.remaining input.old) (I.remaining input.new) }
+    ensures untouched { NamesNoInput (map (λ w. w.now) words.now) → input.new ≡ input.old }
 {
     let order = match read_words(alloc, words) {
         Ok(order) => order,
-        Err(WordsError::Clap(error)) => return show(alloc, &error, outlet, faults),
-        Err(WordsError::Memory) => return Fault::WordsMemory.report(faults),
-        Err(WordsError::Form) => return Fault::Form.report(faults),
+        Err(error) => return tell(&told_of(alloc, &error), outlet, faults),
     };
     match carry_out(rt, alloc, order, input, outlet) {
         Ok(()) => 0,
@@ -311,21 +319,21 @@ pub fn serve<R: Files + Threads + Wait + Sync, I: Read, O: Outlet, F: Outlet>(
     }
 }
 
-/// Flushes the writer behind the outlet as a run of this status ends, and answers the exit status. A flush that fails
-/// turns 0 into 4, with the line of a failed write.
+/// Flushes the writer behind the outlet as a run of this status ends, and answers the exit code of the process: the
+/// status, but 4 where it is 0 and the flush fails, with the line of a failed write.
 pub fn finish<W: Write + Drop, F: Outlet>(
     status: u8,
     outlet: &mut StreamOutlet<W>,
     faults: &mut F,
-) -> u8
+) -> ExitCode
     requires { F.failed faults.old < 2 ^ 64 - 1 }
-    ensures status { (result ≡ status) ⊎ ((status ≡ 0) × (result ≡ 4)) }
+    ensures status { (exit_status result ≡ status) ⊎ ((status ≡ 0) × (exit_status result ≡ 4)) }
     ensures kept { Keeps (W.contents outlet.old.writer) (W.contents outlet.new.writer) }
     ensures failures { outlet.new.failures ≡ outlet.old.failures }
     ensures told { F.failed faults.new ≤ F.failed faults.old + 1 }
 {
     match outlet.flush() {
-        Err(_) if status == 0 => Fault::Run(RunError::Write).report(faults),
-        _ => status,
+        Err(_) if status == 0 => ExitCode::from(Fault::Run(RunError::Write).report(faults)),
+        _ => ExitCode::from(status),
     }
 }

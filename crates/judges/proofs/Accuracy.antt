@@ -1,6 +1,6 @@
 -- The accuracies that are a yes or a no: no pair is mistaken.
-use Rattle.std.proofs.Common.{◌≡◌, ℕ, zero, suc, ◌<◌, ◌≤◌, min, Bool, true, false, cond, not, ◌&&◌, ◌||◌, inl, inr, refl, sym, ap, ◌∙◌, arith, List}
-use Rattle.std.proofs.lemmas.Bool.{cases_eq, lt-ltb, ltb-true, ltb-false, both_ways, or_parts, not-true, not_from_false}
+use Rattle.std.proofs.Common.{◌≡◌, ℕ, suc, ◌<◌, ◌≤◌, min, Bool, true, false, cond, not, ◌&&◌, refl, sym, ap, ◌∙◌, arith, List}
+use Rattle.std.proofs.lemmas.Bool.{lt-ltb, ltb-true, ltb-false, not-true, not_from_false}
 use Rattle.process_api.specs.EntryRecord.{EntryRecord}
 use Rattle.scenario.specs.Record.{Record}
 use Rattle.judges.specs.Crashes.{crash_tick, is_up, is_crashed, is_correct, end_of}
@@ -9,31 +9,8 @@ use Rattle.judges.specs.Out.{suspects}
 use Rattle.judges.specs.Verdicts.{strong_accuracy, weak_accuracy}
 use Rattle.judges.specs.declared.track.Track.{Track}
 use Rattle.judges.proofs.Judged.{AreTracks, judged_strong_accuracy, judged_weak_accuracy}
-use Rattle.judges.proofs.Below.{all_below-at, all_below-from}
+use Rattle.judges.proofs.Below.{all_below-at, all_below-from, any_below-none, any_below-at, any_below-same, where_at, where_from}
 use Rattle.judges.proofs.Lasting.{same_tests}
-
-any_below-none : (f : ℕ → Bool) (n : ℕ) → ((u : ℕ) → u < n → f u ≡ false) → any_below f n ≡ false
-any_below-none f zero h = refl
-any_below-none f (suc t) h = ap (λ x. x || any_below f t) (h t (omega arith)) ∙ any_below-none f t (λ u l. h u (omega arith))
-
-any_below-at : (f : ℕ → Bool) (n : ℕ) → any_below f n ≡ false → (u : ℕ) → u < n → f u ≡ false
-any_below-at f zero e u l = absurd (omega arith)
-any_below-at f (suc t) e u l =
-    let parts = or_parts (f t) (any_below f t) e in
-    elim (cases_eq u t) [ inl same ↦ ap f same ∙ parts.0 | inr n ↦ any_below-at f t parts.1 u (omega arith) ]
-
-any_below-same : (f g : ℕ → Bool) (n : ℕ) → ((u : ℕ) → u < n → f u ≡ g u) → any_below f n ≡ any_below g n
-any_below-same f g zero h = refl
-any_below-same f g (suc t) h = ap (λ x. x || any_below f t) (h t (omega arith)) ∙ ap (λ x. g t || x) (any_below-same f g t (λ u l. h u (omega arith)))
-
--- what holds where a condition does
-where_at : (which test : Bool) → cond which test true ≡ true → which ≡ true → test ≡ true
-where_at true test e w = e
-where_at false test e w = absurd (both_ways false refl w)
-
-where_from : (which test : Bool) → (which ≡ true → test ≡ true) → cond which test true ≡ true
-where_from true test h = h refl
-where_from false test h = refl
 
 module _ (S : Record) (trace : List EntryRecord) (layer : ℕ) (track : ℕ → ℕ → Track) (known : AreTracks S trace layer track) where
   module _ (i j : ℕ) (l : i < S.processes) (m : j < S.processes) where

@@ -1,16 +1,12 @@
 -- One more entry after all others of a rising list.
-use Rattle.std.proofs.Common.{◌≡◌, ℕ, zero, suc, true, ◌&&◌, refl, ap, ◌∙◌, List, [], ◌∷◌, ◌++◌, length, get_or, arith, Ordering, Less, Equal, Greater}
+use Rattle.std.proofs.Common.{◌≡◌, ℕ, zero, suc, true, ◌&&◌, refl, ap, ◌∙◌, List, [], ◌∷◌, ◌++◌, length, get_or, arith}
 use Rattle.std.specs.List.{list_all}
 use Rattle.std.proofs.lemmas.List.Folds.{list_all-append}
 use Rattle.std.proofs.lemmas.Bool.{and_parts, and_from}
 use Rattle.process_api.specs.Order.{is_less, is_before, is_rising}
 use Rattle.process_api.specs.EntryRecord.{EntryRecord}
 use Rattle.process_api.proofs.KeyOrder.{keys_total}
-
-less_from : (o : Ordering) → is_less o ≡ true → o ≡ Less
-less_from Less e = refl
-less_from Equal e = absurd (cc)
-less_from Greater e = absurd (cc)
+use Rattle.judges.proofs.Order.{less_from}
 
 before-trans : (a b c : EntryRecord) → is_before a.key b.key ≡ true → is_before b.key c.key ≡ true → is_before a.key c.key ≡ true
 before-trans a b c h k = ap is_less (keys_total.trans a.key b.key c.key (less_from _ h) (less_from _ k))

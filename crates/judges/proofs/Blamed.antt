@@ -1,13 +1,12 @@
 -- Who is suspected on layer 2 at a tick was suspected on layer 1 by then.
-use Rattle.std.proofs.Common.{◌≡◌, ◌⊎◌, ℕ, ◌≤◌, inl, inr, refl, sym, ap, ◌∙◌, subst, Bool, true, false, cond, ◌&&◌, ◌==◌, nat_le, arith, true≢false, List, [], ◌∷◌, ◌++◌, fold, Ordering, Less, Equal, Greater}
+use Rattle.std.proofs.Common.{◌≡◌, ◌⊎◌, ℕ, ◌≤◌, inl, inr, refl, sym, ap, ◌∙◌, subst, Bool, true, false, cond, ◌&&◌, ◌==◌, nat_le, arith, true≢false, List, [], ◌∷◌, ◌++◌, fold}
 use Rattle.std.specs.List.{list_all}
-use Rattle.std.proofs.lemmas.Bool.{leb-true, eqb-true}
+use Rattle.std.proofs.lemmas.Bool.{leb-true, eqb-true, and_parts}
 use Rattle.process_api.specs.EntryRecord.{EntryRecord}
-use Rattle.process_api.specs.Order.{is_less, is_before, is_rising}
+use Rattle.process_api.specs.Order.{is_before, is_rising}
 use Rattle.process_api.specs.declared.action.Note.{Note}
 use Rattle.process_api.specs.declared.action.Note.TheVariants.{Suspect, Trust, Round, Decided, NoValue}
 use Rattle.process_api.proofs.KeyOrder.{ticks_rise}
-use Rattle.process_api.proofs.Minds.{both_true}
 use Rattle.scenario.specs.Ranges.{IsInRange}
 use Rattle.scenario.specs.Record.{Record}
 use Rattle.event_list.specs.History.{IsIn}
@@ -19,7 +18,8 @@ use Rattle.event_list.proofs.Steps.{in_append, in_left, in_right}
 use Rattle.judges.specs.Blame.{IsBlamedBy, SharesSuspicions}
 use Rattle.judges.specs.Out.{Set, nobody, with, without, notes_until, after_note, out}
 use Rattle.judges.proofs.Instances.{runs_reduction}
-use Rattle.judges.proofs.Shared.{shares}
+use Rattle.judges.proofs.Order.{less_from}
+use Rattle.judges.proofs.Shared.{StandsBehind, stands_behind}
 use Rattle.judges.proofs.TimeoutLaws.{timeout_detector}
 
 module _ (layer p : ℕ) where
@@ -59,57 +59,67 @@ module _ (layer p : ℕ) where
       go (inl g) = first (one note g)
       go (inr i) = inr (inr i)
 
--- the entry of a note up to a tick, with what comes before and after it
+-- the entry of a note up to a tick
 abbrev Placed : List EntryRecord → (t : ℕ) → Note → Type 0
-Placed trace t note = (earlier : List EntryRecord) × (e : EntryRecord) × (later : List EntryRecord) × (trace ≡ earlier ++ (e ∷ later)) × (e.key.tick ≤ t) × IsIn note e.notes
+Placed trace t note = (e : EntryRecord) × IsIn e trace × (e.key.tick ≤ t) × IsIn note e.notes
 
 placed : (trace : List EntryRecord) (q t : ℕ) (note : Note) → IsIn note (notes_until trace q t) → Placed trace t note
 placed [] q t note none = absurd none
 placed (e ∷ trace) q t note i = go (e.key.receiver == q && nat_le e.key.tick t) refl i (placed trace q t note)
   where
     after : Placed trace t note → Placed (e ∷ trace) t note
-    after (earlier, f, later, is, low, there) = (e ∷ earlier, f, later, ap (λ xs. e ∷ xs) is, low, there)
+    after (f, there, low, noted) = (f, inr there, low, noted)
 
     split : (nat_le e.key.tick t ≡ true) → IsIn note e.notes ⊎ IsIn note (notes_until trace q t) → (IsIn note (notes_until trace q t) → Placed trace t note) → Placed (e ∷ trace) t note
-    split low (inl j) rest = ([], e, trace, refl, leb-true _ _ low, j)
+    split low (inl j) rest = (e, inl refl, leb-true _ _ low, j)
     split low (inr j) rest = after (rest j)
 
     go : (b : Bool) → (e.key.receiver == q && nat_le e.key.tick t) ≡ b → IsIn note (cond b (e.notes ++ notes_until trace q t) (notes_until trace q t))
         → (IsIn note (notes_until trace q t) → Placed trace t note) → Placed (e ∷ trace) t note
-    go true is j rest = split (both_true _ _ is).1 (in_append note e.notes (notes_until trace q t) j) rest
+    go true is j rest = split (and_parts _ _ is).1 (in_append note e.notes (notes_until trace q t) j) rest
     go false is j rest = after (rest j)
-
-less_is : (r : Ordering) → is_less r ≡ true → r ≡ Less
-less_is Less h = refl
-less_is Equal h = absurd (true≢false (sym h))
-less_is Greater h = absurd (true≢false (sym h))
 
 all_pass : {X : Type 0} (f : X → Bool) (xs : List X) → list_all f xs ≡ true → (x : X) → IsIn x xs → f x ≡ true
 all_pass f [] all x none = absurd none
-all_pass f (y ∷ xs) all x (inl e) = ap f e ∙ (both_true _ _ all).0
-all_pass f (y ∷ xs) all x (inr i) = all_pass f xs (both_true _ _ all).1 x i
+all_pass f (y ∷ xs) all x (inl e) = ap f e ∙ (and_parts _ _ all).0
+all_pass f (y ∷ xs) all x (inr i) = all_pass f xs (and_parts _ _ all).1 x i
 
--- an earlier entry's tick is no later
-no_later : (earlier : List EntryRecord) (e : EntryRecord) (later : List EntryRecord) → is_rising (earlier ++ (e ∷ later)) ≡ true → (f : EntryRecord) → IsIn f earlier → f.key.tick ≤ e.key.tick
-no_later [] e later rising f none = absurd none
-no_later (x ∷ earlier) e later rising f (inl same) =
-    subst (λ (z : EntryRecord). z.key.tick ≤ e.key.tick) (sym same)
-    (ticks_rise x.key e.key (less_is _ (all_pass (λ g. is_before x.key g.key) (earlier ++ (e ∷ later)) (both_true _ _ rising).0 e (in_right e earlier (e ∷ later) (inl refl)))))
-no_later (x ∷ earlier) e later rising f (inr i) = no_later earlier e later (both_true _ _ rising).1 f i
+-- who stands before in a rising list has the earlier key
+stands_before : (earlier : List EntryRecord) (e : EntryRecord) (later : List EntryRecord) → is_rising (earlier ++ (e ∷ later)) ≡ true → (f : EntryRecord) → IsIn f earlier → is_before f.key e.key ≡ true
+stands_before [] e later rising f none = absurd none
+stands_before (x ∷ earlier) e later rising f (inl same) =
+    subst (λ (z : EntryRecord). is_before z.key e.key ≡ true) (sym same)
+    (all_pass (λ g. is_before x.key g.key) (earlier ++ (e ∷ later)) (and_parts _ _ rising).0 e (in_right e earlier (e ∷ later) (inl refl)))
+stands_before (x ∷ earlier) e later rising f (inr i) = stands_before earlier e later (and_parts _ _ rising).1 f i
+
+-- a member, with what comes before and after it
+split_at : (trace : List EntryRecord) (e : EntryRecord) → IsIn e trace → (earlier later : List EntryRecord) × (trace ≡ earlier ++ (e ∷ later))
+split_at [] e none = absurd none
+split_at (x ∷ trace) e (inl same) = ([], trace, sym (ap (λ y. y ∷ trace) same))
+split_at (x ∷ trace) e (inr i) = let s = split_at trace e i in (x ∷ s.0, s.1, ap (λ ys. x ∷ ys) s.2)
 
 module _ (s : Record) (is : IsInRange s) (trace : List EntryRecord) (is_trace : IsTrace (setting_of s) trace) where
+  behind : StandsBehind trace
+  behind = stands_behind (setting_of s) (setting_sound s is) (runs_reduction timeout_detector s) trace is_trace
+
+  rises : is_rising trace ≡ true
+  rises = trace_rises (setting_of s) (setting_sound s is) trace is_trace
+
   pub shares_suspicions : SharesSuspicions trace
-  shares_suspicions = shares (setting_of s) (setting_sound s is) (runs_reduction timeout_detector s) trace is_trace
+  shares_suspicions e there p i =
+      let at = split_at trace e there in
+      let b = behind at.0 e at.1 at.2 p i in
+      (b.0, subst (IsIn b.0) (sym at.2) (in_left b.0 at.0 (e ∷ at.1) b.1), stands_before at.0 e at.1 (subst (λ xs. is_rising xs ≡ true) at.2 rises) b.0 b.1, b.2)
 
   -- whom a process suspects on layer 2 at a tick, some base detector had suspected by then
   pub blamed_by_out : (q t p : ℕ) → out 2 trace q t p ≡ true → IsBlamedBy trace p t
   blamed_by_out q t p h = go (noted 2 p (notes_until trace q t) nobody h)
     where
       by : Placed trace t (Suspect 2 p) → IsBlamedBy trace p t
-      by (earlier, e, later, at, low, there) =
-          let b = shares_suspicions earlier e later at p there in
-          let before : b.0.key.tick ≤ e.key.tick = no_later earlier e later (subst (λ xs. is_rising xs ≡ true) at (trace_rises (setting_of s) (setting_sound s is) trace is_trace)) b.0 b.1 in
-          (b.0, subst (IsIn b.0) (sym at) (in_left b.0 earlier (e ∷ later) b.1), omega arith, b.2)
+      by (e, there, low, i) =
+          let b = shares_suspicions e there p i in
+          let before : b.0.key.tick ≤ e.key.tick = ticks_rise b.0.key e.key (less_from _ b.2) in
+          (b.0, b.1, omega arith, b.3)
 
       go : (false ≡ true) ⊎ IsIn (Suspect 2 p) (notes_until trace q t) → IsBlamedBy trace p t
       go (inl none) = absurd (true≢false (sym none))

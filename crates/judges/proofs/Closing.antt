@@ -1,5 +1,5 @@
 -- The verdicts at the close.
-use Rattle.std.proofs.Common.{◌≡◌, ℕ, zero, suc, ◌+◌, ◌*◌, ◌<◌, ◌≤◌, max, Bool, true, false, cond, not, ◌&&◌, ◌||◌, inl, inr, refl, sym, ap, ◌∙◌, subst, arith, Option, None, Some, List, [], ◌∷◌, map, length, get_or}
+use Rattle.std.proofs.Common.{◌≡◌, ℕ, zero, suc, ◌+◌, ◌*◌, ◌<◌, ◌≤◌, max, Bool, true, false, cond, not, ◌&&◌, inl, inr, refl, sym, ap, ◌∙◌, subst, arith, Option, None, Some, List, [], ◌∷◌, map, length, get_or}
 use Rattle.std.specs.Vec.{with_items}
 use Rattle.std.proofs.lemmas.List.{with_items_is}
 use Rattle.std.proofs.lemmas.List.{get_or-map, length-map}
@@ -8,7 +8,7 @@ use Rattle.std.proofs.lemmas.Bool.{cases_lt, lt-ltb, le-ltb, eq-eqb, ne_eqb}
 use Rattle.process_api.specs.EntryRecord.{EntryRecord}
 use Rattle.scenario.specs.Record.{Record}
 use Rattle.judges.specs.Crashes.{crash_tick, is_crashed, is_correct, end_of}
-use Rattle.judges.specs.Ticks.{all_below, any_below}
+use Rattle.judges.specs.Ticks.{all_below}
 use Rattle.judges.specs.Out.{suspects}
 use Rattle.judges.specs.Verdicts.{verdicts}
 use Rattle.judges.specs.Track.{Knows, passed, opened, suspected_from, trusted_from, latest, earliest, latest_below, earliest_below}
@@ -20,6 +20,7 @@ use Rattle.judges.specs.declared.track.Track.{Track}
 use Rattle.judges.specs.declared.running.RunningJudge.{RunningJudge}
 use Rattle.judges.proofs.Tracks.{knows_passed}
 use Rattle.judges.proofs.Turning.{passed_tick, passed_end}
+use Rattle.judges.proofs.Below.{any_below-same}
 use Rattle.judges.proofs.Judging.{verdicts_are}
 
 latest-same : (o r : ℕ → Option ℕ) (n : ℕ) → ((i : ℕ) → i < n → o i ≡ r i) → latest_below o n ≡ latest_below r n
@@ -29,10 +30,6 @@ latest-same o r (suc n) h = ap (λ x. latest x (o n)) (latest-same o r n (λ i l
 earliest-same : (o r : ℕ → Option ℕ) (n : ℕ) → ((i : ℕ) → i < n → o i ≡ r i) → earliest_below o n ≡ earliest_below r n
 earliest-same o r zero h = refl
 earliest-same o r (suc n) h = ap (λ x. earliest x (o n)) (earliest-same o r n (λ i l. h i (omega arith))) ∙ ap (earliest (earliest_below r n)) (h n (omega arith))
-
-any-same : (f g : ℕ → Bool) (n : ℕ) → ((i : ℕ) → i < n → f i ≡ g i) → any_below f n ≡ any_below g n
-any-same f g zero h = refl
-any-same f g (suc n) h = ap (λ x. x || any_below f n) (h n (omega arith)) ∙ ap (λ x. g n || x) (any-same f g n (λ i l. h i (omega arith)))
 
 module _ (S : Record) (layer : ℕ) (trace : List EntryRecord) where
   -- a track that goes on to the horizon
@@ -49,70 +46,74 @@ module _ (S : Record) (layer : ℕ) (trace : List EntryRecord) where
   }
 
   module _ (last : ℕ) (tracks : List Track) (tracked : AreTracked S (suspects layer trace) last tracks) (some : 0 < S.horizon) where
+    -- all tracks, gone on to the horizon
+    abbrev ended : List Track
+    ended = map (passed S.horizon) tracks
+
     module _ (i j : ℕ) (l : i < S.processes) (m : j < S.processes) where
       inside : i * S.processes + j < S.processes * S.processes
       inside = mul-add-lt i S.processes j S.processes l m
 
-      at : place (map (passed S.horizon) tracks) S.processes i j ≡ passed S.horizon (get_or tracks (i * S.processes + j) (opened 0))
+      at : place ended S.processes i j ≡ passed S.horizon (get_or tracks (i * S.processes + j) (opened 0))
       at = get_or-map (passed S.horizon) tracks (i * S.processes + j) (opened 0) (opened 0) (omega (arith, tracked.count, inside))
 
-      known : AtHorizon (suc i) (suc j) (place (map (passed S.horizon) tracks) S.processes i j)
+      known : AtHorizon (suc i) (suc j) (place ended S.processes i j)
       known = subst (AtHorizon (suc i) (suc j)) (sym at) (at_horizon (suc i) (suc j) last (place tracks S.processes i j) (tracked.each i j l m))
 
-    are_tracks : AreTracks S trace layer (place (map (passed S.horizon) tracks) S.processes)
+    are_tracks : AreTracks S trace layer (place ended S.processes)
     are_tracks = λ i j l m. let k = known i j l m in (k.knows, k.tick, k.end)
 
     -- a process counts_as_correct just where its end is the horizon
-    stays_is : (i : ℕ) → i < S.processes → counts_as_correct (map (passed S.horizon) tracks) S.processes S.horizon i ≡ is_correct S (suc i)
+    stays_is : (i : ℕ) → i < S.processes → counts_as_correct ended S.processes S.horizon i ≡ is_correct S (suc i)
     stays_is i l =
         let k = known i i l l in
         elim (cases_lt (crash_tick S (suc i)) S.horizon) [
           | inl p ↦ ne_eqb _ _ (λ e. let x : S.horizon ≡ end_of S (suc i) (suc i) = sym e ∙ k.end in omega arith) ∙ sym (ap not (lt-ltb _ _ p))
-          | inr p ↦ eq-eqb _ _ (let x : (place (map (passed S.horizon) tracks) S.processes i i).end ≡ S.horizon = omega (arith, k.end) in x) ∙ sym (ap not (le-ltb _ _ p))
+          | inr p ↦ eq-eqb _ _ (let x : (place ended S.processes i i).end ≡ S.horizon = omega (arith, k.end) in x) ∙ sym (ap not (le-ltb _ _ p))
         ]
 
-    crashes_is : (i : ℕ) → i < S.processes → not (counts_as_correct (map (passed S.horizon) tracks) S.processes S.horizon i) ≡ is_crashed S (suc i)
+    crashes_is : (i : ℕ) → i < S.processes → not (counts_as_correct ended S.processes S.horizon i) ≡ is_crashed S (suc i)
     crashes_is i l = ap not (stays_is i l) ∙ twice (is_crashed S (suc i))
       where
         twice : (b : Bool) → not (not b) ≡ b
         twice true = refl
         twice false = refl
 
-    row_suspected_is : (i : ℕ) → row_suspected (map (passed S.horizon) tracks) S.processes S.horizon i ≡ latest_below (λ j. cond (is_crashed S (suc j)) (suspected_from (place (map (passed S.horizon) tracks) S.processes i j)) (Some 0)) S.processes
-    row_suspected_is i = latest-same _ _ S.processes (λ j m. ap (λ b. cond b (suspected_from (place (map (passed S.horizon) tracks) S.processes i j)) (Some 0)) (crashes_is j m))
+    row_suspected_is : (i : ℕ) → row_suspected ended S.processes S.horizon i ≡ latest_below (λ j. cond (is_crashed S (suc j)) (suspected_from (place ended S.processes i j)) (Some 0)) S.processes
+    row_suspected_is i = latest-same _ _ S.processes (λ j m. ap (λ b. cond b (suspected_from (place ended S.processes i j)) (Some 0)) (crashes_is j m))
 
-    column_suspected_is : (j : ℕ) → column_suspected (map (passed S.horizon) tracks) S.processes S.horizon j ≡ earliest_below (λ i. cond (is_correct S (suc i)) (suspected_from (place (map (passed S.horizon) tracks) S.processes i j)) None) S.processes
-    column_suspected_is j = earliest-same _ _ S.processes (λ i l. ap (λ b. cond b (suspected_from (place (map (passed S.horizon) tracks) S.processes i j)) None) (stays_is i l))
+    column_suspected_is : (j : ℕ) → column_suspected ended S.processes S.horizon j ≡ earliest_below (λ i. cond (is_correct S (suc i)) (suspected_from (place ended S.processes i j)) None) S.processes
+    column_suspected_is j = earliest-same _ _ S.processes (λ i l. ap (λ b. cond b (suspected_from (place ended S.processes i j)) None) (stays_is i l))
 
-    row_trusted_is : (i : ℕ) → row_trusted (map (passed S.horizon) tracks) S.processes S.horizon i ≡ latest_below (λ j. cond (is_correct S (suc j)) (trusted_from (place (map (passed S.horizon) tracks) S.processes i j)) (Some 0)) S.processes
-    row_trusted_is i = latest-same _ _ S.processes (λ j m. ap (λ b. cond b (trusted_from (place (map (passed S.horizon) tracks) S.processes i j)) (Some 0)) (stays_is j m))
+    row_trusted_is : (i : ℕ) → row_trusted ended S.processes S.horizon i ≡ latest_below (λ j. cond (is_correct S (suc j)) (trusted_from (place ended S.processes i j)) (Some 0)) S.processes
+    row_trusted_is i = latest-same _ _ S.processes (λ j m. ap (λ b. cond b (trusted_from (place ended S.processes i j)) (Some 0)) (stays_is j m))
 
-    column_trusted_is : (j : ℕ) → column_trusted (map (passed S.horizon) tracks) S.processes S.horizon j ≡ latest_below (λ i. cond (is_correct S (suc i)) (trusted_from (place (map (passed S.horizon) tracks) S.processes i j)) (Some 0)) S.processes
-    column_trusted_is j = latest-same _ _ S.processes (λ i l. ap (λ b. cond b (trusted_from (place (map (passed S.horizon) tracks) S.processes i j)) (Some 0)) (stays_is i l))
+    column_trusted_is : (j : ℕ) → column_trusted ended S.processes S.horizon j ≡ latest_below (λ i. cond (is_correct S (suc i)) (trusted_from (place ended S.processes i j)) (Some 0)) S.processes
+    column_trusted_is j = latest-same _ _ S.processes (λ i l. ap (λ b. cond b (trusted_from (place ended S.processes i j)) (Some 0)) (stays_is i l))
 
-    told : grid_verdicts (map (passed S.horizon) tracks) S.processes S.horizon ≡ judged S (place (map (passed S.horizon) tracks) S.processes)
+    told : grid_verdicts ended S.processes S.horizon ≡ judged S (place ended S.processes)
     told =
-        let sc = latest-same (λ i. cond (counts_as_correct (map (passed S.horizon) tracks) S.processes S.horizon i) (row_suspected (map (passed S.horizon) tracks) S.processes S.horizon i) (Some 0)) (λ i. cond (is_correct S (suc i)) (latest_below (λ j. cond (is_crashed S (suc j)) (suspected_from (place (map (passed S.horizon) tracks) S.processes i j)) (Some 0)) S.processes) (Some 0)) S.processes
-        (λ i l. ap (λ b. cond b (row_suspected (map (passed S.horizon) tracks) S.processes S.horizon i) (Some 0)) (stays_is i l) ∙ ap (λ o. cond (is_correct S (suc i)) o (Some 0)) (row_suspected_is i)) in
-        let wc = latest-same (λ j. cond (not (counts_as_correct (map (passed S.horizon) tracks) S.processes S.horizon j)) (column_suspected (map (passed S.horizon) tracks) S.processes S.horizon j) (Some 0)) (λ j. cond (is_crashed S (suc j)) (earliest_below (λ i. cond (is_correct S (suc i)) (suspected_from (place (map (passed S.horizon) tracks) S.processes i j)) None) S.processes) (Some 0)) S.processes
-        (λ j m. ap (λ b. cond b (column_suspected (map (passed S.horizon) tracks) S.processes S.horizon j) (Some 0)) (crashes_is j m) ∙ ap (λ o. cond (is_crashed S (suc j)) o (Some 0)) (column_suspected_is j)) in
-        let wa = any-same (λ j. counts_as_correct (map (passed S.horizon) tracks) S.processes S.horizon j && column_right (map (passed S.horizon) tracks) S.processes S.horizon j) (λ j. is_correct S (suc j) && column_right (map (passed S.horizon) tracks) S.processes S.horizon j) S.processes
-        (λ j m. ap (λ b. b && column_right (map (passed S.horizon) tracks) S.processes S.horizon j) (stays_is j m)) in
-        let es = latest-same (λ i. cond (counts_as_correct (map (passed S.horizon) tracks) S.processes S.horizon i) (row_trusted (map (passed S.horizon) tracks) S.processes S.horizon i) (Some 0)) (λ i. cond (is_correct S (suc i)) (latest_below (λ j. cond (is_correct S (suc j)) (trusted_from (place (map (passed S.horizon) tracks) S.processes i j)) (Some 0)) S.processes) (Some 0)) S.processes
-        (λ i l. ap (λ b. cond b (row_trusted (map (passed S.horizon) tracks) S.processes S.horizon i) (Some 0)) (stays_is i l) ∙ ap (λ o. cond (is_correct S (suc i)) o (Some 0)) (row_trusted_is i)) in
-        let ew = earliest-same (λ j. cond (counts_as_correct (map (passed S.horizon) tracks) S.processes S.horizon j) (column_trusted (map (passed S.horizon) tracks) S.processes S.horizon j) None) (λ j. cond (is_correct S (suc j)) (latest_below (λ i. cond (is_correct S (suc i)) (trusted_from (place (map (passed S.horizon) tracks) S.processes i j)) (Some 0)) S.processes) None) S.processes
-        (λ j m. ap (λ b. cond b (column_trusted (map (passed S.horizon) tracks) S.processes S.horizon j) None) (stays_is j m) ∙ ap (λ o. cond (is_correct S (suc j)) o None) (column_trusted_is j)) in
+        let sc = latest-same (λ i. cond (counts_as_correct ended S.processes S.horizon i) (row_suspected ended S.processes S.horizon i) (Some 0)) (λ i. cond (is_correct S (suc i)) (latest_below (λ j. cond (is_crashed S (suc j)) (suspected_from (place ended S.processes i j)) (Some 0)) S.processes) (Some 0)) S.processes
+        (λ i l. ap (λ b. cond b (row_suspected ended S.processes S.horizon i) (Some 0)) (stays_is i l) ∙ ap (λ o. cond (is_correct S (suc i)) o (Some 0)) (row_suspected_is i)) in
+        let wc = latest-same (λ j. cond (not (counts_as_correct ended S.processes S.horizon j)) (column_suspected ended S.processes S.horizon j) (Some 0)) (λ j. cond (is_crashed S (suc j)) (earliest_below (λ i. cond (is_correct S (suc i)) (suspected_from (place ended S.processes i j)) None) S.processes) (Some 0)) S.processes
+        (λ j m. ap (λ b. cond b (column_suspected ended S.processes S.horizon j) (Some 0)) (crashes_is j m) ∙ ap (λ o. cond (is_crashed S (suc j)) o (Some 0)) (column_suspected_is j)) in
+        let wa = any_below-same (λ j. counts_as_correct ended S.processes S.horizon j && column_right ended S.processes S.horizon j) (λ j. is_correct S (suc j) && column_right ended S.processes S.horizon j) S.processes
+        (λ j m. ap (λ b. b && column_right ended S.processes S.horizon j) (stays_is j m)) in
+        let es = latest-same (λ i. cond (counts_as_correct ended S.processes S.horizon i) (row_trusted ended S.processes S.horizon i) (Some 0)) (λ i. cond (is_correct S (suc i)) (latest_below (λ j. cond (is_correct S (suc j)) (trusted_from (place ended S.processes i j)) (Some 0)) S.processes) (Some 0)) S.processes
+        (λ i l. ap (λ b. cond b (row_trusted ended S.processes S.horizon i) (Some 0)) (stays_is i l) ∙ ap (λ o. cond (is_correct S (suc i)) o (Some 0)) (row_trusted_is i)) in
+        let ew = earliest-same (λ j. cond (counts_as_correct ended S.processes S.horizon j) (column_trusted ended S.processes S.horizon j) None) (λ j. cond (is_correct S (suc j)) (latest_below (λ i. cond (is_correct S (suc i)) (trusted_from (place ended S.processes i j)) (Some 0)) S.processes) None) S.processes
+        (λ j m. ap (λ b. cond b (column_trusted ended S.processes S.horizon j) None) (stays_is j m) ∙ ap (λ o. cond (is_correct S (suc j)) o None) (column_trusted_is j)) in
         λ x. record {
           strong_completeness = sc x;
           weak_completeness = wc x;
-          strong_accuracy = all_below (row_right (map (passed S.horizon) tracks) S.processes S.horizon) S.processes;
+          strong_accuracy = all_below (row_right ended S.processes S.horizon) S.processes;
           weak_accuracy = wa x;
           eventual_strong_accuracy = es x;
           eventual_weak_accuracy = ew x;
         }
 
-    pub closed : grid_verdicts (map (passed S.horizon) tracks) S.processes S.horizon ≡ verdicts S trace layer
-    closed = told ∙ sym (verdicts_are S trace layer (place (map (passed S.horizon) tracks) S.processes) are_tracks some)
+    pub closed : grid_verdicts ended S.processes S.horizon ≡ verdicts S trace layer
+    closed = told ∙ sym (verdicts_are S trace layer (place ended S.processes) are_tracks some)
 
 -- the last tick of a trace
 latest_tick : (trace : List EntryRecord) → (last : ℕ) × AreUntil trace last

@@ -1,5 +1,5 @@
 -- One more entry of a trace, and the suspects that it leaves.
-use Rattle.std.proofs.Common.{◌≡◌, ℕ, Bool, true, false, cond, ◌&&◌, refl, sym, ap, ◌∙◌, leb, eqb, List, [], ◌∷◌, ◌++◌, append_assoc}
+use Rattle.std.proofs.Common.{◌≡◌, ℕ, Bool, true, false, cond, ◌&&◌, refl, sym, ap, ◌∙◌, leb, eqb, List, [], ◌∷◌, ◌++◌, append_assoc, append-nil}
 use Rattle.std.specs.List.{fold}
 use Rattle.std.proofs.lemmas.List.Sums.{fold-append}
 use Rattle.process_api.specs.declared.action.Note.{Note}
@@ -11,10 +11,6 @@ use Rattle.judges.specs.Out.{Set, nobody, after_note, notes_until, out, suspects
 abbrev pub is_suspected_after : (layer p : ℕ) → Bool → List Note → Bool
 is_suspected_after layer p was notes = fold (after_note layer) (λ _. was) notes p
 
-append_none : (xs : List Note) → xs ++ [] ≡ xs
-append_none [] = refl
-append_none (x ∷ xs) = ap (λ ys. x ∷ ys) (append_none xs)
-
 -- whether an entry counts in OUT of q at t
 abbrev pub is_counted : EntryRecord → (q t : ℕ) → Bool
 is_counted entry q t = eqb entry.key.receiver q && leb entry.key.tick t
@@ -23,7 +19,7 @@ notes_until-push : (trace : List EntryRecord) (entry : EntryRecord) (q t : ℕ) 
 notes_until-push [] entry q t = go (is_counted entry q t)
   where
     go : (b : Bool) → cond b (entry.notes ++ []) [] ≡ cond b entry.notes []
-    go true = append_none entry.notes
+    go true = append-nil entry.notes
     go false = refl
 notes_until-push (first ∷ trace) entry q t = go (is_counted first q t) (notes_until-push trace entry q t)
   where

@@ -4,6 +4,7 @@ use Rattle.std.specs.List.{filter}
 use Rattle.std.specs.FinSet as set
 use Rattle.std.specs.Cmp.{nat_cmp_total}
 use Rattle.std.specs.FinMap.{nat_cmp-IsAntisymmetric}
+use Rattle.std.proofs.lemmas.Bool.{and_parts}
 use Rattle.process_api.specs.Answer.{to_all}
 use Rattle.process_api.specs.Numbers.{numbers_to}
 use Rattle.process_api.specs.Place.{Place}
@@ -18,10 +19,9 @@ use Rattle.process_api.specs.declared.message.Payload.TheVariants as payload
 use Rattle.process_api.specs.declared.message.StepInput.{StepInput}
 use Rattle.process_api.specs.declared.message.StepInput.TheVariants as input
 use Rattle.process_api.specs.declared.message.Tag.TheVariants as tag
-use Rattle.process_api.proofs.Minds.{both_true}
 use Rattle.event_list.specs.History.{IsIn}
 use Rattle.event_list.proofs.Steps.{in_append}
-use Rattle.judges.proofs.Local.{is_send, only_all}
+use Rattle.judges.proofs.Agreement.Local.{is_send, only_all}
 
 abbrev pub note_of : Action → Note
 note_of (action.Send to what) = note.NoValue
@@ -97,10 +97,10 @@ off true e = absurd (true≢false (sym e))
 off false e = refl
 
 removed : (s : Processes) (k q : ℕ) → set.contains (set.remove s k) q ≡ true → set.contains s q ≡ true
-removed s k q h = (both_true _ _ (sym (set.contains-remove nat_cmp_total s k q) ∙ h)).1
+removed s k q h = (and_parts _ _ (sym (set.contains-remove nat_cmp_total s k q) ∙ h)).1
 
 within : (s : Processes) (n q : ℕ) → set.contains (up_to n s) q ≡ true → set.contains s q ≡ true
-within s n q h = (both_true _ _ (sym (set.contains-retain s (λ k. nat_le k n) q (λ x e. ap (λ k. nat_le k n) (sym (nat_cmp-IsAntisymmetric q x e)))) ∙ h)).0
+within s n q h = (and_parts _ _ (sym (set.contains-retain s (λ k. nat_le k n) q (λ x e. ap (λ k. nat_le k n) (sym (nat_cmp-IsAntisymmetric q x e)))) ∙ h)).0
 
 module _ (place : Place) (s : ReductionState) (below : Processes) where
   came : (sender : ℕ) (shared : Processes) (q : ℕ) → set.contains (gathered place s.output sender shared) q ≡ true → set.contains s.output q ≡ false → set.contains shared q ≡ true
@@ -133,7 +133,7 @@ module _ (place : Place) (s : ReductionState) (below : Processes) where
       go (inl j) = no_note_sent q (payload.Suspects below) (numbers_to place.processes) j
       go (inr j) = no_note_waiting q j
   noted_came (input.Letter sender (payload.Suspects shared)) q i =
-      let new = both_true _ _ (newly place.processes q s.output (gathered place s.output sender shared) i) in
+      let new = and_parts _ _ (newly place.processes q s.output (gathered place s.output sender shared) i) in
       (sender, shared, refl, came sender shared q new.0 (off _ new.1))
   noted_came x q none = absurd none
 

@@ -21,7 +21,7 @@ use Rattle.event_list.specs.History.{IsIn}
 use Rattle.event_list.proofs.Steps.{in_append}
 use Rattle.judges.specs.BaseDetector.{IsDetector}
 use Rattle.judges.proofs.Algorithms.{IsOfAlgorithm, algorithm_acts}
-use Rattle.judges.proofs.Joined.{IsOfLower, IsJoined, RunsCoordinator}
+use Rattle.judges.proofs.Agreement.Joined.{IsOfLower, IsJoined, RunsCoordinator}
 use Rattle.judges.proofs.PartsActions.{each_of, detector_is_lower, detector_is_other, algorithm_is_other, reduction_lower}
 use Rattle.judges.proofs.Reacting.{based, IsLayered, layered, stacked, is_coordinating, coordinator_of, place_of, stepped, coordinated, coordinator_place}
 use Rattle.judges.proofs.Sharing.{IsShared, RunsReduction}

@@ -1,3 +1,4 @@
+-- the verdicts: tracks tell since when one process suspects another, and the grid of all tracks tells the verdicts
 pub mod Below
 pub mod Lasting
 pub mod Tracks
@@ -7,31 +8,26 @@ pub mod Reaching
 pub mod Judged
 pub mod Accuracy
 pub mod Judging
-pub mod Noting
 pub mod Meaning
 pub mod Entering
 pub mod Opening
 pub mod Closing
-pub mod Outcoming
 pub mod Order
 pub mod Adding
-pub mod Majorities
-pub mod Locking
-pub mod Local
-pub mod Answering
-pub mod Joined
-pub mod Waits
-pub mod MoreSent
-pub mod TimeoutLaws
-pub mod Algorithms
+-- the outcomes
+pub mod Noting
+pub mod Outcoming
+-- what the parts of a process do in every run
 pub mod Letters
-pub mod Coordinators
-pub mod Agreement
+pub mod Algorithms
+pub mod TimeoutLaws
 pub mod Sharing
+pub mod PartsActions
+pub mod Reacting
+pub mod Instances
+-- the rotating coordinator: its head says the argument
+pub mod Agreement
+-- shared suspicions
 pub mod Gathering
 pub mod Shared
-pub mod Reacting
-pub mod PartsActions
-pub mod Instances
-pub mod Agreed
 pub mod Blamed

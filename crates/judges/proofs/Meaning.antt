@@ -1,15 +1,15 @@
 -- The tests of the verdicts are the quantifiers.
-use Rattle.std.proofs.Common.{◌≡◌, ℕ, zero, suc, ◌<◌, ◌≤◌, Bool, true, false, cond, not, inl, inr, refl, sym, ap, ◌∙◌, subst, arith, Option, None, Some, List}
+use Rattle.std.proofs.Common.{◌≡◌, ℕ, zero, suc, ◌<◌, ◌≤◌, Bool, true, false, cond, not, inl, inr, refl, sym, subst, arith, Option, None, Some, List}
 use Rattle.std.specs.Bool.{Decides}
-use Rattle.std.proofs.lemmas.Bool.{cases_lt, lt-ltb, le-ltb, ltb-true, ltb-false, both_ways, and_parts, and_from, or_cases, or_left, or_right, true≢false, not-true, not_from_false}
+use Rattle.std.proofs.lemmas.Bool.{cases_lt, lt-ltb, le-ltb, ltb-true, ltb-false, both_ways, and_parts, and_from, true≢false, not-true, not_from_false}
 use Rattle.process_api.specs.EntryRecord.{EntryRecord}
 use Rattle.scenario.specs.Record.{Record}
 use Rattle.judges.specs.Crashes.{crash_tick, is_up, is_crashed, is_correct}
-use Rattle.judges.specs.Ticks.{all_below, any_below, all_from, least_below, first_of}
+use Rattle.judges.specs.Ticks.{all_below, all_from, least_below, first_of}
 use Rattle.judges.specs.Out.{suspects}
 use Rattle.judges.specs.Verdicts.{each, some, verdicts}
 use Rattle.judges.specs.Meaning.{IsLeastTick, IsProcess, Suspects, AreVerdicts}
-use Rattle.judges.proofs.Below.{all_below-at, all_below-from}
+use Rattle.judges.proofs.Below.{all_below-at, all_below-from, any_below-from, any_below-some, where_at, where_from}
 use Rattle.judges.proofs.Lasting.{all_from-at, all_from-from}
 
 -- a test that decides a fact at each tick finds the least tick
@@ -35,30 +35,6 @@ not_decides : (b : Bool) → Decides (not b) (b ≡ true → ⊥)
 not_decides true = (λ e. absurd (true≢false (sym e)), λ n. absurd (n refl))
 not_decides false = (λ e x. true≢false (sym x), λ n. refl)
 
-any_some : (test : ℕ → Bool) (n : ℕ) → any_below test n ≡ true → (i : ℕ) × (i < n) × (test i ≡ true)
-any_some test zero e = absurd (true≢false (sym e))
-any_some test (suc n) e =
-    elim (or_cases (test n) (any_below test n) e) [
-      | inl p ↦ (n, omega arith, p)
-      | inr p ↦ let s = any_some test n p in (s.0, omega (arith, s.1), s.2)
-    ]
-
-any_from : (test : ℕ → Bool) (n i : ℕ) → i < n → test i ≡ true → any_below test n ≡ true
-any_from test zero i l e = absurd (omega arith)
-any_from test (suc n) i l e =
-    elim (cases_lt i n) [
-      | inl p ↦ or_right (test n) (any_below test n) (any_from test n i p e)
-      | inr p ↦ or_left (test n) (any_below test n) (ap test (let s : n ≡ i = omega arith in s) ∙ e)
-    ]
-
-where_at : (which test : Bool) → cond which test true ≡ true → which ≡ true → test ≡ true
-where_at true test e w = e
-where_at false test e w = absurd (true≢false (sym w))
-
-where_from : (which test : Bool) → (which ≡ true → test ≡ true) → cond which test true ≡ true
-where_from true test h = h refl
-where_from false test h = refl
-
 module _ (S : Record) where
   each_decides : (which test : ℕ → Bool) (W T : ℕ → Type 0) → ((p : ℕ) → Decides (which p) (W p)) → ((p : ℕ) → Decides (test p) (T p)) → Decides (each S which test) ((p : ℕ) → IsProcess S p × W p → T p)
   each_decides which test W T w t =
@@ -70,14 +46,14 @@ module _ (S : Record) where
 
   some_decides : (which test : ℕ → Bool) (W T : ℕ → Type 0) → ((p : ℕ) → Decides (which p) (W p)) → ((p : ℕ) → Decides (test p) (T p)) → Decides (some S which test) ((p : ℕ) × (IsProcess S p × W p) × T p)
   some_decides which test W T w t = (
-    λ e. let s = any_some _ S.processes e in let both = and_parts (which (suc s.0)) (test (suc s.0)) s.2 in
+    λ e. let s = any_below-some _ S.processes e in let both = and_parts (which (suc s.0)) (test (suc s.0)) s.2 in
         (suc s.0, ((omega arith, omega (arith, s.1)), (w (suc s.0)).0 both.0), (t (suc s.0)).0 both.1),
     λ h. from h.0 h.1 h.2,
   )
     where
       from : (p : ℕ) → IsProcess S p × W p → T p → some S which test ≡ true
       from zero h x = absurd (omega (arith, h.0.0))
-      from (suc i) h x = any_from _ S.processes i (omega (arith, h.0.1)) (and_from (which (suc i)) (test (suc i)) ((w (suc i)).1 h.1) ((t (suc i)).1 x))
+      from (suc i) h x = any_below-from _ S.processes i (omega (arith, h.0.1)) (and_from (which (suc i)) (test (suc i)) ((w (suc i)).1 h.1) ((t (suc i)).1 x))
 
   up_decides : (t p : ℕ) → Decides (is_up S p t) (t < crash_tick S p)
   up_decides t p = (λ e. ltb-true t (crash_tick S p) e, λ l. lt-ltb t (crash_tick S p) l)

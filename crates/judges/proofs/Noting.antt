@@ -1,5 +1,5 @@
 -- An outcome after one more note, and after one more entry.
-use Rattle.std.proofs.Common.{arith, ◌≡◌, ℕ, max, Bool, true, false, cond, refl, sym, ap, ◌∙◌, eqb, Option, None, Some, List, [], ◌∷◌, ◌++◌, append_assoc}
+use Rattle.std.proofs.Common.{arith, ◌≡◌, ℕ, max, Bool, true, false, cond, refl, sym, ap, ◌∙◌, eqb, Option, None, Some, List, [], ◌∷◌, ◌++◌, append_assoc, append-nil}
 use Rattle.std.proofs.lemmas.List.Sums.{fold_push}
 use Rattle.std.proofs.lemmas.Bool.{eq-eqb, ne_eqb}
 use Rattle.process_api.specs.declared.action.Note.{Note}
@@ -9,15 +9,11 @@ use Rattle.judges.specs.declared.outcomes.Outcome.{Outcome}
 use Rattle.judges.specs.Outcomes.{timed, notes_of, is_answer, answer_of, round_of, first_answer, value_of, tick_of, greatest_round, outcome_of, outcome}
 use Rattle.judges.specs.Noting.{answered, noted, all_noted}
 
-append_none : {A : Type 0} (xs : List A) → xs ++ [] ≡ xs
-append_none [] = refl
-append_none (x ∷ xs) = ap (λ ys. x ∷ ys) (append_none xs)
-
 notes_of-push : (trace : List EntryRecord) (entry : EntryRecord) (p : ℕ) → notes_of (trace ++ entry ∷ []) p ≡ notes_of trace p ++ cond (eqb entry.key.receiver p) (timed entry.key.tick entry.notes) []
 notes_of-push [] entry p = go (eqb entry.key.receiver p)
   where
     go : (b : Bool) → cond b (timed entry.key.tick entry.notes ++ []) [] ≡ cond b (timed entry.key.tick entry.notes) []
-    go true = append_none _
+    go true = append-nil _
     go false = refl
 notes_of-push (first ∷ trace) entry p = go (eqb first.key.receiver p) (notes_of-push trace entry p)
   where
@@ -99,7 +95,7 @@ outcome_of-push p ns t note =
     ∙ one_more p (greatest_round ns) t (first_answer ns) (first_is_answer ns) note
 
 outcome_of-append : (p : ℕ) (ns : List (ℕ × Note)) (t : ℕ) (notes : List Note) → outcome_of p (ns ++ timed t notes) ≡ all_noted (outcome_of p ns) t notes
-outcome_of-append p ns t [] = ap (outcome_of p) (append_none ns)
+outcome_of-append p ns t [] = ap (outcome_of p) (append-nil ns)
 outcome_of-append p ns t (note ∷ notes) =
     ap (outcome_of p) (sym (append_assoc ns ((t, note) ∷ []) (timed t notes)))
     ∙ outcome_of-append p (ns ++ (t, note) ∷ []) t notes
@@ -112,4 +108,4 @@ outcome-own trace entry p own =
 
 pub outcome-other : (trace : List EntryRecord) (entry : EntryRecord) (p : ℕ) → (entry.key.receiver ≡ p → ⊥) → outcome (trace ++ entry ∷ []) p ≡ outcome trace p
 outcome-other trace entry p other =
-    ap (outcome_of p) (notes_of-push trace entry p ∙ ap (λ b. notes_of trace p ++ cond b (timed entry.key.tick entry.notes) []) (ne_eqb _ _ other) ∙ append_none (notes_of trace p))
+    ap (outcome_of p) (notes_of-push trace entry p ∙ ap (λ b. notes_of trace p ++ cond b (timed entry.key.tick entry.notes) []) (ne_eqb _ _ other) ∙ append-nil (notes_of trace p))

@@ -1,30 +1,19 @@
 -- Rising keys have rising ticks.
-use Rattle.std.proofs.Common.{◌≡◌, ℕ, suc, ◌<◌, ◌≤◌, true, refl, sym, ap, ◌∙◌, arith, List, [], ◌∷◌, ◌++◌, take, drop, length, get_or, nat_cmp, is_gt, Ordering, Less, Equal, Greater}
-use Rattle.std.specs.Ordering.{ordering_then}
+use Rattle.std.proofs.Common.{◌≡◌, ℕ, suc, ◌<◌, true, refl, sym, ap, ◌∙◌, List, [], ◌∷◌, ◌++◌, take, drop, length, get_or, Ordering, Less, Equal, Greater}
 use Rattle.std.specs.List.{list_all}
 use Rattle.std.proofs.Math.Seq.{drop-cons}
 use Rattle.std.proofs.lemmas.List.{take-append-drop}
-use Rattle.std.proofs.lemmas.Cmp.{ranked}
 use Rattle.std.proofs.lemmas.List.Folds.{list_all-append}
-use Rattle.std.proofs.lemmas.Bool.{and_parts, true≢false}
-use Rattle.process_api.specs.Order.{key_cmp, is_less, is_before, is_rising}
-use Rattle.process_api.specs.declared.key.Key.{Key}
+use Rattle.std.proofs.lemmas.Bool.{and_parts}
+use Rattle.process_api.specs.Order.{is_less, is_before, is_rising}
 use Rattle.process_api.specs.EntryRecord.{EntryRecord}
+use Rattle.process_api.proofs.KeyOrder.{ticks_rise}
 use Rattle.judges.specs.Judging.{AreUntil}
 
-less_from : (o : Ordering) → is_less o ≡ true → o ≡ Less
+pub less_from : (o : Ordering) → is_less o ≡ true → o ≡ Less
 less_from Less e = refl
 less_from Equal e = absurd (cc)
 less_from Greater e = absurd (cc)
-
--- a key before another has no later tick
-tick_last : (a b : ℕ) (s : Ordering) → (r : Ordering) → r ≡ nat_cmp a b → ordering_then r s ≡ Less → a ≤ b
-tick_last a b s Less e h = let is : a < b = ranked a b Less e in omega arith
-tick_last a b s Equal e h = let is : a ≡ b = ranked a b Equal e in omega arith
-tick_last a b s Greater e h = absurd (true≢false (ap is_gt h))
-
-ticks_rise : (a b : Key) → is_before a b ≡ true → a.tick ≤ b.tick
-ticks_rise a b h = tick_last a.tick b.tick _ _ refl (less_from (key_cmp a b) h)
 
 -- the entries before one of a rising list
 before_one : (xs : List EntryRecord) (e : EntryRecord) (ys : List EntryRecord) → is_rising (xs ++ e ∷ ys) ≡ true → AreUntil xs e.key.tick
@@ -33,7 +22,7 @@ before_one (x ∷ xs) e ys h =
     let parts = and_parts (list_all (λ f. is_before x.key f.key) (xs ++ e ∷ ys)) (is_rising (xs ++ e ∷ ys)) h in
     let here = and_parts (list_all (λ f. is_before x.key f.key) xs) (list_all (λ f. is_before x.key f.key) (e ∷ ys)) (sym (list_all-append (λ f. is_before x.key f.key) xs (e ∷ ys)) ∙ parts.0) in
     let first = and_parts (is_before x.key e.key) (list_all (λ f. is_before x.key f.key) ys) here.1 in
-    (ticks_rise x.key e.key first.0, before_one xs e ys parts.1)
+    (ticks_rise x.key e.key (less_from _ first.0), before_one xs e ys parts.1)
 
 pub before_at : (trace : List EntryRecord) (i : ℕ) (d : EntryRecord) → i < length trace → is_rising trace ≡ true → AreUntil (take i trace) (get_or trace i d).key.tick
 before_at trace i d l h =

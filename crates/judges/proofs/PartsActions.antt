@@ -17,7 +17,7 @@ use Rattle.process_api.proofs.Lists.{both, images, always}
 use Rattle.event_list.specs.History.{IsIn}
 use Rattle.judges.specs.BaseDetector.{IsOfDetector}
 use Rattle.judges.proofs.Algorithms.{IsOfAlgorithm}
-use Rattle.judges.proofs.Joined.{IsOfLower}
+use Rattle.judges.proofs.Agreement.Joined.{IsOfLower}
 use Rattle.judges.proofs.Sharing.{IsOfOther}
 
 -- what holds of all holds of each

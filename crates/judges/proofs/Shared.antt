@@ -23,10 +23,18 @@ use Rattle.event_list.specs.History.{IsIn}
 use Rattle.event_list.proofs.Steps.{in_append, in_left, in_right}
 use Rattle.event_list.proofs.Worlds.{process_at, process_other, taken_cases, taken_world}
 use Rattle.event_list.proofs.Closed.{opening_world}
-use Rattle.judges.specs.Blame.{IsBlamed, SharesSuspicions}
 use Rattle.judges.proofs.Gathering.{is_note, note_of, noted_came, sends_suspects}
 use Rattle.judges.proofs.Letters.{added_letter, no_letter_first}
 use Rattle.judges.proofs.Sharing.{IsShared, RunsReduction}
+
+-- some entry notes that its process suspects p on layer 1
+abbrev pub IsBlamed : List EntryRecord → (p : ℕ) → Type 0
+IsBlamed trace p = (e : EntryRecord) × IsIn e trace × IsIn (note.Suspect 1 p) e.notes
+
+-- each entry that notes a suspicion of layer 2 stands behind one that notes it on layer 1
+abbrev pub StandsBehind : List EntryRecord → Type 0
+StandsBehind trace = (earlier : List EntryRecord) (e : EntryRecord) (later : List EntryRecord) → trace ≡ earlier ++ (e ∷ later)
+    → (p : ℕ) → IsIn (note.Suspect 2 p) e.notes → IsBlamed earlier p
 
 abbrev members_of : Processes → Payload → Processes
 members_of d payload.Alive = d
@@ -214,5 +222,5 @@ module _ {Mind : Type 0} (S : Setting Mind) (sound : IsSound S) (R : RunsReducti
     letters = λ key sender members h. absurd (no_letter_first S.processes key sender (payload.Suspects members) h);
   }
 
-  pub shares : (trace : List EntryRecord) → IsTrace S trace → SharesSuspicions trace
-  shares trace (history, last, run, is) earlier e later same q i = run_blamed history (opening S) last [] opening_known run earlier e later (sym is ∙ same) q i
+  pub stands_behind : (trace : List EntryRecord) → IsTrace S trace → StandsBehind trace
+  stands_behind trace (history, last, run, is) earlier e later same q i = run_blamed history (opening S) last [] opening_known run earlier e later (sym is ∙ same) q i

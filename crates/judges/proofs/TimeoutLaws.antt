@@ -3,12 +3,12 @@ use Rattle.std.proofs.Common.{◌≡◌, ◌⊎◌, ℕ, inl, inr, refl, sym, ap
 use Rattle.std.specs.FinSet as set
 use Rattle.std.specs.Cmp.{nat_cmp_total, unsigned_tied}
 use Rattle.std.specs.Ordering.{eq_by_cmp}
-use Rattle.std.proofs.lemmas.Bool.{eqb-true}
+use Rattle.std.proofs.lemmas.Bool.{eqb-true, and_parts}
 use Rattle.process_api.specs.Answer.{still}
 use Rattle.process_api.specs.Numbers.{others}
 use Rattle.process_api.specs.Place.{Place}
 use Rattle.process_api.specs.Sets.{Processes, insert_all}
-use Rattle.process_api.specs.Timeout.{DetectorState, opening_detector, alive_to_others, next_beat, next_check, late, watches, trusted_again, noticed, step_detector}
+use Rattle.process_api.specs.Timeout.{DetectorState, opening_detector, alive_to_others, next_beat, next_check, overdue, watches, trusted_again, noticed, step_detector}
 use Rattle.process_api.specs.declared.action.Action.{Action}
 use Rattle.process_api.specs.declared.action.Action.TheVariants as action
 use Rattle.process_api.specs.declared.action.Note.TheVariants as note
@@ -18,7 +18,6 @@ use Rattle.process_api.specs.declared.message.StepInput.TheVariants as input
 use Rattle.process_api.specs.declared.message.Tag.{Tag}
 use Rattle.process_api.specs.declared.message.Tag.TheVariants as tag
 use Rattle.process_api.specs.declared.numbers.DetectorNumbers.{DetectorNumbers}
-use Rattle.process_api.proofs.Minds.{both_true}
 use Rattle.event_list.specs.History.{IsIn}
 use Rattle.event_list.proofs.Steps.{in_append, in_left}
 use Rattle.judges.specs.BaseDetector.{IsOfDetector, IsDetector}
@@ -73,7 +72,7 @@ all_inserted (k ∷ qs) s q h = go (all_inserted qs (set.insert s k) q h)
     go (inr i) = inr (inr i)
 
 removed : (s : Processes) (k q : ℕ) → set.contains (set.remove s k) q ≡ true → set.contains s q ≡ true
-removed s k q h = (both_true _ _ (sym (set.contains-remove nat_cmp_total s k q) ∙ h)).1
+removed s k q h = (and_parts _ _ (sym (set.contains-remove nat_cmp_total s k q) ∙ h)).1
 
 module _ (place : Place) (numbers : DetectorNumbers) where
   acts : (s : DetectorState) (now : ℕ) (x : StepInput) (a : Action) → IsIn a (step_detector place numbers s now x).actions → IsOfDetector a
@@ -82,7 +81,7 @@ module _ (place : Place) (numbers : DetectorNumbers) where
       (one_of_two (next_beat place numbers) (next_check place numbers) (one_wake numbers.period tag.Beat) (one_wake numbers.check tag.Check)) a i
   acts s now (input.Wake tag.Beat) a i = one_of_two (alive_to_others place numbers) (next_beat place numbers) (alive_sent (others place.processes place.own)) (one_wake numbers.period tag.Beat) a i
   acts s now (input.Wake tag.Check) a i =
-      one_of_two (map (λ q. action.Note (note.Suspect 1 q)) (late place numbers s now)) (next_check place numbers) (suspected (late place numbers s now)) (one_wake numbers.check tag.Check) a i
+      one_of_two (map (λ q. action.Note (note.Suspect 1 q)) (overdue place numbers s now)) (next_check place numbers) (suspected (overdue place numbers s now)) (one_wake numbers.check tag.Check) a i
   acts s now (input.Letter q payload.Alive) a i = go (watches place numbers q) (set.contains s.suspects q) i
     where
       go : (b c : Bool) → IsIn a (cond b (cond c (trusted_again place numbers s now q) (still (noticed place numbers s now q))) (still s)).actions → IsOfDetector a
@@ -94,12 +93,12 @@ module _ (place : Place) (numbers : DetectorNumbers) where
 
   notes : (s : DetectorState) (now : ℕ) (x : StepInput) (q : ℕ) → set.contains (step_detector place numbers s now x).state.suspects q ≡ true
       → (set.contains s.suspects q ≡ true) ⊎ IsIn (action.Note (note.Suspect 1 q)) (step_detector place numbers s now x).actions
-  notes s now (input.Wake tag.Check) q h = go (all_inserted (late place numbers s now) s.suspects q h)
+  notes s now (input.Wake tag.Check) q h = go (all_inserted (overdue place numbers s now) s.suspects q h)
     where
-      go : (set.contains s.suspects q ≡ true) ⊎ IsIn q (late place numbers s now)
-          → (set.contains s.suspects q ≡ true) ⊎ IsIn (action.Note (note.Suspect 1 q)) (map (λ q. action.Note (note.Suspect 1 q)) (late place numbers s now) ++ next_check place numbers)
+      go : (set.contains s.suspects q ≡ true) ⊎ IsIn q (overdue place numbers s now)
+          → (set.contains s.suspects q ≡ true) ⊎ IsIn (action.Note (note.Suspect 1 q)) (map (λ q. action.Note (note.Suspect 1 q)) (overdue place numbers s now) ++ next_check place numbers)
       go (inl f) = inl f
-      go (inr i) = inr (in_left _ (map (λ q. action.Note (note.Suspect 1 q)) (late place numbers s now)) (next_check place numbers) (noted_all (late place numbers s now) q i))
+      go (inr i) = inr (in_left _ (map (λ q. action.Note (note.Suspect 1 q)) (overdue place numbers s now)) (next_check place numbers) (noted_all (overdue place numbers s now) q i))
   notes s now (input.Letter k payload.Alive) q h = inl (go (watches place numbers k) (set.contains s.suspects k) h)
     where
       go : (b c : Bool) → set.contains (cond b (cond c (trusted_again place numbers s now k) (still (noticed place numbers s now k))) (still s)).state.suspects q ≡ true → set.contains s.suspects q ≡ true

@@ -1,37 +1,24 @@
 -- What a track knows as it goes on, and what it tells at the end.
 use Rattle.std.proofs.Common.{◌≡◌, ℕ, zero, suc, ◌-◌, ◌<◌, ◌≤◌, min, Bool, true, false, cond, not, ◌&&◌, ◌||◌, inl, inr, refl, sym, ap, ◌∙◌, subst, arith, ltb, None, Some}
-use Rattle.std.proofs.lemmas.Bool.{cases_lt, lt-ltb, le-ltb, le-leb, lt-leb, cond-true, cond-false, both_ways, true≢false, false_from_ne_true, or_left, or_right}
+use Rattle.std.proofs.lemmas.Bool.{cases_lt, lt-ltb, le-ltb, le-leb, lt-leb, cond-true, cond-false, both_ways, true≢false, false_from_ne_true}
 use mathlib.Core.Bool.{beq}
 use Rattle.judges.specs.Ticks.{any_below, all_from, before}
 use Rattle.judges.specs.Track.{Knows, IsSteady, IsReached, gone, passed, suspected_from, trusted_from}
 use Rattle.judges.specs.declared.track.Track.{Track}
+use Rattle.judges.proofs.Below.{any_below-from}
 use Rattle.judges.proofs.Lasting.{all_from-at, all_from-from, last_before}
 
-beq-same : (x y : Bool) → x ≡ y → beq x y ≡ true
-beq-same true true e = refl
-beq-same false false e = refl
-beq-same true false e = absurd (true≢false e)
-beq-same false true e = absurd (true≢false (sym e))
-
-not_other : (x y : Bool) → (x ≡ y → ⊥) → x ≡ not y
-not_other true true n = absurd (n refl)
-not_other true false n = refl
-not_other false true n = refl
-not_other false false n = absurd (n refl)
+pub same_from_beq : (x y : Bool) → beq x y ≡ true → x ≡ y
+same_from_beq true true e = refl
+same_from_beq false false e = refl
+same_from_beq true false e = absurd (true≢false (sym e))
+same_from_beq false true e = absurd (true≢false (sym e))
 
 before_last : (f : ℕ → Bool) (a b : ℕ) (now : Bool) → a < b → ((u : ℕ) → a ≤ u → u < b → f u ≡ now) → before f b ≡ now
 before_last f a zero now l same = absurd (omega arith)
 before_last f a (suc v) now l same = same v (omega arith) (omega arith)
 
 -- `any` over a stretch of one state
-any_below-one : (f : ℕ → Bool) (n s : ℕ) → s < n → f s ≡ true → any_below f n ≡ true
-any_below-one f zero s l e = absurd (omega arith)
-any_below-one f (suc t) s l e =
-    elim (cases_lt s t) [
-      | inl p ↦ or_right (f t) (any_below f t) (any_below-one f t s p e)
-      | inr p ↦ or_left (f t) (any_below f t) (ap f (let q : t ≡ s = omega arith in q) ∙ e)
-    ]
-
 any_below-flat : (f : ℕ → Bool) (a b : ℕ) → a ≤ b → ((u : ℕ) → a ≤ u → u < b → f u ≡ false) → any_below f b ≡ any_below f a
 any_below-flat f a zero l h = ap (any_below f) (let e : 0 ≡ a = omega arith in e)
 any_below-flat f a (suc t) l h =
@@ -53,24 +40,18 @@ module _ (f : ℕ → Bool) (end : ℕ) where
   any_stretch a b false l same = or_none _ ∙ sym (any_below-flat f (min a end) (min b end) (omega arith) (λ u x y. same u (omega arith) (omega arith)))
   any_stretch a b true l same =
       elim (cases_lt a end) [
-        | inl p ↦ ap (λ x. any_below f (min a end) || x) (lt-ltb a end p) ∙ or_all _ ∙ sym (any_below-one f (min b end) a (omega arith) (same a (omega arith) l))
+        | inl p ↦ ap (λ x. any_below f (min a end) || x) (lt-ltb a end p) ∙ or_all _ ∙ sym (any_below-from f (min b end) a (omega arith) (same a (omega arith) l))
         | inr p ↦ ap (λ x. any_below f (min a end) || x) (le-ltb a end p) ∙ or_none _ ∙ ap (any_below f) (let e : min a end ≡ min b end = omega arith in e)
       ]
 
   steady_on : (was now : Bool) (since a b : ℕ) → a < b → IsSteady f was since a → before f a ≡ was → ((u : ℕ) → a ≤ u → u < b → f u ≡ now) → (r : Bool) → beq now was ≡ r → IsSteady f now (cond r since a) b
   steady_on was now since a b l s e same true is =
-      let eq : now ≡ was = beq_true now was is in
+      let eq : now ≡ was = same_from_beq now was is in
       record {
         below = omega (arith, s.below);
         on = λ u x y. elim (cases_lt u a) [ inl p ↦ s.on u x p ∙ sym eq | inr p ↦ same u p y ];
         not_before = λ v h. s.not_before v h ∙ ap not (sym eq);
       }
-    where
-      beq_true : (x y : Bool) → beq x y ≡ true → x ≡ y
-      beq_true true true e = refl
-      beq_true false false e = refl
-      beq_true true false e = absurd (true≢false (sym e))
-      beq_true false true e = absurd (true≢false (sym e))
   steady_on was now since a b l s e same false is = record {
     below = omega arith;
     on = same;

@@ -3,14 +3,14 @@ use Rattle.std.proofs.Common.{◌≡◌, ◌≢◌, ℕ, suc, ◌+◌, ◌*◌, 
 use mathlib.Core.Bool.{beq}
 use Rattle.std.proofs.lemmas.List.{get_or-set_same, get_or-set_other, length-set}
 use Rattle.std.proofs.lemmas.Nat.{mul-add-lt, div-mul-add, mod-mul-add}
-use Rattle.std.proofs.lemmas.Bool.{cases_lt, cases_eq, lt-ltb, le-ltb, cond-true, cond-false, true≢false, cond_both}
+use Rattle.std.proofs.lemmas.Bool.{cases_lt, cases_eq, lt-ltb, le-ltb, cond-true, cond-false, cond_both}
 use Rattle.scenario.specs.Record.{Record}
 use Rattle.judges.specs.Crashes.{end_of}
 use Rattle.judges.specs.Track.{turned, passed, gone, opened}
 use Rattle.judges.specs.Grid.{place}
 use Rattle.judges.specs.Judging.{IsTracked, AreTracked}
 use Rattle.judges.specs.declared.track.Track.{Track}
-use Rattle.judges.proofs.Tracks.{knows_passed}
+use Rattle.judges.proofs.Tracks.{knows_passed, same_from_beq}
 
 pub passed_tick : (t : Track) (until : ℕ) → t.tick ≤ until → (passed until t).tick ≡ until
 passed_tick t until l =
@@ -26,12 +26,6 @@ passed_end t until = go (ltb t.tick until)
     go : (b : Bool) → (cond b (gone until t) t).end ≡ t.end
     go true = refl
     go false = refl
-
-same_from_beq : (x y : Bool) → beq x y ≡ true → x ≡ y
-same_from_beq true true e = refl
-same_from_beq false false e = refl
-same_from_beq true false e = absurd (true≢false (sym e))
-same_from_beq false true e = absurd (true≢false (sym e))
 
 module _ (S : Record) where
   -- only ticks below the horizon count

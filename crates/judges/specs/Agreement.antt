@@ -1,4 +1,5 @@
--- What a run of the rotating coordinator promises under every scenario: agreement, validity and integrity, the safety half of the consensus of Chandra and Toueg (Journal of the ACM 43(2), 1996).
+-- What a run of the rotating coordinator promises under every scenario: agreement, validity and integrity, the safety
+-- half of the consensus of Chandra and Toueg (Journal of the ACM 43(2), 1996).
 use Rattle.std.specs.Prelude.{◌≡◌, ◌≢◌, ◌⊎◌, ℕ, List, [], ◌∷◌, Some, filter}
 use Rattle.process_api.specs.EntryRecord.{EntryRecord}
 use Rattle.process_api.specs.declared.action.Note.{Note}
@@ -24,9 +25,11 @@ DecidesOnce trace p = (answers_of trace p ≡ []) ⊎ ((tick value : ℕ) × (an
 module _ (s : Record) where
   pub record Agree (outcomes : List Outcome) : Type 0 where
     -- two outcomes with a value have the same value
-    pub one_value : (a b : Outcome) → IsIn a outcomes → IsIn b outcomes → (v w : ℕ) → a.value ≡ Value v → b.value ≡ Value w → v ≡ w
+    pub one_value : (a b : Outcome) → IsIn a outcomes → IsIn b outcomes
+        → (v w : ℕ) → a.value ≡ Value v → b.value ≡ Value w → v ≡ w
     -- each value is what some process proposed
-    pub proposed : (a : Outcome) → IsIn a outcomes → (v : ℕ) → a.value ≡ Value v → (q : ℕ) × IsProcess s q × (proposal s q ≡ Some v)
+    pub proposed : (a : Outcome) → IsIn a outcomes → (v : ℕ) → a.value ≡ Value v
+        → (q : ℕ) × IsProcess s q × (proposal s q ≡ Some v)
     -- nobody ends with no value
     pub valued : (a : Outcome) → IsIn a outcomes → a.value ≢ NoValue
 
@@ -35,6 +38,6 @@ module _ (s : Record) where
     pub agree : Agree (outcomes trace s.processes)
     pub once : (p : ℕ) → DecidesOnce trace p
 
--- the one trace of a scenario whose algorithm is the rotating coordinator, whatever its detector, its links and its crashes
+-- the one trace of a scenario whose algorithm is the rotating coordinator, whatever its detector, links and crashes
 abbrev pub IsCoordinated : Record → List EntryRecord → Type 0
 IsCoordinated s trace = (s.algorithm ≡ EventuallyStrong) × IsTrace (setting_of s) trace

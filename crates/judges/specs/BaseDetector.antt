@@ -1,4 +1,5 @@
--- What the promises on whole traces ask of a base detector, whichever it is: laws of a detector. That nobody suspects itself is a part of `is_mind_at`.
+-- What the promises on whole traces ask of a base detector, whichever it is: laws of a detector. That nobody suspects
+-- itself is a part of `is_mind_at`.
 use Rattle.std.specs.Prelude.{◌≡◌, ◌⊎◌, ℕ, true, false}
 use Rattle.std.specs.FinSet as set
 use Rattle.process_api.specs.Answer.{Answer}
@@ -28,11 +29,14 @@ IsOfDetector (Note (Decided value)) = ⊥
 IsOfDetector (Note NoValue) = ⊥
 
 -- a base detector, by how it opens, whom it suspects, and what it makes of an input at a tick
-pub record IsDetector {State : Type 0} (opening : State) (suspects : State → Processes) (step : State → (now : ℕ) → StepInput → Answer State) : Type 0 where
+pub record IsDetector {State : Type 0} (opening : State) (suspects : State → Processes)
+    (step : State → (now : ℕ) → StepInput → Answer State) : Type 0 where
   -- it opens with no suspects
   pub opens : (q : ℕ) → set.contains (suspects opening) q ≡ false
   -- it acts for itself alone
-  pub acts : (s : State) (now : ℕ) (input : StepInput) (a : Action) → IsIn a (step s now input).actions → IsOfDetector a
+  pub acts : (s : State) (now : ℕ) (input : StepInput) (a : Action) → IsIn a (step s now input).actions
+      → IsOfDetector a
   -- whoever becomes suspected is noted
-  pub notes : (s : State) (now : ℕ) (input : StepInput) (q : ℕ) → set.contains (suspects (step s now input).state) q ≡ true
+  pub notes : (s : State) (now : ℕ) (input : StepInput) (q : ℕ)
+      → set.contains (suspects (step s now input).state) q ≡ true
       → (set.contains (suspects s) q ≡ true) ⊎ IsIn (Note (Suspect 1 q)) (step s now input).actions

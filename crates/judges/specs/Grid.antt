@@ -15,7 +15,8 @@ module _ (tracks : List Track) (n horizon : ℕ) where
   counts_as_correct i = (place tracks n i i).end == horizon
 
   abbrev pub row_suspected : ℕ → Option ℕ
-  row_suspected i = latest_below (λ j. if not (counts_as_correct j) then suspected_from (place tracks n i j) else Some 0) n
+  row_suspected i =
+      latest_below (λ j. if not (counts_as_correct j) then suspected_from (place tracks n i j) else Some 0) n
 
   abbrev pub column_suspected : ℕ → Option ℕ
   column_suspected j = earliest_below (λ i. if counts_as_correct i then suspected_from (place tracks n i j) else None) n

@@ -22,7 +22,8 @@ pub record IsTracked (S : Record) (q p : ℕ) (suspected : ℕ → Bool) (last :
 -- the tracks stand for all pairs, and none has gone beyond the last tick
 pub record AreTracked (S : Record) (suspected : (q p t : ℕ) → Bool) (last : ℕ) (tracks : List Track) : Type 0 where
   pub count : length tracks ≡ S.processes * S.processes
-  pub each : (i j : ℕ) → i < S.processes → j < S.processes → IsTracked S (suc i) (suc j) (suspected (suc i) (suc j)) last (place tracks S.processes i j)
+  pub each : (i j : ℕ) → i < S.processes → j < S.processes
+      → IsTracked S (suc i) (suc j) (suspected (suc i) (suc j)) last (place tracks S.processes i j)
 
 -- no entry comes after this tick
 abbrev pub AreUntil : List EntryRecord → (last : ℕ) → Type 0

@@ -36,14 +36,24 @@ module _ (S : Record) where
 
     pub record AreVerdicts (v : Verdicts) : Type 0 where
       -- from t, every correct process suspects every crashed one
-      pub strong_completeness : IsLeastTick (From (λ t. (q : ℕ) → IsCorrect q → (p : ℕ) → IsCrashed p → Suspects q p t)) S.horizon v.strong_completeness
+      pub strong_completeness : IsLeastTick
+          (From (λ t. (q : ℕ) → IsCorrect q → (p : ℕ) → IsCrashed p → Suspects q p t))
+          S.horizon v.strong_completeness
       -- for every crashed process there is a correct one that suspects it from t
-      pub weak_completeness : IsLeastTick (λ t. (p : ℕ) → IsCrashed p → (q : ℕ) × IsCorrect q × From (Suspects q p) t) S.horizon v.weak_completeness
+      pub weak_completeness : IsLeastTick
+          (λ t. (p : ℕ) → IsCrashed p → (q : ℕ) × IsCorrect q × From (Suspects q p) t)
+          S.horizon v.weak_completeness
       -- at no tick does a process that hasn't crashed yet suspect one that hasn't crashed yet
-      pub strong_accuracy : Decides v.strong_accuracy ((t : ℕ) → t < S.horizon → (q : ℕ) → IsUp t q → (p : ℕ) → IsUp t p → ¬ (Suspects q p t))
+      pub strong_accuracy : Decides v.strong_accuracy
+          ((t : ℕ) → t < S.horizon → (q : ℕ) → IsUp t q → (p : ℕ) → IsUp t p → ¬ (Suspects q p t))
       -- some correct process is never suspected by a process that hasn't crashed yet
-      pub weak_accuracy : Decides v.weak_accuracy ((p : ℕ) × IsCorrect p × ((t : ℕ) → t < S.horizon → (q : ℕ) → IsUp t q → ¬ (Suspects q p t)))
+      pub weak_accuracy : Decides v.weak_accuracy
+          ((p : ℕ) × IsCorrect p × ((t : ℕ) → t < S.horizon → (q : ℕ) → IsUp t q → ¬ (Suspects q p t)))
       -- from t, no correct process suspects a correct one
-      pub eventual_strong_accuracy : IsLeastTick (From (λ t. (q : ℕ) → IsCorrect q → (p : ℕ) → IsCorrect p → ¬ (Suspects q p t))) S.horizon v.eventual_strong_accuracy
+      pub eventual_strong_accuracy : IsLeastTick
+          (From (λ t. (q : ℕ) → IsCorrect q → (p : ℕ) → IsCorrect p → ¬ (Suspects q p t)))
+          S.horizon v.eventual_strong_accuracy
       -- some correct process isn't suspected from t by any correct one
-      pub eventual_weak_accuracy : IsLeastTick (λ t. (p : ℕ) × IsCorrect p × From (λ u. (q : ℕ) → IsCorrect q → ¬ (Suspects q p u)) t) S.horizon v.eventual_weak_accuracy
+      pub eventual_weak_accuracy : IsLeastTick
+          (λ t. (p : ℕ) × IsCorrect p × From (λ u. (q : ℕ) → IsCorrect q → ¬ (Suspects q p u)) t)
+          S.horizon v.eventual_weak_accuracy

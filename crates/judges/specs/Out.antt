@@ -1,4 +1,5 @@
--- Whom a process suspects, read from the notes of a trace. Chen, Toueg and Aguilera (IEEE Transactions on Computers, 2002) call this the output of a detector.
+-- Whom a process suspects, read from the notes of a trace. Chen, Toueg and Aguilera (IEEE Transactions on Computers,
+-- 2002) call this the output of a detector.
 use Rattle.std.specs.Prelude.{ℕ, Bool, true, false, ◌&&◌, ◌==◌, nat_le, if◌then◌else◌, List, [], ◌∷◌, ◌++◌, fold}
 use Rattle.process_api.specs.EntryRecord.{EntryRecord}
 use Rattle.process_api.specs.declared.action.Note.{Note}
@@ -21,7 +22,9 @@ without set who = λ p. if who == p then false else set p
 abbrev pub notes_until : List EntryRecord → (q t : ℕ) → List Note
 notes_until [] q t = []
 notes_until (entry ∷ trace) q t =
-    if entry.key.receiver == q && nat_le entry.key.tick t then entry.notes ++ notes_until trace q t else notes_until trace q t
+    if entry.key.receiver == q && nat_le entry.key.tick t
+    then entry.notes ++ notes_until trace q t
+    else notes_until trace q t
 
 module _ (layer : ℕ) where
   -- the suspects after one more note: on its layer a suspicion adds one, a trust takes one away

@@ -15,7 +15,8 @@ timed tick notes = map (λ note. (tick, note)) notes
 -- the notes of process p, each with its tick, in order
 abbrev pub notes_of : List EntryRecord → ℕ → List (ℕ × Note)
 notes_of [] p = []
-notes_of (entry ∷ trace) p = if entry.key.receiver == p then timed entry.key.tick entry.notes ++ notes_of trace p else notes_of trace p
+notes_of (entry ∷ trace) p =
+    if entry.key.receiver == p then timed entry.key.tick entry.notes ++ notes_of trace p else notes_of trace p
 
 abbrev pub is_answer : Note → Bool
 is_answer (Suspect l who) = false
@@ -56,7 +57,12 @@ greatest_round notes = fold (λ greatest n. max greatest (round_of n.1)) 0 notes
 
 -- the outcome of process p, which noted these
 abbrev pub outcome_of : (p : ℕ) → List (ℕ × Note) → Outcome
-outcome_of p notes = record { pid = p; value = value_of (first_answer notes); tick = tick_of (first_answer notes); rounds = greatest_round notes }
+outcome_of p notes = record {
+  pid = p;
+  value = value_of (first_answer notes);
+  tick = tick_of (first_answer notes);
+  rounds = greatest_round notes;
+}
 
 abbrev pub outcome : List EntryRecord → (p : ℕ) → Outcome
 outcome trace p = outcome_of p (notes_of trace p)

@@ -13,13 +13,16 @@ use Rattle.judges.specs.declared.track.Track.{Track}
 abbrev pub turned_at : (n observer subject tick : ℕ) → (suspected : Bool) → List Track → List Track
 turned_at n observer subject tick suspected tracks =
     if is_process n observer && is_process n subject
-    then set tracks ((observer - 1) * n + (subject - 1)) (turned tick suspected (place tracks n (observer - 1) (subject - 1)))
+    then set tracks ((observer - 1) * n + (subject - 1))
+    (turned tick suspected (place tracks n (observer - 1) (subject - 1)))
     else tracks
 
 -- the tracks after one more note of an observer
 abbrev pub noted : (n layer observer tick : ℕ) → List Track → Note → List Track
-noted n layer observer tick tracks (Suspect l who) = if l == layer then turned_at n observer who tick true tracks else tracks
-noted n layer observer tick tracks (Trust l who) = if l == layer then turned_at n observer who tick false tracks else tracks
+noted n layer observer tick tracks (Suspect l who) =
+    if l == layer then turned_at n observer who tick true tracks else tracks
+noted n layer observer tick tracks (Trust l who) =
+    if l == layer then turned_at n observer who tick false tracks else tracks
 noted n layer observer tick tracks (Round r) = tracks
 noted n layer observer tick tracks (Decided v) = tracks
 noted n layer observer tick tracks NoValue = tracks

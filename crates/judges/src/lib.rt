@@ -3,19 +3,23 @@
 //!
 //! Both calls read a finished trace. [`judge`] gives the six [`Verdicts`] on one layer of detectors: whom a process
 //! suspects at a tick is read from its notes, as they stand at the end of that tick, and 'eventually' ends at the
-//! horizon. [`decisions`] gives one [`Outcome`] for each process. The one contract: on `Ok`, the verdicts are those
-//! that `specs/Verdicts.antt` counts out and `specs/Meaning.antt` states by quantifiers over processes and ticks, and
-//! the outcomes are those of `specs/Outcomes.antt`, for every scenario and every trace.
+//! horizon. [`decisions`] gives one [`Outcome`] for each process. For every scenario and every trace, whoever made it,
+//! their contracts say of an `Ok`:
+//!
+//! - the verdicts are those that `specs/Verdicts.antt` counts out, and what `specs/Meaning.antt` states by quantifiers
+//!   over processes and ticks;
+//! - the outcomes are those of `specs/Outcomes.antt`.
 //!
 //! Where the trace is the one that the event list defines and the algorithm is the rotating coordinator, [`decisions`]
 //! promises more (`specs/Agreement.antt`): no two outcomes have different values, each value was proposed, no process
 //! ends with no value, and each notes at most one decision, under any detector settings, delays, losses and crashes.
-//! Of the base detector the proof uses the laws in `specs/BaseDetector.antt` alone. The crates above also rest on
-//! `specs/Blame.antt`: whoever is suspected on layer 2 was suspected by some base detector before.
+//! Of the base detector the proof uses the laws in `specs/BaseDetector.antt` alone; its argument stands at the head of
+//! `proofs/Agreement.antt`. The crate above also promises `specs/Blame.antt`, which is proved here: each suspicion of
+//! layer 2 has an earlier entry that notes one of the same process on layer 1.
 //!
-//! A trace is walked once. For each pair of processes a judge keeps since when the one suspects the other, or doesn't,
-//! and moves that on only where a note changes it. So the work grows with the notes of the trace and with the number
-//! of pairs, and not with the ticks.
+//! Of work and memory no contract speaks. The code goes over the entries once: it keeps for each pair of processes
+//! since when the one suspects the other, or doesn't, and moves that on only where a note changes it. So the work grows
+//! with the notes of the trace and with the number of pairs, and not with the ticks.
 //!
 //! As an example, let process 2 of two crash at tick 3 of 10, and process 1 note at tick 9 that it suspects it. Both
 //! completenesses hold from tick 9, the eventual accuracies from tick 0, and the other two hold.

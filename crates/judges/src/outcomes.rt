@@ -79,9 +79,8 @@ fn note_all(outcome: &mut Outcome, tick: u32, notes: &[Note])
     }
 }
 
-/// The outcomes of all processes, fed with the entries of a trace. All its room is made as it opens. Contracts see
-/// the list of outcomes so far.
-#[derive(Debug, Drop)]
+/// The outcomes of all processes, fed with the entries of a trace. All its room is made as it opens.
+#[derive(Drop)]
 pub(crate) struct RunningOutcomes {
     // of process 1 first
     outcomes: Vec<Outcome>,
@@ -102,7 +101,8 @@ impl RunningOutcomes {
 
     /// One more entry. Takes no memory.
     pub fn feed(&mut self, entry: &Entry)
-        ensures { (n : ℕ) (trace : List EntryRecord) → self.old.outcomes.items ≡ outcomes trace n → self.new.outcomes.items ≡ outcomes (trace ++ entry.now ∷ []) n }
+        ensures { (n : ℕ) (trace : List EntryRecord) → self.old.outcomes.items ≡ outcomes trace n
+            → self.new.outcomes.items ≡ outcomes (trace ++ entry.now ∷ []) n }
     {
         let place = usize::from(entry.key.receiver.number()) - 1;
         if let Some(outcome) = self.outcomes.get_mut(place) {

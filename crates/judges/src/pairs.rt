@@ -43,7 +43,8 @@ fn track_at(ends: &[u32], place: usize) -> Track
 pub(crate) fn open_tracks(alloc: Global, ends: &[u32]) -> Result<Vec<Track>, AllocError>
     requires { length ends.now ≤ 64 }
     ensures count { IfOk result (λ tracks. vec_len tracks ≡ length ends.now * length ends.now) }
-    ensures each { IfOk result (λ tracks. (k : ℕ) (d : Track) → k < length ends.now * length ends.now → get_or tracks.items k d ≡ opened_at ends.now k) }
+    ensures each { IfOk result (λ tracks. (k : ℕ) (d : Track) → k < length ends.now * length ends.now
+        → get_or tracks.items k d ≡ opened_at ends.now k) }
 {
     let pairs = ends.len() * ends.len();
     let mut tracks = Vec::with_capacity(alloc, pairs)?;

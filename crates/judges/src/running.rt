@@ -10,7 +10,7 @@ use scenario::Scenario;
 use std::alloc::{AllocError, Global};
 
 /// Judges one layer, fed with the entries of a trace in the order of their keys. All its room is made as it opens.
-#[derive(Debug, Drop)]
+#[derive(Drop)]
 pub(crate) struct RunningJudge {
     layer: u8,
     processes: usize,
@@ -42,7 +42,8 @@ impl RunningJudge {
 
     /// One more entry. Takes no memory.
     pub fn feed(&mut self, entry: &Entry)
-        ensures { (S : Record) (layer : ℕ) (trace : List EntryRecord) → IsJudging S layer trace self.old → AreUntil trace entry.now.key.tick → IsJudging S layer (trace ++ entry.now ∷ []) self.new }
+        ensures { (S : Record) (layer : ℕ) (trace : List EntryRecord) → IsJudging S layer trace self.old
+            → AreUntil trace entry.now.key.tick → IsJudging S layer (trace ++ entry.now ∷ []) self.new }
     {
         if entry.key.tick < self.horizon {
             note_all(
@@ -57,7 +58,8 @@ impl RunningJudge {
 
     /// The verdicts, as no entry follows. Takes no memory.
     pub fn close(self) -> Verdicts
-        ensures { (S : Record) (layer : ℕ) (trace : List EntryRecord) → IsJudging S layer trace self → result ≡ verdicts S trace layer }
+        ensures { (S : Record) (layer : ℕ) (trace : List EntryRecord) → IsJudging S layer trace self
+            → result ≡ verdicts S trace layer }
     {
         let mut tracks = self.tracks;
         pass_all(&mut tracks, self.horizon);

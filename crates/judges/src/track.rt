@@ -3,7 +3,7 @@ ghost use Rattle.std.specs.Prelude.{◌≡◌};
 ghost use Rattle.judges.specs.Track.{opened, passed, turned, suspected_from, trusted_from};
 
 /// Whether one process suspects another, and since when.
-#[derive(Clone, Copy, Debug)]
+#[derive(Clone, Copy)]
 pub(crate) struct Track {
     /// Below this tick a suspicion is a mistake: neither process has crashed yet.
     pub end: u32,

@@ -16,7 +16,8 @@ module _ {T : Type 0} where
 
   -- a pass with no part, one that was given back, has put and taken nothing
   abbrev pub IdleIsEmpty : List (Account T) → Type 0
-  IdleIsEmpty passes = (port : ℕ) (a : Account T) → get_elem? passes port ≡ some a → a.parts ≡ 0 → (a.put ≡ []) × (a.taken ≡ [])
+  IdleIsEmpty passes =
+      (port : ℕ) (a : Account T) → get_elem? passes port ≡ some a → a.parts ≡ 0 → (a.put ≡ []) × (a.taken ≡ [])
 
   abbrev pub put_by_all : List (Account T) → List T
   put_by_all passes = flat_map (λ a. a.put) passes

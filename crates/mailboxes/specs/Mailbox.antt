@@ -22,11 +22,14 @@ pub record HomeView : Type 0 where
 
 -- stored as the pairs of their fields
 abbrev pub ticket_code : Coded MailboxId → Coded Letter → Coded TicketView
-ticket_code mailbox letter = code_by (MailboxId × List Letter) (coded× mailbox (coded_list letter)) (λ t. (t.mailbox, t.posted)) (λ p. record { mailbox = p.0; posted = p.1 }) (λ _. refl)
+ticket_code mailbox letter =
+    code_by (MailboxId × List Letter) (coded× mailbox (coded_list letter))
+    (λ t. (t.mailbox, t.posted)) (λ p. record { mailbox = p.0; posted = p.1 }) (λ _. refl)
 
 abbrev pub home_code : Coded MailboxId → Coded Letter → Coded HomeView
 home_code mailbox letter =
-    code_by (MailboxId × (ℕ × List Letter)) (coded× mailbox (coded× coded_ℕ (coded_list letter))) (λ h. (h.mailbox, (h.out, h.back))) (λ p. record { mailbox = p.0; out = p.1.0; back = p.1.1 }) (λ _. refl)
+    code_by (MailboxId × (ℕ × List Letter)) (coded× mailbox (coded× coded_ℕ (coded_list letter)))
+    (λ h. (h.mailbox, (h.out, h.back))) (λ p. record { mailbox = p.0; out = p.1.0; back = p.1.1 }) (λ _. refl)
 
 abbrev pub ticket_of : MailboxId → List Letter → TicketView
 ticket_of mailbox posted = record { mailbox = mailbox; posted = posted }

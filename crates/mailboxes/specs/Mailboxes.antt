@@ -19,7 +19,8 @@ pub record SlipView : Type 0 where
 -- stored as the pair of its fields
 abbrev pub slip_code : Coded MailboxId → Coded Letter → Coded SlipView
 slip_code mailbox letter =
-    code_by (List MailboxId × List (List Letter)) (coded× (coded_list mailbox) (coded_list (coded_list letter))) (λ s. (s.mailboxes, s.posted)) (λ p. record { mailboxes = p.0; posted = p.1 }) (λ _. refl)
+    code_by (List MailboxId × List (List Letter)) (coded× (coded_list mailbox) (coded_list (coded_list letter)))
+    (λ s. (s.mailboxes, s.posted)) (λ p. record { mailboxes = p.0; posted = p.1 }) (λ _. refl)
 
 abbrev pub slip_of : List MailboxId → List (List Letter) → SlipView
 slip_of mailboxes posted = record { mailboxes = mailboxes; posted = posted }

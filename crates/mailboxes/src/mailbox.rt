@@ -35,7 +35,7 @@ impl Drop for Mailbox {
     }
 }
 
-/// The leave to post to one mailbox. Contracts see which mailbox it is and what was posted by it.
+/// The permit to post to one mailbox. Contracts see which mailbox it is and what was posted by it.
 #[derive(Drop)]
 pub(crate) struct Ticket {
     pass: Pass,

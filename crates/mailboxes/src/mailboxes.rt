@@ -56,8 +56,8 @@ impl Mailboxes {
         &self.shared
     }
 
-    /// One more slip, by which nothing was posted yet. The error is that memory was refused, or that 2^64 - 1 slips were
-    /// made; then nothing changes.
+    /// One more slip, by which nothing was posted yet. The error is that memory was refused, or that 2^64 - 1 slips
+    /// were made; then nothing changes.
     pub fn slip(&mut self, alloc: Global) -> Result<Slip, AllocError>
         ensures mailboxes { IfOk result (λ _. self.new ≡ mailboxes_of self.old.mailboxes (self.old.slips + 1)) }
         ensures slip { IfOk result (λ s. s ≡ unused self.old.mailboxes) }

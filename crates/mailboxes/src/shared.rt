@@ -100,7 +100,8 @@ impl SharedMailboxes {
         requires out { All (λ h. h.out ≡ 0) homes.items }
         ensures count { IfOk result (λ lists. vec_len lists ≡ vec_len homes) }
         ensures letters { IfOk result (λ lists. (k : ℕ) → k < vec_len homes →
-            IsPermutation (slice_index_or (map (λ h. h.back) homes.items) k []) (slice_index_or (letters_in lists.items) k [])) }
+            IsPermutation (slice_index_or (map (λ h. h.back) homes.items) k [])
+            (slice_index_or (letters_in lists.items) k [])) }
     {
         let mut lists = Vec::with_capacity(alloc, homes.len())?;
         let mut at = 0;

@@ -1,9 +1,9 @@
-//! Slips: the leave to post.
+//! Slips: the permit to post.
 
 use crate::mailbox::Ticket;
 use std::marker::Model;
 
-/// The leave to post to some mailboxes. It may go to another thread, and it comes back for the collecting.
+/// The permit to post to some mailboxes. It may go to another thread, and it comes back for the collecting.
 ///
 /// Contracts see of which mailboxes it is, and the letters that were posted by it to each receiver.
 #[derive(Drop)]

@@ -18,7 +18,7 @@ use Rattle.process_api.specs.React.{react_lower, react_algorithm, react}
 use Rattle.process_api.specs.Reduction.{ReductionState, step_reduction, gathered}
 use Rattle.process_api.specs.Rounds.{coordinator, greatest_round, is_own, majority, count_to}
 use Rattle.process_api.specs.Sets.{Processes, changes}
-use Rattle.process_api.specs.Timeout.{DetectorState, alive_to_others, heard, trusted_again, noticed, late, watches, step_detector}
+use Rattle.process_api.specs.Timeout.{DetectorState, alive_to_others, heard, trusted_again, noticed, overdue, watches, step_detector}
 use Rattle.process_api.specs.declared.action.Action.{Action}
 use Rattle.process_api.specs.declared.action.Action.TheVariants as action
 use Rattle.process_api.specs.declared.action.Note.{Note}
@@ -65,7 +65,7 @@ module _ (place : Place) (numbers : DetectorNumbers) (period : 1 ≤ numbers.per
   unfolding Fits
   detector_allowed s now input.Start = both _ (alive_to_others place numbers) _ (others_sent place.processes place.own payload.Alive) (period, (check, tt))
   detector_allowed s now (input.Wake tag.Beat) = both _ (alive_to_others place numbers) _ (others_sent place.processes place.own payload.Alive) (period, tt)
-  detector_allowed s now (input.Wake tag.Check) = both _ (map (λ q. action.Note (note.Suspect 1 q)) (late place numbers s now)) _ (suspicions_allowed (late place numbers s now)) (check, tt)
+  detector_allowed s now (input.Wake tag.Check) = both _ (map (λ q. action.Note (note.Suspect 1 q)) (overdue place numbers s now)) _ (suspicions_allowed (overdue place numbers s now)) (check, tt)
   detector_allowed s now (input.Letter q payload.Alive) =
       elim (watches place numbers q) as (λ b. Fits (cond b (heard place numbers s now q) (still s))) [ true ↦ heard_allowed s now q | false ↦ tt ]
   detector_allowed s now x = tt

@@ -13,7 +13,7 @@ use Rattle.process_api.specs.Place.{Place, same_place}
 use Rattle.process_api.specs.React.{react_lower, react_algorithm, react}
 use Rattle.process_api.specs.Reduction.{ReductionState, step_reduction}
 use Rattle.process_api.specs.Sets.{Processes, insert_all, up_to}
-use Rattle.process_api.specs.Timeout.{DetectorState, is_late, late, trusted_again, noticed, watches, step_detector}
+use Rattle.process_api.specs.Timeout.{DetectorState, is_overdue, overdue, trusted_again, noticed, watches, step_detector}
 use Rattle.process_api.specs.declared.message.Payload.TheVariants as payload
 use Rattle.process_api.specs.declared.message.StepInput.{StepInput}
 use Rattle.process_api.specs.declared.message.StepInput.TheVariants as input
@@ -46,8 +46,8 @@ without_after_all (q ∷ qs) s p apart h = without_after_all qs (set.insert s q)
 
 -- the time-out detector
 module _ (place : Place) (numbers : DetectorNumbers) where
-  late_apart : (s : DetectorState) (now q : ℕ) → is_late place numbers s now q ≡ true → q ≢ place.own
-  late_apart s now q h e =
+  overdue_apart : (s : DetectorState) (now q : ℕ) → is_overdue place numbers s now q ≡ true → q ≢ place.own
+  overdue_apart s now q h e =
       let watched : (is_process place.processes q && not (nat_eq q place.own)) ≡ true = (both_true _ _ (both_true _ _ h).0).0 in
       true≢false (sym (eq-eqb q place.own e) ∙ out_of_not _ (both_true _ _ watched).1)
 
@@ -56,7 +56,7 @@ module _ (place : Place) (numbers : DetectorNumbers) where
 
   pub detector_keeps : (s : DetectorState) (now : ℕ) (x : StepInput) → set.contains s.suspects place.own ≡ false → set.contains (step_detector place numbers s now x).state.suspects place.own ≡ false
   unfolding LeavesOut
-  detector_keeps s now (input.Wake tag.Check) h = without_after_all (late place numbers s now) s.suspects place.own (passed (λ q. q ≢ place.own) (is_late place numbers s now) (late_apart s now) (numbers_to place.processes)) h
+  detector_keeps s now (input.Wake tag.Check) h = without_after_all (overdue place numbers s now) s.suspects place.own (passed (λ q. q ≢ place.own) (is_overdue place numbers s now) (overdue_apart s now) (numbers_to place.processes)) h
   detector_keeps s now (input.Letter q payload.Alive) h = go (watches place numbers q) (set.contains s.suspects q)
     where
       go : (b c : Bool) → LeavesOut (cond b (cond c (trusted_again place numbers s now q) (still (noticed place numbers s now q))) (still s))

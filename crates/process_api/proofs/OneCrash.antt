@@ -9,7 +9,7 @@ use Rattle.process_api.specs.Numbers.{change}
 use Rattle.process_api.specs.Place.{Place}
 use Rattle.process_api.specs.React.{react_lower, react_algorithm, react}
 use Rattle.process_api.specs.Sets.{insert_all}
-use Rattle.process_api.specs.Timeout.{DetectorState, opening_detector, trusted_again, late, step_detector}
+use Rattle.process_api.specs.Timeout.{DetectorState, opening_detector, trusted_again, overdue, step_detector}
 use Rattle.process_api.specs.declared.action.Action.{Action}
 use Rattle.process_api.specs.declared.action.Action.TheVariants as action
 use Rattle.process_api.specs.declared.action.Note.TheVariants as note
@@ -92,19 +92,19 @@ letter : step_detector place numbers opening 2 (input.Letter 2 payload.Alive) �
 letter = ap (λ b. cond b (trusted_again place numbers opening 2 2) (answer alive [])) nobody
 
 -- 1 and then 4 ticks of silence are too few
-check_early : (now : ℕ) → late place numbers alive now ≡ [] → step_detector place numbers alive now (input.Wake tag.Check) ≡ answer alive checks
+check_early : (now : ℕ) → overdue place numbers alive now ≡ [] → step_detector place numbers alive now (input.Wake tag.Check) ≡ answer alive checks
 check_early now none = ap (λ qs. answer (record alive { suspects = insert_all set.empty qs }) (map (λ q. action.Note (note.Suspect 1 q)) qs ++ checks)) none
 
-nobody_late : (b : Bool) → cond {A = List ℕ} (not b && false) (2 ∷ []) [] ≡ []
-nobody_late true = refl
-nobody_late false = refl
+nobody_overdue : (b : Bool) → cond {A = List ℕ} (not b && false) (2 ∷ []) [] ≡ []
+nobody_overdue true = refl
+nobody_overdue false = refl
 
 -- 7 are enough
-late_at_last : late place numbers alive 9 ≡ 2 ∷ []
-late_at_last = ap (λ b. cond (not b && true) (2 ∷ []) []) nobody
+overdue_at_last : overdue place numbers alive 9 ≡ 2 ∷ []
+overdue_at_last = ap (λ b. cond (not b && true) (2 ∷ []) []) nobody
 
 check_last : step_detector place numbers alive 9 (input.Wake tag.Check) ≡ answer last (action.Note (note.Suspect 1 2) ∷ checks)
-check_last = ap (λ qs. answer (record alive { suspects = insert_all set.empty qs }) (map (λ q. action.Note (note.Suspect 1 q)) qs ++ checks)) late_at_last
+check_last = ap (λ qs. answer (record alive { suspects = insert_all set.empty qs }) (map (λ q. action.Note (note.Suspect 1 q)) qs ++ checks)) overdue_at_last
 
 -- where nothing stands over the detector, its answer is the process's
 module _ (d : DetectorState) (x : ℕ × StepInput) (xs : List (ℕ × StepInput)) (next : DetectorState) (actions : List Action) (e : step_detector place numbers d x.0 x.1 ≡ answer next actions) where
@@ -123,9 +123,9 @@ pub one_crash-actions : all_actions (mind opening) inputs ≡ answers
 one_crash-actions =
     go_on opening (0, input.Start) from_2 opening (beats ++ checks) refl _
     (go_on opening (2, input.Letter 2 payload.Alive) from_3 alive [] letter _
-    (go_on alive (3, input.Wake tag.Check) from_4 alive checks (check_early 3 (nobody_late (set.contains set.empty 2))) _
+    (go_on alive (3, input.Wake tag.Check) from_4 alive checks (check_early 3 (nobody_overdue (set.contains set.empty 2))) _
     (go_on alive (4, input.Wake tag.Beat) from_6 alive beats refl _
-    (go_on alive (6, input.Wake tag.Check) from_8 alive checks (check_early 6 (nobody_late (set.contains set.empty 2))) _
+    (go_on alive (6, input.Wake tag.Check) from_8 alive checks (check_early 6 (nobody_overdue (set.contains set.empty 2))) _
     (go_on alive (8, input.Wake tag.Beat) from_9 alive beats refl _
     (go_on alive (9, input.Wake tag.Check) [] last (action.Note (note.Suspect 1 2) ∷ checks) check_last _ refl))))))
 
@@ -137,8 +137,8 @@ one_crash-suspects = ap (λ m. set.contains (suspects_of m.lower) 2) ends ∙ (s
     ends =
         end_on opening (0, input.Start) from_2 opening (beats ++ checks) refl _
         (end_on opening (2, input.Letter 2 payload.Alive) from_3 alive [] letter _
-        (end_on alive (3, input.Wake tag.Check) from_4 alive checks (check_early 3 (nobody_late (set.contains set.empty 2))) _
+        (end_on alive (3, input.Wake tag.Check) from_4 alive checks (check_early 3 (nobody_overdue (set.contains set.empty 2))) _
         (end_on alive (4, input.Wake tag.Beat) from_6 alive beats refl _
-        (end_on alive (6, input.Wake tag.Check) from_8 alive checks (check_early 6 (nobody_late (set.contains set.empty 2))) _
+        (end_on alive (6, input.Wake tag.Check) from_8 alive checks (check_early 6 (nobody_overdue (set.contains set.empty 2))) _
         (end_on alive (8, input.Wake tag.Beat) from_9 alive beats refl _
         (end_on alive (9, input.Wake tag.Check) [] last (action.Note (note.Suspect 1 2) ∷ checks) check_last _ refl))))))

@@ -18,7 +18,10 @@ abbrev pub numbers : DetectorNumbers
 numbers = record { period = 4; check = 3; timeout = 5; grow = 1; watch = watch.Next }
 
 abbrev pub alone : Mind
-alone = record { lower = record { place = place; numbers = numbers; detector = opening_detector numbers; reduction = None }; algorithm = Idle }
+alone = record {
+  lower = record { place = place; numbers = numbers; detector = opening_detector numbers; reduction = None };
+  algorithm = Idle;
+}
 
 -- what it does with an input
 abbrev pub does : StepInput → List Action

@@ -1,4 +1,5 @@
--- Consensus with a detector of class S, by an exchange of vectors (Chandra and Toueg, Journal of the ACM 43(2), 1996): what one input makes of it, and what it does.
+-- Consensus with a detector of class S, by an exchange of vectors (Chandra and Toueg, Journal of the ACM 43(2), 1996):
+-- what one input makes of it, and what it does.
 use Rattle.std.specs.Prelude.{ℕ, zero, suc, ◌+◌, ◌-◌, Bool, true, false, not, ◌&&◌, ◌||◌, nat_eq, nat_le, nat_lt, if◌then◌else◌, [], ◌∷◌, map, length, Option, None, Some, is_some, unwrap_or}
 use Rattle.process_api.specs.Numbers.{numbers_to}
 use Rattle.process_api.specs.Cells.{Vector, cell}
@@ -49,7 +50,8 @@ pub record Exchange : Type 0 where
 
 -- of two letters of one round and sender the first counts
 abbrev pub keep : Kept → ℕ → ℕ → Vector → Kept
-keep kept round sender cells = λ r q. if nat_eq r round && nat_eq q sender then Some (unwrap_or (kept round sender) cells) else kept r q
+keep kept round sender cells =
+    λ r q. if nat_eq r round && nat_eq q sender then Some (unwrap_or (kept round sender) cells) else kept r q
 
 -- what is kept as a round is left
 abbrev pub above : ℕ → Kept → Kept
@@ -67,7 +69,9 @@ module _ (n own : ℕ) where
   abbrev pub enter : ℕ → Exchange → Answer Exchange
   enter round s = record {
     state = record s { round = round };
-    actions = action.Note (note.Round round) ∷ to_all n (if nat_lt round n then payload.Vector round s.news else payload.Last s.known);
+    actions =
+        action.Note (note.Round round)
+        ∷ to_all n (if nat_lt round n then payload.Vector round s.news else payload.Last s.known);
   }
 
   -- in a round: after the Start, before the decision
@@ -93,7 +97,8 @@ module _ (n own : ℕ) where
 
   -- cell k is empty in some letter of the round
   abbrev pub is_missed : Exchange → ℕ → Bool
-  is_missed s k = any_to n (λ q. elim (s.kept s.round q) [ None ↦ false | Some cells ↦ not (is_some (cell cells k)) ])
+  is_missed s k =
+      any_to n (λ q. elim (s.kept s.round q) [ None ↦ false | Some cells ↦ not (is_some (cell cells k)) ])
 
   -- what all that were heard of know
   abbrev pub common : Exchange → Vector
@@ -103,7 +108,11 @@ module _ (n own : ℕ) where
   abbrev pub decide : Exchange → Answer Exchange
   decide s = record {
     state = record s { round = n + 1; known = common s; kept = above s.round s.kept };
-    actions = action.Note (elim (first_to n (cell (common s))) [ None ↦ note.NoValue | Some value ↦ note.Decided value ]) ∷ [];
+    actions =
+        action.Note (elim (first_to n (cell (common s))) [
+          | None ↦ note.NoValue
+          | Some value ↦ note.Decided value
+        ]) ∷ [];
   }
 
   -- the end of the wait, where it is over
@@ -116,7 +125,10 @@ module _ (n own : ℕ) where
   -- at most so many waits end, each as soon as the one before has
   abbrev pub end_waits : ℕ → (ℕ → Bool) → Exchange → Answer Exchange
   end_waits zero is_suspected s = still s
-  end_waits (suc k) is_suspected s = elim (end_wait is_suspected s) [ None ↦ still s | Some a ↦ after a.actions (end_waits k is_suspected a.state) ]
+  end_waits (suc k) is_suspected s = elim (end_wait is_suspected s) [
+    | None ↦ still s
+    | Some a ↦ after a.actions (end_waits k is_suspected a.state)
+  ]
 
   -- how many waits can end from here on: one in each round
   abbrev pub waits_left : Exchange → ℕ
@@ -129,13 +141,16 @@ module _ (n own : ℕ) where
   -- a letter of one of the n processes, of n cells, of the own round or, by another, of a later one
   abbrev pub is_timely : Exchange → ℕ → ℕ → Vector → Bool
   is_timely s sender round cells =
-      is_running s && (nat_le sender n && (nat_eq (length cells) n && (nat_le s.round round && not (nat_eq sender own && nat_lt s.round round))))
+      is_running s && (nat_le sender n && (nat_eq (length cells) n
+      && (nat_le s.round round && not (nat_eq sender own && nat_lt s.round round))))
 
   abbrev pub receive_cells : ℕ → ℕ → Vector → Exchange → Exchange
-  receive_cells sender round cells s = if is_timely s sender round cells then record s { kept = keep s.kept round sender cells } else s
+  receive_cells sender round cells s =
+      if is_timely s sender round cells then record s { kept = keep s.kept round sender cells } else s
 
   abbrev pub receive : ℕ → Payload → Exchange → Exchange
-  receive sender (payload.Vector round cells) s = if nat_le 1 round && nat_lt round n then receive_cells sender round cells s else s
+  receive sender (payload.Vector round cells) s =
+      if nat_le 1 round && nat_lt round n then receive_cells sender round cells s else s
   receive sender (payload.Last cells) s = receive_cells sender n cells s
   receive sender _ s = s
 

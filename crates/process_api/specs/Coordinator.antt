@@ -1,4 +1,5 @@
--- Consensus with a detector of class eventually-S, by rotating coordinators (Chandra and Toueg, Journal of the ACM 43(2), 1996): what one input makes of it, and what it does.
+-- Consensus with a detector of class eventually-S, by rotating coordinators (Chandra and Toueg, Journal of the ACM
+-- 43(2), 1996): what one input makes of it, and what it does.
 use Rattle.std.specs.Prelude.{ℕ, zero, suc, ◌+◌, ◌-◌, ◌*◌, Bool, true, false, not, ◌&&◌, nat_eq, nat_le, nat_lt, if◌then◌else◌, [], ◌∷◌, ◌++◌, Option, None, Some, is_some, unwrap_or}
 use Rattle.process_api.specs.Answer.{Answer, still, after, to_all}
 use Rattle.process_api.specs.Rounds.{greatest_round, coordinator, is_own, majority, count_to}
@@ -13,7 +14,8 @@ use Rattle.process_api.specs.declared.message.Payload.TheVariants as payload
 use Rattle.process_api.specs.declared.message.StepInput.{StepInput}
 use Rattle.process_api.specs.declared.message.StepInput.TheVariants as input
 
--- of the estimates of 1 to n the one with the largest stamp, of these the least sender's: a later sender's is taken only where its stamp is larger
+-- of the estimates of 1 to n the one with the largest stamp, of these the least sender's: a later sender's is taken
+-- only where its stamp is larger
 abbrev pub better : Option Estimate → Option Estimate → Option Estimate
 better (Some a) (Some b) = if nat_lt a.stamp b.stamp then Some b else Some a
 better (Some a) None = Some a
@@ -38,7 +40,8 @@ is_running Await = true
 is_running Tally = true
 is_running _ = false
 
--- the first letters of the rounds that are not yet left, by round and sender. A proposal comes from its round's coordinator alone
+-- the first letters of the rounds that are not yet left, by round and sender. A proposal comes from its round's
+-- coordinator alone
 pub record Kept : Type 0 where
   pub estimates : (round sender : ℕ) → Option Estimate
   pub proposals : (round : ℕ) → Option ℕ
@@ -57,11 +60,18 @@ nothing_kept = record { estimates = λ r q. None; proposals = λ r. None; replie
 
 -- the opening state of a process with a proposal
 abbrev pub opening_coordinator : ℕ → Coordinator
-opening_coordinator proposal = record { round = 0; phase = Opening; estimate = record { value = proposal; stamp = 0 }; kept = nothing_kept; seen = none_seen }
+opening_coordinator proposal = record {
+  round = 0;
+  phase = Opening;
+  estimate = record { value = proposal; stamp = 0 };
+  kept = nothing_kept;
+  seen = none_seen;
+}
 
 -- of two letters of one kind, round and sender the first counts
 abbrev pub keep : {X : Type 0} → (ℕ → ℕ → Option X) → ℕ → ℕ → X → ℕ → ℕ → Option X
-keep kept round sender x = λ r q. if nat_eq r round && nat_eq q sender then Some (unwrap_or (kept round sender) x) else kept r q
+keep kept round sender x =
+    λ r q. if nat_eq r round && nat_eq q sender then Some (unwrap_or (kept round sender) x) else kept r q
 
 abbrev pub keep_one : {X : Type 0} → (ℕ → Option X) → ℕ → X → ℕ → Option X
 keep_one kept round x = λ r. if nat_eq r round then Some (unwrap_or (kept round) x) else kept r
@@ -78,8 +88,14 @@ from_round round k = record {
 module _ (n own : ℕ) where
   abbrev pub enter : ℕ → Coordinator → Answer Coordinator
   enter round s = record {
-    state = record s { round = round; phase = if is_own n own round then Collect else Await; kept = from_round round s.kept };
-    actions = action.Note (note.Round round) ∷ action.Send (coordinator n round) (payload.Estimate round s.estimate.value s.estimate.stamp) ∷ [];
+    state = record s {
+      round = round;
+      phase = if is_own n own round then Collect else Await;
+      kept = from_round round s.kept;
+    };
+    actions =
+        action.Note (note.Round round)
+        ∷ action.Send (coordinator n round) (payload.Estimate round s.estimate.value s.estimate.stamp) ∷ [];
   }
 
   -- the own round is left. Past the greatest there is no other
@@ -101,7 +117,9 @@ module _ (n own : ℕ) where
 
   -- the proposal is answered: the coordinator counts the replies, others leave the round
   abbrev pub reply : Bool → Coordinator → Answer Coordinator
-  reply ack s = after (action.Send (coordinator n s.round) (payload.Reply s.round ack) ∷ []) (if is_own n own s.round then still (record s { phase = Tally }) else leave s)
+  reply ack s =
+      after (action.Send (coordinator n s.round) (payload.Reply s.round ack) ∷ [])
+      (if is_own n own s.round then still (record s { phase = Tally }) else leave s)
 
   abbrev pub adopt : Coordinator → ℕ → Coordinator
   adopt s value = record s { estimate = record { value = value; stamp = s.round } }
@@ -117,22 +135,38 @@ module _ (n own : ℕ) where
   abbrev pub tally : Coordinator → Option (Answer Coordinator)
   tally s =
       if nat_le (majority n) (count_to n (λ q. is_some (s.kept.replies s.round q)))
-      then Some (after (if nat_le (majority n) (count_to n (λ q. unwrap_or (s.kept.replies s.round q) false)) then broadcast n s.round s.estimate.value else []) (leave s))
+      then Some
+      (after
+      (if nat_le (majority n) (count_to n (λ q. unwrap_or (s.kept.replies s.round q) false))
+      then broadcast n s.round s.estimate.value
+      else [])
+      (leave s))
       else None
 
   -- the end of the wait, where it is over
   abbrev pub end_wait : (ℕ → Bool) → Coordinator → Option (Answer Coordinator)
-  end_wait is_suspected s =
-      elim s.phase [ Opening ↦ None | Collect ↦ collect s | Await ↦ await is_suspected s | Tally ↦ tally s | Decided ↦ None | Ended ↦ None ]
+  end_wait is_suspected s = elim s.phase [
+    | Opening ↦ None
+    | Collect ↦ collect s
+    | Await ↦ await is_suspected s
+    | Tally ↦ tally s
+    | Decided ↦ None
+    | Ended ↦ None
+  ]
 
   -- how many waits can end from here on: three in each round
   abbrev pub waits_left : Coordinator → ℕ
-  waits_left s = (greatest_round - s.round) * 3 + elim s.phase [ Opening ↦ 0 | Collect ↦ 3 | Await ↦ 2 | Tally ↦ 1 | Decided ↦ 0 | Ended ↦ 0 ]
+  waits_left s =
+      (greatest_round - s.round) * 3
+      + elim s.phase [ Opening ↦ 0 | Collect ↦ 3 | Await ↦ 2 | Tally ↦ 1 | Decided ↦ 0 | Ended ↦ 0 ]
 
   -- at most so many waits end, each as soon as the one before has
   abbrev pub end_waits : ℕ → (ℕ → Bool) → Coordinator → Answer Coordinator
   end_waits zero is_suspected s = still s
-  end_waits (suc k) is_suspected s = elim (end_wait is_suspected s) [ None ↦ still s | Some a ↦ after a.actions (end_waits k is_suspected a.state) ]
+  end_waits (suc k) is_suspected s = elim (end_wait is_suspected s) [
+    | None ↦ still s
+    | Some a ↦ after a.actions (end_waits k is_suspected a.state)
+  ]
 
   -- waits end until none is over
   abbrev pub settle : (ℕ → Bool) → Answer Coordinator → Answer Coordinator
@@ -140,11 +174,20 @@ module _ (n own : ℕ) where
 
   -- a letter of a round that the algorithm has, of the own round or, by another, of a later one
   abbrev pub is_timely : Coordinator → ℕ → ℕ → Bool
-  is_timely s sender round = is_running s.phase && (nat_le s.round round && (nat_le round greatest_round && not (nat_eq sender own && nat_lt s.round round)))
+  is_timely s sender round =
+      is_running s.phase && (nat_le s.round round && (nat_le round greatest_round
+      && not (nat_eq sender own && nat_lt s.round round)))
 
   -- the own proposal does not count while estimates are still collected
   abbrev pub is_early : Coordinator → ℕ → Bool
-  is_early s sender = nat_eq sender own && elim s.phase [ Opening ↦ false | Collect ↦ true | Await ↦ false | Tally ↦ false | Decided ↦ false | Ended ↦ false ]
+  is_early s sender = nat_eq sender own && elim s.phase [
+    | Opening ↦ false
+    | Collect ↦ true
+    | Await ↦ false
+    | Tally ↦ false
+    | Decided ↦ false
+    | Ended ↦ false
+  ]
 
   -- the decision of a round is received
   abbrev pub deliver : ℕ → ℕ → Coordinator → Answer Coordinator
@@ -153,7 +196,8 @@ module _ (n own : ℕ) where
       then still s
       else record {
         state = record s { seen = also_seen s.seen round; phase = Decided };
-        actions = relay n own round value ++ (if is_decided s.phase then [] else action.Note (note.Decided value) ∷ []);
+        actions =
+            relay n own round value ++ (if is_decided s.phase then [] else action.Note (note.Decided value) ∷ []);
       }
 
   -- a letter of one of the n processes
@@ -163,17 +207,29 @@ module _ (n own : ℕ) where
   receive sender (payload.Vector round cells) s = still s
   receive sender (payload.Last cells) s = still s
   receive sender (payload.Estimate round value stamp) s =
-      still (if is_timely s sender round && is_own n own round then record s { kept = record s.kept { estimates = keep s.kept.estimates round sender (record { value = value; stamp = stamp }) } } else s)
+      still (if is_timely s sender round && is_own n own round
+      then record s {
+        kept = record s.kept {
+          estimates = keep s.kept.estimates round sender (record { value = value; stamp = stamp });
+        };
+      }
+      else s)
   receive sender (payload.Proposal round value) s =
-      still (if is_timely s sender round && (nat_eq sender (coordinator n round) && not (is_early s sender)) then record s { kept = record s.kept { proposals = keep_one s.kept.proposals round value } } else s)
+      still (if is_timely s sender round && (nat_eq sender (coordinator n round) && not (is_early s sender))
+      then record s { kept = record s.kept { proposals = keep_one s.kept.proposals round value } }
+      else s)
   receive sender (payload.Reply round ack) s =
-      still (if is_timely s sender round && is_own n own round then record s { kept = record s.kept { replies = keep s.kept.replies round sender ack } } else s)
-  receive sender (payload.Decide round value) s = if nat_le 1 round && nat_le round greatest_round then deliver round value s else still s
+      still (if is_timely s sender round && is_own n own round
+      then record s { kept = record s.kept { replies = keep s.kept.replies round sender ack } }
+      else s)
+  receive sender (payload.Decide round value) s =
+      if nat_le 1 round && nat_le round greatest_round then deliver round value s else still s
 
   -- what an input does before any wait ends
   abbrev pub begin : StepInput → Coordinator → Answer Coordinator
   begin input.Start s = if is_opening s.phase then enter 1 s else still s
-  begin (input.Letter sender what) s = if is_opening s.phase then still s else (if nat_le sender n then receive sender what s else still s)
+  begin (input.Letter sender what) s =
+      if is_opening s.phase then still s else (if nat_le sender n then receive sender what s else still s)
   begin (input.Wake tag) s = still s
 
   -- one input, with the suspects as they are by then

@@ -1,4 +1,5 @@
--- Decisions spread by diffusion, which is reliable broadcast (Chandra and Toueg, Journal of the ACM 43(2), 1996): who receives one for the first time passes it on.
+-- Decisions spread by diffusion, which is reliable broadcast (Chandra and Toueg, Journal of the ACM 43(2), 1996): who
+-- receives one for the first time passes it on.
 use Rattle.std.specs.Prelude.{ℕ, Bool, true, false, nat_eq, if◌then◌else◌, List, []}
 use Rattle.process_api.specs.Answer.{to_all}
 use Rattle.process_api.specs.Rounds.{is_own}

@@ -61,7 +61,9 @@ leaves_out suspects (Coordinating place s) = not (set.contains suspects place.ow
 
 -- the pauses of the detector's part are at least 1
 abbrev pub is_paced : Lower → Bool
-is_paced m = (nat_le 1 m.numbers.period && nat_le 1 m.numbers.check) && elim m.reduction [ None ↦ true | Some reduction ↦ nat_le 1 reduction.period ]
+is_paced m =
+    (nat_le 1 m.numbers.period && nat_le 1 m.numbers.check)
+    && elim m.reduction [ None ↦ true | Some reduction ↦ nat_le 1 reduction.period ]
 
 -- the process suspects itself on no layer
 abbrev pub trusts_itself : Lower → Bool

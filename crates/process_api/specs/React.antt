@@ -18,7 +18,10 @@ react_lower m now input =
       | None ↦ record { state = record m { detector = base.state }; actions = base.actions }
       | Some reduction ↦
           let over = step_reduction m.place reduction base.state.suspects input in
-          record { state = record m { detector = base.state; reduction = Some over.state }; actions = base.actions ++ over.actions }
+          record {
+            state = record m { detector = base.state; reduction = Some over.state };
+            actions = base.actions ++ over.actions;
+          }
     ]
 
 -- the algorithm, with the suspects of the top layer

@@ -1,4 +1,5 @@
--- The reduction of Chandra and Toueg (Journal of the ACM 43(2), 1996) from weak to strong completeness: each process shares whom the detector below it suspects, and gathers what others share.
+-- The reduction of Chandra and Toueg (Journal of the ACM 43(2), 1996) from weak to strong completeness: each process
+-- shares whom the detector below it suspects, and gathers what others share.
 use Rattle.std.specs.Prelude.{ℕ, List, [], ◌∷◌, ◌++◌, map}
 use Rattle.std.specs.FinSet as set
 use Rattle.process_api.specs.Sets.{Processes, up_to, changes}
@@ -21,9 +22,11 @@ abbrev pub opening_reduction : ℕ → ReductionState
 opening_reduction period = record { period = period; output = set.empty }
 
 module _ (place : Place) where
-  -- what is suspected after a letter: the union, without the sender, which is alive, and without oneself. Members above n are left out
+  -- what is suspected after a letter: the union, without the sender, which is alive, and without oneself. Members above
+  -- n are left out
   abbrev pub gathered : Processes → ℕ → Processes → Processes
-  gathered output sender shared = set.remove (set.remove (set.union output (up_to place.processes shared)) sender) place.own
+  gathered output sender shared =
+      set.remove (set.remove (set.union output (up_to place.processes shared)) sender) place.own
 
   abbrev pub next_share : ReductionState → List Action
   next_share s = action.Wake s.period tag.Share ∷ []
@@ -31,7 +34,10 @@ module _ (place : Place) where
   -- suspects: those of the detector below, by now
   abbrev pub step_reduction : ReductionState → Processes → StepInput → Answer ReductionState
   step_reduction s suspects input.Start = record { state = s; actions = next_share s }
-  step_reduction s suspects (input.Wake tag.Share) = record { state = s; actions = to_all place.processes (payload.Suspects suspects) ++ next_share s }
+  step_reduction s suspects (input.Wake tag.Share) = record {
+    state = s;
+    actions = to_all place.processes (payload.Suspects suspects) ++ next_share s;
+  }
   step_reduction s suspects (input.Letter sender (payload.Suspects shared)) = record {
     state = record s { output = gathered s.output sender shared };
     actions = map action.Note (changes 2 place.processes s.output (gathered s.output sender shared));

@@ -1,4 +1,5 @@
--- The time-out detector of Chandra and Toueg (Journal of the ACM 43(2), 1996), whose bounds grow after mistakes: what one input makes of it, and what it does.
+-- The time-out detector of Chandra and Toueg (Journal of the ACM 43(2), 1996), whose bounds grow after mistakes: what
+-- one input makes of it, and what it does.
 use Rattle.std.specs.Prelude.{ℕ, ◌+◌, ◌-◌, ◌%◌, min, max, Bool, true, not, ◌&&◌, nat_eq, nat_le, if◌then◌else◌, List, [], ◌∷◌, ◌++◌, map, filter}
 use Rattle.std.specs.FinSet as set
 use Rattle.process_api.specs.Numbers.{numbers_to, is_process, change}
@@ -44,18 +45,20 @@ module _ (place : Place) (numbers : DetectorNumbers) where
   abbrev pub next_check : List Action
   next_check = action.Wake numbers.check tag.Check ∷ []
 
-  -- q is watched, not yet suspected, and was silent for its bound or longer. A difference below 0 counts as 0
-  abbrev pub is_late : DetectorState → ℕ → ℕ → Bool
-  is_late s now q = watches q && (not (set.contains s.suspects q) && nat_le (s.bound q) (now - s.last_heard q))
+  -- q is overdue: it is watched, not yet suspected, and was silent for its bound or longer. A difference below 0 counts
+  -- as 0
+  abbrev pub is_overdue : DetectorState → ℕ → ℕ → Bool
+  is_overdue s now q = watches q && (not (set.contains s.suspects q) && nat_le (s.bound q) (now - s.last_heard q))
 
-  abbrev pub late : DetectorState → ℕ → List ℕ
-  late s now = filter (is_late s now) (numbers_to place.processes)
+  -- who is overdue, in rising order
+  abbrev pub overdue : DetectorState → ℕ → List ℕ
+  overdue s now = filter (is_overdue s now) (numbers_to place.processes)
 
-  -- a check: all that are late become suspected
+  -- a check: all that are overdue become suspected
   abbrev pub checked : DetectorState → ℕ → Answer DetectorState
   checked s now = record {
-    state = record s { suspects = insert_all s.suspects (late s now) };
-    actions = map (λ q. action.Note (note.Suspect 1 q)) (late s now) ++ next_check;
+    state = record s { suspects = insert_all s.suspects (overdue s now) };
+    actions = map (λ q. action.Note (note.Suspect 1 q)) (overdue s now) ++ next_check;
   }
 
   -- q is heard of

@@ -31,20 +31,25 @@ pub trait Detector: Send + Drop {
     /// to be thrown away. A detector that has failed answers `Err` again and leaves `out` as it was.
     fn take(&mut self, now: u32, input: &StepInput, out: &mut Vec<Action>) -> Result<(), AllocError>
         ensures state { OnOk result (lower self.new ≡ (react_lower (lower self.old) now input.now).state) }
-        ensures actions { OnOk result (out.new.items ≡ out.old.items ++ (react_lower (lower self.old) now input.now).actions) }
+        ensures actions { OnOk result (
+            out.new.items ≡ out.old.items ++ (react_lower (lower self.old) now input.now).actions) }
 
-        ensures allowed { OnOk result (All (IsAllowed (lower self.old).place.processes) (react_lower (lower self.old) now input.now).actions) }
-        ensures few { OnOk result (length (react_lower (lower self.old) now input.now).actions ≤ most_actions (lower self.old)) }
+        ensures allowed { OnOk result (
+            All (IsAllowed (lower self.old).place.processes) (react_lower (lower self.old) now input.now).actions) }
+        ensures few { OnOk result (
+            length (react_lower (lower self.old) now input.now).actions ≤ most_actions (lower self.old)) }
         ensures changes { OnOk result (
             notes_of_layer (layer_of (lower self.old)) (react_lower (lower self.old) now input.now).actions
-            ≡ changes (layer_of (lower self.old)) (lower self.old).place.processes (suspects_of (lower self.old)) (suspects_of (lower self.new))) }
+            ≡ changes (layer_of (lower self.old)) (lower self.old).place.processes
+            (suspects_of (lower self.old)) (suspects_of (lower self.new))) }
 
         ensures place { (lower self.new).place ≡ (lower self.old).place }
         ensures layer { layer_of (lower self.new) ≡ layer_of (lower self.old) }
 
         ensures alive { OnOk result (has_failed self.new ≡ has_failed self.old) }
         ensures failed { OnErr result (IsTrue (has_failed self.new)) }
-        ensures stays_failed { IsTrue (has_failed self.old) → IsErr result × (IsTrue (has_failed self.new) × (out.new.items ≡ out.old.items)) };
+        ensures stays_failed { IsTrue (has_failed self.old)
+            → IsErr result × (IsTrue (has_failed self.new) × (out.new.items ≡ out.old.items)) };
 
     /// Whom the detector suspects, on its own layer. Nobody suspects itself.
     fn suspects(&self) -> ProcSet
@@ -76,14 +81,19 @@ pub trait Algorithm: Send + Drop {
     ) -> Result<(), AllocError>
         requires { IsTrue (leaves_out suspects.now (state self.old)) }
 
-        ensures state { OnOk result (state self.new ≡ (react_algorithm (state self.old) input.now suspects.now).state) }
-        ensures actions { OnOk result (out.new.items ≡ out.old.items ++ (react_algorithm (state self.old) input.now suspects.now).actions) }
+        ensures state { OnOk result (
+            state self.new ≡ (react_algorithm (state self.old) input.now suspects.now).state) }
+        ensures actions { OnOk result (
+            out.new.items ≡ out.old.items ++ (react_algorithm (state self.old) input.now suspects.now).actions) }
 
-        ensures allowed { OnOk result (All (IsAllowed (processes_of (state self.old))) (react_algorithm (state self.old) input.now suspects.now).actions) }
+        ensures allowed { OnOk result (
+            All (IsAllowed (processes_of (state self.old)))
+            (react_algorithm (state self.old) input.now suspects.now).actions) }
         ensures few { OnOk result (length (react_algorithm (state self.old) input.now suspects.now).actions ≤ 2048) }
         ensures place { (place : Place) → stands_at place (state self.new) ≡ stands_at place (state self.old) }
 
         ensures alive { OnOk result (has_failed self.new ≡ has_failed self.old) }
         ensures failed { OnErr result (IsTrue (has_failed self.new)) }
-        ensures stays_failed { IsTrue (has_failed self.old) → IsErr result × (IsTrue (has_failed self.new) × (out.new.items ≡ out.old.items)) };
+        ensures stays_failed { IsTrue (has_failed self.old)
+            → IsErr result × (IsTrue (has_failed self.new) × (out.new.items ≡ out.old.items)) };
 }

@@ -35,13 +35,16 @@ pub trait Process: Send + Drop {
         out: &mut Vec<Action>,
     ) -> Result<(), AllocError>
         ensures mind { OnOk result (mind self.new ≡ (react (mind self.old) now input.now).state) }
-        ensures actions { OnOk result (out.new.items ≡ out.old.items ++ (react (mind self.old) now input.now).actions) }
-        ensures allowed { OnOk result (All (IsAllowed (mind self.old).lower.place.processes) (react (mind self.old) now input.now).actions) }
+        ensures actions { OnOk result (
+            out.new.items ≡ out.old.items ++ (react (mind self.old) now input.now).actions) }
+        ensures allowed { OnOk result (
+            All (IsAllowed (mind self.old).lower.place.processes) (react (mind self.old) now input.now).actions) }
         ensures few { OnOk result (length (react (mind self.old) now input.now).actions ≤ 4096) }
 
         ensures alive { OnOk result (has_failed self.new ≡ has_failed self.old) }
         ensures failed { OnErr result (IsTrue (has_failed self.new)) }
-        ensures stays_failed { IsTrue (has_failed self.old) → IsErr result × (IsTrue (has_failed self.new) × (out.new.items ≡ out.old.items)) };
+        ensures stays_failed { IsTrue (has_failed self.old)
+            → IsErr result × (IsTrue (has_failed self.new) × (out.new.items ≡ out.old.items)) };
 
     /// Whether a call of `on_input` has answered `Err`.
     fn failed(&self) -> bool

@@ -1,7 +1,6 @@
 mod alone;
 
 use crate::*;
-use std::alloc::{AllocError, Global};
 use std::test::Fail;
 
 #[test]
@@ -16,28 +15,13 @@ fn processes_are_numbered_1_to_64(rt: HostRuntime) -> Result<(), Fail> {
     Ok(())
 }
 
-// The members as they come, and as the set tells them.
-fn numbers(alloc: Global, set: &ProcSet) -> Result<Vec<u16>, AllocError> {
-    let mut numbers = Vec::new(alloc);
-    for member in set.iter() {
-        numbers.push(member.number())?;
-    }
-    Ok(numbers)
-}
-
 #[test]
 fn members_come_in_rising_order(rt: HostRuntime) -> Result<(), Fail> {
-    let alloc = rt.alloc();
     let mut set = ProcSet::new();
-    assert!(rt; set.is_empty());
-    assert!(rt; numbers(alloc, &set)?.is_empty());
     for number in [64, 1, 33, 2, 33] {
         set.insert(Pid::new(number).ok_or("refused")?);
     }
-    assert_eq!(rt; numbers(alloc, &set)?.as_slice(), [1, 2, 33, 64].as_slice());
-    assert_eq!(rt; set.len(), 4);
-    assert!(rt; !set.is_empty());
-    let mut came = Vec::new(alloc);
+    let mut came = Vec::new(rt.alloc());
     for member in &set {
         came.push(member.number())?;
     }
@@ -47,41 +31,37 @@ fn members_come_in_rising_order(rt: HostRuntime) -> Result<(), Fail> {
 
 #[test]
 fn sets_gain_and_lose_members(rt: HostRuntime) -> Result<(), Fail> {
-    let alloc = rt.alloc();
     let two = Pid::new(2).ok_or("refused")?;
     let five = Pid::new(5).ok_or("refused")?;
+    let last = Pid::new(64).ok_or("refused")?;
     let mut set = ProcSet::new();
     set.insert(two);
     set.insert(five);
     let kept = set.copy();
     set.remove(two);
-    set.remove(two);
     assert!(rt; set.contains(five) && !set.contains(two));
-    assert!(rt; kept.contains(five) && kept.contains(two));
-    let mut other = ProcSet::new();
-    other.insert(Pid::new(64).ok_or("refused")?);
-    let both = kept.union(&other);
-    assert_eq!(rt; numbers(alloc, &both)?.as_slice(), [2, 5, 64].as_slice());
-    assert_eq!(rt;
-        numbers(alloc, &both.up_to(5))?.as_slice(),
-        [2, 5].as_slice()
-    );
-    assert_eq!(rt; numbers(alloc, &both.up_to(4))?.as_slice(), [2].as_slice());
-    assert_eq!(rt; both.up_to(0).len(), 0);
-    assert_eq!(rt; both.up_to(64).len(), 3);
+    set.insert(last);
+    let both = kept.union(&set);
+    assert_eq!(rt; both.len(), 3);
+    assert_eq!(rt; both.up_to(5).len(), 2);
+    assert!(rt; both.up_to(1).is_empty());
     Ok(())
+}
+
+// A key of these numbers.
+fn key(tick: u32, receiver: Pid, sender: Pid, number: u64) -> Key {
+    Key {
+        tick,
+        receiver,
+        sender,
+        number,
+    }
 }
 
 #[test]
 fn keys_rise_by_tick_receiver_sender_and_number(rt: HostRuntime) -> Result<(), Fail> {
     let one = Pid::new(1).ok_or("refused")?;
     let two = Pid::new(2).ok_or("refused")?;
-    let key = |tick: u32, receiver: Pid, sender: Pid, number: u64| Key {
-        tick,
-        receiver,
-        sender,
-        number,
-    };
     let rising = [
         key(3, one, one, 9),
         key(3, one, two, 1),
@@ -91,12 +71,7 @@ fn keys_rise_by_tick_receiver_sender_and_number(rt: HostRuntime) -> Result<(), F
     ];
     for (place, earlier) in rising.iter().enumerate() {
         for (other, later) in rising.iter().enumerate() {
-            assert_eq!(rt;
-                earlier.is_before(later),
-                place < other,
-                "{place} and {other}"
-            );
-            assert_eq!(rt; earlier < later, place < other, "{place} and {other}");
+            assert!(rt; earlier.is_before(later) == (place < other), "{place}");
         }
     }
     Ok(())
@@ -105,14 +80,13 @@ fn keys_rise_by_tick_receiver_sender_and_number(rt: HostRuntime) -> Result<(), F
 #[test]
 fn cells_are_copied(rt: HostRuntime) -> Result<(), Fail> {
     let alloc = rt.alloc();
+    let two = Pid::new(2).ok_or("refused")?;
+    let four = Pid::new(4).ok_or("refused")?;
     let cells = Cells::new(vec![in alloc; None, Some(20u32), None]?);
     let copied = cells.copy()?;
-    assert_eq!(rt; copied.len(), 3);
-    assert!(rt; !copied.is_empty());
-    assert_eq!(rt; copied.get(Pid::new(2).ok_or("refused")?), Some(20));
-    assert_eq!(rt; copied.get(Pid::new(3).ok_or("refused")?), None);
-    assert_eq!(rt; copied.get(Pid::new(4).ok_or("refused")?), None);
-    assert_eq!(rt; copied.into_vec().as_slice(), cells.into_vec().as_slice());
+    assert_eq!(rt; copied.get(two), Some(20));
+    assert_eq!(rt; copied.get(four), None);
+    assert_eq!(rt; copied.into_vec().len(), 3);
     Ok(())
 }
 

@@ -11,5 +11,5 @@ pub mod Layers
 mod Examples
 pub mod PlainRows
 pub mod Joining
-pub mod Results
+pub mod Finishing
 pub mod Resting

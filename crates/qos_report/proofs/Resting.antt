@@ -1,4 +1,4 @@
--- Every row of layer 2 with a mistake or a detection rests on a suspicion of layer 1.
+-- Every row of layer 2 with a mistake or a detection rests on an earlier suspicion of layer 1.
 use Rattle.std.proofs.Common.{◌≡◌, ℕ, zero, suc, ◌+◌, ◌<◌, ◌≤◌, inl, inr, refl, sym, ap, ◌∙◌, subst, Bool, true, false, cond, arith, true≢false, List, [], ◌∷◌, map, Option, None, Some, is_some, unwrap_or}
 use Rattle.std.specs.List.{All, AllByRecursion, flat_map}
 use Rattle.std.proofs.lemmas.List.Elements.{All-from_recursion}
@@ -17,19 +17,19 @@ use Rattle.judges.proofs.Blamed.{blamed_by_out}
 use Rattle.judges.proofs.Lasting.{all_from-at}
 use Rattle.qos_report.specs.Distances.{count_below}
 use Rattle.qos_report.specs.Measures.{starts, delay_after, is_measured, detection, measured, pair_measures, layer_measures, layers, all_measures}
-use Rattle.qos_report.specs.Resting.{Tells, RestsOnBlame}
+use Rattle.qos_report.specs.Resting.{HasBlame, RestsOnBlame}
 use Rattle.qos_report.specs.declared.pair_measures.Detection.{Detection}
 use Rattle.qos_report.specs.declared.pair_measures.Detection.TheVariants.{Na, NoTick, At}
 
 -- ---- ticks
 
-some_counted : (test : ℕ → Bool) (end : ℕ) → 1 ≤ count_below test end → (t : ℕ) × (test t ≡ true)
+some_counted : (test : ℕ → Bool) (end : ℕ) → 1 ≤ count_below test end → (t : ℕ) × (t < end) × (test t ≡ true)
 some_counted test zero h = absurd (omega arith)
 some_counted test (suc t) h = go (test t) refl h (some_counted test t)
   where
-    go : (b : Bool) → test t ≡ b → 1 ≤ count_below test t + cond b 1 0 → (1 ≤ count_below test t → (u : ℕ) × (test u ≡ true)) → (u : ℕ) × (test u ≡ true)
-    go true is h rest = (t, is)
-    go false is h rest = rest (omega arith)
+    go : (b : Bool) → test t ≡ b → 1 ≤ count_below test t + cond b 1 0 → (1 ≤ count_below test t → (u : ℕ) × (u < t) × (test u ≡ true)) → (u : ℕ) × (u < suc t) × (test u ≡ true)
+    go true is h rest = (t, omega arith, is)
+    go false is h rest = let r = rest (omega arith) in (r.0, omega (arith, r.1), r.2)
 
 abbrev Found : (ℕ → Bool) → ℕ → ℕ → Type 0
 Found test end t = (t < end) × (test t ≡ true)
@@ -55,17 +55,20 @@ is_number Na = false
 is_number NoTick = false
 is_number (At ticks) = true
 
--- a detection is of a tick of suspicion
-detected : (S : Record) (q p : ℕ) (suspected : ℕ → Bool) (ticks : ℕ) → detection S q p suspected ≡ At ticks → (t : ℕ) × (suspected t ≡ true)
+-- a detection is by the suspicion that lasts to the horizon
+detected : (S : Record) (q p : ℕ) (suspected : ℕ → Bool) (ticks : ℕ) → detection S q p suspected ≡ At ticks
+    → (t : ℕ) × (least_from suspected S.horizon ≡ Some t) × (suspected t ≡ true)
 detected S q p suspected ticks h = go (is_measured S q p) h
   where
-    by : (o : Option ℕ) → least_from suspected S.horizon ≡ o → delay_after (crash_tick S p) o ≡ At ticks → (t : ℕ) × (suspected t ≡ true)
+    by : (o : Option ℕ) → least_from suspected S.horizon ≡ o → delay_after (crash_tick S p) o ≡ At ticks
+        → (t : ℕ) × (least_from suspected S.horizon ≡ Some t) × (suspected t ≡ true)
     by None is f = absurd (true≢false (sym (ap is_number f)))
     by (Some t) is f =
         let r = least_passes (λ t. all_from suspected t S.horizon) S.horizon t is in
-        (t, all_from-at suspected t S.horizon t r.1 (omega arith) r.0)
+        (t, is, all_from-at suspected t S.horizon t r.1 (omega arith) r.0)
 
-    go : (b : Bool) → cond b (delay_after (crash_tick S p) (least_from suspected S.horizon)) Na ≡ At ticks → (t : ℕ) × (suspected t ≡ true)
+    go : (b : Bool) → cond b (delay_after (crash_tick S p) (least_from suspected S.horizon)) Na ≡ At ticks
+        → (t : ℕ) × (least_from suspected S.horizon ≡ Some t) × (suspected t ≡ true)
     go true f = by (least_from suspected S.horizon) refl f
     go false f = absurd (true≢false (sym (ap is_number f)))
 
@@ -76,23 +79,27 @@ all_flat P f [] each = tt
 all_flat P f (x ∷ xs) each = both P (f x) (flat_map f xs) (each x) (all_flat P f xs each)
 
 module _ (S : Record) (ranges : IsInRange S) (trace : List EntryRecord) (is_trace : IsTrace (setting_of S) trace) where
-  told : (layer q p : ℕ) → Tells (measured S layer q p (suspects layer trace q p)) → (t : ℕ) × (out layer trace q t p ≡ true)
-  told layer q p (inl some) = let r = some_counted (starts (suspects layer trace q p)) (end_of S q p) some in (r.0, (both_true _ _ r.1).0)
-  told layer q p (inr (ticks, is)) = detected S q p (suspects layer trace q p) ticks is
+  -- whom a row of layer 2 tells of, some base detector had suspected
+  has_blame : (q p : ℕ) → HasBlame S trace (measured S 2 q p (suspects 2 trace q p))
+  has_blame q p = record {
+    mistake = λ some.
+        let r = some_counted (starts (suspects 2 trace q p)) (end_of S q p) some in
+        (r.0, (r.1, r.2), blamed_by_out S ranges trace is_trace q r.0 p (both_true _ _ r.2).0);
+    detection = λ ticks is.
+        let r = detected S q p (suspects 2 trace q p) ticks is in
+        (r.0, r.1, blamed_by_out S ranges trace is_trace q r.0 p r.2);
+  }
 
-  rests : (layer q p : ℕ) → RestsOnBlame trace (pair_measures S trace layer q p)
+  rests : (layer q p : ℕ) → RestsOnBlame S trace (pair_measures S trace layer q p)
   unfolding pair_measures
-  rests layer q p two tells =
-      let r = told layer q p tells in
-      let there : out 2 trace q r.0 p ≡ true = subst (λ l. out l trace q r.0 p ≡ true) two r.1 in
-      (r.0, there, blamed_by_out S ranges trace is_trace q r.0 p there)
+  rests layer q p two = subst (λ l. HasBlame S trace (measured S l q p (suspects l trace q p))) (sym two) (has_blame q p)
 
-  all_by_recursion : AllByRecursion (RestsOnBlame trace) (all_measures S trace)
+  all_by_recursion : AllByRecursion (RestsOnBlame S trace) (all_measures S trace)
   unfolding all_measures layer_measures
   all_by_recursion =
-      all_flat (RestsOnBlame trace) (layer_measures S trace) (layers S) (λ layer.
-      all_flat (RestsOnBlame trace) (λ q. map (pair_measures S trace layer q) (others S.processes q)) (numbers_to S.processes) (λ q.
-      images (RestsOnBlame trace) (pair_measures S trace layer q) (others S.processes q) (always (λ p. RestsOnBlame trace (pair_measures S trace layer q p)) (rests layer q) (others S.processes q))))
+      all_flat (RestsOnBlame S trace) (layer_measures S trace) (layers S) (λ layer.
+      all_flat (RestsOnBlame S trace) (λ q. map (pair_measures S trace layer q) (others S.processes q)) (numbers_to S.processes) (λ q.
+      images (RestsOnBlame S trace) (pair_measures S trace layer q) (others S.processes q) (always (λ p. RestsOnBlame S trace (pair_measures S trace layer q p)) (rests layer q) (others S.processes q))))
 
-  pub all_rest : All (RestsOnBlame trace) (all_measures S trace)
-  all_rest = All-from_recursion (RestsOnBlame trace) (all_measures S trace) all_by_recursion
+  pub all_rest : All (RestsOnBlame S trace) (all_measures S trace)
+  all_rest = All-from_recursion (RestsOnBlame S trace) (all_measures S trace) all_by_recursion

@@ -18,7 +18,8 @@ is_next test s t = (nat_lt s t && test t) && all_below (λ u. nat_le u s || not 
 -- over all ticks s and t below end such that s passes the first test and t is the next tick after s that passes the
 -- second: the sum of an amount of t - s
 abbrev pub over_distances : (ℕ → ℕ) → (from to : ℕ → Bool) → (end : ℕ) → ℕ
-over_distances amount from to end = sum_below (λ t. sum_below (λ s. if from s && is_next to s t then amount (t - s) else 0) t) end
+over_distances amount from to end =
+    sum_below (λ t. sum_below (λ s. if from s && is_next to s t then amount (t - s) else 0) t) end
 
 -- the distances from a tick that passes the first test to the next that passes the second, where that is below end:
 -- their sum, and how many there are

@@ -7,8 +7,10 @@ pub mod Meter
 pub mod Panel
 pub mod Metering
 pub mod Outlet
+pub mod Writing
 pub mod Rows
 pub mod Values
+pub mod Tail
 pub mod TraceText
 pub mod ReportText
 pub mod Summary

@@ -62,7 +62,8 @@ module _ (suspected : ℕ → Bool) (end : ℕ) where
 
 -- from the crash to the start of the suspicion that lasts to the horizon ('detection time')
 abbrev pub detection : Record → (q p : ℕ) → (suspected : ℕ → Bool) → Detection
-detection S q p suspected = if is_measured S q p then delay_after (crash_tick S p) (least_from suspected S.horizon) else Na
+detection S q p suspected =
+    if is_measured S q p then delay_after (crash_tick S p) (least_from suspected S.horizon) else Na
 
 -- the measures of a pair whose suspicion is given tick by tick
 abbrev pub measured : Record → (layer q p : ℕ) → (suspected : ℕ → Bool) → PairMeasures
@@ -91,7 +92,8 @@ layers S = if is_some S.share then 1 ∷ 2 ∷ [] else 1 ∷ []
 
 -- the measures on one layer: of each observer, in rising order, and each other subject, in rising order
 unfoldable pub layer_measures : Record → List EntryRecord → (layer : ℕ) → List PairMeasures
-layer_measures S trace layer = flat_map (λ q. map (pair_measures S trace layer q) (others S.processes q)) (numbers_to S.processes)
+layer_measures S trace layer =
+    flat_map (λ q. map (pair_measures S trace layer q) (others S.processes q)) (numbers_to S.processes)
 
 -- all measures of a run, layer by layer
 unfoldable pub all_measures : Record → List EntryRecord → List PairMeasures

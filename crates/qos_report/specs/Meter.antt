@@ -39,7 +39,8 @@ opened S layer q p = record {
 
 -- from a tick on there is suspicion, or there is none
 abbrev pub turned : (tick : ℕ) → (suspected : Bool) → MeterRecord → MeterRecord
-turned tick suspected m = if beq suspected m.current then m else record m { current = suspected; tally = moved m.tally tick m.current m.end }
+turned tick suspected m =
+    if beq suspected m.current then m else record m { current = suspected; tally = moved m.tally tick m.current m.end }
 
 abbrev pub detected : (crash since : Option ℕ) → Detection
 detected None since = Na

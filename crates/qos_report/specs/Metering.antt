@@ -31,9 +31,11 @@ pub record IsMetered (S : Record) (layer q p : ℕ) (suspected : ℕ → Bool) (
   pub known : (f : ℕ → Bool) → ((u : ℕ) → u < m.tally.tick → f u ≡ suspected u) → Knows f m.end m.tally
 
 -- the meters stand for all pairs, and none has gone beyond the last tick
-pub record AreMetered (S : Record) (layer : ℕ) (suspected : (q p t : ℕ) → Bool) (last : ℕ) (meters : List MeterRecord) : Type 0 where
+pub record AreMetered (S : Record) (layer : ℕ) (suspected : (q p t : ℕ) → Bool) (last : ℕ) (meters : List MeterRecord)
+    : Type 0 where
   pub count : length meters ≡ S.processes * S.processes
-  pub each : (i j : ℕ) → i < S.processes → j < S.processes → IsMetered S layer (suc i) (suc j) (suspected (suc i) (suc j)) last (place meters S.processes i j)
+  pub each : (i j : ℕ) → i < S.processes → j < S.processes
+      → IsMetered S layer (suc i) (suc j) (suspected (suc i) (suc j)) last (place meters S.processes i j)
 
 pub record IsMetering (S : Record) (layer : ℕ) (trace : List EntryRecord) (m : Panel) : Type 0 where
   pub same_layer : m.layer ≡ layer

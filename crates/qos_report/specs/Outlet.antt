@@ -2,7 +2,8 @@
 use Rattle.std.specs.Prelude.{ℕ, ◌≤◌, ◌&&◌, not, nat_eq, List, length, take, Option, Result, Ok, Err, if◌then◌else◌}
 use Rattle.std.specs.Io.KnownBytes.{Appends}
 
--- how many failures a put of the piece counts: one where it answered an error, or took nothing of a piece that isn't empty
+-- how many failures a put of the piece counts: one where it answered an error, or took nothing of a piece that isn't
+-- empty
 abbrev pub failures_of : {E : Type 0} → Result ℕ E → List ℕ → ℕ
 failures_of (Ok taken) piece = if nat_eq taken 0 && not (nat_eq (length piece) 0) then 1 else 0
 failures_of (Err e) piece = 1

@@ -10,7 +10,16 @@ use Rattle.qos_report.specs.declared.pair_measures.PairMeasures.{PairMeasures}
 
 -- a meter of nobody, outside the list
 abbrev pub no_meter : MeterRecord
-no_meter = record { layer = 0; observer = 0; subject = 0; horizon = 0; end = 0; crash = None; current = false; tally = new_tally }
+no_meter = record {
+  layer = 0;
+  observer = 0;
+  subject = 0;
+  horizon = 0;
+  end = 0;
+  crash = None;
+  current = false;
+  tally = new_tally;
+}
 
 -- the meter of observer i + 1 and subject j + 1, of n processes
 abbrev pub place : List MeterRecord → (n i j : ℕ) → MeterRecord
@@ -24,13 +33,16 @@ opened_at S layer k = opened S layer (suc (k / S.processes)) (suc (k % S.process
 abbrev pub turned_at : (n observer subject tick : ℕ) → (suspected : Bool) → List MeterRecord → List MeterRecord
 turned_at n observer subject tick suspected meters =
     if is_process n observer && is_process n subject
-    then set meters ((observer - 1) * n + (subject - 1)) (turned tick suspected (place meters n (observer - 1) (subject - 1)))
+    then set meters ((observer - 1) * n + (subject - 1))
+    (turned tick suspected (place meters n (observer - 1) (subject - 1)))
     else meters
 
 -- the meters after one more note of an observer
 abbrev pub noted : (n layer observer tick : ℕ) → List MeterRecord → Note → List MeterRecord
-noted n layer observer tick meters (Suspect l who) = if l == layer then turned_at n observer who tick true meters else meters
-noted n layer observer tick meters (Trust l who) = if l == layer then turned_at n observer who tick false meters else meters
+noted n layer observer tick meters (Suspect l who) =
+    if l == layer then turned_at n observer who tick true meters else meters
+noted n layer observer tick meters (Trust l who) =
+    if l == layer then turned_at n observer who tick false meters else meters
 noted n layer observer tick meters (Round r) = meters
 noted n layer observer tick meters (Decided v) = meters
 noted n layer observer tick meters NoValue = meters

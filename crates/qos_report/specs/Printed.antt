@@ -1,17 +1,20 @@
--- What a run writes.
-use Rattle.std.specs.Prelude.{◌≤◌, ℕ, List, ◌++◌, length, Option}
-use Rattle.std.specs.Io.KnownBytes.{Appends}
+-- What a run writes and tells.
+use Rattle.std.specs.Prelude.{◌≡◌, ◌≢◌, ◌<◌, ◌≤◌, ℕ, List, ◌++◌, length, Option}
 use Rattle.event_list.specs.Effects.{HasCauses, TakesOnce}
 use Rattle.event_list.specs.ScenarioSetting.{setting_of}
 use Rattle.event_list.specs.World.{IsTrace}
+use Rattle.event_list.specs.declared.error.RunError.{RunError}
+use Rattle.event_list.specs.declared.error.RunError.TheVariants.{Limit, Write}
+use Rattle.judges.specs.Agreement.{Agree, DecidesOnce}
 use Rattle.process_api.specs.EntryRecord.{EntryRecord}
 use Rattle.scenario.specs.Record.{Record}
-use Rattle.qos_report.specs.Outlet.{Grows}
-use Rattle.qos_report.specs.ReportText.{report_text}
+use Rattle.scenario.specs.declared.algorithm.AlgorithmKind.TheVariants.{EventuallyStrong}
+use Rattle.qos_report.specs.ReportText.{Text, report_text}
 use Rattle.qos_report.specs.Summary.{IsSummary}
 use Rattle.qos_report.specs.TraceText.{trace_text}
-use Rattle.qos_report.specs.declared.print_choice.PrintChoice.{PrintChoice}
-use Rattle.qos_report.specs.declared.print_choice.PrintChoice.TheVariants as choice
+use Rattle.qos_report.specs.Writing.{Wrote, WrotePart, WroteNothing}
+use Rattle.print_choice.specs.declared.PrintChoice.{PrintChoice}
+use Rattle.print_choice.specs.declared.PrintChoice.TheVariants as choice
 use Rattle.qos_report.specs.declared.summary.Summary.{Summary}
 
 -- the texts of a trace that are asked for
@@ -20,21 +23,31 @@ printed choice.Trace S trace = trace_text trace
 printed choice.Report S trace = report_text S trace
 printed choice.Both S trace = trace_text trace ++ report_text S trace
 
--- known bytes grow by the texts of the scenario's trace, which is within its limit, and the summary is that trace's
-pub record Writes (S : Record) (print : PrintChoice) (old new : Option (List ℕ)) (summary : Summary) : Type 0 where
-  pub trace : List EntryRecord
+-- the scenario's trace, which is within its limit
+pub record IsTraceWithin (S : Record) (trace : List EntryRecord) : Type 0 where
   pub is_trace : IsTrace (setting_of S) trace
   pub within : length trace ≤ S.limit
-  -- each entry but the starts has one cause, an earlier entry, and each event that a step adds below the horizon is
-  -- one entry
-  pub causes : HasCauses (setting_of S) trace
-  pub once : TakesOnce (setting_of S) trace
-  pub text : Appends old new (printed print S trace)
-  pub summed : IsSummary S trace summary
 
--- known bytes grow by a front part of these texts
-pub record WritesPart (S : Record) (print : PrintChoice) (old new : Option (List ℕ)) : Type 0 where
-  pub trace : List EntryRecord
-  pub is_trace : IsTrace (setting_of S) trace
-  pub within : length trace ≤ S.limit
-  pub text : Grows old new (printed print S trace)
+module _ (S : Record) (print : PrintChoice) {O : Type 0} (told : O → Option Text) (failed : O → ℕ) (old new : O) where
+  -- a run is done: exactly the texts of the scenario's trace went out, and the summary is that trace's
+  pub record Finishes (summary : Summary) : Type 0 where
+    pub trace : List EntryRecord
+    pub is_within : IsTraceWithin S trace
+    pub text : Wrote told failed old new (printed print S trace)
+    pub summed : IsSummary S trace summary
+    -- each entry but the starts has one cause, an earlier entry, and each event that a step adds below the horizon is
+    -- one entry
+    pub causes : HasCauses (setting_of S) trace
+    pub once : TakesOnce (setting_of S) trace
+    -- with the rotating coordinator the outcomes agree, each process decides at most once, and none notes that it ends
+    -- with no value
+    pub agree : S.algorithm ≡ EventuallyStrong → Agree S summary.outcomes.items
+    pub decides_once : S.algorithm ≡ EventuallyStrong → (p : ℕ) → DecidesOnce trace p
+
+  -- a run is refused: where a put failed, a front part of these texts went out; nothing went out for any other reason
+  pub record Refuses (reason : RunError) : Type 0 where
+    pub write : reason ≡ Write
+        → (trace : List EntryRecord) × IsTraceWithin S trace × WrotePart told failed old new (printed print S trace)
+    pub others : reason ≢ Write → WroteNothing told failed old new
+    -- the limit is the reason only where the scenario's trace is longer
+    pub limit : reason ≡ Limit → (trace : List EntryRecord) → IsTrace (setting_of S) trace → S.limit < length trace

@@ -51,7 +51,8 @@ answer_text (answer.Value value) = decimal value
 
 -- the run: its entries, its letters, and how many of these were lost
 abbrev pub run_values : (entries sent lost : ℕ) → List (Text × Text)
-run_values entries sent lost = (codes "entries", decimal entries) ∷ (codes "sent", decimal sent) ∷ (codes "lost", decimal lost) ∷ []
+run_values entries sent lost =
+    (codes "entries", decimal entries) ∷ (codes "sent", decimal sent) ∷ (codes "lost", decimal lost) ∷ []
 
 abbrev pub run_text : (entries sent lost : ℕ) → Text
 run_text entries sent lost = report_rows (codes "run") 0 0 0 (run_values entries sent lost)
@@ -59,7 +60,8 @@ run_text entries sent lost = report_rows (codes "run") 0 0 0 (run_values entries
 -- the verdicts on a layer
 abbrev pub verdict_values : Verdicts → List (Text × Text)
 verdict_values v =
-    (codes "strong_completeness", tick_text v.strong_completeness) ∷ (codes "weak_completeness", tick_text v.weak_completeness)
+    (codes "strong_completeness", tick_text v.strong_completeness)
+    ∷ (codes "weak_completeness", tick_text v.weak_completeness)
     ∷ (codes "strong_accuracy", truth_text v.strong_accuracy) ∷ (codes "weak_accuracy", truth_text v.weak_accuracy)
     ∷ (codes "eventual_strong_accuracy", tick_text v.eventual_strong_accuracy)
     ∷ (codes "eventual_weak_accuracy", tick_text v.eventual_weak_accuracy) ∷ []
@@ -81,7 +83,8 @@ pair_text m = report_rows (codes "pair") m.layer m.observer m.subject (pair_valu
 
 -- what a process decided
 abbrev pub decision_values : Outcome → List (Text × Text)
-decision_values o = (codes "value", answer_text o.value) ∷ (codes "tick", tick_text o.tick) ∷ (codes "rounds", decimal o.rounds) ∷ []
+decision_values o =
+    (codes "value", answer_text o.value) ∷ (codes "tick", tick_text o.tick) ∷ (codes "rounds", decimal o.rounds) ∷ []
 
 abbrev pub decision_text : Outcome → Text
 decision_text o = report_rows (codes "decision") 0 o.pid 0 (decision_values o)
@@ -92,8 +95,8 @@ decisions_text kind.Idle outcomes = []
 decisions_text kind.Strong outcomes = flat_map decision_text outcomes
 decisions_text kind.EventuallyStrong outcomes = flat_map decision_text outcomes
 
--- the text of the report of a trace: the header, and the rows of the run, of each layer's verdicts, of each pair on each
--- layer, and of each process's decision
+-- the text of the report of a trace: the header, and the rows of the run, of each layer's verdicts, of each pair on
+-- each layer, and of each process's decision
 unfoldable pub report_text : Record → List EntryRecord → Text
 report_text S trace =
     report_header

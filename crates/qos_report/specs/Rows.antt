@@ -16,6 +16,11 @@ comma = 44
 unfoldable pub row_of : List (List ℕ) → List ℕ
 row_of fields = join_with_byte comma fields ++ line_feed ∷ []
 
+-- fields with a comma after each
+abbrev pub with_commas : List (List ℕ) → List ℕ
+with_commas [] = []
+with_commas (field ∷ fields) = field ++ (comma ∷ with_commas fields)
+
 -- commas, line feeds, and no quotes
 abbrev pub plain_writer : WriterBuilder
 plain_writer = with_style default_writer style.Never

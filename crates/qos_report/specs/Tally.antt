@@ -26,7 +26,8 @@ abbrev pub finished : Tally → (end : ℕ) → Tally
 finished t end = record t { ended = Some t.tick; duration = grown t.duration t.started t.tick end }
 
 abbrev pub changed : (was suspected : Bool) → Tally → (end : ℕ) → Tally
-changed was suspected t end = if suspected then (if was then t else begun t end) else (if was then finished t end else t)
+changed was suspected t end =
+    if suspected then (if was then t else begun t end) else (if was then finished t end else t)
 
 -- from the tally's tick up to another, there is suspicion or there is none
 abbrev pub passed : Tally → (until : ℕ) → (suspected : Bool) → (end : ℕ) → Tally

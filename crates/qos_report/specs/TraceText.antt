@@ -48,6 +48,12 @@ fields_of e =
     decimal e.key.tick ∷ decimal e.key.receiver ∷ decimal e.key.sender ∷ decimal e.key.number ∷ kind_text e.kind
     ∷ decimal e.sent ∷ decimal e.lost ∷ notes_text e.notes ∷ []
 
+-- those before the notes
+abbrev pub first_fields_of : EntryRecord → List (List ℕ)
+first_fields_of e =
+    decimal e.key.tick ∷ decimal e.key.receiver ∷ decimal e.key.sender ∷ decimal e.key.number ∷ kind_text e.kind
+    ∷ decimal e.sent ∷ decimal e.lost ∷ []
+
 -- the text of a trace: the header, and a row for each entry
 unfoldable pub trace_text : List EntryRecord → List ℕ
 trace_text trace = trace_header ++ flat_map (λ e. row_of (fields_of e)) trace

@@ -1,20 +1,15 @@
 //! Runs, from a scenario and its machines to the texts that go out.
-ghost use Rattle.std.specs.Prelude.{◌≡◌, ◌≢◌, ◌^◌, ◌-◌, ◌+◌, ◌<◌, ◌≤◌, List, length, map, Err, IfErr, IfOk, IsErrOf};
-ghost use Rattle.event_list.specs.ScenarioSetting.{setting_of};
-ghost use Rattle.event_list.specs.World.{IsTrace};
-ghost use Rattle.process_api.specs.EntryRecord.{EntryRecord};
+ghost use Rattle.std.specs.Prelude.{◌≡◌, ◌≢◌, ◌^◌, ◌-◌, ◌<◌, map, Err, IfErr, IfOk};
 ghost use Rattle.process_api.specs.Numbers.{numbers_to};
-ghost use Rattle.judges.specs.Agreement.{Agree};
-ghost use Rattle.qos_report.specs.Printed.{Writes, WritesPart};
+ghost use Rattle.qos_report.specs.Printed.{Finishes, Refuses};
 ghost use Rattle.scenario.specs.Record.{opening_mind};
-ghost use Rattle.scenario.specs.declared.algorithm.AlgorithmKind.TheVariants.{EventuallyStrong};
 ghost use Rattle.windows.specs.Plan.{IsPlanFor};
 
 use crate::outlet::Outlet;
-use crate::print_choice::PrintChoice;
 use crate::summary::Summary;
 use crate::writing::write_run;
 use event_list::{RunError, run_list};
+use print_choice::PrintChoice;
 use process_api::Process;
 use scenario::Scenario;
 use std::alloc::Global;
@@ -28,8 +23,9 @@ use windows::{Gate, Plan, run_windows};
 ///
 /// The machines are those of processes 1 to n, in this order, each in its opening state. They are consumed.
 ///
-/// With the rotating coordinator no two outcomes of the summary have different values, each value was proposed, and no
-/// process ends with no value: whatever the detector, the links and the crashes.
+/// With the rotating coordinator no two outcomes of the summary have different values, each value was proposed, each
+/// process decides at most once, and none notes that it ends with no value: whatever the detector, the links and the
+/// crashes.
 ///
 /// # Errors
 ///
@@ -42,15 +38,11 @@ pub fn bench_list<O: Outlet>(
     print: PrintChoice,
     outlet: &mut O,
 ) -> Result<Summary, RunError>
-    requires machines { map mind machines.items ≡ map (opening_mind scenario.now) (numbers_to scenario.now.processes) }
+    requires machines { map mind machines.items
+        ≡ map (opening_mind scenario.now) (numbers_to scenario.now.processes) }
     requires failures { O.failed outlet.old < 2 ^ 64 - 1 }
-    ensures whole { IfOk result (λ summary. Writes scenario.now print (O.told outlet.old) (O.told outlet.new) summary × (O.failed outlet.new ≡ O.failed outlet.old)) }
-    ensures agree { IfOk result (λ summary. scenario.now.algorithm ≡ EventuallyStrong → Agree scenario.now summary.outcomes.items) }
-    ensures part { result ≡ Err RunError.Write → WritesPart scenario.now print (O.told outlet.old) (O.told outlet.new) × (O.failed outlet.new ≡ O.failed outlet.old + 1) }
-    ensures memory { result ≡ Err RunError.Memory → (O.told outlet.new ≡ O.told outlet.old) × (O.failed outlet.new ≡ O.failed outlet.old) }
-    ensures limit { result ≡ Err RunError.Limit → (O.told outlet.new ≡ O.told outlet.old) × (O.failed outlet.new ≡ O.failed outlet.old) }
-    ensures long { IsErrOf result RunError.Limit → (whole : List EntryRecord) → IsTrace (setting_of scenario.now) whole → scenario.now.limit < length whole }
-    ensures within { IfOk result (λ summary. summary.entries ≤ scenario.now.limit) }
+    ensures done { IfOk result (Finishes scenario.now print O.told O.failed outlet.old outlet.new) }
+    ensures refused { IfErr result (Refuses scenario.now print O.told O.failed outlet.old outlet.new) }
     ensures threads { result ≢ Err RunError.Spawn }
 {
     let trace = run_list(alloc, scenario, machines)?;
@@ -64,13 +56,15 @@ pub fn bench_list<O: Outlet>(
 /// The machines are those of processes 1 to n, in this order, each in its opening state. They are consumed. The plan's
 /// window is no longer than the scenario's lookahead. A worker tells the gate of each process that it takes.
 ///
-/// With the rotating coordinator no two outcomes of the summary have different values, each value was proposed, and no
-/// process ends with no value: whatever the detector, the links and the crashes.
+/// With the rotating coordinator no two outcomes of the summary have different values, each value was proposed, each
+/// process decides at most once, and none notes that it ends with no value: whatever the detector, the links and the
+/// crashes.
 ///
 /// # Errors
 ///
-/// `Spawn` where a thread was refused, `Memory` where memory was refused, and `Limit` where the run has more entries than
-/// the scenario's limit: then nothing was written. `Write` where a put failed: then a front part of the texts went out.
+/// `Spawn` where a thread was refused, `Memory` where memory was refused, and `Limit` where the run has more entries
+/// than the scenario's limit: then nothing was written. `Write` where a put failed: then a front part of the texts went
+/// out.
 pub fn bench_windows<G: Gate, O: Outlet, R: Threads + Wait + Sync>(
     rt: &R,
     alloc: Global,
@@ -81,15 +75,12 @@ pub fn bench_windows<G: Gate, O: Outlet, R: Threads + Wait + Sync>(
     print: PrintChoice,
     outlet: &mut O,
 ) -> Result<Summary, RunError>
-    requires machines { map mind machines.items ≡ map (opening_mind scenario.now) (numbers_to scenario.now.processes) }
+    requires machines { map mind machines.items
+        ≡ map (opening_mind scenario.now) (numbers_to scenario.now.processes) }
     requires plan { IsPlanFor scenario.now plan.now }
     requires failures { O.failed outlet.old < 2 ^ 64 - 1 }
-    ensures whole { IfOk result (λ summary. Writes scenario.now print (O.told outlet.old) (O.told outlet.new) summary × (O.failed outlet.new ≡ O.failed outlet.old)) }
-    ensures agree { IfOk result (λ summary. scenario.now.algorithm ≡ EventuallyStrong → Agree scenario.now summary.outcomes.items) }
-    ensures part { result ≡ Err RunError.Write → WritesPart scenario.now print (O.told outlet.old) (O.told outlet.new) × (O.failed outlet.new ≡ O.failed outlet.old + 1) }
-    ensures refused { IfErr result (λ e. e ≢ RunError.Write → (O.told outlet.new ≡ O.told outlet.old) × (O.failed outlet.new ≡ O.failed outlet.old)) }
-    ensures long { IsErrOf result RunError.Limit → (whole : List EntryRecord) → IsTrace (setting_of scenario.now) whole → scenario.now.limit < length whole }
-    ensures within { IfOk result (λ summary. summary.entries ≤ scenario.now.limit) }
+    ensures done { IfOk result (Finishes scenario.now print O.told O.failed outlet.old outlet.new) }
+    ensures refused { IfErr result (Refuses scenario.now print O.told O.failed outlet.old outlet.new) }
 {
     let _ticks = scenario.horizon();
     let trace = run_windows(rt, alloc, scenario, machines, plan, gate)?;

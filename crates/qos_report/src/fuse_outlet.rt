@@ -1,5 +1,7 @@
 //! An outlet that fails after a while.
-ghost use Rattle.std.specs.Prelude.{◌≡◌, ◌<◌, ◌≤◌, ◌+◌, ◌-◌, ◌^◌, ◌++◌, [], Some, IfOk, IfErr, MatchResult, length, min, take};
+ghost use Rattle.std.specs.Prelude.{◌≡◌, ◌⊎◌, ◌<◌, ◌≤◌, ◌+◌, ◌-◌, ◌^◌, ◌++◌, [], Some, IfOk, IfErr, MatchResult, length, min, take};
+ghost use Rattle.std.specs.IoError.{error_kind};
+ghost use Rattle.std.specs.declared.io.ErrorKind.TheVariants.{OutOfMemory};
 ghost use Rattle.qos_report.specs.Outlet.{failures_of};
 
 use crate::outlet::Outlet;
@@ -7,10 +9,10 @@ use std::alloc::Global;
 use std::io::{self, ErrorKind};
 use std::marker::Model;
 
-/// An outlet over memory that shows what a failed put leaves: it takes at most a given number of bytes at a put, a given
-/// number of times, and every later put fails. A put fails too where memory is refused, and where it takes no byte of
-/// a piece that isn't empty. Contracts see its bytes, the most that a put takes, how many puts are left, and how many
-/// failed.
+/// An outlet over memory that shows what a failed put leaves: it takes at most a given number of bytes at a put, a
+/// given number of times, and every later put fails. A put fails too where memory is refused, and where it takes no
+/// byte of a piece that isn't empty; no other put fails. Contracts see its bytes, the most that a put takes, how many
+/// puts are left, and how many failed.
 #[derive(Debug, Drop)]
 pub struct FuseOutlet {
     bytes: Vec<u8>,
@@ -56,10 +58,12 @@ impl Outlet for FuseOutlet {
     fn put(&mut self, piece: &[u8]) -> io::Result<usize>
         requires { self.old.failures < 2 ^ 64 - 1 }
         ensures bound { IfOk result (λ taken. taken ≤ length piece.now) }
-        ensures bytes { MatchResult result (λ taken. self.new.bytes ≡ self.old.bytes ++ take taken piece.now) (λ _. self.new.bytes ≡ self.old.bytes) }
+        ensures bytes { MatchResult result (λ taken. self.new.bytes ≡ self.old.bytes ++ take taken piece.now)
+            (λ _. self.new.bytes ≡ self.old.bytes) }
         ensures count { self.new.failures ≡ self.old.failures + failures_of result piece.now }
         ensures taken { IfOk result (λ taken. taken ≡ min (length piece.now) self.old.most) }
         ensures left { IfOk result (λ _. self.new.left + 1 ≡ self.old.left) }
+        ensures blown { IfErr result (λ error. (self.old.left ≡ 0) ⊎ (error_kind error ≡ OutOfMemory)) }
         ensures kept { IfErr result (λ _. self.new.left ≡ self.old.left) }
         ensures most { self.new.most ≡ self.old.most }
     {

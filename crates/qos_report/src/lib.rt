@@ -8,10 +8,23 @@
 //! (`specs/ReportText.antt`). Texts go to an [`Outlet`]: over memory, over any writer, or over memory with a fuse that
 //! blows, which shows what a failed write leaves.
 //!
-//! The one contract for the layers above is that of [`bench_list`]. On `Ok` the outlet has grown by exactly the texts
-//! of the scenario's trace that were asked for, and the [`Summary`] is that trace's (`specs/Printed.antt`). `Write` is
-//! answered only where a put failed, and then a front part of these texts went out; after any other refusal nothing
-//! was written. Each text is formed whole before the first of its bytes is written, and nothing is ever tried again.
+//! Contracts for the layers above:
+//!
+//! - [`bench_list`] and [`bench_windows`] run a scenario over given machines. On `Ok` the outlet has grown by exactly
+//!   the texts of the scenario's trace that were asked for, the trace is within the limit, and the [`Summary`] is that
+//!   trace's; with the rotating coordinator its outcomes agree, each process decides at most once, and none notes that
+//!   it ends with no value (`Finishes` of `specs/Printed.antt`). `Write` is answered only where a put failed, and then
+//!   a front part of these texts went out; after any other refusal nothing was written, and `Limit` comes only of a
+//!   trace that is longer than the limit (`Refuses`, there too). `bench_list` starts no thread, and never answers
+//!   `Spawn`.
+//! - [`measures`] gives a row for each pair on each layer, by definition, of any trace. In the scenario's trace each
+//!   suspicion of layer 2 has an earlier one of layer 1 for the same process, and each mistake or detection on layer 2
+//!   rests on one (`specs/Resting.antt`).
+//! - [`write_trace`] and [`write_report`] write one text of any trace, whole or a front part (`specs/Writing.antt`).
+//! - [`Outlet`] says what a put does, and [`put_all`] hands on a whole piece up to the first put that fails.
+//!
+//! Each text is formed whole before the first of its bytes is written, and nothing is ever tried again. A trace's text
+//! is formed row by row into one buffer, numbers by their digits; a report's rows are written by `csv`.
 //!
 //! As an example, let process 2 of two crash at tick 3 of 10, and process 1 note at tick 9 that it suspects it. The
 //! report says so in the row `pair,1,1,2,detection,6`: on layer 1, observer 1 and subject 2, 6 ticks.
@@ -25,12 +38,12 @@ mod meter;
 mod outlet;
 mod pair_measures;
 mod panel;
-mod print_choice;
 mod report;
 mod report_rows;
 mod rows;
 mod stream_outlet;
 mod summary;
+mod tail;
 mod tally;
 mod trace_text;
 mod values;

@@ -2,6 +2,7 @@
 ghost use Rattle.std.specs.Prelude.{◌≡◌, ◌++◌, All, IfOk, OnOk, is_some};
 ghost use Rattle.event_list.specs.ScenarioSetting.{setting_of};
 ghost use Rattle.event_list.specs.World.{IsTrace};
+ghost use Rattle.judges.specs.Blame.{SharesSuspicions};
 ghost use Rattle.qos_report.specs.Measures.{all_measures, layer_measures};
 ghost use Rattle.qos_report.specs.Resting.{RestsOnBlame};
 ghost use Rattle.scenario.specs.Ranges.{IsInRange};
@@ -44,9 +45,10 @@ fn is_shared(scenario: &Scenario) -> bool
 /// trace is walked once for each layer, and a pair's counts move only at a note that changes whether it is suspected;
 /// so the work grows with the notes of the trace and with the number of pairs, and not with the ticks.
 ///
-/// In the trace of the scenario, a row of layer 2 with a mistake or a detection rests on a suspicion of layer 1: by a
-/// tick at which the observer suspects the subject, some process's base detector had suspected it, whatever the
-/// algorithm, the links and the crashes.
+/// In the trace of the scenario, each suspicion of layer 2 has an earlier entry with one of layer 1 for the same
+/// process, whatever the algorithm, the links and the crashes. So a row of layer 2 with a mistake or a detection names
+/// a process that some base detector had suspected before: by the tick at which such a mistake starts, and by the tick
+/// at which the suspicion starts that lasts to the horizon.
 ///
 /// # Errors
 ///
@@ -57,11 +59,14 @@ pub fn measures(
     trace: &Trace,
 ) -> Result<Vec<PairMeasures>, AllocError>
     ensures rows { IfOk result (λ rows. rows.items ≡ all_measures scenario.now trace.now) }
-    ensures blame { IfOk result (λ rows. IsTrace (setting_of scenario.now) trace.now → All (RestsOnBlame trace.now) rows.items) }
+    ensures blame { IfOk result (λ rows. IsTrace (setting_of scenario.now) trace.now
+        → All (RestsOnBlame scenario.now trace.now) rows.items) }
+    ensures shares { IsTrace (setting_of scenario.now) trace.now → SharesSuspicions trace.now }
 {
+    let shared = is_shared(scenario);
     let mut rows = Vec::new(alloc);
     measure_layer(alloc, scenario, trace, 1, &mut rows)?;
-    if is_shared(scenario) {
+    if shared {
         measure_layer(alloc, scenario, trace, 2, &mut rows)?;
     }
     Ok(rows)

@@ -1,13 +1,16 @@
 //! An outlet over memory.
-ghost use Rattle.std.specs.Prelude.{◌≡◌, [], Some};
+ghost use Rattle.std.specs.Prelude.{◌≡◌, ◌<◌, ◌≤◌, ◌+◌, ◌-◌, ◌^◌, ◌++◌, [], Some, IfOk, IfErr, MatchResult, length, take};
+ghost use Rattle.std.specs.IoError.{error_kind};
+ghost use Rattle.std.specs.declared.io.ErrorKind.TheVariants.{OutOfMemory};
+ghost use Rattle.qos_report.specs.Outlet.{failures_of};
 
 use crate::outlet::Outlet;
 use std::alloc::Global;
 use std::io;
 use std::marker::Model;
 
-/// An outlet that keeps its bytes in memory. A put fails where memory is refused. Contracts see its bytes and how many
-/// puts failed.
+/// An outlet that keeps its bytes in memory. A put takes its piece whole, and fails only where memory is refused.
+/// Contracts see its bytes and how many puts failed.
 #[derive(Debug, Drop)]
 pub struct MemoryOutlet {
     bytes: Vec<u8>,
@@ -46,7 +49,15 @@ impl Outlet for MemoryOutlet {
 
     ghost failed = { λ o. o.failures };
 
-    fn put(&mut self, piece: &[u8]) -> io::Result<usize> {
+    fn put(&mut self, piece: &[u8]) -> io::Result<usize>
+        requires { self.old.failures < 2 ^ 64 - 1 }
+        ensures bound { IfOk result (λ taken. taken ≤ length piece.now) }
+        ensures bytes { MatchResult result (λ taken. self.new.bytes ≡ self.old.bytes ++ take taken piece.now)
+            (λ _. self.new.bytes ≡ self.old.bytes) }
+        ensures count { self.new.failures ≡ self.old.failures + failures_of result piece.now }
+        ensures whole { IfOk result (λ taken. taken ≡ length piece.now) }
+        ensures refused { IfErr result (λ error. error_kind error ≡ OutOfMemory) }
+    {
         match self.bytes.extend_from_slice(piece) {
             Ok(()) => Ok(piece.len()),
             Err(error) => {

@@ -21,7 +21,8 @@ pub trait Outlet {
     fn put(&mut self, piece: &[u8]) -> io::Result<usize>
         requires { failed self.old < 2 ^ 64 - 1 }
         ensures bound { IfOk result (λ taken. taken ≤ length piece.now) }
-        ensures bytes { MatchResult result (λ taken. Appends (told self.old) (told self.new) (take taken piece.now)) (λ _. Keeps (told self.old) (told self.new)) }
+        ensures bytes { MatchResult result (λ taken. Appends (told self.old) (told self.new) (take taken piece.now))
+            (λ _. Keeps (told self.old) (told self.new)) }
         ensures count { failed self.new ≡ failed self.old + failures_of result piece.now };
 
     /// How many puts failed: they answered `Err`, or 0 for a piece that isn't empty.

@@ -34,7 +34,9 @@ fn meter_at(scenario: &Scenario, layer: u8, place: u16) -> Meter
 /// The meters of all pairs.
 fn open_meters(alloc: Global, scenario: &Scenario, layer: u8) -> Result<Vec<Meter>, AllocError>
     ensures count { IfOk result (λ meters. vec_len meters ≡ scenario.now.processes * scenario.now.processes) }
-    ensures each { IfOk result (λ meters. (k : ℕ) (d : MeterRecord) → k < scenario.now.processes * scenario.now.processes → get_or meters.items k d ≡ opened_at scenario.now layer k) }
+    ensures each { IfOk result (λ meters. (k : ℕ) (d : MeterRecord)
+        → k < scenario.now.processes * scenario.now.processes
+        → get_or meters.items k d ≡ opened_at scenario.now layer k) }
 {
     let pairs = scenario.processes() * scenario.processes();
     let mut meters = Vec::with_capacity(alloc, usize::from(pairs))?;
@@ -139,7 +141,8 @@ impl Panel {
 
     /// One more entry. Takes no memory.
     pub fn feed(&mut self, entry: &Entry)
-        ensures { (S : Record) (layer : ℕ) (trace : List EntryRecord) → IsMetering S layer trace self.old → AreUntil trace entry.now.key.tick → IsMetering S layer (trace ++ entry.now ∷ []) self.new }
+        ensures { (S : Record) (layer : ℕ) (trace : List EntryRecord) → IsMetering S layer trace self.old
+            → AreUntil trace entry.now.key.tick → IsMetering S layer (trace ++ entry.now ∷ []) self.new }
     {
         if entry.key.tick < self.horizon {
             note_all(
@@ -154,7 +157,8 @@ impl Panel {
 
     /// Adds the measures of each observer and each other subject, as no entry follows.
     pub fn close(self, rows: &mut Vec<PairMeasures>) -> Result<(), AllocError>
-        ensures { OnOk result ((S : Record) (layer : ℕ) (trace : List EntryRecord) → IsMetering S layer trace self → rows.new.items ≡ rows.old.items ++ layer_measures S trace layer) }
+        ensures { OnOk result ((S : Record) (layer : ℕ) (trace : List EntryRecord) → IsMetering S layer trace self
+            → rows.new.items ≡ rows.old.items ++ layer_measures S trace layer) }
     {
         for row in 0..self.processes {
             close_row(&self.meters, self.processes, row, rows)?;

@@ -31,7 +31,8 @@ fn push_layer(
     requires layer { (1 ≤ layer) × (layer ≤ 2) }
     requires between { IsBetweenRows rows.old }
     ensures between { OnOk result (IsBetweenRows rows.new) }
-    ensures text { OnOk result (text_of rows.new ≡ text_of rows.old ++ verdict_text layer (verdicts scenario.now trace.now layer)) }
+    ensures text { OnOk result (text_of rows.new ≡ text_of rows.old
+        ++ verdict_text layer (verdicts scenario.now trace.now layer)) }
 {
     let verdicts = judge(alloc, scenario, trace, layer)?;
     push_verdicts(rows, layer, &verdicts)
@@ -46,7 +47,8 @@ fn push_layers(
 ) -> Result<(), AllocError>
     requires { IsBetweenRows rows.old }
     ensures between { OnOk result (IsBetweenRows rows.new) }
-    ensures text { OnOk result (text_of rows.new ≡ text_of rows.old ++ flat_map (λ layer. verdict_text layer (verdicts scenario.now trace.now layer)) (layers scenario.now)) }
+    ensures text { OnOk result (text_of rows.new ≡ text_of rows.old
+        ++ flat_map (λ layer. verdict_text layer (verdicts scenario.now trace.now layer)) (layers scenario.now)) }
 {
     push_layer(alloc, rows, scenario, trace, 1)?;
     match scenario.share() {

@@ -31,7 +31,9 @@ fn push_value(
 ) -> Result<(), AllocError>
     requires { IsBetweenRows rows.old }
     ensures between { OnOk result (IsBetweenRows rows.new) }
-    ensures text { OnOk result (text_of rows.new ≡ text_of rows.old ++ report_row about.now.section.now about.now.layer about.now.observer about.now.subject (name.now, value_text value)) }
+    ensures text { OnOk result (text_of rows.new ≡ text_of rows.old
+        ++ report_row about.now.section.now about.now.layer about.now.observer about.now.subject
+        (name.now, value_text value)) }
 {
     let mut layer = Buffer::new();
     let mut observer = Buffer::new();
@@ -57,7 +59,9 @@ fn push_values(
 ) -> Result<(), AllocError>
     requires { IsBetweenRows rows.old }
     ensures between { OnOk result (IsBetweenRows rows.new) }
-    ensures text { OnOk result (text_of rows.new ≡ text_of rows.old ++ report_rows about.now.section.now about.now.layer about.now.observer about.now.subject (map (λ v. (v.0.now, value_text v.1)) values.now)) }
+    ensures text { OnOk result (text_of rows.new ≡ text_of rows.old
+        ++ report_rows about.now.section.now about.now.layer about.now.observer about.now.subject
+        (map (λ v. (v.0.now, value_text v.1)) values.now)) }
 {
     for (name, value) in values {
         push_value(rows, about, name, *value)?;
@@ -69,7 +73,8 @@ fn push_values(
 pub(crate) fn push_run(rows: &mut Rows, summary: &Summary) -> Result<(), AllocError>
     requires { IsBetweenRows rows.old }
     ensures between { OnOk result (IsBetweenRows rows.new) }
-    ensures text { OnOk result (text_of rows.new ≡ text_of rows.old ++ run_text summary.now.entries summary.now.sent summary.now.lost) }
+    ensures text { OnOk result (text_of rows.new ≡ text_of rows.old
+        ++ run_text summary.now.entries summary.now.sent summary.now.lost) }
 {
     let about = About {
         section: "run",

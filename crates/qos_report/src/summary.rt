@@ -1,7 +1,7 @@
 //! What is told of a run in a few numbers.
-ghost use Rattle.std.specs.Prelude.{◌≡◌, IfOk, length};
+ghost use Rattle.std.specs.Prelude.{◌≡◌, IfOk, OnOk, length};
 ghost use Rattle.std.specs.List.{sum_by};
-ghost use Rattle.judges.specs.Agreement.{Agree, IsCoordinated};
+ghost use Rattle.judges.specs.Agreement.{Agrees, IsCoordinated};
 ghost use Rattle.qos_report.specs.Summary.{IsSummary};
 
 use judges::{Outcome, decisions};
@@ -38,7 +38,8 @@ fn count_letters(entries: &[Entry]) -> (u128, u128)
     (sent, lost)
 }
 
-/// The summary of a finished trace. In the trace of a scenario with the rotating coordinator its outcomes agree.
+/// The summary of a finished trace. In the trace of a scenario with the rotating coordinator its outcomes agree, and
+/// whoever decides does so once.
 ///
 /// # Errors
 ///
@@ -49,7 +50,7 @@ pub(crate) fn summarize(
     trace: &Trace,
 ) -> Result<Summary, AllocError>
     ensures summed { IfOk result (IsSummary scenario.now trace.now) }
-    ensures agree { IfOk result (λ summary. IsCoordinated scenario.now trace.now → Agree scenario.now summary.outcomes.items) }
+    ensures agree { OnOk result (IsCoordinated scenario.now trace.now → Agrees scenario.now trace.now) }
 {
     let entries = trace.entries();
     let (sent, lost) = count_letters(entries);

@@ -1,11 +1,11 @@
 //! The text of a trace.
-ghost use Rattle.std.specs.Prelude.{◌≡◌, ◌++◌, ◌∷◌, OnOk, IfOk, string_bytes};
+ghost use Rattle.std.specs.Prelude.{◌≡◌, ◌≤◌, ◌++◌, ◌∷◌, [], length, OnOk, IfOk};
 ghost use Rattle.std.specs.List.{flat_map};
-ghost use Rattle.qos_report.specs.Rows.{IsBetweenRows, text_of, row_of};
-ghost use Rattle.qos_report.specs.TraceText.{notes_text, fields_of, note_text, kind_text, trace_text};
+ghost use Rattle.qos_report.specs.Rows.{row_of, with_commas};
+ghost use Rattle.qos_report.specs.Tail.{text_of};
+ghost use Rattle.qos_report.specs.TraceText.{notes_text, fields_of, first_fields_of, note_text, kind_text, trace_text};
 
-use crate::rows::Rows;
-use itoa::Buffer;
+use crate::tail::Tail;
 use process_api::{Entry, Kind, Note};
 use std::alloc::{AllocError, Global};
 
@@ -14,7 +14,8 @@ const HEADER: &[u8] = b"tick,receiver,sender,number,kind,sent,lost,notes\n";
 
 /// The name of a kind.
 fn name_of(kind: Kind) -> &'static str
-    ensures { result.now ≡ kind_text kind }
+    ensures text { result.now ≡ kind_text kind }
+    ensures short { length result.now ≤ 8 }
 {
     match kind {
         Kind::Start => "start",
@@ -34,73 +35,86 @@ fn name_of(kind: Kind) -> &'static str
 }
 
 /// The text of a note.
-fn text_of_note(alloc: Global, note: Note) -> Result<String, AllocError>
-    ensures { IfOk result (λ text. string_bytes text ≡ note_text note) }
+fn text_of_note(note: Note) -> Tail
+    ensures text { text_of result ≡ note_text note }
+    ensures room { 1 ≤ result.start }
 {
+    let mut text = Tail::new();
     match note {
         Note::Suspect { layer, who } => {
-            let who = who.number();
-            format!(in alloc; "suspect:{layer}:{who}")
+            text.put_number(u64::from(who.number()));
+            text.put_field(u64::from(layer), b':');
+            text.put_word(b"suspect:");
         }
         Note::Trust { layer, who } => {
-            let who = who.number();
-            format!(in alloc; "trust:{layer}:{who}")
+            text.put_number(u64::from(who.number()));
+            text.put_field(u64::from(layer), b':');
+            text.put_word(b"trust:");
         }
-        Note::Round(round) => format!(in alloc; "round:{round}"),
-        Note::Decided(value) => format!(in alloc; "decided:{value}"),
-        Note::NoValue => String::from_str(alloc, "novalue"),
+        Note::Round(round) => {
+            text.put_number(round);
+            text.put_word(b"round:");
+        }
+        Note::Decided(value) => {
+            text.put_number(u64::from(value));
+            text.put_word(b"decided:");
+        }
+        Note::NoValue => text.put_word(b"novalue"),
     }
+    text
 }
 
 /// Appends these notes, each after a space.
-fn append_notes(alloc: Global, text: &mut String, notes: &[Note]) -> Result<(), AllocError>
-    ensures { OnOk result (string_bytes text.new ≡ string_bytes text.old ++ flat_map (λ n. 32 ∷ note_text n) notes.now) }
+fn append_others(text: &mut Vec<u8>, notes: &[Note]) -> Result<(), AllocError>
+    ensures { OnOk result (text.new.items ≡ text.old.items ++ flat_map (λ n. 32 ∷ note_text n) notes.now) }
 {
     for note in notes {
-        let more = text_of_note(alloc, *note)?;
-        text.push_str(" ")?;
-        text.push_str(&more)?;
+        let mut more = text_of_note(*note);
+        more.put_byte(b' ');
+        text.extend_from_slice(more.as_bytes())?;
     }
     Ok(())
 }
 
-/// The text of an entry's notes.
-fn text_of_notes(alloc: Global, notes: &[Note]) -> Result<String, AllocError>
-    ensures { IfOk result (λ text. string_bytes text ≡ notes_text notes.now) }
+/// Appends the text of an entry's notes.
+fn append_notes(text: &mut Vec<u8>, notes: &[Note]) -> Result<(), AllocError>
+    ensures { OnOk result (text.new.items ≡ text.old.items ++ notes_text notes.now) }
 {
     match notes.split_first() {
-        None => Ok(String::new(alloc)),
+        None => Ok(()),
         Some((first, others)) => {
-            let mut text = text_of_note(alloc, *first)?;
-            append_notes(alloc, &mut text, others)?;
-            Ok(text)
+            let first = text_of_note(*first);
+            text.extend_from_slice(first.as_bytes())?;
+            append_others(text, others)
         }
     }
 }
 
-/// Adds the row of an entry.
-fn push_entry(alloc: Global, rows: &mut Rows, entry: &Entry) -> Result<(), AllocError>
-    requires { IsBetweenRows rows.old }
-    ensures between { OnOk result (IsBetweenRows rows.new) }
-    ensures text { OnOk result (text_of rows.new ≡ text_of rows.old ++ row_of (fields_of entry.now)) }
+/// The row of an entry up to its notes.
+fn text_of_front(entry: &Entry) -> Tail
+    ensures { text_of result ≡ with_commas (first_fields_of entry.now) }
 {
-    let mut tick = Buffer::new();
-    let mut receiver = Buffer::new();
-    let mut sender = Buffer::new();
-    let mut number = Buffer::new();
-    let mut sent = Buffer::new();
-    let mut lost = Buffer::new();
-    let notes = text_of_notes(alloc, &entry.notes)?;
-    rows.push(&[
-        tick.format(entry.key.tick).as_bytes(),
-        receiver.format(entry.key.receiver.number()).as_bytes(),
-        sender.format(entry.key.sender.number()).as_bytes(),
-        number.format(entry.key.number).as_bytes(),
-        name_of(entry.kind).as_bytes(),
-        sent.format(entry.sent).as_bytes(),
-        lost.format(entry.lost).as_bytes(),
-        notes.as_bytes(),
-    ])
+    let mut text = Tail::new();
+    text.put_field(u64::from(entry.lost), b',');
+    text.put_field(u64::from(entry.sent), b',');
+    text.put_byte(b',');
+    text.put_word(name_of(entry.kind).as_bytes());
+    text.put_field(entry.key.number, b',');
+    text.put_field(u64::from(entry.key.sender.number()), b',');
+    text.put_field(u64::from(entry.key.receiver.number()), b',');
+    text.put_field(u64::from(entry.key.tick), b',');
+    text
+}
+
+/// Appends the row of an entry.
+fn append_entry(text: &mut Vec<u8>, entry: &Entry) -> Result<(), AllocError>
+    ensures { OnOk result (text.new.items ≡ text.old.items ++ row_of (fields_of entry.now)) }
+{
+    let front = text_of_front(entry);
+    text.extend_from_slice(front.as_bytes())?;
+    append_notes(text, &entry.notes)?;
+    text.push(b'\n')?;
+    Ok(())
 }
 
 /// The text of a trace: the header, and a row for each entry.
@@ -112,9 +126,9 @@ fn push_entry(alloc: Global, rows: &mut Rows, entry: &Entry) -> Result<(), Alloc
 pub(crate) fn text_of_trace(alloc: Global, entries: &[Entry]) -> Result<Vec<u8>, AllocError>
     ensures { IfOk result (λ text. text.items ≡ trace_text entries.now) }
 {
-    let mut rows = Rows::new(alloc, HEADER)?;
+    let mut text = Vec::from_slice(alloc, HEADER)?;
     for entry in entries {
-        push_entry(alloc, &mut rows, entry)?;
+        append_entry(&mut text, entry)?;
     }
-    rows.into_text()
+    Ok(text)
 }

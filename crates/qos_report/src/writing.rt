@@ -1,19 +1,18 @@
 //! Writing the texts of a finished trace.
-ghost use Rattle.std.specs.Prelude.{◌≡◌, ◌≢◌, ◌^◌, ◌-◌, ◌+◌, ◌<◌, Err, OnOk, IfOk};
-ghost use Rattle.std.specs.Io.KnownBytes.{Appends};
-ghost use Rattle.qos_report.specs.Outlet.{Grows};
+ghost use Rattle.std.specs.Prelude.{◌≡◌, ◌≢◌, ◌^◌, ◌-◌, ◌+◌, ◌<◌, Err, OnOk, IfErr, IfOk};
+ghost use Rattle.judges.specs.Agreement.{Agrees, IsCoordinated};
 ghost use Rattle.qos_report.specs.Printed.{printed};
 ghost use Rattle.qos_report.specs.ReportText.{report_text};
-ghost use Rattle.judges.specs.Agreement.{Agree, IsCoordinated};
 ghost use Rattle.qos_report.specs.Summary.{IsSummary};
 ghost use Rattle.qos_report.specs.TraceText.{trace_text};
+ghost use Rattle.qos_report.specs.Writing.{Wrote, WrotePart, WroteNothing};
 
 use crate::outlet::{Outlet, put_all};
-use crate::print_choice::PrintChoice;
 use crate::report::text_of_report;
 use crate::summary::{Summary, summarize};
 use crate::trace_text::text_of_trace;
 use event_list::RunError;
+use print_choice::PrintChoice;
 use process_api::Trace;
 use scenario::Scenario;
 use std::alloc::{AllocError, Global};
@@ -21,9 +20,9 @@ use std::alloc::{AllocError, Global};
 /// Writes a text that is whole, or answers `Write` at the first put that fails.
 fn write_text<O: Outlet>(text: &[u8], outlet: &mut O) -> Result<(), RunError>
     requires { O.failed outlet.old < 2 ^ 64 - 1 }
-    ensures whole { OnOk result (Appends (O.told outlet.old) (O.told outlet.new) text.now × (O.failed outlet.new ≡ O.failed outlet.old)) }
-    ensures part { result ≡ Err RunError.Write → Grows (O.told outlet.old) (O.told outlet.new) text.now × (O.failed outlet.new ≡ O.failed outlet.old + 1) }
-    ensures only { (result ≢ Err RunError.Limit) × (result ≢ Err RunError.Memory) × (result ≢ Err RunError.Spawn) }
+    ensures whole { OnOk result (Wrote O.told O.failed outlet.old outlet.new text.now) }
+    ensures part { result ≡ Err RunError.Write → WrotePart O.told O.failed outlet.old outlet.new text.now }
+    ensures only { IfErr result (λ reason. reason ≡ RunError.Write) }
 {
     if put_all(outlet, text) {
         Ok(())
@@ -41,9 +40,10 @@ fn write_text<O: Outlet>(text: &[u8], outlet: &mut O) -> Result<(), RunError>
 /// text went out.
 pub fn write_trace<O: Outlet>(alloc: Global, trace: &Trace, outlet: &mut O) -> Result<(), RunError>
     requires { O.failed outlet.old < 2 ^ 64 - 1 }
-    ensures whole { OnOk result (Appends (O.told outlet.old) (O.told outlet.new) (trace_text trace.now) × (O.failed outlet.new ≡ O.failed outlet.old)) }
-    ensures part { result ≡ Err RunError.Write → Grows (O.told outlet.old) (O.told outlet.new) (trace_text trace.now) × (O.failed outlet.new ≡ O.failed outlet.old + 1) }
-    ensures memory { result ≡ Err RunError.Memory → (O.told outlet.new ≡ O.told outlet.old) × (O.failed outlet.new ≡ O.failed outlet.old) }
+    ensures whole { OnOk result (Wrote O.told O.failed outlet.old outlet.new (trace_text trace.now)) }
+    ensures part { result ≡ Err RunError.Write
+        → WrotePart O.told O.failed outlet.old outlet.new (trace_text trace.now) }
+    ensures memory { result ≡ Err RunError.Memory → WroteNothing O.told O.failed outlet.old outlet.new }
     ensures only { (result ≢ Err RunError.Limit) × (result ≢ Err RunError.Spawn) }
 {
     match text_of_trace(alloc, trace.entries()) {
@@ -78,9 +78,10 @@ pub fn write_report<O: Outlet>(
     outlet: &mut O,
 ) -> Result<(), RunError>
     requires { O.failed outlet.old < 2 ^ 64 - 1 }
-    ensures whole { OnOk result (Appends (O.told outlet.old) (O.told outlet.new) (report_text scenario.now trace.now) × (O.failed outlet.new ≡ O.failed outlet.old)) }
-    ensures part { result ≡ Err RunError.Write → Grows (O.told outlet.old) (O.told outlet.new) (report_text scenario.now trace.now) × (O.failed outlet.new ≡ O.failed outlet.old + 1) }
-    ensures memory { result ≡ Err RunError.Memory → (O.told outlet.new ≡ O.told outlet.old) × (O.failed outlet.new ≡ O.failed outlet.old) }
+    ensures whole { OnOk result (Wrote O.told O.failed outlet.old outlet.new (report_text scenario.now trace.now)) }
+    ensures part { result ≡ Err RunError.Write
+        → WrotePart O.told O.failed outlet.old outlet.new (report_text scenario.now trace.now) }
+    ensures memory { result ≡ Err RunError.Memory → WroteNothing O.told O.failed outlet.old outlet.new }
     ensures only { (result ≢ Err RunError.Limit) × (result ≢ Err RunError.Spawn) }
 {
     match text_of_whole_report(alloc, scenario, trace) {
@@ -127,11 +128,12 @@ pub(crate) fn write_run<O: Outlet>(
     outlet: &mut O,
 ) -> Result<Summary, RunError>
     requires { O.failed outlet.old < 2 ^ 64 - 1 }
-    ensures whole { IfOk result (λ summary. Appends (O.told outlet.old) (O.told outlet.new) (printed print scenario.now trace.now) × (O.failed outlet.new ≡ O.failed outlet.old)) }
+    ensures whole { OnOk result (Wrote O.told O.failed outlet.old outlet.new (printed print scenario.now trace.now)) }
     ensures summed { IfOk result (IsSummary scenario.now trace.now) }
-    ensures agree { IfOk result (λ summary. IsCoordinated scenario.now trace.now → Agree scenario.now summary.outcomes.items) }
-    ensures part { result ≡ Err RunError.Write → Grows (O.told outlet.old) (O.told outlet.new) (printed print scenario.now trace.now) × (O.failed outlet.new ≡ O.failed outlet.old + 1) }
-    ensures memory { result ≡ Err RunError.Memory → (O.told outlet.new ≡ O.told outlet.old) × (O.failed outlet.new ≡ O.failed outlet.old) }
+    ensures agree { OnOk result (IsCoordinated scenario.now trace.now → Agrees scenario.now trace.now) }
+    ensures part { result ≡ Err RunError.Write
+        → WrotePart O.told O.failed outlet.old outlet.new (printed print scenario.now trace.now) }
+    ensures memory { result ≡ Err RunError.Memory → WroteNothing O.told O.failed outlet.old outlet.new }
     ensures only { (result ≢ Err RunError.Limit) × (result ≢ Err RunError.Spawn) }
 {
     let summary = summarize(alloc, scenario, trace)?;

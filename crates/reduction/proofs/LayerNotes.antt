@@ -9,7 +9,7 @@ use Rattle.process_api.specs.Numbers.{numbers_to, others}
 use Rattle.process_api.specs.Place.{Place}
 use Rattle.process_api.specs.Reduction.{ReductionState, gathered, next_share, step_reduction}
 use Rattle.process_api.specs.Sets.{Processes, changes, gone}
-use Rattle.process_api.specs.Timeout.{DetectorState, alive_to_others, next_beat, next_check, late, noticed, trusted_again, watches, step_detector}
+use Rattle.process_api.specs.Timeout.{DetectorState, alive_to_others, next_beat, next_check, overdue, noticed, trusted_again, watches, step_detector}
 use Rattle.process_api.specs.declared.action.Action.{Action}
 use Rattle.process_api.specs.declared.action.Action.TheVariants as action
 use Rattle.process_api.specs.declared.action.Note.TheVariants as note
@@ -46,7 +46,7 @@ detector_notes place numbers s now input.Start =
     without_layer (alive_to_others place numbers) (next_beat place numbers ++ next_check place numbers) (no_letters 2 payload.Alive (others place.processes place.own)) refl
 detector_notes place numbers s now (input.Wake tag.Beat) = without_layer (alive_to_others place numbers) (next_beat place numbers) (no_letters 2 payload.Alive (others place.processes place.own)) refl
 detector_notes place numbers s now (input.Wake tag.Check) =
-    without_layer (map (λ q. action.Note (note.Suspect 1 q)) (late place numbers s now)) (next_check place numbers) (no_suspicions (late place numbers s now)) refl
+    without_layer (map (λ q. action.Note (note.Suspect 1 q)) (overdue place numbers s now)) (next_check place numbers) (no_suspicions (overdue place numbers s now)) refl
 detector_notes place numbers s now (input.Letter q payload.Alive) = by_watch (watches place numbers q) (set.contains s.suspects q)
   where
     by_watch : (b c : Bool) → notes_of_layer 2 (cond b (cond c (trusted_again place numbers s now q) (still (noticed place numbers s now q))) (still s)).actions ≡ []

@@ -47,7 +47,8 @@ fn note_suspicions(
     out: &mut Vec<Action>,
 ) -> Result<(), AllocError>
     requires { processes ≤ 64 }
-    ensures { OnOk result (out.new.items ≡ out.old.items ++ map Action.Note (map (Note.Suspect 2) (gone processes new.now old.now))) }
+    ensures { OnOk result (
+        out.new.items ≡ out.old.items ++ map Action.Note (map (Note.Suspect 2) (gone processes new.now old.now))) }
 {
     for before in 0..processes {
         let who = process_after(before);
@@ -66,7 +67,8 @@ fn note_trusts(
     out: &mut Vec<Action>,
 ) -> Result<(), AllocError>
     requires { processes ≤ 64 }
-    ensures { OnOk result (out.new.items ≡ out.old.items ++ map Action.Note (map (Note.Trust 2) (gone processes old.now new.now))) }
+    ensures { OnOk result (
+        out.new.items ≡ out.old.items ++ map Action.Note (map (Note.Trust 2) (gone processes old.now new.now))) }
 {
     for before in 0..processes {
         let who = process_after(before);
@@ -95,13 +97,12 @@ pub struct Gathering {
 
 impl Gathering {
     ghost use Rattle.std.specs.Prelude.{ℕ};
-    ghost use Rattle.process_api.specs.Reduction.{gathered as gathered_at, step_reduction};
     ghost use Rattle.process_api.specs.Sets.{Processes};
-    ghost use Rattle.reduction.specs.Parts.{place_of, state_of};
+    ghost use Rattle.reduction.specs.Parts.{state_of, gathered_by, answer_of};
 
     /// Whom the process suspects once it has the suspects of a sender, which is alive.
     fn gathered(&self, sender: Pid, shared: &ProcSet) -> ProcSet
-        ensures value { (horizon : ℕ) → result ≡ gathered_at (place_of self.now horizon) self.now.output sender shared.now }
+        ensures value { (horizon : ℕ) → result ≡ gathered_by self.now horizon sender shared.now }
         ensures not_itself { set.contains result self.now.own ≡ false }
     {
         let mut output = self.output.union(&shared.up_to(self.processes));
@@ -121,8 +122,11 @@ impl Gathering {
         ensures own { self.new.own ≡ self.old.own }
         ensures processes { self.new.processes ≡ self.old.processes }
         ensures period { self.new.period ≡ self.old.period }
-        ensures output { (horizon : ℕ) → OnOk result (self.new.output ≡ gathered_at (place_of self.old horizon) self.old.output sender shared.now) }
-        ensures notes { OnOk result (out.new.items ≡ out.old.items ++ map Action.Note (changes 2 self.old.processes self.old.output self.new.output)) }
+        ensures output { (horizon : ℕ) → OnOk result (
+            self.new.output ≡ gathered_by self.old horizon sender shared.now) }
+        ensures notes { OnOk result (
+            out.new.items
+            ≡ out.old.items ++ map Action.Note (changes 2 self.old.processes self.old.output self.new.output)) }
     {
         let output = self.gathered(sender, shared);
         note_suspicions(self.processes, &self.output, &output, out)?;
@@ -141,8 +145,11 @@ impl Gathering {
         ensures own { self.new.own ≡ self.old.own }
         ensures processes { self.new.processes ≡ self.old.processes }
         ensures period { self.new.period ≡ self.old.period }
-        ensures state { (horizon : ℕ) (suspects : Processes) → OnOk result (state_of self.new ≡ (step_reduction (place_of self.old horizon) (state_of self.old) suspects (StepInput.Letter sender payload.now)).state) }
-        ensures actions { (horizon : ℕ) (suspects : Processes) → OnOk result (out.new.items ≡ out.old.items ++ (step_reduction (place_of self.old horizon) (state_of self.old) suspects (StepInput.Letter sender payload.now)).actions) }
+        ensures state { (horizon : ℕ) (suspects : Processes) → OnOk result (
+            state_of self.new ≡ (answer_of self.old horizon suspects (StepInput.Letter sender payload.now)).state) }
+        ensures actions { (horizon : ℕ) (suspects : Processes) → OnOk result (
+            out.new.items
+            ≡ out.old.items ++ (answer_of self.old horizon suspects (StepInput.Letter sender payload.now)).actions) }
     {
         match payload {
             Payload::Suspects(shared) => self.gather(sender, shared, out),
@@ -160,8 +167,10 @@ impl Gathering {
         ensures own { self.new.own ≡ self.old.own }
         ensures processes { self.new.processes ≡ self.old.processes }
         ensures period { self.new.period ≡ self.old.period }
-        ensures state { (horizon : ℕ) → OnOk result (state_of self.new ≡ (step_reduction (place_of self.old horizon) (state_of self.old) suspects.now input.now).state) }
-        ensures actions { (horizon : ℕ) → OnOk result (out.new.items ≡ out.old.items ++ (step_reduction (place_of self.old horizon) (state_of self.old) suspects.now input.now).actions) }
+        ensures state { (horizon : ℕ) → OnOk result (
+            state_of self.new ≡ (answer_of self.old horizon suspects.now input.now).state) }
+        ensures actions { (horizon : ℕ) → OnOk result (
+            out.new.items ≡ out.old.items ++ (answer_of self.old horizon suspects.now input.now).actions) }
     {
         match input {
             StepInput::Start => wake_after(out, self.period, Tag::Share),

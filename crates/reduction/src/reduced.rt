@@ -28,7 +28,8 @@ impl<D: Detector> Reduced<D> {
         requires shares { IsSome opening.now.share }
         requires base { layer_of (D.lower detector) ≡ 1 }
         requires place { (D.lower detector).place ≡ place_of opening.now }
-        ensures lower { ⟦<Reduced<D> as Detector>⟧.lower result ≡ record (D.lower detector) { reduction = option_map opening_reduction opening.now.share } }
+        ensures lower { ⟦<Reduced<D> as Detector>⟧.lower result
+            ≡ record (D.lower detector) { reduction = option_map opening_reduction opening.now.share } }
         ensures alive { ⟦<Reduced<D> as Detector>⟧.has_failed result ≡ false }
     {
         match opening.share {

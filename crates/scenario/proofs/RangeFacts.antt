@@ -5,6 +5,7 @@ use Rattle.std.specs.List.{range_with_len, flat_map, list_any}
 use Rattle.std.specs.List.{slice_get}
 use Rattle.std.proofs.lemmas.Bool.{leb-true, ltb-false, ne_eqb, eqb-true, eqb-false}
 use Rattle.std.proofs.lemmas.List.{length-map}
+use Rattle.std.proofs.lemmas.List.FromFn.{length-map-range_with_len}
 use Rattle.std.proofs.lemmas.List.Folds.{list_any-append}
 use Rattle.toml.specs.Data.{Members}
 use Rattle.scenario.specs.Numbers.{AreInRange, is_idle}
@@ -94,6 +95,11 @@ some_inside [] i lt = absurd (omega arith)
 some_inside (x ∷ xs) zero lt = refl
 some_inside (x ∷ xs) (suc i) lt = some_inside xs i (omega arith)
 
+none_past : (xs : List ℕ) (i : ℕ) → length xs ≤ i → slice_get xs i ≡ None
+none_past [] i le = refl
+none_past (x ∷ xs) zero le = absurd (omega arith)
+none_past (x ∷ xs) (suc i) le = none_past xs i (omega arith)
+
 -- ---- the links and the crashes
 
 link_in_range : (l : Members) → is_bad_link l ≡ false → IsLink (delays_of l)
@@ -149,6 +155,17 @@ each_in_range f good (x ∷ xs) (suc i) = each_in_range f good xs i
 crashes_in_range : (n : ℕ) (tables : List Members) (i : ℕ) → are_bad_crashes n tables ≡ false → IfSome (get_or (crashes_among tables n) i None) (λ at. at ≤ 10000000)
 unfolding crashes_among
 crashes_in_range n tables i clean = each_in_range (crash_among tables) (λ p. crash_in_range n tables p clean) (range_with_len 1 n) i
+
+no_tick_past : (ticks : List (Option ℕ)) (i : ℕ) → length ticks ≤ i → get_or ticks i None ≡ None
+no_tick_past [] i le = refl
+no_tick_past (x ∷ xs) zero le = absurd (omega arith)
+no_tick_past (x ∷ xs) (suc i) le = no_tick_past xs i (omega arith)
+
+no_crash_above : (n : ℕ) (tables : List Members) (p : ℕ) → n < p → get_or (crashes_among tables n) (p - 1) None ≡ None
+unfolding crashes_among
+no_crash_above n tables p above =
+    let full : length (map (crash_among tables) (range_with_len 1 n)) ≡ n = length-map-range_with_len (crash_among tables) 1 n in
+    no_tick_past (map (crash_among tables) (range_with_len 1 n)) (p - 1) (omega arith)
 
 -- ---- pairs
 
@@ -235,6 +252,18 @@ proposed_each kind.Idle n t e i lt = rw (no_key (codes "proposals") t e) refl
 proposed_each kind.Strong n t e i lt = one_of_each n t i e lt
 proposed_each kind.EventuallyStrong n t e i lt = one_of_each n t i e lt
 
+none_of_more : (n : ℕ) (t : Members) (i : ℕ) → are_other_than n (has_key (codes "proposals") t) (integers_at (codes "proposals") t) ≡ false → n ≤ i
+    → slice_get (map natural (integers_at (codes "proposals") t)) i ≡ None
+none_of_more n t i e le =
+    let count = (not_other n (has_key (codes "proposals") t) (integers_at (codes "proposals") t) e).0 in
+    none_past (map natural (integers_at (codes "proposals") t)) i (simp length-map (rw count le))
+
+none_proposed : (k : AlgorithmKind) (n : ℕ) (t : Members) → are_bad_proposals (Some k) n (has_key (codes "proposals") t) (integers_at (codes "proposals") t) ≡ false
+    → (i : ℕ) → n ≤ i → slice_get (map natural (integers_at (codes "proposals") t)) i ≡ None
+none_proposed kind.Idle n t e i le = rw (no_key (codes "proposals") t e) refl
+none_proposed kind.Strong n t e i le = none_of_more n t i e le
+none_proposed kind.EventuallyStrong n t e i le = none_of_more n t i e le
+
 -- ---- all of it
 
 pub in_range : (t : Members) → Passes table_rules (Some t) → number_at (codes "seed") 0 t < 2 ^ 63 → IsInRange (record_of t)
@@ -265,6 +294,8 @@ in_range t passes seed =
       proposals = λ p. for_some (proposal (record_of t) p) (λ value. value < 2 ^ 32) (accepted_proposals (unwrap_or (algorithm_in t) kind.Idle) (processes_of t) t proposals (p - 1));
       proposed = λ p low high. proposed_each (unwrap_or (algorithm_in t) kind.Idle) (processes_of t) t proposals (p - 1) (omega arith);
       crashes = λ p. for_some (crash (record_of t) p) (λ at. at ≤ 10000000) (crashes_in_range (processes_of t) (tables_at (codes "crash") t) (p - 1) parts.1.1.1.1.1.1.0);
+      proposed_above = λ p above. none_proposed (unwrap_or (algorithm_in t) kind.Idle) (processes_of t) t proposals (p - 1) (omega arith);
+      crashed_above = λ p above. no_crash_above (processes_of t) (tables_at (codes "crash") t) p above;
       linked = links_length (delays_of (table_or_empty (codes "link") t)) (tables_at (codes "links") t) (processes_of t);
       links = λ from to from_low from_high to_low to_high.
           let good : AreProcesses (processes_of t) (from, to) = record { from = record { low = from_low; high = from_high }; to = record { low = to_low; high = to_high } } in

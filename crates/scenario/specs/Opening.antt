@@ -14,7 +14,12 @@ place_of o = record { own = o.own; processes = o.processes; horizon = o.horizon 
 
 -- the base detector alone
 abbrev pub base_of : Opening → Lower
-base_of o = record { place = place_of o; numbers = o.detector; detector = opening_detector o.detector; reduction = None }
+base_of o = record {
+  place = place_of o;
+  numbers = o.detector;
+  detector = opening_detector o.detector;
+  reduction = None;
+}
 
 -- the detector, and the reduction where there is one
 abbrev pub lower_of : Opening → Lower

@@ -1,7 +1,11 @@
 -- What the code has read so far, seen as parts of the definitions.
-use Rattle.std.specs.Prelude.{◌≡◌, ◌≤◌, ◌<◌, ◌^◌, ℕ, ◌+◌, ◌-◌, ◌*◌, List, Bool, map, find, length, Option, Some, None, option_map, get_or, codes}
+use Rattle.std.specs.Prelude.{String, ◌≡◌, ◌≤◌, ◌<◌, ◌^◌, ℕ, ◌+◌, ◌-◌, ◌*◌, List, Bool, map, find, length, Option, Some, None, option_map, get_or, codes}
+use Rattle.std.specs.BTreeMap.{BTreeMap}
+use Rattle.std.specs.Borrow.{Bor}
+use Rattle.std.specs.declared.alloc.Global.{Global}
 use Rattle.toml.specs.Data.{Members}
 use Rattle.toml.specs.View.{table_view}
+use Rattle.toml.specs.declared.value.Value.{Value}
 use Rattle.scenario.specs.Record.{no_link}
 use Rattle.scenario.specs.Table as table
 use Rattle.scenario.specs.Table.{has_unlisted, has_lacking, has_mistyped, integers_at, table_at, table_or_empty, tables_at}
@@ -27,13 +31,20 @@ fault_of Unlisted = has_unlisted
 fault_of Lacking = has_lacking
 fault_of Mistyped = has_mistyped
 
+-- a table that the code was lent, if it was, and those of a list
+abbrev pub table_in : Option (Bor (BTreeMap (String Global) Value)) → Option Members
+table_in found = option_map (λ m. table_view m.now) found
+
+abbrev pub tables_in : List (Bor (BTreeMap (String Global) Value)) → List Members
+tables_in found = map (λ m. table_view m.now) found
+
 -- the tables are those of the top table
 pub record AreTables (s : Tables) : Type 0 where
-  pub detector : option_map (λ m. table_view m.now) s.detector ≡ table_at (codes "detector") (table_view s.top.now)
-  pub share : option_map (λ m. table_view m.now) s.share ≡ table_at (codes "share") (table_view s.top.now)
-  pub link : option_map (λ m. table_view m.now) s.link ≡ table_at (codes "link") (table_view s.top.now)
-  pub links : map (λ m. table_view m.now) s.links.items ≡ tables_at (codes "links") (table_view s.top.now)
-  pub crashes : map (λ m. table_view m.now) s.crashes.items ≡ tables_at (codes "crash") (table_view s.top.now)
+  pub detector : table_in s.detector ≡ table_at (codes "detector") (table_view s.top.now)
+  pub share : table_in s.share ≡ table_at (codes "share") (table_view s.top.now)
+  pub link : table_in s.link ≡ table_at (codes "link") (table_view s.top.now)
+  pub links : tables_in s.links.items ≡ tables_at (codes "links") (table_view s.top.now)
+  pub crashes : tables_in s.crashes.items ≡ tables_at (codes "crash") (table_view s.top.now)
 
 -- the numbers are those of the table
 pub record AreNumbersOf (t : Members) (n : TopNumbers) : Type 0 where
@@ -53,7 +64,8 @@ pub record ArePartsOf (t : Members) (p : Parts) : Type 0 where
   pub detector : p.detector ≡ detector_of (table_or_empty (codes "detector") t)
   pub share : p.share ≡ option_map share_of (table_at (codes "share") t)
   pub crashes : p.crashes.items ≡ crashes_among (tables_at (codes "crash") t) (processes_of t)
-  pub links : p.links.items ≡ links_among (delays_of (table_or_empty (codes "link") t)) (tables_at (codes "links") t) (processes_of t)
+  pub links : p.links.items
+      ≡ links_among (delays_of (table_or_empty (codes "link") t)) (tables_at (codes "links") t) (processes_of t)
 
 -- the number is one of 1 to n
 pub record IsProcess (n p : ℕ) : Type 0 where
@@ -72,9 +84,12 @@ link_in n links pair = get_or links ((pair.0 - 1) * n + (pair.1 - 1)) no_link
 -- of n processes: each pair's place holds the link of the pair's table, if it has one
 pub record HoldLinks (n : ℕ) (links : List (Option Link)) (tables : List Members) : Type 0 where
   pub full : length links ≡ n * n
-  pub held : (pair : ℕ × ℕ) → AreProcesses n pair → get_or links ((pair.0 - 1) * n + (pair.1 - 1)) None ≡ option_map delays_of (find (λ l. same_pair (pair_of l) pair) tables)
+  pub held : (pair : ℕ × ℕ) → AreProcesses n pair
+      → get_or links ((pair.0 - 1) * n + (pair.1 - 1)) None
+      ≡ option_map delays_of (find (λ l. same_pair (pair_of l) pair) tables)
 
 -- of n processes: each process's place holds the tick of the process's table, if it has one
 pub record HoldCrashes (n : ℕ) (ticks : List (Option ℕ)) (tables : List Members) : Type 0 where
   pub full : length ticks ≡ n
-  pub held : (p : ℕ) → IsProcess n p → get_or ticks (p - 1) None ≡ option_map crash_tick (find (λ c. same_process (crash_process c) p) tables)
+  pub held : (p : ℕ) → IsProcess n p
+      → get_or ticks (p - 1) None ≡ option_map crash_tick (find (λ c. same_process (crash_process c) p) tables)

@@ -1,5 +1,5 @@
 -- The ranges of a scenario's fields.
-use Rattle.std.specs.Prelude.{◌≡◌, ◌≢◌, ℕ, ◌≤◌, ◌<◌, ◌*◌, ◌^◌, not, is_some, length}
+use Rattle.std.specs.Prelude.{◌≡◌, ◌≢◌, ℕ, ◌≤◌, ◌<◌, ◌*◌, ◌^◌, not, None, is_some, length}
 use Rattle.std.specs.Option.{ForSome}
 use Rattle.scenario.specs.Numbers.{AreInRange, is_idle}
 use Rattle.scenario.specs.Record.{Record, proposal, crash, link}
@@ -28,8 +28,13 @@ pub record IsInRange (s : Record) : Type 0 where
   -- there is a proposal of each process, unless there is no algorithm
   pub proposed : (p : ℕ) → 1 ≤ p → p ≤ s.processes → is_some (proposal s p) ≡ not (is_idle s.algorithm)
   pub crashes : (p : ℕ) → ForSome (crash s p) (λ at. at ≤ 10000000)
+  -- above the number of processes nothing is proposed, and nobody crashes
+  pub proposed_above : (p : ℕ) → s.processes < p → proposal s p ≡ None
+  pub crashed_above : (p : ℕ) → s.processes < p → crash s p ≡ None
   -- each process is linked to each
   pub linked : length s.links ≡ s.processes * s.processes
-  pub links : (from to : ℕ) → 1 ≤ from → from ≤ s.processes → 1 ≤ to → to ≤ s.processes → IsLink (link s from to)
+  pub links : (from to : ℕ) → 1 ≤ from → from ≤ s.processes → 1 ≤ to → to ≤ s.processes
+      → IsLink (link s from to)
   -- a letter to another process takes at least the lookahead
-  pub ahead : (from to : ℕ) → 1 ≤ from → from ≤ s.processes → 1 ≤ to → to ≤ s.processes → from ≢ to → s.lookahead ≤ (link s from to).min
+  pub ahead : (from to : ℕ) → 1 ≤ from → from ≤ s.processes → 1 ≤ to → to ≤ s.processes
+      → from ≢ to → s.lookahead ≤ (link s from to).min

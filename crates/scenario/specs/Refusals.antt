@@ -74,6 +74,10 @@ abbrev pub is_memory : ScenarioError → Bool
 is_memory (error.Memory m) = true
 is_memory _ = false
 
+-- the refusal is for memory, or it is this one and its test says so
+abbrev pub GivenBy : ScenarioError → Bool → ScenarioError → Type 0
+GivenBy named test refusal = is_memory refusal ≡ false → (refusal ≡ named) × (test ≡ true)
+
 -- a refusal that names a pair names the least one
 abbrev pub NamesPair : Option Members → ScenarioError → Type 0
 NamesPair (Some t) (error.BelowLookahead from to) = pair_below (record_of t) ≡ Some (from, to)

@@ -80,7 +80,12 @@ link_among common tables pair = unwrap_or (option_map delays_of (find (λ l. sam
 
 -- the links from each of 1 to n to each, by sender and then by receiver
 unfoldable pub links_among : Link → List Members → ℕ → List Link
-links_among common tables n = flat_map (λ from. map (λ to. link_among common tables (from, to)) (range_with_len 1 n)) (range_with_len 1 n)
+links_among common tables n =
+    flat_map (λ from. map (λ to. link_among common tables (from, to)) (range_with_len 1 n)) (range_with_len 1 n)
+
+-- what the processes propose, of process 1 first
+abbrev pub proposals_of : Members → List ℕ
+proposals_of t = map natural (integers_at (codes "proposals") t)
 
 -- the process of a table of `crash`
 abbrev pub crash_process : Members → ℕ
@@ -111,7 +116,7 @@ record_of t = record {
   algorithm = unwrap_or (algorithm_in t) kind.Idle;
   detector = detector_of (table_or_empty (codes "detector") t);
   share = option_map share_of (table_at (codes "share") t);
-  proposals = map natural (integers_at (codes "proposals") t);
+  proposals = proposals_of t;
   crashes = crashes_among (tables_at (codes "crash") t) (processes_of t);
   links = links_among (delays_of (table_or_empty (codes "link") t)) (tables_at (codes "links") t) (processes_of t);
 }

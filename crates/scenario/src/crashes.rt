@@ -1,9 +1,10 @@
 //! The crash tables.
-ghost use Rattle.std.specs.Prelude.{◌≡◌, ◌≤◌, false, true, map, is_none, OnOk, IfOk, IfErr, IfSome};
+ghost use Rattle.std.specs.Prelude.{◌≡◌, ◌≤◌, false, is_none, OnOk, IfOk, IfErr, IfSome};
 ghost use Rattle.toml.specs.View.{table_view};
 ghost use Rattle.scenario.specs.Text.{crash_process, crash_tick, crashes_among};
 ghost use Rattle.scenario.specs.Rules.{is_bad_crash, are_bad_crashes};
-ghost use Rattle.scenario.specs.Refusals.{is_memory};
+ghost use Rattle.scenario.specs.Refusals.{GivenBy};
+ghost use Rattle.scenario.specs.Parts.{tables_in};
 
 use crate::error::ScenarioError;
 use crate::numbers::ranged;
@@ -44,9 +45,9 @@ pub(crate) fn read_crashes(
     tables: &[&Table],
     n: u16,
 ) -> Result<Vec<Option<u32>>, ScenarioError>
-    ensures ok { OnOk result (are_bad_crashes n (map (λ m. table_view m.now) tables.now) ≡ false) }
-    ensures value { IfOk result (λ v. v.items ≡ crashes_among (map (λ m. table_view m.now) tables.now) n) }
-    ensures err { IfErr result (λ e. is_memory e ≡ false → (e ≡ ScenarioError.CrashLine) × (are_bad_crashes n (map (λ m. table_view m.now) tables.now) ≡ true)) }
+    ensures ok { OnOk result (are_bad_crashes n (tables_in tables.now) ≡ false) }
+    ensures value { IfOk result (λ v. v.items ≡ crashes_among (tables_in tables.now) n) }
+    ensures err { IfErr result (GivenBy ScenarioError.CrashLine (are_bad_crashes n (tables_in tables.now))) }
 {
     let mut ticks = match vec![in alloc; None; usize::from(n)] {
         Ok(ticks) => ticks,

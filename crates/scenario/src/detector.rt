@@ -5,6 +5,7 @@ ghost use Rattle.toml.specs.Data.{no_members};
 ghost use Rattle.toml.specs.View.{table_view};
 ghost use Rattle.scenario.specs.Text.{detector_of, share_of};
 ghost use Rattle.scenario.specs.Rules.{is_bad_detector, is_bad_share};
+ghost use Rattle.scenario.specs.Parts.{table_in};
 
 use crate::names::watch_of;
 use crate::numbers::ranged;
@@ -44,8 +45,8 @@ fn read_numbers_of(table: &Table) -> Option<DetectorNumbers>
 
 /// The numbers of the detector's table, where all are in their ranges; none where there is no table.
 pub(crate) fn read_detector(table: Option<&Table>) -> Option<DetectorNumbers>
-    ensures none { is_none result ≡ is_bad_detector (unwrap_or (option_map (λ m. table_view m.now) table.entry) no_members) }
-    ensures value { IfSome result (λ d. d ≡ detector_of (unwrap_or (option_map (λ m. table_view m.now) table.entry) no_members)) }
+    ensures none { is_none result ≡ is_bad_detector (unwrap_or (table_in table.entry) no_members) }
+    ensures value { IfSome result (λ d. d ≡ detector_of (unwrap_or (table_in table.entry) no_members)) }
 {
     match table {
         Some(table) => read_numbers_of(table),
@@ -55,8 +56,8 @@ pub(crate) fn read_detector(table: Option<&Table>) -> Option<DetectorNumbers>
 
 /// The period of the shares, if there are any: none where it is out of its range.
 pub(crate) fn read_share(table: Option<&Table>) -> Option<Option<u32>>
-    ensures none { is_none result ≡ option_map_or is_bad_share (option_map (λ m. table_view m.now) table.entry) false }
-    ensures value { IfSome result (λ share. share ≡ option_map share_of (option_map (λ m. table_view m.now) table.entry)) }
+    ensures none { is_none result ≡ option_map_or is_bad_share (table_in table.entry) false }
+    ensures value { IfSome result (λ share. share ≡ option_map share_of (table_in table.entry)) }
 {
     match table {
         Some(table) => match ranged(table, "period", 0, 1, 1_000_000) {

@@ -1,9 +1,9 @@
 //! The tables of a scenario's file, and the faults of their keys.
-ghost use Rattle.std.specs.Prelude.{◌≡◌, false, Some, map, IfOk, IfErr, OnOk, option_map};
+ghost use Rattle.std.specs.Prelude.{◌≡◌, false, Some, IfOk, IfErr, OnOk};
 ghost use Rattle.std.specs.List.{list_any};
 ghost use Rattle.std.specs.Option.{option_map_or};
 ghost use Rattle.toml.specs.View.{table_view};
-ghost use Rattle.scenario.specs.Parts.{fields_of, fault_of, AreTables};
+ghost use Rattle.scenario.specs.Parts.{fields_of, fault_of, table_in, tables_in, AreTables};
 ghost use Rattle.scenario.specs.Keys.{some_table, top_fields, detector_fields, share_fields, link_fields, pair_fields, crash_fields};
 ghost use Rattle.scenario.specs.Refusals.{key_rules};
 ghost use Rattle.scenario.specs.Groups.{Passes, StopsAt};
@@ -213,7 +213,7 @@ impl Fault {
 
     /// Whether a table is there and has the fault.
     fn is_in_optional(self, fields: &[Field], table: Option<&Table>) -> bool
-        ensures { result ≡ option_map_or (fault_of self (fields_of fields.now)) (option_map (λ m. table_view m.now) table.entry) false }
+        ensures { result ≡ option_map_or (fault_of self (fields_of fields.now)) (table_in table.entry) false }
     {
         match table {
             Some(table) => self.is_in(fields, table),
@@ -223,7 +223,7 @@ impl Fault {
 
     /// Whether some table has the fault.
     fn is_in_any(self, fields: &[Field], tables: &[&Table]) -> bool
-        ensures { result ≡ list_any (fault_of self (fields_of fields.now)) (map (λ m. table_view m.now) tables.now) }
+        ensures { result ≡ list_any (fault_of self (fields_of fields.now)) (tables_in tables.now) }
     {
         for table in tables {
             if self.is_in(fields, table) {
@@ -240,31 +240,31 @@ impl Fault {
     }
 
     fn is_in_detector(self, table: Option<&Table>) -> bool
-        ensures { result ≡ option_map_or (fault_of self detector_fields) (option_map (λ m. table_view m.now) table.entry) false }
+        ensures { result ≡ option_map_or (fault_of self detector_fields) (table_in table.entry) false }
     {
         self.is_in_optional(&DETECTOR, table)
     }
 
     fn is_in_share(self, table: Option<&Table>) -> bool
-        ensures { result ≡ option_map_or (fault_of self share_fields) (option_map (λ m. table_view m.now) table.entry) false }
+        ensures { result ≡ option_map_or (fault_of self share_fields) (table_in table.entry) false }
     {
         self.is_in_optional(&SHARE, table)
     }
 
     fn is_in_link(self, table: Option<&Table>) -> bool
-        ensures { result ≡ option_map_or (fault_of self link_fields) (option_map (λ m. table_view m.now) table.entry) false }
+        ensures { result ≡ option_map_or (fault_of self link_fields) (table_in table.entry) false }
     {
         self.is_in_optional(&LINK, table)
     }
 
     fn is_in_links(self, tables: &[&Table]) -> bool
-        ensures { result ≡ list_any (fault_of self pair_fields) (map (λ m. table_view m.now) tables.now) }
+        ensures { result ≡ list_any (fault_of self pair_fields) (tables_in tables.now) }
     {
         self.is_in_any(&PAIR, tables)
     }
 
     fn is_in_crashes(self, tables: &[&Table]) -> bool
-        ensures { result ≡ list_any (fault_of self crash_fields) (map (λ m. table_view m.now) tables.now) }
+        ensures { result ≡ list_any (fault_of self crash_fields) (tables_in tables.now) }
     {
         self.is_in_any(&CRASH, tables)
     }

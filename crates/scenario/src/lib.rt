@@ -7,8 +7,9 @@
 //! order in which they are tried is a list of its own (`specs/Refusals.antt`). So of several faults in one file the
 //! answer is always the same one, whatever the order of the file's lines. Only `Memory` may come at any point.
 //!
-//! A scenario's readers take no memory. [`Scenario::opening`] gives what a process opens with, and with it the mind
-//! of its machine (`specs/Opening.antt`).
+//! A scenario's readers take no memory, and what a [`Scenario`] is keeps its ranges: so of a process above the number
+//! of processes [`Scenario::crash`] and [`Scenario::proposal`] answer nothing. [`Scenario::opening`] gives what a
+//! process opens with, and with it the mind of its machine (`specs/Opening.antt`).
 //!
 //! For example, a file says that two processes watch each other for ten ticks, that a letter takes two ticks, and
 //! that process 2 crashes at tick 3. Then `crash` answers 3 for process 2 and nothing for process 1, `link` from 1 to

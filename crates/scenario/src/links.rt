@@ -1,11 +1,11 @@
 //! The links.
-ghost use Rattle.std.specs.Prelude.{◌≡◌, ◌≤◌, ◌<◌, ◌+◌, ◌-◌, ◌*◌, ◌||◌, false, true, map, length, unwrap_or, option_map, is_none, OnOk, IfOk, IfErr, IfSome};
+ghost use Rattle.std.specs.Prelude.{◌≡◌, ◌≤◌, ◌<◌, ◌+◌, ◌-◌, ◌*◌, false, map, length, unwrap_or, is_none, OnOk, IfOk, IfErr, IfSome};
 ghost use Rattle.toml.specs.Data.{no_members};
 ghost use Rattle.toml.specs.View.{table_view};
 ghost use Rattle.scenario.specs.Text.{delays_of, pair_of, links_among};
-ghost use Rattle.scenario.specs.Rules.{is_bad_link, is_bad_pair, are_bad_pairs};
-ghost use Rattle.scenario.specs.Refusals.{is_memory};
-ghost use Rattle.scenario.specs.Parts.{HoldLinks};
+ghost use Rattle.scenario.specs.Rules.{is_bad_link, is_bad_pair, are_bad_pairs, are_bad_links};
+ghost use Rattle.scenario.specs.Refusals.{GivenBy};
+ghost use Rattle.scenario.specs.Parts.{table_in, tables_in, HoldLinks};
 
 use crate::error::ScenarioError;
 use crate::link::Link;
@@ -88,9 +88,9 @@ fn place_of(pair: &PairLink, n: u16) -> usize
 /// one already ends the reading, so no more than one of each pair are taken.
 fn read_pairs(alloc: Global, tables: &[&Table], n: u16) -> Result<Vec<Option<Link>>, ScenarioError>
     requires few { n ≤ 64 }
-    ensures ok { OnOk result (are_bad_pairs n (map (λ m. table_view m.now) tables.now) ≡ false) }
-    ensures value { IfOk result (λ v. HoldLinks n v.items (map (λ m. table_view m.now) tables.now)) }
-    ensures err { IfErr result (λ e. is_memory e ≡ false → (e ≡ ScenarioError.LinkNumbers) × (are_bad_pairs n (map (λ m. table_view m.now) tables.now) ≡ true)) }
+    ensures ok { OnOk result (are_bad_pairs n (tables_in tables.now) ≡ false) }
+    ensures value { IfOk result (λ v. HoldLinks n v.items (tables_in tables.now)) }
+    ensures err { IfErr result (GivenBy ScenarioError.LinkNumbers (are_bad_pairs n (tables_in tables.now))) }
 {
     let mut links = match vec![in alloc; None; usize::from(n) * usize::from(n)] {
         Ok(links) => links,
@@ -122,8 +122,8 @@ fn filled(alloc: Global, own: &[Option<Link>], common: Link) -> Result<Vec<Link>
 
 /// The common link, where its numbers are in their ranges; none where there is no table.
 fn read_common(table: Option<&Table>) -> Option<Link>
-    ensures none { is_none result ≡ is_bad_link (unwrap_or (option_map (λ m. table_view m.now) table.entry) no_members) }
-    ensures value { IfSome result (λ l. l ≡ delays_of (unwrap_or (option_map (λ m. table_view m.now) table.entry) no_members)) }
+    ensures none { is_none result ≡ is_bad_link (unwrap_or (table_in table.entry) no_members) }
+    ensures value { IfSome result (λ l. l ≡ delays_of (unwrap_or (table_in table.entry) no_members)) }
 {
     match table {
         Some(table) => read_link(table),
@@ -139,9 +139,12 @@ pub(crate) fn read_links(
     n: u16,
 ) -> Result<Vec<Link>, ScenarioError>
     requires few { n ≤ 64 }
-    ensures ok { OnOk result ((is_bad_link (unwrap_or (option_map (λ m. table_view m.now) common.entry) no_members) || are_bad_pairs n (map (λ m. table_view m.now) tables.now)) ≡ false) }
-    ensures value { IfOk result (λ v. v.items ≡ links_among (delays_of (unwrap_or (option_map (λ m. table_view m.now) common.entry) no_members)) (map (λ m. table_view m.now) tables.now) n) }
-    ensures err { IfErr result (λ e. is_memory e ≡ false → (e ≡ ScenarioError.LinkNumbers) × ((is_bad_link (unwrap_or (option_map (λ m. table_view m.now) common.entry) no_members) || are_bad_pairs n (map (λ m. table_view m.now) tables.now)) ≡ true)) }
+    ensures ok { OnOk result (
+        are_bad_links n (unwrap_or (table_in common.entry) no_members) (tables_in tables.now) ≡ false) }
+    ensures value { IfOk result (λ v. v.items
+        ≡ links_among (delays_of (unwrap_or (table_in common.entry) no_members)) (tables_in tables.now) n) }
+    ensures err { IfErr result (GivenBy ScenarioError.LinkNumbers (
+        are_bad_links n (unwrap_or (table_in common.entry) no_members) (tables_in tables.now))) }
 {
     let Some(common) = read_common(common) else {
         return Err(ScenarioError::LinkNumbers);

@@ -2,10 +2,10 @@
 ghost use Rattle.std.specs.Prelude.{◌≡◌, ◌≤◌, true, false, Some, map, codes, is_none, MatchOption, OnOk, IfOk, IfErr, IfSome};
 ghost use Rattle.std.specs.List.{list_any};
 ghost use Rattle.toml.specs.View.{items_view, table_view};
-ghost use Rattle.scenario.specs.Table.{the_integers, integers_at, has_key};
-ghost use Rattle.scenario.specs.Text.{natural, natural_of};
-ghost use Rattle.scenario.specs.Rules.{is_bad_proposal, are_other_than, are_bad_proposals};
-ghost use Rattle.scenario.specs.Refusals.{is_memory};
+ghost use Rattle.scenario.specs.Table.{the_integers, has_key};
+ghost use Rattle.scenario.specs.Text.{natural, natural_of, proposals_of};
+ghost use Rattle.scenario.specs.Rules.{is_bad_proposal, has_other_proposals, has_bad_proposals};
+ghost use Rattle.scenario.specs.Refusals.{GivenBy};
 
 use crate::algorithm::AlgorithmKind;
 use crate::error::ScenarioError;
@@ -30,7 +30,10 @@ fn proposal_of(number: i64) -> Option<u32>
 
 /// The proposals among some values, where each number is below 2^32.
 fn proposals_among(alloc: Global, values: &[Value]) -> Result<Option<Vec<u32>>, AllocError>
-    ensures { IfOk result (λ found. MatchOption found (list_any is_bad_proposal (the_integers (items_view values.now)) ≡ true) (λ v. (list_any is_bad_proposal (the_integers (items_view values.now)) ≡ false) × (v.items ≡ map natural (the_integers (items_view values.now))))) }
+    ensures { IfOk result (λ found. MatchOption found
+        (list_any is_bad_proposal (the_integers (items_view values.now)) ≡ true)
+        (λ v. (list_any is_bad_proposal (the_integers (items_view values.now)) ≡ false)
+        × (v.items ≡ map natural (the_integers (items_view values.now))))) }
 {
     let mut found = Vec::new(alloc);
     for value in values {
@@ -48,8 +51,8 @@ fn proposals_among(alloc: Global, values: &[Value]) -> Result<Option<Vec<u32>>, 
 /// The proposals of the processes of a scenario without an algorithm: there may be none.
 fn read_no_proposals(alloc: Global, top: &Table) -> Result<Vec<u32>, ScenarioError>
     ensures ok { OnOk result (has_key (codes "proposals") (table_view top.now) ≡ false) }
-    ensures value { IfOk result (λ v. v.items ≡ map natural (integers_at (codes "proposals") (table_view top.now))) }
-    ensures err { IfErr result (λ e. is_memory e ≡ false → (e ≡ ScenarioError.Proposals) × (has_key (codes "proposals") (table_view top.now) ≡ true)) }
+    ensures value { IfOk result (λ v. v.items ≡ proposals_of (table_view top.now)) }
+    ensures err { IfErr result (GivenBy ScenarioError.Proposals (has_key (codes "proposals") (table_view top.now))) }
 {
     if has(top, "proposals") {
         return Err(ScenarioError::Proposals);
@@ -60,9 +63,9 @@ fn read_no_proposals(alloc: Global, top: &Table) -> Result<Vec<u32>, ScenarioErr
 /// The proposals of n processes that run an algorithm: one of each.
 fn read_each_proposal(alloc: Global, top: &Table, n: u16) -> Result<Vec<u32>, ScenarioError>
     requires { 1 ≤ n }
-    ensures ok { OnOk result (are_other_than n (has_key (codes "proposals") (table_view top.now)) (integers_at (codes "proposals") (table_view top.now)) ≡ false) }
-    ensures value { IfOk result (λ v. v.items ≡ map natural (integers_at (codes "proposals") (table_view top.now))) }
-    ensures err { IfErr result (λ e. is_memory e ≡ false → (e ≡ ScenarioError.Proposals) × (are_other_than n (has_key (codes "proposals") (table_view top.now)) (integers_at (codes "proposals") (table_view top.now)) ≡ true)) }
+    ensures ok { OnOk result (has_other_proposals n (table_view top.now) ≡ false) }
+    ensures value { IfOk result (λ v. v.items ≡ proposals_of (table_view top.now)) }
+    ensures err { IfErr result (GivenBy ScenarioError.Proposals (has_other_proposals n (table_view top.now))) }
 {
     let Some(values) = inner_array(top, "proposals") else {
         return Err(ScenarioError::Proposals);
@@ -87,9 +90,10 @@ pub(crate) fn read_proposals(
     n: u16,
 ) -> Result<Vec<u32>, ScenarioError>
     requires { 1 ≤ n }
-    ensures ok { OnOk result (are_bad_proposals (Some algorithm) n (has_key (codes "proposals") (table_view top.now)) (integers_at (codes "proposals") (table_view top.now)) ≡ false) }
-    ensures value { IfOk result (λ v. v.items ≡ map natural (integers_at (codes "proposals") (table_view top.now))) }
-    ensures err { IfErr result (λ e. is_memory e ≡ false → (e ≡ ScenarioError.Proposals) × (are_bad_proposals (Some algorithm) n (has_key (codes "proposals") (table_view top.now)) (integers_at (codes "proposals") (table_view top.now)) ≡ true)) }
+    ensures ok { OnOk result (has_bad_proposals (Some algorithm) n (table_view top.now) ≡ false) }
+    ensures value { IfOk result (λ v. v.items ≡ proposals_of (table_view top.now)) }
+    ensures err { IfErr result (
+        GivenBy ScenarioError.Proposals (has_bad_proposals (Some algorithm) n (table_view top.now))) }
 {
     match algorithm {
         AlgorithmKind::Idle => read_no_proposals(alloc, top),

@@ -1,5 +1,5 @@
 //! Accepted scenarios.
-ghost use Rattle.std.specs.Prelude.{◌≡◌, ◌≢◌, ◌≤◌};
+ghost use Rattle.std.specs.Prelude.{◌≡◌, ◌≢◌, ◌≤◌, ◌<◌, None};
 ghost use Rattle.scenario.specs.Ranges.{IsInRange};
 ghost use Rattle.scenario.specs.Record.{proposal, crash, link, opening_mind};
 ghost use Rattle.scenario.specs.Opening.{mind_of};
@@ -131,7 +131,8 @@ impl Scenario {
 
     /// The tick at which a process crashes, 0 to 10,000,000, if it does. None above the number of processes.
     pub fn crash(&self, p: Pid) -> Option<u32>
-        ensures { result ≡ crash self.now p }
+        ensures value { result ≡ crash self.now p }
+        ensures above { self.now.processes < p → result ≡ None }
     {
         self.crashes
             .get(usize::from(p.number()) - 1)
@@ -141,7 +142,8 @@ impl Scenario {
 
     /// What a process proposes. None above the number of processes, and where there is no algorithm.
     pub fn proposal(&self, p: Pid) -> Option<u32>
-        ensures { result ≡ proposal self.now p }
+        ensures value { result ≡ proposal self.now p }
+        ensures above { self.now.processes < p → result ≡ None }
     {
         self.proposals.get(usize::from(p.number()) - 1).copied()
     }

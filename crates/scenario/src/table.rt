@@ -1,9 +1,9 @@
 //! What a TOML table holds at its keys, and the faults of its keys.
-ghost use Rattle.std.specs.Prelude.{◌≡◌, map, IfOk, option_map, option_and_then};
+ghost use Rattle.std.specs.Prelude.{◌≡◌, IfOk, option_map, option_and_then};
 ghost use Rattle.toml.specs.View.{view, array_view, items_view, table_view};
 ghost use Rattle.toml.specs.Data.{as_array, get_member};
 ghost use Rattle.scenario.specs.Table.{number_or, text_or, has_key, table_at, tables_at, the_tables, all_items, is_number, is_table, is_of, is_listed, has_unlisted, is_lacking, has_lacking, is_mistyped, has_mistyped};
-ghost use Rattle.scenario.specs.Parts.{field_of, fields_of};
+ghost use Rattle.scenario.specs.Parts.{field_of, fields_of, table_in, tables_in};
 
 use crate::field::{Field, Kind};
 use std::alloc::{AllocError, Global};
@@ -41,7 +41,7 @@ pub(crate) fn text<'a>(table: &'a Table, key: &str, default: &'a str) -> &'a str
 
 /// The table at a key, if there is one.
 pub(crate) fn inner_table<'a>(table: &'a Table, key: &str) -> Option<&'a Table>
-    ensures { option_map (λ m. table_view m.now) result ≡ table_at key.now (table_view table.now) }
+    ensures { table_in result ≡ table_at key.now (table_view table.now) }
 {
     match table.get(key) {
         Some(value) => value.as_table(),
@@ -75,7 +75,7 @@ fn are_tables(values: &[Value]) -> bool
 
 /// The tables among some values.
 fn tables_among<'a>(alloc: Global, values: &'a [Value]) -> Result<Vec<&'a Table>, AllocError>
-    ensures { IfOk result (λ v. map (λ m. table_view m.now) v.items ≡ the_tables (items_view values.now)) }
+    ensures { IfOk result (λ v. tables_in v.items ≡ the_tables (items_view values.now)) }
 {
     let mut found = Vec::new(alloc);
     for value in values {
@@ -89,7 +89,8 @@ fn tables_among<'a>(alloc: Global, values: &'a [Value]) -> Result<Vec<&'a Table>
 
 /// The array at a key, if there is one.
 pub(crate) fn inner_array<'a>(table: &'a Table, key: &str) -> Option<&'a Vec<Value>>
-    ensures { option_map (λ v. array_view v.now) result ≡ option_and_then as_array (get_member key.now (table_view table.now)) }
+    ensures { option_map (λ v. array_view v.now) result
+        ≡ option_and_then as_array (get_member key.now (table_view table.now)) }
 {
     match table.get(key) {
         Some(value) => value.as_array(),
@@ -103,7 +104,7 @@ pub(crate) fn inner_tables<'a>(
     table: &'a Table,
     key: &str,
 ) -> Result<Vec<&'a Table>, AllocError>
-    ensures { IfOk result (λ v. map (λ m. table_view m.now) v.items ≡ tables_at key.now (table_view table.now)) }
+    ensures { IfOk result (λ v. tables_in v.items ≡ tables_at key.now (table_view table.now)) }
 {
     match inner_array(table, key) {
         Some(values) => {

@@ -7,6 +7,7 @@ mod sizes;
 
 use crate::{Scenario, ScenarioError, read_scenario};
 use std::alloc::Global;
+use std::process::Abort;
 use std::test::Fail;
 
 /// Two processes, of which the second crashes at tick 3.
@@ -66,4 +67,13 @@ fn name_of(answer: &Result<Scenario, ScenarioError>) -> &'static str {
 /// What the reading of a text answers, by name.
 fn answer(alloc: Global, text: &str) -> &'static str {
     name_of(&read_scenario(alloc, text.as_bytes()))
+}
+
+/// Changes of the crash file, each made alone: what is changed, into what, and what the file then gets.
+fn compare(rt: &impl Abort, alloc: Global, changes: &[(&str, &str, &str)]) -> Result<(), Fail> {
+    for (old, new, name) in changes {
+        let text = changed(alloc, CRASH_FILE, old, new)?;
+        assert_eq!(rt; answer(alloc, text.as_str()), *name, "{new}");
+    }
+    Ok(())
 }

@@ -25,7 +25,8 @@ impl<D: Detector, A: Algorithm> Stack<D, A> {
     pub fn new(pid: Pid, detector: D, algorithm: A) -> Stack<D, A>
         requires own { pid ≡ (D.lower detector).place.own }
         requires together { IsTrue (stands_at (D.lower detector).place (A.state algorithm)) }
-        ensures mind { ⟦<Stack<D, A> as Process>⟧.mind result ≡ record { lower = D.lower detector; algorithm = A.state algorithm } }
+        ensures mind { ⟦<Stack<D, A> as Process>⟧.mind result
+            ≡ record { lower = D.lower detector; algorithm = A.state algorithm } }
         ensures alive { ⟦<Stack<D, A> as Process>⟧.has_failed result ≡ false }
     {
         Stack {

@@ -15,7 +15,8 @@ key_of_seed seed = key_of (to_le_bytes w64 seed ++ replicate 24 0)
 abbrev pub stream_of : (from to : ℕ) → ℕ
 stream_of from to = (from - 1) * 65536 + (to - 1)
 
--- the 32-bit word at a place of the link's stream, of ChaCha with 8 rounds, which are 4 double rounds. Places are counted up to 2^68
+-- the 32-bit word at a place of the link's stream, of ChaCha with 8 rounds, which are 4 double rounds. Places are
+-- counted up to 2^68
 unfoldable pub word : (seed from to place : ℕ) → ℕ
 word seed from to place = word_at 4 (key_of_seed seed) (stream_of from to) (place % 2 ^ 68)
 

@@ -5,7 +5,8 @@
 //! two words of its place. So a letter's fate depends on its place alone: another loss on one link changes nothing
 //! on any other, and threads may ask in any order.
 //!
-//! The one contract for the layers above: [`Streams::fate`] is `fate_of` (`specs/Fate.antt`), for every letter.
+//! The one contract for the layers above: [`Streams::fate`] is `fate_of` (`specs/Fate.antt`), for every letter, and so
+//! is [`Streams::next_fate`], which keeps the words of a link ([`LinkWords`]) for its next letters.
 //!
 //! As an example, under loss 300 and delays 2 to 9 with seed 1, letters 1 to 8 from process 1 to 2 take 6, 3, 8, 6, 9
 //! and 3 ticks, the seventh is lost, and the eighth takes 7 ticks.
@@ -15,7 +16,7 @@ mod fate;
 mod streams;
 
 pub use fate::Fate;
-pub use streams::Streams;
+pub use streams::{LinkWords, Streams};
 
 #[cfg(test)]
 mod tests;

@@ -11,6 +11,36 @@ use rand_core::utils::NextWord;
 use scenario::Scenario;
 use std::marker::Model;
 
+/// Words of a link that are at hand for its next letters. Nothing that is answered depends on them: they are left
+/// where the link, the seed or the place is another one.
+#[derive(Drop)]
+pub struct LinkWords {
+    seed: u64,
+    generator: ChaCha8Rng,
+}
+
+impl Model for LinkWords {
+    ghost use Rattle.std.specs.Prelude.{◌≡◌, ℕ};
+    ghost use Rattle.rand_chacha.specs.ChaCha.{ChaCha};
+    ghost use Rattle.streams.specs.Fate.{key_of_seed};
+
+    ghost Value = { ℕ × ChaCha };
+
+    ghost view = { λ w. (w.seed, w.generator) };
+
+    ghost invariant = { λ w. w.generator.key ≡ key_of_seed w.seed };
+}
+
+/// The generator of a seed, at the start of stream 0.
+#[tactic(auto, unfolding(crate::specs::Fate::key_of_seed))]
+fn generator_of(seed: u64) -> ChaCha8Rng
+    ensures { result.key ≡ key_of_seed seed }
+{
+    let mut key = [0u8; 32];
+    key[..8].copy_from_slice(&seed.to_le_bytes());
+    ChaCha8Rng::from_seed(key)
+}
+
 /// The streams of a scenario, one for each link. Contracts see the scenario's record.
 #[derive(Drop)]
 pub struct Streams<'a> {
@@ -33,7 +63,6 @@ impl<'a> Streams<'a> {
 
     /// What becomes of letter `number` (from 1) of the link from one process to another. The answer is by the place
     /// alone: asked again, or in any order, it is the same.
-    #[tactic(auto, unfolding(crate::specs::Fate::fate_of))]
     pub fn fate(&self, from: Pid, to: Pid, number: u64) -> Fate
         requires different { from ≢ to }
         requires from_one { from ≤ self.now.processes }
@@ -41,41 +70,74 @@ impl<'a> Streams<'a> {
         requires counted { 1 ≤ number }
         ensures { result ≡ fate_of self.now from to number }
     {
+        self.next_fate(from, to, number, &mut LinkWords::new())
+    }
+
+    /// The same, for letters that are asked for in their turn: the words of a link are kept from letter to letter. A
+    /// link without loss and with one delay draws none.
+    #[tactic(auto, unfolding(crate::specs::Fate::fate_of))]
+    pub fn next_fate(&self, from: Pid, to: Pid, number: u64, words: &mut LinkWords) -> Fate
+        requires different { from ≢ to }
+        requires from_one { from ≤ self.now.processes }
+        requires to_one { to ≤ self.now.processes }
+        requires counted { 1 ≤ number }
+        ensures { result ≡ fate_of self.now from to number }
+    {
         let link = self.scenario.link(from, to);
-        let (a, b) = self.words(from, to, 2 * (u128::from(number) - 1));
+        if link.loss == 0 && link.min == link.max {
+            return Fate::Delay(link.min);
+        }
+        let place = 2 * (u128::from(number) - 1);
+        let (a, b) = words.pair_at(self.scenario.seed(), from, to, place);
         if a % 1000 < link.loss {
             Fate::Lost
         } else {
             Fate::Delay(link.min + b % (link.max - link.min + 1))
         }
     }
+}
 
-    /// The two words at a place of a link's stream, and after it.
+impl LinkWords {
+    /// Of no link yet.
+    pub fn new() -> LinkWords {
+        LinkWords {
+            seed: 0,
+            generator: generator_of(0),
+        }
+    }
+
+    /// The two words at a place of a link's stream, and after it. Where the generator stands there already, its next
+    /// words are these.
     #[tactic(auto, unfolding(crate::specs::Fate::word))]
-    pub(crate) fn words(&self, from: Pid, to: Pid, place: u128) -> (u32, u32)
+    pub(crate) fn pair_at(&mut self, seed: u64, from: Pid, to: Pid, place: u128) -> (u32, u32)
         requires { place < 2 ^ 66 }
-        ensures first { result.0 ≡ word self.now.seed from to place }
-        ensures second { result.1 ≡ word self.now.seed from to (place + 1) }
+        ensures first { result.0 ≡ word seed from to place }
+        ensures second { result.1 ≡ word seed from to (place + 1) }
     {
-        let mut generator = self.generator(from, to);
-        generator.set_word_pos(place);
-        let first = generator.next_word();
-        let second = generator.next_word();
+        let stream = stream_between(from, to);
+        if self.seed != seed {
+            *self = LinkWords {
+                seed,
+                generator: generator_of(seed),
+            };
+        }
+        if self.generator.get_stream() != stream {
+            self.generator.set_stream(stream);
+        }
+        if self.generator.get_word_pos() != place {
+            self.generator.set_word_pos(place);
+        }
+        let first = self.generator.next_word();
+        let second = self.generator.next_word();
         (first, second)
     }
+}
 
-    /// The generator of a link, at the start of its stream.
-    #[tactic(auto, unfolding(crate::specs::Fate::key_of_seed))]
-    fn generator(&self, from: Pid, to: Pid) -> ChaCha8Rng
-        ensures key { result.key ≡ key_of_seed self.now.seed }
-        ensures stream { result.stream ≡ stream_of from to }
-    {
-        let mut key = [0u8; 32];
-        key[..8].copy_from_slice(&self.scenario.seed().to_le_bytes());
-        let mut generator = ChaCha8Rng::from_seed(key);
-        let row = u64::from(from.number()) - 1;
-        let column = u64::from(to.number()) - 1;
-        generator.set_stream(row * 65536 + column);
-        generator
-    }
+/// The number of a link's stream.
+fn stream_between(from: Pid, to: Pid) -> u64
+    ensures { result ≡ stream_of from to }
+{
+    let row = u64::from(from.number()) - 1;
+    let column = u64::from(to.number()) - 1;
+    row * 65536 + column
 }

@@ -1,7 +1,7 @@
 //! Words and fates with values from outside: they were computed by a program of its own, written apart from this one
 //! and checked with the block of RFC 8439, section 2.3.2, and the 8-round vectors of
 //! draft-strombergson-chacha-test-vectors.
-use super::{Fate, Streams};
+use super::{Fate, LinkWords, Streams};
 use process_api::Pid;
 use rand_chacha::ChaCha8Rng;
 use rand_core::{Rng, SeedableRng};
@@ -14,7 +14,8 @@ const LINKS_OF_FIVE: &str = "[link]\nmin = 2\nmax = 9\nloss = 300\n";
 /// A scenario of so many processes with this seed and these links.
 fn scenario(alloc: Global, processes: u16, seed: u64, links: &str) -> Result<Scenario, Fail> {
     let text = format!(in alloc;
-        "version = 1\nprocesses = {processes}\nhorizon = 200\nlookahead = 2\nseed = {seed}\nalgorithm = \"none\"\n[detector]\nperiod = 5\ncheck = 3\ntimeout = 12\ngrow = 2\n{links}"
+        "version = 1\nprocesses = {processes}\nhorizon = 200\nlookahead = 2\nseed = {seed}\nalgorithm = \"none\"\n\
+         [detector]\nperiod = 5\ncheck = 3\ntimeout = 12\ngrow = 2\n{links}"
     )?;
     Ok(read_scenario(alloc, text.as_bytes())?)
 }
@@ -23,16 +24,17 @@ fn pid(number: u16) -> Result<Pid, Fail> {
     Ok(Pid::new(number).ok_or("no process")?)
 }
 
-/// Letters 1 to 12 of a link: their delays, and 0 for a lost one.
+/// Letters 1 to 12 of a link, asked for in their turn: their delays, and 0 for a lost one.
 fn delays(scenario: &Scenario, from: u16, to: u16) -> Result<[u32; 12], Fail> {
     let streams = Streams::new(scenario);
+    let mut words = LinkWords::new();
     let (from, to) = (pid(from)?, pid(to)?);
     let mut delays = [0u32; 12];
     if from == to || from.number() > scenario.processes() || to.number() > scenario.processes() {
         return Ok(delays);
     }
     for place in 0..12usize {
-        if let Fate::Delay(ticks) = streams.fate(from, to, place as u64 + 1) {
+        if let Fate::Delay(ticks) = streams.next_fate(from, to, place as u64 + 1, &mut words) {
             delays[place] = ticks;
         }
     }
@@ -87,12 +89,13 @@ const WORDS: [(u64, u16, u16, [u32; 7]); 5] = [
 ];
 
 /// The words of a link's stream at `PLACES`.
-fn words_at(streams: &Streams, from: Pid, to: Pid) -> [u32; 7] {
+fn words_at(seed: u64, from: Pid, to: Pid) -> [u32; 7] {
+    let mut kept = LinkWords::new();
     let mut words = [0u32; 7];
     for index in 0..7usize {
         let place = PLACES[index];
         if place <= 1000 {
-            words[index] = streams.words(from, to, place).0;
+            words[index] = kept.pair_at(seed, from, to, place).0;
         }
     }
     words
@@ -101,10 +104,8 @@ fn words_at(streams: &Streams, from: Pid, to: Pid) -> [u32; 7] {
 #[test]
 fn words_of_five_streams(rt: HostRuntime) -> Result<(), Fail> {
     for (seed, from, to, words) in WORDS {
-        let scenario = scenario(rt.alloc(), 64, seed, LINKS_OF_FIVE)?;
-        let streams = Streams::new(&scenario);
         assert_eq!(rt;
-            words_at(&streams, pid(from)?, pid(to)?),
+            words_at(seed, pid(from)?, pid(to)?),
             words,
             "seed {seed}, from {from} to {to}"
         );
@@ -151,6 +152,7 @@ fn any_order_gives_the_same(rt: HostRuntime) -> Result<(), Fail> {
     assert_eq!(rt; scenario.processes(), 5);
     let (from, to) = (pid(3)?, pid(4)?);
     assert_eq!(rt; (from.number(), to.number()), (3, 4));
+    let mut kept = LinkWords::new();
     for number in (1..=100u64).rev() {
         let at = 2 * (number as usize - 1);
         assert!(rt; at + 1 < words.len());
@@ -161,6 +163,7 @@ fn any_order_gives_the_same(rt: HostRuntime) -> Result<(), Fail> {
             Fate::Delay(2 + b % 8)
         };
         assert_eq!(rt; streams.fate(from, to, number), fate);
+        assert_eq!(rt; streams.next_fate(from, to, number, &mut kept), fate);
     }
     Ok(())
 }

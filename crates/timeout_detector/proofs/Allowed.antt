@@ -10,7 +10,7 @@ use Rattle.process_api.specs.Numbers.{numbers_to, others}
 use Rattle.process_api.specs.Actions.{IsAllowed}
 use Rattle.process_api.specs.Answer.{still}
 use Rattle.process_api.specs.Place.{Place}
-use Rattle.process_api.specs.Timeout.{DetectorState, alive_to_others, next_beat, next_check, watches, is_late, late, noticed, trusted_again, heard, step_detector}
+use Rattle.process_api.specs.Timeout.{DetectorState, alive_to_others, next_beat, next_check, watches, is_overdue, overdue, noticed, trusted_again, heard, step_detector}
 use Rattle.process_api.specs.Mind.{Lower, most_actions}
 use Rattle.process_api.specs.React.{react_lower}
 use Rattle.process_api.specs.declared.numbers.DetectorNumbers.{DetectorNumbers}
@@ -65,7 +65,7 @@ module _ (place : Place) (numbers : DetectorNumbers) (period : 1 ≤ numbers.per
   step_allowed : (s : DetectorState) (now : ℕ) (x : StepInput) → AllByRecursion (IsAllowed place.processes) (step_detector place numbers s now x).actions
   step_allowed s now input.Start = all-append _ (alive_to_others place numbers) _ letters_allowed (period, (check, tt))
   step_allowed s now (input.Wake tag.Beat) = all-append _ (alive_to_others place numbers) _ letters_allowed (period, tt)
-  step_allowed s now (input.Wake tag.Check) = all-append _ (map (λ q. action.Note (note.Suspect 1 q)) (late place numbers s now)) _ (notes_allowed (late place numbers s now)) (check, tt)
+  step_allowed s now (input.Wake tag.Check) = all-append _ (map (λ q. action.Note (note.Suspect 1 q)) (overdue place numbers s now)) _ (notes_allowed (overdue place numbers s now)) (check, tt)
   step_allowed s now (input.Letter q payload.Alive) = elim (watches place numbers q) as (λ b. AllByRecursion (IsAllowed place.processes) (cond b (heard place numbers s now q) (still s)).actions) [ true ↦ heard_allowed s now q | false ↦ tt ]
   step_allowed s now x = tt
 
@@ -80,8 +80,8 @@ module _ (place : Place) (numbers : DetectorNumbers) where
   length-step few s now input.Start = omega (arith, few, length-letters, length-append (alive_to_others place numbers) (next_beat place numbers ++ next_check place numbers))
   length-step few s now (input.Wake tag.Beat) = omega (arith, few, length-letters, length-append (alive_to_others place numbers) (next_beat place numbers))
   length-step few s now (input.Wake tag.Check) =
-      let noted : List Action = map (λ q. action.Note (note.Suspect 1 q)) (late place numbers s now) in
-      omega (arith, few, length-filter_to (is_late place numbers s now) place.processes, length-map (late place numbers s now) (λ q. action.Note (note.Suspect 1 q)), length-append noted (next_check place numbers))
+      let noted : List Action = map (λ q. action.Note (note.Suspect 1 q)) (overdue place numbers s now) in
+      omega (arith, few, length-filter_to (is_overdue place numbers s now) place.processes, length-map (overdue place numbers s now) (λ q. action.Note (note.Suspect 1 q)), length-append noted (next_check place numbers))
   length-step few s now (input.Letter q payload.Alive) = elim (watches place numbers q) as (λ b. length (cond b (heard place numbers s now q) (still s)).actions ≤ 512) [
     | true ↦ omega (arith, length-heard s now q)
     | false ↦ omega arith

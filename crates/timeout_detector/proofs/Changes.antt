@@ -8,7 +8,7 @@ use Rattle.process_api.specs.Sets.{Processes, insert_all, gone, changes}
 use Rattle.process_api.specs.Actions.{of_layer, notes_of_layer}
 use Rattle.process_api.specs.Answer.{still}
 use Rattle.process_api.specs.Place.{Place}
-use Rattle.process_api.specs.Timeout.{DetectorState, alive_to_others, next_beat, next_check, watches, is_late, late, checked, noticed, trusted_again, heard, step_detector}
+use Rattle.process_api.specs.Timeout.{DetectorState, alive_to_others, next_beat, next_check, watches, is_overdue, overdue, checked, noticed, trusted_again, heard, step_detector}
 use Rattle.process_api.specs.Mind.{Lower, layer_of, suspects_of}
 use Rattle.process_api.specs.React.{react_lower}
 use Rattle.process_api.specs.declared.numbers.DetectorNumbers.{DetectorNumbers}
@@ -81,26 +81,26 @@ pub changes-none : (n : ℕ) (s : Processes) → [] ≡ changes 1 n s s
 changes-none n s = sym (λ i. map (note.Suspect 1) (gone-itself n s i) ++ map (note.Trust 1) (gone-itself n s i))
 
 module _ (place : Place) (numbers : DetectorNumbers) where
-  -- a check: those that are late
-  joined : (s : DetectorState) (now : ℕ) → gone place.processes (insert_all s.suspects (late place numbers s now)) s.suspects ≡ late place numbers s now
+  -- a check: those that are overdue
+  joined : (s : DetectorState) (now : ℕ) → gone place.processes (insert_all s.suspects (overdue place numbers s now)) s.suspects ≡ overdue place numbers s now
   joined s now =
-      let test : ℕ → Bool = is_late place numbers s now in
-      filter-same (λ q. set.contains (insert_all s.suspects (late place numbers s now)) q && not (set.contains s.suspects q)) test place.processes (λ q low high.
+      let test : ℕ → Bool = is_overdue place numbers s now in
+      filter-same (λ q. set.contains (insert_all s.suspects (overdue place numbers s now)) q && not (set.contains s.suspects q)) test place.processes (λ q low high.
       ap (λ b. b && not (set.contains s.suspects q)) (contains-insert_all s.suspects test place.processes q
       ∙ ap (λ b. (b && test q) || set.contains s.suspects q) (is_process_within place.processes q low high))
       ∙ new_ones (watches place numbers q) (nat_le (s.bound q) (now - s.last_heard q)) (set.contains s.suspects q))
 
-  nobody_left : (s : DetectorState) (now : ℕ) → gone place.processes s.suspects (insert_all s.suspects (late place numbers s now)) ≡ []
+  nobody_left : (s : DetectorState) (now : ℕ) → gone place.processes s.suspects (insert_all s.suspects (overdue place numbers s now)) ≡ []
   nobody_left s now =
-      let test : ℕ → Bool = is_late place numbers s now in
+      let test : ℕ → Bool = is_overdue place numbers s now in
       filter-none _ place.processes (λ q high.
       ap (λ b. set.contains s.suspects q && not b) (contains-insert_all s.suspects test place.processes q)
       ∙ joins_only (is_process place.processes q && test q) (set.contains s.suspects q))
 
   check_changes : (s : DetectorState) (now : ℕ) → notes_of_layer 1 (checked place numbers s now).actions ≡ changes 1 place.processes s.suspects (checked place numbers s now).state.suspects
   check_changes s now =
-      notes_of_layer-append 1 (map (λ q. action.Note (note.Suspect 1 q)) (late place numbers s now)) (next_check place numbers)
-      ∙ (ap (λ notes. notes ++ []) (notes_of_suspicions (late place numbers s now))
+      notes_of_layer-append 1 (map (λ q. action.Note (note.Suspect 1 q)) (overdue place numbers s now)) (next_check place numbers)
+      ∙ (ap (λ notes. notes ++ []) (notes_of_suspicions (overdue place numbers s now))
       ∙ sym (λ i. map (note.Suspect 1) (joined s now i) ++ map (note.Trust 1) (nobody_left s now i)))
 
   letters_and : (s : DetectorState) (wakes : List Action) → notes_of_layer 1 wakes ≡ [] → notes_of_layer 1 (alive_to_others place numbers ++ wakes) ≡ changes 1 place.processes s.suspects s.suspects

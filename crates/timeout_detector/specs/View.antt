@@ -1,7 +1,8 @@
 -- What a detector is, as plain data.
 use Rattle.std.specs.Prelude.{ℕ, Bool, slice_index_or}
 use Rattle.process_api.specs.Answer.{Answer}
-use Rattle.process_api.specs.Timeout.{DetectorState, watches, is_late, checked, heard, step_detector}
+use Rattle.process_api.specs.Timeout as timeout
+use Rattle.process_api.specs.Timeout.{DetectorState, watches, checked, heard, step_detector}
 use Rattle.process_api.specs.Mind.{Lower}
 use Rattle.process_api.specs.declared.message.StepInput.{StepInput}
 use Rattle.scenario.specs.Opening.{place_of, base_of}
@@ -19,12 +20,12 @@ state_of d = record {
 abbrev pub lower_of : TimeoutDetector → Lower
 lower_of d = record (base_of d.opening) { detector = state_of d }
 
--- what the definitions say of it: whom it watches, who is late at a tick, and what an input makes of it
+-- what the definitions say of it: whom it watches, who is overdue at a tick, and what an input makes of it
 abbrev pub is_watched : TimeoutDetector → ℕ → Bool
 is_watched d = watches (place_of d.opening) d.opening.detector
 
 abbrev pub is_overdue : TimeoutDetector → ℕ → ℕ → Bool
-is_overdue d = is_late (place_of d.opening) d.opening.detector (state_of d)
+is_overdue d = timeout.is_overdue (place_of d.opening) d.opening.detector (state_of d)
 
 abbrev pub checked_by : TimeoutDetector → ℕ → Answer DetectorState
 checked_by d = checked (place_of d.opening) d.opening.detector (state_of d)

@@ -9,7 +9,8 @@ use std::alloc::AllocError;
 
 /// Appends an Alive letter to each other process, in rising order, whoever is watched.
 pub(crate) fn send_alive(opening: &Opening, out: &mut Vec<Action>) -> Result<(), AllocError>
-    ensures { OnOk result (out.new.items ≡ out.old.items ++ alive_to_others (place_of opening.now) opening.now.detector) }
+    ensures { OnOk result (
+        out.new.items ≡ out.old.items ++ alive_to_others (place_of opening.now) opening.now.detector) }
 {
     for number in 1..opening.processes + 1 {
         let Some(q) = Pid::new(number) else {

@@ -63,9 +63,9 @@ impl TimeoutDetector {
         q.number() <= processes && q != own && is_chosen
     }
 
-    /// Whether a process becomes suspected at tick `now`: it is watched and not yet suspected, and was silent for its
-    /// bound or longer.
-    fn is_late(&self, now: u32, q: Pid) -> bool
+    /// Whether a process is overdue at tick `now`: it is watched and not yet suspected, and was silent for its bound
+    /// or longer.
+    fn is_overdue(&self, now: u32, q: Pid) -> bool
         ensures value { result ≡ is_overdue self.now now q }
         ensures other { result ≡ true → q ≢ self.now.opening.own }
     {
@@ -75,7 +75,7 @@ impl TimeoutDetector {
             && self.bound[place] <= now.saturating_sub(self.last_heard[place])
     }
 
-    /// A check at tick `now`: suspects each process that is late, in rising order, with its note, and asks for the
+    /// A check at tick `now`: suspects each process that is overdue, in rising order, with its note, and asks for the
     /// next check.
     #[tactic(auto, using(std::proofs::Common::append_assoc, crate::proofs::Members::without_after_insert))]
     fn check(&mut self, now: u32, out: &mut Vec<Action>) -> Result<(), AllocError>
@@ -89,7 +89,7 @@ impl TimeoutDetector {
             let Some(q) = Pid::new(number) else {
                 unreachable!()
             };
-            if self.is_late(now, q) {
+            if self.is_overdue(now, q) {
                 self.suspects.insert(q);
                 note_that(out, Note::Suspect { layer: 1, who: q })?;
             }

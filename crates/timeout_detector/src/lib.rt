@@ -1,8 +1,8 @@
 //! The time-out detector: the failure detector of layer 1.
 //!
 //! Each process sends Alive letters to all others again and again. A process that watches another suspects it once
-//! the other was silent for as long as its bound, and trusts it again as soon as a letter of it comes. Each such
-//! mistake makes the bound longer, so that in a system where letters are late for a bounded time mistakes end
+//! the other is overdue: at the first check that finds it silent for as long as its bound, or longer. It trusts it
+//! again as soon as a letter of it comes. Each such mistake makes the bound longer by `grow`, up to the horizon
 //! (Chandra and Toueg, "Unreliable failure detectors for reliable distributed systems", Journal of the ACM 43(2),
 //! 1996).
 //!

@@ -20,7 +20,8 @@ use Rattle.windows.proofs.Ranked.{rises_same, sorted_is}
 use Rattle.event_list.proofs.Steps.{in_append, in_left, in_right}
 use Rattle.windows.specs.Berth.{IsBerth, with_letters}
 use Rattle.windows.specs.Jobs.{TakerView, DealerView, taker_of}
-use Rattle.windows.specs.Workers.{Stay, stay, taken_in, left_in, all_stays, with_stays, IsSent, IsStay, IsReady, IsWork, AreWorks, AreRun, IsRest, HasLong, IsOutcome, RiseBy}
+use Rattle.windows.specs.Workers.{Stay, stay, taken_in, left_in, all_stays, with_stays, IsSent, IsStay, IsReady, IsFresh, IsWork, AreWorks, AreRun, IsRest, HasLong, IsOutcome, RiseBy}
+use Rattle.windows.specs.declared.workers.Start.{Start}
 use Rattle.windows.specs.declared.berth.Berth.{Berth}
 
 -- ---- jobs are dealt
@@ -388,9 +389,22 @@ module _ {X : Type 0} (P : X → Type 0) where
   pub all_dealt : (olds put rest : List X) → IsPermutation olds (put ++ rest) → All P olds → All P put × All P rest
   all_dealt olds put rest same h = let all = All-permutation P olds (put ++ rest) same h in (all_front put rest all, all_back put rest all)
 
+module _ {X : Type 0} (P Q R : X → Type 0) (join : (x : X) → P x → Q x → R x) where
+  pub all_both : (xs : List X) → All P xs → All Q xs → All R xs
+  all_both [] p q = All-nil R
+  all_both (x ∷ xs) p q =
+      All-cons R x xs (join x (All-head P x xs p) (All-head Q x xs q)) (all_both xs (All-tail P x xs p) (All-tail Q x xs q))
+
+pub fresh_at : {M : Type 0} (queue : TableId) (m m' : List MailboxId) (starts : List (Start M)) → All (λ b. IsFresh queue m b.taker b.slip) starts → m ≡ m'
+    → All (λ b. IsFresh queue m' b.taker b.slip) starts
+fresh_at {M} queue m m' starts fresh e = subst (λ l. All (λ (b : Start M). IsFresh queue l b.taker b.slip) starts) e fresh
+
 module _ {M : Type 0} (mind : M → Mind) (s : Record) (end : ℕ) where
   pub long_dealt : (left : ℕ) (olds put rest : List (Berth M)) → IsPermutation olds (put ++ rest) → HasLong mind s end left put → HasLong mind s end left olds
   long_dealt left olds put rest same (b, there, long) = (b, Contains-permutation (put ++ rest) olds b (IsPermutation-sym olds (put ++ rest) same) (Contains-append_left put rest b there), long)
+
+  pub run_at : (m m' : List MailboxId) (put put' done : List (Berth M)) (slips : List SlipView) → AreRun mind s end m put done slips → m ≡ m' → put ≡ put' → AreRun mind s end m' put' done slips
+  run_at m m' put put' done slips run e same = subst (λ l. AreRun mind s end l put' done slips) e (subst (λ l. AreRun mind s end m l done slips) same run)
 
   pub run_of_parts : (m m1 m2 : List MailboxId) (queue : TableId) (old new : DealerView (Berth M)) (put done mine done' : List (Berth M)) (slips slips' : List SlipView) (slip : SlipView)
       → AreWorks mind s end m1 old.taken done slips → IsRest mind s end queue m2 old new slip mine → m1 ≡ m → m2 ≡ m → old.put ≡ put → done' ≡ done ++ mine → slips' ≡ slips ++ slip ∷ []

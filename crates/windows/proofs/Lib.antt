@@ -19,3 +19,4 @@ pub mod Work
 pub mod Gathered
 pub mod Ranked
 pub mod Settled
+pub mod Taken

@@ -1,5 +1,5 @@
 -- A machine in its berth, and what it does in one window.
-use Rattle.std.specs.Prelude.{◌≡◌, ◌⊎◌, ℕ, ◌≤◌, List, [], ◌∷◌, map}
+use Rattle.std.specs.Prelude.{◌≡◌, ◌⊎◌, ℕ, ◌≤◌, ◌<◌, List, [], ◌∷◌, length, map}
 use Rattle.process_api.specs.Mind.{Mind}
 use Rattle.process_api.specs.declared.key.Key.{Key}
 use Rattle.process_api.specs.declared.message.Letter.{Letter}
@@ -9,9 +9,11 @@ use Rattle.process_api.specs.declared.message.StepInput.TheVariants as input
 use Rattle.scenario.specs.Record.{Record}
 use Rattle.event_list.specs.ScenarioSetting.{setting_of}
 use Rattle.event_list.specs.Seat.{process_of, own_of, IsSeated}
-use Rattle.event_list.specs.Step.{Event}
+use Rattle.event_list.specs.declared.seat.Seat.{Seat}
+use Rattle.event_list.specs.Step.{Event, Events, Process, Made, step}
 use Rattle.event_list.specs.World.{Pair, Has, entries}
 use Rattle.mailboxes.specs.Mailboxes.{SlipView, with_letter}
+use Rattle.windows.specs.Machine.{for_others}
 use Rattle.windows.specs.Window.{BerthRun}
 use Rattle.windows.specs.declared.berth.Berth.{Berth}
 
@@ -21,14 +23,30 @@ event_of x = (x.key, input.Letter x.key.sender x.payload)
 
 -- an event that process p causes: one of its own, or a letter to one of processes 1 to n
 abbrev pub IsOwnOrLetter : (n p : ℕ) → Event → Type 0
-IsOwnOrLetter n p e = (e.0.receiver ≡ p) ⊎ ((e.0.receiver ≤ n) × (payload : Payload) × (e.1 ≡ input.Letter e.0.sender payload))
+IsOwnOrLetter n p e =
+    (e.0.receiver ≡ p) ⊎ ((e.0.receiver ≤ n) × (payload : Payload) × (e.1 ≡ input.Letter e.0.sender payload))
 
 -- a slip after further letters were posted by it, in this order
 abbrev pub with_letters : SlipView → List Letter → SlipView
 with_letters slip [] = slip
 with_letters slip (x ∷ letters) = with_letters (with_letter slip x) letters
 
+-- just the letters of these events to others than process p were posted by the slip, in order
+abbrev pub ArePosted : (p : ℕ) → List Event → (old new : SlipView) → Type 0
+ArePosted p es old new =
+    (letters : List Letter) × (map event_of letters ≡ for_others p es) × (new ≡ with_letters old letters)
+
 module _ {M : Type 0} (mind : M → Mind) (s : Record) where
+  -- what the process in a seat makes of an event
+  abbrev pub made_in : Seat M → Key → StepInput → Made (setting_of s)
+  made_in seat key input = step (setting_of s) (process_of mind seat) key input
+
+  -- the process has more than so many events below the end
+  abbrev pub IsLong : (end left : ℕ) → Berth M → Type 0
+  IsLong end left b = (history : List Pair) (after : Process Mind) (rest : Events) (letters : List Event)
+      → BerthRun (setting_of s) (own_of mind b.seat) end (process_of mind b.seat) b.pending history after rest letters
+      → left < length history
+
   -- process p in its berth: it put at most so much on each link, and its pending events are its own
   pub record IsBerth (p most : ℕ) (berth : Berth M) : Type 0 where
     pub seated : IsSeated mind s most berth.seat
@@ -38,5 +56,6 @@ module _ {M : Type 0} (mind : M → Mind) (s : Record) where
   -- process p took its events below a tick, which made its part of the window, and it posted these letters
   pub record RanTo (p end : ℕ) (old new : Berth M) (letters : List Letter) : Type 0 where
     pub history : List Pair
-    pub run : BerthRun (setting_of s) p end (process_of mind old.seat) old.pending history (process_of mind new.seat) new.pending (map event_of letters)
+    pub run : BerthRun (setting_of s) p end (process_of mind old.seat) old.pending history
+        (process_of mind new.seat) new.pending (map event_of letters)
     pub part : new.part.items ≡ entries history

@@ -8,3 +8,5 @@ pub mod Stage
 pub mod Dealt
 pub mod Jobs
 pub mod Workers
+pub mod Refusals
+pub mod Shared

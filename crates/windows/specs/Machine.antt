@@ -23,7 +23,8 @@ pub data Status : Type 0 where
 pub record StageRecord (Mind : Type 0) : Type 0 where
   -- the first tick of the window
   pub start : ℕ
-  -- of each process: its mind and link counts, its own pending events, its part of the trace of this window, and where it is
+  -- of each process: its mind and link counts, its own pending events, its part of the trace of this window, and where
+  -- it is
   pub process : ℕ → Process Mind
   pub own : ℕ → Events
   pub part : ℕ → List EntryRecord
@@ -69,7 +70,8 @@ module _ {Mind : Type 0} where
 
 -- ---- the acts
 
--- what may happen next: worker a takes process p, runs an event of the process that it holds, posts a letter, or gives a process back; or the window closes and the next one opens
+-- what may happen next: worker a takes process p, runs an event of the process that it holds, posts a letter, or gives
+-- a process back; or the window closes and the next one opens
 pub data Act : Type 0 where
   Take : (a p : ℕ) → Act
   Turn : (a : ℕ) → Act
@@ -106,12 +108,14 @@ module _ {Mind : Type 0} (S : Setting Mind) where
     mailbox = λ r. events.empty;
   }
 
-  -- In a window of this length that ends at this tick, an act may lead from one stage to another. The next window opens at a tick from the end to the horizon below which no event is pending
+  -- In a window of this length that ends at this tick, an act may lead from one stage to another. The next window opens
+  -- at a tick from the end to the horizon below which no event is pending
   abbrev pub Moves : (window end : ℕ) → StageRecord Mind → Act → StageRecord Mind → Type 0
   Moves window end g (Take a p) h =
       (g.status p ≡ Waiting) × IsEmpty (g.tray a) × HoldsNoWork end g a × (h ≡ with_status g p (Held a))
   Moves window end g (Turn a) h =
-      (p : ℕ) × (key : Key) × (input : StepInput) × (g.status p ≡ Held a) × IsLeast (g.own p) key input × (key.tick < end) × (h ≡ turned g a p key input)
+      (p : ℕ) × (key : Key) × (input : StepInput) × (g.status p ≡ Held a)
+      × IsLeast (g.own p) key input × (key.tick < end) × (h ≡ turned g a p key input)
   Moves window end g (Post a key input) h = Has (g.tray a) key input × (h ≡ posted g a key input)
   Moves window end g (Return a p) h =
       (g.status p ≡ Held a) × NoneBelow end (g.own p) × IsEmpty (g.tray a) × (h ≡ with_status g p Done)
@@ -119,16 +123,19 @@ module _ {Mind : Type 0} (S : Setting Mind) where
       ((p : ℕ) → IsProcess S p → g.status p ≡ Done) × (end ≤ next) × (next ≤ S.horizon)
       × ((p : ℕ) → NoneBelow next (g.own p) × NoneBelow next (g.mailbox p)) × (h ≡ closed window next g)
 
-  -- A run of a window: any acts, each allowed, whose one Close is the last. The Close finds one stage, and leaves the other
+  -- A run of a window: any acts, each allowed, whose one Close is the last. The Close finds one stage, and leaves the
+  -- other
   abbrev pub IsRun : (window end : ℕ) → StageRecord Mind → List Act → (found left : StageRecord Mind) → Type 0
   IsRun window end g [] found left = ⊥
   IsRun window end g (Close next ∷ acts) found left = (acts ≡ []) × (found ≡ g) × Moves window end g (Close next) left
-  IsRun window end g (act ∷ acts) found left = (mid : StageRecord Mind) × Moves window end g act mid × IsRun window end mid acts found left
+  IsRun window end g (act ∷ acts) found left =
+      (mid : StageRecord Mind) × Moves window end g act mid × IsRun window end mid acts found left
 
   -- a stage at the opening of its window has the processes of a world, and each its own of the world's pending events
   pub record StandsFor (window : ℕ) (g : StageRecord Mind) (w : World Mind) : Type 0 where
     pub process : (p : ℕ) → IsProcess S p → g.process p ≡ w.process p
-    pub own : (p : ℕ) (key : Key) (input : StepInput) → Has (g.own p) key input ↔ (Has w.pending key input × (key.receiver ≡ p))
+    pub own : (p : ℕ) (key : Key) (input : StepInput)
+        → Has (g.own p) key input ↔ (Has w.pending key input × (key.receiver ≡ p))
     pub late : (key : Key) (input : StepInput) → Has w.pending key input → g.start ≤ key.tick
     pub part : (p : ℕ) → g.part p ≡ []
     pub status : (p : ℕ) → g.status p ≡ first_status (end_of window g.start) (g.own p)

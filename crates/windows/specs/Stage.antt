@@ -58,9 +58,11 @@ module _ {M : Type 0} (mind : M → Mind) where
         mailbox = λ r. events.empty;
       }
 
-  -- each process is in its berth, of process 1 first. It put at most 4,096 letters and wakes on each link for each entry so far
+  -- each process is in its berth, of process 1 first. It put at most 4,096 letters and wakes on each link for each
+  -- entry so far
   pub record AreHome (s : Record) (entries : ℕ) (berths : List (Berth M)) : Type 0 where
-    pub berth : (p : ℕ) → IsProcess (setting_of s) p → (b : Berth M) × (slice_get berths (p - 1) ≡ Some b) × IsBerth mind s p (4096 * entries) b
+    pub berth : (p : ℕ) → IsProcess (setting_of s) p
+        → (b : Berth M) × (slice_get berths (p - 1) ≡ Some b) × IsBerth mind s p (4096 * entries) b
 
   -- a stage between two windows: it stands for a world by which the list comes after the entries so far
   pub record IsStage (stage : Stage M) : Type 0 where
@@ -73,8 +75,10 @@ module _ {M : Type 0} (mind : M → Mind) where
     pub stands : (window : ℕ) → StandsFor (setting_of stage.scenario.now) window (stage_of window stage) world
     pub reached : IsReached (setting_of stage.scenario.now) world stage.entries.items
 
-  -- The berths that a window left took these letters, of process 1 first, and gave their parts. The entries so far have the parts, merged, at their end, and the next window starts at this tick
-  pub record IsClosed (left end : ℕ) (entries : List EntryRecord) (berths : List (Berth M)) (letters : List (List Letter)) (new : Stage M) : Type 0 where
+  -- The berths that a window left took these letters, of process 1 first, and gave their parts. The entries so far have
+  -- the parts, merged, at their end, and the next window starts at this tick
+  pub record IsClosed (left end : ℕ) (entries : List EntryRecord) (berths : List (Berth M))
+      (letters : List (List Letter)) (new : Stage M) : Type 0 where
     pub seats : map (λ b. b.seat) new.berths.items ≡ map (λ b. b.seat) berths
     pub pending : map (λ b. b.pending) new.berths.items ≡ delivered (map (λ b. b.pending) berths) letters
     pub parts : All (λ b. b.part.items ≡ []) new.berths.items
@@ -85,10 +89,13 @@ module _ {M : Type 0} (mind : M → Mind) where
     pub entries_are : new.entries.items ≡ entries ++ merged
     pub start : new.start ≡ end
 
-  -- Some run of a window leads from one stage to the other. The entries so far are those from before and that run's parts, merged, and the next window starts where this one ended
+  -- Some run of a window leads from one stage to the other. The entries so far are those from before and that run's
+  -- parts, merged, and the next window starts where this one ended
   abbrev pub IsWindowRun : (window : ℕ) → (old new : Stage M) → Type 0
   IsWindowRun window old new =
       let S = setting_of old.scenario.now in
       (acts : List Act) × (found : StageRecord Mind) × (left : StageRecord Mind) × (merged : List EntryRecord)
-      × IsRun S window (end_of S window old.start) (stage_of window old) acts found left × IsSameStage S left (stage_of window new)
-      × IsMerge S.processes found.part merged × (new.entries.items ≡ old.entries.items ++ merged) × (new.start ≡ end_of S window old.start)
+      × IsRun S window (end_of S window old.start) (stage_of window old) acts found left
+      × IsSameStage S left (stage_of window new)
+      × IsMerge S.processes found.part merged × (new.entries.items ≡ old.entries.items ++ merged)
+      × (new.start ≡ end_of S window old.start)

@@ -29,7 +29,8 @@ end_to_end (es ∷ more) = es ++ end_to_end more
 module _ {Mind : Type 0} (S : Setting Mind) (window : ℕ) where
   -- ---- one window
 
-  -- the run of a window did what the list does between a world and the window's end: it took these pairs, and came to that world
+  -- the run of a window did what the list does between a world and the window's end: it took these pairs, and came to
+  -- that world
   pub record IsListRun (g found left : StageRecord Mind) (w after : World Mind) (history : List Pair) : Type 0 where
     pub run : Run S (end_of S window g.start) w history after
     pub world : IsWorld S after
@@ -53,15 +54,18 @@ module _ {Mind : Type 0} (S : Setting Mind) (window : ℕ) where
   abbrev pub CloseAlike : Type 0
   CloseAlike = (w : World Mind) → IsWorld S w → (g : StageRecord Mind) → StandsFor S window g w
       → (acts acts2 : List Act) (found left found2 left2 : StageRecord Mind)
-      → IsRun S window (end_of S window g.start) g acts found left → IsRun S window (end_of S window g.start) g acts2 found2 left2
+      → IsRun S window (end_of S window g.start) g acts found left
+      → IsRun S window (end_of S window g.start) g acts2 found2 left2
       → AreAlike found left found2 left2
 
-  -- there is a run whose turns come in the order of the list's steps, each by the worker that has the number of that process, whatever the tick from which the next window may start
+  -- there is a run whose turns come in the order of the list's steps, each by the worker that has the number of that
+  -- process, whatever the tick from which the next window may start
   abbrev pub HasRun : Type 0
   HasRun = (w : World Mind) → IsWorld S w → (g : StageRecord Mind) → StandsFor S window g w
       → (history : List Pair) (after : World Mind) → Run S (end_of S window g.start) w history after
       → (next : ℕ) → end_of S window g.start ≤ next → next ≤ S.horizon → NoneBelow next after.pending
-      → (acts : List Act) × (found : StageRecord Mind) × (left : StageRecord Mind) × IsRun S window (end_of S window g.start) g acts found left
+      → (acts : List Act) × (found : StageRecord Mind) × (left : StageRecord Mind)
+      × IsRun S window (end_of S window g.start) g acts found left
       × (left.start ≡ next) × (turns_of acts ≡ map (λ s. s.0.key.receiver) history)
 
   -- ---- windows one after the other
@@ -70,10 +74,12 @@ module _ {Mind : Type 0} (S : Setting Mind) (window : ℕ) where
   abbrev pub Windows : StageRecord Mind → List (List EntryRecord) → StageRecord Mind → Type 0
   Windows g [] h = h ≡ g
   Windows g (merged ∷ more) h =
-      (acts : List Act) × (found : StageRecord Mind) × (left : StageRecord Mind) × IsRun S window (end_of S window g.start) g acts found left
+      (acts : List Act) × (found : StageRecord Mind) × (left : StageRecord Mind)
+      × IsRun S window (end_of S window g.start) g acts found left
       × IsMerge S.processes found.part merged × Windows left more h
 
-  -- windows from the opening on, whatever the order of acts in each, make a front of the trace, and the whole trace where they come to the horizon
+  -- windows from the opening on, whatever the order of acts in each, make a front of the trace, and the whole trace
+  -- where they come to the horizon
   abbrev pub MakeTrace : Type 0
   MakeTrace = (g : StageRecord Mind) → StandsFor S window g (opening S)
       → (parts : List (List EntryRecord)) (h : StageRecord Mind) → Windows g parts h

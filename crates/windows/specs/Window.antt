@@ -11,22 +11,29 @@ use Rattle.event_list.specs.World.{World, Pair, IsWorld, Has, IsLeast, NoneBelow
 use Rattle.windows.specs.Machine.{StageRecord, Act, for_self, for_others, end_of, first_status, StandsFor, IsRun}
 
 module _ {Mind : Type 0} (S : Setting Mind) where
-  -- Process p takes its pending events below the end, the least first. Events for itself join its set, letters to others are posted, in order
-  abbrev pub BerthRun : (p end : ℕ) → (before : Process Mind) → (own : Events) → List Pair → (after : Process Mind) → (rest : Events) → (letters : List Event) → Type 0
+  -- Process p takes its pending events below the end, the least first. Events for itself join its set, letters to
+  -- others are posted, in order
+  abbrev pub BerthRun : (p end : ℕ) → (before : Process Mind) → (own : Events) → List Pair
+      → (after : Process Mind) → (rest : Events) → (letters : List Event) → Type 0
   BerthRun p end before own [] after rest letters = NoneBelow end own × (after ≡ before) × (rest ≡ own) × (letters ≡ [])
   BerthRun p end before own (s ∷ history) after rest letters =
       IsLeast own s.0.key s.1 × (s.0.key.tick < end) × (s.0 ≡ (step S before s.0.key s.1).entry)
       × (more : List Event) × (letters ≡ for_others p (step S before s.0.key s.1).added ++ more)
-      × BerthRun p end (step S before s.0.key s.1).process (joined (events.remove own s.0.key) (for_self p (step S before s.0.key s.1).added)) history after rest more
+      × BerthRun p end (step S before s.0.key s.1).process
+      (joined (events.remove own s.0.key) (for_self p (step S before s.0.key s.1).added)) history after rest more
 
   -- a letter to p is among those that the processes posted
   abbrev pub IsPosted : (letters : ℕ → List Event) → (p : ℕ) → Key → StepInput → Type 0
   IsPosted letters p key input = (q : ℕ) × IsProcess S q × IsIn (key, input) (letters q) × (key.receiver ≡ p)
 
-  -- From stage g each process ran its window by itself, of these pairs, with these events left and these letters posted. Stage h is what then opens: each set has what is left and what was posted to it
-  pub record AreBerths (window : ℕ) (g : StageRecord Mind) (history : ℕ → List Pair) (rest : ℕ → Events) (letters : ℕ → List Event) (h : StageRecord Mind) : Type 0 where
-    pub berth : (p : ℕ) → IsProcess S p → BerthRun p (end_of S window g.start) (g.process p) (g.own p) (history p) (h.process p) (rest p) (letters p)
-    pub own : (p : ℕ) → IsProcess S p → (key : Key) (input : StepInput) → Has (h.own p) key input ↔ (Has (rest p) key input ⊎ IsPosted letters p key input)
+  -- From stage g each process ran its window by itself, of these pairs, with these events left and these letters
+  -- posted. Stage h is what then opens: each set has what is left and what was posted to it
+  pub record AreBerths (window : ℕ) (g : StageRecord Mind) (history : ℕ → List Pair) (rest : ℕ → Events)
+      (letters : ℕ → List Event) (h : StageRecord Mind) : Type 0 where
+    pub berth : (p : ℕ) → IsProcess S p
+        → BerthRun p (end_of S window g.start) (g.process p) (g.own p) (history p) (h.process p) (rest p) (letters p)
+    pub own : (p : ℕ) → IsProcess S p → (key : Key) (input : StepInput)
+        → Has (h.own p) key input ↔ (Has (rest p) key input ⊎ IsPosted letters p key input)
     pub others : (p : ℕ) → ¬ (IsProcess S p) → IsEmpty (h.own p)
     pub from_end : end_of S window g.start ≤ h.start
     pub to_horizon : h.start ≤ S.horizon
@@ -49,6 +56,8 @@ module _ {Mind : Type 0} (S : Setting Mind) where
   -- what the processes make of a window, each by itself, some run of the window machine makes
   abbrev pub LawBerths : (window : ℕ) → Type 0
   LawBerths window = (w : World Mind) → IsWorld S w → (g : StageRecord Mind) → StandsFor S window g w
-      → (history : ℕ → List Pair) (rest : ℕ → Events) (letters : ℕ → List Event) (h : StageRecord Mind) → AreBerths window g history rest letters h
-      → (acts : List Act) × (found : StageRecord Mind) × (left : StageRecord Mind) × IsRun S window (end_of S window g.start) g acts found left
+      → (history : ℕ → List Pair) (rest : ℕ → Events) (letters : ℕ → List Event) (h : StageRecord Mind)
+      → AreBerths window g history rest letters h
+      → (acts : List Act) × (found : StageRecord Mind) × (left : StageRecord Mind)
+      × IsRun S window (end_of S window g.start) g acts found left
       × IsSameStage left h × ((p : ℕ) → IsProcess S p → found.part p ≡ entries (history p))

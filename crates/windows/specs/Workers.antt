@@ -1,23 +1,20 @@
 -- What the workers of a window do.
-use Rattle.std.specs.Prelude.{◌≡◌, ◌⊎◌, ◌↔◌, ◌<◌, ◌≤◌, ◌+◌, ◌-◌, ◌*◌, ◌^◌, ◌++◌, ℕ, List, [], ◌∷◌, length, map, vec_len, Result, IfOk, IfErr, IsErrOf}
+use Rattle.std.specs.Prelude.{◌≡◌, ◌↔◌, ◌<◌, ◌≤◌, ◌+◌, ◌-◌, ◌*◌, ◌^◌, ◌++◌, ℕ, List, [], ◌∷◌, length, map, vec_len, Result, IfOk, IfErr, IsErrOf}
 use Rattle.std.specs.List.{All, Contains, flat_map}
 use Rattle.std.specs.List.Sorted.{IsPermutation}
 use Rattle.atomic_table.specs.Seated.{TableId}
 use Rattle.process_api.specs.Mind.{Mind}
 use Rattle.process_api.specs.declared.message.Letter.{Letter}
 use Rattle.scenario.specs.Record.{Record}
-use Rattle.event_list.specs.ScenarioSetting.{setting_of}
-use Rattle.event_list.specs.Seat.{process_of, own_of}
-use Rattle.event_list.specs.Step.{Event, Events, Process}
+use Rattle.event_list.specs.Seat.{own_of}
 use Rattle.event_list.specs.History.{IsIn}
-use Rattle.event_list.specs.World.{Pair}
 use Rattle.event_list.specs.declared.error.RunError.{RunError}
-use Rattle.event_list.specs.declared.error.RunError.TheVariants.{Limit, Memory}
+use Rattle.event_list.specs.declared.error.RunError.TheVariants.{Limit}
 use Rattle.mailboxes.specs.Mailbox.{MailboxId}
 use Rattle.mailboxes.specs.Mailboxes.{SlipView, IsSlipOf, unused, list_of, posted_to}
-use Rattle.windows.specs.Berth.{IsBerth, RanTo, with_letters}
+use Rattle.windows.specs.Berth.{IsBerth, IsLong, RanTo, with_letters}
 use Rattle.windows.specs.Jobs.{TakerView, DealerView, taker_of}
-use Rattle.windows.specs.Window.{BerthRun}
+use Rattle.windows.specs.Refusals.{IsRefusalOfOne}
 use Rattle.windows.specs.declared.berth.Berth.{Berth}
 use Rattle.windows.specs.declared.workers.Start.{Start}
 use Rattle.windows.specs.declared.workers.Work.{Work}
@@ -54,25 +51,24 @@ module _ {M : Type 0} where
   module _ (mind : M → Mind) (s : Record) where
     -- nothing was done in the berth for this window yet, and so many entries fit
     abbrev pub IsReady : (left : ℕ) → Berth M → Type 0
-    IsReady left b = ((p : ℕ) × (most : ℕ) × IsBerth mind s p most b × (most + 4096 * (left + 1) < 2 ^ 64)) × (b.part.items ≡ [])
+    IsReady left b =
+        ((p : ℕ) × (most : ℕ) × IsBerth mind s p most b × (most + 4096 * (left + 1) < 2 ^ 64)) × (b.part.items ≡ [])
 
     -- the process took its events below the end, and stays in its berth
     abbrev pub IsStay : (end : ℕ) → Stay M → Type 0
     IsStay end t =
         RanTo mind s (own_of mind t.before.seat) end t.before t.after t.letters
-        × ((p most : ℕ) → IsBerth mind s p most t.before → IsBerth mind s p (most + 4096 * vec_len t.after.part) t.after)
-
-    -- the process has more than so many events below the end
-    abbrev pub IsLong : (end left : ℕ) → Berth M → Type 0
-    IsLong end left b = (history : List Pair) (after : Process Mind) (rest : Events) (letters : List Event)
-        → BerthRun (setting_of s) (own_of mind b.seat) end (process_of mind b.seat) b.pending history after rest letters → left < length history
+        × ((p most : ℕ) → IsBerth mind s p most t.before
+        → IsBerth mind s p (most + 4096 * vec_len t.after.part) t.after)
 
     -- one of the processes has
     abbrev pub HasLong : (end left : ℕ) → List (Berth M) → Type 0
-    HasLong end left berths = (b : Berth M) × Contains berths b × IsLong end left b
+    HasLong end left berths = (b : Berth M) × Contains berths b × IsLong mind s end left b
 
-    -- of this queue and these mailboxes: each berth that was taken was run and is among those that were done, in the same order, and the slip has the letters of these runs
-    pub record IsWork (end : ℕ) (queue : TableId) (mailboxes : List MailboxId) (taker : TakerView (Berth M)) (slip : SlipView) (done : List (Berth M)) : Type 0 where
+    -- of this queue and these mailboxes: each berth that was taken was run and is among those that were done, in the
+    -- same order, and the slip has the letters of these runs
+    pub record IsWork (end : ℕ) (queue : TableId) (mailboxes : List MailboxId) (taker : TakerView (Berth M))
+        (slip : SlipView) (done : List (Berth M)) : Type 0 where
       pub of_queue : taker.queue ≡ queue
       pub of_mailboxes : IsSlipOf mailboxes slip
       pub stays : List (Stay M)
@@ -81,18 +77,22 @@ module _ {M : Type 0} where
       pub done_is : left_in stays ≡ done
       pub posted : slip ≡ with_stays (unused mailboxes) stays
 
-    -- a worker answers its work; or that memory was refused; or the limit, where one of the berths that it knows is too long
-    pub record IsAnswer (end left : ℕ) (queue : TableId) (mailboxes : List MailboxId) (known : List (Berth M)) (r : Result (Work M) RunError) : Type 0 where
+    -- a worker answers its work; or that memory was refused; or the limit, where one of the berths that it knows is too
+    -- long
+    pub record IsAnswer (end left : ℕ) (queue : TableId) (mailboxes : List MailboxId) (known : List (Berth M))
+        (r : Result (Work M) RunError) : Type 0 where
       pub work : IfOk r (λ w. IsWork end queue mailboxes w.taker w.slip w.done.items)
-      pub errors : IfErr r (λ e. (e ≡ Limit) ⊎ (e ≡ Memory))
+      pub errors : IfErr r IsRefusalOfOne
       pub limit : IsErrOf r Limit → HasLong end left known
 
     -- one of the berths that all of these workers know is too long
     abbrev pub HaveLong : (end left : ℕ) → List (Start M) → Type 0
-    HaveLong end left starts = (known : List (Berth M)) → All (λ b. b.taker.known ≡ known) starts → HasLong end left known
+    HaveLong end left starts =
+        (known : List (Berth M)) → All (λ b. b.taker.known ≡ known) starts → HasLong end left known
 
     -- what some workers took, what they left, and their slips
-    pub record AreWorks (end : ℕ) (mailboxes : List MailboxId) (taken done : List (Berth M)) (slips : List SlipView) : Type 0 where
+    pub record AreWorks (end : ℕ) (mailboxes : List MailboxId) (taken done : List (Berth M))
+        (slips : List SlipView) : Type 0 where
       pub stays : List (List (Stay M))
       pub each : All (IsStay end) (all_stays stays)
       pub taken_are : taken_in (all_stays stays) ≡ taken
@@ -100,14 +100,17 @@ module _ {M : Type 0} where
       pub posted : map (with_stays (unused mailboxes)) stays ≡ slips
 
     -- what the starter took itself, after the workers: with it each job was taken, as often as it was put in
-    pub record IsRest (end : ℕ) (queue : TableId) (mailboxes : List MailboxId) (old new : DealerView (Berth M)) (slip : SlipView) (done : List (Berth M)) : Type 0 where
+    pub record IsRest (end : ℕ) (queue : TableId) (mailboxes : List MailboxId) (old new : DealerView (Berth M))
+        (slip : SlipView) (done : List (Berth M)) : Type 0 where
       pub rest : List (Berth M)
       pub work : IsWork end queue mailboxes (taker_of queue old.put rest) slip done
       pub taken : new.taken ≡ old.taken ++ rest
       pub same : IsPermutation old.put new.taken
 
-    -- each of these processes had its window: it ran, or it had nothing to run. The slips have just the letters of these runs
-    pub record AreRun (end : ℕ) (mailboxes : List MailboxId) (olds news : List (Berth M)) (slips : List SlipView) : Type 0 where
+    -- each of these processes had its window: it ran, or it had nothing to run. The slips have just the letters of
+    -- these runs
+    pub record AreRun (end : ℕ) (mailboxes : List MailboxId) (olds news : List (Berth M))
+        (slips : List SlipView) : Type 0 where
       pub stays : List (Stay M)
       pub each : All (IsStay end) stays
       pub olds_are : IsPermutation (taken_in stays) olds
@@ -125,12 +128,16 @@ module _ {M : Type 0} where
       pub letters : (r : ℕ) → 1 ≤ r → r ≤ s.processes → (x : Letter) → IsIn x (list_of lists r) ↔ IsSent stays r x
 
   -- whatever these workers did, it is brought together
-  abbrev pub BringsTogether : (M → Mind) → TableId → List (Work M) → (taken done : List (Berth M)) → List SlipView → Type 0
+  abbrev pub BringsTogether : (M → Mind) → TableId → List (Work M) → (taken done : List (Berth M))
+      → List SlipView → Type 0
   BringsTogether mind queue works taken done slips =
-      (s : Record) (end : ℕ) (mailboxes : List MailboxId) → All (λ w. IsWork mind s end queue mailboxes w.taker w.slip w.done.items) works → AreWorks mind s end mailboxes taken done slips
+      (s : Record) (end : ℕ) (mailboxes : List MailboxId)
+      → All (λ w. IsWork mind s end queue mailboxes w.taker w.slip w.done.items) works
+      → AreWorks mind s end mailboxes taken done slips
 
   -- of this queue and these mailboxes, and nothing was taken or posted yet
-  pub record IsFresh (queue : TableId) (mailboxes : List MailboxId) (taker : TakerView (Berth M)) (slip : SlipView) : Type 0 where
+  pub record IsFresh (queue : TableId) (mailboxes : List MailboxId) (taker : TakerView (Berth M))
+      (slip : SlipView) : Type 0 where
     pub of_queue : taker.queue ≡ queue
     pub none_taken : taker.taken ≡ []
     pub none_posted : slip ≡ unused mailboxes

@@ -1,16 +1,13 @@
 //! One process of a window: its machine, its pending events, and its part of the trace.
-ghost use Rattle.std.specs.Prelude.{◌≡◌, ◌≤◌, ◌<◌, ◌+◌, ◌*◌, ◌^◌, ◌++◌, [], ◌∷◌, ℕ, List, length, map, vec_len, IfErr, IfOk, OnOk, IsErrOf, ◌⊎◌};
+ghost use Rattle.std.specs.Prelude.{◌≡◌, ◌≤◌, ◌<◌, ◌+◌, ◌*◌, ◌^◌, ◌++◌, [], ◌∷◌, ℕ, List, length, vec_len, IfErr, IfOk, OnOk, IsErrOf};
 ghost use Rattle.std.specs.List.{AllByRecursion};
-ghost use Rattle.process_api.specs.Mind.{Mind};
 ghost use Rattle.process_api.specs.declared.message.Letter.{Letter as SentLetter};
-ghost use Rattle.event_list.specs.ScenarioSetting.{setting_of};
 ghost use Rattle.event_list.specs.Seat.{process_of, own_of, IsMindIn, IsSeated};
-ghost use Rattle.event_list.specs.Step.{Event, Events, Process as ProcessState, step};
-ghost use Rattle.event_list.specs.World.{Pair, joined, opened};
+ghost use Rattle.event_list.specs.World.{joined, opened};
 ghost use Rattle.mailboxes.specs.Mailboxes.{IsSlipOf};
-ghost use Rattle.windows.specs.Berth.{event_of, with_letters, IsOwnOrLetter, IsBerth, RanTo};
-ghost use Rattle.windows.specs.Machine.{for_self, for_others};
-ghost use Rattle.windows.specs.Window.{BerthRun};
+ghost use Rattle.windows.specs.Berth.{with_letters, made_in, ArePosted, IsOwnOrLetter, IsBerth, IsLong, RanTo};
+ghost use Rattle.windows.specs.Machine.{for_self};
+ghost use Rattle.windows.specs.Refusals.{IsRefusalOfOne};
 
 use event_list::{Pending, RunError, Seat};
 use mailboxes::{SharedMailboxes, Slip};
@@ -47,7 +44,7 @@ fn hand_on<R: Wait>(
     requires event { IsOwnOrLetter (length mailboxes.now) own (key, input) }
     ensures slip { IsSlipOf mailboxes.now slip.new }
     ensures pending { OnOk result (pending.new ≡ joined pending.old (for_self own ((key, input) ∷ []))) }
-    ensures letters { OnOk result ((letters : List SentLetter) × (map event_of letters ≡ for_others own ((key, input) ∷ [])) × (slip.new ≡ with_letters slip.old letters)) }
+    ensures letters { OnOk result (ArePosted own ((key, input) ∷ []) slip.old slip.new) }
 {
     if key.receiver == own {
         return pending.join(key, input);
@@ -74,7 +71,7 @@ fn hand_on_all<R: Wait>(
     requires events { AllByRecursion (IsOwnOrLetter (length mailboxes.now) own) added.old.items }
     ensures slip { IsSlipOf mailboxes.now slip.new }
     ensures pending { OnOk result (pending.new ≡ joined pending.old (for_self own added.old.items)) }
-    ensures letters { OnOk result ((letters : List SentLetter) × (map event_of letters ≡ for_others own added.old.items) × (slip.new ≡ with_letters slip.old letters)) }
+    ensures letters { OnOk result (ArePosted own added.old.items slip.old slip.new) }
 {
     for (key, input) in added.drain(..) {
         hand_on(rt, own, pending, mailboxes, slip, key, input)?;
@@ -134,13 +131,17 @@ impl<M: Process> Berth<M> {
         requires boxes { length mailboxes.now ≡ streams.now.processes }
 
         ensures slip { IsSlipOf mailboxes.now slip.new }
-        ensures process { OnOk result (process_of M.mind self.new.seat ≡ (step (setting_of streams.now) (process_of M.mind self.old.seat) key input.now).process) }
+        ensures process { OnOk result (process_of M.mind self.new.seat
+            ≡ (made_in M.mind streams.now self.old.seat key input.now).process) }
         ensures own { OnOk result (own_of M.mind self.new.seat ≡ own_of M.mind self.old.seat) }
-        ensures seated { OnOk result ((most : ℕ) → IsSeated M.mind streams.now most self.old.seat → IsSeated M.mind streams.now (most + 4096) self.new.seat) }
-        ensures pending { OnOk result (self.new.pending ≡ joined self.old.pending (for_self key.receiver (step (setting_of streams.now) (process_of M.mind self.old.seat) key input.now).added)) }
-        ensures part { OnOk result (self.new.part.items ≡ self.old.part.items ++ (step (setting_of streams.now) (process_of M.mind self.old.seat) key input.now).entry ∷ []) }
-        ensures letters { OnOk result ((letters : List SentLetter) × (map event_of letters ≡ for_others key.receiver (step (setting_of streams.now) (process_of M.mind self.old.seat) key input.now).added)
-            × (slip.new ≡ with_letters slip.old letters)) }
+        ensures seated { OnOk result ((most : ℕ) → IsSeated M.mind streams.now most self.old.seat
+            → IsSeated M.mind streams.now (most + 4096) self.new.seat) }
+        ensures pending { OnOk result (self.new.pending ≡ joined self.old.pending
+            (for_self key.receiver (made_in M.mind streams.now self.old.seat key input.now).added)) }
+        ensures part { OnOk result (self.new.part.items
+            ≡ self.old.part.items ++ (made_in M.mind streams.now self.old.seat key input.now).entry ∷ []) }
+        ensures letters { OnOk result (ArePosted key.receiver
+            (made_in M.mind streams.now self.old.seat key input.now).added slip.old slip.new) }
     {
         let own = key.receiver;
         self.added.clear();
@@ -158,7 +159,8 @@ impl<M: Process> Berth<M> {
 /// stops where the process's part of the window would be longer than `left` entries.
 ///
 /// The berth's part is empty, as it is when a window opens, and the process's counts on its links have room for `left`
-/// more entries: both hold of every berth of a stage, and no berth can be had otherwise.
+/// more entries. Both hold of every berth of a stage while `left` is no more than the scenario's limit less the entries
+/// so far, and no berth can be had but from a stage.
 ///
 /// Conservative windows are as in textbooks: R. M. Fujimoto, Parallel and Distributed Simulation Systems, Wiley, 2000.
 ///
@@ -175,20 +177,22 @@ pub fn run_berth<M: Process, R: Wait>(
     slip: &mut Slip,
     left: u64,
 ) -> Result<(), RunError>
-    requires berth { (p : ℕ) × (most : ℕ) × IsBerth M.mind streams.now p most berth.old × (most + 4096 * (left + 1) < 2 ^ 64) }
+    requires berth { (p : ℕ) × (most : ℕ) × IsBerth M.mind streams.now p most berth.old
+        × (most + 4096 * (left + 1) < 2 ^ 64) }
     requires part { berth.old.part.items ≡ [] }
     requires slip { IsSlipOf mailboxes.now slip.old }
     requires boxes { length mailboxes.now ≡ streams.now.processes }
 
     ensures slip { IsSlipOf mailboxes.now slip.new }
-    ensures ran { OnOk result ((p : ℕ) → own_of M.mind berth.old.seat ≡ p → (letters : List SentLetter) × RanTo M.mind streams.now p end berth.old berth.new letters × (slip.new ≡ with_letters slip.old letters)) }
-    ensures berth { OnOk result ((p most : ℕ) → IsBerth M.mind streams.now p most berth.old → IsBerth M.mind streams.now p (most + 4096 * vec_len berth.new.part) berth.new) }
+    ensures ran { OnOk result ((p : ℕ) → own_of M.mind berth.old.seat ≡ p → (letters : List SentLetter)
+        × RanTo M.mind streams.now p end berth.old berth.new letters × (slip.new ≡ with_letters slip.old letters)) }
+    ensures berth { OnOk result ((p most : ℕ) → IsBerth M.mind streams.now p most berth.old
+        → IsBerth M.mind streams.now p (most + 4096 * vec_len berth.new.part) berth.new) }
     ensures within { OnOk result (vec_len berth.new.part ≤ left) }
-    ensures errors { IfErr result (λ e. (e ≡ RunError.Limit) ⊎ (e ≡ RunError.Memory)) }
-    ensures limit { IsErrOf result RunError.Limit → (history : List Pair) (after : ProcessState Mind) (rest : Events) (letters : List Event)
-        → BerthRun (setting_of streams.now) (own_of M.mind berth.old.seat) end (process_of M.mind berth.old.seat) berth.old.pending history after rest letters → left < length history }
+    ensures errors { IfErr result IsRefusalOfOne }
+    ensures limit { IsErrOf result RunError.Limit → IsLong M.mind streams.now end left berth.old }
 {
-    while let Some((key, input)) = berth.pending.take_below(end) {
+    while let Some((key, input)) = berth.pending.take_below(end)? {
         if berth.part.len() as u64 >= left {
             return Err(RunError::Limit);
         }

@@ -1,22 +1,24 @@
-//! The starter's side of a window: it puts the waiting berths in, makes the workers' leaves, and brings together what
+//! The starter's side of a window: it puts the waiting berths in, makes the workers' permits, and brings together what
 //! the workers give back.
-ghost use Rattle.std.specs.Prelude.{◌≡◌, ◌≤◌, ◌+◌, ◌⊎◌, [], ◌++◌, ℕ, List, length, true, false, IfOk, IfErr, OnOk, IsErrOf, vec_len, IsPermutation};
+ghost use Rattle.std.specs.Prelude.{◌≡◌, ◌≤◌, ◌+◌, [], ◌++◌, ℕ, List, length, min, true, false, IfOk, IfErr, OnOk, IsErrOf, vec_len, IsPermutation};
 ghost use Rattle.std.specs.List.{All};
 ghost use Rattle.event_list.specs.World.{NoneBelow};
 ghost use Rattle.mailboxes.specs.Mailboxes.{mailboxes_of, unused};
 ghost use Rattle.windows.specs.Jobs.{dealer_of};
-ghost use Rattle.windows.specs.Workers.{IsFresh, IsReady, IsWork, BringsTogether, IsRest, HasLong};
+ghost use Rattle.windows.specs.Refusals.{IsRefusalOfOne};
+ghost use Rattle.windows.specs.Shared.{AreReady, IsOneTooLong, IsRestIn};
+ghost use Rattle.windows.specs.Workers.{IsFresh, BringsTogether};
 
 use crate::berth::{Berth, run_berth};
 use crate::gate::Gate;
 use crate::jobs::{Dealer, Jobs};
+use crate::shared::Shared;
 use crate::workers::{Start, Work};
 use event_list::RunError;
-use mailboxes::{Mailboxes, SharedMailboxes, Slip};
+use mailboxes::{Mailboxes, Slip};
 use process_api::Process;
 use std::alloc::{AllocError, Global};
 use std::sync::Wait;
-use streams::Streams;
 
 // Whether the process has an event below a tick.
 fn is_waiting<M>(berth: &Berth<M>, end: u32) -> bool
@@ -60,22 +62,29 @@ pub(crate) fn deal<M: Process, R: Wait>(
     Ok((waiting, idle))
 }
 
-/// What so many workers begin with: a leave to take jobs and a slip each.
+/// What the workers begin with, a permit to take jobs and a slip each: one worker for each berth that waits, but no
+/// more than the plan has.
 pub(crate) fn starts_of<M: Process>(
     alloc: Global,
     jobs: &Jobs<Berth<M>>,
     dealer: &mut Dealer<Berth<M>>,
     mailboxes: &mut Mailboxes,
-    count: usize,
+    waiting: usize,
+    workers: u16,
 ) -> Result<Vec<Start<M>>, AllocError>
     requires queue { dealer.old.queue ≡ jobs.now.queue }
     requires out { dealer.old.out ≡ 0 }
-    ensures dealer { OnOk result (dealer.new ≡ dealer_of dealer.old.queue count dealer.old.put dealer.old.taken) }
-    ensures mailboxes { OnOk result (mailboxes.new ≡ mailboxes_of mailboxes.old.mailboxes (mailboxes.old.slips + count)) }
-    ensures count { IfOk result (λ starts. vec_len starts ≡ count) }
-    ensures fresh { IfOk result (λ starts. All (λ b. IsFresh jobs.now.queue mailboxes.old.mailboxes b.taker b.slip) starts.items) }
-    ensures known { IfOk result (λ starts. All (λ b. b.taker.known ≡ dealer.old.put) starts.items) }
+    requires waiting { waiting ≡ length dealer.old.put }
+    ensures dealer { IfOk result (λ starts.
+        dealer.new ≡ dealer_of dealer.old.queue (vec_len starts) dealer.old.put dealer.old.taken) }
+    ensures mailboxes { IfOk result (λ starts.
+        mailboxes.new ≡ mailboxes_of mailboxes.old.mailboxes (mailboxes.old.slips + vec_len starts)) }
+    ensures count { IfOk result (λ starts. vec_len starts ≡ min (length dealer.old.put) workers) }
+    ensures fresh { IfOk result (λ starts.
+        All (λ s. IsFresh jobs.now.queue mailboxes.old.mailboxes s.taker s.slip) starts.items) }
+    ensures known { IfOk result (λ starts. All (λ s. s.taker.known ≡ dealer.old.put) starts.items) }
 {
+    let count = waiting.min(usize::from(workers));
     let mut starts = Vec::with_capacity(alloc, count)?;
     for _ in 0..count {
         let slip = mailboxes.slip(alloc)?;
@@ -85,7 +94,7 @@ pub(crate) fn starts_of<M: Process>(
     Ok(starts)
 }
 
-/// Takes the workers' leaves back. Their berths and their slips are brought together.
+/// Takes the workers' permits back. Their berths and their slips are brought together.
 pub(crate) fn gather<M: Process>(
     alloc: Global,
     jobs: &Jobs<Berth<M>>,
@@ -96,7 +105,8 @@ pub(crate) fn gather<M: Process>(
     requires queue { All (λ w. w.taker.queue ≡ jobs.now.queue) works.items }
     ensures dealer { OnOk result (dealer.new ≡ dealer_of jobs.now.queue 0 dealer.old.put dealer.new.taken) }
     ensures count { IfOk result (λ r. vec_len r.1 ≡ vec_len works) }
-    ensures works { IfOk result (λ r. BringsTogether M.mind jobs.now.queue works.items dealer.new.taken r.0.items r.1.items) }
+    ensures works { IfOk result (λ r.
+        BringsTogether M.mind jobs.now.queue works.items dealer.new.taken r.0.items r.1.items) }
 {
     let mut done = Vec::new(alloc);
     let mut slips = Vec::new(alloc);
@@ -113,38 +123,40 @@ pub(crate) fn gather<M: Process>(
     Ok((done, slips))
 }
 
-/// The starter runs what no worker took, once their leaves are back. In practice that is nothing: a worker ends where it
-/// finds the queue empty. The gate sees it under number 0.
+/// The starter runs what no worker took, once their permits are back. In practice that is nothing: a worker ends where
+/// it finds the queue empty. The gate sees it under number 0.
 pub(crate) fn run_rest<M: Process, G: Gate, R: Wait>(
     rt: &R,
-    alloc: Global,
-    gate: &G,
-    jobs: &Jobs<Berth<M>>,
+    shared: &Shared<'_, M, G>,
     dealer: &mut Dealer<Berth<M>>,
-    mailboxes: &SharedMailboxes,
-    streams: &Streams<'_>,
-    end: u32,
-    left: u64,
     mut slip: Slip,
 ) -> Result<(Vec<Berth<M>>, Slip), RunError>
-    requires queue { dealer.old.queue ≡ jobs.now.queue }
+    requires queue { dealer.old.queue ≡ shared.now.jobs.now.queue }
     requires out { dealer.old.out ≡ 0 }
-    requires slip { slip ≡ unused mailboxes.now }
-    requires ready { All (IsReady M.mind streams.now left) dealer.old.put }
-    requires boxes { length mailboxes.now ≡ streams.now.processes }
+    requires slip { slip ≡ unused shared.now.mailboxes.now }
+    requires ready { AreReady M.mind shared.now.window.now dealer.old.put }
 
-    ensures rest { IfOk result (λ r. IsRest M.mind streams.now end jobs.now.queue mailboxes.now dealer.old dealer.new r.1 r.0.items) }
-    ensures errors { IfErr result (λ e. (e ≡ RunError.Limit) ⊎ (e ≡ RunError.Memory)) }
-    ensures limit { IsErrOf result RunError.Limit → HasLong M.mind streams.now end left dealer.old.put }
+    ensures rest { IfOk result (λ r. IsRestIn M.mind shared.now dealer.old dealer.new r.1 r.0.items) }
+    ensures errors { IfErr result IsRefusalOfOne }
+    ensures limit { IsErrOf result RunError.Limit → IsOneTooLong M.mind shared.now.window.now dealer.old.put }
 {
-    let mut done = Vec::new(alloc);
+    let window = shared.window;
+    let mut done = Vec::new(shared.alloc);
     for _ in rt.forever() {
         done.reserve(1)?;
-        let Some(mut berth) = jobs.take_last(rt, dealer) else {
+        let Some(mut berth) = shared.jobs.take_last(rt, dealer) else {
             break;
         };
-        gate.entered(rt, 0, berth.pid());
-        run_berth(rt, &mut berth, end, streams, mailboxes, &mut slip, left)?;
+        shared.gate.entered(rt, 0, berth.pid());
+        run_berth(
+            rt,
+            &mut berth,
+            window.end,
+            &window.streams,
+            shared.mailboxes,
+            &mut slip,
+            window.left,
+        )?;
         done.push_reserved(berth);
     }
     Ok((done, slip))

@@ -1,8 +1,7 @@
 //! The jobs of a window: a bounded queue that is filled before any worker starts. Each job comes out once, unchanged.
 ghost use Rattle.std.specs.Prelude.{◌≡◌, ◌≢◌, ◌<◌, ◌≤◌, ◌+◌, ◌-◌, ℕ, [], ◌∷◌, ◌++◌, length, IfOk, MatchOption};
-ghost use Rattle.std.specs.List.{Contains};
 ghost use Rattle.std.specs.List.Sorted.{IsPermutation};
-ghost use Rattle.windows.specs.Jobs.{dealer_of, taker_of};
+ghost use Rattle.windows.specs.Jobs.{dealer_of, taker_of, TookOne, TookLast};
 
 use crate::dealt::{Deal, Dealing, Dealt, Fill, Take, TakeLast};
 use crossbeam_queue::{Pass, RuledArrayQueue};
@@ -14,7 +13,7 @@ type Queue<T> = RuledArrayQueue<T, Deal<T>, Dealt>;
 
 type DealPass<T> = Pass<T, Deal<T>>;
 
-/// A worker's leave to take jobs. Contracts see which queue it is of, which jobs were put in, and which it has taken.
+/// A worker's permit to take jobs. Contracts see which queue it is of, which jobs were put in, and which it has taken.
 #[derive(Drop)]
 pub(crate) struct Taker<T> {
     pass: DealPass<T>,
@@ -29,7 +28,8 @@ impl<T> Model for Taker<T> {
 
     ghost view = { λ t. taker_of t.pass.table_id t.pass.me.0.client.put t.pass.me.0.client.taken };
 
-    ghost invariant = { λ t. (t.pass.me.1 ≡ []) × (t.pass.me.0.client ≡ deal 0 1 t.pass.me.0.client.put t.pass.me.0.client.taken) };
+    ghost invariant = { λ t. (t.pass.me.1 ≡ [])
+        × (t.pass.me.0.client ≡ deal 0 1 t.pass.me.0.client.put t.pass.me.0.client.taken) };
 }
 
 /// The queue of jobs. Threads share it.
@@ -46,7 +46,7 @@ impl<T> Model for Jobs<T> {
     ghost view = { λ j. record { queue = j.queue.table.shared.table_id; room = j.queue.cap } };
 }
 
-/// The starter's leave, by which it fills the queue, and knows in the end what was taken.
+/// The starter's permit, by which it fills the queue, and knows in the end what was taken.
 #[derive(Drop)]
 pub(crate) struct Dealer<T> {
     pass: DealPass<T>,
@@ -58,13 +58,15 @@ impl<T> Model for Dealer<T> {
 
     ghost Value = { DealerView T };
 
-    ghost view = { λ d. dealer_of d.pass.table_id (d.pass.me.0.client.made - d.pass.me.0.client.parts) d.pass.me.0.client.put d.pass.me.0.client.taken };
+    ghost view = { λ d. dealer_of d.pass.table_id (d.pass.me.0.client.made - d.pass.me.0.client.parts)
+        d.pass.me.0.client.put d.pass.me.0.client.taken };
 
-    ghost invariant = { λ d. (d.pass.me.1 ≡ []) × (d.pass.id ≡ 0) × (d.pass.me.0.client.parts ≢ 0) × (d.pass.me.0.client.parts ≤ d.pass.me.0.client.made) };
+    ghost invariant = { λ d. (d.pass.me.1 ≡ []) × (d.pass.id ≡ 0) × (d.pass.me.0.client.parts ≢ 0)
+        × (d.pass.me.0.client.parts ≤ d.pass.me.0.client.made) };
 }
 
 impl<T: Drop> Jobs<T> {
-    /// An empty queue with room for so many jobs, and its starter's leave.
+    /// An empty queue with room for so many jobs, and its starter's permit.
     pub(crate) fn new(alloc: Global, room: usize) -> Result<(Jobs<T>, Dealer<T>), AllocError>
         requires { 0 < room }
         ensures room { IfOk result (λ made. made.0.room ≡ room) }
@@ -87,7 +89,7 @@ impl<T: Drop> Jobs<T> {
         };
     }
 
-    /// One more leave to take jobs.
+    /// One more permit to take jobs.
     pub(crate) fn taker(&self, dealer: &mut Dealer<T>) -> Taker<T>
         requires { dealer.old.queue ≡ self.now.queue }
         ensures dealer { dealer.new ≡ dealer_of dealer.old.queue (dealer.old.out + 1) dealer.old.put dealer.old.taken }
@@ -100,28 +102,29 @@ impl<T: Drop> Jobs<T> {
     /// One job, or none where the queue was empty at one moment of the call.
     pub(crate) fn take<R: Wait>(&self, rt: &R, taker: &mut Taker<T>) -> Option<T>
         requires { taker.old.queue ≡ self.now.queue }
-        ensures { MatchOption result (taker.new ≡ taker.old) (λ job. (taker.new ≡ taker_of taker.old.queue taker.old.known (taker.old.taken ++ job ∷ [])) × Contains taker.old.known job) }
+        ensures { MatchOption result (taker.new ≡ taker.old) (TookOne taker.old taker.new) }
     {
         self.queue.pop_as::<Take, R>(rt, &mut taker.pass)
     }
 
-    /// Takes a leave back.
+    /// Takes a permit back.
     pub(crate) fn take_back(&self, dealer: &mut Dealer<T>, taker: Taker<T>)
         requires dealer { dealer.old.queue ≡ self.now.queue }
         requires taker { taker.queue ≡ self.now.queue }
         requires out { 0 < dealer.old.out }
-        ensures { dealer.new ≡ dealer_of dealer.old.queue (dealer.old.out - 1) dealer.old.put (dealer.old.taken ++ taker.taken) }
+        ensures { dealer.new
+            ≡ dealer_of dealer.old.queue (dealer.old.out - 1) dealer.old.put (dealer.old.taken ++ taker.taken) }
     {
         let Taker { pass } = taker;
         self.queue.absorb::<Dealing>(&mut dealer.pass, pass);
     }
 
-    /// A job that is left once all leaves are back. Where there is none, what was put in is what was taken.
+    /// A job that is left once all permits are back. Where there is none, what was put in is what was taken.
     pub(crate) fn take_last<R: Wait>(&self, rt: &R, dealer: &mut Dealer<T>) -> Option<T>
         requires dealer { dealer.old.queue ≡ self.now.queue }
         requires out { dealer.old.out ≡ 0 }
         ensures { MatchOption result ((dealer.new ≡ dealer.old) × IsPermutation dealer.old.put dealer.old.taken)
-            (λ job. (dealer.new ≡ dealer_of dealer.old.queue 0 dealer.old.put (dealer.old.taken ++ job ∷ [])) × Contains dealer.old.put job) }
+            (TookLast dealer.old dealer.new) }
     {
         self.queue.pop_as::<TakeLast, R>(rt, &mut dealer.pass)
     }

@@ -12,23 +12,27 @@
 //! no event below the window's end. When all processes are done the window *closes*: each mailbox moves into its
 //! receiver's pending events, and the next window opens. A run is any list of allowed acts whose one close is the last.
 //!
-//! [`law_any_order`] says that the order of the acts means nothing (`specs/Theorems.antt`). From a stage that stands for
-//! a world of the event list, each run closes on a stage that stands for the world after exactly the list's steps below
-//! the window's end; the processes' parts of the trace, merged, are these steps' entries; any two runs close alike; and
-//! one of them makes its turns in the list's own order. Windows one after the other, from the opening up to the
-//! horizon, make the trace. What each process makes of a window by itself (`specs/Window.antt`) is what some run makes,
-//! so it is enough to run each process to the window's end, wherever and whenever that happens.
+//! [`law_any_order`] says that the order of the acts means nothing (`specs/Theorems.antt`). From a stage that stands
+//! for a world of the event list, each run closes on a stage that stands for the world after exactly the list's steps
+//! below the window's end; the processes' parts of the trace, merged, are these steps' entries; any two runs close
+//! alike; and one of them makes its turns in the list's own order. Windows one after the other, from the opening up to
+//! the horizon, make the trace. What each process makes of a window by itself (`specs/Window.antt`) is what some run
+//! makes, so it is enough to run each process to the window's end, wherever and whenever that happens.
 //!
 //! The code runs it so. A [`Stage`] has a [`Berth`] for each process: its machine, its pending events, and its part of
 //! the trace. [`run_window`] puts the processes that have an event below the window's end into a queue of jobs and
-//! starts workers, each a thread; a worker takes a berth, tells the [`Gate`], and has [`run_berth`] run it to the
-//! window's end. When all workers are joined, the mailboxes are emptied and the parts are merged. The one contract for
-//! the layers above is that of [`run_windows`]: on `Ok`, under every schedule of the threads, it gives the trace that
-//! the event list gives.
+//! starts a worker for each, each a thread, but no more than the plan has. A worker takes a berth, tells the [`Gate`],
+//! and has [`run_berth`] run it to the window's end. When all workers are joined, the starter takes what is left in the
+//! queue, the mailboxes are emptied and the parts are merged. Where several refusals are met, that of a thread is
+//! answered before that of memory, and this before that of a place in the trace.
+//!
+//! The one contract for the layers above is that of [`run_windows`]: on `Ok`, under every schedule of the threads, it
+//! gives the trace that the event list gives. No contract says that a call returns, that threads run at once, or which
+//! worker takes which process.
 //!
 //! As an example, two processes send each other letters that take 2 ticks, one at tick 0 and one every 4 ticks, look at
-//! each other every 3 ticks, and the second crashes at tick 3; the horizon is 10. Windows of 2 ticks have 2, 4, 2, 2 and
-//! 2 entries, whoever runs first in each.
+//! each other every 3 ticks, and the second crashes at tick 3; the horizon is 10. Windows of 2 ticks have 2, 4, 2, 2
+//! and 2 entries, whoever runs first in each.
 #![tactic(auto)]
 
 mod berth;
@@ -40,6 +44,7 @@ mod jobs;
 mod laws;
 mod plan;
 mod run;
+mod shared;
 mod stage;
 #[cfg(test)]
 mod tests;

@@ -1,5 +1,5 @@
 //! A run by windows.
-ghost use Rattle.std.specs.Prelude.{◌≡◌, ◌≤◌, ◌<◌, ◌⊎◌, List, length, map, IfErr, IfOk, IsErrOf, IsTrue};
+ghost use Rattle.std.specs.Prelude.{◌≡◌, ◌≤◌, ◌<◌, List, length, map, IfErr, IfOk, IsErrOf, IsTrue};
 ghost use Rattle.process_api.specs.EntryRecord.{EntryRecord};
 ghost use Rattle.process_api.specs.Numbers.{numbers_to};
 ghost use Rattle.process_api.specs.Order.{is_rising};
@@ -7,6 +7,7 @@ ghost use Rattle.scenario.specs.Record.{opening_mind};
 ghost use Rattle.event_list.specs.ScenarioSetting.{setting_of};
 ghost use Rattle.event_list.specs.World.{IsTrace};
 ghost use Rattle.windows.specs.Plan.{IsPlanFor};
+ghost use Rattle.windows.specs.Refusals.{IsRefusal};
 
 use crate::gate::Gate;
 use crate::plan::Plan;
@@ -29,13 +30,15 @@ fn run_machines<M: Process, G: Gate, R: Threads + Wait + Sync>(
     plan: &Plan,
     gate: &G,
 ) -> Result<Vec<Entry>, RunError>
-    requires machines { map M.mind machines.items ≡ map (opening_mind scenario.now) (numbers_to scenario.now.processes) }
+    requires machines { map M.mind machines.items
+        ≡ map (opening_mind scenario.now) (numbers_to scenario.now.processes) }
     requires plan { IsPlanFor scenario.now plan.now }
     ensures trace { IfOk result (λ t. IsTrace (setting_of scenario.now) t.items) }
     ensures rising { IfOk result (λ t. IsTrue (is_rising t.items)) }
     ensures within { IfOk result (λ t. length t.items ≤ scenario.now.limit) }
-    ensures errors { IfErr result (λ e. (e ≡ RunError.Limit) ⊎ (e ≡ RunError.Memory) ⊎ (e ≡ RunError.Spawn)) }
-    ensures limit { IsErrOf result RunError.Limit → (whole : List EntryRecord) → IsTrace (setting_of scenario.now) whole → scenario.now.limit < length whole }
+    ensures errors { IfErr result IsRefusal }
+    ensures limit { IsErrOf result RunError.Limit → (whole : List EntryRecord)
+        → IsTrace (setting_of scenario.now) whole → scenario.now.limit < length whole }
 {
     // Readers say that a window has a tick at least, and that the scenario's fields are in their ranges.
     let _window = plan.window();
@@ -69,8 +72,9 @@ pub fn run_windows<G: Gate, R: Threads + Wait + Sync>(
 
     ensures trace { IfOk result (λ t. IsTrace (setting_of scenario.now) t) }
     ensures within { IfOk result (λ t. length t ≤ scenario.now.limit) }
-    ensures errors { IfErr result (λ e. (e ≡ RunError.Limit) ⊎ (e ≡ RunError.Memory) ⊎ (e ≡ RunError.Spawn)) }
-    ensures limit { IsErrOf result RunError.Limit → (whole : List EntryRecord) → IsTrace (setting_of scenario.now) whole → scenario.now.limit < length whole }
+    ensures errors { IfErr result IsRefusal }
+    ensures limit { IsErrOf result RunError.Limit → (whole : List EntryRecord)
+        → IsTrace (setting_of scenario.now) whole → scenario.now.limit < length whole }
 {
     let entries = run_machines(rt, alloc, scenario, machines, plan, gate)?;
     Ok(Trace::new(entries))

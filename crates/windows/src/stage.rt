@@ -1,5 +1,5 @@
 //! All processes between two windows.
-ghost use Rattle.std.specs.Prelude.{◌≡◌, ◌≤◌, ◌<◌, ◌+◌, ◌++◌, [], ℕ, List, map, vec_len, length, IfErr, IfOk, OnOk, IsErrOf, IsTrue, ◌⊎◌, IsPermutation, nat_eq};
+ghost use Rattle.std.specs.Prelude.{◌≡◌, ◌≤◌, ◌<◌, ◌+◌, ◌++◌, [], ℕ, List, map, vec_len, length, IfErr, IfOk, OnOk, IsErrOf, IsTrue, IsPermutation, nat_eq};
 ghost use Rattle.std.specs.List.{All};
 ghost use Rattle.process_api.specs.EntryRecord.{EntryRecord};
 ghost use Rattle.process_api.specs.Mind.{Mind};
@@ -13,6 +13,7 @@ ghost use Rattle.mailboxes.specs.Mailboxes.{letters_in};
 ghost use Rattle.trace_merge.specs.Parts.{all_of, AreDisjoint};
 ghost use Rattle.windows.specs.Berth.{event_of};
 ghost use Rattle.windows.specs.Machine.{StandsFor};
+ghost use Rattle.windows.specs.Refusals.{IsRefusalOfOne};
 ghost use Rattle.windows.specs.Stage.{stage_of, start_event, delivered, IsOpened, IsClosed, IsStage};
 
 use crate::berth::Berth;
@@ -57,7 +58,8 @@ fn berths_of<M: Process>(
     machines: Vec<M>,
 ) -> Result<Vec<Berth<M>>, AllocError>
     requires { All (λ m. IsMindIn scenario.now (M.mind m)) machines.items }
-    ensures processes { IfOk result (λ v. map (λ b. process_of M.mind b.seat) v.items ≡ map opened (map M.mind machines.items)) }
+    ensures processes { IfOk result (λ v.
+        map (λ b. process_of M.mind b.seat) v.items ≡ map opened (map M.mind machines.items)) }
     ensures berths { IfOk result (λ v. All (IsOpened M.mind scenario.now) v.items) }
 {
     let mut berths = Vec::new(alloc);
@@ -97,7 +99,8 @@ fn deliver_all<M: Process>(
 ) -> Result<(Vec<Berth<M>>, Vec<Vec<Entry>>), AllocError>
     requires { vec_len letters ≡ vec_len berths }
     ensures seats { IfOk result (λ r. map (λ b. b.seat) r.0.items ≡ map (λ b. b.seat) berths.items) }
-    ensures pending { IfOk result (λ r. map (λ b. b.pending) r.0.items ≡ delivered (map (λ b. b.pending) berths.items) (letters_in letters.items)) }
+    ensures pending { IfOk result (λ r.
+        map (λ b. b.pending) r.0.items ≡ delivered (map (λ b. b.pending) berths.items) (letters_in letters.items)) }
     ensures empty { IfOk result (λ r. All (λ b. b.part.items ≡ []) r.0.items) }
     ensures parts { IfOk result (λ r. map (λ v. v.items) r.1.items ≡ map (λ b. b.part.items) berths.items) }
 {
@@ -129,7 +132,8 @@ impl<'s, M: Process> Stage<'s, M> {
         requires { map M.mind machines.items ≡ map (opening_mind scenario.now) (numbers_to scenario.now.processes) }
 
         ensures scenario { IfOk result (λ g. g.scenario.now ≡ scenario.now) }
-        ensures opening { IfOk result (λ g. (window : ℕ) → StandsFor (setting_of scenario.now) window (stage_of M.mind window g) (opening (setting_of scenario.now))) }
+        ensures opening { IfOk result (λ g. (window : ℕ) →
+            StandsFor (setting_of scenario.now) window (stage_of M.mind window g) (opening (setting_of scenario.now))) }
         ensures start { IfOk result (λ g. g.start ≡ 0) }
         ensures none { IfOk result (λ g. g.entries.items ≡ []) }
         ensures stage { IfOk result (IsStage M.mind) }
@@ -180,8 +184,9 @@ impl<'s, M: Process> Stage<'s, M> {
         requires disjoint { AreDisjoint (map (λ b. b.part.items) berths.items) }
 
         ensures scenario { self.new.scenario.now ≡ self.old.scenario.now }
-        ensures closed { OnOk result (IsClosed M.mind left end self.old.entries.items berths.items (letters_in letters.items) self.new) }
-        ensures errors { IfErr result (λ e. (e ≡ RunError.Limit) ⊎ (e ≡ RunError.Memory)) }
+        ensures closed { OnOk result
+            (IsClosed M.mind left end self.old.entries.items berths.items (letters_in letters.items) self.new) }
+        ensures errors { IfErr result IsRefusalOfOne }
         ensures limit { IsErrOf result RunError.Limit → left < length (all_of (map (λ b. b.part.items) berths.items)) }
     {
         let (berths, parts) = deliver_all(alloc, berths, letters)?;

@@ -1,5 +1,5 @@
-//! Plans that are made and refused, the law at a run in which two workers take turns, windows whose berths are called in a
-//! given order, and workers that are watched.
+//! Plans that are made and refused, the law at a run in which two workers take turns, windows whose berths are called
+//! in a given order, and workers that are watched.
 mod calls;
 mod machines;
 mod orders;

@@ -1,5 +1,5 @@
 //! One window: workers share the processes that have something to do in it, and what they leave is put in order.
-ghost use Rattle.std.specs.Prelude.{◌≡◌, ◌≤◌, ◌<◌, ◌⊎◌, [], ℕ, List, length, min, IfOk, IfErr, OnOk, IsErrOf, vec_len, IsPermutation};
+ghost use Rattle.std.specs.Prelude.{◌≡◌, ◌≤◌, ◌<◌, ◌+◌, [], ℕ, List, length, min, IfOk, IfErr, OnOk, IsErrOf, vec_len, IsPermutation};
 ghost use Rattle.std.specs.List.{All};
 ghost use Rattle.std.specs.List.Sorted.{IsNonDecreasingBy};
 ghost use Rattle.std.specs.Thread.{IsSync};
@@ -7,21 +7,24 @@ ghost use Rattle.process_api.specs.EntryRecord.{EntryRecord};
 ghost use Rattle.event_list.specs.ScenarioSetting.{setting_of};
 ghost use Rattle.event_list.specs.Seat.{own_of};
 ghost use Rattle.event_list.specs.World.{IsTrace};
-ghost use Rattle.mailboxes.specs.Mailboxes.{letters_in};
+ghost use Rattle.mailboxes.specs.Mailboxes.{letters_in, unused};
 ghost use Rattle.windows.specs.Jobs.{dealer_of};
 ghost use Rattle.windows.specs.Plan.{IsPlanFor};
+ghost use Rattle.windows.specs.Refusals.{IsRefusal};
+ghost use Rattle.windows.specs.Shared.{AreReady, IsOneTooLong, IsFreshIn, IsStart, AreAnswers, HadWindow, IsCountOfWorkers};
 ghost use Rattle.windows.specs.Stage.{IsStage, IsWindowRun};
-ghost use Rattle.windows.specs.Workers.{IsFresh, IsReady, IsWork, AreRun, IsOutcome, HasLong, HaveLong, RiseBy};
+ghost use Rattle.windows.specs.Workers.{IsOutcome, RiseBy};
 
 use crate::berth::Berth;
 use crate::gate::Gate;
 use crate::gather::{deal, gather, run_rest, starts_of};
 use crate::jobs::{Dealer, Jobs};
 use crate::plan::Plan;
+use crate::shared::{Shared, Window};
 use crate::stage::Stage;
 use crate::workers::{Start, Work, start_workers};
 use event_list::RunError;
-use mailboxes::{Mailboxes, SharedMailboxes, Slip};
+use mailboxes::{Mailboxes, Slip};
 use process_api::{Letter, Process};
 use std::alloc::{AllocError, Global};
 use std::mem::replace;
@@ -33,138 +36,92 @@ use streams::Streams;
 /// Starts the workers in a scope of their own, in which each is joined.
 fn in_threads<M: Process, G: Gate, R: Threads + Wait + Sync>(
     rt: &R,
-    alloc: Global,
-    gate: &G,
-    jobs: &Jobs<Berth<M>>,
-    mailboxes: &SharedMailboxes,
-    streams: &Streams<'_>,
-    end: u32,
-    left: u64,
+    shared: &Shared<'_, M, G>,
     starts: Vec<Start<M>>,
 ) -> Result<Vec<Work<M>>, RunError>
-    requires fresh { All (λ s. IsFresh jobs.now.queue mailboxes.now s.taker s.slip) starts.items }
-    requires ready { All (λ s. All (IsReady M.mind streams.now left) s.taker.known) starts.items }
-    requires boxes { length mailboxes.now ≡ streams.now.processes }
+    requires starts { All (IsStart M.mind shared.now) starts.items }
     requires few { vec_len starts ≤ 64 }
-
-    ensures count { IfOk result (λ works. vec_len works ≡ vec_len starts) }
-    ensures works { IfOk result (λ works. All (λ w. IsWork M.mind streams.now end jobs.now.queue mailboxes.now w.taker w.slip w.done.items) works.items) }
-    ensures errors { IfErr result (λ e. (e ≡ RunError.Limit) ⊎ (e ≡ RunError.Memory) ⊎ (e ≡ RunError.Spawn)) }
-    ensures limit { IsErrOf result RunError.Limit → HaveLong M.mind streams.now end left starts.items }
+    ensures { AreAnswers M.mind shared.now starts.items result }
 {
     thread::scope(
         thread::scope_env(),
         rt,
         |scope| -> Result<Vec<Work<M>>, RunError>
-            requires { IsSync R.row × IsSync G.row × All (λ s. IsFresh jobs.now.queue mailboxes.now s.taker s.slip) starts.items
-                × All (λ s. All (IsReady M.mind streams.now left) s.taker.known) starts.items × (length mailboxes.now ≡ streams.now.processes) × (vec_len starts ≤ 64) }
-            ensures { IfOk result (λ works. (vec_len works ≡ vec_len starts) × All (λ w. IsWork M.mind streams.entry.now end jobs.entry.now.queue mailboxes.entry.now w.taker w.slip w.done.items) works.items)
-                × IfErr result (λ e. (e ≡ RunError.Limit) ⊎ (e ≡ RunError.Memory) ⊎ (e ≡ RunError.Spawn))
-                × (IsErrOf result RunError.Limit → HaveLong M.mind streams.entry.now end left starts.items) }
-        {
-            start_workers(
-                scope, rt, alloc, gate, jobs, mailboxes, streams, end, left, starts,
-            )
-        },
+            requires { IsSync R.row × IsSync G.row × All (IsStart M.mind shared.now) starts.items
+                × (vec_len starts ≤ 64) }
+            ensures { AreAnswers M.mind shared.entry.now starts.items result }
+        { start_workers(scope, rt, shared, starts) },
     )
 }
 
-/// So many workers take the jobs, and the starter what is left. Answers the berths that were run, and all slips.
+/// The workers that begin so take the jobs, and the starter, by a slip of its own, what is left. Answers the berths
+/// that were run, and all slips.
 fn run_jobs<M: Process, G: Gate, R: Threads + Wait + Sync>(
     rt: &R,
-    alloc: Global,
-    gate: &G,
-    jobs: &Jobs<Berth<M>>,
+    shared: &Shared<'_, M, G>,
     dealer: &mut Dealer<Berth<M>>,
-    mailboxes: &mut Mailboxes,
-    streams: &Streams<'_>,
-    end: u32,
-    left: u64,
-    count: usize,
+    starts: Vec<Start<M>>,
+    slip: Slip,
 ) -> Result<(Vec<Berth<M>>, Vec<Slip>), RunError>
-    requires dealer { dealer.old ≡ dealer_of jobs.now.queue 0 dealer.old.put [] }
-    requires slips { mailboxes.old.slips ≡ 0 }
-    requires boxes { length mailboxes.old.mailboxes ≡ streams.now.processes }
-    requires ready { All (IsReady M.mind streams.now left) dealer.old.put }
-    requires few { count ≤ 64 }
+    requires dealer { dealer.old ≡ dealer_of shared.now.jobs.now.queue (vec_len starts) dealer.old.put [] }
+    requires slip { slip ≡ unused shared.now.mailboxes.now }
+    requires ready { AreReady M.mind shared.now.window.now dealer.old.put }
+    requires fresh { All (IsFreshIn shared.now) starts.items }
+    requires known { All (λ s. s.taker.known ≡ dealer.old.put) starts.items }
+    requires few { vec_len starts ≤ 64 }
 
-    ensures mailboxes { OnOk result (mailboxes.new.mailboxes ≡ mailboxes.old.mailboxes) }
-    ensures slips { IfOk result (λ r. vec_len r.1 ≡ mailboxes.new.slips) }
-    ensures run { IfOk result (λ r. AreRun M.mind streams.now end mailboxes.old.mailboxes dealer.old.put r.0.items r.1.items) }
-    ensures errors { IfErr result (λ e. (e ≡ RunError.Limit) ⊎ (e ≡ RunError.Memory) ⊎ (e ≡ RunError.Spawn)) }
-    ensures limit { IsErrOf result RunError.Limit → HasLong M.mind streams.now end left dealer.old.put }
+    ensures slips { IfOk result (λ r. vec_len r.1 ≡ vec_len starts + 1) }
+    ensures run { IfOk result (λ r.
+        HadWindow M.mind shared.now.window.now shared.now.mailboxes.now dealer.old.put r.0.items r.1.items) }
+    ensures errors { IfErr result IsRefusal }
+    ensures limit { IsErrOf result RunError.Limit → IsOneTooLong M.mind shared.now.window.now dealer.old.put }
 {
-    let slip = mailboxes.slip(alloc)?;
-    let starts = starts_of(alloc, jobs, dealer, mailboxes, count)?;
-    let works = in_threads(
-        rt,
-        alloc,
-        gate,
-        jobs,
-        mailboxes.shared(),
-        streams,
-        end,
-        left,
-        starts,
-    )?;
-    let (mut done, mut slips) = gather(alloc, jobs, dealer, works)?;
-    let (mut rest, slip) = run_rest(
-        rt,
-        alloc,
-        gate,
-        jobs,
-        dealer,
-        mailboxes.shared(),
-        streams,
-        end,
-        left,
-        slip,
-    )?;
+    let works = in_threads(rt, shared, starts)?;
+    let (mut done, mut slips) = gather(shared.alloc, shared.jobs, dealer, works)?;
+    let (mut rest, slip) = run_rest(rt, shared, dealer, slip)?;
     done.append(&mut rest)?;
     slips.push(slip)?;
     Ok((done, slips))
 }
 
-/// Runs the processes with an event below `end`, by at most so many workers. Answers all berths, in some order, and all
-/// slips.
+/// Runs the processes with an event below the window's end, by at most so many workers. Answers all berths, in some
+/// order, and the slips: one for each worker, and the starter's.
 fn run_berths_of<M: Process, G: Gate, R: Threads + Wait + Sync>(
     rt: &R,
     alloc: Global,
     gate: &G,
     workers: u16,
     mailboxes: &mut Mailboxes,
-    streams: &Streams<'_>,
-    end: u32,
-    left: u64,
+    window: &Window<'_>,
     berths: Vec<Berth<M>>,
 ) -> Result<(Vec<Berth<M>>, Vec<Slip>), RunError>
     requires some { 0 < vec_len berths }
     requires few { workers ≤ 64 }
     requires slips { mailboxes.old.slips ≡ 0 }
-    requires boxes { length mailboxes.old.mailboxes ≡ streams.now.processes }
-    requires ready { All (IsReady M.mind streams.now left) berths.items }
+    requires boxes { length mailboxes.old.mailboxes ≡ window.now.streams.processes }
+    requires ready { AreReady M.mind window.now berths.items }
 
     ensures mailboxes { OnOk result (mailboxes.new.mailboxes ≡ mailboxes.old.mailboxes) }
     ensures slips { IfOk result (λ r. vec_len r.1 ≡ mailboxes.new.slips) }
-    ensures run { IfOk result (λ r. AreRun M.mind streams.now end mailboxes.old.mailboxes berths.items r.0.items r.1.items) }
-    ensures errors { IfErr result (λ e. (e ≡ RunError.Limit) ⊎ (e ≡ RunError.Memory) ⊎ (e ≡ RunError.Spawn)) }
-    ensures limit { IsErrOf result RunError.Limit → HasLong M.mind streams.now end left berths.items }
+    ensures workers { IfOk result (λ r. (started : ℕ)
+        × IsCountOfWorkers window.now.end workers berths.items started × (vec_len r.1 ≡ started + 1)) }
+    ensures run { IfOk result (λ r.
+        HadWindow M.mind window.now mailboxes.old.mailboxes berths.items r.0.items r.1.items) }
+    ensures errors { IfErr result IsRefusal }
+    ensures limit { IsErrOf result RunError.Limit → IsOneTooLong M.mind window.now berths.items }
 {
     let (jobs, mut dealer) = Jobs::new(alloc, berths.len())?;
-    let (waiting, mut idle) = deal(rt, alloc, &jobs, &mut dealer, end, berths)?;
-    let count = waiting.min(usize::from(workers));
-    let (mut done, slips) = run_jobs(
-        rt,
+    let (waiting, mut idle) = deal(rt, alloc, &jobs, &mut dealer, window.end, berths)?;
+    let slip = mailboxes.slip(alloc)?;
+    let starts = starts_of(alloc, &jobs, &mut dealer, mailboxes, waiting, workers)?;
+    let shared = Shared {
         alloc,
+        window,
         gate,
-        &jobs,
-        &mut dealer,
-        mailboxes,
-        streams,
-        end,
-        left,
-        count,
-    )?;
+        jobs: &jobs,
+        mailboxes: mailboxes.shared(),
+    };
+    let (mut done, slips) = run_jobs(rt, &shared, &mut dealer, starts, slip)?;
     done.append(&mut idle)?;
     Ok((done, slips))
 }
@@ -178,40 +135,30 @@ pub(crate) fn in_order<M: Process>(mut berths: Vec<Berth<M>>) -> Vec<Berth<M>>
     berths
 }
 
-/// Runs one window of all processes. Answers their berths, and the letters of each, of process 1 first.
+/// Runs one window of all processes, of which there are so many. Answers their berths, and the letters of each, of
+/// process 1 first.
 fn run_all<M: Process, G: Gate, R: Threads + Wait + Sync>(
     rt: &R,
     alloc: Global,
     gate: &G,
-    workers: u16,
-    streams: &Streams<'_>,
+    plan: &Plan,
     processes: u16,
-    end: u32,
-    left: u64,
+    window: &Window<'_>,
     berths: Vec<Berth<M>>,
 ) -> Result<(Vec<Berth<M>>, Vec<Vec<Letter>>), RunError>
     requires some { 0 < vec_len berths }
-    requires few { workers ≤ 64 }
-    requires processes { processes ≡ streams.now.processes }
-    requires ready { All (IsReady M.mind streams.now left) berths.items }
+    requires processes { processes ≡ window.now.streams.processes }
+    requires ready { AreReady M.mind window.now berths.items }
     requires rising { RiseBy (λ b. own_of M.mind b.seat) berths.items }
 
-    ensures outcome { IfOk result (λ r. IsOutcome M.mind streams.now end berths.items r.0.items (letters_in r.1.items)) }
-    ensures errors { IfErr result (λ e. (e ≡ RunError.Limit) ⊎ (e ≡ RunError.Memory) ⊎ (e ≡ RunError.Spawn)) }
-    ensures limit { IsErrOf result RunError.Limit → HasLong M.mind streams.now end left berths.items }
+    ensures outcome { IfOk result (λ r.
+        IsOutcome M.mind window.now.streams window.now.end berths.items r.0.items (letters_in r.1.items)) }
+    ensures errors { IfErr result IsRefusal }
+    ensures limit { IsErrOf result RunError.Limit → IsOneTooLong M.mind window.now berths.items }
 {
+    let workers = plan.workers();
     let mut mailboxes = Mailboxes::new(alloc, processes)?;
-    let (done, slips) = run_berths_of(
-        rt,
-        alloc,
-        gate,
-        workers,
-        &mut mailboxes,
-        streams,
-        end,
-        left,
-        berths,
-    )?;
+    let (done, slips) = run_berths_of(rt, alloc, gate, workers, &mut mailboxes, window, berths)?;
     let letters = mailboxes.collect(rt, alloc, slips)?;
     Ok((in_order(done), letters))
 }
@@ -220,7 +167,7 @@ fn run_all<M: Process, G: Gate, R: Threads + Wait + Sync>(
 pub(crate) fn cut_at(end: u32, horizon: u32) -> u32
     ensures { result ≡ min end horizon }
 {
-    if end < horizon { end } else { horizon }
+    end.min(horizon)
 }
 
 /// Runs the next window of a stage. The smaller of the plan's workers and the number of processes with an event below
@@ -246,25 +193,17 @@ pub fn run_window<M: Process, G: Gate, R: Threads + Wait + Sync>(
     ensures scenario { OnOk result (stage.new.scenario.now ≡ stage.old.scenario.now) }
     ensures stage { OnOk result (IsStage M.mind stage.new) }
     ensures run { OnOk result (IsWindowRun M.mind plan.now.window stage.old stage.new) }
-    ensures errors { IfErr result (λ e. (e ≡ RunError.Limit) ⊎ ((e ≡ RunError.Memory) ⊎ (e ≡ RunError.Spawn))) }
-    ensures limit { IsErrOf result RunError.Limit → (whole : List EntryRecord) → IsTrace (setting_of stage.old.scenario.now) whole → stage.old.scenario.now.limit < length whole }
+    ensures errors { IfErr result IsRefusal }
+    ensures limit { IsErrOf result RunError.Limit → (whole : List EntryRecord)
+        → IsTrace (setting_of stage.old.scenario.now) whole → stage.old.scenario.now.limit < length whole }
 {
     let scenario = stage.scenario;
     let processes = scenario.processes();
     let end = cut_at(stage.start + plan.window(), scenario.horizon());
     let left = scenario.limit() - stage.entries.len() as u64;
     let streams = Streams::new(scenario);
+    let window = Window { streams, end, left };
     let berths = replace(&mut stage.berths, Vec::new(alloc));
-    let (berths, letters) = run_all(
-        rt,
-        alloc,
-        gate,
-        plan.workers(),
-        &streams,
-        processes,
-        end,
-        left,
-        berths,
-    )?;
+    let (berths, letters) = run_all(rt, alloc, gate, plan, processes, &window, berths)?;
     stage.close(alloc, berths, letters, end, left)
 }

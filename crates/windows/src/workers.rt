@@ -1,29 +1,30 @@
 //! The workers of a window: each takes berths until none is left, runs them, and gives them back when it is joined.
-ghost use Rattle.std.specs.Prelude.{◌≡◌, ◌≤◌, ◌⊎◌, [], ℕ, List, length, IfOk, IfErr, IsErrOf, Ok, vec_len};
+ghost use Rattle.std.specs.Prelude.{◌≡◌, ◌≤◌, IfOk, IfErr, IsErrOf, Ok, vec_len};
 ghost use Rattle.std.specs.List.{All};
 ghost use Rattle.std.specs.Thread.{IsSync};
-ghost use Rattle.windows.specs.Workers.{IsFresh, IsReady, IsWork, IsAnswer, HasLong, HaveLong};
+ghost use Rattle.windows.specs.Refusals.{rank_of, IsFirstRefusal, IsRefusalOfOne};
+ghost use Rattle.windows.specs.Shared.{IsStart, IsWorkIn, IsAnswerTo, IsOneTooLong, AreAnswers};
 
 use crate::berth::{Berth, run_berth};
 use crate::gate::Gate;
-use crate::jobs::{Jobs, Taker};
+use crate::jobs::Taker;
+use crate::shared::Shared;
 use event_list::RunError;
-use mailboxes::{SharedMailboxes, Slip};
+use mailboxes::Slip;
 use process_api::Process;
-use std::alloc::{AllocError, Global};
+use std::alloc::AllocError;
 use std::snapshot::Snapshot;
 use std::sync::Wait;
 use std::thread::{Promise, Scope, Threads};
-use streams::Streams;
 
-/// What a worker begins with: its leave to take jobs, and its slip.
+/// What a worker begins with: its permit to take jobs, and its slip.
 #[derive(Drop)]
 pub(crate) struct Start<M> {
     pub taker: Taker<Berth<M>>,
     pub slip: Slip,
 }
 
-/// What a worker gives back: its leave, its slip, and the berths that it ran.
+/// What a worker gives back: its permit, its slip, and the berths that it ran.
 #[derive(Drop)]
 pub(crate) struct Work<M> {
     pub taker: Taker<Berth<M>>,
@@ -32,44 +33,47 @@ pub(crate) struct Work<M> {
 }
 
 /// The work of one worker: it takes berths until the queue is empty, tells the gate of each, and runs it. It holds no
-/// lock. `worker` is its number in this window, and `left` how many entries fit into the trace yet.
+/// lock. `worker` is its number in this window.
+///
+/// That it goes on until the queue is empty stands in no clause, since an empty queue leaves no record: a test shows
+/// that the starter finds nothing left.
 ///
 /// # Errors
 ///
-/// `Limit` only where one of the window's processes has more than `left` events below `end`, and `Memory` where memory
-/// was refused. Its berths are gone then.
+/// `Limit` only where one of the window's processes has more events below its end than entries fit, and `Memory` where
+/// memory was refused. Its berths are gone then.
 pub(crate) fn run_berths<M: Process, G: Gate, R: Wait>(
     rt: &R,
-    alloc: Global,
-    gate: &G,
+    shared: &Shared<'_, M, G>,
     worker: u16,
-    jobs: &Jobs<Berth<M>>,
-    mailboxes: &SharedMailboxes,
-    streams: &Streams<'_>,
-    end: u32,
-    left: u64,
     start: Start<M>,
 ) -> Result<Work<M>, RunError>
-    requires fresh { IsFresh jobs.now.queue mailboxes.now start.taker start.slip }
-    requires ready { All (IsReady M.mind streams.now left) start.taker.known }
-    requires boxes { length mailboxes.now ≡ streams.now.processes }
-
-    ensures work { IfOk result (λ w. IsWork M.mind streams.now end jobs.now.queue mailboxes.now w.taker w.slip w.done.items) }
-    ensures errors { IfErr result (λ e. (e ≡ RunError.Limit) ⊎ (e ≡ RunError.Memory)) }
-    ensures limit { IsErrOf result RunError.Limit → HasLong M.mind streams.now end left start.taker.known }
+    requires { IsStart M.mind shared.now start }
+    ensures work { IfOk result (IsWorkIn M.mind shared.now) }
+    ensures errors { IfErr result IsRefusalOfOne }
+    ensures limit { IsErrOf result RunError.Limit → IsOneTooLong M.mind shared.now.window.now start.taker.known }
 {
+    let window = shared.window;
     let Start {
         mut taker,
         mut slip,
     } = start;
-    let mut done = Vec::new(alloc);
+    let mut done = Vec::new(shared.alloc);
     for _ in rt.forever() {
         done.reserve(1)?;
-        let Some(mut berth) = jobs.take(rt, &mut taker) else {
+        let Some(mut berth) = shared.jobs.take(rt, &mut taker) else {
             break;
         };
-        gate.entered(rt, worker, berth.pid());
-        run_berth(rt, &mut berth, end, streams, mailboxes, &mut slip, left)?;
+        shared.gate.entered(rt, worker, berth.pid());
+        run_berth(
+            rt,
+            &mut berth,
+            window.end,
+            &window.streams,
+            shared.mailboxes,
+            &mut slip,
+            window.left,
+        )?;
         done.push_reserved(berth);
     }
     Ok(Work { taker, slip, done })
@@ -77,23 +81,35 @@ pub(crate) fn run_berths<M: Process, G: Gate, R: Wait>(
 
 // What a worker's result keeps: it is its work, or the reason why there is none.
 #[derive(Drop)]
-struct WorkAt<'s, M> {
+struct WorkAt<'s, M, G> {
     start: Snapshot<Start<M>>,
-    jobs: Snapshot<Jobs<Berth<M>>>,
-    mailboxes: Snapshot<SharedMailboxes>,
-    streams: Snapshot<Streams<'s>>,
-    end: u32,
-    left: u64,
+    shared: Snapshot<Shared<'s, M, G>>,
 }
 
-impl<'s, M: Process> Promise<Result<Work<M>, RunError>> for WorkAt<'s, M> {
-    ghost use Rattle.windows.specs.Workers.{IsAnswer};
+impl<'s, M: Process, G: Gate> Promise<Result<Work<M>, RunError>> for WorkAt<'s, M, G> {
+    ghost use Rattle.windows.specs.Shared.{IsAnswerTo};
 
-    ghost kept_by = { λ p r. IsAnswer M.mind p.streams.value p.end p.left p.jobs.value.queue p.mailboxes.value p.start.value.taker.known r };
+    ghost kept_by = { λ p r. IsAnswerTo M.mind p.shared.value p.start.value r };
 }
 
-// Which refusal comes first: of a thread, then of memory, then of a place in the trace.
-fn rank(refusal: RunError) -> u8 {
+/// The start of a thread was refused.
+#[derive(Drop)]
+struct RefusedStart;
+
+impl From<RefusedStart> for RunError {
+    ghost use Rattle.event_list.specs.declared.error.RunError.TheVariants.{Spawn};
+
+    ghost from_gives = { λ _ e. e ≡ Spawn };
+
+    fn from(_: RefusedStart) -> RunError {
+        Self::Spawn
+    }
+}
+
+/// Which refusal comes first: the least number does.
+fn rank(refusal: RunError) -> u8
+    ensures { result ≡ rank_of refusal }
+{
     match refusal {
         RunError::Spawn => 0,
         RunError::Memory => 1,
@@ -102,13 +118,14 @@ fn rank(refusal: RunError) -> u8 {
     }
 }
 
-// Both answers, or the first of their refusals.
+/// Both answers, or the first of their refusals: that of a thread comes before that of memory, and this before that of
+/// a place in the trace.
 pub(crate) fn both<A: Drop, B: Drop>(
     left: Result<A, RunError>,
     right: Result<B, RunError>,
 ) -> Result<(A, B), RunError>
     ensures ok { IfOk result (λ r. (left ≡ Ok r.0) × (right ≡ Ok r.1)) }
-    ensures err { IfErr result (λ e. IsErrOf left e ⊎ IsErrOf right e) }
+    ensures err { IfErr result (IsFirstRefusal left right) }
 {
     match (left, right) {
         (Ok(a), Ok(b)) => Ok((a, b)),
@@ -124,58 +141,36 @@ pub(crate) fn both<A: Drop, B: Drop>(
 /// # Errors
 ///
 /// The first that some worker met, or that the start of one met: `Spawn` where a thread was refused, `Memory` where
-/// memory was, and `Limit` only where one of the window's processes has more than `left` events below `end`.
+/// memory was, and `Limit` only where one of the window's processes has more events below its end than entries fit.
 pub(crate) fn start_workers<'s, E, M: Process + 's, G: Gate, R: Threads + Wait + Sync>(
     scope: &'s Scope<'s, E>,
     rt: &'s R,
-    alloc: Global,
-    gate: &'s G,
-    jobs: &'s Jobs<Berth<M>>,
-    mailboxes: &'s SharedMailboxes,
-    streams: &'s Streams<'s>,
-    end: u32,
-    left: u64,
+    shared: &'s Shared<'s, M, G>,
     mut starts: Vec<Start<M>>,
 ) -> Result<Vec<Work<M>>, RunError>
-    requires fresh { All (λ s. IsFresh jobs.now.queue mailboxes.now s.taker s.slip) starts.items }
-    requires ready { All (λ s. All (IsReady M.mind streams.now left) s.taker.known) starts.items }
-    requires boxes { length mailboxes.now ≡ streams.now.processes }
+    requires starts { All (IsStart M.mind shared.now) starts.items }
     requires few { vec_len starts ≤ 64 }
-
-    ensures count { IfOk result (λ works. vec_len works ≡ vec_len starts) }
-    ensures works { IfOk result (λ works. All (λ w. IsWork M.mind streams.now end jobs.now.queue mailboxes.now w.taker w.slip w.done.items) works.items) }
-    ensures errors { IfErr result (λ e. (e ≡ RunError.Limit) ⊎ (e ≡ RunError.Memory) ⊎ (e ≡ RunError.Spawn)) }
-    ensures limit { IsErrOf result RunError.Limit → HaveLong M.mind streams.now end left starts.items }
+    ensures { AreAnswers M.mind shared.now starts.items result }
 {
     let Some(start) = starts.pop() else {
-        return Ok(Vec::new(alloc));
+        return Ok(Vec::new(shared.alloc));
     };
     let worker = starts.len() as u16 + 1;
     let promise = WorkAt {
         start: Snapshot::of(&start),
-        jobs: Snapshot::of(jobs),
-        mailboxes: Snapshot::of(mailboxes),
-        streams: Snapshot::of(streams),
-        end,
-        left,
+        shared: Snapshot::of(shared),
     };
     let started = scope.spawn_with(
         promise,
         move || -> Result<Work<M>, RunError>
-            requires { IsSync R.row × IsSync G.row × IsFresh jobs.now.queue mailboxes.now start.taker start.slip × All (IsReady M.mind streams.now left) start.taker.known × (length mailboxes.now ≡ streams.now.processes) }
-            ensures { IsAnswer M.mind streams.entry.now end left jobs.entry.now.queue mailboxes.entry.now start.taker.known result }
-        {
-            run_berths(
-                rt, alloc, gate, worker, jobs, mailboxes, streams, end, left, start,
-            )
-        },
+            requires { IsSync R.row × IsSync G.row × IsStart M.mind shared.now start }
+            ensures { IsAnswerTo M.mind shared.entry.now start result }
+        { run_berths(rt, shared, worker, start) },
     );
     let Ok(child) = started else {
-        return Err(RunError::Spawn);
+        return Err(RunError::from(RefusedStart));
     };
-    let rest = start_workers(
-        scope, rt, alloc, gate, jobs, mailboxes, streams, end, left, starts,
-    );
+    let rest = start_workers(scope, rt, shared, starts);
     let mine = child.join(rt);
     let (mut works, work) = both(rest, mine)?;
     works.push(work)?;

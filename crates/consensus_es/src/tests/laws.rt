@@ -31,7 +31,8 @@ fn open_and_take(
     out: &mut Vec<Action>,
 ) -> Result<Progress, AllocError>
     requires { set.contains suspects.now membership.now.own ≡ false }
-    ensures over { IfOk result (λ s. end_wait membership.now.processes membership.now.own (set.contains suspects.now) (state_of s) ≡ None) }
+    ensures over { IfOk result (λ s.
+        end_wait membership.now.processes membership.now.own (set.contains suspects.now) (state_of s) ≡ None) }
     ensures orderly { IfOk result (λ s. IsOrderly membership.now.processes membership.now.own (state_of s)) }
     ensures little { OnOk result (length out.new.items ≤ length out.old.items + (6 * membership.now.processes + 3)) }
     ensures rounds { IfOk result (λ s. (state_of s).round ≤ membership.now.processes) }
@@ -50,15 +51,17 @@ fn take_and_wake(
     suspects: &ProcSet,
     out: &mut Vec<Action>,
 ) -> Result<(), AllocError>
-    ensures { OnOk result (Does progress.new out.old.items out.new.items (step_coordinator membership.now.processes membership.now.own (set.contains suspects.now) input.now (state_of progress.old))) }
+    ensures { OnOk result (Does progress.new out.old.items out.new.items (
+        step_coordinator membership.now.processes membership.now.own
+        (set.contains suspects.now) input.now (state_of progress.old))) }
 {
     law_settled();
     progress.take(membership, input, suspects, out)?;
     progress.take(membership, &StepInput::Wake(Tag::Check), suspects, out)
 }
 
-/// Where a process waits for a proposal that hasn't come, of a coordinator that it suspects, a nack is the first that it
-/// sends.
+/// Where a process waits for a proposal that hasn't come, of a coordinator that it suspects, a nack is the first that
+/// it sends.
 fn wake_waiting(
     progress: &mut Progress,
     membership: &Membership,
@@ -68,7 +71,9 @@ fn wake_waiting(
     ensures { (state_of progress.old).phase ≡ Phase.Await
         → (state_of progress.old).kept.proposals (state_of progress.old).round ≡ None
         → set.contains suspects.now (coordinator_of membership.now.processes (state_of progress.old).round) ≡ true
-        → OnOk result ((rest : List ActionData) × (out.new.items ≡ out.old.items ++ Action.Send (coordinator_of membership.now.processes (state_of progress.old).round) (Payload.Reply (state_of progress.old).round false) ∷ rest)) }
+        → OnOk result ((rest : List ActionData) × (out.new.items ≡ out.old.items
+        ++ Action.Send (coordinator_of membership.now.processes (state_of progress.old).round)
+        (Payload.Reply (state_of progress.old).round false) ∷ rest)) }
 {
     law_settled();
     progress.take(membership, &StepInput::Wake(Tag::Check), suspects, out)
@@ -81,8 +86,12 @@ fn best_of_two(
     round: u64,
 ) -> Option<Estimate>
     requires { membership.now.processes ≡ 2 }
-    ensures first { (a b e : EstimateData) → by_sender estimates.now round 1 ≡ Some a → by_sender estimates.now round 2 ≡ Some b → result ≡ Some e → b.stamp ≤ a.stamp → e ≡ a }
-    ensures second { (a b e : EstimateData) → by_sender estimates.now round 1 ≡ Some a → by_sender estimates.now round 2 ≡ Some b → result ≡ Some e → a.stamp < b.stamp → e ≡ b }
+    ensures first { (a b e : EstimateData)
+        → by_sender estimates.now round 1 ≡ Some a → by_sender estimates.now round 2 ≡ Some b
+        → result ≡ Some e → b.stamp ≤ a.stamp → e ≡ a }
+    ensures second { (a b e : EstimateData)
+        → by_sender estimates.now round 1 ≡ Some a → by_sender estimates.now round 2 ≡ Some b
+        → result ≡ Some e → a.stamp < b.stamp → e ≡ b }
 {
     law_settled();
     best(estimates, membership, round)

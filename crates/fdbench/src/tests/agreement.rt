@@ -1,43 +1,18 @@
 //! Agreement where processes suspect one another all the time: over links that lose and delay letters, with a detector
 //! that waits for one tick alone.
 
-ghost use Rattle.std.specs.Prelude.{◌≡◌, IfOk};
-ghost use Rattle.scenario.specs.Opening.{mind_of};
-
-use crate::machines::make_all;
 use crate::tests::files::FIVE;
+use crate::tests::judged::trace_of;
 use crate::tests::runs::changed;
-use consensus_es::EsConsensus;
-use event_list::run_list;
 use judges::{Answer, Outcome, decisions};
-use process_api::Process;
-use scenario::{AlgorithmKind, Opening, read_scenario};
-use stack::Stack;
+use scenario::read_scenario;
 use std::alloc::{AllocError, Global};
 use std::test::Fail;
-use timeout_detector::TimeoutDetector;
 
-/// What the processes of a file with the rotating coordinator, and no reduction, decide.
+/// What the processes of a file decide.
 fn outcomes_of(alloc: Global, file: &str) -> Result<Vec<Outcome>, Fail> {
     let scenario = read_scenario(alloc, file.as_bytes())?;
-    let machines = make_all(
-        alloc,
-        &scenario,
-        |opening: Opening| -> Result<Box<dyn Process>, AllocError>
-            ensures { IfOk result (λ made. mind made ≡ mind_of opening) }
-        {
-            let own = opening.own;
-            let detector = TimeoutDetector::open(alloc, &opening)?;
-            match (opening.share, opening.algorithm) {
-                (None, AlgorithmKind::EventuallyStrong) => {
-                    let consensus = EsConsensus::open(alloc, &opening)?;
-                    Ok(Box::new(alloc, Stack::new(own, detector, consensus))?)
-                }
-                _ => Err(AllocError),
-            }
-        },
-    )?;
-    let trace = run_list(alloc, &scenario, machines)?;
+    let trace = trace_of(alloc, &scenario)?;
     Ok(decisions(alloc, &scenario, &trace)?)
 }
 

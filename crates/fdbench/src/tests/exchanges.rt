@@ -67,8 +67,8 @@ fn pair(rt: HostRuntime) -> Result<(), Fail> {
 fn crash(rt: HostRuntime) -> Result<(), Fail> {
     let alloc = rt.alloc();
     let trace = trace_of(&rt, alloc, EXCHANGE_CRASH)?;
-    let want =
-        "0 2 round:1\n0 3 round:1\n6 2 suspect:1:1 round:2\n6 3 suspect:1:1 round:2\n8 2 round:3\n8 3 round:3\n10 2 decided:20\n10 3 decided:20\n";
+    let want = "0 2 round:1\n0 3 round:1\n6 2 suspect:1:1 round:2\n6 3 suspect:1:1 round:2\n\
+        8 2 round:3\n8 3 round:3\n10 2 decided:20\n10 3 decided:20\n";
     assert_eq!(rt; noted(alloc, &trace)?.as_str(), want);
     Ok(())
 }

@@ -5,25 +5,23 @@ ghost use Rattle.event_list.specs.World.{IsTrace};
 ghost use Rattle.scenario.specs.Opening.{mind_of};
 
 use crate::machines::make_all;
+use crate::stacks::{eventually_strong, idle, strong};
 use crate::tests::files::{
     ALONE, COORDINATORS, EXCHANGE_CRASH, EXCHANGE_PAIR, ONE_CRASH, TAKEN_BACK, WATCH_NEXT,
 };
 use crate::tests::runs::changed;
-use consensus_es::EsConsensus;
-use consensus_s::SConsensus;
 use event_list::{law_only_history, run_list};
 use judges::{Answer, Verdicts, decisions, judge};
 use process_api::{Process, Trace};
 use reduction::Reduced;
 use scenario::{AlgorithmKind, Opening, Scenario, read_scenario};
-use stack::{NoAlgorithm, Stack};
 use std::alloc::{AllocError, Global};
 use std::process::Abort;
 use std::test::Fail;
 use timeout_detector::TimeoutDetector;
 
 /// The trace of a scenario, over machines that are made here. With a reduction it has no consensus.
-fn trace_of(alloc: Global, scenario: &Scenario) -> Result<Trace, Fail>
+pub fn trace_of(alloc: Global, scenario: &Scenario) -> Result<Trace, Fail>
     ensures { IfOk result (λ trace. IsTrace (setting_of scenario.now) trace) }
 {
     let machines = make_all(
@@ -32,23 +30,18 @@ fn trace_of(alloc: Global, scenario: &Scenario) -> Result<Trace, Fail>
         |opening: Opening| -> Result<Box<dyn Process>, AllocError>
             ensures { IfOk result (λ made. mind made ≡ mind_of opening) }
         {
-            let own = opening.own;
             let detector = TimeoutDetector::open(alloc, &opening)?;
             match (opening.share, opening.algorithm) {
-                (None, AlgorithmKind::Idle) => {
-                    Ok(Box::new(alloc, Stack::new(own, detector, NoAlgorithm))?)
+                (None, AlgorithmKind::Idle) => Ok(Box::new(alloc, idle(&opening, detector))?),
+                (None, AlgorithmKind::Strong) => {
+                    Ok(Box::new(alloc, strong(alloc, &opening, detector)?)?)
+                }
+                (None, AlgorithmKind::EventuallyStrong) => {
+                    Ok(Box::new(alloc, eventually_strong(alloc, &opening, detector)?)?)
                 }
                 (Some(_), AlgorithmKind::Idle) => {
                     let reduced = Reduced::open(detector, &opening);
-                    Ok(Box::new(alloc, Stack::new(own, reduced, NoAlgorithm))?)
-                }
-                (None, AlgorithmKind::Strong) => {
-                    let consensus = SConsensus::open(alloc, &opening)?;
-                    Ok(Box::new(alloc, Stack::new(own, detector, consensus))?)
-                }
-                (None, AlgorithmKind::EventuallyStrong) => {
-                    let consensus = EsConsensus::open(alloc, &opening)?;
-                    Ok(Box::new(alloc, Stack::new(own, detector, consensus))?)
+                    Ok(Box::new(alloc, idle(&opening, reduced))?)
                 }
                 _ => Err(AllocError),
             }
@@ -183,8 +176,8 @@ fn far_horizon(rt: HostRuntime) -> Result<(), Fail> {
 fn coordinators(rt: HostRuntime) -> Result<(), Fail> {
     let alloc = rt.alloc();
     let crash = "[[crash]]\nprocess = 2\nat = 3\n\n[link]\n";
-    let lost =
-        "[[links]]\nfrom = 2\nto = 1\nmin = 2\nmax = 2\nloss = 1000\n\n[[links]]\nfrom = 2\nto = 3\nmin = 2\nmax = 2\nloss = 1000\n\n[link]\n";
+    let lost = "[[links]]\nfrom = 2\nto = 1\nmin = 2\nmax = 2\nloss = 1000\n\n\
+        [[links]]\nfrom = 2\nto = 3\nmin = 2\nmax = 2\nloss = 1000\n\n[link]\n";
     let (ten, none) = (Answer::Value(10), Answer::None);
     for (tables, want) in [
         (

@@ -8,6 +8,7 @@ use event_list::RunError;
 use qos_report::{FuseOutlet, MemoryOutlet, Outlet, PrintChoice, StreamOutlet, put_all};
 use scenario::read_scenario;
 use std::io::{self, Write};
+use std::process::ExitCode;
 use std::test::Fail;
 
 /// A writer that takes everything and cannot send it on.
@@ -181,11 +182,19 @@ fn flushes(rt: HostRuntime) -> Result<(), Fail> {
         let mut outlet = StreamOutlet::new(Stuck);
         let mut faults = MemoryOutlet::new(alloc);
         assert!(rt; put_all(&mut outlet, b"ok\n"));
-        assert_eq!(rt; finish(status, &mut outlet, &mut faults), want);
+        assert_eq!(rt;
+            finish(status, &mut outlet, &mut faults),
+            ExitCode::from(want)
+        );
         assert!(rt; faults.bytes() == line);
     }
-    let mut outlet = StreamOutlet::new(Vec::new(alloc));
-    let mut faults = MemoryOutlet::new(alloc);
-    assert_eq!(rt; finish(0, &mut outlet, &mut faults), 0);
+    for status in 0..5u8 {
+        let mut outlet = StreamOutlet::new(Vec::new(alloc));
+        let mut faults = MemoryOutlet::new(alloc);
+        assert_eq!(rt;
+            finish(status, &mut outlet, &mut faults),
+            ExitCode::from(status)
+        );
+    }
     Ok(())
 }

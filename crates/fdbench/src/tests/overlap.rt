@@ -202,8 +202,8 @@ fn text_of<R: Threads + Wait + Sync>(
     text_by(rt, alloc, scenario, machines, gate, start)
 }
 
-/// Each of the ten calls found its process as it was before the window, and five of them waited for the other process. In
-/// each window worker 1 made one call, and worker 2 the other.
+/// Each of the ten calls found its process as it was before the window, and five of them waited for the other process.
+/// In each window worker 1 made one call, and worker 2 the other.
 fn overlaps<R: Files + Threads + Wait + Sync + Abort>(
     rt: &R,
     alloc: Global,

@@ -142,78 +142,45 @@ fn endless_input(rt: HostRuntime) -> Result<(), Fail> {
     Ok(())
 }
 
-/// A reader that fails with an error of this kind.
+/// A reader that fails once with an error of this kind, and then is at its end.
 #[derive(Drop)]
 struct Failing {
     kind: ErrorKind,
+    has_failed: bool,
 }
 
 impl Read for Failing {
     fn read(&mut self, _buffer: &mut [u8]) -> io::Result<usize> {
+        if self.has_failed {
+            return Ok(0);
+        }
+        self.has_failed = true;
         Err(io::Error::from(self.kind))
     }
 }
 
-/// A read that fails for want of memory is like any other that fails.
+/// A read that fails is the last, of whatever kind: one that was interrupted, or one for want of memory, too.
 #[test]
 fn failing_reads(rt: HostRuntime) -> Result<(), Fail> {
     let alloc = rt.alloc();
     let words = ["fdbench", "check", "-"];
     for kind in [
+        ErrorKind::Interrupted,
         ErrorKind::OutOfMemory,
         ErrorKind::UnexpectedEof,
         ErrorKind::Other,
     ] {
         let mut outlet = MemoryOutlet::new(alloc);
         let mut faults = MemoryOutlet::new(alloc);
-        let mut input = Failing { kind };
+        let mut input = Failing {
+            kind,
+            has_failed: false,
+        };
         let status = serve(&rt, alloc, &words, &mut input, &mut outlet, &mut faults);
         assert!(rt; faults.bytes() == b"fdbench: input: unreadable\n".as_slice());
         assert_eq!(rt; outlet.bytes().len(), 0);
         assert_eq!(rt; status, 1);
     }
-    Ok(())
-}
-
-/// A reader of which every other read is interrupted, and which gives one byte at a time.
-#[derive(Drop)]
-struct Halting {
-    is_halted: bool,
-    given: usize,
-}
-
-impl Read for Halting {
-    fn read(&mut self, buffer: &mut [u8]) -> io::Result<usize> {
-        self.is_halted = !self.is_halted;
-        if self.is_halted {
-            return Err(io::Error::from(ErrorKind::Interrupted));
-        }
-        match (ONE_CRASH.as_bytes().get(self.given), buffer.first_mut()) {
-            (Some(byte), Some(place)) => {
-                *place = *byte;
-                self.given += 1;
-                Ok(1)
-            }
-            _ => Ok(0),
-        }
-    }
-}
-
-/// A read that was interrupted is tried again.
-#[test]
-fn interrupted_reads(rt: HostRuntime) -> Result<(), Fail> {
-    let alloc = rt.alloc();
-    let words = ["fdbench", "check", "-"];
-    let mut outlet = MemoryOutlet::new(alloc);
-    let mut faults = MemoryOutlet::new(alloc);
-    let mut input = Halting {
-        is_halted: false,
-        given: 0,
-    };
-    let status = serve(&rt, alloc, &words, &mut input, &mut outlet, &mut faults);
-    assert!(rt; outlet.bytes() == b"ok\n".as_slice());
-    assert_eq!(rt; faults.bytes().len(), 0);
-    assert_eq!(rt; status, 0);
     Ok(())
 }
 

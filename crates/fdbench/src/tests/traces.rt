@@ -4,6 +4,7 @@ ghost use Rattle.scenario.specs.Opening.{mind_of};
 
 use crate::bench::{Mode, bench};
 use crate::machines::make_all;
+use crate::stacks::idle;
 use crate::tests::files::{FIVE, ONE_CRASH, ONE_PROCESS, TAKEN_BACK, WATCH_NEXT};
 use crate::tests::runs::{changed, run, trace_of};
 use event_list::run_list;
@@ -11,7 +12,6 @@ use judges::Answer;
 use process_api::Process;
 use qos_report::{MemoryOutlet, Outlet, PrintChoice, write_report, write_trace};
 use scenario::{AlgorithmKind, Opening, read_scenario};
-use stack::{NoAlgorithm, Stack};
 use std::alloc::AllocError;
 use std::test::Fail;
 use timeout_detector::TimeoutDetector;
@@ -171,7 +171,7 @@ fn own_machine(rt: HostRuntime) -> Result<(), Fail> {
             match (opening.share, opening.algorithm) {
                 (None, AlgorithmKind::Idle) => {
                     let detector = TimeoutDetector::open(alloc, &opening)?;
-                    Ok(Box::new(alloc, Stack::new(opening.own, detector, NoAlgorithm))?)
+                    Ok(Box::new(alloc, idle(&opening, detector))?)
                 }
                 _ => Err(AllocError),
             }

@@ -61,49 +61,46 @@ impl Process for Alone {
     }
 }
 
-// One input by the box, and what came of it as text.
+// What the box does with one input.
 fn answer_of(
     alloc: Global,
     machine: &mut Box<dyn Process>,
     now: u32,
     input: &StepInput,
-) -> Result<String, Fail> {
+) -> Result<Vec<Action>, AllocError> {
     let mut out = Vec::new(alloc);
     machine.on_input(now, input, &mut out)?;
-    Ok(format!(in alloc; "{out:?}")?)
+    Ok(out)
+}
+
+// The same as text.
+fn text_of(alloc: Global, actions: &[Action]) -> Result<String, AllocError> {
+    format!(in alloc; "{actions:?}")
 }
 
 #[test]
 fn a_boxed_process_alone_wakes_itself(rt: HostRuntime) -> Result<(), Fail> {
     let alloc = rt.alloc();
-    let mut machines: Vec<Box<dyn Process>> = Vec::new(alloc);
-    let alone: Box<dyn Process> = Box::new(
+    let one = Pid::new(1).ok_or("refused")?;
+    let mut machine: Box<dyn Process> = Box::new(
         alloc,
         Alone {
             refuses: false,
             failed: false,
         },
     )?;
-    machines.push(alone)?;
-    let one = Pid::new(1).ok_or("refused")?;
-    for machine in machines.iter_mut() {
-        assert_eq!(rt; machine.pid(), one);
-        let start = answer_of(alloc, machine, 0, &StepInput::Start)?;
-        assert_eq!(rt;
-            start.as_str(),
-            "[Wake { pause: 4, tag: Beat }, Wake { pause: 3, tag: Check }]"
-        );
-        let check = answer_of(alloc, machine, 3, &StepInput::Wake(Tag::Check))?;
-        assert_eq!(rt; check.as_str(), "[Wake { pause: 3, tag: Check }]");
-        let beat = answer_of(alloc, machine, 4, &StepInput::Wake(Tag::Beat))?;
-        assert_eq!(rt; beat.as_str(), "[Wake { pause: 4, tag: Beat }]");
-        let letter = StepInput::Letter {
-            sender: one,
-            payload: Payload::Alive,
-        };
-        assert_eq!(rt; answer_of(alloc, machine, 5, &letter)?.as_str(), "[]");
-        assert!(rt; !machine.failed());
-    }
+    assert_eq!(rt; machine.pid(), one);
+    let start = answer_of(alloc, &mut machine, 0, &StepInput::Start)?;
+    assert_eq!(rt;
+        text_of(alloc, &start)?.as_str(),
+        "[Wake { pause: 4, tag: Beat }, Wake { pause: 3, tag: Check }]"
+    );
+    let check = answer_of(alloc, &mut machine, 3, &StepInput::Wake(Tag::Check))?;
+    assert_eq!(rt;
+        text_of(alloc, &check)?.as_str(),
+        "[Wake { pause: 3, tag: Check }]"
+    );
+    assert!(rt; !machine.failed());
     Ok(())
 }
 

@@ -1,6 +1,6 @@
 //! The scenarios that files stand for.
-use crate::{AlgorithmKind, Link, read_scenario};
-use process_api::{DetectorNumbers, Pid, Watch};
+use crate::read_scenario;
+use process_api::Pid;
 use std::test::Fail;
 
 /// A file with the fewest keys.
@@ -19,41 +19,13 @@ min = 2
 max = 3
 ";
 
-#[test]
-fn fewest_keys(rt: HostRuntime) -> Result<(), Fail> {
-    let one = Pid::new(1).ok_or("1 is a process")?;
-    let two = Pid::new(2).ok_or("2 is a process")?;
-    let three = Pid::new(3).ok_or("3 is a process")?;
-    let scenario = read_scenario(rt.alloc(), FEWEST.as_bytes())?;
-    assert_eq!(rt; scenario.processes(), 2);
-    assert_eq!(rt; scenario.horizon(), 10);
-    assert_eq!(rt; scenario.lookahead(), 2);
-    assert_eq!(rt; scenario.limit(), 1_000_000);
-    assert_eq!(rt; scenario.seed(), 1);
-    assert_eq!(rt; scenario.algorithm(), AlgorithmKind::Idle);
-    let detector = DetectorNumbers {
-        period: 4,
-        check: 3,
-        timeout: 5,
-        grow: 1,
-        watch: Watch::All,
-    };
-    assert_eq!(rt; scenario.detector(), detector);
-    assert_eq!(rt; scenario.share(), None);
-    assert_eq!(rt; scenario.crash(two), None);
-    assert_eq!(rt; scenario.crash(three), None);
-    assert_eq!(rt; scenario.proposal(one), None);
-    assert!(rt; one != two && scenario.processes() == 2);
-    assert_eq!(rt;
-        scenario.link(one, two),
-        Link {
-            min: 2,
-            max: 3,
-            loss: 0
-        }
-    );
-    Ok(())
-}
+/// What it stands for: defaults are filled in, and each of the four pairs has the common link.
+const FEWEST_IS: &str =
+    "Scenario { processes: 2, horizon: 10, lookahead: 2, limit: 1000000, seed: 1, \
+    algorithm: Idle, detector: DetectorNumbers { period: 4, check: 3, timeout: 5, grow: 1, watch: All }, \
+    share: None, proposals: [], crashes: [None, None], \
+    links: [Link { min: 2, max: 3, loss: 0 }, Link { min: 2, max: 3, loss: 0 }, \
+    Link { min: 2, max: 3, loss: 0 }, Link { min: 2, max: 3, loss: 0 }] }";
 
 /// A file with every key.
 const EVERY: &str = "version = 1
@@ -95,48 +67,36 @@ process = 1
 at = 0
 ";
 
-#[test]
-fn every_key(rt: HostRuntime) -> Result<(), Fail> {
-    let scenario = read_scenario(rt.alloc(), EVERY.as_bytes())?;
-    assert_eq!(rt; scenario.horizon(), 10_000_000);
-    assert_eq!(rt; scenario.limit(), 12);
-    assert_eq!(rt; scenario.seed(), 9_223_372_036_854_775_807);
-    let detector = DetectorNumbers {
-        period: 4,
-        check: 3,
-        timeout: 5,
-        grow: 6,
-        watch: Watch::Next,
-    };
-    assert_eq!(rt; scenario.detector(), detector);
-    assert_eq!(rt; scenario.share(), Some(8));
-    assert_eq!(rt; scenario.algorithm(), AlgorithmKind::EventuallyStrong);
-    Ok(())
-}
+/// What it stands for: the links are those from process 1 first, each to processes 1, 2 and 3.
+const EVERY_IS: &str = "Scenario { processes: 3, horizon: 10000000, lookahead: 7, limit: 12, \
+    seed: 9223372036854775807, algorithm: EventuallyStrong, \
+    detector: DetectorNumbers { period: 4, check: 3, timeout: 5, grow: 6, watch: Next }, \
+    share: Some(8), proposals: [0, 20, 4294967295], crashes: [Some(0), None, Some(10000000)], \
+    links: [\
+    Link { min: 7, max: 9, loss: 300 }, Link { min: 7, max: 7, loss: 1000 }, Link { min: 7, max: 9, loss: 300 }, \
+    Link { min: 7, max: 9, loss: 300 }, Link { min: 7, max: 9, loss: 300 }, Link { min: 7, max: 9, loss: 300 }, \
+    Link { min: 10, max: 11, loss: 0 }, Link { min: 7, max: 9, loss: 300 }, Link { min: 7, max: 9, loss: 300 }] }";
 
-/// A link that the file gives.
-fn link(min: u32, max: u32, loss: u32) -> Link {
-    Link { min, max, loss }
+#[test]
+fn fewest_and_every_key(rt: HostRuntime) -> Result<(), Fail> {
+    let fewest = read_scenario(rt.alloc(), FEWEST.as_bytes())?;
+    let text = format!(in rt.alloc(); "{fewest:?}")?;
+    assert_eq!(rt; text.as_str(), FEWEST_IS);
+    let every = read_scenario(rt.alloc(), EVERY.as_bytes())?;
+    let text = format!(in rt.alloc(); "{every:?}")?;
+    assert_eq!(rt; text.as_str(), EVERY_IS);
+    Ok(())
 }
 
 #[test]
 fn every_process(rt: HostRuntime) -> Result<(), Fail> {
     let one = Pid::new(1).ok_or("1 is a process")?;
-    let two = Pid::new(2).ok_or("2 is a process")?;
     let three = Pid::new(3).ok_or("3 is a process")?;
+    let four = Pid::new(4).ok_or("4 is a process")?;
     let scenario = read_scenario(rt.alloc(), EVERY.as_bytes())?;
-    assert_eq!(rt; scenario.crash(one), Some(0));
-    assert_eq!(rt; scenario.crash(two), None);
-    assert_eq!(rt; scenario.crash(three), Some(10_000_000));
-    assert_eq!(rt; scenario.proposal(one), Some(0));
-    assert_eq!(rt; scenario.proposal(three), Some(4_294_967_295));
-    assert!(rt; one != two && one != three && scenario.processes() == 3);
-    assert_eq!(rt; scenario.link(three, one), link(10, 11, 0));
-    assert_eq!(rt; scenario.link(one, two), link(7, 7, 1000));
-    assert_eq!(rt; scenario.link(one, three), link(7, 9, 300));
-    let opening = scenario.opening(two);
-    assert_eq!(rt; opening.own, two);
-    assert_eq!(rt; opening.share, Some(8));
-    assert_eq!(rt; opening.proposal, Some(20));
+    assert!(rt; one != three && scenario.processes() == 3);
+    assert_eq!(rt; scenario.link(three, one).max, 11);
+    assert_eq!(rt; scenario.opening(three).proposal, Some(4_294_967_295));
+    assert_eq!(rt; scenario.proposal(four), None);
     Ok(())
 }

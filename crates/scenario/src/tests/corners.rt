@@ -1,10 +1,25 @@
 //! Forms of TOML that a file may take.
 use crate::read_scenario;
-use crate::tests::{CRASH_FILE, answer, changed};
+use crate::tests::{CRASH_FILE, answer, changed, compare};
 use std::test::Fail;
 
+/// A common link that is below the lookahead, and a link of its own for each pair.
+const OWN_LINKS: &str = "min = 1
+max = 2
+[[links]]
+from = 2
+to = 1
+min = 2
+max = 2
+[[links]]
+from = 1
+to = 2
+min = 3
+max = 4
+";
+
 /// Changes of the crash file, and what they get.
-const CHANGES: [(&str, &str, &str); 32] = [
+const CHANGES: [(&str, &str, &str); 36] = [
     ("horizon = 10", "horizon = 0x0a", "accepted"),
     ("horizon = 10", "horizon = 0o12", "accepted"),
     ("horizon = 10", "horizon = 0b1010", "accepted"),
@@ -62,14 +77,25 @@ const CHANGES: [(&str, &str, &str); 32] = [
     ("version = 1", "\u{feff}version = 1", "accepted"),
     ("seed = 1", "\u{feff}seed = 1", "NotToml"),
     ("seed = 1", "seed = 1\rlimit = 2", "NotToml"),
+    // lines that end with CR LF, and a file that is cut off
+    (
+        "seed = 1\nalgorithm = \"none\"\n",
+        "seed = 1\r\nalgorithm = \"none\"\r\n",
+        "accepted",
+    ),
+    ("processes = 2", "processes =", "NotToml"),
+    // the delays of the common link are below the lookahead, but no pair uses it
+    ("min = 2\nmax = 2\n", OWN_LINKS, "accepted"),
+    (
+        "processes = 2\nhorizon = 10\nlookahead = 2",
+        "processes = 1\nhorizon = 10\nlookahead = 3",
+        "CrashLine",
+    ),
 ];
 
 #[test]
 fn forms(rt: HostRuntime) -> Result<(), Fail> {
-    for (old, new, name) in CHANGES {
-        let text = changed(rt.alloc(), CRASH_FILE, old, new)?;
-        assert_eq!(rt; answer(rt.alloc(), text.as_str()), name, "{new}");
-    }
+    compare(&rt, rt.alloc(), &CHANGES)?;
     assert!(rt;
         matches!(
             read_scenario(rt.alloc(), b"\xff"),
@@ -79,15 +105,9 @@ fn forms(rt: HostRuntime) -> Result<(), Fail> {
     Ok(())
 }
 
-/// Lines that end with CR LF, and arrays in one another, as deep as the reader goes and deeper.
+/// Arrays in one another, as deep as the reader goes and deeper.
 #[test]
-fn line_ends_and_depth(rt: HostRuntime) -> Result<(), Fail> {
-    let mut text = String::new(rt.alloc());
-    for line in CRASH_FILE.lines() {
-        text.push_str(line)?;
-        text.push_str("\r\n")?;
-    }
-    assert_eq!(rt; answer(rt.alloc(), text.as_str()), "accepted");
+fn depth(rt: HostRuntime) -> Result<(), Fail> {
     for (depth, name) in [(80, "WrongKind"), (81, "NotToml")] {
         let open = "[".repeat(rt.alloc(), depth)?;
         let close = "]".repeat(rt.alloc(), depth)?;
@@ -95,19 +115,5 @@ fn line_ends_and_depth(rt: HostRuntime) -> Result<(), Fail> {
         let deep = changed(rt.alloc(), CRASH_FILE, "seed = 1", seed.as_str())?;
         assert_eq!(rt; answer(rt.alloc(), deep.as_str()), name, "{depth}");
     }
-    Ok(())
-}
-
-/// The delays of the common link are below the lookahead, but no pair uses it.
-#[test]
-fn unused_common_link(rt: HostRuntime) -> Result<(), Fail> {
-    let low = changed(rt.alloc(), CRASH_FILE, "min = 2", "min = 1")?;
-    let own =
-        "[[links]]\nfrom = 2\nto = 1\nmin = 2\nmax = 2\n[[links]]\nfrom = 1\nto = 2\nmin = 3\nmax = 4\n";
-    let text = format!(in rt.alloc(); "{low}{own}")?;
-    assert_eq!(rt; answer(rt.alloc(), text.as_str()), "accepted");
-    let one = changed(rt.alloc(), low.as_str(), "processes = 2", "processes = 1")?;
-    let alone = changed(rt.alloc(), one.as_str(), "process = 2", "process = 1")?;
-    assert_eq!(rt; answer(rt.alloc(), alone.as_str()), "accepted");
     Ok(())
 }

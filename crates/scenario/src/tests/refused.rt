@@ -1,15 +1,17 @@
 //! Single faults, and each end of each range.
-use crate::tests::{CRASH_FILE, answer, changed};
+use crate::tests::{answer, compare};
 use std::test::Fail;
 
-/// Changes of the crash file that make faults of the keys, their kinds and the version, or just don't, and what they get.
-const KEYS: [(&str, &str, &str); 17] = [
+/// Changes of the crash file that make faults of the keys, their kinds and the version, or just don't, and what they
+/// get.
+const KEYS: [(&str, &str, &str); 18] = [
     ("version = 1", "version = 3", "Version"),
     ("version = 1", "version = 0", "Version"),
     ("version = 1\n", "", "MissingKey"),
     ("version = 1", "colour = 1\nversion = 1", "UnknownKey"),
     ("grow = 1", "grow = 1\ncolour = 1", "UnknownKey"),
     ("max = 2", "max = 2\nfrom = 1", "UnknownKey"),
+    ("min = 2", "min = 1\ncolour = 1", "UnknownKey"),
     ("at = 3", "at = 3\ntick = 3", "UnknownKey"),
     ("at = 3\n", "", "MissingKey"),
     ("max = 2\n", "", "MissingKey"),
@@ -22,15 +24,6 @@ const KEYS: [(&str, &str, &str); 17] = [
     ("seed = 1", "seed = 1\nproposals = [1, \"2\"]", "WrongKind"),
     ("seed = 1", "seed = 1\nshare = 4", "WrongKind"),
 ];
-
-#[test]
-fn keys(rt: HostRuntime) -> Result<(), Fail> {
-    for (old, new, name) in KEYS {
-        let text = changed(rt.alloc(), CRASH_FILE, old, new)?;
-        assert_eq!(rt; answer(rt.alloc(), text.as_str()), name, "{new}");
-    }
-    Ok(())
-}
 
 /// Changes of the crash file that make faults of the top table's values, or just don't, and what they get.
 const NUMBERS: [(&str, &str, &str); 19] = [
@@ -55,17 +48,9 @@ const NUMBERS: [(&str, &str, &str); 19] = [
     ("\"none\"", "\"s\"\nproposals = [0, 4294967295]", "accepted"),
 ];
 
-#[test]
-fn numbers(rt: HostRuntime) -> Result<(), Fail> {
-    for (old, new, name) in NUMBERS {
-        let text = changed(rt.alloc(), CRASH_FILE, old, new)?;
-        assert_eq!(rt; answer(rt.alloc(), text.as_str()), name, "{new}");
-    }
-    Ok(())
-}
-
-/// Changes of the crash file that make faults of the detector, the shares, the links and the crashes, or just don't, and what they get.
-const PARTS: [(&str, &str, &str); 18] = [
+/// Changes of the crash file that make faults of the detector, the shares, the links and the crashes, or just don't,
+/// and what they get.
+const PARTS: [(&str, &str, &str); 19] = [
     ("period = 4", "period = 0", "DetectorNumbers"),
     ("check = 3", "check = 1000001", "DetectorNumbers"),
     ("timeout = 5", "timeout = 0", "DetectorNumbers"),
@@ -79,6 +64,11 @@ const PARTS: [(&str, &str, &str); 18] = [
     ("max = 2", "max = 1000000\nloss = 1000", "accepted"),
     ("max = 2", "max = 2\nloss = 1001", "LinkNumbers"),
     ("min = 2", "min = 1", "BelowLookahead"),
+    (
+        "seed = 1",
+        "seed = 1\nlinks = [{ from = 1, to = 2, min = 2, max = 2 }, { from = 1, to = 2, min = 2, max = 2 }]",
+        "LinkNumbers",
+    ),
     ("at = 3", "at = 10000001", "CrashLine"),
     ("at = 3", "at = 10000000", "accepted"),
     ("at = 3", "at = -1", "CrashLine"),
@@ -87,21 +77,10 @@ const PARTS: [(&str, &str, &str); 18] = [
 ];
 
 #[test]
-fn parts(rt: HostRuntime) -> Result<(), Fail> {
-    for (old, new, name) in PARTS {
-        let text = changed(rt.alloc(), CRASH_FILE, old, new)?;
-        assert_eq!(rt; answer(rt.alloc(), text.as_str()), name, "{new}");
-    }
-    Ok(())
-}
-
-#[test]
-fn other_files(rt: HostRuntime) -> Result<(), Fail> {
-    let (cut, _) = CRASH_FILE.split_once(" 2").ok_or("no such part")?;
-    assert_eq!(rt; answer(rt.alloc(), cut), "NotToml");
+fn single_faults(rt: HostRuntime) -> Result<(), Fail> {
+    compare(&rt, rt.alloc(), &KEYS)?;
+    compare(&rt, rt.alloc(), &NUMBERS)?;
+    compare(&rt, rt.alloc(), &PARTS)?;
     assert_eq!(rt; answer(rt.alloc(), ""), "MissingKey");
-    let again = "[[links]]\nfrom = 1\nto = 2\nmin = 2\nmax = 2\n";
-    let text = format!(in rt.alloc(); "{CRASH_FILE}{again}{again}")?;
-    assert_eq!(rt; answer(rt.alloc(), text.as_str()), "LinkNumbers");
     Ok(())
 }

@@ -18,8 +18,10 @@ pub fn make_all<M: Process, F: Fn(Opening) -> Result<M, AllocError>>(
     make: F,
 ) -> Result<Vec<M>, AllocError>
     requires callable { F.IsAlwaysCallable make }
-    requires opens { (opening : _) (made : _) → F.post make opening made → IfOk made (λ machine. M.mind machine ≡ mind_of opening) }
-    ensures { IfOk result (λ machines. map M.mind machines.items ≡ map (opening_mind scenario.now) (numbers_to scenario.now.processes)) }
+    requires opens { (opening : _) (made : _) → F.post make opening made
+        → IfOk made (λ machine. M.mind machine ≡ mind_of opening) }
+    ensures { IfOk result (λ machines. map M.mind machines.items
+        ≡ map (opening_mind scenario.now) (numbers_to scenario.now.processes)) }
 {
     let mut machines = Vec::new(alloc);
     for before in 0..scenario.processes() {

@@ -2,11 +2,10 @@
 ghost use Rattle.std.specs.Prelude.{◌≡◌, IfOk};
 ghost use Rattle.scenario.specs.Opening.{mind_of};
 
-use super::calls::{call_first, close_all, in_given_order};
+use super::calls::{after_windows, call_window, count_entries, in_given_order};
 use super::machines::{coordinator, make_all, watcher};
-use super::{COORDINATORS, are_same, one_crash};
-use crate::Plan;
-use crate::stage::Stage;
+use super::{COORDINATORS, ONE_CRASH, is_same, one_crash};
+use crate::{Plan, Stage};
 use event_list::{RunError, run_list};
 use process_api::Process;
 use scenario::{Opening, read_scenario};
@@ -16,34 +15,53 @@ use std::test::Fail;
 /// Orders in which the berths of two processes can be called.
 const OF_TWO: [[u16; 2]; 2] = [[1, 2], [2, 1]];
 
-/// How many entries each window has, and how many letters are posted in it. The letter that is sent at tick 8 is due at
-/// the horizon, and is posted to nobody.
+/// Of each window of 2 ticks its end, how many entries it has, and how many letters are posted in it. The letter that
+/// is sent at tick 8 is due at the horizon, and is posted to nobody.
+const WINDOWS: [(u32, usize, usize); 5] = [(2, 2, 2), (4, 4, 0), (6, 2, 1), (8, 2, 0), (10, 2, 0)];
+
 #[test]
 fn entries_and_letters(rt: HostRuntime) -> Result<(), Fail> {
     let alloc = rt.alloc();
     let scenario = one_crash(alloc)?;
     let plan = Plan::new(&scenario, 1, 2)?;
     for order in OF_TWO {
-        let machines = make_all(
-            alloc,
-            &scenario,
-            |opening: Opening| -> Result<Box<dyn Process>, AllocError>
-                ensures { IfOk result (λ made. mind made ≡ mind_of opening) }
-            { Ok(Box::new(alloc, watcher(alloc, &opening)?)?) },
-        )?;
-        let closed = close_all(&rt, alloc, &scenario, machines, &plan, &order)?;
-        assert_eq!(rt; closed.entries.as_slice(), [2, 4, 2, 2, 2].as_slice());
-        assert_eq!(rt; closed.letters.as_slice(), [2, 0, 1, 0, 0].as_slice());
+        let mut before: usize = 0;
+        for (end, entries, posted) in WINDOWS {
+            let machines = make_all(
+                alloc,
+                &scenario,
+                |opening: Opening| -> Result<Box<dyn Process>, AllocError>
+                    ensures { IfOk result (λ made. mind made ≡ mind_of opening) }
+                { Ok(Box::new(alloc, watcher(alloc, &opening)?)?) },
+            )?;
+            let stage = Stage::open(alloc, &scenario, machines)?;
+            let stage = after_windows(&rt, alloc, stage, &plan, before)?;
+            let (berths, letters) = call_window(&rt, alloc, stage, end, &order)?;
+            let made = count_entries(&berths);
+            assert_eq!(rt; (made, letters), (entries, posted), "{end}");
+            before = before.saturating_add(1);
+        }
     }
     Ok(())
 }
 
-/// In the first window of 2 ticks each process has one entry, its start: with no room for one the first call is refused.
+/// Limits of the trace, and how the second window of 2 ticks is refused. The first one has 2 entries; in the second
+/// each process has 2.
+const LIMITS: [(&str, Option<RunError>); 3] = [
+    ("limit = 2\n", Some(RunError::Limit)),
+    ("limit = 3\n", Some(RunError::Limit)),
+    ("limit = 4\n", None),
+];
+
 #[test]
 fn no_room(rt: HostRuntime) -> Result<(), Fail> {
     let alloc = rt.alloc();
-    let scenario = one_crash(alloc)?;
-    for (left, refusal) in [(0, Some(RunError::Limit)), (1, None)] {
+    for (limit, refusal) in LIMITS {
+        let mut text = String::new(alloc);
+        text.push_str(limit)?;
+        text.push_str(ONE_CRASH)?;
+        let scenario = read_scenario(alloc, text.as_bytes())?;
+        let plan = Plan::new(&scenario, 1, 2)?;
         let machines = make_all(
             alloc,
             &scenario,
@@ -51,8 +69,10 @@ fn no_room(rt: HostRuntime) -> Result<(), Fail> {
                 ensures { IfOk result (λ made. mind made ≡ mind_of opening) }
             { Ok(Box::new(alloc, watcher(alloc, &opening)?)?) },
         )?;
-        let called = call_first(&rt, alloc, &scenario, machines, 2, left);
-        assert_eq!(rt; called.err(), refusal, "{left}");
+        let stage = Stage::open(alloc, &scenario, machines)?;
+        let stage = after_windows(&rt, alloc, stage, &plan, 1)?;
+        let called = call_window(&rt, alloc, stage, 4, &[1, 2]);
+        assert_eq!(rt; called.err(), refusal, "{limit}");
     }
     Ok(())
 }
@@ -79,7 +99,10 @@ fn given_order(rt: HostRuntime) -> Result<(), Fail> {
 /// Orders in which the berths of three processes can be called.
 const OF_THREE: [[u16; 3]; 3] = [[1, 2, 3], [3, 2, 1], [2, 3, 1]];
 
-/// Whatever the order of the calls, each window does what the list does.
+/// The ends of windows of 2 ticks up to horizon 20.
+const ENDS: [u32; 10] = [2, 4, 6, 8, 10, 12, 14, 16, 18, 20];
+
+/// Whatever the order of the calls, each process does in each window what the list has of it there.
 #[test]
 fn as_the_list(rt: HostRuntime) -> Result<(), Fail> {
     let alloc = rt.alloc();
@@ -92,9 +115,11 @@ fn as_the_list(rt: HostRuntime) -> Result<(), Fail> {
         { Ok(Box::new(alloc, coordinator(alloc, &opening)?)?) },
     )?;
     let list = run_list(alloc, &scenario, machines)?;
-    for window in 1..=2 {
-        let plan = Plan::new(&scenario, 1, window)?;
-        for order in OF_THREE {
+    let plan = Plan::new(&scenario, 1, 2)?;
+    for order in OF_THREE {
+        let order = order.as_slice();
+        let mut before: usize = 0;
+        for end in ENDS {
             let machines = make_all(
                 alloc,
                 &scenario,
@@ -102,8 +127,20 @@ fn as_the_list(rt: HostRuntime) -> Result<(), Fail> {
                     ensures { IfOk result (λ made. mind made ≡ mind_of opening) }
                 { Ok(Box::new(alloc, coordinator(alloc, &opening)?)?) },
             )?;
-            let closed = close_all(&rt, alloc, &scenario, machines, &plan, &order)?;
-            assert!(rt; are_same(closed.trace.as_slice(), list.entries()));
+            let stage = Stage::open(alloc, &scenario, machines)?;
+            let stage = after_windows(&rt, alloc, stage, &plan, before)?;
+            let start = stage.start();
+            let (berths, _) = call_window(&rt, alloc, stage, end, order)?;
+            for berth in &berths {
+                let own = list.entries().iter().filter(|entry| {
+                    entry.key.receiver == berth.pid()
+                        && entry.key.tick >= start
+                        && entry.key.tick < end
+                });
+                assert!(rt; own.clone()?.count() == berth.part.len());
+                assert!(rt; own.zip(&berth.part).all(|(a, b)| is_same(a, b)));
+            }
+            before = before.saturating_add(1);
         }
     }
     Ok(())

@@ -1,5 +1,5 @@
-//! Workers that are watched: which processes they take, in which order one of them takes them, and which of two refusals
-//! comes first.
+//! Workers that are watched: which processes they take, in which order one of them takes them, and which of two
+//! refusals comes first.
 ghost use Rattle.std.specs.Prelude.{◌≡◌, IfOk};
 ghost use Rattle.scenario.specs.Opening.{mind_of};
 
@@ -49,9 +49,9 @@ impl Gate for Watching {
     }
 }
 
-/// A single worker takes each process that has an event in the window, by rising number: all three but in the window that
-/// starts at tick 6, in which the first has none. The starter takes nobody. A worker more than there are processes isn't
-/// started.
+/// A single worker takes each process that has an event in the window, by rising number: all three but in the window
+/// that starts at tick 6, in which the first has none. The starter takes nobody. A worker more than there are processes
+/// isn't started.
 #[test]
 fn taken_by_workers(rt: HostRuntime) -> Result<(), Fail> {
     let alloc = rt.alloc();

@@ -3,7 +3,6 @@ use Rattle.std.proofs.KnownBytes.{Consumes-trans, Consumes-kept}
 use Rattle.std.proofs.lemmas.Grind.{common_steps}
 use Rattle.std.proofs.lemmas.List.{length-take}
 use Rattle.fdbench.proofs.input.read_all.Goals as goal
-use Rattle.fdbench.proofs.input.read_all.Goals.{in-Ok-2+else-is_err, in-Err}
 
 -- a front of a piece adds at most its own count
 length_joined : (xs ys : List ℕ) (n : ℕ) → length (xs ++ take n ys) ≤ length xs + n
@@ -41,16 +40,9 @@ returns-then-is_err-clause-taken g c = (
 )
 
 pub loop-preserved : goal.loop-preserved
-loop-preserved g c =
-    elim c.match-read.branch [
-      | in-Ok-2+else-is_err w ↦ record {
-        within = grind (arith, common_steps);
-        gone =
-            let joined : c.match-read.bytes.items ≡ c.loop.bytes.items ++ take w.in-Ok.count c.read.new.buf = grind (arith, common_steps) in
-            rw joined (Consumes-trans _ _ _ _ _ c.loop.invariant.gone w.in-Ok.ensures.bytes.0);
-      }
-      | in-Err w ↦ record {
-        within = rw w.bytes-is c.loop.invariant.within;
-        gone = rw w.bytes-is (Consumes-kept _ _ _ _ c.loop.invariant.gone w.in-Err.ensures.bytes);
-      }
-    ]
+loop-preserved g c = record {
+  within = grind (arith, common_steps);
+  gone =
+      let joined : c.extend_from_slice.new.self.items ≡ c.loop.bytes.items ++ take c.in-Ok.count c.read.new.buf = grind (arith, common_steps) in
+      rw joined (Consumes-trans _ _ _ _ _ c.loop.invariant.gone c.in-Ok.ensures.bytes.0);
+}

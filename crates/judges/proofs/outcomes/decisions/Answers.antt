@@ -2,7 +2,7 @@ use Rattle.std.proofs.Common.{◌≡◌, ◌∙◌, sym, ap, subst, arith, lengt
 use Rattle.std.proofs.lemmas.List.{take_all}
 use Rattle.judges.specs.Agreement.{Agree}
 use Rattle.judges.specs.Outcomes.{outcomes}
-use Rattle.judges.proofs.Agreed.{agrees}
+use Rattle.judges.proofs.Agreement.Agreed.{agrees}
 use Rattle.judges.proofs.outcomes.decisions.Goals as goal
 
 pub returns-in_err-running-clause-once : goal.returns-in_err-running-clause-once

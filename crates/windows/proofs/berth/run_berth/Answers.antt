@@ -11,6 +11,7 @@ use Rattle.windows.specs.Machine.{for_self, for_others}
 use Rattle.windows.specs.Window.{BerthRun}
 use Rattle.windows.proofs.Berths.{BerthStands, berth_opens, berth_next, berth_ends}
 use Rattle.windows.proofs.Letters.{with_more}
+use Rattle.windows.proofs.Taken.{below_of, removed_of, none_below_of, kept_of}
 use Rattle.windows.proofs.berth.run_berth.Goals as goal
 
 pub loop-key-init : goal.loop-key-init
@@ -55,14 +56,15 @@ loop-key-preserved g c =
     let before = process_of mind old.seat in
     let key = c.in-Some.key in
     let x = c.in-Some.input in
-    let least = c.in-Some.ensures.least.0 in
-    let due = c.in-Some.ensures.least.1 in
+    let taken = below_of c.args.end c.loop-key.berth.pending c.in_ok-key.field-0 (c.in-Some.key, c.in-Some.input) c.in-Some.is c.in_ok-key.ensures.least in
+    let least = taken.0 in
+    let due = taken.1 in
     let made = step S before key x in
     let done = c.in_ok-take.ensures in
     let to_p : key.receiver ≡ p = i.stands.2.own key x least.there in
     let sent : List Letter = i.stands.0 in
     let more : List Letter = done.letters.0 in
-    let left : new.pending ≡ joined (events.remove old.pending key) (for_self p made.added) = done.pending ∙ (λ k. joined (c.in-Some.ensures.removed k) (for_self (to_p k) made.added)) in
+    let left : new.pending ≡ joined (events.remove old.pending key) (for_self p made.added) = done.pending ∙ (λ k. joined ((removed_of c.loop-key.berth.pending c.take_below.new.self c.in_ok-key.field-0 (c.in-Some.key, c.in-Some.input) c.in-Some.is c.in_ok-key.ensures.removed) k) (for_self (to_p k) made.added)) in
     let letters : map event_of (sent ++ more) ≡ map event_of sent ++ for_others p made.added = map-append event_of sent more ∙ (λ k. map event_of sent ++ (done.letters.1 ∙ ap (λ q. for_others q made.added) to_p) k) in
     let longer : vec_len new.part ≡ vec_len old.part + 1 = omega (arith, new.part.ok.0, old.part.ok.0, ap length done.part, length-append old.part.items (made.entry ∷ [])) in
     record {
@@ -88,12 +90,12 @@ returns-clause-ran g c =
     let i = c.loop-key.invariant in
     let old = c.loop-key.berth in
     let was = i.stands.2 in
-    let run = berth_ends S (own_of mind b.seat) c.args.end (process_of mind b.seat) b.pending (process_of mind old.seat) old.pending old.part.items (map event_of i.stands.0) was c.in_default.ensures.least in
+    let run = berth_ends S (own_of mind b.seat) c.args.end (process_of mind b.seat) b.pending (process_of mind old.seat) old.pending old.part.items (map event_of i.stands.0) was (none_below_of c.args.end c.loop-key.berth.pending c.in_ok-key.field-0 c.in_default.is c.in_ok-key.ensures.least) in
     λ p is. (
       i.stands.0,
       record {
         history = was.history;
-        run = subst (λ m. BerthRun S p c.args.end (process_of mind b.seat) b.pending was.history (process_of mind old.seat) m (map event_of i.stands.0)) (sym c.in_default.ensures.removed)
+        run = subst (λ m. BerthRun S p c.args.end (process_of mind b.seat) b.pending was.history (process_of mind old.seat) m (map event_of i.stands.0)) (sym (kept_of c.loop-key.berth.pending c.take_below.new.self c.in_ok-key.field-0 c.in_default.is c.in_ok-key.ensures.removed))
             (subst (λ q. BerthRun S q c.args.end (process_of mind b.seat) b.pending was.history (process_of mind old.seat) old.pending (map event_of i.stands.0)) is run);
         part = was.part_is;
       },
@@ -106,5 +108,5 @@ returns-clause-berth g c =
     λ p most h. record {
       seated = i.seated most h.seated;
       is = i.own ∙ h.is;
-      own = λ key x there. i.stands.2.own key x (subst (λ m. Has m key x) c.in_default.ensures.removed there) ∙ h.is;
+      own = λ key x there. i.stands.2.own key x (subst (λ m. Has m key x) (kept_of c.loop-key.berth.pending c.take_below.new.self c.in_ok-key.field-0 c.in_default.is c.in_ok-key.ensures.removed) there) ∙ h.is;
     }

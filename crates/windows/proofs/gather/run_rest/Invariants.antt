@@ -7,5 +7,5 @@ use Rattle.windows.proofs.gather.run_rest.Given as goal
 abbrev pub invariant-loop : goal.invariant-loop
 invariant-loop g l =
     (rest : List (Berth g.row.M.Denot))
-    × IsWork g.M.Process.mind l.streams l.end l.jobs.queue l.mailboxes (taker_of l.jobs.queue l.initial.dealer.put rest) l.slip l.done.items
-    × (l.dealer ≡ dealer_of l.jobs.queue 0 l.initial.dealer.put (l.initial.dealer.taken ++ rest))
+    × IsWork g.M.Process.mind l.shared.window.now.streams l.shared.window.now.end l.shared.jobs.now.queue l.shared.mailboxes.now (taker_of l.shared.jobs.now.queue l.initial.dealer.put rest) l.slip l.done.items
+    × (l.dealer ≡ dealer_of l.shared.jobs.now.queue 0 l.initial.dealer.put (l.initial.dealer.taken ++ rest))

@@ -10,16 +10,16 @@ use Rattle.windows.proofs.workers.run_berths.Goals as goal
 use Rattle.windows.proofs.workers.run_berths.Goals.{in-None, in-Some+in_ok-reserve+in_default}
 
 pub loop-init : goal.loop-init
-loop-init g c = (work_begins g.M.Process.mind c.args.streams.now c.args.end c.args.jobs.now.queue c.args.mailboxes.now _ _ _ c.requires.fresh c.new-done.ensures.items, refl)
+loop-init g c = (work_begins g.M.Process.mind c.args.shared.now.window.now.streams c.args.shared.now.window.now.end c.args.shared.now.jobs.now.queue c.args.shared.now.mailboxes.now _ _ _ c.requires.0 c.new-done.ensures.items, refl)
 
 pub run_berth-requires-clause-berth : goal.run_berth-requires-clause-berth
 run_berth-requires-clause-berth g c κs within =
-    (All-contains (IsReady g.M.Process.mind c.args.streams.now c.args.left) c.args.start.taker.known c.in-Some-take.berth c.requires.ready
+    (All-contains (IsReady g.M.Process.mind c.args.shared.now.window.now.streams c.args.shared.now.window.now.left) c.args.start.taker.known c.in-Some-take.berth c.requires.1
     (subst (λ l. Contains l c.in-Some-take.berth) c.loop.invariant.1 c.in-Some-take.ensures.1)).0
 
 pub run_berth-requires-clause-part : goal.run_berth-requires-clause-part
 run_berth-requires-clause-part g c κs within =
-    (All-contains (IsReady g.M.Process.mind c.args.streams.now c.args.left) c.args.start.taker.known c.in-Some-take.berth c.requires.ready
+    (All-contains (IsReady g.M.Process.mind c.args.shared.now.window.now.streams c.args.shared.now.window.now.left) c.args.start.taker.known c.in-Some-take.berth c.requires.1
     (subst (λ l. Contains l c.in-Some-take.berth) c.loop.invariant.1 c.in-Some-take.ensures.1)).1
 
 pub run_berth-requires-clause-slip : goal.run_berth-requires-clause-slip
@@ -35,7 +35,7 @@ returns-in_err-run_berth-clause-limit g c is = (
 pub loop-preserved : goal.loop-preserved
 loop-preserved g c =
     let ran = c.in_ok-run_berth.ensures.ran _ refl in (
-      work_more g.M.Process.mind c.args.streams.now c.args.end c.args.jobs.now.queue c.args.mailboxes.now c.loop.taker c.take.new.taker c.loop.slip c.run_berth.new.slip
+      work_more g.M.Process.mind c.args.shared.now.window.now.streams c.args.shared.now.window.now.end c.args.shared.now.jobs.now.queue c.args.shared.now.mailboxes.now c.loop.taker c.take.new.taker c.loop.slip c.run_berth.new.slip
           c.loop.done.items c.push_reserved.new.self.items c.in-Some-take.berth c.run_berth.new.berth ran.0 c.loop.invariant.0 (ran.1, c.in_ok-run_berth.ensures.berth)
           c.in-Some-take.ensures.0 c.run_berth.ensures.slip ran.2 (search rules),
       ap (λ (t : TakerView (Berth _)). t.known) c.in-Some-take.ensures.0 ∙ c.loop.invariant.1,
@@ -44,8 +44,8 @@ loop-preserved g c =
 pub returns-clause-work : goal.returns-clause-work
 returns-clause-work g c =
     elim c.match-next.branch [
-      | in-None w ↦ same_work g.M.Process.mind c.args.streams.now c.args.end c.args.jobs.now.queue c.args.mailboxes.now c.loop.taker c.match-next.taker c.loop.slip c.loop.done.items c.match-next.done.items c.loop.invariant.0
+      | in-None w ↦ same_work g.M.Process.mind c.args.shared.now.window.now.streams c.args.shared.now.window.now.end c.args.shared.now.jobs.now.queue c.args.shared.now.mailboxes.now c.loop.taker c.match-next.taker c.loop.slip c.loop.done.items c.match-next.done.items c.loop.invariant.0
           w.taker-is (ap (λ (v : Vec _). v.items) w.done-is)
-      | in-Some+in_ok-reserve+in_default w ↦ same_work g.M.Process.mind c.args.streams.now c.args.end c.args.jobs.now.queue c.args.mailboxes.now c.loop.taker c.match-next.taker c.loop.slip c.loop.done.items c.match-next.done.items c.loop.invariant.0
+      | in-Some+in_ok-reserve+in_default w ↦ same_work g.M.Process.mind c.args.shared.now.window.now.streams c.args.shared.now.window.now.end c.args.shared.now.jobs.now.queue c.args.shared.now.mailboxes.now c.loop.taker c.match-next.taker c.loop.slip c.loop.done.items c.match-next.done.items c.loop.invariant.0
           (search rules) (search rules)
     ]

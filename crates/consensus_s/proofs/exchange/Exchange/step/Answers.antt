@@ -1,9 +1,8 @@
-use Rattle.std.proofs.Common.{◌≡◌, ◌∙◌, ◌≤◌, ℕ, ap, sym, subst, arith}
+use Rattle.std.proofs.Common.{◌≡◌, ◌∙◌, ◌≤◌, ℕ, sym, subst, arith}
 use Rattle.std.proofs.lemmas.Result.{on_ok_weaker}
 use Rattle.std.specs.FinSet as set
-use Rattle.process_api.specs.ConsensusS.{end_wait}
 use Rattle.consensus_s.specs.State.{exchange_of, IsOrderly}
-use Rattle.consensus_s.proofs.Settled.{steps, acts, stays_orderly, few_actions, settled}
+use Rattle.consensus_s.proofs.Settled.{steps, acts, stays_orderly, few_actions}
 use Rattle.consensus_s.proofs.exchange.Exchange.step.Goals as goal
 
 own_is : (own number : ℕ) → number ≡ own → 1 ≤ number → 1 ≤ own
@@ -29,13 +28,6 @@ returns-clause-orderly c =
     let o = c.args.opening.now in
     on_ok_weaker c.end_wait.result
     (λ e. subst (IsOrderly o.own) (sym e) (stays_orderly o.processes o.own (set.contains c.args.suspects.now) (own_is o.own c.number.result c.number.ensures.value c.number.ensures.low) o.one_of_them c.requires.not_itself c.args.input.now (exchange_of c.args.self.now) c.requires.orderly))
-    (returns-clause-state c)
-
-pub returns-clause-none_over : goal.returns-clause-none_over
-returns-clause-none_over c =
-    let o = c.args.opening.now in
-    on_ok_weaker c.end_wait.result
-    (λ e. ap (end_wait o.processes o.own (set.contains c.args.suspects.now)) e ∙ settled o.processes o.own (set.contains c.args.suspects.now) c.args.input.now (exchange_of c.args.self.now))
     (returns-clause-state c)
 
 pub returns-clause-few : goal.returns-clause-few

@@ -1,11 +1,26 @@
-use Rattle.std.proofs.Common.{◌∙◌, ap}
+use Rattle.std.proofs.Common.{◌∙◌, ap, sym, subst, refl, IsSome}
+use Rattle.std.proofs.lemmas.Result.{on_ok_weaker}
 use Rattle.process_api.specs.ConsensusS.{keep}
-use Rattle.consensus_s.specs.Kept.{kept_of}
-use Rattle.consensus_s.proofs.Slots.{kept_new, none_of}
+use Rattle.consensus_s.specs.Kept.{by_number, by_row, in_row}
+use Rattle.consensus_s.specs.Rows.{keep_one}
+use Rattle.consensus_s.proofs.Rows.{row_changed}
 use Rattle.consensus_s.proofs.letters.Letters.keep.Goals as goal
 
-pub returns-in_ok-insert : goal.returns-in_ok-insert
-returns-in_ok-insert c =
-    kept_new c.args.self.now.vectors c.insert.new.self (record { round = c.args.round; sender = c.args.sender }) c.in_ok-copy.field-0
-    (none_of _ c.contains_key.result c.contains_key.ensures c.if-not-contains_key.true) c.in_ok-insert.ensures.updates
-    ∙ ap (keep (kept_of c.args.self.now) c.args.round c.args.sender) c.in_ok-copy.ensures
+pub returns-in-Some : goal.returns-in-Some
+returns-in-Some c =
+    let t = c.args.self.now.rows in
+    let row = c.keep.new.self in
+    on_ok_weaker c.keep.result
+    (λ kept. row_changed t (c.get_mut.follows.lender row) c.args.round c.args.sender c.args.cells.now row
+    ((c.get_mut.follows.holds row).3 (subst IsSome c.in-Some.ensures.value refl))
+    (kept ∙ ap (λ o. keep_one (in_row o) c.args.sender c.args.cells.now) c.in-Some.ensures.value))
+    c.keep.ensures
+
+pub returns : goal.returns
+returns c =
+    let t = c.get_mut.follows.lender-at-none in
+    let same = c.get_mut.follows.holds-at-none in
+    let absent = c.in_default.ensures.value ∙ ap (λ m. by_number m c.args.round) (sym same) in
+    row_changed t c.insert.new.self c.args.round c.args.sender c.args.cells.now c.keep-2.new.self c.in_ok-insert.ensures.updates
+    (c.in_ok-keep.ensures ∙ ap (λ f. keep_one f c.args.sender c.args.cells.now) (c.new-row.ensures ∙ ap in_row absent))
+    ∙ ap (λ m. keep (by_row (by_number m)) c.args.round c.args.sender c.args.cells.now) same

@@ -5,8 +5,8 @@ use Rattle.event_list.specs.Seat.{process_of, IsSeated}
 use Rattle.event_list.specs.Standing.{Stands}
 use Rattle.event_list.proofs.list.EventList.run.Given as goal
 
-abbrev pub invariant-loop-key : goal.invariant-loop-key
-invariant-loop-key g l =
+abbrev pub invariant-loop-trace : goal.invariant-loop-trace
+invariant-loop-trace g l =
     let mind = g.M.Process.mind in
     record {
       stands : Stands (setting_of l.fn.scenario) (map (process_of mind) l.self.seats.items) l.self.pending l.trace.items;
@@ -15,5 +15,5 @@ invariant-loop-key g l =
       within : vec_len l.trace ≤ l.fn.scenario.limit;
     }
 
-abbrev pub decreases-loop-key : goal.decreases-loop-key
-decreases-loop-key g l = l.fn.scenario.limit - vec_len l.trace
+abbrev pub decreases-loop-trace : goal.decreases-loop-trace
+decreases-loop-trace g l = l.fn.scenario.limit - vec_len l.trace

@@ -1,14 +1,28 @@
-use Rattle.std.proofs.Common.{refl, sym, subst, true≢false}
-use Rattle.event_list.specs.Pending.{IsEmpty}
-use Rattle.event_list.specs.World.{IsLeast}
-use Rattle.event_list.proofs.Tree.{seen_least, seen_empty}
+use Rattle.std.proofs.Common.{◌≡◌, ◌<◌, ap, sym, subst, refl, length, [], rules, IsSome, true≢false}
+use Rattle.event_list.specs.Buckets.{IsInOrder}
+use Rattle.event_list.specs.Pending.{IsEmpty, IsLeastTick}
+use Rattle.event_list.proofs.Ordered.{empty_is, no_rows, seen, seen_none, tick_of_due, tick_of_later}
 use Rattle.event_list.proofs.pending.Pending.least_tick.Goals as goal
+
+pub returns-then-not-is_empty : goal.returns-then-not-is_empty
+returns-then-not-is_empty c =
+    let f = c.self.inside in
+    let long : 0 < length f.due.items = search rules in
+    subst (λ m. IsLeastTick m f.tick) c.self.view_is (tick_of_due f.tick f.due.items f.later c.self.invariant long)
 
 pub returns-in-Some : goal.returns-in-Some
 returns-in-Some c =
-    let key = c.in-Some.key.now in
-    let input = c.in-Some.field-0-1.now in
-    (key, input, subst (λ m. IsLeast m key input) c.self.view_is (seen_least c.self.inside.by_key key input c.in-Some.ensures.value c.in-Some.ensures.least), refl)
+    let f = c.self.inside in
+    let none : f.due.items ≡ [] = empty_is _ (search rules) in
+    let least = c.in-Some.tick.now in
+    subst (λ m. IsLeastTick m least) c.self.view_is
+    (subst (λ es. IsLeastTick (seen es f.later) least) (sym none)
+    (tick_of_later f.tick f.later least (subst (λ es. IsInOrder f.tick es f.later) none c.self.invariant) (subst IsSome (sym c.in-Some.ensures.value) refl) c.in-Some.ensures.least))
 
 pub returns-in-None : goal.returns-in-None
-returns-in-None c = subst IsEmpty c.self.view_is (seen_empty c.self.inside.by_key.entries (λ h. true≢false (sym (c.in-None.ensures.variant.1 h))))
+returns-in-None c =
+    let f = c.self.inside in
+    let none : f.due.items ≡ [] = empty_is _ (search rules) in
+    subst IsEmpty c.self.view_is
+    (subst (λ es. IsEmpty (seen es f.later)) (sym none)
+    (seen_none f.tick f.later (subst (λ es. IsInOrder f.tick es f.later) none c.self.invariant) (no_rows f.later (λ h. true≢false (sym (c.in-None.ensures.variant.1 h))))))

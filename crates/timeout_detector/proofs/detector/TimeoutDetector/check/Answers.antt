@@ -1,7 +1,7 @@
 use Rattle.std.proofs.Common.{◌≡◌, ◌∷◌, [], ◌++◌, ℕ, ◌-◌, ◌≤◌, Bool, true, false, not, ◌&&◌, nat_le, ap, sym, ◌∙◌}
 use Rattle.std.specs.FinSet as set
 use Rattle.process_api.specs.Place.{Place}
-use Rattle.process_api.specs.Timeout.{DetectorState, is_late, watches}
+use Rattle.process_api.specs.Timeout.{DetectorState, is_overdue, watches}
 use Rattle.process_api.specs.declared.numbers.DetectorNumbers.{DetectorNumbers}
 use Rattle.process_api.specs.declared.action.Action.{Action}
 use Rattle.process_api.specs.declared.action.Action.TheVariants.{Note}
@@ -11,7 +11,7 @@ use Rattle.timeout_detector.specs.View.{state_of}
 use Rattle.timeout_detector.proofs.Numbering.{appended-passes, appended-fails}
 use Rattle.timeout_detector.proofs.Members.{contains-insert_all_below, insert_all-passes, insert_all-fails}
 use Rattle.timeout_detector.proofs.detector.TimeoutDetector.check.Goals as goal
-use Rattle.timeout_detector.proofs.detector.TimeoutDetector.check.Goals.{then-is_late+in_ok-note_that, else-is_late}
+use Rattle.timeout_detector.proofs.detector.TimeoutDetector.check.Goals.{then-is_overdue+in_ok-note_that, else-is_overdue}
 
 pub loop-number-preserved : goal.loop-number-preserved
 loop-number-preserved c =
@@ -19,19 +19,19 @@ loop-number-preserved c =
     let place : Place = place_of start.opening in
     let numbers : DetectorNumbers = start.opening.detector in
     let s : DetectorState = state_of start in
-    let test : ℕ → Bool = is_late place numbers s c.args.now in
+    let test : ℕ → Bool = is_overdue place numbers s c.args.now in
     let n : ℕ = c.loop-number.number in
     let low : 1 ≤ n = c.loop-number.auto.number in
     let is : c.in-Some.q ≡ n = c.in-Some.ensures.value in
     let i = c.loop-number.invariant in
     let note : ℕ → Action = λ q. Note (Suspect 1 q) in
-    let tested : c.is_late.result ≡ test n =
-    c.is_late.ensures.value
-    ∙ ((λ k. is_late (place_of (i.opening k)) (i.opening k).detector (i.state k) c.args.now (is k))
+    let tested : c.is_overdue.result ≡ test n =
+    c.is_overdue.ensures.value
+    ∙ ((λ k. is_overdue (place_of (i.opening k)) (i.opening k).detector (i.state k) c.args.now (is k))
     ∙ ap (λ b. watches place numbers n && (not b && nat_le (s.bound n) (c.args.now - s.last_heard n))) (contains-insert_all_below s.suspects test n low)) in
-    elim c.if-is_late.branch [
-      | then-is_late+in_ok-note_that w ↦
-          let passes : test n ≡ true = sym tested ∙ w.if-is_late.true in
+    elim c.if-is_overdue.branch [
+      | then-is_overdue+in_ok-note_that w ↦
+          let passes : test n ≡ true = sym tested ∙ w.if-is_overdue.true in
           record {
             opening = ap (λ d. d.opening) w.self-is ∙ i.opening;
             failure = ap (λ d. d.has_failed) w.self-is ∙ i.failure;
@@ -43,8 +43,8 @@ loop-number-preserved c =
                 ∙ ((λ k. i.notes k ++ note (is k) ∷ [])
                 ∙ appended-passes c.args.out.now.items note test n low passes));
           }
-      | else-is_late w ↦
-          let fails : test n ≡ false = sym tested ∙ w.if-is_late.false in
+      | else-is_overdue w ↦
+          let fails : test n ≡ false = sym tested ∙ w.if-is_overdue.false in
           record {
             opening = ap (λ d. d.opening) w.self-is ∙ i.opening;
             failure = ap (λ d. d.has_failed) w.self-is ∙ i.failure;

@@ -2,7 +2,7 @@ use Rattle.std.proofs.Common.{◌≡◌, ◌++◌, ◌-◌, map}
 use Rattle.std.specs.List.{filter}
 use Rattle.process_api.specs.Numbers.{numbers_to}
 use Rattle.process_api.specs.Sets.{insert_all}
-use Rattle.process_api.specs.Timeout.{is_late}
+use Rattle.process_api.specs.Timeout.{is_overdue}
 use Rattle.process_api.specs.declared.action.Action.TheVariants.{Note}
 use Rattle.process_api.specs.declared.action.Note.TheVariants.{Suspect}
 use Rattle.scenario.specs.Opening.{place_of}
@@ -12,7 +12,7 @@ use Rattle.timeout_detector.proofs.detector.TimeoutDetector.check.Given as goal
 abbrev pub invariant-loop-number : goal.invariant-loop-number
 invariant-loop-number l =
     let s = state_of l.fn.self in
-    let found = filter (is_late (place_of l.fn.self.opening) l.fn.self.opening.detector s l.fn.now) (numbers_to (l.number - 1)) in
+    let found = filter (is_overdue (place_of l.fn.self.opening) l.fn.self.opening.detector s l.fn.now) (numbers_to (l.number - 1)) in
     record {
       opening : l.self.opening ≡ l.fn.self.opening;
       failure : l.self.has_failed ≡ l.fn.self.has_failed;

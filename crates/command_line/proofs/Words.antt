@@ -1,0 +1,142 @@
+-- What clap's matches say of a number.
+use Rattle.std.proofs.Common.{rules, ◌≡◌, ◌≢◌, inl, inr, ◌∙◌, ap, sym, subst, codes, [], ℕ, List, Option, Some, None, Result, Ok, Err, IfOk, IfSome, IsNone, refl, true, false}
+use Rattle.clap.specs.Words.{App, Row, Text, HasKind, HasMatchesOf, IsAmong, ReadsOne, app_of, fault_of, is_simple, is_simple_and_free, kind_of, subcommand_of, subcommand_rows_of}
+use Rattle.clap.specs.declared.builder.command.Command.{Command}
+use Rattle.clap.specs.declared.error.Error.{Error}
+use Rattle.clap.specs.declared.error.kind.ErrorKind.TheVariants.{DisplayHelp, OutOfMemory}
+use Rattle.command_line.specs.Told.{AsksHelp}
+use Rattle.clap.specs.declared.parser.matches.ArgMatches.{ArgMatches}
+use Rattle.clap.proofs.OnLiterals.{clap_on_literals}
+use Rattle.command_line.specs.Commands.{IsCommand, Prints, app_with}
+use Rattle.command_line.specs.Order.{IsNumberAt, IsOfClap, States, StatesNothing, StatesCheck, StatesCompare, StatesIn, StatesList, StatesNothingIn, StatesRun}
+use Rattle.command_line.specs.declared.order.Order.{Order}
+use Rattle.command_line.specs.declared.order.Order.TheVariants as order
+
+-- a number that was read is that of a text that is there
+pub read_one : {E : Type 0} (gives : Text → Result ℕ E → Type 0) (o : Option Text) (r : Option ℕ) → (o ≡ None → r ≡ None)
+    → ((t : Text) → o ≡ Some t → ReadsOne gives t r) → IfSome r (λ n. (t : Text) × (o ≡ Some t) × gives t (Ok n))
+read_one gives o None none value = tt
+read_one gives None (Some n) none value = let bad : Some n ≡ None = none refl in cc
+read_one gives (Some t) (Some n) none value = (t, refl, value t refl)
+
+-- where none was read, a text that is there is no number
+pub none_read : {E : Type 0} (gives : Text → Result ℕ E → Type 0) (o : Option Text) (r : Option ℕ)
+    → ((t : Text) → o ≡ Some t → ReadsOne gives t r) → IsNone r → (t : Text) → o ≡ Some t → (e : E) × gives t (Err e)
+none_read gives o None value none t there = value t there
+none_read gives o (Some n) value none t there = let bad : true ≡ false = none in cc
+
+pub some_weaker : {A : Type 0} (o : Option A) (P Q : A → Type 0) → ((x : A) → P x → Q x) → IfSome o P → IfSome o Q
+some_weaker None P Q f h = tt
+some_weaker (Some x) P Q f h = f x h
+
+module _ (rows : List Row) where
+  -- without its workers `run` or `compare` asks for nothing, nor without its window
+  pub run_lacks_workers : ((n : ℕ) → IsNumberAt (codes "workers") rows n → ⊥) → (asked : Order) → StatesRun rows asked → ⊥
+  run_lacks_workers none (order.Run path workers window print) h = none workers h.1
+  run_lacks_workers none (order.Check path) h = h
+  run_lacks_workers none (order.List path print) h = h
+  run_lacks_workers none (order.Compare path workers window) h = h
+
+  pub run_lacks_window : ((n : ℕ) → IsNumberAt (codes "window") rows n → ⊥) → (asked : Order) → StatesRun rows asked → ⊥
+  run_lacks_window none (order.Run path workers window print) h = none window h.2
+  run_lacks_window none (order.Check path) h = h
+  run_lacks_window none (order.List path print) h = h
+  run_lacks_window none (order.Compare path workers window) h = h
+
+  pub compare_lacks_workers : ((n : ℕ) → IsNumberAt (codes "workers") rows n → ⊥) → (asked : Order) → StatesCompare rows asked → ⊥
+  compare_lacks_workers none (order.Compare path workers window) h = none workers h.1
+  compare_lacks_workers none (order.Check path) h = h
+  compare_lacks_workers none (order.List path print) h = h
+  compare_lacks_workers none (order.Run path workers window print) h = h
+
+  pub compare_lacks_window : ((n : ℕ) → IsNumberAt (codes "window") rows n → ⊥) → (asked : Order) → StatesCompare rows asked → ⊥
+  compare_lacks_window none (order.Compare path workers window) h = none window h.2
+  compare_lacks_window none (order.Check path) h = h
+  compare_lacks_window none (order.List path print) h = h
+  compare_lacks_window none (order.Run path workers window print) h = h
+
+  module _ (name : Text) where
+    pub check_asks_nothing : name ≡ codes "check" → ((asked : Order) → StatesCheck rows asked → ⊥) → StatesNothingIn name rows
+    check_asks_nothing is nothing (order.Check path) h = nothing (order.Check path) h.1
+    check_asks_nothing is nothing (order.List path print) h = let bad : codes "check" ≡ codes "list" = sym is ∙ h.0 in search rules
+    check_asks_nothing is nothing (order.Run path workers window print) h = let bad : codes "check" ≡ codes "run" = sym is ∙ h.0 in search rules
+    check_asks_nothing is nothing (order.Compare path workers window) h = let bad : codes "check" ≡ codes "compare" = sym is ∙ h.0 in search rules
+
+    pub list_asks_nothing : name ≡ codes "list" → ((asked : Order) → StatesList rows asked → ⊥) → StatesNothingIn name rows
+    list_asks_nothing is nothing (order.List path print) h = nothing (order.List path print) h.1
+    list_asks_nothing is nothing (order.Check path) h = let bad : codes "list" ≡ codes "check" = sym is ∙ h.0 in search rules
+    list_asks_nothing is nothing (order.Run path workers window print) h = let bad : codes "list" ≡ codes "run" = sym is ∙ h.0 in search rules
+    list_asks_nothing is nothing (order.Compare path workers window) h = let bad : codes "list" ≡ codes "compare" = sym is ∙ h.0 in search rules
+
+    pub run_asks_nothing : name ≡ codes "run" → ((asked : Order) → StatesRun rows asked → ⊥) → StatesNothingIn name rows
+    run_asks_nothing is nothing (order.Run path workers window print) h = nothing (order.Run path workers window print) h.1
+    run_asks_nothing is nothing (order.Check path) h = let bad : codes "run" ≡ codes "check" = sym is ∙ h.0 in search rules
+    run_asks_nothing is nothing (order.List path print) h = let bad : codes "run" ≡ codes "list" = sym is ∙ h.0 in search rules
+    run_asks_nothing is nothing (order.Compare path workers window) h = let bad : codes "run" ≡ codes "compare" = sym is ∙ h.0 in search rules
+
+    pub compare_asks_nothing : name ≡ codes "compare" → ((asked : Order) → StatesCompare rows asked → ⊥) → StatesNothingIn name rows
+    compare_asks_nothing is nothing (order.Compare path workers window) h = nothing (order.Compare path workers window) h.1
+    compare_asks_nothing is nothing (order.Check path) h = let bad : codes "compare" ≡ codes "check" = sym is ∙ h.0 in search rules
+    compare_asks_nothing is nothing (order.List path print) h = let bad : codes "compare" ≡ codes "list" = sym is ∙ h.0 in search rules
+    compare_asks_nothing is nothing (order.Run path workers window print) h = let bad : codes "compare" ≡ codes "run" = sym is ∙ h.0 in search rules
+
+-- what a command doesn't ask for, its name doesn't
+pub ruleset asks_nothing = (check_asks_nothing, list_asks_nothing, run_asks_nothing, compare_asks_nothing)
+
+-- what holds of a value by two clauses
+pub both_ok : {A E : Type 0} (r : Result A E) (P Q R : A → Type 0) → IfOk r P → IfOk r Q → ((x : A) → P x → Q x → R x) → IfOk r R
+both_ok (Ok x) P Q R p q f = f x p q
+both_ok (Err e) P Q R p q f = tt
+
+simple : (prints : Prints) → is_simple (app_with prints) ≡ true
+unfolding clap_on_literals
+simple prints = refl
+
+free : (prints : Prints) → is_simple_and_free (app_with prints) ≡ true
+unfolding clap_on_literals
+free prints = refl
+
+module _ (c : Command) (words : List Text) (is : IsCommand c) where
+  free_here : is_simple_and_free (app_of c) ≡ true
+  free_here = ap is_simple_and_free is.app ∙ free is.prints
+
+  met_here : (m : ArgMatches) → HasMatchesOf (app_of c) words m → subcommand_rows_of m ≡ subcommand_of (app_with is.prints) words
+  met_here m has = (has (ap is_simple is.app ∙ simple is.prints)).1 ∙ ap (λ (a : App). subcommand_of a words) is.app
+
+  -- an order that the matches state is stated by the words
+  pub stated_by_words : (m : ArgMatches) → HasMatchesOf (app_of c) words m → (asked : Order)
+      → (found : Text × List Row) × (subcommand_rows_of m ≡ Some found) × StatesIn found.0 found.1 asked → States words asked
+  stated_by_words m has asked read = record {
+    prints = is.prints;
+    found = read.0;
+    met = sym (met_here m has) ∙ read.1;
+    stated = read.2;
+  }
+
+  -- where the matches state none, the words don't
+  pub nothing_by_words : (m : ArgMatches) → HasMatchesOf (app_of c) words m
+      → (is_simple_and_free (app_of c) ≡ true → fault_of (app_of c) words ≡ [])
+      → ((found : Text × List Row) → subcommand_rows_of m ≡ Some found → StatesNothingIn found.0 found.1) → StatesNothing words
+  nothing_by_words m has taken nothing = record {
+    prints = is.prints;
+    taken = sym (ap (λ (a : App). fault_of a words) is.app) ∙ taken free_here;
+    nothing = λ found met. nothing found (met_here m has ∙ met);
+  }
+
+  -- an error of clap's that isn't of memory is of a kind that the words call for
+  pub of_clap_by_words : (error : Error) → kind_of error ≢ OutOfMemory → (is_simple_and_free (app_of c) ≡ true → HasKind (fault_of (app_of c) words) error) → IsOfClap words error
+  of_clap_by_words error other kinds = record {
+    prints = is.prints;
+    kind = subst (λ (a : App). IsAmong (kind_of error) (fault_of a words)) is.app (among (kinds free_here));
+  }
+    where
+      among : HasKind (fault_of (app_of c) words) error → IsAmong (kind_of error) (fault_of (app_of c) words)
+      among (inl memory) = absurd (other memory)
+      among (inr h) = h
+
+-- where clap shows help, the words ask for it
+pub asks_help : (words : List Text) (error : Error) → IsOfClap words error → kind_of error ≡ DisplayHelp → AsksHelp words
+asks_help words error of_clap help = record {
+  prints = of_clap.prints;
+  help = subst (λ k. IsAmong k (fault_of (app_with of_clap.prints) words)) help of_clap.kind;
+}

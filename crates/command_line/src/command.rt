@@ -1,0 +1,197 @@
+//! The command line, with its help.
+ghost use Rattle.std.specs.Prelude.{◌≡◌, IfOk, codes, false};
+ghost use Rattle.clap.specs.Words.{app_of, rule_of};
+ghost use Rattle.command_line.specs.Commands.{AddsListCommands, AddsWindowCommands, IsCheck, IsCommand, IsCompare, IsList, IsLocal, IsPrintOption, IsRun, number, option_rule, path_rule, with_plan};
+
+use clap::{Arg, Command, value_parser};
+use std::alloc::{AllocError, Global};
+
+/// What can be printed.
+static PRINTS: [&str; 3] = ["trace", "report", "both"];
+
+const ABOUT: &str =
+    "Compares failure detectors and consensus algorithms by simulating crash-prone processes.
+
+A scenario file says how many processes there are, what they run, how the links between them delay and lose
+letters, and who crashes when. A run takes the events of a scenario one by one, tick after tick, up to the horizon.";
+
+const EXAMPLE: &str = "Example:
+  fdbench list examples/one_crash.toml
+  fdbench list examples/one_crash.toml --print trace
+  fdbench run examples/one_crash.toml --workers 2 --window 2
+
+Exit status: 0 done, 1 scenario or file refused, 2 command line refused, 3 plan or run refused, or `different`, \
+4 writing
+failed.";
+
+const CHECK: &str = "Reads a scenario file and prints `ok` where it is accepted";
+
+const CHECK_EXAMPLE: &str = "Example:
+  fdbench check - < examples/one_crash.toml
+
+A refused file ends with status 1 and one line on standard error that names the first rule that it breaks.";
+
+const LIST: &str = "Runs a scenario by one global event list and prints what came of it";
+
+const LIST_EXAMPLE: &str = "Example:
+  fdbench list examples/one_crash.toml --print trace
+
+A run of more entries than the scenario's limit ends with status 3 and prints nothing.";
+
+const RUN: &str = "Runs a scenario by windows that workers share; prints what `list` prints";
+
+const RUN_EXAMPLE: &str = "Example:
+  fdbench run examples/one_crash.toml --workers 2 --window 2
+
+A run of more entries than the scenario's limit ends with status 3 and prints nothing.";
+
+const COMPARE: &str = "Runs a scenario both ways and prints `same` or `different`";
+
+const COMPARE_EXAMPLE: &str = "Example:
+  fdbench compare examples/one_crash.toml --workers 2 --window 2
+
+Both texts of both runs are compared. `different` ends with status 3; it is proved never to come.";
+
+const PATH: &str = "The scenario file, of at most 8388608 bytes; `-` is standard input";
+
+const PRINT: &str =
+    "What is printed: `trace`, a line for each event; `report`, verdicts, measures and decisions; or both \
+[default: report]";
+
+const WORKERS: &str = "How many workers share each window, 1 to 64";
+
+const WINDOW: &str = "How many ticks a window has, 1 to the scenario's lookahead";
+
+/// The scenario file.
+fn path_argument<'a>(alloc: Global) -> Arg<'a>
+    ensures rule { rule_of result ≡ path_rule }
+    ensures local { result.global ≡ false }
+{
+    Arg::new(alloc, "path").value_name("PATH").help(PATH)
+}
+
+/// The option that says what is printed.
+fn print_option<'a>(alloc: Global) -> Arg<'a>
+    ensures rule { IsPrintOption result }
+    ensures local { result.global ≡ false }
+{
+    Arg::new(alloc, "print")
+        .long("print")
+        .value_name("WHAT")
+        .help(PRINT)
+        .value_parser(PRINTS.as_slice())
+}
+
+/// `check PATH`
+fn check_command<'a>(alloc: Global) -> Result<Command<'a>, AllocError>
+    ensures { IfOk result IsCheck }
+{
+    let path = path_argument(alloc);
+    Command::new(alloc, "check")
+        .about(CHECK)
+        .after_help(CHECK_EXAMPLE)
+        .arg(path)
+}
+
+/// The option for the number of workers.
+fn workers_option<'a>(alloc: Global) -> Arg<'a>
+    ensures rule { rule_of result ≡ option_rule (codes "workers") number }
+    ensures local { result.global ≡ false }
+{
+    Arg::new(alloc, "workers")
+        .long("workers")
+        .value_name("N")
+        .help(WORKERS)
+        .value_parser(value_parser!(u64))
+}
+
+/// The option for the length of a window.
+fn window_option<'a>(alloc: Global) -> Arg<'a>
+    ensures rule { rule_of result ≡ option_rule (codes "window") number }
+    ensures local { result.global ≡ false }
+{
+    Arg::new(alloc, "window")
+        .long("window")
+        .value_name("N")
+        .help(WINDOW)
+        .value_parser(value_parser!(u64))
+}
+
+/// `list PATH [--print WHAT]`
+fn list_command<'a>(alloc: Global) -> Result<Command<'a>, AllocError>
+    ensures { IfOk result IsList }
+{
+    let path = path_argument(alloc);
+    let print = print_option(alloc);
+    Command::new(alloc, "list")
+        .about(LIST)
+        .after_help(LIST_EXAMPLE)
+        .arg(path)?
+        .arg(print)
+}
+
+/// A command with the options that plan its windows.
+fn with_plan_options<'a>(alloc: Global, command: Command<'a>) -> Result<Command<'a>, AllocError>
+    ensures app { IfOk result (λ c. app_of c ≡ with_plan (app_of command.entry)) }
+    ensures local { IsLocal command.entry → IfOk result IsLocal }
+{
+    let workers = workers_option(alloc);
+    let window = window_option(alloc);
+    command.arg(workers)?.arg(window)
+}
+
+/// `run PATH --workers N --window N [--print WHAT]`
+fn run_command<'a>(alloc: Global) -> Result<Command<'a>, AllocError>
+    ensures { IfOk result IsRun }
+{
+    let path = path_argument(alloc);
+    let print = print_option(alloc);
+    let command = Command::new(alloc, "run")
+        .about(RUN)
+        .after_help(RUN_EXAMPLE)
+        .arg(path)?;
+    with_plan_options(alloc, command)?.arg(print)
+}
+
+/// `compare PATH --workers N --window N`
+fn compare_command<'a>(alloc: Global) -> Result<Command<'a>, AllocError>
+    ensures { IfOk result IsCompare }
+{
+    let path = path_argument(alloc);
+    let command = Command::new(alloc, "compare")
+        .about(COMPARE)
+        .after_help(COMPARE_EXAMPLE)
+        .arg(path)?;
+    with_plan_options(alloc, command)
+}
+
+/// A command with `check` and `list` added.
+fn with_list_commands<'a>(alloc: Global, command: Command<'a>) -> Result<Command<'a>, AllocError>
+    ensures app { IfOk result (AddsListCommands command.entry) }
+    ensures local { IsLocal command.entry → IfOk result IsLocal }
+{
+    let check = check_command(alloc)?;
+    let list = list_command(alloc)?;
+    command.subcommand(check)?.subcommand(list)
+}
+
+/// A command with `run` and `compare` added.
+fn with_window_commands<'a>(alloc: Global, command: Command<'a>) -> Result<Command<'a>, AllocError>
+    ensures app { IfOk result (AddsWindowCommands command.entry) }
+    ensures local { IsLocal command.entry → IfOk result IsLocal }
+{
+    let run = run_command(alloc)?;
+    let compare = compare_command(alloc)?;
+    command.subcommand(run)?.subcommand(compare)
+}
+
+/// The command line.
+pub(crate) fn command<'a>(alloc: Global) -> Result<Command<'a>, AllocError>
+    ensures { IfOk result IsCommand }
+{
+    let command = Command::new(alloc, "fdbench")
+        .about(ABOUT)
+        .after_help(EXAMPLE);
+    let command = with_list_commands(alloc, command)?;
+    with_window_commands(alloc, command)
+}

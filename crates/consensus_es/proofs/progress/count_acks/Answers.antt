@@ -1,0 +1,10 @@
+use Rattle.std.proofs.Common.{◌∙◌, sym, ap, unwrap_or, false}
+use Rattle.process_api.specs.Rounds.{count_to}
+use Rattle.consensus_es.specs.Kept.{in_row}
+use Rattle.consensus_es.proofs.Rows.{none_counted}
+use Rattle.consensus_es.proofs.progress.count_acks.Goals as goal
+
+pub returns-in_default : goal.returns-in_default
+returns-in_default c =
+    let n = c.args.membership.now.processes in
+    sym (none_counted n) ∙ ap (λ o. count_to n (λ q. unwrap_or (in_row o q) false)) c.in_default.ensures

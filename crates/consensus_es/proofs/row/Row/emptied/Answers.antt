@@ -1,0 +1,5 @@
+use Rattle.consensus_es.proofs.Rows.{no_senders}
+use Rattle.consensus_es.proofs.row.Row.emptied.Goals as goal
+
+pub invariant_of-result : goal.invariant_of-result
+invariant_of-result g c = record { counted = no_senders _ _ c.new.ensures c.clear.ensures.items }

@@ -1,0 +1,18 @@
+use Rattle.std.proofs.Common.{◌∙◌, ◌+◌, ap, sym, arith}
+use Rattle.std.proofs.lemmas.Bool.{lt-ltb}
+use Rattle.std.proofs.lemmas.Result.{on_ok_weaker}
+use Rattle.std.specs.FinSet as set
+use Rattle.process_api.specs.ConsensusS.{Exchange, enter}
+use Rattle.process_api.specs.Answer.{Answer}
+use Rattle.consensus_s.specs.State.{exchange_of}
+use Rattle.consensus_s.proofs.Settled.{ends_round}
+use Rattle.consensus_s.proofs.exchange.Exchange.end_wait.Goals as goal
+
+pub returns-in_ok-gather-clause-state : goal.returns-in_ok-gather-clause-state
+returns-in_ok-gather-clause-state c =
+    let o = c.args.opening.now in
+    let s = exchange_of c.args.self.now in
+    on_ok_weaker c.enter.result
+    (λ e. e ∙ (ap (λ z. (enter o.processes o.own (s.round + 1) z).state) c.in_ok-gather.ensures
+    ∙ ap (λ a. a.state) (sym (ends_round o.processes o.own (set.contains c.args.suspects.now) s (sym c.is_running.ensures ∙ c.if-not-is_running.false) (sym c.is_over.ensures ∙ c.if-not-is_over.false) (lt-ltb _ _ (omega (arith, c.from.ensures, c.if-self-from.true)))))))
+    c.enter.ensures.state

@@ -1,0 +1,27 @@
+use Rattle.std.proofs.Common.{◌≡◌, ◌∙◌, ◌+◌, ◌-◌, ◌<◌, sym, ap, arith, is_some, length}
+use Rattle.std.specs.FinSet as set
+use Rattle.consensus_s.specs.Rows.{keep_one, vector_of}
+use Rattle.consensus_s.proofs.Rows.{kept_new, sender_new}
+use Rattle.consensus_s.proofs.row.Row.keep.Goals as goal
+
+pub invariant_of-self : goal.invariant_of-self
+invariant_of-self c = record { counted = λ q. c.args.self.now.counted q ∙ ap (λ f. is_some (f q)) (sym c.widen.ensures.same) }
+
+pub invariant_of-self-2 : goal.invariant_of-self-2
+invariant_of-self-2 c =
+    let place = c.from-place.result - 1 in
+    let at_place : c.args.sender ≡ place + 1 = omega (arith, c.from-place.ensures, c.number.ensures.value, c.number.ensures.low) in
+    let room : place < length c.widen.new.vectors.items = omega (arith, c.in_ok-widen.ensures.wide) in
+    record {
+      counted = λ q. ap (λ s. set.contains s q) c.insert.ensures
+          ∙ sender_new c.args.self.now.heard c.args.self.now.vectors.items c.widen.new.vectors.items c.args.sender place c.in_ok-cells.cells at_place c.widen.ensures.same room c.args.self.now.counted q;
+    }
+
+pub returns : goal.returns
+returns c =
+    let place = c.from-place.result - 1 in
+    let at_place : c.args.sender ≡ place + 1 = omega (arith, c.from-place.ensures, c.number.ensures.value, c.number.ensures.low) in
+    let room : place < length c.widen.new.vectors.items = omega (arith, c.in_ok-widen.ensures.wide) in
+    kept_new c.args.self.now.vectors.items c.widen.new.vectors.items c.args.sender place c.in_ok-cells.cells at_place c.widen.ensures.same room
+    (sym (c.args.self.now.counted c.args.sender) ∙ (sym c.contains.ensures ∙ c.if-contains.false))
+    ∙ ap (keep_one (vector_of c.args.self.now.vectors.items) c.args.sender) c.in_ok-cells.ensures

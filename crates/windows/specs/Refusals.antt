@@ -1,0 +1,25 @@
+-- Why a window is refused, and which of several refusals is answered.
+use Rattle.std.specs.Prelude.{◌≡◌, ◌⊎◌, ◌≤◌, ℕ, Result, IsErrOf}
+use Rattle.event_list.specs.declared.error.RunError.{RunError}
+use Rattle.event_list.specs.declared.error.RunError.TheVariants.{Limit, Memory, Spawn, Write}
+
+-- one process is refused for want of a place in the trace, or of memory
+abbrev pub IsRefusalOfOne : RunError → Type 0
+IsRefusalOfOne e = (e ≡ Limit) ⊎ (e ≡ Memory)
+
+-- a window is refused for that, or for want of a thread
+abbrev pub IsRefusal : RunError → Type 0
+IsRefusal e = (e ≡ Limit) ⊎ (e ≡ Memory) ⊎ (e ≡ Spawn)
+
+-- of several refusals that of a thread comes first, then that of memory, then that of a place in the trace
+abbrev pub rank_of : RunError → ℕ
+rank_of Spawn = 0
+rank_of Memory = 1
+rank_of Limit = 2
+rank_of Write = 3
+
+-- the refusal is one of these two answers', and no refusal of theirs comes before it
+pub record IsFirstRefusal {A B : Type 0} (left : Result A RunError) (right : Result B RunError)
+    (e : RunError) : Type 0 where
+  pub one : IsErrOf left e ⊎ IsErrOf right e
+  pub first : (other : RunError) → IsErrOf left other ⊎ IsErrOf right other → rank_of e ≤ rank_of other

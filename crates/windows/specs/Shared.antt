@@ -1,0 +1,78 @@
+-- What holds of those who share a window.
+use Rattle.std.specs.Prelude.{◌≡◌, ◌++◌, ℕ, List, length, min, Result, IfOk, IfErr, IsErrOf, vec_len}
+use Rattle.std.specs.Global.{Vec}
+use Rattle.std.specs.List.{All}
+use Rattle.std.specs.List.Sorted.{IsPermutation}
+use Rattle.process_api.specs.Mind.{Mind}
+use Rattle.event_list.specs.World.{NoneBelow}
+use Rattle.event_list.specs.declared.error.RunError.{RunError}
+use Rattle.event_list.specs.declared.error.RunError.TheVariants.{Limit}
+use Rattle.mailboxes.specs.Mailbox.{MailboxId}
+use Rattle.mailboxes.specs.Mailboxes.{SlipView}
+use Rattle.windows.specs.Jobs.{DealerView}
+use Rattle.windows.specs.Refusals.{IsRefusal}
+use Rattle.windows.specs.Workers.{IsFresh, IsReady, IsWork, IsAnswer, IsRest, AreRun, HasLong, HaveLong}
+use Rattle.windows.specs.declared.berth.Berth.{Berth}
+use Rattle.windows.specs.declared.shared.Shared.{Shared}
+use Rattle.windows.specs.declared.shared.Window.{Window}
+use Rattle.windows.specs.declared.workers.Start.{Start}
+use Rattle.windows.specs.declared.workers.Work.{Work}
+
+-- a worker's permit and its slip are of this window, and unused
+abbrev pub IsFreshIn : {M G : Type 0} → Shared M G → Start M → Type 0
+IsFreshIn w s = IsFresh w.jobs.now.queue w.mailboxes.now s.taker s.slip
+
+module _ {M : Type 0} (mind : M → Mind) where
+  -- nothing was done in these berths for this window yet, and its entries fit
+  abbrev pub AreReady : Window → List (Berth M) → Type 0
+  AreReady w berths = All (IsReady mind w.streams w.left) berths
+
+  -- one of these processes has more events below the window's end than entries fit
+  abbrev pub IsOneTooLong : Window → List (Berth M) → Type 0
+  IsOneTooLong w berths = HasLong mind w.streams w.end w.left berths
+
+  module _ {G : Type 0} (w : Shared M G) where
+    -- a worker's beginning, by which it may take what was put in, where all of that is ready
+    abbrev pub IsStart : Start M → Type 0
+    IsStart s = IsFreshIn w s × AreReady w.window.now s.taker.known
+
+    -- a worker's work in this window
+    abbrev pub IsWorkIn : Work M → Type 0
+    IsWorkIn x =
+        IsWork mind w.window.now.streams w.window.now.end w.jobs.now.queue w.mailboxes.now x.taker x.slip x.done.items
+
+    -- what a worker may answer
+    abbrev pub IsAnswerTo : Start M → Result (Work M) RunError → Type 0
+    IsAnswerTo s r =
+        IsAnswer mind w.window.now.streams w.window.now.end w.window.now.left w.jobs.now.queue w.mailboxes.now
+        s.taker.known r
+
+    -- one of the berths that all of these workers know is too long
+    abbrev pub KnowOneTooLong : List (Start M) → Type 0
+    KnowOneTooLong starts = HaveLong mind w.window.now.streams w.window.now.end w.window.now.left starts
+
+    -- what the workers that began so answer together: the work of each, or why there is none
+    pub record AreAnswers (starts : List (Start M)) (r : Result (Vec (Work M)) RunError) : Type 0 where
+      pub count : IfOk r (λ works. vec_len works ≡ length starts)
+      pub works : IfOk r (λ works. All IsWorkIn works.items)
+      pub errors : IfErr r IsRefusal
+      pub limit : IsErrOf r Limit → KnowOneTooLong starts
+
+    -- what the starter ran itself, after the workers
+    abbrev pub IsRestIn : (old new : DealerView (Berth M)) → SlipView → List (Berth M) → Type 0
+    IsRestIn old new slip done =
+        IsRest mind w.window.now.streams w.window.now.end w.jobs.now.queue w.mailboxes.now old new slip done
+
+  -- each of these processes had its window
+  abbrev pub HadWindow : Window → List MailboxId → (olds news : List (Berth M)) → List SlipView → Type 0
+  HadWindow w mailboxes olds news slips = AreRun mind w.streams w.end mailboxes olds news slips
+
+module _ {M : Type 0} where
+  -- how many workers are started: one for each process with an event below the end, but no more than the plan has
+  pub record IsCountOfWorkers (end workers : ℕ) (berths : List (Berth M)) (started : ℕ) : Type 0 where
+    pub waiting : List (Berth M)
+    pub idle : List (Berth M)
+    pub all : IsPermutation berths (waiting ++ idle)
+    pub some : All (λ b. ¬ (NoneBelow end b.pending)) waiting
+    pub none : All (λ b. NoneBelow end b.pending) idle
+    pub count : started ≡ min (length waiting) workers

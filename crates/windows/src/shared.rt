@@ -1,0 +1,29 @@
+//! What the workers of a window share.
+ghost use Rattle.std.specs.Prelude.{◌≡◌, length};
+
+use crate::berth::Berth;
+use crate::jobs::Jobs;
+use mailboxes::SharedMailboxes;
+use std::alloc::Global;
+use streams::Streams;
+
+/// One window of a scenario.
+#[derive(Drop)]
+pub(crate) struct Window<'s> {
+    pub streams: Streams<'s>,
+    /// The tick at which it ends.
+    pub end: u32,
+    /// How many entries fit into the trace yet.
+    pub left: u64,
+}
+
+/// What all who run processes of a window share. There is a mailbox for each process.
+#[derive(Drop)]
+pub(crate) struct Shared<'w, M, G> {
+    pub alloc: Global,
+    pub window: &'w Window<'w>,
+    pub gate: &'w G,
+    pub jobs: &'w Jobs<Berth<M>>,
+    pub mailboxes: &'w SharedMailboxes,
+    pub ghost boxes: { length mailboxes.now ≡ window.now.streams.processes },
+}
