@@ -2,7 +2,13 @@
 
 use crate::tests::files::ONE_CRASH;
 use crate::tests::runs::{printed, run};
+use std::alloc::Global;
+use std::marker::Sync;
+use std::process::Abort;
+use std::rt::Files;
+use std::sync::Wait;
 use std::test::Fail;
+use std::thread::Threads;
 
 /// Where nothing is said of it, the report is printed.
 #[test]
@@ -35,17 +41,24 @@ fn accepted(rt: HostRuntime) -> Result<(), Fail> {
     Ok(())
 }
 
-/// Where `clap` takes the words but something is missing, the line names no more than that.
+/// Nothing goes out for words that lack something, and the line names no more than that.
+fn is_refused_as_form<R: Files + Threads + Wait + Sync + Abort>(
+    rt: &R,
+    alloc: Global,
+    words: &[&str],
+) -> Result<(), Fail> {
+    let ran = run(rt, alloc, words, ONE_CRASH.as_bytes())?;
+    assert_eq!(rt; ran.faults.as_str(), "fdbench: words: Form\n");
+    assert_eq!(rt; ran.out.as_str(), "");
+    assert_eq!(rt; ran.status, 2);
+    Ok(())
+}
+
+/// Where `clap` takes the words but something is missing.
 #[test]
 fn missing(rt: HostRuntime) -> Result<(), Fail> {
-    let alloc = rt.alloc();
-    for words in [[].as_slice(), ["check"].as_slice()] {
-        let ran = run(&rt, alloc, words, ONE_CRASH.as_bytes())?;
-        assert_eq!(rt; ran.faults.as_str(), "fdbench: words: Form\n");
-        assert_eq!(rt; ran.out.as_str(), "");
-        assert_eq!(rt; ran.status, 2);
-    }
-    Ok(())
+    is_refused_as_form(&rt, rt.alloc(), &[])?;
+    is_refused_as_form(&rt, rt.alloc(), &["check"])
 }
 
 /// What `clap` refuses is told in its own words, among the faults; its help is what was asked for.
