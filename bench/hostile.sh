@@ -1,0 +1,145 @@
+#!/bin/bash
+# Runs the built program where the machine refuses memory, threads and writes, and feeds it bad input. Each run has to end
+# by itself, with a status of the program's table, and where that is 0 with the same bytes as with ample means. Prints a
+# line for each kind of refusal, how many runs it had and how they ended; status 1 where one ended otherwise. The program
+# is proved and built first, where that is needed. As root it also tries a limit on threads, as nobody, and a full disk.
+root=$(CDPATH='' cd -- "$(dirname -- "$0")/.." && pwd) || exit 1
+"$root/fdbench" --help > /dev/null || exit 1
+folder=$(mktemp -d) || exit 1
+trap 'umount "$folder/small" 2> /dev/null; rm -r "$folder"' EXIT
+chmod 755 "$folder"
+cp "$root/crates/fdbench/out/fdbench" "$root/examples/lossy_coordinator.toml" "$root/bench/sixty_four.toml" "$folder"
+fdbench="$folder/fdbench"
+five="$folder/lossy_coordinator.toml"
+many="$folder/sixty_four.toml"
+# a run that hangs is stopped after so many seconds
+limit="timeout --kill-after=1 60"
+wrong=0
+
+# Begins a kind of refusal: its name, and the statuses that may come.
+begin() {
+    kind=$1 allowed=" $2 " runs=0
+    declare -gA counts=()
+}
+
+# Counts a run that ended with the status $1. With status 0, "$folder/out" has to be the file $2, where one is named.
+ended() {
+    runs=$((runs + 1))
+    counts[$1]=$((${counts[$1]:-0} + 1))
+    if [[ $allowed != *" $1 "* ]]; then
+        echo "wrong: $kind: status $1: $(head -c 200 "$folder/err")"
+        wrong=$((wrong + 1))
+    elif [ "$1" -eq 0 ] && [ -n "${2:-}" ] && ! cmp -s "$folder/out" "$2"; then
+        echo "wrong: $kind: other bytes with status 0"
+        wrong=$((wrong + 1))
+    fi
+}
+
+# Ends a kind of refusal.
+end() {
+    printf '%s: %s runs:' "$kind" "$runs"
+    for status in $(printf '%s\n' "${!counts[@]}" | sort -n); do
+        printf ' status %s %s times;' "$status" "${counts[$status]}"
+    done
+    echo
+}
+
+for file in "$five" "$many"; do
+    "$fdbench" list "$file" --print both > "$file.listed" || exit 1
+done
+echo ok > "$folder/ok"
+echo same > "$folder/same"
+
+# 127 is the system's loader, which found no room for the C library before the program began
+begin "memory refused, from 2.5 MiB on (ulimit -v)" "0 1 2 3 127"
+for ((room = 2500; room <= 60000; room += room / 16)); do
+    for file in "$five" "$many"; do
+        (ulimit -v "$room"; exec $limit "$fdbench" check "$file") > "$folder/out" 2> "$folder/err"
+        ended $? "$folder/ok"
+        (ulimit -v "$room"; exec $limit "$fdbench" list "$file" --print both) > "$folder/out" 2> "$folder/err"
+        ended $? "$file.listed"
+        (ulimit -v "$room"; exec $limit "$fdbench" run "$file" --workers 3 --window 2 --print both) \
+            > "$folder/out" 2> "$folder/err"
+        ended $? "$file.listed"
+        (ulimit -v "$room"; exec $limit "$fdbench" compare "$file" --workers 3 --window 2) > "$folder/out" 2> "$folder/err"
+        ended $? "$folder/same"
+    done
+done
+end
+
+if [ "$(id -u)" -eq 0 ]; then
+    begin "threads refused (ulimit -u, 64 workers)" "0 3"
+    for threads in 1 2 3 8 16 32 63 64 65 80; do
+        # shellcheck disable=SC2016 (the inner shell's own words)
+        $limit setpriv --reuid=65534 --regid=65534 --clear-groups \
+            bash -c 'ulimit -u "$0"; exec "$@"' "$threads" "$fdbench" run "$many" --workers 64 --window 4 --print both \
+            > "$folder/out" 2> "$folder/err"
+        ended $? "$many.listed"
+    done
+    end
+    mkdir "$folder/small"
+    if mount -t tmpfs -o size=64k tmpfs "$folder/small" 2> /dev/null; then
+        begin "a file that fills up" "4"
+        $limit "$fdbench" list "$many" --print both > "$folder/small/out" 2> "$folder/err"
+        ended $?
+        $limit "$fdbench" run "$many" --workers 2 --window 4 --print both > "$folder/small/out" 2> "$folder/err"
+        ended $?
+        end
+    fi
+fi
+
+begin "writes refused" "4"
+mkfifo "$folder/pipe"
+for command in "list" "run --workers 2 --window 2"; do
+    read -r -a words <<< "$command"
+    of_five=("${words[0]}" "$five" "${words[@]:1}" --print both)
+    of_many=("${words[0]}" "$many" "${words[@]:1}" --print both)
+    $limit "$fdbench" "${of_five[@]}" > /dev/full 2> "$folder/err"
+    ended $?
+    $limit "$fdbench" "${of_five[@]}" >&- 2> "$folder/err"
+    ended $?
+    head -c 5 "$folder/pipe" > /dev/null &
+    $limit "$fdbench" "${of_many[@]}" > "$folder/pipe" 2> "$folder/err"
+    ended $?
+    wait
+done
+end
+
+begin "a slow reader" "0"
+$limit "$fdbench" list "$five" --print both 2> "$folder/err" | (sleep 1; cat) > "$folder/out"
+ended "${PIPESTATUS[0]}" "$five.listed"
+$limit "$fdbench" run "$five" --workers 2 --window 2 --print both 2> "$folder/err" | (sleep 1; cat) > "$folder/out"
+ended "${PIPESTATUS[0]}" "$five.listed"
+end
+
+begin "standard input closed, endless, of one byte at a time" "0 1"
+$limit "$fdbench" check - <&- > "$folder/out" 2> "$folder/err"
+ended $? "$folder/ok"
+$limit "$fdbench" check - < /dev/zero > "$folder/out" 2> "$folder/err"
+ended $? "$folder/ok"
+dd if="$five" bs=1 status=none | $limit "$fdbench" list - --print both > "$folder/out" 2> "$folder/err"
+ended "${PIPESTATUS[1]}" "$five.listed"
+end
+
+# each file has as many bytes as a scenario may have
+bytes=8388608
+repeat() {
+    yes "$1" | tr -d "${2:-}" | head -c $bytes
+}
+begin "files of 8 MiB, each in a second" "1"
+for content in random brackets rows key comment tables; do
+    case $content in
+        random) head -c $bytes /dev/urandom ;;
+        brackets) repeat '[' '\n' ;;
+        rows) repeat 'a=1' ;;
+        key) repeat 'a' '\n' | head -c $((bytes - 3)); echo '=1' ;;
+        comment) repeat '#' '\n' ;;
+        tables) repeat '[[crash]]' ;;
+    esac > "$folder/hostile"
+    timeout 1 "$fdbench" check "$folder/hostile" > "$folder/out" 2> "$folder/err"
+    ended $?
+done
+end
+
+echo "$wrong wrong"
+[ "$wrong" -eq 0 ]
