@@ -2,7 +2,8 @@
 # Runs the built program where the machine refuses memory, threads and writes, and feeds it bad input. Each run has to end
 # by itself, with a status of the program's table, and where that is 0 with the same bytes as with ample means. Prints a
 # line for each kind of refusal, how many runs it had and how they ended; status 1 where one ended otherwise. The program
-# is proved and built first, where that is needed. As root it also tries a limit on threads, as nobody, and a full disk.
+# is proved and built first, where that is needed. As root it also tries a limit on threads, as nobody, and a full disk;
+# where there is a C compiler, it refuses each single request for memory in turn.
 root=$(CDPATH='' cd -- "$(dirname -- "$0")/.." && pwd) || exit 1
 "$root/fdbench" --help > /dev/null || exit 1
 folder=$(mktemp -d) || exit 1
@@ -66,6 +67,27 @@ for ((room = 2500; room <= 60000; room += room / 16)); do
     done
 done
 end
+
+if cc -shared -fPIC -O1 -o "$folder/refuse.so" "$root/bench/refuse.c" 2> /dev/null; then
+    begin "each request for memory refused in turn" "0 1 2 3"
+    for example in one_crash exchange lossy_coordinator; do
+        file="$root/examples/$example.toml"
+        "$fdbench" list "$file" --print both > "$folder/listed" || exit 1
+        for command in "list" "run --workers 2 --window 2"; do
+            read -r -a words <<< "$command"
+            for ((request = 1; ; request++)); do
+                rm -f "$folder/refused"
+                REFUSE=$request REFUSED=$folder/refused LD_PRELOAD=$folder/refuse.so \
+                    "$fdbench" "${words[0]}" "$file" "${words[@]:1}" --print both > "$folder/out" 2> "$folder/err"
+                status=$?
+                # beyond the last request
+                [ -e "$folder/refused" ] || break
+                ended "$status" "$folder/listed"
+            done
+        done
+    done
+    end
+fi
 
 if [ "$(id -u)" -eq 0 ]; then
     begin "threads refused (ulimit -u, 64 workers)" "0 3"
