@@ -4,8 +4,9 @@
     bench/bench.py [--program P] [--beside P] [--rounds N] [--only NAME,..] [--modes MODE,..] [--horizon PER_CENT] [--same]
 
 For each scenario of this folder and each mode it prints the best time of N rounds (3), millions of entries a second, and
-the most memory that the process had (20 MiB are the least that is shown: they are Python's, before the program begins). A window of `run` is as long as the scenario's lookahead. The rounds are interleaved,
-so that a busy machine slows all modes alike; compare times of one table alone. What is printed goes nowhere.
+the most memory that the process had (20 MiB are the least that is shown: they are Python's, before the program begins).
+A window of `run` is as long as the scenario's lookahead. The rounds are interleaved, so that a busy machine slows all
+modes alike; compare times of one table alone. What is printed goes nowhere.
 
 P is the program's file; where none is named, ./fdbench proves and builds it. --beside times another program that takes
 the words `list PATH --print WHAT` and writes the same bytes, and adds the ratio of both times. --same compares the bytes
