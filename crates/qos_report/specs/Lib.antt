@@ -14,5 +14,7 @@ pub mod Tail
 pub mod TraceText
 pub mod ReportText
 pub mod Summary
+pub mod Findings
+pub mod Running
 pub mod Printed
 pub mod Resting

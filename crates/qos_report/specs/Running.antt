@@ -1,5 +1,6 @@
 -- What it is that the running forms were fed with the entries of a trace.
 use Rattle.std.specs.Prelude.{◌≡◌, ℕ, ◌*◌, ◌-◌, ◌^◌, ◌≤◌, min, Bool, true, false, if◌then◌else◌, Option, None, Some, is_some, List, length}
+use Rattle.std.specs.Global.{Vec}
 use Rattle.std.specs.List.{sum_by}
 use Rattle.process_api.specs.EntryRecord.{EntryRecord}
 use Rattle.scenario.specs.Record.{Record}
@@ -7,11 +8,14 @@ use Rattle.judges.specs.Judging.{IsDeciding, IsJudging}
 use Rattle.judges.specs.Verdicts.{verdicts}
 use Rattle.qos_report.specs.Measures.{all_measures}
 use Rattle.qos_report.specs.Metering.{IsMetering}
+use Rattle.qos_report.specs.ReportText.{Text, report_text}
+use Rattle.qos_report.specs.Summary.{IsSummary}
 use Rattle.qos_report.specs.declared.counts.Counts.{Counts}
 use Rattle.qos_report.specs.declared.running.Findings.{Findings}
 use Rattle.qos_report.specs.declared.running.Running.{Running}
 use Rattle.qos_report.specs.declared.running.RunningLayer.{RunningLayer}
 use Rattle.qos_report.specs.declared.running.RunningLayers.{RunningLayers}
+use Rattle.qos_report.specs.declared.summary.Summary.{Summary}
 
 -- the counts stay at the greatest number; each entry has less than 2^32 letters
 pub record IsCounting (trace : List EntryRecord) (c : Counts) : Type 0 where
@@ -20,6 +24,13 @@ pub record IsCounting (trace : List EntryRecord) (c : Counts) : Type 0 where
   pub lost : c.lost ≡ min (sum_by (λ e. e.lost) trace) (2 ^ 128 - 1)
   pub sent_high : sum_by (λ e. e.sent) trace ≤ length trace * 2 ^ 32
   pub lost_high : sum_by (λ e. e.lost) trace ≤ length trace * 2 ^ 32
+
+-- a text, where it is asked for
+abbrev pub IsTextWhere : (asked : Bool) → Text → Option (Vec ℕ) → Type 0
+IsTextWhere true text (Some t) = t.items ≡ text
+IsTextWhere true text None = ⊥
+IsTextWhere false text (Some t) = ⊥
+IsTextWhere false text None = Unit {0}
 
 module _ (S : Record) where
   pub record IsLayer (layer : ℕ) (trace : List EntryRecord) (l : RunningLayer) : Type 0 where
@@ -57,3 +68,8 @@ module _ (S : Record) where
       pub counts : IsCounting trace r.counts
       pub outcomes : IsDeciding S.processes trace r.outcomes
       pub layers : AreReported reported r.layers
+
+    -- what is told of the run: the summary, and the report where it is asked for
+    pub record IsToldOf (reported : Bool) (told : Summary × Option (Vec ℕ)) : Type 0 where
+      pub summary : IsSummary S trace told.0
+      pub report : IsTextWhere reported (report_text S trace) told.1

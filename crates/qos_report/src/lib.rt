@@ -31,6 +31,7 @@
 #![tactic(auto)]
 
 mod bench;
+mod counts;
 mod fuse_outlet;
 mod measuring;
 mod memory_outlet;
@@ -41,6 +42,7 @@ mod panel;
 mod report;
 mod report_rows;
 mod rows;
+mod running;
 mod stream_outlet;
 mod summary;
 mod tail;

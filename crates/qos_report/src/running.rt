@@ -1,8 +1,9 @@
 //! What is measured of a run, as its entries come.
-ghost use Rattle.std.specs.Prelude.{◌≡◌, ◌<◌, ◌^◌, ◌++◌, ◌∷◌, [], List, IfOk, OnOk, IsTrue, length};
+ghost use Rattle.std.specs.Prelude.{◌≡◌, ◌<◌, ◌^◌, ◌++◌, ◌∷◌, [], List, ℕ, Bool, IfOk, OnOk, length};
 ghost use Rattle.process_api.specs.EntryRecord.{EntryRecord};
 ghost use Rattle.scenario.specs.Record.{Record};
 ghost use Rattle.judges.specs.Judging.{AreUntil};
+ghost use Rattle.qos_report.specs.Running.{AreReported, IsSecond};
 
 use crate::counts::Counts;
 use crate::pair_measures::PairMeasures;
@@ -109,9 +110,10 @@ impl RunningLayers {
         ensures { IfOk result (λ f. (S : Record) (trace : List EntryRecord) → AreLayers S trace self
             → AreFindings S trace f) }
     {
+        let RunningLayers { first, second } = self;
         let mut measures = Vec::new(alloc);
-        let first = self.first.close(&mut measures)?;
-        let second = match self.second {
+        let first = first.close(&mut measures)?;
+        let second = match second {
             None => None,
             Some(layer) => Some(layer.close(&mut measures)?),
         };
@@ -120,5 +122,94 @@ impl RunningLayers {
             second,
             measures,
         })
+    }
+}
+
+/// All that is measured of a run, fed with its entries as they come, in the order of their keys.
+///
+/// All room for it is made as it opens. The layers are measured only where a report is asked for.
+#[derive(Drop)]
+pub(crate) struct Running {
+    pub counts: Counts,
+    pub outcomes: RunningOutcomes,
+    pub layers: Option<RunningLayers>,
+}
+
+/// The layers, where a report is asked for.
+fn open_layers(
+    alloc: Global,
+    scenario: &Scenario,
+    reported: bool,
+) -> Result<Option<RunningLayers>, AllocError>
+    ensures { IfOk result (AreReported scenario.now [] reported) }
+{
+    if reported {
+        Ok(Some(RunningLayers::open(alloc, scenario)?))
+    } else {
+        Ok(None)
+    }
+}
+
+impl Running {
+    ghost use Rattle.qos_report.specs.Running.{IsRunning, IsToldOf};
+
+    /// Nothing was fed.
+    pub(crate) fn open(
+        alloc: Global,
+        scenario: &Scenario,
+        reported: bool,
+    ) -> Result<Running, AllocError>
+        ensures { IfOk result (IsRunning scenario.now [] reported) }
+    {
+        Ok(Running {
+            counts: Counts::open(),
+            outcomes: RunningOutcomes::open(alloc, scenario)?,
+            layers: open_layers(alloc, scenario, reported)?,
+        })
+    }
+
+    /// One more entry. Takes no memory; an entry without notes is only counted.
+    pub(crate) fn feed(&mut self, entry: &Entry)
+        ensures { (S : Record) (trace : List EntryRecord) (reported : Bool) → IsRunning S trace reported self.old
+            → AreUntil trace entry.now.key.tick → IsRunning S (trace ++ entry.now ∷ []) reported self.new }
+    {
+        self.counts.feed(entry);
+        if !entry.notes.is_empty() {
+            self.outcomes.feed(entry);
+            if let Some(layers) = &mut self.layers {
+                layers.feed(entry);
+            }
+        }
+    }
+
+    /// The summary, as no entry follows, and the text of the report where it is asked for.
+    pub(crate) fn close(
+        self,
+        alloc: Global,
+        scenario: &Scenario,
+    ) -> Result<(Summary, Option<Vec<u8>>), AllocError>
+        ensures { IfOk result (λ told. (trace : List EntryRecord) (reported : Bool)
+            → IsRunning scenario.now trace reported self → length trace < 2 ^ 64
+            → IsToldOf scenario.now trace reported told) }
+    {
+        let Running {
+            counts,
+            outcomes,
+            layers,
+        } = self;
+        let summary = Summary {
+            entries: counts.entries,
+            sent: counts.sent,
+            lost: counts.lost,
+            outcomes: outcomes.close(),
+        };
+        let report = match layers {
+            None => None,
+            Some(layers) => {
+                let findings = layers.close(alloc)?;
+                Some(text_of_report(alloc, scenario.algorithm(), &summary, &findings)?)
+            }
+        };
+        Ok((summary, report))
     }
 }

@@ -1,15 +1,16 @@
 //! Writing the texts of a finished trace.
-ghost use Rattle.std.specs.Prelude.{◌≡◌, ◌≢◌, ◌^◌, ◌-◌, ◌+◌, ◌<◌, Err, OnOk, IfErr, IfOk};
+ghost use Rattle.std.specs.Prelude.{◌≡◌, ◌≢◌, ◌^◌, ◌-◌, ◌+◌, ◌++◌, ◌<◌, Err, OnOk, IfErr, IfOk};
 ghost use Rattle.judges.specs.Agreement.{Agrees, IsCoordinated};
-ghost use Rattle.qos_report.specs.Printed.{printed};
+ghost use Rattle.qos_report.specs.Printed.{items_of, printed, prints_report, prints_trace};
 ghost use Rattle.qos_report.specs.ReportText.{report_text};
+ghost use Rattle.qos_report.specs.Running.{IsTextWhere, IsToldOf};
 ghost use Rattle.qos_report.specs.Summary.{IsSummary};
 ghost use Rattle.qos_report.specs.TraceText.{trace_text};
 ghost use Rattle.qos_report.specs.Writing.{Wrote, WrotePart, WroteNothing};
 
 use crate::outlet::{Outlet, put_all};
-use crate::report::text_of_report;
-use crate::summary::{Summary, summarize};
+use crate::running::Running;
+use crate::summary::Summary;
 use crate::trace_text::text_of_trace;
 use event_list::RunError;
 use print_choice::PrintChoice;
@@ -52,6 +53,22 @@ pub fn write_trace<O: Outlet>(alloc: Global, trace: &Trace, outlet: &mut O) -> R
     }
 }
 
+/// What is told of a finished trace: the summary, and the text of the report where it is asked for.
+fn measure_run(
+    alloc: Global,
+    scenario: &Scenario,
+    trace: &Trace,
+    reported: bool,
+) -> Result<(Summary, Option<Vec<u8>>), AllocError>
+    ensures { IfOk result (IsToldOf scenario.now trace.now reported) }
+{
+    let mut running = Running::open(alloc, scenario, reported)?;
+    for entry in trace.entries() {
+        running.feed(entry);
+    }
+    running.close(alloc, scenario)
+}
+
 /// The text of a trace's report.
 fn text_of_whole_report(
     alloc: Global,
@@ -60,8 +77,11 @@ fn text_of_whole_report(
 ) -> Result<Vec<u8>, AllocError>
     ensures { IfOk result (λ text. text.items ≡ report_text scenario.now trace.now) }
 {
-    let summary = summarize(alloc, scenario, trace)?;
-    text_of_report(alloc, scenario, trace, &summary)
+    let (_, report) = measure_run(alloc, scenario, trace, true)?;
+    match report {
+        Some(text) => Ok(text),
+        None => unreachable!(),
+    }
 }
 
 /// Writes the report of a finished trace: a header line, and a row for each number of the run, each verdict on a layer,
@@ -90,26 +110,56 @@ pub fn write_report<O: Outlet>(
     }
 }
 
-/// The texts of a finished trace that are asked for.
-fn text_of_run(
-    alloc: Global,
-    scenario: &Scenario,
-    trace: &Trace,
-    summary: &Summary,
-    print: PrintChoice,
-) -> Result<Vec<u8>, AllocError>
-    requires { IsSummary scenario.now trace.now summary.now }
-    ensures { IfOk result (λ text. text.items ≡ printed print scenario.now trace.now) }
+/// Whether the trace is asked for.
+pub(crate) fn prints_trace(print: PrintChoice) -> bool
+    ensures { result ≡ prints_trace print }
 {
     match print {
-        PrintChoice::Trace => text_of_trace(alloc, trace.entries()),
-        PrintChoice::Report => text_of_report(alloc, scenario, trace, summary),
-        PrintChoice::Both => {
-            let mut text = text_of_trace(alloc, trace.entries())?;
-            let report = text_of_report(alloc, scenario, trace, summary)?;
+        PrintChoice::Trace | PrintChoice::Both => true,
+        PrintChoice::Report => false,
+    }
+}
+
+/// Whether the report is asked for.
+pub(crate) fn prints_report(print: PrintChoice) -> bool
+    ensures { result ≡ prints_report print }
+{
+    match print {
+        PrintChoice::Report | PrintChoice::Both => true,
+        PrintChoice::Trace => false,
+    }
+}
+
+/// The texts that are there, one after the other.
+fn join_texts(
+    alloc: Global,
+    trace: Option<Vec<u8>>,
+    report: Option<Vec<u8>>,
+) -> Result<Vec<u8>, AllocError>
+    ensures { IfOk result (λ text. text.items ≡ items_of trace ++ items_of report) }
+{
+    match (trace, report) {
+        (Some(mut text), Some(report)) => {
             text.extend_from_slice(&report)?;
             Ok(text)
         }
+        (Some(text), None) | (None, Some(text)) => Ok(text),
+        (None, None) => Ok(Vec::new(alloc)),
+    }
+}
+
+/// The text of a finished trace, where it is asked for.
+fn text_where(
+    alloc: Global,
+    trace: &Trace,
+    print: PrintChoice,
+) -> Result<Option<Vec<u8>>, AllocError>
+    ensures { IfOk result (IsTextWhere (prints_trace print) (trace_text trace.now)) }
+{
+    if prints_trace(print) {
+        Ok(Some(text_of_trace(alloc, trace.entries())?))
+    } else {
+        Ok(None)
     }
 }
 
@@ -136,8 +186,9 @@ pub(crate) fn write_run<O: Outlet>(
     ensures memory { result ≡ Err RunError.Memory → WroteNothing O.told O.failed outlet.old outlet.new }
     ensures only { (result ≢ Err RunError.Limit) × (result ≢ Err RunError.Spawn) }
 {
-    let summary = summarize(alloc, scenario, trace)?;
-    let text = text_of_run(alloc, scenario, trace, &summary, print)?;
+    let _horizon = scenario.horizon();
+    let (summary, report) = measure_run(alloc, scenario, trace, prints_report(print))?;
+    let text = join_texts(alloc, text_where(alloc, trace, print)?, report)?;
     write_text(&text, outlet)?;
     Ok(summary)
 }
