@@ -136,12 +136,12 @@ impl<M: Process> EventList<M> {
         requires opening { Stands (setting_of scenario.now) (map (process_of M.mind) self.seats.items) self.pending [] }
         ensures trace { IfOk result (λ _. (t : List EntryRecord)
             × IsTrace (setting_of scenario.now) t × (length t ≤ scenario.now.limit)
-            × WereTaken (R.recorded recorder.old) (R.recorded recorder.new) t) }
+            × WereTaken (R.recorded recorder.old recorder.old) (R.recorded recorder.old recorder.new) t) }
         ensures errors { IfErr result (λ e. (e ≡ RunError.Limit) ⊎ (e ≡ RunError.Memory)) }
         ensures limit { IsErrOf result RunError.Limit → (whole : List EntryRecord)
             → IsTrace (setting_of scenario.now) whole → scenario.now.limit < length whole }
         ensures front { IsErrOf result RunError.Limit → IsCutShort (setting_of scenario.now) scenario.now.limit
-            (R.recorded recorder.old) (R.recorded recorder.new) }
+            (R.recorded recorder.old recorder.old) (R.recorded recorder.old recorder.new) }
     {
         let streams = Streams::new(scenario);
         let limit = scenario.limit();
@@ -168,12 +168,12 @@ fn run_machines<M: Process, R: Recorder>(
 ) -> Result<(), RunError>
     requires { map M.mind machines.items ≡ map (opening_mind scenario.now) (numbers_to scenario.now.processes) }
     ensures recorded { OnOk result (IsRecorded (setting_of scenario.now) scenario.now.limit
-        (R.recorded recorder.old) (R.recorded recorder.new)) }
+        (R.recorded recorder.old recorder.old) (R.recorded recorder.old recorder.new)) }
     ensures errors { IfErr result (λ e. (e ≡ RunError.Limit) ⊎ (e ≡ RunError.Memory)) }
     ensures limit { IsErrOf result RunError.Limit → (whole : List EntryRecord)
         → IsTrace (setting_of scenario.now) whole → scenario.now.limit < length whole }
     ensures front { IsErrOf result RunError.Limit → IsCutShort (setting_of scenario.now) scenario.now.limit
-        (R.recorded recorder.old) (R.recorded recorder.new) }
+        (R.recorded recorder.old recorder.old) (R.recorded recorder.old recorder.new) }
 {
     let _horizon = scenario.horizon();
     EventList::open(alloc, scenario, machines)?.run(scenario, recorder)
@@ -197,12 +197,12 @@ pub fn run_list_into<R: Recorder>(
     requires { map mind machines.items ≡ map (opening_mind scenario.now) (numbers_to scenario.now.processes) }
 
     ensures recorded { OnOk result (IsRecorded (setting_of scenario.now) scenario.now.limit
-        (R.recorded recorder.old) (R.recorded recorder.new)) }
+        (R.recorded recorder.old recorder.old) (R.recorded recorder.old recorder.new)) }
     ensures errors { IfErr result (λ e. (e ≡ RunError.Limit) ⊎ (e ≡ RunError.Memory)) }
     ensures limit { IsErrOf result RunError.Limit → (whole : List EntryRecord)
         → IsTrace (setting_of scenario.now) whole → scenario.now.limit < length whole }
     ensures front { IsErrOf result RunError.Limit → IsCutShort (setting_of scenario.now) scenario.now.limit
-        (R.recorded recorder.old) (R.recorded recorder.new) }
+        (R.recorded recorder.old recorder.old) (R.recorded recorder.old recorder.new) }
 {
     run_machines(alloc, scenario, machines, recorder)
 }

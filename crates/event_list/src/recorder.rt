@@ -7,8 +7,8 @@ use std::alloc::AllocError;
 
 /// Takes the entries of a run as they come, so that no trace has to be held.
 pub trait Recorder {
-    /// What it holds is so for these entries, taken in this order.
-    ghost recorded: { Self → List EntryRecord → Type 0 };
+    /// What it holds is so for these entries, taken in this order, if it began as the first of the two.
+    ghost recorded: { Self → Self → List EntryRecord → Type 0 };
 
     /// Takes the next entry.
     ///
@@ -16,12 +16,12 @@ pub trait Recorder {
     ///
     /// `AllocError` where memory was refused. The recorder is good for nothing then.
     fn record(&mut self, entry: Entry) -> Result<(), AllocError>
-        ensures { OnOk result ((taken : List EntryRecord)
-            → recorded self.old taken → recorded self.new (taken ++ entry ∷ [])) };
+        ensures { OnOk result ((first : Self) (taken : List EntryRecord)
+            → recorded first self.old taken → recorded first self.new (taken ++ entry ∷ [])) };
 }
 
 impl Recorder for Vec<Entry> {
-    ghost recorded = { λ kept taken. kept.items ≡ taken };
+    ghost recorded = { λ _ kept taken. kept.items ≡ taken };
 
     /// Keeps the entry.
     #[inline(always)]

@@ -16,7 +16,7 @@ use Rattle.event_list.proofs.list.EventList.run.Goals as goal
 pub loop-self-init : goal.loop-self-init
 loop-self-init g c =
     record {
-      going = record { trace = []; stands = c.requires.opening; long = refl; taken = λ before had. subst (g.R.Recorder.recorded c.args.recorder.now) (sym (append-nil before)) had };
+      going = record { trace = []; stands = c.requires.opening; long = refl; taken = λ before had. subst (g.R.Recorder.recorded c.args.recorder.now c.args.recorder.now) (sym (append-nil before)) had };
       seated = c.requires.seated;
       count = c.requires.count;
       within = omega arith;
@@ -78,7 +78,7 @@ loop-self-preserved g c =
         stands = stands_next S ps c.loop-self.self.pending trace i.going.stands key input least (setting_sound s c.limit-limit.ensures.ranges) long c.take_least.new.self (removed_of c.loop-self.self.pending c.take_least.new.self c.in_ok-key.field-0 (c.in-Some.key, c.in-Some.input) c.in-Some.is c.in_ok-key.ensures.removed) later _ entry
             (stepped _ (first_process S ps c.loop-self.self.pending trace i.going.stands key input least));
         long = longer trace entry old i.going.long;
-        taken = taken_next _ _ (g.R.Recorder.recorded c.record.new.self) trace entry i.going.taken c.in_ok-record.ensures;
+        taken = taken_next _ _ (g.R.Recorder.recorded c.args.recorder.now c.record.new.self) trace entry i.going.taken (c.in_ok-record.ensures c.args.recorder.now);
       };
       seated = let same : 4096 * old + 4096 ≡ 4096 * (old + 1) = omega arith in subst (λ n. All (IsSeated mind s n) c.take.new.self.seats.items) same seated;
       count = done.count ∙ i.count;

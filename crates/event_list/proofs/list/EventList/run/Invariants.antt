@@ -10,7 +10,7 @@ invariant-loop-self g l =
     let mind = g.M.Process.mind in
     let recorded = g.R.Recorder.recorded in
     record {
-      going : Going (setting_of l.fn.scenario) (map (process_of mind) l.self.seats.items) l.self.pending (recorded l.fn.recorder) (recorded l.recorder) l.taken;
+      going : Going (setting_of l.fn.scenario) (map (process_of mind) l.self.seats.items) l.self.pending (recorded l.fn.recorder l.fn.recorder) (recorded l.fn.recorder l.recorder) l.taken;
       seated : All (IsSeated mind l.fn.scenario (4096 * l.taken)) l.self.seats.items;
       count : vec_len l.self.seats ≡ l.fn.scenario.processes;
       within : l.taken ≤ l.fn.scenario.limit;
