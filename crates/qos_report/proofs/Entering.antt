@@ -163,14 +163,14 @@ module _ (S : Record) (layer : ℕ) (trace : List EntryRecord) (entry : EntryRec
   metering_quiet m h until none =
       elim (cases_lt entry.key.tick m.horizon) [
         | inl below ↦ record {
-            same_layer = h.same_layer;
-            processes = h.processes;
-            horizon = h.horizon;
-            metered = λ last later.
-                all_longer S layer (suspects layer (trace ++ entry ∷ [])) entry.key.tick last m.meters.items
-                (subst (λ notes. AreMetered S layer (suspects layer (trace ++ entry ∷ [])) entry.key.tick (all_noted S.processes layer entry.key.receiver entry.key.tick m.meters.items notes)) none
-                (entry_metered (omega (arith, h.horizon)) m.meters.items (h.metered entry.key.tick until)))
-                (AreUntil-push trace entry last later).1;
-          }
+          same_layer = h.same_layer;
+          processes = h.processes;
+          horizon = h.horizon;
+          metered = λ last later.
+              all_longer S layer (suspects layer (trace ++ entry ∷ [])) entry.key.tick last m.meters.items
+              (subst (λ notes. AreMetered S layer (suspects layer (trace ++ entry ∷ [])) entry.key.tick (all_noted S.processes layer entry.key.receiver entry.key.tick m.meters.items notes)) none
+              (entry_metered (omega (arith, h.horizon)) m.meters.items (h.metered entry.key.tick until)))
+              (AreUntil-push trace entry last later).1;
+        }
         | inr late ↦ metering_late m h late
       ]

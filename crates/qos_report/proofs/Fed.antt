@@ -1,22 +1,23 @@
 -- The running forms, fed with one more entry, and what they tell.
-use Rattle.std.proofs.Common.{◌≡◌, ℕ, ◌<◌, ◌^◌, Bool, true, false, cond, refl, sym, ap, ◌∙◌, subst, arith, Option, None, Some, is_some, List, [], ◌∷◌, ◌++◌, flat_map, length}
+use Rattle.std.proofs.Common.{◌≡◌, ℕ, ◌<◌, ◌^◌, Bool, true, false, cond, refl, sym, ap, ◌∙◌, subst, arith, Option, None, Some, is_some, List, [], ◌∷◌, ◌++◌, flat_map, length, append_assoc, true≢false, Result, Ok, Err, OnOk, IfOk}
 use Rattle.std.specs.Global.{Vec}
 use Rattle.std.specs.List.{sum_by}
+use Rattle.std.proofs.lemmas.Grind.{flat_map-append}
 use Rattle.process_api.specs.EntryRecord.{EntryRecord}
 use Rattle.scenario.specs.Record.{Record}
-use Rattle.judges.specs.Judging.{AreUntil, IsDeciding}
+use Rattle.judges.specs.Judging.{AreUntil}
 use Rattle.judges.specs.Outcomes.{outcomes}
 use Rattle.judges.specs.Verdicts.{verdicts}
 use Rattle.judges.proofs.Entering.{judging_quiet}
-use Rattle.judges.proofs.Outcoming.{outcomes_quiet}
 use Rattle.qos_report.specs.Findings.{second_text, found_text}
-use Rattle.qos_report.specs.Measures.{layers, layer_measures, all_measures}
+use Rattle.qos_report.specs.Measures.{layers, all_measures}
 use Rattle.qos_report.specs.ReportText.{Text, report_header, run_text, verdict_text, pair_text, decisions_text, report_text}
-use Rattle.qos_report.specs.Running.{IsCounting, IsTextWhere, IsLayer, IsSecondWhere, IsSecond, AreLayers, AreFindings, AreReported, IsRunning}
+use Rattle.qos_report.specs.Running.{IsCounting, IsTextWhere, IsLayer, IsSecondWhere, AreLayers, AreFindings, AreReported}
+use Rattle.qos_report.specs.Rows.{row_of}
 use Rattle.qos_report.specs.Summary.{IsSummary}
+use Rattle.qos_report.specs.TraceText.{fields_of, trace_header, trace_text}
 use Rattle.qos_report.specs.declared.counts.Counts.{Counts}
 use Rattle.qos_report.specs.declared.running.Findings.{Findings}
-use Rattle.qos_report.specs.declared.running.Running.{Running}
 use Rattle.qos_report.specs.declared.running.RunningLayer.{RunningLayer}
 use Rattle.qos_report.specs.declared.running.RunningLayers.{RunningLayers}
 use Rattle.qos_report.specs.declared.summary.Summary.{Summary}
@@ -111,3 +112,48 @@ module _ (S : Record) (trace : List EntryRecord) where
       ∙ (λ i. report_header
       ++ (run_text (length trace) (sum_by (λ e. e.sent) trace) (sum_by (λ e. e.lost) trace)
       ++ (l i ++ (flat_map pair_text (all_measures S trace) ++ decisions_text S.algorithm (outcomes trace S.processes)))))
+
+-- ---- results
+
+pub on_ok : {T E P Q : Type 0} (r : Result T E) → (P → Q) → OnOk r P → OnOk r Q
+on_ok (Ok x) f p = f p
+on_ok (Err e) f p = p
+
+pub if_ok : {T E : Type 0} {P Q : T → Type 0} (r : Result T E) → ((x : T) → P x → Q x) → IfOk r P → IfOk r Q
+if_ok (Ok x) f p = f x p
+if_ok (Err e) f p = p
+
+pub ok_of : {T E P : Type 0} (r : Result T E) (x : T) → r ≡ Ok x → OnOk r P → P
+ok_of {T} {E} {P} r x is h = subst (λ (s : Result T E). OnOk s P) is h
+
+abbrev is_error : {T E : Type 0} → Result T E → Bool
+is_error (Ok x) = false
+is_error (Err e) = true
+
+pub not_error : {T E : Type 0} {x : T} {e : E} → Ok x ≡ Err e → ⊥
+not_error is = true≢false (sym (ap is_error is))
+
+abbrev error_or : {T E : Type 0} → E → Result T E → E
+error_or d (Ok x) = d
+error_or d (Err e) = e
+
+pub same_error : {T U E : Type 0} (r : Result T E) (s : Result U E) (e f : E) → r ≡ Err e → s ≡ Err e → s ≡ Err f → r ≡ Err f
+same_error r s e f was here is = was ∙ ap Err (ap (error_or e) (sym here ∙ is))
+
+-- ---- the text of a trace
+
+trace_text_more : (trace : List EntryRecord) (entry : EntryRecord) → trace_text trace ++ row_of (fields_of entry) ≡ trace_text (trace ++ entry ∷ [])
+unfolding trace_text
+trace_text_more trace entry =
+    let row : EntryRecord → List ℕ = λ e. row_of (fields_of e) in
+    append_assoc trace_header (flat_map row trace) (row entry)
+    ∙ ap (λ t. trace_header ++ t) (ap (λ t. flat_map row trace ++ t) (sym (append_none (row entry))) ∙ sym (flat_map-append row trace (entry ∷ [])))
+
+-- one more row
+pub text_more : (b : Bool) (trace : List EntryRecord) (entry : EntryRecord) (t new : Vec ℕ) → new.items ≡ t.items ++ row_of (fields_of entry) → IsTextWhere b (trace_text trace) (Some t) → IsTextWhere b (trace_text (trace ++ entry ∷ [])) (Some new)
+text_more true trace entry t new is h = is ∙ ap (λ x. x ++ row_of (fields_of entry)) h ∙ trace_text_more trace entry
+text_more false trace entry t new is h = h
+
+pub no_text : (b : Bool) (old new : Text) → IsTextWhere b old None → IsTextWhere b new None
+no_text true old new h = h
+no_text false old new h = h

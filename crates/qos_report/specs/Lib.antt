@@ -17,4 +17,5 @@ pub mod Summary
 pub mod Findings
 pub mod Running
 pub mod Printed
+pub mod Recording
 pub mod Resting

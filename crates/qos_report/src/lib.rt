@@ -39,6 +39,7 @@ mod meter;
 mod outlet;
 mod pair_measures;
 mod panel;
+mod recording;
 mod report;
 mod report_rows;
 mod rows;

@@ -1,4 +1,4 @@
-use Rattle.std.proofs.Common.{◌≡◌, ◌∙◌, ap, subst}
+use Rattle.std.proofs.Common.{◌∙◌, ap, subst}
 use Rattle.qos_report.specs.Findings.{found_text}
 use Rattle.qos_report.specs.ReportText.{report_text}
 use Rattle.qos_report.specs.Running.{AreReported}

@@ -1,4 +1,4 @@
-use Rattle.std.proofs.Common.{◌≡◌, ◌++◌, ◌∷◌, [], sym, subst, is_some}
+use Rattle.std.proofs.Common.{◌++◌, ◌∷◌, [], sym, subst, is_some}
 use Rattle.qos_report.specs.Running.{IsSecond}
 use Rattle.qos_report.proofs.Fed.{second_some, second_none}
 use Rattle.qos_report.proofs.running.RunningLayers.feed.Goals as goal
