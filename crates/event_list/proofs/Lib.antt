@@ -1,5 +1,6 @@
 pub mod Openings
 pub mod Reaching
+pub mod Recording
 pub mod Rising
 pub mod Sets
 pub mod Steps

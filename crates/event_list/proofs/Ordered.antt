@@ -1,5 +1,5 @@
 -- Pending events in buckets, as a finite set of events.
-use Rattle.std.proofs.Common.{◌≡◌, ◌≢◌, ◌⊎◌, ◌≤◌, ◌<◌, inl, inr, refl, sym, ap, ◌∙◌, subst, arith, Less, Equal, Greater, Bool, true, false, cond, List, [], ◌∷◌, ◌++◌, reverse, length, Option, Some, None, is_lt, is_eq, is_gt, true≢false, ℕ, nat_cmp, unwrap_or, option_map, IsSome, All, IsPermutation, Ordering, get_or, length-append, ◌+◌, map, MatchOption, Result, Ok, Err, OnErr}
+use Rattle.std.proofs.Common.{◌≡◌, ◌≢◌, ◌⊎◌, ◌≤◌, ◌<◌, inl, inr, refl, sym, ap, ◌∙◌, subst, arith, Less, Equal, Greater, true, false, cond, List, [], ◌∷◌, ◌++◌, reverse, length, Option, Some, None, is_lt, is_eq, is_gt, true≢false, ℕ, nat_cmp, IsSome, IsPermutation, Ordering, get_or, length-append, ◌+◌, map, MatchOption, Result, Ok, Err, OnErr}
 use Rattle.std.specs.Global.{Vec}
 use Rattle.std.specs.BTreeMap as tree
 use Rattle.std.specs.FinMap as events

@@ -1,5 +1,7 @@
 -- Worlds that the list comes by.
 use Rattle.std.proofs.Common.{◌≡◌, ℕ, ◌<◌, ◌≤◌, refl, sym, ap, ◌∙◌, subst, List, [], ◌∷◌, ◌++◌, length, append_assoc, append-nil, length-append, arith}
+use Rattle.std.specs.Prelude.{take}
+use Rattle.std.proofs.Math.Seq.{take-append_seam}
 use Rattle.std.proofs.lemmas.List.{map-append, length-map}
 use Rattle.process_api.specs.declared.key.Key.{Key}
 use Rattle.process_api.specs.declared.message.StepInput.{StepInput}
@@ -61,3 +63,10 @@ module _ {Mind : Type 0} (S : Setting Mind) where
       let n : length whole ≡ length (was.history ++ (((made S w key input).entry, input) ∷ after.0)) = ap length long ∙ length-map _ _ in
       let m : length trace ≡ length was.history = ap length was.trace_is ∙ length-map _ _ in
       omega (arith, n, m, length-append was.history (((made S w key input).entry, input) ∷ after.0))
+
+  -- the entries so far are the front of every trace
+  pub reached_front : (w : World Mind) (trace : List EntryRecord) → IsReached S w trace → (whole : List EntryRecord) → IsTrace S whole → trace ≡ take (length trace) whole
+  reached_front w trace was whole is =
+      let before = was.comes_by is.0 is.1 is.2 in
+      let parts : whole ≡ trace ++ entries before.0 = is.3 ∙ (ap (entries) before.1 ∙ (map-append (λ (t : Pair). t.0) was.history before.0 ∙ ap (λ es. es ++ entries before.0) (sym was.trace_is))) in
+      sym (ap (take (length trace)) parts ∙ take-append_seam trace (entries before.0))

@@ -1,5 +1,5 @@
 -- What `take_least` says, by its answer.
-use Rattle.std.proofs.Common.{◌≡◌, ap, subst, Option, Some, None, MatchOption}
+use Rattle.std.proofs.Common.{◌≡◌, subst, Option, Some, None, MatchOption}
 use Rattle.std.specs.FinMap as events
 use Rattle.event_list.specs.Pending.{IsEmpty}
 use Rattle.event_list.specs.Step.{Event, Events}

@@ -1,5 +1,5 @@
 -- Events by their ticks.
-use Rattle.std.specs.Prelude.{◌≡◌, ◌≢◌, ℕ, ◌+◌, ◌<◌, Bool, false, cond, nat_eq, List, [], ◌∷◌, ◌++◌, reverse, length, ◌-◌, slice_index_or, Option, None, Some, IsSome}
+use Rattle.std.specs.Prelude.{◌≡◌, ◌≢◌, ℕ, ◌<◌, false, List, [], ◌∷◌, ◌++◌, reverse, length, ◌-◌, slice_index_or, Option, None, Some, IsSome}
 use Rattle.std.specs.Global.{Vec}
 use Rattle.std.specs.Ordering.{is_lt, nat_cmp}
 use Rattle.std.specs.Option.{unwrap_or, option_map, option_or}
@@ -10,7 +10,7 @@ use Rattle.std.specs.FinMap.{find}
 use Rattle.process_api.specs.Order.{key_cmp}
 use Rattle.process_api.specs.declared.key.Key.{Key}
 use Rattle.process_api.specs.declared.message.StepInput.{StepInput}
-use Rattle.event_list.specs.Step.{Event, Events}
+use Rattle.event_list.specs.Step.{Event}
 
 -- the input of the last event of a list that has this key
 abbrev pub latest : Key → List Event → Option StepInput

@@ -9,4 +9,5 @@ pub mod Plain
 pub mod Pending
 pub mod Seat
 pub mod Standing
+pub mod Recorder
 pub mod Buckets

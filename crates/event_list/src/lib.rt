@@ -28,12 +28,14 @@ mod laws;
 mod links;
 mod list;
 mod pending;
+mod recorder;
 mod seat;
 #[cfg(test)]
 mod tests;
 
 pub use error::RunError;
 pub use laws::law_only_history;
-pub use list::run_list;
+pub use list::{run_list, run_list_into};
 pub use pending::Pending;
+pub use recorder::Recorder;
 pub use seat::Seat;

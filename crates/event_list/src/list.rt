@@ -3,9 +3,9 @@ ghost use Rattle.std.specs.Prelude.{◌≡◌, ◌≤◌, ◌<◌, ◌+◌, ◌-
 ghost use Rattle.process_api.specs.EntryRecord.{EntryRecord};
 ghost use Rattle.process_api.specs.Mind.{Mind};
 ghost use Rattle.process_api.specs.Numbers.{numbers_to};
-ghost use Rattle.process_api.specs.Order.{is_rising};
 ghost use Rattle.scenario.specs.Record.{opening_mind};
 ghost use Rattle.event_list.specs.Effects.{HasCauses, TakesOnce};
+ghost use Rattle.event_list.specs.Recorder.{WereTaken, IsRecorded, IsCutShort};
 ghost use Rattle.event_list.specs.ScenarioSetting.{setting_of};
 ghost use Rattle.event_list.specs.Seat.{process_of, IsMindIn, IsSeated};
 ghost use Rattle.event_list.specs.Setting.{IsProcess};
@@ -15,6 +15,7 @@ ghost use Rattle.event_list.specs.World.{starts, opened, IsTrace};
 
 use crate::error::RunError;
 use crate::pending::Pending;
+use crate::recorder::Recorder;
 use crate::seat::Seat;
 use process_api::{Action, Entry, Key, Pid, Process, StepInput, Trace};
 use scenario::Scenario;
@@ -128,50 +129,82 @@ impl<M: Process> EventList<M> {
         Ok(entry)
     }
 
-    /// Takes the least pending event again and again, until none is left.
-    fn run(mut self, alloc: Global, scenario: &Scenario) -> Result<Vec<Entry>, RunError>
+    /// Takes the least pending event again and again, until none is left, and hands on the entries.
+    fn run<R: Recorder>(mut self, scenario: &Scenario, recorder: &mut R) -> Result<(), RunError>
         requires seated { All (IsSeated M.mind scenario.now 0) self.seats.items }
         requires count { vec_len self.seats ≡ scenario.now.processes }
         requires opening { Stands (setting_of scenario.now) (map (process_of M.mind) self.seats.items) self.pending [] }
-        ensures trace { IfOk result (λ t. IsTrace (setting_of scenario.now) t.items) }
-        ensures within { IfOk result (λ t. vec_len t ≤ scenario.now.limit) }
+        ensures trace { IfOk result (λ _. (t : List EntryRecord)
+            × IsTrace (setting_of scenario.now) t × (length t ≤ scenario.now.limit)
+            × WereTaken (R.recorded recorder.old recorder.old) (R.recorded recorder.old recorder.new) t) }
         ensures errors { IfErr result (λ e. (e ≡ RunError.Limit) ⊎ (e ≡ RunError.Memory)) }
         ensures limit { IsErrOf result RunError.Limit → (whole : List EntryRecord)
             → IsTrace (setting_of scenario.now) whole → scenario.now.limit < length whole }
+        ensures front { IsErrOf result RunError.Limit → IsCutShort (setting_of scenario.now) scenario.now.limit
+            (R.recorded recorder.old recorder.old) (R.recorded recorder.old recorder.new) }
     {
         let streams = Streams::new(scenario);
         let limit = scenario.limit();
-        let mut trace = Vec::new(alloc);
+        let mut taken = 0u64;
         while let Some((key, input)) = self.pending.take_least()? {
-            if trace.len() as u64 >= limit {
+            if taken >= limit {
                 return Err(RunError::Limit);
             }
             let entry = self.take(&streams, key, &input)?;
             drop(input);
-            trace.push(entry)?;
+            recorder.record(entry)?;
+            taken += 1;
         }
-        Ok(trace)
+        Ok(())
     }
 }
 
-/// The entries of a run of machines.
-fn run_machines<M: Process>(
+/// Runs machines by one event list.
+fn run_machines<M: Process, R: Recorder>(
     alloc: Global,
     scenario: &Scenario,
     machines: Vec<M>,
-) -> Result<Vec<Entry>, RunError>
+    recorder: &mut R,
+) -> Result<(), RunError>
     requires { map M.mind machines.items ≡ map (opening_mind scenario.now) (numbers_to scenario.now.processes) }
-    ensures trace { IfOk result (λ t. IsTrace (setting_of scenario.now) t.items) }
-    ensures rising { IfOk result (λ t. IsTrue (is_rising t.items)) }
-    ensures cause { IfOk result (λ t. HasCauses (setting_of scenario.now) t.items) }
-    ensures once { IfOk result (λ t. TakesOnce (setting_of scenario.now) t.items) }
-    ensures within { IfOk result (λ t. vec_len t ≤ scenario.now.limit) }
+    ensures recorded { OnOk result (IsRecorded (setting_of scenario.now) scenario.now.limit
+        (R.recorded recorder.old recorder.old) (R.recorded recorder.old recorder.new)) }
     ensures errors { IfErr result (λ e. (e ≡ RunError.Limit) ⊎ (e ≡ RunError.Memory)) }
     ensures limit { IsErrOf result RunError.Limit → (whole : List EntryRecord)
         → IsTrace (setting_of scenario.now) whole → scenario.now.limit < length whole }
+    ensures front { IsErrOf result RunError.Limit → IsCutShort (setting_of scenario.now) scenario.now.limit
+        (R.recorded recorder.old recorder.old) (R.recorded recorder.old recorder.new) }
 {
     let _horizon = scenario.horizon();
-    EventList::open(alloc, scenario, machines)?.run(alloc, scenario)
+    EventList::open(alloc, scenario, machines)?.run(scenario, recorder)
+}
+
+/// Runs machines by one event list, up to the horizon, and hands each entry to the recorder as it comes: nothing of the
+/// trace is held. There is one machine for each process, of process 1 first, and each opens as the scenario says. What
+/// the recorder took is, after what it had, the scenario's trace, in its order; keys rise, each entry but the starts
+/// has one cause, an earlier entry, and each event that a step adds below the horizon is one entry.
+///
+/// # Errors
+///
+/// `Limit` where the whole trace has more entries than the scenario's limit: the recorder took the first so many of
+/// them. `Memory` where memory was refused; the recorder is good for nothing then. The machines are gone.
+pub fn run_list_into<R: Recorder>(
+    alloc: Global,
+    scenario: &Scenario,
+    machines: Vec<Box<dyn Process>>,
+    recorder: &mut R,
+) -> Result<(), RunError>
+    requires { map mind machines.items ≡ map (opening_mind scenario.now) (numbers_to scenario.now.processes) }
+
+    ensures recorded { OnOk result (IsRecorded (setting_of scenario.now) scenario.now.limit
+        (R.recorded recorder.old recorder.old) (R.recorded recorder.old recorder.new)) }
+    ensures errors { IfErr result (λ e. (e ≡ RunError.Limit) ⊎ (e ≡ RunError.Memory)) }
+    ensures limit { IsErrOf result RunError.Limit → (whole : List EntryRecord)
+        → IsTrace (setting_of scenario.now) whole → scenario.now.limit < length whole }
+    ensures front { IsErrOf result RunError.Limit → IsCutShort (setting_of scenario.now) scenario.now.limit
+        (R.recorded recorder.old recorder.old) (R.recorded recorder.old recorder.new) }
+{
+    run_machines(alloc, scenario, machines, recorder)
 }
 
 /// Runs machines by one event list, up to the horizon. There is one machine for each process, of process 1 first, and
@@ -197,6 +230,7 @@ pub fn run_list(
     ensures limit { IsErrOf result RunError.Limit → (whole : List EntryRecord)
         → IsTrace (setting_of scenario.now) whole → scenario.now.limit < length whole }
 {
-    let entries = run_machines(alloc, scenario, machines)?;
+    let mut entries = Vec::new(alloc);
+    run_machines(alloc, scenario, machines, &mut entries)?;
     Ok(Trace::new(entries))
 }

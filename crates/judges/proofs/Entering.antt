@@ -3,7 +3,7 @@ use Rattle.std.proofs.Common.{◌≡◌, ℕ, suc, ◌+◌, ◌-◌, ◌*◌, �
 use Rattle.std.specs.List.{fold}
 use Rattle.std.specs.Vec.{with_items, vec_len}
 use Rattle.std.proofs.lemmas.List.{with_items_is}
-use Rattle.std.proofs.lemmas.Bool.{cases_eq, cases_Bool, cond-true, cond-false, cond_both, and_parts, and_from, and_left, and_right, le-leb, lt-leb, leb-true, eq-eqb, ne_eqb, both_ways}
+use Rattle.std.proofs.lemmas.Bool.{cases_eq, cases_lt, cases_Bool, cond-true, cond-false, cond_both, and_parts, and_from, and_left, and_right, le-leb, lt-leb, leb-true, eq-eqb, ne_eqb, both_ways}
 use Rattle.process_api.specs.Numbers.{is_process}
 use Rattle.process_api.specs.EntryRecord.{EntryRecord}
 use Rattle.process_api.specs.declared.action.Note.{Note}
@@ -159,3 +159,21 @@ module _ (S : Record) (layer : ℕ) (trace : List EntryRecord) (entry : EntryRec
         lasts = h.lasts;
         tracked = λ last later. subst (AreTracked S (suspects layer (trace ++ entry ∷ [])) last) (sym is) (all_longer S (suspects layer (trace ++ entry ∷ [])) entry.key.tick last _ new (AreUntil-push trace entry last later).1);
       }
+
+  -- an entry without notes changes nothing
+  pub judging_quiet : (m : RunningJudge) → IsJudging S layer trace m → AreUntil trace entry.key.tick → entry.notes ≡ [] → IsJudging S layer (trace ++ entry ∷ []) m
+  judging_quiet m h until none =
+      elim (cases_lt entry.key.tick m.horizon) [
+        | inl below ↦ record {
+          same_layer = h.same_layer;
+          processes = h.processes;
+          horizon = h.horizon;
+          lasts = h.lasts;
+          tracked = λ last later.
+              all_longer S (suspects layer (trace ++ entry ∷ [])) entry.key.tick last m.tracks.items
+              (subst (λ notes. AreTracked S (suspects layer (trace ++ entry ∷ [])) entry.key.tick (all_noted S.processes layer entry.key.receiver entry.key.tick m.tracks.items notes)) none
+              (entry_tracked (omega (arith, h.horizon)) m.tracks.items (h.tracked entry.key.tick until)))
+              (AreUntil-push trace entry last later).1;
+        }
+        | inr late ↦ judging_late m h late
+      ]

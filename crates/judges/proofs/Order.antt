@@ -4,7 +4,7 @@ use Rattle.std.specs.List.{list_all}
 use Rattle.std.proofs.Math.Seq.{drop-cons}
 use Rattle.std.proofs.lemmas.List.{take-append-drop}
 use Rattle.std.proofs.lemmas.List.Folds.{list_all-append}
-use Rattle.std.proofs.lemmas.Bool.{and_parts}
+use Rattle.std.proofs.lemmas.Bool.{and_parts, and_from}
 use Rattle.process_api.specs.Order.{is_less, is_before, is_rising}
 use Rattle.process_api.specs.EntryRecord.{EntryRecord}
 use Rattle.process_api.proofs.KeyOrder.{ticks_rise}
@@ -16,7 +16,7 @@ less_from Equal e = absurd (cc)
 less_from Greater e = absurd (cc)
 
 -- the entries before one of a rising list
-before_one : (xs : List EntryRecord) (e : EntryRecord) (ys : List EntryRecord) → is_rising (xs ++ e ∷ ys) ≡ true → AreUntil xs e.key.tick
+pub before_one : (xs : List EntryRecord) (e : EntryRecord) (ys : List EntryRecord) → is_rising (xs ++ e ∷ ys) ≡ true → AreUntil xs e.key.tick
 before_one [] e ys h = tt
 before_one (x ∷ xs) e ys h =
     let parts = and_parts (list_all (λ f. is_before x.key f.key) (xs ++ e ∷ ys)) (is_rising (xs ++ e ∷ ys)) h in
@@ -28,3 +28,11 @@ pub before_at : (trace : List EntryRecord) (i : ℕ) (d : EntryRecord) → i < l
 before_at trace i d l h =
     before_one (take i trace) (get_or trace i d) (drop (suc i) trace)
     (ap is_rising (ap (λ ys. take i trace ++ ys) (sym (drop-cons trace i d l)) ∙ take-append-drop i trace) ∙ h)
+
+-- a front of a rising list rises
+pub rising_front : (xs ys : List EntryRecord) → is_rising (xs ++ ys) ≡ true → is_rising xs ≡ true
+rising_front [] ys h = refl
+rising_front (x ∷ xs) ys h =
+    let parts = and_parts (list_all (λ f. is_before x.key f.key) (xs ++ ys)) (is_rising (xs ++ ys)) h in
+    let here = and_parts (list_all (λ f. is_before x.key f.key) xs) (list_all (λ f. is_before x.key f.key) ys) (sym (list_all-append (λ f. is_before x.key f.key) xs ys) ∙ parts.0) in
+    and_from _ _ here.0 (rising_front xs ys parts.1)

@@ -55,3 +55,18 @@ module _ (trace : List EntryRecord) (entry : EntryRecord) (n : ℕ) where
 
 pub outcomes-at : (trace : List EntryRecord) (n k : ℕ) (d : Outcome) → k < n → get_or (outcomes trace n) k d ≡ outcome trace (suc k)
 outcomes-at trace n k d l = number_at (outcome trace) n k d l
+
+-- an entry without notes changes nothing
+pub outcomes_quiet : (trace : List EntryRecord) (entry : EntryRecord) (n : ℕ) → entry.notes ≡ [] → outcomes trace n ≡ outcomes (trace ++ entry ∷ []) n
+outcomes_quiet trace entry n none =
+    same_lists (outcomes trace n) (outcomes (trace ++ entry ∷ []) n) (length-outcomes trace n ∙ sym (length-outcomes (trace ++ entry ∷ []) n))
+    (λ i d m.
+    let small : i < n = omega (arith, length-outcomes trace n) in
+    number_at (outcome trace) n i d small ∙ sym (same (suc i)) ∙ sym (number_at (outcome (trace ++ entry ∷ [])) n i d small))
+  where
+    same : (p : ℕ) → outcome (trace ++ entry ∷ []) p ≡ outcome trace p
+    same p =
+        elim (cases_eq entry.key.receiver p) [
+          | inl e ↦ outcome-own trace entry p e ∙ ap (all_noted (outcome trace p) entry.key.tick) none
+          | inr d ↦ outcome-other trace entry p d
+        ]

@@ -1,4 +1,4 @@
--- What it is that a judge was fed with the entries of a trace.
+-- What it is that a judge, or outcomes, were fed with the entries of a trace.
 use Rattle.std.specs.Prelude.{◌≡◌, ℕ, suc, ◌*◌, ◌<◌, ◌≤◌, Bool, List, [], ◌∷◌, length}
 use Rattle.process_api.specs.EntryRecord.{EntryRecord}
 use Rattle.scenario.specs.Record.{Record}
@@ -6,6 +6,8 @@ use Rattle.judges.specs.Crashes.{end_of}
 use Rattle.judges.specs.Out.{suspects}
 use Rattle.judges.specs.Track.{Knows}
 use Rattle.judges.specs.Grid.{place}
+use Rattle.judges.specs.Outcomes.{outcomes}
+use Rattle.judges.specs.declared.outcomes.RunningOutcomes.{RunningOutcomes}
 use Rattle.judges.specs.declared.track.Track.{Track}
 use Rattle.judges.specs.declared.running.RunningJudge.{RunningJudge}
 
@@ -36,3 +38,7 @@ pub record IsJudging (S : Record) (layer : ℕ) (trace : List EntryRecord) (j : 
   pub horizon : j.horizon ≡ S.horizon
   pub lasts : 0 < S.horizon
   pub tracked : (last : ℕ) → AreUntil trace last → AreTracked S (suspects layer trace) last j.tracks.items
+
+-- the outcomes of processes 1 to n
+abbrev pub IsDeciding : (n : ℕ) (trace : List EntryRecord) → RunningOutcomes → Type 0
+IsDeciding n trace running = running.outcomes.items ≡ outcomes trace n

@@ -1,7 +1,7 @@
 //! Judges of a run: which properties of Chandra and Toueg (Journal of the ACM 43(2), 1996) its failure detectors had,
 //! and what its processes decided.
 //!
-//! Both calls read a finished trace. [`judge`] gives the six [`Verdicts`] on one layer of detectors: whom a process
+//! Two calls read a finished trace. [`judge`] gives the six [`Verdicts`] on one layer of detectors: whom a process
 //! suspects at a tick is read from its notes, as they stand at the end of that tick, and 'eventually' ends at the
 //! horizon. [`decisions`] gives one [`Outcome`] for each process. For every scenario and every trace, whoever made it,
 //! their contracts say of an `Ok`:
@@ -17,9 +17,12 @@
 //! `proofs/Agreement.antt`. The crate above also promises `specs/Blame.antt`, which is proved here: each suspicion of
 //! layer 2 has an earlier entry that notes one of the same process on layer 1.
 //!
+//! [`RunningJudge`] and [`RunningOutcomes`] answer the same with no trace at hand: they are fed with its entries as these
+//! come, and hold nothing of them. The two calls feed them (`specs/Judging.antt` says what it is that they were fed).
+//!
 //! Of work and memory no contract speaks. The code goes over the entries once: it keeps for each pair of processes
 //! since when the one suspects the other, or doesn't, and moves that on only where a note changes it. So the work grows
-//! with the notes of the trace and with the number of pairs, and not with the ticks.
+//! with the notes of the trace and with the number of pairs, and not with the ticks. All room is made at the opening.
 //!
 //! As an example, let process 2 of two crash at tick 3 of 10, and process 1 note at tick 9 that it suspects it. Both
 //! completenesses hold from tick 9, the eventual accuracies from tick 0, and the other two hold.
@@ -33,7 +36,8 @@ mod running;
 mod track;
 mod verdicts;
 
-pub use outcomes::{Answer, Outcome, decisions};
+pub use outcomes::{Answer, Outcome, RunningOutcomes, decisions};
+pub use running::RunningJudge;
 pub use verdicts::{Verdicts, judge};
 
 #[cfg(test)]

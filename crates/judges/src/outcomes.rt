@@ -79,17 +79,26 @@ fn note_all(outcome: &mut Outcome, tick: u32, notes: &[Note])
     }
 }
 
-/// The outcomes of all processes, fed with the entries of a trace. All its room is made as it opens.
+/// The outcomes of all processes, fed with the entries of a trace as they come, in the order of their keys.
+///
+/// All its room is made as it opens. Fed with all entries of a trace it answers what [`decisions`] answers of
+/// that trace.
 #[derive(Drop)]
-pub(crate) struct RunningOutcomes {
+pub struct RunningOutcomes {
     // of process 1 first
     outcomes: Vec<Outcome>,
 }
 
 impl RunningOutcomes {
+    ghost use Rattle.judges.specs.Judging.{IsDeciding};
+
     /// Nothing is noted.
+    ///
+    /// # Errors
+    ///
+    /// Where a growth was refused.
     pub fn open(alloc: Global, scenario: &Scenario) -> Result<RunningOutcomes, AllocError>
-        ensures value { IfOk result (λ r. r.outcomes.items ≡ outcomes [] scenario.now.processes) }
+        ensures value { IfOk result (λ r. IsDeciding scenario.now.processes [] r) }
         ensures ranges { IsInRange scenario.now }
     {
         let mut outcomes = Vec::with_capacity(alloc, usize::from(scenario.processes()))?;
@@ -101,8 +110,8 @@ impl RunningOutcomes {
 
     /// One more entry. Takes no memory.
     pub fn feed(&mut self, entry: &Entry)
-        ensures { (n : ℕ) (trace : List EntryRecord) → self.old.outcomes.items ≡ outcomes trace n
-            → self.new.outcomes.items ≡ outcomes (trace ++ entry.now ∷ []) n }
+        ensures { (n : ℕ) (trace : List EntryRecord) → IsDeciding n trace self.old
+            → IsDeciding n (trace ++ entry.now ∷ []) self.new }
     {
         let place = usize::from(entry.key.receiver.number()) - 1;
         if let Some(outcome) = self.outcomes.get_mut(place) {
@@ -110,9 +119,9 @@ impl RunningOutcomes {
         }
     }
 
-    /// The outcomes, as no entry follows. Takes no memory.
+    /// The outcomes, of process 1 first, as no entry follows. Takes no memory.
     pub fn close(self) -> Vec<Outcome>
-        ensures { result.items ≡ self.outcomes.items }
+        ensures { (n : ℕ) (trace : List EntryRecord) → IsDeciding n trace self → result.items ≡ outcomes trace n }
     {
         self.outcomes
     }

@@ -9,9 +9,12 @@ use process_api::Entry;
 use scenario::Scenario;
 use std::alloc::{AllocError, Global};
 
-/// Judges one layer, fed with the entries of a trace in the order of their keys. All its room is made as it opens.
+/// Judges one layer, fed with the entries of a trace as they come, in the order of their keys.
+///
+/// All its room is made as it opens. Fed with all entries of a trace it answers what [`judge`](crate::judge) answers of
+/// that trace.
 #[derive(Drop)]
-pub(crate) struct RunningJudge {
+pub struct RunningJudge {
     layer: u8,
     processes: usize,
     horizon: u32,
@@ -26,7 +29,11 @@ impl RunningJudge {
     ghost use Rattle.judges.specs.Judging.{AreUntil, IsJudging};
     ghost use Rattle.judges.specs.Verdicts.{verdicts};
 
-    /// A judge of a layer that was fed with nothing.
+    /// A judge that was fed with nothing: of layer 1, the base detector, or layer 2, the reduction's output.
+    ///
+    /// # Errors
+    ///
+    /// Where a growth was refused.
     pub fn open(alloc: Global, scenario: &Scenario, layer: u8) -> Result<RunningJudge, AllocError>
         ensures { IfOk result (λ j. IsJudging scenario.now layer [] j) }
     {

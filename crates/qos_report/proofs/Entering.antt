@@ -3,7 +3,7 @@ use Rattle.std.proofs.Common.{◌≡◌, ℕ, suc, ◌+◌, ◌-◌, ◌*◌, �
 use Rattle.std.specs.List.{fold}
 use Rattle.std.specs.Vec.{with_items, vec_len}
 use Rattle.std.proofs.lemmas.List.{with_items_is}
-use Rattle.std.proofs.lemmas.Bool.{cases_eq, cases_Bool, cond-true, cond-false, cond_both, and_parts, and_from, and_left, and_right, le-leb, lt-leb, leb-true, eq-eqb, ne_eqb, both_ways}
+use Rattle.std.proofs.lemmas.Bool.{cases_eq, cases_lt, cases_Bool, cond-true, cond-false, cond_both, and_parts, and_from, and_left, and_right, le-leb, lt-leb, leb-true, eq-eqb, ne_eqb, both_ways}
 use Rattle.process_api.specs.Numbers.{is_process}
 use Rattle.process_api.specs.EntryRecord.{EntryRecord}
 use Rattle.process_api.specs.declared.action.Note.{Note}
@@ -157,3 +157,20 @@ module _ (S : Record) (layer : ℕ) (trace : List EntryRecord) (entry : EntryRec
         horizon = h.horizon;
         metered = λ last later. subst (AreMetered S layer (suspects layer (trace ++ entry ∷ [])) last) (sym is) (all_longer S layer (suspects layer (trace ++ entry ∷ [])) entry.key.tick last _ new (AreUntil-push trace entry last later).1);
       }
+
+  -- an entry without notes changes nothing
+  pub metering_quiet : (m : Panel) → IsMetering S layer trace m → AreUntil trace entry.key.tick → entry.notes ≡ [] → IsMetering S layer (trace ++ entry ∷ []) m
+  metering_quiet m h until none =
+      elim (cases_lt entry.key.tick m.horizon) [
+        | inl below ↦ record {
+          same_layer = h.same_layer;
+          processes = h.processes;
+          horizon = h.horizon;
+          metered = λ last later.
+              all_longer S layer (suspects layer (trace ++ entry ∷ [])) entry.key.tick last m.meters.items
+              (subst (λ notes. AreMetered S layer (suspects layer (trace ++ entry ∷ [])) entry.key.tick (all_noted S.processes layer entry.key.receiver entry.key.tick m.meters.items notes)) none
+              (entry_metered (omega (arith, h.horizon)) m.meters.items (h.metered entry.key.tick until)))
+              (AreUntil-push trace entry last later).1;
+        }
+        | inr late ↦ metering_late m h late
+      ]

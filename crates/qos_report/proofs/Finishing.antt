@@ -1,5 +1,5 @@
 -- A run from its trace to its texts: what it leaves once it is done, and once it is refused.
-use Rattle.std.proofs.Common.{◌≡◌, ◌≢◌, ℕ, ◌<◌, ◌≤◌, ◌∙◌, sym, ap, subst, refl, Bool, true, false, true≢false, List, length, Option, Result, Ok, Err, IfOk, IfErr, OnOk}
+use Rattle.std.proofs.Common.{◌≡◌, ◌≢◌, ℕ, ◌<◌, ◌∙◌, sym, ap, subst, refl, Bool, true, false, true≢false, List, length, Option, Result, Ok, Err, IfOk, IfErr, OnOk}
 use Rattle.event_list.specs.Effects.{HasCauses, TakesOnce}
 use Rattle.event_list.specs.ScenarioSetting.{setting_of}
 use Rattle.event_list.specs.World.{IsTrace}
@@ -41,7 +41,7 @@ module _ (S : Record) (print : PrintChoice) {O : Type 0} (told : O → Option (L
 
   module _ (trace : List EntryRecord) (within : IsTraceWithin S trace) where
     pub finishes : HasCauses (setting_of S) trace → TakesOnce (setting_of S) trace → (r : Result Summary RunError)
-        → OnOk r (Wrote told failed old new (printed print S trace)) → IfOk r (IsSummary S trace) → OnOk r (IsCoordinated S trace → Agrees S trace)
+        → OnOk r (Wrote told failed old new (printed print S trace)) → IfOk r (IsSummary S trace) → (IsCoordinated S trace → Agrees S trace)
         → IfOk r (Finishes S print told failed old new)
     finishes causes once (Ok summary) text summed agrees = record {
       trace = trace;

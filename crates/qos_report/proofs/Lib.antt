@@ -7,6 +7,7 @@ pub mod Entering
 pub mod Opening
 pub mod EachProcess
 pub mod Closing
+pub mod Fed
 pub mod Layers
 mod Examples
 pub mod PlainRows

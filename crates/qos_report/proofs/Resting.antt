@@ -1,5 +1,5 @@
 -- Every row of layer 2 with a mistake or a detection rests on an earlier suspicion of layer 1.
-use Rattle.std.proofs.Common.{◌≡◌, ℕ, zero, suc, ◌+◌, ◌<◌, ◌≤◌, inl, inr, refl, sym, ap, ◌∙◌, subst, Bool, true, false, cond, arith, true≢false, List, [], ◌∷◌, map, Option, None, Some, is_some, unwrap_or}
+use Rattle.std.proofs.Common.{◌≡◌, ℕ, zero, suc, ◌+◌, ◌<◌, ◌≤◌, refl, sym, ap, ◌∙◌, subst, Bool, true, false, cond, arith, true≢false, List, [], ◌∷◌, map, Option, None, Some, is_some, unwrap_or}
 use Rattle.std.specs.List.{All, AllByRecursion, flat_map}
 use Rattle.std.proofs.lemmas.List.Elements.{All-from_recursion}
 use Rattle.process_api.specs.EntryRecord.{EntryRecord}
@@ -11,7 +11,7 @@ use Rattle.scenario.specs.Record.{Record}
 use Rattle.event_list.specs.ScenarioSetting.{setting_of}
 use Rattle.event_list.specs.World.{IsTrace}
 use Rattle.judges.specs.Crashes.{crash_tick, end_of}
-use Rattle.judges.specs.Out.{out, suspects}
+use Rattle.judges.specs.Out.{suspects}
 use Rattle.judges.specs.Ticks.{all_from, first_of, least_below, least_from}
 use Rattle.judges.proofs.Blamed.{blamed_by_out}
 use Rattle.judges.proofs.Lasting.{all_from-at}

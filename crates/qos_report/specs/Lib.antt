@@ -14,5 +14,8 @@ pub mod Tail
 pub mod TraceText
 pub mod ReportText
 pub mod Summary
+pub mod Findings
+pub mod Running
 pub mod Printed
+pub mod Recording
 pub mod Resting

@@ -1,5 +1,6 @@
 -- What a run writes and tells.
-use Rattle.std.specs.Prelude.{◌≡◌, ◌≢◌, ◌<◌, ◌≤◌, ℕ, List, ◌++◌, length, Option}
+use Rattle.std.specs.Prelude.{◌≡◌, ◌≢◌, ◌<◌, ◌≤◌, ℕ, Bool, true, false, List, [], ◌++◌, length, Option, None, Some}
+use Rattle.std.specs.Global.{Vec}
 use Rattle.event_list.specs.Effects.{HasCauses, TakesOnce}
 use Rattle.event_list.specs.ScenarioSetting.{setting_of}
 use Rattle.event_list.specs.World.{IsTrace}
@@ -16,6 +17,22 @@ use Rattle.qos_report.specs.Writing.{Wrote, WrotePart, WroteNothing}
 use Rattle.print_choice.specs.declared.PrintChoice.{PrintChoice}
 use Rattle.print_choice.specs.declared.PrintChoice.TheVariants as choice
 use Rattle.qos_report.specs.declared.summary.Summary.{Summary}
+
+-- whether the trace is asked for, and whether the report is
+abbrev pub prints_trace : PrintChoice → Bool
+prints_trace choice.Trace = true
+prints_trace choice.Report = false
+prints_trace choice.Both = true
+
+abbrev pub prints_report : PrintChoice → Bool
+prints_report choice.Trace = false
+prints_report choice.Report = true
+prints_report choice.Both = true
+
+-- a text, if there is one
+abbrev pub items_of : Option (Vec ℕ) → Text
+items_of None = []
+items_of (Some text) = text.items
 
 -- the texts of a trace that are asked for
 abbrev pub printed : PrintChoice → Record → List EntryRecord → List ℕ

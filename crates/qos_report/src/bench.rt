@@ -6,9 +6,10 @@ ghost use Rattle.scenario.specs.Record.{opening_mind};
 ghost use Rattle.windows.specs.Plan.{IsPlanFor};
 
 use crate::outlet::Outlet;
+use crate::recording::Recording;
 use crate::summary::Summary;
-use crate::writing::write_run;
-use event_list::{RunError, run_list};
+use crate::writing::{record_trace, write_recorded};
+use event_list::{RunError, run_list_into};
 use print_choice::PrintChoice;
 use process_api::Process;
 use scenario::Scenario;
@@ -19,7 +20,8 @@ use std::thread::Threads;
 use windows::{Gate, Plan, run_windows};
 
 /// Runs a scenario by one global event list and writes what is asked for. All texts and the summary are formed before
-/// anything is written.
+/// anything is written. No entry is held: each is measured as it comes, and its row is formed where the trace is asked
+/// for.
 ///
 /// The machines are those of processes 1 to n, in this order, each in its opening state. They are consumed.
 ///
@@ -45,8 +47,10 @@ pub fn bench_list<O: Outlet>(
     ensures refused { IfErr result (Refuses scenario.now print O.told O.failed outlet.old outlet.new) }
     ensures threads { result ≢ Err RunError.Spawn }
 {
-    let trace = run_list(alloc, scenario, machines)?;
-    write_run(alloc, scenario, &trace, print, outlet)
+    let _ticks = scenario.horizon();
+    let mut recording = Recording::open(alloc, scenario, print)?;
+    run_list_into(alloc, scenario, machines, &mut recording)?;
+    write_recorded(alloc, scenario, recording, outlet)
 }
 
 /// Runs a scenario by windows that the plan's workers share, each a thread, and writes what is asked for. Under every
@@ -84,5 +88,6 @@ pub fn bench_windows<G: Gate, O: Outlet, R: Threads + Wait + Sync>(
 {
     let _ticks = scenario.horizon();
     let trace = run_windows(rt, alloc, scenario, machines, plan, gate)?;
-    write_run(alloc, scenario, &trace, print, outlet)
+    let recording = record_trace(alloc, scenario, &trace, print)?;
+    write_recorded(alloc, scenario, recording, outlet)
 }

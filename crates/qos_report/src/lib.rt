@@ -31,6 +31,7 @@
 #![tactic(auto)]
 
 mod bench;
+mod counts;
 mod fuse_outlet;
 mod measuring;
 mod memory_outlet;
@@ -38,9 +39,11 @@ mod meter;
 mod outlet;
 mod pair_measures;
 mod panel;
+mod recording;
 mod report;
 mod report_rows;
 mod rows;
+mod running;
 mod stream_outlet;
 mod summary;
 mod tail;

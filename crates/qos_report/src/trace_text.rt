@@ -107,7 +107,7 @@ fn text_of_front(entry: &Entry) -> Tail
 }
 
 /// Appends the row of an entry.
-fn append_entry(text: &mut Vec<u8>, entry: &Entry) -> Result<(), AllocError>
+pub(crate) fn append_entry(text: &mut Vec<u8>, entry: &Entry) -> Result<(), AllocError>
     ensures { OnOk result (text.new.items ≡ text.old.items ++ row_of (fields_of entry.now)) }
 {
     let front = text_of_front(entry);

@@ -1,15 +1,17 @@
 //! Writing the texts of a finished trace.
-ghost use Rattle.std.specs.Prelude.{◌≡◌, ◌≢◌, ◌^◌, ◌-◌, ◌+◌, ◌<◌, Err, OnOk, IfErr, IfOk};
-ghost use Rattle.judges.specs.Agreement.{Agrees, IsCoordinated};
+ghost use Rattle.std.specs.Prelude.{◌≡◌, ◌≢◌, ◌^◌, ◌-◌, ◌+◌, ◌<◌, Err, List, length, OnOk, IfErr, IfOk};
+ghost use Rattle.process_api.specs.EntryRecord.{EntryRecord};
+ghost use Rattle.print_choice.specs.declared.PrintChoice.{PrintChoice};
 ghost use Rattle.qos_report.specs.Printed.{printed};
+ghost use Rattle.qos_report.specs.Recording.{IsRecording};
 ghost use Rattle.qos_report.specs.ReportText.{report_text};
 ghost use Rattle.qos_report.specs.Summary.{IsSummary};
 ghost use Rattle.qos_report.specs.TraceText.{trace_text};
 ghost use Rattle.qos_report.specs.Writing.{Wrote, WrotePart, WroteNothing};
 
 use crate::outlet::{Outlet, put_all};
-use crate::report::text_of_report;
-use crate::summary::{Summary, summarize};
+use crate::recording::Recording;
+use crate::summary::Summary;
 use crate::trace_text::text_of_trace;
 use event_list::RunError;
 use print_choice::PrintChoice;
@@ -52,16 +54,52 @@ pub fn write_trace<O: Outlet>(alloc: Global, trace: &Trace, outlet: &mut O) -> R
     }
 }
 
-/// The text of a trace's report.
-fn text_of_whole_report(
+/// Writes the texts of a run that was recorded, and answers its summary. Both are formed before any text is written. In
+/// the trace of a scenario with the rotating coordinator the outcomes agree, and whoever decides does so once.
+///
+/// # Errors
+///
+/// `Memory` where memory was refused; then nothing was written. `Write` where a put failed; then a front part of the
+/// texts went out.
+pub(crate) fn write_recorded<O: Outlet>(
+    alloc: Global,
+    scenario: &Scenario,
+    recording: Recording,
+    outlet: &mut O,
+) -> Result<Summary, RunError>
+    requires { O.failed outlet.old < 2 ^ 64 - 1 }
+    ensures whole { OnOk result ((print : PrintChoice) (trace : List EntryRecord)
+        → IsRecording scenario.now print trace recording → length trace < 2 ^ 64
+        → Wrote O.told O.failed outlet.old outlet.new (printed print scenario.now trace)) }
+    ensures summed { IfOk result (λ s. (print : PrintChoice) (trace : List EntryRecord)
+        → IsRecording scenario.now print trace recording → length trace < 2 ^ 64 → IsSummary scenario.now trace s) }
+    ensures part { result ≡ Err RunError.Write → (print : PrintChoice) (trace : List EntryRecord)
+        → IsRecording scenario.now print trace recording → length trace < 2 ^ 64
+        → WrotePart O.told O.failed outlet.old outlet.new (printed print scenario.now trace) }
+    ensures memory { result ≡ Err RunError.Memory → WroteNothing O.told O.failed outlet.old outlet.new }
+    ensures only { (result ≢ Err RunError.Limit) × (result ≢ Err RunError.Spawn) }
+{
+    let (summary, text) = recording.close(alloc, scenario)?;
+    write_text(&text, outlet)?;
+    Ok(summary)
+}
+
+/// What is recorded of a finished trace.
+pub(crate) fn record_trace(
     alloc: Global,
     scenario: &Scenario,
     trace: &Trace,
-) -> Result<Vec<u8>, AllocError>
-    ensures { IfOk result (λ text. text.items ≡ report_text scenario.now trace.now) }
+    print: PrintChoice,
+) -> Result<Recording, AllocError>
+    ensures recorded { IfOk result (IsRecording scenario.now print trace.now) }
+    ensures few { length trace.now < 2 ^ 64 }
 {
-    let summary = summarize(alloc, scenario, trace)?;
-    text_of_report(alloc, scenario, trace, &summary)
+    let entries = trace.entries();
+    let mut recording = Recording::open(alloc, scenario, print)?;
+    for entry in entries {
+        recording.feed(entry)?;
+    }
+    Ok(recording)
 }
 
 /// Writes the report of a finished trace: a header line, and a row for each number of the run, each verdict on a layer,
@@ -84,60 +122,9 @@ pub fn write_report<O: Outlet>(
     ensures memory { result ≡ Err RunError.Memory → WroteNothing O.told O.failed outlet.old outlet.new }
     ensures only { (result ≢ Err RunError.Limit) × (result ≢ Err RunError.Spawn) }
 {
-    match text_of_whole_report(alloc, scenario, trace) {
-        Ok(text) => write_text(&text, outlet),
-        Err(_) => Err(RunError::Memory),
+    let recording = record_trace(alloc, scenario, trace, PrintChoice::Report)?;
+    match write_recorded(alloc, scenario, recording, outlet) {
+        Ok(_) => Ok(()),
+        Err(reason) => Err(reason),
     }
-}
-
-/// The texts of a finished trace that are asked for.
-fn text_of_run(
-    alloc: Global,
-    scenario: &Scenario,
-    trace: &Trace,
-    summary: &Summary,
-    print: PrintChoice,
-) -> Result<Vec<u8>, AllocError>
-    requires { IsSummary scenario.now trace.now summary.now }
-    ensures { IfOk result (λ text. text.items ≡ printed print scenario.now trace.now) }
-{
-    match print {
-        PrintChoice::Trace => text_of_trace(alloc, trace.entries()),
-        PrintChoice::Report => text_of_report(alloc, scenario, trace, summary),
-        PrintChoice::Both => {
-            let mut text = text_of_trace(alloc, trace.entries())?;
-            let report = text_of_report(alloc, scenario, trace, summary)?;
-            text.extend_from_slice(&report)?;
-            Ok(text)
-        }
-    }
-}
-
-/// Writes the texts of a finished trace that are asked for, and answers its summary. Both are formed before any text is
-/// written.
-///
-/// # Errors
-///
-/// `Memory` where memory was refused; then nothing was written. `Write` where a put failed; then a front part of the
-/// texts went out.
-pub(crate) fn write_run<O: Outlet>(
-    alloc: Global,
-    scenario: &Scenario,
-    trace: &Trace,
-    print: PrintChoice,
-    outlet: &mut O,
-) -> Result<Summary, RunError>
-    requires { O.failed outlet.old < 2 ^ 64 - 1 }
-    ensures whole { OnOk result (Wrote O.told O.failed outlet.old outlet.new (printed print scenario.now trace.now)) }
-    ensures summed { IfOk result (IsSummary scenario.now trace.now) }
-    ensures agree { OnOk result (IsCoordinated scenario.now trace.now → Agrees scenario.now trace.now) }
-    ensures part { result ≡ Err RunError.Write
-        → WrotePart O.told O.failed outlet.old outlet.new (printed print scenario.now trace.now) }
-    ensures memory { result ≡ Err RunError.Memory → WroteNothing O.told O.failed outlet.old outlet.new }
-    ensures only { (result ≢ Err RunError.Limit) × (result ≢ Err RunError.Spawn) }
-{
-    let summary = summarize(alloc, scenario, trace)?;
-    let text = text_of_run(alloc, scenario, trace, &summary, print)?;
-    write_text(&text, outlet)?;
-    Ok(summary)
 }

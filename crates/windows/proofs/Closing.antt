@@ -5,7 +5,7 @@ use Rattle.std.proofs.lemmas.Option.{slice_get_within}
 use Rattle.std.proofs.lemmas.Bool.{cases_lt}
 use Rattle.std.specs.FinMap as finmap
 use Rattle.std.specs.List.{All}
-use Rattle.std.proofs.lemmas.List.{length-map}
+use Rattle.std.proofs.lemmas.List.{length-map, map-append}
 use Rattle.std.proofs.lemmas.List.Sorted.{length_permutation, Contains-permutation, IsPermutation-sym}
 use Rattle.process_api.specs.EntryRecord.{EntryRecord}
 use Rattle.process_api.specs.Mind.{Mind}
@@ -33,7 +33,7 @@ use Rattle.trace_merge.specs.Parts.{all_of, AreDisjoint}
 use Rattle.windows.specs.Berth.{event_of, RanTo, IsBerth}
 use Rattle.windows.specs.Machine.{StageRecord, Act, StandsFor, IsRun, end_of, first_status}
 use Rattle.windows.specs.Theorems.{IsListRun, IsMerge}
-use Rattle.windows.specs.Stage.{of_process, stage_of, AreHome, IsStage, IsClosed, IsWindowRun}
+use Rattle.windows.specs.Stage.{of_process, stage_of, AreHome, IsStageAfter, IsClosed, IsWindowRun}
 use Rattle.windows.specs.Window.{BerthRun, IsPosted, AreBerths, IsSameStage}
 use Rattle.windows.specs.declared.berth.Berth.{Berth}
 use Rattle.windows.specs.declared.stage.Stage.{Stage}
@@ -130,7 +130,7 @@ module _ {Mind : Type 0} (S : Setting Mind) where
 
 -- ---- a window of a stage
 
-module _ {M : Type 0} (mind : M → Mind) (old : Stage M) (ranges : IsInRange old.scenario.now) (is : IsStage mind old) (window : ℕ) (short : window ≤ old.scenario.now.lookahead) where
+module _ {M : Type 0} (mind : M → Mind) (old : Stage M) (ranges : IsInRange old.scenario.now) (trace_so_far : List EntryRecord) (is : IsStageAfter mind trace_so_far old) (window : ℕ) (short : window ≤ old.scenario.now.lookahead) where
   abbrev s : Record
   s = old.scenario.now
 
@@ -176,7 +176,7 @@ module _ {M : Type 0} (mind : M → Mind) (old : Stage M) (ranges : IsInRange ol
   idle_ran p own a at none = record { history = []; run = (none, refl, refl, refl); part = no_part p own a at }
 
   -- where a run of a process below the end of the window has more pairs than are left, every trace is longer than the limit
-  pub berth_limit : (left p : ℕ) → left + vec_len old.entries ≡ s.limit → (own : IsProcess S p) (a : Berth M) → slice_get old.berths.items (p - 1) ≡ Some a
+  pub berth_limit : (left p : ℕ) → left + old.so_far ≡ s.limit → (own : IsProcess S p) (a : Berth M) → slice_get old.berths.items (p - 1) ≡ Some a
       → ((history : List Pair) (now : Process Mind) (rest : Events) (letters : List Event) → BerthRun S p end (process_of mind a.seat) a.pending history now rest letters → left < length history)
       → (trace : List EntryRecord) → IsTrace S trace → s.limit < length trace
   berth_limit left p sum own a at long trace is_trace =
@@ -184,8 +184,8 @@ module _ {M : Type 0} (mind : M → Mind) (old : Stage M) (ranges : IsInRange ol
       let more : left < length r.0 = long r.0 r.1 r.2 r.3 (subst (λ q. BerthRun S p end q a.pending r.0 r.1 r.2 r.3) (old_process p own a at) (subst (λ m. BerthRun S p end (g.process p) m r.0 r.1 r.2 r.3) (old_own p own a at) r.4)) in
       let same : r.0 ≡ pairs_of p list = (all.2.berth p own r.0 r.1 r.2 r.3 r.4).0 in
       let few : length (pairs_of p list) ≤ length list = no_more_one p list in
-      let far = reached_far S sound end to_end list is.world after old.entries.items is.reached is.is_world all.2.world all.2.run trace is_trace in
-      omega (arith, more, ap length same, few, far, sum, old.entries.ok.0)
+      let far = reached_far S sound end to_end list is.world after trace_so_far is.reached is.is_world all.2.world all.2.run trace is_trace in
+      omega (arith, more, ap length same, few, far, sum, is.so_far)
 
   module _ (berths : List (Berth M)) (count : length berths ≡ s.processes) (letters : ℕ → List Letter)
       (ran : (p : ℕ) → IsProcess S p → (a b : Berth M) → slice_get old.berths.items (p - 1) ≡ Some a → slice_get berths (p - 1) ≡ Some b → RanTo mind s p end a b (letters p)) where
@@ -232,18 +232,18 @@ module _ {M : Type 0} (mind : M → Mind) (old : Stage M) (ranges : IsInRange ol
     parts_disjoint = disjoint_from 1 (map (λ b. b.part.items) berths) (λ i part at e j. received (1 + i) list e (subst (IsIn e) (parts_at i part at) j))
 
     -- where the parts have more entries than are left, every trace is longer than the limit
-    pub parts_limit : (left : ℕ) → left + vec_len old.entries ≡ s.limit → left < length (all_of (map (λ b. b.part.items) berths)) → (trace : List EntryRecord) → IsTrace S trace → s.limit < length trace
+    pub parts_limit : (left : ℕ) → left + old.so_far ≡ s.limit → left < length (all_of (map (λ b. b.part.items) berths)) → (trace : List EntryRecord) → IsTrace S trace → s.limit < length trace
     parts_limit left sum long trace is_trace =
         let few : length (all_of (map (λ b. b.part.items) berths)) ≤ length list = no_more 1 (map (λ b. b.part.items) berths) list parts_at in
-        let far = reached_far S sound end to_end list is.world after old.entries.items is.reached is.is_world all.2.world all.2.run trace is_trace in
-        omega (arith, long, few, far, sum, old.entries.ok.0)
+        let far = reached_far S sound end to_end list is.world after trace_so_far is.reached is.is_world all.2.world all.2.run trace is_trace in
+        omega (arith, long, few, far, sum, is.so_far)
 
     -- the window is closed: the lists have the letters that were posted
     module _ (lists : List (List Letter)) (many : length lists ≡ s.processes)
         (posted : (p : ℕ) → IsProcess S p → (own_list : List Letter) → slice_get lists (p - 1) ≡ Some own_list → (x : Letter) → IsIn x own_list ↔ ((q : ℕ) × IsProcess S q × IsIn x (letters q) × (x.key.receiver ≡ p)))
-        (new : Stage M) (same_scenario : new.scenario.now ≡ old.scenario.now) (left : ℕ) (sum : left + vec_len old.entries ≡ s.limit)
-        (closed : IsClosed mind left end old.entries.items berths lists new)
-        (home : (p : ℕ) → IsProcess S p → (b : Berth M) → slice_get berths (p - 1) ≡ Some b → IsBerth mind s p (4096 * vec_len old.entries + 4096 * vec_len b.part) b) where
+        (new : Stage M) (same_scenario : new.scenario.now ≡ old.scenario.now) (left : ℕ) (sum : left + old.so_far ≡ s.limit)
+        (merged : List EntryRecord) (closed : IsClosed mind left end old.so_far berths lists merged new)
+        (home : (p : ℕ) → IsProcess S p → (b : Berth M) → slice_get berths (p - 1) ≡ Some b → IsBerth mind s p (4096 * old.so_far + 4096 * vec_len b.part) b) where
       -- a berth after the closing
       abbrev IsLater : ℕ → Berth M → Berth M → List Letter → Type 0
       IsLater p b c own_list = (slice_get berths (p - 1) ≡ Some b) × (slice_get new.berths.items (p - 1) ≡ Some c) × (slice_get lists (p - 1) ≡ Some own_list) × (c.seat ≡ b.seat) × (c.pending ≡ joined b.pending (map event_of own_list)) × (c.part.items ≡ [])
@@ -396,12 +396,12 @@ module _ {M : Type 0} (mind : M → Mind) (old : Stage M) (ranges : IsInRange ol
         one : (listed.0 ≡ list) × (listed.1 ≡ after)
         one = one_run S end is.world listed.0 list listed.1 after listed.2.run all.2.run
 
-        is_merge : IsMerge S.processes found.part closed.merged
+        is_merge : IsMerge S.processes found.part merged
         is_merge = record { rising = closed.rising; same = λ e. (to e, from e) }
           where
-            to : (e : EntryRecord) → IsIn e closed.merged → (p : ℕ) × (1 ≤ p) × (p ≤ S.processes) × IsIn e (found.part p)
+            to : (e : EntryRecord) → IsIn e merged → (p : ℕ) × (1 ≤ p) × (p ≤ S.processes) × IsIn e (found.part p)
             to e i =
-                let j = contains_in _ e (Contains-permutation _ _ e (IsPermutation-sym _ _ closed.same) (in_contains closed.merged e i)) in
+                let j = contains_in _ e (Contains-permutation _ _ e (IsPermutation-sym _ _ closed.same) (in_contains merged e i)) in
                 let r = in_all (map (λ b. b.part.items) berths) e j in
                 let b = from_map (λ b. b.part.items) berths r.0 r.1 r.2 in
                 let inside : r.0 < s.processes = omega (arith, slice_get_within berths r.0 b.0 b.1, count) in
@@ -409,16 +409,16 @@ module _ {M : Type 0} (mind : M → Mind) (old : Stage M) (ranges : IsInRange ol
                 let at : slice_get berths ((1 + r.0) - 1) ≡ Some b.0 = subst (λ n. slice_get berths n ≡ Some b.0) (omega arith) b.1 in
                 (1 + r.0, own.0, own.1, subst (IsIn e) (sym b.2 ∙ ((histories.1 (1 + r.0) own).1 b.0 at ∙ sym (parts (1 + r.0) own))) r.3)
 
-            from : (e : EntryRecord) → (p : ℕ) × (1 ≤ p) × (p ≤ S.processes) × IsIn e (found.part p) → IsIn e closed.merged
+            from : (e : EntryRecord) → (p : ℕ) × (1 ≤ p) × (p ≤ S.processes) × IsIn e (found.part p) → IsIn e merged
             from e (p, low, high, i) =
                 let own : IsProcess S p = (low, high) in
                 let b = at_new p own in
                 let j : IsIn e b.0.part.items = subst (IsIn e) (parts p own ∙ sym ((histories.1 p own).1 b.0 b.1)) i in
                 let k = all_in (map (λ b. b.part.items) berths) (p - 1) b.0.part.items (there_map (λ b. b.part.items) berths (p - 1) b.0 b.1) e j in
-                contains_in closed.merged e (Contains-permutation _ _ e closed.same (in_contains _ e k))
+                contains_in merged e (Contains-permutation _ _ e closed.same (in_contains _ e k))
 
-        merged_is : closed.merged ≡ entries list
-        merged_is = one_merge S.processes found.part closed.merged (entries list) is_merge (subst (λ l. IsMerge S.processes found.part (entries l)) one.0 listed.2.merged)
+        merged_is : merged ≡ entries list
+        merged_is = one_merge S.processes found.part merged (entries list) is_merge (subst (λ l. IsMerge S.processes found.part (entries l)) one.0 listed.2.merged)
 
         own_new : (p : ℕ) → IsProcess (setting_of new.scenario.now) p → IsProcess S p
         own_new p = subst (λ r. IsProcess (setting_of r) p) same_scenario
@@ -437,28 +437,25 @@ module _ {M : Type 0} (mind : M → Mind) (old : Stage M) (ranges : IsInRange ol
           mailbox = λ r. no_event;
         }
 
-        longer : vec_len new.entries ≡ vec_len old.entries + length closed.merged
-        longer = omega (arith, new.entries.ok.0, old.entries.ok.0, ap length closed.entries_are, length-append old.entries.items closed.merged)
-
-        home_new : AreHome mind s (vec_len new.entries) new.berths.items
+        home_new : AreHome mind s (new.so_far) new.berths.items
         home_new = record { berth = at_home }
           where
-            at_home : (p : ℕ) → IsProcess S p → (c : Berth M) × (slice_get new.berths.items (p - 1) ≡ Some c) × IsBerth mind s p (4096 * vec_len new.entries) c
+            at_home : (p : ℕ) → IsProcess S p → (c : Berth M) × (slice_get new.berths.items (p - 1) ≡ Some c) × IsBerth mind s p (4096 * new.so_far) c
             at_home p own = by (later p own)
               where
                 received_by : (k : Key) (y : StepInput) → Has (rest p) k y ⊎ IsPosted S events_of p k y → k.receiver ≡ p
                 received_by k y (inl r) = (rest_in p own k y r).1
                 received_by k y (inr u) = u.3
 
-                by : (b : Berth M) × (c : Berth M) × (own_list : List Letter) × IsLater p b c own_list → (c : Berth M) × (slice_get new.berths.items (p - 1) ≡ Some c) × IsBerth mind s p (4096 * vec_len new.entries) c
+                by : (b : Berth M) × (c : Berth M) × (own_list : List Letter) × IsLater p b c own_list → (c : Berth M) × (slice_get new.berths.items (p - 1) ≡ Some c) × IsBerth mind s p (4096 * new.so_far) c
                 by (b, c, own_list, t) =
                     let was = home p own b t.0 in
                     let few : length b.part.items ≤ length (all_of (map (λ b. b.part.items) berths)) = part_few (map (λ b. b.part.items) berths) (p - 1) b.part.items (there_map (λ b. b.part.items) berths (p - 1) b t.0) in
-                    let more : 4096 * vec_len old.entries + 4096 * vec_len b.part ≤ 4096 * vec_len new.entries = omega (arith, few, length_permutation _ _ closed.same, longer, b.part.ok.0) in (
+                    let more : 4096 * old.so_far + 4096 * vec_len b.part ≤ 4096 * new.so_far = omega (arith, few, length_permutation _ _ closed.same, closed.longer, b.part.ok.0) in (
                       c,
                       t.1,
                       record {
-                        seated = subst (λ z. IsSeated mind s (4096 * vec_len new.entries) z) (sym t.3) (record {
+                        seated = subst (λ z. IsSeated mind s (4096 * new.so_far) z) (sym t.3) (record {
                           low = was.seated.low;
                           high = was.seated.high;
                           is_mind = was.seated.is_mind;
@@ -472,25 +469,32 @@ module _ {M : Type 0} (mind : M → Mind) (old : Stage M) (ranges : IsInRange ol
                       },
                     )
 
-        stage_new : IsStage mind new
+        stage_new : IsStageAfter mind (trace_so_far ++ merged) new
         stage_new = record {
+          so_far = omega (arith, closed.longer, is.so_far, length-append trace_so_far merged);
           count = omega (arith, new.berths.ok.0, count_new, ap (λ (r : Record). r.processes) same_scenario);
-          home = subst (λ r. AreHome mind r (vec_len new.entries) new.berths.items) (sym same_scenario) home_new;
-          within = omega (arith, longer, closed.few, sum, ap (λ (r : Record). r.limit) same_scenario);
+          home = subst (λ r. AreHome mind r (new.so_far) new.berths.items) (sym same_scenario) home_new;
+          within = omega (arith, closed.longer, closed.few, sum, ap (λ (r : Record). r.limit) same_scenario);
           to_horizon = omega (arith, closed.start, to_end, ap (λ (r : Record). r.horizon) same_scenario);
           world = after;
           is_world = subst (λ r. IsWorld (setting_of r) after) (sym same_scenario) all.2.world;
           stands = stands_new;
-          reached = subst (λ r. IsReached (setting_of r) after new.entries.items) (sym same_scenario)
-              (subst (IsReached S after) (sym (closed.entries_are ∙ ap (λ es. old.entries.items ++ es) merged_is)) (reached_run S end to_end list is.world after old.entries.items is.reached all.2.run));
+          reached = subst (λ r. IsReached (setting_of r) after (trace_so_far ++ merged)) (sym same_scenario)
+              (subst (IsReached S after) (sym (ap (λ es. trace_so_far ++ es) merged_is)) (reached_run S end to_end list is.world after trace_so_far is.reached all.2.run));
         }
 
-        window_run : IsWindowRun mind window old new
-        window_run = (acts, found, last, closed.merged, run, same, is_merge, closed.entries_are, closed.start)
+        window_run : IsWindowRun mind window old new merged
+        window_run = (acts, found, last, run, same, is_merge, closed.longer, closed.start)
 
-      pub next_stage : IsStage mind new × IsWindowRun mind window old new
+      pub next_stage : IsStageAfter mind (trace_so_far ++ merged) new × IsWindowRun mind window old new merged
       next_stage = let l = law in (stage_new l.0 l.1 l.2 l.3 l.4 l.5, window_run l.0 l.1 l.2 l.3 l.4 l.5)
 
 -- at the horizon the entries so far are the trace
-pub stage_trace : {M : Type 0} (mind : M → Mind) (stage : Stage M) → IsStage mind stage → stage.start ≡ stage.scenario.now.horizon → IsTrace (setting_of stage.scenario.now) stage.entries.items
-stage_trace mind stage is at = reached_end (setting_of stage.scenario.now) is.world stage.entries.items is.reached (λ k y i. omega (arith, at, (is.stands 0).late k y i))
+pub stage_trace : {M : Type 0} (mind : M → Mind) (stage : Stage M) (trace : List EntryRecord) → IsStageAfter mind trace stage → stage.start ≡ stage.scenario.now.horizon → IsTrace (setting_of stage.scenario.now) trace
+stage_trace mind stage trace is at = reached_end (setting_of stage.scenario.now) is.world trace is.reached (λ k y i. omega (arith, at, (is.stands 0).late k y i))
+
+-- every trace has the entries so far at its front
+pub stage_front : {M : Type 0} (mind : M → Mind) (stage : Stage M) (trace : List EntryRecord) → IsStageAfter mind trace stage → (whole : List EntryRecord) → IsTrace (setting_of stage.scenario.now) whole → (rest : List EntryRecord) × (whole ≡ trace ++ rest)
+stage_front mind stage trace is full t =
+    let before = is.reached.comes_by t.0 t.1 t.2 in
+    (entries before.0, t.3 ∙ (ap entries before.1 ∙ (map-append (λ (s : Pair). s.0) is.reached.history before.0 ∙ ap (λ es. es ++ entries before.0) (sym is.reached.trace_is))))

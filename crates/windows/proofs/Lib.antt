@@ -20,3 +20,4 @@ pub mod Gathered
 pub mod Ranked
 pub mod Settled
 pub mod Taken
+pub mod Handed

@@ -27,7 +27,7 @@ use Rattle.event_list.proofs.Sets.{inserted, insert_at, insert_other, not_None}
 use Rattle.event_list.proofs.Sound.{setting_sound, opens_with_mind}
 use Rattle.windows.specs.Berth.{IsBerth}
 use Rattle.windows.specs.Machine.{StageRecord, StandsFor}
-use Rattle.windows.specs.Stage.{of_process, stage_of, start_event, IsOpened, AreHome, IsStage}
+use Rattle.windows.specs.Stage.{of_process, stage_of, start_event, IsOpened, AreHome, IsStageAfter}
 use Rattle.windows.specs.declared.berth.Berth.{Berth}
 use Rattle.windows.specs.declared.stage.Stage.{Stage}
 use Rattle.windows.proofs.Places.{there_map, from_map, at_process, at_nobody, all_place}
@@ -65,7 +65,7 @@ opened_all : (s : Record) (xs : List ℕ) → map opened (map (opening_mind s) x
 opened_all s [] = refl
 opened_all s (x ∷ xs) = ap (λ ps. opened (opening_mind s x) ∷ ps) (opened_all s xs)
 
-module _ {M : Type 0} (mind : M → Mind) (stage : Stage M) (ranges : IsInRange stage.scenario.now) (at_start : stage.start ≡ 0) (no_entry : stage.entries.items ≡ [])
+module _ {M : Type 0} (mind : M → Mind) (stage : Stage M) (ranges : IsInRange stage.scenario.now) (at_start : stage.start ≡ 0) (no_entries : stage.so_far ≡ 0)
     (processes : map (λ b. process_of mind b.seat) stage.berths.items ≡ map opened (map (opening_mind stage.scenario.now) (numbers_to stage.scenario.now.processes)))
     (berths : All (IsOpened mind stage.scenario.now) stage.berths.items) where
   abbrev s : Record
@@ -89,9 +89,6 @@ module _ {M : Type 0} (mind : M → Mind) (stage : Stage M) (ranges : IsInRange 
 
   count : length stage.berths.items ≡ s.processes
   count = sym (length-map stage.berths.items (λ b. process_of mind b.seat)) ∙ (ap length (processes ∙ opened_all s (numbers_to s.processes)) ∙ (length-map (numbers_to s.processes) (λ q. opened (opening_mind s q)) ∙ length-numbers_to s.processes))
-
-  no_entries : vec_len stage.entries ≡ 0
-  no_entries = omega (arith, stage.entries.ok.0, ap length no_entry)
 
   is_or_not : (p : ℕ) → IsProcess S p ⊎ ¬ (IsProcess S p)
   is_or_not p = go (cases_lt 0 p) (cases_lt S.processes p)
@@ -146,24 +143,25 @@ module _ {M : Type 0} (mind : M → Mind) (stage : Stage M) (ranges : IsInRange 
       mailbox = λ r. none_there;
     }
 
-  home : AreHome mind s (vec_len stage.entries) stage.berths.items
+  home : AreHome mind s (stage.so_far) stage.berths.items
   home = record { berth = λ p own. let b = first p own in (b.0, b.1.0, at_home p b.0 b.1) }
     where
-      at_home : (p : ℕ) (b : Berth M) → IsFirst p b → IsBerth mind s p (4096 * vec_len stage.entries) b
+      at_home : (p : ℕ) (b : Berth M) → IsFirst p b → IsBerth mind s p (4096 * stage.so_far) b
       at_home p b f = record {
         seated = subst (λ n. IsSeated mind s n b.seat) (omega (arith, no_entries)) f.3.0;
         is = f.2;
         own = λ k x h. ap (λ (z : Key). z.receiver) (start_is p k x (subst (λ m. Has m k x) (f.3.1 ∙ ap start_event f.2) h)).0;
       }
 
-  pub opening_stage : IsStage mind stage
+  pub opening_stage : IsStageAfter mind [] stage
   opening_stage = record {
     count = omega (arith, stage.berths.ok.0, count);
+    so_far = no_entries;
     home = home;
     within = omega (arith, no_entries);
     to_horizon = omega (arith, at_start);
     world = opening S;
     is_world = opening_world S sound;
     stands = opening_stands;
-    reached = subst (IsReached S (opening S)) (sym no_entry) (opening_reached S);
+    reached = opening_reached S;
   }

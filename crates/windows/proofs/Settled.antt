@@ -1,5 +1,5 @@
 -- What the runs of a window's processes make of a stage.
-use Rattle.std.proofs.Common.{◌≡◌, ◌↔◌, ℕ, zero, suc, ◌+◌, ◌-◌, ◌*◌, ◌<◌, ◌≤◌, inl, inr, refl, sym, ap, ◌∙◌, subst, List, [], ◌∷◌, Some, length, map, slice_get, arith, vec_len, Result, Ok, Err, OnOk}
+use Rattle.std.proofs.Common.{◌≡◌, ◌↔◌, ℕ, zero, suc, ◌+◌, ◌-◌, ◌*◌, ◌<◌, ◌≤◌, inl, inr, refl, sym, ap, ◌∙◌, subst, List, [], ◌∷◌, ◌++◌, Some, length, map, slice_get, arith, vec_len, Result, Ok, Err, IfOk}
 use Rattle.std.specs.List.{All}
 use Rattle.std.specs.Prelude.{IsTrue}
 use Rattle.std.proofs.lemmas.List.{length-map}
@@ -20,7 +20,7 @@ use Rattle.mailboxes.specs.Mailboxes.{list_of}
 use Rattle.trace_merge.specs.Parts.{all_of, AreDisjoint}
 use Rattle.windows.specs.Berth.{event_of, RanTo, IsBerth}
 use Rattle.windows.specs.Machine.{end_of}
-use Rattle.windows.specs.Stage.{IsStage, IsClosed, IsWindowRun}
+use Rattle.windows.specs.Stage.{IsStageAfter, IsClosed, IsWindowRun}
 use Rattle.windows.specs.Window.{BerthRun}
 use Rattle.windows.specs.Workers.{Stay, IsReady, IsStay, HasLong, IsOutcome, AllAbove, RiseBy}
 use Rattle.windows.specs.declared.berth.Berth.{Berth}
@@ -49,7 +49,7 @@ module _ {X : Type 0} (key : X → ℕ) where
   rise_from k [] each = tt
   rise_from k (x ∷ xs) each = (above_from (key x) (suc k) xs (omega (arith, each 0 x refl)) (λ i y at. each (suc i) y at ∙ omega arith), rise_from (suc k) xs (λ i y at. each (suc i) y at ∙ omega arith))
 
-module _ {M : Type 0} (mind : M → Mind) (old : Stage M) (ranges : IsInRange old.scenario.now) (is : IsStage mind old) where
+module _ {M : Type 0} (mind : M → Mind) (old : Stage M) (ranges : IsInRange old.scenario.now) (trace_so_far : List EntryRecord) (is : IsStageAfter mind trace_so_far old) where
   abbrev s : Record
   s = old.scenario.now
 
@@ -65,19 +65,19 @@ module _ {M : Type 0} (mind : M → Mind) (old : Stage M) (ranges : IsInRange ol
   process_at : (i : ℕ) (b : Berth M) → slice_get olds i ≡ Some b → IsProcess S (1 + i)
   process_at i b at = (omega arith, omega (arith, slice_get_within olds i b at, many))
 
-  berth_at : (i : ℕ) (b : Berth M) → slice_get olds i ≡ Some b → IsBerth mind s (1 + i) (4096 * vec_len old.entries) b
+  berth_at : (i : ℕ) (b : Berth M) → slice_get olds i ≡ Some b → IsBerth mind s (1 + i) (4096 * old.so_far) b
   berth_at i b at =
       let h = is.home.berth (1 + i) (process_at i b at) in
       let here : slice_get olds ((1 + i) - 1) ≡ Some b = subst (λ n. slice_get olds n ≡ Some b) (omega arith) at in
-      subst (IsBerth mind s (1 + i) (4096 * vec_len old.entries)) (same_Some h.0 b (sym h.1 ∙ here)) h.2
+      subst (IsBerth mind s (1 + i) (4096 * old.so_far)) (same_Some h.0 b (sym h.1 ∙ here)) h.2
 
   part_at : (i : ℕ) (b : Berth M) → slice_get olds i ≡ Some b → b.part.items ≡ []
   part_at i b at =
       let here : slice_get olds ((1 + i) - 1) ≡ Some b = subst (λ n. slice_get olds n ≡ Some b) (omega arith) at in
       sym (at_process (1 + i) (map (λ z. z.part.items) olds) b.part.items [] (omega arith) (there_map (λ z. z.part.items) olds ((1 + i) - 1) b here)) ∙ (is.stands 0).part (1 + i)
 
-  pub stage_ready : (left : ℕ) → left + vec_len old.entries ≡ s.limit → All (IsReady mind s left) olds
-  stage_ready left sum = all_at (IsReady mind s left) olds (λ i b at. ((1 + i, 4096 * vec_len old.entries, berth_at i b at, omega (arith, sum, ranges.limit_high)), part_at i b at))
+  pub stage_ready : (left : ℕ) → left + old.so_far ≡ s.limit → All (IsReady mind s left) olds
+  stage_ready left sum = all_at (IsReady mind s left) olds (λ i b at. ((1 + i, 4096 * old.so_far, berth_at i b at, omega (arith, sum, ranges.limit_high)), part_at i b at))
 
   pub stage_rises : RiseBy (λ (b : Berth M). own_of mind b.seat) olds
   stage_rises = rise_from (λ (b : Berth M). own_of mind b.seat) 1 olds (λ i b at. (berth_at i b at).is)
@@ -87,13 +87,13 @@ module _ {M : Type 0} (mind : M → Mind) (old : Stage M) (ranges : IsInRange ol
     end = end_of S window old.start
 
     -- where a process has more events than are left, every trace is longer than the limit
-    pub long_limit : (left : ℕ) → left + vec_len old.entries ≡ s.limit → HasLong mind s end left olds → (trace : List EntryRecord) → IsTrace S trace → s.limit < length trace
+    pub long_limit : (left : ℕ) → left + old.so_far ≡ s.limit → HasLong mind s end left olds → (trace : List EntryRecord) → IsTrace S trace → s.limit < length trace
     long_limit left sum (b, c, long) trace is_trace =
         let at = in_place olds b (contains_in olds b c) in
         let own = process_at at.0 b at.1 in
         let here : slice_get olds ((1 + at.0) - 1) ≡ Some b = subst (λ n. slice_get olds n ≡ Some b) (omega arith) at.1 in
         let mine : own_of mind b.seat ≡ 1 + at.0 = (berth_at at.0 b at.1).is in
-        berth_limit mind old ranges is window short left (1 + at.0) sum own b here
+        berth_limit mind old ranges trace_so_far is window short left (1 + at.0) sum own b here
         (λ history now rest letters run. long history now rest letters (subst (λ p. BerthRun S p end (process_of mind b.seat) b.pending history now rest letters) (sym mine) run))
         trace is_trace
 
@@ -133,19 +133,19 @@ module _ {M : Type 0} (mind : M → Mind) (old : Stage M) (ranges : IsInRange ol
       outcome_many = o.count ∙ sym news_many
 
       pub outcome_rising : All (λ b. IsTrue (is_rising b.part.items)) news
-      outcome_rising = parts_rising mind old ranges is window short news news_many letters.0 ran
+      outcome_rising = parts_rising mind old ranges trace_so_far is window short news news_many letters.0 ran
 
       pub outcome_disjoint : AreDisjoint (map (λ b. b.part.items) news)
-      outcome_disjoint = parts_disjoint mind old ranges is window short news news_many letters.0 ran
+      outcome_disjoint = parts_disjoint mind old ranges trace_so_far is window short news news_many letters.0 ran
 
-      pub outcome_limit : (left : ℕ) → left + vec_len old.entries ≡ s.limit → left < length (all_of (map (λ b. b.part.items) news)) → (trace : List EntryRecord) → IsTrace S trace → s.limit < length trace
-      outcome_limit = parts_limit mind old ranges is window short news news_many letters.0 ran
+      pub outcome_limit : (left : ℕ) → left + old.so_far ≡ s.limit → left < length (all_of (map (λ b. b.part.items) news)) → (trace : List EntryRecord) → IsTrace S trace → s.limit < length trace
+      outcome_limit = parts_limit mind old ranges trace_so_far is window short news news_many letters.0 ran
 
       -- letters go to processes
       received : (q : ℕ) → IsProcess S q → (x : Letter) → IsIn x (letters.0 q) → 1 ≤ x.key.receiver
       received q own x i =
-          let r = run_of mind old ranges is window short news news_many letters.0 ran q own in
-          let w = all mind old ranges is window short in
+          let r = run_of mind old ranges trace_so_far is window short news news_many letters.0 ran q own in
+          let w = all mind old ranges trace_so_far is window short in
           let there_in = (w.2.berth q own r.2.0 (process_of mind r.0.seat) r.0.pending (map event_of (letters.0 q)) r.2.1).1.1 (event_of x).0 (event_of x).1 (map_in event_of (letters.0 q) x i) in
           (w.2.world.received (event_of x).0 (event_of x).1 there_in).0
 
@@ -172,27 +172,27 @@ module _ {M : Type 0} (mind : M → Mind) (old : Stage M) (ranges : IsInRange ol
               let u = letters.1 q own_q in
               subst (IsIn x) list_is ((o.letters p own.0 own.1 x).1 (u.0, place_in o.stays (q - 1) u.0 u.1, subst (IsIn x) u.2 i, ap (λ n. n - 1) e))
 
-      home : (p : ℕ) → IsProcess S p → (b : Berth M) → slice_get news (p - 1) ≡ Some b → IsBerth mind s p (4096 * vec_len old.entries + 4096 * vec_len b.part) b
+      home : (p : ℕ) → IsProcess S p → (b : Berth M) → slice_get news (p - 1) ≡ Some b → IsBerth mind s p (4096 * old.so_far + 4096 * vec_len b.part) b
       home p own b at =
           let t = letters.1 p own in
           let h = is.home.berth p own in
           let before : t.0.before ≡ h.0 = before_is p t.0 h.0 t.1 h.1 in
           let after : t.0.after ≡ b = after_is p t.0 b t.1 at in
           let stay = (all_place (IsStay mind s end) o.stays o.each (p - 1) t.0 t.1).1 in
-          subst (λ z. IsBerth mind s p (4096 * vec_len old.entries + 4096 * vec_len z.part) z) after
-          (stay p (4096 * vec_len old.entries) (subst (IsBerth mind s p (4096 * vec_len old.entries)) (sym before) h.2))
+          subst (λ z. IsBerth mind s p (4096 * old.so_far + 4096 * vec_len z.part) z) after
+          (stay p (4096 * old.so_far) (subst (IsBerth mind s p (4096 * old.so_far)) (sym before) h.2))
 
-      pub outcome_next : (new : Stage M) → new.scenario.now ≡ old.scenario.now → (left : ℕ) → left + vec_len old.entries ≡ s.limit → IsClosed mind left end old.entries.items news lists new → IsStage mind new × IsWindowRun mind window old new
-      outcome_next new same left sum closed = next_stage mind old ranges is window short news news_many letters.0 ran lists o.count posted new same left sum closed home
+      pub outcome_next : (new : Stage M) → new.scenario.now ≡ old.scenario.now → (left : ℕ) → left + old.so_far ≡ s.limit → (merged : List EntryRecord) → IsClosed mind left end old.so_far news lists merged new → IsStageAfter mind (trace_so_far ++ merged) new × IsWindowRun mind window old new merged
+      outcome_next new same left sum merged closed = next_stage mind old ranges trace_so_far is window short news news_many letters.0 ran lists o.count posted new same left sum merged closed home
 
 -- ---- for the code: the same facts of values that are equal
 
-pub sum_of : (limit len most n : ℕ) → limit ≡ most → len ≡ n → n ≤ most → (limit - len) + n ≡ most
-sum_of limit len most n a b le = omega arith
+pub sum_of : (limit most n : ℕ) → limit ≡ most → n ≤ most → (limit - n) + n ≡ most
+sum_of limit most n a le = omega arith
 
-pub on_ok : {A E : Type 0} (r : Result A E) (P Q : Type 0) → (P → Q) → OnOk r P → OnOk r Q
-on_ok (Ok x) P Q f h = f h
-on_ok (Err x) P Q f h = h
+pub if_ok : {A E : Type 0} (r : Result A E) (P Q : A → Type 0) → ((x : A) → P x → Q x) → IfOk r P → IfOk r Q
+if_ok (Ok x) P Q f h = f x h
+if_ok (Err x) P Q f h = h
 
 module _ {M : Type 0} (mind : M → Mind) where
   pub outcome_at : (s s' : Record) (e e' : ℕ) (bs bs' news : List (Berth M)) (lists : List (List Letter)) → s ≡ s' → e ≡ e' → bs ≡ bs' → IsOutcome mind s e bs news lists → IsOutcome mind s' e' bs' news lists

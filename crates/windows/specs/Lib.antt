@@ -10,3 +10,4 @@ pub mod Jobs
 pub mod Workers
 pub mod Refusals
 pub mod Shared
+pub mod Sink

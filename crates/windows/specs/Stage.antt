@@ -1,5 +1,5 @@
 -- What a stage of the program stands for.
-use Rattle.std.specs.Prelude.{◌≡◌, ℕ, zero, suc, ◌-◌, ◌*◌, ◌≤◌, List, [], ◌∷◌, ◌++◌, length, map, IsTrue, slice_get, slice_index_or, Some, vec_len}
+use Rattle.std.specs.Prelude.{◌≡◌, ℕ, zero, suc, ◌+◌, ◌-◌, ◌*◌, ◌≤◌, List, [], ◌∷◌, ◌++◌, length, map, IsTrue, slice_get, slice_index_or, Some, vec_len}
 use Rattle.std.specs.FinMap as events
 use Rattle.std.specs.List.{All}
 use Rattle.std.specs.List.Sorted.{IsPermutation}
@@ -64,38 +64,42 @@ module _ {M : Type 0} (mind : M → Mind) where
     pub berth : (p : ℕ) → IsProcess (setting_of s) p
         → (b : Berth M) × (slice_get berths (p - 1) ≡ Some b) × IsBerth mind s p (4096 * entries) b
 
-  -- a stage between two windows: it stands for a world by which the list comes after the entries so far
-  pub record IsStage (stage : Stage M) : Type 0 where
+  -- a stage between two windows, after these entries: it stands for a world by which the list comes after them
+  pub record IsStageAfter (trace : List EntryRecord) (stage : Stage M) : Type 0 where
     pub count : vec_len stage.berths ≡ stage.scenario.now.processes
-    pub home : AreHome stage.scenario.now (vec_len stage.entries) stage.berths.items
-    pub within : vec_len stage.entries ≤ stage.scenario.now.limit
+    pub so_far : stage.so_far ≡ length trace
+    pub home : AreHome stage.scenario.now stage.so_far stage.berths.items
+    pub within : stage.so_far ≤ stage.scenario.now.limit
     pub to_horizon : stage.start ≤ stage.scenario.now.horizon
     pub world : World Mind
     pub is_world : IsWorld (setting_of stage.scenario.now) world
     pub stands : (window : ℕ) → StandsFor (setting_of stage.scenario.now) window (stage_of window stage) world
-    pub reached : IsReached (setting_of stage.scenario.now) world stage.entries.items
+    pub reached : IsReached (setting_of stage.scenario.now) world trace
 
-  -- The berths that a window left took these letters, of process 1 first, and gave their parts. The entries so far have
-  -- the parts, merged, at their end, and the next window starts at this tick
-  pub record IsClosed (left end : ℕ) (entries : List EntryRecord) (berths : List (Berth M))
-      (letters : List (List Letter)) (new : Stage M) : Type 0 where
+  -- the same, whatever the entries so far
+  abbrev pub IsStage : Stage M → Type 0
+  IsStage stage = (trace : List EntryRecord) × IsStageAfter trace stage
+
+  -- The berths that a window left took these letters, of process 1 first, and gave their parts, which are merged. There
+  -- are so many entries more, and the next window starts at this tick
+  pub record IsClosed (left end so_far : ℕ) (berths : List (Berth M)) (letters : List (List Letter))
+      (merged : List EntryRecord) (new : Stage M) : Type 0 where
     pub seats : map (λ b. b.seat) new.berths.items ≡ map (λ b. b.seat) berths
     pub pending : map (λ b. b.pending) new.berths.items ≡ delivered (map (λ b. b.pending) berths) letters
     pub parts : All (λ b. b.part.items ≡ []) new.berths.items
-    pub merged : List EntryRecord
     pub rising : IsTrue (is_rising merged)
     pub same : IsPermutation (all_of (map (λ b. b.part.items) berths)) merged
     pub few : length merged ≤ left
-    pub entries_are : new.entries.items ≡ entries ++ merged
+    pub longer : new.so_far ≡ so_far + length merged
     pub start : new.start ≡ end
 
-  -- Some run of a window leads from one stage to the other. The entries so far are those from before and that run's
-  -- parts, merged, and the next window starts where this one ended
-  abbrev pub IsWindowRun : (window : ℕ) → (old new : Stage M) → Type 0
-  IsWindowRun window old new =
+  -- Some run of a window leads from one stage to the other, and this is what its parts make, merged. There are so many
+  -- entries more, and the next window starts where this one ended
+  abbrev pub IsWindowRun : (window : ℕ) → (old new : Stage M) → (merged : List EntryRecord) → Type 0
+  IsWindowRun window old new merged =
       let S = setting_of old.scenario.now in
-      (acts : List Act) × (found : StageRecord Mind) × (left : StageRecord Mind) × (merged : List EntryRecord)
+      (acts : List Act) × (found : StageRecord Mind) × (left : StageRecord Mind)
       × IsRun S window (end_of S window old.start) (stage_of window old) acts found left
       × IsSameStage S left (stage_of window new)
-      × IsMerge S.processes found.part merged × (new.entries.items ≡ old.entries.items ++ merged)
+      × IsMerge S.processes found.part merged × (new.so_far ≡ old.so_far + length merged)
       × (new.start ≡ end_of S window old.start)

@@ -1,42 +1,47 @@
 //! A run by windows.
-ghost use Rattle.std.specs.Prelude.{◌≡◌, ◌≤◌, ◌<◌, List, length, map, IfErr, IfOk, IsErrOf, IsTrue};
+ghost use Rattle.std.specs.Prelude.{◌≡◌, ◌≤◌, ◌<◌, ◌+◌, ◌-◌, ◌^◌, List, length, map, IfErr, IfOk, OnOk, OnErr, IsErrOf};
 ghost use Rattle.process_api.specs.EntryRecord.{EntryRecord};
 ghost use Rattle.process_api.specs.Numbers.{numbers_to};
-ghost use Rattle.process_api.specs.Order.{is_rising};
 ghost use Rattle.scenario.specs.Record.{opening_mind};
 ghost use Rattle.event_list.specs.ScenarioSetting.{setting_of};
 ghost use Rattle.event_list.specs.World.{IsTrace};
 ghost use Rattle.windows.specs.Plan.{IsPlanFor};
 ghost use Rattle.windows.specs.Refusals.{IsRefusal};
+ghost use Rattle.windows.specs.Sink.{TookTrace, TookFront, writes_of};
 
 use crate::gate::Gate;
+use crate::kept::Kept;
 use crate::plan::Plan;
+use crate::sink::Sink;
 use crate::stage::Stage;
 use crate::window::run_window;
 use event_list::RunError;
-use process_api::{Entry, Process, Trace};
+use process_api::{Process, Trace};
 use scenario::Scenario;
 use std::alloc::Global;
 use std::marker::Sync;
 use std::sync::Wait;
 use std::thread::Threads;
 
-/// The entries of a run of machines, window by window up to the horizon.
-fn run_machines<M: Process, G: Gate, R: Threads + Wait + Sync>(
+/// Runs machines window by window up to the horizon. Each window's part of the trace is handed on once it is closed.
+fn run_machines<M: Process, G: Gate, K: Sink, R: Threads + Wait + Sync>(
     rt: &R,
     alloc: Global,
     scenario: &Scenario,
     machines: Vec<M>,
     plan: &Plan,
     gate: &G,
-) -> Result<Vec<Entry>, RunError>
+    sink: &mut K,
+) -> Result<(), RunError>
     requires machines { map M.mind machines.items
         ≡ map (opening_mind scenario.now) (numbers_to scenario.now.processes) }
     requires plan { IsPlanFor scenario.now plan.now }
-    ensures trace { IfOk result (λ t. IsTrace (setting_of scenario.now) t.items) }
-    ensures rising { IfOk result (λ t. IsTrue (is_rising t.items)) }
-    ensures within { IfOk result (λ t. length t.items ≤ scenario.now.limit) }
-    ensures errors { IfErr result IsRefusal }
+    requires failures { K.failed sink.old < 2 ^ 64 - 1 }
+    ensures trace { OnOk result (TookTrace K.took (setting_of scenario.now) sink.old sink.new) }
+    ensures within { OnOk result ((whole : List EntryRecord)
+        → IsTrace (setting_of scenario.now) whole → length whole ≤ scenario.now.limit) }
+    ensures front { OnErr result (TookFront K.took (setting_of scenario.now) K.took_front sink.old sink.new) }
+    ensures count { K.failed sink.new ≡ K.failed sink.old + writes_of result }
     ensures limit { IsErrOf result RunError.Limit → (whole : List EntryRecord)
         → IsTrace (setting_of scenario.now) whole → scenario.now.limit < length whole }
 {
@@ -45,15 +50,47 @@ fn run_machines<M: Process, G: Gate, R: Threads + Wait + Sync>(
     let _horizon = scenario.horizon();
     let mut stage = Stage::open(alloc, scenario, machines)?;
     while !stage.finished() {
-        run_window(rt, alloc, &mut stage, plan, gate)?;
+        let part = run_window(rt, alloc, &mut stage, plan, gate)?;
+        sink.part(part)?;
     }
-    let Stage { entries, .. } = stage;
-    Ok(entries)
+    Ok(())
 }
 
 /// Runs machines by windows of the plan's length, each shared by the plan's workers, up to the horizon. There is one
 /// machine for each process, of process 1 first, and each opens as the scenario says; the plan's window is no longer
-/// than the scenario's lookahead. The trace is that of the single event list, under every schedule of the threads.
+/// than the scenario's lookahead. When a window is closed, its part of the trace goes to the sink. The sink takes the
+/// trace of the single event list, under every schedule of the threads.
+///
+/// # Errors
+///
+/// `Spawn` where a thread was refused, `Memory` where memory was, and `Limit` only where the whole trace has more
+/// entries than the scenario's limit; after each window, `Memory` or `Write` where the sink refused its part. The
+/// machines are gone then, and the sink has a front of the trace.
+pub fn run_windows_into<G: Gate, K: Sink, R: Threads + Wait + Sync>(
+    rt: &R,
+    alloc: Global,
+    scenario: &Scenario,
+    machines: Vec<Box<dyn Process>>,
+    plan: &Plan,
+    gate: &G,
+    sink: &mut K,
+) -> Result<(), RunError>
+    requires machines { map mind machines.items ≡ map (opening_mind scenario.now) (numbers_to scenario.now.processes) }
+    requires plan { IsPlanFor scenario.now plan.now }
+    requires failures { K.failed sink.old < 2 ^ 64 - 1 }
+
+    ensures trace { OnOk result (TookTrace K.took (setting_of scenario.now) sink.old sink.new) }
+    ensures within { OnOk result ((whole : List EntryRecord)
+        → IsTrace (setting_of scenario.now) whole → length whole ≤ scenario.now.limit) }
+    ensures front { OnErr result (TookFront K.took (setting_of scenario.now) K.took_front sink.old sink.new) }
+    ensures count { K.failed sink.new ≡ K.failed sink.old + writes_of result }
+    ensures limit { IsErrOf result RunError.Limit → (whole : List EntryRecord)
+        → IsTrace (setting_of scenario.now) whole → scenario.now.limit < length whole }
+{
+    run_machines(rt, alloc, scenario, machines, plan, gate, sink)
+}
+
+/// The same, where the whole trace is kept, and answered.
 ///
 /// # Errors
 ///
@@ -76,6 +113,11 @@ pub fn run_windows<G: Gate, R: Threads + Wait + Sync>(
     ensures limit { IsErrOf result RunError.Limit → (whole : List EntryRecord)
         → IsTrace (setting_of scenario.now) whole → scenario.now.limit < length whole }
 {
-    let entries = run_machines(rt, alloc, scenario, machines, plan, gate)?;
+    let _horizon = scenario.horizon();
+    let mut kept = Kept {
+        entries: Vec::new(alloc),
+    };
+    run_machines(rt, alloc, scenario, machines, plan, gate, &mut kept)?;
+    let Kept { entries } = kept;
     Ok(Trace::new(entries))
 }

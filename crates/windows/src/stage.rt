@@ -1,5 +1,5 @@
 //! All processes between two windows.
-ghost use Rattle.std.specs.Prelude.{◌≡◌, ◌≤◌, ◌<◌, ◌+◌, ◌++◌, [], ℕ, List, map, vec_len, length, IfErr, IfOk, OnOk, IsErrOf, IsTrue, IsPermutation, nat_eq};
+ghost use Rattle.std.specs.Prelude.{◌≡◌, ◌≤◌, ◌<◌, ◌+◌, ◌^◌, ◌++◌, [], ℕ, List, map, vec_len, length, IfErr, IfOk, OnOk, IsErrOf, IsTrue, IsPermutation, nat_eq};
 ghost use Rattle.std.specs.List.{All};
 ghost use Rattle.process_api.specs.EntryRecord.{EntryRecord};
 ghost use Rattle.process_api.specs.Mind.{Mind};
@@ -14,7 +14,7 @@ ghost use Rattle.trace_merge.specs.Parts.{all_of, AreDisjoint};
 ghost use Rattle.windows.specs.Berth.{event_of};
 ghost use Rattle.windows.specs.Machine.{StandsFor};
 ghost use Rattle.windows.specs.Refusals.{IsRefusalOfOne};
-ghost use Rattle.windows.specs.Stage.{stage_of, start_event, delivered, IsOpened, IsClosed, IsStage};
+ghost use Rattle.windows.specs.Stage.{stage_of, start_event, delivered, IsOpened, IsClosed, IsStageAfter};
 
 use crate::berth::Berth;
 use event_list::{Pending, RunError};
@@ -25,15 +25,15 @@ use std::mem::replace;
 use trace_merge::merge;
 
 /// All processes of a scenario between two windows: each in its berth, the tick at which the next window starts, and
-/// the trace's entries so far. The parameter has no bound here, so that machines may be boxed.
+/// how many entries the trace has so far. The parameter has no bound here, so that machines may be boxed.
 #[derive(Drop)]
 pub struct Stage<'s, M> {
     pub(crate) scenario: &'s Scenario,
     // of process 1 first
     pub(crate) berths: Vec<Berth<M>>,
     pub(crate) start: u32,
-    // in the order of their keys
-    pub(crate) entries: Vec<Entry>,
+    // how many entries the windows so far have
+    pub(crate) so_far: u64,
 }
 
 /// The start of a process, alone.
@@ -135,8 +135,7 @@ impl<'s, M: Process> Stage<'s, M> {
         ensures opening { IfOk result (λ g. (window : ℕ) →
             StandsFor (setting_of scenario.now) window (stage_of M.mind window g) (opening (setting_of scenario.now))) }
         ensures start { IfOk result (λ g. g.start ≡ 0) }
-        ensures none { IfOk result (λ g. g.entries.items ≡ []) }
-        ensures stage { IfOk result (IsStage M.mind) }
+        ensures stage { IfOk result (IsStageAfter M.mind []) }
         ensures errors { IfErr result (λ e. e ≡ RunError.Memory) }
     {
         let _processes = scenario.processes();
@@ -145,7 +144,7 @@ impl<'s, M: Process> Stage<'s, M> {
             scenario,
             berths,
             start: 0,
-            entries: Vec::new(alloc),
+            so_far: 0,
         })
     }
 
@@ -164,8 +163,8 @@ impl<'s, M: Process> Stage<'s, M> {
     }
 
     /// Closes a window: the berths that its workers left, of process 1 first, take the letters of their mailboxes, and
-    /// their parts are merged and join the entries so far. The next window starts at tick `end`. At most `left` entries
-    /// may join.
+    /// their parts are merged. The next window starts at tick `end`. Answers the merged part, which has at most `left`
+    /// entries.
     ///
     /// # Errors
     ///
@@ -178,25 +177,27 @@ impl<'s, M: Process> Stage<'s, M> {
         letters: Vec<Vec<Letter>>,
         end: u32,
         left: u64,
-    ) -> Result<(), RunError>
+    ) -> Result<Vec<Entry>, RunError>
         requires lists { vec_len letters ≡ vec_len berths }
         requires rising { All (λ b. IsTrue (is_rising b.part.items)) berths.items }
         requires disjoint { AreDisjoint (map (λ b. b.part.items) berths.items) }
+        requires room { self.old.so_far + left < 2 ^ 64 }
 
         ensures scenario { self.new.scenario.now ≡ self.old.scenario.now }
-        ensures closed { OnOk result
-            (IsClosed M.mind left end self.old.entries.items berths.items (letters_in letters.items) self.new) }
+        ensures closed { IfOk result (λ merged. IsClosed M.mind left end self.old.so_far berths.items
+            (letters_in letters.items) merged.items self.new) }
         ensures errors { IfErr result IsRefusalOfOne }
         ensures limit { IsErrOf result RunError.Limit → left < length (all_of (map (λ b. b.part.items) berths.items)) }
     {
         let (berths, parts) = deliver_all(alloc, berths, letters)?;
-        let mut merged = merge(alloc, parts)?;
-        if merged.len() as u64 > left {
+        let merged = merge(alloc, parts)?;
+        let made = merged.len() as u64;
+        if made > left {
             return Err(RunError::Limit);
         }
-        self.entries.append(&mut merged)?;
+        self.so_far += made;
         self.berths = berths;
         self.start = end;
-        Ok(())
+        Ok(merged)
     }
 }

@@ -5,6 +5,7 @@ mod machines;
 mod orders;
 mod plans;
 mod rows;
+mod sinks;
 mod workers;
 
 use process_api::Entry;

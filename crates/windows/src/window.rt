@@ -1,5 +1,5 @@
 //! One window: workers share the processes that have something to do in it, and what they leave is put in order.
-ghost use Rattle.std.specs.Prelude.{◌≡◌, ◌≤◌, ◌<◌, ◌+◌, [], ℕ, List, length, min, IfOk, IfErr, OnOk, IsErrOf, vec_len, IsPermutation};
+ghost use Rattle.std.specs.Prelude.{◌≡◌, ◌≤◌, ◌<◌, ◌+◌, ◌++◌, [], ℕ, List, length, min, IfOk, IfErr, OnOk, IsErrOf, vec_len, IsPermutation};
 ghost use Rattle.std.specs.List.{All};
 ghost use Rattle.std.specs.List.Sorted.{IsNonDecreasingBy};
 ghost use Rattle.std.specs.Thread.{IsSync};
@@ -12,7 +12,7 @@ ghost use Rattle.windows.specs.Jobs.{dealer_of};
 ghost use Rattle.windows.specs.Plan.{IsPlanFor};
 ghost use Rattle.windows.specs.Refusals.{IsRefusal};
 ghost use Rattle.windows.specs.Shared.{AreReady, IsOneTooLong, IsFreshIn, IsStart, AreAnswers, HadWindow, IsCountOfWorkers};
-ghost use Rattle.windows.specs.Stage.{IsStage, IsWindowRun};
+ghost use Rattle.windows.specs.Stage.{IsStage, IsStageAfter, IsWindowRun};
 ghost use Rattle.windows.specs.Workers.{IsOutcome, RiseBy};
 
 use crate::berth::Berth;
@@ -25,7 +25,7 @@ use crate::stage::Stage;
 use crate::workers::{Start, Work, start_workers};
 use event_list::RunError;
 use mailboxes::{Mailboxes, Slip};
-use process_api::{Letter, Process};
+use process_api::{Entry, Letter, Process};
 use std::alloc::{AllocError, Global};
 use std::mem::replace;
 use std::sync::Wait;
@@ -172,7 +172,7 @@ pub(crate) fn cut_at(end: u32, horizon: u32) -> u32
 
 /// Runs the next window of a stage. The smaller of the plan's workers and the number of processes with an event below
 /// the window's end are started, each a thread; they take the processes one after the other and run them, and are
-/// joined. Then the letters are delivered, and the parts of the trace are merged and join the entries so far.
+/// joined. Then the letters are delivered, and the parts of the trace are merged. Answers the merged part.
 ///
 /// # Errors
 ///
@@ -185,14 +185,15 @@ pub fn run_window<M: Process, G: Gate, R: Threads + Wait + Sync>(
     stage: &mut Stage<'_, M>,
     plan: &Plan,
     gate: &G,
-) -> Result<(), RunError>
+) -> Result<Vec<Entry>, RunError>
     requires stage { IsStage M.mind stage.old }
     requires plan { IsPlanFor stage.old.scenario.now plan.now }
     requires open { stage.old.start < stage.old.scenario.now.horizon }
 
     ensures scenario { OnOk result (stage.new.scenario.now ≡ stage.old.scenario.now) }
-    ensures stage { OnOk result (IsStage M.mind stage.new) }
-    ensures run { OnOk result (IsWindowRun M.mind plan.now.window stage.old stage.new) }
+    ensures stage { IfOk result (λ part. (trace : List EntryRecord)
+        → IsStageAfter M.mind trace stage.old → IsStageAfter M.mind (trace ++ part.items) stage.new) }
+    ensures run { IfOk result (λ part. IsWindowRun M.mind plan.now.window stage.old stage.new part.items) }
     ensures errors { IfErr result IsRefusal }
     ensures limit { IsErrOf result RunError.Limit → (whole : List EntryRecord)
         → IsTrace (setting_of stage.old.scenario.now) whole → stage.old.scenario.now.limit < length whole }
@@ -200,7 +201,7 @@ pub fn run_window<M: Process, G: Gate, R: Threads + Wait + Sync>(
     let scenario = stage.scenario;
     let processes = scenario.processes();
     let end = cut_at(stage.start + plan.window(), scenario.horizon());
-    let left = scenario.limit() - stage.entries.len() as u64;
+    let left = scenario.limit() - stage.so_far;
     let streams = Streams::new(scenario);
     let window = Window { streams, end, left };
     let berths = replace(&mut stage.berths, Vec::new(alloc));

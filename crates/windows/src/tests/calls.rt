@@ -70,7 +70,8 @@ pub fn after_windows<'s, M: Process, R: Threads + Wait + Sync>(
         if stage.finished() {
             break;
         }
-        run_window(rt, alloc, &mut stage, plan, &OpenGate)?;
+        let part = run_window(rt, alloc, &mut stage, plan, &OpenGate)?;
+        drop(part);
     }
     Ok(stage)
 }
@@ -119,10 +120,10 @@ pub fn call_window<M: Process, R: Wait>(
     let Stage {
         scenario,
         berths,
-        entries,
+        so_far,
         ..
     } = stage;
-    let left = scenario.limit() - entries.len() as u64;
+    let left = scenario.limit() - so_far;
     let mut mailboxes = Mailboxes::new(alloc, scenario.processes())?;
     let mut slip = mailboxes.slip(alloc)?;
     let streams = Streams::new(scenario);

@@ -95,7 +95,8 @@ fn first_window(rt: HostRuntime) -> Result<(), Fail> {
     if stage.finished() {
         return Err("a run of no ticks".into());
     }
-    run_window(&rt, alloc, &mut stage, &plan, &OpenGate)?;
+    let part = run_window(&rt, alloc, &mut stage, &plan, &OpenGate)?;
+    assert_eq!(rt; part.len(), 2);
     assert_eq!(rt; stage.start(), 2);
     assert!(rt; !stage.finished());
     Ok(())

@@ -1,4 +1,4 @@
-use Rattle.std.proofs.Common.{◌≡◌, sym, subst, ◌∙◌, ap, [], rules, true}
+use Rattle.std.proofs.Common.{◌≡◌, sym, subst, ◌∙◌, ap, [], rules}
 use Rattle.event_list.specs.Buckets.{IsInOrder, seen_at}
 use Rattle.event_list.proofs.Ordered.{empty_is, refilled, refilled_same, refilled_some}
 use Rattle.event_list.proofs.buckets.refill.Goals as goal

@@ -1,4 +1,4 @@
-use Rattle.std.proofs.Common.{◌≡◌, ◌<◌, ◌∙◌, ap, length, rules}
+use Rattle.std.proofs.Common.{◌<◌, ◌∙◌, ap, length, rules}
 use Rattle.event_list.specs.Buckets.{seen_at}
 use Rattle.event_list.proofs.Ordered.{stow_same}
 use Rattle.event_list.proofs.buckets.settle.Goals as goal

@@ -5,17 +5,17 @@ use Rattle.event_list.proofs.Performing.{if_ok_then}
 use Rattle.event_list.proofs.Sound.{setting_sound}
 use Rattle.event_list.proofs.list.run_machines.Goals as goal
 
-pub returns-clause-rising : goal.returns-clause-rising
-returns-clause-rising g c =
+pub returns-clause-recorded : goal.returns-clause-recorded
+returns-clause-recorded g c =
     let s = c.args.scenario.now in
-    if_ok_then c.run.result (λ t. trace_rises (setting_of s) (setting_sound s c.horizon-horizon.ensures.ranges) t.items) c.run.ensures.trace
-
-pub returns-clause-cause : goal.returns-clause-cause
-returns-clause-cause g c =
-    let s = c.args.scenario.now in
-    if_ok_then c.run.result (λ t. trace_has_causes (setting_of s) (setting_sound s c.horizon-horizon.ensures.ranges) t.items) c.run.ensures.trace
-
-pub returns-clause-once : goal.returns-clause-once
-returns-clause-once g c =
-    let s = c.args.scenario.now in
-    if_ok_then c.run.result (λ t. trace_takes_once (setting_of s) (setting_sound s c.horizon-horizon.ensures.ranges) t.items) c.run.ensures.trace
+    let S = setting_of s in
+    let sound = setting_sound s c.horizon-horizon.ensures.ranges in
+    if_ok_then c.run.result (λ _ h. record {
+      trace = h.0;
+      is_trace = h.1;
+      rising = trace_rises S sound h.0 h.1;
+      cause = trace_has_causes S sound h.0 h.1;
+      once = trace_takes_once S sound h.0 h.1;
+      within = h.2;
+      taken = h.3;
+    }) c.run.ensures.trace

@@ -1,4 +1,4 @@
-use Rattle.std.proofs.Common.{◌≡◌, ◌∙◌, sym, ap, subst, arith, length}
+use Rattle.std.proofs.Common.{◌≡◌, ◌∙◌, sym, ap, subst, arith, length, take}
 use Rattle.std.proofs.lemmas.List.{take_all}
 use Rattle.judges.specs.Agreement.{Agree}
 use Rattle.judges.specs.Outcomes.{outcomes}
@@ -11,7 +11,7 @@ returns-in_err-running-clause-once c is = (agrees c.args.scenario.now c.open.ens
 pub returns-clause-agree : goal.returns-clause-agree
 returns-clause-agree c is =
     let value : c.close.result.items ≡ outcomes c.args.trace.now c.args.scenario.now.processes
-    = c.close.ensures ∙ c.loop-entry.invariant
+    = c.close.ensures c.args.scenario.now.processes (take c.loop-entry.entry-index c.args.trace.now) c.loop-entry.invariant
     ∙ ap (λ t. outcomes t c.args.scenario.now.processes) (take_all c.loop-entry.entry-index c.args.trace.now (omega (arith, c.loop-entry-test.false, ap length c.entries-entry-items.ensures.value))) in
     subst (Agree c.args.scenario.now) (sym value) (agrees c.args.scenario.now c.open.ensures.ranges is.0 c.args.trace.now is.1).agree
 

@@ -1,11 +1,16 @@
-use Rattle.std.proofs.Common.{◌≡◌, ◌-◌}
-use Rattle.windows.specs.Stage.{IsStage}
+use Rattle.std.proofs.Common.{◌≡◌, ◌-◌, List}
+use Rattle.process_api.specs.EntryRecord.{EntryRecord}
+use Rattle.windows.specs.Sink.{TookAll}
+use Rattle.windows.specs.Stage.{IsStageAfter}
+use Rattle.windows.specs.Theorems.{end_to_end}
 use Rattle.windows.proofs.run.run_machines.Given as goal
 
 abbrev pub invariant-loop-alloc : goal.invariant-loop-alloc
 invariant-loop-alloc g l = record {
-  stage : IsStage g.M.Process.mind l.stage;
+  parts : (parts : List (List EntryRecord)) × TookAll g.K.Sink.took l.initial.sink parts l.sink
+      × IsStageAfter g.M.Process.mind (end_to_end parts) l.stage;
   scenario : l.stage.scenario.now ≡ l.fn.scenario;
+  failed : g.K.Sink.failed l.sink ≡ g.K.Sink.failed l.initial.sink;
 }
 
 abbrev pub decreases-loop-alloc : goal.decreases-loop-alloc

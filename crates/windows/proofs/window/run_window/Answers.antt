@@ -7,30 +7,30 @@ use Rattle.windows.specs.Machine.{end_of}
 use Rattle.windows.specs.Stage.{IsClosed}
 use Rattle.windows.specs.Workers.{RiseBy}
 use Rattle.windows.specs.declared.berth.Berth.{Berth}
-use Rattle.windows.proofs.Settled.{sum_of, on_ok, outcome_at, long_at, ready_at, stage_ready, stage_rises, long_limit, outcome_rising, outcome_disjoint, outcome_limit, outcome_next}
+use Rattle.windows.proofs.Settled.{sum_of, if_ok, outcome_at, long_at, ready_at, stage_ready, stage_rises, long_limit, outcome_rising, outcome_disjoint, outcome_limit, outcome_next}
 use Rattle.windows.proofs.window.run_window.Goals as goal
 
 pub run_all-requires-clause-ready : goal.run_all-requires-clause-ready
 run_all-requires-clause-ready g c κs within =
     let old = c.args.stage.now in
-    let sum : (c.limit.result - c.len.result) + vec_len old.entries ≡ old.scenario.now.limit = sum_of _ _ _ _ c.limit.ensures.value c.len.ensures c.requires.stage.within in
-    ready_at g.M.Process.mind old.scenario.now c.new-streams.result (c.limit.result - c.len.result) old.berths.items c.replace-berths.result.items (sym c.new-streams.ensures) (sym (ap (λ (v : Vec _). v.items) c.replace-berths.ensures.value))
-    (stage_ready g.M.Process.mind old c.processes-processes.ensures.ranges c.requires.stage (c.limit.result - c.len.result) sum)
+    let sum : (c.limit.result - old.so_far) + old.so_far ≡ old.scenario.now.limit = sum_of _ _ _ c.limit.ensures.value c.requires.stage.1.within in
+    ready_at g.M.Process.mind old.scenario.now c.new-streams.result (c.limit.result - old.so_far) old.berths.items c.replace-berths.result.items (sym c.new-streams.ensures) (sym (ap (λ (v : Vec _). v.items) c.replace-berths.ensures.value))
+    (stage_ready g.M.Process.mind old c.processes-processes.ensures.ranges c.requires.stage.0 c.requires.stage.1 (c.limit.result - old.so_far) sum)
 
 pub run_all-requires-clause-rising : goal.run_all-requires-clause-rising
 run_all-requires-clause-rising g c κs within =
     let old = c.args.stage.now in
     subst (RiseBy (λ (b : Berth _). own_of g.M.Process.mind b.seat)) (sym (ap (λ (v : Vec _). v.items) c.replace-berths.ensures.value))
-    (stage_rises g.M.Process.mind old c.processes-processes.ensures.ranges c.requires.stage)
+    (stage_rises g.M.Process.mind old c.processes-processes.ensures.ranges c.requires.stage.0 c.requires.stage.1)
 
 pub returns-in_err-berths-clause-limit : goal.returns-in_err-berths-clause-limit
 returns-in_err-berths-clause-limit g c is =
     let old = c.args.stage.now in
     let mind = g.M.Process.mind in
-    let left = c.limit.result - c.len.result in
-    let sum : left + vec_len old.entries ≡ old.scenario.now.limit = sum_of _ _ _ _ c.limit.ensures.value c.len.ensures c.requires.stage.within in
+    let left = c.limit.result - old.so_far in
+    let sum : left + old.so_far ≡ old.scenario.now.limit = sum_of _ _ _ c.limit.ensures.value c.requires.stage.1.within in
     let end : c.cut_at-end.result ≡ end_of (setting_of old.scenario.now) c.args.plan.now.window old.start = c.cut_at-end.ensures ∙ (λ i. min (old.start + c.window.ensures.value i) (c.horizon.ensures.value i)) in
-    long_limit mind old c.processes-processes.ensures.ranges c.requires.stage c.args.plan.now.window c.requires.plan left sum
+    long_limit mind old c.processes-processes.ensures.ranges c.requires.stage.0 c.requires.stage.1 c.args.plan.now.window c.requires.plan left sum
     (long_at mind c.new-streams.result old.scenario.now c.cut_at-end.result _ left c.replace-berths.result.items old.berths.items c.new-streams.ensures end (ap (λ (v : Vec _). v.items) c.replace-berths.ensures.value)
     (c.run_all.ensures.limit (search rules)))
 
@@ -40,7 +40,7 @@ close-requires-clause-rising g c κs within =
     let mind = g.M.Process.mind in
     let end : c.cut_at-end.result ≡ end_of (setting_of old.scenario.now) c.args.plan.now.window old.start = c.cut_at-end.ensures ∙ (λ i. min (old.start + c.window.ensures.value i) (c.horizon.ensures.value i)) in
     let o = outcome_at mind c.new-streams.result old.scenario.now c.cut_at-end.result _ c.replace-berths.result.items old.berths.items _ _ c.new-streams.ensures end (ap (λ (v : Vec _). v.items) c.replace-berths.ensures.value) c.in_ok-berths.ensures.outcome in
-    outcome_rising mind old c.processes-processes.ensures.ranges c.requires.stage c.args.plan.now.window c.requires.plan _ _ o
+    outcome_rising mind old c.processes-processes.ensures.ranges c.requires.stage.0 c.requires.stage.1 c.args.plan.now.window c.requires.plan _ _ o
 
 pub close-requires-clause-disjoint : goal.close-requires-clause-disjoint
 close-requires-clause-disjoint g c κs within =
@@ -48,40 +48,40 @@ close-requires-clause-disjoint g c κs within =
     let mind = g.M.Process.mind in
     let end : c.cut_at-end.result ≡ end_of (setting_of old.scenario.now) c.args.plan.now.window old.start = c.cut_at-end.ensures ∙ (λ i. min (old.start + c.window.ensures.value i) (c.horizon.ensures.value i)) in
     let o = outcome_at mind c.new-streams.result old.scenario.now c.cut_at-end.result _ c.replace-berths.result.items old.berths.items _ _ c.new-streams.ensures end (ap (λ (v : Vec _). v.items) c.replace-berths.ensures.value) c.in_ok-berths.ensures.outcome in
-    outcome_disjoint mind old c.processes-processes.ensures.ranges c.requires.stage c.args.plan.now.window c.requires.plan _ _ o
+    outcome_disjoint mind old c.processes-processes.ensures.ranges c.requires.stage.0 c.requires.stage.1 c.args.plan.now.window c.requires.plan _ _ o
 
 pub returns-clause-limit : goal.returns-clause-limit
 returns-clause-limit g c is =
     let old = c.args.stage.now in
     let mind = g.M.Process.mind in
-    let left = c.limit.result - c.len.result in
-    let sum : left + vec_len old.entries ≡ old.scenario.now.limit = sum_of _ _ _ _ c.limit.ensures.value c.len.ensures c.requires.stage.within in
+    let left = c.limit.result - old.so_far in
+    let sum : left + old.so_far ≡ old.scenario.now.limit = sum_of _ _ _ c.limit.ensures.value c.requires.stage.1.within in
     let end : c.cut_at-end.result ≡ end_of (setting_of old.scenario.now) c.args.plan.now.window old.start = c.cut_at-end.ensures ∙ (λ i. min (old.start + c.window.ensures.value i) (c.horizon.ensures.value i)) in
     let o = outcome_at mind c.new-streams.result old.scenario.now c.cut_at-end.result _ c.replace-berths.result.items old.berths.items _ _ c.new-streams.ensures end (ap (λ (v : Vec _). v.items) c.replace-berths.ensures.value) c.in_ok-berths.ensures.outcome in
-    outcome_limit mind old c.processes-processes.ensures.ranges c.requires.stage c.args.plan.now.window c.requires.plan _ _ o left sum (c.close.ensures.limit is)
+    outcome_limit mind old c.processes-processes.ensures.ranges c.requires.stage.0 c.requires.stage.1 c.args.plan.now.window c.requires.plan _ _ o left sum (c.close.ensures.limit is)
 
 pub returns-clause-stage : goal.returns-clause-stage
 returns-clause-stage g c =
     let old = c.args.stage.now in
     let mind = g.M.Process.mind in
-    let left = c.limit.result - c.len.result in
-    let sum : left + vec_len old.entries ≡ old.scenario.now.limit = sum_of _ _ _ _ c.limit.ensures.value c.len.ensures c.requires.stage.within in
+    let left = c.limit.result - old.so_far in
+    let sum : left + old.so_far ≡ old.scenario.now.limit = sum_of _ _ _ c.limit.ensures.value c.requires.stage.1.within in
     let end : c.cut_at-end.result ≡ end_of (setting_of old.scenario.now) c.args.plan.now.window old.start = c.cut_at-end.ensures ∙ (λ i. min (old.start + c.window.ensures.value i) (c.horizon.ensures.value i)) in
     let o = outcome_at mind c.new-streams.result old.scenario.now c.cut_at-end.result _ c.replace-berths.result.items old.berths.items _ _ c.new-streams.ensures end (ap (λ (v : Vec _). v.items) c.replace-berths.ensures.value) c.in_ok-berths.ensures.outcome in
-    on_ok c.close.result _ _
-    (λ closed. (outcome_next mind old c.processes-processes.ensures.ranges c.requires.stage c.args.plan.now.window c.requires.plan _ _ o c.close.new.self c.close.ensures.scenario left sum
-    (subst (λ e. IsClosed mind left e old.entries.items c.in_ok-berths.berths.items (letters_in c.in_ok-berths.letters.items) c.close.new.self) end closed)).0)
+    if_ok c.close.result _ _
+    (λ part closed trace is. (outcome_next mind old c.processes-processes.ensures.ranges trace is c.args.plan.now.window c.requires.plan _ _ o c.close.new.self c.close.ensures.scenario left sum part.items
+    (subst (λ e. IsClosed mind left e old.so_far c.in_ok-berths.berths.items (letters_in c.in_ok-berths.letters.items) part.items c.close.new.self) end closed)).0)
     c.close.ensures.closed
 
 pub returns-clause-run : goal.returns-clause-run
 returns-clause-run g c =
     let old = c.args.stage.now in
     let mind = g.M.Process.mind in
-    let left = c.limit.result - c.len.result in
-    let sum : left + vec_len old.entries ≡ old.scenario.now.limit = sum_of _ _ _ _ c.limit.ensures.value c.len.ensures c.requires.stage.within in
+    let left = c.limit.result - old.so_far in
+    let sum : left + old.so_far ≡ old.scenario.now.limit = sum_of _ _ _ c.limit.ensures.value c.requires.stage.1.within in
     let end : c.cut_at-end.result ≡ end_of (setting_of old.scenario.now) c.args.plan.now.window old.start = c.cut_at-end.ensures ∙ (λ i. min (old.start + c.window.ensures.value i) (c.horizon.ensures.value i)) in
     let o = outcome_at mind c.new-streams.result old.scenario.now c.cut_at-end.result _ c.replace-berths.result.items old.berths.items _ _ c.new-streams.ensures end (ap (λ (v : Vec _). v.items) c.replace-berths.ensures.value) c.in_ok-berths.ensures.outcome in
-    on_ok c.close.result _ _
-    (λ closed. (outcome_next mind old c.processes-processes.ensures.ranges c.requires.stage c.args.plan.now.window c.requires.plan _ _ o c.close.new.self c.close.ensures.scenario left sum
-    (subst (λ e. IsClosed mind left e old.entries.items c.in_ok-berths.berths.items (letters_in c.in_ok-berths.letters.items) c.close.new.self) end closed)).1)
+    if_ok c.close.result _ _
+    (λ part closed. (outcome_next mind old c.processes-processes.ensures.ranges c.requires.stage.0 c.requires.stage.1 c.args.plan.now.window c.requires.plan _ _ o c.close.new.self c.close.ensures.scenario left sum part.items
+    (subst (λ e. IsClosed mind left e old.so_far c.in_ok-berths.berths.items (letters_in c.in_ok-berths.letters.items) part.items c.close.new.self) end closed)).1)
     c.close.ensures.closed

@@ -1,65 +1,95 @@
-use Rattle.std.proofs.Common.{◌≡◌, ◌+◌, ◌*◌, ◌++◌, ◌∷◌, [], List, length, map, sym, subst, ◌∙◌, arith, vec_len, Some, slice_get, ◌-◌}
+use Rattle.std.proofs.Common.{◌≡◌, ◌+◌, ◌*◌, List, length, map, sym, subst, ◌∙◌, refl, arith, vec_len, Some, slice_get, ◌-◌, ◌++◌, ◌∷◌, [], append-nil}
 use Rattle.std.specs.List.{All}
 use Rattle.std.proofs.lemmas.List.{length-map}
 use Rattle.process_api.specs.Mind.{Mind}
 use Rattle.event_list.specs.ScenarioSetting.{setting_of}
 use Rattle.event_list.specs.Seat.{process_of, IsSeated}
 use Rattle.event_list.specs.Setting.{IsProcess}
-use Rattle.event_list.specs.Standing.{Stands, IsStepped}
+use Rattle.event_list.specs.Standing.{IsStepped}
 use Rattle.event_list.specs.Step.{Process, step}
+use Rattle.event_list.proofs.Recording.{Going, taken_next, longer, cut_short}
 use Rattle.event_list.proofs.Sound.{setting_sound}
 use Rattle.event_list.proofs.Standing.{first_longer, first_receiver, first_process, first_own, stands_next, stands_end}
 use Rattle.event_list.proofs.Taken.{least_of, removed_of, none_of}
 use Rattle.event_list.proofs.list.EventList.run.Goals as goal
 
-pub returns-then-len-limit-clause-limit : goal.returns-then-len-limit-clause-limit
-returns-then-len-limit-clause-limit g c =
-    λ _ whole is. omega (arith, c.loop-trace.trace.ok.0, c.len.ensures, c.limit-limit.ensures.value, c.if-len-limit.true, first_longer _ _ _ _ c.loop-trace.invariant.stands _ _ (least_of c.loop-trace.self.pending c.in_ok-key.field-0 (c.in-Some.key, c.in-Some.input) c.in-Some.is c.in_ok-key.ensures.least) whole is)
+pub loop-self-init : goal.loop-self-init
+loop-self-init g c =
+    record {
+      going = record { trace = []; stands = c.requires.opening; long = refl; taken = λ before had. subst (g.R.Recorder.recorded c.args.recorder.now c.args.recorder.now) (sym (append-nil before)) had };
+      seated = c.requires.seated;
+      count = c.requires.count;
+      within = omega arith;
+    }
+
+pub returns-then-taken-limit-clause-limit : goal.returns-then-taken-limit-clause-limit
+returns-then-taken-limit-clause-limit g c =
+    let going = c.loop-self.invariant.going in
+    λ _ whole is. omega (arith, going.long, c.limit-limit.ensures.value, c.if-taken-limit.true, first_longer _ _ _ _ going.stands _ _ (least_of c.loop-self.self.pending c.in_ok-key.field-0 (c.in-Some.key, c.in-Some.input) c.in-Some.is c.in_ok-key.ensures.least) whole is)
+
+pub returns-then-taken-limit-clause-front : goal.returns-then-taken-limit-clause-front
+returns-then-taken-limit-clause-front g c =
+    let i = c.loop-self.invariant in
+    let s = c.args.scenario.now in
+    let all : c.loop-self.taken ≡ s.limit = omega (arith, i.within, c.limit-limit.ensures.value, c.if-taken-limit.true) in
+    λ _. cut_short (setting_of s) _ _ _ _ s.limit (subst (Going (setting_of s) _ _ _ _) all i.going)
 
 pub take-requires-clause-seated : goal.take-requires-clause-seated
 take-requires-clause-seated g c κs within =
-    let all = subst (λ s. All (IsSeated g.M.Process.mind s (4096 * vec_len c.loop-trace.trace)) c.loop-trace.self.seats.items) (sym c.new-streams.ensures) c.loop-trace.invariant.seated in
-    (4096 * vec_len c.loop-trace.trace, all, omega (arith, c.loop-trace.invariant.within, c.limit-limit.ensures.ranges.limit_high))
+    let all = subst (λ s. All (IsSeated g.M.Process.mind s (4096 * c.loop-self.taken)) c.loop-self.self.seats.items) (sym c.new-streams.ensures) c.loop-self.invariant.seated in
+    (4096 * c.loop-self.taken, all, omega (arith, c.loop-self.invariant.within, c.limit-limit.ensures.ranges.limit_high))
+
+pub take-requires-clause-count : goal.take-requires-clause-count
+take-requires-clause-count g c κs within =
+    subst (λ s. vec_len c.loop-self.self.seats ≡ s.processes) (sym c.new-streams.ensures) c.loop-self.invariant.count
 
 pub take-requires-clause-receiver : goal.take-requires-clause-receiver
 take-requires-clause-receiver g c κs within =
-    subst (λ s. IsProcess (setting_of s) c.in-Some.key.receiver) (sym c.new-streams.ensures) (first_receiver _ _ _ _ c.loop-trace.invariant.stands _ _ (least_of c.loop-trace.self.pending c.in_ok-key.field-0 (c.in-Some.key, c.in-Some.input) c.in-Some.is c.in_ok-key.ensures.least))
+    subst (λ s. IsProcess (setting_of s) c.in-Some.key.receiver) (sym c.new-streams.ensures) (first_receiver _ _ _ _ c.loop-self.invariant.going.stands _ _ (least_of c.loop-self.self.pending c.in_ok-key.field-0 (c.in-Some.key, c.in-Some.input) c.in-Some.is c.in_ok-key.ensures.least))
 
 pub take-requires-clause-own : goal.take-requires-clause-own
 take-requires-clause-own g c κs within =
-    first_own c.args.scenario.now _ _ _ c.loop-trace.invariant.stands _ _ (least_of c.loop-trace.self.pending c.in_ok-key.field-0 (c.in-Some.key, c.in-Some.input) c.in-Some.is c.in_ok-key.ensures.least)
+    first_own c.args.scenario.now _ _ _ c.loop-self.invariant.going.stands _ _ (least_of c.loop-self.self.pending c.in_ok-key.field-0 (c.in-Some.key, c.in-Some.input) c.in-Some.is c.in_ok-key.ensures.least)
 
-pub loop-trace-preserved : goal.loop-trace-preserved
-loop-trace-preserved g c =
+pub loop-self-preserved : goal.loop-self-preserved
+loop-self-preserved g c =
     let mind = g.M.Process.mind in
     let s = c.args.scenario.now in
     let S = setting_of s in
-    let i = c.loop-trace.invariant in
-    let ps = map (process_of mind) c.loop-trace.self.seats.items in
-    let old = c.loop-trace.trace in
-    let new = c.push.new.self in
+    let i = c.loop-self.invariant in
+    let ps = map (process_of mind) c.loop-self.self.seats.items in
+    let trace = i.going.trace in
+    let old = c.loop-self.taken in
     let entry = c.in_ok-entry.entry in
     let done = c.in_ok-entry.ensures in
-    let least = (least_of c.loop-trace.self.pending c.in_ok-key.field-0 (c.in-Some.key, c.in-Some.input) c.in-Some.is c.in_ok-key.ensures.least) in
+    let least = (least_of c.loop-self.self.pending c.in_ok-key.field-0 (c.in-Some.key, c.in-Some.input) c.in-Some.is c.in_ok-key.ensures.least) in
     let key = c.in-Some.key in
     let input = c.in-Some.input in
     let later : List (Process Mind) = map (process_of mind) c.take.new.self.seats.items in
     let is : c.new-streams.result ≡ s = c.new-streams.ensures in
-    let more : new.items ≡ old.items ++ entry ∷ [] = c.in_ok-push.ensures.items in
-    let longer : vec_len new ≡ vec_len old + 1 = c.in_ok-push.ensures.len in
-    let long : length ps ≡ s.processes = omega (arith, i.count, c.loop-trace.self.seats.ok.0, length-map c.loop-trace.self.seats.items (process_of mind)) in
+    let long : length ps ≡ s.processes = omega (arith, i.count, c.loop-self.self.seats.ok.0, length-map c.loop-self.self.seats.items (process_of mind)) in
     let stepped : (p : Process Mind) → slice_get ps (key.receiver - 1) ≡ Some p → IsStepped {S = S} ps later c.take_least.new.self c.take.new.self.pending key entry (step S p key input) =
     subst (λ r. (p : Process Mind) → slice_get ps (key.receiver - 1) ≡ Some p → IsStepped {S = setting_of r} ps later c.take_least.new.self c.take.new.self.pending key entry (step (setting_of r) p key input)) is done.stepped in
-    let seated : All (IsSeated mind s (4096 * vec_len old + 4096)) c.take.new.self.seats.items =
-    subst (λ r. All (IsSeated mind r (4096 * vec_len old + 4096)) c.take.new.self.seats.items) is (done.seated (4096 * vec_len old) (subst (λ r. All (IsSeated mind r (4096 * vec_len old)) c.loop-trace.self.seats.items) (sym is) i.seated)) in
+    let seated : All (IsSeated mind s (4096 * old + 4096)) c.take.new.self.seats.items =
+    subst (λ r. All (IsSeated mind r (4096 * old + 4096)) c.take.new.self.seats.items) is (done.seated (4096 * old) (subst (λ r. All (IsSeated mind r (4096 * old)) c.loop-self.self.seats.items) (sym is) i.seated)) in
     record {
-      stands = subst (Stands S later c.take.new.self.pending) (sym more)
-          (stands_next S ps c.loop-trace.self.pending old.items i.stands key input least (setting_sound s c.limit-limit.ensures.ranges) long c.take_least.new.self (removed_of c.loop-trace.self.pending c.take_least.new.self c.in_ok-key.field-0 (c.in-Some.key, c.in-Some.input) c.in-Some.is c.in_ok-key.ensures.removed) later _ entry
-          (stepped _ (first_process S ps c.loop-trace.self.pending old.items i.stands key input least)));
-      seated = let same : 4096 * vec_len old + 4096 ≡ 4096 * vec_len new = omega (arith, longer) in subst (λ n. All (IsSeated mind s n) c.take.new.self.seats.items) same seated;
+      going = record {
+        trace = trace ++ entry ∷ [];
+        stands = stands_next S ps c.loop-self.self.pending trace i.going.stands key input least (setting_sound s c.limit-limit.ensures.ranges) long c.take_least.new.self (removed_of c.loop-self.self.pending c.take_least.new.self c.in_ok-key.field-0 (c.in-Some.key, c.in-Some.input) c.in-Some.is c.in_ok-key.ensures.removed) later _ entry
+            (stepped _ (first_process S ps c.loop-self.self.pending trace i.going.stands key input least));
+        long = longer trace entry old i.going.long;
+        taken = taken_next _ _ (g.R.Recorder.recorded c.args.recorder.now c.record.new.self) trace entry i.going.taken (c.in_ok-record.ensures c.args.recorder.now);
+      };
+      seated = let same : 4096 * old + 4096 ≡ 4096 * (old + 1) = omega arith in subst (λ n. All (IsSeated mind s n) c.take.new.self.seats.items) same seated;
       count = done.count ∙ i.count;
-      within = omega (arith, longer, c.if-len-limit.false, c.len.ensures, c.limit-limit.ensures.value);
+      within = omega (arith, c.if-taken-limit.false, c.limit-limit.ensures.value);
     }
 
 pub returns-clause-trace : goal.returns-clause-trace
-returns-clause-trace g c = stands_end (setting_of c.args.scenario.now) _ _ _ c.loop-trace.invariant.stands (none_of c.loop-trace.self.pending c.in_ok-key.field-0 c.in_default.is c.in_ok-key.ensures.least)
+returns-clause-trace g c =
+    let i = c.loop-self.invariant in (
+      i.going.trace,
+      stands_end (setting_of c.args.scenario.now) _ _ _ i.going.stands (none_of c.loop-self.self.pending c.in_ok-key.field-0 c.in_default.is c.in_ok-key.ensures.least),
+      omega (arith, i.going.long, i.within),
+      i.going.taken,
+    )

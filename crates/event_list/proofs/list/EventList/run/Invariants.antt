@@ -2,18 +2,19 @@ use Rattle.std.proofs.Common.{◌≡◌, ◌≤◌, ◌*◌, ◌-◌, map, vec_l
 use Rattle.std.specs.List.{All}
 use Rattle.event_list.specs.ScenarioSetting.{setting_of}
 use Rattle.event_list.specs.Seat.{process_of, IsSeated}
-use Rattle.event_list.specs.Standing.{Stands}
+use Rattle.event_list.proofs.Recording.{Going}
 use Rattle.event_list.proofs.list.EventList.run.Given as goal
 
-abbrev pub invariant-loop-trace : goal.invariant-loop-trace
-invariant-loop-trace g l =
+abbrev pub invariant-loop-self : goal.invariant-loop-self
+invariant-loop-self g l =
     let mind = g.M.Process.mind in
+    let recorded = g.R.Recorder.recorded in
     record {
-      stands : Stands (setting_of l.fn.scenario) (map (process_of mind) l.self.seats.items) l.self.pending l.trace.items;
-      seated : All (IsSeated mind l.fn.scenario (4096 * vec_len l.trace)) l.self.seats.items;
+      going : Going (setting_of l.fn.scenario) (map (process_of mind) l.self.seats.items) l.self.pending (recorded l.fn.recorder l.fn.recorder) (recorded l.fn.recorder l.recorder) l.taken;
+      seated : All (IsSeated mind l.fn.scenario (4096 * l.taken)) l.self.seats.items;
       count : vec_len l.self.seats ≡ l.fn.scenario.processes;
-      within : vec_len l.trace ≤ l.fn.scenario.limit;
+      within : l.taken ≤ l.fn.scenario.limit;
     }
 
-abbrev pub decreases-loop-trace : goal.decreases-loop-trace
-decreases-loop-trace g l = l.fn.scenario.limit - vec_len l.trace
+abbrev pub decreases-loop-self : goal.decreases-loop-self
+decreases-loop-self g l = l.fn.scenario.limit - l.taken

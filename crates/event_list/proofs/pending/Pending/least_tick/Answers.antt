@@ -1,4 +1,4 @@
-use Rattle.std.proofs.Common.{◌≡◌, ◌<◌, ap, sym, subst, refl, length, [], rules, IsSome, true≢false}
+use Rattle.std.proofs.Common.{◌≡◌, ◌<◌, sym, subst, refl, length, [], rules, IsSome, true≢false}
 use Rattle.event_list.specs.Buckets.{IsInOrder}
 use Rattle.event_list.specs.Pending.{IsEmpty, IsLeastTick}
 use Rattle.event_list.proofs.Ordered.{empty_is, no_rows, seen, seen_none, tick_of_due, tick_of_later}

@@ -1,4 +1,4 @@
-use Rattle.std.proofs.Common.{◌<◌, ◌≤◌, ◌^◌, arith, length, decimal, rules}
+use Rattle.std.proofs.Common.{◌≤◌, arith, length, decimal, rules}
 use Rattle.std.proofs.lemmas.Fmt.{length-decimal-le}
 use Rattle.qos_report.proofs.tail.Tail.put_number.Goals as goal
 

@@ -11,6 +11,6 @@ merge-requires-clause-rising g c =
     (λ i v at. let b = same_at (λ z. z.part.items) (λ z. z.items) c.args.berths.items c.in_ok-berths.parts.items (sym c.in_ok-berths.ensures.parts) i v at in
     subst (λ es. IsTrue (is_rising es)) b.2 (all_place (λ z. IsTrue (is_rising z.part.items)) c.args.berths.items c.requires.rising i b.0 b.1))
 
-pub returns-then-len-left-clause-limit : goal.returns-then-len-left-clause-limit
-returns-then-len-left-clause-limit g c =
-    λ _. omega (arith, c.if-len-left.true, c.len.ensures, c.in_ok-merged.merged.ok.0, length_permutation _ _ c.in_ok-merged.ensures.same, ap (λ ps. length (all_of ps)) c.in_ok-berths.ensures.parts)
+pub returns-then-made-left-clause-limit : goal.returns-then-made-left-clause-limit
+returns-then-made-left-clause-limit g c =
+    λ _. omega (arith, c.if-made-left.true, c.len-made.ensures, c.in_ok-merged.merged.ok.0, length_permutation _ _ c.in_ok-merged.ensures.same, ap (λ ps. length (all_of ps)) c.in_ok-berths.ensures.parts)

@@ -1,0 +1,27 @@
+-- What a run leaves with whoever took its entries.
+use Rattle.std.specs.Prelude.{ℕ, ◌≤◌, List, ◌++◌, length, take, IsTrue}
+use Rattle.process_api.specs.EntryRecord.{EntryRecord}
+use Rattle.process_api.specs.Mind.{Mind}
+use Rattle.process_api.specs.Order.{is_rising}
+use Rattle.event_list.specs.Setting.{Setting}
+use Rattle.event_list.specs.World.{IsTrace}
+use Rattle.event_list.specs.Effects.{HasCauses, TakesOnce}
+
+-- whatever was taken before, these entries were taken after it, in this order and nothing else
+abbrev pub WereTaken : (old new : List EntryRecord → Type 0) → List EntryRecord → Type 0
+WereTaken old new entries = (before : List EntryRecord) → old before → new (before ++ entries)
+
+-- the whole trace was taken, and has at most so many entries
+pub record IsRecorded (S : Setting Mind) (limit : ℕ) (old new : List EntryRecord → Type 0) : Type 0 where
+  pub trace : List EntryRecord
+  pub is_trace : IsTrace S trace
+  pub rising : IsTrue (is_rising trace)
+  pub cause : HasCauses S trace
+  pub once : TakesOnce S trace
+  pub within : length trace ≤ limit
+  pub taken : WereTaken old new trace
+
+-- of a longer trace just the first so many entries were taken
+abbrev pub IsCutShort : (S : Setting Mind) (limit : ℕ) (old new : List EntryRecord → Type 0) → Type 0
+IsCutShort S limit old new =
+    (whole : List EntryRecord) → IsTrace S whole → WereTaken old new (take limit whole)

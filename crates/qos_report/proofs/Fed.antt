@@ -1,0 +1,159 @@
+-- The running forms, fed with one more entry, and what they tell.
+use Rattle.std.proofs.Common.{◌≡◌, ℕ, ◌<◌, ◌^◌, Bool, true, false, cond, refl, sym, ap, ◌∙◌, subst, arith, Option, None, Some, is_some, List, [], ◌∷◌, ◌++◌, flat_map, length, append_assoc, true≢false, Result, Ok, Err, OnOk, IfOk}
+use Rattle.std.specs.Global.{Vec}
+use Rattle.std.specs.List.{sum_by}
+use Rattle.std.proofs.lemmas.Grind.{flat_map-append}
+use Rattle.process_api.specs.EntryRecord.{EntryRecord}
+use Rattle.scenario.specs.Record.{Record}
+use Rattle.judges.specs.Judging.{AreUntil}
+use Rattle.judges.specs.Outcomes.{outcomes}
+use Rattle.judges.specs.Verdicts.{verdicts}
+use Rattle.judges.proofs.Entering.{judging_quiet}
+use Rattle.qos_report.specs.Findings.{second_text, found_text}
+use Rattle.qos_report.specs.Measures.{layers, all_measures}
+use Rattle.qos_report.specs.ReportText.{Text, report_header, run_text, verdict_text, pair_text, decisions_text, report_text}
+use Rattle.qos_report.specs.Running.{IsCounting, IsTextWhere, IsLayer, IsSecondWhere, AreLayers, AreFindings, AreReported}
+use Rattle.qos_report.specs.Rows.{row_of}
+use Rattle.qos_report.specs.Summary.{IsSummary}
+use Rattle.qos_report.specs.TraceText.{fields_of, trace_header, trace_text}
+use Rattle.qos_report.specs.declared.counts.Counts.{Counts}
+use Rattle.qos_report.specs.declared.running.Findings.{Findings}
+use Rattle.qos_report.specs.declared.running.RunningLayer.{RunningLayer}
+use Rattle.qos_report.specs.declared.running.RunningLayers.{RunningLayers}
+use Rattle.qos_report.specs.declared.summary.Summary.{Summary}
+use Rattle.qos_report.proofs.EachProcess.{append_none}
+use Rattle.qos_report.proofs.Entering.{metering_quiet}
+
+-- counts that fit are exact
+pub counted : (trace : List EntryRecord) (c : Counts) → IsCounting trace c → length trace < 2 ^ 64
+    → (c.entries ≡ length trace) × (c.sent ≡ sum_by (λ e. e.sent) trace) × (c.lost ≡ sum_by (λ e. e.lost) trace)
+counted trace c h small = (omega (arith, h.entries), omega (arith, h.sent, h.sent_high), omega (arith, h.lost, h.lost_high))
+
+pub text_none : (S : Record) (trace : List EntryRecord) (b : Bool) (text : Text) → AreReported S trace b None → IsTextWhere b text None
+text_none S trace true text h = h
+text_none S trace false text h = tt
+
+pub text_some : (S : Record) (trace : List EntryRecord) (b : Bool) (r : RunningLayers) (text : Text) (t : Vec ℕ) → AreReported S trace b (Some r) → (AreLayers S trace r → t.items ≡ text) → IsTextWhere b text (Some t)
+text_some S trace true r text t h is = is h
+text_some S trace false r text t h is = h
+
+module _ (S : Record) (b : Bool) where
+  pub shared_none : (trace : List EntryRecord) → IsSecondWhere S trace b None → b ≡ false
+  shared_none trace = go b
+    where
+      go : (b : Bool) → IsSecondWhere S trace b None → b ≡ false
+      go true h = absurd h
+      go false h = refl
+
+  pub shared_some : (trace : List EntryRecord) (l : RunningLayer) → IsSecondWhere S trace b (Some l) → (b ≡ true) × IsLayer S 2 trace l
+  shared_some trace l = go b
+    where
+      go : (b : Bool) → IsSecondWhere S trace b (Some l) → (b ≡ true) × IsLayer S 2 trace l
+      go true h = (refl, h)
+      go false h = absurd h
+
+  module _ (trace more : List EntryRecord) where
+    pub second_some : (l new : RunningLayer) → (IsLayer S 2 trace l → IsLayer S 2 more new) → IsSecondWhere S trace b (Some l) → IsSecondWhere S more b (Some new)
+    second_some l new f = go b
+      where
+        go : (b : Bool) → IsSecondWhere S trace b (Some l) → IsSecondWhere S more b (Some new)
+        go true h = f h
+        go false h = h
+
+    pub second_none : IsSecondWhere S trace b None → IsSecondWhere S more b None
+    second_none = go b
+      where
+        go : (b : Bool) → IsSecondWhere S trace b None → IsSecondWhere S more b None
+        go true h = h
+        go false h = h
+
+module _ (S : Record) (trace : List EntryRecord) where
+  -- ---- entries without notes
+
+  module _ (entry : EntryRecord) (until : AreUntil trace entry.key.tick) (none : entry.notes ≡ []) where
+    layer_quiet : (layer : ℕ) (l : RunningLayer) → IsLayer S layer trace l → IsLayer S layer (trace ++ entry ∷ []) l
+    layer_quiet layer l h = record {
+      judging = judging_quiet S layer trace entry l.judge h.judging until none;
+      metering = metering_quiet S layer trace entry l.panel h.metering until none;
+    }
+
+    second_quiet : (b : Bool) (second : Option RunningLayer) → IsSecondWhere S trace b second → IsSecondWhere S (trace ++ entry ∷ []) b second
+    second_quiet true (Some l) h = layer_quiet 2 l h
+    second_quiet true None h = h
+    second_quiet false (Some l) h = h
+    second_quiet false None h = h
+
+    pub reported_quiet : (b : Bool) (r : Option RunningLayers) → AreReported S trace b r → AreReported S (trace ++ entry ∷ []) b r
+    reported_quiet true (Some r) h = record { first = layer_quiet 1 r.first h.first; second = second_quiet (is_some S.share) r.second h.second }
+    reported_quiet true None h = h
+    reported_quiet false (Some r) h = h
+    reported_quiet false None h = h
+
+  -- ---- the report
+
+  layers_text_is : (g : ℕ → Text) (b : Bool) → flat_map g (cond b (1 ∷ 2 ∷ []) (1 ∷ [])) ≡ g 1 ++ cond b (g 2) []
+  layers_text_is g true = ap (λ t. g 1 ++ t) (append_none (g 2))
+  layers_text_is g false = ap (λ t. g 1 ++ t) (append_none [])
+
+  second_is : (b : Bool) → cond b (verdict_text 2 (verdicts S trace 2)) [] ≡ second_text (cond b (Some (verdicts S trace 2)) None)
+  second_is true = λ i. verdict_text 2 (verdicts S trace 2)
+  second_is false = λ i. []
+
+  pub found_is : (summary : Summary) (f : Findings) → IsSummary S trace summary → AreFindings S trace f → found_text S.algorithm summary f ≡ report_text S trace
+  unfolding found_text report_text
+  found_is summary f s h =
+      let g : ℕ → Text = λ layer. verdict_text layer (verdicts S trace layer) in
+      let l : verdict_text 1 (verdicts S trace 1) ++ second_text (cond (is_some S.share) (Some (verdicts S trace 2)) None) ≡ flat_map g (layers S)
+      = ap (λ t. verdict_text 1 (verdicts S trace 1) ++ t) (sym (second_is (is_some S.share))) ∙ sym (layers_text_is g (is_some S.share)) in
+      (λ i. report_header
+      ++ (run_text (s.entries i) (s.sent i) (s.lost i)
+      ++ ((verdict_text 1 (h.first i) ++ second_text (h.second i))
+      ++ (flat_map pair_text (h.measures i) ++ decisions_text S.algorithm (s.decided i)))))
+      ∙ (λ i. report_header
+      ++ (run_text (length trace) (sum_by (λ e. e.sent) trace) (sum_by (λ e. e.lost) trace)
+      ++ (l i ++ (flat_map pair_text (all_measures S trace) ++ decisions_text S.algorithm (outcomes trace S.processes)))))
+
+-- ---- results
+
+pub on_ok : {T E P Q : Type 0} (r : Result T E) → (P → Q) → OnOk r P → OnOk r Q
+on_ok (Ok x) f p = f p
+on_ok (Err e) f p = p
+
+pub if_ok : {T E : Type 0} {P Q : T → Type 0} (r : Result T E) → ((x : T) → P x → Q x) → IfOk r P → IfOk r Q
+if_ok (Ok x) f p = f x p
+if_ok (Err e) f p = p
+
+pub ok_of : {T E P : Type 0} (r : Result T E) (x : T) → r ≡ Ok x → OnOk r P → P
+ok_of {T} {E} {P} r x is h = subst (λ (s : Result T E). OnOk s P) is h
+
+abbrev is_error : {T E : Type 0} → Result T E → Bool
+is_error (Ok x) = false
+is_error (Err e) = true
+
+pub not_error : {T E : Type 0} {x : T} {e : E} → Ok x ≡ Err e → ⊥
+not_error is = true≢false (sym (ap is_error is))
+
+abbrev error_or : {T E : Type 0} → E → Result T E → E
+error_or d (Ok x) = d
+error_or d (Err e) = e
+
+pub same_error : {T U E : Type 0} (r : Result T E) (s : Result U E) (e f : E) → r ≡ Err e → s ≡ Err e → s ≡ Err f → r ≡ Err f
+same_error r s e f was here is = was ∙ ap Err (ap (error_or e) (sym here ∙ is))
+
+-- ---- the text of a trace
+
+trace_text_more : (trace : List EntryRecord) (entry : EntryRecord) → trace_text trace ++ row_of (fields_of entry) ≡ trace_text (trace ++ entry ∷ [])
+unfolding trace_text
+trace_text_more trace entry =
+    let row : EntryRecord → List ℕ = λ e. row_of (fields_of e) in
+    append_assoc trace_header (flat_map row trace) (row entry)
+    ∙ ap (λ t. trace_header ++ t) (ap (λ t. flat_map row trace ++ t) (sym (append_none (row entry))) ∙ sym (flat_map-append row trace (entry ∷ [])))
+
+-- one more row
+pub text_more : (b : Bool) (trace : List EntryRecord) (entry : EntryRecord) (t new : Vec ℕ) → new.items ≡ t.items ++ row_of (fields_of entry) → IsTextWhere b (trace_text trace) (Some t) → IsTextWhere b (trace_text (trace ++ entry ∷ [])) (Some new)
+text_more true trace entry t new is h = is ∙ ap (λ x. x ++ row_of (fields_of entry)) h ∙ trace_text_more trace entry
+text_more false trace entry t new is h = h
+
+pub no_text : (b : Bool) (old new : Text) → IsTextWhere b old None → IsTextWhere b new None
+no_text true old new h = h
+no_text false old new h = h

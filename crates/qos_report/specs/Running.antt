@@ -1,0 +1,75 @@
+-- What it is that the running forms were fed with the entries of a trace.
+use Rattle.std.specs.Prelude.{◌≡◌, ℕ, ◌*◌, ◌-◌, ◌^◌, ◌≤◌, min, Bool, true, false, if◌then◌else◌, Option, None, Some, is_some, List, length}
+use Rattle.std.specs.Global.{Vec}
+use Rattle.std.specs.List.{sum_by}
+use Rattle.process_api.specs.EntryRecord.{EntryRecord}
+use Rattle.scenario.specs.Record.{Record}
+use Rattle.judges.specs.Judging.{IsDeciding, IsJudging}
+use Rattle.judges.specs.Verdicts.{verdicts}
+use Rattle.qos_report.specs.Measures.{all_measures}
+use Rattle.qos_report.specs.Metering.{IsMetering}
+use Rattle.qos_report.specs.ReportText.{Text, report_text}
+use Rattle.qos_report.specs.Summary.{IsSummary}
+use Rattle.qos_report.specs.declared.counts.Counts.{Counts}
+use Rattle.qos_report.specs.declared.running.Findings.{Findings}
+use Rattle.qos_report.specs.declared.running.Running.{Running}
+use Rattle.qos_report.specs.declared.running.RunningLayer.{RunningLayer}
+use Rattle.qos_report.specs.declared.running.RunningLayers.{RunningLayers}
+use Rattle.qos_report.specs.declared.summary.Summary.{Summary}
+
+-- the counts stay at the greatest number; each entry has less than 2^32 letters
+pub record IsCounting (trace : List EntryRecord) (c : Counts) : Type 0 where
+  pub entries : c.entries ≡ min (length trace) (2 ^ 64 - 1)
+  pub sent : c.sent ≡ min (sum_by (λ e. e.sent) trace) (2 ^ 128 - 1)
+  pub lost : c.lost ≡ min (sum_by (λ e. e.lost) trace) (2 ^ 128 - 1)
+  pub sent_high : sum_by (λ e. e.sent) trace ≤ length trace * 2 ^ 32
+  pub lost_high : sum_by (λ e. e.lost) trace ≤ length trace * 2 ^ 32
+
+-- a text, where it is asked for
+abbrev pub IsTextWhere : (asked : Bool) → Text → Option (Vec ℕ) → Type 0
+IsTextWhere true text (Some t) = t.items ≡ text
+IsTextWhere true text None = ⊥
+IsTextWhere false text (Some t) = ⊥
+IsTextWhere false text None = Unit {0}
+
+module _ (S : Record) where
+  pub record IsLayer (layer : ℕ) (trace : List EntryRecord) (l : RunningLayer) : Type 0 where
+    pub judging : IsJudging S layer trace l.judge
+    pub metering : IsMetering S layer trace l.panel
+
+  module _ (trace : List EntryRecord) where
+    -- layer 2, where there is a reduction
+    abbrev pub IsSecondWhere : (shared : Bool) → Option RunningLayer → Type 0
+    IsSecondWhere true (Some l) = IsLayer 2 trace l
+    IsSecondWhere true None = ⊥
+    IsSecondWhere false (Some l) = ⊥
+    IsSecondWhere false None = Unit {0}
+
+    abbrev pub IsSecond : Option RunningLayer → Type 0
+    IsSecond second = IsSecondWhere (is_some S.share) second
+
+    pub record AreLayers (r : RunningLayers) : Type 0 where
+      pub first : IsLayer 1 trace r.first
+      pub second : IsSecond r.second
+
+    pub record AreFindings (f : Findings) : Type 0 where
+      pub first : f.first ≡ verdicts S trace 1
+      pub second : f.second ≡ (if is_some S.share then Some (verdicts S trace 2) else None)
+      pub measures : f.measures.items ≡ all_measures S trace
+
+    -- everything that is measured, with what a report tells where it is asked for
+    abbrev pub AreReported : (reported : Bool) → Option RunningLayers → Type 0
+    AreReported true (Some r) = AreLayers r
+    AreReported true None = ⊥
+    AreReported false (Some r) = ⊥
+    AreReported false None = Unit {0}
+
+    pub record IsRunning (reported : Bool) (r : Running) : Type 0 where
+      pub counts : IsCounting trace r.counts
+      pub outcomes : IsDeciding S.processes trace r.outcomes
+      pub layers : AreReported reported r.layers
+
+    -- what is told of the run: the summary, and the report where it is asked for
+    pub record IsToldOf (reported : Bool) (told : Summary × Option (Vec ℕ)) : Type 0 where
+      pub summary : IsSummary S trace told.0
+      pub report : IsTextWhere reported (report_text S trace) told.1

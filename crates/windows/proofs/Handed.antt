@@ -1,0 +1,33 @@
+-- What a sink took, part by part.
+use Rattle.std.proofs.Common.{◌≡◌, ◌≤◌, ℕ, refl, sym, ap, ◌∙◌, subst, List, [], ◌∷◌, ◌++◌, length, append_assoc, append-nil, arith, Result, Ok, Err, OnErr}
+use Rattle.process_api.specs.EntryRecord.{EntryRecord}
+use Rattle.scenario.specs.Record.{Record}
+use Rattle.event_list.specs.ScenarioSetting.{setting_of}
+use Rattle.event_list.specs.World.{IsTrace}
+use Rattle.event_list.proofs.Closed.{one_trace}
+use Rattle.windows.specs.Sink.{TookAll}
+use Rattle.windows.specs.Theorems.{end_to_end}
+
+-- one part more
+pub took_more : {K : Type 0} (took : K → List EntryRecord → K → Type 0) (old mid new : K) (parts : List (List EntryRecord)) (part : List EntryRecord) → TookAll took old parts mid → took mid part new → TookAll took old (parts ++ part ∷ []) new
+took_more took old mid new [] part all more = (new, subst (λ a. took a part new) all more, refl)
+took_more took old mid new (x ∷ parts) part all more = (all.0, all.1, took_more took all.0 mid new parts part all.2 more)
+
+pub end_to_end_more : (parts : List (List EntryRecord)) (part : List EntryRecord) → end_to_end (parts ++ part ∷ []) ≡ end_to_end parts ++ part
+end_to_end_more [] part = append-nil part
+end_to_end_more (x ∷ parts) part = ap (λ es. x ++ es) (end_to_end_more parts part) ∙ sym (append_assoc x (end_to_end parts) part)
+
+-- what holds anyhow holds of a refusal
+pub on_err : {A E : Type 0} (r : Result A E) (P : Type 0) → P → OnErr r P
+on_err (Ok x) P p = tt
+on_err (Err e) P p = p
+
+-- where one trace is no longer than this, each is
+pub trace_within : (s : Record) (trace : List EntryRecord) (limit : ℕ) → IsTrace (setting_of s) trace → length trace ≤ limit → (whole : List EntryRecord) → IsTrace (setting_of s) whole → length whole ≤ limit
+trace_within s trace limit is few whole t = omega (arith, ap length (one_trace (setting_of s) trace whole is t), few)
+
+-- a keeping sink has the parts end to end
+pub kept_all : {K : Type 0} (items : K → List EntryRecord) (took : K → List EntryRecord → K → Type 0) → ((a b : K) (part : List EntryRecord) → took a part b → items b ≡ items a ++ part) → (old new : K) (parts : List (List EntryRecord)) → TookAll took old parts new → items new ≡ items old ++ end_to_end parts
+kept_all items took one old new [] all = ap items all ∙ sym (append-nil (items old))
+kept_all items took one old new (x ∷ parts) all =
+    kept_all items took one all.0 new parts all.2 ∙ (ap (λ es. es ++ end_to_end parts) (one old all.0 x all.1) ∙ append_assoc (items old) x (end_to_end parts))

@@ -1,0 +1,36 @@
+//! Where the entries of a run go.
+ghost use Rattle.std.specs.Prelude.{◌≡◌, ◌⊎◌, ◌+◌, ◌-◌, ◌^◌, ◌<◌, ℕ, List, OnOk, OnErr, IfErr};
+ghost use Rattle.process_api.specs.EntryRecord.{EntryRecord};
+ghost use Rattle.windows.specs.Sink.{IsRefusalOfSink, writes_of};
+
+use event_list::RunError;
+use process_api::Entry;
+
+/// Takes the entries of a run, part by part, in the order of their keys.
+pub trait Sink {
+    /// From one moment to another it took these entries, behind those from before.
+    ghost took: { Self → List EntryRecord → Self → Type 0 };
+
+    /// From one moment to another it took a front of these entries, and was refused then.
+    ghost took_front: { Self → List EntryRecord → Self → Type 0 };
+
+    /// How many parts couldn't be written.
+    ghost failed: { Self → ℕ };
+
+    /// Takes one part more.
+    ///
+    /// # Errors
+    ///
+    /// `Memory` where memory was refused, `Write` where the part couldn't be written. A front of the part was taken
+    /// then, and nothing more may be handed on.
+    fn part(&mut self, entries: Vec<Entry>) -> Result<(), RunError>
+        requires { failed self.old < 2 ^ 64 - 1 }
+        ensures whole { OnOk result (took self.old entries.items self.new) }
+        ensures front { OnErr result (took_front self.old entries.items self.new) }
+        ensures errors { IfErr result IsRefusalOfSink }
+        ensures count { failed self.new ≡ failed self.old + writes_of result };
+
+    /// How many parts couldn't be written.
+    fn failures(&self) -> u64
+        ensures { result ≡ failed self.now };
+}
