@@ -16,6 +16,7 @@ use Rattle.process_api.specs.declared.message.StepInput.{StepInput}
 use Rattle.scenario.specs.Ranges.{IsInRange}
 use Rattle.scenario.specs.Record.{Record}
 use Rattle.event_list.specs.History.{IsIn, Pair, pairs_of}
+use Rattle.event_list.specs.Pending.{IsLeastTick}
 use Rattle.event_list.specs.ScenarioSetting.{setting_of}
 use Rattle.event_list.specs.Seat.{process_of, own_of, IsSeated}
 use Rattle.event_list.specs.Setting.{Setting, IsSound, IsProcess}
@@ -33,12 +34,12 @@ use Rattle.trace_merge.specs.Parts.{all_of, AreDisjoint}
 use Rattle.windows.specs.Berth.{event_of, RanTo, IsBerth}
 use Rattle.windows.specs.Machine.{StageRecord, Act, StandsFor, IsRun, end_of, first_status}
 use Rattle.windows.specs.Theorems.{IsListRun, IsMerge}
-use Rattle.windows.specs.Stage.{of_process, stage_of, AreHome, IsStageAfter, IsClosed, IsWindowRun}
+use Rattle.windows.specs.Stage.{of_process, stage_of, AreHome, IsStageAfter, IsClosed, IsNextStart, IsWindowRun}
 use Rattle.windows.specs.Window.{BerthRun, IsPosted, AreBerths, IsSameStage}
 use Rattle.windows.specs.declared.berth.Berth.{Berth}
 use Rattle.windows.specs.declared.stage.Stage.{Stage}
 use Rattle.windows.proofs.Outcome.{IsWhole, whole, own_run}
-use Rattle.windows.proofs.Places.{there, there_map, from_map, same_at, at_process, at_nobody, at_delivered, all_at, all_place, disjoint_from, no_more, in_all, all_in, part_few}
+use Rattle.windows.proofs.Places.{there, there_map, from_map, same_at, at_process, at_nobody, at_delivered, all_at, all_place, disjoint_from, no_more, in_all, all_in, part_few, in_place}
 use Rattle.windows.proofs.Unions.{joined_kept}
 use Rattle.windows.proofs.Whole.{run_on, one_merge}
 use Rattle.windows.proofs.Together.{berths_run}
@@ -242,7 +243,7 @@ module _ {M : Type 0} (mind : M → Mind) (old : Stage M) (ranges : IsInRange ol
     module _ (lists : List (List Letter)) (many : length lists ≡ s.processes)
         (posted : (p : ℕ) → IsProcess S p → (own_list : List Letter) → slice_get lists (p - 1) ≡ Some own_list → (x : Letter) → IsIn x own_list ↔ ((q : ℕ) × IsProcess S q × IsIn x (letters q) × (x.key.receiver ≡ p)))
         (new : Stage M) (same_scenario : new.scenario.now ≡ old.scenario.now) (left : ℕ) (sum : left + old.so_far ≡ s.limit)
-        (merged : List EntryRecord) (closed : IsClosed mind left end old.so_far berths lists merged new)
+        (merged : List EntryRecord) (closed : IsClosed mind left old.so_far berths lists merged new)
         (home : (p : ℕ) → IsProcess S p → (b : Berth M) → slice_get berths (p - 1) ≡ Some b → IsBerth mind s p (4096 * old.so_far + 4096 * vec_len b.part) b) where
       -- a berth after the closing
       abbrev IsLater : ℕ → Berth M → Berth M → List Letter → Type 0
@@ -372,14 +373,45 @@ module _ {M : Type 0} (mind : M → Mind) (old : Stage M) (ranges : IsInRange ol
       no_event : (k : Key) (y : StepInput) → Has finmap.empty k y → ⊥
       no_event k y i = not_None y (sym (finmap.get-empty key_cmp k) ∙ i)
 
+      same_horizon : new.scenario.now.horizon ≡ S.horizon
+      same_horizon = ap (λ (r : Record). r.horizon) same_scenario
+
+      -- nothing is pending before the next window, which isn't before the end of this one
+      none_late : (p : ℕ) → NoneBelow new.start (h.own p)
+      none_late p k y i = go (is_or_not S p)
+        where
+          go : IsProcess S p ⊎ ¬ (IsProcess S p) → new.start ≤ k.tick
+          go (inl own) =
+              let t = later p own in
+              all_place (NoneBelow new.start) (map (λ b. b.pending) new.berths.items) closed.start.late (p - 1) t.1.pending (there_map (λ b. b.pending) new.berths.items (p - 1) t.1 t.3.1) k y
+              (subst (λ m. Has m k y) (new_own p own t.1 t.3.1) i)
+          go (inr not) = absurd (no_event k y (subst (λ m. Has m k y) (nobody p not) i))
+
+      from_end : end ≤ new.start
+      from_end = go closed.start.least
+        where
+          pending_at : (set : Events) → IsIn set (map (λ b. b.pending) new.berths.items) → IsLeastTick set new.start → end ≤ new.start
+          pending_at set i tick =
+              let at = in_place (map (λ b. b.pending) new.berths.items) set i in
+              let c = from_map (λ b. b.pending) new.berths.items at.0 set at.1 in
+              let inside : at.0 < s.processes = omega (arith, slice_get_within new.berths.items at.0 c.0 c.1, count_new) in
+              let own : IsProcess S (1 + at.0) = (omega arith, omega (arith, inside)) in
+              let here : slice_get new.berths.items ((1 + at.0) - 1) ≡ Some c.0 = subst (λ n. slice_get new.berths.items n ≡ Some c.0) (omega arith) c.1 in
+              let mine : h.own (1 + at.0) ≡ set = new_own (1 + at.0) own c.0 here ∙ c.2 in
+              omega (arith, none_after tick.0 tick.1 (in_after (1 + at.0) tick.0 tick.1 (subst (λ m. Has m tick.0 tick.1) (sym mine) tick.2.there)), tick.3)
+
+          go : (new.start ≡ new.scenario.now.horizon) ⊎ ((set : Events) × IsIn set (map (λ b. b.pending) new.berths.items) × IsLeastTick set new.start) → end ≤ new.start
+          go (inl at) = omega (arith, at, same_horizon, to_end)
+          go (inr r) = pending_at r.0 r.1 r.2
+
       are_berths : AreBerths S window g history rest events_of h
       are_berths = record {
         berth = λ p own. (histories.1 p own).0;
         own = own_is;
         others = λ p not k y i. no_event k y (subst (λ m. Has m k y) (nobody p not) i);
-        from_end = omega (arith, closed.start);
-        to_horizon = omega (arith, closed.start);
-        late = λ p k y i. omega (arith, closed.start, none_after k y (in_after p k y i));
+        from_end = from_end;
+        to_horizon = omega (arith, closed.start.to_horizon, same_horizon);
+        late = none_late;
         part = new_part;
         status = λ p. ap (λ r. first_status (end_of (setting_of r) window new.start) (h.own p)) same_scenario;
         tray = λ a. no_event;
@@ -430,7 +462,7 @@ module _ {M : Type 0} (mind : M → Mind) (old : Stage M) (ranges : IsInRange ol
             (λ i. let r = (listed.2.stands.own p k y).0 (subst (λ m. Has m k y) (sym (same.own p)) i) in (subst (λ (v : World Mind). Has v.pending k y) one.1 r.0, r.1)),
             (λ i. subst (λ m. Has m k y) (same.own p) ((listed.2.stands.own p k y).1 (subst (λ (v : World Mind). Has v.pending k y) (sym one.1) i.0, i.1))),
           );
-          late = λ k y i. omega (arith, closed.start, none_after k y i);
+          late = λ k y i. none_late k.receiver k y (subst (λ m. Has m k y) (same.own k.receiver) ((listed.2.stands.own k.receiver k y).1 (subst (λ (v : World Mind). Has v.pending k y) (sym one.1) i, refl)));
           part = new_part;
           status = λ p. refl;
           tray = λ a. no_event;
@@ -475,7 +507,7 @@ module _ {M : Type 0} (mind : M → Mind) (old : Stage M) (ranges : IsInRange ol
           count = omega (arith, new.berths.ok.0, count_new, ap (λ (r : Record). r.processes) same_scenario);
           home = subst (λ r. AreHome mind r (new.so_far) new.berths.items) (sym same_scenario) home_new;
           within = omega (arith, closed.longer, closed.few, sum, ap (λ (r : Record). r.limit) same_scenario);
-          to_horizon = omega (arith, closed.start, to_end, ap (λ (r : Record). r.horizon) same_scenario);
+          to_horizon = closed.start.to_horizon;
           world = after;
           is_world = subst (λ r. IsWorld (setting_of r) after) (sym same_scenario) all.2.world;
           stands = stands_new;
@@ -484,7 +516,7 @@ module _ {M : Type 0} (mind : M → Mind) (old : Stage M) (ranges : IsInRange ol
         }
 
         window_run : IsWindowRun mind window old new merged
-        window_run = (acts, found, last, run, same, is_merge, closed.longer, closed.start)
+        window_run = (acts, found, last, run, same, is_merge, closed.longer, from_end, subst (λ n. IsNextStart n (map (λ b. b.pending) new.berths.items) new.start) same_horizon closed.start)
 
       pub next_stage : IsStageAfter mind (trace_so_far ++ merged) new × IsWindowRun mind window old new merged
       next_stage = let l = law in (stage_new l.0 l.1 l.2 l.3 l.4 l.5, window_run l.0 l.1 l.2 l.3 l.4 l.5)

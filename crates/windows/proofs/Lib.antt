@@ -21,3 +21,4 @@ pub mod Ranked
 pub mod Settled
 pub mod Taken
 pub mod Handed
+pub mod Starts

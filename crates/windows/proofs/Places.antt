@@ -41,6 +41,12 @@ from_map f (x ∷ xs) (suc i) y h = from_map f xs i y h
 pub same_at : {X Y Z : Type 0} (f : X → Z) (g : Y → Z) (xs : List X) (ys : List Y) → map f xs ≡ map g ys → (i : ℕ) (y : Y) → slice_get ys i ≡ Some y → (x : X) × (slice_get xs i ≡ Some x) × (f x ≡ g y)
 same_at f g xs ys same i y h = from_map f xs i (g y) (ap (λ zs. slice_get zs i) same ∙ there_map g ys i y h)
 
+-- where an element stands
+pub in_place : {X : Type 0} (xs : List X) (x : X) → IsIn x xs → (i : ℕ) × (slice_get xs i ≡ Some x)
+in_place [] x i = absurd i
+in_place (y ∷ ys) x (inl e) = (0, ap Some (sym e))
+in_place (y ∷ ys) x (inr i) = let r = in_place ys x i in (suc r.0, r.1)
+
 pub at_process : {X : Type 0} (p : ℕ) (xs : List X) (x none : X) → 1 ≤ p → slice_get xs (p - 1) ≡ Some x → of_process p xs none ≡ x
 at_process zero xs x none low h = absurd (omega arith)
 at_process (suc q) xs x none low h = get_or_from_slice_get xs q x none (subst (λ i. slice_get xs i ≡ Some x) (omega arith) h)

@@ -27,13 +27,7 @@ use Rattle.windows.specs.declared.berth.Berth.{Berth}
 use Rattle.windows.specs.declared.stage.Stage.{Stage}
 use Rattle.windows.proofs.Closing.{choice, all, run_of, map_in, berth_limit, parts_rising, parts_disjoint, parts_limit, next_stage}
 use Rattle.windows.proofs.Members.{contains_in}
-use Rattle.windows.proofs.Places.{there, there_map, at_process, all_at, all_place}
-
--- where an element stands
-in_place : {X : Type 0} (xs : List X) (x : X) → IsIn x xs → (i : ℕ) × (slice_get xs i ≡ Some x)
-in_place [] x i = absurd i
-in_place (y ∷ ys) x (inl e) = (0, ap Some (sym e))
-in_place (y ∷ ys) x (inr i) = let r = in_place ys x i in (suc r.0, r.1)
+use Rattle.windows.proofs.Places.{there, there_map, at_process, all_at, all_place, in_place}
 
 place_in : {X : Type 0} (xs : List X) (i : ℕ) (x : X) → slice_get xs i ≡ Some x → IsIn x xs
 place_in [] i x at = absurd (not_None x at)
@@ -182,7 +176,7 @@ module _ {M : Type 0} (mind : M → Mind) (old : Stage M) (ranges : IsInRange ol
           subst (λ z. IsBerth mind s p (4096 * old.so_far + 4096 * vec_len z.part) z) after
           (stay p (4096 * old.so_far) (subst (IsBerth mind s p (4096 * old.so_far)) (sym before) h.2))
 
-      pub outcome_next : (new : Stage M) → new.scenario.now ≡ old.scenario.now → (left : ℕ) → left + old.so_far ≡ s.limit → (merged : List EntryRecord) → IsClosed mind left end old.so_far news lists merged new → IsStageAfter mind (trace_so_far ++ merged) new × IsWindowRun mind window old new merged
+      pub outcome_next : (new : Stage M) → new.scenario.now ≡ old.scenario.now → (left : ℕ) → left + old.so_far ≡ s.limit → (merged : List EntryRecord) → IsClosed mind left old.so_far news lists merged new → IsStageAfter mind (trace_so_far ++ merged) new × IsWindowRun mind window old new merged
       outcome_next new same left sum merged closed = next_stage mind old ranges trace_so_far is window short news news_many letters.0 ran lists o.count posted new same left sum merged closed home
 
 -- ---- for the code: the same facts of values that are equal

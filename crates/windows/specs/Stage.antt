@@ -1,5 +1,5 @@
 -- What a stage of the program stands for.
-use Rattle.std.specs.Prelude.{◌≡◌, ℕ, zero, suc, ◌+◌, ◌-◌, ◌*◌, ◌≤◌, List, [], ◌∷◌, ◌++◌, length, map, IsTrue, slice_get, slice_index_or, Some, vec_len}
+use Rattle.std.specs.Prelude.{◌≡◌, ◌⊎◌, ℕ, zero, suc, ◌+◌, ◌-◌, ◌*◌, ◌≤◌, List, [], ◌∷◌, ◌++◌, length, map, IsTrue, slice_get, slice_index_or, Some, vec_len}
 use Rattle.std.specs.FinMap as events
 use Rattle.std.specs.List.{All}
 use Rattle.std.specs.List.Sorted.{IsPermutation}
@@ -9,12 +9,14 @@ use Rattle.process_api.specs.Order.{is_rising}
 use Rattle.process_api.specs.declared.message.Letter.{Letter}
 use Rattle.process_api.specs.declared.message.StepInput.TheVariants.{Start}
 use Rattle.scenario.specs.Record.{Record}
+use Rattle.event_list.specs.History.{IsIn}
+use Rattle.event_list.specs.Pending.{IsLeastTick}
 use Rattle.event_list.specs.ScenarioSetting.{setting_of}
 use Rattle.event_list.specs.Seat.{process_of, own_of, IsSeated}
 use Rattle.event_list.specs.Setting.{IsProcess}
 use Rattle.event_list.specs.Standing.{IsReached}
 use Rattle.event_list.specs.Step.{Events}
-use Rattle.event_list.specs.World.{World, IsWorld, joined, start_of, opening_process}
+use Rattle.event_list.specs.World.{World, IsWorld, NoneBelow, joined, start_of, opening_process}
 use Rattle.trace_merge.specs.Parts.{all_of}
 use Rattle.windows.specs.Berth.{event_of, IsBerth}
 use Rattle.windows.specs.Machine.{StageRecord, Act, StandsFor, IsRun, end_of, first_status}
@@ -37,6 +39,13 @@ abbrev pub delivered : List Events → List (List Letter) → List Events
 delivered [] lists = []
 delivered (m ∷ ms) [] = []
 delivered (m ∷ ms) (letters ∷ lists) = joined m (map event_of letters) ∷ delivered ms lists
+
+-- where these events are pending, the next window opens at the least tick of theirs that is below the horizon, and at
+-- the horizon where there is none
+pub record IsNextStart (horizon : ℕ) (own : List Events) (next : ℕ) : Type 0 where
+  pub to_horizon : next ≤ horizon
+  pub late : All (NoneBelow next) own
+  pub least : (next ≡ horizon) ⊎ ((set : Events) × IsIn set own × IsLeastTick set next)
 
 module _ {M : Type 0} (mind : M → Mind) where
   -- a berth in which nothing was done yet but that its start is pending
@@ -81,8 +90,8 @@ module _ {M : Type 0} (mind : M → Mind) where
   IsStage stage = (trace : List EntryRecord) × IsStageAfter trace stage
 
   -- The berths that a window left took these letters, of process 1 first, and gave their parts, which are merged. There
-  -- are so many entries more, and the next window starts at this tick
-  pub record IsClosed (left end so_far : ℕ) (berths : List (Berth M)) (letters : List (List Letter))
+  -- are so many entries more, and the next window starts at the least pending tick
+  pub record IsClosed (left so_far : ℕ) (berths : List (Berth M)) (letters : List (List Letter))
       (merged : List EntryRecord) (new : Stage M) : Type 0 where
     pub seats : map (λ b. b.seat) new.berths.items ≡ map (λ b. b.seat) berths
     pub pending : map (λ b. b.pending) new.berths.items ≡ delivered (map (λ b. b.pending) berths) letters
@@ -91,10 +100,10 @@ module _ {M : Type 0} (mind : M → Mind) where
     pub same : IsPermutation (all_of (map (λ b. b.part.items) berths)) merged
     pub few : length merged ≤ left
     pub longer : new.so_far ≡ so_far + length merged
-    pub start : new.start ≡ end
+    pub start : IsNextStart new.scenario.now.horizon (map (λ b. b.pending) new.berths.items) new.start
 
   -- Some run of a window leads from one stage to the other, and this is what its parts make, merged. There are so many
-  -- entries more, and the next window starts where this one ended
+  -- entries more, and the next window starts at the least pending tick, which isn't before the end of this one
   abbrev pub IsWindowRun : (window : ℕ) → (old new : Stage M) → (merged : List EntryRecord) → Type 0
   IsWindowRun window old new merged =
       let S = setting_of old.scenario.now in
@@ -102,4 +111,5 @@ module _ {M : Type 0} (mind : M → Mind) where
       × IsRun S window (end_of S window old.start) (stage_of window old) acts found left
       × IsSameStage S left (stage_of window new)
       × IsMerge S.processes found.part merged × (new.so_far ≡ old.so_far + length merged)
-      × (new.start ≡ end_of S window old.start)
+      × (end_of S window old.start ≤ new.start)
+      × IsNextStart S.horizon (map (λ b. b.pending) new.berths.items) new.start

@@ -14,7 +14,7 @@ ghost use Rattle.trace_merge.specs.Parts.{all_of, AreDisjoint};
 ghost use Rattle.windows.specs.Berth.{event_of};
 ghost use Rattle.windows.specs.Machine.{StandsFor};
 ghost use Rattle.windows.specs.Refusals.{IsRefusalOfOne};
-ghost use Rattle.windows.specs.Stage.{stage_of, start_event, delivered, IsOpened, IsClosed, IsStageAfter};
+ghost use Rattle.windows.specs.Stage.{stage_of, start_event, delivered, IsOpened, IsClosed, IsNextStart, IsStageAfter};
 
 use crate::berth::Berth;
 use event_list::{Pending, RunError};
@@ -117,6 +117,19 @@ fn deliver_all<M: Process>(
     Ok((done, parts))
 }
 
+/// The tick at which the next window opens: the least pending tick, or the horizon where none is below it.
+fn next_start<M>(berths: &[Berth<M>], horizon: u32) -> u32
+    ensures { IsNextStart horizon (map (λ b. b.pending) berths.now) result }
+{
+    let mut next = horizon;
+    for berth in berths {
+        if let Some(tick) = berth.pending.least_tick() {
+            next = next.min(tick);
+        }
+    }
+    next
+}
+
 impl<'s, M: Process> Stage<'s, M> {
     /// The stage at the opening of a run: each machine has its start pending, and there is no entry. There is one
     /// machine for each process, of process 1 first, and each opens as the scenario says.
@@ -163,8 +176,8 @@ impl<'s, M: Process> Stage<'s, M> {
     }
 
     /// Closes a window: the berths that its workers left, of process 1 first, take the letters of their mailboxes, and
-    /// their parts are merged. The next window starts at tick `end`. Answers the merged part, which has at most `left`
-    /// entries.
+    /// their parts are merged. The next window starts at the least pending tick. Answers the merged part, which has at
+    /// most `left` entries.
     ///
     /// # Errors
     ///
@@ -175,7 +188,6 @@ impl<'s, M: Process> Stage<'s, M> {
         alloc: Global,
         berths: Vec<Berth<M>>,
         letters: Vec<Vec<Letter>>,
-        end: u32,
         left: u64,
     ) -> Result<Vec<Entry>, RunError>
         requires lists { vec_len letters ≡ vec_len berths }
@@ -184,7 +196,7 @@ impl<'s, M: Process> Stage<'s, M> {
         requires room { self.old.so_far + left < 2 ^ 64 }
 
         ensures scenario { self.new.scenario.now ≡ self.old.scenario.now }
-        ensures closed { IfOk result (λ merged. IsClosed M.mind left end self.old.so_far berths.items
+        ensures closed { IfOk result (λ merged. IsClosed M.mind left self.old.so_far berths.items
             (letters_in letters.items) merged.items self.new) }
         ensures errors { IfErr result IsRefusalOfOne }
         ensures limit { IsErrOf result RunError.Limit → left < length (all_of (map (λ b. b.part.items) berths.items)) }
@@ -196,8 +208,8 @@ impl<'s, M: Process> Stage<'s, M> {
             return Err(RunError::Limit);
         }
         self.so_far += made;
+        self.start = next_start(&berths, self.scenario.horizon());
         self.berths = berths;
-        self.start = end;
         Ok(merged)
     }
 }

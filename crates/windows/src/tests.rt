@@ -6,6 +6,7 @@ mod orders;
 mod plans;
 mod rows;
 mod sinks;
+mod starts;
 mod workers;
 
 use process_api::Entry;

@@ -172,7 +172,8 @@ pub(crate) fn cut_at(end: u32, horizon: u32) -> u32
 
 /// Runs the next window of a stage. The smaller of the plan's workers and the number of processes with an event below
 /// the window's end are started, each a thread; they take the processes one after the other and run them, and are
-/// joined. Then the letters are delivered, and the parts of the trace are merged. Answers the merged part.
+/// joined. Then the letters are delivered, and the parts of the trace are merged. Answers the merged part. The next
+/// window starts at the least pending tick, so that none is opened in which nothing happens.
 ///
 /// # Errors
 ///
@@ -206,5 +207,5 @@ pub fn run_window<M: Process, G: Gate, R: Threads + Wait + Sync>(
     let window = Window { streams, end, left };
     let berths = replace(&mut stage.berths, Vec::new(alloc));
     let (berths, letters) = run_all(rt, alloc, gate, plan, processes, &window, berths)?;
-    stage.close(alloc, berths, letters, end, left)
+    stage.close(alloc, berths, letters, left)
 }

@@ -2,9 +2,7 @@ use Rattle.std.proofs.Common.{rules, ◌≡◌, ◌+◌, ◌-◌, min, sym, ap, 
 use Rattle.std.specs.Global.{Vec}
 use Rattle.event_list.specs.ScenarioSetting.{setting_of}
 use Rattle.event_list.specs.Seat.{own_of}
-use Rattle.mailboxes.specs.Mailboxes.{letters_in}
 use Rattle.windows.specs.Machine.{end_of}
-use Rattle.windows.specs.Stage.{IsClosed}
 use Rattle.windows.specs.Workers.{RiseBy}
 use Rattle.windows.specs.declared.berth.Berth.{Berth}
 use Rattle.windows.proofs.Settled.{sum_of, if_ok, outcome_at, long_at, ready_at, stage_ready, stage_rises, long_limit, outcome_rising, outcome_disjoint, outcome_limit, outcome_next}
@@ -69,8 +67,7 @@ returns-clause-stage g c =
     let end : c.cut_at-end.result ≡ end_of (setting_of old.scenario.now) c.args.plan.now.window old.start = c.cut_at-end.ensures ∙ (λ i. min (old.start + c.window.ensures.value i) (c.horizon.ensures.value i)) in
     let o = outcome_at mind c.new-streams.result old.scenario.now c.cut_at-end.result _ c.replace-berths.result.items old.berths.items _ _ c.new-streams.ensures end (ap (λ (v : Vec _). v.items) c.replace-berths.ensures.value) c.in_ok-berths.ensures.outcome in
     if_ok c.close.result _ _
-    (λ part closed trace is. (outcome_next mind old c.processes-processes.ensures.ranges trace is c.args.plan.now.window c.requires.plan _ _ o c.close.new.self c.close.ensures.scenario left sum part.items
-    (subst (λ e. IsClosed mind left e old.so_far c.in_ok-berths.berths.items (letters_in c.in_ok-berths.letters.items) part.items c.close.new.self) end closed)).0)
+    (λ part closed trace is. (outcome_next mind old c.processes-processes.ensures.ranges trace is c.args.plan.now.window c.requires.plan _ _ o c.close.new.self c.close.ensures.scenario left sum part.items closed).0)
     c.close.ensures.closed
 
 pub returns-clause-run : goal.returns-clause-run
@@ -82,6 +79,5 @@ returns-clause-run g c =
     let end : c.cut_at-end.result ≡ end_of (setting_of old.scenario.now) c.args.plan.now.window old.start = c.cut_at-end.ensures ∙ (λ i. min (old.start + c.window.ensures.value i) (c.horizon.ensures.value i)) in
     let o = outcome_at mind c.new-streams.result old.scenario.now c.cut_at-end.result _ c.replace-berths.result.items old.berths.items _ _ c.new-streams.ensures end (ap (λ (v : Vec _). v.items) c.replace-berths.ensures.value) c.in_ok-berths.ensures.outcome in
     if_ok c.close.result _ _
-    (λ part closed. (outcome_next mind old c.processes-processes.ensures.ranges c.requires.stage.0 c.requires.stage.1 c.args.plan.now.window c.requires.plan _ _ o c.close.new.self c.close.ensures.scenario left sum part.items
-    (subst (λ e. IsClosed mind left e old.so_far c.in_ok-berths.berths.items (letters_in c.in_ok-berths.letters.items) part.items c.close.new.self) end closed)).1)
+    (λ part closed. (outcome_next mind old c.processes-processes.ensures.ranges c.requires.stage.0 c.requires.stage.1 c.args.plan.now.window c.requires.plan _ _ o c.close.new.self c.close.ensures.scenario left sum part.items closed).1)
     c.close.ensures.closed
