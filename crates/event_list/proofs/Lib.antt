@@ -1,6 +1,7 @@
 pub mod Openings
 pub mod Reaching
 pub mod Recording
+pub mod Joining
 pub mod Rising
 pub mod Sets
 pub mod Steps

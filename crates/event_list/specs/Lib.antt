@@ -2,6 +2,7 @@ pub mod Setting
 pub mod ScenarioSetting
 pub mod Step
 pub mod World
+pub mod Joins
 pub mod History
 pub mod Effects
 pub mod Theorems

@@ -24,6 +24,7 @@
 
 mod buckets;
 mod error;
+mod joins;
 mod laws;
 mod links;
 mod list;
@@ -34,6 +35,7 @@ mod seat;
 mod tests;
 
 pub use error::RunError;
+pub use joins::Joins;
 pub use laws::law_only_history;
 pub use list::{run_list, run_list_into};
 pub use pending::Pending;

@@ -3,10 +3,12 @@ ghost use Rattle.std.specs.Prelude.{◌≡◌, ◌≢◌, ◌≤◌, ◌<◌, �
 ghost use Rattle.std.specs.List.{AllByRecursion};
 ghost use Rattle.process_api.specs.Actions.{IsAllowed};
 ghost use Rattle.streams.specs.Fate.{fate_of};
+ghost use Rattle.event_list.specs.Joins.{HaveJoined};
 ghost use Rattle.event_list.specs.ScenarioSetting.{setting_of};
 ghost use Rattle.event_list.specs.Seat.{count_of};
 ghost use Rattle.event_list.specs.Step.{raised, in_time, joining, lost_by, counts_after, added as added_by, sent as sent_by_all, lost as lost_by_all, noted, dead};
 
+use crate::joins::Joins;
 use process_api::{Action, Entry, Key, Kind, Payload, Pid, StepInput, Tag};
 use std::alloc::{AllocError, Global};
 use streams::{Fate, LinkWords, Streams};
@@ -24,15 +26,15 @@ pub struct Links {
 
 /// Adds the event, so many ticks after the tick of its key, where that is below the horizon.
 #[inline(always)]
-fn join_after(
-    added: &mut Vec<(Key, StepInput)>,
+fn join_after<J: Joins>(
+    added: &mut J,
     horizon: u32,
     sent: Key,
     ticks: u32,
     input: StepInput,
 ) -> Result<(), AllocError>
-    ensures { OnOk result (added.new.items
-        ≡ added.old.items ++ in_time horizon (record sent { tick = sent.tick + ticks }) input) }
+    ensures { OnOk result (HaveJoined J.grown added.old added.new
+        (in_time horizon (record sent { tick = sent.tick + ticks }) input)) }
 {
     let tick = u64::from(sent.tick) + u64::from(ticks);
     if tick < u64::from(horizon) {
@@ -40,7 +42,7 @@ fn join_after(
             tick: tick as u32,
             ..sent
         };
-        added.push((key, input))?;
+        added.add(key, input)?;
     }
     Ok(())
 }
@@ -127,13 +129,13 @@ impl Links {
 
     /// Puts a letter on its link, in the step of `key`. Answers how many letters were lost, 0 or 1.
     #[inline(always)]
-    fn post(
+    fn post<J: Joins>(
         &mut self,
         streams: &Streams<'_>,
         key: Key,
         to: Pid,
         payload: Payload,
-        added: &mut Vec<(Key, StepInput)>,
+        added: &mut J,
     ) -> Result<u32, AllocError>
         requires horizon { self.old.horizon ≡ streams.now.horizon }
         requires own { key.receiver ≤ streams.now.processes }
@@ -144,9 +146,9 @@ impl Links {
         ensures counts { OnOk result (count_of self.new.counts.items ≡ raised (count_of self.old.counts.items) to) }
         ensures places { vec_len self.new.counts ≡ vec_len self.old.counts }
         ensures horizon { self.new.horizon ≡ self.old.horizon }
-        ensures added { OnOk result (added.new.items ≡ added.old.items
-            ++ joining (setting_of streams.now) key.receiver key.tick (count_of self.old.counts.items)
-            (Action.Send to payload)) }
+        ensures added { OnOk result (HaveJoined J.grown added.old added.new
+            (joining (setting_of streams.now) key.receiver key.tick (count_of self.old.counts.items)
+            (Action.Send to payload))) }
         ensures lost { IfOk result (λ lost. lost
             ≡ lost_by (setting_of streams.now) key.receiver key.tick (count_of self.old.counts.items)
             (Action.Send to payload)) }
@@ -178,12 +180,12 @@ impl Links {
 
     /// Sets a wake, in the step of `key`.
     #[inline(always)]
-    fn set_wake(
+    fn set_wake<J: Joins>(
         &mut self,
         key: Key,
         pause: u32,
         tag: Tag,
-        added: &mut Vec<(Key, StepInput)>,
+        added: &mut J,
     ) -> Result<(), AllocError>
         requires there { key.receiver < vec_len self.old.counts }
         requires room { count_of self.old.counts.items key.receiver + 1 < 2 ^ 64 }
@@ -192,12 +194,12 @@ impl Links {
             ≡ raised (count_of self.old.counts.items) key.receiver) }
         ensures places { vec_len self.new.counts ≡ vec_len self.old.counts }
         ensures horizon { self.new.horizon ≡ self.old.horizon }
-        ensures added { OnOk result (added.new.items ≡ added.old.items ++ in_time self.old.horizon (record {
+        ensures added { OnOk result (HaveJoined J.grown added.old added.new (in_time self.old.horizon (record {
           tick = key.tick + pause;
           receiver = key.receiver;
           sender = key.receiver;
           number = count_of self.old.counts.items key.receiver + 1;
-        }) (StepInput.Wake tag)) }
+        }) (StepInput.Wake tag))) }
     {
         let own = key.receiver;
         let number = self.raise(own);
@@ -212,13 +214,13 @@ impl Links {
 
     /// Does what the actions of the step of `key` say, in their order, adds the events that join, and makes the step's
     /// entry. The actions are used up.
-    pub fn perform(
+    pub fn perform<J: Joins>(
         &mut self,
         streams: &Streams<'_>,
         key: Key,
         kind: Kind,
         actions: &mut Vec<Action>,
-        added: &mut Vec<(Key, StepInput)>,
+        added: &mut J,
     ) -> Result<Entry, AllocError>
         requires horizon { self.old.horizon ≡ streams.now.horizon }
         requires places { vec_len self.old.counts ≡ streams.now.processes + 1 }
@@ -233,9 +235,9 @@ impl Links {
         ensures horizon { OnOk result (self.new.horizon ≡ self.old.horizon) }
         ensures room { OnOk result ((q : ℕ)
             → count_of self.new.counts.items q ≤ count_of self.old.counts.items q + 4096) }
-        ensures added { OnOk result (added.new.items ≡ added.old.items
-            ++ added_by (setting_of streams.now) key.receiver key.tick (count_of self.old.counts.items)
-            actions.old.items) }
+        ensures added { OnOk result (HaveJoined J.grown added.old added.new
+            (added_by (setting_of streams.now) key.receiver key.tick (count_of self.old.counts.items)
+            actions.old.items)) }
         ensures entry { IfOk result (λ e. e ≡ record {
           key = key;
           kind = kind;

@@ -22,14 +22,13 @@ use scenario::Scenario;
 use std::alloc::{AllocError, Global};
 use streams::Streams;
 
-/// A run of the list: who sits where, what is pending, and room for what one step makes.
+/// A run of the list: who sits where, what is pending, and room for what one machine answers.
 #[derive(Drop)]
 struct EventList<M> {
     // of process 1 first
     seats: Vec<Seat<M>>,
     pending: Pending,
     actions: Vec<Action>,
-    added: Vec<(Key, StepInput)>,
 }
 
 /// The machines, each in its seat.
@@ -92,7 +91,6 @@ impl<M: Process> EventList<M> {
             seats,
             pending,
             actions: Vec::new(alloc),
-            added: Vec::new(alloc),
         })
     }
 
@@ -122,10 +120,8 @@ impl<M: Process> EventList<M> {
             self.old.pending self.new.pending key e (step (setting_of streams.now) before key input.now)) }
     {
         let place = usize::from(key.receiver.number()) - 1;
-        self.added.clear();
         let seat = &mut self.seats[place];
-        let entry = seat.turn(streams, key, input, &mut self.actions, &mut self.added)?;
-        self.pending.join_all(&mut self.added)?;
+        let entry = seat.turn(streams, key, input, &mut self.actions, &mut self.pending)?;
         Ok(entry)
     }
 

@@ -1,9 +1,11 @@
 //! One step of one process.
-ghost use Rattle.std.specs.Prelude.{◌≡◌, ◌≤◌, ◌<◌, ◌+◌, ◌^◌, ◌++◌, ℕ, IfOk, OnOk};
+ghost use Rattle.std.specs.Prelude.{◌≡◌, ◌≤◌, ◌<◌, ◌+◌, ◌^◌, ℕ, IfOk, OnOk};
+ghost use Rattle.event_list.specs.Joins.{HaveJoined};
 ghost use Rattle.event_list.specs.ScenarioSetting.{setting_of};
 ghost use Rattle.event_list.specs.Setting.{has_crashed};
 ghost use Rattle.event_list.specs.Step.{kind_of as kind_for, step};
 
+use crate::joins::Joins;
 use crate::links::Links;
 use process_api::{Action, Entry, Key, Kind, Payload, Pid, Process, StepInput, Tag};
 use scenario::Scenario;
@@ -82,19 +84,19 @@ impl<M: Process> Seat<M> {
     }
 
     /// Makes the step of one event: the machine takes the input, unless the process has crashed, and what it does is
-    /// put on its links. The events that join are appended to `added`. `actions` is room for the machine's answer;
+    /// put on its links. The events that join go to `added` in their order. `actions` is room for the machine's answer;
     /// what it held is thrown away.
     ///
     /// # Errors
     ///
     /// `AllocError` where memory was refused. The seat is good for nothing then, and `added` may hold anything.
-    pub fn turn(
+    pub fn turn<J: Joins>(
         &mut self,
         streams: &Streams<'_>,
         key: Key,
         input: &StepInput,
         actions: &mut Vec<Action>,
-        added: &mut Vec<(Key, StepInput)>,
+        added: &mut J,
     ) -> Result<Entry, AllocError>
         requires seated { (most : ℕ) × IsSeated M.mind streams.now most self.old × (most + 4096 < 2 ^ 64) }
         requires own { key.receiver ≡ own_of M.mind self.old }
@@ -103,8 +105,8 @@ impl<M: Process> Seat<M> {
             ≡ (step (setting_of streams.now) (process_of M.mind self.old) key input.now).process) }
         ensures entry { IfOk result (λ e.
             e ≡ (step (setting_of streams.now) (process_of M.mind self.old) key input.now).entry) }
-        ensures added { OnOk result (added.new.items ≡ added.old.items
-            ++ (step (setting_of streams.now) (process_of M.mind self.old) key input.now).added) }
+        ensures added { OnOk result (HaveJoined J.grown added.old added.new
+            (step (setting_of streams.now) (process_of M.mind self.old) key input.now).added) }
         ensures seated { OnOk result ((most : ℕ)
             → IsSeated M.mind streams.now most self.old → IsSeated M.mind streams.now (most + 4096) self.new) }
     {

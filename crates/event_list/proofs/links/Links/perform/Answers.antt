@@ -1,4 +1,4 @@
-use Rattle.std.proofs.Common.{◌≡◌, ◌+◌, ◌++◌, ◌∷◌, ℕ, length, ap, ◌∙◌, sym, refl, arith, add-zero, append-nil}
+use Rattle.std.proofs.Common.{◌≡◌, ◌+◌, ◌++◌, ◌∷◌, ℕ, length, ap, ◌∙◌, sym, subst, refl, arith, add-zero, append-nil}
 use Rattle.std.specs.Vec.Iter.{drain_items}
 use Rattle.process_api.specs.declared.action.Action.{Action}
 use Rattle.process_api.specs.declared.action.Action.TheVariants as action
@@ -7,10 +7,12 @@ use Rattle.event_list.specs.Step.{in_time}
 use Rattle.event_list.specs.ScenarioSetting.{setting_of}
 use Rattle.event_list.specs.Seat.{count_of}
 use Rattle.event_list.proofs.Performing.{one_counted, one_added, one_lost, one_sent, one_noted, raised-le, rest_allowed, lost_by-le}
+use Rattle.event_list.specs.Joins.{HaveJoined}
+use Rattle.event_list.proofs.Joining.{joined_init, joined_next, all_joined}
 use Rattle.event_list.proofs.links.Links.perform.Goals as goal
 
 pub loop-action-preserved-in-Send : goal.loop-action-preserved-in-Send
-loop-action-preserved-in-Send c =
+loop-action-preserved-in-Send h c =
     let S = setting_of c.args.streams.now in
     let p = c.args.key.receiver in
     let now = c.args.key.tick in
@@ -30,7 +32,7 @@ loop-action-preserved-in-Send c =
       places = c.post.ensures.places ∙ i.places;
       horizon = c.post.ensures.horizon ∙ i.horizon;
       room = λ q. omega (arith, ap (λ (k : ℕ → ℕ). k q) done.counts, raised-le f c.in-Send.to q, i.room q, shorter);
-      added = one_added S p now rest left a e f g done.counts _ _ _ done.added i.added;
+      added = joined_next h.J.Joins.grown _ _ _ _ _ _ _ done.added i.added (one_added S p now rest left a e f g done.counts _ _ _ refl i.added.whole);
       sent = one_sent rest left a e _ _ _ refl i.sent;
       lost = one_lost S p now rest left a e f g done.counts _ _ _ (ap (λ n. c.loop-action.lost + n) done.lost) i.lost;
       notes = one_noted rest left a e _ _ _ (sym (append-nil _)) i.notes;
@@ -40,7 +42,7 @@ loop-action-preserved-in-Send c =
     }
 
 pub loop-action-preserved-in_ok-set_wake-in-Wake : goal.loop-action-preserved-in_ok-set_wake-in-Wake
-loop-action-preserved-in_ok-set_wake-in-Wake c =
+loop-action-preserved-in_ok-set_wake-in-Wake h c =
     let S = setting_of c.args.streams.now in
     let p = c.args.key.receiver in
     let now = c.args.key.tick in
@@ -60,7 +62,7 @@ loop-action-preserved-in_ok-set_wake-in-Wake c =
       places = c.set_wake.ensures.places ∙ i.places;
       horizon = c.set_wake.ensures.horizon ∙ i.horizon;
       room = λ q. omega (arith, ap (λ (k : ℕ → ℕ). k q) done.counts, raised-le f p q, i.room q, shorter);
-      added = one_added S p now rest left a e f g done.counts _ _ _ (done.added ∙ ap (λ h. c.loop-action.added.items ++ in_time h (record { tick = now + c.in-Wake.pause; receiver = p; sender = p; number = f p + 1 }) (input.Wake c.in-Wake.tag)) i.horizon) i.added;
+      added = joined_next h.J.Joins.grown _ _ _ _ _ _ _ (subst (λ t. HaveJoined h.J.Joins.grown c.loop-action.added c.set_wake.new.added (in_time t (record { tick = now + c.in-Wake.pause; receiver = p; sender = p; number = f p + 1 }) (input.Wake c.in-Wake.tag))) i.horizon done.added) i.added (one_added S p now rest left a e f g done.counts _ _ _ refl i.added.whole);
       sent = one_sent rest left a e _ _ _ (sym (add-zero _)) i.sent;
       lost = one_lost S p now rest left a e f g done.counts _ _ _ (sym (add-zero _)) i.lost;
       notes = one_noted rest left a e _ _ _ (sym (append-nil _)) i.notes;

@@ -5,11 +5,12 @@ use Rattle.process_api.specs.Actions.{IsAllowed}
 use Rattle.event_list.specs.ScenarioSetting.{setting_of}
 use Rattle.event_list.specs.Seat.{count_of}
 use Rattle.event_list.specs.Step.{counts_after, added, sent, lost, noted}
+use Rattle.event_list.proofs.Joining.{Joined}
 use Rattle.event_list.proofs.links.Links.perform.Given as goal
 
 -- what was done so far, and what the rest does, is what all actions do
 abbrev pub invariant-loop-action : goal.invariant-loop-action
-invariant-loop-action l =
+invariant-loop-action g l =
     let S = setting_of l.fn.streams in
     let p = l.fn.key.receiver in
     let now = l.fn.key.tick in
@@ -18,13 +19,13 @@ invariant-loop-action l =
     let here = count_of l.self.counts.items in
     let before = count_of l.fn.self.counts.items in
     record {
-      can : (goal.iterator-loop-action).can_next l.action-iterator;
-      finite : (goal.iterator-loop-action).is_finite l.action-iterator;
+      can : (goal.iterator-loop-action g).can_next l.action-iterator;
+      finite : (goal.iterator-loop-action g).is_finite l.action-iterator;
       counts : counts_after p here rest ≡ counts_after p before all;
       places : vec_len l.self.counts ≡ l.fn.streams.processes + 1;
       horizon : l.self.horizon ≡ l.fn.streams.horizon;
       room : (q : ℕ) → here q + length rest ≤ before q + length all;
-      added : l.added.items ++ added S p now here rest ≡ l.fn.added.items ++ added S p now before all;
+      added : Joined g.J.Joins.grown l.fn.added l.added (added S p now here rest) (added S p now before all);
       sent : l.sent + sent rest ≡ sent all;
       lost : l.lost + lost S p now here rest ≡ lost S p now before all;
       notes : l.notes.items ++ noted rest ≡ noted all;

@@ -1,4 +1,4 @@
-use Rattle.std.proofs.Common.{◌≡◌, ◌++◌, ◌+◌, ◌-◌, ◌<◌, length, get_or, slice_get, slice_set, map, ap, sym, subst, ◌∙◌, arith}
+use Rattle.std.proofs.Common.{[], refl, ◌≡◌, ◌++◌, ◌+◌, ◌-◌, ◌<◌, length, get_or, slice_get, slice_set, map, ap, sym, subst, ◌∙◌, arith}
 use Rattle.std.proofs.lemmas.List.{map-set}
 use Rattle.std.proofs.lemmas.List.Elements.{All-set, All-weaker, All-get_or}
 use Rattle.event_list.specs.ScenarioSetting.{setting_of}
@@ -46,12 +46,11 @@ returns-clause-stepped g c =
     let made = step S (f old) key c.args.input.now in
     let at : i ≡ key.receiver - 1 = ap (λ n. n - 1) (c.from-place.ensures ∙ c.number.ensures.value) in
     let there : old ≡ get_or xs i old = c.index_mut-seat.ensures.value in
-    let added : c.turn.new.added.items ≡ made.added = c.in_ok-entry.ensures.added ∙ ap (λ es. es ++ made.added) c.clear.ensures.items in
     λ before is.
     let same : f old ≡ before = ap f there ∙ place_is f xs i old before (ap (λ n. slice_get (map f xs) n) at ∙ is) in
-    subst (λ b. IsStepped {S = S} (map f xs) (map f (slice_set xs i c.turn.new.self)) c.args.self.now.pending c.join_all.new.self key c.in_ok-entry.entry (step S b key c.args.input.now)) same
+    subst (λ b. IsStepped {S = S} (map f xs) (map f (slice_set xs i c.turn.new.self)) c.args.self.now.pending c.turn.new.added key c.in_ok-entry.entry (step S b key c.args.input.now)) same
     (record {
       processes = map-set f xs i c.turn.new.self ∙ (λ k. slice_set (map f xs) (at k) (c.in_ok-entry.ensures.process k));
       entry_is = c.in_ok-entry.ensures.entry;
-      pending = c.in_ok-join_all.ensures ∙ ap (joined c.args.self.now.pending) added;
+      pending = c.in_ok-entry.ensures.added c.args.self.now.pending [] refl;
     })

@@ -1,11 +1,14 @@
-use Rattle.std.proofs.Common.{◌≡◌, ◌≤◌, ap, sym, subst, ◌∙◌, arith, vec_len}
+use Rattle.std.proofs.Common.{[], ◌++◌, cond, false, ◌≡◌, ◌≤◌, ap, sym, subst, ◌∙◌, arith, vec_len}
 use Rattle.std.specs.Prelude.{IsTrue}
 use Rattle.process_api.specs.Mind.{Mind, is_mind_at}
 use Rattle.process_api.proofs.Minds.{mind_place, same_own}
 use Rattle.process_api.proofs.Keeping.{react_keeps}
 use Rattle.scenario.specs.Record.{crash, place_in}
-use Rattle.event_list.specs.Seat.{own_of, IsSeated}
-use Rattle.event_list.proofs.Performing.{on_ok_three}
+use Rattle.event_list.specs.ScenarioSetting.{setting_of}
+use Rattle.event_list.specs.Seat.{process_of, own_of, IsSeated}
+use Rattle.event_list.specs.Setting.{has_crashed}
+use Rattle.event_list.specs.Step.{dead, lost, made_by, noted, sent}
+use Rattle.event_list.proofs.Performing.{if_ok_then, on_ok_three}
 use Rattle.event_list.proofs.seat.Seat.turn.Goals as goal
 
 pub returns-clause-seated : goal.returns-clause-seated
@@ -29,3 +32,23 @@ returns-clause-seated g c =
       places = sym c.perform.new.self.counts.ok.0 ∙ (places ∙ (seat.links.counts.ok.0 ∙ h.places));
       counts = λ q. omega (arith, room q, h.counts q);
     }) c.perform.ensures.places c.perform.ensures.horizon c.perform.ensures.room
+
+pub returns-clause-entry : goal.returns-clause-entry
+returns-clause-entry g c =
+    let s = c.args.streams.now in
+    let S = setting_of s in
+    let seat = c.args.self.now in
+    let before = process_of g.M.Process.mind seat in
+    let key = c.args.key in
+    let x = c.args.input.now in
+    let answer = S.react before.mind key.tick x in
+    let crash_is : seat.crash ≡ crash s key.receiver = c.requires.seated.1.crash ∙ ap (crash s) (sym c.requires.own) in
+    let up : has_crashed (crash s key.receiver) key.tick ≡ false = ap (λ k. has_crashed k key.tick) (sym crash_is) ∙ (sym c.is_down.ensures ∙ c.if-is_down.false) in
+    let does : c.on_input.new.out.items ≡ answer.actions = c.in_ok-on_input.ensures.actions ∙ ap (λ xs. xs ++ answer.actions) c.clear.ensures.items in
+    if_ok_then c.perform.result (λ e h. h ∙ ((λ i. record {
+      key = key;
+      kind = c.kind_of.ensures i;
+      sent = sent (does i);
+      lost = lost S key.receiver key.tick before.counts (does i);
+      notes = noted (does i);
+    }) ∙ sym (ap (λ b. (cond b (record { process = before; entry = dead key; added = [] }) (made_by S before key x answer)).entry) up))) c.perform.ensures.entry
