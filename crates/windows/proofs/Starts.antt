@@ -1,16 +1,15 @@
 -- The tick at which the next window opens.
-use Rattle.std.proofs.Common.{◌≡◌, ◌⊎◌, ℕ, ◌+◌, ◌<◌, ◌≤◌, inl, inr, refl, sym, ap, ◌∙◌, subst, List, [], ◌∷◌, ◌++◌, min, arith, Less, slice_get}
+use Rattle.std.proofs.Common.{◌≡◌, ◌⊎◌, ℕ, ◌<◌, ◌≤◌, inl, inr, refl, ap, subst, List, [], ◌∷◌, ◌++◌, min, arith, Less}
 use Rattle.std.specs.List.{All}
 use Rattle.std.proofs.lemmas.Bool.{cases_lt}
 use Rattle.std.proofs.lemmas.List.Elements.{All-push}
 use Rattle.process_api.specs.declared.key.Key.{Key}
-use Rattle.process_api.specs.declared.message.StepInput.{StepInput}
 use Rattle.process_api.specs.Order.{key_cmp}
 use Rattle.process_api.proofs.KeyOrder.{before_or_not, ticks_rise}
 use Rattle.event_list.specs.History.{IsIn}
 use Rattle.event_list.specs.Pending.{IsEmpty, IsLeastTick}
 use Rattle.event_list.specs.Step.{Events}
-use Rattle.event_list.specs.World.{Has, NoneBelow}
+use Rattle.event_list.specs.World.{NoneBelow}
 use Rattle.event_list.proofs.Sets.{not_None}
 use Rattle.event_list.proofs.Steps.{in_left, in_right}
 use Rattle.windows.specs.Stage.{IsNextStart}

@@ -24,11 +24,12 @@
 //! starts a worker for each, each a thread, but no more than the plan has. A worker takes a berth, tells the [`Gate`],
 //! and has [`run_berth`] run it to the window's end. When all workers are joined, the starter takes what is left in the
 //! queue, the mailboxes are emptied and the parts are merged. Where several refusals are met, that of a thread is
-//! answered before that of memory, and this before that of a place in the trace.
+//! answered before that of memory, and this before that of a place in the trace. The merged part goes to a [`Sink`],
+//! and the next window opens at the least pending tick.
 //!
-//! The one contract for the layers above is that of [`run_windows`]: on `Ok`, under every schedule of the threads, it
-//! gives the trace that the event list gives. No contract says that a call returns, that threads run at once, or which
-//! worker takes which process.
+//! The one contract for the layers above is that of [`run_windows_into`]: on `Ok`, under every schedule of the threads,
+//! the sink took the trace that the event list gives; [`run_windows`] is the same with a sink that keeps. No contract
+//! says that a call returns, that threads run at once, or which worker takes which process.
 //!
 //! As an example, two processes send each other letters that take 2 ticks, one at tick 0 and one every 4 ticks, look at
 //! each other every 3 ticks, and the second crashes at tick 3; the horizon is 10. Windows of 2 ticks have 2, 4, 2, 2

@@ -88,7 +88,9 @@ fn deliver<M: Process>(
             .pending
             .join(key, StepInput::Letter { sender, payload })?;
     }
-    Ok(replace(&mut berth.part, Vec::new(alloc)))
+    // as much room as this window's part took
+    let next = Vec::with_capacity(alloc, berth.part.len())?;
+    Ok(replace(&mut berth.part, next))
 }
 
 /// Each berth takes the letters of its mailbox and gives its part of the window. Both lists have process 1 first.

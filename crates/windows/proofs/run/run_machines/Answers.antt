@@ -1,9 +1,8 @@
-use Rattle.std.proofs.Common.{rules, ◌≡◌, ◌<◌, ◌≤◌, [], ◌++◌, ◌∷◌, List, inl, inr, refl, length, subst, sym, ap, ◌∙◌, true, arith, append-nil, append_assoc}
+use Rattle.std.proofs.Common.{rules, ◌≡◌, ◌<◌, ◌≤◌, [], ◌++◌, ◌∷◌, List, inl, inr, refl, length, subst, sym, ap, ◌∙◌, true, arith, append-nil}
 use Rattle.std.proofs.lemmas.Bool.{eqb-true}
 use Rattle.process_api.specs.EntryRecord.{EntryRecord}
 use Rattle.event_list.specs.ScenarioSetting.{setting_of}
 use Rattle.event_list.specs.World.{IsTrace}
-use Rattle.windows.specs.Sink.{TookFront}
 use Rattle.windows.specs.Stage.{IsStageAfter}
 use Rattle.windows.specs.Theorems.{end_to_end}
 use Rattle.windows.proofs.Closing.{stage_trace, stage_front}

@@ -1,10 +1,8 @@
-use Rattle.std.proofs.Common.{rules, ◌≡◌, ◌≤◌, [], ◌++◌, List, length, subst, sym, ap, ◌∙◌, arith}
-use Rattle.process_api.specs.EntryRecord.{EntryRecord}
+use Rattle.std.proofs.Common.{◌≡◌, ◌++◌, subst, sym, ap, ◌∙◌}
 use Rattle.event_list.specs.ScenarioSetting.{setting_of}
 use Rattle.event_list.specs.World.{IsTrace}
 use Rattle.event_list.proofs.Closed.{trace_rises}
 use Rattle.event_list.proofs.Sound.{setting_sound}
-use Rattle.windows.specs.Sink.{TookTrace}
 use Rattle.windows.specs.Theorems.{end_to_end}
 use Rattle.windows.specs.declared.kept.Kept.{Kept}
 use Rattle.windows.proofs.Handed.{kept_all}

@@ -1,4 +1,4 @@
-use Rattle.std.proofs.Common.{rules, ◌≡◌, ◌<◌, ◌≤◌, ◌+◌, ◌++◌, ◌∷◌, [], map, ap, sym, subst, ◌∙◌, take, get_or, length, arith, min}
+use Rattle.std.proofs.Common.{rules, ◌≡◌, ◌+◌, ◌++◌, ◌∷◌, [], map, ap, sym, subst, ◌∙◌, take, min}
 use Rattle.std.proofs.lemmas.List.{take_more, map-append}
 use Rattle.event_list.specs.Step.{Events}
 use Rattle.windows.specs.Stage.{IsNextStart}
