@@ -1,13 +1,11 @@
-use Rattle.std.proofs.Common.{◌≡◌, ◌+◌, ◌++◌, ◌∷◌, ℕ, length, ap, ◌∙◌, sym, refl, arith, subst, slice_set, slice_index_or}
+use Rattle.std.proofs.Common.{◌≡◌, ◌+◌, ◌∷◌, ℕ, length, ap, ◌∙◌, sym, refl, arith, subst, slice_set, slice_index_or}
 use Rattle.std.specs.Prelude.{drop}
-use Rattle.std.specs.List.{AllByRecursion}
-use Rattle.process_api.specs.Actions.{IsAllowed}
 use Rattle.process_api.specs.declared.action.Action.{Action}
 use Rattle.event_list.specs.ScenarioSetting.{setting_of}
 use Rattle.event_list.specs.Seat.{count_of}
 use Rattle.std.proofs.lemmas.List.{length-set}
 use Rattle.event_list.proofs.Joining.{joined_next}
-use Rattle.event_list.proofs.Performing.{one_counted, one_added, one_lost, one_sent, one_noted, counted-le, rest_allowed, first_allowed, lost_by-le, sent_by-le, drop_at}
+use Rattle.event_list.proofs.Performing.{one_counted, one_added, one_lost, one_sent, one_noted, counted-le, rest_allowed, lost_by-le, sent_by-le, drop_at}
 use Rattle.event_list.proofs.links.Links.perform.Goals as goal
 
 pub loop-place-preserved : goal.loop-place-preserved
