@@ -1,7 +1,7 @@
 -- One action more, where what was done so far and what the rest does is what all actions do.
-use Rattle.std.proofs.Common.{◌≡◌, ◌≤◌, ◌+◌, ◌++◌, ◌∷◌, ℕ, List, sym, ap, subst, ◌∙◌, append_assoc, add_assoc, arith, cond, true, false, Bool}
+use Rattle.std.proofs.Common.{slice_index_or, slice_set, [], suc, zero, length, ◌<◌, ◌≡◌, ◌≤◌, ◌+◌, ◌++◌, ◌∷◌, ℕ, List, sym, ap, subst, ◌∙◌, append_assoc, add_assoc, arith, cond, true, false, Bool}
 use Rattle.std.specs.List.{AllByRecursion}
-use Rattle.std.specs.Prelude.{Result, Ok, Err, IfOk, OnOk}
+use Rattle.std.specs.Prelude.{drop, Result, Ok, Err, IfOk, OnOk}
 use Rattle.process_api.specs.declared.action.Action.{Action}
 use Rattle.process_api.specs.declared.action.Note.{Note}
 use Rattle.process_api.specs.declared.action.Action.TheVariants as action
@@ -73,3 +73,31 @@ on_ok_three (Err e) f p q s = p
 pub if_ok_then : {T E : Type 0} {P Q : T → Type 0} (r : Result T E) → ((x : T) → P x → Q x) → IfOk r P → IfOk r Q
 if_ok_then (Ok x) f p = f x p
 if_ok_then (Err e) f p = p
+
+-- the rest of a list from a place where it is changed, and the rest after it
+pub drop_at : {X : Type 0} (xs : List X) (i : ℕ) (x v : X) → i < length xs → x ≡ slice_index_or xs i x → drop i xs ≡ x ∷ drop (i + 1) (slice_set xs i v)
+drop_at xs i x v h e = at xs i h e ∙ ap (λ n. x ∷ drop n (slice_set xs i v)) (suc_is i)
+  where
+    suc_is : (n : ℕ) → suc n ≡ n + 1
+    suc_is n = omega arith
+
+    less : (n m : ℕ) → suc n < suc m → n < m
+    less n m h = omega arith
+
+    none : (n : ℕ) → n < 0 → ⊥
+    none n h = omega arith
+
+    at : (ys : List _) (n : ℕ) → n < length ys → x ≡ slice_index_or ys n x → drop n ys ≡ x ∷ drop (suc n) (slice_set ys n v)
+    at [] n h e = absurd (none n h)
+    at (y ∷ ys) zero h e = ap (λ z. z ∷ ys) (sym e)
+    at (y ∷ ys) (suc n) h e = at ys n (less n (length ys) h) e
+
+pub counted-le : (p : ℕ) (counts : ℕ → ℕ) (a : Action) (q : ℕ) → counted p counts a q ≤ counts q + 1
+counted-le p counts (action.Send to payload) q = raised-le counts to q
+counted-le p counts (action.Wake pause tag) q = raised-le counts p q
+counted-le p counts (action.Note note) q = omega arith
+
+pub sent_by-le : (a : Action) → sent_by a ≤ 1
+sent_by-le (action.Send to payload) = omega arith
+sent_by-le (action.Wake pause tag) = omega arith
+sent_by-le (action.Note note) = omega arith

@@ -11,11 +11,12 @@
 //! only where the whole trace has more entries than the scenario's limit. [`law_only_history`] says what a trace is
 //! without any list: it is the only closed history of its scenario (`specs/History.antt`), in which each entry but the
 //! starts has one cause, and each event that is added below the horizon is taken once. [`run_list`] says these two of
-//! the trace that it gives (`specs/Effects.antt`).
+//! the trace that it gives (`specs/Effects.antt`). [`run_list_into`] is the same run, which holds no trace: it hands
+//! each entry to a [`Recorder`] as it comes (`specs/Recorder.antt`).
 //!
 //! One call makes the step of a process, [`Seat::turn`]: a machine with its link counts, a key and an input go in, an
-//! entry and the events that join come out. The list calls it, and so may whoever runs processes apart from one
-//! another; [`Pending`] is their set of pending events.
+//! entry comes out, and the events that join go where the caller says ([`Joins`]). The list calls it, and so may
+//! whoever runs processes apart from one another; [`Pending`] is their set of pending events.
 //!
 //! As an example, two processes send each other a letter at tick 0 that takes 2 ticks, and the second crashes at
 //! tick 1. The trace has a `start` of each at tick 0, process 1 takes its letter at tick 2, and the letter to process

@@ -6,11 +6,12 @@ ghost use Rattle.streams.specs.Fate.{fate_of};
 ghost use Rattle.event_list.specs.Joins.{HaveJoined};
 ghost use Rattle.event_list.specs.ScenarioSetting.{setting_of};
 ghost use Rattle.event_list.specs.Seat.{count_of};
-ghost use Rattle.event_list.specs.Step.{raised, in_time, joining, lost_by, counts_after, added as added_by, sent as sent_by_all, lost as lost_by_all, noted, dead};
+ghost use Rattle.event_list.specs.Step.{raised, in_time, counted, joining, sent_by, lost_by, noted_by, counts_after, added as added_by, sent as sent_by_all, lost as lost_by_all, noted, dead};
 
 use crate::joins::Joins;
-use process_api::{Action, Entry, Key, Kind, Payload, Pid, StepInput, Tag};
+use process_api::{Action, Entry, Key, Kind, Note, Payload, Pid, StepInput, Tag};
 use std::alloc::{AllocError, Global};
+use std::mem;
 use streams::{Fate, LinkWords, Streams};
 
 /// How much a process put on the link to each process so far: letters, lost ones too, and wakes.
@@ -212,8 +213,52 @@ impl Links {
         join_after(added, self.horizon, set, pause, StepInput::Wake(tag))
     }
 
+    /// Does what one action of the step of `key` says. Answers how many letters were put on a link, and how many of
+    /// these were lost: 0 or 1 each.
+    #[inline(always)]
+    fn act<J: Joins>(
+        &mut self,
+        streams: &Streams<'_>,
+        key: &Key,
+        action: Action,
+        added: &mut J,
+        notes: &mut Vec<Note>,
+    ) -> Result<(u32, u32), AllocError>
+        requires horizon { self.old.horizon ≡ streams.now.horizon }
+        requires places { vec_len self.old.counts ≡ streams.now.processes + 1 }
+        requires own { key.now.receiver ≤ streams.now.processes }
+        requires room { (q : ℕ) → count_of self.old.counts.items q + 1 < 2 ^ 64 }
+        requires allowed { IsAllowed streams.now.processes action }
+
+        ensures counts { OnOk result (count_of self.new.counts.items
+            ≡ counted key.now.receiver (count_of self.old.counts.items) action) }
+        ensures places { OnOk result (vec_len self.new.counts ≡ vec_len self.old.counts) }
+        ensures horizon { OnOk result (self.new.horizon ≡ self.old.horizon) }
+        ensures added { OnOk result (HaveJoined J.grown added.old added.new
+            (joining (setting_of streams.now) key.now.receiver key.now.tick (count_of self.old.counts.items) action)) }
+        ensures notes { OnOk result (notes.new.items ≡ notes.old.items ++ noted_by action) }
+        ensures sent { IfOk result (λ n. n.0 ≡ sent_by action) }
+        ensures lost { IfOk result (λ n. n.1
+            ≡ lost_by (setting_of streams.now) key.now.receiver key.now.tick (count_of self.old.counts.items) action) }
+    {
+        match action {
+            Action::Send { to, payload } => {
+                let lost = self.post(streams, *key, to, payload, added)?;
+                Ok((1, lost))
+            }
+            Action::Wake { pause, tag } => {
+                self.set_wake(*key, pause, tag, added)?;
+                Ok((0, 0))
+            }
+            Action::Note(note) => {
+                notes.push(note)?;
+                Ok((0, 0))
+            }
+        }
+    }
+
     /// Does what the actions of the step of `key` say, in their order, adds the events that join, and makes the step's
-    /// entry. The actions are used up.
+    /// entry. The actions are used up: what is in their places then means nothing.
     pub fn perform<J: Joins>(
         &mut self,
         streams: &Streams<'_>,
@@ -250,15 +295,12 @@ impl Links {
         let mut sent = 0u32;
         let mut lost = 0u32;
         let mut notes = Vec::new(*self.counts.allocator());
-        for action in actions.drain(..) {
-            match action {
-                Action::Send { to, payload } => {
-                    lost += self.post(streams, key, to, payload, added)?;
-                    sent += 1;
-                }
-                Action::Wake { pause, tag } => self.set_wake(key, pause, tag, added)?,
-                Action::Note(note) => notes.push(note)?,
-            }
+        for place in 0..actions.len() {
+            // what is left in the place is never read
+            let action = mem::replace(&mut actions[place], Action::Note(Note::NoValue));
+            let letters = self.act(streams, &key, action, added, &mut notes)?;
+            sent += letters.0;
+            lost += letters.1;
         }
         Ok(Entry {
             key,

@@ -1,6 +1,6 @@
 use Rattle.std.proofs.Common.{◌≡◌, ◌≤◌, ◌+◌, ◌++◌, ℕ, length, vec_len}
 use Rattle.std.specs.List.{AllByRecursion}
-use Rattle.std.specs.Vec.Iter.{drain_items}
+use Rattle.std.specs.Prelude.{drop}
 use Rattle.process_api.specs.Actions.{IsAllowed}
 use Rattle.event_list.specs.ScenarioSetting.{setting_of}
 use Rattle.event_list.specs.Seat.{count_of}
@@ -9,18 +9,17 @@ use Rattle.event_list.proofs.Joining.{Joined}
 use Rattle.event_list.proofs.links.Links.perform.Given as goal
 
 -- what was done so far, and what the rest does, is what all actions do
-abbrev pub invariant-loop-action : goal.invariant-loop-action
-invariant-loop-action g l =
+abbrev pub invariant-loop-place : goal.invariant-loop-place
+invariant-loop-place g l =
     let S = setting_of l.fn.streams in
     let p = l.fn.key.receiver in
     let now = l.fn.key.tick in
     let all = l.fn.actions.items in
-    let rest = drain_items l.action-iterator in
+    let rest = drop l.place l.actions.items in
     let here = count_of l.self.counts.items in
     let before = count_of l.fn.self.counts.items in
     record {
-      can : (goal.iterator-loop-action g).can_next l.action-iterator;
-      finite : (goal.iterator-loop-action g).is_finite l.action-iterator;
+      many : length l.actions.items ≡ length all;
       counts : counts_after p here rest ≡ counts_after p before all;
       places : vec_len l.self.counts ≡ l.fn.streams.processes + 1;
       horizon : l.self.horizon ≡ l.fn.streams.horizon;

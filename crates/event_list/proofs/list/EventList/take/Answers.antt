@@ -1,11 +1,10 @@
-use Rattle.std.proofs.Common.{[], refl, ◌≡◌, ◌++◌, ◌+◌, ◌-◌, ◌<◌, length, get_or, slice_get, slice_set, map, ap, sym, subst, ◌∙◌, arith}
+use Rattle.std.proofs.Common.{[], refl, ◌≡◌, ◌+◌, ◌-◌, ◌<◌, length, get_or, slice_get, slice_set, map, ap, sym, subst, ◌∙◌, arith}
 use Rattle.std.proofs.lemmas.List.{map-set}
 use Rattle.std.proofs.lemmas.List.Elements.{All-set, All-weaker, All-get_or}
 use Rattle.event_list.specs.ScenarioSetting.{setting_of}
 use Rattle.event_list.specs.Seat.{process_of, IsSeated}
 use Rattle.event_list.specs.Standing.{IsStepped}
 use Rattle.event_list.specs.Step.{step}
-use Rattle.event_list.specs.World.{joined}
 use Rattle.event_list.proofs.Standing.{place_is, image_at}
 use Rattle.event_list.proofs.list.EventList.take.Goals as goal
 
