@@ -39,12 +39,14 @@ fn accepted(rt: HostRuntime) -> Result<(), Fail> {
 #[test]
 fn missing(rt: HostRuntime) -> Result<(), Fail> {
     let alloc = rt.alloc();
-    for words in [[].as_slice(), ["check"].as_slice()] {
-        let ran = run(&rt, alloc, words, ONE_CRASH.as_bytes())?;
-        assert_eq!(rt; ran.faults.as_str(), "fdbench: words: Form\n");
-        assert_eq!(rt; ran.out.as_str(), "");
-        assert_eq!(rt; ran.status, 2);
-    }
+    let ran = run(&rt, alloc, &[], ONE_CRASH.as_bytes())?;
+    assert_eq!(rt; ran.faults.as_str(), "fdbench: words: Form\n");
+    assert_eq!(rt; ran.out.as_str(), "");
+    assert_eq!(rt; ran.status, 2);
+    let ran = run(&rt, alloc, &["check"], ONE_CRASH.as_bytes())?;
+    assert_eq!(rt; ran.faults.as_str(), "fdbench: words: Form\n");
+    assert_eq!(rt; ran.out.as_str(), "");
+    assert_eq!(rt; ran.status, 2);
     Ok(())
 }
 
