@@ -91,7 +91,7 @@ module _ (S : Record) (layer : ℕ) (trace : List EntryRecord) (last : ℕ) (met
       (λ j l. ap (closed_row meters S.processes) (omega arith) ∙ row_is j l)
 
 -- the last tick of a trace
-latest_tick : (trace : List EntryRecord) → (last : ℕ) × AreUntil trace last
+pub latest_tick : (trace : List EntryRecord) → (last : ℕ) × AreUntil trace last
 latest_tick [] = (0, tt)
 latest_tick (entry ∷ trace) = let rest = latest_tick trace in (max entry.key.tick rest.0, (omega arith, until_more trace rest.0 (max entry.key.tick rest.0) rest.1 (omega arith)))
   where

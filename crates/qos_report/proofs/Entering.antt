@@ -109,7 +109,7 @@ module _ (S : Record) (layer o tick : ℕ) (below : tick < S.horizon) where
       go p v true = all_at_member layer p (after_note layer (λ _. v) note) (λ _. after_note layer (λ _. v) note p) notes refl
       go p v false = refl
 
-AreUntil-push : (trace : List EntryRecord) (entry : EntryRecord) (last : ℕ) → AreUntil (trace ++ entry ∷ []) last → AreUntil trace last × (entry.key.tick ≤ last)
+pub AreUntil-push : (trace : List EntryRecord) (entry : EntryRecord) (last : ℕ) → AreUntil (trace ++ entry ∷ []) last → AreUntil trace last × (entry.key.tick ≤ last)
 AreUntil-push [] entry last h = (tt, h.0)
 AreUntil-push (first ∷ trace) entry last h = let rest = AreUntil-push trace entry last h.1 in ((h.0, rest.0), rest.1)
 

@@ -8,6 +8,7 @@ pub mod Opening
 pub mod EachProcess
 pub mod Closing
 pub mod Fed
+pub mod OneMeter
 pub mod Layers
 mod Examples
 pub mod PlainRows

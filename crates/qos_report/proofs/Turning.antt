@@ -28,7 +28,7 @@ same_from_beq false true e = absurd (true≢false (sym e))
 
 module _ (S : Record) (layer : ℕ) where
   -- only ticks below the horizon count
-  metered_alike : (q p : ℕ) (f g : ℕ → Bool) (last : ℕ) (m : MeterRecord) → IsMetered S layer q p f last m → ((u : ℕ) → u < S.horizon → g u ≡ f u) → IsMetered S layer q p g last m
+  pub metered_alike : (q p : ℕ) (f g : ℕ → Bool) (last : ℕ) (m : MeterRecord) → IsMetered S layer q p f last m → ((u : ℕ) → u < S.horizon → g u ≡ f u) → IsMetered S layer q p g last m
   metered_alike q p f g last m h same = record {
     is_for = h.is_for;
     within = h.within;
@@ -37,7 +37,7 @@ module _ (S : Record) (layer : ℕ) where
     known = λ k e. h.known k (λ u l. e u l ∙ same u (omega (arith, h.within)));
   }
 
-  metered_longer : (q p : ℕ) (f : ℕ → Bool) (last more : ℕ) (m : MeterRecord) → IsMetered S layer q p f last m → last ≤ more → IsMetered S layer q p f more m
+  pub metered_longer : (q p : ℕ) (f : ℕ → Bool) (last more : ℕ) (m : MeterRecord) → IsMetered S layer q p f last m → last ≤ more → IsMetered S layer q p f more m
   metered_longer q p f last more m h l = record { is_for = h.is_for; within = h.within; reached = omega (arith, h.reached); later = h.later; known = h.known }
 
   -- from a tick on the pair is in a new state

@@ -4,6 +4,7 @@ pub mod Tally
 pub mod Knows
 pub mod MeterRecord
 pub mod Meter
+pub mod MeterFed
 pub mod Panel
 pub mod Metering
 pub mod Outlet

@@ -1,6 +1,8 @@
 -- The steps of a meter.
-use Rattle.std.specs.Prelude.{ℕ, Bool, false, if◌then◌else◌, Option, None, Some}
+use Rattle.std.specs.Prelude.{ℕ, Bool, true, false, ◌&&◌, ◌==◌, if◌then◌else◌, Option, None, Some}
 use mathlib.Core.Bool.{beq}
+use Rattle.process_api.specs.declared.action.Note.{Note}
+use Rattle.process_api.specs.declared.action.Note.TheVariants.{Suspect, Trust, Round, Decided, NoValue}
 use Rattle.scenario.specs.Record.{Record}
 use Rattle.judges.specs.Crashes.{crash_tick, end_of}
 use Rattle.qos_report.specs.Measures.{is_measured, delay_after}
@@ -41,6 +43,14 @@ opened S layer q p = record {
 abbrev pub turned : (tick : ℕ) → (suspected : Bool) → MeterRecord → MeterRecord
 turned tick suspected m =
     if beq suspected m.current then m else record m { current = suspected; tally = moved m.tally tick m.current m.end }
+
+-- after one more note of its observer
+abbrev pub meter_noted : (tick : ℕ) → MeterRecord → Note → MeterRecord
+meter_noted tick m (Suspect l who) = if l == m.layer && who == m.subject then turned tick true m else m
+meter_noted tick m (Trust l who) = if l == m.layer && who == m.subject then turned tick false m else m
+meter_noted tick m (Round r) = m
+meter_noted tick m (Decided v) = m
+meter_noted tick m NoValue = m
 
 abbrev pub detected : (crash since : Option ℕ) → Detection
 detected None since = Na

@@ -20,11 +20,16 @@
 //! - [`measures`] gives a row for each pair on each layer, by definition, of any trace. In the scenario's trace each
 //!   suspicion of layer 2 has an earlier one of layer 1 for the same process, and each mistake or detection on layer 2
 //!   rests on one (`specs/Resting.antt`).
+//! - [`Meter`] gives the measures of one pair on one layer with no trace at hand: it is fed with the entries as they come
+//!   (`specs/MeterFed.antt`).
 //! - [`write_trace`] and [`write_report`] write one text of any trace, whole or a front part (`specs/Writing.antt`).
 //! - [`Outlet`] says what a put does, and [`put_all`] hands on a whole piece up to the first put that fails.
 //!
 //! Each text is formed whole before the first of its bytes is written, and nothing is ever tried again. A trace's text
-//! is formed row by row into one buffer, numbers by their digits; a report's rows are written by `csv`.
+//! is formed row by row into one buffer, numbers by their digits; a report's rows are written by `csv`. All that is
+//! measured of a run takes one pass over its entries: an entry without notes is counted, and no more. In `bench_list`
+//! that pass is the run itself, so no entry is held, and of a run whose report alone is asked for nothing is held that
+//! grows with it.
 //!
 //! As an example, let process 2 of two crash at tick 3 of 10, and process 1 note at tick 9 that it suspects it. The
 //! report says so in the row `pair,1,1,2,detection,6`: on layer 1, observer 1 and subject 2, 6 ticks.
@@ -56,6 +61,7 @@ pub use bench::{bench_list, bench_windows};
 pub use fuse_outlet::FuseOutlet;
 pub use measuring::measures;
 pub use memory_outlet::MemoryOutlet;
+pub use meter::Meter;
 pub use outlet::{Outlet, put_all};
 pub use pair_measures::{Detection, PairMeasures};
 pub use print_choice::PrintChoice;

@@ -1,17 +1,22 @@
 //! A meter: the measures of one pair on one layer, in constant memory.
-ghost use Rattle.std.specs.Prelude.{◌≡◌, if◌then◌else◌, min, None};
+ghost use Rattle.std.specs.Prelude.{◌≡◌, ◌++◌, ◌∷◌, [], ℕ, List, if◌then◌else◌, min, None};
+ghost use Rattle.process_api.specs.EntryRecord.{EntryRecord};
+ghost use Rattle.scenario.specs.Record.{Record};
+ghost use Rattle.judges.specs.Judging.{AreUntil};
 ghost use Rattle.judges.specs.Crashes.{crash_tick};
-ghost use Rattle.qos_report.specs.Meter.{closed, detected, opened, turned};
+ghost use Rattle.qos_report.specs.Meter.{closed, detected, meter_noted, opened, turned};
+ghost use Rattle.qos_report.specs.MeterFed.{IsFed};
 
 use crate::pair_measures::{Detection, PairMeasures};
 use crate::tally::Tally;
-use process_api::Pid;
+use process_api::{Entry, Note, Pid};
 use scenario::Scenario;
 use std::marker::Model;
 
-/// Measures what an observer makes of a subject on a layer.
+/// Measures what an observer makes of a subject on a layer, fed with the entries of a trace as they come, in the order of
+/// their keys. It takes no memory, and holds nothing of the entries; contracts see what it counts.
 #[derive(Clone, Copy, Debug)]
-pub(crate) struct Meter {
+pub struct Meter {
     layer: u8,
     observer: Pid,
     subject: Pid,
@@ -78,9 +83,12 @@ fn detection(crash: Option<u32>, tally: &Tally) -> Detection
 }
 
 impl Meter {
-    /// A meter that was fed with nothing.
+    ghost use Rattle.qos_report.specs.Measures.{pair_measures};
+
+    /// A meter that was fed with nothing: of layer 1, the base detector, or layer 2, the reduction's output.
     pub fn open(scenario: &Scenario, layer: u8, observer: Pid, subject: Pid) -> Meter
-        ensures { result ≡ opened scenario.now layer observer subject }
+        ensures opened { result ≡ opened scenario.now layer observer subject }
+        ensures fed { IsFed scenario.now layer observer subject [] result }
     {
         let horizon = scenario.horizon();
         let observer_end = end_tick(scenario, observer);
@@ -98,8 +106,39 @@ impl Meter {
         }
     }
 
+    /// One more note of the observer.
+    fn note(&mut self, tick: u32, note: &Note)
+        ensures { self.new ≡ meter_noted tick self.old note.now }
+    {
+        match *note {
+            Note::Suspect { layer, who } => {
+                if layer == self.layer && who == self.subject {
+                    self.turn(tick, true);
+                }
+            }
+            Note::Trust { layer, who } => {
+                if layer == self.layer && who == self.subject {
+                    self.turn(tick, false);
+                }
+            }
+            Note::Round(_) | Note::Decided(_) | Note::NoValue => {}
+        }
+    }
+
+    /// One more entry.
+    pub fn feed(&mut self, entry: &Entry)
+        ensures { (S : Record) (layer q p : ℕ) (trace : List EntryRecord) → IsFed S layer q p trace self.old
+            → AreUntil trace entry.now.key.tick → IsFed S layer q p (trace ++ entry.now ∷ []) self.new }
+    {
+        if entry.key.receiver == self.observer && entry.key.tick < self.horizon {
+            for note in entry.notes.as_slice() {
+                self.note(entry.key.tick, note);
+            }
+        }
+    }
+
     /// At this tick suspicion begins or ends.
-    pub fn turn(&mut self, tick: u32, suspected: bool)
+    pub(crate) fn turn(&mut self, tick: u32, suspected: bool)
         ensures { self.new ≡ turned tick suspected self.old }
     {
         if suspected != self.current {
@@ -110,7 +149,9 @@ impl Meter {
 
     /// The measures, as no entry follows.
     pub fn close(self) -> PairMeasures
-        ensures { result ≡ closed self }
+        ensures value { result ≡ closed self }
+        ensures measures { (S : Record) (layer q p : ℕ) (trace : List EntryRecord) → IsFed S layer q p trace self
+            → result ≡ pair_measures S trace layer q p }
     {
         let mut tally = self.tally;
         tally.pass(self.horizon, self.current, self.end);

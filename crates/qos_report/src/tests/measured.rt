@@ -1,6 +1,6 @@
 //! Measures.
 use super::rows::{scenario_of, trace_of};
-use crate::{Detection, PairMeasures, measures};
+use crate::{Detection, Meter, PairMeasures, measures};
 use process_api::Pid;
 use std::alloc::Global;
 use std::test::Fail;
@@ -181,6 +181,31 @@ fn two_mistakes(rt: HostRuntime) -> Result<(), Fail> {
         ..quiet(1, 1, 2, Detection::Na)?
     };
     assert_eq!(rt; row(&rows, 0)?, pair);
+    Ok(())
+}
+
+/// A meter that is fed entry by entry tells what is told of the finished trace.
+#[test]
+fn one_meter(rt: HostRuntime) -> Result<(), Fail> {
+    let alloc = rt.alloc();
+    let scenario = scenario_of(alloc, 2, 10, "")?;
+    let trace = trace_of(alloc, TWO_MISTAKES)?;
+    let pair = PairMeasures {
+        mistakes: 2,
+        mistake_ticks: 7,
+        recurrence_sum: 3,
+        recurrence_count: 1,
+        duration_sum: 1,
+        duration_count: 1,
+        good_sum: 2,
+        good_count: 1,
+        ..quiet(1, 1, 2, Detection::Na)?
+    };
+    let mut meter = Meter::open(&scenario, 1, pair.observer, pair.subject);
+    for entry in trace.entries() {
+        meter.feed(entry);
+    }
+    assert_eq!(rt; meter.close(), pair);
     Ok(())
 }
 

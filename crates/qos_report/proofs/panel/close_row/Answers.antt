@@ -19,7 +19,7 @@ loop-column-preserved c =
           c.loop-column.invariant w.in_ok-push.ensures.items other
           (ap (λ k. closed (place meters c.args.n c.args.row k)) (omega arith)
           ∙ ap closed (get_or_default meters (c.args.row * c.args.n + c.loop-column.column) no_meter w.index-meters-row.result within ∙ sym w.index-meters-row.is)
-          ∙ sym w.close.ensures))
+          ∙ sym w.close.ensures.value))
       | else-column-row w ↦
           let own : c.loop-column.column + 1 ≡ suc c.args.row = omega (arith, w.if-column-row.false) in
           rw w.rows-is (skipped_own (λ p. closed (place meters c.args.n c.args.row (p - 1))) c.args.rows.now.items c.loop-column.rows.items c.loop-column.column (suc c.args.row) c.loop-column.invariant own)
