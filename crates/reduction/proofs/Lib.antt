@@ -1,4 +1,4 @@
-pub mod Numbering
+pub mod Members
 pub mod Sets
 pub mod LayerNotes
 pub mod Bounds

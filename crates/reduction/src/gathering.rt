@@ -50,9 +50,8 @@ fn note_suspicions(
     ensures { OnOk result (
         out.new.items ≡ out.old.items ++ map Action.Note (map (Note.Suspect 2) (gone processes new.now old.now))) }
 {
-    for before in 0..processes {
-        let who = process_after(before);
-        if new.contains(who) && !old.contains(who) {
+    for who in new.up_to(processes).iter() {
+        if !old.contains(who) {
             note_that(out, Note::Suspect { layer: 2, who })?;
         }
     }
@@ -70,9 +69,8 @@ fn note_trusts(
     ensures { OnOk result (
         out.new.items ≡ out.old.items ++ map Action.Note (map (Note.Trust 2) (gone processes old.now new.now))) }
 {
-    for before in 0..processes {
-        let who = process_after(before);
-        if old.contains(who) && !new.contains(who) {
+    for who in old.up_to(processes).iter() {
+        if !new.contains(who) {
             note_that(out, Note::Trust { layer: 2, who })?;
         }
     }

@@ -2,7 +2,11 @@ use Rattle.std.proofs.Common.{◌≡◌, ◌++◌, map}
 use Rattle.process_api.specs.Sets.{gone}
 use Rattle.process_api.specs.declared.action.Action.TheVariants as action
 use Rattle.process_api.specs.declared.action.Note.TheVariants as note
+use Rattle.reduction.proofs.Members.{noted}
 use Rattle.reduction.proofs.gathering.note_trusts.Given as goal
 
-abbrev pub invariant-loop-before : goal.invariant-loop-before
-invariant-loop-before l = l.out.items ≡ l.fn.out.items ++ map action.Note (map (note.Trust 2) (gone l.before l.old l.new))
+-- what is noted, with what the rest brings, is what all bring
+abbrev pub invariant-loop-who : goal.invariant-loop-who
+invariant-loop-who l =
+    l.out.items ++ noted (note.Trust 2) l.new l.who-iterator
+    ≡ l.fn.out.items ++ map action.Note (map (note.Trust 2) (gone l.processes l.old l.new))
