@@ -17,8 +17,9 @@
 //! `proofs/Agreement.antt`. The crate above also promises `specs/Blame.antt`, which is proved here: each suspicion of
 //! layer 2 has an earlier entry that notes one of the same process on layer 1.
 //!
-//! [`RunningJudge`] and [`RunningOutcomes`] answer the same with no trace at hand: they are fed with its entries as these
-//! come, and hold nothing of them. The two calls feed them (`specs/Judging.antt` says what it is that they were fed).
+//! [`RunningJudge`] and [`RunningOutcomes`] answer the same with no trace at hand: they are fed with its entries as
+//! these come, and hold nothing of them. The two calls feed them (`specs/Judging.antt` says what it is that they were
+//! fed).
 //!
 //! Of work and memory no contract speaks. The code goes over the entries once: it keeps for each pair of processes
 //! since when the one suspects the other, or doesn't, and moves that on only where a note changes it. So the work grows

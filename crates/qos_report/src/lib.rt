@@ -20,8 +20,8 @@
 //! - [`measures`] gives a row for each pair on each layer, by definition, of any trace. In the scenario's trace each
 //!   suspicion of layer 2 has an earlier one of layer 1 for the same process, and each mistake or detection on layer 2
 //!   rests on one (`specs/Resting.antt`).
-//! - [`Meter`] gives the measures of one pair on one layer with no trace at hand: it is fed with the entries as they come
-//!   (`specs/MeterFed.antt`).
+//! - [`Meter`] gives the measures of one pair on one layer with no trace at hand: it is fed with the entries as they
+//!   come (`specs/MeterFed.antt`).
 //! - [`write_trace`] and [`write_report`] write one text of any trace, whole or a front part (`specs/Writing.antt`).
 //! - [`Outlet`] says what a put does, and [`put_all`] hands on a whole piece up to the first put that fails.
 //!

@@ -13,8 +13,8 @@ use process_api::{Entry, Note, Pid};
 use scenario::Scenario;
 use std::marker::Model;
 
-/// Measures what an observer makes of a subject on a layer, fed with the entries of a trace as they come, in the order of
-/// their keys. It takes no memory, and holds nothing of the entries; contracts see what it counts.
+/// Measures what an observer makes of a subject on a layer, fed with the entries of a trace as they come, in the order
+/// of their keys. It takes no memory, and holds nothing of the entries; contracts see what it counts.
 #[derive(Clone, Copy, Debug)]
 pub struct Meter {
     layer: u8,
