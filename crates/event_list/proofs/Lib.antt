@@ -22,5 +22,6 @@ pub mod Sound
 pub mod Standing
 pub mod Steady
 pub mod Falling
+pub mod Dealing
 pub mod Ordered
 pub mod Taken

@@ -1,5 +1,5 @@
 -- Pending events in buckets, as a finite set of events.
-use Rattle.std.proofs.Common.{◌≡◌, ◌≢◌, ◌⊎◌, ◌≤◌, ◌<◌, inl, inr, refl, sym, ap, ◌∙◌, subst, arith, Less, Equal, Greater, true, false, cond, List, [], ◌∷◌, ◌++◌, reverse, length, Option, Some, None, is_lt, is_eq, is_gt, true≢false, ℕ, nat_cmp, IsSome, IsPermutation, Ordering, get_or, length-append, ◌+◌, map, MatchOption, Result, Ok, Err, OnErr}
+use Rattle.std.proofs.Common.{◌≡◌, ◌≢◌, ◌⊎◌, ◌≤◌, ◌<◌, inl, inr, refl, sym, ap, ◌∙◌, subst, arith, Less, Equal, Greater, true, false, cond, List, [], ◌∷◌, ◌++◌, reverse, length, Option, Some, None, is_lt, is_eq, is_gt, true≢false, ℕ, nat_cmp, IsSome, Ordering, get_or, length-append, ◌+◌, map, MatchOption, Result, Ok, Err, OnErr}
 use Rattle.std.specs.Global.{Vec}
 use Rattle.std.specs.BTreeMap as tree
 use Rattle.std.specs.FinMap as events
@@ -16,8 +16,7 @@ use Rattle.event_list.specs.World.{Has, IsLeast, NoneBelow}
 use Rattle.event_list.proofs.Runs.{least_below}
 use Rattle.std.proofs.lemmas.Bool.{cases_eq}
 use Rattle.std.proofs.lemmas.Cmp.{ranked, tied_itself}
-use Rattle.std.proofs.lemmas.List.Elements.{All-from_recursion, recursion_from_All}
-use Rattle.std.proofs.lemmas.List.Sorted.{length_permutation, All-permutation}
+use Rattle.std.proofs.lemmas.List.Elements.{recursion_from_All}
 use Rattle.process_api.specs.Order.{key_cmp}
 use Rattle.process_api.specs.declared.key.Key.{Key}
 use Rattle.process_api.specs.declared.message.StepInput.{StepInput}
@@ -26,6 +25,7 @@ use Rattle.event_list.specs.Step.{Event, Events}
 use Rattle.process_api.proofs.KeyOrder.{keys_total, exact_keys, same_or_not, ticks_rise}
 use Rattle.event_list.proofs.Sets.{apart, not_None}
 use Rattle.event_list.proofs.Falling.{held, nat_apart, none_latest, all_weaker, all_front, all_reverse, or_None, find_append, latest_push, found_is, tied, latest_cons, all_append}
+use Rattle.event_list.proofs.Dealing.{by_found, none_of}
 
 pub empty_is : (es : List Event) → length es ≡ 0 → es ≡ []
 empty_is [] h = refl
@@ -72,7 +72,7 @@ module _ (m n : Buckets) (least : ℕ) (b : Vec Event) (upd : tree.Updates nat_c
         go (inl e) = subst (AllByRecursion (λ f. f.0.tick ≡ t)) (sym (ap (bucket n) e ∙ gone_here)) tt
         go (inr other) = subst (AllByRecursion (λ f. f.0.tick ≡ t)) (sym (gone_other t other)) (h.own t)
 
-    own_taken : AllByRecursion (λ e. e.0.tick ≡ least) b.items
+    pub own_taken : AllByRecursion (λ e. e.0.tick ≡ least) b.items
     own_taken = subst (AllByRecursion (λ e. e.0.tick ≡ least)) was (h.own least)
 
     above : (t : ℕ) → HasTick n t → least < t
@@ -89,9 +89,9 @@ module _ (m n : Buckets) (least : ℕ) (b : Vec Event) (upd : tree.Updates nat_c
       falls = tt;
     }
 
-    module _ (sorted : List Event) (falls : Falls sorted) (same : IsPermutation b.items sorted) (as_found : (q : Key) → latest q sorted ≡ latest q b.items) where
+    module _ (sorted : List Event) (falls : Falls sorted) (as_found : (q : Key) → latest q sorted ≡ latest q b.items) where
       own_sorted : AllByRecursion (λ e. e.0.tick ≡ least) sorted
-      own_sorted = let P : Event → Type 0 = λ e. e.0.tick ≡ least in recursion_from_All P sorted (All-permutation P b.items sorted same (All-from_recursion P b.items own_taken))
+      own_sorted = by_found (λ k. k.tick ≡ least) sorted (reverse b.items) as_found (all_reverse (λ e. e.0.tick ≡ least) b.items own_taken)
 
       pub refilled : IsInOrder least sorted n
       refilled = record {
@@ -117,7 +117,7 @@ module _ (m n : Buckets) (least : ℕ) (b : Vec Event) (upd : tree.Updates nat_c
       pub refilled_some : sorted ≡ [] → ⊥
       refilled_some none =
           let long : 0 < length b.items = subst (λ es. 0 < length es) was (h.full least (subst IsSome (sym value) refl)) in
-          omega (arith, long, length_permutation b.items sorted same, ap length none)
+          omega (arith, long, none_of b.items (λ q. sym (as_found q) ∙ ap (latest q) none))
 
 -- ---- as a set
 

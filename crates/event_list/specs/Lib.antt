@@ -3,6 +3,7 @@ pub mod ScenarioSetting
 pub mod Step
 pub mod World
 pub mod Joins
+pub mod Lanes
 pub mod History
 pub mod Effects
 pub mod Theorems

@@ -6,6 +6,7 @@ ghost use Rattle.std.specs.Ordering.{nat_cmp};
 ghost use Rattle.process_api.specs.declared.key.Key.{Key as KeyValue};
 ghost use Rattle.event_list.specs.Buckets.{EndsAt, Falls, HasTick, IsFiled, IsInOrder, IsPopped, IsSame, IsStowed, latest, seen_at};
 
+use crate::lanes::put_in_order;
 use process_api::{Key, StepInput};
 use std::alloc::{AllocError, Global};
 use std::cmp::Reverse;
@@ -18,7 +19,7 @@ pub(crate) fn sort_falling(bucket: &mut Vec<(Key, StepInput)>) -> Result<(), All
     ensures latest { (q : KeyValue) → latest q bucket.new.items ≡ latest q bucket.old.items }
     ensures ticks { IsPermutation bucket.old.items bucket.new.items }
 {
-    bucket.sort_by_cached_key(|event| Reverse(event.0))?;
+    bucket.sort_by_key(|event| Reverse(event.0))?;
     Ok(())
 }
 
@@ -140,6 +141,7 @@ pub(crate) fn refill(
     due: &mut Vec<(Key, StepInput)>,
     later: &mut BTreeMap<u32, Vec<(Key, StepInput)>>,
     spare: &mut Vec<Vec<(Key, StepInput)>>,
+    lanes: &mut Vec<Vec<(Key, StepInput)>>,
 ) -> Result<(), AllocError>
     requires { IsInOrder tick.old due.old.items later.old }
     ensures in_order { IsInOrder tick.new due.new.items later.new }
@@ -151,7 +153,7 @@ pub(crate) fn refill(
         return Ok(());
     }
     if let Some((least, mut bucket)) = later.pop_first() {
-        sort_falling(&mut bucket)?;
+        put_in_order(lanes, &mut bucket)?;
         keep_bucket(spare, mem::replace(due, bucket));
         *tick = least;
     }

@@ -26,6 +26,7 @@
 mod buckets;
 mod error;
 mod joins;
+mod lanes;
 mod laws;
 mod links;
 mod list;

@@ -3,29 +3,29 @@ use Rattle.event_list.specs.Buckets.{IsInOrder, seen_at}
 use Rattle.event_list.proofs.Ordered.{empty_is, refilled, refilled_same, refilled_some}
 use Rattle.event_list.proofs.buckets.refill.Goals as goal
 
-pub returns-in_ok-sort_falling-clause-in_order : goal.returns-in_ok-sort_falling-clause-in_order
-returns-in_ok-sort_falling-clause-in_order c =
+pub returns-in_ok-put_in_order-clause-in_order : goal.returns-in_ok-put_in_order-clause-in_order
+returns-in_ok-put_in_order-clause-in_order c =
     let none : c.args.due.now.items ≡ [] = empty_is _ (search rules) in
-    let is : c.replace.new.dest.items ≡ c.sort_falling.new.bucket.items = ap (λ v. v.items) c.replace.ensures.after in
+    let is : c.replace.new.dest.items ≡ c.put_in_order.new.bucket.items = ap (λ v. v.items) c.replace.ensures.after in
     subst (λ es. IsInOrder c.in-Some.least es c.pop_first.new.self) (sym is)
     (refilled c.args.later.now c.pop_first.new.self c.in-Some.least c.in-Some.bucket c.in-Some.ensures.updates c.in-Some.ensures.value c.args.tick.now
     (subst (λ es. IsInOrder c.args.tick.now es c.args.later.now) none c.requires) c.in-Some.ensures.least c.in-Some.ensures.ordered
-    c.sort_falling.new.bucket.items c.in_ok-sort_falling.ensures.falls c.in_ok-sort_falling.ensures.ticks c.in_ok-sort_falling.ensures.latest)
+    c.put_in_order.new.bucket.items c.in_ok-put_in_order.ensures.falls c.in_ok-put_in_order.ensures.latest)
 
-pub returns-in_ok-sort_falling-clause-same : goal.returns-in_ok-sort_falling-clause-same
-returns-in_ok-sort_falling-clause-same c =
+pub returns-in_ok-put_in_order-clause-same : goal.returns-in_ok-put_in_order-clause-same
+returns-in_ok-put_in_order-clause-same c =
     let none : c.args.due.now.items ≡ [] = empty_is _ (search rules) in
-    let is : c.replace.new.dest.items ≡ c.sort_falling.new.bucket.items = ap (λ v. v.items) c.replace.ensures.after in
+    let is : c.replace.new.dest.items ≡ c.put_in_order.new.bucket.items = ap (λ v. v.items) c.replace.ensures.after in
     λ q. ap (λ es. seen_at es c.pop_first.new.self q) is
     ∙ (refilled_same c.args.later.now c.pop_first.new.self c.in-Some.least c.in-Some.bucket c.in-Some.ensures.updates c.in-Some.ensures.value c.args.tick.now
     (subst (λ es. IsInOrder c.args.tick.now es c.args.later.now) none c.requires) c.in-Some.ensures.least c.in-Some.ensures.ordered
-    c.sort_falling.new.bucket.items c.in_ok-sort_falling.ensures.falls c.in_ok-sort_falling.ensures.ticks c.in_ok-sort_falling.ensures.latest q
+    c.put_in_order.new.bucket.items c.in_ok-put_in_order.ensures.falls c.in_ok-put_in_order.ensures.latest q
     ∙ ap (λ es. seen_at es c.args.later.now q) (sym none))
 
-pub returns-in_ok-sort_falling-clause-left : goal.returns-in_ok-sort_falling-clause-left
-returns-in_ok-sort_falling-clause-left c =
+pub returns-in_ok-put_in_order-clause-left : goal.returns-in_ok-put_in_order-clause-left
+returns-in_ok-put_in_order-clause-left c =
     let none : c.args.due.now.items ≡ [] = empty_is _ (search rules) in
-    let is : c.replace.new.dest.items ≡ c.sort_falling.new.bucket.items = ap (λ v. v.items) c.replace.ensures.after in
+    let is : c.replace.new.dest.items ≡ c.put_in_order.new.bucket.items = ap (λ v. v.items) c.replace.ensures.after in
     λ empty t there. absurd (refilled_some c.args.later.now c.pop_first.new.self c.in-Some.least c.in-Some.bucket c.in-Some.ensures.updates c.in-Some.ensures.value c.args.tick.now
     (subst (λ es. IsInOrder c.args.tick.now es c.args.later.now) none c.requires) c.in-Some.ensures.least c.in-Some.ensures.ordered
-    c.sort_falling.new.bucket.items c.in_ok-sort_falling.ensures.falls c.in_ok-sort_falling.ensures.ticks c.in_ok-sort_falling.ensures.latest (sym is ∙ empty))
+    c.put_in_order.new.bucket.items c.in_ok-put_in_order.ensures.falls c.in_ok-put_in_order.ensures.latest (sym is ∙ empty))
