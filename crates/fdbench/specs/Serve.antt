@@ -3,13 +3,21 @@ use Rattle.std.specs.Prelude.{◌≡◌, ◌≢◌, ◌⊎◌, ℕ, List, Option
 use Rattle.command_line.specs.Order.{States}
 use Rattle.command_line.specs.Told.{AsksHelp}
 use Rattle.command_line.specs.declared.order.Order.{Order}
-use Rattle.fdbench.specs.Answer.{Answers, AsksRun, path_of}
+use Rattle.fdbench.specs.Answer.{Answers, AsksRun, Leaves, Writes, path_of}
 use Rattle.fdbench.specs.Scenario.{IsScenarioAt, input_path}
 use Rattle.scenario.specs.Record.{Record}
 
 -- the piece is what the words ask for; of help its text isn't said
 abbrev pub Serves : Option (List ℕ) → List (List ℕ) → List ℕ → Type 0
 Serves input words piece = ((asked : Order) × States words asked × Answers input asked piece) ⊎ AsksHelp words
+
+-- the piece is what is written for the words, as long as nothing fails
+abbrev pub ServesFor : Option (List ℕ) → List (List ℕ) → List ℕ → Type 0
+ServesFor input words piece = ((asked : Order) × States words asked × Writes input asked piece) ⊎ AsksHelp words
+
+-- the piece is what a refused run has left that the words ask for
+abbrev pub LeftOf : Option (List ℕ) → List (List ℕ) → List ℕ → Type 0
+LeftOf input words piece = (asked : Order) × States words asked × Leaves input asked piece
 
 -- the words make a whole order
 abbrev pub IsAsked : List (List ℕ) → Type 0

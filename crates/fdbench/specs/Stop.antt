@@ -1,5 +1,5 @@
 -- What went out of an outlet, and what stands where a run stops with a fault.
-use Rattle.std.specs.Prelude.{◌≡◌, ◌≢◌, ℕ, List, Option}
+use Rattle.std.specs.Prelude.{◌≡◌, ◌≢◌, ◌⊎◌, ℕ, List, Option}
 use Rattle.event_list.specs.declared.error.RunError.TheVariants.{Limit}
 use Rattle.fdbench.specs.Fault.{status_of}
 use Rattle.fdbench.specs.Scenario.{IsScenarioAt, IsTooLong}
@@ -22,10 +22,13 @@ module _ {O : Type 0} (told : O → Option (List ℕ)) (failed : O → ℕ) (old
       pub is_wanted : IsWanted piece
       pub written : WrotePart told failed old new piece
 
-    -- a run over the file at a path stops with a fault: after a failed write a front part went out, else nothing
+  module _ (IsWritten IsLeft : List ℕ → Type 0) where
+    -- a run over the file at a path stops with a fault: after a failed write a front part of what was to be written
+    -- went out, else nothing, but for what a run leaves that is refused later
     pub record Stops (input : Option (List ℕ)) (path : List ℕ) (fault : Fault) : Type 0 where
-      pub broken : status_of fault ≡ 4 → WentPart
-      pub refused : status_of fault ≢ 4 → WroteNothing told failed old new
+      pub broken : status_of fault ≡ 4 → WentPart IsWritten
+      pub refused : status_of fault ≢ 4
+          → WroteNothing told failed old new ⊎ ((status_of fault ≡ 3) × Went IsLeft)
       -- the words were whole
       pub words : status_of fault ≢ 2
       -- a fault of a run or of its plan comes after the scenario was accepted

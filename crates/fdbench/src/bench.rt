@@ -1,8 +1,8 @@
 //! Runs of a scenario over machines that are made here.
 ghost use Rattle.std.specs.Prelude.{◌≡◌, ◌≢◌, ◌^◌, ◌-◌, ◌<◌, IfErr, IfOk, Err, map};
 ghost use Rattle.process_api.specs.Numbers.{numbers_to};
-ghost use Rattle.fdbench.specs.Mode.{IsModeFor};
-ghost use Rattle.qos_report.specs.Printed.{Finishes, Refuses};
+ghost use Rattle.fdbench.specs.Mode.{IsModeFor, RefusesBy};
+ghost use Rattle.qos_report.specs.Printed.{Finishes};
 ghost use Rattle.scenario.specs.Opening.{mind_of};
 ghost use Rattle.scenario.specs.Record.{opening_mind};
 
@@ -45,7 +45,8 @@ fn bench_machines<R: Threads + Wait + Sync, O: Outlet>(
     requires mode { IsModeFor scenario.now mode }
     requires failures { O.failed outlet.old < 2 ^ 64 - 1 }
     ensures done { IfOk result (Finishes scenario.now print O.told O.failed outlet.old outlet.new) }
-    ensures refused { IfErr result (Refuses scenario.now print O.told O.failed outlet.old outlet.new) }
+    ensures refused { IfErr result
+        (RefusesBy mode scenario.now print O.told O.failed outlet.old outlet.new) }
     ensures threads { mode ≡ Mode.List → result ≢ Err RunError.Spawn }
 {
     match mode {
@@ -69,9 +70,11 @@ pub(crate) fn bench<R: Threads + Wait + Sync, O: Outlet>(
     requires mode { IsModeFor scenario.now mode }
     requires failures { O.failed outlet.old < 2 ^ 64 - 1 }
     ensures done { IfOk result (Finishes scenario.now print O.told O.failed outlet.old outlet.new) }
-    ensures refused { IfErr result (Refuses scenario.now print O.told O.failed outlet.old outlet.new) }
+    ensures refused { IfErr result
+        (RefusesBy mode scenario.now print O.told O.failed outlet.old outlet.new) }
     ensures threads { mode ≡ Mode.List → result ≢ Err RunError.Spawn }
 {
+    let _ticks = scenario.horizon();
     let machines = make_all(
         alloc,
         scenario,

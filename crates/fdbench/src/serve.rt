@@ -1,14 +1,14 @@
 //! One run of the program.
-ghost use Rattle.std.specs.Prelude.{◌≡◌, ◌≢◌, ◌⊎◌, ◌∷◌, [], ◌^◌, ◌-◌, ◌+◌, ◌<◌, ◌≤◌, Contains, IfOk, IfErr, OnOk, codes, true, length, map};
+ghost use Rattle.std.specs.Prelude.{◌≡◌, ◌≢◌, ◌⊎◌, ◌^◌, ◌-◌, ◌+◌, ◌<◌, ◌≤◌, IfOk, IfErr, OnOk, codes, true, length, map};
 ghost use Rattle.std.specs.Io.KnownBytes.{Keeps};
 ghost use Rattle.std.specs.Process.{exit_status};
 ghost use Rattle.command_line.specs.Told.{IsHelp};
 ghost use Rattle.qos_report.specs.Writing.{WroteNothing};
-ghost use Rattle.fdbench.specs.Answer.{Answers, AsksRun, IsCheckAnswer, IsCompareAnswer, IsListAnswer, IsRunAnswer, IsSameLine, path_of};
+ghost use Rattle.fdbench.specs.Answer.{Answers, AsksRun, IsCheckAnswer, IsCompareAnswer, IsListAnswer, IsRunAnswer, IsRunFront, IsRunText, IsSameLine, Leaves, Writes, path_of};
 ghost use Rattle.fdbench.specs.Fault.{IsFirstFault, status_of};
 ghost use Rattle.fdbench.specs.Input.{AreAllOf, TakesAtMost, most_bytes};
 ghost use Rattle.fdbench.specs.Scenario.{IsScenarioAt, input_path};
-ghost use Rattle.fdbench.specs.Serve.{IsAsked, IsRunAsked, NamesNoInput, Serves};
+ghost use Rattle.fdbench.specs.Serve.{IsAsked, IsRunAsked, LeftOf, NamesNoInput, Serves, ServesFor};
 ghost use Rattle.fdbench.specs.Stop.{Stops, Went, WentPart};
 ghost use Rattle.windows.specs.Plan.{IsPlanFor, NoneApplies};
 
@@ -87,7 +87,7 @@ fn serve_check<R: Files, I: Read, O: Outlet>(
     ensures done { let wanted = IsCheckAnswer (I.remaining input.old) path.now in
         OnOk result (Went O.told O.failed outlet.old outlet.new wanted) }
     ensures stops { let wanted = IsCheckAnswer (I.remaining input.old) path.now in
-        IfErr result (Stops O.told O.failed outlet.old outlet.new wanted (I.remaining input.old) path.now) }
+        IfErr result (Stops O.told O.failed outlet.old outlet.new wanted (λ _. ⊥) (I.remaining input.old) path.now) }
     ensures no_run { IfErr result (λ fault. status_of fault ≢ 3) }
     ensures taken { TakesAtMost (most_bytes + 1) (I.remaining input.old) (I.remaining input.new) }
     ensures untouched { path.now ≢ input_path → input.new ≡ input.old }
@@ -113,7 +113,7 @@ fn serve_list<R: Files + Threads + Wait + Sync, I: Read, O: Outlet>(
     ensures done { let wanted = IsListAnswer (I.remaining input.old) path.now print in
         OnOk result (Went O.told O.failed outlet.old outlet.new wanted) }
     ensures stops { let wanted = IsListAnswer (I.remaining input.old) path.now print in
-        IfErr result (Stops O.told O.failed outlet.old outlet.new wanted (I.remaining input.old) path.now) }
+        IfErr result (Stops O.told O.failed outlet.old outlet.new wanted (λ _. ⊥) (I.remaining input.old) path.now) }
     ensures taken { TakesAtMost (most_bytes + 1) (I.remaining input.old) (I.remaining input.new) }
     ensures untouched { path.now ≢ input_path → input.new ≡ input.old }
 {
@@ -135,7 +135,7 @@ fn plan_for(scenario: &Scenario, workers: u64, window: u64) -> Result<Plan, Faul
     }
 }
 
-/// Answers `run`: the texts of the run, which are those that `list` writes.
+/// Answers `run`: the texts of the run, which are those that `list` writes. Rows of the trace go out as windows close.
 fn serve_run<R: Files + Threads + Wait + Sync, I: Read, O: Outlet>(
     rt: &R,
     alloc: Global,
@@ -149,8 +149,9 @@ fn serve_run<R: Files + Threads + Wait + Sync, I: Read, O: Outlet>(
     requires { O.failed outlet.old < 2 ^ 64 - 1 }
     ensures done { let wanted = IsRunAnswer (I.remaining input.old) path.now workers window print in
         OnOk result (Went O.told O.failed outlet.old outlet.new wanted) }
-    ensures stops { let wanted = IsRunAnswer (I.remaining input.old) path.now workers window print in
-        IfErr result (Stops O.told O.failed outlet.old outlet.new wanted (I.remaining input.old) path.now) }
+    ensures stops { let written = IsRunText (I.remaining input.old) path.now workers window print in
+        let left = IsRunFront (I.remaining input.old) path.now workers window print in
+        IfErr result (Stops O.told O.failed outlet.old outlet.new written left (I.remaining input.old) path.now) }
     ensures taken { TakesAtMost (most_bytes + 1) (I.remaining input.old) (I.remaining input.new) }
     ensures untouched { path.now ≢ input_path → input.new ≡ input.old }
 {
@@ -196,7 +197,7 @@ fn serve_compare<R: Files + Threads + Wait + Sync, I: Read, O: Outlet>(
     ensures done { let wanted = IsCompareAnswer (I.remaining input.old) path.now workers window in
         OnOk result (Went O.told O.failed outlet.old outlet.new wanted) }
     ensures stops { let wanted = IsCompareAnswer (I.remaining input.old) path.now workers window in
-        IfErr result (Stops O.told O.failed outlet.old outlet.new wanted (I.remaining input.old) path.now) }
+        IfErr result (Stops O.told O.failed outlet.old outlet.new wanted (λ _. ⊥) (I.remaining input.old) path.now) }
     ensures taken { TakesAtMost (most_bytes + 1) (I.remaining input.old) (I.remaining input.new) }
     ensures untouched { path.now ≢ input_path → input.new ≡ input.old }
 {
@@ -219,9 +220,10 @@ fn carry_out<R: Files + Threads + Wait + Sync, I: Read, O: Outlet>(
     requires { O.failed outlet.old < 2 ^ 64 - 1 }
     ensures done { let wanted = Answers (I.remaining input.old) order.entry in
         OnOk result (Went O.told O.failed outlet.old outlet.new wanted) }
-    ensures stops { let wanted = Answers (I.remaining input.old) order.entry in
+    ensures stops { let written = Writes (I.remaining input.old) order.entry in
+        let left = Leaves (I.remaining input.old) order.entry in
         let path = path_of order.entry in
-        IfErr result (Stops O.told O.failed outlet.old outlet.new wanted (I.remaining input.old) path) }
+        IfErr result (Stops O.told O.failed outlet.old outlet.new written left (I.remaining input.old) path) }
     ensures no_run { IfErr result (λ fault. status_of fault ≡ 3 → AsksRun order.entry) }
     ensures taken { TakesAtMost (most_bytes + 1) (I.remaining input.old) (I.remaining input.new) }
     ensures untouched { path_of order.entry ≢ input_path → input.new ≡ input.old }
@@ -286,6 +288,9 @@ fn tell<O: Outlet, F: Outlet>(told: &Told, outlet: &mut O, faults: &mut F) -> u8
 /// Faults are looked for in this order: words, file, scenario, plan, machines, run. So 1 and 3 come only where the
 /// words make a whole order, and 3 only where it asks for a run. Nothing of the input is taken but for an order that
 /// names `-`.
+///
+/// With status 1 or 2 nothing was written, and with 3 nothing but by `run`: where it prints the trace, its first line
+/// and the rows of the windows before may have gone out. With 4 a front part of the text went out.
 pub fn serve<R: Files + Threads + Wait + Sync, I: Read, O: Outlet, F: Outlet>(
     rt: &R,
     alloc: Global,
@@ -299,9 +304,11 @@ pub fn serve<R: Files + Threads + Wait + Sync, I: Read, O: Outlet, F: Outlet>(
     ensures statuses { result ≤ 4 }
     ensures done { let wanted = Serves (I.remaining input.old) (map (λ w. w.now) words.now) in
         result ≡ 0 → Went O.told O.failed outlet.old outlet.new wanted }
-    ensures broken { let wanted = Serves (I.remaining input.old) (map (λ w. w.now) words.now) in
-        result ≡ 4 → WentPart O.told O.failed outlet.old outlet.new wanted }
-    ensures refused { Contains (1 ∷ 2 ∷ 3 ∷ []) result → WroteNothing O.told O.failed outlet.old outlet.new }
+    ensures broken { let written = ServesFor (I.remaining input.old) (map (λ w. w.now) words.now) in
+        result ≡ 4 → WentPart O.told O.failed outlet.old outlet.new written }
+    ensures refused { (result ≡ 1) ⊎ (result ≡ 2) → WroteNothing O.told O.failed outlet.old outlet.new }
+    ensures left { let left = LeftOf (I.remaining input.old) (map (λ w. w.now) words.now) in
+        result ≡ 3 → WroteNothing O.told O.failed outlet.old outlet.new ⊎ Went O.told O.failed outlet.old outlet.new left }
     ensures asked { result ≡ 1 → IsAsked (map (λ w. w.now) words.now) }
     ensures accepted { result ≡ 3 → IsRunAsked (I.remaining input.old) (map (λ w. w.now) words.now) }
     ensures silent { result ≡ 0 → WroteNothing F.told F.failed faults.old faults.new }

@@ -1,16 +1,23 @@
 -- The running forms, fed with one more entry, and what they tell.
-use Rattle.std.proofs.Common.{◌≡◌, ℕ, ◌<◌, ◌^◌, Bool, true, false, cond, refl, sym, ap, ◌∙◌, subst, arith, Option, None, Some, is_some, List, [], ◌∷◌, ◌++◌, flat_map, length, append_assoc, true≢false, Result, Ok, Err, OnOk, IfOk}
+use Rattle.std.proofs.Common.{◌≡◌, ℕ, suc, ◌<◌, ◌^◌, Bool, true, false, cond, refl, sym, ap, ◌∙◌, subst, arith, Option, None, Some, is_some, List, [], ◌∷◌, ◌++◌, flat_map, length, take, drop, get_or, append_assoc, true≢false, Result, Ok, Err, OnOk, OnErr, IfOk, IfErr}
 use Rattle.std.specs.Global.{Vec}
 use Rattle.std.specs.List.{sum_by}
 use Rattle.std.proofs.lemmas.Grind.{flat_map-append}
+use Rattle.std.proofs.lemmas.List.{take-append-drop}
+use Rattle.std.proofs.Math.Seq.{drop-cons}
+use Rattle.event_list.specs.declared.error.RunError.{RunError}
+use Rattle.event_list.specs.declared.error.RunError.TheVariants.{Write}
 use Rattle.process_api.specs.EntryRecord.{EntryRecord}
+use Rattle.process_api.specs.Order.{is_rising}
 use Rattle.scenario.specs.Record.{Record}
 use Rattle.judges.specs.Judging.{AreUntil}
 use Rattle.judges.specs.Outcomes.{outcomes}
 use Rattle.judges.specs.Verdicts.{verdicts}
 use Rattle.judges.proofs.Entering.{judging_quiet}
+use Rattle.judges.proofs.Order.{before_one}
 use Rattle.qos_report.specs.Findings.{second_text, found_text}
 use Rattle.qos_report.specs.Measures.{layers, all_measures}
+use Rattle.qos_report.specs.Printed.{items_of}
 use Rattle.qos_report.specs.ReportText.{Text, report_header, run_text, verdict_text, pair_text, decisions_text, report_text}
 use Rattle.qos_report.specs.Running.{IsCounting, IsTextWhere, IsLayer, IsSecondWhere, AreLayers, AreFindings, AreReported}
 use Rattle.qos_report.specs.Rows.{row_of}
@@ -36,6 +43,10 @@ text_none S trace false text h = tt
 pub text_some : (S : Record) (trace : List EntryRecord) (b : Bool) (r : RunningLayers) (text : Text) (t : Vec ℕ) → AreReported S trace b (Some r) → (AreLayers S trace r → t.items ≡ text) → IsTextWhere b text (Some t)
 text_some S trace true r text t h is = is h
 text_some S trace false r text t h is = h
+
+pub text_items : (text : Text) (report : Option (Vec ℕ)) → IsTextWhere true text report → items_of report ≡ text
+text_items text None h = absurd h
+text_items text (Some t) h = h
 
 module _ (S : Record) (b : Bool) where
   pub shared_none : (trace : List EntryRecord) → IsSecondWhere S trace b None → b ≡ false
@@ -140,6 +151,16 @@ error_or d (Err e) = e
 pub same_error : {T U E : Type 0} (r : Result T E) (s : Result U E) (e f : E) → r ≡ Err e → s ≡ Err e → s ≡ Err f → r ≡ Err f
 same_error r s e f was here is = was ∙ ap Err (ap (error_or e) (sym here ∙ is))
 
+-- what holds of a reason holds of an answer with that reason
+pub if_reason : {X E : Type 0} (r : Result X E) (P : E → Type 0) (e : E) → IfErr r (λ f. f ≡ e) → P e → IfErr r P
+if_reason (Ok x) P e is p = tt
+if_reason (Err f) P e is p = subst P (sym is) p
+
+-- what a failed write left
+pub err_part : {X P Q : Type 0} (r : Result X RunError) → (r ≡ Err Write → P) → IfErr r (λ e. e ≡ Write) → (P → Q) → OnErr r Q
+err_part (Ok x) part only f = tt
+err_part (Err e) part only f = f (part (ap Err only))
+
 -- ---- the text of a trace
 
 trace_text_more : (trace : List EntryRecord) (entry : EntryRecord) → trace_text trace ++ row_of (fields_of entry) ≡ trace_text (trace ++ entry ∷ [])
@@ -157,3 +178,22 @@ text_more false trace entry t new is h = h
 pub no_text : (b : Bool) (old new : Text) → IsTextWhere b old None → IsTextWhere b new None
 no_text true old new h = h
 no_text false old new h = h
+
+-- ---- entries in their order
+
+-- the next entry comes after those that were fed before
+pub until_next : (trace es : List EntryRecord) (i : ℕ) (d : EntryRecord) → i < length es → is_rising (trace ++ es) ≡ true → AreUntil (trace ++ take i es) (get_or es i d).key.tick
+until_next trace es i d l h =
+    before_one (trace ++ take i es) (get_or es i d) (drop (suc i) es)
+    (ap is_rising
+    (append_assoc trace (take i es) (get_or es i d ∷ drop (suc i) es)
+    ∙ ap (λ ys. trace ++ ys) (ap (λ ys. take i es ++ ys) (sym (drop-cons es i d l)) ∙ take-append-drop i es))
+    ∙ h)
+
+-- a list is its front, an entry, and what comes after
+pub split_at : (es : List EntryRecord) (i : ℕ) (e : EntryRecord) → i < length es → e ≡ get_or es i e → es ≡ (take i es ++ e ∷ []) ++ drop (suc i) es
+split_at es i e l is =
+    sym (append_assoc (take i es) (e ∷ []) (drop (suc i) es)
+    ∙ ap (λ x. take i es ++ x ∷ drop (suc i) es) is
+    ∙ ap (λ ys. take i es ++ ys) (sym (drop-cons es i e l))
+    ∙ take-append-drop i es)

@@ -15,3 +15,6 @@ pub mod PlainRows
 pub mod Joining
 pub mod Finishing
 pub mod Resting
+pub mod Written
+pub mod Streamed
+pub mod Breaking

@@ -19,4 +19,5 @@ pub mod Findings
 pub mod Running
 pub mod Printed
 pub mod Recording
+pub mod Streaming
 pub mod Resting

@@ -1,11 +1,11 @@
 -- What a run writes and tells.
-use Rattle.std.specs.Prelude.{◌≡◌, ◌≢◌, ◌<◌, ◌≤◌, ℕ, Bool, true, false, List, [], ◌++◌, length, Option, None, Some}
+use Rattle.std.specs.Prelude.{◌≡◌, ◌≢◌, ◌⊎◌, ◌<◌, ◌≤◌, ℕ, Bool, true, false, List, [], ◌++◌, length, Option, None, Some, IsTrue}
 use Rattle.std.specs.Global.{Vec}
 use Rattle.event_list.specs.Effects.{HasCauses, TakesOnce}
 use Rattle.event_list.specs.ScenarioSetting.{setting_of}
 use Rattle.event_list.specs.World.{IsTrace}
 use Rattle.event_list.specs.declared.error.RunError.{RunError}
-use Rattle.event_list.specs.declared.error.RunError.TheVariants.{Limit, Write}
+use Rattle.event_list.specs.declared.error.RunError.TheVariants.{Limit, Memory, Write}
 use Rattle.judges.specs.Agreement.{Agree, DecidesOnce}
 use Rattle.process_api.specs.EntryRecord.{EntryRecord}
 use Rattle.scenario.specs.Record.{Record}
@@ -68,3 +68,23 @@ module _ (S : Record) (print : PrintChoice) {O : Type 0} (told : O → Option Te
     pub others : reason ≢ Write → WroteNothing told failed old new
     -- the limit is the reason only where the scenario's trace is longer
     pub limit : reason ≡ Limit → (trace : List EntryRecord) → IsTrace (setting_of S) trace → S.limit < length trace
+
+  -- the header and the rows of the first entries of a trace went out, and no put failed
+  pub record WroteRows (trace : List EntryRecord) : Type 0 where
+    pub first : List EntryRecord
+    pub others : List EntryRecord
+    pub all : trace ≡ first ++ others
+    pub text : Wrote told failed old new (trace_text first)
+
+  -- a run by windows breaks off: a front part of these texts went out, of the scenario's trace whatever its length
+  pub record BreaksOff (reason : RunError) : Type 0 where
+    pub trace : List EntryRecord
+    pub is_trace : IsTrace (setting_of S) trace
+    -- a put failed
+    pub write : reason ≡ Write → WrotePart told failed old new (printed print S trace)
+    -- no put failed: where the trace is asked for, its header and whole rows went out, or nothing for want of memory at
+    -- the opening; of the report alone nothing did
+    pub others : reason ≢ Write → (IsTrue (prints_trace print) × WroteRows trace)
+        ⊎ (WroteNothing told failed old new × ((reason ≡ Memory) ⊎ (print ≡ choice.Report)))
+    -- the limit is the reason only where the trace is longer
+    pub limit : reason ≡ Limit → S.limit < length trace

@@ -54,6 +54,10 @@ first_fields_of e =
     decimal e.key.tick ∷ decimal e.key.receiver ∷ decimal e.key.sender ∷ decimal e.key.number ∷ kind_text e.kind
     ∷ decimal e.sent ∷ decimal e.lost ∷ []
 
+-- a row for each entry
+abbrev pub rows_text : List EntryRecord → List ℕ
+rows_text entries = flat_map (λ e. row_of (fields_of e)) entries
+
 -- the text of a trace: the header, and a row for each entry
 unfoldable pub trace_text : List EntryRecord → List ℕ
-trace_text trace = trace_header ++ flat_map (λ e. row_of (fields_of e)) trace
+trace_text trace = trace_header ++ rows_text trace

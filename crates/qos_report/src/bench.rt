@@ -1,14 +1,17 @@
 //! Runs, from a scenario and its machines to the texts that go out.
 ghost use Rattle.std.specs.Prelude.{◌≡◌, ◌≢◌, ◌^◌, ◌-◌, ◌<◌, map, Err, IfErr, IfOk};
 ghost use Rattle.process_api.specs.Numbers.{numbers_to};
-ghost use Rattle.qos_report.specs.Printed.{Finishes, Refuses};
+ghost use Rattle.qos_report.specs.Printed.{BreaksOff, Finishes, Refuses};
 ghost use Rattle.scenario.specs.Record.{opening_mind};
 ghost use Rattle.windows.specs.Plan.{IsPlanFor};
 
+use crate::asked::{prints_report, prints_trace};
 use crate::outlet::Outlet;
 use crate::recording::Recording;
+use crate::running::Running;
+use crate::streaming::{stream_windows, write_header};
 use crate::summary::Summary;
-use crate::writing::{record_trace, write_recorded};
+use crate::writing::{write_if_any, write_recorded};
 use event_list::{RunError, run_list_into};
 use print_choice::PrintChoice;
 use process_api::Process;
@@ -17,7 +20,7 @@ use std::alloc::Global;
 use std::marker::Sync;
 use std::sync::Wait;
 use std::thread::Threads;
-use windows::{Gate, Plan, run_windows};
+use windows::{Gate, Plan};
 
 /// Runs a scenario by one global event list and writes what is asked for. All texts and the summary are formed before
 /// anything is written. No entry is held: each is measured as it comes, and its row is formed where the trace is asked
@@ -54,8 +57,9 @@ pub fn bench_list<O: Outlet>(
 }
 
 /// Runs a scenario by windows that the plan's workers share, each a thread, and writes what is asked for. Under every
-/// schedule of the threads the texts are those of the single event list. All texts and the summary are formed before
-/// anything is written.
+/// schedule of the threads the texts are those of the single event list. No entry is held once its window is
+/// closed. Where the trace is asked for, its first line goes out before the first window, and the rows of a window's
+/// entries go out once the window is closed; the report goes out at the end.
 ///
 /// The machines are those of processes 1 to n, in this order, each in its opening state. They are consumed. The plan's
 /// window is no longer than the scenario's lookahead. A worker tells the gate of each process that it takes.
@@ -67,8 +71,9 @@ pub fn bench_list<O: Outlet>(
 /// # Errors
 ///
 /// `Spawn` where a thread was refused, `Memory` where memory was refused, and `Limit` where the run has more entries
-/// than the scenario's limit: then nothing was written. `Write` where a put failed: then a front part of the texts went
-/// out.
+/// than the scenario's limit: then the trace's first line and the rows of the windows before went out, where the trace
+/// is asked for, and nothing of the report did. `Write` where a put failed: then a front part of the texts went out, of
+/// which the trace may be longer than the limit.
 pub fn bench_windows<G: Gate, O: Outlet, R: Threads + Wait + Sync>(
     rt: &R,
     alloc: Global,
@@ -84,10 +89,16 @@ pub fn bench_windows<G: Gate, O: Outlet, R: Threads + Wait + Sync>(
     requires plan { IsPlanFor scenario.now plan.now }
     requires failures { O.failed outlet.old < 2 ^ 64 - 1 }
     ensures done { IfOk result (Finishes scenario.now print O.told O.failed outlet.old outlet.new) }
-    ensures refused { IfErr result (Refuses scenario.now print O.told O.failed outlet.old outlet.new) }
+    ensures refused { IfErr result (BreaksOff scenario.now print O.told O.failed outlet.old outlet.new) }
 {
     let _ticks = scenario.horizon();
-    let trace = run_windows(rt, alloc, scenario, machines, plan, gate)?;
-    let recording = record_trace(alloc, scenario, &trace, print)?;
-    write_recorded(alloc, scenario, recording, outlet)
+    let is_traced = prints_trace(print);
+    let running = Running::open(alloc, scenario, prints_report(print))?;
+    write_header(is_traced, outlet)?;
+    let run = stream_windows(
+        rt, alloc, scenario, machines, plan, gate, is_traced, running, outlet,
+    )?;
+    let (summary, report) = run.close(alloc, scenario)?;
+    write_if_any(report, outlet)?;
+    Ok(summary)
 }

@@ -14,9 +14,10 @@
 //!   the texts of the scenario's trace that were asked for, the trace is within the limit, and the [`Summary`] is that
 //!   trace's; with the rotating coordinator its outcomes agree, each process decides at most once, and none notes that
 //!   it ends with no value (`Finishes` of `specs/Printed.antt`). `Write` is answered only where a put failed, and then
-//!   a front part of these texts went out; after any other refusal nothing was written, and `Limit` comes only of a
-//!   trace that is longer than the limit (`Refuses`, there too). `bench_list` starts no thread, and never answers
-//!   `Spawn`.
+//!   a front part of these texts went out; `Limit` comes only of a trace that is longer than the limit. After any other
+//!   refusal `bench_list` has written nothing (`Refuses`, there too). `bench_windows` has written the trace's header
+//!   and whole rows of its first entries, where the trace is asked for, and nothing of the report (`BreaksOff`); only
+//!   for want of memory at the opening nothing went out. `bench_list` starts no thread, and never answers `Spawn`.
 //! - [`measures`] gives a row for each pair on each layer, by definition, of any trace. In the scenario's trace each
 //!   suspicion of layer 2 has an earlier one of layer 1 for the same process, and each mistake or detection on layer 2
 //!   rests on one (`specs/Resting.antt`).
@@ -25,16 +26,18 @@
 //! - [`write_trace`] and [`write_report`] write one text of any trace, whole or a front part (`specs/Writing.antt`).
 //! - [`Outlet`] says what a put does, and [`put_all`] hands on a whole piece up to the first put that fails.
 //!
-//! Each text is formed whole before the first of its bytes is written, and nothing is ever tried again. A trace's text
-//! is formed row by row into one buffer, numbers by their digits; a report's rows are written by `csv`. All that is
-//! measured of a run takes one pass over its entries: an entry without notes is counted, and no more. In `bench_list`
-//! that pass is the run itself, so no entry is held, and of a run whose report alone is asked for nothing is held that
-//! grows with it.
+//! Nothing is ever tried again. By the list each text is formed whole before the first of its bytes is written; by
+//! windows the trace goes out piece by piece: its header before the first window, and the rows of a window's entries
+//! once the window is closed. A trace's text is formed row by row into one buffer, numbers by their digits; a report's
+//! rows are written by `csv`. All that is measured of a run takes one pass over its entries: an entry without notes is
+//! counted, and no more. That pass is the run itself, so by the list no entry is held, and by windows none whose window
+//! was closed; of a run whose report alone is asked for, and of any run by windows, nothing is held that grows with it.
 //!
 //! As an example, let process 2 of two crash at tick 3 of 10, and process 1 note at tick 9 that it suspects it. The
 //! report says so in the row `pair,1,1,2,detection,6`: on layer 1, observer 1 and subject 2, 6 ticks.
 #![tactic(auto)]
 
+mod asked;
 mod bench;
 mod counts;
 mod fuse_outlet;
@@ -50,6 +53,7 @@ mod report_rows;
 mod rows;
 mod running;
 mod stream_outlet;
+mod streaming;
 mod summary;
 mod tail;
 mod tally;

@@ -3,11 +3,12 @@ ghost use Rattle.std.specs.Prelude.{◌≡◌, ◌<◌, ◌^◌, ◌++◌, ◌�
 ghost use Rattle.process_api.specs.EntryRecord.{EntryRecord};
 ghost use Rattle.scenario.specs.Record.{Record};
 ghost use Rattle.judges.specs.Judging.{AreUntil};
-ghost use Rattle.qos_report.specs.Printed.{items_of, prints_report, prints_trace};
+ghost use Rattle.qos_report.specs.Printed.{items_of, prints_trace};
 ghost use Rattle.qos_report.specs.Running.{IsTextWhere};
 ghost use Rattle.qos_report.specs.TraceText.{trace_text};
 ghost use Rattle.print_choice.specs.declared.PrintChoice.{PrintChoice};
 
+use crate::asked::{prints_report, prints_trace};
 use crate::running::Running;
 use crate::summary::Summary;
 use crate::trace_text::{append_entry, text_of_trace};
@@ -16,26 +17,6 @@ use print_choice::PrintChoice;
 use process_api::Entry;
 use scenario::Scenario;
 use std::alloc::{AllocError, Global};
-
-/// Whether the trace is asked for.
-fn prints_trace(print: PrintChoice) -> bool
-    ensures { result ≡ prints_trace print }
-{
-    match print {
-        PrintChoice::Trace | PrintChoice::Both => true,
-        PrintChoice::Report => false,
-    }
-}
-
-/// Whether the report is asked for.
-fn prints_report(print: PrintChoice) -> bool
-    ensures { result ≡ prints_report print }
-{
-    match print {
-        PrintChoice::Report | PrintChoice::Both => true,
-        PrintChoice::Trace => false,
-    }
-}
 
 /// The text of a trace without entries, where the trace is asked for.
 fn begin_text(alloc: Global, print: PrintChoice) -> Result<Option<Vec<u8>>, AllocError>

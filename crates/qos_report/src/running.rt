@@ -1,6 +1,7 @@
 //! What is measured of a run, as its entries come.
-ghost use Rattle.std.specs.Prelude.{◌≡◌, ◌<◌, ◌^◌, ◌++◌, ◌∷◌, [], List, ℕ, Bool, IfOk, OnOk, length};
+ghost use Rattle.std.specs.Prelude.{◌≡◌, ◌<◌, ◌^◌, ◌++◌, ◌∷◌, [], List, ℕ, Bool, IfOk, IsTrue, OnOk, length};
 ghost use Rattle.process_api.specs.EntryRecord.{EntryRecord};
+ghost use Rattle.process_api.specs.Order.{is_rising};
 ghost use Rattle.scenario.specs.Record.{Record};
 ghost use Rattle.judges.specs.Judging.{AreUntil};
 ghost use Rattle.qos_report.specs.Running.{AreReported, IsSecond};
@@ -179,6 +180,16 @@ impl Running {
             if let Some(layers) = &mut self.layers {
                 layers.feed(entry);
             }
+        }
+    }
+
+    /// More entries, in the order of their keys. Takes no memory.
+    pub(crate) fn feed_all(&mut self, entries: &[Entry])
+        ensures { (S : Record) (trace : List EntryRecord) (reported : Bool) → IsRunning S trace reported self.old
+            → IsTrue (is_rising (trace ++ entries.now)) → IsRunning S (trace ++ entries.now) reported self.new }
+    {
+        for entry in entries {
+            self.feed(entry);
         }
     }
 

@@ -10,7 +10,7 @@ use process_api::{Entry, Kind, Note};
 use std::alloc::{AllocError, Global};
 
 /// The first line of a trace's text.
-const HEADER: &[u8] = b"tick,receiver,sender,number,kind,sent,lost,notes\n";
+pub(crate) const HEADER: &[u8] = b"tick,receiver,sender,number,kind,sent,lost,notes\n";
 
 /// The name of a kind.
 fn name_of(kind: Kind) -> &'static str

@@ -2,7 +2,7 @@
 ghost use Rattle.std.specs.Prelude.{◌≡◌, ◌≢◌, ◌^◌, ◌-◌, ◌+◌, ◌<◌, Err, List, length, OnOk, IfErr, IfOk};
 ghost use Rattle.process_api.specs.EntryRecord.{EntryRecord};
 ghost use Rattle.print_choice.specs.declared.PrintChoice.{PrintChoice};
-ghost use Rattle.qos_report.specs.Printed.{printed};
+ghost use Rattle.qos_report.specs.Printed.{items_of, printed};
 ghost use Rattle.qos_report.specs.Recording.{IsRecording};
 ghost use Rattle.qos_report.specs.ReportText.{report_text};
 ghost use Rattle.qos_report.specs.Summary.{IsSummary};
@@ -11,16 +11,16 @@ ghost use Rattle.qos_report.specs.Writing.{Wrote, WrotePart, WroteNothing};
 
 use crate::outlet::{Outlet, put_all};
 use crate::recording::Recording;
+use crate::running::Running;
 use crate::summary::Summary;
 use crate::trace_text::text_of_trace;
 use event_list::RunError;
-use print_choice::PrintChoice;
 use process_api::Trace;
 use scenario::Scenario;
-use std::alloc::{AllocError, Global};
+use std::alloc::Global;
 
 /// Writes a text that is whole, or answers `Write` at the first put that fails.
-fn write_text<O: Outlet>(text: &[u8], outlet: &mut O) -> Result<(), RunError>
+pub(crate) fn write_text<O: Outlet>(text: &[u8], outlet: &mut O) -> Result<(), RunError>
     requires { O.failed outlet.old < 2 ^ 64 - 1 }
     ensures whole { OnOk result (Wrote O.told O.failed outlet.old outlet.new text.now) }
     ensures part { result ≡ Err RunError.Write → WrotePart O.told O.failed outlet.old outlet.new text.now }
@@ -84,22 +84,17 @@ pub(crate) fn write_recorded<O: Outlet>(
     Ok(summary)
 }
 
-/// What is recorded of a finished trace.
-pub(crate) fn record_trace(
-    alloc: Global,
-    scenario: &Scenario,
-    trace: &Trace,
-    print: PrintChoice,
-) -> Result<Recording, AllocError>
-    ensures recorded { IfOk result (IsRecording scenario.now print trace.now) }
-    ensures few { length trace.now < 2 ^ 64 }
+/// Writes a text, if there is one.
+pub(crate) fn write_if_any<O: Outlet>(text: Option<Vec<u8>>, outlet: &mut O) -> Result<(), RunError>
+    requires { O.failed outlet.old < 2 ^ 64 - 1 }
+    ensures whole { OnOk result (Wrote O.told O.failed outlet.old outlet.new (items_of text)) }
+    ensures part { result ≡ Err RunError.Write → WrotePart O.told O.failed outlet.old outlet.new (items_of text) }
+    ensures only { IfErr result (λ reason. reason ≡ RunError.Write) }
 {
-    let entries = trace.entries();
-    let mut recording = Recording::open(alloc, scenario, print)?;
-    for entry in entries {
-        recording.feed(entry)?;
+    match text {
+        None => Ok(()),
+        Some(text) => write_text(&text, outlet),
     }
-    Ok(recording)
 }
 
 /// Writes the report of a finished trace: a header line, and a row for each number of the run, each verdict on a layer,
@@ -122,9 +117,8 @@ pub fn write_report<O: Outlet>(
     ensures memory { result ≡ Err RunError.Memory → WroteNothing O.told O.failed outlet.old outlet.new }
     ensures only { (result ≢ Err RunError.Limit) × (result ≢ Err RunError.Spawn) }
 {
-    let recording = record_trace(alloc, scenario, trace, PrintChoice::Report)?;
-    match write_recorded(alloc, scenario, recording, outlet) {
-        Ok(_) => Ok(()),
-        Err(reason) => Err(reason),
-    }
+    let mut running = Running::open(alloc, scenario, true)?;
+    running.feed_all(trace.entries());
+    let (_summary, report) = running.close(alloc, scenario)?;
+    write_if_any(report, outlet)
 }

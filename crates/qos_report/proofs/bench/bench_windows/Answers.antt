@@ -1,30 +1,101 @@
+use Rattle.std.proofs.Common.{rules, ◌<◌, ◌^◌, ap, subst, refl, Err, Ok, length, arith}
+use Rattle.std.specs.Prelude.{IsTrue}
+use Rattle.event_list.proofs.Closed.{has_trace}
 use Rattle.event_list.proofs.Effects.{trace_has_causes, trace_takes_once}
 use Rattle.event_list.proofs.Sound.{setting_sound}
 use Rattle.event_list.specs.ScenarioSetting.{setting_of}
 use Rattle.event_list.specs.Setting.{IsSound}
+use Rattle.event_list.specs.declared.error.RunError.TheVariants.{Memory, Write}
 use Rattle.judges.proofs.Agreement.Agreed.{agrees}
-use Rattle.qos_report.proofs.Fed.{on_ok, if_ok}
-use Rattle.qos_report.proofs.Finishing.{finishes, refuses_after}
+use Rattle.qos_report.proofs.Breaking.{breaks_at_close, breaks_at_opening, breaks_in_rows, breaks_in_write, part_in_header, part_in_report, wrote_printed}
+use Rattle.qos_report.proofs.Fed.{if_reason}
+use Rattle.qos_report.proofs.Finishing.{finishes}
+use Rattle.qos_report.specs.ReportText.{report_text}
+use Rattle.qos_report.specs.Running.{IsTextWhere}
+use Rattle.qos_report.specs.Streaming.{WroteFront, WroteWhere}
+use Rattle.qos_report.specs.TraceText.{rows_text, trace_header}
+use Rattle.qos_report.specs.declared.running.Running.{Running}
 use Rattle.qos_report.proofs.bench.bench_windows.Goals as goal
 
 pub returns-clause-done : goal.returns-clause-done
 returns-clause-done g c =
     let s = c.args.scenario.now in
-    let S = setting_of s in
+    let told = g.O.Outlet.told in
+    let failed = g.O.Outlet.failed in
     let ranges = c.horizon-ticks.ensures.ranges in
-    let sound : IsSound S = setting_sound s ranges in
-    let trace = c.in_ok-trace.trace in
-    let is = c.in_ok-recording.ensures.recorded in
-    let small = c.in_ok-recording.ensures.few in
-    finishes s c.args.print _ _ _ _ trace (record { is_trace = c.in_ok-trace.ensures.trace; within = c.in_ok-trace.ensures.within })
-    (trace_has_causes S sound trace c.in_ok-trace.ensures.trace) (trace_takes_once S sound trace c.in_ok-trace.ensures.trace) c.write_recorded.result
-    (on_ok c.write_recorded.result (λ w. w c.args.print trace is small) c.write_recorded.ensures.whole)
-    (if_ok c.write_recorded.result (λ s w. w c.args.print trace is small) c.write_recorded.ensures.summed)
-    (λ e. agrees s ranges e.0 trace e.1)
+    let sound : IsSound (setting_of s) = setting_sound s ranges in
+    let took = c.in_ok-run.ensures.took in
+    let trace = took.trace in
+    let small : length trace < 2 ^ 64 = omega (arith, took.is_within.within, ranges.limit_high) in
+    let is = c.in_ok-summary.ensures trace c.prints_report.result (took.measured c.prints_report.result c.in_ok-running.ensures) small in
+    let traced = c.prints_trace-is_traced.ensures in
+    finishes s c.args.print told failed c.args.outlet.now c.write_if_any.new.outlet trace took.is_within
+    (trace_has_causes (setting_of s) sound trace took.is_within.is_trace) (trace_takes_once (setting_of s) sound trace took.is_within.is_trace) (Ok c.in_ok-summary.summary)
+    (wrote_printed s told failed trace c.args.print c.in_ok-summary.report c.args.outlet.now c.write_header.new.outlet c.stream_windows.new.outlet c.write_if_any.new.outlet
+    (subst (λ t. WroteWhere told failed c.args.outlet.now c.write_header.new.outlet t trace_header) traced c.in_ok-write_header.ensures.whole)
+    (subst (λ t. WroteWhere told failed c.write_header.new.outlet c.stream_windows.new.outlet t (rows_text trace)) traced took.written)
+    (subst (λ t. IsTextWhere t (report_text s trace) c.in_ok-summary.report) c.prints_report.ensures is.report)
+    c.in_ok-write_if_any.ensures.whole)
+    is.summary (λ e. agrees s ranges e.0 trace e.1)
 
-pub returns-clause-refused : goal.returns-clause-refused
-returns-clause-refused g c =
-    let is = c.in_ok-recording.ensures.recorded in
-    let small = c.in_ok-recording.ensures.few in
-    refuses_after c.args.scenario.now c.args.print _ _ _ _ c.in_ok-trace.trace (record { is_trace = c.in_ok-trace.ensures.trace; within = c.in_ok-trace.ensures.within })
-    c.write_recorded.result (λ e. c.write_recorded.ensures.part e c.args.print c.in_ok-trace.trace is small) c.write_recorded.ensures.memory c.write_recorded.ensures.only
+pub returns-in_err-running-clause-refused : goal.returns-in_err-running-clause-refused
+returns-in_err-running-clause-refused g c =
+    let s = c.args.scenario.now in
+    let one = has_trace (setting_of s) (setting_sound s c.horizon-ticks.ensures.ranges) in
+    if_reason c.from_residual.result _ Memory (search rules)
+    (breaks_at_opening s g.O.Outlet.told g.O.Outlet.failed one.0 c.args.print one.1 c.args.outlet.now)
+
+pub returns-in_err-write_header-clause-refused : goal.returns-in_err-write_header-clause-refused
+returns-in_err-write_header-clause-refused g c =
+    let s = c.args.scenario.now in
+    let told = g.O.Outlet.told in
+    let failed = g.O.Outlet.failed in
+    let one = has_trace (setting_of s) (setting_sound s c.horizon-ticks.ensures.ranges) in
+    let part = c.in_err-write_header.ensures.part in
+    if_reason c.from_residual-in_err-write_header.result _ Write (search rules)
+    (breaks_in_write s told failed one.0 c.args.print one.1 c.args.outlet.now c.write_header.new.outlet Write refl
+    (part_in_header s told failed one.0 c.args.print c.args.outlet.now c.write_header.new.outlet (subst (λ t. IsTrue t) c.prints_trace-is_traced.ensures part.0) part.1))
+
+pub returns-in_err-run-clause-refused : goal.returns-in_err-run-clause-refused
+returns-in_err-run-clause-refused g c =
+    let s = c.args.scenario.now in
+    let told = g.O.Outlet.told in
+    let failed = g.O.Outlet.failed in
+    let one = has_trace (setting_of s) (setting_sound s c.horizon-ticks.ensures.ranges) in
+    let traced = c.prints_trace-is_traced.ensures in
+    let reason = c.in_err-run.field-0.0 in
+    if_reason c.from_residual-in_err-run.result _ reason (search rules)
+    (breaks_in_rows s told failed one.0 c.args.print one.1 Running c.args.outlet.now c.write_header.new.outlet c.stream_windows.new.outlet reason
+    (subst (λ t. WroteWhere told failed c.args.outlet.now c.write_header.new.outlet t trace_header) traced c.in_ok-write_header.ensures.whole)
+    (subst (λ t. WroteFront told failed c.write_header.new.outlet c.stream_windows.new.outlet t one.0) traced (c.in_err-run.ensures.front one.0 one.1))
+    c.in_err-run.ensures.count (λ is. c.in_err-run.ensures.limit (ap Err is)))
+
+pub returns-in_err-summary-clause-refused : goal.returns-in_err-summary-clause-refused
+returns-in_err-summary-clause-refused g c =
+    let s = c.args.scenario.now in
+    let told = g.O.Outlet.told in
+    let failed = g.O.Outlet.failed in
+    let took = c.in_ok-run.ensures.took in
+    let traced = c.prints_trace-is_traced.ensures in
+    if_reason c.from_residual-in_err-summary.result _ Memory (search rules)
+    (breaks_at_close s told failed took.trace c.args.print took.is_within.is_trace c.args.outlet.now c.write_header.new.outlet c.stream_windows.new.outlet
+    (subst (λ t. WroteWhere told failed c.args.outlet.now c.write_header.new.outlet t trace_header) traced c.in_ok-write_header.ensures.whole)
+    (subst (λ t. WroteWhere told failed c.write_header.new.outlet c.stream_windows.new.outlet t (rows_text took.trace)) traced took.written))
+
+pub returns-in_err-write_if_any-clause-refused : goal.returns-in_err-write_if_any-clause-refused
+returns-in_err-write_if_any-clause-refused g c =
+    let s = c.args.scenario.now in
+    let told = g.O.Outlet.told in
+    let failed = g.O.Outlet.failed in
+    let took = c.in_ok-run.ensures.took in
+    let trace = took.trace in
+    let small : length trace < 2 ^ 64 = omega (arith, took.is_within.within, c.horizon-ticks.ensures.ranges.limit_high) in
+    let is = c.in_ok-summary.ensures trace c.prints_report.result (took.measured c.prints_report.result c.in_ok-running.ensures) small in
+    let traced = c.prints_trace-is_traced.ensures in
+    if_reason c.from_residual-in_err-write_if_any.result _ Write (search rules)
+    (breaks_in_write s told failed trace c.args.print took.is_within.is_trace c.args.outlet.now c.write_if_any.new.outlet Write refl
+    (part_in_report s told failed trace c.args.print c.in_ok-summary.report c.args.outlet.now c.write_header.new.outlet c.stream_windows.new.outlet c.write_if_any.new.outlet
+    (subst (λ t. WroteWhere told failed c.args.outlet.now c.write_header.new.outlet t trace_header) traced c.in_ok-write_header.ensures.whole)
+    (subst (λ t. WroteWhere told failed c.write_header.new.outlet c.stream_windows.new.outlet t (rows_text trace)) traced took.written)
+    (subst (λ t. IsTextWhere t (report_text s trace) c.in_ok-summary.report) c.prints_report.ensures is.report)
+    (c.in_err-write_if_any.ensures.part (ap Err c.in_err-write_if_any.ensures.only))))

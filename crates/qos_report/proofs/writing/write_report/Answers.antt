@@ -1,19 +1,22 @@
-use Rattle.std.proofs.Common.{refl}
-use Rattle.print_choice.specs.declared.PrintChoice.TheVariants as choice
-use Rattle.qos_report.proofs.Fed.{ok_of, not_error, same_error}
-use Rattle.qos_report.proofs.writing.write_report.Goals.{in-Ok, in-Err}
+use Rattle.std.proofs.Common.{rules, ◌<◌, ◌^◌, ◌∙◌, [], true, ap, subst, length}
+use Rattle.qos_report.specs.ReportText.{report_text}
+use Rattle.qos_report.specs.Writing.{Wrote, WrotePart}
+use Rattle.qos_report.proofs.Fed.{on_ok, text_items}
 use Rattle.qos_report.proofs.writing.write_report.Goals as goal
 
 pub returns-clause-whole : goal.returns-clause-whole
 returns-clause-whole g c =
-    elim c.match-write_recorded.branch [
-      | in-Ok w ↦ rw w.result-is (ok_of c.write_recorded.result _ w.in-Ok.is c.write_recorded.ensures.whole choice.Report c.args.trace.now c.in_ok-recording.ensures.recorded c.in_ok-recording.ensures.few)
-      | in-Err w ↦ rw w.result-is tt
-    ]
+    let s = c.args.scenario.now in
+    let small : length c.entries.result.now < 2 ^ 64 = search rules in
+    let is = c.in_ok-_summary.ensures c.entries.result.now true (c.feed_all.ensures s [] true c.in_ok-running.ensures c.entries.ensures.rising) small in
+    on_ok c.write_if_any.result
+    (subst (Wrote g.O.Outlet.told g.O.Outlet.failed c.args.outlet.now c.write_if_any.new.outlet) (text_items (report_text s c.entries.result.now) c.in_ok-_summary.report is.report ∙ ap (report_text s) c.entries.ensures.value))
+    c.write_if_any.ensures.whole
 
 pub returns-clause-part : goal.returns-clause-part
-returns-clause-part g c =
-    elim c.match-write_recorded.branch [
-      | in-Ok w ↦ rw w.result-is (λ e. absurd (not_error e))
-      | in-Err w ↦ rw w.result-is (λ e. c.write_recorded.ensures.part (same_error c.write_recorded.result _ w.in-Err.reason _ w.in-Err.is refl e) choice.Report c.args.trace.now c.in_ok-recording.ensures.recorded c.in_ok-recording.ensures.few)
-    ]
+returns-clause-part g c = λ failed.
+    let s = c.args.scenario.now in
+    let small : length c.entries.result.now < 2 ^ 64 = search rules in
+    let is = c.in_ok-_summary.ensures c.entries.result.now true (c.feed_all.ensures s [] true c.in_ok-running.ensures c.entries.ensures.rising) small in
+    subst (WrotePart g.O.Outlet.told g.O.Outlet.failed c.args.outlet.now c.write_if_any.new.outlet) (text_items (report_text s c.entries.result.now) c.in_ok-_summary.report is.report ∙ ap (report_text s) c.entries.ensures.value)
+    (c.write_if_any.ensures.part failed)

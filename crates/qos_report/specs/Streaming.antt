@@ -1,0 +1,74 @@
+-- What a sink leaves that writes the rows of a run's entries as its windows close.
+use Rattle.std.specs.Prelude.{◌≡◌, ◌⊎◌, ◌<◌, ℕ, Bool, true, false, List, [], ◌++◌, length, Option, IsTrue}
+use Rattle.event_list.specs.ScenarioSetting.{setting_of}
+use Rattle.event_list.specs.World.{IsTrace}
+use Rattle.process_api.specs.EntryRecord.{EntryRecord}
+use Rattle.process_api.specs.Order.{is_rising}
+use Rattle.scenario.specs.Record.{Record}
+use Rattle.qos_report.specs.Printed.{IsTraceWithin}
+use Rattle.qos_report.specs.ReportText.{Text}
+use Rattle.qos_report.specs.Running.{IsRunning}
+use Rattle.qos_report.specs.TraceText.{rows_text}
+use Rattle.qos_report.specs.Writing.{Wrote, WrotePart}
+use Rattle.qos_report.specs.declared.running.Running.{Running}
+use Rattle.qos_report.specs.declared.streaming.Streaming.{Streaming}
+
+module _ {O : Type 0} (told : O → Option (List ℕ)) (failed : O → ℕ) where
+  module _ (old new : O) where
+    -- of the rows of these entries, those of the first ones went out, and those of the others are kept
+    pub record AreUnderWay (entries : List EntryRecord) (kept : List ℕ) : Type 0 where
+      pub gone : List EntryRecord
+      pub held : List EntryRecord
+      pub all : entries ≡ gone ++ held
+      pub out : Wrote told failed old new (rows_text gone)
+      pub rest : kept ≡ rows_text held
+
+    -- the whole text went out, where it is asked for; else the outlet is as it was
+    abbrev pub WroteWhere : (asked : Bool) → Text → Type 0
+    WroteWhere true text = Wrote told failed old new text
+    WroteWhere false text = new ≡ old
+
+    -- the rows of the first of these entries went out, where they are asked for
+    pub record WroteFirst (asked : Bool) (entries : List EntryRecord) : Type 0 where
+      pub first : List EntryRecord
+      pub others : List EntryRecord
+      pub all : entries ≡ first ++ others
+      pub out : WroteWhere asked (rows_text first)
+
+    -- the same; or a put failed, and a front part of their rows went out
+    abbrev pub WroteFront : (asked : Bool) → List EntryRecord → Type 0
+    WroteFront asked entries = WroteFirst asked entries ⊎ (IsTrue asked × WrotePart told failed old new (rows_text entries))
+
+  -- the outlet is the same, and still asked for rows or not
+  pub record IsSame (old new : Streaming O) : Type 0 where
+    pub outlet : new.outlet.ghost_name ≡ old.outlet.ghost_name
+    pub traced : new.is_traced ≡ old.is_traced
+
+  -- the entries of a part were measured, and their rows went out where they are asked for
+  pub record TookPart (old : Streaming O) (part : List EntryRecord) (new : Streaming O) : Type 0 where
+    pub same : IsSame old new
+    pub written : WroteWhere old.outlet.now new.outlet.now old.is_traced (rows_text part)
+    pub measured : (S : Record) (reported : Bool) (trace : List EntryRecord) → IsRunning S trace reported old.running
+        → IsTrue (is_rising (trace ++ part)) → IsRunning S (trace ++ part) reported new.running
+
+  -- a part was refused
+  pub record TookFrontOfPart (old : Streaming O) (part : List EntryRecord) (new : Streaming O) : Type 0 where
+    pub outlet : new.outlet.ghost_name ≡ old.outlet.ghost_name
+    pub written : WroteFront old.outlet.now new.outlet.now old.is_traced part
+
+-- the scenario's trace has more entries than its limit
+abbrev pub IsLonger : Record → Type 0
+IsLonger S = (trace : List EntryRecord) → IsTrace (setting_of S) trace → S.limit < length trace
+
+module _ (S : Record) {O : Type 0} (told : O → Option (List ℕ)) (failed : O → ℕ) (asked : Bool) where
+  -- a run by windows is done: the scenario's trace was measured, and its rows went out where they are asked for
+  pub record StreamedTrace (begun : Running) (old : O) (run : Running) (new : O) : Type 0 where
+    pub trace : List EntryRecord
+    pub is_within : IsTraceWithin S trace
+    pub written : WroteWhere told failed old new asked (rows_text trace)
+    pub measured : (reported : Bool) → IsRunning S [] reported begun → IsRunning S trace reported run
+
+  -- a run by windows breaks off: rows of the scenario's trace went out where they are asked for
+  abbrev pub StreamedFront : (old new : O) → Type 0
+  StreamedFront old new =
+      (trace : List EntryRecord) → IsTrace (setting_of S) trace → WroteFront told failed old new asked trace

@@ -1,0 +1,184 @@
+//! What takes the entries of a run by windows.
+ghost use Rattle.std.specs.Prelude.{◌≡◌, ◌<◌, ◌^◌, ◌-◌, ◌+◌, ◌++◌, ◌∷◌, [], List, map, true, OnOk, OnErr, IfErr, IfOk, IsErrOf, IsTrue};
+ghost use Rattle.process_api.specs.EntryRecord.{EntryRecord};
+ghost use Rattle.process_api.specs.Numbers.{numbers_to};
+ghost use Rattle.scenario.specs.Record.{opening_mind};
+ghost use Rattle.qos_report.specs.Streaming.{AreUnderWay, IsLonger, StreamedFront, StreamedTrace, WroteFront, WroteWhere};
+ghost use Rattle.qos_report.specs.TraceText.{rows_text, trace_header};
+ghost use Rattle.qos_report.specs.Writing.{Wrote, WrotePart};
+ghost use Rattle.windows.specs.Plan.{IsPlanFor};
+ghost use Rattle.windows.specs.Sink.{IsRefusalOfSink, writes_of};
+
+use crate::outlet::Outlet;
+use crate::running::Running;
+use crate::trace_text::{HEADER, append_entry};
+use crate::writing::write_text;
+use event_list::RunError;
+use process_api::{Entry, Process};
+use scenario::Scenario;
+use std::alloc::Global;
+use std::marker::Sync;
+use std::sync::Wait;
+use std::thread::Threads;
+use windows::{Gate, Plan, Sink, run_windows_into};
+
+/// How long rows may get before they are handed on, though more are to come.
+const MOST_BYTES: usize = 65_536;
+
+/// Forms one row more in the buffer, and hands all of them on where they got long.
+fn write_row<O: Outlet>(entry: &Entry, buffer: &mut Vec<u8>, outlet: &mut O) -> Result<(), RunError>
+    requires { O.failed outlet.old < 2 ^ 64 - 1 }
+    ensures whole { OnOk result ((first : O) (entries : List EntryRecord)
+        → AreUnderWay O.told O.failed first outlet.old entries buffer.old.items
+        → AreUnderWay O.told O.failed first outlet.new (entries ++ entry.now ∷ []) buffer.new.items) }
+    ensures front { OnErr result ((first : O) (entries : List EntryRecord)
+        → AreUnderWay O.told O.failed first outlet.old entries buffer.old.items
+        → WroteFront O.told O.failed first outlet.new true (entries ++ entry.now ∷ [])) }
+    ensures errors { IfErr result IsRefusalOfSink }
+    ensures count { O.failed outlet.new ≡ O.failed outlet.old + writes_of result }
+{
+    append_entry(buffer, entry)?;
+    if buffer.len() >= MOST_BYTES {
+        write_text(buffer, outlet)?;
+        buffer.clear();
+    }
+    Ok(())
+}
+
+/// Writes the rows of entries. They are formed in the buffer, whose room is kept, and go out as they get long, and in
+/// the end.
+fn write_rows<O: Outlet>(
+    entries: &[Entry],
+    buffer: &mut Vec<u8>,
+    outlet: &mut O,
+) -> Result<(), RunError>
+    requires { O.failed outlet.old < 2 ^ 64 - 1 }
+    ensures whole { OnOk result (Wrote O.told O.failed outlet.old outlet.new (rows_text entries.now)) }
+    ensures front { OnErr result (WroteFront O.told O.failed outlet.old outlet.new true entries.now) }
+    ensures errors { IfErr result IsRefusalOfSink }
+    ensures count { O.failed outlet.new ≡ O.failed outlet.old + writes_of result }
+{
+    buffer.clear();
+    for entry in entries {
+        write_row(entry, buffer, outlet)?;
+    }
+    write_text(buffer, outlet)
+}
+
+/// Measures the entries of a run as its windows close, and writes their rows, where the trace is asked for. It holds
+/// the rows of one window at most.
+#[derive(Drop)]
+pub(crate) struct Streaming<'a, O: Outlet> {
+    pub running: Running,
+    pub is_traced: bool,
+    pub buffer: Vec<u8>,
+    pub outlet: &'a mut O,
+}
+
+impl<'a, O: Outlet> Sink for Streaming<'a, O> {
+    ghost use Rattle.qos_report.specs.Streaming.{TookFrontOfPart, TookPart};
+
+    ghost took = { TookPart O.told O.failed };
+
+    ghost took_front = { TookFrontOfPart O.told O.failed };
+
+    ghost failed = { λ s. O.failed s.outlet.now };
+
+    fn part(&mut self, entries: Vec<Entry>) -> Result<(), RunError> {
+        self.running.feed_all(&entries);
+        if self.is_traced {
+            write_rows(&entries, &mut self.buffer, self.outlet)
+        } else {
+            Ok(())
+        }
+    }
+
+    fn failures(&self) -> u64 {
+        self.outlet.failures()
+    }
+}
+
+/// Writes the first line of a trace, where the trace is asked for.
+pub(crate) fn write_header<O: Outlet>(is_traced: bool, outlet: &mut O) -> Result<(), RunError>
+    requires { O.failed outlet.old < 2 ^ 64 - 1 }
+    ensures whole { OnOk result (WroteWhere O.told O.failed outlet.old outlet.new is_traced trace_header) }
+    ensures part { OnErr result (IsTrue is_traced × WrotePart O.told O.failed outlet.old outlet.new trace_header) }
+    ensures only { IfErr result (λ reason. reason ≡ RunError.Write) }
+{
+    if is_traced {
+        write_text(HEADER, outlet)
+    } else {
+        Ok(())
+    }
+}
+
+/// Runs machines by windows into a sink that streams. There is one machine for each process, of process 1 first, and
+/// each opens as the scenario says.
+fn run_into<G: Gate, O: Outlet, R: Threads + Wait + Sync>(
+    rt: &R,
+    alloc: Global,
+    scenario: &Scenario,
+    machines: Vec<Box<dyn Process>>,
+    plan: &Plan,
+    gate: &G,
+    sink: &mut Streaming<'_, O>,
+) -> Result<(), RunError>
+    requires machines { map mind machines.items ≡ map (opening_mind scenario.now) (numbers_to scenario.now.processes) }
+    requires plan { IsPlanFor scenario.now plan.now }
+    requires failures { O.failed sink.old.outlet.now < 2 ^ 64 - 1 }
+    ensures outlet { sink.new.outlet.ghost_name ≡ sink.old.outlet.ghost_name }
+    ensures took { OnOk result (StreamedTrace scenario.now O.told O.failed sink.old.is_traced sink.old.running
+        sink.old.outlet.now sink.new.running sink.new.outlet.now) }
+    ensures front { OnErr result (StreamedFront scenario.now O.told O.failed sink.old.is_traced sink.old.outlet.now
+        sink.new.outlet.now) }
+    ensures count { O.failed sink.new.outlet.now ≡ O.failed sink.old.outlet.now + writes_of result }
+    ensures limit { IsErrOf result RunError.Limit → IsLonger scenario.now }
+{
+    let _ticks = scenario.horizon();
+    run_windows_into(rt, alloc, scenario, machines, plan, gate, sink)
+}
+
+/// Runs machines by windows, and answers what is measured of the run. Where the trace is asked for, the rows of a
+/// window's entries go out once it is closed.
+///
+/// # Errors
+///
+/// `Spawn` where a thread was refused, `Memory` where memory was, `Limit` where the run has more entries than the
+/// scenario's limit, `Write` where a put failed. The rows of windows that were closed before went out, where they are
+/// asked for.
+pub(crate) fn stream_windows<G: Gate, O: Outlet, R: Threads + Wait + Sync>(
+    rt: &R,
+    alloc: Global,
+    scenario: &Scenario,
+    machines: Vec<Box<dyn Process>>,
+    plan: &Plan,
+    gate: &G,
+    is_traced: bool,
+    running: Running,
+    outlet: &mut O,
+) -> Result<Running, RunError>
+    requires machines { map mind machines.items ≡ map (opening_mind scenario.now) (numbers_to scenario.now.processes) }
+    requires plan { IsPlanFor scenario.now plan.now }
+    requires failures { O.failed outlet.old < 2 ^ 64 - 1 }
+    ensures took { IfOk result (λ run. StreamedTrace scenario.now O.told O.failed is_traced running outlet.old
+        run outlet.new) }
+    ensures front { OnErr result (StreamedFront scenario.now O.told O.failed is_traced outlet.old outlet.new) }
+    ensures count { O.failed outlet.new ≡ O.failed outlet.old + writes_of result }
+    ensures limit { IsErrOf result RunError.Limit → IsLonger scenario.now }
+{
+    let mut sink = Streaming {
+        running,
+        is_traced,
+        buffer: Vec::new(alloc),
+        outlet,
+    };
+    let ran = run_into(rt, alloc, scenario, machines, plan, gate, &mut sink);
+    let Streaming {
+        running,
+        is_traced: _,
+        buffer: _buffer,
+        outlet: _outlet,
+    } = sink;
+    ran?;
+    Ok(running)
+}
