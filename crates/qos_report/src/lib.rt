@@ -38,6 +38,7 @@
 mod bench;
 mod counts;
 mod fuse_outlet;
+mod ledger;
 mod measuring;
 mod memory_outlet;
 mod meter;
