@@ -17,7 +17,7 @@ module _ (S : Record) (trace : List EntryRecord) (layer : ℕ) (track : ℕ → 
     mistaken_is : (track i j).mistaken ≡ any_below (suspects layer trace (suc i) (suc j)) (end_of S (suc i) (suc j))
     mistaken_is =
         let k = known i j l m in
-        k.0.mistaken ∙ ap (any_below (suspects layer trace (suc i) (suc j))) (let e : min (track i j).tick (track i j).end ≡ end_of S (suc i) (suc j) = omega (arith, k.1, k.2) in e)
+        k.0.mistaken ∙ ap (any_below (suspects layer trace (suc i) (suc j))) (let e : min (track i j).tick (end_of S (suc i) (suc j)) ≡ end_of S (suc i) (suc j) = omega (arith, k.1) in e)
 
     unmistaken_at : not (track i j).mistaken ≡ true → (t : ℕ) → t < end_of S (suc i) (suc j) → suspects layer trace (suc i) (suc j) t ≡ false
     unmistaken_at e t x = any_below-at (suspects layer trace (suc i) (suc j)) (end_of S (suc i) (suc j)) (sym mistaken_is ∙ not-true (track i j).mistaken e) t x

@@ -1,179 +1,183 @@
--- A judge after one more entry.
-use Rattle.std.proofs.Common.{◌≡◌, ℕ, suc, ◌+◌, ◌-◌, ◌*◌, ◌<◌, ◌≤◌, Bool, true, false, cond, ◌&&◌, inl, inr, refl, sym, ap, ◌∙◌, subst, arith, leb, eqb, List, [], ◌∷◌, ◌++◌, length, set}
-use Rattle.std.specs.List.{fold}
+-- All pairs, as they open and as they are fed with one more entry.
+use Rattle.std.proofs.Common.{◌≡◌, ◌≢◌, ℕ, suc, ◌+◌, ◌-◌, ◌*◌, ◌/◌, ◌%◌, ◌<◌, ◌≤◌, min, Bool, true, false, cond, ◌&&◌, inl, inr, refl, sym, ap, ◌∙◌, subst, arith, ltb, eqb, List, [], ◌∷◌, ◌++◌, set, length, get_or}
 use Rattle.std.specs.Vec.{with_items, vec_len}
-use Rattle.std.proofs.lemmas.List.{with_items_is}
-use Rattle.std.proofs.lemmas.Bool.{cases_eq, cases_lt, cases_Bool, cond-true, cond-false, cond_both, and_parts, and_from, and_left, and_right, le-leb, lt-leb, leb-true, eq-eqb, ne_eqb, both_ways}
-use Rattle.process_api.specs.Numbers.{is_process}
+use Rattle.std.proofs.lemmas.Bool.{cases_eq, lt-ltb, eq-eqb, ne_eqb}
+use Rattle.std.proofs.lemmas.List.{with_items_is, get_or_default, get_or-set_same, get_or-set_other, length-set}
+use Rattle.std.proofs.lemmas.List.Sums.{fold-append}
+use Rattle.std.proofs.lemmas.Nat.{mul-add-lt, div-mul-add, mod-mul-add}
 use Rattle.process_api.specs.EntryRecord.{EntryRecord}
-use Rattle.process_api.specs.declared.action.Note.{Note}
-use Rattle.process_api.specs.declared.action.Note.TheVariants.{Suspect, Trust, Round, Decided, NoValue}
 use Rattle.scenario.specs.Record.{Record}
-use Rattle.judges.specs.Out.{with, without, after_note, suspects}
-use Rattle.judges.specs.Track.{turned}
-use Rattle.judges.specs.Grid.{place}
-use Rattle.judges.specs.Pairs.{turned_at, noted, all_noted}
-use Rattle.judges.specs.Judging.{AreTracked, AreUntil, IsJudging}
-use Rattle.judges.specs.declared.track.Track.{Track}
+use Rattle.judges.specs.Crashes.{end_of}
+use Rattle.judges.specs.Ends.{AreEnds, end_tick, opened_at}
+use Rattle.judges.specs.Pair.{opened, turned, all_turned, AreTurned}
+use Rattle.judges.specs.Pairs.{AreUntil, ArePairs, fed}
+use Rattle.judges.specs.Judging.{IsJudging}
+use Rattle.judges.specs.Track.{new_track, passed}
 use Rattle.judges.specs.declared.running.RunningJudge.{RunningJudge}
-use Rattle.judges.proofs.Feeding.{is_suspected_after, all_at_member, is_counted, suspects-other, suspects-counted}
-use Rattle.judges.proofs.Turning.{all_alike, all_longer, all_set}
+use Rattle.judges.specs.Turns.{Turn, noted_turns, entry_turns, turns}
+use Rattle.judges.specs.declared.pair.Pair.{Pair}
+use Rattle.judges.specs.declared.pairs.Pairs.{Pairs}
+use Rattle.judges.proofs.Turns.{turns_more, turns_late, in_order_more}
 
-same_cond : {X : Type 0} (b : Bool) (x : X) → cond b x x ≡ x
-same_cond true x = refl
-same_cond false x = refl
+same_none : (b : Bool) → ◌≡◌ {A = List Turn} (cond b [] []) []
+same_none true = refl
+same_none false = refl
 
-is_process-parts : (n q : ℕ) → is_process n q ≡ true → (1 ≤ q) × (q ≤ n)
-is_process-parts n q e = let both = and_parts (leb 1 q) (leb q n) e in (leb-true 1 q both.0, leb-true q n both.1)
+module _ {K : Type 0} (passed : ℕ → Bool → ℕ → K → K) where
+  -- ---- turns of the pairs of n processes
 
-is_process-from : (n q : ℕ) → 1 ≤ q → q ≤ n → is_process n q ≡ true
-is_process-from n q low high = and_from (leb 1 q) (leb q n) (le-leb 1 q low) (le-leb q n high)
+  module _ (n : ℕ) where
+    pub none_turned : (xs : List (Pair K)) (f : (q p : ℕ) → List Turn) → ((i j : ℕ) → i < n → j < n → f (suc i) (suc j) ≡ []) → AreTurned passed n xs xs f
+    none_turned xs f none = record { count = refl; each = λ i j d l m. ap (all_turned passed (get_or xs (i * n + j) d)) (sym (none i j l m)) }
 
--- notes of process o at a tick
-module _ (S : Record) (layer o tick : ℕ) (below : tick < S.horizon) where
-  -- the suspicions after them
-  abbrev pub after : (f : (q p u : ℕ) → Bool) → List Note → (q p u : ℕ) → Bool
-  after f notes q p u = cond (eqb o q && leb tick u) (is_suspected_after layer p (f q p u) notes) (f q p u)
+    pub same_turned : (xs ys : List (Pair K)) (f g : (q p : ℕ) → List Turn) → AreTurned passed n xs ys f → ((q p : ℕ) → f q p ≡ g q p) → AreTurned passed n xs ys g
+    same_turned xs ys f g h same = record {
+      count = h.count;
+      each = λ i j d l m. h.each i j d l m ∙ ap (all_turned passed (get_or xs (i * n + j) d)) (same (suc i) (suc j));
+    }
 
-  -- from the tick on it suspects who, or doesn't
-  module _ (f g : (q p u : ℕ) → Bool) (tracks : List Track) (h : AreTracked S f tick tracks) (who : ℕ) (now : Bool)
-      (same : (q p u : ℕ) → g q p u ≡ cond (eqb o q && leb tick u) (cond (eqb who p) now (f q p u)) (f q p u)) where
-    others : (i j u : ℕ) → (o ≡ suc i → who ≡ suc j → ⊥) → g (suc i) (suc j) u ≡ f (suc i) (suc j) u
-    others i j u n =
-        same (suc i) (suc j) u
-        ∙ elim (cases_eq o (suc i)) [
-          | inl e ↦ ap (λ b. cond (eqb o (suc i) && leb tick u) (cond b now (f (suc i) (suc j) u)) (f (suc i) (suc j) u)) (ne_eqb who (suc j) (λ d. n e d)) ∙ same_cond (eqb o (suc i) && leb tick u) (f (suc i) (suc j) u)
-          | inr d ↦ ap (λ b. cond b (cond (eqb who (suc j)) now (f (suc i) (suc j) u)) (f (suc i) (suc j) u)) (and_left (eqb o (suc i)) (leb tick u) (ne_eqb o (suc i) d))
-        ]
+    pub more_turned : (xs ys zs : List (Pair K)) (f g : (q p : ℕ) → List Turn) → AreTurned passed n xs ys f → AreTurned passed n ys zs g → AreTurned passed n xs zs (λ q p. f q p ++ g q p)
+    more_turned xs ys zs f g first rest = record {
+      count = rest.count ∙ first.count;
+      each = λ i j d l m.
+          rest.each i j d l m
+          ∙ ap (λ x. all_turned passed x (g (suc i) (suc j))) (first.each i j d l m)
+          ∙ sym (fold-append (λ q t. turned passed t.tick t.suspected q) (get_or xs (i * n + j) d) (f (suc i) (suc j)) (g (suc i) (suc j)));
+    }
 
-    late : (q p u : ℕ) → o ≡ q → who ≡ p → tick ≤ u → g q p u ≡ now
-    late q p u own is l =
-        same q p u
-        ∙ ap (λ b. cond b (cond (eqb who p) now (f q p u)) (f q p u)) (and_from (eqb o q) (leb tick u) (eq-eqb o q own) (le-leb tick u l))
-        ∙ ap (λ b. cond b now (f q p u)) (eq-eqb who p is)
+    -- two places are one only where both numbers are
+    other_place : (i j o w : ℕ) → j < n → w < n → (i ≡ o → j ≡ w → ⊥) → i * n + j ≢ o * n + w
+    other_place i j o w l m other e =
+        other
+        (sym (div-mul-add i n j l) ∙ ap (λ x. x / n) e ∙ div-mul-add o n w m)
+        (sym (mod-mul-add i n j l) ∙ ap (λ x. x % n) e ∙ mod-mul-add o n w m)
 
-    early : (q p u : ℕ) → u < tick → g q p u ≡ f q p u
-    early q p u l = same q p u ∙ ap (λ b. cond b (cond (eqb who p) now (f q p u)) (f q p u)) (and_right (eqb o q) (leb tick u) (lt-leb tick u l))
+    -- observer o and subject w turn
+    module _ (o w tick : ℕ) (suspected : Bool) where
+      abbrev pub its_turns : (q p : ℕ) → List Turn
+      its_turns q p = cond (eqb o q) (cond (eqb w p) (record { tick = tick; suspected = suspected } ∷ []) []) []
 
-    inside : (1 ≤ o) × (o ≤ S.processes) → (1 ≤ who) × (who ≤ S.processes)
-        → AreTracked S g tick (set tracks ((o - 1) * S.processes + (who - 1)) (turned tick now (place tracks S.processes (o - 1) (who - 1))))
-    inside a b =
-        all_set S f g tick now below tracks h (o - 1) (who - 1) (omega (arith, a.0, a.1)) (omega (arith, b.0, b.1))
-        (λ i j u n. others i j u (λ e d. n (omega (arith, e)) (omega (arith, d))))
-        (λ u l. early (suc (o - 1)) (suc (who - 1)) u l)
-        (λ u l. late (suc (o - 1)) (suc (who - 1)) u (omega (arith, a.0)) (omega (arith, b.0)) l)
+      not_its : (q p : ℕ) → (o ≡ q → w ≡ p → ⊥) → its_turns q p ≡ []
+      not_its q p other =
+          elim (cases_eq o q) [
+            | inl e ↦ ap (λ b. cond (eqb o q) (cond b (record { tick = tick; suspected = suspected } ∷ []) []) []) (ne_eqb w p (λ d. other e d)) ∙ same_none (eqb o q)
+            | inr e ↦ ap (λ b. cond b (cond (eqb w p) (record { tick = tick; suspected = suspected } ∷ []) []) []) (ne_eqb o q e)
+          ]
 
-    outside : (is_process S.processes o && is_process S.processes who) ≡ false → AreTracked S g tick tracks
-    outside e =
-        all_alike S f g tick tracks h (λ i j u l m x. others i j u (λ own is.
-        both_ways _ e (and_from (is_process S.processes o) (is_process S.processes who) (is_process-from S.processes o (omega (arith, own)) (omega (arith, own, l))) (is_process-from S.processes who (omega (arith, is)) (omega (arith, is, m))))))
+      -- numbers above n have no pair
+      pub outside_turned : (xs : List (Pair K)) → (o ≤ n → w ≤ n → ⊥) → AreTurned passed n xs xs its_turns
+      outside_turned xs out = none_turned xs its_turns (λ i j l m. not_its (suc i) (suc j) (λ e d. out (omega (arith, e)) (omega (arith, d))))
 
-    all_turned : AreTracked S g tick (turned_at S.processes o who tick now tracks)
-    all_turned =
-        cond_both (is_process S.processes o && is_process S.processes who) (set tracks ((o - 1) * S.processes + (who - 1)) (turned tick now (place tracks S.processes (o - 1) (who - 1)))) tracks (AreTracked S g tick)
-        (λ e. let both = and_parts (is_process S.processes o) (is_process S.processes who) e in inside (is_process-parts S.processes o both.0) (is_process-parts S.processes who both.1))
-        outside
-
-  module _ (f : (q p u : ℕ) → Bool) (tracks : List Track) (h : AreTracked S f tick tracks) where
-    -- a note that changes nothing
-    idle : (note : Note) → ((p : ℕ) (v : Bool) → after_note layer (λ _. v) note p ≡ v) → AreTracked S (after f (note ∷ [])) tick tracks
-    idle note same = all_alike S f (after f (note ∷ [])) tick tracks h (λ i j u l m x.
-        ap (λ v. cond (eqb o (suc i) && leb tick u) v (f (suc i) (suc j) u)) (same (suc j) (f (suc i) (suc j) u)) ∙ same_cond (eqb o (suc i) && leb tick u) (f (suc i) (suc j) u))
-
-    suspected : (l who : ℕ) (b : Bool) → eqb l layer ≡ b → AreTracked S (after f (Suspect l who ∷ [])) tick (cond b (turned_at S.processes o who tick true tracks) tracks)
-    suspected l who true e = all_turned f (after f (Suspect l who ∷ [])) tracks h who true (λ q p u.
-        ap (λ b. cond (eqb o q && leb tick u) (cond b (with (λ _. f q p u) who) (λ (_ : ℕ). f q p u) p) (f q p u)) e)
-    suspected l who false e = idle (Suspect l who) (λ p v. ap (λ b. cond b (with (λ _. v) who) (λ (_ : ℕ). v) p) e)
-
-    trusted : (l who : ℕ) (b : Bool) → eqb l layer ≡ b → AreTracked S (after f (Trust l who ∷ [])) tick (cond b (turned_at S.processes o who tick false tracks) tracks)
-    trusted l who true e = all_turned f (after f (Trust l who ∷ [])) tracks h who false (λ q p u.
-        ap (λ b. cond (eqb o q && leb tick u) (cond b (without (λ _. f q p u) who) (λ (_ : ℕ). f q p u) p) (f q p u)) e)
-    trusted l who false e = idle (Trust l who) (λ p v. ap (λ b. cond b (without (λ _. v) who) (λ (_ : ℕ). v) p) e)
-
-    one_noted : (note : Note) → AreTracked S (after f (note ∷ [])) tick (noted S.processes layer o tick tracks note)
-    one_noted (Suspect l who) = suspected l who (eqb l layer) refl
-    one_noted (Trust l who) = trusted l who (eqb l layer) refl
-    one_noted (Round r) = idle (Round r) (λ p v. refl)
-    one_noted (Decided v) = idle (Decided v) (λ p v. refl)
-    one_noted NoValue = idle NoValue (λ p v. refl)
-
-  pub notes_tracked : (notes : List Note) (f : (q p u : ℕ) → Bool) (tracks : List Track) → AreTracked S f tick tracks → AreTracked S (after f notes) tick (all_noted S.processes layer o tick tracks notes)
-  notes_tracked [] f tracks h = all_alike S f (after f []) tick tracks h (λ i j u l m x. same_cond (eqb o (suc i) && leb tick u) (f (suc i) (suc j) u))
-  notes_tracked (note ∷ notes) f tracks h =
-      all_alike S (after (after f (note ∷ [])) notes) (after f (note ∷ notes)) tick (all_noted S.processes layer o tick (noted S.processes layer o tick tracks note) notes)
-      (notes_tracked notes (after f (note ∷ [])) (noted S.processes layer o tick tracks note) (one_noted f tracks h note))
-      (λ i j u l m x. go (suc j) (f (suc i) (suc j) u) (eqb o (suc i) && leb tick u))
-    where
-      go : (p : ℕ) (v : Bool) (b : Bool) → cond b (fold (after_note layer) (after_note layer (λ _. v) note) notes p) v
-          ≡ cond b (fold (after_note layer) (λ _. cond b (after_note layer (λ _. v) note p) v) notes p) (cond b (after_note layer (λ _. v) note p) v)
-      go p v true = all_at_member layer p (after_note layer (λ _. v) note) (λ _. after_note layer (λ _. v) note p) notes refl
-      go p v false = refl
-
-AreUntil-push : (trace : List EntryRecord) (entry : EntryRecord) (last : ℕ) → AreUntil (trace ++ entry ∷ []) last → AreUntil trace last × (entry.key.tick ≤ last)
-AreUntil-push [] entry last h = (tt, h.0)
-AreUntil-push (first ∷ trace) entry last h = let rest = AreUntil-push trace entry last h.1 in ((h.0, rest.0), rest.1)
-
-module _ (S : Record) (layer : ℕ) (trace : List EntryRecord) (entry : EntryRecord) where
-  -- an entry below the horizon
-  pub entry_tracked : entry.key.tick < S.horizon → (tracks : List Track) → AreTracked S (suspects layer trace) entry.key.tick tracks
-      → AreTracked S (suspects layer (trace ++ entry ∷ [])) entry.key.tick (all_noted S.processes layer entry.key.receiver entry.key.tick tracks entry.notes)
-  entry_tracked below tracks h =
-      all_alike S (after S layer entry.key.receiver entry.key.tick below (suspects layer trace) entry.notes) (suspects layer (trace ++ entry ∷ [])) entry.key.tick _
-      (notes_tracked S layer entry.key.receiver entry.key.tick below entry.notes (suspects layer trace) tracks h)
-      (λ i j u l m x. elim (cases_Bool (is_counted entry (suc i) u)) [
-        | inl e ↦ suspects-counted layer (suc j) trace entry (suc i) u e ∙ sym (cond-true _ _ _ e)
-        | inr e ↦ suspects-other layer (suc j) trace entry (suc i) u e ∙ sym (cond-false _ _ _ e)
-      ])
-
-  -- an entry at the horizon or later says nothing of the ticks before it
-  pub late_tracked : S.horizon ≤ entry.key.tick → (last : ℕ) (tracks : List Track) → AreTracked S (suspects layer trace) last tracks → AreTracked S (suspects layer (trace ++ entry ∷ [])) last tracks
-  late_tracked late last tracks h =
-      all_alike S (suspects layer trace) (suspects layer (trace ++ entry ∷ [])) last tracks h
-      (λ i j u l m x. suspects-other layer (suc j) trace entry (suc i) u (and_right (eqb entry.key.receiver (suc i)) (leb entry.key.tick u) (lt-leb entry.key.tick u (omega arith))))
-
-  pub judging_late : (m : RunningJudge) → IsJudging S layer trace m → m.horizon ≤ entry.key.tick → IsJudging S layer (trace ++ entry ∷ []) m
-  judging_late m h late = record {
-    same_layer = h.same_layer;
-    processes = h.processes;
-    horizon = h.horizon;
-    lasts = h.lasts;
-    tracked = λ last until. late_tracked (omega (arith, h.horizon)) last m.tracks.items (h.tracked last (AreUntil-push trace entry last until).0);
-  }
-
-  pub judging_fed : (m : RunningJudge) → IsJudging S layer trace m → AreUntil trace entry.key.tick → entry.key.tick < m.horizon
-      → (tracks : List Track) → tracks ≡ all_noted m.processes m.layer entry.key.receiver entry.key.tick m.tracks.items entry.notes → (square : vec_len (with_items m.tracks tracks) ≡ m.processes * m.processes)
-      → IsJudging S layer (trace ++ entry ∷ []) (record m { tracks = with_items m.tracks tracks; square = square })
-  judging_fed m h until below tracks e square =
-      let here : entry.key.tick < S.horizon = omega (arith, h.horizon) in
-      let new = entry_tracked here m.tracks.items (h.tracked entry.key.tick until) in
-      let same : tracks ≡ all_noted S.processes layer entry.key.receiver entry.key.tick m.tracks.items entry.notes
-      = e ∙ ap (λ n. all_noted n m.layer entry.key.receiver entry.key.tick m.tracks.items entry.notes) h.processes
-      ∙ ap (λ l. all_noted S.processes l entry.key.receiver entry.key.tick m.tracks.items entry.notes) h.same_layer in
-      let count : length tracks ≡ m.tracks.len = ap length same ∙ new.count ∙ sym (h.tracked entry.key.tick until).count ∙ sym m.tracks.ok.0 in
-      let is : (with_items m.tracks tracks).items ≡ all_noted S.processes layer entry.key.receiver entry.key.tick m.tracks.items entry.notes
-      = with_items_is m.tracks tracks count ∙ same in
-      record {
-        same_layer = h.same_layer;
-        processes = h.processes;
-        horizon = h.horizon;
-        lasts = h.lasts;
-        tracked = λ last later. subst (AreTracked S (suspects layer (trace ++ entry ∷ [])) last) (sym is) (all_longer S (suspects layer (trace ++ entry ∷ [])) entry.key.tick last _ new (AreUntil-push trace entry last later).1);
+      pub one_turned : (xs : List (Pair K)) (k : ℕ) (x y : Pair K) → length xs ≡ n * n → 1 ≤ o → o ≤ n → 1 ≤ w → w ≤ n → k ≡ (o - 1) * n + (w - 1) → x ≡ get_or xs k x → y ≡ turned passed tick suspected x → AreTurned passed n xs (set xs k y) its_turns
+      one_turned xs k x y square o_low o_high w_low w_high at is new = record {
+        count = length-set xs k y;
+        each = λ i j d l m. elim (cases_eq i (o - 1)) [
+          | inl e ↦ elim (cases_eq j (w - 1)) [ inl f ↦ own i j d e f | inr f ↦ other i j d m (λ _ z. f z) ]
+          | inr e ↦ other i j d m (λ z _. e z)
+        ];
       }
+        where
+          inside : k < length xs
+          inside = let l = mul-add-lt (o - 1) n (w - 1) n (omega arith) (omega arith) in omega (arith, l, square, at)
 
-  -- an entry without notes changes nothing
-  pub judging_quiet : (m : RunningJudge) → IsJudging S layer trace m → AreUntil trace entry.key.tick → entry.notes ≡ [] → IsJudging S layer (trace ++ entry ∷ []) m
-  judging_quiet m h until none =
-      elim (cases_lt entry.key.tick m.horizon) [
-        | inl below ↦ record {
-          same_layer = h.same_layer;
-          processes = h.processes;
-          horizon = h.horizon;
-          lasts = h.lasts;
-          tracked = λ last later.
-              all_longer S (suspects layer (trace ++ entry ∷ [])) entry.key.tick last m.tracks.items
-              (subst (λ notes. AreTracked S (suspects layer (trace ++ entry ∷ [])) entry.key.tick (all_noted S.processes layer entry.key.receiver entry.key.tick m.tracks.items notes)) none
-              (entry_tracked (omega (arith, h.horizon)) m.tracks.items (h.tracked entry.key.tick until)))
-              (AreUntil-push trace entry last later).1;
-        }
-        | inr late ↦ judging_late m h late
-      ]
+          own : (i j : ℕ) (d : Pair K) → i ≡ o - 1 → j ≡ w - 1 → get_or (set xs k y) (i * n + j) d ≡ all_turned passed (get_or xs (i * n + j) d) (its_turns (suc i) (suc j))
+          own i j d e f =
+              let place : i * n + j ≡ k = ap (λ a. a * n + j) e ∙ ap (λ b. (o - 1) * n + b) f ∙ sym at in
+              ap (λ a. get_or (set xs k y) a d) place
+              ∙ get_or-set_same xs k y d inside
+              ∙ new
+              ∙ ap (turned passed tick suspected) (is ∙ get_or_default xs k x d inside ∙ ap (λ a. get_or xs a d) (sym place))
+              ∙ ap (λ b. all_turned passed (get_or xs (i * n + j) d) (cond b (cond true (record { tick = tick; suspected = suspected } ∷ []) []) [])) (sym (eq-eqb o (suc i) (omega (arith, e))))
+              ∙ ap (λ b. all_turned passed (get_or xs (i * n + j) d) (cond (eqb o (suc i)) (cond b (record { tick = tick; suspected = suspected } ∷ []) []) [])) (sym (eq-eqb w (suc j) (omega (arith, f))))
+
+          other : (i j : ℕ) (d : Pair K) → j < n → (i ≡ o - 1 → j ≡ w - 1 → ⊥) → get_or (set xs k y) (i * n + j) d ≡ all_turned passed (get_or xs (i * n + j) d) (its_turns (suc i) (suc j))
+          other i j d m out =
+              get_or-set_other xs k (i * n + j) y d (λ e. other_place i j (o - 1) (w - 1) m (omega arith) out (e ∙ at))
+              ∙ ap (all_turned passed (get_or xs (i * n + j) d)) (sym (not_its (suc i) (suc j) (λ e f. out (omega (arith, e)) (omega (arith, f)))))
+
+  -- ---- as they open
+
+  pub pairs_opened : (S : Record) (layer : ℕ) (kept : K) (ends : List ℕ) → AreEnds S ends → (m : Pairs K) → m.layer ≡ layer → m.processes ≡ length ends → m.horizon ≡ S.horizon → 0 < S.horizon
+      → ((k : ℕ) (d : Pair K) → k < length ends * length ends → get_or m.pairs.items k d ≡ opened_at ends kept k) → ArePairs passed S layer kept [] m
+  pairs_opened S layer kept ends are m same_layer processes horizon lasts each = record {
+    same_layer = same_layer;
+    processes = processes ∙ are.count;
+    horizon = horizon;
+    lasts = lasts;
+    in_order = tt;
+    each = λ i j d l m.
+        each (i * S.processes + j) d (subst (λ n. i * S.processes + j < n * n) (sym are.count) (mul-add-lt i S.processes j S.processes l m))
+        ∙ ap (λ e. opened e kept) (ends_at i j l m);
+  }
+    where
+      ends_at : (i j : ℕ) → i < S.processes → j < S.processes
+          → min (get_or ends ((i * S.processes + j) / length ends) 0) (get_or ends ((i * S.processes + j) % length ends) 0) ≡ end_of S (suc i) (suc j)
+      ends_at i j l m =
+          let q : get_or ends ((i * S.processes + j) / length ends) 0 ≡ end_tick S (suc i)
+          = ap (λ k. get_or ends k 0) (ap (λ n. (i * S.processes + j) / n) are.count ∙ div-mul-add i S.processes j m) ∙ are.ticks i l in
+          let p : get_or ends ((i * S.processes + j) % length ends) 0 ≡ end_tick S (suc j)
+          = ap (λ k. get_or ends k 0) (ap (λ n. (i * S.processes + j) % n) are.count ∙ mod-mul-add i S.processes j m) ∙ are.ticks j m in
+          omega arith
+
+  -- ---- one more entry
+
+  pub fed_more : (S : Record) (layer q p : ℕ) (kept : K) (trace : List EntryRecord) (entry : EntryRecord)
+      → all_turned passed (fed passed S layer q p kept trace) (entry_turns layer q p S.horizon entry) ≡ fed passed S layer q p kept (trace ++ entry ∷ [])
+  fed_more S layer q p kept trace entry =
+      sym (fold-append (λ x t. turned passed t.tick t.suspected x) (opened (end_of S q p) kept) (turns layer q p S.horizon trace) (entry_turns layer q p S.horizon entry))
+      ∙ ap (all_turned passed (opened (end_of S q p) kept)) (sym (turns_more layer q p S.horizon trace entry))
+
+  module _ (S : Record) (layer : ℕ) (kept : K) (trace : List EntryRecord) (entry : EntryRecord) (m : Pairs K) (h : ArePairs passed S layer kept trace m) (until : AreUntil trace entry.key.tick) where
+    -- an entry that turns nothing
+    pairs_same : ((i j : ℕ) → entry_turns layer (suc i) (suc j) S.horizon entry ≡ []) → ArePairs passed S layer kept (trace ++ entry ∷ []) m
+    pairs_same none = record {
+      same_layer = h.same_layer;
+      processes = h.processes;
+      horizon = h.horizon;
+      lasts = h.lasts;
+      in_order = in_order_more trace 0 entry h.in_order until (omega arith);
+      each = λ i j d x y.
+          h.each i j d x y
+          ∙ ap (all_turned passed (fed passed S layer (suc i) (suc j) kept trace)) (sym (none i j))
+          ∙ fed_more S layer (suc i) (suc j) kept trace entry;
+    }
+
+    pub pairs_late : m.horizon ≤ entry.key.tick → ArePairs passed S layer kept (trace ++ entry ∷ []) m
+    pairs_late late = pairs_same (λ i j. turns_late layer (suc i) (suc j) S.horizon entry (omega (arith, h.horizon)))
+
+    pub pairs_quiet : entry.notes ≡ [] → ArePairs passed S layer kept (trace ++ entry ∷ []) m
+    pairs_quiet none = pairs_same (λ i j.
+        ap (λ notes. cond (eqb entry.key.receiver (suc i) && ltb entry.key.tick S.horizon) (noted_turns layer (suc j) entry.key.tick notes) []) none
+        ∙ same_none (eqb entry.key.receiver (suc i) && ltb entry.key.tick S.horizon))
+
+    pub pairs_fed : entry.key.tick < m.horizon → (xs : List (Pair K))
+        → AreTurned passed m.processes m.pairs.items xs (λ q p. cond (eqb entry.key.receiver q) (noted_turns m.layer p entry.key.tick entry.notes) [])
+        → (square : vec_len (with_items m.pairs xs) ≡ m.processes * m.processes) → (few : m.processes ≤ 64) → ArePairs passed S layer kept (trace ++ entry ∷ []) (record m { pairs = with_items m.pairs xs; square = square; few = few })
+    pairs_fed below xs after square few = record {
+      same_layer = h.same_layer;
+      processes = h.processes;
+      horizon = h.horizon;
+      lasts = h.lasts;
+      in_order = in_order_more trace 0 entry h.in_order until (omega arith);
+      each = λ i j d x y.
+          let here = subst (λ n. AreTurned passed n m.pairs.items xs (λ q p. cond (eqb entry.key.receiver q) (noted_turns m.layer p entry.key.tick entry.notes) [])) h.processes after in
+          ap (λ ys. get_or ys (i * S.processes + j) d) (with_items_is m.pairs xs (after.count ∙ sym m.pairs.ok.0))
+          ∙ here.each i j d x y
+          ∙ ap (all_turned passed (get_or m.pairs.items (i * S.processes + j) d)) (same i j)
+          ∙ ap (λ p. all_turned passed p (entry_turns layer (suc i) (suc j) S.horizon entry)) (h.each i j d x y)
+          ∙ fed_more S layer (suc i) (suc j) kept trace entry;
+    }
+      where
+        both : (b c : Bool) (ts : List Turn) → c ≡ true → cond b ts [] ≡ cond (b && c) ts []
+        both true true ts e = refl
+        both false c ts e = refl
+        both true false ts e = absurd (cc)
+
+        same : (i j : ℕ) → cond (eqb entry.key.receiver (suc i)) (noted_turns m.layer (suc j) entry.key.tick entry.notes) [] ≡ entry_turns layer (suc i) (suc j) S.horizon entry
+        same i j =
+            ap (λ l. cond (eqb entry.key.receiver (suc i)) (noted_turns l (suc j) entry.key.tick entry.notes) []) h.same_layer
+            ∙ both (eqb entry.key.receiver (suc i)) (ltb entry.key.tick S.horizon) (noted_turns layer (suc j) entry.key.tick entry.notes) (lt-ltb entry.key.tick S.horizon (omega (arith, h.horizon)))
+
+-- an entry without notes changes nothing
+pub judging_quiet : (S : Record) (layer : ℕ) (trace : List EntryRecord) (entry : EntryRecord) (judge : RunningJudge) → IsJudging S layer trace judge → AreUntil trace entry.key.tick → entry.notes ≡ [] → IsJudging S layer (trace ++ entry ∷ []) judge
+judging_quiet S layer trace entry judge = pairs_quiet passed S layer new_track trace entry judge.pairs

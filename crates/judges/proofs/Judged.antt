@@ -12,7 +12,7 @@ use Rattle.judges.specs.Track.{Knows, suspected_from, trusted_from, latest_below
 -- at place i and j is the track of observer i + 1 and subject j + 1, at the horizon
 abbrev pub AreTracks : Record → (trace : List EntryRecord) → (layer : ℕ) → (ℕ → ℕ → Track) → Type 0
 AreTracks S trace layer track = (i j : ℕ) → i < S.processes → j < S.processes
-    → Knows (suspects layer trace (suc i) (suc j)) (track i j) × ((track i j).tick ≡ S.horizon) × ((track i j).end ≡ end_of S (suc i) (suc j))
+    → Knows (suspects layer trace (suc i) (suc j)) (end_of S (suc i) (suc j)) (track i j) × ((track i j).tick ≡ S.horizon)
 
 module _ (S : Record) (track : ℕ → ℕ → Track) where
   abbrev pub judged_strong_completeness : Option ℕ

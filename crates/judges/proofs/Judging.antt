@@ -2,7 +2,7 @@
 use Rattle.std.proofs.Common.{◌≡◌, ℕ, suc, ◌<◌, Bool, true, false, cond, not, ◌&&◌, subst, arith, None, Some, List}
 use Rattle.process_api.specs.EntryRecord.{EntryRecord}
 use Rattle.scenario.specs.Record.{Record}
-use Rattle.judges.specs.Crashes.{is_crashed, is_correct}
+use Rattle.judges.specs.Crashes.{is_crashed, is_correct, end_of}
 use Rattle.judges.specs.Ticks.{all_below, any_below, all_from}
 use Rattle.judges.specs.Out.{suspects}
 use Rattle.judges.specs.Verdicts.{strong_completeness, weak_completeness, eventual_strong_accuracy, eventual_weak_accuracy, verdicts}
@@ -18,13 +18,13 @@ module _ (S : Record) (trace : List EntryRecord) (layer : ℕ) (track : ℕ → 
     suspected : IsReached (λ t. all_from (suspects layer trace (suc i) (suc j)) t S.horizon) S.horizon (suspected_from (track i j))
     suspected =
         let k = known i j l m in
-        subst (λ n. IsReached (λ t. all_from (suspects layer trace (suc i) (suc j)) t n) n (suspected_from (track i j))) k.1 (suspected_reached (suspects layer trace (suc i) (suc j)) (track i j) k.0)
+        subst (λ n. IsReached (λ t. all_from (suspects layer trace (suc i) (suc j)) t n) n (suspected_from (track i j))) k.1 (suspected_reached (suspects layer trace (suc i) (suc j)) (end_of S (suc i) (suc j)) (track i j) k.0)
 
     trusted : IsReached (λ t. all_from (λ u. not (suspects layer trace (suc i) (suc j) u)) t S.horizon) S.horizon (trusted_from (track i j))
     trusted =
         let k = known i j l m in
         subst (λ n. IsReached (λ t. all_from (λ u. not (suspects layer trace (suc i) (suc j) u)) t n) n (trusted_from (track i j))) k.1
-        (trusted_reached (suspects layer trace (suc i) (suc j)) (track i j) (omega (arith, k.1)) k.0)
+        (trusted_reached (suspects layer trace (suc i) (suc j)) (end_of S (suc i) (suc j)) (track i j) (omega (arith, k.1)) k.0)
 
     since_below : (track i j).since < S.horizon
     since_below = let k = known i j l m in omega (arith, k.0.steady.below, k.1)

@@ -1,16 +1,15 @@
 -- the verdicts: tracks tell since when one process suspects another, and the grid of all tracks tells the verdicts
 pub mod Below
 pub mod Lasting
+pub mod Turns
+pub mod Standing
+pub mod Entering
 pub mod Tracks
-pub mod Feeding
-pub mod Turning
 pub mod Reaching
 pub mod Judged
 pub mod Accuracy
 pub mod Judging
 pub mod Meaning
-pub mod Entering
-pub mod Opening
 pub mod Closing
 pub mod Order
 pub mod Adding

@@ -3,16 +3,11 @@ use Rattle.std.proofs.Common.{◌≡◌, ℕ, zero, suc, ◌-◌, ◌<◌, ◌�
 use Rattle.std.proofs.lemmas.Bool.{cases_lt, lt-ltb, le-ltb, le-leb, lt-leb, cond-true, cond-false, both_ways, true≢false, false_from_ne_true}
 use mathlib.Core.Bool.{beq}
 use Rattle.judges.specs.Ticks.{any_below, all_from, before}
-use Rattle.judges.specs.Track.{Knows, IsSteady, IsReached, gone, passed, suspected_from, trusted_from}
+use Rattle.judges.specs.Track.{Knows, IsSteady, IsReached, new_track, gone, passed, suspected_from, trusted_from}
 use Rattle.judges.specs.declared.track.Track.{Track}
 use Rattle.judges.proofs.Below.{any_below-from}
 use Rattle.judges.proofs.Lasting.{all_from-at, all_from-from, last_before}
-
-pub same_from_beq : (x y : Bool) → beq x y ≡ true → x ≡ y
-same_from_beq true true e = refl
-same_from_beq false false e = refl
-same_from_beq true false e = absurd (true≢false (sym e))
-same_from_beq false true e = absurd (true≢false (sym e))
+use Rattle.judges.proofs.Standing.{IsKeeping, same_from_beq}
 
 before_last : (f : ℕ → Bool) (a b : ℕ) (now : Bool) → a < b → ((u : ℕ) → a ≤ u → u < b → f u ≡ now) → before f b ≡ now
 before_last f a zero now l same = absurd (omega arith)
@@ -67,19 +62,36 @@ module _ (f : ℕ → Bool) (end : ℕ) where
       earlier : (v : ℕ) → suc v ≡ a → f v ≡ not now
       earlier v h = ap (before f) h ∙ e ∙ other now was is
 
-  pub knows_gone : (t : Track) (until : ℕ) → t.end ≡ end → t.tick < until → Knows f t → ((u : ℕ) → t.tick ≤ u → u < until → f u ≡ t.current) → Knows f (gone until t)
-  knows_gone t until is l k same = record {
-    was = sym (before_last f t.tick until t.current l same);
-    steady = steady_on t.was t.current t.since t.tick until l k.steady (sym k.was) same (beq t.current t.was) refl;
-    mistaken = ap (λ x. x || (t.current && ltb t.tick t.end)) k.mistaken ∙ subst (λ e. (any_below f (min t.tick e) || (t.current && ltb t.tick e)) ≡ any_below f (min until e)) (sym is) (any_stretch t.tick until t.current l same);
+  knows_gone : (t : Track) (until : ℕ) (now : Bool) → t.tick < until → Knows f end t → ((u : ℕ) → t.tick ≤ u → u < until → f u ≡ now) → Knows f end (gone until now end t)
+  knows_gone t until now l k same = record {
+    was = sym (before_last f t.tick until now l same);
+    steady = steady_on t.was now t.since t.tick until l k.steady (sym k.was) same (beq now t.was) refl;
+    mistaken = ap (λ x. x || (now && ltb t.tick end)) k.mistaken ∙ any_stretch t.tick until now l same;
   }
 
-  pub knows_passed : (t : Track) (until : ℕ) → t.end ≡ end → Knows f t → ((u : ℕ) → t.tick ≤ u → u < until → f u ≡ t.current) → Knows f (passed until t)
-  knows_passed t until is k same =
+  knows_passed : (t : Track) (until : ℕ) (now : Bool) → Knows f end t → ((u : ℕ) → t.tick ≤ u → u < until → f u ≡ now) → Knows f end (passed until now end t)
+  knows_passed t until now k same =
       elim (cases_lt t.tick until) [
-        | inl l ↦ subst (Knows f) (sym (cond-true _ _ _ (lt-ltb t.tick until l))) (knows_gone t until is l k same)
-        | inr l ↦ subst (Knows f) (sym (cond-false _ _ _ (le-ltb t.tick until l))) k
+        | inl l ↦ subst (Knows f end) (sym (cond-true _ _ _ (lt-ltb t.tick until l))) (knows_gone t until now l k same)
+        | inr l ↦ subst (Knows f end) (sym (cond-false _ _ _ (le-ltb t.tick until l))) k
       ]
+
+  pub none_known : Knows f end new_track
+  none_known = record {
+    was = refl;
+    steady = record { below = omega arith; on = λ u x y. absurd (omega arith); not_before = λ v e. absurd (omega arith) };
+    mistaken = ap (any_below f) (let e : 0 ≡ min 0 end = omega arith in e);
+  }
+
+passed_tick : (t : Track) (until : ℕ) (now : Bool) (end : ℕ) → t.tick ≤ until → (passed until now end t).tick ≡ until
+passed_tick t until now end l =
+    elim (cases_lt t.tick until) [
+      | inl p ↦ ap (λ (x : Track). x.tick) (cond-true _ _ _ (lt-ltb t.tick until p))
+      | inr p ↦ ap (λ (x : Track). x.tick) (cond-false _ _ _ (le-ltb t.tick until p)) ∙ (let e : t.tick ≡ until = omega arith in e)
+    ]
+
+pub tracks_keep : IsKeeping passed (λ (t : Track). t.tick) Knows
+tracks_keep = record { ticks = passed_tick; knows = λ f end t until now k same. knows_passed f end t until now k same }
 
 -- what a track tells of the ticks below its own
 module _ (f : ℕ → Bool) (tick : ℕ) where
@@ -104,15 +116,15 @@ before_not : (f : ℕ → Bool) (t : ℕ) → 0 < t → before (λ u. not (f u))
 before_not f zero l = absurd (omega arith)
 before_not f (suc v) l = refl
 
-pub suspected_reached : (f : ℕ → Bool) (t : Track) → Knows f t → IsReached (λ u. all_from f u t.tick) t.tick (suspected_from t)
-suspected_reached f t k = go t.was refl
+pub suspected_reached : (f : ℕ → Bool) (end : ℕ) (t : Track) → Knows f end t → IsReached (λ u. all_from f u t.tick) t.tick (suspected_from t)
+suspected_reached f end t k = go t.was refl
   where
     go : (b : Bool) → t.was ≡ b → IsReached (λ u. all_from f u t.tick) t.tick (cond b (Some t.since) None)
     go true e = lasts_from f t.tick t.since (λ u x y. k.steady.on u x y ∙ e) (λ v h. k.steady.not_before v h ∙ ap not e) k.steady.below
     go false e = λ u l. nothing_lasts f t.tick (sym k.was ∙ e) u l
 
-pub trusted_reached : (f : ℕ → Bool) (t : Track) → 0 < t.tick → Knows f t → IsReached (λ u. all_from (λ v. not (f v)) u t.tick) t.tick (trusted_from t)
-trusted_reached f t some k = go t.was refl
+pub trusted_reached : (f : ℕ → Bool) (end : ℕ) (t : Track) → 0 < t.tick → Knows f end t → IsReached (λ u. all_from (λ v. not (f v)) u t.tick) t.tick (trusted_from t)
+trusted_reached f end t some k = go t.was refl
   where
     go : (b : Bool) → t.was ≡ b → IsReached (λ u. all_from (λ v. not (f v)) u t.tick) t.tick (cond b None (Some t.since))
     go true e = λ u l. nothing_lasts (λ v. not (f v)) t.tick (before_not f t.tick some ∙ ap not (sym k.was ∙ e)) u l

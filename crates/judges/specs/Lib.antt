@@ -5,9 +5,12 @@ pub mod Verdicts
 pub mod Meaning
 pub mod Outcomes
 pub mod Noting
+pub mod Turns
+pub mod Pair
+pub mod Ends
+pub mod Pairs
 pub mod Track
 pub mod Grid
-pub mod Pairs
 pub mod Judging
 pub mod Agreement
 pub mod Blame

@@ -4,24 +4,21 @@ use mathlib.Core.Bool.{beq}
 use Rattle.judges.specs.Ticks.{any_below, before}
 use Rattle.judges.specs.declared.track.Track.{Track}
 
-abbrev pub opened : (end : ℕ) → Track
-opened end = record { end = end; tick = 0; was = false; current = false; since = 0; mistaken = false }
+-- no tick is behind
+abbrev pub new_track : Track
+new_track = record { tick = 0; was = false; since = 0; mistaken = false }
 
--- the ticks up to another are as it is now
-abbrev pub gone : (until : ℕ) → Track → Track
-gone until t = record t {
+-- the ticks up to another are behind, and through them there is suspicion or there is none
+abbrev pub gone : (until : ℕ) → (suspected : Bool) → (end : ℕ) → Track → Track
+gone until suspected end t = record {
   tick = until;
-  was = t.current;
-  since = if beq t.current t.was then t.since else t.tick;
-  mistaken = t.mistaken || (t.current && nat_lt t.tick t.end);
+  was = suspected;
+  since = if beq suspected t.was then t.since else t.tick;
+  mistaken = t.mistaken || (suspected && nat_lt t.tick end);
 }
 
-abbrev pub passed : (until : ℕ) → Track → Track
-passed until t = if nat_lt t.tick until then gone until t else t
-
--- from a tick on there is suspicion, or there is none
-abbrev pub turned : (tick : ℕ) → (suspected : Bool) → Track → Track
-turned tick suspected t = if beq suspected t.current then t else record (passed tick t) { current = suspected }
+abbrev pub passed : (until : ℕ) → (suspected : Bool) → (end : ℕ) → Track → Track
+passed until suspected end t = if nat_lt t.tick until then gone until suspected end t else t
 
 abbrev pub suspected_from : Track → Option ℕ
 suspected_from t = if t.was then Some t.since else None
@@ -35,10 +32,11 @@ pub record IsSteady (suspected : ℕ → Bool) (was : Bool) (since tick : ℕ) :
   pub on : (u : ℕ) → since ≤ u → u < tick → suspected u ≡ was
   pub not_before : (v : ℕ) → since ≡ suc v → suspected v ≡ not was
 
-pub record Knows (suspected : ℕ → Bool) (t : Track) : Type 0 where
+-- a suspicion is a mistake below an end
+pub record Knows (suspected : ℕ → Bool) (end : ℕ) (t : Track) : Type 0 where
   pub was : t.was ≡ before suspected t.tick
   pub steady : IsSteady suspected t.was t.since t.tick
-  pub mistaken : t.mistaken ≡ any_below suspected (min t.tick t.end)
+  pub mistaken : t.mistaken ≡ any_below suspected (min t.tick end)
 
 -- whether a tick is at or after the one given, if one is
 abbrev pub reached : Option ℕ → ℕ → Bool

@@ -21,6 +21,11 @@
 //! these come, and hold nothing of them. The two calls feed them (`specs/Judging.antt` says what it is that they were
 //! fed).
 //!
+//! [`Pairs`] is the machinery of the judge, and of other crates that count what detectors do: of each pair of processes
+//! on a layer it keeps a [`Gauge`], that its owner chooses, and moves it where a note of the observer begins or ends the
+//! suspicion of the subject. What is kept is the gauge as it opened, moved by the turns of the pair in the trace
+//! (`specs/Turns.antt`, `specs/Pairs.antt`); `proofs/Standing.antt` says what it then knows of the ticks.
+//!
 //! Of work and memory no contract speaks. The code goes over the entries once: it keeps for each pair of processes
 //! since when the one suspects the other, or doesn't, and moves that on only where a note changes it. So the work grows
 //! with the notes of the trace and with the number of pairs, and not with the ticks. All room is made at the opening.
@@ -29,15 +34,21 @@
 //! completenesses hold from tick 9, the eventual accuracies from tick 0, and the other two hold.
 #![tactic(auto)]
 
+mod ends;
 mod grid;
 mod numbers;
 mod outcomes;
+mod pair;
 mod pairs;
 mod running;
 mod track;
 mod verdicts;
 
+pub use ends::end_tick;
+pub use numbers::process_after;
 pub use outcomes::{Answer, Outcome, RunningOutcomes, decisions};
+pub use pair::{Gauge, Pair, turn_of};
+pub use pairs::Pairs;
 pub use running::RunningJudge;
 pub use verdicts::{Verdicts, judge};
 

@@ -1,106 +1,178 @@
-//! The tracks of all pairs.
-ghost use Rattle.std.specs.Prelude.{◌≡◌, ℕ, ◌*◌, ◌<◌, ◌≤◌, map, length, vec_len, get_or, IfOk};
-ghost use Rattle.judges.specs.Track.{passed};
-ghost use Rattle.judges.specs.Pairs.{AreEnds, all_noted, noted, opened_at, turned_at, end_tick};
+//! All pairs of processes, as a trace goes by.
+ghost use Rattle.std.specs.Prelude.{◌≡◌, ℕ, ◌+◌, ◌*◌, ◌<◌, ◌≤◌, ◌++◌, ◌∷◌, [], ◌==◌, if◌then◌else◌, List, Some, length, vec_len, get_or, IfOk};
+ghost use Rattle.process_api.specs.EntryRecord.{EntryRecord};
+ghost use Rattle.scenario.specs.Record.{Record};
+ghost use Rattle.judges.specs.Ends.{opened_at};
+ghost use Rattle.judges.specs.Pair.{AreTurned};
+ghost use Rattle.judges.specs.Turns.{noted_turns, turn_of, turns_at};
+ghost use Rattle.judges.specs.declared.pair.Pair.{Pair};
 
-use crate::numbers::process_after;
-use crate::track::Track;
-use process_api::{Key, Note, Pid};
+use crate::ends::end_ticks;
+use crate::pair::{Gauge, Pair, turn_of};
+use process_api::{Entry, Key, Note, Pid};
 use scenario::Scenario;
 use std::alloc::{AllocError, Global};
 
-/// The tick up to which a process is up, cut at the horizon.
-fn end_tick(scenario: &Scenario, p: Pid) -> u32
-    ensures { result ≡ end_tick scenario.now p }
-{
-    let horizon = scenario.horizon();
-    scenario.crash(p).map_or(horizon, |at| at.min(horizon))
-}
-
-/// The ticks up to which the processes are up, cut at the horizon, of process 1 first.
-pub(crate) fn end_ticks(alloc: Global, scenario: &Scenario) -> Result<Vec<u32>, AllocError>
-    ensures value { IfOk result (λ ends. AreEnds scenario.now ends.items) }
-    ensures few { IfOk result (λ ends. vec_len ends ≤ 64) }
-{
-    let mut ends = Vec::with_capacity(alloc, usize::from(scenario.processes()))?;
-    for before in 0..scenario.processes() {
-        ends.push(end_tick(scenario, process_after(before)))?;
-    }
-    Ok(ends)
-}
-
-/// The track at a place, by observer and then by subject.
-fn track_at(ends: &[u32], place: usize) -> Track
+/// The pair at a place, by observer and then by subject.
+fn pair_at<K: Gauge>(ends: &[u32], kept: K, place: usize) -> Pair<K>
     requires inside { place < length ends.now * length ends.now }
-    ensures { result ≡ opened_at ends.now place }
+    ensures { result ≡ opened_at ends.now kept place }
 {
     let observer = ends[place / ends.len()];
     let subject = ends[place % ends.len()];
-    Track::open(observer.min(subject))
+    Pair::open(observer.min(subject), kept)
 }
 
-/// The tracks of all pairs.
-pub(crate) fn open_tracks(alloc: Global, ends: &[u32]) -> Result<Vec<Track>, AllocError>
+/// All pairs, as they open.
+fn open_pairs<K: Gauge>(alloc: Global, ends: &[u32], kept: K) -> Result<Vec<Pair<K>>, AllocError>
     requires { length ends.now ≤ 64 }
-    ensures count { IfOk result (λ tracks. vec_len tracks ≡ length ends.now * length ends.now) }
-    ensures each { IfOk result (λ tracks. (k : ℕ) (d : Track) → k < length ends.now * length ends.now
-        → get_or tracks.items k d ≡ opened_at ends.now k) }
+    ensures count { IfOk result (λ pairs. vec_len pairs ≡ length ends.now * length ends.now) }
+    ensures each { IfOk result (λ pairs. (k : ℕ) (d : Pair K) → k < length ends.now * length ends.now
+        → get_or pairs.items k d ≡ opened_at ends.now kept k) }
 {
-    let pairs = ends.len() * ends.len();
-    let mut tracks = Vec::with_capacity(alloc, pairs)?;
-    for place in 0..pairs {
-        tracks.push(track_at(ends, place))?;
+    let count = ends.len() * ends.len();
+    let mut pairs = Vec::with_capacity(alloc, count)?;
+    for place in 0..count {
+        pairs.push(pair_at(ends, kept, place))?;
     }
-    Ok(tracks)
+    Ok(pairs)
 }
 
-/// One process begins or ceases to suspect another. Numbers above `n` have no track.
-fn turn(tracks: &mut [Track], n: usize, observer: Pid, subject: Pid, tick: u32, suspected: bool)
-    requires square { length tracks.old ≡ n * n }
-    ensures { tracks.new ≡ turned_at n observer subject tick suspected tracks.old }
+/// One process begins or ceases to suspect another. Numbers above `n` have no pair.
+fn turn<K: Gauge>(
+    pairs: &mut [Pair<K>],
+    n: usize,
+    observer: Pid,
+    subject: Pid,
+    tick: u32,
+    suspected: bool,
+)
+    requires square { length pairs.old ≡ n * n }
+    ensures { AreTurned K.passed n pairs.old pairs.new
+        (λ q p. if observer == q then turns_at p tick (Some (subject, suspected)) else []) }
 {
     let row = usize::from(observer.number()) - 1;
     let column = usize::from(subject.number()) - 1;
     if row < n && column < n {
-        tracks[row * n + column].turn(tick, suspected);
+        pairs[row * n + column].turn(tick, suspected);
     }
 }
 
 /// One more note of the process that took an entry.
-fn note(tracks: &mut [Track], n: usize, layer: u8, key: &Key, note: &Note)
-    requires square { length tracks.old ≡ n * n }
-    ensures { tracks.new ≡ noted n layer key.now.receiver key.now.tick tracks.old note.now }
+fn note<K: Gauge>(pairs: &mut [Pair<K>], n: usize, layer: u8, key: &Key, note: &Note)
+    requires square { length pairs.old ≡ n * n }
+    ensures { AreTurned K.passed n pairs.old pairs.new
+        (λ q p. if key.now.receiver == q then turns_at p key.now.tick (turn_of layer note.now) else []) }
 {
-    match *note {
-        Note::Suspect { layer: of, who } => {
-            if of == layer {
-                turn(tracks, n, key.receiver, who, key.tick, true);
-            }
-        }
-        Note::Trust { layer: of, who } => {
-            if of == layer {
-                turn(tracks, n, key.receiver, who, key.tick, false);
-            }
-        }
-        Note::Round(_) | Note::Decided(_) | Note::NoValue => {}
+    if let Some((who, suspected)) = turn_of(layer, note) {
+        turn(pairs, n, key.receiver, who, key.tick, suspected);
     }
 }
 
 /// All notes of an entry.
-pub(crate) fn note_all(tracks: &mut [Track], n: usize, layer: u8, key: &Key, notes: &[Note])
-    requires square { length tracks.old ≡ n * n }
-    ensures { tracks.new ≡ all_noted n layer key.now.receiver key.now.tick tracks.old notes.now }
+fn note_all<K: Gauge>(pairs: &mut [Pair<K>], n: usize, layer: u8, key: &Key, notes: &[Note])
+    requires square { length pairs.old ≡ n * n }
+    ensures { AreTurned K.passed n pairs.old pairs.new
+        (λ q p. if key.now.receiver == q then noted_turns layer p key.now.tick notes.now else []) }
 {
     for one in notes {
-        note(tracks, n, layer, key, one);
+        note(pairs, n, layer, key, one);
     }
 }
 
-/// All tracks go on to a tick.
-pub(crate) fn pass_all(tracks: &mut [Track], until: u32)
-    ensures { tracks.new ≡ map (passed until) tracks.old }
-{
-    for track in tracks.iter_mut() {
-        track.pass(until);
+/// What is kept of all pairs on one layer, fed with the entries of a trace as they come, in the order of their keys.
+///
+/// All its room is made as it opens. It moves only at notes.
+#[derive(Debug, Drop)]
+pub struct Pairs<K> {
+    layer: u8,
+    processes: usize,
+    horizon: u32,
+    // by observer and then by subject, a process and itself too
+    pairs: Vec<Pair<K>>,
+    ghost square: { vec_len pairs ≡ processes * processes },
+    ghost few: { processes ≤ 64 },
+}
+
+impl<K: Gauge> Pairs<K> {
+    ghost use Rattle.judges.specs.Pairs.{ArePairs, AreUntil};
+
+    /// Pairs that were fed with nothing: of layer 1, the base detector, or layer 2, the reduction's output. Of each is
+    /// kept what is given.
+    ///
+    /// # Errors
+    ///
+    /// Where a growth was refused.
+    pub fn open(
+        alloc: Global,
+        scenario: &Scenario,
+        layer: u8,
+        kept: K,
+    ) -> Result<Pairs<K>, AllocError>
+        ensures { IfOk result (λ pairs. ArePairs K.passed scenario.now layer kept [] pairs) }
+    {
+        let ends = end_ticks(alloc, scenario)?;
+        let pairs = open_pairs(alloc, &ends, kept)?;
+        Ok(Pairs {
+            layer,
+            processes: ends.len(),
+            horizon: scenario.horizon(),
+            pairs,
+        })
+    }
+
+    /// One more entry. Takes no memory.
+    pub fn feed(&mut self, entry: &Entry)
+        ensures { (S : Record) (layer : ℕ) (kept : K) (trace : List EntryRecord)
+            → ArePairs K.passed S layer kept trace self.old → AreUntil trace entry.now.key.tick
+            → ArePairs K.passed S layer kept (trace ++ entry.now ∷ []) self.new }
+    {
+        if entry.key.tick < self.horizon {
+            note_all(
+                &mut self.pairs,
+                self.processes,
+                self.layer,
+                &entry.key,
+                entry.notes.as_slice(),
+            );
+        }
+    }
+
+    /// The layer.
+    pub fn layer(&self) -> u8
+        ensures { result ≡ self.now.layer }
+    {
+        self.layer
+    }
+
+    /// How many processes there are.
+    pub fn processes(&self) -> usize
+        ensures { result ≡ self.now.processes }
+    {
+        self.processes
+    }
+
+    /// The tick before which the run ends.
+    pub fn horizon(&self) -> u32
+        ensures { result ≡ self.now.horizon }
+    {
+        self.horizon
+    }
+
+    /// The process that comes after so many others.
+    pub fn process(&self, before: usize) -> Pid
+        requires { before < self.now.processes }
+        ensures { result ≡ before + 1 }
+    {
+        Pid::new(before as u16 + 1).unwrap()
+    }
+
+    /// An observer and a subject, each by how many processes come before it.
+    pub fn pair(&self, row: usize, column: usize) -> Pair<K>
+        requires row { row < self.now.processes }
+        requires column { column < self.now.processes }
+        ensures { (d : Pair K) → result ≡ get_or self.now.pairs.items (row * self.now.processes + column) d }
+    {
+        self.pairs[row * self.processes + column]
     }
 }

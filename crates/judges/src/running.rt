@@ -1,8 +1,8 @@
 //! A judge that runs beside a trace.
-ghost use Rattle.std.specs.Prelude.{◌≡◌, ℕ, ◌*◌, ◌++◌, ◌∷◌, List, [], vec_len, IfOk};
+ghost use Rattle.std.specs.Prelude.{◌≡◌, ℕ, ◌++◌, ◌∷◌, List, [], IfOk};
 
 use crate::grid::grid_verdicts;
-use crate::pairs::{end_ticks, note_all, open_tracks, pass_all};
+use crate::pairs::Pairs;
 use crate::track::Track;
 use crate::verdicts::Verdicts;
 use process_api::Entry;
@@ -15,18 +15,14 @@ use std::alloc::{AllocError, Global};
 /// that trace.
 #[derive(Drop)]
 pub struct RunningJudge {
-    layer: u8,
-    processes: usize,
-    horizon: u32,
-    // by observer and then by subject
-    tracks: Vec<Track>,
-    ghost square: { vec_len tracks ≡ processes * processes },
+    pairs: Pairs<Track>,
 }
 
 impl RunningJudge {
     ghost use Rattle.process_api.specs.EntryRecord.{EntryRecord};
     ghost use Rattle.scenario.specs.Record.{Record};
-    ghost use Rattle.judges.specs.Judging.{AreUntil, IsJudging};
+    ghost use Rattle.judges.specs.Pairs.{AreUntil};
+    ghost use Rattle.judges.specs.Judging.{IsJudging};
     ghost use Rattle.judges.specs.Verdicts.{verdicts};
 
     /// A judge that was fed with nothing: of layer 1, the base detector, or layer 2, the reduction's output.
@@ -37,13 +33,8 @@ impl RunningJudge {
     pub fn open(alloc: Global, scenario: &Scenario, layer: u8) -> Result<RunningJudge, AllocError>
         ensures { IfOk result (λ j. IsJudging scenario.now layer [] j) }
     {
-        let ends = end_ticks(alloc, scenario)?;
-        let tracks = open_tracks(alloc, &ends)?;
         Ok(RunningJudge {
-            layer,
-            processes: ends.len(),
-            horizon: scenario.horizon(),
-            tracks,
+            pairs: Pairs::open(alloc, scenario, layer, Track::new())?,
         })
     }
 
@@ -52,15 +43,7 @@ impl RunningJudge {
         ensures { (S : Record) (layer : ℕ) (trace : List EntryRecord) → IsJudging S layer trace self.old
             → AreUntil trace entry.now.key.tick → IsJudging S layer (trace ++ entry.now ∷ []) self.new }
     {
-        if entry.key.tick < self.horizon {
-            note_all(
-                &mut self.tracks,
-                self.processes,
-                self.layer,
-                &entry.key,
-                entry.notes.as_slice(),
-            );
-        }
+        self.pairs.feed(entry);
     }
 
     /// The verdicts, as no entry follows. Takes no memory.
@@ -68,8 +51,6 @@ impl RunningJudge {
         ensures { (S : Record) (layer : ℕ) (trace : List EntryRecord) → IsJudging S layer trace self
             → result ≡ verdicts S trace layer }
     {
-        let mut tracks = self.tracks;
-        pass_all(&mut tracks, self.horizon);
-        grid_verdicts(&tracks, self.processes, self.horizon)
+        grid_verdicts(&self.pairs)
     }
 }

@@ -1,62 +1,32 @@
-//! What is known of one pair as a trace goes by.
+//! What a judge keeps of one pair as a trace goes by.
 ghost use Rattle.std.specs.Prelude.{◌≡◌};
-ghost use Rattle.judges.specs.Track.{opened, passed, turned, suspected_from, trusted_from};
+ghost use Rattle.judges.specs.Track.{new_track, passed, suspected_from, trusted_from};
 
-/// Whether one process suspects another, and since when.
+use crate::pair::Gauge;
+
+/// Whether one process suspected another at last, and since when.
 #[derive(Clone, Copy)]
 pub(crate) struct Track {
-    /// Below this tick a suspicion is a mistake: neither process has crashed yet.
-    pub end: u32,
     /// All ticks below this one are behind.
     pub tick: u32,
     /// Whether there was suspicion at the last of the ticks behind.
     pub was: bool,
-    /// Whether there is suspicion now.
-    pub current: bool,
     /// The first of the ticks for which `was` stood without a break.
     pub since: u32,
-    /// Whether there was suspicion at one of the ticks behind that are below `end`.
+    /// Whether a suspicion at one of the ticks behind was a mistake.
     pub mistaken: bool,
 }
 
 impl Track {
-    /// Nothing is suspected, at tick 0.
-    pub fn open(end: u32) -> Track
-        ensures { result ≡ opened end }
+    /// No tick is behind.
+    pub fn new() -> Track
+        ensures { result ≡ new_track }
     {
         Track {
-            end,
             tick: 0,
             was: false,
-            current: false,
             since: 0,
             mistaken: false,
-        }
-    }
-
-    /// Goes on to a tick.
-    pub fn pass(&mut self, until: u32)
-        ensures { self.new ≡ passed until self.old }
-    {
-        if self.tick < until {
-            if self.current != self.was {
-                self.since = self.tick;
-            }
-            if self.current && self.tick < self.end {
-                self.mistaken = true;
-            }
-            self.was = self.current;
-            self.tick = until;
-        }
-    }
-
-    /// At this tick suspicion begins or ends.
-    pub fn turn(&mut self, tick: u32, suspected: bool)
-        ensures { self.new ≡ turned tick suspected self.old }
-    {
-        if suspected != self.current {
-            self.pass(tick);
-            self.current = suspected;
         }
     }
 
@@ -72,5 +42,22 @@ impl Track {
         ensures { result ≡ trusted_from self.now }
     {
         if self.was { None } else { Some(self.since) }
+    }
+}
+
+impl Gauge for Track {
+    ghost passed = { passed };
+
+    fn pass(&mut self, until: u32, suspected: bool, end: u32) {
+        if self.tick < until {
+            if suspected != self.was {
+                self.since = self.tick;
+            }
+            if suspected && self.tick < end {
+                self.mistaken = true;
+            }
+            self.was = suspected;
+            self.tick = until;
+        }
     }
 }

@@ -1,40 +1,51 @@
 -- The measures at the close.
-use Rattle.std.proofs.Common.{◌≡◌, ℕ, suc, ◌-◌, ◌<◌, ◌≤◌, min, max, Bool, true, false, cond, refl, sym, ap, ◌∙◌, arith, None, Some, List, [], ◌∷◌, map}
+use Rattle.std.proofs.Common.{◌≡◌, ℕ, suc, ◌+◌, ◌-◌, ◌*◌, ◌<◌, min, Bool, true, false, cond, refl, sym, ap, ◌∙◌, subst, arith, None, Some, List, map, get_or, add-one}
 use Rattle.process_api.specs.Numbers.{others}
 use Rattle.process_api.specs.EntryRecord.{EntryRecord}
 use Rattle.scenario.specs.Record.{Record}
 use Rattle.judges.specs.Crashes.{crash_tick, end_of}
-use Rattle.judges.specs.Ticks.{least_from}
 use Rattle.judges.specs.Out.{suspects}
-use Rattle.judges.specs.Judging.{AreUntil}
+use Rattle.judges.specs.Pair.{opened, kept_at}
+use Rattle.judges.specs.Pairs.{ArePairs, fed}
+use Rattle.judges.specs.Ticks.{least_from}
+use Rattle.judges.specs.declared.pair.Pair.{Pair}
+use Rattle.judges.specs.declared.pairs.Pairs.{Pairs}
+use Rattle.judges.proofs.Standing.{IsKnown, fed_known}
 use Rattle.qos_report.specs.Distances.{count_below, sum_of_distances, count_of_distances}
 use Rattle.qos_report.specs.Measures.{starts, ends, is_measured, delay_after, pair_measures, layer_measures}
 use Rattle.qos_report.specs.Knows.{Knows}
-use Rattle.qos_report.specs.Tally.{moved}
-use Rattle.qos_report.specs.MeterRecord.{MeterRecord}
+use Rattle.qos_report.specs.Tally.{counted, new_tally}
 use Rattle.qos_report.specs.Meter.{closed, detected}
-use Rattle.qos_report.specs.Panel.{place, closed_row, closed_rows}
-use Rattle.qos_report.specs.Metering.{IsMetered, AreMetered, IsMetering}
+use Rattle.qos_report.specs.MeterFed.{IsFed}
+use Rattle.qos_report.specs.Panel.{pair, metered, closed_row, closed_rows}
+use Rattle.qos_report.specs.declared.meter.Meter.{Meter}
 use Rattle.qos_report.specs.declared.tally.Tally.{Tally}
-use Rattle.qos_report.specs.declared.panel.Panel.{Panel}
 use Rattle.qos_report.specs.declared.pair_measures.Detection.TheVariants.{Na}
-use Rattle.qos_report.proofs.Passes.{knows_moved}
 use Rattle.qos_report.proofs.Lasting.{least_from-since, least_from-none}
-use Rattle.qos_report.proofs.Turning.{moved_tick}
+use Rattle.qos_report.proofs.Keeping.{tallies_keep, none_known}
 use Rattle.qos_report.proofs.EachProcess.{others_same, rows_same}
+use Rattle.qos_report.proofs.Entering.{crash_is}
 
-module _ (S : Record) (layer q p : ℕ) (trace : List EntryRecord) (last : ℕ) (m : MeterRecord) (h : IsMetered S layer q p (suspects layer trace q p) last m) where
+abbrev pub known_of : (S : Record) (layer q p : ℕ) (trace : List EntryRecord) (horizon : ℕ) → Pair Tally → Type 0
+known_of S layer q p trace horizon = IsKnown counted (λ (t : Tally). t.tick) Knows tallies_keep (suspects layer trace q p) horizon (end_of S q p)
+
+pair_known : (S : Record) (layer q p : ℕ) (trace : List EntryRecord) (m : Meter) → IsFed S layer q p trace m → known_of S layer q p trace m.horizon m.pair
+pair_known S layer q p trace m h =
+    subst (λ n. known_of S layer q p trace n m.pair) (sym h.horizon)
+    (subst (known_of S layer q p trace S.horizon) (sym h.pair) (fed_known counted (λ (t : Tally). t.tick) Knows tallies_keep S layer q p new_tally trace refl none_known h.in_order))
+
+module _ (S : Record) (layer q p : ℕ) (trace : List EntryRecord) (m : Meter) (h : IsFed S layer q p trace m) where
   abbrev t : Tally
-  t = moved m.tally m.horizon m.current m.end
+  t = kept_at counted m.horizon m.pair
 
   at_horizon : t.tick ≡ S.horizon
-  at_horizon = moved_tick m.tally m.horizon m.current m.end (omega (arith, h.within, h.is_for.horizon)) ∙ h.is_for.horizon
+  at_horizon = (pair_known S layer q p trace m h).behind ∙ h.horizon
 
-  knows : Knows (suspects layer trace q p) m.end t
-  knows = knows_moved (suspects layer trace q p) m.end m.tally m.horizon m.current (h.known (suspects layer trace q p) (λ u l. refl)) (λ u x y. h.later u x (omega (arith, h.is_for.horizon)))
+  knows : Knows (suspects layer trace q p) (end_of S q p) t
+  knows = (pair_known S layer q p trace m h).knows
 
-  at_end : min t.tick m.end ≡ end_of S q p
-  at_end = omega (arith, at_horizon, h.is_for.end)
+  at_end : min t.tick (end_of S q p) ≡ end_of S q p
+  at_end = omega (arith, at_horizon)
 
   lasting : least_from (suspects layer trace q p) S.horizon ≡ cond t.was t.started None
   lasting = ap (least_from (suspects layer trace q p)) (sym at_horizon) ∙ go t.was refl
@@ -57,11 +68,11 @@ module _ (S : Record) (layer q p : ℕ) (trace : List EntryRecord) (last : ℕ) 
       let dc = knows.duration.count ∙ ap (count_of_distances s r) at_end in
       let gs = knows.good.sum ∙ ap (sum_of_distances r s) at_end in
       let gc = knows.good.count ∙ ap (count_of_distances r s) at_end in
-      let detection = ap (detected m.crash) (sym lasting) ∙ ap (λ c. detected c (least_from f S.horizon)) h.is_for.crash ∙ by_case (is_measured S q p) in
+      let detection = ap (detected m.crash) (sym lasting) ∙ ap (λ c. detected c (least_from f S.horizon)) h.crash ∙ by_case (is_measured S q p) in
       λ i. record {
-        layer = h.is_for.same_layer i;
-        observer = h.is_for.observer i;
-        subject = h.is_for.subject i;
+        layer = h.same_layer i;
+        observer = h.observer i;
+        subject = h.subject i;
         mistakes = mistakes i;
         mistake_ticks = mistake_ticks i;
         recurrence_sum = rs i;
@@ -78,28 +89,34 @@ module _ (S : Record) (layer q p : ℕ) (trace : List EntryRecord) (last : ℕ) 
       by_case true = refl
       by_case false = refl
 
-module _ (S : Record) (layer : ℕ) (trace : List EntryRecord) (last : ℕ) (meters : List MeterRecord) (are : AreMetered S layer (suspects layer trace) last meters) where
-  row_is : (i : ℕ) → i < S.processes → closed_row meters S.processes i ≡ map (pair_measures S trace layer (suc i)) (others S.processes (suc i))
+module _ (S : Record) (layer : ℕ) (trace : List EntryRecord) (pairs : Pairs Tally) (h : ArePairs counted S layer new_tally trace pairs) where
+  module _ (i j : ℕ) (l : i < S.processes) (m : j < S.processes) where
+    pair_is : pair pairs i j ≡ fed counted S layer (suc i) (suc j) new_tally trace
+    pair_is = ap (λ n. get_or pairs.pairs.items (i * n + j) (opened 0 new_tally)) h.processes ∙ h.each i j (opened 0 new_tally) l m
+
+    end_is : (pair pairs i j).end ≡ end_of S (suc i) (suc j)
+    end_is = ap (λ (x : Pair Tally). x.end) pair_is ∙ (fed_known counted (λ (t : Tally). t.tick) Knows tallies_keep S layer (suc i) (suc j) new_tally trace refl none_known h.in_order).same_end
+
+  metered_fed : (i j : ℕ) → i < S.processes → j < S.processes → IsFed S layer (suc i) (suc j) trace (metered pairs i j)
+  metered_fed i j l m = record {
+    same_layer = h.same_layer;
+    observer = add-one i;
+    subject = add-one j;
+    horizon = h.horizon;
+    crash = crash_is S (suc i) (suc j) (pair pairs i i).end (pair pairs j j).end pairs.horizon (omega (arith, end_is i i l l)) (omega (arith, end_is j j m m)) h.horizon;
+    in_order = h.in_order;
+    pair = pair_is i j l m;
+  }
+
+  row_is : (i : ℕ) → i < S.processes → closed_row pairs i ≡ map (pair_measures S trace layer (suc i)) (others S.processes (suc i))
   row_is i l =
-      others_same (λ p. closed (place meters S.processes i (p - 1))) (pair_measures S trace layer (suc i)) S.processes (suc i)
-      (λ j m. ap (λ k. closed (place meters S.processes i k)) (omega arith) ∙ closed_is S layer (suc i) (suc j) trace last (place meters S.processes i j) (are.each i j l m))
+      ap (λ n. map (λ p. closed (metered pairs i (p - 1))) (others n (suc i))) h.processes
+      ∙ others_same (λ p. closed (metered pairs i (p - 1))) (pair_measures S trace layer (suc i)) S.processes (suc i)
+      (λ j m. ap (λ k. closed (metered pairs i k)) (omega arith) ∙ closed_is S layer (suc i) (suc j) trace (metered pairs i j) (metered_fed i j l m))
 
-  rows_are : closed_rows meters S.processes S.processes ≡ layer_measures S trace layer
+  pub metering_closed : closed_rows pairs pairs.processes ≡ layer_measures S trace layer
   unfolding layer_measures
-  rows_are =
-      rows_same (λ q. closed_row meters S.processes (q - 1)) (λ q. map (pair_measures S trace layer q) (others S.processes q)) S.processes
-      (λ j l. ap (closed_row meters S.processes) (omega arith) ∙ row_is j l)
-
--- the last tick of a trace
-pub latest_tick : (trace : List EntryRecord) → (last : ℕ) × AreUntil trace last
-latest_tick [] = (0, tt)
-latest_tick (entry ∷ trace) = let rest = latest_tick trace in (max entry.key.tick rest.0, (omega arith, until_more trace rest.0 (max entry.key.tick rest.0) rest.1 (omega arith)))
-  where
-    until_more : (trace : List EntryRecord) (last more : ℕ) → AreUntil trace last → last ≤ more → AreUntil trace more
-    until_more [] last more h l = tt
-    until_more (first ∷ trace) last more h l = (omega (arith, h.0), until_more trace last more h.1 l)
-
-pub metering_closed : (S : Record) (layer : ℕ) (trace : List EntryRecord) (m : Panel) → IsMetering S layer trace m → closed_rows m.meters.items m.processes m.processes ≡ layer_measures S trace layer
-metering_closed S layer trace m h =
-    ap (λ n. closed_rows m.meters.items n n) h.processes
-    ∙ (let last = latest_tick trace in rows_are S layer trace last.0 m.meters.items (h.metered last.0 last.1))
+  metering_closed =
+      ap (closed_rows pairs) h.processes
+      ∙ rows_same (λ q. closed_row pairs (q - 1)) (λ q. map (pair_measures S trace layer q) (others S.processes q)) S.processes
+      (λ j l. ap (closed_row pairs) (omega arith) ∙ row_is j l)

@@ -2,13 +2,11 @@ pub mod Sums
 pub mod Waits
 pub mod Passes
 pub mod Lasting
-pub mod Turning
-pub mod Entering
-pub mod Opening
 pub mod EachProcess
 pub mod Closing
 pub mod Fed
-pub mod OneMeter
+pub mod Keeping
+pub mod Entering
 pub mod Layers
 mod Examples
 pub mod PlainRows

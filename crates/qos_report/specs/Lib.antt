@@ -2,7 +2,6 @@ pub mod Distances
 pub mod Measures
 pub mod Tally
 pub mod Knows
-pub mod MeterRecord
 pub mod Meter
 pub mod MeterFed
 pub mod Panel

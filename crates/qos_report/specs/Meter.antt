@@ -1,63 +1,37 @@
 -- The steps of a meter.
-use Rattle.std.specs.Prelude.{ℕ, Bool, true, false, ◌&&◌, ◌==◌, if◌then◌else◌, Option, None, Some}
-use mathlib.Core.Bool.{beq}
-use Rattle.process_api.specs.declared.action.Note.{Note}
-use Rattle.process_api.specs.declared.action.Note.TheVariants.{Suspect, Trust, Round, Decided, NoValue}
+use Rattle.std.specs.Prelude.{ℕ, false, ◌&&◌, ◌==◌, nat_lt, if◌then◌else◌, Option, None, Some}
 use Rattle.scenario.specs.Record.{Record}
 use Rattle.judges.specs.Crashes.{crash_tick, end_of}
+use Rattle.judges.specs.Pair.{kept_at}
 use Rattle.qos_report.specs.Measures.{is_measured, delay_after}
-use Rattle.qos_report.specs.Tally.{moved}
-use Rattle.qos_report.specs.MeterRecord.{MeterRecord}
+use Rattle.qos_report.specs.Tally.{counted, new_tally}
+use Rattle.qos_report.specs.declared.meter.Meter.{Meter}
 use Rattle.qos_report.specs.declared.tally.Tally.{Tally}
 use Rattle.qos_report.specs.declared.pair_measures.Detection.{Detection}
 use Rattle.qos_report.specs.declared.pair_measures.Detection.TheVariants.{Na}
 use Rattle.qos_report.specs.declared.pair_measures.PairMeasures.{PairMeasures}
 
--- nothing is counted
-abbrev pub new_tally : Tally
-new_tally = record {
-  tick = 0;
-  was = false;
-  started = None;
-  ended = None;
-  mistakes = 0;
-  mistake_ticks = 0;
-  recurrence = record { sum = 0; count = 0 };
-  duration = record { sum = 0; count = 0 };
-  good = record { sum = 0; count = 0 };
-}
-
-abbrev pub opened : Record → (layer q p : ℕ) → MeterRecord
+abbrev pub opened : Record → (layer q p : ℕ) → Meter
 opened S layer q p = record {
   layer = layer;
   observer = q;
   subject = p;
   horizon = S.horizon;
-  end = end_of S q p;
   crash = if is_measured S q p then Some (crash_tick S p) else None;
-  current = false;
-  tally = new_tally;
+  pair = record { end = end_of S q p; current = false; kept = new_tally };
 }
 
--- from a tick on there is suspicion, or there is none
-abbrev pub turned : (tick : ℕ) → (suspected : Bool) → MeterRecord → MeterRecord
-turned tick suspected m =
-    if beq suspected m.current then m else record m { current = suspected; tally = moved m.tally tick m.current m.end }
-
--- after one more note of its observer
-abbrev pub meter_noted : (tick : ℕ) → MeterRecord → Note → MeterRecord
-meter_noted tick m (Suspect l who) = if l == m.layer && who == m.subject then turned tick true m else m
-meter_noted tick m (Trust l who) = if l == m.layer && who == m.subject then turned tick false m else m
-meter_noted tick m (Round r) = m
-meter_noted tick m (Decided v) = m
-meter_noted tick m NoValue = m
+-- the subject's crash, from the ticks up to which the two are up, cut at the horizon, if its detection is measured
+abbrev pub crash_between : (observer_end subject_end horizon : ℕ) → Option ℕ
+crash_between observer_end subject_end horizon =
+    if nat_lt subject_end horizon && observer_end == horizon then Some subject_end else None
 
 abbrev pub detected : (crash since : Option ℕ) → Detection
 detected None since = Na
 detected (Some c) since = delay_after c since
 
 -- what a meter tells, whose tally is at the horizon
-abbrev pub told : MeterRecord → Tally → PairMeasures
+abbrev pub told : Meter → Tally → PairMeasures
 told m t = record {
   layer = m.layer;
   observer = m.observer;
@@ -74,5 +48,5 @@ told m t = record {
 }
 
 -- no entry follows
-abbrev pub closed : MeterRecord → PairMeasures
-closed m = told m (moved m.tally m.horizon m.current m.end)
+abbrev pub closed : Meter → PairMeasures
+closed m = told m (kept_at counted m.horizon m.pair)

@@ -1,5 +1,5 @@
 -- The steps of a tally, which counts as a suspicion starts, goes on and ends.
-use Rattle.std.specs.Prelude.{ℕ, ◌+◌, ◌-◌, ◌*◌, ◌^◌, ◌<◌, ◌≤◌, min, Bool, if◌then◌else◌, nat_lt, Option, None, Some}
+use Rattle.std.specs.Prelude.{ℕ, ◌+◌, ◌-◌, ◌*◌, ◌^◌, ◌<◌, ◌≤◌, min, Bool, false, if◌then◌else◌, nat_lt, Option, None, Some}
 use Rattle.std.specs.Option.{ForSome}
 use Rattle.qos_report.specs.declared.tally.Distances.{Distances}
 use Rattle.qos_report.specs.declared.tally.Tally.{Tally}
@@ -11,6 +11,20 @@ gain amount (Some s) to end = if nat_lt to end then amount (to - s) else 0
 
 abbrev pub grown : Distances → (from : Option ℕ) → (to end : ℕ) → Distances
 grown d from to end = record { sum = d.sum + gain (λ n. n) from to end; count = d.count + gain (λ n. 1) from to end }
+
+-- nothing is counted
+abbrev pub new_tally : Tally
+new_tally = record {
+  tick = 0;
+  was = false;
+  started = None;
+  ended = None;
+  mistakes = 0;
+  mistake_ticks = 0;
+  recurrence = record { sum = 0; count = 0 };
+  duration = record { sum = 0; count = 0 };
+  good = record { sum = 0; count = 0 };
+}
 
 -- suspicion starts at the tally's tick
 abbrev pub begun : Tally → (end : ℕ) → Tally
@@ -39,6 +53,9 @@ passed t until suspected end = record (changed t.was suspected t end) {
 
 abbrev pub moved : Tally → (until : ℕ) → (suspected : Bool) → (end : ℕ) → Tally
 moved t until suspected end = if nat_lt t.tick until then passed t until suspected end else t
+
+abbrev pub counted : (until : ℕ) → (suspected : Bool) → (end : ℕ) → Tally → Tally
+counted until suspected end t = moved t until suspected end
 
 -- the numbers fit their types
 pub record HasRoom (d : Distances) (tick : ℕ) : Type 0 where

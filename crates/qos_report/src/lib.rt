@@ -41,6 +41,7 @@ mod asked;
 mod bench;
 mod counts;
 mod fuse_outlet;
+mod ledger;
 mod measuring;
 mod memory_outlet;
 mod meter;

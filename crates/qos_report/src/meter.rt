@@ -1,72 +1,38 @@
 //! A meter: the measures of one pair on one layer, in constant memory.
-ghost use Rattle.std.specs.Prelude.{◌≡◌, ◌++◌, ◌∷◌, [], ℕ, List, if◌then◌else◌, min, None};
+ghost use Rattle.std.specs.Prelude.{◌≡◌, ◌++◌, ◌∷◌, [], ℕ, List, if◌then◌else◌, None};
 ghost use Rattle.process_api.specs.EntryRecord.{EntryRecord};
 ghost use Rattle.scenario.specs.Record.{Record};
-ghost use Rattle.judges.specs.Judging.{AreUntil};
-ghost use Rattle.judges.specs.Crashes.{crash_tick};
-ghost use Rattle.qos_report.specs.Meter.{closed, detected, meter_noted, opened, turned};
+ghost use Rattle.judges.specs.Pairs.{AreUntil};
+ghost use Rattle.qos_report.specs.Meter.{closed, crash_between, detected, opened};
 ghost use Rattle.qos_report.specs.MeterFed.{IsFed};
 
+use crate::ledger::Ledger;
 use crate::pair_measures::{Detection, PairMeasures};
 use crate::tally::Tally;
-use process_api::{Entry, Note, Pid};
+use judges::{Pair, end_tick};
+use process_api::{Entry, Pid};
 use scenario::Scenario;
-use std::marker::Model;
 
 /// Measures what an observer makes of a subject on a layer, fed with the entries of a trace as they come, in the order
 /// of their keys. It takes no memory, and holds nothing of the entries; contracts see what it counts.
 #[derive(Clone, Copy, Debug)]
 pub struct Meter {
-    layer: u8,
-    observer: Pid,
-    subject: Pid,
-    horizon: u32,
-    /// Below this tick a suspicion is a mistake: neither process has crashed yet.
-    end: u32,
+    pub(crate) layer: u8,
+    pub(crate) observer: Pid,
+    pub(crate) subject: Pid,
+    pub(crate) horizon: u32,
     /// The tick at which the subject crashed, if its detection is measured.
-    crash: Option<u32>,
-    /// Whether there is suspicion now.
-    current: bool,
-    tally: Tally,
+    pub(crate) crash: Option<u32>,
+    pub(crate) pair: Pair<Ledger>,
 }
 
-impl Model for Meter {
-    ghost use Rattle.qos_report.specs.Tally.{InRange};
-    ghost use Rattle.qos_report.specs.MeterRecord.{MeterRecord};
-
-    ghost Value = { MeterRecord };
-
-    ghost view = { λ m. record {
-      layer = m.layer;
-      observer = m.observer;
-      subject = m.subject;
-      horizon = m.horizon;
-      end = m.end;
-      crash = m.crash;
-      current = m.current;
-      tally = m.tally;
-    } };
-
-    ghost invariant = { λ m. InRange m.tally };
-
-    ghost inverse = { λ m. record {
-      layer = m.layer;
-      observer = m.observer;
-      subject = m.subject;
-      horizon = m.horizon;
-      end = m.end;
-      crash = m.crash;
-      current = m.current;
-      tally = m.tally;
-    } };
-}
-
-/// The tick up to which a process is up, cut at the horizon.
-fn end_tick(scenario: &Scenario, p: Pid) -> u32
-    ensures { result ≡ min (crash_tick scenario.now p) scenario.now.horizon }
+/// The subject's crash, where its detection is measured: the subject crashes below the horizon, and the observer
+/// doesn't. Each is up until its own end, cut at the horizon.
+pub(crate) fn crash_between(observer_end: u32, subject_end: u32, horizon: u32) -> Option<u32>
+    ensures { result ≡ crash_between observer_end subject_end horizon }
 {
-    let horizon = scenario.horizon();
-    scenario.crash(p).map_or(horizon, |at| at.min(horizon))
+    let is_measured = subject_end < horizon && observer_end == horizon;
+    if is_measured { Some(subject_end) } else { None }
 }
 
 /// How long a crash was undetected, if that is measured, with a tally at the horizon.
@@ -93,35 +59,13 @@ impl Meter {
         let horizon = scenario.horizon();
         let observer_end = end_tick(scenario, observer);
         let subject_end = end_tick(scenario, subject);
-        let is_measured = subject_end < horizon && observer_end == horizon;
         Meter {
             layer,
             observer,
             subject,
             horizon,
-            end: subject_end.min(observer_end),
-            crash: if is_measured { Some(subject_end) } else { None },
-            current: false,
-            tally: Tally::NEW,
-        }
-    }
-
-    /// One more note of the observer.
-    fn note(&mut self, tick: u32, note: &Note)
-        ensures { self.new ≡ meter_noted tick self.old note.now }
-    {
-        match *note {
-            Note::Suspect { layer, who } => {
-                if layer == self.layer && who == self.subject {
-                    self.turn(tick, true);
-                }
-            }
-            Note::Trust { layer, who } => {
-                if layer == self.layer && who == self.subject {
-                    self.turn(tick, false);
-                }
-            }
-            Note::Round(_) | Note::Decided(_) | Note::NoValue => {}
+            crash: crash_between(observer_end, subject_end, horizon),
+            pair: Pair::open(observer_end.min(subject_end), Ledger::new()),
         }
     }
 
@@ -131,19 +75,12 @@ impl Meter {
             → AreUntil trace entry.now.key.tick → IsFed S layer q p (trace ++ entry.now ∷ []) self.new }
     {
         if entry.key.receiver == self.observer && entry.key.tick < self.horizon {
-            for note in entry.notes.as_slice() {
-                self.note(entry.key.tick, note);
-            }
-        }
-    }
-
-    /// At this tick suspicion begins or ends.
-    pub(crate) fn turn(&mut self, tick: u32, suspected: bool)
-        ensures { self.new ≡ turned tick suspected self.old }
-    {
-        if suspected != self.current {
-            self.tally.pass(tick, self.current, self.end);
-            self.current = suspected;
+            self.pair.note_all(
+                self.layer,
+                self.subject,
+                entry.key.tick,
+                entry.notes.as_slice(),
+            );
         }
     }
 
@@ -153,8 +90,7 @@ impl Meter {
         ensures measures { (S : Record) (layer q p : ℕ) (trace : List EntryRecord) → IsFed S layer q p trace self
             → result ≡ pair_measures S trace layer q p }
     {
-        let mut tally = self.tally;
-        tally.pass(self.horizon, self.current, self.end);
+        let tally = self.pair.close(self.horizon).tally();
         PairMeasures {
             layer: self.layer,
             observer: self.observer,

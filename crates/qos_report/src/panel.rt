@@ -1,128 +1,62 @@
 //! The meters of all pairs on one layer.
-ghost use Rattle.std.specs.Prelude.{◌≡◌, ℕ, ◌+◌, ◌*◌, ◌++◌, ◌∷◌, ◌<◌, List, [], length, vec_len, get_or, IfOk, OnOk};
-ghost use Rattle.qos_report.specs.MeterRecord.{MeterRecord};
-ghost use Rattle.qos_report.specs.Panel.{all_noted, closed_row, closed_rows, noted, opened_at, turned_at};
+ghost use Rattle.std.specs.Prelude.{◌≡◌, ℕ, ◌++◌, ◌∷◌, ◌<◌, List, [], IfOk, OnOk};
+ghost use Rattle.qos_report.specs.Panel.{closed_row, metered};
 
-use crate::meter::Meter;
+use crate::ledger::Ledger;
+use crate::meter::{Meter, crash_between};
 use crate::pair_measures::PairMeasures;
-use process_api::{Entry, Key, Note, Pid};
+use judges::Pairs;
+use process_api::Entry;
 use scenario::Scenario;
 use std::alloc::{AllocError, Global};
 
-/// The process that comes after so many others.
-fn process_after(before: u16) -> Pid
-    requires { before < 64 }
-    ensures { result ≡ before + 1 }
+/// The meter of an observer and a subject, each by how many processes come before it.
+fn meter_at(pairs: &Pairs<Ledger>, row: usize, column: usize) -> Meter
+    requires row { row < pairs.now.processes }
+    requires column { column < pairs.now.processes }
+    ensures { result ≡ metered pairs.now row column }
 {
-    Pid::new(before + 1).unwrap()
-}
-
-/// The meter at a place, by observer and then by subject.
-fn meter_at(scenario: &Scenario, layer: u8, place: u16) -> Meter
-    requires inside { place < scenario.now.processes * scenario.now.processes }
-    ensures { result ≡ opened_at scenario.now layer place }
-{
-    let n = scenario.processes();
-    Meter::open(
-        scenario,
-        layer,
-        process_after(place / n),
-        process_after(place % n),
-    )
-}
-
-/// The meters of all pairs.
-fn open_meters(alloc: Global, scenario: &Scenario, layer: u8) -> Result<Vec<Meter>, AllocError>
-    ensures count { IfOk result (λ meters. vec_len meters ≡ scenario.now.processes * scenario.now.processes) }
-    ensures each { IfOk result (λ meters. (k : ℕ) (d : MeterRecord)
-        → k < scenario.now.processes * scenario.now.processes
-        → get_or meters.items k d ≡ opened_at scenario.now layer k) }
-{
-    let pairs = scenario.processes() * scenario.processes();
-    let mut meters = Vec::with_capacity(alloc, usize::from(pairs))?;
-    for place in 0..pairs {
-        meters.push(meter_at(scenario, layer, place))?;
-    }
-    Ok(meters)
-}
-
-/// One process begins or ceases to suspect another. Numbers above `n` have no meter.
-fn turn(meters: &mut [Meter], n: usize, observer: Pid, subject: Pid, tick: u32, suspected: bool)
-    requires square { length meters.old ≡ n * n }
-    ensures { meters.new ≡ turned_at n observer subject tick suspected meters.old }
-{
-    let row = usize::from(observer.number()) - 1;
-    let column = usize::from(subject.number()) - 1;
-    if row < n && column < n {
-        meters[row * n + column].turn(tick, suspected);
-    }
-}
-
-/// One more note of the process that took an entry.
-fn note(meters: &mut [Meter], n: usize, layer: u8, key: &Key, note: &Note)
-    requires square { length meters.old ≡ n * n }
-    ensures { meters.new ≡ noted n layer key.now.receiver key.now.tick meters.old note.now }
-{
-    match *note {
-        Note::Suspect { layer: of, who } => {
-            if of == layer {
-                turn(meters, n, key.receiver, who, key.tick, true);
-            }
-        }
-        Note::Trust { layer: of, who } => {
-            if of == layer {
-                turn(meters, n, key.receiver, who, key.tick, false);
-            }
-        }
-        Note::Round(_) | Note::Decided(_) | Note::NoValue => {}
-    }
-}
-
-/// All notes of an entry.
-fn note_all(meters: &mut [Meter], n: usize, layer: u8, key: &Key, notes: &[Note])
-    requires square { length meters.old ≡ n * n }
-    ensures { meters.new ≡ all_noted n layer key.now.receiver key.now.tick meters.old notes.now }
-{
-    for one in notes {
-        note(meters, n, layer, key, one);
+    let horizon = pairs.horizon();
+    let observer_end = pairs.pair(row, row).end;
+    let subject_end = pairs.pair(column, column).end;
+    Meter {
+        layer: pairs.layer(),
+        observer: pairs.process(row),
+        subject: pairs.process(column),
+        horizon,
+        crash: crash_between(observer_end, subject_end, horizon),
+        pair: pairs.pair(row, column),
     }
 }
 
 /// Adds the measures of one observer, by how many processes come before it.
 fn close_row(
-    meters: &[Meter],
-    n: usize,
+    pairs: &Pairs<Ledger>,
     row: usize,
     rows: &mut Vec<PairMeasures>,
 ) -> Result<(), AllocError>
-    requires square { length meters.now ≡ n * n }
-    requires inside { row < n }
-    ensures { OnOk result (rows.new.items ≡ rows.old.items ++ closed_row meters.now n row) }
+    requires inside { row < pairs.now.processes }
+    ensures { OnOk result (rows.new.items ≡ rows.old.items ++ closed_row pairs.now row) }
 {
-    for column in 0..n {
+    for column in 0..pairs.processes() {
         if column != row {
-            rows.push(meters[row * n + column].close())?;
+            rows.push(meter_at(pairs, row, column).close())?;
         }
     }
     Ok(())
 }
 
-/// The meters of all pairs on one layer, fed with the entries of a trace in the order of their keys. All its room is
-/// made as it opens.
+/// What is counted of all pairs on one layer, fed with the entries of a trace in the order of their keys. All its room
+/// is made as it opens.
 #[derive(Debug, Drop)]
 pub(crate) struct Panel {
-    layer: u8,
-    processes: usize,
-    horizon: u32,
-    // by observer and then by subject, a process and itself too
-    meters: Vec<Meter>,
-    ghost square: { vec_len meters ≡ processes * processes },
+    pairs: Pairs<Ledger>,
 }
 
 impl Panel {
     ghost use Rattle.process_api.specs.EntryRecord.{EntryRecord};
     ghost use Rattle.scenario.specs.Record.{Record};
-    ghost use Rattle.judges.specs.Judging.{AreUntil};
+    ghost use Rattle.judges.specs.Pairs.{AreUntil};
     ghost use Rattle.qos_report.specs.Measures.{layer_measures};
     ghost use Rattle.qos_report.specs.Metering.{IsMetering};
 
@@ -130,12 +64,8 @@ impl Panel {
     pub fn open(alloc: Global, scenario: &Scenario, layer: u8) -> Result<Panel, AllocError>
         ensures { IfOk result (λ m. IsMetering scenario.now layer [] m) }
     {
-        let meters = open_meters(alloc, scenario, layer)?;
         Ok(Panel {
-            layer,
-            processes: usize::from(scenario.processes()),
-            horizon: scenario.horizon(),
-            meters,
+            pairs: Pairs::open(alloc, scenario, layer, Ledger::new())?,
         })
     }
 
@@ -144,15 +74,7 @@ impl Panel {
         ensures { (S : Record) (layer : ℕ) (trace : List EntryRecord) → IsMetering S layer trace self.old
             → AreUntil trace entry.now.key.tick → IsMetering S layer (trace ++ entry.now ∷ []) self.new }
     {
-        if entry.key.tick < self.horizon {
-            note_all(
-                &mut self.meters,
-                self.processes,
-                self.layer,
-                &entry.key,
-                entry.notes.as_slice(),
-            );
-        }
+        self.pairs.feed(entry);
     }
 
     /// Adds the measures of each observer and each other subject, as no entry follows.
@@ -160,8 +82,8 @@ impl Panel {
         ensures { OnOk result ((S : Record) (layer : ℕ) (trace : List EntryRecord) → IsMetering S layer trace self
             → rows.new.items ≡ rows.old.items ++ layer_measures S trace layer) }
     {
-        for row in 0..self.processes {
-            close_row(&self.meters, self.processes, row, rows)?;
+        for row in 0..self.pairs.processes() {
+            close_row(&self.pairs, row, rows)?;
         }
         Ok(())
     }

@@ -4,4 +4,4 @@ use Rattle.judges.specs.Grid.{column_suspected, counts_as_correct}
 use Rattle.judges.proofs.grid.weak_completeness.Given as goal
 
 abbrev pub invariant-loop-j : goal.invariant-loop-j
-invariant-loop-j l = l.found ≡ latest_below (λ j. if not (counts_as_correct l.tracks l.n l.horizon j) then column_suspected l.tracks l.n l.horizon j else Some 0) l.j
+invariant-loop-j l = l.found ≡ latest_below (λ j. if not (counts_as_correct l.pairs j) then column_suspected l.pairs j else Some 0) l.j

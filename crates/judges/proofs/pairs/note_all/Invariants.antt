@@ -1,9 +1,10 @@
-use Rattle.std.proofs.Common.{◌≡◌, ◌*◌, take, length}
-use Rattle.judges.specs.Pairs.{all_noted}
+use Rattle.std.proofs.Common.{◌≡◌, ◌*◌, [], take, length, cond, eqb}
+use Rattle.judges.specs.Pair.{AreTurned}
+use Rattle.judges.specs.Turns.{noted_turns}
 use Rattle.judges.proofs.pairs.note_all.Given as goal
 
 abbrev pub invariant-loop-one : goal.invariant-loop-one
-invariant-loop-one l = record {
-  square : length l.tracks ≡ l.n * l.n;
-  so_far : l.tracks ≡ all_noted l.n l.layer l.key.receiver l.key.tick l.fn.tracks (take l.one-index l.notes);
+invariant-loop-one g l = record {
+  square : length l.pairs ≡ l.n * l.n;
+  so_far : AreTurned g.K.Gauge.passed l.n l.fn.pairs l.pairs (λ q p. cond (eqb l.key.receiver q) (noted_turns l.layer p l.key.tick (take l.one-index l.notes)) []);
 }

@@ -2,7 +2,8 @@ use Rattle.std.proofs.Common.{◌≡◌, ◌<◌, ◌++◌, ◌∷◌, [], sym, 
 use Rattle.std.proofs.lemmas.List.{take_more, take_all}
 use Rattle.process_api.specs.EntryRecord.{EntryRecord}
 use Rattle.process_api.specs.Order.{is_rising}
-use Rattle.judges.specs.Judging.{IsJudging, AreUntil}
+use Rattle.judges.specs.Judging.{IsJudging}
+use Rattle.judges.specs.Pairs.{AreUntil}
 use Rattle.judges.specs.Meaning.{AreVerdicts}
 use Rattle.judges.proofs.Meaning.{verdicts_mean}
 use Rattle.judges.proofs.Order.{before_at}

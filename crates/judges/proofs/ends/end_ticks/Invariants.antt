@@ -1,6 +1,6 @@
 use Rattle.std.proofs.Common.{◌≡◌, ℕ, suc, ◌<◌, get_or, vec_len}
-use Rattle.judges.specs.Pairs.{end_tick}
-use Rattle.judges.proofs.pairs.end_ticks.Given as goal
+use Rattle.judges.specs.Ends.{end_tick}
+use Rattle.judges.proofs.ends.end_ticks.Given as goal
 
 abbrev pub invariant-loop-before : goal.invariant-loop-before
 invariant-loop-before l = record {
