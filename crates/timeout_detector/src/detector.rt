@@ -70,9 +70,11 @@ impl TimeoutDetector {
         ensures other { result ≡ true → q ≢ self.now.opening.own }
     {
         let place = usize::from(q.number());
-        self.watches(q)
-            && !self.suspects.contains(q)
+        // the silence first, since hardly any process was silent for so long
+        q.number() <= self.opening.processes
             && self.bound[place] <= now.saturating_sub(self.last_heard[place])
+            && self.watches(q)
+            && !self.suspects.contains(q)
     }
 
     /// A check at tick `now`: suspects each process that is overdue, in rising order, with its note, and asks for the
