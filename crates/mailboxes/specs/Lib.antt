@@ -1,3 +1,3 @@
-pub mod Account
+pub mod Ledger
 pub mod Mailbox
 pub mod Mailboxes
