@@ -3,6 +3,7 @@ use Rattle.std.proofs.Common.{◌≡◌, ◌≢◌, ◌⊎◌, inl, inr, ℕ, ze
 use Rattle.std.specs.List.{Contains, flat_map, sum_by}
 use Rattle.std.specs.List.Sorted.{IsPermutation}
 use Rattle.std.proofs.lemmas.Option.{none-some}
+use Rattle.std.proofs.lemmas.List.Elements.{All-nil, All-cons}
 use Rattle.std.proofs.lemmas.List.Sums.{sum_by-cons, sum_by-append}
 use Rattle.std.proofs.lemmas.List.Concat.{flat_map-append}
 use Rattle.std.proofs.lemmas.List.Sorted.{IsPermutation-refl, IsPermutation-append_left, IsPermutation-middle, IsPermutation-trans, IsPermutation-sym, Contains-permutation}
@@ -10,7 +11,7 @@ use mathlib.Core.Option.{some, some-injective, some-ne-none}
 use lib.ListN.{get_elem?}
 use Rattle.crossbeam_queue.proofs.Lists.{at_set, at_snoc, set_else}
 use Rattle.mailboxes.specs.declared.ledger.Account.{Account}
-use Rattle.mailboxes.specs.Ledger.{account, first_pass, has_put, has_taken, one_made, new_pass, both_of, given_back, tells, MayTell, IsBalanced, FirstCounts, IdleIsEmpty, AreToldAlike, IsToldRight, put_by_all, taken_by_all, EachOnce}
+use Rattle.mailboxes.specs.Ledger.{account, first_pass, has_put, has_taken, one_made, new_pass, both_of, given_back, tells, told_in, MayTell, AreTold, IsBalanced, FirstCounts, IdleIsEmpty, AreToldAlike, IsToldRight, put_by_all, taken_by_all, EachOnce}
 use Rattle.mailboxes.proofs.Totals.{total_set, total_none, none_total, gather_same, gather_more, gather_none, set_commutes}
 
 module _ {T : Type 0} where
@@ -138,12 +139,13 @@ module _ {T : Type 0} where
       }
 
   -- what a pass takes is among what it was told
-  pub among : (port : ℕ) (v : Account T) (all : List T) (x : T) → v.parts ≢ 0 → v.told ≡ Some all → (items : List T) (views : List (Account T)) → EachOnce (x ∷ items) views
-      → get_elem? views port ≡ some v → Contains all x
-  among port v all x live told items views b at =
-      Contains-permutation (x ∷ (taken_by_all views ++ items)) all x
+  pub among : (port : ℕ) (v : Account T) (x : T) → v.parts ≢ 0 → (items : List T) (views : List (Account T)) → EachOnce (x ∷ items) views → get_elem? views port ≡ some v → AreTold v (x ∷ [])
+  among port v x live items views b at all told =
+      All-cons (Contains all) x []
+      (Contains-permutation (x ∷ (taken_by_all views ++ items)) all x
       (IsPermutation-trans _ _ _ (IsPermutation-sym _ _ (IsPermutation-middle (taken_by_all views) x items)) (IsPermutation-sym _ _ (IsPermutation-trans _ _ _ (b.told port v all at live told) b.same)))
-      (0, omega arith, refl)
+      (0, omega arith, refl))
+      (All-nil (Contains all))
 
   -- Where the first pass has every part, the others have none
   others_idle : (views : List (Account T)) (port : ℕ) (v : Account T) → port ≡ 0 → v.parts ≡ v.made → sum_by (λ (u : Account T). u.parts) views ≡ sum_by (λ (u : Account T). u.made) views → FirstCounts views
@@ -222,11 +224,7 @@ module _ {T : Type 0} where
       (λ (x : (j ≢ port) × (get_elem? views j ≡ some u)). s.0 j u x.1 (λ z. x.0 (z ∙ sym first)) lives) (at_set views port j l u old))
       (λ (new : r ≡ u). ap (λ (y : Account T). y.told) (sym new)) (at_snoc vs r u j here) in
       one_more v l r live refl refl refl refl refl refl refl refl port first items views b at (λ i j a c at' at'' la lc. is i a at' la ∙ sym (is j c at'' lc))
-      (λ put i a all here lives e. subst (λ l. IsPermutation l (put_by_all (vs ++ r ∷ []))) (ap (told_or v.put) (sym (is i a here lives) ∙ e)) (subst (IsPermutation v.put) (sym put) s.1))
-    where
-      told_or : List T → Option (List T) → List T
-      told_or l None = l
-      told_or l (Some k) = k
+      (λ put i a all here lives e. subst (λ l. IsPermutation l (put_by_all (vs ++ r ∷ []))) (ap told_in (sym (is i a here lives) ∙ e)) (subst (IsPermutation v.put) (sym put) s.1))
 
   -- the first pass takes another back
   pub merges : (port : ℕ) (v : Account T) (other : ℕ) (w : Account T) → port ≡ 0 → v.parts ≢ 0 → (items : List T) (views : List (Account T)) → EachOnce items views → get_elem? views port ≡ some v

@@ -1,6 +1,6 @@
 -- The rule of a queue or a deque: what was put into it is what was taken and what it holds.
 use Rattle.std.specs.Prelude.{◌≡◌, ◌≢◌, ◌⊎◌, ℕ, ◌+◌, List, [], ◌++◌, Option, Some, None}
-use Rattle.std.specs.List.{flat_map, sum_by}
+use Rattle.std.specs.List.{All, Contains, flat_map, sum_by}
 use Rattle.std.specs.List.Sorted.{IsPermutation}
 use mathlib.Core.Option.{some}
 use lib.ListN.{get_elem?}
@@ -43,6 +43,15 @@ module _ {T : Type 0} where
 
   abbrev pub MayTell : Account T → Type 0
   MayTell a = (a.parts ≡ a.made) ⊎ (a.told ≡ Some a.put)
+
+  -- what it was told, if it was
+  abbrev pub told_in : Option (List T) → List T
+  told_in None = []
+  told_in (Some all) = all
+
+  -- what a pass takes is among what it was told
+  abbrev pub AreTold : Account T → List T → Type 0
+  AreTold a xs = (all : List T) → a.told ≡ Some all → All (Contains all) xs
 
   -- all that a pass which stands for all has put is what it has taken and what is there
   abbrev pub IsBalanced : Account T → List T → Type 0
