@@ -14,6 +14,9 @@
 //! while another posts letter c to 2 by the second; then `collect` with both slips gives an empty list, a list of a and
 //! c in one order or the other, and the list of b alone.
 //!
+//! The ledger itself is generic in the item and in the kinds of step; [`Account`], [`Ticketing`] and [`Telling`] are
+//! public for another crate's queues or deques.
+//!
 //! What threads share by reference is [`SharedMailboxes`]; [`Mailboxes`] has it, and beside it the owner's passes, by
 //! which slips are made and taken back and which no other thread may touch.
 #![tactic(auto)]
