@@ -6,6 +6,7 @@ use Rattle.std.proofs.lemmas.List.Sums.{fold-append}
 use Rattle.process_api.specs.declared.message.Letter.{Letter}
 use Rattle.mailboxes.specs.Mailbox.{MailboxId, TicketView, HomeView, ticket_of, one_out, one_back, all_back}
 use Rattle.mailboxes.specs.Mailboxes.{SlipView, slip_of, unused}
+use Rattle.mailboxes.proofs.Lists.{with-length, with-map}
 
 abbrev pub mailbox_of : HomeView → MailboxId
 mailbox_of h = h.mailbox
@@ -17,31 +18,8 @@ pub out-mailboxes : (hs : List HomeView) → map mailbox_of (map one_out hs) ≡
 out-mailboxes [] = refl
 out-mailboxes (h ∷ hs) = ap (λ l. h.mailbox ∷ l) (out-mailboxes hs)
 
-pub back-nil : (hs : List HomeView) → all_back hs [] ≡ hs
-back-nil [] = refl
-back-nil (h ∷ hs) = refl
-
-pub back-length : (hs : List HomeView) (rows : List (List Letter)) → length (all_back hs rows) ≡ length hs
-back-length [] rows = refl
-back-length (h ∷ hs) [] = refl
-back-length (h ∷ hs) (x ∷ rows) = ap suc (back-length hs rows)
-
 pub back-mailboxes : (hs : List HomeView) (rows : List (List Letter)) → map mailbox_of (all_back hs rows) ≡ map mailbox_of hs
-back-mailboxes [] rows = refl
-back-mailboxes (h ∷ hs) [] = refl
-back-mailboxes (h ∷ hs) (x ∷ rows) = ap (λ l. h.mailbox ∷ l) (back-mailboxes hs rows)
-
-pub back-at : (hs : List HomeView) (rows : List (List Letter)) (d : HomeView) → get_or (all_back hs rows) (length rows) d ≡ get_or hs (length rows) d
-back-at [] [] d = refl
-back-at [] (x ∷ rows) d = refl
-back-at (h ∷ hs) [] d = refl
-back-at (h ∷ hs) (x ∷ rows) d = back-at hs rows d
-
-pub back-more : (hs : List HomeView) (rows : List (List Letter)) (x : List Letter) (d : HomeView) → length rows < length hs
-    → set (all_back hs rows) (length rows) (one_back (get_or hs (length rows) d) x) ≡ all_back hs (rows ++ x ∷ [])
-back-more [] rows x d lt = absurd (omega arith)
-back-more (h ∷ hs) [] x d lt = ap (λ l. one_back h x ∷ l) (sym (back-nil hs))
-back-more (h ∷ hs) (y ∷ rows) x d lt = ap (λ l. one_back h y ∷ l) (back-more hs rows x d (omega arith))
+back-mailboxes = with-map one_back mailbox_of (λ h x. refl)
 
 back-out : (k : ℕ) (hs : List HomeView) (rows : List (List Letter)) → length rows ≡ length hs → All (λ h. h.out ≡ k) hs → All (λ h. h.out ≡ k - 1) (all_back hs rows)
 back-out k [] rows e out = All-nil (λ (h : HomeView). h.out ≡ k - 1)
@@ -93,7 +71,7 @@ Fits n s = length s.posted ≡ n
 
 fold_back-length : (hs : List HomeView) (ss : List SlipView) → length (fold slip_back hs ss) ≡ length hs
 fold_back-length hs [] = refl
-fold_back-length hs (s ∷ ss) = fold_back-length (slip_back hs s) ss ∙ back-length hs s.posted
+fold_back-length hs (s ∷ ss) = fold_back-length (slip_back hs s) ss ∙ with-length one_back hs s.posted
 
 pub fold_back-mailboxes : (hs : List HomeView) (ss : List SlipView) → map mailbox_of (fold slip_back hs ss) ≡ map mailbox_of hs
 fold_back-mailboxes hs [] = refl
@@ -105,7 +83,7 @@ fold_back-out n k hs (s ∷ ss) e fit out =
     let here : length s.posted ≡ n = All-head (Fits n) s ss fit in
     let less : (k - 1) - length ss ≡ k - suc (length ss) = omega arith in
     subst (λ m. All (λ (h : HomeView). h.out ≡ m) (fold slip_back (slip_back hs s) ss)) less
-    (fold_back-out n (k - 1) (slip_back hs s) ss (back-length hs s.posted ∙ e) (All-tail (Fits n) s ss fit) (back-out k hs s.posted (here ∙ sym e) out))
+    (fold_back-out n (k - 1) (slip_back hs s) ss (with-length one_back hs s.posted ∙ e) (All-tail (Fits n) s ss fit) (back-out k hs s.posted (here ∙ sym e) out))
 
 fold_back-posted : (n k : ℕ) (hs : List HomeView) (ss : List SlipView) → length hs ≡ n → All (Fits n) ss
     → get_or (map back_of (fold slip_back hs ss)) k [] ≡ get_or (map back_of hs) k [] ++ flat_map (λ s. get_or s.posted k []) ss
@@ -113,7 +91,7 @@ fold_back-posted n k hs [] e fit = sym (append-nil (get_or (map back_of hs) k []
 fold_back-posted n k hs (s ∷ ss) e fit =
     let here : length s.posted ≡ n = All-head (Fits n) s ss fit in
     let rest : List Letter = flat_map (λ (u : SlipView). get_or u.posted k []) ss in
-    fold_back-posted n k (slip_back hs s) ss (back-length hs s.posted ∙ e) (All-tail (Fits n) s ss fit)
+    fold_back-posted n k (slip_back hs s) ss (with-length one_back hs s.posted ∙ e) (All-tail (Fits n) s ss fit)
     ∙ ap (λ l. l ++ rest) (back-posted k hs s.posted (here ∙ sym e))
     ∙ append_assoc (get_or (map back_of hs) k []) (get_or s.posted k []) rest
 

@@ -1,4 +1,4 @@
 pub mod Totals
-pub mod Accounts
+pub mod Ledgers
 pub mod Lists
 pub mod Homes

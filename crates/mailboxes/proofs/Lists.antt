@@ -3,6 +3,7 @@ use Rattle.std.proofs.Common.{◌≡◌, ℕ, zero, suc, ◌+◌, ◌<◌, List,
 use Rattle.std.proofs.lemmas.List.{length-map}
 use Rattle.std.proofs.lemmas.List.Sorted.{IsPermutation-refl}
 use Rattle.std.specs.List.Sorted.{IsPermutation}
+use Rattle.mailboxes.specs.Places.{each_with}
 
 module _ {A : Type 0} where
   pub map_same : (xs : List A) → map (λ x. x) xs ≡ xs
@@ -65,3 +66,33 @@ module _ {A : Type 0} where
   Shuffled-at (x ∷ xs) [] k h = absurd h
   Shuffled-at (x ∷ xs) (y ∷ ys) zero h = h.0
   Shuffled-at (x ∷ xs) (y ∷ ys) (suc k) h = Shuffled-at xs ys k h.1
+
+-- what is changed by rows
+module _ {H R : Type 0} (f : H → R → H) where
+  pub with-nil : (hs : List H) → each_with f hs [] ≡ hs
+  with-nil [] = refl
+  with-nil (h ∷ hs) = refl
+
+  pub with-length : (hs : List H) (rows : List R) → length (each_with f hs rows) ≡ length hs
+  with-length [] rows = refl
+  with-length (h ∷ hs) [] = refl
+  with-length (h ∷ hs) (x ∷ rows) = ap suc (with-length hs rows)
+
+  -- what the rows leave as it is
+  pub with-map : {A : Type 0} (g : H → A) → ((h : H) (x : R) → g (f h x) ≡ g h) → (hs : List H) (rows : List R) → map g (each_with f hs rows) ≡ map g hs
+  with-map g same [] rows = refl
+  with-map g same (h ∷ hs) [] = refl
+  with-map g same (h ∷ hs) (x ∷ rows) = λ i. same h x i ∷ with-map g same hs rows i
+
+  pub with-at : (hs : List H) (rows : List R) (d : H) → get_or (each_with f hs rows) (length rows) d ≡ get_or hs (length rows) d
+  with-at [] [] d = refl
+  with-at [] (x ∷ rows) d = refl
+  with-at (h ∷ hs) [] d = refl
+  with-at (h ∷ hs) (x ∷ rows) d = with-at hs rows d
+
+  -- one row more
+  pub with-more : (hs : List H) (rows : List R) (x : R) (d : H) → length rows < length hs
+      → set (each_with f hs rows) (length rows) (f (get_or hs (length rows) d) x) ≡ each_with f hs (rows ++ x ∷ [])
+  with-more [] rows x d lt = absurd (omega arith)
+  with-more (h ∷ hs) [] x d lt = ap (λ l. f h x ∷ l) (sym (with-nil hs))
+  with-more (h ∷ hs) (y ∷ rows) x d lt = ap (λ l. f h y ∷ l) (with-more hs rows x d (omega arith))

@@ -1,3 +1,4 @@
-pub mod Account
+pub mod Ledger
+pub mod Places
 pub mod Mailbox
 pub mod Mailboxes

@@ -1,9 +1,10 @@
 -- What is seen of one mailbox's tickets and of its owner's pass.
 use Rattle.std.specs.Coded.{Coded, code_by, coded×, coded_ℕ, coded_list}
-use Rattle.std.specs.Prelude.{ℕ, ◌+◌, ◌-◌, List, [], ◌∷◌, ◌++◌, refl}
+use Rattle.std.specs.Prelude.{ℕ, ◌+◌, ◌-◌, List, ◌++◌, refl}
 use Rattle.std.specs.Global.{Global}
 use Rattle.crossbeam_queue.specs.SegTies.{SegId}
 use Rattle.process_api.specs.declared.message.Letter.{Letter}
+use Rattle.mailboxes.specs.Places.{each_with}
 
 -- which mailbox it is
 abbrev pub MailboxId : Type 0
@@ -47,6 +48,4 @@ one_back h letters = home_of h.mailbox (h.out - 1) (h.back ++ letters)
 
 -- a ticket of each mailbox is back, with these letters
 abbrev pub all_back : List HomeView → List (List Letter) → List HomeView
-all_back [] rows = []
-all_back (h ∷ hs) [] = h ∷ hs
-all_back (h ∷ hs) (letters ∷ rows) = one_back h letters ∷ all_back hs rows
+all_back hs rows = each_with one_back hs rows

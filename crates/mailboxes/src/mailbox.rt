@@ -4,7 +4,8 @@ ghost use Rattle.std.specs.List.Sorted.{IsPermutation};
 ghost use Rattle.crossbeam_queue.specs.SegTies.{IsSegPassOf};
 ghost use Rattle.mailboxes.specs.Mailbox.{ticket_of, home_of, one_out, one_back};
 
-use crate::rule::{Account, EachOnce, Pop, Push, Ticketing};
+use crate::ledger::{Account, Ticketing};
+use crate::rule::{EachOnce, Pop, Push};
 use crossbeam_queue::{RuledSegQueue, SegPass};
 use process_api::Letter;
 use std::alloc::{AllocError, Global};
@@ -42,11 +43,11 @@ pub(crate) struct Ticket {
 }
 
 impl Model for Ticket {
-    ghost use Rattle.std.specs.Prelude.{◌≡◌, None, []};
+    ghost use Rattle.std.specs.Prelude.{◌≡◌, None};
     ghost use Rattle.process_api.specs.contracts.message.Letter as letter;
     ghost use Rattle.mailboxes.specs.contracts.mailbox.Mailbox as mailbox;
     ghost use Rattle.mailboxes.specs.Mailbox.{TicketView, ticket_code, ticket_of};
-    ghost use Rattle.mailboxes.specs.Account.{account};
+    ghost use Rattle.mailboxes.specs.Ledger.{new_pass, has_put};
 
     ghost Value = { TicketView };
 
@@ -55,7 +56,7 @@ impl Model for Ticket {
     ghost view = { λ t. ticket_of (record { web = t.pass.web; heap = t.pass.heap }) t.pass.me.view.client.put };
 
     ghost invariant = { λ t. (t.pass.me.hand ≡ None) × (t.pass.me.spare ≡ None)
-        × (t.pass.me.view.client ≡ account 0 1 t.pass.me.view.client.put []) };
+        × (t.pass.me.view.client ≡ has_put (new_pass None) t.pass.me.view.client.put) };
 }
 
 /// The owner's pass of one mailbox, which makes the tickets and takes them back. Contracts see which mailbox it is, how
@@ -80,7 +81,7 @@ impl Model for Home {
 
     ghost invariant = { λ h. (h.pass.me.hand ≡ None) × (h.pass.id ≡ 0) × (h.pass.me.view.client.parts ≢ 0)
         × (h.pass.me.view.client.parts ≤ h.pass.me.view.client.made)
-        × (h.pass.me.view.client.taken ≡ []) × (h.pass.me.spare ≡ None) };
+        × (h.pass.me.view.client.taken ≡ []) × (h.pass.me.view.client.told ≡ None) × (h.pass.me.spare ≡ None) };
 }
 
 impl Mailbox {

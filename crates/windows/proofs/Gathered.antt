@@ -5,8 +5,7 @@ use Rattle.std.specs.List.Sorted.{IsPermutation, IsNonDecreasingBy, apply_swaps,
 use Rattle.std.proofs.lemmas.List.{map-append, map-set, length-map, length-set}
 use Rattle.std.proofs.lemmas.List.Concat.{flat_map-append}
 use Rattle.std.proofs.lemmas.List.Elements.{All-nil, All-cons, All-head, All-tail, All-append, Contains-append_left}
-use Rattle.std.proofs.lemmas.List.Sorted.{IsPermutation-trans, IsPermutation-sym, IsPermutation-middle, IsPermutation-append_left, IsPermutation-push_more, IsPermutation-map, All-permutation, Contains-permutation, length_permutation}
-use Rattle.atomic_table.specs.Seated.{TableId}
+use Rattle.std.proofs.lemmas.List.Sorted.{IsPermutation-refl, IsPermutation-trans, IsPermutation-sym, IsPermutation-middle, IsPermutation-append_left, IsPermutation-append_right, IsPermutation-push_more, IsPermutation-map, All-permutation, Contains-permutation, length_permutation}
 use Rattle.process_api.specs.Mind.{Mind}
 use Rattle.process_api.specs.declared.message.Letter.{Letter}
 use Rattle.scenario.specs.Record.{Record}
@@ -19,18 +18,14 @@ use Rattle.windows.proofs.Members.{contains_in, in_contains}
 use Rattle.windows.proofs.Ranked.{rises_same, sorted_is}
 use Rattle.event_list.proofs.Steps.{in_append, in_left, in_right}
 use Rattle.windows.specs.Berth.{IsBerth, with_letters}
-use Rattle.windows.specs.Jobs.{TakerView, DealerView, taker_of}
-use Rattle.windows.specs.Workers.{Stay, stay, taken_in, left_in, all_stays, with_stays, IsSent, IsStay, IsReady, IsFresh, IsWork, AreWorks, AreRun, IsRest, HasLong, IsOutcome, RiseBy}
+use Rattle.windows.specs.Deques.{DequeId, RestView, all_put}
+use Rattle.windows.specs.Workers.{Stay, stay, taken_in, left_in, all_stays, with_stays, IsSent, IsStay, IsReady, IsFresh, AreRunBy, AreWorks, AreRun, IsRest, HasLong, IsOutcome, RiseBy}
 use Rattle.windows.specs.declared.workers.Start.{Start}
 use Rattle.windows.specs.declared.berth.Berth.{Berth}
 
--- ---- jobs are dealt
+-- ---- who waits
 
 module _ {X : Type 0} where
-  len_app : (xs ys : List X) → length (xs ++ ys) ≡ length xs + length ys
-  len_app [] ys = omega arith
-  len_app (x ∷ xs) ys = let rest = len_app xs ys in omega arith
-
   pub one_put : (ys put put' idle : List X) (b : X) → IsPermutation ys (put ++ idle) → put' ≡ put ++ b ∷ [] → IsPermutation (ys ++ b ∷ []) (put' ++ idle)
   one_put ys put put' idle b same is =
       IsPermutation-push_more ys (put ++ idle) (put' ++ idle) b same
@@ -40,28 +35,30 @@ module _ {X : Type 0} where
   one_idle ys put idle idle' b same is =
       subst (IsPermutation (ys ++ b ∷ [])) (append_assoc put idle (b ∷ []) ∙ ap (λ l. put ++ l) (sym is)) (IsPermutation-append_left (b ∷ []) _ _ same)
 
-  pub put_few : (ys put idle : List X) → IsPermutation ys (put ++ idle) → length put ≤ length ys
-  put_few ys put idle same = let long = length_permutation ys (put ++ idle) same in let sum = len_app put idle in omega arith
-
 -- ---- works are brought together
 
 module _ {M : Type 0} (mind : M → Mind) (s : Record) (end : ℕ) (mailboxes : List MailboxId) where
   pub works_none : (taken done : List (Berth M)) (slips : List SlipView) → taken ≡ [] → done ≡ [] → slips ≡ [] → AreWorks mind s end mailboxes taken done slips
-  works_none taken done slips t d p = record { stays = []; each = All-nil (IsStay mind s end); taken_are = sym t; done_are = sym d; posted = sym p }
+  works_none taken done slips t d p = record { stays = []; each = All-nil (IsStay mind s end); taken_are = subst (IsPermutation []) (sym t) (IsPermutation-refl []); done_are = sym d; posted = sym p }
 
-  pub works_more : (queue : TableId) (taker : TakerView (Berth M)) (slip : SlipView) (mine taken taken' done done' : List (Berth M)) (slips slips' : List SlipView)
-      → AreWorks mind s end mailboxes taken done slips → IsWork mind s end queue mailboxes taker slip mine
-      → taken' ≡ taken ++ taker.taken → done' ≡ done ++ mine → slips' ≡ slips ++ slip ∷ [] → AreWorks mind s end mailboxes taken' done' slips'
-  works_more queue taker slip mine taken taken' done done' slips slips' are work t d p =
+  pub works_more : (slip : SlipView) (mine ran taken taken' done done' : List (Berth M)) (slips slips' : List SlipView)
+      → AreWorks mind s end mailboxes taken done slips → AreRunBy mind s end mailboxes ran slip mine
+      → IsPermutation (taken ++ ran) taken' → done' ≡ done ++ mine → slips' ≡ slips ++ slip ∷ [] → AreWorks mind s end mailboxes taken' done' slips'
+  works_more slip mine ran taken taken' done done' slips slips' are work t d p =
       let flat : all_stays (are.stays ++ work.stays ∷ []) ≡ all_stays are.stays ++ work.stays =
       flat_map-append (λ (l : List (Stay M)). l) are.stays (work.stays ∷ []) ∙ ap (λ l. all_stays are.stays ++ l) (append-nil work.stays) in
+      let both : IsPermutation (taken_in (all_stays are.stays) ++ taken_in work.stays) taken' =
+      IsPermutation-trans _ _ _ (IsPermutation-append_left (taken_in work.stays) _ _ are.taken_are) (IsPermutation-trans _ _ _ (IsPermutation-append_right taken _ _ work.taken_are) t) in
       record {
         stays = are.stays ++ work.stays ∷ [];
         each = subst (All (IsStay mind s end)) (sym flat) (All-append (IsStay mind s end) (all_stays are.stays) work.stays are.each work.each);
-        taken_are = ap taken_in flat ∙ map-append (λ (x : Stay M). x.before) (all_stays are.stays) work.stays ∙ (λ i. are.taken_are i ++ work.taken i) ∙ sym t;
-        done_are = ap left_in flat ∙ map-append (λ (x : Stay M). x.after) (all_stays are.stays) work.stays ∙ (λ i. are.done_are i ++ work.done_is i) ∙ sym d;
+        taken_are = subst (λ l. IsPermutation l taken') (sym (ap taken_in flat ∙ map-append (λ (x : Stay M). x.before) (all_stays are.stays) work.stays)) both;
+        done_are = ap left_in flat ∙ map-append (λ (x : Stay M). x.after) (all_stays are.stays) work.stays ∙ (λ i. are.done_are i ++ work.done_are i) ∙ sym d;
         posted = map-append (with_stays (unused mailboxes)) are.stays (work.stays ∷ []) ∙ (λ i. are.posted i ++ sym work.posted i ∷ []) ∙ sym p;
       }
+
+  pub works_taken : (taken taken' done : List (Berth M)) (slips : List SlipView) → AreWorks mind s end mailboxes taken done slips → IsPermutation taken taken' → AreWorks mind s end mailboxes taken' done slips
+  works_taken taken taken' done slips are same = record { stays = are.stays; each = are.each; taken_are = IsPermutation-trans _ _ _ are.taken_are same; done_are = are.done_are; posted = are.posted }
 
 -- ---- which letters the slips have
 
@@ -275,7 +272,7 @@ module _ {M : Type 0} (mind : M → Mind) (s : Record) (end : ℕ) (mailboxes : 
   run_of_works taken put done slips works same count = record {
     stays = all_stays works.stays;
     each = works.each;
-    olds_are = subst (λ l. IsPermutation l put) (sym works.taken_are) (IsPermutation-sym put taken same);
+    olds_are = IsPermutation-trans _ _ _ works.taken_are (IsPermutation-sym put taken same);
     news_are = works.done_are;
     of_mailboxes = subst (All (IsSlipOf mailboxes)) works.posted (slips_of mailboxes works.stays);
     posted = λ r low high x. subst (λ l. IsIn x (posted_to l r) ↔ IsSent (all_stays works.stays) r x) works.posted (in_slips x r mailboxes (place_in r s.processes (length mailboxes) low high count) works.stays);
@@ -395,23 +392,37 @@ module _ {X : Type 0} (P Q R : X → Type 0) (join : (x : X) → P x → Q x →
   all_both (x ∷ xs) p q =
       All-cons R x xs (join x (All-head P x xs p) (All-head Q x xs q)) (all_both xs (All-tail P x xs p) (All-tail Q x xs q))
 
-pub fresh_at : {M : Type 0} (queue : TableId) (m m' : List MailboxId) (starts : List (Start M)) → All (λ b. IsFresh queue m b.taker b.slip) starts → m ≡ m'
-    → All (λ b. IsFresh queue m' b.taker b.slip) starts
-fresh_at {M} queue m m' starts fresh e = subst (λ l. All (λ (b : Start M). IsFresh queue l b.taker b.slip) starts) e fresh
+pub fresh_at : {M : Type 0} (deques deques' : List DequeId) (m m' : List MailboxId) (starts : List (Start M)) → All (λ b. IsFresh deques m b.hand b.slip) starts → deques ≡ deques' → m ≡ m'
+    → All (λ b. IsFresh deques' m' b.hand b.slip) starts
+fresh_at {M} deques deques' m m' starts fresh d e = subst (λ (l : List DequeId × List MailboxId). All (λ (b : Start M). IsFresh l.0 l.1 b.hand b.slip) starts) (λ i. (d i, e i)) fresh
 
 module _ {M : Type 0} (mind : M → Mind) (s : Record) (end : ℕ) where
-  pub long_dealt : (left : ℕ) (olds put rest : List (Berth M)) → IsPermutation olds (put ++ rest) → HasLong mind s end left put → HasLong mind s end left olds
-  long_dealt left olds put rest same (b, there, long) = (b, Contains-permutation (put ++ rest) olds b (IsPermutation-sym olds (put ++ rest) same) (Contains-append_left put rest b there), long)
+  pub long_among : (left : ℕ) (olds news : List (Berth M)) → IsPermutation olds news → HasLong mind s end left news → HasLong mind s end left olds
+  long_among left olds news same (b, there, long) = (b, Contains-permutation news olds b (IsPermutation-sym olds news same) there, long)
 
-  pub run_at : (m m' : List MailboxId) (put put' done : List (Berth M)) (slips : List SlipView) → AreRun mind s end m put done slips → m ≡ m' → put ≡ put' → AreRun mind s end m' put' done slips
-  run_at m m' put put' done slips run e same = subst (λ l. AreRun mind s end l put' done slips) e (subst (λ l. AreRun mind s end m l done slips) same run)
+  pub long_dealt : (left : ℕ) (olds waiting put rest : List (Berth M)) → IsPermutation olds (waiting ++ rest) → IsPermutation waiting put → HasLong mind s end left put → HasLong mind s end left olds
+  long_dealt left olds waiting put rest same dealt long =
+      let w = long_among left waiting put dealt long in
+      long_among left olds (waiting ++ rest) same (w.0, Contains-append_left waiting rest w.0 w.1, w.2)
 
-  pub run_of_parts : (m m1 m2 : List MailboxId) (queue : TableId) (old new : DealerView (Berth M)) (put done mine done' : List (Berth M)) (slips slips' : List SlipView) (slip : SlipView)
-      → AreWorks mind s end m1 old.taken done slips → IsRest mind s end queue m2 old new slip mine → m1 ≡ m → m2 ≡ m → old.put ≡ put → done' ≡ done ++ mine → slips' ≡ slips ++ slip ∷ []
+  pub run_at : (m m' : List MailboxId) (waiting put put' done : List (Berth M)) (slips : List SlipView) → AreRun mind s end m put done slips → m ≡ m' → put ≡ put' → IsPermutation waiting put'
+      → AreRun mind s end m' waiting done slips
+  run_at m m' waiting put put' done slips run e same dealt =
+      let r : AreRun mind s end m' put' done slips = subst (λ l. AreRun mind s end l put' done slips) e (subst (λ l. AreRun mind s end m l done slips) same run) in
+      record {
+        stays = r.stays;
+        each = r.each;
+        olds_are = IsPermutation-trans _ _ _ r.olds_are (IsPermutation-sym waiting put' dealt);
+        news_are = r.news_are;
+        of_mailboxes = r.of_mailboxes;
+        posted = r.posted;
+      }
+
+  pub run_of_parts : (m m1 m2 : List MailboxId) (old new : RestView (Berth M)) (put done mine done' : List (Berth M)) (slips slips' : List SlipView) (slip : SlipView)
+      → AreWorks mind s end m1 old.taken done slips → IsRest mind s end m2 old new slip mine → m1 ≡ m → m2 ≡ m → all_put old.own ≡ put → done' ≡ done ++ mine → slips' ≡ slips ++ slip ∷ []
       → length m ≡ s.processes → AreRun mind s end m put done' slips'
-  run_of_parts m m1 m2 queue old new put done mine done' slips slips' slip works rest e1 e2 same d p count =
+  run_of_parts m m1 m2 old new put done mine done' slips slips' slip works rest e1 e2 same d p count =
       let are : AreWorks mind s end m old.taken done slips = subst (λ l. AreWorks mind s end l old.taken done slips) e1 works in
-      let work : IsWork mind s end queue m (taker_of queue old.put rest.rest) slip mine = subst (λ l. IsWork mind s end queue l (taker_of queue old.put rest.rest) slip mine) e2 rest.work in
-      let all : AreWorks mind s end m new.taken done' slips' =
-      works_more mind s end m queue (taker_of queue old.put rest.rest) slip mine old.taken new.taken done done' slips slips' are work rest.taken d p in
+      let run : AreRunBy mind s end m rest.rest slip mine = subst (λ l. AreRunBy mind s end l rest.rest slip mine) e2 rest.run in
+      let all : AreWorks mind s end m new.taken done' slips' = works_more mind s end m slip mine rest.rest old.taken new.taken done done' slips slips' are run rest.taken d p in
       run_of_works mind s end m new.taken put done' slips' all (subst (λ l. IsPermutation l new.taken) same rest.same) count

@@ -13,8 +13,6 @@ pub mod Outcome
 pub mod Places
 pub mod Opening
 pub mod Closing
-pub mod Passes
-pub mod Deals
 pub mod Work
 pub mod Gathered
 pub mod Ranked
@@ -22,3 +20,5 @@ pub mod Settled
 pub mod Taken
 pub mod Handed
 pub mod Starts
+pub mod Dealings
+pub mod Deals

@@ -5,8 +5,7 @@ pub mod Plan
 pub mod Alternation
 pub mod Berth
 pub mod Stage
-pub mod Dealt
-pub mod Jobs
+pub mod Deques
 pub mod Workers
 pub mod Refusals
 pub mod Shared

@@ -1,5 +1,5 @@
 -- What holds of those who share a window.
-use Rattle.std.specs.Prelude.{◌≡◌, ◌++◌, ℕ, List, length, min, Result, IfOk, IfErr, IsErrOf, vec_len}
+use Rattle.std.specs.Prelude.{◌≡◌, ◌++◌, ℕ, List, length, map, min, Result, IfOk, IfErr, IsErrOf, vec_len}
 use Rattle.std.specs.Global.{Vec}
 use Rattle.std.specs.List.{All}
 use Rattle.std.specs.List.Sorted.{IsPermutation}
@@ -9,7 +9,7 @@ use Rattle.event_list.specs.declared.error.RunError.{RunError}
 use Rattle.event_list.specs.declared.error.RunError.TheVariants.{Limit}
 use Rattle.mailboxes.specs.Mailbox.{MailboxId}
 use Rattle.mailboxes.specs.Mailboxes.{SlipView}
-use Rattle.windows.specs.Jobs.{DealerView}
+use Rattle.windows.specs.Deques.{RestView}
 use Rattle.windows.specs.Refusals.{IsRefusal}
 use Rattle.windows.specs.Workers.{IsFresh, IsReady, IsWork, IsAnswer, IsRest, AreRun, HasLong, HaveLong}
 use Rattle.windows.specs.declared.berth.Berth.{Berth}
@@ -18,9 +18,9 @@ use Rattle.windows.specs.declared.shared.Window.{Window}
 use Rattle.windows.specs.declared.workers.Start.{Start}
 use Rattle.windows.specs.declared.workers.Work.{Work}
 
--- a worker's permit and its slip are of this window, and unused
+-- a worker's hand and its slip are of this window, and unused
 abbrev pub IsFreshIn : {M G : Type 0} → Shared M G → Start M → Type 0
-IsFreshIn w s = IsFresh w.jobs.now.queue w.mailboxes.now s.taker s.slip
+IsFreshIn w s = IsFresh w.fronts.now.items w.mailboxes.now s.hand s.slip
 
 module _ {M : Type 0} (mind : M → Mind) where
   -- nothing was done in these berths for this window yet, and its entries fit
@@ -34,18 +34,18 @@ module _ {M : Type 0} (mind : M → Mind) where
   module _ {G : Type 0} (w : Shared M G) where
     -- a worker's beginning, by which it may take what was put in, where all of that is ready
     abbrev pub IsStart : Start M → Type 0
-    IsStart s = IsFreshIn w s × AreReady w.window.now s.taker.known
+    IsStart s = IsFreshIn w s × AreReady w.window.now s.hand.known
 
     -- a worker's work in this window
     abbrev pub IsWorkIn : Work M → Type 0
     IsWorkIn x =
-        IsWork mind w.window.now.streams w.window.now.end w.jobs.now.queue w.mailboxes.now x.taker x.slip x.done.items
+        IsWork mind w.window.now.streams w.window.now.end w.fronts.now.items w.mailboxes.now x.hand x.slip x.done.items
 
     -- what a worker may answer
     abbrev pub IsAnswerTo : Start M → Result (Work M) RunError → Type 0
     IsAnswerTo s r =
-        IsAnswer mind w.window.now.streams w.window.now.end w.window.now.left w.jobs.now.queue w.mailboxes.now
-        s.taker.known r
+        IsAnswer mind w.window.now.streams w.window.now.end w.window.now.left w.fronts.now.items w.mailboxes.now
+        s.hand r
 
     -- one of the berths that all of these workers know is too long
     abbrev pub KnowOneTooLong : List (Start M) → Type 0
@@ -54,14 +54,15 @@ module _ {M : Type 0} (mind : M → Mind) where
     -- what the workers that began so answer together: the work of each, or why there is none
     pub record AreAnswers (starts : List (Start M)) (r : Result (Vec (Work M)) RunError) : Type 0 where
       pub count : IfOk r (λ works. vec_len works ≡ length starts)
+      pub own : IfOk r (λ works. map (λ x. x.hand.own) works.items ≡ map (λ b. b.hand.own) starts)
       pub works : IfOk r (λ works. All IsWorkIn works.items)
       pub errors : IfErr r IsRefusal
       pub limit : IsErrOf r Limit → KnowOneTooLong starts
 
     -- what the starter ran itself, after the workers
-    abbrev pub IsRestIn : (old new : DealerView (Berth M)) → SlipView → List (Berth M) → Type 0
+    abbrev pub IsRestIn : (old new : RestView (Berth M)) → SlipView → List (Berth M) → Type 0
     IsRestIn old new slip done =
-        IsRest mind w.window.now.streams w.window.now.end w.jobs.now.queue w.mailboxes.now old new slip done
+        IsRest mind w.window.now.streams w.window.now.end w.mailboxes.now old new slip done
 
   -- each of these processes had its window
   abbrev pub HadWindow : Window → List MailboxId → (olds news : List (Berth M)) → List SlipView → Type 0

@@ -20,7 +20,8 @@ writes_of (Err Memory) = 0
 writes_of (Err Spawn) = 0
 
 -- the sink took these parts, one after the other
-abbrev pub TookAll : {K : Type 0} → (took : K → List EntryRecord → K → Type 0) → K → List (List EntryRecord) → K → Type 0
+abbrev pub TookAll : {K : Type 0} → (took : K → List EntryRecord → K → Type 0) → K → List (List EntryRecord) → K
+    → Type 0
 TookAll took old [] new = new ≡ old
 TookAll {K} took old (part ∷ more) new = (mid : K) × took old part mid × TookAll took mid more new
 

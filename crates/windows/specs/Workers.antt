@@ -2,7 +2,6 @@
 use Rattle.std.specs.Prelude.{◌≡◌, ◌↔◌, ◌<◌, ◌≤◌, ◌+◌, ◌-◌, ◌*◌, ◌^◌, ◌++◌, ℕ, List, [], ◌∷◌, length, map, vec_len, Result, IfOk, IfErr, IsErrOf}
 use Rattle.std.specs.List.{All, Contains, flat_map}
 use Rattle.std.specs.List.Sorted.{IsPermutation}
-use Rattle.atomic_table.specs.Seated.{TableId}
 use Rattle.process_api.specs.Mind.{Mind}
 use Rattle.process_api.specs.declared.message.Letter.{Letter}
 use Rattle.scenario.specs.Record.{Record}
@@ -13,7 +12,7 @@ use Rattle.event_list.specs.declared.error.RunError.TheVariants.{Limit}
 use Rattle.mailboxes.specs.Mailbox.{MailboxId}
 use Rattle.mailboxes.specs.Mailboxes.{SlipView, IsSlipOf, unused, list_of, posted_to}
 use Rattle.windows.specs.Berth.{IsBerth, IsLong, RanTo, with_letters}
-use Rattle.windows.specs.Jobs.{TakerView, DealerView, taker_of}
+use Rattle.windows.specs.Deques.{DequeId, Dealt, HandView, RestView, all_put}
 use Rattle.windows.specs.Refusals.{IsRefusalOfOne}
 use Rattle.windows.specs.declared.berth.Berth.{Berth}
 use Rattle.windows.specs.declared.workers.Start.{Start}
@@ -65,47 +64,53 @@ module _ {M : Type 0} where
     abbrev pub HasLong : (end left : ℕ) → List (Berth M) → Type 0
     HasLong end left berths = (b : Berth M) × Contains berths b × IsLong mind s end left b
 
-    -- of this queue and these mailboxes: each berth that was taken was run and is among those that were done, in the
-    -- same order, and the slip has the letters of these runs
-    pub record IsWork (end : ℕ) (queue : TableId) (mailboxes : List MailboxId) (taker : TakerView (Berth M))
-        (slip : SlipView) (done : List (Berth M)) : Type 0 where
-      pub of_queue : taker.queue ≡ queue
+    -- of these mailboxes: each berth that was taken was run and is among those that were done, and the slip has the
+    -- letters of these runs
+    pub record AreRunBy (end : ℕ) (mailboxes : List MailboxId) (taken : List (Berth M)) (slip : SlipView)
+        (done : List (Berth M)) : Type 0 where
       pub of_mailboxes : IsSlipOf mailboxes slip
       pub stays : List (Stay M)
       pub each : All (IsStay end) stays
-      pub taken : taken_in stays ≡ taker.taken
-      pub done_is : left_in stays ≡ done
+      pub taken_are : IsPermutation (taken_in stays) taken
+      pub done_are : left_in stays ≡ done
       pub posted : slip ≡ with_stays (unused mailboxes) stays
 
-    -- a worker answers its work; or that memory was refused; or the limit, where one of the berths that it knows is too
-    -- long
-    pub record IsAnswer (end left : ℕ) (queue : TableId) (mailboxes : List MailboxId) (known : List (Berth M))
-        (r : Result (Work M) RunError) : Type 0 where
-      pub work : IfOk r (λ w. IsWork end queue mailboxes w.taker w.slip w.done.items)
+    -- a worker ran what it took from these deques
+    pub record IsWork (end : ℕ) (deques : List DequeId) (mailboxes : List MailboxId) (hand : HandView (Berth M))
+        (slip : SlipView) (done : List (Berth M)) : Type 0 where
+      pub of_deques : hand.deques ≡ deques
+      pub run : AreRunBy end mailboxes hand.taken slip done
+
+    -- A worker answers its work, with the deque that was its own; or that memory was refused; or the limit, where one of
+    -- the berths that it knows is too long
+    pub record IsAnswer (end left : ℕ) (deques : List DequeId) (mailboxes : List MailboxId)
+        (hand : HandView (Berth M)) (r : Result (Work M) RunError) : Type 0 where
+      pub own : IfOk r (λ w. w.hand.own ≡ hand.own)
+      pub work : IfOk r (λ w. IsWork end deques mailboxes w.hand w.slip w.done.items)
       pub errors : IfErr r IsRefusalOfOne
-      pub limit : IsErrOf r Limit → HasLong end left known
+      pub limit : IsErrOf r Limit → HasLong end left hand.known
 
     -- one of the berths that all of these workers know is too long
     abbrev pub HaveLong : (end left : ℕ) → List (Start M) → Type 0
     HaveLong end left starts =
-        (known : List (Berth M)) → All (λ b. b.taker.known ≡ known) starts → HasLong end left known
+        (known : List (Berth M)) → All (λ b. b.hand.known ≡ known) starts → HasLong end left known
 
     -- what some workers took, what they left, and their slips
     pub record AreWorks (end : ℕ) (mailboxes : List MailboxId) (taken done : List (Berth M))
         (slips : List SlipView) : Type 0 where
       pub stays : List (List (Stay M))
       pub each : All (IsStay end) (all_stays stays)
-      pub taken_are : taken_in (all_stays stays) ≡ taken
+      pub taken_are : IsPermutation (taken_in (all_stays stays)) taken
       pub done_are : left_in (all_stays stays) ≡ done
       pub posted : map (with_stays (unused mailboxes)) stays ≡ slips
 
-    -- what the starter took itself, after the workers: with it each job was taken, as often as it was put in
-    pub record IsRest (end : ℕ) (queue : TableId) (mailboxes : List MailboxId) (old new : DealerView (Berth M))
-        (slip : SlipView) (done : List (Berth M)) : Type 0 where
+    -- what the starter took itself, after the workers: with it each berth was taken, as often as it was put in
+    pub record IsRest (end : ℕ) (mailboxes : List MailboxId) (old new : RestView (Berth M)) (slip : SlipView)
+        (done : List (Berth M)) : Type 0 where
       pub rest : List (Berth M)
-      pub work : IsWork end queue mailboxes (taker_of queue old.put rest) slip done
-      pub taken : new.taken ≡ old.taken ++ rest
-      pub same : IsPermutation old.put new.taken
+      pub run : AreRunBy end mailboxes rest slip done
+      pub taken : IsPermutation (old.taken ++ rest) new.taken
+      pub same : IsPermutation (all_put old.own) new.taken
 
     -- each of these processes had its window: it ran, or it had nothing to run. The slips have just the letters of
     -- these runs
@@ -127,19 +132,23 @@ module _ {M : Type 0} where
       pub count : length lists ≡ s.processes
       pub letters : (r : ℕ) → 1 ≤ r → r ≤ s.processes → (x : Letter) → IsIn x (list_of lists r) ↔ IsSent stays r x
 
+  -- all that was dealt to these workers
+  abbrev pub dealt_to : List (Start M) → List (Berth M)
+  dealt_to starts = all_put (map (λ b. b.hand.own) starts)
+
   -- whatever these workers did, it is brought together
-  abbrev pub BringsTogether : (M → Mind) → TableId → List (Work M) → (taken done : List (Berth M))
+  abbrev pub BringsTogether : (M → Mind) → List DequeId → List (Work M) → (taken done : List (Berth M))
       → List SlipView → Type 0
-  BringsTogether mind queue works taken done slips =
+  BringsTogether mind deques works taken done slips =
       (s : Record) (end : ℕ) (mailboxes : List MailboxId)
-      → All (λ w. IsWork mind s end queue mailboxes w.taker w.slip w.done.items) works
+      → All (λ w. IsWork mind s end deques mailboxes w.hand w.slip w.done.items) works
       → AreWorks mind s end mailboxes taken done slips
 
-  -- of this queue and these mailboxes, and nothing was taken or posted yet
-  pub record IsFresh (queue : TableId) (mailboxes : List MailboxId) (taker : TakerView (Berth M))
+  -- of these deques and these mailboxes, and nothing was taken or posted yet
+  pub record IsFresh (deques : List DequeId) (mailboxes : List MailboxId) (hand : HandView (Berth M))
       (slip : SlipView) : Type 0 where
-    pub of_queue : taker.queue ≡ queue
-    pub none_taken : taker.taken ≡ []
+    pub of_deques : hand.deques ≡ deques
+    pub none_taken : hand.taken ≡ []
     pub none_posted : slip ≡ unused mailboxes
 
 module _ {X : Type 0} (key : X → ℕ) where

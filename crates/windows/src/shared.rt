@@ -2,7 +2,7 @@
 ghost use Rattle.std.specs.Prelude.{◌≡◌, length};
 
 use crate::berth::Berth;
-use crate::jobs::Jobs;
+use crate::deque::Front;
 use mailboxes::SharedMailboxes;
 use std::alloc::Global;
 use streams::Streams;
@@ -23,7 +23,8 @@ pub(crate) struct Shared<'w, M, G> {
     pub alloc: Global,
     pub window: &'w Window<'w>,
     pub gate: &'w G,
-    pub jobs: &'w Jobs<Berth<M>>,
+    /// Of each worker's deque.
+    pub fronts: &'w Vec<Front<Berth<M>>>,
     pub mailboxes: &'w SharedMailboxes,
     pub ghost boxes: { length mailboxes.now ≡ window.now.streams.processes },
 }

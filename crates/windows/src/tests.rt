@@ -7,6 +7,7 @@ mod plans;
 mod rows;
 mod sinks;
 mod starts;
+mod steals;
 mod workers;
 
 use process_api::Entry;

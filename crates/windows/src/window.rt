@@ -1,5 +1,5 @@
 //! One window: workers share the processes that have something to do in it, and what they leave is put in order.
-ghost use Rattle.std.specs.Prelude.{◌≡◌, ◌≤◌, ◌<◌, ◌+◌, ◌++◌, [], ℕ, List, length, min, IfOk, IfErr, OnOk, IsErrOf, vec_len, IsPermutation};
+ghost use Rattle.std.specs.Prelude.{◌≡◌, ◌≤◌, ◌<◌, ◌+◌, ◌++◌, ℕ, List, length, map, min, IfOk, IfErr, OnOk, IsErrOf, vec_len, IsPermutation};
 ghost use Rattle.std.specs.List.{All};
 ghost use Rattle.std.specs.List.Sorted.{IsNonDecreasingBy};
 ghost use Rattle.std.specs.Thread.{IsSync};
@@ -8,17 +8,17 @@ ghost use Rattle.event_list.specs.ScenarioSetting.{setting_of};
 ghost use Rattle.event_list.specs.Seat.{own_of};
 ghost use Rattle.event_list.specs.World.{IsTrace};
 ghost use Rattle.mailboxes.specs.Mailboxes.{letters_in, unused};
-ghost use Rattle.windows.specs.Jobs.{dealer_of};
+ghost use Rattle.windows.specs.Deques.{deques_of};
 ghost use Rattle.windows.specs.Plan.{IsPlanFor};
 ghost use Rattle.windows.specs.Refusals.{IsRefusal};
 ghost use Rattle.windows.specs.Shared.{AreReady, IsOneTooLong, IsFreshIn, IsStart, AreAnswers, HadWindow, IsCountOfWorkers};
 ghost use Rattle.windows.specs.Stage.{IsStage, IsStageAfter, IsWindowRun};
-ghost use Rattle.windows.specs.Workers.{IsOutcome, RiseBy};
+ghost use Rattle.windows.specs.Workers.{IsOutcome, RiseBy, dealt_to};
 
 use crate::berth::Berth;
+use crate::deal::deal;
 use crate::gate::Gate;
-use crate::gather::{deal, gather, run_rest, starts_of};
-use crate::jobs::{Dealer, Jobs};
+use crate::gather::{gather, part, run_rest, starts_of};
 use crate::plan::Plan;
 use crate::shared::{Shared, Window};
 use crate::stage::Stage;
@@ -54,32 +54,32 @@ fn in_threads<M: Process, G: Gate, R: Threads + Wait + Sync>(
     )
 }
 
-/// The workers that begin so take the jobs, and the starter, by a slip of its own, what is left. Answers the berths
-/// that were run, and all slips.
-fn run_jobs<M: Process, G: Gate, R: Threads + Wait + Sync>(
+/// The workers that begin so take the berths that were dealt, and the starter, by a slip of its own, what is left.
+/// Answers the berths that were run, and all slips.
+fn run_dealt<M: Process, G: Gate, R: Threads + Wait + Sync>(
     rt: &R,
     shared: &Shared<'_, M, G>,
-    dealer: &mut Dealer<Berth<M>>,
     starts: Vec<Start<M>>,
     slip: Slip,
 ) -> Result<(Vec<Berth<M>>, Vec<Slip>), RunError>
-    requires dealer { dealer.old ≡ dealer_of shared.now.jobs.now.queue (vec_len starts) dealer.old.put [] }
+    requires deques { shared.now.fronts.now.items ≡ deques_of (map (λ b. b.hand.own) starts.items) }
     requires slip { slip ≡ unused shared.now.mailboxes.now }
-    requires ready { AreReady M.mind shared.now.window.now dealer.old.put }
+    requires ready { AreReady M.mind shared.now.window.now (dealt_to starts.items) }
     requires fresh { All (IsFreshIn shared.now) starts.items }
-    requires known { All (λ s. s.taker.known ≡ dealer.old.put) starts.items }
+    requires known { All (λ s. s.hand.known ≡ dealt_to starts.items) starts.items }
     requires few { vec_len starts ≤ 64 }
 
     ensures slips { IfOk result (λ r. vec_len r.1 ≡ vec_len starts + 1) }
     ensures run { IfOk result (λ r.
-        HadWindow M.mind shared.now.window.now shared.now.mailboxes.now dealer.old.put r.0.items r.1.items) }
+        HadWindow M.mind shared.now.window.now shared.now.mailboxes.now (dealt_to starts.items) r.0.items r.1.items) }
     ensures errors { IfErr result IsRefusal }
-    ensures limit { IsErrOf result RunError.Limit → IsOneTooLong M.mind shared.now.window.now dealer.old.put }
+    ensures limit { IsErrOf result RunError.Limit
+        → IsOneTooLong M.mind shared.now.window.now (dealt_to starts.items) }
 {
     let works = in_threads(rt, shared, starts)?;
-    let (mut done, mut slips) = gather(shared.alloc, shared.jobs, dealer, works)?;
-    let (mut rest, slip) = run_rest(rt, shared, dealer, slip)?;
-    done.append(&mut rest)?;
+    let (mut rest, mut done, mut slips) = gather(shared.alloc, works)?;
+    let (mut last, slip) = run_rest(rt, shared, &mut rest, slip)?;
+    done.append(&mut last)?;
     slips.push(slip)?;
     Ok((done, slips))
 }
@@ -95,7 +95,7 @@ fn run_berths_of<M: Process, G: Gate, R: Threads + Wait + Sync>(
     window: &Window<'_>,
     berths: Vec<Berth<M>>,
 ) -> Result<(Vec<Berth<M>>, Vec<Slip>), RunError>
-    requires some { 0 < vec_len berths }
+    requires some { 0 < workers }
     requires few { workers ≤ 64 }
     requires slips { mailboxes.old.slips ≡ 0 }
     requires boxes { length mailboxes.old.mailboxes ≡ window.now.streams.processes }
@@ -110,18 +110,19 @@ fn run_berths_of<M: Process, G: Gate, R: Threads + Wait + Sync>(
     ensures errors { IfErr result IsRefusal }
     ensures limit { IsErrOf result RunError.Limit → IsOneTooLong M.mind window.now berths.items }
 {
-    let (jobs, mut dealer) = Jobs::new(alloc, berths.len())?;
-    let (waiting, mut idle) = deal(rt, alloc, &jobs, &mut dealer, window.end, berths)?;
+    let (waiting, mut idle) = part(alloc, window.end, berths)?;
+    let count = waiting.len().min(usize::from(workers));
+    let (fronts, dealer) = deal(alloc, count, waiting)?;
     let slip = mailboxes.slip(alloc)?;
-    let starts = starts_of(alloc, &jobs, &mut dealer, mailboxes, waiting, workers)?;
+    let starts = starts_of(alloc, dealer, mailboxes)?;
     let shared = Shared {
         alloc,
         window,
         gate,
-        jobs: &jobs,
+        fronts: &fronts,
         mailboxes: mailboxes.shared(),
     };
-    let (mut done, slips) = run_jobs(rt, &shared, &mut dealer, starts, slip)?;
+    let (mut done, slips) = run_dealt(rt, &shared, starts, slip)?;
     done.append(&mut idle)?;
     Ok((done, slips))
 }
@@ -146,7 +147,6 @@ fn run_all<M: Process, G: Gate, R: Threads + Wait + Sync>(
     window: &Window<'_>,
     berths: Vec<Berth<M>>,
 ) -> Result<(Vec<Berth<M>>, Vec<Vec<Letter>>), RunError>
-    requires some { 0 < vec_len berths }
     requires processes { processes ≡ window.now.streams.processes }
     requires ready { AreReady M.mind window.now berths.items }
     requires rising { RiseBy (λ b. own_of M.mind b.seat) berths.items }
@@ -171,8 +171,8 @@ pub(crate) fn cut_at(end: u32, horizon: u32) -> u32
 }
 
 /// Runs the next window of a stage. The smaller of the plan's workers and the number of processes with an event below
-/// the window's end are started, each a thread; they take the processes one after the other and run them, and are
-/// joined. Then the letters are delivered, and the parts of the trace are merged. Answers the merged part. The next
+/// the window's end are started, each a thread. These processes are dealt to the workers in turn; a worker takes its own
+/// one after the other, then those of others that are left, and runs them; and the workers are joined. Then the letters are delivered, and the parts of the trace are merged. Answers the merged part. The next
 /// window starts at the least pending tick, so that none is opened in which nothing happens.
 ///
 /// # Errors

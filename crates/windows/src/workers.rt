@@ -1,4 +1,4 @@
-//! The workers of a window: each takes berths until none is left, runs them, and gives them back when it is joined.
+//! The workers of a window: each takes berths, its own and then others', until none is left, runs them, and gives them back when it is joined.
 ghost use Rattle.std.specs.Prelude.{◌≡◌, ◌≤◌, IfOk, IfErr, IsErrOf, Ok, vec_len};
 ghost use Rattle.std.specs.List.{All};
 ghost use Rattle.std.specs.Thread.{IsSync};
@@ -7,7 +7,7 @@ ghost use Rattle.windows.specs.Shared.{IsStart, IsWorkIn, IsAnswerTo, IsOneTooLo
 
 use crate::berth::{Berth, run_berth};
 use crate::gate::Gate;
-use crate::jobs::Taker;
+use crate::hand::Hand;
 use crate::shared::Shared;
 use event_list::RunError;
 use mailboxes::Slip;
@@ -17,26 +17,27 @@ use std::snapshot::Snapshot;
 use std::sync::Wait;
 use std::thread::{Promise, Scope, Threads};
 
-/// What a worker begins with: its permit to take jobs, and its slip.
+/// What a worker begins with: its hand, by which it takes berths, and its slip.
 #[derive(Drop)]
 pub(crate) struct Start<M> {
-    pub taker: Taker<Berth<M>>,
+    pub hand: Hand<Berth<M>>,
     pub slip: Slip,
 }
 
-/// What a worker gives back: its permit, its slip, and the berths that it ran.
+/// What a worker gives back: its hand, its slip, and the berths that it ran.
 #[derive(Drop)]
 pub(crate) struct Work<M> {
-    pub taker: Taker<Berth<M>>,
+    pub hand: Hand<Berth<M>>,
     pub slip: Slip,
     pub done: Vec<Berth<M>>,
 }
 
-/// The work of one worker: it takes berths until the queue is empty, tells the gate of each, and runs it. It holds no
-/// lock. `worker` is its number in this window.
+/// The work of one worker: it takes berths until every deque was found empty, tells the gate of each, and runs it. It
+/// holds no lock. `worker` is its number in this window.
 ///
-/// That it goes on until the queue is empty stands in no clause, since an empty queue leaves no record: a test shows
-/// that the starter finds nothing left.
+/// Nothing is put into a deque once the workers have begun, so one that was found empty stays empty. That a worker goes
+/// on until then stands in no clause, since an empty deque leaves no record: a test shows that the starter finds nothing
+/// left.
 ///
 /// # Errors
 ///
@@ -49,19 +50,17 @@ pub(crate) fn run_berths<M: Process, G: Gate, R: Wait>(
     start: Start<M>,
 ) -> Result<Work<M>, RunError>
     requires { IsStart M.mind shared.now start }
+    ensures own { IfOk result (λ w. w.hand.own ≡ start.hand.own) }
     ensures work { IfOk result (IsWorkIn M.mind shared.now) }
     ensures errors { IfErr result IsRefusalOfOne }
-    ensures limit { IsErrOf result RunError.Limit → IsOneTooLong M.mind shared.now.window.now start.taker.known }
+    ensures limit { IsErrOf result RunError.Limit → IsOneTooLong M.mind shared.now.window.now start.hand.known }
 {
     let window = shared.window;
-    let Start {
-        mut taker,
-        mut slip,
-    } = start;
+    let Start { mut hand, mut slip } = start;
     let mut done = Vec::new(shared.alloc);
     for _ in rt.forever() {
         done.reserve(1)?;
-        let Some(mut berth) = shared.jobs.take(rt, &mut taker) else {
+        let Some(mut berth) = hand.take(rt, shared.fronts) else {
             break;
         };
         shared.gate.entered(rt, worker, berth.pid());
@@ -76,7 +75,7 @@ pub(crate) fn run_berths<M: Process, G: Gate, R: Wait>(
         )?;
         done.push_reserved(berth);
     }
-    Ok(Work { taker, slip, done })
+    Ok(Work { hand, slip, done })
 }
 
 // What a worker's result keeps: it is its work, or the reason why there is none.

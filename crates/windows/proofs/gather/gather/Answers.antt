@@ -1,39 +1,89 @@
-use Rattle.std.proofs.Common.{rules, ◌≡◌, ◌++◌, [], IfSome, sym, ap, ◌∙◌, ◌-◌, subst, vec_len}
-use Rattle.std.proofs.lemmas.List.Elements.{All-pop}
-use Rattle.windows.specs.Jobs.{DealerView, dealer_of}
-use Rattle.windows.specs.Workers.{IsWork}
+use Rattle.std.proofs.Common.{rules, ◌≡◌, ◌≤◌, ◌+◌, ◌∷◌, ◌++◌, [], length, map, refl, sym, ap, ◌∙◌, subst, append-nil, vec_len, vec_capacity, arith}
+use Rattle.std.specs.List.{All, flat_map}
+use Rattle.std.specs.List.Sorted.{IsPermutation}
+use Rattle.std.specs.Vec.Iter.{into_iter_items}
+use Rattle.std.proofs.lemmas.List.Elements.{All-nil, All-push, All-same, All-head, All-tail}
+use Rattle.std.proofs.lemmas.List.Sorted.{IsPermutation-refl}
+use Rattle.windows.specs.Deques.{HandView, deques_of}
+use Rattle.windows.specs.Workers.{IsWork, AreWorks}
 use Rattle.windows.specs.declared.workers.Work.{Work}
-use Rattle.windows.proofs.Gathered.{works_none, works_more}
+use Rattle.windows.proofs.Deals.{map_turn, flat_push, none_left}
+use Rattle.windows.proofs.Gathered.{works_none, works_more, works_taken}
 use Rattle.windows.proofs.gather.gather.Goals as goal
 
 pub loop-work-init : goal.loop-work-init
 loop-work-init g c =
-    let none : c.args.dealer.now.taken ≡ [] = ap (λ (d : DealerView _). d.taken) c.requires.dealer in (
-      c.requires.dealer ∙ (λ i. dealer_of c.args.jobs.now.queue (vec_len c.args.works) c.args.dealer.now.put (sym none i)),
-      c.requires.queue,
-      search rules,
-      λ s end m all. (all, works_none g.M.Process.mind s end m _ _ _ none c.new-done.ensures.items c.new-slips.ensures.items),
-    )
+    let mind = g.M.Process.mind in
+    let own_of = λ (w : Work _). w.hand.own in
+    let works = c.args.works in
+    let dealt = map own_of works.items in
+    let OfAll : HandView _ → Type 0 = λ h. h.deques ≡ deques_of dealt in
+    let WorkOfAll : Work _ → Type 0 = λ w. w.hand.deques ≡ deques_of dealt in
+    let none = c.in_ok-hands.ensures.items in
+    let all : into_iter_items c.into_iter-work-iterator.result ≡ works.items = c.into_iter-work-iterator.ensures.into_iter_gives.0 in
+    let many : length (into_iter_items c.into_iter-work-iterator.result) ≡ vec_len works = ap length all ∙ sym works.ok.0 in
+    record {
+      own = (λ i. map (λ (h : HandView _). h.own) (none i) ++ map own_of (all i));
+      of_all = All-same OfAll _ [] none (All-nil OfAll);
+      left = subst (All WorkOfAll) (sym all) c.requires;
+      count = omega (arith, many, c.in_ok-slips.ensures.len);
+      room = omega (arith, many, c.in_ok-hands.ensures.len, c.in_ok-hands.ensures.capacity, c.len.ensures);
+      space = omega (arith, many, c.in_ok-slips.ensures.len, c.in_ok-slips.ensures.capacity, c.len-2.ensures);
+      works = λ s end m is.
+          let W : Work _ → Type 0 = λ w. IsWork mind s end (deques_of dealt) m w.hand w.slip w.done.items in
+          (subst (All W) (sym all) is, works_none mind s end m _ _ _ (ap (flat_map (λ (h : HandView _). h.taken)) none) c.new-done.ensures.items c.in_ok-slips.ensures.items);
+    }
 
 pub loop-work-preserved : goal.loop-work-preserved
 loop-work-preserved g c =
-    let q = c.args.jobs.now.queue in
-    let work = c.in-Some.work in
-    let Q : Work _ → Type 0 = λ w. w.taker.queue ≡ q in
+    let mind = g.M.Process.mind in
     let inv = c.loop-work.invariant in
-    let taken : c.take_back.new.dealer.taken ≡ c.loop-work.dealer.taken ++ work.taker.taken = ap (λ (d : DealerView _). d.taken) c.take_back.ensures in
-    let was : c.loop-work.dealer.out ≡ vec_len c.loop-work.works = ap (λ (d : DealerView _). d.out) inv.0 in
-    let out : c.loop-work.dealer.out - 1 ≡ vec_len c.pop.new.self = search rules in
-    let adds : c.append.new.self.items ≡ c.loop-work.done.items ++ work.done.items = search rules in (
-      c.take_back.ensures ∙ (λ i. dealer_of ((inv.0 i).queue) (out i) ((inv.0 i).put) (sym taken i)),
-      (All-pop Q c.loop-work.works.items c.pop.new.self.items c.pop.result c.pop.ensures.items inv.1).0,
-      search rules,
-      λ s end m all.
-          let W : Work _ → Type 0 = λ w. IsWork g.M.Process.mind s end q m w.taker w.slip w.done.items in
-          let r = inv.3 s end m all in
-          let p = All-pop W c.loop-work.works.items c.pop.new.self.items c.pop.result c.pop.ensures.items r.0 in (
-            p.0,
-            works_more g.M.Process.mind s end m q work.taker work.slip work.done.items c.loop-work.dealer.taken c.take_back.new.dealer.taken c.loop-work.done.items c.append.new.self.items
-                c.loop-work.slips.items c.push.new.self.items r.1 (subst (λ x. IfSome x W) c.in-Some.is p.1) taken adds c.in_ok-push.ensures.items,
-          ),
-    )
+    let own_of = λ (w : Work _). w.hand.own in
+    let all = c.args.works.items in
+    let dealt = map own_of all in
+    let work = c.in-Some.work in
+    let left = into_iter_items c.next.new.self in
+    let e : into_iter_items c.loop-work.work-iterator ≡ work ∷ left = c.in-Some.ensures.steps.0 in
+    let OfAll : HandView _ → Type 0 = λ h. h.deques ≡ deques_of dealt in
+    let WorkOfAll : Work _ → Type 0 = λ w. w.hand.deques ≡ deques_of dealt in
+    let of_all : WorkOfAll work = All-head WorkOfAll work left (subst (All WorkOfAll) e inv.left) in
+    let hands = c.loop-work.hands.items in
+    let more : c.push_reserved.new.self.items ≡ hands ++ work.hand ∷ [] = c.push_reserved.ensures.items in
+    let slips = c.loop-work.slips.items in
+    let listed : c.push_reserved-in-loop-work.new.self.items ≡ slips ++ work.slip ∷ [] = c.push_reserved-in-loop-work.ensures.items in
+    let adds : c.append.new.self.items ≡ c.loop-work.done.items ++ work.done.items = c.in_ok-append.ensures.items in
+    let taken_of = λ (h : HandView _). h.taken in
+    record {
+      own = map_turn (λ (h : HandView _). h.own) own_of hands _ work.hand _ left work dealt more e refl inv.own;
+      of_all = All-same OfAll _ _ more (All-push OfAll hands work.hand inv.of_all of_all);
+      left = All-tail WorkOfAll work left (subst (All WorkOfAll) e inv.left);
+      count = omega (arith, inv.count, ap length e, c.push_reserved-in-loop-work.ensures.len);
+      room = subst (λ n. vec_len c.push_reserved.new.self + length left ≤ n) (sym c.push_reserved.ensures.capacity) (omega (arith, inv.room, ap length e, c.push_reserved.ensures.len));
+      space = subst (λ n. vec_len c.push_reserved-in-loop-work.new.self + length left ≤ n) (sym c.push_reserved-in-loop-work.ensures.capacity) (omega (arith, inv.space, ap length e, c.push_reserved-in-loop-work.ensures.len));
+      works = λ s end m is.
+          let W : Work _ → Type 0 = λ w. IsWork mind s end (deques_of dealt) m w.hand w.slip w.done.items in
+          let r = inv.works s end m is in
+          let ours : All W (work ∷ left) = subst (All W) e r.0 in (
+            All-tail W work left ours,
+            works_more mind s end m work.slip work.done.items work.hand.taken (flat_map taken_of hands) _ c.loop-work.done.items c.append.new.self.items slips c.push_reserved-in-loop-work.new.self.items r.1 (All-head W work left ours).run
+                (subst (IsPermutation (flat_map taken_of hands ++ work.hand.taken)) (sym (flat_push taken_of hands _ work.hand more)) (IsPermutation-refl (flat_map taken_of hands ++ work.hand.taken))) adds listed,
+          );
+    }
+
+pub of_hands-requires : goal.of_hands-requires
+of_hands-requires g c =
+    let inv = c.loop-work.invariant in
+    let own_of = λ (w : Work _). w.hand.own in
+    let dealt = map own_of c.args.works.items in
+    let none : into_iter_items c.loop-work.work-iterator ≡ [] = none_left _ (sym c.loop-work.work-iterator.rest.ok.0 ∙ c.in-None.ensures.steps.0) in
+    let same : map (λ (h : HandView _). h.own) c.loop-work.hands.items ≡ dealt = sym (append-nil _) ∙ ap (λ l. map (λ (h : HandView _). h.own) c.loop-work.hands.items ++ map own_of l) (sym none) ∙ inv.own in
+    subst (λ l. All (λ (h : HandView _). h.deques ≡ deques_of l) c.loop-work.hands.items) (sym same) inv.of_all
+
+pub returns-clause-own : goal.returns-clause-own
+returns-clause-own g c =
+    let own_of = λ (w : Work _). w.hand.own in
+    let none : into_iter_items c.loop-work.work-iterator ≡ [] = none_left _ (sym c.loop-work.work-iterator.rest.ok.0 ∙ c.in-None.ensures.steps.0) in
+    c.in_ok-of_hands.ensures.own ∙ sym (append-nil _) ∙ ap (λ l. map (λ (h : HandView _). h.own) c.loop-work.hands.items ++ map own_of l) (sym none) ∙ c.loop-work.invariant.own
+
+pub returns-clause-works : goal.returns-clause-works
+returns-clause-works g c = λ s end m is. works_taken g.M.Process.mind s end m _ _ _ _ (c.loop-work.invariant.works s end m is).1 c.in_ok-of_hands.ensures.taken

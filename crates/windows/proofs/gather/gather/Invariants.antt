@@ -1,18 +1,25 @@
-use Rattle.std.proofs.Common.{◌≡◌, ◌+◌, ℕ, List, vec_len}
-use Rattle.std.specs.List.{All}
+use Rattle.std.proofs.Common.{◌≡◌, ◌≤◌, ◌+◌, ◌++◌, ℕ, List, length, map, vec_len, vec_capacity}
+use Rattle.std.specs.List.{All, flat_map}
+use Rattle.std.specs.Vec.Iter.{into_iter_items}
 use Rattle.scenario.specs.Record.{Record}
 use Rattle.mailboxes.specs.Mailbox.{MailboxId}
-use Rattle.windows.specs.Jobs.{dealer_of}
+use Rattle.windows.specs.Deques.{deques_of}
 use Rattle.windows.specs.Workers.{IsWork, AreWorks}
 use Rattle.windows.proofs.gather.gather.Given as goal
 
 abbrev pub invariant-loop-work : goal.invariant-loop-work
 invariant-loop-work g l =
-    (l.dealer ≡ dealer_of l.jobs.queue (vec_len l.works) l.initial.dealer.put l.dealer.taken)
-    × All (λ w. w.taker.queue ≡ l.jobs.queue) l.works.items
-    × (vec_len l.works + vec_len l.slips ≡ vec_len l.initial.works)
-    × ((s : Record) (end : ℕ) (m : List MailboxId) → All (λ w. IsWork g.M.Process.mind s end l.jobs.queue m w.taker w.slip w.done.items) l.initial.works.items
-    → All (λ w. IsWork g.M.Process.mind s end l.jobs.queue m w.taker w.slip w.done.items) l.works.items × AreWorks g.M.Process.mind s end m l.dealer.taken l.done.items l.slips.items)
-
-abbrev pub decreases-loop-work : goal.decreases-loop-work
-decreases-loop-work g l = vec_len l.works
+    let mind = g.M.Process.mind in
+    let rest = into_iter_items l.work-iterator in
+    let all = l.fn.works.items in
+    let dealt = map (λ w. w.hand.own) all in
+    record {
+      own : map (λ h. h.own) l.hands.items ++ map (λ w. w.hand.own) rest ≡ dealt;
+      of_all : All (λ h. h.deques ≡ deques_of dealt) l.hands.items;
+      left : All (λ w. w.hand.deques ≡ deques_of dealt) rest;
+      count : vec_len l.slips + length rest ≡ vec_len l.fn.works;
+      room : vec_len l.hands + length rest ≤ vec_capacity l.hands;
+      space : vec_len l.slips + length rest ≤ vec_capacity l.slips;
+      works : (s : Record) (end : ℕ) (m : List MailboxId) → All (λ w. IsWork mind s end (deques_of dealt) m w.hand w.slip w.done.items) all
+          → All (λ w. IsWork mind s end (deques_of dealt) m w.hand w.slip w.done.items) rest × AreWorks mind s end m (flat_map (λ h. h.taken) l.hands.items) l.done.items l.slips.items;
+    }

@@ -2,49 +2,53 @@ use Rattle.std.proofs.Common.{rules, ◌≡◌, ◌++◌, ◌∷◌, [], refl, s
 use Rattle.std.specs.List.{Contains}
 use Rattle.std.specs.List.Sorted.{IsPermutation}
 use Rattle.std.proofs.lemmas.List.Elements.{All-contains}
-use Rattle.windows.specs.Jobs.{DealerView, taker_of, dealer_of}
+use Rattle.std.proofs.lemmas.List.Sorted.{IsPermutation-refl, IsPermutation-trans, IsPermutation-append_left}
+use Rattle.windows.specs.Deques.{RestView, all_put}
 use Rattle.windows.specs.Workers.{IsReady}
-use Rattle.windows.specs.declared.berth.Berth.{Berth}
-use Rattle.windows.proofs.Work.{work_begins, work_more, same_work}
+use Rattle.windows.proofs.Work.{run_begins, run_more, same_run}
 use Rattle.windows.proofs.gather.run_rest.Goals as goal
 use Rattle.windows.proofs.gather.run_rest.Goals.{in-None, in-Some+in_ok-reserve+in_default}
 
 pub loop-init : goal.loop-init
 loop-init g c = (
   [],
-  work_begins g.M.Process.mind c.args.shared.now.window.now.streams c.args.shared.now.window.now.end c.args.shared.now.jobs.now.queue c.args.shared.now.mailboxes.now _ _ _ (record { of_queue = refl; none_taken = refl; none_posted = c.requires.slip }) c.new-done.ensures.items,
-  λ i. dealer_of (c.requires.queue i) (c.requires.out i) c.args.dealer.now.put (sym (append-nil c.args.dealer.now.taken) i),
+  run_begins g.M.Process.mind c.args.shared.now.window.now.streams c.args.shared.now.window.now.end c.args.shared.now.mailboxes.now [] _ _ refl c.requires.slip c.new-done.ensures.items,
+  refl,
+  c.requires.out,
+  subst (λ l. IsPermutation l c.args.rest.now.taken) (sym (append-nil c.args.rest.now.taken)) (IsPermutation-refl c.args.rest.now.taken),
 )
 
 pub run_berth-requires-clause-berth : goal.run_berth-requires-clause-berth
 run_berth-requires-clause-berth g c κs within =
-    (All-contains (IsReady g.M.Process.mind c.args.shared.now.window.now.streams c.args.shared.now.window.now.left) c.args.dealer.now.put c.in-Some-take_last.berth c.requires.ready
-    (subst (λ (d : DealerView (Berth _)). Contains d.put c.in-Some-take_last.berth) c.loop.invariant.2 c.in-Some-take_last.ensures.1)).0
+    (All-contains (IsReady g.M.Process.mind c.args.shared.now.window.now.streams c.args.shared.now.window.now.left) (all_put c.args.rest.now.own) c.in-Some-take_last.berth c.requires.ready
+    (subst (λ l. Contains (all_put l) c.in-Some-take_last.berth) c.loop.invariant.2 c.in-Some-take_last.ensures.3)).0
 
 pub run_berth-requires-clause-part : goal.run_berth-requires-clause-part
 run_berth-requires-clause-part g c κs within =
-    (All-contains (IsReady g.M.Process.mind c.args.shared.now.window.now.streams c.args.shared.now.window.now.left) c.args.dealer.now.put c.in-Some-take_last.berth c.requires.ready
-    (subst (λ (d : DealerView (Berth _)). Contains d.put c.in-Some-take_last.berth) c.loop.invariant.2 c.in-Some-take_last.ensures.1)).1
+    (All-contains (IsReady g.M.Process.mind c.args.shared.now.window.now.streams c.args.shared.now.window.now.left) (all_put c.args.rest.now.own) c.in-Some-take_last.berth c.requires.ready
+    (subst (λ l. Contains (all_put l) c.in-Some-take_last.berth) c.loop.invariant.2 c.in-Some-take_last.ensures.3)).1
 
 pub returns-in_err-run_berth-clause-limit : goal.returns-in_err-run_berth-clause-limit
 returns-in_err-run_berth-clause-limit g c is = (
   c.in-Some-take_last.berth,
-  subst (λ (d : DealerView (Berth _)). Contains d.put c.in-Some-take_last.berth) c.loop.invariant.2 c.in-Some-take_last.ensures.1,
+  subst (λ l. Contains (all_put l) c.in-Some-take_last.berth) c.loop.invariant.2 c.in-Some-take_last.ensures.3,
   λ history after rest letters run. c.run_berth.ensures.limit (search rules) history after rest letters run,
 )
 
 pub loop-preserved : goal.loop-preserved
 loop-preserved g c =
     let ran = c.in_ok-run_berth.ensures.ran _ refl in
-    let rest = c.loop.invariant.0 in
+    let inv = c.loop.invariant in
+    let took = c.in-Some-take_last.ensures in
     let b = c.in-Some-take_last.berth in
-    let q = c.args.shared.now.jobs.now.queue in
-    let put = c.args.dealer.now.put in (
-      rest ++ b ∷ [],
-      work_more g.M.Process.mind c.args.shared.now.window.now.streams c.args.shared.now.window.now.end q c.args.shared.now.mailboxes.now (taker_of q put rest) (taker_of q put (rest ++ b ∷ [])) c.loop.slip c.run_berth.new.slip
-          c.loop.done.items c.push_reserved.new.self.items b c.run_berth.new.berth ran.0 c.loop.invariant.1 (ran.1, c.in_ok-run_berth.ensures.berth) refl c.run_berth.ensures.slip ran.2 (search rules),
-      c.in-Some-take_last.ensures.0 ∙ (λ i. dealer_of ((c.loop.invariant.2 i).queue) 0 ((c.loop.invariant.2 i).put) ((c.loop.invariant.2 i).taken ++ b ∷ []))
-          ∙ (λ i. dealer_of q 0 put (append_assoc c.args.dealer.now.taken rest (b ∷ []) i)),
+    let old = c.args.rest.now.taken in (
+      inv.0 ++ b ∷ [],
+      run_more g.M.Process.mind c.args.shared.now.window.now.streams c.args.shared.now.window.now.end c.args.shared.now.mailboxes.now inv.0 (inv.0 ++ b ∷ []) c.loop.slip c.run_berth.new.slip
+          c.loop.done.items c.push_reserved.new.self.items b c.run_berth.new.berth ran.0 inv.1 (ran.1, c.in_ok-run_berth.ensures.berth) (IsPermutation-refl (inv.0 ++ b ∷ [])) c.run_berth.ensures.slip ran.2 (search rules),
+      ap (λ (r : RestView _). r.own) took.1 ∙ inv.2,
+      ap (λ (r : RestView _). r.out) took.1,
+      subst (IsPermutation (old ++ (inv.0 ++ b ∷ []))) (sym (ap (λ (r : RestView _). r.taken) took.1))
+          (subst (λ l. IsPermutation l took.0) (append_assoc old inv.0 (b ∷ [])) (IsPermutation-trans _ _ _ (IsPermutation-append_left (b ∷ []) _ _ inv.4) took.2)),
     )
 
 pub returns-clause-rest : goal.returns-clause-rest
@@ -52,15 +56,13 @@ returns-clause-rest g c =
     elim c.match-next.branch [
       | in-None w ↦ absurd (search rules)
       | in-Some+in_ok-reserve+in_default w ↦
-          let q = c.args.shared.now.jobs.now.queue in
-          let put = c.args.dealer.now.put in
-          let rest = c.loop.invariant.0 in
-          let last : c.match-next.dealer ≡ c.loop.dealer = w.dealer-is ∙ w.in_default.ensures.0 in
+          let inv = c.loop.invariant in
+          let last : c.match-next.rest ≡ c.loop.rest = w.rest-is ∙ w.in_default.ensures.0 in
           record {
-            rest = rest;
-            work = same_work g.M.Process.mind c.args.shared.now.window.now.streams c.args.shared.now.window.now.end q c.args.shared.now.mailboxes.now (taker_of q put rest) (taker_of q put rest) c.loop.slip c.loop.done.items c.match-next.done.items c.loop.invariant.1 refl (search rules);
-            taken = ap (λ (d : DealerView (Berth _)). d.taken) (last ∙ c.loop.invariant.2);
-            same = subst (λ (d : DealerView (Berth _)). IsPermutation d.put c.match-next.dealer.taken) c.loop.invariant.2
-                (subst (λ l. IsPermutation c.loop.dealer.put l) (ap (λ (d : DealerView (Berth _)). d.taken) (sym last)) w.in_default.ensures.1);
+            rest = inv.0;
+            run = same_run g.M.Process.mind c.args.shared.now.window.now.streams c.args.shared.now.window.now.end c.args.shared.now.mailboxes.now inv.0 c.loop.slip c.loop.done.items c.match-next.done.items inv.1 (search rules);
+            taken = subst (λ (r : RestView _). IsPermutation (c.args.rest.now.taken ++ inv.0) r.taken) (sym last) inv.4;
+            same = subst (λ l. IsPermutation (all_put l) c.match-next.rest.taken) inv.2
+                (subst (λ (r : RestView _). IsPermutation (all_put c.loop.rest.own) r.taken) (sym last) w.in_default.ensures.1);
           }
     ]

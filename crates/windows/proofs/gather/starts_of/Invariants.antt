@@ -1,14 +1,21 @@
-use Rattle.std.proofs.Common.{◌≡◌, ◌≤◌, ◌+◌, vec_len, vec_capacity}
+use Rattle.std.proofs.Common.{◌≡◌, ◌≤◌, ◌+◌, ◌++◌, length, map, vec_len, vec_capacity}
 use Rattle.std.specs.List.{All}
+use Rattle.std.specs.Vec.Iter.{into_iter_items}
 use Rattle.mailboxes.specs.Mailboxes.{mailboxes_of}
-use Rattle.windows.specs.Jobs.{dealer_of}
+use Rattle.windows.specs.Deques.{deques_of, all_put, IsDealt}
 use Rattle.windows.specs.Workers.{IsFresh}
 use Rattle.windows.proofs.gather.starts_of.Given as goal
 
-abbrev pub invariant-loop : goal.invariant-loop
-invariant-loop g l =
-    (l.dealer ≡ dealer_of l.initial.dealer.queue l.counter l.initial.dealer.put l.initial.dealer.taken)
-    × (l.mailboxes ≡ mailboxes_of l.initial.mailboxes.mailboxes (l.initial.mailboxes.slips + l.counter))
-    × (vec_len l.starts ≡ l.counter) × (l.count ≤ vec_capacity l.starts)
-    × All (λ b. IsFresh l.jobs.queue l.initial.mailboxes.mailboxes b.taker b.slip) l.starts.items
-    × All (λ b. b.taker.known ≡ l.initial.dealer.put) l.starts.items
+abbrev pub invariant-loop-hand : goal.invariant-loop-hand
+invariant-loop-hand g l =
+    let rest = into_iter_items l.hand-iterator in
+    let m = l.fn.mailboxes in
+    let all = l.fn.dealer in
+    record {
+      own : map (λ b. b.hand.own) l.starts.items ++ map (λ h. h.own) rest ≡ all;
+      slips : l.mailboxes ≡ mailboxes_of m.mailboxes (m.slips + vec_len l.starts);
+      fresh : All (λ b. IsFresh (deques_of all) m.mailboxes b.hand b.slip) l.starts.items;
+      known : All (λ b. b.hand.known ≡ all_put all) l.starts.items;
+      left : All (IsDealt all) rest;
+      room : vec_len l.starts + length rest ≤ vec_capacity l.starts;
+    }

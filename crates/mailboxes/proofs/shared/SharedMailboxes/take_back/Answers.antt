@@ -6,8 +6,8 @@ use Rattle.std.proofs.lemmas.Iterator.Consumers.{YieldsList-turn}
 use Rattle.process_api.specs.declared.message.Letter.{Letter}
 use Rattle.mailboxes.specs.Mailbox.{MailboxId, HomeView, TicketView, one_back, all_back}
 use Rattle.mailboxes.specs.Mailboxes.{SlipView}
-use Rattle.mailboxes.proofs.Homes.{mailbox_of, back-nil, back-at, back-more, back-length}
-use Rattle.mailboxes.proofs.Lists.{parts_agree, below_parts, length_more, map_same}
+use Rattle.mailboxes.proofs.Homes.{mailbox_of}
+use Rattle.mailboxes.proofs.Lists.{with-nil, with-at, with-more, with-length, parts_agree, below_parts, length_more, map_same}
 use Rattle.mailboxes.proofs.shared.SharedMailboxes.take_back.Goals as goal
 
 abbrev whose : TicketView → MailboxId
@@ -17,7 +17,7 @@ abbrev posted_by : TicketView → List Letter
 posted_by t = t.posted
 
 pub loop-ticket-init : goal.loop-ticket-init
-loop-ticket-init c = (tt, tt, refl, sym (back-nil _))
+loop-ticket-init c = (tt, tt, refl, sym (with-nil one_back _))
 
 below : (k at n m : ℕ) → k < n → at ≡ k → m ≡ n → at < m
 below k at n m lt e s = omega arith
@@ -32,7 +32,7 @@ index_mut-requires c =
     YieldsList-turn (YieldsList-from_vec ts b.0 (b.1 ∙ c.slip.inside.tickets.ok.0)) ys c.loop-ticket.ticket-iterator c.loop-ticket.yielded_by c.next.result c.next.new.self c.in-Some.ticket c.in-Some.is c.next.ensures.steps in
     let mine : map whose ts ≡ map mailbox_of hs = ap (λ (s : SlipView). s.mailboxes) c.slip.view_is ∙ c.requires.slip ∙ c.requires.homes in
     below (length ys) c.loop-ticket.at (length hs) _ (below_parts whose mailbox_of ts hs (length ys) mine turn.0) c.loop-ticket.invariant.2
-    (c.loop-ticket.homes.ok.0 ∙ ap length c.loop-ticket.invariant.3 ∙ back-length hs (map posted_by ys))
+    (c.loop-ticket.homes.ok.0 ∙ ap length c.loop-ticket.invariant.3 ∙ with-length one_back hs (map posted_by ys))
 
 -- which of the owner's passes is at hand
 module _ (hs homes : List HomeView) (ys : List TicketView) (at : ℕ) (d : HomeView) (value : d ≡ get_or homes at d) (so_far : homes ≡ all_back hs (map posted_by ys)) (many : at ≡ length ys) where
@@ -40,7 +40,7 @@ module _ (hs homes : List HomeView) (ys : List TicketView) (at : ℕ) (d : HomeV
   rows_many = many ∙ sym (length-map ys posted_by)
 
   here : d ≡ get_or hs (length (map posted_by ys)) d
-  here = value ∙ (λ j. get_or (so_far j) (rows_many j) d) ∙ back-at hs (map posted_by ys) d
+  here = value ∙ (λ j. get_or (so_far j) (rows_many j) d) ∙ with-at one_back hs (map posted_by ys) d
 
   here_too : d ≡ get_or hs (length ys) d
   here_too = here ∙ ap (λ k. get_or hs k d) (length-map ys posted_by)
@@ -96,6 +96,6 @@ loop-ticket-preserved c =
       tt,
       length_more ys t c.loop-ticket.at c.loop-ticket.invariant.2,
       (λ j. set (c.loop-ticket.invariant.3 j) (many j) ((c.take_back.ensures ∙ ap (λ (h : HomeView). one_back h t.posted) old) j))
-          ∙ back-more hs rows t.posted d (subst (λ k. k < length hs) (sym (length-map ys posted_by)) lt)
+          ∙ with-more one_back hs rows t.posted d (subst (λ k. k < length hs) (sym (length-map ys posted_by)) lt)
           ∙ ap (all_back hs) (sym (map-append posted_by ys (t ∷ []))),
     )

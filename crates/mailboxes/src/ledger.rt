@@ -1,0 +1,59 @@
+//! The ledger of a queue or a deque that threads share: what was put in is what was taken out and what is still there.
+//!
+//! Each thread that puts or takes has a pass, and the rule is over what all passes have put and taken. The first pass
+//! stays with the owner, makes the others and takes them back; while one is out nobody knows the whole, and once all
+//! are back the first one does. Where all is put before the others take, the first pass can tell them what it was: each
+//! of them then has a copy, and knows of an item that it takes that it is one of these.
+//!
+//! Which steps there are is the user's: each kind of step, be it a push, a pop or a steal, is a type of its own whose
+//! outcome is stated by `has_put` or `has_taken` (`specs/Ledger.antt`), and that it keeps the rule is one fact of
+//! `proofs/Ledgers.antt`. The moves of a pass are here.
+
+use crossbeam_queue::protocol::{Join, Split};
+use std::collections::LinkedList;
+
+/// What one pass knows. It exists in proofs alone: no value of it is made.
+pub struct Account<T> {
+    /// How many passes were made. Only the first pass counts them.
+    pub made: u64,
+    /// For how many passes it stands: itself, and those that it took back.
+    pub parts: u64,
+    /// What it has put, in order.
+    pub put: LinkedList<T>,
+    /// What it has taken, in order.
+    pub taken: LinkedList<T>,
+    /// What all have put, where it was told: from then on nothing is put.
+    pub told: Option<LinkedList<T>>,
+}
+
+/// The first pass makes one pass more, which is told what it was told, or takes one back with what it has put and
+/// taken.
+pub struct Ticketing;
+
+impl<T> Split<Account<T>> for Ticketing {
+    ghost use Rattle.mailboxes.specs.Ledger.{one_made, new_pass};
+
+    ghost left = { one_made };
+
+    ghost right = { λ a. new_pass a.told };
+}
+
+impl<T> Join<Account<T>> for Ticketing {
+    ghost use Rattle.mailboxes.specs.Ledger.{both_of, given_back};
+
+    ghost both = { both_of };
+
+    ghost spent = { given_back };
+}
+
+/// The first pass makes one pass more, and tells it what was put.
+pub struct Telling;
+
+impl<T> Split<Account<T>> for Telling {
+    ghost use Rattle.std.specs.Prelude.{Some};
+    ghost use Rattle.mailboxes.specs.Ledger.{one_made, tells, new_pass};
+
+    ghost left = { λ a. one_made (tells a) };
+
+    ghost right = { λ a. new_pass (Some a.put) };
+}

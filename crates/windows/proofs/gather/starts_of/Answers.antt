@@ -1,0 +1,53 @@
+use Rattle.std.proofs.Common.{rules, ◌≡◌, ◌≤◌, ◌+◌, ◌∷◌, ◌++◌, [], length, map, refl, ap, sym, ◌∙◌, subst, vec_len, vec_capacity, arith}
+use Rattle.std.specs.List.{All}
+use Rattle.std.specs.Vec.Iter.{into_iter_items}
+use Rattle.std.proofs.lemmas.List.Elements.{All-nil, All-push, All-same, All-head, All-tail}
+use Rattle.mailboxes.specs.Mailboxes.{MailboxesView, mailboxes_of, unused}
+use Rattle.windows.specs.Deques.{HandView, deques_of, all_put, IsDealt}
+use Rattle.windows.specs.Workers.{IsFresh}
+use Rattle.windows.specs.declared.workers.Start.{Start}
+use Rattle.windows.proofs.Deals.{map_turn}
+use Rattle.windows.proofs.gather.starts_of.Goals as goal
+
+pub loop-hand-init : goal.loop-hand-init
+loop-hand-init g c =
+    let m = c.args.mailboxes.now in
+    let dealer = c.args.dealer in
+    let hands = c.in_ok-hands.hands in
+    let none = c.in_ok-starts.ensures.items in
+    let all : into_iter_items c.into_iter-hand-iterator.result ≡ hands.items = c.into_iter-hand-iterator.ensures.into_iter_gives.0 in
+    let many : length (into_iter_items c.into_iter-hand-iterator.result) ≡ vec_len hands = ap length all ∙ sym hands.ok.0 in
+    let Fresh : Start _ → Type 0 = λ b. IsFresh (deques_of dealer) m.mailboxes b.hand b.slip in
+    let Knows : Start _ → Type 0 = λ b. b.hand.known ≡ all_put dealer in
+    let zero : m.slips ≡ m.slips + vec_len c.in_ok-starts.starts = omega (arith, c.in_ok-starts.ensures.len) in
+    record {
+      own = (λ i. map (λ (b : Start _). b.hand.own) (none i) ++ map (λ (h : HandView _). h.own) (all i)) ∙ c.in_ok-hands.ensures.own;
+      slips = ap (mailboxes_of m.mailboxes) zero;
+      fresh = All-same Fresh _ [] none (All-nil Fresh);
+      known = All-same Knows _ [] none (All-nil Knows);
+      left = subst (All (IsDealt dealer)) (sym all) c.in_ok-hands.ensures.hands;
+      room = omega (arith, many, c.in_ok-starts.ensures.len, c.in_ok-starts.ensures.capacity, c.len.ensures);
+    }
+
+pub loop-hand-preserved : goal.loop-hand-preserved
+loop-hand-preserved g c =
+    let inv = c.loop-hand.invariant in
+    let m = c.args.mailboxes.now in
+    let all = c.args.dealer in
+    let h = c.in-Some.hand in
+    let left = into_iter_items c.next.new.self in
+    let e : into_iter_items c.loop-hand.hand-iterator ≡ h ∷ left = c.in-Some.ensures.steps.0 in
+    let Fresh : Start _ → Type 0 = λ b. IsFresh (deques_of all) m.mailboxes b.hand b.slip in
+    let Knows : Start _ → Type 0 = λ b. b.hand.known ≡ all_put all in
+    let is : IsDealt all h = All-head (IsDealt all) h left (subst (All (IsDealt all)) e inv.left) in
+    let starts = c.loop-hand.starts.items in
+    let more : c.push_reserved.new.self.items ≡ starts ++ record { hand = h; slip = c.in_ok-slip.slip } ∷ [] = c.push_reserved.ensures.items in
+    let same : c.loop-hand.mailboxes.mailboxes ≡ m.mailboxes = ap (λ (v : MailboxesView). v.mailboxes) inv.slips in
+    record {
+      own = map_turn (λ (b : Start _). b.hand.own) (λ (v : HandView _). v.own) starts _ (record { hand = h; slip = c.in_ok-slip.slip }) _ left h all more e refl inv.own;
+      slips = c.in_ok-slip.ensures.mailboxes ∙ (λ i. mailboxes_of ((inv.slips i).mailboxes) ((inv.slips i).slips + 1)) ∙ ap (mailboxes_of m.mailboxes) (omega (arith, c.push_reserved.ensures.len));
+      fresh = All-same Fresh _ _ more (All-push Fresh starts _ inv.fresh (record { of_deques = is.0; none_taken = is.2; none_posted = c.in_ok-slip.ensures.slip ∙ ap unused same }));
+      known = All-same Knows _ _ more (All-push Knows starts _ inv.known is.1);
+      left = All-tail (IsDealt all) h left (subst (All (IsDealt all)) e inv.left);
+      room = subst (λ n. vec_len c.push_reserved.new.self + length left ≤ n) (sym c.push_reserved.ensures.capacity) (omega (arith, inv.room, ap length e, c.push_reserved.ensures.len));
+    }

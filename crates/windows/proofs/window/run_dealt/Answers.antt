@@ -1,0 +1,48 @@
+use Rattle.std.proofs.Common.{rules, ◌≡◌, map, sym, ap, ◌∙◌, subst}
+use Rattle.std.specs.List.{All}
+use Rattle.std.proofs.lemmas.List.Elements.{All-weaker}
+use Rattle.windows.specs.Deques.{deques_of, all_put}
+use Rattle.windows.specs.Shared.{AreReady, IsOneTooLong, IsFreshIn, IsStart, IsWorkIn}
+use Rattle.windows.specs.Workers.{dealt_to, BringsTogether}
+use Rattle.windows.specs.declared.workers.Start.{Start}
+use Rattle.windows.specs.declared.workers.Work.{Work}
+use Rattle.windows.proofs.Gathered.{all_both, run_of_parts}
+use Rattle.windows.proofs.window.run_dealt.Goals as goal
+
+pub in_threads-requires-clause-starts : goal.in_threads-requires-clause-starts
+in_threads-requires-clause-starts g c κs within =
+    let w = c.args.shared.now in
+    let Knows : Start _ → Type 0 = λ s. s.hand.known ≡ dealt_to c.args.starts.items in
+    all_both (IsFreshIn w) Knows (IsStart g.M.Process.mind w) (λ s f k. (f, subst (AreReady g.M.Process.mind w.window.now) (sym k) c.requires.ready))
+    c.args.starts.items c.requires.fresh c.requires.known
+
+pub returns-in_err-works-clause-limit : goal.returns-in_err-works-clause-limit
+returns-in_err-works-clause-limit g c is = c.in_threads.ensures.limit (search rules) (dealt_to c.args.starts.items) c.requires.known
+
+pub gather-requires : goal.gather-requires
+gather-requires g c =
+    let w = c.args.shared.now in
+    let OfAll : Work _ → Type 0 = λ x. x.hand.deques ≡ deques_of (map (λ (y : Work _). y.hand.own) c.in_ok-works.works.items) in
+    let same : w.fronts.now.items ≡ deques_of (map (λ (y : Work _). y.hand.own) c.in_ok-works.works.items) = c.requires.deques ∙ ap deques_of (sym c.in_ok-works.ensures.own) in
+    (search rules, All-weaker (IsWorkIn g.M.Process.mind w) OfAll (λ x is. is.of_deques ∙ same) c.in_ok-works.works.items c.in_ok-works.ensures.works)
+
+pub run_rest-requires-clause-ready : goal.run_rest-requires-clause-ready
+run_rest-requires-clause-ready g c κs within =
+    let put : all_put c.in_ok-rest.rest.own ≡ dealt_to c.args.starts.items = ap all_put (c.in_ok-rest.ensures.own ∙ c.in_ok-works.ensures.own) in
+    subst (AreReady g.M.Process.mind c.args.shared.now.window.now) (sym put) c.requires.ready
+
+pub returns-in_err-last-clause-limit : goal.returns-in_err-last-clause-limit
+returns-in_err-last-clause-limit g c is =
+    let put : all_put c.in_ok-rest.rest.own ≡ dealt_to c.args.starts.items = ap all_put (c.in_ok-rest.ensures.own ∙ c.in_ok-works.ensures.own) in
+    subst (IsOneTooLong g.M.Process.mind c.args.shared.now.window.now) put (c.run_rest.ensures.limit (search rules))
+
+pub returns-clause-run : goal.returns-clause-run
+returns-clause-run g c =
+    let w = c.args.shared.now in
+    let put : all_put c.in_ok-rest.rest.own ≡ dealt_to c.args.starts.items = ap all_put (c.in_ok-rest.ensures.own ∙ c.in_ok-works.ensures.own) in
+    let same : w.fronts.now.items ≡ deques_of (map (λ (y : Work _). y.hand.own) c.in_ok-works.works.items) = c.requires.deques ∙ ap deques_of (sym c.in_ok-works.ensures.own) in
+    let brings = subst (λ d. BringsTogether g.M.Process.mind d c.in_ok-works.works.items c.in_ok-rest.rest.taken c.in_ok-rest.done.items c.in_ok-rest.slips.items) (sym same) c.in_ok-rest.ensures.works in
+    let are = brings _ _ _ c.in_ok-works.ensures.works in
+    run_of_parts g.M.Process.mind w.window.now.streams w.window.now.end w.mailboxes.now _ _ c.in_ok-rest.rest c.run_rest.new.rest (dealt_to c.args.starts.items)
+    c.in_ok-rest.done.items c.in_ok-last.last.items c.append.new.self.items c.in_ok-rest.slips.items c.push.new.self.items c.in_ok-last.slip
+    are c.in_ok-last.ensures.rest (search rules) (search rules) put c.in_ok-append.ensures.items c.in_ok-push.ensures.items w.boxes

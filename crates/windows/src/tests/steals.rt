@@ -1,0 +1,135 @@
+//! Workers that are held, so that others take what is theirs.
+ghost use Rattle.std.specs.Prelude.{◌≡◌, IfOk};
+ghost use Rattle.scenario.specs.Opening.{mind_of};
+
+use super::machines::{coordinator, make_all};
+use super::{COORDINATORS, are_same};
+use crate::{Gate, Plan, run_windows};
+use event_list::run_list;
+use process_api::{Pid, Process};
+use scenario::{Opening, read_scenario};
+use std::alloc::AllocError;
+use std::sync::Wait;
+use std::sync::atomic::{AtomicU64, Ordering};
+use std::test::Fail;
+use std::thread;
+
+/// How often a held worker looks, and yields, before it is let go.
+const TURNS: u32 = 2_000_000;
+
+/// A gate that holds worker 1 in its first call until worker 2 has made two.
+#[derive(Drop)]
+struct Holding {
+    // how many calls each has made
+    by_first: AtomicU64,
+    by_second: AtomicU64,
+    // how many calls worker 2 had made as worker 1 was let go
+    seen: AtomicU64,
+}
+
+impl Gate for Holding {
+    fn entered<R: Wait>(&self, _rt: &R, worker: u16, _pid: Pid) {
+        if worker == 2 {
+            self.by_second.fetch_add(1, Ordering::SeqCst);
+        }
+        if worker != 1 || self.by_first.fetch_add(1, Ordering::SeqCst) > 0 {
+            return;
+        }
+        for _ in 0..TURNS {
+            if self.by_second.load(Ordering::SeqCst) >= 2 {
+                break;
+            }
+            thread::yield_now();
+        }
+        let seen = self.by_second.load(Ordering::SeqCst);
+        self.seen.store(seen, Ordering::SeqCst);
+    }
+}
+
+/// Three processes and two workers: the first and the third process are dealt to worker 1. While that is held with the
+/// one, worker 2 takes its own and then steals the other.
+#[test]
+fn stolen_from_a_held_worker(rt: HostRuntime) -> Result<(), Fail> {
+    let alloc = rt.alloc();
+    let scenario = read_scenario(alloc, COORDINATORS.as_bytes())?;
+    let machines = make_all(
+        alloc,
+        &scenario,
+        |opening: Opening| -> Result<Box<dyn Process>, AllocError>
+            ensures { IfOk result (λ made. mind made ≡ mind_of opening) }
+        { Ok(Box::new(alloc, coordinator(alloc, &opening)?)?) },
+    )?;
+    let list = run_list(alloc, &scenario, machines)?;
+    let machines = make_all(
+        alloc,
+        &scenario,
+        |opening: Opening| -> Result<Box<dyn Process>, AllocError>
+            ensures { IfOk result (λ made. mind made ≡ mind_of opening) }
+        { Ok(Box::new(alloc, coordinator(alloc, &opening)?)?) },
+    )?;
+    let plan = Plan::new(&scenario, 2, 2)?;
+    let gate = Holding {
+        by_first: AtomicU64::new(0),
+        by_second: AtomicU64::new(0),
+        seen: AtomicU64::new(0),
+    };
+    let windows = run_windows(&rt, alloc, &scenario, machines, &plan, &gate)?;
+    assert!(rt; gate.seen.load(Ordering::SeqCst) >= 2);
+    assert!(rt; are_same(windows.entries(), list.entries()));
+    Ok(())
+}
+
+/// A gate that holds each worker in its first call until both have made one, and keeps whom they took.
+#[derive(Drop)]
+struct Meeting {
+    calls: AtomicU64,
+    // the number of the first process that each took, and 0 before
+    first: AtomicU64,
+    second: AtomicU64,
+}
+
+impl Gate for Meeting {
+    fn entered<R: Wait>(&self, _rt: &R, worker: u16, pid: Pid) {
+        let number = u64::from(pid.number());
+        let taken = if worker == 1 {
+            &self.first
+        } else {
+            &self.second
+        };
+        if taken.load(Ordering::SeqCst) == 0 {
+            taken.store(number, Ordering::SeqCst);
+        }
+        self.calls.fetch_add(1, Ordering::SeqCst);
+        for _ in 0..TURNS {
+            if self.calls.load(Ordering::SeqCst) >= 2 {
+                break;
+            }
+            thread::yield_now();
+        }
+    }
+}
+
+/// A worker begins with its own deque, and the processes are dealt by rising number: while nobody steals, worker 1
+/// takes process 1, and worker 2 process 2.
+#[test]
+fn dealt_by_rising_number(rt: HostRuntime) -> Result<(), Fail> {
+    let alloc = rt.alloc();
+    let scenario = read_scenario(alloc, COORDINATORS.as_bytes())?;
+    let machines = make_all(
+        alloc,
+        &scenario,
+        |opening: Opening| -> Result<Box<dyn Process>, AllocError>
+            ensures { IfOk result (λ made. mind made ≡ mind_of opening) }
+        { Ok(Box::new(alloc, coordinator(alloc, &opening)?)?) },
+    )?;
+    let plan = Plan::new(&scenario, 2, 2)?;
+    let gate = Meeting {
+        calls: AtomicU64::new(0),
+        first: AtomicU64::new(0),
+        second: AtomicU64::new(0),
+    };
+    run_windows(&rt, alloc, &scenario, machines, &plan, &gate)?;
+    assert_eq!(rt; gate.first.load(Ordering::SeqCst), 1);
+    assert_eq!(rt; gate.second.load(Ordering::SeqCst), 2);
+    Ok(())
+}
