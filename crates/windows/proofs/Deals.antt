@@ -1,14 +1,14 @@
 -- What is dealt to the workers, and what comes back from them.
-use Rattle.std.proofs.Common.{◌≡◌, ◌≢◌, ◌⊎◌, inl, inr, ℕ, zero, suc, ◌+◌, ◌-◌, ◌<◌, ◌≤◌, ◌%◌, if◌then◌else◌, List, [], ◌∷◌, ◌++◌, length, map, set, get_or, nat_eq, Bool, true, false, Option, Some, None, MatchOption, refl, sym, ap, ◌∙◌, subst, append_assoc, append-nil, arith}
+use Rattle.std.proofs.Common.{◌≡◌, ◌⊎◌, inl, inr, ℕ, zero, suc, ◌+◌, ◌-◌, ◌<◌, ◌≤◌, ◌%◌, if◌then◌else◌, List, [], ◌∷◌, ◌++◌, length, map, set, get_or, nat_eq, Bool, true, false, Some, None, refl, sym, ap, ◌∙◌, subst, append_assoc, append-nil, arith}
 use Rattle.std.specs.List.{All, Contains, flat_map}
 use Rattle.std.specs.List.Sorted.{IsPermutation}
 use Rattle.std.proofs.lemmas.Bool.{cases_eq, eq-eqb, ne_eqb}
 use Rattle.std.proofs.lemmas.List.{length-map, map-append}
 use Rattle.std.proofs.lemmas.List.Concat.{flat_map-append}
-use Rattle.std.proofs.lemmas.List.Elements.{All-nil, All-cons, All-head, All-tail, All-weaker, Contains-append_left, Contains-append_right}
-use Rattle.std.proofs.lemmas.List.Sorted.{IsPermutation-refl, IsPermutation-trans, IsPermutation-sym, IsPermutation-append_left, IsPermutation-append_right, IsPermutation-append_comm}
+use Rattle.std.proofs.lemmas.List.Elements.{All-nil, All-cons, All-head, All-tail, Contains-append_left, Contains-append_right}
+use Rattle.std.proofs.lemmas.List.Sorted.{IsPermutation-refl, IsPermutation-trans, IsPermutation-append_left, IsPermutation-append_right, IsPermutation-append_comm}
 use Rattle.mailboxes.specs.Places.{each_with}
-use Rattle.windows.specs.Deques.{DequeId, Dealt, OwnerView, PermitView, HandView, RestView, owner_of, rest_of, deques_of, dealt_of, all_put, one_out, many_out, blank, one_back, MayTell, HasTold, AreBlank, IsDealt, with_item, share_from, AreShares, CameBack, Popped, TookLast}
+use Rattle.windows.specs.Deques.{DequeId, Dealt, OwnerView, PermitView, HandView, RestView, rest_of, deques_of, dealt_of, all_put, one_out, many_out, blank, one_back, MayTell, HasTold, AreBlank, with_item, share_from, AreShares, CameBack, Popped, TookLast}
 use Rattle.windows.proofs.Dealings.{flat_more, map_same_at, hand_at}
 
 any_default : {A : Type 0} (xs : List A) (i : ℕ) (d e : A) → i < length xs → get_or xs i d ≡ get_or xs i e

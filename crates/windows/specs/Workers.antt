@@ -12,7 +12,7 @@ use Rattle.event_list.specs.declared.error.RunError.TheVariants.{Limit}
 use Rattle.mailboxes.specs.Mailbox.{MailboxId}
 use Rattle.mailboxes.specs.Mailboxes.{SlipView, IsSlipOf, unused, list_of, posted_to}
 use Rattle.windows.specs.Berth.{IsBerth, IsLong, RanTo, with_letters}
-use Rattle.windows.specs.Deques.{DequeId, Dealt, HandView, RestView, all_put}
+use Rattle.windows.specs.Deques.{DequeId, HandView, RestView, all_put}
 use Rattle.windows.specs.Refusals.{IsRefusalOfOne}
 use Rattle.windows.specs.declared.berth.Berth.{Berth}
 use Rattle.windows.specs.declared.workers.Start.{Start}
@@ -81,8 +81,8 @@ module _ {M : Type 0} where
       pub of_deques : hand.deques ≡ deques
       pub run : AreRunBy end mailboxes hand.taken slip done
 
-    -- A worker answers its work, with the deque that was its own; or that memory was refused; or the limit, where one of
-    -- the berths that it knows is too long
+    -- A worker answers its work, with the deque that was its own; or that memory was refused; or the limit, where one
+    -- of the berths that it knows is too long
     pub record IsAnswer (end left : ℕ) (deques : List DequeId) (mailboxes : List MailboxId)
         (hand : HandView (Berth M)) (r : Result (Work M) RunError) : Type 0 where
       pub own : IfOk r (λ w. w.hand.own ≡ hand.own)

@@ -52,7 +52,8 @@ impl<T> Model for Permit<T> {
 
     ghost Value = { PermitView T };
 
-    ghost view = { λ p. permit_of (p.pass.rows, p.pass.heap) (told_in (handles.view p.pass).told) (handles.view p.pass).taken };
+    ghost view = { λ p. permit_of (p.pass.rows, p.pass.heap)
+        (told_in (handles.view p.pass).told) (handles.view p.pass).taken };
 
     ghost invariant = { λ p. (p.pass.me.hand ≡ None) × (p.pass.me.spare ≡ None) × (handles.view p.pass
         ≡ has_taken (new_pass (Some (told_in (handles.view p.pass).told))) (handles.view p.pass).taken) };

@@ -20,13 +20,14 @@
 //! makes, so it is enough to run each process to the window's end, wherever and whenever that happens.
 //!
 //! The code runs it so. A [`Stage`] has a [`Berth`] for each process: its machine, its pending events, and its part of
-//! the trace. [`run_window`] takes a worker for each process that has an event below the window's end, but no more than
-//! the plan has, and deals these processes to the workers' deques in turn, by rising number. Then it starts the workers,
-//! each a thread. A worker takes a berth, tells the [`Gate`], and has [`run_berth`] run it to the window's end; it pops
-//! its own deque, and when that is empty it steals from the others, the next one first, until it found each empty. When
-//! all workers are joined, the starter takes what is left in the deques, the mailboxes are emptied and the parts are
-//! merged. Where several refusals are met, that of a thread is answered before that of memory, and this before that of
-//! a place in the trace. The merged part goes to a [`Sink`], and the next window opens at the least pending tick.
+//! the trace. [`run_window`] takes a worker for each process that has an event below the window's end, but no more
+//! than the plan has, and deals these processes to the workers' deques in turn, by rising number. Then it starts the
+//! workers, each a thread. A worker takes a berth, tells the [`Gate`], and has [`run_berth`] run it to the window's
+//! end; it pops its own deque, and when that is empty it steals from the others, the next one first, until it found
+//! each empty. When all workers are joined, the starter takes what is left in the deques, the mailboxes are emptied
+//! and the parts are merged. Where several refusals are met, that of a thread is answered before that of memory, and
+//! this before that of a place in the trace. The merged part goes to a [`Sink`], and the next window opens at the
+//! least pending tick.
 //!
 //! That each berth comes out of the deques once rests on the ledger of the crate `mailboxes`: of each deque, what was
 //! put is, counted with repetitions, what all passes have taken and what it holds, and whoever pops or steals gets one

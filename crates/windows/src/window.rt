@@ -171,9 +171,10 @@ pub(crate) fn cut_at(end: u32, horizon: u32) -> u32
 }
 
 /// Runs the next window of a stage. The smaller of the plan's workers and the number of processes with an event below
-/// the window's end are started, each a thread. These processes are dealt to the workers in turn; a worker takes its own
-/// one after the other, then those of others that are left, and runs them; and the workers are joined. Then the letters are delivered, and the parts of the trace are merged. Answers the merged part. The next
-/// window starts at the least pending tick, so that none is opened in which nothing happens.
+/// the window's end are started, each a thread. These processes are dealt to them in turn; a worker takes its own, one
+/// after the other, then those of others that are left, and runs them; and the workers are joined. Then the letters are
+/// delivered, and the parts of the trace are merged. Answers the merged part. The next window starts at the least
+/// pending tick, so that none is opened in which nothing happens.
 ///
 /// # Errors
 ///

@@ -1,4 +1,5 @@
-//! The workers of a window: each takes berths, its own and then others', until none is left, runs them, and gives them back when it is joined.
+//! The workers of a window: each takes berths, its own and then others', until none is left, runs them, and gives them
+//! back when it is joined.
 ghost use Rattle.std.specs.Prelude.{◌≡◌, ◌≤◌, IfOk, IfErr, IsErrOf, Ok, vec_len};
 ghost use Rattle.std.specs.List.{All};
 ghost use Rattle.std.specs.Thread.{IsSync};
@@ -36,8 +37,8 @@ pub(crate) struct Work<M> {
 /// holds no lock. `worker` is its number in this window.
 ///
 /// Nothing is put into a deque once the workers have begun, so one that was found empty stays empty. That a worker goes
-/// on until then stands in no clause, since an empty deque leaves no record: a test shows that the starter finds nothing
-/// left.
+/// on until then stands in no clause, since an empty deque leaves no record: a test shows that the starter finds
+/// nothing left.
 ///
 /// # Errors
 ///

@@ -1,8 +1,8 @@
 use Rattle.std.proofs.Common.{◌≡◌, [], ◌∷◌, ◌++◌, map, sym, ap, ◌∙◌, subst, add-one, rules}
 use Rattle.std.specs.Global.{Vec}
 use Rattle.std.specs.List.{All}
-use Rattle.std.proofs.lemmas.List.Elements.{All-nil, All-same, All-push}
-use Rattle.windows.specs.Deques.{PermitView, MayTell, one_out, many_out, blank}
+use Rattle.std.proofs.lemmas.List.Elements.{All-same, All-push}
+use Rattle.windows.specs.Deques.{MayTell, one_out, blank}
 use Rattle.windows.proofs.Deals.{many_may, many_more, none_more, many_blank}
 use Rattle.windows.proofs.deal.all_permits.Goals as goal
 

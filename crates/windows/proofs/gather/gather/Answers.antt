@@ -1,11 +1,11 @@
-use Rattle.std.proofs.Common.{rules, ◌≡◌, ◌≤◌, ◌+◌, ◌∷◌, ◌++◌, [], length, map, refl, sym, ap, ◌∙◌, subst, append-nil, vec_len, vec_capacity, arith}
+use Rattle.std.proofs.Common.{◌≡◌, ◌≤◌, ◌+◌, ◌∷◌, ◌++◌, [], length, map, refl, sym, ap, ◌∙◌, subst, append-nil, vec_len, arith}
 use Rattle.std.specs.List.{All, flat_map}
 use Rattle.std.specs.List.Sorted.{IsPermutation}
 use Rattle.std.specs.Vec.Iter.{into_iter_items}
 use Rattle.std.proofs.lemmas.List.Elements.{All-nil, All-push, All-same, All-head, All-tail}
 use Rattle.std.proofs.lemmas.List.Sorted.{IsPermutation-refl}
 use Rattle.windows.specs.Deques.{HandView, deques_of}
-use Rattle.windows.specs.Workers.{IsWork, AreWorks}
+use Rattle.windows.specs.Workers.{IsWork}
 use Rattle.windows.specs.declared.workers.Work.{Work}
 use Rattle.windows.proofs.Deals.{map_turn, flat_push, none_left}
 use Rattle.windows.proofs.Gathered.{works_none, works_more, works_taken}

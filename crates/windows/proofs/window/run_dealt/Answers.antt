@@ -1,5 +1,4 @@
 use Rattle.std.proofs.Common.{rules, ◌≡◌, map, sym, ap, ◌∙◌, subst}
-use Rattle.std.specs.List.{All}
 use Rattle.std.proofs.lemmas.List.Elements.{All-weaker}
 use Rattle.windows.specs.Deques.{deques_of, all_put}
 use Rattle.windows.specs.Shared.{AreReady, IsOneTooLong, IsFreshIn, IsStart, IsWorkIn}

@@ -1,5 +1,5 @@
 use Rattle.std.proofs.lemmas.List.{length-map}
-use Rattle.std.proofs.Common.{◌≡◌, ◌<◌, length, sym, ap, ◌∙◌, subst, Result, Ok, Err, OnOk}
+use Rattle.std.proofs.Common.{◌<◌, length, sym, ap, ◌∙◌, subst, Result, Ok, Err, OnOk}
 use Rattle.windows.specs.Deques.{dealt_of, with_item}
 use Rattle.windows.proofs.Deals.{put_is}
 use Rattle.windows.proofs.deal.Dealer.put.Goals as goal

@@ -1,4 +1,4 @@
-use Rattle.std.proofs.Common.{rules, ◌≡◌, ◌-◌, refl, sym, ap, ◌∙◌, subst, map}
+use Rattle.std.proofs.Common.{◌≡◌, ◌-◌, refl, sym, ap, ◌∙◌, subst, map}
 use Rattle.std.specs.List.{flat_map}
 use Rattle.windows.specs.Deques.{RestView, deques_of, CameBack}
 use Rattle.windows.proofs.Deals.{from_deque, deque_of, stolen_by, dealt_deques, rest_at, came_back, counts_back}

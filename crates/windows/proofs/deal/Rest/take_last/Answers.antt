@@ -2,7 +2,7 @@ use Rattle.std.proofs.Common.{rules, ◌≡◌, ◌<◌, ◌≤◌, refl, sym, a
 use Rattle.std.specs.List.Sorted.{IsPermutation}
 use Rattle.std.proofs.lemmas.List.{set-get_or}
 use Rattle.std.proofs.lemmas.List.Elements.{All-get_or}
-use Rattle.windows.specs.Deques.{OwnerView, RestView, all_put, TookLast}
+use Rattle.windows.specs.Deques.{RestView, all_put, TookLast}
 use Rattle.windows.proofs.Deals.{Counts, rest_at, took_last, emptied_more, emptied_all}
 use Rattle.windows.proofs.deal.Rest.take_last.Goals as goal
 

@@ -1,4 +1,4 @@
-use Rattle.std.proofs.Common.{◌≡◌, vec_len}
+use Rattle.std.proofs.Common.{◌≡◌}
 use Rattle.windows.proofs.Deals.{Emptied}
 use Rattle.windows.proofs.deal.Rest.take_last.Given as goal
 

@@ -1,8 +1,8 @@
-use Rattle.std.proofs.Common.{◌≡◌, ◌<◌, ◌+◌, ◌%◌, ℕ, refl, sym, ap, ◌∙◌, subst, length, set, arith}
+use Rattle.std.proofs.Common.{◌≡◌, ◌<◌, ◌+◌, ◌%◌, ℕ, sym, ap, ◌∙◌, subst, length, set, arith}
 use Rattle.std.proofs.lemmas.Nat.{mod_below}
 use Rattle.std.proofs.lemmas.List.{length-map}
 use Rattle.windows.specs.Deques.{HandView, PermitView, TookOne}
-use Rattle.windows.proofs.Dealings.{hand_at, hand_stole, hand_same, known_same}
+use Rattle.windows.proofs.Dealings.{hand_at, hand_stole, known_same}
 use Rattle.windows.proofs.Deals.{holds_still, known_in}
 use Rattle.windows.proofs.hand.Hand.steal.Goals as goal
 
