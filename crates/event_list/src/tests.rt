@@ -35,3 +35,26 @@ fn takes_least_first(rt: HostRuntime) -> Result<(), Fail> {
     assert_eq!(rt; pending.least_tick(), None);
     Ok(())
 }
+
+/// So many events of one tick that they are put in order by way of lanes.
+#[test]
+fn takes_many_in_order(rt: HostRuntime) -> Result<(), Fail> {
+    let mut pending = Pending::new(rt.alloc());
+    for place in 0..30u64 {
+        // receivers in turn, with numbers that don't rise
+        let receiver = place as u16 % 5 + 1;
+        pending.join(
+            key_of(7, receiver, place * 7 % 30)?,
+            StepInput::Wake(Tag::Beat),
+        )?;
+    }
+    let mut last = (0u16, 0u64);
+    for _place in 0..30 {
+        let (key, _) = pending.take_least()?.ok_or("nothing is pending")?;
+        let next = (key.receiver.number(), key.number);
+        assert!(rt; last.0 < next.0 || last.0 == next.0 && last.1 < next.1);
+        last = next;
+    }
+    assert!(rt; pending.take_least()?.is_none());
+    Ok(())
+}
