@@ -12,9 +12,10 @@
 //!
 //! The one contract is that of [`serve::serve`]: with status 0 the outlet grows by what the words ask for, which for
 //! `list` and `run` is the texts of the scenario's one trace, and for `compare` is `same`; with status 4 by a front
-//! part of it; with another status by nothing. The texts are defined by `qos_report`, in its `specs/TraceText.antt`
-//! and `specs/ReportText.antt`, the trace by the event list's definitions, and the words by `command_line`. The
-//! process ends with the status, by the contract of [`serve::finish`].
+//! part of it; with another status by nothing, but that a `run` of status 3 may leave the trace's first line and rows.
+//! The texts are defined by `qos_report`, in its `specs/TraceText.antt` and `specs/ReportText.antt`, the trace by the
+//! event list's definitions, and the words by `command_line`. The process ends with the status, by the contract of
+//! [`serve::finish`].
 //!
 //! For example, `fdbench list - --print trace` on a file with two processes and a horizon of 1 tick prints the header
 //! and two rows of kind `start`, and `fdbench compare - --workers 2 --window 1` on the same file prints `same`.
