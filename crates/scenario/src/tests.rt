@@ -1,6 +1,7 @@
 //! Files that are read, and files that are refused.
 mod accepted;
 mod corners;
+mod cuts;
 mod least;
 mod refused;
 mod sizes;

@@ -2,8 +2,10 @@
 //! in a given order, and workers that are watched.
 mod calls;
 mod machines;
+mod odd;
 mod orders;
 mod plans;
+mod refused;
 mod rows;
 mod sinks;
 mod starts;
