@@ -1,4 +1,6 @@
 //! Outlets that fail.
+ghost use Rattle.std.specs.Prelude.{IfOk};
+ghost use Rattle.fdbench.specs.Mode.{IsModeFor};
 
 use crate::bench::{Mode, bench};
 use crate::serve::{finish, serve};
@@ -6,10 +8,16 @@ use crate::tests::files::{ONE_CRASH, ONE_PROCESS};
 use crate::tests::runs::printed;
 use event_list::RunError;
 use qos_report::{FuseOutlet, MemoryOutlet, Outlet, PrintChoice, StreamOutlet, put_all};
-use scenario::read_scenario;
+use scenario::{Scenario, read_scenario};
+use std::alloc::Global;
 use std::io::{self, Write};
-use std::process::ExitCode;
+use std::marker::Sync;
+use std::process::{Abort, ExitCode};
+use std::rt::Files;
+use std::sync::Wait;
 use std::test::Fail;
+use std::thread::Threads;
+use windows::Plan;
 
 /// A writer that takes everything and cannot send it on.
 #[derive(Drop)]
@@ -70,60 +78,107 @@ fn full_writer(rt: HostRuntime) -> Result<(), Fail> {
     Ok(())
 }
 
-/// An outlet that takes one byte at a time gets every byte of both texts.
+/// By the list, or by two workers and windows of 2 ticks.
+fn mode_of(scenario: &Scenario, by_windows: bool) -> Result<Mode, Fail>
+    ensures { IfOk result (λ mode. IsModeFor scenario.now mode) }
+{
+    if by_windows {
+        Ok(Mode::Windows(Plan::new(scenario, 2, 2)?))
+    } else {
+        Ok(Mode::List)
+    }
+}
+
+/// An outlet that takes one byte at a time gets every byte of what is asked for.
+fn takes_every_byte<R: Files + Threads + Wait + Sync + Abort>(
+    rt: &R,
+    alloc: Global,
+    by_windows: bool,
+    print: PrintChoice,
+    word: &str,
+) -> Result<(), Fail> {
+    let scenario = read_scenario(alloc, ONE_CRASH.as_bytes())?;
+    let want = printed(rt, alloc, word, ONE_CRASH)?;
+    let mode = mode_of(&scenario, by_windows)?;
+    let mut outlet = FuseOutlet::new(alloc, 1, u64::MAX);
+    let summary = bench(rt, alloc, &scenario, mode, print, &mut outlet)?;
+    assert!(rt; outlet.bytes() == want.as_bytes());
+    assert_eq!(rt; outlet.failures(), 0);
+    assert_eq!(rt; summary.entries, 12);
+    Ok(())
+}
+
 #[test]
 fn byte_by_byte(rt: HostRuntime) -> Result<(), Fail> {
-    let alloc = rt.alloc();
-    let scenario = read_scenario(alloc, ONE_CRASH.as_bytes())?;
     for (print, word) in [
         (PrintChoice::Trace, "trace"),
         (PrintChoice::Report, "report"),
         (PrintChoice::Both, "both"),
     ] {
-        let want = printed(&rt, alloc, word, ONE_CRASH)?;
-        let mut outlet = FuseOutlet::new(alloc, 1, u64::MAX);
-        let summary = bench(&rt, alloc, &scenario, Mode::List, print, &mut outlet)?;
-        assert!(rt; outlet.bytes() == want.as_bytes());
-        assert_eq!(rt; outlet.failures(), 0);
-        assert_eq!(rt; summary.entries, 12);
+        takes_every_byte(&rt, rt.alloc(), false, print, word)?;
+        takes_every_byte(&rt, rt.alloc(), true, print, word)?;
     }
     Ok(())
 }
 
-/// An outlet that fails at a write, be it the first or a later one, holds what went out before, and nothing is tried
-/// again.
+/// Whether a run of both texts ends well over an outlet that takes at most `most` bytes at a put, `times` times. If
+/// not, the outlet holds what went out before, and nothing was tried again.
+fn ends_well<R: Threads + Wait + Sync + Abort>(
+    rt: &R,
+    alloc: Global,
+    by_windows: bool,
+    most: usize,
+    times: u64,
+    whole: &[u8],
+) -> Result<bool, Fail> {
+    let scenario = read_scenario(alloc, ONE_CRASH.as_bytes())?;
+    let mode = mode_of(&scenario, by_windows)?;
+    let mut outlet = FuseOutlet::new(alloc, most, times);
+    match bench(rt, alloc, &scenario, mode, PrintChoice::Both, &mut outlet) {
+        Ok(_) => {
+            assert_eq!(rt; outlet.failures(), 0);
+            assert!(rt; outlet.bytes() == whole);
+            Ok(true)
+        }
+        Err(error) => {
+            assert!(rt; matches!(error, RunError::Write));
+            assert_eq!(rt; outlet.failures(), 1);
+            assert!(rt; whole.starts_with(outlet.bytes()));
+            Ok(false)
+        }
+    }
+}
+
+/// A run makes so many puts: it fails at each of them, and ends well where none fails.
+fn fails_at_each_put<R: Threads + Wait + Sync + Abort>(
+    rt: &R,
+    alloc: Global,
+    by_windows: bool,
+    most: usize,
+    puts: u64,
+    whole: &[u8],
+) -> Result<(), Fail> {
+    for before in 0..puts {
+        let ended = ends_well(rt, alloc, by_windows, most, before, whole)?;
+        assert!(rt; !ended);
+    }
+    let ended = ends_well(rt, alloc, by_windows, most, puts, whole)?;
+    assert!(rt; ended);
+    Ok(())
+}
+
+/// An outlet that fails at a put, be it the first or a later one. By the list the whole text is one piece; by windows of
+/// 2 ticks the first line, the rows of each of five windows, and the report.
 #[test]
 fn each_write_fails(rt: HostRuntime) -> Result<(), Fail> {
     let alloc = rt.alloc();
-    let scenario = read_scenario(alloc, ONE_CRASH.as_bytes())?;
     let want = printed(&rt, alloc, "both", ONE_CRASH)?;
     let whole = want.as_bytes();
-    let writes = whole.len().div_ceil(16);
-    for before in 0..writes {
-        let mut outlet = FuseOutlet::new(alloc, 16, before as u64);
-        let ran = bench(
-            &rt,
-            alloc,
-            &scenario,
-            Mode::List,
-            PrintChoice::Both,
-            &mut outlet,
-        );
-        assert!(rt; matches!(ran, Err(RunError::Write)));
-        assert_eq!(rt; outlet.failures(), 1);
-        assert_eq!(rt; outlet.bytes().len(), before.saturating_mul(16));
-        assert!(rt; whole.starts_with(outlet.bytes()));
-    }
-    let mut outlet = FuseOutlet::new(alloc, 16, writes as u64);
-    bench(
-        &rt,
-        alloc,
-        &scenario,
-        Mode::List,
-        PrintChoice::Both,
-        &mut outlet,
-    )?;
-    assert!(rt; outlet.bytes() == whole);
+    let count = whole.len() as u64;
+    fails_at_each_put(&rt, alloc, false, usize::MAX, 1, whole)?;
+    fails_at_each_put(&rt, alloc, false, 1, count, whole)?;
+    fails_at_each_put(&rt, alloc, true, usize::MAX, 7, whole)?;
+    fails_at_each_put(&rt, alloc, true, 1, count, whole)?;
     Ok(())
 }
 

@@ -158,20 +158,91 @@ fn file_first(rt: HostRuntime) -> Result<(), Fail> {
     Ok(())
 }
 
-/// A limit of as many entries as the trace has is kept; with one less nothing is written. It is crossed inside the last
-/// window, from tick 8 to the horizon.
+/// The first line and the first ten rows of the trace of `ONE_CRASH`: those of its windows of 2 ticks but the last.
+const TEN_ROWS: &str = "tick,receiver,sender,number,kind,sent,lost,notes
+0,1,1,0,start,1,0,
+0,2,2,0,start,1,0,
+2,1,2,1,alive,0,0,
+2,2,1,1,alive,0,0,
+3,1,1,2,check,0,0,
+3,2,2,2,dead,0,0,
+4,1,1,1,beat,1,0,
+4,2,2,1,dead,0,0,
+6,1,1,3,check,0,0,
+6,2,1,2,dead,0,0,
+";
+
+/// By two workers and windows of 2 ticks a run of the file is refused for its limit, and has printed this.
+fn stops_at_limit<R: Files + Threads + Wait + Sync + Abort>(
+    rt: &R,
+    alloc: Global,
+    print: &str,
+    file: &str,
+    want: &str,
+) -> Result<(), Fail> {
+    let words = [
+        "run",
+        "-",
+        "--workers",
+        "2",
+        "--window",
+        "2",
+        "--print",
+        print,
+    ];
+    let ran = run(rt, alloc, &words, file.as_bytes())?;
+    assert_eq!(rt; ran.faults.as_str(), "fdbench: run: Limit\n");
+    assert_eq!(rt; ran.out.as_str(), want, "{print}");
+    assert_eq!(rt; ran.status, 3);
+    Ok(())
+}
+
+/// A limit of as many entries as the trace has is kept.
 #[test]
-fn limits(rt: HostRuntime) -> Result<(), Fail> {
+fn limit_kept(rt: HostRuntime) -> Result<(), Fail> {
     let alloc = rt.alloc();
     let enough = changed(alloc, ONE_CRASH, "seed = 1\n", "seed = 1\nlimit = 12\n")?;
     let want = printed(&rt, alloc, "trace", ONE_CRASH)?;
     prints_as_list(&rt, alloc, "trace", &enough)?;
     let kept = printed(&rt, alloc, "trace", &enough)?;
     assert_eq!(rt; kept.as_str(), want.as_str());
+    Ok(())
+}
+
+/// With one less it is crossed inside the last window, from tick 8 to the horizon: the rows of the windows before went
+/// out. By the list nothing did, nor of a report.
+#[test]
+fn limits(rt: HostRuntime) -> Result<(), Fail> {
+    let alloc = rt.alloc();
     let short = changed(alloc, ONE_CRASH, "seed = 1\n", "seed = 1\nlimit = 11\n")?;
-    for command in ["run", "compare"] {
-        let words = [command, "-", "--workers", "2", "--window", "2"];
+    assert_eq!(rt; TEN_ROWS.len(), 235);
+    for (print, want) in [("trace", TEN_ROWS), ("both", TEN_ROWS), ("report", "")] {
+        stops_at_limit(&rt, alloc, print, &short, want)?;
+        let words = ["list", "-", "--print", print];
         refuses(&rt, alloc, &words, &short, "fdbench: run: Limit\n")?;
+    }
+    let words = ["compare", "-", "--workers", "2", "--window", "2"];
+    refuses(&rt, alloc, &words, &short, "fdbench: run: Limit\n")?;
+    Ok(())
+}
+
+/// The file of five processes with 64, of which the first window alone has more entries than the limit.
+#[test]
+fn limit_in_the_first_window(rt: HostRuntime) -> Result<(), Fail> {
+    let alloc = rt.alloc();
+    let mut proposals = String::from_str(alloc, "proposals = [1")?;
+    for _ in 1..64u32 {
+        proposals.push_str(", 1")?;
+    }
+    proposals.push_str("]")?;
+    let file = changed(alloc, FIVE, "proposals = [1, 2, 3, 4, 5]", &proposals)?;
+    let file = changed(alloc, &file, "processes = 5", "processes = 64")?;
+    let file = changed(alloc, &file, "seed = 1\n", "seed = 1\nlimit = 1\n")?;
+    let header = "tick,receiver,sender,number,kind,sent,lost,notes\n";
+    for (print, want) in [("trace", header), ("report", "")] {
+        stops_at_limit(&rt, alloc, print, &file, want)?;
+        let words = ["list", "-", "--print", print];
+        refuses(&rt, alloc, &words, &file, "fdbench: run: Limit\n")?;
     }
     Ok(())
 }
