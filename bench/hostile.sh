@@ -3,7 +3,8 @@
 # by itself, with a status of the program's table, and where that is 0 with the same bytes as with ample means. Prints a
 # line for each kind of refusal, how many runs it had and how they ended; status 1 where one ended otherwise. The program
 # is proved and built first, where that is needed. As root it also tries a limit on threads, as nobody, and a full disk;
-# where there is a C compiler, it refuses each single request for memory in turn.
+# where there is a C compiler, it refuses each single request for memory in turn; then, too, no memory may be held when the
+# program ends.
 root=$(CDPATH='' cd -- "$(dirname -- "$0")/.." && pwd) || exit 1
 "$root/fdbench" --help > /dev/null || exit 1
 folder=$(mktemp -d) || exit 1
@@ -77,12 +78,17 @@ if cc -shared -fPIC -O1 -o "$folder/refuse.so" "$root/bench/refuse.c" 2> /dev/nu
             read -r -a words <<< "$command"
             for ((request = 1; ; request++)); do
                 rm -f "$folder/refused"
-                REFUSE=$request REFUSED=$folder/refused LD_PRELOAD=$folder/refuse.so \
+                REFUSE=$request REFUSED=$folder/refused LEFT=$folder/left LD_PRELOAD=$folder/refuse.so \
                     "$fdbench" "${words[0]}" "$file" "${words[@]:1}" --print both > "$folder/out" 2> "$folder/err"
                 status=$?
                 # beyond the last request
                 [ -e "$folder/refused" ] || break
                 ended "$status" "$folder/listed"
+                if [ -e "$folder/left" ]; then
+                    echo "wrong: $kind: memory is held at the end, request $request of $command, $example"
+                    wrong=$((wrong + 1))
+                    rm "$folder/left"
+                fi
             done
         done
     done

@@ -2,6 +2,7 @@
 use Rattle.std.proofs.Common.{◌≡◌, ◌≢◌, ◌⊎◌, ℕ, zero, suc, ◌+◌, ◌-◌, ◌*◌, ◌/◌, ◌%◌, ◌<◌, ◌≤◌, inl, inr, refl, sym, ap, ◌∙◌, subst, Bool, true, false, cond, ◌&&◌, not, arith, nat_lt, nat_le, nat_eq, Option, None, Some, is_some, unwrap_or, true≢false, List, [], ◌∷◌, ◌++◌, map, length, length-append, mod-lt, mod-eq_of_lt}
 use Rattle.std.proofs.Math.Nat.{mod-add-div', add-mul-mod_self_right, add-mod_right}
 use Rattle.std.proofs.lemmas.Bool.{ltb-false, eqb-true, eq-eqb}
+use Rattle.process_api.specs.Bounds.{most_processes, most_algorithm_actions}
 use Rattle.process_api.specs.Place.{Place, same_place}
 use Rattle.process_api.specs.Coordinator.{Kept, Coordinator, best_to, is_decided, is_opening, is_running, keep, keep_one, enter, leave, propose, reply, adopt, end_wait, waits_left, end_waits, is_timely, is_early, receive, begin, step_coordinator, opening_coordinator}
 use Rattle.process_api.specs.Answer.{Answer, to_all, after, still}
@@ -36,7 +37,7 @@ pub same_itself : (p : Place) → same_place p p ≡ true
 same_itself p = λ i. eq-eqb p.own p.own refl i && (eq-eqb p.processes p.processes refl i && eq-eqb p.horizon p.horizon refl i)
 
 -- 6 n + 3 actions are few
-pub within : (k n : ℕ) → k ≤ 6 * n + 3 → n ≤ 64 → k ≤ 2048
+pub within : (k n : ℕ) → k ≤ 6 * n + 3 → n ≤ most_processes → k ≤ most_algorithm_actions
 within k n h small = omega (arith, h, small)
 
 length_numbers : (n : ℕ) → length (numbers_to n) ≡ n
@@ -348,6 +349,7 @@ module _ (n own top : ℕ) (first : 1 ≤ own) (last : own ≤ n) where
 
   received : (sender : ℕ) (what : Payload) (s : Coordinator) → IsOrderly s → s.round + n ≤ top → Begun (receive n own sender what s)
   received sender payload.Alive s o far = begun_still s o far
+  received sender (payload.Heartbeat number) s o far = begun_still s o far
   received sender (payload.Suspects shared) s o far = begun_still s o far
   received sender (payload.Vector r cells) s o far = begun_still s o far
   received sender (payload.Last cells) s o far = begun_still s o far

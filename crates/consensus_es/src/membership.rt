@@ -1,5 +1,6 @@
 //! Who a process is, among how many.
 ghost use Rattle.std.specs.Prelude.{◌≡◌, ◌≤◌, ◌<◌, ◌+◌};
+ghost use Rattle.process_api.specs.Bounds.{most_processes};
 ghost use Rattle.process_api.specs.Rounds.{coordinator as coordinator_of, is_own, majority as majority_of};
 
 use process_api::Pid;
@@ -9,18 +10,18 @@ use process_api::Pid;
 pub struct Membership {
     /// The process's own number, from 1.
     pub own: Pid,
-    /// How many processes there are, 1 to 64.
+    /// How many processes there are, 1 to [`process_api::MOST_PROCESSES`].
     pub processes: u16,
     ghost from_one: { 1 ≤ own },
     ghost one_of_them: { own ≤ processes },
-    ghost few: { processes ≤ 64 },
+    ghost few: { processes ≤ most_processes },
 }
 
 impl Membership {
     /// Process `own` of so many.
     pub fn new(own: Pid, processes: u16) -> Membership
         requires one_of_them { own ≤ processes }
-        requires few { processes ≤ 64 }
+        requires few { processes ≤ most_processes }
         ensures own { result.own ≡ own }
         ensures processes { result.processes ≡ processes }
     {
@@ -33,7 +34,7 @@ impl Membership {
         requires { before < self.now.processes }
         ensures { result ≡ before + 1 }
     {
-        Pid::new(before + 1).unwrap()
+        Pid::after(before)
     }
 
     /// The coordinator of a round: processes take turns.

@@ -283,8 +283,11 @@ impl Progress {
             receive_of membership.now.processes membership.now.own sender payload.now (state_of self.old))) }
     {
         match payload {
-            Payload::Alive | Payload::Suspects(_) | Payload::Vector { .. } | Payload::Last { .. } =>
-                Ok(()),
+            Payload::Alive
+            | Payload::Heartbeat { .. }
+            | Payload::Suspects(_)
+            | Payload::Vector { .. }
+            | Payload::Last { .. } => Ok(()),
             Payload::Estimate {
                 round,
                 value,

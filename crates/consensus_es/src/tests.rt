@@ -1,11 +1,13 @@
 //! Machines driven by hand.
 ghost use Rattle.std.specs.Prelude.{◌≡◌, ◌≤◌, Some};
+ghost use Rattle.process_api.specs.Bounds.{most_processes};
 
 mod laws;
 
 use crate::{Diffusion, EsConsensus, Membership};
 use process_api::{
-    Action, Algorithm, DetectorNumbers, Note, Payload, Pid, ProcSet, StepInput, Watch,
+    Action, Algorithm, DetectorNumbers, Note, Payload, Pid, ProcSet, StepInput, TimeoutNumbers,
+    Watch,
 };
 use scenario::{AlgorithmKind, Opening};
 use std::alloc::{AllocError, Global};
@@ -111,7 +113,7 @@ fn drive(
 /// The opening of a process of the runs below, whose horizon is 20.
 fn opening(own: u16, processes: u16, proposal: u32) -> Opening
     requires one_of_them { (1 ≤ own) × (own ≤ processes) }
-    requires few { processes ≤ 64 }
+    requires few { processes ≤ most_processes }
     ensures proposes { result.proposal ≡ Some proposal }
 {
     let Some(own) = Pid::new(own) else {
@@ -121,13 +123,13 @@ fn opening(own: u16, processes: u16, proposal: u32) -> Opening
         own,
         processes,
         horizon: 20,
-        detector: DetectorNumbers {
+        detector: DetectorNumbers::Timeout(TimeoutNumbers {
             period: 100,
             check: 100,
             timeout: 100,
             grow: 1,
             watch: Watch::All,
-        },
+        }),
         share: None,
         algorithm: AlgorithmKind::EventuallyStrong,
         proposal: Some(proposal),
@@ -136,7 +138,7 @@ fn opening(own: u16, processes: u16, proposal: u32) -> Opening
 
 fn open(alloc: Global, own: u16, processes: u16, proposal: u32) -> Result<EsConsensus, AllocError>
     requires one_of_them { (1 ≤ own) × (own ≤ processes) }
-    requires few { processes ≤ 64 }
+    requires few { processes ≤ most_processes }
 {
     EsConsensus::open(alloc, &opening(own, processes, proposal))
 }

@@ -195,6 +195,7 @@ module _ (n own : ℕ) (is_suspected : ℕ → Bool) where
         go false = orderly
     receive_orderly sender (payload.Last cells) s orderly = receive_cells_orderly sender n cells s orderly
     receive_orderly sender payload.Alive s orderly = orderly
+    receive_orderly sender (payload.Heartbeat number) s orderly = orderly
     receive_orderly sender (payload.Suspects members) s orderly = orderly
     receive_orderly sender (payload.Estimate round value stamp) s orderly = orderly
     receive_orderly sender (payload.Proposal round value) s orderly = orderly

@@ -2,11 +2,12 @@
 ghost use Rattle.std.specs.Prelude.{◌≡◌, ◌≤◌, ◌<◌, ◌+◌, ◌++◌, false, IfOk, OnOk, length};
 ghost use Rattle.std.specs.FinSet as set;
 ghost use Rattle.process_api.specs.Answer.{to_all};
+ghost use Rattle.process_api.specs.Bounds.{most_processes};
 ghost use Rattle.process_api.specs.ConsensusS.{opening_exchange, step_exchange};
 ghost use Rattle.process_api.specs.ConsensusS.{begin as begun, decide as decided, enter as entered, gather as gathered, is_running as is_running_in, is_timely as is_timely_for, receive as received, receive_cells as received_cells};
 ghost use Rattle.consensus_s.specs.State.{end_one, exchange_of, IsOrderly};
 
-use crate::letters::{Letters, process_after};
+use crate::letters::Letters;
 use crate::vectors::{common_after, first_value, known_after, known_at_first, news_after};
 use process_api::{Action, Cells, Note, Payload, Pid, ProcSet, StepInput, note_that, send_to};
 use scenario::Opening;
@@ -240,24 +241,24 @@ impl Exchange {
 
 /// Sends the vector of a round to all.
 fn send_vectors(n: u16, round: u64, cells: &Cells, out: &mut Vec<Action>) -> Result<(), AllocError>
-    requires { n ≤ 64 }
+    requires { n ≤ most_processes }
     ensures { OnOk result (out.new.items ≡ out.old.items ++ to_all n (Payload.Vector round cells.now)) }
 {
     for before in 0..n {
         let cells = cells.copy()?;
-        send_to(out, process_after(before), Payload::Vector { round, cells })?;
+        send_to(out, Pid::after(before), Payload::Vector { round, cells })?;
     }
     Ok(())
 }
 
 /// Sends the last vector to all.
 fn send_lasts(n: u16, cells: &Cells, out: &mut Vec<Action>) -> Result<(), AllocError>
-    requires { n ≤ 64 }
+    requires { n ≤ most_processes }
     ensures { OnOk result (out.new.items ≡ out.old.items ++ to_all n (Payload.Last cells.now)) }
 {
     for before in 0..n {
         let cells = cells.copy()?;
-        send_to(out, process_after(before), Payload::Last { cells })?;
+        send_to(out, Pid::after(before), Payload::Last { cells })?;
     }
     Ok(())
 }

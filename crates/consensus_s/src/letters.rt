@@ -1,7 +1,8 @@
 //! The letters that are kept, and what those of a round tell.
-ghost use Rattle.std.specs.Prelude.{◌≡◌, ◌≤◌, ℕ, ◌<◌, ◌+◌, ◌||◌, false, not, is_some, None, Some, OnOk};
+ghost use Rattle.std.specs.Prelude.{◌≡◌, ◌≤◌, ℕ, ◌||◌, false, not, is_some, None, Some, OnOk};
 ghost use Rattle.std.specs.FinSet as set;
 ghost use Rattle.std.specs.Option.{option_copied};
+ghost use Rattle.process_api.specs.Bounds.{most_processes};
 ghost use Rattle.process_api.specs.Cells.{cell};
 ghost use Rattle.process_api.specs.ConsensusS.{above, all_to, keep};
 ghost use Rattle.consensus_s.specs.Kept.{kept_of, missed_in, nothing_kept, told_in};
@@ -73,12 +74,12 @@ impl Letters {
 
     /// Whether each of processes 1 to `n` was heard of in a round, or is suspected.
     pub fn is_over(&self, n: u16, round: u64, suspects: &ProcSet) -> bool
-        requires { n ≤ 64 }
+        requires { n ≤ most_processes }
         ensures { result ≡ all_to n (λ q. is_some (kept_of self.now round q) || set.contains suspects.now q) }
     {
         let settled = self.settled(round, suspects);
         for before in 0..n {
-            if !settled.contains(process_after(before)) {
+            if !settled.contains(Pid::after(before)) {
                 return false;
             }
         }
@@ -94,11 +95,11 @@ impl Letters {
 
     /// What the letters of a round tell of cell `k`: the value of the least sender that has one.
     pub fn told(&self, n: u16, round: u64, k: Pid) -> Option<u32>
-        requires { n ≤ 64 }
+        requires { n ≤ most_processes }
         ensures { result ≡ told_in n (kept_of self.now) round k }
     {
         for before in 0..n {
-            let told = self.told_by(round, process_after(before), k);
+            let told = self.told_by(round, Pid::after(before), k);
             if told.is_some() {
                 return told;
             }
@@ -119,25 +120,14 @@ impl Letters {
 
     /// Whether cell `k` is empty in some letter of a round.
     pub fn is_missed(&self, n: u16, round: u64, k: Pid) -> bool
-        requires { n ≤ 64 }
+        requires { n ≤ most_processes }
         ensures { result ≡ missed_in n (kept_of self.now) round k }
     {
         for before in 0..n {
-            if self.is_missed_by(round, process_after(before), k) {
+            if self.is_missed_by(round, Pid::after(before), k) {
                 return true;
             }
         }
         false
-    }
-}
-
-/// The process after so many.
-pub(crate) fn process_after(before: u16) -> Pid
-    requires { before < 64 }
-    ensures { result ≡ before + 1 }
-{
-    match Pid::new(before + 1) {
-        Some(process) => process,
-        None => unreachable!(),
     }
 }

@@ -1,11 +1,13 @@
 //! The algorithm, input by input.
 ghost use Rattle.std.specs.Prelude.{◌≤◌};
+ghost use Rattle.process_api.specs.Bounds.{most_processes};
 
 mod laws;
 
 use crate::SConsensus;
 use process_api::{
-    Action, Algorithm, Cells, DetectorNumbers, Note, Payload, Pid, ProcSet, StepInput, Tag, Watch,
+    Action, Algorithm, Cells, DetectorNumbers, Note, Payload, Pid, ProcSet, StepInput, Tag,
+    TimeoutNumbers, Watch,
 };
 use scenario::{AlgorithmKind, Opening};
 use std::alloc::{AllocError, Global};
@@ -135,7 +137,7 @@ fn drive(
 /// The algorithm of a process.
 fn open(alloc: Global, own: u16, processes: u16, proposal: u32) -> Result<SConsensus, AllocError>
     requires one_of_them { (1 ≤ own) × (own ≤ processes) }
-    requires few { processes ≤ 64 }
+    requires few { processes ≤ most_processes }
 {
     let Some(own) = Pid::new(own) else {
         unreachable!()
@@ -144,13 +146,13 @@ fn open(alloc: Global, own: u16, processes: u16, proposal: u32) -> Result<SConse
         own,
         processes,
         horizon: 20,
-        detector: DetectorNumbers {
+        detector: DetectorNumbers::Timeout(TimeoutNumbers {
             period: 2,
             check: 3,
             timeout: 5,
             grow: 1,
             watch: Watch::All,
-        },
+        }),
         share: None,
         algorithm: AlgorithmKind::Strong,
         proposal: Some(proposal),

@@ -1,10 +1,11 @@
 //! Vectors of proposals after a round.
 ghost use Rattle.std.specs.Prelude.{◌≡◌, ◌≤◌, nat_eq, is_some, None, Some, if◌then◌else◌, IfOk};
+ghost use Rattle.process_api.specs.Bounds.{most_processes};
 ghost use Rattle.process_api.specs.Cells.{cell};
 ghost use Rattle.process_api.specs.ConsensusS.{cells_of, first_to, or_else};
 ghost use Rattle.consensus_s.specs.Kept.{kept_of, missed_in, told_in};
 
-use crate::letters::{Letters, process_after};
+use crate::letters::Letters;
 use process_api::{Cells, Pid};
 use std::alloc::{AllocError, Global};
 
@@ -15,12 +16,12 @@ pub(crate) fn known_at_first(
     own: Pid,
     proposal: u32,
 ) -> Result<Cells, AllocError>
-    requires { n ≤ 64 }
+    requires { n ≤ most_processes }
     ensures { IfOk result (λ c. c ≡ cells_of n (λ k. if nat_eq k own then Some proposal else None)) }
 {
     let mut cells = Vec::new(alloc);
     for before in 0..n {
-        let value = if process_after(before) == own {
+        let value = if Pid::after(before) == own {
             Some(proposal)
         } else {
             None
@@ -38,13 +39,13 @@ pub(crate) fn known_after(
     round: u64,
     known: &Cells,
 ) -> Result<Cells, AllocError>
-    requires { n ≤ 64 }
+    requires { n ≤ most_processes }
     ensures { IfOk result (λ c.
         c ≡ cells_of n (λ k. or_else (cell known.now k) (told_in n (kept_of letters.now) round k))) }
 {
     let mut cells = Vec::new(alloc);
     for before in 0..n {
-        let k = process_after(before);
+        let k = Pid::after(before);
         let mut value = known.get(k);
         if value.is_none() {
             value = letters.told(n, round, k);
@@ -62,13 +63,13 @@ pub(crate) fn news_after(
     round: u64,
     known: &Cells,
 ) -> Result<Cells, AllocError>
-    requires { n ≤ 64 }
+    requires { n ≤ most_processes }
     ensures { IfOk result (λ c. c ≡ cells_of n (λ k.
         if is_some (cell known.now k) then None else told_in n (kept_of letters.now) round k)) }
 {
     let mut cells = Vec::new(alloc);
     for before in 0..n {
-        let k = process_after(before);
+        let k = Pid::after(before);
         let mut value = None;
         if known.get(k).is_none() {
             value = letters.told(n, round, k);
@@ -86,13 +87,13 @@ pub(crate) fn common_after(
     round: u64,
     known: &Cells,
 ) -> Result<Cells, AllocError>
-    requires { n ≤ 64 }
+    requires { n ≤ most_processes }
     ensures { IfOk result (λ c. c ≡ cells_of n (λ k.
         if missed_in n (kept_of letters.now) round k then None else cell known.now k)) }
 {
     let mut cells = Vec::new(alloc);
     for before in 0..n {
-        let k = process_after(before);
+        let k = Pid::after(before);
         let mut value = None;
         if !letters.is_missed(n, round, k) {
             value = known.get(k);
@@ -104,11 +105,11 @@ pub(crate) fn common_after(
 
 /// The first value of a vector.
 pub(crate) fn first_value(cells: &Cells, n: u16) -> Option<u32>
-    requires { n ≤ 64 }
+    requires { n ≤ most_processes }
     ensures { result ≡ first_to n (cell cells.now) }
 {
     for before in 0..n {
-        let value = cells.get(process_after(before));
+        let value = cells.get(Pid::after(before));
         if value.is_some() {
             return value;
         }

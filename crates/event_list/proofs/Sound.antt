@@ -8,14 +8,16 @@ use Rattle.process_api.specs.Mind.{is_mind_at, stands_at}
 use Rattle.process_api.specs.Place.{Place, same_place}
 use Rattle.process_api.specs.Reduction.{opening_reduction}
 use Rattle.process_api.proofs.Allowed.{react_allowed}
+use Rattle.process_api.proofs.DetectorLaws.{detector_opens}
 use Rattle.process_api.proofs.Keeping.{react_keeps}
 use Rattle.process_api.proofs.Minds.{and_true}
 use Rattle.scenario.specs.Record.{Record, link, place_in, opening_mind, opening_algorithm}
 use Rattle.scenario.specs.Ranges.{IsInRange}
 use Rattle.scenario.specs.declared.algorithm.AlgorithmKind.TheVariants as kind
 use Rattle.scenario.specs.declared.link.Link.{Link}
+use Rattle.scenario.proofs.DetectorFacts.{opens_paced}
 use Rattle.streams.specs.declared.fate.Fate.TheVariants.{Lost, Delay}
-use Rattle.streams.specs.Fate.{fate_of, fate_by, word}
+use Rattle.streams.specs.Fate.{fate_of, fate_by, is_cut, word}
 use Rattle.event_list.specs.ScenarioSetting.{setting_of}
 use Rattle.event_list.specs.Setting.{IsSound, IsSlow}
 
@@ -49,8 +51,8 @@ module _ (s : Record) (is : IsInRange s) where
   opens_with_mind p =
       and_true _ _
       (and_true _ _ (same_itself (place_in s p))
-      (and_true _ _ (and_true _ _ (at_least_one s.detector.period is.numbers.period_low) (at_least_one s.detector.check is.numbers.check_low)) (shares_paced s.share is.share)))
-      (and_true _ _ (and_true _ _ (nobody_in p) (shares_trusting s.share p)) (algorithm_stands p))
+      (and_true _ _ (opens_paced s.detector is.numbers) (shares_paced s.share is.share)))
+      (and_true _ _ (and_true _ _ (ap not (detector_opens (place_in s p) s.detector p)) (shares_trusting s.share p)) (algorithm_stands p))
 
   by_words : (l : Link) (a b : ℕ) → s.lookahead ≤ l.min → IsSlow (setting_of s) (fate_by l a b)
   by_words l a b h = go (nat_lt (a % 1000) l.loss)
@@ -59,9 +61,11 @@ module _ (s : Record) (is : IsInRange s) where
       go true = tt
       go false = omega arith
 
-  fate_slow : (from to number : ℕ) → s.lookahead ≤ (link s from to).min → IsSlow (setting_of s) (fate_of s from to number)
+  fate_slow : (from to number sent_at : ℕ) → s.lookahead ≤ (link s from to).min → IsSlow (setting_of s) (fate_of s from to number sent_at)
   unfolding fate_of
-  fate_slow from to number h = by_words (link s from to) (word s.seed from to (2 * (number - 1))) (word s.seed from to (2 * (number - 1) + 1)) h
+  fate_slow from to number sent_at h =
+      elim (is_cut s from to sent_at) as (λ cut. IsSlow (setting_of s) (cond cut Lost (fate_by (link s from to) (word s.seed from to (2 * (number - 1))) (word s.seed from to (2 * (number - 1) + 1)))))
+      [ true ↦ tt | false ↦ by_words (link s from to) (word s.seed from to (2 * (number - 1))) (word s.seed from to (2 * (number - 1) + 1)) h ]
 
   pub setting_sound : IsSound (setting_of s)
   setting_sound = record {
@@ -70,5 +74,5 @@ module _ (s : Record) (is : IsInRange s) where
     opens = λ p own. opens_with_mind p;
     keeps = λ p mind now input own h. react_keeps (place_in s p) mind now input is.processes_low h;
     allowed = λ p mind now input own h. react_allowed (place_in s p) mind now input is.processes_low h;
-    slow = λ from to number sent_at f t apart counted. fate_slow from to number (is.ahead from to f.0 f.1 t.0 t.1 apart);
+    slow = λ from to number sent_at f t apart counted. fate_slow from to number sent_at (is.ahead from to f.0 f.1 t.0 t.1 apart);
   }

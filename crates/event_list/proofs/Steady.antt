@@ -5,10 +5,12 @@ use Rattle.std.specs.List.{AllByRecursion}
 use Rattle.std.specs.Option.{ForSome}
 use Rattle.std.proofs.lemmas.List.{get_or_past}
 use Rattle.std.proofs.lemmas.Nat.{mul-add-lt}
+use Rattle.process_api.specs.Bounds.{most_processes}
 use Rattle.process_api.specs.EntryRecord.{EntryRecord}
 use Rattle.process_api.specs.Mind.{Mind}
-use Rattle.process_api.specs.declared.numbers.DetectorNumbers.{DetectorNumbers}
-use Rattle.scenario.specs.Numbers.{AreInRange}
+use Rattle.process_api.specs.declared.numbers.DetectorNumbers.TheVariants as kinds
+use Rattle.process_api.specs.declared.numbers.TimeoutNumbers.{TimeoutNumbers}
+use Rattle.scenario.specs.Numbers.{AreTimeoutInRange}
 use Rattle.scenario.specs.Ranges.{IsInRange, IsLink}
 use Rattle.scenario.specs.Record.{Record, no_link, link, place_in}
 use Rattle.scenario.specs.declared.algorithm.AlgorithmKind.TheVariants as kind
@@ -27,7 +29,7 @@ use Rattle.event_list.proofs.Watching.{Watcher, watch, IsMindOf, watchers_alike}
 abbrev steady_link : ℕ → Link
 steady_link delay = record { min = delay; max = delay; loss = 0 }
 
-abbrev pub steady : (processes horizon delay : ℕ) → DetectorNumbers → (crashes : List (Option ℕ)) → Record
+abbrev pub steady : (processes horizon delay : ℕ) → TimeoutNumbers → (crashes : List (Option ℕ)) → Record
 steady processes horizon delay numbers crashes = record {
   processes = processes;
   horizon = horizon;
@@ -35,11 +37,12 @@ steady processes horizon delay numbers crashes = record {
   limit = 1000000;
   seed = 1;
   algorithm = kind.Idle;
-  detector = numbers;
+  detector = kinds.Timeout numbers;
   share = None;
   proposals = [];
   crashes = crashes;
   links = replicate (processes * processes) (steady_link delay);
+  outages = [];
 }
 
 -- ---- its fates
@@ -83,13 +86,13 @@ crash_in [] all i = λ at e. absurd (none_is_some at e)
 crash_in (o ∷ os) all zero = all.0
 crash_in (o ∷ os) all (suc i) = crash_in os all.1 i
 
-module _ (processes horizon delay : ℕ) (numbers : DetectorNumbers) (crashes : List (Option ℕ)) where
+module _ (processes horizon delay : ℕ) (numbers : TimeoutNumbers) (crashes : List (Option ℕ)) where
   abbrev s : Record
   s = steady processes horizon delay numbers crashes
 
-  steady_fate : (from to number : ℕ) → fate_of s from to number ≡ Delay (link s from to).min
+  steady_fate : (from to number sent_at : ℕ) → fate_of s from to number sent_at ≡ Delay (link s from to).min
   unfolding fate_of
-  steady_fate from to number =
+  steady_fate from to number sent_at =
       let is = is_steady (processes * processes) delay ((from - 1) * processes + (to - 1)) in
       loses_nothing (link s from to) is.0 is.1 (word 1 from to (2 * (number - 1))) (word 1 from to (2 * (number - 1) + 1))
 
@@ -98,7 +101,7 @@ module _ (processes horizon delay : ℕ) (numbers : DetectorNumbers) (crashes : 
   plainly = record (setting_of s) { fate = λ from to number sent_at. Delay (link s from to).min }
 
   same_setting : setting_of s ≡ plainly
-  same_setting = λ i. record (setting_of s) { fate = λ from to number sent_at. steady_fate from to number i }
+  same_setting = λ i. record (setting_of s) { fate = λ from to number sent_at. steady_fate from to number sent_at i }
 
   abbrev watcher : ℕ → Watcher
   watcher p = record { place = place_in s p; numbers = numbers; last_heard = λ q. 0; bound = λ q. numbers.timeout; suspects = λ q. false }
@@ -113,7 +116,7 @@ module _ (processes horizon delay : ℕ) (numbers : DetectorNumbers) (crashes : 
   abbrev pub IsOver : ℕ → Type 0
   IsOver n = plain_left watchers n (opening_process watchers) (plain_starts processes) ≡ []
 
-  module _ (few : (1 ≤ processes) × (processes ≤ 64)) (lasts : (1 ≤ horizon) × (horizon ≤ 10000000)) (ahead : (1 ≤ delay) × (delay ≤ 1000000)) (in_range : AreInRange numbers)
+  module _ (few : (1 ≤ processes) × (processes ≤ most_processes)) (lasts : (1 ≤ horizon) × (horizon ≤ 10000000)) (ahead : (1 ≤ delay) × (delay ≤ 1000000)) (in_range : AreTimeoutInRange numbers)
       (one_each : length crashes ≡ processes) (crash_ticks : AllByRecursion (λ o. ForSome o (λ at. at ≤ 10000000)) crashes) where
     at_link : (from to : ℕ) → 1 ≤ from → from ≤ processes → 1 ≤ to → to ≤ processes → link s from to ≡ steady_link delay
     at_link from to a b c d = there_is (processes * processes) delay _ (mul-add-lt (from - 1) processes (to - 1) processes (omega arith) (omega arith))
@@ -138,6 +141,7 @@ module _ (processes horizon delay : ℕ) (numbers : DetectorNumbers) (crashes : 
       crashed_above = λ p above. get_or_past crashes (p - 1) None (omega (arith, one_each, above));
       linked = length-links (processes * processes) (steady_link delay);
       links = λ from to a b c d. subst IsLink (sym (at_link from to a b c d)) (record { min_low = ahead.0; min_high = omega arith; max_high = ahead.1; loss_high = omega arith });
+      outages = λ from to a b c d. tt;
       ahead = λ from to a b c d apart. subst (λ (l : Link). delay ≤ l.min) (sym (at_link from to a b c d)) (omega arith);
     }
 

@@ -9,19 +9,20 @@ use Rattle.process_api.specs.Numbers.{numbers_to, change}
 use Rattle.process_api.specs.Place.{Place}
 use Rattle.process_api.specs.React.{react, react_lower, react_algorithm}
 use Rattle.process_api.specs.Sets.{Processes, insert_all}
-use Rattle.process_api.specs.Timeout.{DetectorState, watches, alive_to_others, next_beat, next_check, overdue, step_detector}
+use Rattle.process_api.specs.Detector.{ByTimeout, step_detector}
+use Rattle.process_api.specs.Timeout.{TimeoutState, watches, alive_to_others, next_beat, next_check, overdue, step_timeout}
 use Rattle.process_api.specs.declared.action.Action.TheVariants as action
 use Rattle.process_api.specs.declared.action.Note.TheVariants as note
 use Rattle.process_api.specs.declared.message.Payload.TheVariants as payload
 use Rattle.process_api.specs.declared.message.StepInput.{StepInput}
 use Rattle.process_api.specs.declared.message.StepInput.TheVariants as input
 use Rattle.process_api.specs.declared.message.Tag.TheVariants as tag
-use Rattle.process_api.specs.declared.numbers.DetectorNumbers.{DetectorNumbers}
+use Rattle.process_api.specs.declared.numbers.TimeoutNumbers.{TimeoutNumbers}
 use Rattle.event_list.proofs.Alike.{ActAlike}
 
 pub record Watcher : Type 0 where
   pub place : Place
-  pub numbers : DetectorNumbers
+  pub numbers : TimeoutNumbers
   pub last_heard : ℕ → ℕ
   pub bound : ℕ → ℕ
   pub suspects : ℕ → Bool
@@ -62,8 +63,7 @@ abbrev mind_with : Watcher → Processes → Mind
 mind_with w s = record {
   lower = record {
     place = w.place;
-    numbers = w.numbers;
-    detector = record { last_heard = w.last_heard; bound = w.bound; suspects = s };
+    detector = ByTimeout w.numbers (record { last_heard = w.last_heard; bound = w.bound; suspects = s });
     reduction = None;
   };
   algorithm = Idle;
@@ -80,11 +80,11 @@ holds_all [] s f h = h
 holds_all (q ∷ qs) s f h = holds_all qs (set.insert s q) (λ p. eq_by_cmp nat_cmp p q || f p) (λ p. set.contains-insert nat_cmp_total s q p ∙ ap (λ b. eq_by_cmp nat_cmp p q || b) (h p))
 
 module _ (w : Watcher) (s : Processes) (h : Holds s w.suspects) (now : ℕ) where
-  abbrev before : DetectorState
+  abbrev before : TimeoutState
   before = record { last_heard = w.last_heard; bound = w.bound; suspects = s }
 
   -- what a detector's step and a watcher's have in common
-  record SameStep (a : Answer DetectorState) (b : Answer Watcher) : Type 0 where
+  record SameStep (a : Answer TimeoutState) (b : Answer Watcher) : Type 0 where
     suspects : Processes
     state : a.state ≡ record { last_heard = b.state.last_heard; bound = b.state.bound; suspects = suspects }
     place : b.state.place ≡ w.place
@@ -98,7 +98,7 @@ module _ (w : Watcher) (s : Processes) (h : Holds s w.suspects) (now : ℕ) wher
   nothing : SameStep (record { state = before; actions = [] }) (record { state = w; actions = [] })
   nothing = record { suspects = s; state = refl; place = refl; numbers = refl; holds = h; actions = refl }
 
-  same_once : (x : StepInput) → SameStep (step_detector w.place w.numbers before now x) (watch_once w now x)
+  same_once : (x : StepInput) → SameStep (step_timeout w.place w.numbers before now x) (watch_once w now x)
   same_once input.Start = record { suspects = s; state = refl; place = refl; numbers = refl; holds = h; actions = refl }
   same_once (input.Wake tag.Beat) = record { suspects = s; state = refl; place = refl; numbers = refl; holds = h; actions = refl }
   same_once (input.Wake tag.Share) = nothing
@@ -112,7 +112,7 @@ module _ (w : Watcher) (s : Processes) (h : Holds s w.suspects) (now : ℕ) wher
   }
   same_once (input.Letter sender payload.Alive) = by_watch (watches w.place w.numbers sender)
     where
-      again : Answer DetectorState
+      again : Answer TimeoutState
       again = record {
         state = record {
           last_heard = change w.last_heard sender now;
@@ -122,7 +122,7 @@ module _ (w : Watcher) (s : Processes) (h : Holds s w.suspects) (now : ℕ) wher
         actions = action.Note (note.Trust 1 sender) ∷ [];
       }
 
-      noticed_only : Answer DetectorState
+      noticed_only : Answer TimeoutState
       noticed_only = record { state = record { last_heard = change w.last_heard sender now; bound = w.bound; suspects = s }; actions = [] }
 
       by_test : (b : Bool) → w.suspects sender ≡ b → SameStep (cond b again noticed_only) (cond b
@@ -151,6 +151,7 @@ module _ (w : Watcher) (s : Processes) (h : Holds s w.suspects) (now : ℕ) wher
       by_watch : (b : Bool) → SameStep (cond b (cond (set.contains s sender) again noticed_only) (record { state = before; actions = [] })) (cond b (hear w now sender) (record { state = w; actions = [] }))
       by_watch true = heard_same
       by_watch false = nothing
+  same_once (input.Letter sender (payload.Heartbeat number)) = nothing
   same_once (input.Letter sender (payload.Suspects members)) = nothing
   same_once (input.Letter sender (payload.Vector round cells)) = nothing
   same_once (input.Letter sender (payload.Last cells)) = nothing
@@ -160,15 +161,15 @@ module _ (w : Watcher) (s : Processes) (h : Holds s w.suspects) (now : ℕ) wher
   same_once (input.Letter sender (payload.Decide round value)) = nothing
 
   same_actions : (x : StepInput) → (react (mind_with w s) now x).actions ≡ (watch w now x).actions
-  unfolding react react_lower react_algorithm
+  unfolding react react_lower react_algorithm step_detector
   same_actions x = ap (λ xs. xs ++ []) (same_once x).actions
 
   same_state : (x : StepInput) → IsMindOf (react (mind_with w s) now x).state (watch w now x).state
-  unfolding react react_lower react_algorithm
+  unfolding react react_lower react_algorithm step_detector
   same_state x =
       let same = same_once x in (
         same.suspects,
-        (λ i. record { lower = record { place = sym same.place i; numbers = sym same.numbers i; detector = same.state i; reduction = None }; algorithm = Idle }),
+        (λ i. record { lower = record { place = sym same.place i; detector = ByTimeout (sym same.numbers i) (same.state i); reduction = None }; algorithm = Idle }),
         same.holds,
       )
 

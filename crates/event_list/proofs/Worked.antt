@@ -6,9 +6,9 @@ use Rattle.process_api.specs.declared.action.Note.{Note}
 use Rattle.process_api.specs.declared.action.Note.TheVariants.{Suspect, Trust}
 use Rattle.process_api.specs.declared.entry.Kind.{Kind}
 use Rattle.process_api.specs.declared.entry.Kind.TheVariants as kind
-use Rattle.process_api.specs.declared.numbers.DetectorNumbers.{DetectorNumbers}
+use Rattle.process_api.specs.declared.numbers.TimeoutNumbers.{TimeoutNumbers}
 use Rattle.process_api.specs.declared.numbers.Watch.TheVariants.{All}
-use Rattle.scenario.specs.Numbers.{AreInRange}
+use Rattle.scenario.specs.Numbers.{AreTimeoutInRange}
 use Rattle.event_list.specs.ScenarioSetting.{setting_of}
 use Rattle.event_list.specs.World.{IsTrace}
 use Rattle.event_list.specs.History.{IsIn}
@@ -29,10 +29,10 @@ crash_at at h = λ tick e. let same : at ≡ tick = ap (λ o. unwrap_or o at) e 
 
 -- ---- two processes that beat every 4 ticks, check every 3, and wait for 5
 
-abbrev patient : DetectorNumbers
+abbrev patient : TimeoutNumbers
 patient = record { period = 4; check = 3; timeout = 5; grow = 1; watch = All }
 
-patient_in_range : AreInRange patient
+patient_in_range : AreTimeoutInRange patient
 patient_in_range = record {
   period_low = lit≤ tt;
   period_high = lit≤ tt;
@@ -108,10 +108,10 @@ crashed_too_late = (
 
 -- ---- two processes that check every 2 ticks, and wait for 2
 
-abbrev hasty : DetectorNumbers
+abbrev hasty : TimeoutNumbers
 hasty = record { period = 100; check = 2; timeout = 2; grow = 5; watch = All }
 
-hasty_in_range : AreInRange hasty
+hasty_in_range : AreTimeoutInRange hasty
 hasty_in_range = record {
   period_low = lit≤ tt;
   period_high = lit≤ tt;

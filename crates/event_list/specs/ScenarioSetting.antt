@@ -5,14 +5,13 @@ use Rattle.scenario.specs.Record.{Record, crash, place_in, opening_mind}
 use Rattle.streams.specs.Fate.{fate_of}
 use Rattle.event_list.specs.Setting.{Setting}
 
--- a letter's fate is by its place on its link, whatever the tick of sending
 abbrev pub setting_of : Record → Setting Mind
 setting_of s = record {
   processes = s.processes;
   horizon = s.horizon;
   lookahead = s.lookahead;
   crash = crash s;
-  fate = λ from to number sent_at. fate_of s from to number;
+  fate = fate_of s;
   opening = opening_mind s;
   react = react;
   is_mind = λ p mind. is_mind_at (place_in s p) mind;

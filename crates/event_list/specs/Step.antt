@@ -43,6 +43,7 @@ kind_of_tag tag.Share = kind.Share
 
 abbrev pub kind_of_payload : Payload → Kind
 kind_of_payload payload.Alive = kind.Alive
+kind_of_payload (payload.Heartbeat number) = kind.Heartbeat
 kind_of_payload (payload.Suspects set) = kind.Suspects
 kind_of_payload (payload.Vector round cells) = kind.Vector
 kind_of_payload (payload.Last cells) = kind.Last

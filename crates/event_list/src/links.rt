@@ -2,6 +2,7 @@
 ghost use Rattle.std.specs.Prelude.{◌≡◌, ◌≢◌, ◌≤◌, ◌<◌, ◌+◌, ◌^◌, ◌++◌, ℕ, IfOk, OnOk, length, replicate, vec_len};
 ghost use Rattle.std.specs.List.{AllByRecursion};
 ghost use Rattle.process_api.specs.Actions.{IsAllowed};
+ghost use Rattle.process_api.specs.Bounds.{most_step_actions};
 ghost use Rattle.streams.specs.Fate.{fate_of};
 ghost use Rattle.event_list.specs.Joins.{HaveJoined};
 ghost use Rattle.event_list.specs.ScenarioSetting.{setting_of};
@@ -111,20 +112,20 @@ impl Links {
         self.counts[place]
     }
 
-    /// What becomes of the letter with this number on the link to another process.
+    /// What becomes of the letter with this number on the link to another process, sent at this tick.
     #[inline(always)]
-    fn fate(&mut self, streams: &Streams<'_>, own: Pid, to: Pid, number: u64) -> Fate
+    fn fate(&mut self, streams: &Streams<'_>, own: Pid, to: Pid, number: u64, sent_at: u32) -> Fate
         requires different { own ≢ to }
         requires own { own ≤ streams.now.processes }
         requires to { to ≤ streams.now.processes }
         requires counted { 1 ≤ number }
-        ensures fate { result ≡ fate_of streams.now own to number }
+        ensures fate { result ≡ fate_of streams.now own to number sent_at }
         ensures counts { self.new.counts ≡ self.old.counts }
         ensures horizon { self.new.horizon ≡ self.old.horizon }
     {
         match self.words.get_mut(usize::from(to.number())) {
-            Some(words) => streams.next_fate(own, to, number, words),
-            None => streams.fate(own, to, number),
+            Some(words) => streams.next_fate(own, to, number, sent_at, words),
+            None => streams.fate(own, to, number, sent_at),
         }
     }
 
@@ -170,7 +171,7 @@ impl Links {
             join_after(added, self.horizon, sent, 1, input)?;
             return Ok(0);
         }
-        match self.fate(streams, own, to, number) {
+        match self.fate(streams, own, to, number, key.tick) {
             Fate::Lost => Ok(1),
             Fate::Delay(ticks) => {
                 join_after(added, self.horizon, sent, ticks, input)?;
@@ -270,16 +271,16 @@ impl Links {
         requires horizon { self.old.horizon ≡ streams.now.horizon }
         requires places { vec_len self.old.counts ≡ streams.now.processes + 1 }
         requires own { key.receiver ≤ streams.now.processes }
-        requires room { (q : ℕ) → count_of self.old.counts.items q + 4096 < 2 ^ 64 }
+        requires room { (q : ℕ) → count_of self.old.counts.items q + most_step_actions < 2 ^ 64 }
         requires allowed { AllByRecursion (IsAllowed streams.now.processes) actions.old.items }
-        requires few { length actions.old.items ≤ 4096 }
+        requires few { length actions.old.items ≤ most_step_actions }
 
         ensures counts { OnOk result (count_of self.new.counts.items
             ≡ counts_after key.receiver (count_of self.old.counts.items) actions.old.items) }
         ensures places { OnOk result (vec_len self.new.counts ≡ vec_len self.old.counts) }
         ensures horizon { OnOk result (self.new.horizon ≡ self.old.horizon) }
         ensures room { OnOk result ((q : ℕ)
-            → count_of self.new.counts.items q ≤ count_of self.old.counts.items q + 4096) }
+            → count_of self.new.counts.items q ≤ count_of self.old.counts.items q + most_step_actions) }
         ensures added { OnOk result (HaveJoined J.grown added.old added.new
             (added_by (setting_of streams.now) key.receiver key.tick (count_of self.old.counts.items)
             actions.old.items)) }

@@ -1,5 +1,6 @@
 //! The single event list.
 ghost use Rattle.std.specs.Prelude.{◌≡◌, ◌≤◌, ◌<◌, ◌+◌, ◌-◌, ◌*◌, ◌^◌, [], ◌∷◌, ℕ, List, length, ◌⊎◌, IfErr, IfOk, OnOk, IsErrOf, IsTrue, Some, slice_get, All, map, vec_len};
+ghost use Rattle.process_api.specs.Bounds.{most_processes, most_step_actions};
 ghost use Rattle.process_api.specs.EntryRecord.{EntryRecord};
 ghost use Rattle.process_api.specs.Mind.{Mind};
 ghost use Rattle.process_api.specs.Numbers.{numbers_to};
@@ -50,23 +51,19 @@ fn seats_of<M: Process>(
 
 /// The start of each process.
 fn starts_of(alloc: Global, processes: u16) -> Result<Pending, AllocError>
-    requires { processes ≤ 64 }
+    requires { processes ≤ most_processes }
     ensures { IfOk result (λ m. m ≡ starts processes) }
 {
     let mut pending = Pending::new(alloc);
     for before in 0..processes {
-        match Pid::new(before + 1) {
-            Some(p) => {
-                let key = Key {
-                    tick: 0,
-                    receiver: p,
-                    sender: p,
-                    number: 0,
-                };
-                pending.join(key, StepInput::Start)?;
-            }
-            None => unreachable!(),
-        }
+        let p = Pid::after(before);
+        let key = Key {
+            tick: 0,
+            receiver: p,
+            sender: p,
+            number: 0,
+        };
+        pending.join(key, StepInput::Start)?;
     }
     Ok(pending)
 }
@@ -103,7 +100,7 @@ impl<M: Process> EventList<M> {
         input: &StepInput,
     ) -> Result<Entry, AllocError>
         requires seated { (most : ℕ)
-            × All (IsSeated M.mind streams.now most) self.old.seats.items × (most + 4096 < 2 ^ 64) }
+            × All (IsSeated M.mind streams.now most) self.old.seats.items × (most + most_step_actions < 2 ^ 64) }
         requires count { vec_len self.old.seats ≡ streams.now.processes }
         requires receiver { IsProcess (setting_of streams.now) key.receiver }
         requires own { (before : Process Mind)
@@ -113,7 +110,7 @@ impl<M: Process> EventList<M> {
         ensures count { OnOk result (vec_len self.new.seats ≡ vec_len self.old.seats) }
         ensures seated { OnOk result ((most : ℕ)
             → All (IsSeated M.mind streams.now most) self.old.seats.items
-            → All (IsSeated M.mind streams.now (most + 4096)) self.new.seats.items) }
+            → All (IsSeated M.mind streams.now (most + most_step_actions)) self.new.seats.items) }
         ensures stepped { IfOk result (λ e. (before : Process Mind)
             → slice_get (map (process_of M.mind) self.old.seats.items) (key.receiver - 1) ≡ Some before
             → IsStepped (map (process_of M.mind) self.old.seats.items) (map (process_of M.mind) self.new.seats.items)

@@ -1,5 +1,6 @@
 //! One step of one process.
 ghost use Rattle.std.specs.Prelude.{◌≡◌, ◌≤◌, ◌<◌, ◌+◌, ◌^◌, ℕ, IfOk, OnOk};
+ghost use Rattle.process_api.specs.Bounds.{most_step_actions};
 ghost use Rattle.event_list.specs.Joins.{HaveJoined};
 ghost use Rattle.event_list.specs.ScenarioSetting.{setting_of};
 ghost use Rattle.event_list.specs.Setting.{has_crashed};
@@ -32,6 +33,7 @@ fn kind_of(input: &StepInput) -> Kind
         StepInput::Wake(Tag::Share) => Kind::Share,
         StepInput::Letter { payload, .. } => match payload {
             Payload::Alive => Kind::Alive,
+            Payload::Heartbeat { .. } => Kind::Heartbeat,
             Payload::Suspects(_) => Kind::Suspects,
             Payload::Vector { .. } => Kind::Vector,
             Payload::Last { .. } => Kind::Last,
@@ -98,7 +100,7 @@ impl<M: Process> Seat<M> {
         actions: &mut Vec<Action>,
         added: &mut J,
     ) -> Result<Entry, AllocError>
-        requires seated { (most : ℕ) × IsSeated M.mind streams.now most self.old × (most + 4096 < 2 ^ 64) }
+        requires seated { (most : ℕ) × IsSeated M.mind streams.now most self.old × (most + most_step_actions < 2 ^ 64) }
         requires own { key.receiver ≡ own_of M.mind self.old }
 
         ensures process { OnOk result (process_of M.mind self.new
@@ -108,7 +110,8 @@ impl<M: Process> Seat<M> {
         ensures added { OnOk result (HaveJoined J.grown added.old added.new
             (step (setting_of streams.now) (process_of M.mind self.old) key input.now).added) }
         ensures seated { OnOk result ((most : ℕ)
-            → IsSeated M.mind streams.now most self.old → IsSeated M.mind streams.now (most + 4096) self.new) }
+            → IsSeated M.mind streams.now most self.old
+            → IsSeated M.mind streams.now (most + most_step_actions) self.new) }
     {
         if is_down(self.crash, key.tick) {
             return Ok(self.links.dead_entry(key));

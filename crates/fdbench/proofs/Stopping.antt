@@ -1,5 +1,5 @@
 -- What went out, and what stands where a run stops.
-use Rattle.std.proofs.Common.{◌≡◌, ◌≢◌, ◌⊎◌, ◌<◌, ◌∙◌, ap, sym, subst, refl, inl, inr, ℕ, List, ◌++◌, length, Option, Result, Ok, Err, IfErr}
+use Rattle.std.proofs.Common.{◌≡◌, ◌≢◌, ◌⊎◌, ◌<◌, ◌∙◌, ap, sym, subst, refl, inl, inr, ℕ, List, ◌++◌, length, Option, Result, Ok, Err, IfErr, OnOk}
 use Rattle.std.specs.Prelude.{IsTrue}
 use Rattle.event_list.proofs.Closed.{has_trace, one_trace}
 use Rattle.event_list.specs.ScenarioSetting.{setting_of}
@@ -52,6 +52,12 @@ module _ {O : Type 0} (told : O → Option (List ℕ)) (failed : O → ℕ) (old
   -- the same of what went out whole
   pub went_as : (P Q : List ℕ → Type 0) → ((piece : List ℕ) → P piece → Q piece) → Went told failed old new P → Went told failed old new Q
   went_as P Q f went = record { piece = went.piece; is_wanted = f went.piece went.is_wanted; written = went.written }
+
+  -- the same of what answers well
+  pub went_on : {A : Type 0} (P Q : List ℕ → Type 0) → ((piece : List ℕ) → P piece → Q piece) → (r : Result A Fault)
+      → OnOk r (Went told failed old new P) → OnOk r (Went told failed old new Q)
+  went_on P Q f (Ok a) went = went_as P Q f went
+  went_on P Q f (Err fault) went = tt
 
   -- what a run leaves that was refused
   pub left_as : (P Q : List ℕ → Type 0) (status : ℕ) → ((piece : List ℕ) → P piece → Q piece)

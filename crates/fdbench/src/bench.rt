@@ -6,19 +6,18 @@ ghost use Rattle.qos_report.specs.Printed.{Finishes};
 ghost use Rattle.scenario.specs.Opening.{mind_of};
 ghost use Rattle.scenario.specs.Record.{opening_mind};
 
+use crate::detectors::AnyDetector;
 use crate::machines::make_all;
 use crate::stacks::{eventually_strong, idle, strong};
 use event_list::RunError;
 use process_api::Process;
 use qos_report::{Outlet, PrintChoice, Summary, bench_list, bench_windows};
-use reduction::Reduced;
 use scenario::AlgorithmKind::{EventuallyStrong, Idle, Strong};
 use scenario::{Opening, Scenario};
 use std::alloc::{AllocError, Global};
 use std::marker::Sync;
 use std::sync::Wait;
 use std::thread::Threads;
-use timeout_detector::TimeoutDetector;
 use windows::{OpenGate, Plan};
 
 /// How a run takes its events.
@@ -81,24 +80,12 @@ pub(crate) fn bench<R: Threads + Wait + Sync, O: Outlet>(
         |opening: Opening| -> Result<Box<dyn Process>, AllocError>
             ensures { IfOk result (λ made. mind made ≡ mind_of opening) }
         {
-            let detector = TimeoutDetector::open(alloc, &opening)?;
-            match opening.share {
-                None => match opening.algorithm {
-                    Idle => Ok(Box::new(alloc, idle(&opening, detector))?),
-                    Strong => Ok(Box::new(alloc, strong(alloc, &opening, detector)?)?),
-                    EventuallyStrong => {
-                        Ok(Box::new(alloc, eventually_strong(alloc, &opening, detector)?)?)
-                    }
-                },
-                Some(_) => {
-                    let reduced = Reduced::open(detector, &opening);
-                    match opening.algorithm {
-                        Idle => Ok(Box::new(alloc, idle(&opening, reduced))?),
-                        Strong => Ok(Box::new(alloc, strong(alloc, &opening, reduced)?)?),
-                        EventuallyStrong => {
-                            Ok(Box::new(alloc, eventually_strong(alloc, &opening, reduced)?)?)
-                        }
-                    }
+            let detector = AnyDetector::open(alloc, &opening)?;
+            match opening.algorithm {
+                Idle => Ok(Box::new(alloc, idle(&opening, detector))?),
+                Strong => Ok(Box::new(alloc, strong(alloc, &opening, detector)?)?),
+                EventuallyStrong => {
+                    Ok(Box::new(alloc, eventually_strong(alloc, &opening, detector)?)?)
                 }
             }
         },

@@ -130,6 +130,7 @@ fn name_of_scenario_error(error: &ScenarioError) -> &'static str {
         ScenarioError::LinkNumbers => "LinkNumbers",
         ScenarioError::BelowLookahead { .. } => "BelowLookahead",
         ScenarioError::CrashLine => "CrashLine",
+        ScenarioError::OutageLine => "OutageLine",
         ScenarioError::Memory(_) => "Memory",
     }
 }

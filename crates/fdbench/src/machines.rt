@@ -23,10 +23,7 @@ pub(crate) fn make_all<M: Process, F: Fn(Opening) -> Result<M, AllocError>>(
 {
     let mut machines = Vec::new(alloc);
     for before in 0..scenario.processes() {
-        match Pid::new(before + 1) {
-            Some(p) => machines.push(make(scenario.opening(p))?)?,
-            None => unreachable!(),
-        }
+        machines.push(make(scenario.opening(Pid::after(before)))?)?;
     }
     Ok(machines)
 }

@@ -23,6 +23,7 @@
 
 mod bench;
 pub mod compare;
+mod detectors;
 mod fault;
 pub mod input;
 mod machines;

@@ -308,7 +308,8 @@ pub fn serve<R: Files + Threads + Wait + Sync, I: Read, O: Outlet, F: Outlet>(
         result ≡ 4 → WentPart O.told O.failed outlet.old outlet.new written }
     ensures refused { (result ≡ 1) ⊎ (result ≡ 2) → WroteNothing O.told O.failed outlet.old outlet.new }
     ensures left { let left = LeftOf (I.remaining input.old) (map (λ w. w.now) words.now) in
-        result ≡ 3 → WroteNothing O.told O.failed outlet.old outlet.new ⊎ Went O.told O.failed outlet.old outlet.new left }
+        result ≡ 3 → WroteNothing O.told O.failed outlet.old outlet.new
+        ⊎ Went O.told O.failed outlet.old outlet.new left }
     ensures asked { result ≡ 1 → IsAsked (map (λ w. w.now) words.now) }
     ensures accepted { result ≡ 3 → IsRunAsked (I.remaining input.old) (map (λ w. w.now) words.now) }
     ensures silent { result ≡ 0 → WroteNothing F.told F.failed faults.old faults.new }

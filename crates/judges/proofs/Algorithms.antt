@@ -30,6 +30,7 @@ use Rattle.process_api.proofs.Lists.{both, images, always}
 -- what an algorithm may do
 abbrev pub IsOfAlgorithm : Action → Type 0
 IsOfAlgorithm (action.Send to payload.Alive) = ⊥
+IsOfAlgorithm (action.Send to (payload.Heartbeat number)) = ⊥
 IsOfAlgorithm (action.Send to (payload.Suspects shared)) = ⊥
 IsOfAlgorithm (action.Send to (payload.Vector round cells)) = Unit {0}
 IsOfAlgorithm (action.Send to (payload.Last cells)) = Unit {0}

@@ -20,7 +20,6 @@ use Rattle.judges.specs.Out.{Set, nobody, with, without, notes_until, after_note
 use Rattle.judges.proofs.Instances.{runs_reduction}
 use Rattle.judges.proofs.Order.{less_from}
 use Rattle.judges.proofs.Shared.{StandsBehind, stands_behind}
-use Rattle.judges.proofs.TimeoutLaws.{timeout_detector}
 
 module _ (layer p : ℕ) where
   -- who is suspected after some notes was so before, or one of the notes suspects it
@@ -100,7 +99,7 @@ split_at (x ∷ trace) e (inr i) = let s = split_at trace e i in (x ∷ s.0, s.1
 
 module _ (s : Record) (is : IsInRange s) (trace : List EntryRecord) (is_trace : IsTrace (setting_of s) trace) where
   behind : StandsBehind trace
-  behind = stands_behind (setting_of s) (setting_sound s is) (runs_reduction timeout_detector s) trace is_trace
+  behind = stands_behind (setting_of s) (setting_sound s is) (runs_reduction s) trace is_trace
 
   rises : is_rising trace ≡ true
   rises = trace_rises (setting_of s) (setting_sound s is) trace is_trace

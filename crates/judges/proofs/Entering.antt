@@ -5,6 +5,7 @@ use Rattle.std.proofs.lemmas.Bool.{cases_eq, lt-ltb, eq-eqb, ne_eqb}
 use Rattle.std.proofs.lemmas.List.{with_items_is, get_or_default, get_or-set_same, get_or-set_other, length-set}
 use Rattle.std.proofs.lemmas.List.Sums.{fold-append}
 use Rattle.std.proofs.lemmas.Nat.{mul-add-lt, div-mul-add, mod-mul-add}
+use Rattle.process_api.specs.Bounds.{most_processes}
 use Rattle.process_api.specs.EntryRecord.{EntryRecord}
 use Rattle.scenario.specs.Record.{Record}
 use Rattle.judges.specs.Crashes.{end_of}
@@ -152,7 +153,7 @@ module _ {K : Type 0} (passed : ℕ → Bool → ℕ → K → K) where
 
     pub pairs_fed : entry.key.tick < m.horizon → (xs : List (Pair K))
         → AreTurned passed m.processes m.pairs.items xs (λ q p. cond (eqb entry.key.receiver q) (noted_turns m.layer p entry.key.tick entry.notes) [])
-        → (square : vec_len (with_items m.pairs xs) ≡ m.processes * m.processes) → (few : m.processes ≤ 64) → ArePairs passed S layer kept (trace ++ entry ∷ []) (record m { pairs = with_items m.pairs xs; square = square; few = few })
+        → (square : vec_len (with_items m.pairs xs) ≡ m.processes * m.processes) → (few : m.processes ≤ most_processes) → ArePairs passed S layer kept (trace ++ entry ∷ []) (record m { pairs = with_items m.pairs xs; square = square; few = few })
     pairs_fed below xs after square few = record {
       same_layer = h.same_layer;
       processes = h.processes;

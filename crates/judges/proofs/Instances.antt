@@ -1,17 +1,18 @@
--- The machines of a scenario are such as the promises on traces ask for, with any base detector that has the laws.
+-- The machines of a scenario are such as the promises on traces ask for. Of the base detector its laws alone are used.
 use Rattle.std.proofs.Common.{◌≡◌, ◌⊎◌, ℕ, inl, inr, sym, ap, ◌∙◌, subst, false, [], ◌++◌, append_assoc, unwrap_or}
 use Rattle.std.specs.Prelude.{IsTrue}
 use Rattle.std.specs.FinSet as set
 use Rattle.process_api.specs.Answer.{Answer}
+use Rattle.process_api.specs.BaseDetector.{IsOfDetector}
 use Rattle.process_api.specs.Coordinator.{Coordinator, step_coordinator}
 use Rattle.process_api.specs.Mind.{Lower, Mind, suspects_of, is_mind_at}
 use Rattle.process_api.specs.Place.{Place}
 use Rattle.process_api.specs.React.{react_lower, react_algorithm, react}
 use Rattle.process_api.specs.Reduction.{ReductionState, step_reduction}
-use Rattle.process_api.specs.Timeout.{DetectorState, opening_detector, step_detector}
+use Rattle.process_api.specs.Detector.{suspected_by}
 use Rattle.process_api.specs.declared.action.Action.{Action}
 use Rattle.process_api.specs.declared.message.StepInput.{StepInput}
-use Rattle.process_api.specs.declared.numbers.DetectorNumbers.{DetectorNumbers}
+use Rattle.process_api.proofs.DetectorLaws.{detector_opens, detector_laws}
 use Rattle.process_api.proofs.Keeping.{lower_place, lower_trusts, suspects_leave_out}
 use Rattle.process_api.proofs.Minds.{same_own, mind_place, mind_trusts, mind_stands}
 use Rattle.scenario.specs.Record.{Record, proposal, place_in, opening_algorithm}
@@ -19,87 +20,87 @@ use Rattle.scenario.specs.declared.algorithm.AlgorithmKind.TheVariants as kind
 use Rattle.event_list.specs.ScenarioSetting.{setting_of}
 use Rattle.event_list.specs.History.{IsIn}
 use Rattle.event_list.proofs.Steps.{in_append}
-use Rattle.judges.specs.BaseDetector.{IsDetector}
 use Rattle.judges.proofs.Algorithms.{IsOfAlgorithm, algorithm_acts}
 use Rattle.judges.proofs.Agreement.Joined.{IsOfLower, IsJoined, RunsCoordinator}
 use Rattle.judges.proofs.PartsActions.{each_of, detector_is_lower, detector_is_other, algorithm_is_other, reduction_lower}
 use Rattle.judges.proofs.Reacting.{based, IsLayered, layered, stacked, is_coordinating, coordinator_of, place_of, stepped, coordinated, coordinator_place}
 use Rattle.judges.proofs.Sharing.{IsShared, RunsReduction}
+use Rattle.judges.proofs.Suspecting.{noted_where_new}
 
-module _ (laws : (place : Place) (numbers : DetectorNumbers) → IsDetector (opening_detector numbers) (λ s. s.suspects) (step_detector place numbers)) where
-  -- the detector's part does nothing of an algorithm
-  of_lower : (m : Lower) (now : ℕ) (x : StepInput) (a : Action) → IsIn a (react_lower m now x).actions → IsOfLower a
-  of_lower m now x a i = split (in_append a (based m now x).actions l.over (subst (IsIn a) l.acts i))
-    where
-      l : IsLayered m now x
-      l = layered m now x
+-- the detector's part does nothing of an algorithm
+of_lower : (m : Lower) (now : ℕ) (x : StepInput) (a : Action) → IsIn a (react_lower m now x).actions → IsOfLower a
+of_lower m now x a i = split (in_append a (based m now x).actions l.over (subst (IsIn a) l.acts i))
+  where
+    l : IsLayered m now x
+    l = layered m now x
 
-      by_reduction : (l.over ≡ []) ⊎ ((place : Place) × (s : ReductionState) × (l.over ≡ (step_reduction place s (based m now x).state.suspects x).actions)) → IsIn a l.over → IsOfLower a
-      by_reduction (inl none) j = absurd (subst (IsIn a) none j)
-      by_reduction (inr (place, s, is)) j = each_of IsOfLower _ (reduction_lower place s (based m now x).state.suspects x) a (subst (IsIn a) is j)
+    by_reduction : (l.over ≡ []) ⊎ ((place : Place) × (s : ReductionState) × (l.over ≡ (step_reduction place s (suspected_by m.place (based m now x).state) x).actions)) → IsIn a l.over → IsOfLower a
+    by_reduction (inl none) j = absurd (subst (IsIn a) none j)
+    by_reduction (inr (place, s, is)) j = each_of IsOfLower _ (reduction_lower place s (suspected_by m.place (based m now x).state) x) a (subst (IsIn a) is j)
 
-      split : IsIn a (based m now x).actions ⊎ IsIn a l.over → IsOfLower a
-      split (inl j) = detector_is_lower a ((laws m.place m.numbers).acts m.detector now x a j)
-      split (inr j) = by_reduction l.of_reduction j
+    split : IsIn a (based m now x).actions ⊎ IsIn a l.over → IsOfLower a
+    split (inl j) = detector_is_lower a (each_of IsOfDetector _ (detector_laws m.place m.detector now x).acts a j)
+    split (inr j) = by_reduction l.of_reduction j
 
-  module _ (s : Record) where
-    module _ (p : ℕ) (m : Mind) (now : ℕ) (x : StepInput) (is : IsTrue (is_mind_at (place_in s p) m)) (has : IsTrue (is_coordinating m.algorithm)) where
-      abbrev below : Lower
-      below = (react_lower m.lower now x).state
+module _ (s : Record) where
+  module _ (p : ℕ) (m : Mind) (now : ℕ) (x : StepInput) (is : IsTrue (is_mind_at (place_in s p) m)) (has : IsTrue (is_coordinating m.algorithm)) where
+    abbrev below : Lower
+    below = (react_lower m.lower now x).state
 
-      -- the suspects leave the process out
-      not_itself : set.contains (suspects_of below) p ≡ false
-      not_itself =
-          ap (set.contains (suspects_of below)) (sym (ap (λ (l : Place). l.own) (lower_place m.lower now x) ∙ same_own m.lower.place (place_in s p) (mind_place (place_in s p) m is)))
-          ∙ suspects_leave_out below (lower_trusts m.lower now x (mind_trusts (place_in s p) m is))
+    -- the suspects leave the process out
+    not_itself : set.contains (suspects_of below) p ≡ false
+    not_itself =
+        ap (set.contains (suspects_of below)) (sym (ap (λ (l : Place). l.own) (lower_place m.lower now x) ∙ same_own m.lower.place (place_in s p) (mind_place (place_in s p) m is)))
+        ∙ suspects_leave_out below (lower_trusts m.lower now x (mind_trusts (place_in s p) m is))
 
-      at : ((place_of m.algorithm).own ≡ p) × ((place_of m.algorithm).processes ≡ s.processes)
-      at = coordinator_place (place_in s p) m.algorithm has (mind_stands (place_in s p) m is)
+    at : ((place_of m.algorithm).own ≡ p) × ((place_of m.algorithm).processes ≡ s.processes)
+    at = coordinator_place (place_in s p) m.algorithm has (mind_stands (place_in s p) m is)
 
-      step_is : stepped m.algorithm x (suspects_of below) ≡ step_coordinator s.processes p (set.contains (suspects_of below)) x (coordinator_of m.algorithm)
-      step_is = λ i. step_coordinator (at.1 i) (at.0 i) (set.contains (suspects_of below)) x (coordinator_of m.algorithm)
+    step_is : stepped m.algorithm x (suspects_of below) ≡ step_coordinator s.processes p (set.contains (suspects_of below)) x (coordinator_of m.algorithm)
+    step_is = λ i. step_coordinator (at.1 i) (at.0 i) (set.contains (suspects_of below)) x (coordinator_of m.algorithm)
 
-      joins : IsJoined s.processes p x (coordinator_of m.algorithm) (coordinator_of (react m now x).state.algorithm) (react m now x).actions
-      joins = record {
-        is_suspected = set.contains (suspects_of below);
-        not_itself = not_itself;
-        lower = (react_lower m.lower now x).actions;
-        of_lower = of_lower m.lower now x;
-        state = ap coordinator_of (stacked m now x).algorithm ∙ (coordinated m.algorithm x (suspects_of below) has).state ∙ ap (λ (a : Answer Coordinator). a.state) step_is;
-        acts = (stacked m now x).acts ∙ ap (λ done. (react_lower m.lower now x).actions ++ done) ((coordinated m.algorithm x (suspects_of below) has).acts ∙ ap (λ (a : Answer Coordinator). a.actions) step_is);
-      }
-
-    -- those of the rotating coordinator
-    pub runs_coordinator : s.algorithm ≡ kind.EventuallyStrong → RunsCoordinator (setting_of s) (λ p. unwrap_or (proposal s p) 0)
-    runs_coordinator algorithm = record {
-      part = λ m. coordinator_of m.algorithm;
-      has_part = λ m. is_coordinating m.algorithm;
-      opens_with = λ p own. λ i. is_coordinating (opening_algorithm (record s { algorithm = algorithm i }) p);
-      keeps = λ m now x has. ap is_coordinating (stacked m now x).algorithm ∙ (coordinated m.algorithm x (suspects_of (react_lower m.lower now x).state) has).still_one;
-      opens = λ p own. λ i. coordinator_of (opening_algorithm (record s { algorithm = algorithm i }) p);
-      joins = λ p m now x own is has. joins p m now x is has;
+    joins : IsJoined s.processes p x (coordinator_of m.algorithm) (coordinator_of (react m now x).state.algorithm) (react m now x).actions
+    joins = record {
+      is_suspected = set.contains (suspects_of below);
+      not_itself = not_itself;
+      lower = (react_lower m.lower now x).actions;
+      of_lower = of_lower m.lower now x;
+      state = ap coordinator_of (stacked m now x).algorithm ∙ (coordinated m.algorithm x (suspects_of below) has).state ∙ ap (λ (a : Answer Coordinator). a.state) step_is;
+      acts = (stacked m now x).acts ∙ ap (λ done. (react_lower m.lower now x).actions ++ done) ((coordinated m.algorithm x (suspects_of below) has).acts ∙ ap (λ (a : Answer Coordinator). a.actions) step_is);
     }
 
-    detector_is : (m : Mind) (now : ℕ) (x : StepInput) → (react m now x).state.lower.detector ≡ (based m.lower now x).state
-    detector_is m now x = ap (λ (l : Lower). l.detector) (stacked m now x).lower ∙ (layered m.lower now x).detector
+  -- those of the rotating coordinator
+  pub runs_coordinator : s.algorithm ≡ kind.EventuallyStrong → RunsCoordinator (setting_of s) (λ p. unwrap_or (proposal s p) 0)
+  runs_coordinator algorithm = record {
+    part = λ m. coordinator_of m.algorithm;
+    has_part = λ m. is_coordinating m.algorithm;
+    opens_with = λ p own. λ i. is_coordinating (opening_algorithm (record s { algorithm = algorithm i }) p);
+    keeps = λ m now x has. ap is_coordinating (stacked m now x).algorithm ∙ (coordinated m.algorithm x (suspects_of (react_lower m.lower now x).state) has).still_one;
+    opens = λ p own. λ i. coordinator_of (opening_algorithm (record s { algorithm = algorithm i }) p);
+    joins = λ p m now x own is has. joins p m now x is has;
+  }
 
-    shared : (m : Mind) (now : ℕ) (x : StepInput) → IsShared x m.lower.detector.suspects (based m.lower now x).state.suspects (react m now x).actions
-    shared m now x = record {
-      detector = (based m.lower now x).actions;
-      reduction = (layered m.lower now x).over;
-      algorithm = (react_algorithm m.algorithm x (suspects_of (react_lower m.lower now x).state)).actions;
-      of_detector = λ a i. detector_is_other a ((laws m.lower.place m.lower.numbers).acts m.lower.detector now x a i);
-      of_algorithm = λ a i. algorithm_is_other a (each_of IsOfAlgorithm _ (algorithm_acts m.algorithm x (suspects_of (react_lower m.lower now x).state)) a i);
-      noted = λ q h. (laws m.lower.place m.lower.numbers).notes m.lower.detector now x q h;
-      of_reduction = (layered m.lower now x).of_reduction;
-      acts = (stacked m now x).acts ∙ (ap (λ done. done ++ (react_algorithm m.algorithm x (suspects_of (react_lower m.lower now x).state)).actions) (layered m.lower now x).acts
-          ∙ append_assoc (based m.lower now x).actions (layered m.lower now x).over (react_algorithm m.algorithm x (suspects_of (react_lower m.lower now x).state)).actions);
-    }
+  suspects_are : (m : Mind) (now : ℕ) (x : StepInput)
+      → suspected_by (react m now x).state.lower.place (react m now x).state.lower.detector ≡ suspected_by m.lower.place (based m.lower now x).state
+  suspects_are m now x = ap (λ (l : Lower). suspected_by l.place l.detector) (stacked m now x).lower ∙ (λ i. suspected_by ((layered m.lower now x).place i) ((layered m.lower now x).detector i))
 
-    -- those of every scenario, with a reduction or without
-    pub runs_reduction : RunsReduction (setting_of s)
-    runs_reduction = record {
-      suspects = λ m. m.lower.detector.suspects;
-      opens = λ p own q. (laws (place_in s p) s.detector).opens q;
-      joins = λ m now x. subst (λ (d : DetectorState). IsShared x m.lower.detector.suspects d.suspects (react m now x).actions) (sym (detector_is m now x)) (shared m now x);
-    }
+  shared : (m : Mind) (now : ℕ) (x : StepInput) → IsShared x (suspected_by m.lower.place m.lower.detector) (suspected_by m.lower.place (based m.lower now x).state) (react m now x).actions
+  shared m now x = record {
+    detector = (based m.lower now x).actions;
+    reduction = (layered m.lower now x).over;
+    algorithm = (react_algorithm m.algorithm x (suspects_of (react_lower m.lower now x).state)).actions;
+    of_detector = λ a i. detector_is_other a (each_of IsOfDetector _ (detector_laws m.lower.place m.lower.detector now x).acts a i);
+    of_algorithm = λ a i. algorithm_is_other a (each_of IsOfAlgorithm _ (algorithm_acts m.algorithm x (suspects_of (react_lower m.lower now x).state)) a i);
+    noted = λ q h. noted_where_new _ _ _ _ _ _ (detector_laws m.lower.place m.lower.detector now x) q h;
+    of_reduction = (layered m.lower now x).of_reduction;
+    acts = (stacked m now x).acts ∙ (ap (λ done. done ++ (react_algorithm m.algorithm x (suspects_of (react_lower m.lower now x).state)).actions) (layered m.lower now x).acts
+        ∙ append_assoc (based m.lower now x).actions (layered m.lower now x).over (react_algorithm m.algorithm x (suspects_of (react_lower m.lower now x).state)).actions);
+  }
+
+  -- those of every scenario, with a reduction or without
+  pub runs_reduction : RunsReduction (setting_of s)
+  runs_reduction = record {
+    suspects = λ m. suspected_by m.lower.place m.lower.detector;
+    opens = λ p own q. detector_opens (place_in s p) s.detector q;
+    joins = λ m now x. subst (λ after. IsShared x (suspected_by m.lower.place m.lower.detector) after (react m now x).actions) (sym (suspects_are m now x)) (shared m now x);
+  }

@@ -19,7 +19,7 @@ pub mod Outcoming
 -- what the parts of a process do in every run
 pub mod Letters
 pub mod Algorithms
-pub mod TimeoutLaws
+pub mod Suspecting
 pub mod Sharing
 pub mod PartsActions
 pub mod Reacting

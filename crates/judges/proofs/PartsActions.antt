@@ -15,7 +15,7 @@ use Rattle.process_api.specs.declared.message.StepInput.TheVariants as input
 use Rattle.process_api.specs.declared.message.Tag.TheVariants as tag
 use Rattle.process_api.proofs.Lists.{both, images, always}
 use Rattle.event_list.specs.History.{IsIn}
-use Rattle.judges.specs.BaseDetector.{IsOfDetector}
+use Rattle.process_api.specs.BaseDetector.{IsOfDetector}
 use Rattle.judges.proofs.Algorithms.{IsOfAlgorithm}
 use Rattle.judges.proofs.Agreement.Joined.{IsOfLower}
 use Rattle.judges.proofs.Sharing.{IsOfOther}
@@ -28,6 +28,7 @@ each_of P (y ∷ xs) all x (inr i) = each_of P xs all.1 x i
 
 pub detector_is_lower : (a : Action) → IsOfDetector a → IsOfLower a
 detector_is_lower (action.Send to payload.Alive) h = tt
+detector_is_lower (action.Send to (payload.Heartbeat number)) h = tt
 detector_is_lower (action.Send to (payload.Suspects shared)) h = tt
 detector_is_lower (action.Send to (payload.Vector round cells)) h = absurd h
 detector_is_lower (action.Send to (payload.Last cells)) h = absurd h
@@ -44,6 +45,7 @@ detector_is_lower (action.Note note.NoValue) h = absurd h
 
 pub detector_is_other : (a : Action) → IsOfDetector a → IsOfOther a
 detector_is_other (action.Send to payload.Alive) h = tt
+detector_is_other (action.Send to (payload.Heartbeat number)) h = tt
 detector_is_other (action.Send to (payload.Suspects shared)) h = absurd h
 detector_is_other (action.Send to (payload.Vector round cells)) h = tt
 detector_is_other (action.Send to (payload.Last cells)) h = tt
@@ -60,6 +62,7 @@ detector_is_other (action.Note note.NoValue) h = tt
 
 pub algorithm_is_other : (a : Action) → IsOfAlgorithm a → IsOfOther a
 algorithm_is_other (action.Send to payload.Alive) h = tt
+algorithm_is_other (action.Send to (payload.Heartbeat number)) h = tt
 algorithm_is_other (action.Send to (payload.Suspects shared)) h = absurd h
 algorithm_is_other (action.Send to (payload.Vector round cells)) h = tt
 algorithm_is_other (action.Send to (payload.Last cells)) h = tt

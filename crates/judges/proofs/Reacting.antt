@@ -1,4 +1,4 @@
--- How the minds of a scenario react: the parts act one after the other. Of the base detector only its laws are used.
+-- How the minds of a scenario react: the parts act one after the other.
 use Rattle.std.proofs.Common.{◌≡◌, ◌⊎◌, ℕ, inl, inr, refl, sym, Bool, true, false, List, [], ◌++◌, append-nil, true≢false, Option, None, Some}
 use Rattle.std.specs.Prelude.{IsTrue}
 use Rattle.std.specs.FinSet as set
@@ -9,29 +9,30 @@ use Rattle.process_api.specs.Place.{Place}
 use Rattle.process_api.specs.React.{react_lower, react_algorithm, react}
 use Rattle.process_api.specs.Reduction.{ReductionState, step_reduction}
 use Rattle.process_api.specs.Sets.{Processes}
-use Rattle.process_api.specs.Timeout.{DetectorState, step_detector}
+use Rattle.process_api.specs.Detector.{DetectorState, suspected_by, step_detector}
 use Rattle.process_api.specs.declared.action.Action.{Action}
 use Rattle.process_api.specs.declared.message.StepInput.{StepInput}
 use Rattle.process_api.proofs.Minds.{same_own, same_count}
 
 -- the base detector's step
 abbrev pub based : Lower → ℕ → StepInput → Answer DetectorState
-based m now x = step_detector m.place m.numbers m.detector now x
+based m now x = step_detector m.place m.detector now x
 
 -- how the detector's part acts: first the base detector, and then the reduction, if there is one
 pub record IsLayered (m : Lower) (now : ℕ) (x : StepInput) : Type 0 where
   pub over : List Action
-  pub of_reduction : (over ≡ []) ⊎ ((place : Place) × (s : ReductionState) × (over ≡ (step_reduction place s (based m now x).state.suspects x).actions))
+  pub of_reduction : (over ≡ []) ⊎ ((place : Place) × (s : ReductionState) × (over ≡ (step_reduction place s (suspected_by m.place (based m now x).state) x).actions))
   pub acts : (react_lower m now x).actions ≡ (based m now x).actions ++ over
   pub detector : (react_lower m now x).state.detector ≡ (based m now x).state
+  pub place : (react_lower m now x).state.place ≡ m.place
 
 pub layered : (m : Lower) (now : ℕ) (x : StepInput) → IsLayered m now x
 unfolding react_lower
 layered m now x = go m.reduction
   where
     go : (o : Option ReductionState) → IsLayered (record m { reduction = o }) now x
-    go None = record { over = []; of_reduction = inl refl; acts = sym (append-nil (based m now x).actions); detector = refl }
-    go (Some r) = record { over = (step_reduction m.place r (based m now x).state.suspects x).actions; of_reduction = inr (m.place, r, refl); acts = refl; detector = refl }
+    go None = record { over = []; of_reduction = inl refl; acts = sym (append-nil (based m now x).actions); detector = refl; place = refl }
+    go (Some r) = record { over = (step_reduction m.place r (suspected_by m.place (based m now x).state) x).actions; of_reduction = inr (m.place, r, refl); acts = refl; detector = refl; place = refl }
 
 -- the detector's part acts, and then the algorithm
 pub record IsStacked (m : Mind) (now : ℕ) (x : StepInput) : Type 0 where

@@ -38,6 +38,7 @@ StandsBehind trace = (earlier : List EntryRecord) (e : EntryRecord) (later : Lis
 
 abbrev members_of : Processes → Payload → Processes
 members_of d payload.Alive = d
+members_of d (payload.Heartbeat number) = d
 members_of d (payload.Suspects members) = members
 members_of d (payload.Vector round cells) = d
 members_of d (payload.Last cells) = d

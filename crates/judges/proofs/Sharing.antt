@@ -7,7 +7,7 @@ use Rattle.process_api.specs.Sets.{Processes}
 use Rattle.process_api.specs.declared.action.Action.{Action}
 use Rattle.process_api.specs.declared.action.Action.TheVariants.{Send, Wake, Note}
 use Rattle.process_api.specs.declared.action.Note.TheVariants.{Suspect, Trust, Round, Decided, NoValue}
-use Rattle.process_api.specs.declared.message.Payload.TheVariants.{Alive, Suspects, Vector, Last, Estimate, Proposal, Reply, Decide}
+use Rattle.process_api.specs.declared.message.Payload.TheVariants.{Alive, Heartbeat, Suspects, Vector, Last, Estimate, Proposal, Reply, Decide}
 use Rattle.process_api.specs.declared.message.StepInput.{StepInput}
 use Rattle.event_list.specs.Setting.{Setting, IsProcess}
 use Rattle.event_list.specs.History.{IsIn}
@@ -15,6 +15,7 @@ use Rattle.event_list.specs.History.{IsIn}
 -- an action that is not the reduction's: no set of suspects is sent, and nobody is suspected on layer 2
 abbrev pub IsOfOther : Action → Type 0
 IsOfOther (Send to Alive) = Unit {0}
+IsOfOther (Send to (Heartbeat number)) = Unit {0}
 IsOfOther (Send to (Suspects shared)) = ⊥
 IsOfOther (Send to (Vector round cells)) = Unit {0}
 IsOfOther (Send to (Last cells)) = Unit {0}

@@ -26,13 +26,15 @@ module _ (pairs : Pairs Track) where
       latest_below (λ j. if not (counts_as_correct j) then suspected_from (place i j) else Some 0) pairs.processes
 
   abbrev pub column_suspected : ℕ → Option ℕ
-  column_suspected j = earliest_below (λ i. if counts_as_correct i then suspected_from (place i j) else None) pairs.processes
+  column_suspected j =
+      earliest_below (λ i. if counts_as_correct i then suspected_from (place i j) else None) pairs.processes
 
   abbrev pub row_trusted : ℕ → Option ℕ
   row_trusted i = latest_below (λ j. if counts_as_correct j then trusted_from (place i j) else Some 0) pairs.processes
 
   abbrev pub column_trusted : ℕ → Option ℕ
-  column_trusted j = latest_below (λ i. if counts_as_correct i then trusted_from (place i j) else Some 0) pairs.processes
+  column_trusted j =
+      latest_below (λ i. if counts_as_correct i then trusted_from (place i j) else Some 0) pairs.processes
 
   abbrev pub row_right : ℕ → Bool
   row_right i = all_below (λ j. not (place i j).mistaken) pairs.processes
@@ -43,9 +45,12 @@ module _ (pairs : Pairs Track) where
   abbrev pub grid_verdicts : Verdicts
   grid_verdicts = record {
     strong_completeness = latest_below (λ i. if counts_as_correct i then row_suspected i else Some 0) pairs.processes;
-    weak_completeness = latest_below (λ j. if not (counts_as_correct j) then column_suspected j else Some 0) pairs.processes;
+    weak_completeness =
+        latest_below (λ j. if not (counts_as_correct j) then column_suspected j else Some 0) pairs.processes;
     strong_accuracy = all_below row_right pairs.processes;
     weak_accuracy = any_below (λ j. counts_as_correct j && column_right j) pairs.processes;
-    eventual_strong_accuracy = latest_below (λ i. if counts_as_correct i then row_trusted i else Some 0) pairs.processes;
-    eventual_weak_accuracy = earliest_below (λ j. if counts_as_correct j then column_trusted j else None) pairs.processes;
+    eventual_strong_accuracy =
+        latest_below (λ i. if counts_as_correct i then row_trusted i else Some 0) pairs.processes;
+    eventual_weak_accuracy =
+        earliest_below (λ j. if counts_as_correct j then column_trusted j else None) pairs.processes;
   }

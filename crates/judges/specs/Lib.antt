@@ -14,4 +14,3 @@ pub mod Grid
 pub mod Judging
 pub mod Agreement
 pub mod Blame
-pub mod BaseDetector

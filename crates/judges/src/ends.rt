@@ -1,8 +1,8 @@
 //! Up to which tick each process is up.
 ghost use Rattle.std.specs.Prelude.{◌≡◌, ◌≤◌, vec_len, IfOk};
+ghost use Rattle.process_api.specs.Bounds.{most_processes};
 ghost use Rattle.judges.specs.Ends.{AreEnds, end_tick};
 
-use crate::numbers::process_after;
 use process_api::Pid;
 use scenario::Scenario;
 use std::alloc::{AllocError, Global};
@@ -18,11 +18,11 @@ pub fn end_tick(scenario: &Scenario, p: Pid) -> u32
 /// The ticks up to which the processes are up, cut at the horizon, of process 1 first.
 pub(crate) fn end_ticks(alloc: Global, scenario: &Scenario) -> Result<Vec<u32>, AllocError>
     ensures value { IfOk result (λ ends. AreEnds scenario.now ends.items) }
-    ensures few { IfOk result (λ ends. vec_len ends ≤ 64) }
+    ensures few { IfOk result (λ ends. vec_len ends ≤ most_processes) }
 {
     let mut ends = Vec::with_capacity(alloc, usize::from(scenario.processes()))?;
     for before in 0..scenario.processes() {
-        ends.push(end_tick(scenario, process_after(before)))?;
+        ends.push(end_tick(scenario, Pid::after(before)))?;
     }
     Ok(ends)
 }

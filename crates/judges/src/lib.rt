@@ -13,8 +13,8 @@
 //! Where the trace is the one that the event list defines and the algorithm is the rotating coordinator, [`decisions`]
 //! promises more (`specs/Agreement.antt`): no two outcomes have different values, each value was proposed, no process
 //! ends with no value, and each notes at most one decision, under any detector settings, delays, losses and crashes.
-//! Of the base detector the proof uses the laws in `specs/BaseDetector.antt` alone; its argument stands at the head of
-//! `proofs/Agreement.antt`. The crate above also promises `specs/Blame.antt`, which is proved here: each suspicion of
+//! Of the base detector the proof uses the laws in `specs/BaseDetector.antt` of `process_api` alone; its argument stands
+//! at the head of `proofs/Agreement.antt`. The crate above also promises `specs/Blame.antt`, which is proved here: each suspicion of
 //! layer 2 has an earlier entry that notes one of the same process on layer 1.
 //!
 //! [`RunningJudge`] and [`RunningOutcomes`] answer the same with no trace at hand: they are fed with its entries as
@@ -22,8 +22,8 @@
 //! fed).
 //!
 //! [`Pairs`] is the machinery of the judge, and of other crates that count what detectors do: of each pair of processes
-//! on a layer it keeps a [`Gauge`], that its owner chooses, and moves it where a note of the observer begins or ends the
-//! suspicion of the subject. What is kept is the gauge as it opened, moved by the turns of the pair in the trace
+//! on a layer it keeps a [`Gauge`], that its owner chooses, and moves it where a note of the observer begins or ends
+//! the suspicion of the subject. What is kept is the gauge as it opened, moved by the turns of the pair in the trace
 //! (`specs/Turns.antt`, `specs/Pairs.antt`); `proofs/Standing.antt` says what it then knows of the ticks.
 //!
 //! Of work and memory no contract speaks. The code goes over the entries once: it keeps for each pair of processes
@@ -36,7 +36,6 @@
 
 mod ends;
 mod grid;
-mod numbers;
 mod outcomes;
 mod pair;
 mod pairs;
@@ -45,7 +44,6 @@ mod track;
 mod verdicts;
 
 pub use ends::end_tick;
-pub use numbers::process_after;
 pub use outcomes::{Answer, Outcome, RunningOutcomes, decisions};
 pub use pair::{Gauge, Pair, turn_of};
 pub use pairs::Pairs;

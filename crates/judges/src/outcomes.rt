@@ -6,7 +6,6 @@ ghost use Rattle.judges.specs.Agreement.{Agree, DecidesOnce, IsCoordinated};
 ghost use Rattle.judges.specs.Outcomes.{outcome, outcomes};
 ghost use Rattle.judges.specs.Noting.{all_noted, noted};
 
-use crate::numbers::process_after;
 use process_api::{Entry, Note, Pid, Trace};
 use scenario::Scenario;
 use std::alloc::{AllocError, Global};
@@ -103,7 +102,7 @@ impl RunningOutcomes {
     {
         let mut outcomes = Vec::with_capacity(alloc, usize::from(scenario.processes()))?;
         for before in 0..scenario.processes() {
-            outcomes.push(Outcome::open(process_after(before)))?;
+            outcomes.push(Outcome::open(Pid::after(before)))?;
         }
         Ok(RunningOutcomes { outcomes })
     }

@@ -1,5 +1,6 @@
 //! All pairs of processes, as a trace goes by.
 ghost use Rattle.std.specs.Prelude.{◌≡◌, ℕ, ◌+◌, ◌*◌, ◌<◌, ◌≤◌, ◌++◌, ◌∷◌, [], ◌==◌, if◌then◌else◌, List, Some, length, vec_len, get_or, IfOk};
+ghost use Rattle.process_api.specs.Bounds.{most_processes};
 ghost use Rattle.process_api.specs.EntryRecord.{EntryRecord};
 ghost use Rattle.scenario.specs.Record.{Record};
 ghost use Rattle.judges.specs.Ends.{opened_at};
@@ -25,7 +26,7 @@ fn pair_at<K: Gauge>(ends: &[u32], kept: K, place: usize) -> Pair<K>
 
 /// All pairs, as they open.
 fn open_pairs<K: Gauge>(alloc: Global, ends: &[u32], kept: K) -> Result<Vec<Pair<K>>, AllocError>
-    requires { length ends.now ≤ 64 }
+    requires { length ends.now ≤ most_processes }
     ensures count { IfOk result (λ pairs. vec_len pairs ≡ length ends.now * length ends.now) }
     ensures each { IfOk result (λ pairs. (k : ℕ) (d : Pair K) → k < length ends.now * length ends.now
         → get_or pairs.items k d ≡ opened_at ends.now kept k) }
@@ -91,7 +92,7 @@ pub struct Pairs<K> {
     // by observer and then by subject, a process and itself too
     pairs: Vec<Pair<K>>,
     ghost square: { vec_len pairs ≡ processes * processes },
-    ghost few: { processes ≤ 64 },
+    ghost few: { processes ≤ most_processes },
 }
 
 impl<K: Gauge> Pairs<K> {
@@ -164,7 +165,7 @@ impl<K: Gauge> Pairs<K> {
         requires { before < self.now.processes }
         ensures { result ≡ before + 1 }
     {
-        Pid::new(before as u16 + 1).unwrap()
+        Pid::after(before as u16)
     }
 
     /// An observer and a subject, each by how many processes come before it.

@@ -1,17 +1,17 @@
 -- Each step of a pass keeps the ledger's rule.
-use Rattle.std.proofs.Common.{◌≡◌, ◌≢◌, ◌⊎◌, inl, inr, ℕ, zero, suc, ◌+◌, List, [], ◌∷◌, ◌++◌, Option, Some, None, set, sym, refl, ap, ◌∙◌, subst, append_assoc, append-nil, arith, ⊎_elim}
+use Rattle.std.proofs.Common.{◌≡◌, ◌≢◌, inl, inr, ℕ, zero, suc, ◌+◌, List, [], ◌∷◌, ◌++◌, Option, Some, None, set, sym, refl, ap, ◌∙◌, subst, append_assoc, append-nil, arith, ⊎_elim, length-append}
 use Rattle.std.specs.List.{Contains, flat_map, sum_by}
 use Rattle.std.specs.List.Sorted.{IsPermutation}
 use Rattle.std.proofs.lemmas.Option.{none-some}
 use Rattle.std.proofs.lemmas.List.Elements.{All-nil, All-cons}
 use Rattle.std.proofs.lemmas.List.Sums.{sum_by-cons, sum_by-append}
 use Rattle.std.proofs.lemmas.List.Concat.{flat_map-append}
-use Rattle.std.proofs.lemmas.List.Sorted.{IsPermutation-refl, IsPermutation-append_left, IsPermutation-middle, IsPermutation-trans, IsPermutation-sym, Contains-permutation}
+use Rattle.std.proofs.lemmas.List.Sorted.{IsPermutation-refl, IsPermutation-append_left, IsPermutation-middle, IsPermutation-trans, IsPermutation-sym, Contains-permutation, length_permutation}
 use mathlib.Core.Option.{some, some-injective, some-ne-none}
 use lib.ListN.{get_elem?}
 use Rattle.crossbeam_queue.proofs.Lists.{at_set, at_snoc, set_else}
 use Rattle.mailboxes.specs.declared.ledger.Account.{Account}
-use Rattle.mailboxes.specs.Ledger.{account, first_pass, has_put, has_taken, one_made, new_pass, both_of, given_back, tells, told_in, MayTell, AreTold, IsBalanced, FirstCounts, IdleIsEmpty, AreToldAlike, IsToldRight, put_by_all, taken_by_all, EachOnce}
+use Rattle.mailboxes.specs.Ledger.{first_pass, has_put, has_taken, one_made, new_pass, both_of, given_back, tells, forgets, told_in, MayTell, AreTold, IsBalanced, FirstCounts, IdleIsEmpty, AreToldAlike, IsToldRight, put_by_all, taken_by_all, EachOnce}
 use Rattle.mailboxes.proofs.Totals.{total_set, total_none, none_total, gather_same, gather_more, gather_none, set_commutes}
 
 module _ {T : Type 0} where
@@ -210,6 +210,63 @@ module _ {T : Type 0} where
       follow_both _ (set views port l) _ (follow_new (set views port l) r (port, l, there views port l v at, live, refl)) (follow_set views port v l at live refl) in
       one_more v l r live refl refl refl refl refl refl refl refl port first items views b at (alike_kept _ _ follow b.alike) (λ put. told_kept _ _ follow (by_same _ _ (sym put)) b.told)
 
+  -- the first pass, where it stands for all, knows that what was put is what was taken and what is there
+  pub learns : (port : ℕ) (v : Account T) → port ≡ 0 → v.parts ≡ v.made → (items : List T) (views : List (Account T)) → EachOnce items views → get_elem? views port ≡ some v → IsBalanced v items
+  learns port v first all items [] b at = absurd (some-ne-none v (sym at))
+  learns port v first all items (x ∷ xs) b at =
+      let r = others_idle (x ∷ xs) port v first all b.counted b.first at x xs refl in
+      let idle : (j : ℕ) (u : Account T) → get_elem? xs j ≡ some u → (u.put ≡ []) × (u.taken ≡ []) = λ j u e. b.idle (suc j) u e (r.1 j u e) in
+      let put : put_by_all (x ∷ xs) ≡ v.put = alone (λ (u : Account T). u.put) x xs (λ j u e. (idle j u e).0) ∙ ap (λ (y : Account T). y.put) r.0 in
+      let taken : taken_by_all (x ∷ xs) ≡ v.taken = alone (λ (u : Account T). u.taken) x xs (λ j u e. (idle j u e).1) ∙ ap (λ (y : Account T). y.taken) r.0 in
+      subst (λ (p : List T × List T). IsPermutation p.0 (p.1 ++ items)) (λ i. (put i, taken i)) b.same
+
+  -- the first pass, where it stands for all and has taken all that was put, makes one more and forgets that
+  pub settles : (port : ℕ) (v : Account T) → port ≡ 0 → v.parts ≢ 0 → v.parts ≡ v.made → v.told ≡ None → IsPermutation v.put v.taken → (items : List T) (views : List (Account T)) → EachOnce items views
+      → get_elem? views port ≡ some v → EachOnce items (set views port (one_made (forgets v)) ++ new_pass v.told ∷ [])
+  settles port v first live all untold same items [] b at = absurd (some-ne-none v (sym at))
+  settles port v first live all untold same items (x ∷ xs) b at =
+      let views : List (Account T) = x ∷ xs in
+      let l : Account T = one_made (forgets v) in
+      let r : Account T = new_pass v.told in
+      let vs : List (Account T) = set views port l in
+      let parts = total_set (λ (u : Account T). u.parts) views port v l at in
+      let whole = total_set (λ (u : Account T). u.made) views port v l at in
+      let before = b.counted in
+      let others = (others_idle views port v first all b.counted b.first at x xs refl).1 in
+      let follow : Follow (vs ++ r ∷ []) views = follow_both (vs ++ r ∷ []) vs views (follow_new vs r (port, l, there views port l v at, live, refl)) (follow_set views port v l at live refl) in
+      let idle : IdleIsEmpty (vs ++ r ∷ []) = λ j u here none. ⊎_elim (λ (old : get_elem? vs j ≡ some u). idle_set views port l (λ z. absurd (live z)) b.idle j u old none)
+      (λ (new : r ≡ u). (ap (λ (y : Account T). y.put) (sym new), ap (λ (y : Account T). y.taken) (sym new))) (at_snoc vs r u j here) in
+      let nothing : (j : ℕ) (u : Account T) → get_elem? (vs ++ r ∷ []) j ≡ some u → (u.put ≡ []) × (u.taken ≡ []) = λ j u here. ⊎_elim
+      (λ (old : get_elem? vs j ≡ some u). ⊎_elim (λ (e : (j ≡ port) × (l ≡ u)). (ap (λ (y : Account T). y.put) (sym e.1), ap (λ (y : Account T). y.taken) (sym e.1)))
+      (λ (e : (j ≢ port) × (get_elem? views j ≡ some u)). emptied x xs others b.idle j u e.1 (λ z. e.0 (z ∙ sym first))) (at_set views port j l u old))
+      (λ (new : r ≡ u). (ap (λ (y : Account T). y.put) (sym new), ap (λ (y : Account T). y.taken) (sym new))) (at_snoc vs r u j here) in
+      let put : put_by_all (vs ++ r ∷ []) ≡ [] = gather_none (λ (u : Account T). u.put) (vs ++ r ∷ []) (λ j u here. (nothing j u here).0) in
+      let taken : taken_by_all (vs ++ r ∷ []) ≡ [] = gather_none (λ (u : Account T). u.taken) (vs ++ r ∷ []) (λ j u here. (nothing j u here).1) in
+      let gone : items ≡ [] = none_left_over v.put v.taken items same (learns port v first all items views b at) in
+      record {
+        counted = omega (arith, sum_by-append (λ (u : Account T). u.parts) vs (r ∷ []), sum_by-append (λ (u : Account T). u.made) vs (r ∷ []), sum_by-cons (λ (u : Account T). u.parts) r [], sum_by-cons (λ (u : Account T). u.made) r []);
+        first = λ j u here n. ⊎_elim
+            (λ (old : get_elem? vs j ≡ some u). ⊎_elim (λ (e : (j ≡ port) × (l ≡ u)). absurd (n (e.0 ∙ first)))
+            (λ (e : (j ≢ port) × (get_elem? views j ≡ some u)). b.first j u e.1 n) (at_set views port j l u old))
+            (λ (new : r ≡ u). ap (λ (y : Account T). y.made) (sym new)) (at_snoc vs r u j here);
+        idle = idle;
+        alike = alike_kept (vs ++ r ∷ []) views follow b.alike;
+        told = λ j u whole here lives is. let k = follow j u here lives in absurd (none-some whole (sym untold ∙ b.alike port k.0 v k.1 at k.2 live k.3 ∙ k.4 ∙ is));
+        same = subst (λ (p : List T × List T × List T). IsPermutation p.0 (p.1 ++ p.2)) (λ i. (sym put i, sym taken i, sym gone i)) (IsPermutation-refl []);
+      }
+    where
+      emptied : (x : Account T) (xs : List (Account T)) → ((j : ℕ) (u : Account T) → get_elem? xs j ≡ some u → u.parts ≡ 0) → IdleIsEmpty (x ∷ xs)
+          → (j : ℕ) (u : Account T) → get_elem? (x ∷ xs) j ≡ some u → j ≢ 0 → (u.put ≡ []) × (u.taken ≡ [])
+      emptied x xs none idle zero u here n = absurd (n refl)
+      emptied x xs none idle (suc j) u here n = idle (suc j) u here (none j u here)
+
+      none_left_over : (put taken items : List T) → IsPermutation put taken → IsPermutation put (taken ++ items) → items ≡ []
+      none_left_over put taken [] p q = refl
+      none_left_over put taken (y ∷ ys) p q =
+          let a = length_permutation put taken p in
+          let b = length_permutation put (taken ++ y ∷ ys) q in
+          absurd (omega (arith, a, b, length-append taken (y ∷ ys)))
+
   -- the first pass makes one more, and tells it what was put
   pub told : (port : ℕ) (v : Account T) → port ≡ 0 → v.parts ≢ 0 → MayTell v → (items : List T) (views : List (Account T)) → EachOnce items views → get_elem? views port ≡ some v
       → EachOnce items (set views port (one_made (tells v)) ++ new_pass (Some v.put) ∷ [])
@@ -252,16 +309,6 @@ module _ {T : Type 0} where
         told = told_kept _ _ follow put b.told;
         same = IsPermutation-trans _ _ _ (IsPermutation-sym _ _ put) (IsPermutation-trans _ _ _ b.same (IsPermutation-append_left items _ _ taken));
       }
-
-  -- the first pass, where it stands for all, knows that what was put is what was taken and what is there
-  pub learns : (port : ℕ) (v : Account T) → port ≡ 0 → v.parts ≡ v.made → (items : List T) (views : List (Account T)) → EachOnce items views → get_elem? views port ≡ some v → IsBalanced v items
-  learns port v first all items [] b at = absurd (some-ne-none v (sym at))
-  learns port v first all items (x ∷ xs) b at =
-      let r = others_idle (x ∷ xs) port v first all b.counted b.first at x xs refl in
-      let idle : (j : ℕ) (u : Account T) → get_elem? xs j ≡ some u → (u.put ≡ []) × (u.taken ≡ []) = λ j u e. b.idle (suc j) u e (r.1 j u e) in
-      let put : put_by_all (x ∷ xs) ≡ v.put = alone (λ (u : Account T). u.put) x xs (λ j u e. (idle j u e).0) ∙ ap (λ (y : Account T). y.put) r.0 in
-      let taken : taken_by_all (x ∷ xs) ≡ v.taken = alone (λ (u : Account T). u.taken) x xs (λ j u e. (idle j u e).1) ∙ ap (λ (y : Account T). y.taken) r.0 in
-      subst (λ (p : List T × List T). IsPermutation p.0 (p.1 ++ items)) (λ i. (put i, taken i)) b.same
 
   -- the rule holds of an empty queue
   is_first : (j : ℕ) (u : Account T) → get_elem? (first_pass ∷ []) j ≡ some u → (j ≡ 0) × (first_pass ≡ u)

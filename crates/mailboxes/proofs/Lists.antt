@@ -1,7 +1,7 @@
 -- Lists that change at one place, and lists of lists.
 use Rattle.std.proofs.Common.{◌≡◌, ℕ, zero, suc, ◌+◌, ◌<◌, List, [], ◌∷◌, ◌++◌, length, map, take, drop, set, get_or, refl, sym, ap, ◌∙◌, subst, arith}
 use Rattle.std.proofs.lemmas.List.{length-map}
-use Rattle.std.proofs.lemmas.List.Sorted.{IsPermutation-refl}
+use Rattle.std.proofs.lemmas.List.Sorted.{IsPermutation-refl, IsPermutation-trans}
 use Rattle.std.specs.List.Sorted.{IsPermutation}
 use Rattle.mailboxes.specs.Places.{each_with}
 
@@ -35,6 +35,11 @@ module _ {A : Type 0} where
   map_take_more g (x ∷ xs) zero d lt = refl
   map_take_more g (x ∷ xs) (suc i) d lt = ap (λ l. g x ∷ l) (map_take_more g xs i d (omega arith))
 
+module _ {A : Type 0} where
+  pub get_or-middle : (xs ys : List A) (y d : A) → get_or (xs ++ y ∷ ys) (length xs) d ≡ y
+  get_or-middle [] ys y d = refl
+  get_or-middle (x ∷ xs) ys y d = get_or-middle xs ys y d
+
 -- two lists whose elements agree in one part
 module _ {A B C : Type 0} (f : A → C) (g : B → C) where
   pub parts_agree : (xs : List A) (ys : List B) (i : ℕ) (d : A) (e : B) → i < length xs → map f xs ≡ map g ys → f (get_or xs i d) ≡ g (get_or ys i e)
@@ -53,6 +58,16 @@ module _ {A : Type 0} where
   Shuffled [] (y ∷ ys) = ⊥
   Shuffled (x ∷ xs) [] = ⊥
   Shuffled (x ∷ xs) (y ∷ ys) = IsPermutation x y × Shuffled xs ys
+
+  pub Shuffled-refl : (xs : List (List A)) → Shuffled xs xs
+  Shuffled-refl [] = tt
+  Shuffled-refl (x ∷ xs) = (IsPermutation-refl x, Shuffled-refl xs)
+
+  pub Shuffled-next : (xs front rest : List (List A)) (y z : List A) → Shuffled xs (front ++ y ∷ rest) → IsPermutation y z → Shuffled xs (front ++ z ∷ rest)
+  Shuffled-next [] [] rest y z h p = absurd h
+  Shuffled-next [] (f ∷ fs) rest y z h p = absurd h
+  Shuffled-next (x ∷ xs) [] rest y z h p = (IsPermutation-trans x y z h.0 p, h.1)
+  Shuffled-next (x ∷ xs) (f ∷ fs) rest y z h p = (h.0, Shuffled-next xs fs rest y z h.1 p)
 
   pub Shuffled-more : (xs ys : List (List A)) (x y : List A) → Shuffled xs ys → IsPermutation x y → Shuffled (xs ++ x ∷ []) (ys ++ y ∷ [])
   Shuffled-more [] [] x y h p = (p, tt)

@@ -37,6 +37,10 @@ module _ {T : Type 0} where
   abbrev pub given_back : Account T
   given_back = account 0 0 [] [] None
 
+  -- the first pass forgets what it has put and taken
+  abbrev pub forgets : Account T → Account T
+  forgets a = account a.made a.parts [] [] a.told
+
   -- the first pass tells what it has put. It may where it stands for all, and again where it has told just this
   abbrev pub tells : Account T → Account T
   tells a = account a.made a.parts a.put a.taken (Some a.put)

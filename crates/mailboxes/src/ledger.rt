@@ -46,6 +46,18 @@ impl<T> Join<Account<T>> for Ticketing {
     ghost spent = { given_back };
 }
 
+/// The first pass makes one pass more, and forgets what it has put and taken. It may where it stands for all and has
+/// taken all that was put.
+pub(crate) struct Settling;
+
+impl<T> Split<Account<T>> for Settling {
+    ghost use Rattle.mailboxes.specs.Ledger.{one_made, new_pass, forgets};
+
+    ghost left = { λ a. one_made (forgets a) };
+
+    ghost right = { λ a. new_pass a.told };
+}
+
 /// The first pass makes one pass more, and tells it what was put.
 pub struct Telling;
 

@@ -1,10 +1,11 @@
 //! The mailbox of one receiver: its queue, which threads share; the tickets by which they post; and the owner's pass.
-ghost use Rattle.std.specs.Prelude.{◌≡◌, ◌≢◌, ◌<◌, [], ◌∷◌, ◌++◌, IfOk, IfErr, OnOk, OnErr};
+ghost use Rattle.std.specs.Prelude.{◌≡◌, ◌≢◌, ◌<◌, ◌+◌, [], ◌∷◌, ◌++◌, None, IfOk, IfErr, OnOk, OnErr};
 ghost use Rattle.std.specs.List.Sorted.{IsPermutation};
 ghost use Rattle.crossbeam_queue.specs.SegTies.{IsSegPassOf};
+ghost use Rattle.mailboxes.specs.Ledger.{account, has_taken};
 ghost use Rattle.mailboxes.specs.Mailbox.{ticket_of, home_of, one_out, one_back};
 
-use crate::ledger::{Account, Ticketing};
+use crate::ledger::{Account, Settling, Ticketing};
 use crate::rule::{EachOnce, Pop, Push};
 use crossbeam_queue::{RuledSegQueue, SegPass};
 use process_api::Letter;
@@ -130,36 +131,46 @@ impl Mailbox {
         self.queue.absorb::<Ticketing>(&mut home.pass, pass);
     }
 
-    /// The letters, in some order, once every ticket is back.
+    /// Moves the letters into a list, in some order, once every ticket is back. The mailbox is as it was at first then.
     pub(crate) fn empty<R: Wait>(
         &self,
         rt: &R,
-        alloc: Global,
         home: Home,
-    ) -> Result<Vec<Letter>, AllocError>
+        letters: &mut Vec<Letter>,
+    ) -> Result<Home, AllocError>
         requires home { home.mailbox ≡ self.now }
         requires out { home.out ≡ 0 }
-        ensures { IfOk result (λ letters. IsPermutation home.back letters.items) }
+        requires letters { letters.old.items ≡ [] }
+        ensures home { IfOk result (λ h. h ≡ home_of home.mailbox 0 []) }
+        ensures letters { OnOk result (IsPermutation home.back letters.new.items) }
     {
         let Home { mut pass } = home;
-        drain(rt, alloc, &self.queue, &mut pass)
+        drain(rt, &self.queue, &mut pass, letters)?;
+        settle(&self.queue, &mut pass);
+        Ok(Home { pass })
     }
 }
 
-// Pops until the queue is empty, by the pass that stands for all. Room is made before each pop.
+// Pops until the queue is empty, by the pass that stands for all. Room is made for all at once; that there is room is
+// seen before each pop.
 fn drain<R: Wait>(
     rt: &R,
-    alloc: Global,
     queue: &Queue,
     pass: &mut Pass,
-) -> Result<Vec<Letter>, AllocError>
+    letters: &mut Vec<Letter>,
+) -> Result<(), AllocError>
     requires pass { IsSegPassOf queue.now pass.old × (pass.old.id ≡ 0) }
     requires all { pass.old.me.view.client.parts ≡ pass.old.me.view.client.made }
     requires some { pass.old.me.view.client.parts ≢ 0 }
     requires none { pass.old.me.view.client.taken ≡ [] }
-    ensures { IfOk result (λ letters. IsPermutation pass.old.me.view.client.put letters.items) }
+    requires letters { letters.old.items ≡ [] }
+    ensures pass { IsSegPassOf queue.now pass.new × (pass.new.id ≡ 0) }
+    ensures taken { OnOk result (pass.new.me.view.client
+        ≡ has_taken pass.old.me.view.client letters.new.items) }
+    ensures all { OnOk result (IsPermutation pass.old.me.view.client.put letters.new.items) }
 {
-    let mut letters = Vec::new(alloc);
+    let count = queue.len_as::<Pop, R>(rt, pass);
+    letters.reserve(count.saturating_add(1))?;
     for _ in rt.forever() {
         letters.reserve(1)?;
         match queue.pop_as::<Pop, R>(rt, pass) {
@@ -167,5 +178,20 @@ fn drain<R: Wait>(
             None => break,
         }
     }
-    Ok(letters)
+    Ok(())
+}
+
+// The pass that stands for all, and has taken all that was put, forgets it.
+fn settle(queue: &Queue, pass: &mut Pass)
+    requires pass { IsSegPassOf queue.now pass.old × (pass.old.id ≡ 0) }
+    requires all { pass.old.me.view.client.parts ≡ pass.old.me.view.client.made }
+    requires some { pass.old.me.view.client.parts ≢ 0 }
+    requires told { pass.old.me.view.client.told ≡ None }
+    requires same { IsPermutation pass.old.me.view.client.put pass.old.me.view.client.taken }
+    ensures pass { IsSegPassOf queue.now pass.new × (pass.new.id ≡ 0) }
+    ensures settled { pass.new.me.view.client
+        ≡ account (pass.old.me.view.client.made + 1) (pass.old.me.view.client.parts + 1) [] [] None }
+{
+    let other = queue.another::<Settling>(pass);
+    queue.absorb::<Ticketing>(pass, other);
 }

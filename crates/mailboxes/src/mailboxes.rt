@@ -1,5 +1,5 @@
 //! The mailboxes whole: the queues, and the owner's pass of each.
-ghost use Rattle.std.specs.Prelude.{◌≡◌, ◌≤◌, ◌+◌, ℕ, length, IfOk, IfErr, OnOk, OnErr, vec_len};
+ghost use Rattle.std.specs.Prelude.{◌≡◌, ◌≤◌, ◌+◌, ℕ, [], true, length, IfOk, IfErr, OnOk, OnErr, vec_len};
 ghost use Rattle.std.specs.List.{All};
 ghost use Rattle.std.specs.List.Sorted.{IsPermutation};
 ghost use Rattle.event_list.specs.declared.error.RunError.TheVariants.{Memory};
@@ -47,6 +47,13 @@ impl Mailboxes {
             homes,
             slips: 0,
         })
+    }
+
+    /// Whether they are as new mailboxes for receivers 1 to n are: no slip was made since.
+    pub fn are_new(&self, n: u16) -> bool
+        ensures { result ≡ true → (length self.now.mailboxes ≡ n) × (self.now.slips ≡ 0) }
+    {
+        self.homes.len() == usize::from(n) && self.slips == 0
     }
 
     /// The part that threads share, by which they post.
@@ -98,6 +105,43 @@ impl Mailboxes {
             IsPermutation (posted_to slips.items r) (list_of (letters_in lists.items) r)) }
         ensures err { IfErr result (λ e. e ≡ Memory) }
     {
+        let lists = self.lists(alloc)?;
+        let (_mailboxes, letters) = self.empty(rt, alloc, lists, slips)?;
+        Ok(letters)
+    }
+
+    /// An empty list for each receiver. The error is that memory was refused.
+    pub fn lists(&self, alloc: Global) -> Result<Vec<Vec<Letter>>, AllocError>
+        ensures count { IfOk result (λ lists. vec_len lists ≡ length self.now.mailboxes) }
+        ensures empty { IfOk result (λ lists. All (λ l. l.items ≡ []) lists.items) }
+    {
+        let count = self.homes.len();
+        let mut lists = Vec::with_capacity(alloc, count)?;
+        for _ in 0..count {
+            lists.push(Vec::new(alloc))?;
+        }
+        Ok(lists)
+    }
+
+    /// As `collect`, into lists that are empty, one for each receiver, so that their room is used again. The mailboxes
+    /// are as they were at first then, with no slip and no letter, and are answered too.
+    pub fn empty<R: Wait>(
+        self,
+        rt: &R,
+        alloc: Global,
+        lists: Vec<Vec<Letter>>,
+        slips: Vec<Slip>,
+    ) -> Result<(Mailboxes, Vec<Vec<Letter>>), RunError>
+        requires all { vec_len slips ≡ self.slips }
+        requires slips { All (IsSlipOf self.mailboxes) slips.items }
+        requires count { vec_len lists ≡ length self.mailboxes }
+        requires lists { All (λ l. l.items ≡ []) lists.items }
+        ensures mailboxes { IfOk result (λ r. r.0 ≡ mailboxes_of self.mailboxes 0) }
+        ensures count { IfOk result (λ r. vec_len r.1 ≡ length self.mailboxes) }
+        ensures letters { IfOk result (λ r. (q : ℕ) → 1 ≤ q → q ≤ length self.mailboxes →
+            IsPermutation (posted_to slips.items q) (list_of (letters_in r.1.items) q)) }
+        ensures err { IfErr result (λ e. e ≡ Memory) }
+    {
         let Mailboxes {
             shared,
             mut homes,
@@ -106,6 +150,12 @@ impl Mailboxes {
         for slip in slips {
             shared.take_back(&mut homes, slip);
         }
-        Ok(shared.empty(rt, alloc, homes)?)
+        let (homes, letters) = shared.empty(rt, alloc, homes, lists)?;
+        let mailboxes = Mailboxes {
+            shared,
+            homes,
+            slips: 0,
+        };
+        Ok((mailboxes, letters))
     }
 }

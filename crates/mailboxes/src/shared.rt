@@ -89,27 +89,39 @@ impl SharedMailboxes {
         }
     }
 
-    /// The letters of each mailbox, in some order, once every slip is back.
+    /// Moves the letters of each mailbox into a list of its own, in some order, once every slip is back. The mailboxes
+    /// are as they were at first then. Answers the owner's passes, and the lists.
     pub(crate) fn empty<R: Wait>(
         &self,
         rt: &R,
         alloc: Global,
         homes: Vec<Home>,
-    ) -> Result<Vec<Vec<Letter>>, AllocError>
+        lists: Vec<Vec<Letter>>,
+    ) -> Result<(Vec<Home>, Vec<Vec<Letter>>), AllocError>
         requires homes { self.now ≡ map (λ h. h.mailbox) homes.items }
         requires out { All (λ h. h.out ≡ 0) homes.items }
-        ensures count { IfOk result (λ lists. vec_len lists ≡ vec_len homes) }
-        ensures letters { IfOk result (λ lists. (k : ℕ) → k < vec_len homes →
+        requires count { vec_len lists ≡ vec_len homes }
+        requires lists { All (λ l. l.items ≡ []) lists.items }
+        ensures homes { IfOk result (λ r. self.now ≡ map (λ h. h.mailbox) r.0.items) }
+        ensures none { IfOk result (λ r. All (λ h. (h.out ≡ 0) × (h.back ≡ [])) r.0.items) }
+        ensures count { IfOk result (λ r. vec_len r.1 ≡ vec_len homes) }
+        ensures letters { IfOk result (λ r. (k : ℕ) → k < vec_len homes →
             IsPermutation (slice_index_or (map (λ h. h.back) homes.items) k [])
-            (slice_index_or (letters_in lists.items) k [])) }
+            (slice_index_or (letters_in r.1.items) k [])) }
     {
-        let mut lists = Vec::with_capacity(alloc, homes.len())?;
+        let mut emptied = Vec::with_capacity(alloc, homes.len())?;
+        let mut filled = Vec::with_capacity(alloc, homes.len())?;
+        let mut empties = lists.into_iter();
         let mut at = 0;
         for home in homes {
-            lists.push_reserved(self.boxes[at].empty(rt, alloc, home)?);
+            let Some(mut list) = empties.next() else {
+                unreachable!()
+            };
+            emptied.push(self.boxes[at].empty(rt, home, &mut list)?)?;
+            filled.push(list)?;
             at += 1;
         }
-        Ok(lists)
+        Ok((emptied, filled))
     }
 }
 

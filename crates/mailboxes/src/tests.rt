@@ -67,9 +67,42 @@ fn a_letter_posted_twice_comes_twice(rt: HostRuntime) -> Result<(), Fail> {
 }
 
 #[test]
+fn emptied_mailboxes_are_used_again(rt: HostRuntime) -> Result<(), Fail> {
+    let alloc = rt.alloc();
+    let two = Pid::new(2).ok_or("refused")?;
+    let three = Pid::new(3).ok_or("refused")?;
+    let mut mailboxes = Mailboxes::new(alloc, 3)?;
+    let mut slip = mailboxes.slip(alloc)?;
+    mailboxes.post(&rt, &mut slip, letter(two, 1).ok_or("refused")?)?;
+    let lists = mailboxes.lists(alloc)?;
+    let (mut mailboxes, first) = mailboxes.empty(&rt, alloc, lists, vec![in alloc; slip]?)?;
+    assert_eq!(rt;
+        numbers(alloc, first.get(1).ok_or("no list")?)?.as_slice(),
+        [1].as_slice()
+    );
+    let mut slip = mailboxes.slip(alloc)?;
+    mailboxes.post(&rt, &mut slip, letter(three, 2).ok_or("refused")?)?;
+    mailboxes.post(&rt, &mut slip, letter(two, 3).ok_or("refused")?)?;
+    let lists = mailboxes.lists(alloc)?;
+    let (mailboxes, second) = mailboxes.empty(&rt, alloc, lists, vec![in alloc; slip]?)?;
+    assert_eq!(rt; second.len(), 3);
+    assert_eq!(rt;
+        numbers(alloc, second.get(1).ok_or("no list")?)?.as_slice(),
+        [3].as_slice()
+    );
+    assert_eq!(rt;
+        numbers(alloc, second.get(2).ok_or("no list")?)?.as_slice(),
+        [2].as_slice()
+    );
+    let none = mailboxes.collect(&rt, alloc, Vec::new(alloc))?;
+    assert!(rt; none.iter().all(|list| list.is_empty()));
+    Ok(())
+}
+
+#[test]
 fn no_slip_no_letter(rt: HostRuntime) -> Result<(), Fail> {
     let alloc = rt.alloc();
-    for n in [0, 1, 64] {
+    for n in [0, 1, 256] {
         let lists = Mailboxes::new(alloc, n)?.collect(&rt, alloc, Vec::new(alloc))?;
         assert_eq!(rt; lists.len(), usize::from(n));
         assert!(rt; lists.iter().all(|list| list.is_empty()));

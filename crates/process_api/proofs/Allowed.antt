@@ -1,24 +1,24 @@
 -- What a process does is allowed: receivers are among 1 to n, and pauses are at least 1.
-use Rattle.std.proofs.Common.{◌≡◌, ℕ, zero, suc, ◌+◌, ◌%◌, ◌<◌, ◌≤◌, sym, subst, Bool, true, false, cond, ◌&&◌, not, arith, nat_lt, nat_le, nat_eq, Option, None, Some, is_some, unwrap_or, List, [], ◌∷◌, ◌++◌, map, mod-lt}
+use Rattle.std.proofs.Common.{ℕ, zero, suc, ◌+◌, ◌%◌, ◌<◌, ◌≤◌, sym, subst, Bool, true, false, cond, ◌&&◌, arith, nat_lt, nat_le, nat_eq, Option, None, Some, is_some, unwrap_or, List, [], ◌∷◌, ◌++◌, map, mod-lt}
 use Rattle.std.specs.Prelude.{IsTrue}
 use Rattle.std.specs.List.{AllByRecursion, All}
 use Rattle.std.proofs.lemmas.List.Elements.{All-from_recursion}
 use Rattle.std.specs.FinSet as set
 use Rattle.process_api.specs.Actions.{IsAllowed}
-use Rattle.process_api.specs.Answer.{Answer, still, after, to_all, to_others}
+use Rattle.process_api.specs.Answer.{Answer, still, after, to_all}
 use Rattle.process_api.specs.ConsensusS.{Exchange}
 use Rattle.process_api.specs.ConsensusS as exchange
 use Rattle.process_api.specs.Coordinator.{Kept, Coordinator}
 use Rattle.process_api.specs.Coordinator as rotating
 use Rattle.process_api.specs.Diffusion.{also_seen, broadcast}
 use Rattle.process_api.specs.Mind.{Lower, AlgorithmState, Idle, Exchanging, Coordinating, Mind, is_mind_at, is_paced, suspects_of, stands_at}
-use Rattle.process_api.specs.Numbers.{numbers_to, others}
+use Rattle.process_api.specs.Numbers.{numbers_to}
 use Rattle.process_api.specs.Place.{Place}
 use Rattle.process_api.specs.React.{react_lower, react_algorithm, react}
 use Rattle.process_api.specs.Reduction.{ReductionState, step_reduction, gathered}
 use Rattle.process_api.specs.Rounds.{coordinator, greatest_round, is_own, majority, count_to}
 use Rattle.process_api.specs.Sets.{Processes, changes}
-use Rattle.process_api.specs.Timeout.{DetectorState, alive_to_others, heard, trusted_again, noticed, overdue, watches, step_detector}
+use Rattle.process_api.specs.Detector.{suspected_by, step_detector}
 use Rattle.process_api.specs.declared.action.Action.{Action}
 use Rattle.process_api.specs.declared.action.Action.TheVariants as action
 use Rattle.process_api.specs.declared.action.Note.{Note}
@@ -31,9 +31,9 @@ use Rattle.process_api.specs.declared.message.Payload.TheVariants as payload
 use Rattle.process_api.specs.declared.message.StepInput.{StepInput}
 use Rattle.process_api.specs.declared.message.StepInput.TheVariants as input
 use Rattle.process_api.specs.declared.message.Tag.TheVariants as tag
-use Rattle.process_api.specs.declared.numbers.DetectorNumbers.{DetectorNumbers}
 use borrow.Author.Tests.{leb-true}
-use Rattle.process_api.proofs.Lists.{both, images, always, filtered, numbers_are}
+use Rattle.process_api.proofs.DetectorLaws.{detector_laws}
+use Rattle.process_api.proofs.Lists.{both, images, always, numbers_are}
 use Rattle.process_api.proofs.Minds.{both_true, same_count, mind_place, mind_paced, mind_stands}
 
 -- all of these actions are allowed among n
@@ -45,30 +45,6 @@ notes_allowed n notes = images (IsAllowed n) action.Note notes (always (λ x. Is
 
 all_sent : (n : ℕ) (what : Payload) → AllAllowed n (to_all n what)
 all_sent n what = images (IsAllowed n) (λ q. action.Send q what) (numbers_to n) (numbers_are n)
-
-others_sent : (n p : ℕ) (what : Payload) → AllAllowed n (to_others n p what)
-others_sent n p what = images (IsAllowed n) (λ q. action.Send q what) (others n p) (filtered _ (λ q. not (nat_eq q p)) (numbers_to n) (numbers_are n))
-
-module _ (place : Place) (numbers : DetectorNumbers) (period : 1 ≤ numbers.period) (check : 1 ≤ numbers.check) where
-  Fits : Answer DetectorState → Type 0
-  Fits a = AllAllowed place.processes a.actions
-
-  heard_allowed : (s : DetectorState) (now q : ℕ) → Fits (heard place numbers s now q)
-  unfolding Fits
-  heard_allowed s now q =
-      elim (set.contains s.suspects q) as (λ b. Fits (cond b (trusted_again place numbers s now q) (still (noticed place numbers s now q)))) [ true ↦ (tt, tt) | false ↦ tt ]
-
-  suspicions_allowed : (qs : List ℕ) → AllAllowed place.processes (map (λ q. action.Note (note.Suspect 1 q)) qs)
-  suspicions_allowed qs = images (IsAllowed place.processes) (λ q. action.Note (note.Suspect 1 q)) qs (always _ (λ q. tt) qs)
-
-  detector_allowed : (s : DetectorState) (now : ℕ) (x : StepInput) → AllAllowed place.processes (step_detector place numbers s now x).actions
-  unfolding Fits
-  detector_allowed s now input.Start = both _ (alive_to_others place numbers) _ (others_sent place.processes place.own payload.Alive) (period, (check, tt))
-  detector_allowed s now (input.Wake tag.Beat) = both _ (alive_to_others place numbers) _ (others_sent place.processes place.own payload.Alive) (period, tt)
-  detector_allowed s now (input.Wake tag.Check) = both _ (map (λ q. action.Note (note.Suspect 1 q)) (overdue place numbers s now)) _ (suspicions_allowed (overdue place numbers s now)) (check, tt)
-  detector_allowed s now (input.Letter q payload.Alive) =
-      elim (watches place numbers q) as (λ b. Fits (cond b (heard place numbers s now q) (still s))) [ true ↦ heard_allowed s now q | false ↦ tt ]
-  detector_allowed s now x = tt
 
 reduction_allowed : (place : Place) (s : ReductionState) (suspects : Processes) (x : StepInput) → 1 ≤ s.period → AllAllowed place.processes (step_reduction place s suspects x).actions
 reduction_allowed place s suspects input.Start period = (period, tt)
@@ -257,17 +233,14 @@ lower_all : (m : Lower) (now : ℕ) (x : StepInput) → IsTrue (is_paced m) → 
 unfolding react_lower
 lower_all m now x paced = with_layer m.reduction (both_true _ _ paced).1
   where
-    periods : (nat_le 1 m.numbers.period ≡ true) × (nat_le 1 m.numbers.check ≡ true)
-    periods = both_true _ _ (both_true _ _ paced).0
-
-    base : AllAllowed m.place.processes (step_detector m.place m.numbers m.detector now x).actions
-    base = detector_allowed m.place m.numbers (leb-true 1 m.numbers.period periods.0) (leb-true 1 m.numbers.check periods.1) m.detector now x
+    base : AllAllowed m.place.processes (step_detector m.place m.detector now x).actions
+    base = (detector_laws m.place m.detector now x).allowed (both_true _ _ paced).0
 
     with_layer : (o : Option ReductionState) → IsTrue (elim o as (λ z. Bool) [ None ↦ true | Some reduction ↦ nat_le 1 reduction.period ]) → AllAllowed m.place.processes (react_lower (record m { reduction = o }) now x).actions
     with_layer None paced = base
     with_layer (Some reduction) paced =
-        both (IsAllowed m.place.processes) (step_detector m.place m.numbers m.detector now x).actions _ base
-        (reduction_allowed m.place reduction (step_detector m.place m.numbers m.detector now x).state.suspects x (leb-true 1 reduction.period paced))
+        both (IsAllowed m.place.processes) (step_detector m.place m.detector now x).actions _ base
+        (reduction_allowed m.place reduction (suspected_by m.place (step_detector m.place m.detector now x).state) x (leb-true 1 reduction.period paced))
 
 -- the algorithm's part
 algorithm_all : (place : Place) (a : AlgorithmState) (x : StepInput) (suspects : Processes) → 1 ≤ place.processes → IsTrue (stands_at place a) → AllAllowed place.processes (react_algorithm a x suspects).actions

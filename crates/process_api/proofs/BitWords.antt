@@ -1,168 +1,230 @@
--- What a bit word has as a set.
-use Rattle.std.proofs.Common.{◌≡◌, ◌≢◌, ◌⊎◌, inl, inr, ℕ, zero, suc, ◌-◌, ◌<◌, ◌≤◌, refl, sym, ap, ◌∙◌, Bool, true, false, cond, not, ◌&&◌, ◌||◌, nat_eq, nat_lt, nat_le, ◌^◌, max, min, bit_or, bit_and, arith, nat_cmp, ⊎_elim}
-use Rattle.std.specs.Int.{bit_at}
-use Rattle.std.specs.FinSet as set
-use Rattle.std.specs.Cmp.{nat_cmp_total, unsigned_tied}
-use Rattle.std.specs.Ordering.{eq_by_cmp}
-use Rattle.std.specs.FinMap.{nat_cmp-IsAntisymmetric}
-use borrow.Author.Tests.{eq-eqb, ne_eqb, lt-ltb, le-leb, lt-leb}
-use Rattle.std.proofs.lemmas.Bool.{cases_eq}
+-- The bits of words in a row.
+use Rattle.std.proofs.Common.{◌≡◌, ◌≢◌, ℕ, zero, suc, ◌+◌, ◌-◌, ◌*◌, ◌/◌, ◌%◌, ◌^◌, ◌<◌, ◌≤◌, inl, inr, refl, sym, ap, ◌∙◌, Bool, true, false, cond, not, ◌&&◌, ◌||◌, nat_eq, nat_lt, List, get_or, set, length, max, min, bit_and, bit_or, bit_xor, arith, nat_cmp, w64}
+use Rattle.std.specs.Int.{bit_at, bit_not, trailing_zeros}
+use Rattle.std.specs.Prelude.{count_ones}
+use Rattle.std.specs.FinSet as finite
+use Rattle.std.proofs.Math.Nat.{mod-one, mod-eq_of_lt}
+use lib.Count.{ones}
+use Rattle.std.proofs.lemmas.Bool.{cases_eq, cases_lt}
 use Rattle.std.proofs.lemmas.Bool.Decides.{nat_tests}
-use Rattle.std.proofs.lemmas.Nat.Bits.{bit_at-zero, bit_at-lt, bit_at_or, bit_at_and, bit_at_ones, bit_at_ones_above}
-use Rattle.process_api.specs.Sets.{Processes, up_to}
-use Rattle.process_api.specs.Bits.{members}
+use Rattle.std.proofs.lemmas.List.{get_or-set_same, get_or-set_other}
+use Rattle.std.proofs.lemmas.Nat.{pow_pos, mod-pow-add, mod_below, ones_cat}
+use Rattle.std.proofs.lemmas.Nat.Bits.{bit_at-zero, bit_at-lt, bit_at_or, bit_at_and, bit_at_xor, bit_at_ones, bit_at_ones_above, bit_at_set_same, bit_at_set_other, bit_at_clear_same, bit_at_clear_other, bit_at-trailing_zeros}
+use Rattle.process_api.specs.Bits.{is_set, members}
+use Rattle.process_api.proofs.Told.{len-told, len-untold}
 
--- q is among 1 to n, and its bit is set
-abbrev pub has : ℕ → ℕ → ℕ → Bool
-has n bits q = (nat_lt 0 q && nat_le q n) && nat_eq (bit_at bits (q - 1)) 1
+-- the place of a bit in its word
+split : (i k : ℕ) → i / 64 ≡ k → k * 64 + i % 64 ≡ i
+split i k e = omega (arith, e)
 
-tied : (a b : ℕ) → eq_by_cmp nat_cmp a b ≡ nat_eq a b
-tied a b = unsigned_tied a b
+-- one word is changed
+module _ (words : List ℕ) (k v : ℕ) (within : k < length words) where
+  pub changed_here : (i : ℕ) → i / 64 ≡ k → is_set (set words k v) i ≡ nat_eq (bit_at v (i % 64)) 1
+  changed_here i e = ap (λ j. nat_eq (bit_at (get_or (set words k v) j 0) (i % 64)) 1) e ∙ ap (λ w. nat_eq (bit_at w (i % 64)) 1) (get_or-set_same words k v 0 within)
 
-cond_same : (c x : Bool) → cond c (false || x) x ≡ x
-cond_same true x = refl
-cond_same false x = refl
+  pub changed_there : (i : ℕ) → i / 64 ≢ k → is_set (set words k v) i ≡ is_set words i
+  changed_there i e = ap (λ w. nat_eq (bit_at w (i % 64)) 1) (get_or-set_other words k (i / 64) v 0 e)
 
-cond_itself : (c : Bool) → cond c true false ≡ c
-cond_itself true = refl
-cond_itself false = refl
+-- one bit is changed
+module _ (words : List ℕ) (place v : ℕ) (within : place / 64 < length words) where
+  pub bit_changed : (others : (j : ℕ) → j < 64 → j ≢ place % 64 → bit_at v j ≡ bit_at (get_or words (place / 64) 0) j)
+      → (i : ℕ) → i ≢ place → is_set (set words (place / 64) v) i ≡ is_set words i
+  bit_changed others i apart = elim (cases_eq (i / 64) (place / 64)) [
+    | inl e ↦
+        changed_here words (place / 64) v within i e
+        ∙ (ap (λ b. nat_eq b 1) (others (i % 64) (omega arith) (λ same. apart (sym (split i (place / 64) e) ∙ (ap (λ j. place / 64 * 64 + j) same ∙ split place (place / 64) refl))))
+        ∙ ap (λ j. nat_eq (bit_at (get_or words j 0) (i % 64)) 1) (sym e))
+    | inr e ↦ changed_there words (place / 64) v within i e
+  ]
 
-and_false : (a : Bool) → (a && false) ≡ false
-and_false true = refl
-and_false false = refl
+  pub bit_is : is_set (set words (place / 64) v) place ≡ nat_eq (bit_at v (place % 64)) 1
+  bit_is = changed_here words (place / 64) v within place refl
 
-and_true : (c : Bool) → c ≡ (c && true)
-and_true true = refl
-and_true false = refl
+module _ (words : List ℕ) (place : ℕ) (within : place / 64 < length words) where
+  small : place % 64 < 64
+  small = omega arith
 
-bools_there : (c e l le more t : Bool) → e ≡ false → more ≡ le → cond c (e || ((l && le) && t)) ((l && le) && t) ≡ ((l && more) && t)
-bools_there c e l le more t f g = (λ i. cond c (f i || ((l && le) && t)) ((l && le) && t)) ∙ (cond_same c ((l && le) && t) ∙ ap (λ b. (l && b) && t) (sym g))
+  pub put_own : is_set (set words (place / 64) (bit_or (get_or words (place / 64) 0) (1 * 2 ^ (place % 64) % 2 ^ 64))) place ≡ true
+  put_own = bit_is words place _ within ∙ ap (λ b. nat_eq b 1) (bit_at_set_same w64 (get_or words (place / 64) 0) (place % 64) small)
 
-bools_here : (c e l le more t : Bool) → e ≡ true → l ≡ true → le ≡ false → more ≡ true → t ≡ c → cond c (e || ((l && le) && t)) ((l && le) && t) ≡ ((l && more) && t)
-bools_here c e l le more t f g h k m = (λ i. cond c (f i || ((g i && h i) && t)) ((g i && h i) && t)) ∙ (cond_itself c ∙ sym (λ i. (g i && k i) && m i))
+  pub put_others : (i : ℕ) → i ≢ place → is_set (set words (place / 64) (bit_or (get_or words (place / 64) 0) (1 * 2 ^ (place % 64) % 2 ^ 64))) i ≡ is_set words i
+  put_others i apart = bit_changed words place _ within (λ j low other. bit_at_set_other w64 (get_or words (place / 64) 0) (place % 64) small j other) i apart
 
-module _ (bits : ℕ) where
-  step : (n q : ℕ) → (c : Bool) → nat_eq (bit_at bits n) 1 ≡ c → cond c (nat_eq q (suc n) || has n bits q) (has n bits q) ≡ has (suc n) bits q
-  step n q c is =
-      ⊎_elim
-      (λ (e : q ≡ suc n).
-      let at : q - 1 ≡ n = omega (arith, e) in
-      bools_here c _ _ _ _ _ (eq-eqb q (suc n) e) (lt-ltb 0 q (omega (arith, e))) (lt-leb q n (omega (arith, e))) (le-leb q (suc n) (omega (arith, e)))
-      (ap (λ k. nat_eq (bit_at bits k) 1) at ∙ is))
-      (λ (apart : q ≢ suc n). bools_there c _ _ _ _ _ (ne_eqb q (suc n) apart) (same_bound q n apart))
-      (cases_eq q (suc n))
-    where
-      same_bound : (q n : ℕ) → q ≢ suc n → nat_le q (suc n) ≡ nat_le q n
-      same_bound q n apart = grind (arith, nat_tests)
+  pub clear_own : is_set (set words (place / 64) (bit_and (get_or words (place / 64) 0) (bit_not w64 (1 * 2 ^ (place % 64) % 2 ^ 64)))) place ≡ false
+  clear_own = bit_is words place _ within ∙ ap (λ b. nat_eq b 1) (bit_at_clear_same w64 (get_or words (place / 64) 0) (place % 64) small)
 
-  none_of_zero : (q : ℕ) → false ≡ has 0 bits q
-  none_of_zero q = sym (ap (λ b. b && nat_eq (bit_at bits (q - 1)) 1) (none q))
-    where
-      none : (q : ℕ) → (nat_lt 0 q && nat_le q 0) ≡ false
-      none q = grind (arith, nat_tests)
+  pub clear_others : (i : ℕ) → i ≢ place → is_set (set words (place / 64) (bit_and (get_or words (place / 64) 0) (bit_not w64 (1 * 2 ^ (place % 64) % 2 ^ 64)))) i ≡ is_set words i
+  clear_others i apart = bit_changed words place _ within (λ j low other. bit_at_clear_other w64 (get_or words (place / 64) 0) (place % 64) small j low other) i apart
 
-  pub contains-members : (n q : ℕ) → set.contains (members n bits) q ≡ has n bits q
-  unfolding members
-  contains-members zero q = set.contains-empty nat_cmp q ∙ none_of_zero q
-  contains-members (suc n) q =
-      elim (nat_eq (bit_at bits n) 1) as (λ c. nat_eq (bit_at bits n) 1 ≡ c → set.contains (cond c (set.insert (members n bits) (suc n)) (members n bits)) q ≡ has (suc n) bits q) [
-        | true ↦ λ e. set.contains-insert nat_cmp_total (members n bits) (suc n) q ∙ ((λ i. tied q (suc n) i || contains-members n q i) ∙ step n q true e)
-        | false ↦ λ e. contains-members n q ∙ step n q false e
-      ] refl
-
--- a process of the right range is told by its bit
-pub has_in_range : (bits p : ℕ) → 1 ≤ p → p ≤ 64 → nat_eq (bit_at bits (p - 1)) 1 ≡ has 64 bits p
-has_in_range bits p low high = sym (λ i. (lt-ltb 0 p low i && le-leb p 64 high i) && nat_eq (bit_at bits (p - 1)) 1)
-
-pub members-none : members 64 0 ≡ set.empty
-members-none = set.same_set nat_cmp_total nat_cmp-IsAntisymmetric _ _ (λ q.
-    contains-members 0 64 q ∙ (ap (λ b. (nat_lt 0 q && nat_le q 64) && nat_eq b 1) (bit_at-zero (q - 1)) ∙ (and_false (nat_lt 0 q && nat_le q 64) ∙ sym (set.contains-empty nat_cmp q))))
-
-module _ (bits new p : ℕ) (low : 1 ≤ p) (high : p ≤ 64) (others : (i : ℕ) → i < 64 → i ≢ p - 1 → bit_at new i ≡ bit_at bits i) where
-  -- another process keeps its bit
-  kept : (q : ℕ) → q ≢ p → has 64 new q ≡ has 64 bits q
-  kept q apart =
-      elim (nat_lt 0 q && nat_le q 64) as (λ b. (nat_lt 0 q && nat_le q 64) ≡ b → (b && nat_eq (bit_at new (q - 1)) 1) ≡ (b && nat_eq (bit_at bits (q - 1)) 1)) [
-        | true ↦ λ e. ap (λ b. nat_eq b 1) (others (q - 1) (inside q e) (moved q apart e))
-        | false ↦ λ e. refl
-      ] refl
-    where
-      inside : (q : ℕ) → (nat_lt 0 q && nat_le q 64) ≡ true → q - 1 < 64
-      inside q e = grind (arith, nat_tests)
-
-      positive : (q : ℕ) → (nat_lt 0 q && nat_le q 64) ≡ true → 0 < q
-      positive q e = grind (arith, nat_tests)
-
-      moved : (q : ℕ) → q ≢ p → (nat_lt 0 q && nat_le q 64) ≡ true → q - 1 ≢ p - 1
-      moved q apart e h = apart (omega (arith, h, low, positive q e))
-
-  pub members-insert : bit_at new (p - 1) ≡ 1 → members 64 new ≡ set.insert (members 64 bits) p
-  members-insert set_is = set.same_set nat_cmp_total nat_cmp-IsAntisymmetric _ _ (λ q.
-      contains-members new 64 q ∙ (by_case q (cases_eq q p) ∙ sym (set.contains-insert nat_cmp_total (members 64 bits) p q ∙ (λ i. tied q p i || contains-members bits 64 q i))))
-    where
-      by_case : (q : ℕ) → (q ≡ p) ⊎ (q ≢ p) → has 64 new q ≡ (nat_eq q p || has 64 bits q)
-      by_case q (inl e) = ap (has 64 new) e ∙ (sym (has_in_range new p low high) ∙ (ap (λ b. nat_eq b 1) set_is ∙ ap (λ b. b || has 64 bits q) (sym (eq-eqb q p e))))
-      by_case q (inr apart) = kept q apart ∙ ap (λ b. b || has 64 bits q) (sym (ne_eqb q p apart))
-
-  pub members-remove : bit_at new (p - 1) ≡ 0 → members 64 new ≡ set.remove (members 64 bits) p
-  members-remove clear_is = set.same_set nat_cmp_total nat_cmp-IsAntisymmetric _ _ (λ q.
-      contains-members new 64 q ∙ (by_case q (cases_eq q p) ∙ sym (set.contains-remove nat_cmp_total (members 64 bits) p q ∙ (λ i. not (tied q p i) && contains-members bits 64 q i))))
-    where
-      by_case : (q : ℕ) → (q ≡ p) ⊎ (q ≢ p) → has 64 new q ≡ (not (nat_eq q p) && has 64 bits q)
-      by_case q (inl e) = ap (has 64 new) e ∙ (sym (has_in_range new p low high) ∙ (ap (λ b. nat_eq b 1) clear_is ∙ ap (λ b. not b && has 64 bits q) (sym (eq-eqb q p e))))
-      by_case q (inr apart) = kept q apart ∙ ap (λ b. not b && has 64 bits q) (sym (ne_eqb q p apart))
-
-pub members-union : (a b : ℕ) → members 64 (bit_or a b) ≡ set.union (members 64 a) (members 64 b)
-members-union a b = set.same_set nat_cmp_total nat_cmp-IsAntisymmetric _ _ (λ q.
-    contains-members (bit_or a b) 64 q ∙ (either (nat_lt 0 q && nat_le q 64) q
-    ∙ sym (set.contains-union nat_cmp_total (members 64 a) (members 64 b) q ∙ (λ i. contains-members a 64 q i || contains-members b 64 q i))))
+-- words that have the bits of either
+pub is_set-either : (a b both : List ℕ) (place : ℕ) → get_or both (place / 64) 0 ≡ bit_or (get_or a (place / 64) 0) (get_or b (place / 64) 0) → is_set both place ≡ (is_set a place || is_set b place)
+is_set-either a b both place each =
+    ap (λ w. nat_eq (bit_at w (place % 64)) 1) each
+    ∙ (ap (λ x. nat_eq x 1) (bit_at_or (get_or a (place / 64) 0) (get_or b (place / 64) 0) (place % 64))
+    ∙ larger (bit_at (get_or a (place / 64) 0) (place % 64)) (bit_at (get_or b (place / 64) 0) (place % 64)) (bit_at-lt _ _) (bit_at-lt _ _))
   where
     larger : (x y : ℕ) → x < 2 → y < 2 → nat_eq (max x y) 1 ≡ (nat_eq x 1 || nat_eq y 1)
     larger x y f g = grind (arith, nat_tests)
 
-    either : (c : Bool) (q : ℕ) → (c && nat_eq (bit_at (bit_or a b) (q - 1)) 1) ≡ ((c && nat_eq (bit_at a (q - 1)) 1) || (c && nat_eq (bit_at b (q - 1)) 1))
-    either true q = ap (λ x. nat_eq x 1) (bit_at_or a b (q - 1)) ∙ larger (bit_at a (q - 1)) (bit_at b (q - 1)) (bit_at-lt a (q - 1)) (bit_at-lt b (q - 1))
-    either false q = refl
-
-contains-up_to : (s : Processes) (n q : ℕ) → set.contains (up_to n s) q ≡ (set.contains s q && nat_le q n)
-contains-up_to s n q = set.contains-retain s (λ k. nat_le k n) q (λ x e. ap (λ k. nat_le k n) (sym (nat_cmp-IsAntisymmetric q x e)))
-
-pub members-up_to : (bits n : ℕ) → n < 64 → members 64 (bit_and bits (2 ^ n - 1)) ≡ up_to n (members 64 bits)
-members-up_to bits n few = set.same_set nat_cmp_total nat_cmp-IsAntisymmetric _ _ (λ q.
-    contains-members (bit_and bits (2 ^ n - 1)) 64 q ∙ (low_bits q (nat_lt 0 q && nat_le q 64) refl
-    ∙ sym (contains-up_to (members 64 bits) n q ∙ ap (λ b. b && nat_le q n) (contains-members bits 64 q))))
+-- words that have the bits of one and not of the other
+pub is_set-without : (a b left : List ℕ) (place : ℕ) → get_or left (place / 64) 0 ≡ bit_xor (get_or a (place / 64) 0) (bit_and (get_or a (place / 64) 0) (get_or b (place / 64) 0))
+    → is_set left place ≡ (is_set a place && not (is_set b place))
+is_set-without a b left place each =
+    ap (λ w. nat_eq (bit_at w (place % 64)) 1) each
+    ∙ (ap (λ x. nat_eq x 1) (bit_at_xor (get_or a (place / 64) 0) (bit_and (get_or a (place / 64) 0) (get_or b (place / 64) 0)) (place % 64))
+    ∙ (ap (λ x. nat_eq ((bit_at (get_or a (place / 64) 0) (place % 64) + x) % 2) 1) (bit_at_and (get_or a (place / 64) 0) (get_or b (place / 64) 0) (place % 64))
+    ∙ by_bits (bit_at (get_or a (place / 64) 0) (place % 64)) (bit_at (get_or b (place / 64) 0) (place % 64)) (bit_at-lt _ _) (bit_at-lt _ _)))
   where
-    positive : (q : ℕ) → (nat_lt 0 q && nat_le q 64) ≡ true → 0 < q
-    positive q e = grind (arith, nat_tests)
+    by_bits : (x y : ℕ) → x < 2 → y < 2 → nat_eq ((x + min x y) % 2) 1 ≡ (nat_eq x 1 && not (nat_eq y 1))
+    by_bits zero zero f g = refl
+    by_bits zero (suc zero) f g = refl
+    by_bits (suc zero) zero f g = refl
+    by_bits (suc zero) (suc zero) f g = refl
+    by_bits (suc (suc x)) y f g = absurd (omega (arith, f))
+    by_bits x (suc (suc y)) f g = absurd (omega (arith, g))
 
-    low_bits : (q : ℕ) (c : Bool) → (nat_lt 0 q && nat_le q 64) ≡ c → (c && nat_eq (bit_at (bit_and bits (2 ^ n - 1)) (q - 1)) 1) ≡ ((c && nat_eq (bit_at bits (q - 1)) 1) && nat_le q n)
-    low_bits q false e = refl
-    low_bits q true e =
-        ap (λ x. nat_eq x 1) (bit_at_and bits (2 ^ n - 1) (q - 1)) ∙ elim (nat_le q n) as (λ l. nat_le q n ≡ l → nat_eq (min (bit_at bits (q - 1)) (bit_at (2 ^ n - 1) (q - 1))) 1 ≡ (nat_eq (bit_at bits (q - 1)) 1 && l)) [
-          | true ↦ λ l. ap (λ x. nat_eq (min (bit_at bits (q - 1)) x) 1) (bit_at_ones n (q - 1) (inside q e l)) ∙ (least (bit_at bits (q - 1)) (bit_at-lt bits (q - 1)) ∙ and_true _)
-          | false ↦ λ l. ap (λ x. nat_eq (min (bit_at bits (q - 1)) x) 1) (bit_at_ones_above n (q - 1) (outside q l)) ∙ (no_bit (bit_at bits (q - 1)) ∙ sym (and_false _))
-        ] refl
+-- a word below a bit
+pub low_bit : (word most i : ℕ) → bit_at (bit_and word (2 ^ most - 1)) i ≡ cond (nat_lt i most) (bit_at word i) 0
+low_bit word most i =
+    bit_at_and word (2 ^ most - 1) i ∙ elim (nat_lt i most) as (λ l. nat_lt i most ≡ l → min (bit_at word i) (bit_at (2 ^ most - 1) i) ≡ cond l (bit_at word i) 0) [
+      | true ↦ λ l. ap (λ x. min (bit_at word i) x) (bit_at_ones most i (inside l)) ∙ least (bit_at word i) (bit_at-lt word i)
+      | false ↦ λ l. ap (λ x. min (bit_at word i) x) (bit_at_ones_above most i (outside l)) ∙ none (bit_at word i)
+    ] refl
+  where
+    inside : nat_lt i most ≡ true → i < most
+    inside l = grind (arith, nat_tests)
+
+    outside : nat_lt i most ≡ false → most ≤ i
+    outside l = grind (arith, nat_tests)
+
+    least : (x : ℕ) → x < 2 → min x 1 ≡ x
+    least x low = grind arith
+
+    none : (x : ℕ) → min x 0 ≡ 0
+    none x = grind arith
+
+-- words that have the lowest bits
+pub is_set-low : (words low : List ℕ) (most place : ℕ) → bit_at (get_or low (place / 64) 0) (place % 64) ≡ cond (nat_lt (place % 64) (most - place / 64 * 64)) (bit_at (get_or words (place / 64) 0) (place % 64)) 0
+    → is_set low place ≡ (is_set words place && nat_lt place most)
+is_set-low words low most place each =
+    ap (λ b. nat_eq b 1) each ∙ (ap (λ l. nat_eq (cond l (bit_at (get_or words (place / 64) 0) (place % 64)) 0) 1) same ∙ by_case (nat_lt place most) (bit_at (get_or words (place / 64) 0) (place % 64)))
+  where
+    same : nat_lt (place % 64) (most - place / 64 * 64) ≡ nat_lt place most
+    same = let e : place / 64 * 64 + place % 64 ≡ place = split place (place / 64) refl in moved (place % 64) (place / 64 * 64) place most e
       where
-        inside : (q : ℕ) → (nat_lt 0 q && nat_le q 64) ≡ true → nat_le q n ≡ true → q - 1 < n
-        inside q e l = grind (arith, nat_tests, positive q e)
+        moved : (r b place most : ℕ) → b + r ≡ place → nat_lt r (most - b) ≡ nat_lt place most
+        moved r b place most e = grind (arith, nat_tests)
 
-        outside : (q : ℕ) → nat_le q n ≡ false → n ≤ q - 1
-        outside q l = grind (arith, nat_tests)
+    by_case : (l : Bool) (b : ℕ) → nat_eq (cond l b 0) 1 ≡ (nat_eq b 1 && l)
+    by_case true b = sym (and_true (nat_eq b 1))
+      where
+        and_true : (c : Bool) → (c && true) ≡ c
+        and_true true = refl
+        and_true false = refl
+    by_case false b = sym (and_false (nat_eq b 1))
+      where
+        and_false : (c : Bool) → (c && false) ≡ false
+        and_false true = refl
+        and_false false = refl
 
-        least : (x : ℕ) → x < 2 → nat_eq (min x 1) 1 ≡ nat_eq x 1
-        least x below = grind (arith, nat_tests)
+-- where a word is 0, none of its bits is set
+pub none_set : (words : List ℕ) (place : ℕ) → get_or words (place / 64) 0 ≡ 0 → is_set words place ≡ false
+none_set words place e = ap (λ w. nat_eq (bit_at w (place % 64)) 1) e ∙ ap (λ b. nat_eq b 1) (bit_at-zero (place % 64))
 
-        no_bit : (x : ℕ) → nat_eq (min x 0) 1 ≡ false
-        no_bit x = grind (arith, nat_tests)
+-- the lowest bit of the first word that isn't 0
+module _ (words : List ℕ) (k : ℕ) (some : 0 < get_or words k 0) (fits : get_or words k 0 < 2 ^ 64) (before : (j : ℕ) → j < k → get_or words j 0 ≡ 0) where
+  abbrev lowest : ℕ
+  lowest = trailing_zeros w64 (get_or words k 0)
 
-pub members-all : (bits n : ℕ) → 64 ≤ n → members 64 bits ≡ up_to n (members 64 bits)
-members-all bits n many = set.same_set nat_cmp_total nat_cmp-IsAntisymmetric _ _ (λ q.
-    contains-members bits 64 q ∙ (every q (nat_lt 0 q && nat_le q 64) refl
-    ∙ sym (contains-up_to (members 64 bits) n q ∙ ap (λ b. b && nat_le q n) (contains-members bits 64 q))))
+  found : (lowest < 64) × (bit_at (get_or words k 0) lowest ≡ 1) × ((i : ℕ) → i < lowest → bit_at (get_or words k 0) i ≡ 0)
+  found = bit_at-trailing_zeros w64 (get_or words k 0) some fits
+
+  pub lowest_place : lowest < 64
+  lowest_place = found.0
+
+  word_of : (k * 64 + lowest) / 64 ≡ k
+  word_of = let h : lowest < 64 = found.0 in omega (arith, h)
+
+  bit_of : (k * 64 + lowest) % 64 ≡ lowest
+  bit_of = let h : lowest < 64 = found.0 in omega (arith, h)
+
+  pub lowest_set : is_set words (k * 64 + lowest) ≡ true
+  lowest_set = (λ i. nat_eq (bit_at (get_or words (word_of i) 0) (bit_of i)) 1) ∙ ap (λ b. nat_eq b 1) found.1
+
+  pub none_below : (i : ℕ) → i < k * 64 + lowest → is_set words i ≡ false
+  none_below i below = elim (cases_lt (i / 64) k) [
+    | inl less ↦ none_set words i (before (i / 64) less)
+    | inr more ↦
+        let here : i / 64 ≡ k = in_word i k lowest below found.0 more in
+        let low : i % 64 < lowest = below_lowest i k lowest below here in
+        ap (λ j. nat_eq (bit_at (get_or words j 0) (i % 64)) 1) here ∙ ap (λ b. nat_eq b 1) (found.2 (i % 64) low)
+  ]
+    where
+      in_word : (i k l : ℕ) → i < k * 64 + l → l < 64 → k ≤ i / 64 → i / 64 ≡ k
+      in_word i k l f g h = omega (arith, f, g, h)
+
+      below_lowest : (i k l : ℕ) → i < k * 64 + l → i / 64 ≡ k → i % 64 < l
+      below_lowest i k l f e = omega (arith, f, e)
+
+-- how many bits of a word are set below a place
+ones-more : (bits n : ℕ) → count_ones (bits % 2 ^ suc n) ≡ count_ones (bit_at bits n) + count_ones (bits % 2 ^ n)
+ones-more bits n =
+    ap (λ k. count_ones (bits % 2 ^ k)) (next n) ∙ (ap count_ones (mod-pow-add bits 1 n) ∙ ones_cat n (bit_at bits n) (bits % 2 ^ n) (mod_below bits (2 ^ n) (pow_pos n)))
   where
-    below : (q : ℕ) → (nat_lt 0 q && nat_le q 64) ≡ true → nat_le q n ≡ true
-    below q e = grind (arith, nat_tests)
+    next : (n : ℕ) → suc n ≡ 1 + n
+    next n = omega arith
 
-    every : (q : ℕ) (c : Bool) → (nat_lt 0 q && nat_le q 64) ≡ c → (c && nat_eq (bit_at bits (q - 1)) 1) ≡ ((c && nat_eq (bit_at bits (q - 1)) 1) && nat_le q n)
-    every q false e = refl
-    every q true e = and_true _ ∙ ap (λ l. nat_eq (bit_at bits (q - 1)) 1 && l) (sym (below q e))
+-- how many members word k brings
+module _ (words : List ℕ) (k : ℕ) where
+  abbrev here : ℕ
+  here = get_or words k 0
+
+  own : (m j : ℕ) → m ≡ k * 64 + j → j < 64 → is_set words m ≡ nat_eq (bit_at here j) 1
+  own m j e low =
+      let word : m / 64 ≡ k = omega (arith, e, low) in
+      let bit : m % 64 ≡ j = omega (arith, e, low) in
+      λ i. nat_eq (bit_at (get_or words (word i) 0) (bit i)) 1
+
+  -- one more bit
+  len-next : (j m : ℕ) → m ≡ k * 64 + j → j < 64 → finite.len (members m (is_set words)) ≡ finite.len (members (k * 64) (is_set words)) + count_ones (here % 2 ^ j)
+      → finite.len (members (suc m) (is_set words)) ≡ finite.len (members (k * 64) (is_set words)) + count_ones (here % 2 ^ suc j)
+  unfolding ones
+  len-next j m at low before = go (bit_at here j) (bit_at-lt here j) refl
+    where
+      bit : (b : ℕ) → bit_at here j ≡ b → is_set words m ≡ nat_eq b 1
+      bit b is = own m j at low ∙ ap (λ x. nat_eq x 1) is
+
+      more : (b : ℕ) → bit_at here j ≡ b → count_ones (here % 2 ^ suc j) ≡ count_ones b + count_ones (here % 2 ^ j)
+      more b is = ones-more here j ∙ ap (λ x. count_ones x + count_ones (here % 2 ^ j)) is
+
+      same : (n b c d : ℕ) → n ≡ b + c → d ≡ 0 + c → n ≡ b + d
+      same n b c d f g = omega (arith, f, g)
+
+      next : (n b c d : ℕ) → n ≡ b + c → d ≡ 1 + c → suc n ≡ b + d
+      next n b c d f g = omega (arith, f, g)
+
+      go : (b : ℕ) → b < 2 → bit_at here j ≡ b → finite.len (members (suc m) (is_set words)) ≡ finite.len (members (k * 64) (is_set words)) + count_ones (here % 2 ^ suc j)
+      go zero small is = len-untold (is_set words) m (bit 0 is) ∙ same _ _ _ _ before (more 0 is)
+      go (suc zero) small is = len-told (is_set words) m (bit 1 is) ∙ next _ _ _ _ before (more 1 is)
+      go (suc (suc b)) small is = absurd (omega (arith, small))
+
+  pub len-below : (j m : ℕ) → m ≡ k * 64 + j → j ≤ 64 → finite.len (members m (is_set words)) ≡ finite.len (members (k * 64) (is_set words)) + count_ones (here % 2 ^ j)
+  unfolding ones
+  len-below zero m e high = ap (λ n. finite.len (members n (is_set words))) (none m e) ∙ sym (ap (λ c. finite.len (members (k * 64) (is_set words)) + count_ones c) (mod-one here) ∙ nothing_more _)
+    where
+      none : (m : ℕ) → m ≡ k * 64 + 0 → m ≡ k * 64
+      none m e = omega (arith, e)
+
+      nothing_more : (x : ℕ) → x + 0 ≡ x
+      nothing_more x = omega arith
+  len-below (suc j) zero e high = absurd (omega (arith, e))
+  len-below (suc j) (suc m) e high =
+      let at : m ≡ k * 64 + j = omega (arith, e) in
+      len-next j m at (omega (arith, high)) (len-below j m at (omega (arith, high)))
+
+  pub len-word : here < 2 ^ 64 → finite.len (members ((k + 1) * 64) (is_set words)) ≡ finite.len (members (k * 64) (is_set words)) + count_ones here
+  len-word fits = len-below 64 ((k + 1) * 64) (omega arith) (omega arith) ∙ ap (λ w. finite.len (members (k * 64) (is_set words)) + count_ones w) (mod-eq_of_lt fits)
+
+pub len-none : (words : List ℕ) → finite.len (members 0 (is_set words)) ≡ 0
+unfolding members
+len-none words = finite.len-empty nat_cmp

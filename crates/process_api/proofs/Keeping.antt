@@ -1,25 +1,21 @@
 -- What a step keeps of a mind: where it stands, its pauses, and that the process suspects itself on no layer.
-use Rattle.std.proofs.Common.{◌≡◌, ◌≢◌, ℕ, ◌≤◌, refl, sym, ap, ◌∙◌, Bool, true, false, cond, not, ◌&&◌, ◌||◌, nat_cmp, nat_eq, nat_le, Option, None, Some, List, [], ◌∷◌, true≢false}
+use Rattle.std.proofs.Common.{◌≡◌, ◌⊎◌, inl, inr, ℕ, ◌≤◌, refl, sym, ap, ◌∙◌, Bool, true, false, not, ◌&&◌, nat_le, Option, None, Some, true≢false}
 use Rattle.std.specs.Prelude.{IsTrue}
-use Rattle.std.specs.List.{AllByRecursion}
 use Rattle.std.specs.FinSet as set
 use Rattle.std.specs.Cmp.{nat_cmp_total, unsigned_tied}
-use Rattle.std.specs.Ordering.{eq_by_cmp}
-use borrow.Author.Tests.{eq-eqb, ne_eqb}
-use Rattle.process_api.specs.Answer.{Answer, still}
+use borrow.Author.Tests.{eq-eqb}
 use Rattle.process_api.specs.Mind.{Lower, AlgorithmState, Idle, Exchanging, Coordinating, Mind, is_mind_at, is_paced, trusts_itself, stands_at, leaves_out, layer_of, suspects_of, processes_of}
-use Rattle.process_api.specs.Numbers.{is_process, numbers_to}
 use Rattle.process_api.specs.Place.{Place, same_place}
 use Rattle.process_api.specs.React.{react_lower, react_algorithm, react}
+use Rattle.process_api.specs.Watching.{is_other}
 use Rattle.process_api.specs.Reduction.{ReductionState, step_reduction}
-use Rattle.process_api.specs.Sets.{Processes, insert_all, up_to}
-use Rattle.process_api.specs.Timeout.{DetectorState, is_overdue, overdue, trusted_again, noticed, watches, step_detector}
+use Rattle.process_api.specs.Sets.{Processes, up_to}
+use Rattle.process_api.specs.Detector.{DetectorState, suspected_by, step_detector}
 use Rattle.process_api.specs.declared.message.Payload.TheVariants as payload
 use Rattle.process_api.specs.declared.message.StepInput.{StepInput}
 use Rattle.process_api.specs.declared.message.StepInput.TheVariants as input
 use Rattle.process_api.specs.declared.message.Tag.TheVariants as tag
-use Rattle.process_api.specs.declared.numbers.DetectorNumbers.{DetectorNumbers}
-use Rattle.process_api.proofs.Lists.{passed}
+use Rattle.process_api.proofs.DetectorLaws.{detector_laws}
 use Rattle.process_api.proofs.Minds.{both_true, and_true, same_own, mind_place, mind_paced, mind_trusts, mind_stands}
 
 and_false : (a : Bool) → (a && false) ≡ false
@@ -30,40 +26,23 @@ out_of_not : (a : Bool) → not a ≡ true → a ≡ false
 out_of_not true h = absurd (true≢false (sym h))
 out_of_not false h = refl
 
--- p is still not in a set
-without_after_remove : (s : Processes) (q p : ℕ) → set.contains s p ≡ false → set.contains (set.remove s q) p ≡ false
-without_after_remove s q p h = set.contains-remove nat_cmp_total s q p ∙ (ap (λ b. not (eq_by_cmp nat_cmp p q) && b) h ∙ and_false _)
-
 without_itself : (s : Processes) (p : ℕ) → set.contains (set.remove s p) p ≡ false
 without_itself s p = set.contains-remove nat_cmp_total s p p ∙ ap (λ b. not b && set.contains s p) (unsigned_tied p p ∙ eq-eqb p p refl)
 
-without_after_insert : (s : Processes) (q p : ℕ) → q ≢ p → set.contains s p ≡ false → set.contains (set.insert s q) p ≡ false
-without_after_insert s q p apart h = set.contains-insert nat_cmp_total s q p ∙ (λ i. (unsigned_tied p q ∙ ne_eqb p q (λ e. apart (sym e))) i || h i)
+-- a base detector
+apart_from_itself : (place : Place) → is_other place.own place.processes place.own ≡ true → ⊥
+apart_from_itself place h = true≢false (sym (eq-eqb place.own place.own refl) ∙ out_of_not _ (both_true _ _ h).1)
 
-without_after_all : (qs : List ℕ) (s : Processes) (p : ℕ) → AllByRecursion (λ q. q ≢ p) qs → set.contains s p ≡ false → set.contains (insert_all s qs) p ≡ false
-without_after_all [] s p apart h = h
-without_after_all (q ∷ qs) s p apart h = without_after_all qs (set.insert s q) p apart.1 (without_after_insert s q p apart.0 h)
-
--- the time-out detector
-module _ (place : Place) (numbers : DetectorNumbers) where
-  overdue_apart : (s : DetectorState) (now q : ℕ) → is_overdue place numbers s now q ≡ true → q ≢ place.own
-  overdue_apart s now q h e =
-      let watched : (is_process place.processes q && not (nat_eq q place.own)) ≡ true = (both_true _ _ (both_true _ _ h).0).0 in
-      true≢false (sym (eq-eqb q place.own e) ∙ out_of_not _ (both_true _ _ watched).1)
-
-  LeavesOut : Answer DetectorState → Type 0
-  LeavesOut a = set.contains a.state.suspects place.own ≡ false
-
-  pub detector_keeps : (s : DetectorState) (now : ℕ) (x : StepInput) → set.contains s.suspects place.own ≡ false → set.contains (step_detector place numbers s now x).state.suspects place.own ≡ false
-  unfolding LeavesOut
-  detector_keeps s now (input.Wake tag.Check) h = without_after_all (overdue place numbers s now) s.suspects place.own (passed (λ q. q ≢ place.own) (is_overdue place numbers s now) (overdue_apart s now) (numbers_to place.processes)) h
-  detector_keeps s now (input.Letter q payload.Alive) h = go (watches place numbers q) (set.contains s.suspects q)
-    where
-      go : (b c : Bool) → LeavesOut (cond b (cond c (trusted_again place numbers s now q) (still (noticed place numbers s now q))) (still s))
-      go true true = without_after_remove s.suspects q place.own h
-      go true false = h
-      go false c = h
-  detector_keeps s now x h = h
+pub detector_keeps : (place : Place) (s : DetectorState) (now : ℕ) (x : StepInput) → set.contains (suspected_by place s) place.own ≡ false → set.contains (suspected_by place (step_detector place s now x).state) place.own ≡ false
+detector_keeps place s now x h =
+    elim (set.contains (suspected_by place (step_detector place s now x).state) place.own) as (λ b. set.contains (suspected_by place (step_detector place s now x).state) place.own ≡ b → b ≡ false) [
+      | true ↦ λ is. absurd (go ((detector_laws place s now x).others place.own is))
+      | false ↦ λ is. refl
+    ] refl
+  where
+    go : (set.contains (suspected_by place s) place.own ≡ true) ⊎ (is_other place.own place.processes place.own ≡ true) → ⊥
+    go (inl before) = true≢false (sym before ∙ h)
+    go (inr other) = apart_from_itself place other
 
 -- the reduction
 reduction_keeps : (place : Place) (s : ReductionState) (suspects : Processes) (x : StepInput) → set.contains s.output place.own ≡ false → set.contains (step_reduction place s suspects x).state.output place.own ≡ false
@@ -98,20 +77,20 @@ unfolding react_lower
 lower_paced m now x = go m.reduction
   where
     go : (o : Option ReductionState) → is_paced (react_lower (record m { reduction = o }) now x).state ≡ is_paced (record m { reduction = o })
-    go None = refl
-    go (Some reduction) = ap (λ t. (nat_le 1 m.numbers.period && nat_le 1 m.numbers.check) && nat_le 1 t) (reduction_period m.place reduction (step_detector m.place m.numbers m.detector now x).state.suspects x)
+    go None = ap (λ b. b && true) (detector_laws m.place m.detector now x).paced
+    go (Some reduction) = λ i. (detector_laws m.place m.detector now x).paced i && nat_le 1 (reduction_period m.place reduction (suspected_by m.place (step_detector m.place m.detector now x).state) x i)
 
 pub lower_trusts : (m : Lower) (now : ℕ) (x : StepInput) → IsTrue (trusts_itself m) → IsTrue (trusts_itself (react_lower m now x).state)
 unfolding react_lower
 lower_trusts m now x h = go m.reduction h
   where
-    base : IsTrue (trusts_itself m) → not (set.contains (step_detector m.place m.numbers m.detector now x).state.suspects m.place.own) ≡ true
-    base h = ap not (detector_keeps m.place m.numbers m.detector now x (out_of_not _ (both_true _ _ h).0))
+    base : IsTrue (trusts_itself m) → not (set.contains (suspected_by m.place (step_detector m.place m.detector now x).state) m.place.own) ≡ true
+    base h = ap not (detector_keeps m.place m.detector now x (out_of_not _ (both_true _ _ h).0))
 
     go : (o : Option ReductionState) → IsTrue (trusts_itself (record m { reduction = o })) → IsTrue (trusts_itself (react_lower (record m { reduction = o }) now x).state)
     go None trusts = and_true _ _ (base h) refl
     go (Some reduction) trusts =
-        and_true _ _ (base h) (ap not (reduction_keeps m.place reduction (step_detector m.place m.numbers m.detector now x).state.suspects x (out_of_not _ (both_true _ _ trusts).1)))
+        and_true _ _ (base h) (ap not (reduction_keeps m.place reduction (suspected_by m.place (step_detector m.place m.detector now x).state) x (out_of_not _ (both_true _ _ trusts).1)))
 
 -- the top layer's suspects leave the process out
 pub suspects_leave_out : (m : Lower) → IsTrue (trusts_itself m) → set.contains (suspects_of m) m.place.own ≡ false

@@ -9,7 +9,8 @@ use Rattle.process_api.specs.Numbers.{change}
 use Rattle.process_api.specs.Place.{Place}
 use Rattle.process_api.specs.React.{react_lower, react_algorithm, react}
 use Rattle.process_api.specs.Sets.{insert_all}
-use Rattle.process_api.specs.Timeout.{DetectorState, opening_detector, trusted_again, overdue, step_detector}
+use Rattle.process_api.specs.Detector.{ByTimeout, step_detector}
+use Rattle.process_api.specs.Timeout.{TimeoutState, opening_timeout, trusted_again, overdue, step_timeout}
 use Rattle.process_api.specs.declared.action.Action.{Action}
 use Rattle.process_api.specs.declared.action.Action.TheVariants as action
 use Rattle.process_api.specs.declared.action.Note.TheVariants as note
@@ -17,27 +18,27 @@ use Rattle.process_api.specs.declared.message.Payload.TheVariants as payload
 use Rattle.process_api.specs.declared.message.StepInput.{StepInput}
 use Rattle.process_api.specs.declared.message.StepInput.TheVariants as input
 use Rattle.process_api.specs.declared.message.Tag.TheVariants as tag
-use Rattle.process_api.specs.declared.numbers.DetectorNumbers.{DetectorNumbers}
+use Rattle.process_api.specs.declared.numbers.TimeoutNumbers.{TimeoutNumbers}
 use Rattle.process_api.specs.declared.numbers.Watch.TheVariants as watch
 
 abbrev place : Place
 place = record { own = 1; processes = 2; horizon = 10 }
 
-abbrev numbers : DetectorNumbers
+abbrev numbers : TimeoutNumbers
 numbers = record { period = 4; check = 3; timeout = 5; grow = 1; watch = watch.All }
 
 -- process 1 with its detector alone
-abbrev mind : DetectorState → Mind
-mind detector = record { lower = record { place = place; numbers = numbers; detector = detector; reduction = None }; algorithm = Idle }
+abbrev mind : TimeoutState → Mind
+mind detector = record { lower = record { place = place; detector = ByTimeout numbers detector; reduction = None }; algorithm = Idle }
 
 -- before its start, after the letter of tick 2, and after the check of tick 9
-abbrev opening : DetectorState
-opening = opening_detector numbers
+abbrev opening : TimeoutState
+opening = opening_timeout numbers
 
-abbrev alive : DetectorState
+abbrev alive : TimeoutState
 alive = record { last_heard = change (λ q. 0) 2 2; bound = λ q. 5; suspects = set.empty }
 
-abbrev last : DetectorState
+abbrev last : TimeoutState
 last = record alive { suspects = set.insert set.empty 2 }
 
 -- what process 1 takes, each at its tick: all, and from a tick on
@@ -85,14 +86,14 @@ nobody : set.contains (set.empty {R = nat_cmp}) 2 ≡ false
 nobody = set.contains-empty nat_cmp 2
 
 -- what the base detector makes of each
-abbrev answer : DetectorState → List Action → Answer DetectorState
+abbrev answer : TimeoutState → List Action → Answer TimeoutState
 answer detector actions = record { state = detector; actions = actions }
 
-letter : step_detector place numbers opening 2 (input.Letter 2 payload.Alive) ≡ answer alive []
+letter : step_timeout place numbers opening 2 (input.Letter 2 payload.Alive) ≡ answer alive []
 letter = ap (λ b. cond b (trusted_again place numbers opening 2 2) (answer alive [])) nobody
 
 -- 1 and then 4 ticks of silence are too few
-check_early : (now : ℕ) → overdue place numbers alive now ≡ [] → step_detector place numbers alive now (input.Wake tag.Check) ≡ answer alive checks
+check_early : (now : ℕ) → overdue place numbers alive now ≡ [] → step_timeout place numbers alive now (input.Wake tag.Check) ≡ answer alive checks
 check_early now none = ap (λ qs. answer (record alive { suspects = insert_all set.empty qs }) (map (λ q. action.Note (note.Suspect 1 q)) qs ++ checks)) none
 
 nobody_overdue : (b : Bool) → cond {A = List ℕ} (not b && false) (2 ∷ []) [] ≡ []
@@ -103,14 +104,14 @@ nobody_overdue false = refl
 overdue_at_last : overdue place numbers alive 9 ≡ 2 ∷ []
 overdue_at_last = ap (λ b. cond (not b && true) (2 ∷ []) []) nobody
 
-check_last : step_detector place numbers alive 9 (input.Wake tag.Check) ≡ answer last (action.Note (note.Suspect 1 2) ∷ checks)
+check_last : step_timeout place numbers alive 9 (input.Wake tag.Check) ≡ answer last (action.Note (note.Suspect 1 2) ∷ checks)
 check_last = ap (λ qs. answer (record alive { suspects = insert_all set.empty qs }) (map (λ q. action.Note (note.Suspect 1 q)) qs ++ checks)) overdue_at_last
 
 -- where nothing stands over the detector, its answer is the process's
-module _ (d : DetectorState) (x : ℕ × StepInput) (xs : List (ℕ × StepInput)) (next : DetectorState) (actions : List Action) (e : step_detector place numbers d x.0 x.1 ≡ answer next actions) where
+module _ (d : TimeoutState) (x : ℕ × StepInput) (xs : List (ℕ × StepInput)) (next : TimeoutState) (actions : List Action) (e : step_timeout place numbers d x.0 x.1 ≡ answer next actions) where
   react_is : react (mind d) x.0 x.1 ≡ record { state = mind next; actions = actions ++ [] }
-  unfolding react react_lower react_algorithm
-  react_is = ap (λ (a : Answer DetectorState). record { state = mind a.state; actions = a.actions ++ [] }) e
+  unfolding react react_lower react_algorithm step_detector
+  react_is = ap (λ (a : Answer TimeoutState). record { state = mind a.state; actions = a.actions ++ [] }) e
 
   go_on : (rest : List (List Action)) → all_actions (mind next) xs ≡ rest → all_actions (mind d) (x ∷ xs) ≡ (actions ++ []) ∷ rest
   go_on rest h = ap (λ a. a.actions ∷ all_actions a.state xs) react_is ∙ ap (λ r. (actions ++ []) ∷ r) h

@@ -203,6 +203,7 @@ module _ (n own : ℕ) where
   -- a letter of one of the n processes
   abbrev pub receive : ℕ → Payload → Coordinator → Answer Coordinator
   receive sender payload.Alive s = still s
+  receive sender (payload.Heartbeat number) s = still s
   receive sender (payload.Suspects shared) s = still s
   receive sender (payload.Vector round cells) s = still s
   receive sender (payload.Last cells) s = still s

@@ -1,3 +1,4 @@
+pub mod Bounds
 pub mod Order
 pub mod EntryRecord
 pub mod Numbers
@@ -8,7 +9,11 @@ pub mod Cells
 pub mod Answer
 pub mod Actions
 pub mod Place
+pub mod Watching
 pub mod Timeout
+pub mod Freshness
+pub mod Detector
+pub mod BaseDetector
 pub mod Reduction
 pub mod ConsensusS
 pub mod Rounds

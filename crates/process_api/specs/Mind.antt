@@ -1,18 +1,17 @@
 -- What a process is, as plain data: its parts, and where each stands.
 use Rattle.std.specs.Prelude.{ℕ, Bool, true, not, ◌&&◌, nat_le, Option, None, Some}
 use Rattle.std.specs.FinSet as set
+use Rattle.process_api.specs.Bounds.{most_first_actions, most_second_actions}
 use Rattle.process_api.specs.Sets.{Processes}
 use Rattle.process_api.specs.Place.{Place, same_place}
-use Rattle.process_api.specs.Timeout.{DetectorState}
+use Rattle.process_api.specs.Detector.{DetectorState, suspected_by, has_pauses}
 use Rattle.process_api.specs.Reduction.{ReductionState}
 use Rattle.process_api.specs.ConsensusS.{Exchange}
 use Rattle.process_api.specs.Coordinator.{Coordinator}
-use Rattle.process_api.specs.declared.numbers.DetectorNumbers.{DetectorNumbers}
 
 -- the detector's part: the base detector, and the reduction over it where there is one
 pub record Lower : Type 0 where
   pub place : Place
-  pub numbers : DetectorNumbers
   pub detector : DetectorState
   pub reduction : Option ReductionState
 
@@ -35,11 +34,11 @@ layer_of m = elim m.reduction [ None ↦ 1 | Some reduction ↦ 2 ]
 
 -- how many actions the detector's part takes in one step, at most
 abbrev pub most_actions : Lower → ℕ
-most_actions m = elim m.reduction [ None ↦ 512 | Some reduction ↦ 1024 ]
+most_actions m = elim m.reduction [ None ↦ most_first_actions | Some reduction ↦ most_second_actions ]
 
 -- the suspects of the top layer
 abbrev pub suspects_of : Lower → Processes
-suspects_of m = elim m.reduction [ None ↦ m.detector.suspects | Some reduction ↦ reduction.output ]
+suspects_of m = elim m.reduction [ None ↦ suspected_by m.place m.detector | Some reduction ↦ reduction.output ]
 
 -- among how many processes an algorithm's part stands; 0 where there is none, since it sends nothing
 abbrev pub processes_of : AlgorithmState → ℕ
@@ -62,13 +61,13 @@ leaves_out suspects (Coordinating place s) = not (set.contains suspects place.ow
 -- the pauses of the detector's part are at least 1
 abbrev pub is_paced : Lower → Bool
 is_paced m =
-    (nat_le 1 m.numbers.period && nat_le 1 m.numbers.check)
+    has_pauses m.detector
     && elim m.reduction [ None ↦ true | Some reduction ↦ nat_le 1 reduction.period ]
 
 -- the process suspects itself on no layer
 abbrev pub trusts_itself : Lower → Bool
 trusts_itself m =
-    not (set.contains m.detector.suspects m.place.own)
+    not (set.contains (suspected_by m.place m.detector) m.place.own)
     && elim m.reduction [ None ↦ true | Some reduction ↦ not (set.contains reduction.output m.place.own) ]
 
 -- a mind of the process that stands in this place

@@ -3,7 +3,7 @@ use Rattle.std.specs.Prelude.{ℕ, ◌++◌, None, Some}
 use Rattle.std.specs.FinSet as set
 use Rattle.process_api.specs.Sets.{Processes}
 use Rattle.process_api.specs.Answer.{Answer, still}
-use Rattle.process_api.specs.Timeout.{step_detector}
+use Rattle.process_api.specs.Detector.{suspected_by, step_detector}
 use Rattle.process_api.specs.Reduction.{step_reduction}
 use Rattle.process_api.specs.ConsensusS.{step_exchange}
 use Rattle.process_api.specs.Coordinator.{step_coordinator}
@@ -13,11 +13,11 @@ use Rattle.process_api.specs.declared.message.StepInput.{StepInput}
 -- the base detector acts first, then the reduction, which sees whom the detector suspects by then
 unfoldable pub react_lower : Lower → ℕ → StepInput → Answer Lower
 react_lower m now input =
-    let base = step_detector m.place m.numbers m.detector now input in
+    let base = step_detector m.place m.detector now input in
     elim m.reduction [
       | None ↦ record { state = record m { detector = base.state }; actions = base.actions }
       | Some reduction ↦
-          let over = step_reduction m.place reduction base.state.suspects input in
+          let over = step_reduction m.place reduction (suspected_by m.place base.state) input in
           record {
             state = record m { detector = base.state; reduction = Some over.state };
             actions = base.actions ++ over.actions;

@@ -9,14 +9,16 @@ use std::marker::Model;
 pub enum Kind {
     /// The process's start.
     Start,
-    /// A wake of the time-out detector, to say that the process is alive.
+    /// A wake of the base detector, to say that the process is alive.
     Beat,
-    /// A wake of the time-out detector, to look who was silent for too long.
+    /// A wake of the base detector, to look whom it has to suspect.
     Check,
     /// A wake of the reduction, to share whom the base detector suspects.
     Share,
     /// A letter of the time-out detector.
     Alive,
+    /// A letter of the detector with freshness points.
+    Heartbeat,
     /// A letter of the reduction.
     Suspects,
     /// A letter of consensus with S, in a round before the last.

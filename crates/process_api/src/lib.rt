@@ -6,9 +6,10 @@
 //! an input makes of a mind and which actions it causes (`specs/React.antt`). The one contract for the layers above
 //! is that of [`Process`]: on `Ok`, `on_input` is `react`, and nothing else.
 //!
-//! A mind has parts, each with a definition of its own in `specs/`: a detector (`Timeout`), perhaps a reduction
-//! over it (`Reduction`), and perhaps a consensus algorithm (`ConsensusS`, `Coordinator` with `Diffusion`). The
-//! crates that implement a part meet [`Detector`] or [`Algorithm`].
+//! A mind has parts, each with a definition of its own in `specs/`: a base detector of some kind (`Detector` joins the
+//! kinds; there are `Timeout` and `Freshness`), perhaps a reduction over it (`Reduction`), and perhaps a consensus algorithm
+//! (`ConsensusS`, `Coordinator` with `Diffusion`). The crates that implement a part meet [`Detector`] or
+//! [`Algorithm`]. What stands above a base detector rests on its laws (`BaseDetector`), whichever its kind.
 #![tactic(auto)]
 
 mod action;
@@ -23,6 +24,7 @@ mod pid;
 mod proc_set;
 mod process;
 mod trace;
+mod words;
 
 pub use action::{Action, Note, note_that, send_to, wake_after};
 pub use cells::Cells;
@@ -30,9 +32,9 @@ pub use consensus::{Estimate, Phase};
 pub use entry::{Entry, Kind};
 pub use key::Key;
 pub use message::{Letter, Payload, StepInput, Tag};
-pub use numbers::{DetectorNumbers, Watch};
+pub use numbers::{DetectorNumbers, FreshnessNumbers, TimeoutNumbers, Watch};
 pub use parts::{Algorithm, Detector};
-pub use pid::Pid;
+pub use pid::{MOST_PROCESSES, Pid};
 pub use proc_set::{Members, ProcSet};
 pub use process::Process;
 pub use trace::Trace;

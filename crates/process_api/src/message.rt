@@ -8,9 +8,9 @@ use crate::proc_set::ProcSet;
 /// What a wake is for.
 #[derive(Clone, Copy, Debug, PartialEq, Eq)]
 pub enum Tag {
-    /// The time-out detector sends its next Alive letters.
+    /// The base detector sends its next letters.
     Beat,
-    /// The time-out detector looks for processes that were silent for too long.
+    /// The base detector looks whom it has to suspect.
     Check,
     /// The reduction shares what the detector below it suspects.
     Share,
@@ -21,6 +21,9 @@ pub enum Tag {
 pub enum Payload {
     /// The time-out detector: the sender is alive.
     Alive,
+    /// The detector with freshness points: the sender was alive when it sent its heartbeat of this number, 1 to
+    /// 1,000,000,000,000.
+    Heartbeat { number: u64 },
     /// The reduction: whom the sender's base detector suspects.
     Suspects(ProcSet),
     /// Consensus with S: what the round before brought the sender.

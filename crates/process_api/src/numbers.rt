@@ -1,4 +1,8 @@
 //! The numbers of a detector.
+ghost use Rattle.std.specs.Prelude.{◌≡◌, ◌≢◌, ◌≤◌, true};
+ghost use Rattle.process_api.specs.Watching.{is_watched};
+
+use crate::pid::Pid;
 
 /// Whom a detector watches.
 #[derive(Clone, Copy, Debug, PartialEq, Eq)]
@@ -9,9 +13,36 @@ pub enum Watch {
     Next,
 }
 
+impl Watch {
+    /// Whether process `own` of `processes` watches process `q`: another of 1 to n, and under `Next` the next one in
+    /// their circle.
+    pub fn takes_in(self, own: Pid, processes: u16, q: Pid) -> bool
+        ensures value { result ≡ is_watched own processes self q }
+        ensures known { result ≡ true → q ≤ processes }
+        ensures other { result ≡ true → q ≢ own }
+    {
+        if q.number() > processes || q == own {
+            return false;
+        }
+        match self {
+            Watch::All => true,
+            Watch::Next => q.number() == own.number() % processes + 1,
+        }
+    }
+}
+
+/// The numbers of a base detector, which say its kind too.
+#[derive(Clone, Copy, Debug, PartialEq, Eq)]
+pub enum DetectorNumbers {
+    /// The time-out detector.
+    Timeout(TimeoutNumbers),
+    /// The detector with freshness points.
+    Freshness(FreshnessNumbers),
+}
+
 /// The numbers of the time-out detector, each 1 to 1,000,000 in an accepted scenario.
 #[derive(Clone, Copy, Debug, PartialEq, Eq)]
-pub struct DetectorNumbers {
+pub struct TimeoutNumbers {
     /// Ticks between two rounds of Alive letters.
     pub period: u32,
     /// Ticks between two checks.
@@ -20,6 +51,17 @@ pub struct DetectorNumbers {
     pub timeout: u32,
     /// By how many ticks a bound grows after a mistaken suspicion.
     pub grow: u32,
+    /// Whom the detector watches.
+    pub watch: Watch,
+}
+
+/// The numbers of the detector with freshness points, each 1 to 1,000,000 in an accepted scenario.
+#[derive(Clone, Copy, Debug, PartialEq, Eq)]
+pub struct FreshnessNumbers {
+    /// Ticks between two heartbeats, and between two freshness points.
+    pub eta: u32,
+    /// How many ticks a heartbeat's freshness point lies after the tick at which it is sent.
+    pub delta: u32,
     /// Whom the detector watches.
     pub watch: Watch,
 }

@@ -2,6 +2,7 @@
 ghost use Rattle.std.specs.Prelude.{◌≡◌, ◌≤◌, ◌++◌, Bool, false, IsTrue, OnOk, OnErr, IsErr, length, All};
 ghost use Rattle.std.specs.FinSet as set;
 ghost use Rattle.process_api.specs.Actions.{IsAllowed, notes_of_layer};
+ghost use Rattle.process_api.specs.Bounds.{most_algorithm_actions};
 ghost use Rattle.process_api.specs.Mind.{Lower, AlgorithmState, layer_of, most_actions, suspects_of, processes_of, leaves_out, stands_at};
 ghost use Rattle.process_api.specs.Place.{Place};
 ghost use Rattle.process_api.specs.React.{react_lower, react_algorithm};
@@ -89,7 +90,8 @@ pub trait Algorithm: Send + Drop {
         ensures allowed { OnOk result (
             All (IsAllowed (processes_of (state self.old)))
             (react_algorithm (state self.old) input.now suspects.now).actions) }
-        ensures few { OnOk result (length (react_algorithm (state self.old) input.now suspects.now).actions ≤ 2048) }
+        ensures few { OnOk result (length (react_algorithm (state self.old) input.now suspects.now).actions
+            ≤ most_algorithm_actions) }
         ensures place { (place : Place) → stands_at place (state self.new) ≡ stands_at place (state self.old) }
 
         ensures alive { OnOk result (has_failed self.new ≡ has_failed self.old) }

@@ -6,26 +6,28 @@ ghost use Rattle.process_api.specs.InOrder.{in_order};
 ghost use Rattle.process_api.specs.Sets.{up_to};
 
 use crate::pid::Pid;
+use crate::words::{WORDS, clear, count, either, first_with_bits, low, put, without};
 use std::marker::Model;
 
 /// A set of processes. Contracts see the finite set of their numbers.
 #[derive(Debug, Drop)]
 pub struct ProcSet {
     // process q is bit q - 1
-    bits: u64,
+    words: [u64; WORDS],
 }
 
 impl Model for ProcSet {
     ghost use Rattle.std.specs.Coded.{coded_ℕ};
     ghost use Rattle.std.specs.FinSet as set;
     ghost use Rattle.process_api.specs.Sets.{Processes};
-    ghost use Rattle.process_api.specs.Bits.{members};
+    ghost use Rattle.process_api.specs.Bits.{is_set, members};
+    ghost use Rattle.process_api.specs.Bounds.{most_processes};
 
     ghost Value = { Processes };
 
     ghost coded = { set.code coded_ℕ };
 
-    ghost view = { λ s. members 64 s.bits };
+    ghost view = { λ s. members most_processes (is_set s.words) };
 }
 
 impl ProcSet {
@@ -33,38 +35,36 @@ impl ProcSet {
     pub fn new() -> ProcSet
         ensures { result ≡ set.empty }
     {
-        ProcSet { bits: 0 }
+        ProcSet { words: [0; WORDS] }
     }
 
     /// Whether the process is in the set.
     pub fn contains(&self, p: Pid) -> bool
         ensures { result ≡ set.contains self.now p }
     {
-        let place = p.number() - 1;
-        (self.bits >> place) & 1 == 1
+        let place = usize::from(p.number()) - 1;
+        (self.words[place / 64] >> (place % 64)) & 1 == 1
     }
 
     /// Puts the process into the set.
     pub fn insert(&mut self, p: Pid)
         ensures { self.new ≡ set.insert self.old p }
     {
-        let place = p.number() - 1;
-        self.bits |= 1 << place;
+        put(&mut self.words, usize::from(p.number()) - 1);
     }
 
     /// Takes the process out of the set.
     pub fn remove(&mut self, p: Pid)
         ensures { self.new ≡ set.remove self.old p }
     {
-        let place = p.number() - 1;
-        self.bits &= !(1 << place);
+        clear(&mut self.words, usize::from(p.number()) - 1);
     }
 
     /// The same set.
     pub fn copy(&self) -> ProcSet
         ensures { result ≡ self.now }
     {
-        ProcSet { bits: self.bits }
+        ProcSet { words: self.words }
     }
 
     /// The members of either set.
@@ -72,7 +72,16 @@ impl ProcSet {
         ensures { result ≡ set.union self.now other.now }
     {
         ProcSet {
-            bits: self.bits | other.bits,
+            words: either(&self.words, &other.words),
+        }
+    }
+
+    /// The members that aren't in the other set.
+    pub fn without(&self, other: &ProcSet) -> ProcSet
+        ensures { result ≡ set.difference self.now other.now }
+    {
+        ProcSet {
+            words: without(&self.words, &other.words),
         }
     }
 
@@ -80,19 +89,16 @@ impl ProcSet {
     pub fn up_to(&self, n: u16) -> ProcSet
         ensures { result ≡ up_to n self.now }
     {
-        if n >= 64 {
-            return ProcSet { bits: self.bits };
-        }
         ProcSet {
-            bits: self.bits & ((1 << n) - 1),
+            words: low(&self.words, usize::from(n)),
         }
     }
 
-    /// How many members the set has, 0 to 64.
+    /// How many members the set has, 0 to [`MOST_PROCESSES`](crate::MOST_PROCESSES).
     pub fn len(&self) -> u32
         ensures { result ≡ set.len self.now }
     {
-        self.bits.count_ones()
+        count(&self.words)
     }
 
     /// Whether the set has no member.
@@ -106,7 +112,7 @@ impl ProcSet {
     pub fn iter(&self) -> Members
         ensures { result ≡ in_order self.now }
     {
-        Members { bits: self.bits }
+        Members { words: self.words }
     }
 }
 
@@ -126,17 +132,18 @@ impl IntoIterator for &ProcSet {
 #[derive(Debug, Drop)]
 pub struct Members {
     // of those that are left, process q is bit q - 1
-    bits: u64,
+    words: [u64; WORDS],
 }
 
 impl Model for Members {
     ghost use Rattle.std.specs.Prelude.{ℕ, List};
-    ghost use Rattle.process_api.specs.Bits.{members};
+    ghost use Rattle.process_api.specs.Bits.{is_set, members};
+    ghost use Rattle.process_api.specs.Bounds.{most_processes};
     ghost use Rattle.process_api.specs.InOrder.{in_order};
 
     ghost Value = { List ℕ };
 
-    ghost view = { λ s. in_order (members 64 s.bits) };
+    ghost view = { λ s. in_order (members most_processes (is_set s.words)) };
 }
 
 impl Iterator for Members {
@@ -147,11 +154,11 @@ impl Iterator for Members {
     ghost remaining = { item_count (λ rest. rest) };
 
     fn next(&mut self) -> Option<Pid> {
-        if self.bits == 0 {
+        let Some(k) = first_with_bits(&self.words) else {
             return None;
-        }
-        let lowest = self.bits.trailing_zeros();
-        self.bits &= !(1 << lowest);
-        Pid::new(lowest as u16 + 1)
+        };
+        let place = k * 64 + self.words[k].trailing_zeros() as usize;
+        clear(&mut self.words, place);
+        Some(Pid::after(place as u16))
     }
 }

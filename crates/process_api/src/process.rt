@@ -1,6 +1,7 @@
 //! The trait of machines.
 ghost use Rattle.std.specs.Prelude.{◌≡◌, ◌≤◌, ◌++◌, Bool, true, IsTrue, OnOk, OnErr, IsErr, length, All};
 ghost use Rattle.process_api.specs.Actions.{IsAllowed};
+ghost use Rattle.process_api.specs.Bounds.{most_step_actions};
 ghost use Rattle.process_api.specs.Mind.{Mind};
 ghost use Rattle.process_api.specs.React.{react};
 
@@ -39,7 +40,7 @@ pub trait Process: Send + Drop {
             out.new.items ≡ out.old.items ++ (react (mind self.old) now input.now).actions) }
         ensures allowed { OnOk result (
             All (IsAllowed (mind self.old).lower.place.processes) (react (mind self.old) now input.now).actions) }
-        ensures few { OnOk result (length (react (mind self.old) now input.now).actions ≤ 4096) }
+        ensures few { OnOk result (length (react (mind self.old) now input.now).actions ≤ most_step_actions) }
 
         ensures alive { OnOk result (has_failed self.new ≡ has_failed self.old) }
         ensures failed { OnErr result (IsTrue (has_failed self.new)) }

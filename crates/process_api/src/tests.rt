@@ -4,28 +4,34 @@ use crate::*;
 use std::test::Fail;
 
 #[test]
-fn processes_are_numbered_1_to_64(rt: HostRuntime) -> Result<(), Fail> {
-    for number in [0, 65, 1000, 65535] {
+fn processes_are_numbered_1_to_256(rt: HostRuntime) -> Result<(), Fail> {
+    for number in [0, 257, 1000, 65535] {
         assert!(rt; Pid::new(number).is_none(), "at {number}");
     }
-    for number in [1, 2, 33, 63, 64] {
+    for number in [1, 2, 64, 65, 255, 256] {
         let pid = Pid::new(number).ok_or("refused")?;
         assert_eq!(rt; pid.number(), number);
+        assert_eq!(rt; Pid::after(number - 1), pid);
     }
     Ok(())
 }
 
+// The set of these processes.
+fn set_of(numbers: &[u16]) -> Result<ProcSet, Fail> {
+    let mut set = ProcSet::new();
+    for number in numbers {
+        set.insert(Pid::new(*number).ok_or("refused")?);
+    }
+    Ok(set)
+}
+
 #[test]
 fn members_come_in_rising_order(rt: HostRuntime) -> Result<(), Fail> {
-    let mut set = ProcSet::new();
-    for number in [64, 1, 33, 2, 33] {
-        set.insert(Pid::new(number).ok_or("refused")?);
-    }
     let mut came = Vec::new(rt.alloc());
-    for member in &set {
+    for member in &set_of(&[256, 64, 1, 193, 33, 65, 2, 33])? {
         came.push(member.number())?;
     }
-    assert_eq!(rt; came.as_slice(), [1, 2, 33, 64].as_slice());
+    assert_eq!(rt; came.as_slice(), [1, 2, 33, 64, 65, 193, 256].as_slice());
     Ok(())
 }
 
@@ -33,10 +39,8 @@ fn members_come_in_rising_order(rt: HostRuntime) -> Result<(), Fail> {
 fn sets_gain_and_lose_members(rt: HostRuntime) -> Result<(), Fail> {
     let two = Pid::new(2).ok_or("refused")?;
     let five = Pid::new(5).ok_or("refused")?;
-    let last = Pid::new(64).ok_or("refused")?;
-    let mut set = ProcSet::new();
-    set.insert(two);
-    set.insert(five);
+    let last = Pid::new(256).ok_or("refused")?;
+    let mut set = set_of(&[2, 5])?;
     let kept = set.copy();
     set.remove(two);
     assert!(rt; set.contains(five) && !set.contains(two));
@@ -45,6 +49,25 @@ fn sets_gain_and_lose_members(rt: HostRuntime) -> Result<(), Fail> {
     assert_eq!(rt; both.len(), 3);
     assert_eq!(rt; both.up_to(5).len(), 2);
     assert!(rt; both.up_to(1).is_empty());
+    let gone = both.without(&set);
+    assert!(rt; gone.contains(two));
+    assert_eq!(rt; gone.len(), 1);
+    Ok(())
+}
+
+#[test]
+fn processes_64_apart_are_different_members(rt: HostRuntime) -> Result<(), Fail> {
+    let one = Pid::new(1).ok_or("refused")?;
+    let mut set = set_of(&[65, 129, 193])?;
+    assert!(rt; !set.contains(one));
+    assert_eq!(rt; set.up_to(64).len(), 0);
+    assert_eq!(rt; set.up_to(65).len(), 1);
+    assert_eq!(rt; set.up_to(192).len(), 2);
+    assert_eq!(rt; set.up_to(65535).len(), 3);
+    set.insert(one);
+    set.remove(Pid::new(129).ok_or("refused")?);
+    assert!(rt; set.contains(one));
+    assert_eq!(rt; set.len(), 3);
     Ok(())
 }
 

@@ -4,6 +4,7 @@ use Rattle.process_api.specs.EntryRecord.{EntryRecord}
 use Rattle.process_api.specs.declared.action.Note.{Note}
 use Rattle.process_api.specs.declared.action.Note.TheVariants.{Suspect, Trust}
 use Rattle.process_api.specs.declared.entry.Kind.TheVariants as kind
+use Rattle.process_api.specs.declared.numbers.DetectorNumbers.TheVariants as numbers
 use Rattle.process_api.specs.declared.numbers.Watch.TheVariants as watch
 use Rattle.scenario.specs.Record.{Record}
 use Rattle.scenario.specs.declared.algorithm.AlgorithmKind.TheVariants as algorithm
@@ -31,11 +32,12 @@ scenario processes horizon share crashes = record {
   limit = 1000000;
   seed = 1;
   algorithm = algorithm.Idle;
-  detector = record { period = 4; check = 3; timeout = 5; grow = 1; watch = watch.All };
+  detector = numbers.Timeout (record { period = 4; check = 3; timeout = 5; grow = 1; watch = watch.All });
   share = share;
   proposals = [];
   crashes = crashes;
   links = [];
+  outages = [];
 }
 
 -- a pair of which nothing is counted

@@ -37,7 +37,8 @@ module _ {O : Type 0} (told : O → Option (List ℕ)) (failed : O → ℕ) wher
 
     -- the same; or a put failed, and a front part of their rows went out
     abbrev pub WroteFront : (asked : Bool) → List EntryRecord → Type 0
-    WroteFront asked entries = WroteFirst asked entries ⊎ (IsTrue asked × WrotePart told failed old new (rows_text entries))
+    WroteFront asked entries =
+        WroteFirst asked entries ⊎ (IsTrue asked × WrotePart told failed old new (rows_text entries))
 
   -- the outlet is the same, and still asked for rows or not
   pub record IsSame (old new : Streaming O) : Type 0 where

@@ -15,7 +15,7 @@ pub(crate) const HEADER: &[u8] = b"tick,receiver,sender,number,kind,sent,lost,no
 /// The name of a kind.
 fn name_of(kind: Kind) -> &'static str
     ensures text { result.now ≡ kind_text kind }
-    ensures short { length result.now ≤ 8 }
+    ensures short { length result.now ≤ 9 }
 {
     match kind {
         Kind::Start => "start",
@@ -23,6 +23,7 @@ fn name_of(kind: Kind) -> &'static str
         Kind::Check => "check",
         Kind::Share => "share",
         Kind::Alive => "alive",
+        Kind::Heartbeat => "heartbeat",
         Kind::Suspects => "suspects",
         Kind::Vector => "vector",
         Kind::Last => "last",

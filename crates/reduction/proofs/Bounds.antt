@@ -1,12 +1,14 @@
 -- What the reduction does is allowed, and little.
-use Rattle.std.proofs.Common.{◌≡◌, ℕ, zero, suc, ◌+◌, ◌≤◌, refl, ◌∙◌, Bool, true, false, not, ◌&&◌, cond, List, [], ◌∷◌, map, length, length-append, arith}
+use Rattle.std.proofs.Common.{ℕ, ◌+◌, ◌≤◌, not, ◌&&◌, map, length, length-append, arith}
 use Rattle.std.proofs.lemmas.List.{length-map}
 use Rattle.std.proofs.lemmas.List.Elements.{All-from_recursion}
-use Rattle.std.specs.List.{All, AllByRecursion, filter}
+use Rattle.std.specs.List.{All, AllByRecursion}
 use Rattle.std.specs.FinSet as set
 use Rattle.process_api.proofs.Lists.{both, images, always, numbers_are}
+use Rattle.process_api.proofs.Numbering.{length-numbers_to, length-filter_to}
 use Rattle.process_api.specs.Actions.{IsAllowed}
 use Rattle.process_api.specs.Answer.{to_all}
+use Rattle.process_api.specs.Bounds.{most_processes, most_first_actions, most_second_actions}
 use Rattle.process_api.specs.Numbers.{numbers_to}
 use Rattle.process_api.specs.Place.{Place}
 use Rattle.process_api.specs.Reduction.{ReductionState, gathered, next_share, step_reduction}
@@ -31,16 +33,8 @@ reduction_allowed place s suspects x period = All-from_recursion (IsAllowed plac
         images (IsAllowed place.processes) action.Note (changes 2 place.processes s.output (gathered place s.output sender shared)) (always (λ x. IsAllowed place.processes (action.Note x)) (λ x. tt) _)
     by_input x = tt
 
-length-numbers_to : (n : ℕ) → length (numbers_to n) ≡ n
-length-numbers_to zero = refl
-length-numbers_to (suc n) = length-append (numbers_to n) (suc n ∷ []) ∙ omega (arith, length-numbers_to n)
-
-length-kept : {X : Type 0} (p : X → Bool) (xs : List X) → length (filter p xs) ≤ length xs
-length-kept p [] = omega arith
-length-kept p (x ∷ xs) = elim (p x) as (λ b. length (cond b (x ∷ filter p xs) (filter p xs)) ≤ suc (length xs)) [ true ↦ omega (arith, length-kept p xs) | false ↦ omega (arith, length-kept p xs) ]
-
 length-gone : (n : ℕ) (from to : Processes) → length (gone n from to) ≤ n
-length-gone n from to = omega (arith, length-kept (λ q. set.contains from q && not (set.contains to q)) (numbers_to n), length-numbers_to n)
+length-gone n from to = length-filter_to (λ q. set.contains from q && not (set.contains to q)) n
 
 length-changes : (n : ℕ) (old new : Processes) → length (map action.Note (changes 2 n old new)) ≤ n + n
 length-changes n old new =
@@ -54,8 +48,8 @@ length-changes n old new =
       length-gone n old new,
     )
 
--- a share takes n + 1 actions, and a letter at most 2n
-pub reduction_few : (place : Place) (s : ReductionState) (suspects : Processes) (x : StepInput) → place.processes ≤ 64 → length (step_reduction place s suspects x).actions ≤ 128
+-- a share takes n + 1 actions, and a letter at most 2n: the detector below has room for its own
+pub reduction_few : (place : Place) (s : ReductionState) (suspects : Processes) (x : StepInput) → place.processes ≤ most_processes → most_first_actions + length (step_reduction place s suspects x).actions ≤ most_second_actions
 reduction_few place s suspects input.Start few = omega arith
 reduction_few place s suspects (input.Wake tag.Share) few =
     omega (

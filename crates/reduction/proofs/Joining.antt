@@ -2,6 +2,7 @@
 use Rattle.std.proofs.Common.{◌≡◌, ◌≤◌, ◌++◌, ℕ, List, length, ap, sym, subst, refl, ◌∙◌, arith, append_assoc, length-append, Option, None, Some}
 use Rattle.std.specs.List.{All}
 use Rattle.std.proofs.lemmas.List.Elements.{All-append}
+use Rattle.process_api.specs.Bounds.{most_processes, most_first_actions, most_second_actions}
 use Rattle.process_api.specs.Sets.{Processes, changes}
 use Rattle.process_api.specs.Place.{Place}
 use Rattle.process_api.specs.Answer.{Answer}
@@ -9,10 +10,12 @@ use Rattle.process_api.specs.Actions.{IsAllowed, notes_of_layer}
 use Rattle.process_api.specs.Mind.{Lower, layer_of, suspects_of, most_actions}
 use Rattle.process_api.specs.React.{react_lower}
 use Rattle.process_api.specs.Reduction.{ReductionState, step_reduction}
-use Rattle.process_api.specs.Timeout.{DetectorState, step_detector}
+use Rattle.process_api.specs.Detector.{DetectorState, suspected_by, step_detector}
 use Rattle.process_api.specs.declared.action.Action.{Action}
 use Rattle.process_api.specs.declared.message.StepInput.{StepInput}
-use Rattle.reduction.proofs.LayerNotes.{notes_of_layer-append, detector_notes, reduction_notes}
+use Rattle.process_api.proofs.DetectorLaws.{detector_laws}
+use Rattle.process_api.proofs.LayerNotes.{notes_of_layer-append, none_of_layer_2}
+use Rattle.reduction.proofs.LayerNotes.{reduction_notes}
 use Rattle.reduction.proofs.Bounds.{reduction_allowed, reduction_few}
 
 -- on layer 1 there is no reduction
@@ -25,10 +28,10 @@ base_alone m h = go m.reduction h
 
 module _ (m : Lower) (base : layer_of m ≡ 1) (r : ReductionState) (now : ℕ) (input : StepInput) where
   abbrev below : Answer DetectorState
-  below = step_detector m.place m.numbers m.detector now input
+  below = step_detector m.place m.detector now input
 
   abbrev over : Answer ReductionState
-  over = step_reduction m.place r below.state.suspects input
+  over = step_reduction m.place r (suspected_by m.place below.state) input
 
   abbrev top : Lower
   top = record m { reduction = Some r }
@@ -56,22 +59,22 @@ module _ (m : Lower) (base : layer_of m ≡ 1) (r : ReductionState) (now : ℕ) 
   top_actions : (react_lower top now input).actions ≡ below.actions ++ over.actions
   top_actions = ap answered both_act
 
-  pub joined_few : m.place.processes ≤ 64 → length (react_lower m now input).actions ≤ most_actions m → length (react_lower top now input).actions ≤ 1024
+  pub joined_few : m.place.processes ≤ most_processes → length (react_lower m now input).actions ≤ most_actions m → length (react_lower top now input).actions ≤ most_second_actions
   joined_few few f =
       omega (
         arith,
         few,
-        subst (λ o. length (react_lower m now input).actions ≤ elim o as (λ z. ℕ) [ None ↦ 512 | Some reduction ↦ 1024 ]) none f,
+        subst (λ o. length (react_lower m now input).actions ≤ elim o as (λ z. ℕ) [ None ↦ most_first_actions | Some reduction ↦ most_second_actions ]) none f,
         ap length base_actions,
         ap length top_actions,
         length-append below.actions over.actions,
-        reduction_few m.place r below.state.suspects input few,
+        reduction_few m.place r (suspected_by m.place below.state) input few,
       )
 
   pub joined_allowed : 1 ≤ r.period → All (IsAllowed m.place.processes) (react_lower m now input).actions → All (IsAllowed m.place.processes) (react_lower top now input).actions
   joined_allowed period f =
       subst (All (IsAllowed m.place.processes)) (sym top_actions)
-      (All-append (IsAllowed m.place.processes) below.actions over.actions (subst (All (IsAllowed m.place.processes)) base_actions f) (reduction_allowed m.place r below.state.suspects input period))
+      (All-append (IsAllowed m.place.processes) below.actions over.actions (subst (All (IsAllowed m.place.processes)) base_actions f) (reduction_allowed m.place r (suspected_by m.place below.state) input period))
 
   -- the two steps as the code takes them
   module _ (next : Lower) (after : ReductionState) (s : Processes) (place : Place) (here : place ≡ m.place)
@@ -79,7 +82,7 @@ module _ (m : Lower) (base : layer_of m ≡ 1) (r : ReductionState) (now : ℕ) 
     next_is : next ≡ record m { detector = below.state; reduction = None }
     next_is = lower_is ∙ ap (λ (a : Answer Lower). a.state) alone
 
-    seen : s ≡ below.state.suspects
+    seen : s ≡ suspected_by m.place below.state
     seen = s_is ∙ ap suspects_of next_is
 
     over_is : after ≡ over.state
@@ -97,5 +100,5 @@ module _ (m : Lower) (base : layer_of m ≡ 1) (r : ReductionState) (now : ℕ) 
     joined_changes =
         ap (notes_of_layer 2) top_actions
         ∙ (notes_of_layer-append 2 below.actions over.actions
-        ∙ ((λ i. detector_notes m.place m.numbers m.detector now input i ++ reduction_notes m.place r below.state.suspects input i)
+        ∙ ((λ i. none_of_layer_2 below.actions (detector_laws m.place m.detector now input).acts i ++ reduction_notes m.place r (suspected_by m.place below.state) input i)
         ∙ ap (λ (t : ReductionState). changes 2 m.place.processes r.output t.output) (sym over_is)))

@@ -1,9 +1,11 @@
 -- Whom a walk over the members of a set notes.
-use Rattle.std.proofs.Common.{◌≡◌, ◌≤◌, ◌<◌, ℕ, zero, suc, refl, sym, ap, ◌∙◌, List, [], ◌∷◌, ◌++◌, map, Bool, true, false, not, ◌&&◌, cond, nat_le, arith}
+use Rattle.std.proofs.Common.{◌≡◌, ◌≤◌, ◌<◌, ℕ, zero, suc, refl, sym, ap, ◌∙◌, List, [], ◌∷◌, ◌++◌, map, Bool, false, not, ◌&&◌, cond, nat_le, arith}
 use Rattle.std.proofs.lemmas.Bool.Decides.{nat_tests}
 use Rattle.std.proofs.lemmas.List.Elements.{filter-append}
 use Rattle.std.specs.List.{filter}
 use Rattle.std.specs.FinSet as set
+use Rattle.std.specs.Cmp.{nat_cmp_total}
+use Rattle.process_api.specs.Bounds.{most_processes}
 use Rattle.process_api.specs.InOrder.{in_order}
 use Rattle.process_api.specs.Numbers.{numbers_to}
 use Rattle.process_api.specs.Sets.{Processes, up_to, gone}
@@ -11,15 +13,6 @@ use Rattle.process_api.specs.declared.action.Action.{Action}
 use Rattle.process_api.specs.declared.action.Action.TheVariants as action
 use Rattle.process_api.specs.declared.action.Note.{Note}
 use Rattle.process_api.proofs.Rising.{in_order-to}
-
--- one test after another
-filter_both : {X : Type 0} (p q : X → Bool) (xs : List X) → filter q (filter p xs) ≡ filter (λ x. p x && q x) xs
-filter_both p q [] = refl
-filter_both p q (x ∷ xs) =
-    elim (p x) as (λ b. filter q (cond b (x ∷ filter p xs) (filter p xs)) ≡ cond (b && q x) (x ∷ filter (λ x. p x && q x) xs) (filter (λ x. p x && q x) xs)) [
-      | true ↦ ap (λ ys. cond (q x) (x ∷ ys) ys) (filter_both p q xs)
-      | false ↦ filter_both p q xs
-    ]
 
 -- tests that agree to n
 agree_to : (p q : ℕ → Bool) (n : ℕ) → ((x : ℕ) → x ≤ n → p x ≡ q x) → filter p (numbers_to n) ≡ filter q (numbers_to n)
@@ -30,26 +23,26 @@ agree_to p q (suc n) same =
     ∙ sym (filter-append q (numbers_to n) (suc n ∷ [])))
 
 module _ (n : ℕ) (from to : Processes) where
-  cut : (q : ℕ) → set.contains (up_to n from) q ≡ (set.contains from q && nat_le q n)
-  cut q = set.contains-retain from (λ k. nat_le k n) q (λ x tied. grind (tied, arith, nat_tests))
+  abbrev left : Processes
+  left = up_to n (set.difference from to)
 
-  above : (q : ℕ) → n < q → set.contains (up_to n from) q ≡ false
+  cut : (q : ℕ) → set.contains left q ≡ ((set.contains from q && not (set.contains to q)) && nat_le q n)
+  cut q = set.contains-retain (set.difference from to) (λ k. nat_le k n) q (λ x tied. grind (tied, arith, nat_tests)) ∙ ap (λ b. b && nat_le q n) (set.contains-difference nat_cmp_total from to q)
+
+  above : (q : ℕ) → n < q → set.contains left q ≡ false
   above q h = grind (cut q, h, arith, nat_tests)
 
-  within : (q : ℕ) → q ≤ n → set.contains (up_to n from) q ≡ set.contains from q
+  within : (q : ℕ) → q ≤ n → set.contains left q ≡ (set.contains from q && not (set.contains to q))
   within q h = grind (cut q, h, arith, nat_tests)
 
   -- the members of the one to n that are not in the other
-  gone-members : n ≤ 64 → filter (λ q. not (set.contains to q)) (in_order (up_to n from)) ≡ gone n from to
-  gone-members few =
-      ap (filter (λ q. not (set.contains to q))) (in_order-to (up_to n from) n few above)
-      ∙ (filter_both (set.contains (up_to n from)) (λ q. not (set.contains to q)) (numbers_to n)
-      ∙ agree_to _ _ n (λ q h. ap (λ b. b && not (set.contains to q)) (within q h)))
+  gone-members : n ≤ most_processes → in_order left ≡ gone n from to
+  gone-members few = in_order-to left n few above ∙ agree_to _ _ n within
 
--- what is noted of a list: those that aren't in the set
-module _ (kind : ℕ → Note) (to : Processes) where
+-- what is noted of a list
+module _ (kind : ℕ → Note) where
   abbrev pub noted : List ℕ → List Action
-  noted qs = map action.Note (map kind (filter (λ q. not (set.contains to q)) qs))
+  noted qs = map action.Note (map kind qs)
 
-  pub all_noted : (n : ℕ) (from : Processes) (members : List ℕ) → n ≤ 64 → members ≡ in_order (up_to n from) → noted members ≡ map action.Note (map kind (gone n from to))
-  all_noted n from members few e = ap noted e ∙ ap (λ qs. map action.Note (map kind qs)) (gone-members n from to few)
+  pub all_noted : (n : ℕ) (from to : Processes) (members : List ℕ) → n ≤ most_processes → members ≡ in_order (up_to n (set.difference from to)) → noted members ≡ map action.Note (map kind (gone n from to))
+  all_noted n from to members few e = ap noted (e ∙ gone-members n from to few)

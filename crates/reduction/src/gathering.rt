@@ -1,7 +1,8 @@
 //! What the reduction itself does.
-ghost use Rattle.std.specs.Prelude.{◌≡◌, ◌≤◌, ◌<◌, ◌+◌, ◌++◌, false, OnOk, map};
+ghost use Rattle.std.specs.Prelude.{◌≡◌, ◌≤◌, ◌++◌, false, OnOk, map};
 ghost use Rattle.std.specs.FinSet as set;
 ghost use Rattle.process_api.specs.Answer.{to_all};
+ghost use Rattle.process_api.specs.Bounds.{most_processes};
 ghost use Rattle.process_api.specs.Sets.{changes, gone};
 
 use process_api::{
@@ -9,32 +10,17 @@ use process_api::{
 };
 use std::alloc::AllocError;
 
-/// The process after so many.
-fn process_after(before: u16) -> Pid
-    requires { before < 64 }
-    ensures { result ≡ before + 1 }
-{
-    match Pid::new(before + 1) {
-        Some(process) => process,
-        None => unreachable!(),
-    }
-}
-
 /// Sends these suspects to all processes, oneself included, in order.
 fn share_with_all(
     processes: u16,
     suspects: &ProcSet,
     out: &mut Vec<Action>,
 ) -> Result<(), AllocError>
-    requires { processes ≤ 64 }
+    requires { processes ≤ most_processes }
     ensures { OnOk result (out.new.items ≡ out.old.items ++ to_all processes (Payload.Suspects suspects.now)) }
 {
     for before in 0..processes {
-        send_to(
-            out,
-            process_after(before),
-            Payload::Suspects(suspects.copy()),
-        )?;
+        send_to(out, Pid::after(before), Payload::Suspects(suspects.copy()))?;
     }
     Ok(())
 }
@@ -46,14 +32,12 @@ fn note_suspicions(
     new: &ProcSet,
     out: &mut Vec<Action>,
 ) -> Result<(), AllocError>
-    requires { processes ≤ 64 }
+    requires { processes ≤ most_processes }
     ensures { OnOk result (
         out.new.items ≡ out.old.items ++ map Action.Note (map (Note.Suspect 2) (gone processes new.now old.now))) }
 {
-    for who in new.up_to(processes).iter() {
-        if !old.contains(who) {
-            note_that(out, Note::Suspect { layer: 2, who })?;
-        }
+    for who in new.without(old).up_to(processes).iter() {
+        note_that(out, Note::Suspect { layer: 2, who })?;
     }
     Ok(())
 }
@@ -65,14 +49,12 @@ fn note_trusts(
     new: &ProcSet,
     out: &mut Vec<Action>,
 ) -> Result<(), AllocError>
-    requires { processes ≤ 64 }
+    requires { processes ≤ most_processes }
     ensures { OnOk result (
         out.new.items ≡ out.old.items ++ map Action.Note (map (Note.Trust 2) (gone processes old.now new.now))) }
 {
-    for who in old.up_to(processes).iter() {
-        if !new.contains(who) {
-            note_that(out, Note::Trust { layer: 2, who })?;
-        }
+    for who in old.without(new).up_to(processes).iter() {
+        note_that(out, Note::Trust { layer: 2, who })?;
     }
     Ok(())
 }
@@ -82,13 +64,13 @@ fn note_trusts(
 pub struct Gathering {
     /// The process's own number.
     pub own: Pid,
-    /// How many processes there are, at most 64.
+    /// How many processes there are, at most [`process_api::MOST_PROCESSES`].
     pub processes: u16,
     /// Ticks between two shares, at least 1.
     pub period: u32,
     /// Whom the process suspects on layer 2: never itself.
     pub output: ProcSet,
-    ghost few: { processes ≤ 64 },
+    ghost few: { processes ≤ most_processes },
     ghost paced: { 1 ≤ period },
     ghost not_itself: { set.contains output own ≡ false },
 }

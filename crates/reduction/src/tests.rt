@@ -4,8 +4,8 @@ ghost use Rattle.process_api.specs.Answer.{to_others};
 
 use crate::Reduced;
 use process_api::{
-    Action, Detector, DetectorNumbers, Note, Payload, Pid, ProcSet, StepInput, Tag, Watch, send_to,
-    wake_after,
+    Action, Detector, DetectorNumbers, Note, Payload, Pid, ProcSet, StepInput, Tag, TimeoutNumbers,
+    Watch, send_to, wake_after,
 };
 use scenario::{AlgorithmKind, Opening};
 use std::alloc::{AllocError, Global};
@@ -35,18 +35,19 @@ fn alive_to_others(out: &mut Vec<Action>) -> Result<(), AllocError>
 impl Detector for SuspectsThree {
     ghost use Rattle.std.specs.Prelude.{None};
     ghost use Rattle.std.specs.FinSet as set;
+    ghost use Rattle.process_api.specs.Detector.{ByTimeout};
     ghost use Rattle.process_api.specs.declared.numbers.Watch.TheVariants as watch;
 
     ghost lower = { λ _. record {
       place = record { own = 1; processes = 3; horizon = 10 };
-      numbers = record { period = 5; check = 6; timeout = 7; grow = 1; watch = watch.All };
-      detector = record { last_heard = λ q. 0; bound = λ q. 7; suspects = set.insert set.empty 3 };
+      detector = ByTimeout (record { period = 5; check = 6; timeout = 7; grow = 1; watch = watch.All })
+          (record { last_heard = λ q. 0; bound = λ q. 7; suspects = set.insert set.empty 3 });
       reduction = None;
     } };
 
     ghost has_failed = { λ s. s.failed };
 
-    #[tactic(auto, unfolding(process_api::specs::React::react_lower))]
+    #[tactic(auto, unfolding(process_api::specs::React::react_lower, process_api::specs::Detector::step_detector))]
     fn take(
         &mut self,
         _now: u32,
@@ -89,13 +90,13 @@ fn open() -> Result<Reduced<SuspectsThree>, Fail> {
         own: Pid::new(1).ok_or("no process")?,
         processes: 3,
         horizon: 10,
-        detector: DetectorNumbers {
+        detector: DetectorNumbers::Timeout(TimeoutNumbers {
             period: 5,
             check: 6,
             timeout: 7,
             grow: 1,
             watch: Watch::All,
-        },
+        }),
         share: Some(4),
         algorithm: AlgorithmKind::Idle,
         proposal: None,
@@ -115,12 +116,9 @@ fn set_of(numbers: &[u16]) -> Result<ProcSet, Fail> {
 /// The members of a set as text.
 fn members_of(alloc: Global, set: &ProcSet) -> Result<String, AllocError> {
     let mut text = String::new(alloc);
-    for number in 1..65 {
-        if let Some(process) = Pid::new(number) {
-            if set.contains(process) {
-                text.push_str(format!(in alloc; "{number};")?.as_str())?;
-            }
-        }
+    for member in set {
+        let number = member.number();
+        text.push_str(format!(in alloc; "{number};")?.as_str())?;
     }
     Ok(text)
 }
@@ -228,7 +226,7 @@ fn leaves_out_itself_and_who_is_no_process(rt: HostRuntime) -> Result<(), Fail> 
         &rt,
         alloc,
         machine,
-        &shared_by(2, &[1, 3, 4, 64])?,
+        &shared_by(2, &[1, 3, 4, 256])?,
         "suspect:2:3 ",
         "3;",
     )?;

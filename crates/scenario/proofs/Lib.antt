@@ -4,8 +4,12 @@ pub mod ProposalFacts
 pub mod Slots
 pub mod KeyFacts
 pub mod Steps
+pub mod Grid
 pub mod Taking
+pub mod Within
+pub mod Cuts
 pub mod Places
 pub mod BelowFacts
 pub mod RangeFacts
+pub mod DetectorFacts
 pub mod Reading

@@ -8,44 +8,24 @@ use Rattle.std.proofs.lemmas.List.{length-map}
 use Rattle.std.proofs.lemmas.List.FromFn.{length-map-range_with_len}
 use Rattle.std.proofs.lemmas.List.Folds.{list_any-append}
 use Rattle.toml.specs.Data.{Members}
-use Rattle.scenario.specs.Numbers.{AreInRange, is_idle}
+use Rattle.process_api.specs.declared.numbers.DetectorNumbers.TheVariants as numbers
+use Rattle.scenario.specs.Numbers.{AreInRange, AreTimeoutInRange, AreFreshnessInRange, is_idle}
 use Rattle.scenario.specs.Record.{Record, proposal, crash, link, no_link}
 use Rattle.scenario.specs.Ranges.{IsLink, IsInRange}
 use Rattle.scenario.specs.Table.{number_or, has_key, integers_at, table_at, table_or_empty, tables_at}
-use Rattle.scenario.specs.Text.{natural_of, natural, number_at, algorithm_in, processes_of, detector_of, share_of, delays_of, pair_of, same_pair, link_among, crash_process, crash_tick, crash_among, crashes_among, record_of}
-use Rattle.scenario.specs.Rules.{is_outside, is_bad_proposal, are_other_than, are_bad_proposals, is_bad_detector, is_bad_share, is_bad_link, is_bad_pair, are_bad_pairs, is_bad_crash, are_bad_crashes, is_below, pairs, pairs_from, pair_below}
+use Rattle.scenario.specs.Text.{natural_of, natural, number_at, is_second, algorithm_in, processes_of, is_fresh, timeout_of, freshness_of, detector_of, share_of, delays_of, pair_of, same_pair, link_among, crash_process, crash_tick, crash_among, crashes_among, record_of}
+use Rattle.scenario.specs.Rules.{is_outside, is_bad_proposal, are_other_than, are_bad_proposals, is_bad_detector, is_bad_timeout, is_bad_freshness, is_bad_share, is_bad_link, is_bad_pair, are_bad_pairs, is_bad_crash, are_bad_crashes, is_below, pairs, pairs_from, pair_below, most_in}
 use Rattle.scenario.specs.Refusals.{table_rules}
 use Rattle.scenario.specs.Groups.{Passes}
 use Rattle.scenario.specs.Parts.{AreProcesses}
 use Rattle.scenario.specs.declared.algorithm.AlgorithmKind.{AlgorithmKind}
 use Rattle.scenario.specs.declared.algorithm.AlgorithmKind.TheVariants as kind
+use Rattle.scenario.proofs.Within.{neither, within, within_of}
 use Rattle.scenario.proofs.Slots.{some_found}
 use Rattle.scenario.proofs.Taking.{link_at, links_length}
+use Rattle.scenario.proofs.Cuts.{outages_in_range}
 use Rattle.scenario.proofs.ProposalFacts.{no_key}
-
--- ---- tests
-
-neither : (a b : Bool) → (a || b) ≡ false → (a ≡ false) × (b ≡ false)
-neither true b e = cc
-neither false b e = (refl, e)
-
-both : (a b : Bool) → (a && b) ≡ true → (a ≡ true) × (b ≡ true)
-both true b e = (refl, e)
-both false b e = cc
-
-within_of : (low high : ℕ) (o : Option ℕ) → not (option_map_or (λ n. nat_le low n && nat_le n high) o false) ≡ false → (low ≤ unwrap_or o 0) × (unwrap_or o 0 ≤ high)
-within_of low high None e = cc
-within_of low high (Some n) e =
-    let tests = both (nat_le low n) (nat_le n high) (holds (nat_le low n && nat_le n high) e) in
-    (leb-true low n tests.0, leb-true n high tests.1)
-  where
-    holds : (b : Bool) → not b ≡ false → b ≡ true
-    holds true e = refl
-    holds false e = cc
-
-within : (low high : ℕ) (key : List ℕ) (default : ℕ) (t : Members) → is_outside low high key default t ≡ false → (low ≤ number_at key default t) × (number_at key default t ≤ high)
-unfolding is_outside number_at
-within low high key default t e = within_of low high (natural_of (number_or key (pos default) t)) e
+use Rattle.process_api.specs.Bounds.{most_processes}
 
 -- the same fact in two forms
 for_some : {T : Type 0} (o : Option T) (P : T → Type 0) → IfSome o P → ForSome o P
@@ -54,9 +34,9 @@ for_some (Some y) P p = λ x e. let same : y ≡ x = cc in subst P same p
 
 -- ---- the detector and the shares
 
-detector_in_range : (d : Members) → is_bad_detector d ≡ false → AreInRange (detector_of d)
-unfolding is_bad_detector
-detector_in_range d e =
+timeout_in_range : (d : Members) → is_bad_timeout d ≡ false → AreTimeoutInRange (timeout_of d)
+unfolding is_bad_timeout
+timeout_in_range d e =
     let a = neither _ _ e in
     let b = neither _ _ a.1 in
     let c = neither _ _ b.1 in
@@ -75,6 +55,23 @@ detector_in_range d e =
       grow_low = grow.0;
       grow_high = grow.1;
     }
+
+freshness_in_range : (d : Members) → is_bad_freshness d ≡ false → AreFreshnessInRange (freshness_of d)
+unfolding is_bad_freshness
+freshness_in_range d e =
+    let a = neither _ _ e in
+    let b = neither _ _ a.1 in
+    let eta = within 1 1000000 (codes "eta") 0 d a.0 in
+    let delta = within 1 1000000 (codes "delta") 0 d b.0 in
+    record { eta_low = eta.0; eta_high = eta.1; delta_low = delta.0; delta_high = delta.1 }
+
+detector_in_range : (d : Members) → is_bad_detector d ≡ false → AreInRange (detector_of d)
+unfolding is_bad_detector
+detector_in_range d e =
+    elim (is_fresh d) as (λ b. cond b (is_bad_freshness d) (is_bad_timeout d) ≡ false → AreInRange (cond b (numbers.Freshness (freshness_of d)) (numbers.Timeout (timeout_of d)))) [
+      | true ↦ freshness_in_range d
+      | false ↦ timeout_in_range d
+    ] (neither _ _ e).1
 
 share_in_range : (o : Option Members) → option_map_or is_bad_share o false ≡ false → IfSome (option_map share_of o) (λ period. (1 ≤ period) × (period ≤ 1000000))
 share_in_range None e = tt
@@ -266,12 +263,17 @@ none_proposed kind.EventuallyStrong n t e i le = none_of_more n t i e le
 
 -- ---- all of it
 
+most_few : (second : Bool) → most_in second ≤ most_processes
+most_few true = omega arith
+most_few false = omega arith
+
 pub in_range : (t : Members) → Passes table_rules (Some t) → number_at (codes "seed") 0 t < 2 ^ 63 → IsInRange (record_of t)
 in_range t passes seed =
     let n : ℕ = processes_of t in
     let numbers = passes.1.1.1 in
     let parts = numbers.1.1.1.1.1.1 in
-    let processes = within 1 64 (codes "processes") 0 t numbers.1.0 in
+    let processes = within 1 (most_in (is_second t)) (codes "processes") 0 t numbers.1.0 in
+    let few : most_in (is_second t) ≤ most_processes = most_few (is_second t) in
     let horizon = within 1 10000000 (codes "horizon") 0 t numbers.1.1.0 in
     let lookahead = within 1 1000000 (codes "lookahead") 0 t numbers.1.1.1.0 in
     let limit = within 1 100000000 (codes "limit") 1000000 t numbers.1.1.1.1.0 in
@@ -281,7 +283,7 @@ in_range t passes seed =
     let links = neither (is_bad_link (table_or_empty (codes "link") t)) (are_bad_pairs (processes_of t) (tables_at (codes "links") t)) parts.1.1.1.1.0 in
     record {
       processes_low = processes.0;
-      processes_high = processes.1;
+      processes_high = omega arith;
       horizon_low = horizon.0;
       horizon_high = horizon.1;
       lookahead_low = lookahead.0;
@@ -302,4 +304,7 @@ in_range t passes seed =
           subst (λ l. IsLink l) (sym (link_at (delays_of (table_or_empty (codes "link") t)) (tables_at (codes "links") t) (processes_of t) (from, to) no_link good))
           (pair_in_range (processes_of t) (table_or_empty (codes "link") t) (tables_at (codes "links") t) (from, to) links.0 links.1);
       ahead = λ from to from_low from_high to_low to_high differ. not_below (record_of t) from to parts.1.1.1.1.1.0 from_low from_high to_low to_high differ;
+      outages = λ from to from_low from_high to_low to_high.
+          outages_in_range (processes_of t) (tables_at (codes "outage") t) (from, to)
+          (record { from = record { low = from_low; high = from_high }; to = record { low = to_low; high = to_high } }) parts.1.1.1.1.1.1.1.0;
     }

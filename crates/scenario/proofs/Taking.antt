@@ -1,10 +1,8 @@
 -- The crash tables and the link tables, taken one after the other.
-use Rattle.std.proofs.Common.{◌≡◌, ℕ, zero, suc, add-zero, zero-add, ◌++◌, ◌+◌, ◌-◌, ◌*◌, ◌/◌, ◌%◌, ◌<◌, ◌≤◌, List, map, length, take, set, get_or, Bool, true, false, Option, Some, None, is_some, refl, ap, sym, ◌∙◌, arith, subst}
+use Rattle.std.proofs.Common.{◌≡◌, ℕ, ◌+◌, ◌-◌, ◌*◌, ◌<◌, ◌≤◌, List, map, length, take, set, get_or, Bool, true, false, Option, Some, None, is_some, refl, ap, sym, ◌∙◌, arith, subst}
 use Rattle.std.specs.Option.{unwrap_or}
-use Rattle.std.specs.List.{range_with_len, flat_map, list_any}
-use Rattle.std.proofs.lemmas.List.{ext_get_or, length-map, length-set, length-append, get_or-map, get_or_append_left, get_or-append-add}
-use Rattle.std.proofs.Math.Nat.{zero-mul, suc-mul, mod-lt, div-lt_iff_lt-mul}
-use Rattle.std.proofs.lemmas.Nat.{div-add-mod'}
+use Rattle.std.specs.List.{range_with_len, list_any}
+use Rattle.std.proofs.lemmas.List.{ext_get_or, length-map, length-set, get_or-map}
 use Rattle.std.proofs.lemmas.List.FromFn.{get_or-map-range_with_len, length-map-range_with_len}
 use Rattle.toml.specs.Data.{Members}
 use Rattle.scenario.specs.Text.{crash_process, crash_tick, crash_among, crashes_among, delays_of, pair_of, same_pair, link_among, links_among}
@@ -13,6 +11,7 @@ use Rattle.scenario.specs.Parts.{IsProcess, AreProcesses, HoldCrashes, HoldLinks
 use Rattle.scenario.specs.declared.link.Link.{Link}
 use Rattle.scenario.proofs.Slots.{taken, put, step_bad, step_repeat, step_on, tables_more}
 use Rattle.scenario.proofs.KeyFacts.{process_alike, process_itself, process_apart, pair_alike, pair_itself, pair_apart, pair_place, pair_within}
+use Rattle.scenario.proofs.Grid.{grid_at, grid_length, grid_whole}
 
 module _ {X : Type 0} (view : X → Members) (n : ℕ) (tables : List X) (i : ℕ) (x : X) (lt : i < length tables) (is : x ≡ get_or tables i x) where
   -- ---- crashes
@@ -101,58 +100,15 @@ crashes_whole n ticks tables hold =
     let at : get_or ticks i None ≡ crash_among tables (i + 1) = ap (λ j. get_or ticks j None) (omega arith) ∙ hold.held (i + 1) good in
     at ∙ sym (get_or-map-range_with_len (crash_among tables) 1 n i (i + 1) None high (omega arith)))
 
-row_lengths : {X : Type 0} (g : ℕ → ℕ → X) (n a m : ℕ) → length (flat_map (λ f. map (g f) (range_with_len 1 n)) (range_with_len a m)) ≡ m * n
-row_lengths g n a zero = simp zero-mul
-row_lengths g n a (suc m) =
-    let one : length (map (g a) (range_with_len 1 n)) ≡ n = length-map-range_with_len (g a) 1 n in
-    let rest : length (flat_map (λ f. map (g f) (range_with_len 1 n)) (range_with_len (a + 1) m)) ≡ m * n = row_lengths g n (a + 1) m in
-    let more : suc m * n ≡ m * n + n = suc-mul m n in
-    length-append (map (g a) (range_with_len 1 n)) (flat_map (λ f. map (g f) (range_with_len 1 n)) (range_with_len (a + 1) m)) ∙ omega arith
-
--- the k-th of row j, rows of n one after the other
-pub cell_at : {X : Type 0} (g : ℕ → ℕ → X) (n a m j k : ℕ) (d : X) → j < m → k < n
-    → get_or (flat_map (λ f. map (g f) (range_with_len 1 n)) (range_with_len a m)) (j * n + k) d ≡ g (a + j) (1 + k)
-cell_at g n a zero j k d lt in_row = absurd (omega arith)
-cell_at g n a (suc m) zero k d lt in_row =
-    let width : length (map (g a) (range_with_len 1 n)) ≡ n = length-map-range_with_len (g a) 1 n in
-    let place : zero * n + k ≡ k = simp (zero-mul, zero-add) in
-    ap (λ i. get_or (map (g a) (range_with_len 1 n) ++ flat_map (λ f. map (g f) (range_with_len 1 n)) (range_with_len (a + 1) m)) i d) place
-    ∙ (get_or_append_left (map (g a) (range_with_len 1 n)) (flat_map (λ f. map (g f) (range_with_len 1 n)) (range_with_len (a + 1) m)) d k (omega arith)
-    ∙ (get_or-map-range_with_len (g a) 1 n k (1 + k) d in_row refl ∙ ap (λ b. g b (1 + k)) (sym (add-zero a))))
-cell_at g n a (suc m) (suc j) k d lt in_row =
-    let width : length (map (g a) (range_with_len 1 n)) ≡ n = length-map-range_with_len (g a) 1 n in
-    let more : suc j * n ≡ j * n + n = suc-mul j n in
-    let place : suc j * n + k ≡ length (map (g a) (range_with_len 1 n)) + (j * n + k) = omega arith in
-    ap (λ i. get_or (map (g a) (range_with_len 1 n) ++ flat_map (λ f. map (g f) (range_with_len 1 n)) (range_with_len (a + 1) m)) i d) place
-    ∙ (get_or-append-add (map (g a) (range_with_len 1 n)) (flat_map (λ f. map (g f) (range_with_len 1 n)) (range_with_len (a + 1) m)) (j * n + k) d
-    ∙ (cell_at g n (a + 1) m j k d (omega arith) in_row ∙ ap (λ b. g b (1 + k)) (omega arith)))
-
 -- the link of a pair, in the links of all pairs
 pub link_at : (common : Link) (tables : List Members) (n : ℕ) (pair : ℕ × ℕ) (d : Link) → AreProcesses n pair
     → get_or (links_among common tables n) (pair_place n pair) d ≡ link_among common tables pair
 unfolding links_among
-link_at common tables n pair d good =
-    cell_at (λ from to. link_among common tables (from, to)) n 1 n (pair.0 - 1) (pair.1 - 1) d (omega arith) (omega arith)
-    ∙ (ap (λ from. link_among common tables (from, 1 + (pair.1 - 1))) (omega arith) ∙ ap (λ to. link_among common tables (pair.0, to)) (omega arith))
+link_at common tables n pair d good = grid_at (link_among common tables) n pair d good
 
 pub links_length : (common : Link) (tables : List Members) (n : ℕ) → length (links_among common tables n) ≡ n * n
 unfolding links_among
-links_length common tables n = row_lengths (λ from to. link_among common tables (from, to)) n 1 n
-
--- a place is that of some pair
-some_pair : (n i : ℕ) → i < n * n → (pair : ℕ × ℕ) × (AreProcesses n pair × (i ≡ pair_place n pair))
-some_pair zero i lt = absurd (let none : zero * zero ≡ zero = zero-mul zero in omega arith)
-some_pair (suc n) i lt =
-    let row : i / suc n < suc n = (div-lt_iff_lt-mul {k = suc n} {x = i} {y = suc n} (omega arith)).1 lt in
-    let column : i % suc n < suc n = mod-lt i {m = suc n} (omega arith) in
-    let first : i / suc n + 1 - 1 ≡ i / suc n = omega arith in
-    let second : i % suc n + 1 - 1 ≡ i % suc n = omega arith in (
-      (i / suc n + 1, i % suc n + 1),
-      (
-        record { from = record { low = omega arith; high = omega arith }; to = record { low = omega arith; high = omega arith } },
-        sym (ap (λ r. r * suc n + (i % suc n + 1 - 1)) first ∙ (ap (λ s. i / suc n * suc n + s) second ∙ div-add-mod' i (suc n))),
-      ),
-    )
+links_length common tables n = grid_length (link_among common tables) n
 
 own_link : (common : Link) (tables : List Members) (n : ℕ) (own : List (Option Link)) (pair : ℕ × ℕ) → HoldLinks n own tables → AreProcesses n pair
     → unwrap_or (get_or own (pair_place n pair) None) common ≡ link_among common tables pair
@@ -161,12 +117,9 @@ own_link common tables n own pair hold good = ap (λ o. unwrap_or o common) (hol
 
 pub links_whole : (common : Link) (n : ℕ) (own : List (Option Link)) (tables : List Members) → HoldLinks n own tables
     → map (λ l. unwrap_or l common) own ≡ links_among common tables n
+unfolding links_among
 links_whole common n own tables hold =
-    ext_get_or common (map (λ l. unwrap_or l common) own) (links_among common tables n) (length-map own (λ l. unwrap_or l common) ∙ (hold.full ∙ sym (links_length common tables n)))
-    (λ i lt.
-    let within : i < length own = simp length-map at lt in
-    let inside : i < n * n = subst (λ m. i < m) hold.full within in
-    let here = some_pair n i inside in
-    let read : get_or (map (λ l. unwrap_or l common) own) i common ≡ unwrap_or (get_or own i None) common = get_or-map (λ l. unwrap_or l common) own i None common within in
-    read ∙ (ap (λ j. unwrap_or (get_or own j None) common) here.1.1 ∙ (own_link common tables n own here.0 hold here.1.0
-    ∙ (sym (link_at common tables n here.0 common here.1.0) ∙ ap (λ j. get_or (links_among common tables n) j common) (sym here.1.1)))))
+    grid_whole (link_among common tables) n common (map (λ l. unwrap_or l common) own) (length-map own (λ l. unwrap_or l common) ∙ hold.full)
+    (λ pair good.
+    let within : pair_place n pair < length own = subst (λ m. pair_place n pair < m) (sym hold.full) (pair_within n pair good) in
+    get_or-map (λ l. unwrap_or l common) own (pair_place n pair) None common within ∙ own_link common tables n own pair hold good)

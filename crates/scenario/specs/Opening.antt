@@ -1,7 +1,7 @@
 -- The mind with which a process opens.
 use Rattle.std.specs.Prelude.{None, option_map, unwrap_or}
 use Rattle.process_api.specs.Place.{Place}
-use Rattle.process_api.specs.Timeout.{opening_detector}
+use Rattle.process_api.specs.Detector.{opening_detector}
 use Rattle.process_api.specs.Reduction.{opening_reduction}
 use Rattle.process_api.specs.ConsensusS.{opening_exchange}
 use Rattle.process_api.specs.Coordinator.{opening_coordinator}
@@ -16,7 +16,6 @@ place_of o = record { own = o.own; processes = o.processes; horizon = o.horizon 
 abbrev pub base_of : Opening → Lower
 base_of o = record {
   place = place_of o;
-  numbers = o.detector;
   detector = opening_detector o.detector;
   reduction = None;
 }

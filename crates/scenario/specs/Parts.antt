@@ -1,15 +1,17 @@
 -- What the code has read so far, seen as parts of the definitions.
-use Rattle.std.specs.Prelude.{String, ◌≡◌, ◌≤◌, ◌<◌, ◌^◌, ℕ, ◌+◌, ◌-◌, ◌*◌, List, Bool, map, find, length, Option, Some, None, option_map, get_or, codes}
+use Rattle.std.specs.Prelude.{String, ◌≡◌, ◌≤◌, ◌<◌, ◌^◌, ℕ, ◌+◌, ◌-◌, ◌*◌, List, [], Bool, map, find, length, Option, Some, None, option_map, get_or, codes}
 use Rattle.std.specs.BTreeMap.{BTreeMap}
 use Rattle.std.specs.Borrow.{Bor}
+use Rattle.std.specs.Global.{Vec}
 use Rattle.std.specs.declared.alloc.Global.{Global}
+use Rattle.process_api.specs.Bounds.{most_processes}
 use Rattle.toml.specs.Data.{Members}
 use Rattle.toml.specs.View.{table_view}
 use Rattle.toml.specs.declared.value.Value.{Value}
 use Rattle.scenario.specs.Record.{no_link}
 use Rattle.scenario.specs.Table as table
 use Rattle.scenario.specs.Table.{has_unlisted, has_lacking, has_mistyped, integers_at, table_at, table_or_empty, tables_at}
-use Rattle.scenario.specs.Text.{number_at, natural, algorithm_in, processes_of, detector_of, share_of, delays_of, pair_of, same_pair, links_among, crash_process, crash_tick, crashes_among}
+use Rattle.scenario.specs.Text.{number_at, natural, algorithm_in, processes_of, detector_of, share_of, delays_of, pair_of, same_pair, links_among, pair_outages, outages_among, crash_process, crash_tick, crashes_among}
 use Rattle.scenario.specs.Rules.{same_process}
 use Rattle.scenario.specs.declared.field.Field.{Field}
 use Rattle.scenario.specs.declared.keys.Tables.{Tables}
@@ -18,6 +20,7 @@ use Rattle.scenario.specs.declared.keys.Fault.TheVariants.{Unlisted, Lacking, Mi
 use Rattle.scenario.specs.declared.numbers.TopNumbers.{TopNumbers}
 use Rattle.scenario.specs.declared.parts.Parts.{Parts}
 use Rattle.scenario.specs.declared.link.Link.{Link}
+use Rattle.scenario.specs.declared.outage.Outage.{Outage}
 
 -- a key of the code's lists
 abbrev pub field_of : Field → table.Field
@@ -45,17 +48,22 @@ pub record AreTables (s : Tables) : Type 0 where
   pub link : table_in s.link ≡ table_at (codes "link") (table_view s.top.now)
   pub links : tables_in s.links.items ≡ tables_at (codes "links") (table_view s.top.now)
   pub crashes : tables_in s.crashes.items ≡ tables_at (codes "crash") (table_view s.top.now)
+  pub outages : tables_in s.outages.items ≡ tables_at (codes "outage") (table_view s.top.now)
 
 -- the numbers are those of the table
 pub record AreNumbersOf (t : Members) (n : TopNumbers) : Type 0 where
   pub processes : n.processes ≡ processes_of t
   pub processes_low : 1 ≤ n.processes
-  pub processes_high : n.processes ≤ 64
+  pub processes_high : n.processes ≤ most_processes
   pub horizon : n.horizon ≡ number_at (codes "horizon") 0 t
   pub lookahead : n.lookahead ≡ number_at (codes "lookahead") 0 t
   pub limit : n.limit ≡ number_at (codes "limit") 1000000 t
   pub seed : n.seed ≡ number_at (codes "seed") 0 t
   pub seed_high : n.seed < 2 ^ 63
+
+-- the outages of each link, in lists of the code
+abbrev pub outages_in : List (Vec Outage) → List (List Outage)
+outages_in lists = map (λ v. v.items) lists
 
 -- the parts are those of the table
 pub record ArePartsOf (t : Members) (p : Parts) : Type 0 where
@@ -66,6 +74,7 @@ pub record ArePartsOf (t : Members) (p : Parts) : Type 0 where
   pub crashes : p.crashes.items ≡ crashes_among (tables_at (codes "crash") t) (processes_of t)
   pub links : p.links.items
       ≡ links_among (delays_of (table_or_empty (codes "link") t)) (tables_at (codes "links") t) (processes_of t)
+  pub outages : outages_in p.outages.items ≡ outages_among (tables_at (codes "outage") t) (processes_of t)
 
 -- the number is one of 1 to n
 pub record IsProcess (n p : ℕ) : Type 0 where
@@ -87,6 +96,12 @@ pub record HoldLinks (n : ℕ) (links : List (Option Link)) (tables : List Membe
   pub held : (pair : ℕ × ℕ) → AreProcesses n pair
       → get_or links ((pair.0 - 1) * n + (pair.1 - 1)) None
       ≡ option_map delays_of (find (λ l. same_pair (pair_of l) pair) tables)
+
+-- of n processes: each pair's place holds the outages of the pair's tables
+pub record HoldOutages (n : ℕ) (outages : List (List Outage)) (tables : List Members) : Type 0 where
+  pub full : length outages ≡ n * n
+  pub held : (pair : ℕ × ℕ) → AreProcesses n pair
+      → get_or outages ((pair.0 - 1) * n + (pair.1 - 1)) [] ≡ pair_outages tables pair
 
 -- of n processes: each process's place holds the tick of the process's table, if it has one
 pub record HoldCrashes (n : ℕ) (ticks : List (Option ℕ)) (tables : List Members) : Type 0 where

@@ -1,9 +1,12 @@
 -- The ranges of a scenario's fields.
 use Rattle.std.specs.Prelude.{◌≡◌, ◌≢◌, ℕ, ◌≤◌, ◌<◌, ◌*◌, ◌^◌, not, None, is_some, length}
+use Rattle.std.specs.List.{AllByRecursion}
 use Rattle.std.specs.Option.{ForSome}
+use Rattle.process_api.specs.Bounds.{most_processes}
 use Rattle.scenario.specs.Numbers.{AreInRange, is_idle}
-use Rattle.scenario.specs.Record.{Record, proposal, crash, link}
+use Rattle.scenario.specs.Record.{Record, proposal, crash, link, outages_on}
 use Rattle.scenario.specs.declared.link.Link.{Link}
+use Rattle.scenario.specs.declared.outage.Outage.{Outage}
 
 pub record IsLink (link : Link) : Type 0 where
   pub min_low : 1 ≤ link.min
@@ -11,10 +14,14 @@ pub record IsLink (link : Link) : Type 0 where
   pub max_high : link.max ≤ 1000000
   pub loss_high : link.loss ≤ 1000
 
+pub record IsOutage (outage : Outage) : Type 0 where
+  pub begin_low : outage.begin < outage.until
+  pub until_high : outage.until ≤ 10000000
+
 -- what holds of every accepted scenario
 pub record IsInRange (s : Record) : Type 0 where
   pub processes_low : 1 ≤ s.processes
-  pub processes_high : s.processes ≤ 64
+  pub processes_high : s.processes ≤ most_processes
   pub horizon_low : 1 ≤ s.horizon
   pub horizon_high : s.horizon ≤ 10000000
   pub lookahead_low : 1 ≤ s.lookahead
@@ -38,3 +45,5 @@ pub record IsInRange (s : Record) : Type 0 where
   -- a letter to another process takes at least the lookahead
   pub ahead : (from to : ℕ) → 1 ≤ from → from ≤ s.processes → 1 ≤ to → to ≤ s.processes
       → from ≢ to → s.lookahead ≤ (link s from to).min
+  pub outages : (from to : ℕ) → 1 ≤ from → from ≤ s.processes → 1 ≤ to → to ≤ s.processes
+      → AllByRecursion IsOutage (outages_on s from to)

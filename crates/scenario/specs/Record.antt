@@ -1,7 +1,7 @@
 -- What a scenario says.
-use Rattle.std.specs.Prelude.{ℕ, ◌+◌, ◌-◌, ◌*◌, List, get_or, slice_get, Option, None, option_map, unwrap_or}
+use Rattle.std.specs.Prelude.{ℕ, ◌+◌, ◌-◌, ◌*◌, List, [], get_or, slice_get, Option, None, option_map, unwrap_or}
 use Rattle.process_api.specs.Place.{Place}
-use Rattle.process_api.specs.Timeout.{opening_detector}
+use Rattle.process_api.specs.Detector.{opening_detector}
 use Rattle.process_api.specs.Reduction.{opening_reduction}
 use Rattle.process_api.specs.ConsensusS.{opening_exchange}
 use Rattle.process_api.specs.Coordinator.{opening_coordinator}
@@ -10,6 +10,7 @@ use Rattle.process_api.specs.declared.numbers.DetectorNumbers.{DetectorNumbers}
 use Rattle.scenario.specs.declared.algorithm.AlgorithmKind.{AlgorithmKind}
 use Rattle.scenario.specs.declared.algorithm.AlgorithmKind.TheVariants as kind
 use Rattle.scenario.specs.declared.link.Link.{Link}
+use Rattle.scenario.specs.declared.outage.Outage.{Outage}
 
 pub record Record : Type 0 where
   pub processes : ℕ
@@ -28,6 +29,8 @@ pub record Record : Type 0 where
   pub crashes : List (Option ℕ)
   -- what the link from each process to each does to letters, by sender and then by receiver
   pub links : List Link
+  -- the outages of the link from each process to each, in the same order; nothing where no link has one
+  pub outages : List (List Outage)
 
 -- between processes that aren't there
 abbrev pub no_link : Link
@@ -46,6 +49,10 @@ module _ (s : Record) where
   abbrev pub link : (from to : ℕ) → Link
   link from to = get_or s.links ((from - 1) * s.processes + (to - 1)) no_link
 
+  -- the outages of the link between two processes
+  abbrev pub outages_on : (from to : ℕ) → List Outage
+  outages_on from to = get_or s.outages ((from - 1) * s.processes + (to - 1)) []
+
   abbrev pub place_in : ℕ → Place
   place_in p = record { own = p; processes = s.processes; horizon = s.horizon }
 
@@ -61,7 +68,6 @@ module _ (s : Record) where
   opening_mind p = record {
     lower = record {
       place = place_in p;
-      numbers = s.detector;
       detector = opening_detector s.detector;
       reduction = option_map opening_reduction s.share;
     };

@@ -5,7 +5,7 @@ use Rattle.toml.specs.Data.{Members}
 use Rattle.toml.specs.Parse.{parse_document}
 use Rattle.scenario.specs.Record.{Record}
 use Rattle.scenario.specs.Text.{record_of}
-use Rattle.scenario.specs.Rules.{unknown_key, missing_key, wrong_kind, version_refused, processes_refused, horizon_refused, lookahead_refused, limit_refused, seed_refused, algorithm_refused, proposals_refused, detector_refused, share_refused, links_refused, pair_below, below_refused, crashes_refused}
+use Rattle.scenario.specs.Rules.{unknown_key, missing_key, wrong_kind, version_refused, processes_refused, horizon_refused, lookahead_refused, limit_refused, seed_refused, algorithm_refused, proposals_refused, detector_refused, share_refused, links_refused, pair_below, below_refused, crashes_refused, outages_refused}
 use Rattle.scenario.specs.declared.error.ScenarioError.{ScenarioError}
 use Rattle.scenario.specs.declared.error.ScenarioError.TheVariants as error
 
@@ -36,7 +36,8 @@ number_rules =
 abbrev pub part_rules : List Rule
 part_rules =
     rule 11 algorithm_refused ∷ rule 12 proposals_refused ∷ rule 13 detector_refused ∷ rule 14 share_refused
-    ∷ rule 15 links_refused ∷ rule 16 below_refused ∷ rule 17 crashes_refused ∷ []
+    ∷ rule 15 links_refused ∷ rule 16 below_refused ∷ rule 17 crashes_refused
+    ∷ rule 19 outages_refused ∷ []
 
 abbrev pub table_rules : List Rule
 table_rules = key_rules ++ (number_rules ++ part_rules)
@@ -69,6 +70,7 @@ number_of error.LinkNumbers = 15
 number_of (error.BelowLookahead from to) = 16
 number_of error.CrashLine = 17
 number_of (error.Memory m) = 18
+number_of error.OutageLine = 19
 
 abbrev pub is_memory : ScenarioError → Bool
 is_memory (error.Memory m) = true

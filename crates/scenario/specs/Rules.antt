@@ -1,15 +1,16 @@
 -- The rules by which a scenario's table is refused, each by itself.
-use Rattle.std.specs.Prelude.{ℕ, ◌==◌, nat_le, nat_lt, ℤ, pos, List, [], ◌∷◌, length, map, filter, find, Bool, false, not, ◌&&◌, ◌||◌, Option, Some, is_some, is_none, codes}
+use Rattle.std.specs.Prelude.{ℕ, ◌==◌, nat_le, nat_lt, ℤ, pos, List, [], ◌∷◌, length, map, filter, find, Bool, true, false, not, ◌&&◌, ◌||◌, if◌then◌else◌, Option, Some, is_some, is_none, codes}
 use Rattle.std.specs.List.{list_any, range_with_len, flat_map}
 use Rattle.std.specs.Option.{option_map_or}
 use Rattle.toml.specs.Data.{Members}
 use Rattle.scenario.specs.Record.{Record, link}
-use Rattle.scenario.specs.Table.{number_or, integers_at, has_key, table_at, table_or_empty, tables_at, has_unlisted, has_lacking, has_mistyped}
+use Rattle.scenario.specs.Table.{number_or, same_text, integers_at, has_key, table_at, table_or_empty, tables_at, has_unlisted, has_lacking, has_mistyped}
 use Rattle.scenario.specs.Keys.{some_table}
-use Rattle.scenario.specs.Text.{natural_of, algorithm_in, watch_in, delays_of, pair_of, same_pair, crash_process, processes_of, record_of}
+use Rattle.scenario.specs.Text.{natural_of, is_second, kind_in, is_fresh, algorithm_in, watch_in, delays_of, pair_of, same_pair, outage_of, crash_process, processes_of, record_of}
 use Rattle.scenario.specs.declared.algorithm.AlgorithmKind.{AlgorithmKind}
 use Rattle.scenario.specs.declared.link.Link.{Link}
 use Rattle.scenario.specs.declared.algorithm.AlgorithmKind.TheVariants as kind
+use Rattle.process_api.specs.Bounds.{most_processes}
 
 -- ---- words
 
@@ -47,10 +48,15 @@ wrong_kind t = some_table has_mistyped t
 -- ---- the numbers of the top table
 
 abbrev pub version_refused : Members → Bool
-version_refused t = is_outside 1 1 (codes "version") 0 t
+version_refused t = is_outside 1 2 (codes "version") 0 t
+
+-- how many processes a file may have, by its version
+abbrev pub most_in : (is_second : Bool) → ℕ
+most_in true = most_processes
+most_in false = 64
 
 abbrev pub processes_refused : Members → Bool
-processes_refused t = is_outside 1 64 (codes "processes") 0 t
+processes_refused t = is_outside 1 (most_in (is_second t)) (codes "processes") 0 t
 
 abbrev pub horizon_refused : Members → Bool
 horizon_refused t = is_outside 1 10000000 (codes "horizon") 0 t
@@ -95,11 +101,23 @@ proposals_refused t = has_bad_proposals (algorithm_in t) (processes_of t) t
 
 -- ---- the detector and the reduction
 
-unfoldable pub is_bad_detector : Members → Bool
-is_bad_detector d =
+unfoldable pub is_bad_timeout : Members → Bool
+is_bad_timeout d =
     is_outside 1 1000000 (codes "period") 0 d || (is_outside 1 1000000 (codes "check") 0 d
     || (is_outside 1 1000000 (codes "timeout") 0 d || (is_outside 1 1000000 (codes "grow") 1 d
     || is_none (watch_in d))))
+
+unfoldable pub is_bad_freshness : Members → Bool
+is_bad_freshness d =
+    is_outside 1 1000000 (codes "eta") 0 d || (is_outside 1 1000000 (codes "delta") 0 d || is_none (watch_in d))
+
+-- the table names another kind than the two
+unfoldable pub is_other_kind : Members → Bool
+is_other_kind d = not (is_fresh d) && not (same_text (kind_in d) (codes "timeout"))
+
+-- a number of the named kind is out of its range, the watch is none, or the kind is another
+unfoldable pub is_bad_detector : Members → Bool
+is_bad_detector d = is_other_kind d || (if is_fresh d then is_bad_freshness d else is_bad_timeout d)
 
 abbrev pub detector_refused : Members → Bool
 detector_refused t = is_bad_detector (table_or_empty (codes "detector") t)
@@ -165,3 +183,19 @@ are_bad_crashes n tables = list_any (is_bad_crash n) tables || has_repeat same_p
 
 abbrev pub crashes_refused : Members → Bool
 crashes_refused t = are_bad_crashes (processes_of t) (tables_at (codes "crash") t)
+
+-- ---- the outages
+
+-- of n processes: from or to isn't one of them, or both are one; begin or until is out of range, or begin isn't below
+-- until
+unfoldable pub is_bad_outage : ℕ → Members → Bool
+is_bad_outage n o =
+    is_outside 1 n (codes "from") 0 o || (is_outside 1 n (codes "to") 0 o || ((pair_of o).0 == (pair_of o).1
+    || (is_outside 0 10000000 (codes "begin") 0 o || (is_outside 0 10000000 (codes "until") 0 o
+    || nat_le (outage_of o).until (outage_of o).begin))))
+
+abbrev pub are_bad_outages : ℕ → List Members → Bool
+are_bad_outages n tables = list_any (is_bad_outage n) tables
+
+abbrev pub outages_refused : Members → Bool
+outages_refused t = are_bad_outages (processes_of t) (tables_at (codes "outage") t)

@@ -1,8 +1,12 @@
 -- The record that a scenario's table stands for, defaults filled in.
-use Rattle.std.specs.Prelude.{ℕ, ◌==◌, ℤ, pos, negsuc, List, [], map, find, Bool, ◌&&◌, Option, Some, None, option_map, unwrap_or, codes, if◌then◌else◌}
+use Rattle.std.specs.Prelude.{ℕ, ◌==◌, ℤ, pos, negsuc, List, [], map, filter, find, Bool, ◌&&◌, Option, Some, None, option_map, unwrap_or, codes, if◌then◌else◌}
 use Rattle.std.specs.List.{range_with_len, flat_map}
+use Rattle.std.specs.Ordering.{int_eq}
 use Rattle.toml.specs.Data.{Members}
 use Rattle.process_api.specs.declared.numbers.DetectorNumbers.{DetectorNumbers}
+use Rattle.process_api.specs.declared.numbers.DetectorNumbers.TheVariants as numbers
+use Rattle.process_api.specs.declared.numbers.FreshnessNumbers.{FreshnessNumbers}
+use Rattle.process_api.specs.declared.numbers.TimeoutNumbers.{TimeoutNumbers}
 use Rattle.process_api.specs.declared.numbers.Watch.{Watch}
 use Rattle.process_api.specs.declared.numbers.Watch.TheVariants as watch
 use Rattle.scenario.specs.Record.{Record}
@@ -10,6 +14,7 @@ use Rattle.scenario.specs.Table.{number_or, text_or, integers_at, same_text, tab
 use Rattle.scenario.specs.declared.algorithm.AlgorithmKind.{AlgorithmKind}
 use Rattle.scenario.specs.declared.algorithm.AlgorithmKind.TheVariants as kind
 use Rattle.scenario.specs.declared.link.Link.{Link}
+use Rattle.scenario.specs.declared.outage.Outage.{Outage}
 
 -- the number, where it isn't negative
 abbrev pub natural_of : ℤ → Option ℕ
@@ -23,6 +28,18 @@ natural z = unwrap_or (natural_of z) 0
 -- the number at a key, or its default; 0 for a negative one
 unfoldable pub number_at : List ℕ → ℕ → Members → ℕ
 number_at key default t = natural (number_or key (pos default) t)
+
+-- the version is the number 2
+unfoldable pub is_second : Members → Bool
+is_second t = int_eq (number_or (codes "version") (pos 0) t) (pos 2)
+
+-- the kind that a detector's table names
+abbrev pub kind_in : Members → List ℕ
+kind_in d = text_or (codes "kind") (codes "timeout") d
+
+-- it is freshness points
+unfoldable pub is_fresh : Members → Bool
+is_fresh d = same_text (kind_in d) (codes "freshness")
 
 -- ---- names
 
@@ -47,14 +64,24 @@ watch_in d = watch_named (text_or (codes "watch") (codes "all") d)
 
 -- ---- the parts of the record
 
-abbrev pub detector_of : Members → DetectorNumbers
-detector_of d = record {
+abbrev pub timeout_of : Members → TimeoutNumbers
+timeout_of d = record {
   period = number_at (codes "period") 0 d;
   check = number_at (codes "check") 0 d;
   timeout = number_at (codes "timeout") 0 d;
   grow = number_at (codes "grow") 1 d;
   watch = unwrap_or (watch_in d) watch.All;
 }
+
+abbrev pub freshness_of : Members → FreshnessNumbers
+freshness_of d = record {
+  eta = number_at (codes "eta") 0 d;
+  delta = number_at (codes "delta") 0 d;
+  watch = unwrap_or (watch_in d) watch.All;
+}
+
+abbrev pub detector_of : Members → DetectorNumbers
+detector_of d = if is_fresh d then numbers.Freshness (freshness_of d) else numbers.Timeout (timeout_of d)
 
 abbrev pub share_of : Members → ℕ
 share_of s = number_at (codes "period") 0 s
@@ -67,7 +94,7 @@ delays_of l = record {
   loss = number_at (codes "loss") 0 l;
 }
 
--- the pair of a table of `links`
+-- the pair of a table of `links` or of `outage`
 abbrev pub pair_of : Members → ℕ × ℕ
 pair_of l = (number_at (codes "from") 0 l, number_at (codes "to") 0 l)
 
@@ -82,6 +109,20 @@ link_among common tables pair = unwrap_or (option_map delays_of (find (λ l. sam
 unfoldable pub links_among : Link → List Members → ℕ → List Link
 links_among common tables n =
     flat_map (λ from. map (λ to. link_among common tables (from, to)) (range_with_len 1 n)) (range_with_len 1 n)
+
+-- the outage of a table of `outage`
+abbrev pub outage_of : Members → Outage
+outage_of o = record { begin = number_at (codes "begin") 0 o; until = number_at (codes "until") 0 o }
+
+-- the outages of a pair, in the order of their tables
+unfoldable pub pair_outages : List Members → ℕ × ℕ → List Outage
+pair_outages tables pair = map outage_of (filter (λ o. same_pair (pair_of o) pair) tables)
+
+-- those of the links from each of 1 to n to each, by sender and then by receiver; nothing where there are no tables
+unfoldable pub outages_among : List Members → ℕ → List (List Outage)
+outages_among [] n = []
+outages_among tables n =
+    flat_map (λ from. map (λ to. pair_outages tables (from, to)) (range_with_len 1 n)) (range_with_len 1 n)
 
 -- what the processes propose, of process 1 first
 abbrev pub proposals_of : Members → List ℕ
@@ -119,4 +160,5 @@ record_of t = record {
   proposals = proposals_of t;
   crashes = crashes_among (tables_at (codes "crash") t) (processes_of t);
   links = links_among (delays_of (table_or_empty (codes "link") t)) (tables_at (codes "links") t) (processes_of t);
+  outages = outages_among (tables_at (codes "outage") t) (processes_of t);
 }

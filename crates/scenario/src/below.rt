@@ -1,5 +1,6 @@
 //! The least pair whose link is below the lookahead.
 ghost use Rattle.std.specs.Prelude.{◌≡◌, ◌≤◌, ◌*◌, ◌==◌, ◌&&◌, not, find, length};
+ghost use Rattle.process_api.specs.Bounds.{most_processes};
 ghost use Rattle.scenario.specs.Rules.{pairs, pairs_from, is_below};
 ghost use Rattle.scenario.specs.Parts.{link_in};
 
@@ -9,7 +10,7 @@ use process_api::Pid;
 
 /// Whether the processes differ and a letter from one to the other may take fewer ticks than the lookahead.
 fn is_low(links: &[Link], lookahead: u32, n: u16, from: u16, to: u16) -> bool
-    requires few { n ≤ 64 }
+    requires few { n ≤ most_processes }
     requires all { length links.now ≡ n * n }
     requires from_low { 1 ≤ from }
     requires from_high { from ≤ n }
@@ -24,9 +25,9 @@ fn is_low(links: &[Link], lookahead: u32, n: u16, from: u16, to: u16) -> bool
 /// The pair of two processes.
 fn pair(from: u16, to: u16) -> (Pid, Pid)
     requires from_low { 1 ≤ from }
-    requires from_high { from ≤ 64 }
+    requires from_high { from ≤ most_processes }
     requires to_low { 1 ≤ to }
-    requires to_high { to ≤ 64 }
+    requires to_high { to ≤ most_processes }
     ensures { result ≡ (from, to) }
 {
     (Pid::new(from).unwrap(), Pid::new(to).unwrap())
@@ -34,7 +35,7 @@ fn pair(from: u16, to: u16) -> (Pid, Pid)
 
 /// The least pair from one process whose link is below the lookahead.
 fn first_from(links: &[Link], lookahead: u32, n: u16, from: u16) -> Option<(Pid, Pid)>
-    requires few { n ≤ 64 }
+    requires few { n ≤ most_processes }
     requires all { length links.now ≡ n * n }
     requires from_low { 1 ≤ from }
     requires from_high { from ≤ n }
@@ -50,7 +51,7 @@ fn first_from(links: &[Link], lookahead: u32, n: u16, from: u16) -> Option<(Pid,
 
 /// The least pair of different processes, by sender and then by receiver, whose link is below the lookahead.
 pub(crate) fn first_below(links: &[Link], lookahead: u32, n: u16) -> Option<(Pid, Pid)>
-    requires few { n ≤ 64 }
+    requires few { n ≤ most_processes }
     requires all { length links.now ≡ n * n }
     ensures { result ≡ find (is_below (link_in n links.now) lookahead) (pairs n) }
 {

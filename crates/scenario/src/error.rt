@@ -5,7 +5,7 @@ use std::alloc::AllocError;
 use thiserror::Error;
 
 /// Why a scenario's file is refused, in the order in which the rules are tried: of several faults the first is
-/// answered. Contracts know the refusals by their numbers (`specs/Refusals.antt`).
+/// answered. `Memory` may come at any point. Contracts know the refusals by their numbers (`specs/Refusals.antt`).
 #[derive(Debug, Drop, Error)]
 pub enum ScenarioError {
     /// The bytes are no UTF-8, or no TOML.
@@ -20,10 +20,10 @@ pub enum ScenarioError {
     /// A key has a value of another kind than its own.
     #[error("a value is of another kind")]
     WrongKind,
-    /// `version` isn't 1.
+    /// `version` isn't 1 or 2.
     #[error("the version isn't known")]
     Version,
-    /// `processes` isn't 1 to 64.
+    /// `processes` isn't 1 to 64, in a file of version 2 1 to 256.
     #[error("the number of processes is out of range")]
     Processes,
     /// `horizon` isn't 1 to 10,000,000.
@@ -68,7 +68,11 @@ pub enum ScenarioError {
     /// or its `at` isn't 0 to 10,000,000.
     #[error("a crash isn't possible")]
     CrashLine,
-    /// Memory was refused. This may come at any point.
+    /// A table of `outage` has a `from` or a `to` that isn't 1 to the number of processes, or the same process as both,
+    /// or a `begin` or an `until` that isn't 0 to 10,000,000, or a `begin` that isn't below its `until`.
+    #[error("an outage isn't possible")]
+    OutageLine,
+    /// Memory was refused.
     #[error("out of memory")]
     Memory(#[from(alloc)] AllocError),
 }

@@ -4,19 +4,22 @@ ghost use Rattle.std.specs.List.{list_any};
 ghost use Rattle.std.specs.Option.{option_map_or};
 ghost use Rattle.toml.specs.View.{table_view};
 ghost use Rattle.scenario.specs.Parts.{fields_of, fault_of, table_in, tables_in, AreTables};
-ghost use Rattle.scenario.specs.Keys.{some_table, top_fields, detector_fields, share_fields, link_fields, pair_fields, crash_fields};
+ghost use Rattle.scenario.specs.Keys.{some_table, top_fields, timeout_fields, freshness_fields, detector_has, share_fields, link_fields, pair_fields, crash_fields, outage_fields};
+ghost use Rattle.scenario.specs.Text.{is_second as second_in};
 ghost use Rattle.scenario.specs.Refusals.{key_rules};
 ghost use Rattle.scenario.specs.Groups.{Passes, StopsAt};
 
 use crate::error::ScenarioError;
 use crate::field::{Field, Kind};
 use crate::table::{
-    has_lacking_key, has_mistyped_key, has_unlisted_key, inner_table, inner_tables,
+    has_lacking_key, has_mistyped_key, has_unlisted_key, inner_table, inner_tables, is_fresh,
+    is_second,
 };
 use std::alloc::{AllocError, Global};
 use toml::Table;
 
-const TOP: [Field; 13] = [
+/// The keys of the file itself; those of version 2 alone come last.
+const TOP: [Field; 14] = [
     Field {
         key: "version",
         kind: Kind::Number,
@@ -82,9 +85,18 @@ const TOP: [Field; 13] = [
         kind: Kind::Tables,
         needed: false,
     },
+    Field {
+        key: "outage",
+        kind: Kind::Tables,
+        needed: false,
+    },
 ];
 
-const DETECTOR: [Field; 5] = [
+/// How many of them a file of version 1 may have.
+const FIRST: usize = 13;
+
+/// The keys of a detector's table that names no freshness points; those of version 2 alone come last.
+const TIMEOUT: [Field; 6] = [
     Field {
         key: "period",
         kind: Kind::Number,
@@ -107,6 +119,38 @@ const DETECTOR: [Field; 5] = [
     },
     Field {
         key: "watch",
+        kind: Kind::Text,
+        needed: false,
+    },
+    Field {
+        key: "kind",
+        kind: Kind::Text,
+        needed: false,
+    },
+];
+
+/// How many of them a file of version 1 may have.
+const FIRST_TIMEOUT: usize = 5;
+
+/// The keys of a detector's table that names freshness points.
+const FRESHNESS: [Field; 4] = [
+    Field {
+        key: "eta",
+        kind: Kind::Number,
+        needed: true,
+    },
+    Field {
+        key: "delta",
+        kind: Kind::Number,
+        needed: true,
+    },
+    Field {
+        key: "watch",
+        kind: Kind::Text,
+        needed: false,
+    },
+    Field {
+        key: "kind",
         kind: Kind::Text,
         needed: false,
     },
@@ -177,6 +221,29 @@ const CRASH: [Field; 2] = [
     },
 ];
 
+const OUTAGE: [Field; 4] = [
+    Field {
+        key: "from",
+        kind: Kind::Number,
+        needed: true,
+    },
+    Field {
+        key: "to",
+        kind: Kind::Number,
+        needed: true,
+    },
+    Field {
+        key: "begin",
+        kind: Kind::Number,
+        needed: true,
+    },
+    Field {
+        key: "until",
+        kind: Kind::Number,
+        needed: true,
+    },
+];
+
 /// The tables of a file. Where a value isn't of its kind its table, or all of its tables, are left out.
 #[derive(Drop)]
 pub(crate) struct Tables<'a> {
@@ -186,6 +253,7 @@ pub(crate) struct Tables<'a> {
     pub(crate) link: Option<&'a Table>,
     pub(crate) links: Vec<&'a Table>,
     pub(crate) crashes: Vec<&'a Table>,
+    pub(crate) outages: Vec<&'a Table>,
 }
 
 /// A fault of a table's keys.
@@ -234,15 +302,48 @@ impl Fault {
     }
 
     fn is_in_top(self, table: &Table) -> bool
-        ensures { result ≡ fault_of self top_fields (table_view table.now) }
+        ensures { result ≡ fault_of self (top_fields (second_in (table_view table.now))) (table_view table.now) }
     {
-        self.is_in(&TOP, table)
+        if is_second(table) {
+            self.is_in(&TOP, table)
+        } else {
+            self.is_in(&TOP[..FIRST], table)
+        }
     }
 
-    fn is_in_detector(self, table: Option<&Table>) -> bool
-        ensures { result ≡ option_map_or (fault_of self detector_fields) (table_in table.entry) false }
+    fn is_in_timeout(self, is_second: bool, table: &Table) -> bool
+        ensures { result ≡ fault_of self (timeout_fields is_second) (table_view table.now) }
     {
-        self.is_in_optional(&DETECTOR, table)
+        if is_second {
+            self.is_in(&TIMEOUT, table)
+        } else {
+            self.is_in(&TIMEOUT[..FIRST_TIMEOUT], table)
+        }
+    }
+
+    fn is_in_freshness(self, table: &Table) -> bool
+        ensures { result ≡ fault_of self freshness_fields (table_view table.now) }
+    {
+        self.is_in(&FRESHNESS, table)
+    }
+
+    fn is_in_detector_table(self, is_second: bool, table: &Table) -> bool
+        ensures { result ≡ detector_has (fault_of self) is_second (table_view table.now) }
+    {
+        if is_second && is_fresh(table) {
+            self.is_in_freshness(table)
+        } else {
+            self.is_in_timeout(is_second, table)
+        }
+    }
+
+    fn is_in_detector(self, is_second: bool, table: Option<&Table>) -> bool
+        ensures { result ≡ option_map_or (detector_has (fault_of self) is_second) (table_in table.entry) false }
+    {
+        match table {
+            Some(table) => self.is_in_detector_table(is_second, table),
+            None => false,
+        }
     }
 
     fn is_in_share(self, table: Option<&Table>) -> bool
@@ -269,6 +370,12 @@ impl Fault {
         self.is_in_any(&CRASH, tables)
     }
 
+    fn is_in_outages(self, tables: &[&Table]) -> bool
+        ensures { result ≡ list_any (fault_of self outage_fields) (tables_in tables.now) }
+    {
+        self.is_in_any(&OUTAGE, tables)
+    }
+
     /// Whether some table of the file has the fault.
     #[tactic(auto, unfolding(crate::specs::Keys::some_table))]
     fn is_in_some(self, tables: &Tables) -> bool
@@ -276,11 +383,12 @@ impl Fault {
         ensures { result ≡ some_table (fault_of self) (table_view tables.now.top.now) }
     {
         self.is_in_top(tables.top)
-            || self.is_in_detector(tables.detector)
+            || self.is_in_detector(is_second(tables.top), tables.detector)
             || self.is_in_share(tables.share)
             || self.is_in_link(tables.link)
             || self.is_in_links(&tables.links)
             || self.is_in_crashes(&tables.crashes)
+            || self.is_in_outages(&tables.outages)
     }
 }
 
@@ -290,6 +398,7 @@ pub(crate) fn tables_of<'a>(alloc: Global, top: &'a Table) -> Result<Tables<'a>,
 {
     let links = inner_tables(alloc, top, "links")?;
     let crashes = inner_tables(alloc, top, "crash")?;
+    let outages = inner_tables(alloc, top, "outage")?;
     let detector = inner_table(top, "detector");
     let share = inner_table(top, "share");
     let link = inner_table(top, "link");
@@ -300,6 +409,7 @@ pub(crate) fn tables_of<'a>(alloc: Global, top: &'a Table) -> Result<Tables<'a>,
         link,
         links,
         crashes,
+        outages,
     })
 }
 

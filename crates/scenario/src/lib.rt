@@ -6,6 +6,7 @@
 //! refusal of the first rule that applies. Each rule is a test of the whole table by itself (`specs/Rules.antt`); the
 //! order in which they are tried is a list of its own (`specs/Refusals.antt`). So of several faults in one file the
 //! answer is always the same one, whatever the order of the file's lines. Only `Memory` may come at any point.
+//! [`read_table`] is the second half of that call: it reads the table of a file whose bytes were read already.
 //!
 //! A scenario's readers take no memory, and what a [`Scenario`] is keeps its ranges: so of a process above the number
 //! of processes [`Scenario::crash`] and [`Scenario::proposal`] answer nothing. [`Scenario::opening`] gives what a
@@ -29,6 +30,8 @@ mod links;
 mod names;
 mod numbers;
 mod opening;
+mod outage;
+mod outages;
 mod parts;
 mod proposals;
 mod read;
@@ -39,7 +42,8 @@ pub use algorithm::AlgorithmKind;
 pub use error::ScenarioError;
 pub use link::Link;
 pub use opening::Opening;
-pub use read::read_scenario;
+pub use outage::Outage;
+pub use read::{read_scenario, read_table};
 pub use record::Scenario;
 
 #[cfg(test)]

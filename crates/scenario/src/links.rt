@@ -1,5 +1,6 @@
 //! The links.
 ghost use Rattle.std.specs.Prelude.{◌≡◌, ◌≤◌, ◌<◌, ◌+◌, ◌-◌, ◌*◌, false, map, length, unwrap_or, is_none, OnOk, IfOk, IfErr, IfSome};
+ghost use Rattle.process_api.specs.Bounds.{most_processes};
 ghost use Rattle.toml.specs.Data.{no_members};
 ghost use Rattle.toml.specs.View.{table_view};
 ghost use Rattle.scenario.specs.Text.{delays_of, pair_of, links_among};
@@ -72,22 +73,22 @@ fn read_pair(table: &Table, n: u16) -> Option<PairLink>
 }
 
 /// The place of a pair's link among those of n processes, by sender and then by receiver.
-fn place_of(pair: &PairLink, n: u16) -> usize
-    requires few { n ≤ 64 }
-    requires from_low { 1 ≤ pair.now.from }
-    requires from_high { pair.now.from ≤ n }
-    requires to_low { 1 ≤ pair.now.to }
-    requires to_high { pair.now.to ≤ n }
-    ensures value { result ≡ (pair.now.from - 1) * n + (pair.now.to - 1) }
+pub(crate) fn place_of(from: u32, to: u32, n: u16) -> usize
+    requires few { n ≤ most_processes }
+    requires from_low { 1 ≤ from }
+    requires from_high { from ≤ n }
+    requires to_low { 1 ≤ to }
+    requires to_high { to ≤ n }
+    ensures value { result ≡ (from - 1) * n + (to - 1) }
     ensures within { result < n * n }
 {
-    (pair.from as usize - 1) * usize::from(n) + (pair.to as usize - 1)
+    (from as usize - 1) * usize::from(n) + (to as usize - 1)
 }
 
 /// The links of the pairs of n processes that have tables of their own. The first table that is of a pair which has
 /// one already ends the reading, so no more than one of each pair are taken.
 fn read_pairs(alloc: Global, tables: &[&Table], n: u16) -> Result<Vec<Option<Link>>, ScenarioError>
-    requires few { n ≤ 64 }
+    requires few { n ≤ most_processes }
     ensures ok { OnOk result (are_bad_pairs n (tables_in tables.now) ≡ false) }
     ensures value { IfOk result (λ v. HoldLinks n v.items (tables_in tables.now)) }
     ensures err { IfErr result (GivenBy ScenarioError.LinkNumbers (are_bad_pairs n (tables_in tables.now))) }
@@ -100,7 +101,7 @@ fn read_pairs(alloc: Global, tables: &[&Table], n: u16) -> Result<Vec<Option<Lin
         let Some(pair) = read_pair(table, n) else {
             return Err(ScenarioError::LinkNumbers);
         };
-        let place = place_of(&pair, n);
+        let place = place_of(pair.from, pair.to, n);
         if links[place].is_some() {
             return Err(ScenarioError::LinkNumbers);
         }
@@ -138,7 +139,7 @@ pub(crate) fn read_links(
     tables: &[&Table],
     n: u16,
 ) -> Result<Vec<Link>, ScenarioError>
-    requires few { n ≤ 64 }
+    requires few { n ≤ most_processes }
     ensures ok { OnOk result (
         are_bad_links n (unwrap_or (table_in common.entry) no_members) (tables_in tables.now) ≡ false) }
     ensures value { IfOk result (λ v. v.items

@@ -1,15 +1,17 @@
 //! The numbers of a scenario's tables.
 ghost use Rattle.std.specs.Prelude.{◌≡◌, ◌≤◌, ◌<◌, ◌^◌, ◌&&◌, nat_le, IsTrue, Some, pos, is_none, OnOk, IfOk, IfErr, IfSome};
+ghost use Rattle.process_api.specs.Bounds.{most_processes};
 ghost use Rattle.toml.specs.View.{table_view};
 ghost use Rattle.scenario.specs.Table.{number_or};
-ghost use Rattle.scenario.specs.Text.{number_at, natural_of};
-ghost use Rattle.scenario.specs.Rules.{is_outside, is_negative};
+ghost use Rattle.scenario.specs.Text.{number_at, natural_of, is_second as second_in};
+ghost use Rattle.scenario.specs.Rules.{is_outside, is_negative, most_in};
 ghost use Rattle.scenario.specs.Refusals.{number_rules};
 ghost use Rattle.scenario.specs.Parts.{AreNumbersOf};
 ghost use Rattle.scenario.specs.Groups.{Passes, StopsAt};
 
 use crate::error::ScenarioError;
-use crate::table::number;
+use crate::table::{is_second, number};
+use process_api::MOST_PROCESSES;
 use toml::Table;
 
 /// The number, where it isn't negative.
@@ -54,6 +56,21 @@ pub(crate) fn ranged(table: &Table, key: &str, default: u32, low: u32, high: u32
     Some(value as u32)
 }
 
+/// How many processes a file of version 1 may have.
+const MOST_IN_FIRST: u32 = 64;
+
+/// How many processes the file with this table may have, by its version.
+fn most_of_version(top: &Table) -> u32
+    ensures value { result ≡ most_in (second_in (table_view top.now)) }
+    ensures high { result ≤ most_processes }
+{
+    if is_second(top) {
+        u32::from(MOST_PROCESSES)
+    } else {
+        MOST_IN_FIRST
+    }
+}
+
 /// The numbers of the top table.
 #[derive(Clone, Copy)]
 pub(crate) struct TopNumbers {
@@ -70,10 +87,10 @@ pub(crate) fn read_numbers(top: &Table) -> Result<TopNumbers, ScenarioError>
     ensures value { IfOk result (AreNumbersOf (table_view top.now)) }
     ensures err { IfErr result (StopsAt number_rules (Some (table_view top.now))) }
 {
-    let Some(_) = ranged(top, "version", 0, 1, 1) else {
+    let Some(_) = ranged(top, "version", 0, 1, 2) else {
         return Err(ScenarioError::Version);
     };
-    let Some(processes) = ranged(top, "processes", 0, 1, 64) else {
+    let Some(processes) = ranged(top, "processes", 0, 1, most_of_version(top)) else {
         return Err(ScenarioError::Processes);
     };
     let Some(horizon) = ranged(top, "horizon", 0, 1, 10_000_000) else {

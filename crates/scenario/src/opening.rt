@@ -1,7 +1,8 @@
 //! What a process opens with.
 ghost use Rattle.std.specs.Prelude.{◌≡◌, ◌≤◌, not, is_some};
 ghost use Rattle.std.specs.Option.{ForSome};
-ghost use Rattle.scenario.specs.Numbers.{AreInRange, is_idle};
+ghost use Rattle.process_api.specs.Bounds.{most_processes};
+ghost use Rattle.scenario.specs.Numbers.{AreInRange, AreInRange-prop, is_idle};
 
 use crate::algorithm::AlgorithmKind;
 use process_api::{DetectorNumbers, Pid};
@@ -11,7 +12,7 @@ use process_api::{DetectorNumbers, Pid};
 pub struct Opening {
     /// The process's own number.
     pub own: Pid,
-    /// How many processes there are, 1 to 64.
+    /// How many processes there are, 1 to [`process_api::MOST_PROCESSES`].
     pub processes: u16,
     /// The tick at which the run ends, 1 to 10,000,000.
     pub horizon: u32,
@@ -24,9 +25,9 @@ pub struct Opening {
     /// What it proposes; none just where it runs no algorithm.
     pub proposal: Option<u32>,
     ghost one_of_them: { own ≤ processes },
-    ghost few: { processes ≤ 64 },
+    ghost few: { processes ≤ most_processes },
     ghost lasts: { (1 ≤ horizon) × (horizon ≤ 10000000) },
-    ghost numbers: { AreInRange detector },
+    ghost numbers: { AreInRange detector } by { AreInRange-prop detector },
     ghost shares: { ForSome share (λ period. (1 ≤ period) × (period ≤ 1000000)) },
     ghost proposes: { is_some proposal ≡ not (is_idle algorithm) },
 }

@@ -15,6 +15,8 @@ use crate::link::Link;
 use crate::links::read_links;
 use crate::names::algorithm_of;
 use crate::numbers::TopNumbers;
+use crate::outage::Outage;
+use crate::outages::read_outages;
 use crate::proposals::read_proposals;
 use crate::table::text;
 use process_api::DetectorNumbers;
@@ -29,6 +31,7 @@ pub(crate) struct Parts {
     pub(crate) share: Option<u32>,
     pub(crate) links: Vec<Link>,
     pub(crate) crashes: Vec<Option<u32>>,
+    pub(crate) outages: Vec<Vec<Outage>>,
 }
 
 /// The parts of a scenario, where none is refused; else the refusal of the first that is.
@@ -59,6 +62,7 @@ pub(crate) fn read_parts(
         return Err(below_lookahead(pair));
     }
     let crashes = read_crashes(alloc, &tables.crashes, n)?;
+    let outages = read_outages(alloc, &tables.outages, n)?;
     Ok(Parts {
         algorithm,
         proposals,
@@ -66,5 +70,6 @@ pub(crate) fn read_parts(
         share,
         links,
         crashes,
+        outages,
     })
 }

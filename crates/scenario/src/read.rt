@@ -30,8 +30,14 @@ pub fn read_scenario(alloc: Global, bytes: &[u8]) -> Result<Scenario, ScenarioEr
     }
 }
 
-/// Reads a scenario from its table.
-fn read_table(alloc: Global, table: &Table) -> Result<Scenario, ScenarioError>
+/// Reads a scenario from its file's table: what [`read_scenario`] does once the bytes are read. `Ok` is the record that
+/// the table stands for, defaults filled in.
+///
+/// # Errors
+///
+/// The refusal of the first rule of tables that applies, in the order of [`ScenarioError`], which is never `NotToml`; or
+/// `Memory`, which comes where memory was refused, at any point.
+pub fn read_table(alloc: Global, table: &Table) -> Result<Scenario, ScenarioError>
     ensures ok { OnOk result (Passes table_rules (Some (table_view table.now))) }
     ensures value { IfOk result (λ s. s ≡ record_of (table_view table.now)) }
     ensures err { IfErr result (StopsFirst table_rules (Some (table_view table.now))) }
@@ -55,5 +61,6 @@ fn read_table(alloc: Global, table: &Table) -> Result<Scenario, ScenarioError>
         proposals: parts.proposals,
         crashes: parts.crashes,
         links: parts.links,
+        outages: parts.outages,
     })
 }

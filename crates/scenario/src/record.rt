@@ -1,12 +1,13 @@
 //! Accepted scenarios.
-ghost use Rattle.std.specs.Prelude.{◌≡◌, ◌≢◌, ◌≤◌, ◌<◌, None};
+ghost use Rattle.std.specs.Prelude.{◌≡◌, ◌≢◌, ◌≤◌, ◌<◌, ◌+◌, ◌-◌, ◌*◌, None};
 ghost use Rattle.scenario.specs.Ranges.{IsInRange};
-ghost use Rattle.scenario.specs.Record.{proposal, crash, link, opening_mind};
+ghost use Rattle.scenario.specs.Record.{proposal, crash, link, outages_on, opening_mind};
 ghost use Rattle.scenario.specs.Opening.{mind_of};
 
 use crate::algorithm::AlgorithmKind;
 use crate::link::Link;
 use crate::opening::Opening;
+use crate::outage::Outage;
 use process_api::{DetectorNumbers, Pid};
 use std::marker::Model;
 
@@ -28,11 +29,14 @@ pub struct Scenario {
     pub(crate) crashes: Vec<Option<u32>>,
     // by sender and then by receiver, each from process 1
     pub(crate) links: Vec<Link>,
+    // by sender and then by receiver; empty where no link has an outage
+    pub(crate) outages: Vec<Vec<Outage>>,
 }
 
 impl Model for Scenario {
     ghost use Rattle.scenario.specs.Record.{Record};
     ghost use Rattle.scenario.specs.Ranges.{IsInRange};
+    ghost use Rattle.std.specs.Prelude.{map};
 
     ghost Value = { Record };
 
@@ -48,6 +52,7 @@ impl Model for Scenario {
       proposals = s.proposals.items;
       crashes = s.crashes.items;
       links = s.links.items;
+      outages = map (λ v. v.items) s.outages.items;
     } };
 
     ghost invariant = { λ s. IsInRange (record {
@@ -62,11 +67,12 @@ impl Model for Scenario {
       proposals = s.proposals.items;
       crashes = s.crashes.items;
       links = s.links.items;
+      outages = map (λ v. v.items) s.outages.items;
     }) };
 }
 
 impl Scenario {
-    /// How many processes there are, 1 to 64.
+    /// How many processes there are, 1 to 256.
     pub fn processes(&self) -> u16
         ensures value { result ≡ self.now.processes }
         ensures ranges { IsInRange self.now }
@@ -148,6 +154,18 @@ impl Scenario {
         self.proposals.get(usize::from(p.number()) - 1).copied()
     }
 
+    /// The place of a link among all, by sender and then by receiver.
+    #[inline(always)]
+    fn place(&self, from: Pid, to: Pid) -> usize
+        requires from_one { from ≤ self.now.processes }
+        requires to_one { to ≤ self.now.processes }
+        ensures value { result ≡ (from - 1) * self.now.processes + (to - 1) }
+        ensures within { result < self.now.processes * self.now.processes }
+    {
+        let row = usize::from(from.number() - 1) * usize::from(self.processes);
+        row + usize::from(to.number() - 1)
+    }
+
     /// What the link between two different processes does to letters.
     pub fn link(&self, from: Pid, to: Pid) -> Link
         requires different { from ≢ to }
@@ -156,9 +174,21 @@ impl Scenario {
         ensures value { result ≡ link self.now from to }
         ensures ranges { IsInRange self.now }
     {
-        let row = usize::from(from.number() - 1) * usize::from(self.processes);
-        let place = row + usize::from(to.number() - 1);
-        self.links[place]
+        self.links[self.place(from, to)]
+    }
+
+    /// The outages of the link between two different processes, in the order of their tables.
+    pub fn outages(&self, from: Pid, to: Pid) -> &[Outage]
+        requires different { from ≢ to }
+        requires from_one { from ≤ self.now.processes }
+        requires to_one { to ≤ self.now.processes }
+        ensures value { result.now ≡ outages_on self.now from to }
+        ensures ranges { IsInRange self.now }
+    {
+        match self.outages.get(self.place(from, to)) {
+            Some(outages) => outages.as_slice(),
+            None => &[],
+        }
     }
 
     /// What a process opens with, which gives its mind.

@@ -4,6 +4,7 @@ ghost use Rattle.toml.specs.View.{view, array_view, items_view, table_view};
 ghost use Rattle.toml.specs.Data.{as_array, get_member};
 ghost use Rattle.scenario.specs.Table.{number_or, text_or, has_key, table_at, tables_at, the_tables, all_items, is_number, is_table, is_of, is_listed, has_unlisted, is_lacking, has_lacking, is_mistyped, has_mistyped};
 ghost use Rattle.scenario.specs.Parts.{field_of, fields_of, table_in, tables_in};
+ghost use Rattle.scenario.specs.Text.{is_second as second_in, is_fresh as fresh_in};
 
 use crate::field::{Field, Kind};
 use std::alloc::{AllocError, Global};
@@ -17,6 +18,22 @@ pub(crate) fn number(table: &Table, key: &str, default: i64) -> i64
         Some(value) => value.as_integer().unwrap_or(default),
         None => default,
     }
+}
+
+/// Whether the file with this table is of version 2.
+#[tactic(auto, unfolding(crate::specs::Text::is_second))]
+pub(crate) fn is_second(table: &Table) -> bool
+    ensures { result ≡ second_in (table_view table.now) }
+{
+    number(table, "version", 0) == 2
+}
+
+/// Whether a detector's table asks for freshness points.
+#[tactic(auto, unfolding(crate::specs::Text::is_fresh))]
+pub(crate) fn is_fresh(table: &Table) -> bool
+    ensures { result ≡ fresh_in (table_view table.now) }
+{
+    text(table, "kind", "timeout") == "freshness"
 }
 
 /// Whether the key is there.

@@ -2,7 +2,9 @@
 mod accepted;
 mod corners;
 mod cuts;
+mod kinds;
 mod least;
+mod outages;
 mod refused;
 mod sizes;
 
@@ -61,6 +63,7 @@ fn name_of(answer: &Result<Scenario, ScenarioError>) -> &'static str {
         Err(ScenarioError::LinkNumbers) => "LinkNumbers",
         Err(ScenarioError::BelowLookahead { .. }) => "BelowLookahead",
         Err(ScenarioError::CrashLine) => "CrashLine",
+        Err(ScenarioError::OutageLine) => "OutageLine",
         Err(ScenarioError::Memory(_)) => "Memory",
     }
 }

@@ -3,6 +3,7 @@ use Rattle.std.proofs.Common.{◌≡◌, ◌≤◌, ◌++◌, ℕ, IsTrue, List,
 use Rattle.std.specs.List.{All}
 use Rattle.std.proofs.lemmas.List.Elements.{All-append, All-weaker}
 use Rattle.std.proofs.lemmas.Bool.Decides.{nat_tests}
+use Rattle.process_api.specs.Bounds.{most_first_actions, most_second_actions, most_algorithm_actions, most_step_actions}
 use Rattle.process_api.specs.Sets.{Processes}
 use Rattle.process_api.specs.Place.{Place, same_place}
 use Rattle.process_api.specs.Actions.{IsAllowed}
@@ -27,9 +28,9 @@ allowed_at place Idle xs h every = All-weaker (IsAllowed 0) (IsAllowed place.pro
 allowed_at place (Exchanging its s) xs h every = subst (λ n. All (IsAllowed n) xs) (same_processes its place h) every
 allowed_at place (Coordinating its s) xs h every = subst (λ n. All (IsAllowed n) xs) (same_processes its place h) every
 
--- at most 512 or 1,024 actions of a detector
-most_is_few : (m : Lower) → most_actions m ≤ 1024
-most_is_few m = elim m.reduction as (λ r. elim r [ None ↦ 512 | Some reduction ↦ 1024 ] ≤ 1024) [ None ↦ omega arith | Some reduction ↦ omega arith ]
+-- a detector has no more than one with a reduction
+most_is_few : (m : Lower) → most_actions m ≤ most_second_actions
+most_is_few m = elim m.reduction as (λ r. elim r [ None ↦ most_first_actions | Some reduction ↦ most_second_actions ] ≤ most_second_actions) [ None ↦ omega arith | Some reduction ↦ omega arith ]
 
 module _ (m : Lower) (a : AlgorithmState) (now : ℕ) (input : StepInput) (next : Lower) (after : AlgorithmState) (s : Processes)
     (lower_is : next ≡ (react_lower m now input).state) (s_is : s ≡ suspects_of next) (upper_is : after ≡ (react_algorithm a input s).state) where
@@ -54,8 +55,8 @@ module _ (m : Lower) (a : AlgorithmState) (now : ℕ) (input : StepInput) (next 
   joined_allowed together f g =
       All-append (IsAllowed m.place.processes) _ _ f (subst (All (IsAllowed m.place.processes)) upper_actions (allowed_at m.place a _ together g))
 
-  pub joined_few : length (react_lower m now input).actions ≤ most_actions m → length (react_algorithm a input s).actions ≤ 2048
-      → length (react (record { lower = m; algorithm = a }) now input).actions ≤ 4096
+  pub joined_few : length (react_lower m now input).actions ≤ most_actions m → length (react_algorithm a input s).actions ≤ most_algorithm_actions
+      → length (react (record { lower = m; algorithm = a }) now input).actions ≤ most_step_actions
   unfolding react
   joined_few f g =
       omega (arith, f, g, most_is_few m, ap length upper_actions, length-append (react_lower m now input).actions (react_algorithm a input (suspects_of (react_lower m now input).state)).actions)

@@ -1,9 +1,12 @@
--- What becomes of a letter to another process: by its place on its link alone, never by what was drawn before.
-use Rattle.std.specs.Prelude.{ℕ, ◌+◌, ◌-◌, ◌*◌, ◌%◌, ◌^◌, List, ◌++◌, replicate, nat_lt, if◌then◌else◌}
+-- What becomes of a letter to another process: it depends on the place and the tick of sending alone, never on what was
+-- drawn before.
+use Rattle.std.specs.Prelude.{ℕ, ◌+◌, ◌-◌, ◌*◌, ◌%◌, ◌^◌, List, ◌++◌, replicate, nat_le, nat_lt, Bool, ◌&&◌, if◌then◌else◌}
 use Rattle.std.specs.Int.{w64, to_le_bytes}
+use Rattle.std.specs.List.{list_any}
 use Rattle.rand_chacha.specs.ChaCha.{word_at, key_of}
-use Rattle.scenario.specs.Record.{Record, link}
+use Rattle.scenario.specs.Record.{Record, link, outages_on}
 use Rattle.scenario.specs.declared.link.Link.{Link}
+use Rattle.scenario.specs.declared.outage.Outage.{Outage}
 use Rattle.streams.specs.declared.fate.Fate.{Fate}
 use Rattle.streams.specs.declared.fate.Fate.TheVariants.{Lost, Delay}
 
@@ -24,7 +27,17 @@ word seed from to place = word_at 4 (key_of_seed seed) (stream_of from to) (plac
 abbrev pub fate_by : Link → (a b : ℕ) → Fate
 fate_by l a b = if nat_lt (a % 1000) l.loss then Lost else Delay (l.min + b % (l.max - l.min + 1))
 
--- the fate of a letter by its number on the link, from 1: letter k has the words at places 2(k - 1) and 2(k - 1) + 1
-unfoldable pub fate_of : Record → (from to number : ℕ) → Fate
-fate_of s from to number =
-    fate_by (link s from to) (word s.seed from to (2 * (number - 1))) (word s.seed from to (2 * (number - 1) + 1))
+-- the tick is one of the outage: its end isn't
+abbrev pub covers : (tick : ℕ) → Outage → Bool
+covers tick o = nat_le o.begin tick && nat_lt tick o.until
+
+-- a letter that is sent on the link at this tick is lost in an outage
+abbrev pub is_cut : Record → (from to sent_at : ℕ) → Bool
+is_cut s from to sent_at = list_any (covers sent_at) (outages_on s from to)
+
+-- the fate of a letter by its number on the link, from 1, and by the tick at which it is sent. Letter k has the words
+-- at places 2(k - 1) and 2(k - 1) + 1, also where an outage makes it lost whatever they are
+unfoldable pub fate_of : Record → (from to number sent_at : ℕ) → Fate
+fate_of s from to number sent_at =
+    if is_cut s from to sent_at then Lost
+    else fate_by (link s from to) (word s.seed from to (2 * (number - 1))) (word s.seed from to (2 * (number - 1) + 1))

@@ -2,8 +2,9 @@
 //!
 //! Each link from one process to another has a stream of its own: ChaCha with 8 rounds (Bernstein, 2008) under the
 //! scenario's seed, with the link's number as its stream. The k-th letter of a link, lost ones counted too, takes the
-//! two words of its place. So a letter's fate depends on its place alone: another loss on one link changes nothing
-//! on any other, and threads may ask in any order.
+//! two words of its place. A letter that is sent in an outage of its link is lost, whatever they are. So a letter's
+//! fate depends on its place and the tick of sending alone: another loss on one link changes nothing on any other, and
+//! threads may ask in any order.
 //!
 //! The one contract for the layers above: [`Streams::fate`] is `fate_of` (`specs/Fate.antt`), for every letter, and so
 //! is [`Streams::next_fate`], which keeps the words of a link ([`LinkWords`]) for its next letters.

@@ -1,14 +1,15 @@
 //! One stream of random words for each link.
 ghost use Rattle.std.specs.Prelude.{◌≡◌, ◌≢◌, ◌<◌, ◌≤◌, ◌^◌, ◌+◌};
 ghost use Rattle.scenario.specs.Record.{Record};
-ghost use Rattle.streams.specs.Fate.{fate_of, key_of_seed, stream_of, word};
+ghost use Rattle.std.specs.List.{list_any};
+ghost use Rattle.streams.specs.Fate.{covers, fate_of, key_of_seed, stream_of, word};
 
 use crate::fate::Fate;
 use process_api::Pid;
 use rand_chacha::ChaCha8Rng;
 use rand_core::SeedableRng;
 use rand_core::utils::NextWord;
-use scenario::Scenario;
+use scenario::{Outage, Scenario};
 use std::marker::Model;
 
 /// Words of a link that are at hand for its next letters. Nothing that is answered depends on them: they are left
@@ -41,6 +42,15 @@ fn generator_of(seed: u64) -> ChaCha8Rng
     ChaCha8Rng::from_seed(key)
 }
 
+/// Whether a tick is one of some outages.
+fn is_within(outages: &[Outage], tick: u32) -> bool
+    ensures { result ≡ list_any (covers tick) outages.now }
+{
+    outages
+        .iter()
+        .any(|outage| outage.begin <= tick && tick < outage.until)
+}
+
 /// The streams of a scenario, one for each link. Contracts see the scenario's record.
 #[derive(Drop)]
 pub struct Streams<'a> {
@@ -61,28 +71,39 @@ impl<'a> Streams<'a> {
         Streams { scenario }
     }
 
-    /// What becomes of letter `number` (from 1) of the link from one process to another. The answer is by the place
-    /// alone: asked again, or in any order, it is the same.
-    pub fn fate(&self, from: Pid, to: Pid, number: u64) -> Fate
+    /// What becomes of letter `number` (from 1) of the link from one process to another, sent at the tick `sent_at`.
+    /// The answer is by the place and the tick of sending alone: asked again, or in any order, it is the same.
+    pub fn fate(&self, from: Pid, to: Pid, number: u64, sent_at: u32) -> Fate
         requires different { from ≢ to }
         requires from_one { from ≤ self.now.processes }
         requires to_one { to ≤ self.now.processes }
         requires counted { 1 ≤ number }
-        ensures { result ≡ fate_of self.now from to number }
+        ensures { result ≡ fate_of self.now from to number sent_at }
     {
-        self.next_fate(from, to, number, &mut LinkWords::new())
+        self.next_fate(from, to, number, sent_at, &mut LinkWords::new())
     }
 
     /// The same, for letters that are asked for in their turn: the words of a link are kept from letter to letter. A
-    /// link without loss and with one delay draws none.
+    /// letter that is lost in an outage draws none, and nor does a link without loss and with one delay: the words of
+    /// the next letters are at their own places all the same.
     #[tactic(auto, unfolding(crate::specs::Fate::fate_of))]
-    pub fn next_fate(&self, from: Pid, to: Pid, number: u64, words: &mut LinkWords) -> Fate
+    pub fn next_fate(
+        &self,
+        from: Pid,
+        to: Pid,
+        number: u64,
+        sent_at: u32,
+        words: &mut LinkWords,
+    ) -> Fate
         requires different { from ≢ to }
         requires from_one { from ≤ self.now.processes }
         requires to_one { to ≤ self.now.processes }
         requires counted { 1 ≤ number }
-        ensures { result ≡ fate_of self.now from to number }
+        ensures { result ≡ fate_of self.now from to number sent_at }
     {
+        if is_within(self.scenario.outages(from, to), sent_at) {
+            return Fate::Lost;
+        }
         let link = self.scenario.link(from, to);
         if link.loss == 0 && link.min == link.max {
             return Fate::Delay(link.min);

@@ -14,7 +14,7 @@ const LINKS_OF_FIVE: &str = "[link]\nmin = 2\nmax = 9\nloss = 300\n";
 /// A scenario of so many processes with this seed and these links.
 fn scenario(alloc: Global, processes: u16, seed: u64, links: &str) -> Result<Scenario, Fail> {
     let text = format!(in alloc;
-        "version = 1\nprocesses = {processes}\nhorizon = 200\nlookahead = 2\nseed = {seed}\nalgorithm = \"none\"\n\
+        "version = 2\nprocesses = {processes}\nhorizon = 200\nlookahead = 2\nseed = {seed}\nalgorithm = \"none\"\n\
          [detector]\nperiod = 5\ncheck = 3\ntimeout = 12\ngrow = 2\n{links}"
     )?;
     Ok(read_scenario(alloc, text.as_bytes())?)
@@ -24,7 +24,8 @@ fn pid(number: u16) -> Result<Pid, Fail> {
     Ok(Pid::new(number).ok_or("no process")?)
 }
 
-/// Letters 1 to 12 of a link, asked for in their turn: their delays, and 0 for a lost one.
+/// Letters 1 to 12 of a link, each sent at the tick of its number and asked for in their turn: their delays, and 0 for
+/// a lost one.
 fn delays(scenario: &Scenario, from: u16, to: u16) -> Result<[u32; 12], Fail> {
     let streams = Streams::new(scenario);
     let mut words = LinkWords::new();
@@ -34,7 +35,8 @@ fn delays(scenario: &Scenario, from: u16, to: u16) -> Result<[u32; 12], Fail> {
         return Ok(delays);
     }
     for place in 0..12usize {
-        if let Fate::Delay(ticks) = streams.next_fate(from, to, place as u64 + 1, &mut words) {
+        let fate = streams.next_fate(from, to, place as u64 + 1, place as u32 + 1, &mut words);
+        if let Fate::Delay(ticks) = fate {
             delays[place] = ticks;
         }
     }
@@ -162,8 +164,13 @@ fn any_order_gives_the_same(rt: HostRuntime) -> Result<(), Fail> {
         } else {
             Fate::Delay(2 + b % 8)
         };
-        assert_eq!(rt; streams.fate(from, to, number), fate);
-        assert_eq!(rt; streams.next_fate(from, to, number, &mut kept), fate);
+        for sent_at in [0, 199, u32::MAX] {
+            assert_eq!(rt; streams.fate(from, to, number, sent_at), fate);
+            assert_eq!(rt;
+                streams.next_fate(from, to, number, sent_at, &mut kept),
+                fate
+            );
+        }
     }
     Ok(())
 }
@@ -185,5 +192,43 @@ fn sure_links(rt: HostRuntime) -> Result<(), Fail> {
     let scenario = scenario(rt.alloc(), 5, 1, "[link]\nmin = 5\nmax = 5\n")?;
     assert_eq!(rt; delays(&scenario, 1, 2)?, [5; 12]);
     assert_eq!(rt; delays(&scenario, 5, 4)?, [5; 12]);
+    Ok(())
+}
+
+/// Outages of two links: letters 3 to 6 from process 1 to 2 are sent in one or in both of two that overlap.
+const OUTAGES: &str = "[link]\nmin = 2\nmax = 9\nloss = 300\n\
+    [[outage]]\nfrom = 1\nto = 2\nbegin = 3\nuntil = 6\n\
+    [[outage]]\nfrom = 1\nto = 2\nbegin = 4\nuntil = 7\n\
+    [[outage]]\nfrom = 5\nto = 1\nbegin = 1\nuntil = 2\n";
+
+/// What is sent in an outage is lost, and the other letters keep their fates.
+#[test]
+fn letters_lost_in_outages(rt: HostRuntime) -> Result<(), Fail> {
+    let scenario = scenario(rt.alloc(), 5, 1, OUTAGES)?;
+    assert_eq!(rt;
+        delays(&scenario, 1, 2)?,
+        [6, 3, 0, 0, 0, 0, 0, 7, 9, 8, 0, 6]
+    );
+    assert_eq!(rt;
+        delays(&scenario, 2, 1)?,
+        [5, 3, 3, 4, 0, 7, 5, 2, 4, 6, 0, 0]
+    );
+    assert_eq!(rt;
+        delays(&scenario, 5, 1)?,
+        [0, 5, 0, 0, 2, 6, 5, 0, 7, 7, 0, 0]
+    );
+    Ok(())
+}
+
+/// A link that loses nothing and has one delay draws no words, but it has outages like any other.
+#[test]
+fn sure_links_cut(rt: HostRuntime) -> Result<(), Fail> {
+    let links = "[link]\nmin = 5\nmax = 5\n[[outage]]\nfrom = 5\nto = 4\nbegin = 0\nuntil = 12\n";
+    let scenario = scenario(rt.alloc(), 5, 1, links)?;
+    assert_eq!(rt;
+        delays(&scenario, 5, 4)?,
+        [0, 0, 0, 0, 0, 0, 0, 0, 0, 0, 0, 5]
+    );
+    assert_eq!(rt; delays(&scenario, 4, 5)?, [5; 12]);
     Ok(())
 }

@@ -2,36 +2,37 @@
 use Rattle.std.specs.Prelude.{ℕ, Bool, slice_index_or}
 use Rattle.process_api.specs.Answer.{Answer}
 use Rattle.process_api.specs.Timeout as timeout
-use Rattle.process_api.specs.Timeout.{DetectorState, watches, checked, heard, step_detector}
+use Rattle.process_api.specs.Timeout.{TimeoutState, watches, checked, heard, step_timeout}
+use Rattle.process_api.specs.Detector.{ByTimeout}
 use Rattle.process_api.specs.Mind.{Lower}
 use Rattle.process_api.specs.declared.message.StepInput.{StepInput}
 use Rattle.scenario.specs.Opening.{place_of, base_of}
 use Rattle.timeout_detector.specs.declared.detector.TimeoutDetector.{TimeoutDetector}
 
 -- its tables as functions: processes that they have no place for are as at the opening
-abbrev pub state_of : TimeoutDetector → DetectorState
+abbrev pub state_of : TimeoutDetector → TimeoutState
 state_of d = record {
   last_heard = λ q. slice_index_or d.last_heard.items q 0;
-  bound = λ q. slice_index_or d.bound.items q d.opening.detector.timeout;
+  bound = λ q. slice_index_or d.bound.items q d.numbers.timeout;
   suspects = d.suspects;
 }
 
 -- the detector's part of a mind, with no reduction
 abbrev pub lower_of : TimeoutDetector → Lower
-lower_of d = record (base_of d.opening) { detector = state_of d }
+lower_of d = record (base_of d.opening) { detector = ByTimeout d.numbers (state_of d) }
 
 -- what the definitions say of it: whom it watches, who is overdue at a tick, and what an input makes of it
 abbrev pub is_watched : TimeoutDetector → ℕ → Bool
-is_watched d = watches (place_of d.opening) d.opening.detector
+is_watched d = watches (place_of d.opening) d.numbers
 
 abbrev pub is_overdue : TimeoutDetector → ℕ → ℕ → Bool
-is_overdue d = timeout.is_overdue (place_of d.opening) d.opening.detector (state_of d)
+is_overdue d = timeout.is_overdue (place_of d.opening) d.numbers (state_of d)
 
-abbrev pub checked_by : TimeoutDetector → ℕ → Answer DetectorState
-checked_by d = checked (place_of d.opening) d.opening.detector (state_of d)
+abbrev pub checked_by : TimeoutDetector → ℕ → Answer TimeoutState
+checked_by d = checked (place_of d.opening) d.numbers (state_of d)
 
-abbrev pub heard_by : TimeoutDetector → ℕ → ℕ → Answer DetectorState
-heard_by d = heard (place_of d.opening) d.opening.detector (state_of d)
+abbrev pub heard_by : TimeoutDetector → ℕ → ℕ → Answer TimeoutState
+heard_by d = heard (place_of d.opening) d.numbers (state_of d)
 
-abbrev pub answer_of : TimeoutDetector → ℕ → StepInput → Answer DetectorState
-answer_of d = step_detector (place_of d.opening) d.opening.detector (state_of d)
+abbrev pub answer_of : TimeoutDetector → ℕ → StepInput → Answer TimeoutState
+answer_of d = step_timeout (place_of d.opening) d.numbers (state_of d)

@@ -1,7 +1,6 @@
 //! Alive letters.
 ghost use Rattle.std.specs.Prelude.{◌≡◌, ◌≤◌, ◌++◌, OnOk};
-ghost use Rattle.process_api.specs.Timeout.{alive_to_others};
-ghost use Rattle.scenario.specs.Opening.{place_of};
+ghost use Rattle.process_api.specs.Answer.{to_others};
 
 use process_api::{Action, Payload, Pid, send_to};
 use scenario::Opening;
@@ -10,7 +9,7 @@ use std::alloc::AllocError;
 /// Appends an Alive letter to each other process, in rising order, whoever is watched.
 pub(crate) fn send_alive(opening: &Opening, out: &mut Vec<Action>) -> Result<(), AllocError>
     ensures { OnOk result (
-        out.new.items ≡ out.old.items ++ alive_to_others (place_of opening.now) opening.now.detector) }
+        out.new.items ≡ out.old.items ++ to_others opening.now.processes opening.now.own Payload.Alive) }
 {
     for number in 1..opening.processes + 1 {
         let Some(q) = Pid::new(number) else {

@@ -1,12 +1,15 @@
 //! The detector of one process.
-ghost use Rattle.std.specs.Prelude.{◌≡◌, ◌≢◌, ◌≤◌, ◌+◌, ◌++◌, false, true, IfOk, OnOk, vec_len};
+ghost use Rattle.std.specs.Prelude.{◌≡◌, ◌≢◌, ◌≤◌, ◌+◌, ◌++◌, false, true, IsTrue, IfOk, OnOk, vec_len};
 ghost use Rattle.std.specs.FinSet as set;
+ghost use Rattle.process_api.specs.Detector.{is_timeout};
+ghost use Rattle.process_api.specs.declared.numbers.DetectorNumbers.TheVariants.{Timeout};
 ghost use Rattle.scenario.specs.Opening.{base_of};
 
 use crate::alive::send_alive;
 use crate::bound::grown;
 use process_api::{
-    Action, Detector, Note, Payload, Pid, ProcSet, StepInput, Tag, Watch, note_that, wake_after,
+    Action, Detector, DetectorNumbers, Note, Payload, Pid, ProcSet, StepInput, Tag, TimeoutNumbers,
+    note_that, wake_after,
 };
 use scenario::Opening;
 use std::alloc::{AllocError, Global};
@@ -18,12 +21,14 @@ use std::alloc::{AllocError, Global};
 #[derive(Debug, Drop)]
 pub struct TimeoutDetector {
     opening: Opening,
+    numbers: TimeoutNumbers,
     // by process; place 0 is unused
     last_heard: Vec<u32>,
     // by process; place 0 is unused
     bound: Vec<u32>,
     suspects: ProcSet,
     has_failed: bool,
+    ghost kind: { opening.detector ≡ Timeout numbers },
     ghost heard_places: { vec_len last_heard ≡ opening.processes + 1 },
     ghost bound_places: { vec_len bound ≡ opening.processes + 1 },
     ghost not_itself: { set.contains suspects opening.own ≡ false },
@@ -32,17 +37,22 @@ pub struct TimeoutDetector {
 impl TimeoutDetector {
     ghost use Rattle.timeout_detector.specs.View.{state_of, is_watched, is_overdue, checked_by, heard_by, answer_of};
 
-    /// The detector with which a process opens: it suspects nobody, and has heard of nobody since tick 0. Its tables
-    /// have a place for each process, and nothing else in it needs memory.
+    /// The detector with which a process opens that has the numbers of this kind: it suspects nobody, and has heard of
+    /// nobody since tick 0. Its tables have a place for each process, and nothing else in it needs memory.
     pub fn open(alloc: Global, opening: &Opening) -> Result<TimeoutDetector, AllocError>
+        requires kind { IsTrue (is_timeout opening.now.detector) }
         ensures opens { IfOk result (λ d. ⟦<TimeoutDetector as Detector>⟧.lower d ≡ base_of opening.now) }
         ensures works { IfOk result (λ d. ⟦<TimeoutDetector as Detector>⟧.has_failed d ≡ false) }
     {
+        let DetectorNumbers::Timeout(numbers) = opening.detector else {
+            unreachable!()
+        };
         let places = usize::from(opening.processes) + 1;
         Ok(TimeoutDetector {
             opening: *opening,
+            numbers,
             last_heard: vec![in alloc; 0u32; places]?,
-            bound: vec![in alloc; opening.detector.timeout; places]?,
+            bound: vec![in alloc; numbers.timeout; places]?,
             suspects: ProcSet::new(),
             has_failed: false,
         })
@@ -54,13 +64,9 @@ impl TimeoutDetector {
         ensures known { result ≡ true → q ≤ self.now.opening.processes }
         ensures other { result ≡ true → q ≢ self.now.opening.own }
     {
-        let own = self.opening.own;
-        let processes = self.opening.processes;
-        let is_chosen = match self.opening.detector.watch {
-            Watch::All => true,
-            Watch::Next => q.number() == own.number() % processes + 1,
-        };
-        q.number() <= processes && q != own && is_chosen
+        self.numbers
+            .watch
+            .takes_in(self.opening.own, self.opening.processes, q)
     }
 
     /// Whether a process is overdue at tick `now`: it is watched and not yet suspected, and was silent for its bound
@@ -79,12 +85,13 @@ impl TimeoutDetector {
 
     /// A check at tick `now`: suspects each process that is overdue, in rising order, with its note, and asks for the
     /// next check.
-    #[tactic(auto, using(std::proofs::Common::append_assoc, crate::proofs::Members::without_after_insert))]
+    #[tactic(auto, using(std::proofs::Common::append_assoc, process_api::proofs::Membership::without_after_insert))]
     fn check(&mut self, now: u32, out: &mut Vec<Action>) -> Result<(), AllocError>
         ensures state { OnOk result (state_of self.new ≡ (checked_by self.old now).state) }
         ensures actions { OnOk result (out.new.items ≡ out.old.items ++ (checked_by self.old now).actions) }
 
         ensures opening { self.new.opening ≡ self.old.opening }
+        ensures numbers { self.new.numbers ≡ self.old.numbers }
         ensures failure { self.new.has_failed ≡ self.old.has_failed }
     {
         for number in 1..self.opening.processes + 1 {
@@ -96,12 +103,12 @@ impl TimeoutDetector {
                 note_that(out, Note::Suspect { layer: 1, who: q })?;
             }
         }
-        wake_after(out, self.opening.detector.check, Tag::Check)
+        wake_after(out, self.numbers.check, Tag::Check)
     }
 
     /// Hears at tick `now` of a process that is watched. If it was suspected, that was a mistake: it is trusted again,
     /// with its note, and its bound grows.
-    #[tactic(auto, using(crate::proofs::Members::fewer_after_remove))]
+    #[tactic(auto, using(process_api::proofs::Membership::fewer_after_remove))]
     fn hear(&mut self, now: u32, q: Pid, out: &mut Vec<Action>) -> Result<(), AllocError>
         requires { q ≤ self.old.opening.processes }
 
@@ -109,18 +116,15 @@ impl TimeoutDetector {
         ensures actions { OnOk result (out.new.items ≡ out.old.items ++ (heard_by self.old now q).actions) }
 
         ensures opening { self.new.opening ≡ self.old.opening }
+        ensures numbers { self.new.numbers ≡ self.old.numbers }
         ensures failure { self.new.has_failed ≡ self.old.has_failed }
     {
-        let Opening {
-            detector,
-            horizon,
-            ..
-        } = self.opening;
+        let horizon = self.opening.horizon;
         let place = usize::from(q.number());
         self.last_heard[place] = now;
         if self.suspects.contains(q) {
             self.suspects.remove(q);
-            self.bound[place] = grown(self.bound[place], detector.grow, horizon);
+            self.bound[place] = grown(self.bound[place], self.numbers.grow, horizon);
             note_that(out, Note::Trust { layer: 1, who: q })?;
         }
         Ok(())
@@ -133,9 +137,10 @@ impl TimeoutDetector {
         ensures actions { OnOk result (out.new.items ≡ out.old.items ++ (answer_of self.old now input.now).actions) }
 
         ensures opening { self.new.opening ≡ self.old.opening }
+        ensures numbers { self.new.numbers ≡ self.old.numbers }
         ensures failure { self.new.has_failed ≡ self.old.has_failed }
     {
-        let numbers = self.opening.detector;
+        let numbers = self.numbers;
         match input {
             StepInput::Start => {
                 send_alive(&self.opening, out)?;
@@ -163,7 +168,7 @@ impl Detector for TimeoutDetector {
 
     ghost has_failed = { λ d. d.has_failed };
 
-    #[tactic(auto, unfolding(process_api::specs::React::react_lower))]
+    #[tactic(auto, unfolding(process_api::specs::React::react_lower, process_api::specs::Detector::step_detector))]
     fn take(
         &mut self,
         now: u32,
@@ -187,20 +192,20 @@ impl Detector for TimeoutDetector {
 #[cfg(test)]
 mod tests {
     use super::*;
-    use process_api::{DetectorNumbers, Pid};
+    use process_api::{Pid, Watch};
     use scenario::AlgorithmKind;
     use std::test::Fail;
 
     /// A machine that has failed answers `Err` from then on, and does nothing.
     #[test]
     fn failed(rt: HostRuntime) -> Result<(), Fail> {
-        let detector = DetectorNumbers {
+        let detector = DetectorNumbers::Timeout(TimeoutNumbers {
             period: 4,
             check: 3,
             timeout: 5,
             grow: 1,
             watch: Watch::All,
-        };
+        });
         let Some(own) = Pid::new(1) else {
             unreachable!()
         };

@@ -1,9 +1,12 @@
 //! The time-out detector, input by input.
 ghost use Rattle.std.specs.Prelude.{◌≤◌};
-ghost use Rattle.scenario.specs.Numbers.{AreInRange};
+ghost use Rattle.process_api.specs.Bounds.{most_processes};
+ghost use Rattle.scenario.specs.Numbers.{AreTimeoutInRange};
 
 use crate::TimeoutDetector;
-use process_api::{Action, Detector, DetectorNumbers, Note, Payload, Pid, StepInput, Tag, Watch};
+use process_api::{
+    Action, Detector, DetectorNumbers, Note, Payload, Pid, StepInput, Tag, TimeoutNumbers, Watch,
+};
 use scenario::{AlgorithmKind, Opening};
 use std::alloc::{AllocError, Global};
 use std::process::Abort;
@@ -92,12 +95,12 @@ fn open(
     own: u16,
     processes: u16,
     horizon: u32,
-    detector: DetectorNumbers,
+    numbers: TimeoutNumbers,
 ) -> Result<TimeoutDetector, AllocError>
     requires one_of_them { (1 ≤ own) × (own ≤ processes) }
-    requires few { processes ≤ 64 }
+    requires few { processes ≤ most_processes }
     requires lasts { (1 ≤ horizon) × (horizon ≤ 10000000) }
-    requires numbers { AreInRange detector }
+    requires numbers { AreTimeoutInRange numbers }
 {
     let Some(own) = Pid::new(own) else {
         unreachable!()
@@ -106,7 +109,7 @@ fn open(
         own,
         processes,
         horizon,
-        detector,
+        detector: DetectorNumbers::Timeout(numbers),
         share: None,
         algorithm: AlgorithmKind::Idle,
         proposal: None,
@@ -115,7 +118,7 @@ fn open(
 }
 
 /// Numbers under which a silent process is suspected by the second or third check.
-const NUMBERS: DetectorNumbers = DetectorNumbers {
+const NUMBERS: TimeoutNumbers = TimeoutNumbers {
     period: 4,
     check: 3,
     timeout: 5,
@@ -167,7 +170,7 @@ fn crash_at_the_start(rt: HostRuntime) -> Result<(), Fail> {
 /// A suspicion that is taken back inside one tick makes the bound grow; what comes before the check prevents one.
 #[test]
 fn suspicion_taken_back_at_once(rt: HostRuntime) -> Result<(), Fail> {
-    let numbers = DetectorNumbers {
+    let numbers = TimeoutNumbers {
         period: 100,
         check: 2,
         timeout: 2,
@@ -203,7 +206,7 @@ fn suspicion_taken_back_at_once(rt: HostRuntime) -> Result<(), Fail> {
 }
 
 /// Numbers under which each process watches the next one alone.
-const WATCH_NEXT: DetectorNumbers = DetectorNumbers {
+const WATCH_NEXT: TimeoutNumbers = TimeoutNumbers {
     period: 2,
     check: 3,
     timeout: 5,
@@ -261,7 +264,7 @@ fn alone(rt: HostRuntime) -> Result<(), Fail> {
 }
 
 /// Numbers under which a bound grows by 3 ticks with each mistake.
-const GROWING: DetectorNumbers = DetectorNumbers {
+const GROWING: TimeoutNumbers = TimeoutNumbers {
     period: 9,
     check: 1,
     timeout: 2,
@@ -296,7 +299,7 @@ fn grown_bounds(rt: HostRuntime) -> Result<(), Fail> {
 /// A bound above the horizon stays.
 #[test]
 fn bound_above_the_horizon(rt: HostRuntime) -> Result<(), Fail> {
-    let long = DetectorNumbers {
+    let long = TimeoutNumbers {
         timeout: 12,
         ..GROWING
     };

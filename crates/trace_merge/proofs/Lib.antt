@@ -1,3 +1,3 @@
 pub mod Rising
-pub mod Merging
-pub mod Disjoint
+pub mod Distinct
+pub mod Gathering

@@ -8,9 +8,10 @@
 //! (3,1,1,2).
 #![tactic(auto)]
 
-mod halves;
+mod by_tick;
+mod merging;
 
-pub use halves::merge;
+pub use merging::merge;
 
 #[cfg(test)]
 mod tests;

@@ -7,6 +7,7 @@ use Rattle.std.specs.FinMap as finmap
 use Rattle.std.specs.List.{All}
 use Rattle.std.proofs.lemmas.List.{length-map, map-append}
 use Rattle.std.proofs.lemmas.List.Sorted.{length_permutation, Contains-permutation, IsPermutation-sym}
+use Rattle.process_api.specs.Bounds.{most_step_actions}
 use Rattle.process_api.specs.EntryRecord.{EntryRecord}
 use Rattle.process_api.specs.Mind.{Mind}
 use Rattle.process_api.specs.Order.{key_cmp, is_rising}
@@ -31,7 +32,8 @@ use Rattle.event_list.proofs.Runs.{run_exists, one_run}
 use Rattle.event_list.proofs.Sets.{joined_cases, one_input, insert_at, not_None, same_Some}
 use Rattle.event_list.proofs.Sound.{setting_sound}
 use Rattle.trace_merge.specs.Parts.{all_of, AreDisjoint}
-use Rattle.windows.specs.Berth.{event_of, RanTo, IsBerth}
+use Rattle.windows.specs.Agenda.{event_of}
+use Rattle.windows.specs.Berth.{RanTo, IsBerth}
 use Rattle.windows.specs.Machine.{StageRecord, Act, StandsFor, IsRun, end_of, first_status}
 use Rattle.windows.specs.Theorems.{IsListRun, IsMerge}
 use Rattle.windows.specs.Stage.{of_process, stage_of, AreHome, IsStageAfter, IsClosed, IsNextStart, IsWindowRun}
@@ -244,7 +246,7 @@ module _ {M : Type 0} (mind : M → Mind) (old : Stage M) (ranges : IsInRange ol
         (posted : (p : ℕ) → IsProcess S p → (own_list : List Letter) → slice_get lists (p - 1) ≡ Some own_list → (x : Letter) → IsIn x own_list ↔ ((q : ℕ) × IsProcess S q × IsIn x (letters q) × (x.key.receiver ≡ p)))
         (new : Stage M) (same_scenario : new.scenario.now ≡ old.scenario.now) (left : ℕ) (sum : left + old.so_far ≡ s.limit)
         (merged : List EntryRecord) (closed : IsClosed mind left old.so_far berths lists merged new)
-        (home : (p : ℕ) → IsProcess S p → (b : Berth M) → slice_get berths (p - 1) ≡ Some b → IsBerth mind s p (4096 * old.so_far + 4096 * vec_len b.part) b) where
+        (home : (p : ℕ) → IsProcess S p → (b : Berth M) → slice_get berths (p - 1) ≡ Some b → IsBerth mind s p (most_step_actions * old.so_far + most_step_actions * vec_len b.part) b) where
       -- a berth after the closing
       abbrev IsLater : ℕ → Berth M → Berth M → List Letter → Type 0
       IsLater p b c own_list = (slice_get berths (p - 1) ≡ Some b) × (slice_get new.berths.items (p - 1) ≡ Some c) × (slice_get lists (p - 1) ≡ Some own_list) × (c.seat ≡ b.seat) × (c.pending ≡ joined b.pending (map event_of own_list)) × (c.part.items ≡ [])
@@ -472,22 +474,22 @@ module _ {M : Type 0} (mind : M → Mind) (old : Stage M) (ranges : IsInRange ol
         home_new : AreHome mind s (new.so_far) new.berths.items
         home_new = record { berth = at_home }
           where
-            at_home : (p : ℕ) → IsProcess S p → (c : Berth M) × (slice_get new.berths.items (p - 1) ≡ Some c) × IsBerth mind s p (4096 * new.so_far) c
+            at_home : (p : ℕ) → IsProcess S p → (c : Berth M) × (slice_get new.berths.items (p - 1) ≡ Some c) × IsBerth mind s p (most_step_actions * new.so_far) c
             at_home p own = by (later p own)
               where
                 received_by : (k : Key) (y : StepInput) → Has (rest p) k y ⊎ IsPosted S events_of p k y → k.receiver ≡ p
                 received_by k y (inl r) = (rest_in p own k y r).1
                 received_by k y (inr u) = u.3
 
-                by : (b : Berth M) × (c : Berth M) × (own_list : List Letter) × IsLater p b c own_list → (c : Berth M) × (slice_get new.berths.items (p - 1) ≡ Some c) × IsBerth mind s p (4096 * new.so_far) c
+                by : (b : Berth M) × (c : Berth M) × (own_list : List Letter) × IsLater p b c own_list → (c : Berth M) × (slice_get new.berths.items (p - 1) ≡ Some c) × IsBerth mind s p (most_step_actions * new.so_far) c
                 by (b, c, own_list, t) =
                     let was = home p own b t.0 in
                     let few : length b.part.items ≤ length (all_of (map (λ b. b.part.items) berths)) = part_few (map (λ b. b.part.items) berths) (p - 1) b.part.items (there_map (λ b. b.part.items) berths (p - 1) b t.0) in
-                    let more : 4096 * old.so_far + 4096 * vec_len b.part ≤ 4096 * new.so_far = omega (arith, few, length_permutation _ _ closed.same, closed.longer, b.part.ok.0) in (
+                    let more : most_step_actions * old.so_far + most_step_actions * vec_len b.part ≤ most_step_actions * new.so_far = omega (arith, few, length_permutation _ _ closed.same, closed.longer, b.part.ok.0) in (
                       c,
                       t.1,
                       record {
-                        seated = subst (λ z. IsSeated mind s (4096 * new.so_far) z) (sym t.3) (record {
+                        seated = subst (λ z. IsSeated mind s (most_step_actions * new.so_far) z) (sym t.3) (record {
                           low = was.seated.low;
                           high = was.seated.high;
                           is_mind = was.seated.is_mind;

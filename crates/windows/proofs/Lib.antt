@@ -22,3 +22,4 @@ pub mod Handed
 pub mod Starts
 pub mod Dealings
 pub mod Deals
+pub mod Agendas

@@ -4,6 +4,7 @@ use Rattle.std.specs.FinMap as finmap
 use Rattle.std.specs.List.{All}
 use Rattle.std.proofs.lemmas.Bool.{cases_lt}
 use Rattle.std.proofs.lemmas.List.{length-map}
+use Rattle.process_api.specs.Bounds.{most_step_actions}
 use Rattle.process_api.specs.Mind.{Mind}
 use Rattle.process_api.specs.Numbers.{numbers_to}
 use Rattle.process_api.specs.Order.{key_cmp}
@@ -145,7 +146,7 @@ module _ {M : Type 0} (mind : M → Mind) (stage : Stage M) (ranges : IsInRange 
   home : AreHome mind s (stage.so_far) stage.berths.items
   home = record { berth = λ p own. let b = first p own in (b.0, b.1.0, at_home p b.0 b.1) }
     where
-      at_home : (p : ℕ) (b : Berth M) → IsFirst p b → IsBerth mind s p (4096 * stage.so_far) b
+      at_home : (p : ℕ) (b : Berth M) → IsFirst p b → IsBerth mind s p (most_step_actions * stage.so_far) b
       at_home p b f = record {
         seated = subst (λ n. IsSeated mind s n b.seat) (omega (arith, no_entries)) f.3.0;
         is = f.2;

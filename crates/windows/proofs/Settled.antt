@@ -4,6 +4,7 @@ use Rattle.std.specs.List.{All}
 use Rattle.std.specs.Prelude.{IsTrue}
 use Rattle.std.proofs.lemmas.List.{length-map}
 use Rattle.std.proofs.lemmas.Option.{slice_get_within, get_or_from_slice_get}
+use Rattle.process_api.specs.Bounds.{most_step_actions}
 use Rattle.process_api.specs.EntryRecord.{EntryRecord}
 use Rattle.process_api.specs.Mind.{Mind}
 use Rattle.process_api.specs.Order.{is_rising}
@@ -18,7 +19,8 @@ use Rattle.event_list.specs.World.{IsTrace}
 use Rattle.event_list.proofs.Sets.{not_None, same_Some}
 use Rattle.mailboxes.specs.Mailboxes.{list_of}
 use Rattle.trace_merge.specs.Parts.{all_of, AreDisjoint}
-use Rattle.windows.specs.Berth.{event_of, RanTo, IsBerth}
+use Rattle.windows.specs.Agenda.{event_of}
+use Rattle.windows.specs.Berth.{RanTo, IsBerth}
 use Rattle.windows.specs.Machine.{end_of}
 use Rattle.windows.specs.Stage.{IsStageAfter, IsClosed, IsWindowRun}
 use Rattle.windows.specs.Window.{BerthRun}
@@ -59,11 +61,11 @@ module _ {M : Type 0} (mind : M → Mind) (old : Stage M) (ranges : IsInRange ol
   process_at : (i : ℕ) (b : Berth M) → slice_get olds i ≡ Some b → IsProcess S (1 + i)
   process_at i b at = (omega arith, omega (arith, slice_get_within olds i b at, many))
 
-  berth_at : (i : ℕ) (b : Berth M) → slice_get olds i ≡ Some b → IsBerth mind s (1 + i) (4096 * old.so_far) b
+  berth_at : (i : ℕ) (b : Berth M) → slice_get olds i ≡ Some b → IsBerth mind s (1 + i) (most_step_actions * old.so_far) b
   berth_at i b at =
       let h = is.home.berth (1 + i) (process_at i b at) in
       let here : slice_get olds ((1 + i) - 1) ≡ Some b = subst (λ n. slice_get olds n ≡ Some b) (omega arith) at in
-      subst (IsBerth mind s (1 + i) (4096 * old.so_far)) (same_Some h.0 b (sym h.1 ∙ here)) h.2
+      subst (IsBerth mind s (1 + i) (most_step_actions * old.so_far)) (same_Some h.0 b (sym h.1 ∙ here)) h.2
 
   part_at : (i : ℕ) (b : Berth M) → slice_get olds i ≡ Some b → b.part.items ≡ []
   part_at i b at =
@@ -71,7 +73,7 @@ module _ {M : Type 0} (mind : M → Mind) (old : Stage M) (ranges : IsInRange ol
       sym (at_process (1 + i) (map (λ z. z.part.items) olds) b.part.items [] (omega arith) (there_map (λ z. z.part.items) olds ((1 + i) - 1) b here)) ∙ (is.stands 0).part (1 + i)
 
   pub stage_ready : (left : ℕ) → left + old.so_far ≡ s.limit → All (IsReady mind s left) olds
-  stage_ready left sum = all_at (IsReady mind s left) olds (λ i b at. ((1 + i, 4096 * old.so_far, berth_at i b at, omega (arith, sum, ranges.limit_high)), part_at i b at))
+  stage_ready left sum = all_at (IsReady mind s left) olds (λ i b at. ((1 + i, most_step_actions * old.so_far, berth_at i b at, omega (arith, sum, ranges.limit_high)), part_at i b at))
 
   pub stage_rises : RiseBy (λ (b : Berth M). own_of mind b.seat) olds
   stage_rises = rise_from (λ (b : Berth M). own_of mind b.seat) 1 olds (λ i b at. (berth_at i b at).is)
@@ -166,15 +168,15 @@ module _ {M : Type 0} (mind : M → Mind) (old : Stage M) (ranges : IsInRange ol
               let u = letters.1 q own_q in
               subst (IsIn x) list_is ((o.letters p own.0 own.1 x).1 (u.0, place_in o.stays (q - 1) u.0 u.1, subst (IsIn x) u.2 i, ap (λ n. n - 1) e))
 
-      home : (p : ℕ) → IsProcess S p → (b : Berth M) → slice_get news (p - 1) ≡ Some b → IsBerth mind s p (4096 * old.so_far + 4096 * vec_len b.part) b
+      home : (p : ℕ) → IsProcess S p → (b : Berth M) → slice_get news (p - 1) ≡ Some b → IsBerth mind s p (most_step_actions * old.so_far + most_step_actions * vec_len b.part) b
       home p own b at =
           let t = letters.1 p own in
           let h = is.home.berth p own in
           let before : t.0.before ≡ h.0 = before_is p t.0 h.0 t.1 h.1 in
           let after : t.0.after ≡ b = after_is p t.0 b t.1 at in
           let stay = (all_place (IsStay mind s end) o.stays o.each (p - 1) t.0 t.1).1 in
-          subst (λ z. IsBerth mind s p (4096 * old.so_far + 4096 * vec_len z.part) z) after
-          (stay p (4096 * old.so_far) (subst (IsBerth mind s p (4096 * old.so_far)) (sym before) h.2))
+          subst (λ z. IsBerth mind s p (most_step_actions * old.so_far + most_step_actions * vec_len z.part) z) after
+          (stay p (most_step_actions * old.so_far) (subst (IsBerth mind s p (most_step_actions * old.so_far)) (sym before) h.2))
 
       pub outcome_next : (new : Stage M) → new.scenario.now ≡ old.scenario.now → (left : ℕ) → left + old.so_far ≡ s.limit → (merged : List EntryRecord) → IsClosed mind left old.so_far news lists merged new → IsStageAfter mind (trace_so_far ++ merged) new × IsWindowRun mind window old new merged
       outcome_next new same left sum merged closed = next_stage mind old ranges trace_so_far is window short news news_many letters.0 ran lists o.count posted new same left sum merged closed home

@@ -19,7 +19,7 @@ pub none_pending : (horizon : ℕ) → IsNextStart horizon [] horizon
 none_pending horizon = record { to_horizon = omega arith; late = all_at (NoneBelow horizon) [] (λ i m at. absurd (not_None m at)); least = inl refl }
 
 -- nothing is before the least tick
-from_least : (m : Events) (tick : ℕ) → IsLeastTick m tick → NoneBelow tick m
+pub from_least : (m : Events) (tick : ℕ) → IsLeastTick m tick → NoneBelow tick m
 from_least m tick least k y h = go (before_or_not k least.0)
   where
     go : (key_cmp k least.0 ≡ Less) ⊎ ((k ≡ least.0) ⊎ (key_cmp least.0 k ≡ Less)) → tick ≤ k.tick

@@ -13,13 +13,10 @@ use Rattle.event_list.specs.declared.seat.Seat.{Seat}
 use Rattle.event_list.specs.Step.{Event, Events, Process, Made, step}
 use Rattle.event_list.specs.World.{Pair, Has, entries}
 use Rattle.mailboxes.specs.Mailboxes.{SlipView, with_letter}
+use Rattle.windows.specs.Agenda.{event_of}
 use Rattle.windows.specs.Machine.{for_others}
 use Rattle.windows.specs.Window.{BerthRun}
 use Rattle.windows.specs.declared.berth.Berth.{Berth}
-
--- the event that a letter becomes
-abbrev pub event_of : Letter → Event
-event_of x = (x.key, input.Letter x.key.sender x.payload)
 
 -- an event that process p causes: one of its own, or a letter to one of processes 1 to n
 abbrev pub IsOwnOrLetter : (n p : ℕ) → Event → Type 0

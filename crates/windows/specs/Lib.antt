@@ -2,6 +2,7 @@ pub mod Machine
 pub mod Window
 pub mod Theorems
 pub mod Plan
+pub mod Agenda
 pub mod Alternation
 pub mod Berth
 pub mod Stage

@@ -3,6 +3,11 @@ use Rattle.std.specs.Prelude.{◌≡◌, ℕ, ◌≤◌, ◌<◌}
 use Rattle.scenario.specs.Record.{Record}
 use Rattle.windows.specs.declared.error.PlanError.{PlanError}
 use Rattle.windows.specs.declared.error.PlanError.TheVariants as error
+use Rattle.windows.specs.declared.plan.TheConstants.{MOST_WORKERS}
+
+-- how many workers can share a window
+abbrev pub most_workers : ℕ
+most_workers = MOST_WORKERS
 
 pub record PlanRecord : Type 0 where
   pub workers : ℕ
@@ -15,7 +20,7 @@ plan_of workers window = record { workers = workers; window = window }
 -- what holds of every plan
 pub record IsPlan (plan : PlanRecord) : Type 0 where
   pub workers_low : 1 ≤ plan.workers
-  pub workers_high : plan.workers ≤ 64
+  pub workers_high : plan.workers ≤ most_workers
   pub window_low : 1 ≤ plan.window
 
 -- a window of the plan is no longer than the scenario's lookahead
@@ -26,7 +31,7 @@ IsPlanFor s plan = plan.window ≤ s.lookahead
 
 -- the reason is one against these numbers
 abbrev pub Applies : (lookahead workers window : ℕ) → PlanError → Type 0
-Applies lookahead workers window error.Workers = ¬ ((1 ≤ workers) × (workers ≤ 64))
+Applies lookahead workers window error.Workers = ¬ ((1 ≤ workers) × (workers ≤ most_workers))
 Applies lookahead workers window error.WindowZero = window ≡ 0
 Applies lookahead workers window error.WindowTooLong = lookahead < window
 

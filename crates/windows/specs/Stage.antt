@@ -3,6 +3,7 @@ use Rattle.std.specs.Prelude.{◌≡◌, ◌⊎◌, ℕ, zero, suc, ◌+◌, ◌
 use Rattle.std.specs.FinMap as events
 use Rattle.std.specs.List.{All}
 use Rattle.std.specs.List.Sorted.{IsPermutation}
+use Rattle.process_api.specs.Bounds.{most_step_actions}
 use Rattle.process_api.specs.EntryRecord.{EntryRecord}
 use Rattle.process_api.specs.Mind.{Mind}
 use Rattle.process_api.specs.Order.{is_rising}
@@ -18,7 +19,8 @@ use Rattle.event_list.specs.Standing.{IsReached}
 use Rattle.event_list.specs.Step.{Events}
 use Rattle.event_list.specs.World.{World, IsWorld, NoneBelow, joined, start_of, opening_process}
 use Rattle.trace_merge.specs.Parts.{all_of}
-use Rattle.windows.specs.Berth.{event_of, IsBerth}
+use Rattle.windows.specs.Agenda.{event_of}
+use Rattle.windows.specs.Berth.{IsBerth}
 use Rattle.windows.specs.Machine.{StageRecord, Act, StandsFor, IsRun, end_of, first_status}
 use Rattle.windows.specs.Theorems.{IsMerge}
 use Rattle.windows.specs.Window.{IsSameStage}
@@ -71,7 +73,7 @@ module _ {M : Type 0} (mind : M → Mind) where
   -- entry so far
   pub record AreHome (s : Record) (entries : ℕ) (berths : List (Berth M)) : Type 0 where
     pub berth : (p : ℕ) → IsProcess (setting_of s) p
-        → (b : Berth M) × (slice_get berths (p - 1) ≡ Some b) × IsBerth mind s p (4096 * entries) b
+        → (b : Berth M) × (slice_get berths (p - 1) ≡ Some b) × IsBerth mind s p (most_step_actions * entries) b
 
   -- a stage between two windows, after these entries: it stands for a world by which the list comes after them
   pub record IsStageAfter (trace : List EntryRecord) (stage : Stage M) : Type 0 where

@@ -2,6 +2,7 @@
 use Rattle.std.specs.Prelude.{◌≡◌, ◌↔◌, ◌<◌, ◌≤◌, ◌+◌, ◌-◌, ◌*◌, ◌^◌, ◌++◌, ℕ, List, [], ◌∷◌, length, map, vec_len, Result, IfOk, IfErr, IsErrOf}
 use Rattle.std.specs.List.{All, Contains, flat_map}
 use Rattle.std.specs.List.Sorted.{IsPermutation}
+use Rattle.process_api.specs.Bounds.{most_step_actions}
 use Rattle.process_api.specs.Mind.{Mind}
 use Rattle.process_api.specs.declared.message.Letter.{Letter}
 use Rattle.scenario.specs.Record.{Record}
@@ -51,14 +52,15 @@ module _ {M : Type 0} where
     -- nothing was done in the berth for this window yet, and so many entries fit
     abbrev pub IsReady : (left : ℕ) → Berth M → Type 0
     IsReady left b =
-        ((p : ℕ) × (most : ℕ) × IsBerth mind s p most b × (most + 4096 * (left + 1) < 2 ^ 64)) × (b.part.items ≡ [])
+        ((p : ℕ) × (most : ℕ) × IsBerth mind s p most b × (most + most_step_actions * (left + 1) < 2 ^ 64))
+        × (b.part.items ≡ [])
 
     -- the process took its events below the end, and stays in its berth
     abbrev pub IsStay : (end : ℕ) → Stay M → Type 0
     IsStay end t =
         RanTo mind s (own_of mind t.before.seat) end t.before t.after t.letters
         × ((p most : ℕ) → IsBerth mind s p most t.before
-        → IsBerth mind s p (most + 4096 * vec_len t.after.part) t.after)
+        → IsBerth mind s p (most + most_step_actions * vec_len t.after.part) t.after)
 
     -- one of the processes has
     abbrev pub HasLong : (end left : ℕ) → List (Berth M) → Type 0

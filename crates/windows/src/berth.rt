@@ -1,6 +1,7 @@
 //! One process of a window: its machine, its pending events, and its part of the trace.
 ghost use Rattle.std.specs.Prelude.{◌≡◌, ◌≤◌, ◌<◌, ◌+◌, ◌*◌, ◌^◌, ◌++◌, [], ◌∷◌, ℕ, List, length, vec_len, IfErr, IfOk, OnOk, IsErrOf};
 ghost use Rattle.std.specs.List.{AllByRecursion};
+ghost use Rattle.process_api.specs.Bounds.{most_step_actions};
 ghost use Rattle.process_api.specs.declared.message.Letter.{Letter as SentLetter};
 ghost use Rattle.event_list.specs.Seat.{process_of, own_of, IsMindIn, IsSeated};
 ghost use Rattle.event_list.specs.World.{joined, opened};
@@ -9,6 +10,7 @@ ghost use Rattle.windows.specs.Berth.{with_letters, made_in, ArePosted, IsOwnOrL
 ghost use Rattle.windows.specs.Machine.{for_self};
 ghost use Rattle.windows.specs.Refusals.{IsRefusalOfOne};
 
+use crate::agenda::Agenda;
 use event_list::{Pending, RunError, Seat};
 use mailboxes::{SharedMailboxes, Slip};
 use process_api::{Action, Entry, Key, Letter, Pid, Process, StepInput};
@@ -22,7 +24,7 @@ use streams::Streams;
 #[derive(Drop)]
 pub struct Berth<M> {
     pub(crate) seat: Seat<M>,
-    pub(crate) pending: Pending,
+    pub(crate) pending: Agenda,
     // the entries of the open window, in the order of their keys
     pub(crate) part: Vec<Entry>,
     // room for what one step makes
@@ -34,7 +36,7 @@ pub struct Berth<M> {
 fn hand_on<R: Wait>(
     rt: &R,
     own: Pid,
-    pending: &mut Pending,
+    pending: &mut Agenda,
     mailboxes: &SharedMailboxes,
     slip: &mut Slip,
     key: Key,
@@ -62,7 +64,7 @@ fn hand_on<R: Wait>(
 fn hand_on_all<R: Wait>(
     rt: &R,
     own: Pid,
-    pending: &mut Pending,
+    pending: &mut Agenda,
     mailboxes: &SharedMailboxes,
     slip: &mut Slip,
     added: &mut Vec<(Key, StepInput)>,
@@ -100,7 +102,7 @@ impl<M: Process> Berth<M> {
         let seat = Seat::new(alloc, scenario, machine)?;
         Ok(Berth {
             seat,
-            pending,
+            pending: Agenda::new(alloc, pending),
             part: Vec::new(alloc),
             actions: Vec::new(alloc),
             added: Vec::new(alloc),
@@ -125,7 +127,8 @@ impl<M: Process> Berth<M> {
         key: Key,
         input: &StepInput,
     ) -> Result<(), AllocError>
-        requires seated { (most : ℕ) × IsSeated M.mind streams.now most self.old.seat × (most + 4096 < 2 ^ 64) }
+        requires seated { (most : ℕ) × IsSeated M.mind streams.now most self.old.seat
+            × (most + most_step_actions < 2 ^ 64) }
         requires own { key.receiver ≡ own_of M.mind self.old.seat }
         requires slip { IsSlipOf mailboxes.now slip.old }
         requires boxes { length mailboxes.now ≡ streams.now.processes }
@@ -135,7 +138,7 @@ impl<M: Process> Berth<M> {
             ≡ (made_in M.mind streams.now self.old.seat key input.now).process) }
         ensures own { OnOk result (own_of M.mind self.new.seat ≡ own_of M.mind self.old.seat) }
         ensures seated { OnOk result ((most : ℕ) → IsSeated M.mind streams.now most self.old.seat
-            → IsSeated M.mind streams.now (most + 4096) self.new.seat) }
+            → IsSeated M.mind streams.now (most + most_step_actions) self.new.seat) }
         ensures pending { OnOk result (self.new.pending ≡ joined self.old.pending
             (for_self key.receiver (made_in M.mind streams.now self.old.seat key input.now).added)) }
         ensures part { OnOk result (self.new.part.items
@@ -178,7 +181,7 @@ pub fn run_berth<M: Process, R: Wait>(
     left: u64,
 ) -> Result<(), RunError>
     requires berth { (p : ℕ) × (most : ℕ) × IsBerth M.mind streams.now p most berth.old
-        × (most + 4096 * (left + 1) < 2 ^ 64) }
+        × (most + most_step_actions * (left + 1) < 2 ^ 64) }
     requires part { berth.old.part.items ≡ [] }
     requires slip { IsSlipOf mailboxes.now slip.old }
     requires boxes { length mailboxes.now ≡ streams.now.processes }
@@ -187,7 +190,7 @@ pub fn run_berth<M: Process, R: Wait>(
     ensures ran { OnOk result ((p : ℕ) → own_of M.mind berth.old.seat ≡ p → (letters : List SentLetter)
         × RanTo M.mind streams.now p end berth.old berth.new letters × (slip.new ≡ with_letters slip.old letters)) }
     ensures berth { OnOk result ((p most : ℕ) → IsBerth M.mind streams.now p most berth.old
-        → IsBerth M.mind streams.now p (most + 4096 * vec_len berth.new.part) berth.new) }
+        → IsBerth M.mind streams.now p (most + most_step_actions * vec_len berth.new.part) berth.new) }
     ensures within { OnOk result (vec_len berth.new.part ≤ left) }
     ensures errors { IfErr result IsRefusalOfOne }
     ensures limit { IsErrOf result RunError.Limit → IsLong M.mind streams.now end left berth.old }

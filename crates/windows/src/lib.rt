@@ -42,6 +42,7 @@
 //! and 2 entries, whoever runs first in each.
 #![tactic(auto)]
 
+mod agenda;
 mod berth;
 mod deal;
 mod deque;

@@ -6,6 +6,9 @@ use crate::error::PlanError;
 use scenario::Scenario;
 use std::marker::Model;
 
+/// How many workers can share a window.
+pub(crate) const MOST_WORKERS: u64 = 64;
+
 /// How many workers share the processes, and how many ticks a window has.
 #[derive(Clone, Copy, Debug, PartialEq, Eq)]
 pub struct Plan {
@@ -38,7 +41,7 @@ impl Plan {
         ensures ok { OnOk result (NoneApplies scenario.now.lookahead workers window) }
         ensures err { IfErr result (IsFirst scenario.now.lookahead workers window) }
     {
-        if workers < 1 || workers > 64 {
+        if workers < 1 || workers > MOST_WORKERS {
             return Err(PlanError::Workers);
         }
         if window == 0 {

@@ -18,10 +18,21 @@ use crate::window::run_window;
 use event_list::RunError;
 use process_api::{Process, Trace};
 use scenario::Scenario;
-use std::alloc::Global;
+use std::alloc::{AllocError, Global};
 use std::marker::Sync;
 use std::sync::Wait;
 use std::thread::Threads;
+
+// How many bytes of free memory the allocator keeps at least.
+const KEPT: usize = 16 << 20;
+
+/// Takes one large block and gives it back. By the size of such a block the C library's allocator decides how much free
+/// memory it keeps. Without it the pages of a window go back to the system at its end, and the next window's first use
+/// of each brings it in again. Nothing else hangs on it, and it is well where the block is refused.
+fn keep_pages(alloc: Global) {
+    let block: Result<Vec<u8>, AllocError> = Vec::with_capacity(alloc, KEPT);
+    drop(block);
+}
 
 /// Runs machines window by window up to the horizon. Each window's part of the trace is handed on once it is closed.
 fn run_machines<M: Process, G: Gate, K: Sink, R: Threads + Wait + Sync>(
@@ -48,6 +59,7 @@ fn run_machines<M: Process, G: Gate, K: Sink, R: Threads + Wait + Sync>(
     // Readers say that a window has a tick at least, and that the scenario's fields are in their ranges.
     let _window = plan.window();
     let _horizon = scenario.horizon();
+    keep_pages(alloc);
     let mut stage = Stage::open(alloc, scenario, machines)?;
     while !stage.finished() {
         let part = run_window(rt, alloc, &mut stage, plan, gate)?;

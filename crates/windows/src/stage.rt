@@ -11,13 +11,14 @@ ghost use Rattle.event_list.specs.Seat.{process_of, own_of, IsMindIn, IsSeated};
 ghost use Rattle.event_list.specs.World.{opened, opening, joined};
 ghost use Rattle.mailboxes.specs.Mailboxes.{letters_in};
 ghost use Rattle.trace_merge.specs.Parts.{all_of, AreDisjoint};
-ghost use Rattle.windows.specs.Berth.{event_of};
+ghost use Rattle.windows.specs.Agenda.{event_of};
 ghost use Rattle.windows.specs.Machine.{StandsFor};
 ghost use Rattle.windows.specs.Refusals.{IsRefusalOfOne};
 ghost use Rattle.windows.specs.Stage.{stage_of, start_event, delivered, IsOpened, IsClosed, IsNextStart, IsStageAfter};
 
 use crate::berth::Berth;
 use event_list::{Pending, RunError};
+use mailboxes::Mailboxes;
 use process_api::{Entry, Key, Letter, Pid, Process, StepInput};
 use scenario::Scenario;
 use std::alloc::{AllocError, Global};
@@ -34,6 +35,8 @@ pub struct Stage<'s, M> {
     pub(crate) start: u32,
     // how many entries the windows so far have
     pub(crate) so_far: u64,
+    // those of the window before, if there was one, to be used again
+    pub(crate) mailboxes: Option<Mailboxes>,
 }
 
 /// The start of a process, alone.
@@ -81,13 +84,7 @@ fn deliver<M: Process>(
     ensures part { OnOk result (berth.new.part.items ≡ []) }
     ensures entries { IfOk result (λ v. v.items ≡ berth.old.part.items) }
 {
-    for letter in letters {
-        let Letter { key, payload } = letter;
-        let sender = key.sender;
-        berth
-            .pending
-            .join(key, StepInput::Letter { sender, payload })?;
-    }
+    berth.pending.deliver(letters)?;
     // as much room as this window's part took
     let next = Vec::with_capacity(alloc, berth.part.len())?;
     Ok(replace(&mut berth.part, next))
@@ -160,6 +157,7 @@ impl<'s, M: Process> Stage<'s, M> {
             berths,
             start: 0,
             so_far: 0,
+            mailboxes: None,
         })
     }
 

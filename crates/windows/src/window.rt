@@ -9,7 +9,7 @@ ghost use Rattle.event_list.specs.Seat.{own_of};
 ghost use Rattle.event_list.specs.World.{IsTrace};
 ghost use Rattle.mailboxes.specs.Mailboxes.{letters_in, unused};
 ghost use Rattle.windows.specs.Deques.{deques_of};
-ghost use Rattle.windows.specs.Plan.{IsPlanFor};
+ghost use Rattle.windows.specs.Plan.{IsPlanFor, most_workers};
 ghost use Rattle.windows.specs.Refusals.{IsRefusal};
 ghost use Rattle.windows.specs.Shared.{AreReady, IsOneTooLong, IsFreshIn, IsStart, AreAnswers, HadWindow, IsCountOfWorkers};
 ghost use Rattle.windows.specs.Stage.{IsStage, IsStageAfter, IsWindowRun};
@@ -40,7 +40,7 @@ fn in_threads<M: Process, G: Gate, R: Threads + Wait + Sync>(
     starts: Vec<Start<M>>,
 ) -> Result<Vec<Work<M>>, RunError>
     requires starts { All (IsStart M.mind shared.now) starts.items }
-    requires few { vec_len starts ≤ 64 }
+    requires few { vec_len starts ≤ most_workers }
     ensures { AreAnswers M.mind shared.now starts.items result }
 {
     thread::scope(
@@ -48,7 +48,7 @@ fn in_threads<M: Process, G: Gate, R: Threads + Wait + Sync>(
         rt,
         |scope| -> Result<Vec<Work<M>>, RunError>
             requires { IsSync R.row × IsSync G.row × All (IsStart M.mind shared.now) starts.items
-                × (vec_len starts ≤ 64) }
+                × (vec_len starts ≤ most_workers) }
             ensures { AreAnswers M.mind shared.entry.now starts.items result }
         { start_workers(scope, rt, shared, starts) },
     )
@@ -67,7 +67,7 @@ fn run_dealt<M: Process, G: Gate, R: Threads + Wait + Sync>(
     requires ready { AreReady M.mind shared.now.window.now (dealt_to starts.items) }
     requires fresh { All (IsFreshIn shared.now) starts.items }
     requires known { All (λ s. s.hand.known ≡ dealt_to starts.items) starts.items }
-    requires few { vec_len starts ≤ 64 }
+    requires few { vec_len starts ≤ most_workers }
 
     ensures slips { IfOk result (λ r. vec_len r.1 ≡ vec_len starts + 1) }
     ensures run { IfOk result (λ r.
@@ -96,7 +96,7 @@ fn run_berths_of<M: Process, G: Gate, R: Threads + Wait + Sync>(
     berths: Vec<Berth<M>>,
 ) -> Result<(Vec<Berth<M>>, Vec<Slip>), RunError>
     requires some { 0 < workers }
-    requires few { workers ≤ 64 }
+    requires few { workers ≤ most_workers }
     requires slips { mailboxes.old.slips ≡ 0 }
     requires boxes { length mailboxes.old.mailboxes ≡ window.now.streams.processes }
     requires ready { AreReady M.mind window.now berths.items }
@@ -136,31 +136,47 @@ pub(crate) fn in_order<M: Process>(mut berths: Vec<Berth<M>>) -> Vec<Berth<M>>
     berths
 }
 
-/// Runs one window of all processes, of which there are so many. Answers their berths, and the letters of each, of
-/// process 1 first.
+/// The mailboxes for so many processes: those that are kept, or new ones.
+fn mailboxes_for(
+    alloc: Global,
+    kept: Option<Mailboxes>,
+    processes: u16,
+) -> Result<Mailboxes, AllocError>
+    ensures count { IfOk result (λ m. length m.mailboxes ≡ processes) }
+    ensures slips { IfOk result (λ m. m.slips ≡ 0) }
+{
+    match kept {
+        Some(mailboxes) if mailboxes.are_new(processes) => Ok(mailboxes),
+        _ => Mailboxes::new(alloc, processes),
+    }
+}
+
+/// Runs one window of all processes. Answers their berths, the mailboxes, which are as they were, and the letters of
+/// each process, of process 1 first.
 fn run_all<M: Process, G: Gate, R: Threads + Wait + Sync>(
     rt: &R,
     alloc: Global,
     gate: &G,
     plan: &Plan,
-    processes: u16,
+    mut mailboxes: Mailboxes,
     window: &Window<'_>,
     berths: Vec<Berth<M>>,
-) -> Result<(Vec<Berth<M>>, Vec<Vec<Letter>>), RunError>
-    requires processes { processes ≡ window.now.streams.processes }
+) -> Result<(Vec<Berth<M>>, Mailboxes, Vec<Vec<Letter>>), RunError>
+    requires boxes { length mailboxes.mailboxes ≡ window.now.streams.processes }
+    requires slips { mailboxes.slips ≡ 0 }
     requires ready { AreReady M.mind window.now berths.items }
     requires rising { RiseBy (λ b. own_of M.mind b.seat) berths.items }
 
     ensures outcome { IfOk result (λ r.
-        IsOutcome M.mind window.now.streams window.now.end berths.items r.0.items (letters_in r.1.items)) }
+        IsOutcome M.mind window.now.streams window.now.end berths.items r.0.items (letters_in r.2.items)) }
     ensures errors { IfErr result IsRefusal }
     ensures limit { IsErrOf result RunError.Limit → IsOneTooLong M.mind window.now berths.items }
 {
     let workers = plan.workers();
-    let mut mailboxes = Mailboxes::new(alloc, processes)?;
     let (done, slips) = run_berths_of(rt, alloc, gate, workers, &mut mailboxes, window, berths)?;
-    let letters = mailboxes.collect(rt, alloc, slips)?;
-    Ok((in_order(done), letters))
+    let lists = mailboxes.lists(alloc)?;
+    let (mailboxes, letters) = mailboxes.empty(rt, alloc, lists, slips)?;
+    Ok((in_order(done), mailboxes, letters))
 }
 
 /// The end of a window, which is cut at the horizon.
@@ -202,11 +218,13 @@ pub fn run_window<M: Process, G: Gate, R: Threads + Wait + Sync>(
 {
     let scenario = stage.scenario;
     let processes = scenario.processes();
+    let mailboxes = mailboxes_for(alloc, stage.mailboxes.take(), processes)?;
     let end = cut_at(stage.start + plan.window(), scenario.horizon());
     let left = scenario.limit() - stage.so_far;
     let streams = Streams::new(scenario);
     let window = Window { streams, end, left };
     let berths = replace(&mut stage.berths, Vec::new(alloc));
-    let (berths, letters) = run_all(rt, alloc, gate, plan, processes, &window, berths)?;
+    let (berths, mailboxes, letters) = run_all(rt, alloc, gate, plan, mailboxes, &window, berths)?;
+    stage.mailboxes = Some(mailboxes);
     stage.close(alloc, berths, letters, left)
 }

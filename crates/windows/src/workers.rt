@@ -3,6 +3,7 @@
 ghost use Rattle.std.specs.Prelude.{◌≡◌, ◌≤◌, IfOk, IfErr, IsErrOf, Ok, vec_len};
 ghost use Rattle.std.specs.List.{All};
 ghost use Rattle.std.specs.Thread.{IsSync};
+ghost use Rattle.windows.specs.Plan.{most_workers};
 ghost use Rattle.windows.specs.Refusals.{rank_of, IsFirstRefusal, IsRefusalOfOne};
 ghost use Rattle.windows.specs.Shared.{IsStart, IsWorkIn, IsAnswerTo, IsOneTooLong, AreAnswers};
 
@@ -149,7 +150,7 @@ pub(crate) fn start_workers<'s, E, M: Process + 's, G: Gate, R: Threads + Wait +
     mut starts: Vec<Start<M>>,
 ) -> Result<Vec<Work<M>>, RunError>
     requires starts { All (IsStart M.mind shared.now) starts.items }
-    requires few { vec_len starts ≤ 64 }
+    requires few { vec_len starts ≤ most_workers }
     ensures { AreAnswers M.mind shared.now starts.items result }
 {
     let Some(start) = starts.pop() else {

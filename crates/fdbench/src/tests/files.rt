@@ -192,3 +192,25 @@ grow = 1
 min = 2
 max = 2
 ";
+
+/// Two processes whose detectors have freshness points, of which the second crashes at tick 4.
+pub const TWO_FRESH: &str = "version = 2
+processes = 2
+horizon = 10
+lookahead = 2
+seed = 1
+algorithm = \"none\"
+
+[detector]
+kind = \"freshness\"
+eta = 3
+delta = 2
+
+[link]
+min = 2
+max = 2
+
+[[crash]]
+process = 2
+at = 4
+";

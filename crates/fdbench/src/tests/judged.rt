@@ -4,6 +4,7 @@ ghost use Rattle.event_list.specs.ScenarioSetting.{setting_of};
 ghost use Rattle.event_list.specs.World.{IsTrace};
 ghost use Rattle.scenario.specs.Opening.{mind_of};
 
+use crate::detectors::AnyDetector;
 use crate::machines::make_all;
 use crate::stacks::{eventually_strong, idle, strong};
 use crate::tests::files::{
@@ -13,14 +14,12 @@ use crate::tests::runs::changed;
 use event_list::{law_only_history, run_list};
 use judges::{Answer, Verdicts, decisions, judge};
 use process_api::{Process, Trace};
-use reduction::Reduced;
 use scenario::{AlgorithmKind, Opening, Scenario, read_scenario};
 use std::alloc::{AllocError, Global};
 use std::process::Abort;
 use std::test::Fail;
-use timeout_detector::TimeoutDetector;
 
-/// The trace of a scenario, over machines that are made here. With a reduction it has no consensus.
+/// The trace of a scenario, over machines that are made here.
 pub fn trace_of(alloc: Global, scenario: &Scenario) -> Result<Trace, Fail>
     ensures { IfOk result (λ trace. IsTrace (setting_of scenario.now) trace) }
 {
@@ -30,20 +29,13 @@ pub fn trace_of(alloc: Global, scenario: &Scenario) -> Result<Trace, Fail>
         |opening: Opening| -> Result<Box<dyn Process>, AllocError>
             ensures { IfOk result (λ made. mind made ≡ mind_of opening) }
         {
-            let detector = TimeoutDetector::open(alloc, &opening)?;
-            match (opening.share, opening.algorithm) {
-                (None, AlgorithmKind::Idle) => Ok(Box::new(alloc, idle(&opening, detector))?),
-                (None, AlgorithmKind::Strong) => {
-                    Ok(Box::new(alloc, strong(alloc, &opening, detector)?)?)
-                }
-                (None, AlgorithmKind::EventuallyStrong) => {
+            let detector = AnyDetector::open(alloc, &opening)?;
+            match opening.algorithm {
+                AlgorithmKind::Idle => Ok(Box::new(alloc, idle(&opening, detector))?),
+                AlgorithmKind::Strong => Ok(Box::new(alloc, strong(alloc, &opening, detector)?)?),
+                AlgorithmKind::EventuallyStrong => {
                     Ok(Box::new(alloc, eventually_strong(alloc, &opening, detector)?)?)
                 }
-                (Some(_), AlgorithmKind::Idle) => {
-                    let reduced = Reduced::open(detector, &opening);
-                    Ok(Box::new(alloc, idle(&opening, reduced))?)
-                }
-                _ => Err(AllocError),
             }
         },
     )?;

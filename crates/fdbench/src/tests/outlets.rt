@@ -167,8 +167,8 @@ fn fails_at_each_put<R: Threads + Wait + Sync + Abort>(
     Ok(())
 }
 
-/// An outlet that fails at a put, be it the first or a later one. By the list the whole text is one piece; by windows of
-/// 2 ticks the first line, the rows of each of five windows, and the report.
+/// An outlet that fails at a put, be it the first or a later one. By the list the whole text is one piece; by windows
+/// of 2 ticks the first line, the rows of each of five windows, and the report.
 #[test]
 fn each_write_fails(rt: HostRuntime) -> Result<(), Fail> {
     let alloc = rt.alloc();

@@ -7,7 +7,7 @@ ghost use Rattle.scenario.specs.Record.{opening_mind};
 use crate::machines::make_all;
 use crate::tests::files::ONE_CRASH;
 use crate::tests::runs::{changed, trace_of};
-use process_api::{Action, Pid, Process, StepInput};
+use process_api::{Action, DetectorNumbers, Pid, Process, StepInput};
 use qos_report::{MemoryOutlet, Outlet, PrintChoice, bench_windows, write_trace};
 use scenario::{AlgorithmKind, Opening, Scenario, read_scenario};
 use stack::{NoAlgorithm, Stack};
@@ -188,8 +188,8 @@ fn text_of<R: Threads + Wait + Sync>(
         |opening: Opening| -> Result<Box<dyn Process>, AllocError>
             ensures { IfOk result (λ made. mind made ≡ mind_of opening) }
         {
-            match (opening.share, opening.algorithm) {
-                (None, AlgorithmKind::Idle) => {
+            match (opening.detector, opening.share, opening.algorithm) {
+                (DetectorNumbers::Timeout(_), None, AlgorithmKind::Idle) => {
                     let detector = TimeoutDetector::open(alloc, &opening)?;
                     let stack = Stack::new(opening.own, detector, NoAlgorithm);
                     let taken = Arc::try_clone(gate.taken(opening.own))?;

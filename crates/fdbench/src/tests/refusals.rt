@@ -58,6 +58,11 @@ fn scenarios(rt: HostRuntime) -> Result<(), Fail> {
             "at = 3\n\n[[crash]]\nprocess = 2\nat = 4",
             "CrashLine",
         ),
+        (
+            "version = 1",
+            "version = 2\noutage = [{ from = 2, to = 1, begin = 3, until = 3 }]",
+            "OutageLine",
+        ),
     ] {
         let file = changed(alloc, ONE_CRASH, old, new)?;
         let line = format!(in alloc; "fdbench: scenario: {name}\n")?;

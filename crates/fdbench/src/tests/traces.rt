@@ -9,7 +9,7 @@ use crate::tests::files::{FIVE, ONE_CRASH, ONE_PROCESS, TAKEN_BACK, WATCH_NEXT};
 use crate::tests::runs::{changed, run, trace_of};
 use event_list::run_list;
 use judges::Answer;
-use process_api::Process;
+use process_api::{DetectorNumbers, Process};
 use qos_report::{MemoryOutlet, Outlet, PrintChoice, write_report, write_trace};
 use scenario::{AlgorithmKind, Opening, read_scenario};
 use std::alloc::AllocError;
@@ -168,8 +168,8 @@ fn own_machine(rt: HostRuntime) -> Result<(), Fail> {
         |opening: Opening| -> Result<Box<dyn Process>, AllocError>
             ensures { IfOk result (λ made. mind made ≡ mind_of opening) }
         {
-            match (opening.share, opening.algorithm) {
-                (None, AlgorithmKind::Idle) => {
+            match (opening.detector, opening.share, opening.algorithm) {
+                (DetectorNumbers::Timeout(_), None, AlgorithmKind::Idle) => {
                     let detector = TimeoutDetector::open(alloc, &opening)?;
                     Ok(Box::new(alloc, idle(&opening, detector))?)
                 }

@@ -25,7 +25,6 @@ use Rattle.judges.proofs.Instances.{runs_coordinator}
 use Rattle.judges.proofs.Agreement.Joined.{RunsCoordinator}
 use Rattle.judges.proofs.Agreement.Majorities.{there_is}
 use Rattle.judges.proofs.PartsActions.{each_of}
-use Rattle.judges.proofs.TimeoutLaws.{timeout_detector}
 
 -- ---- what an outcome tells
 
@@ -92,7 +91,7 @@ one_of s trace o i =
 
 module _ (s : Record) (is : IsInRange s) (algorithm : s.algorithm ≡ kind.EventuallyStrong) (trace : List EntryRecord) (is_trace : IsTrace (setting_of s) trace) where
   runs : RunsCoordinator (setting_of s) (λ p. unwrap_or (proposal s p) 0)
-  runs = runs_coordinator timeout_detector s algorithm
+  runs = runs_coordinator s algorithm
 
   once : (p : ℕ) → DecidesOnce trace p
   once p = decides_once p trace (trace_once (setting_of s) (setting_sound s is) (λ p. unwrap_or (proposal s p) 0) runs trace is_trace p)

@@ -62,6 +62,7 @@ module _ {Mind : Type 0} (S : Setting Mind) (sound : IsSound S) (proposal : ℕ 
       go : (y : Payload) → Fine S.processes (Sent S acts) q (proposal q) (k.each q sent.0).past.proposed (k.each q sent.0).past.acked (R.part (w.process q).mind).round (next_of S.processes (Sent S acts) q (proposal q) (R.part (w.process q).mind).phase (R.part (w.process q).mind).round) y
           → Meant S.processes (Sent S acts) q (proposal q) y
       go payload.Alive f = tt
+      go (payload.Heartbeat number) f = tt
       go (payload.Suspects members) f = tt
       go (payload.Vector round cells) f = tt
       go (payload.Last cells) f = tt
@@ -114,6 +115,7 @@ module _ {Mind : Type 0} (S : Setting Mind) (sound : IsSound S) (proposal : ℕ 
       where
         up_meant : (q : ℕ) (y : Payload) → Meant S.processes (Sent S acts) q (proposal q) y → Meant S.processes (Sent S acts_next) key.receiver (proposal key.receiver) y
         up_meant q payload.Alive m = tt
+        up_meant q (payload.Heartbeat number) m = tt
         up_meant q (payload.Suspects members) m = tt
         up_meant q (payload.Vector round cells) m = tt
         up_meant q (payload.Last cells) m = tt

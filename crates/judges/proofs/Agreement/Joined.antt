@@ -4,7 +4,7 @@ use Rattle.process_api.specs.Coordinator.{Coordinator, opening_coordinator, step
 use Rattle.process_api.specs.declared.action.Action.{Action}
 use Rattle.process_api.specs.declared.action.Action.TheVariants.{Send, Wake, Note}
 use Rattle.process_api.specs.declared.action.Note.TheVariants.{Suspect, Trust, Round, Decided, NoValue}
-use Rattle.process_api.specs.declared.message.Payload.TheVariants.{Alive, Suspects, Vector, Last, Estimate, Proposal, Reply, Decide}
+use Rattle.process_api.specs.declared.message.Payload.TheVariants.{Alive, Heartbeat, Suspects, Vector, Last, Estimate, Proposal, Reply, Decide}
 use Rattle.process_api.specs.declared.message.StepInput.{StepInput}
 use Rattle.event_list.specs.Setting.{Setting, IsProcess}
 use Rattle.event_list.specs.History.{IsIn}
@@ -12,6 +12,7 @@ use Rattle.event_list.specs.History.{IsIn}
 -- what the lower parts may do: they send no letter of the algorithm, and note suspicion and trust alone
 abbrev pub IsOfLower : Action → Type 0
 IsOfLower (Send to Alive) = Unit {0}
+IsOfLower (Send to (Heartbeat number)) = Unit {0}
 IsOfLower (Send to (Suspects shared)) = Unit {0}
 IsOfLower (Send to (Vector round cells)) = ⊥
 IsOfLower (Send to (Last cells)) = ⊥

@@ -73,6 +73,7 @@ module _ (n : ℕ) (Sent : ℕ → Payload → Type 0) (own mine : ℕ) where
   -- what is true of a payload that this process sent: proposed are the values of its proposals by round, acked the rounds that it acknowledged; it is in round, and its proposals are of rounds below next
   abbrev pub Fine : (ℕ → ℕ) → (ℕ → Bool) → ℕ → ℕ → Payload → Type 0
   Fine proposed acked round next payload.Alive = Unit {0}
+  Fine proposed acked round next (payload.Heartbeat number) = Unit {0}
   Fine proposed acked round next (payload.Suspects members) = Unit {0}
   Fine proposed acked round next (payload.Vector k cells) = Unit {0}
   Fine proposed acked round next (payload.Last cells) = Unit {0}
@@ -125,6 +126,7 @@ module _ (n : ℕ) (Sent : ℕ → Payload → Type 0) (own mine : ℕ) where
   -- a payload stays fine as the round rises
   still_fine : (proposed : ℕ → ℕ) (acked : ℕ → Bool) (a b c d : ℕ) → a ≤ c → b ≤ d → (y : Payload) → Fine proposed acked a b y → Fine proposed acked c d y
   still_fine proposed acked a b c d h k payload.Alive f = tt
+  still_fine proposed acked a b c d h k (payload.Heartbeat number) f = tt
   still_fine proposed acked a b c d h k (payload.Suspects members) f = tt
   still_fine proposed acked a b c d h k (payload.Vector round cells) f = tt
   still_fine proposed acked a b c d h k (payload.Last cells) f = tt
@@ -173,6 +175,7 @@ module _ (n : ℕ) (Sent : ℕ → Payload → Type 0) (own mine : ℕ) where
     where
       go : (y : Payload) → Fine p.proposed p.acked round round y → Fine (change p.proposed round v) p.acked round (round + 1) y
       go payload.Alive f = tt
+      go (payload.Heartbeat number) f = tt
       go (payload.Suspects members) f = tt
       go (payload.Vector round cells) f = tt
       go (payload.Last cells) f = tt
@@ -212,6 +215,7 @@ module _ (n : ℕ) (Sent : ℕ → Payload → Type 0) (own mine : ℕ) where
 
       go : (y : Payload) → Fine p.proposed p.acked round next y → Fine p.proposed (change p.acked round true) round next y
       go payload.Alive f = tt
+      go (payload.Heartbeat number) f = tt
       go (payload.Suspects members) f = tt
       go (payload.Vector round cells) f = tt
       go (payload.Last cells) f = tt

@@ -30,6 +30,7 @@ module _ (n : ℕ) (Sent More : ℕ → Payload → Type 0) (up : (q : ℕ) (y :
   module _ (own mine : ℕ) where
     fine_more : (proposed : ℕ → ℕ) (acked : ℕ → Bool) (round next : ℕ) (y : Payload) → Fine n Sent own mine proposed acked round next y → Fine n More own mine proposed acked round next y
     fine_more proposed acked round next payload.Alive f = tt
+    fine_more proposed acked round next (payload.Heartbeat number) f = tt
     fine_more proposed acked round next (payload.Suspects members) f = tt
     fine_more proposed acked round next (payload.Vector k cells) f = tt
     fine_more proposed acked round next (payload.Last cells) f = tt

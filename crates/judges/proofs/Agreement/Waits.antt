@@ -196,6 +196,7 @@ module _ (n : ℕ) (Sent : ℕ → Payload → Type 0) (own mine : ℕ) where
   -- what is known of a letter that comes
   abbrev pub Meant : Payload → Type 0
   Meant payload.Alive = Unit {0}
+  Meant (payload.Heartbeat number) = Unit {0}
   Meant (payload.Suspects members) = Unit {0}
   Meant (payload.Vector round cells) = Unit {0}
   Meant (payload.Last cells) = Unit {0}
@@ -316,6 +317,7 @@ module _ (n : ℕ) (Sent : ℕ → Payload → Type 0) (own mine : ℕ) where
 
     receive_fit : (sender : ℕ) (what : Payload) → Sent sender what → Meant what → Fits acts (receive n own sender what s)
     receive_fit sender payload.Alive sent meant = fits_still acts s l
+    receive_fit sender (payload.Heartbeat number) sent meant = fits_still acts s l
     receive_fit sender (payload.Suspects members) sent meant = fits_still acts s l
     receive_fit sender (payload.Vector round cells) sent meant = fits_still acts s l
     receive_fit sender (payload.Last cells) sent meant = fits_still acts s l
@@ -390,6 +392,7 @@ module _ (n : ℕ) (Sent : ℕ → Payload → Type 0) (own mine : ℕ) where
     where
       go : (to : ℕ) (y : Payload) → IsOfLower (action.Send to y) → Fine n Sent own mine l.past.proposed l.past.acked s.round (next_of n Sent own mine s.phase s.round) y
       go to payload.Alive h = tt
+      go to (payload.Heartbeat number) h = tt
       go to (payload.Suspects members) h = tt
       go to (payload.Vector round cells) h = tt
       go to (payload.Last cells) h = tt

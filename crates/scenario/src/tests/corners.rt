@@ -65,7 +65,7 @@ const CHANGES: [(&str, &str, &str); 36] = [
     ("seed = 1", "seed = 1.0", "WrongKind"),
     ("seed = 1", "seed = true", "WrongKind"),
     ("seed = 1", "seed = 2026-11-22", "WrongKind"),
-    ("version = 1", "version = 2\noutage = []", "UnknownKey"),
+    ("version = 1", "version = 2\noutage = []", "accepted"),
     ("processes = 2", "processes = 1", "CrashLine"),
     (
         "[link]\nmin = 2\nmax = 2",

@@ -1,6 +1,7 @@
 //! The crash file, cut after every byte.
 use crate::read_scenario;
 use crate::tests::{CRASH_FILE, name_of};
+use std::alloc::Global;
 use std::test::Fail;
 
 /// The lines of the crash file. Of each: how many of its bytes don't yet make a line of TOML where the file ends after
@@ -61,16 +62,21 @@ const ENDS: [(&str, &str); 2] = [
     ("max = 2\n", "crashes: [None, None]"),
 ];
 
+/// The record of a text, as text.
+fn told_of(alloc: Global, text: &str) -> Result<String, Fail> {
+    Ok(format!(in alloc; "{:?}", read_scenario(alloc, text.as_bytes())?)?)
+}
+
 #[test]
 fn same_record(rt: HostRuntime) -> Result<(), Fail> {
     let alloc = rt.alloc();
-    let whole = format!(in alloc; "{:?}", read_scenario(alloc, CRASH_FILE.as_bytes())?)?;
+    let whole = told_of(alloc, CRASH_FILE)?;
     for (last, crashes) in ENDS {
         let (front, _) = CRASH_FILE
             .split_once(last)
             .ok_or("the file has no such end")?;
         let text = format!(in alloc; "{front}{last}")?;
-        let told = format!(in alloc; "{:?}", read_scenario(alloc, text.as_bytes())?)?;
+        let told = told_of(alloc, &text)?;
         assert!(rt; told.contains(crashes), "{told}");
         assert_eq!(rt; told == whole, last == "at = 3");
     }

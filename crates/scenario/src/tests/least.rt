@@ -6,7 +6,7 @@ use std::process::Abort;
 use std::test::Fail;
 
 /// A file in which each fault below can be made beside each other one.
-const FILE: &str = "version = 1
+const FILE: &str = "version = 2
 processes = 2
 horizon = 10
 lookahead = 2
@@ -15,6 +15,7 @@ seed = 1
 algorithm = \"none\"
 # more
 # proposals
+# outages
 
 [detector]
 period = 4
@@ -34,11 +35,11 @@ at = 3
 ";
 
 /// The faults, by the order in which they are answered.
-const FAULTS: [(u8, &str, &str, &str); 16] = [
+const FAULTS: [(u8, &str, &str, &str); 17] = [
     (1, "# more", "colour = 1", "UnknownKey"),
     (2, "check = 3", "", "MissingKey"),
     (3, "timeout = 5", "timeout = 5.0", "WrongKind"),
-    (4, "version = 1", "version = 2", "Version"),
+    (4, "version = 2", "version = 3", "Version"),
     (5, "processes = 2", "processes = 0", "Processes"),
     (6, "horizon = 10", "horizon = 0", "Horizon"),
     (7, "lookahead = 2", "lookahead = 1000001", "Lookahead"),
@@ -51,6 +52,12 @@ const FAULTS: [(u8, &str, &str, &str); 16] = [
     (14, "max = 2", "max = 1000001", "LinkNumbers"),
     (15, "min = 2", "min = 1", "BelowLookahead"),
     (16, "at = 3", "at = -1", "CrashLine"),
+    (
+        17,
+        "# outages",
+        "outage = [{ from = 1, to = 1, begin = 0, until = 1 }]",
+        "OutageLine",
+    ),
 ];
 
 /// Makes each of the next three faults beside the one that a text has.

@@ -34,18 +34,19 @@ fn alive_to_others(out: &mut Vec<Action>) -> Result<(), AllocError>
 impl Detector for Shown {
     ghost use Rattle.std.specs.Prelude.{Some};
     ghost use Rattle.std.specs.FinSet as set;
+    ghost use Rattle.process_api.specs.Detector.{ByTimeout};
     ghost use Rattle.process_api.specs.declared.numbers.Watch.TheVariants as watch;
 
     ghost lower = { λ _. record {
       place = record { own = 1; processes = 3; horizon = 10 };
-      numbers = record { period = 5; check = 6; timeout = 7; grow = 1; watch = watch.All };
-      detector = record { last_heard = λ q. 0; bound = λ q. 7; suspects = set.insert set.empty 3 };
+      detector = ByTimeout (record { period = 5; check = 6; timeout = 7; grow = 1; watch = watch.All })
+          (record { last_heard = λ q. 0; bound = λ q. 7; suspects = set.insert set.empty 3 });
       reduction = Some (record { period = 4; output = set.insert set.empty 2 });
     } };
 
     ghost has_failed = { λ s. s.failed };
 
-    #[tactic(auto, unfolding(process_api::specs::React::react_lower))]
+    #[tactic(auto, unfolding(process_api::specs::React::react_lower, process_api::specs::Detector::step_detector))]
     fn take(
         &mut self,
         _now: u32,
@@ -105,15 +106,12 @@ impl Algorithm for Watcher {
     }
 }
 
-/// The members of a set among 1 to 64 as text.
+/// The members of a set as text.
 fn members_of(alloc: Global, set: &ProcSet) -> Result<String, AllocError> {
     let mut text = String::new(alloc);
-    for number in 1..65 {
-        if let Some(process) = Pid::new(number) {
-            if set.contains(process) {
-                text.push_str(format!(in alloc; "{number};")?.as_str())?;
-            }
-        }
+    for member in set {
+        let number = member.number();
+        text.push_str(format!(in alloc; "{number};")?.as_str())?;
     }
     Ok(text)
 }

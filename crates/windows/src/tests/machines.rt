@@ -5,7 +5,7 @@ ghost use Rattle.scenario.specs.Opening.{mind_of};
 ghost use Rattle.scenario.specs.Record.{opening_mind};
 
 use consensus_es::EsConsensus;
-use process_api::{Pid, Process};
+use process_api::{DetectorNumbers, Pid, Process};
 use scenario::{AlgorithmKind, Opening, Scenario};
 use stack::{NoAlgorithm, Stack};
 use std::alloc::{AllocError, Global};
@@ -40,8 +40,8 @@ pub fn watcher(
 ) -> Result<Stack<TimeoutDetector, NoAlgorithm>, AllocError>
     ensures { IfOk result (λ made. ⟦<Stack<TimeoutDetector, NoAlgorithm> as Process>⟧.mind made ≡ mind_of opening.now) }
 {
-    match (opening.share, opening.algorithm) {
-        (None, AlgorithmKind::Idle) => {
+    match (opening.detector, opening.share, opening.algorithm) {
+        (DetectorNumbers::Timeout(_), None, AlgorithmKind::Idle) => {
             let detector = TimeoutDetector::open(alloc, opening)?;
             Ok(Stack::new(opening.own, detector, NoAlgorithm))
         }
@@ -57,8 +57,8 @@ pub fn coordinator(
 ) -> Result<Stack<TimeoutDetector, EsConsensus>, AllocError>
     ensures { IfOk result (λ made. ⟦<Stack<TimeoutDetector, EsConsensus> as Process>⟧.mind made ≡ mind_of opening.now) }
 {
-    match (opening.share, opening.algorithm) {
-        (None, AlgorithmKind::EventuallyStrong) => {
+    match (opening.detector, opening.share, opening.algorithm) {
+        (DetectorNumbers::Timeout(_), None, AlgorithmKind::EventuallyStrong) => {
             let detector = TimeoutDetector::open(alloc, opening)?;
             let consensus = EsConsensus::open(alloc, opening)?;
             Ok(Stack::new(opening.own, detector, consensus))

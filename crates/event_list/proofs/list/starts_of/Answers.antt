@@ -6,8 +6,7 @@ use Rattle.event_list.proofs.list.starts_of.Goals as goal
 
 pub loop-before-preserved : goal.loop-before-preserved
 loop-before-preserved c =
-    let p = c.in-Some.p in
-    let is : p ≡ suc c.loop-before.before = c.in-Some.ensures.value ∙ add-one _ in
-    c.in_ok-join-in-Some.ensures.ok
+    let is : c.after-p.result ≡ suc c.loop-before.before = c.after-p.ensures ∙ add-one _ in
+    c.in_ok-join.ensures.ok
     ∙ ((λ i. events.insert (c.loop-before.invariant i) (start_of (is i)) Start)
     ∙ sym (ap starts (add-one c.loop-before.before)))

@@ -5,3 +5,6 @@ use Rattle.mailboxes.proofs.mailbox.drain.Goals as goal
 
 pub pop_as-requires-clause-rule : goal.pop_as-requires-clause-rule
 pop_as-requires-clause-rule g c = ((λ x items views b at. (has_taken _ (x ∷ []), takes _ _ (x ∷ []) c.loop.invariant.3 items views b at, refl)), learns _ _ c.loop.invariant.1 c.loop.invariant.2)
+
+pub len_as-count-requires-clause-rule : goal.len_as-count-requires-clause-rule
+len_as-count-requires-clause-rule g c = learns _ _ c.requires.pass.1 c.requires.all

@@ -8,5 +8,5 @@ use Rattle.reduction.proofs.gathering.note_suspicions.Given as goal
 -- what is noted, with what the rest brings, is what all bring
 abbrev pub invariant-loop-who : goal.invariant-loop-who
 invariant-loop-who l =
-    l.out.items ++ noted (note.Suspect 2) l.old l.who-iterator
+    l.out.items ++ noted (note.Suspect 2) l.who-iterator
     ≡ l.fn.out.items ++ map action.Note (map (note.Suspect 2) (gone l.processes l.new l.old))

@@ -8,5 +8,5 @@ use Rattle.reduction.proofs.gathering.note_trusts.Given as goal
 -- what is noted, with what the rest brings, is what all bring
 abbrev pub invariant-loop-who : goal.invariant-loop-who
 invariant-loop-who l =
-    l.out.items ++ noted (note.Trust 2) l.new l.who-iterator
+    l.out.items ++ noted (note.Trust 2) l.who-iterator
     ≡ l.fn.out.items ++ map action.Note (map (note.Trust 2) (gone l.processes l.old l.new))

@@ -1,6 +1,6 @@
 use Rattle.std.proofs.Common.{◌≡◌, ◌∙◌, ap, sym, refl, rules, true, false, [], ◌∷◌, Some, None, is_some, codes}
 use Rattle.toml.specs.View.{table_view}
-use Rattle.scenario.specs.Rules.{algorithm_refused, proposals_refused, detector_refused, share_refused, links_refused, below_refused, crashes_refused, pair_below}
+use Rattle.scenario.specs.Rules.{algorithm_refused, proposals_refused, detector_refused, share_refused, links_refused, below_refused, crashes_refused, outages_refused, pair_below}
 use Rattle.scenario.specs.Text.{record_of, delays_of, processes_of}
 use Rattle.scenario.specs.Table.{tables_at, table_or_empty}
 use Rattle.scenario.specs.Refusals.{rule, part_rules}
@@ -16,7 +16,7 @@ returns-in_default-read_detector-clause-err c = λ other.
     let algorithm : algorithm_refused (table_view c.args.tables.now.top.now) ≡ false = search rules in
     let proposals : proposals_refused (table_view c.args.tables.now.top.now) ≡ false = search rules in
     let here : detector_refused (table_view c.args.tables.now.top.now) ≡ true = search (rules, c.in_default-read_detector.ensures.none) in
-    first_at (rule 11 algorithm_refused ∷ rule 12 proposals_refused ∷ []) (rule 13 detector_refused) (rule 14 share_refused ∷ rule 15 links_refused ∷ rule 16 below_refused ∷ rule 17 crashes_refused ∷ []) (Some (table_view c.args.tables.now.top.now)) error.DetectorNumbers (algorithm, (proposals, tt)) refl here tt
+    first_at (rule 11 algorithm_refused ∷ rule 12 proposals_refused ∷ []) (rule 13 detector_refused) (rule 14 share_refused ∷ rule 15 links_refused ∷ rule 16 below_refused ∷ rule 17 crashes_refused ∷ rule 19 outages_refused ∷ []) (Some (table_view c.args.tables.now.top.now)) error.DetectorNumbers (algorithm, (proposals, tt)) refl here tt
 
 pub returns-in_default-read_share-clause-err : goal.returns-in_default-read_share-clause-err
 returns-in_default-read_share-clause-err c = λ other.
@@ -24,7 +24,7 @@ returns-in_default-read_share-clause-err c = λ other.
     let proposals : proposals_refused (table_view c.args.tables.now.top.now) ≡ false = search rules in
     let detector : detector_refused (table_view c.args.tables.now.top.now) ≡ false = search (rules, c.in-Some-read_detector.ensures.none) in
     let here : share_refused (table_view c.args.tables.now.top.now) ≡ true = search (rules, c.in_default-read_share.ensures.none) in
-    first_at (rule 11 algorithm_refused ∷ rule 12 proposals_refused ∷ rule 13 detector_refused ∷ []) (rule 14 share_refused) (rule 15 links_refused ∷ rule 16 below_refused ∷ rule 17 crashes_refused ∷ []) (Some (table_view c.args.tables.now.top.now)) error.Share (algorithm, (proposals, (detector, tt))) refl here tt
+    first_at (rule 11 algorithm_refused ∷ rule 12 proposals_refused ∷ rule 13 detector_refused ∷ []) (rule 14 share_refused) (rule 15 links_refused ∷ rule 16 below_refused ∷ rule 17 crashes_refused ∷ rule 19 outages_refused ∷ []) (Some (table_view c.args.tables.now.top.now)) error.Share (algorithm, (proposals, (detector, tt))) refl here tt
 
 pub returns-in_err-links-clause-err : goal.returns-in_err-links-clause-err
 returns-in_err-links-clause-err c = carried (StopsFirst part_rules (Some (table_view c.args.tables.now.top.now))) c.from_residual-in_err-links.result c.in_err-links.field-0.0 c.from_residual-in_err-links.ensures.1 (λ other.
@@ -34,7 +34,7 @@ returns-in_err-links-clause-err c = carried (StopsFirst part_rules (Some (table_
     let share : share_refused (table_view c.args.tables.now.top.now) ≡ false = search (rules, c.in-Some-read_share.ensures.none) in
     let why = c.in_err-links.ensures.err other in
     let here : links_refused (table_view c.args.tables.now.top.now) ≡ true = search (rules, why) in
-    first_named (rule 11 algorithm_refused ∷ rule 12 proposals_refused ∷ rule 13 detector_refused ∷ rule 14 share_refused ∷ []) (rule 15 links_refused) (rule 16 below_refused ∷ rule 17 crashes_refused ∷ []) (Some (table_view c.args.tables.now.top.now)) c.in_err-links.field-0.0 error.LinkNumbers (algorithm, (proposals, (detector, (share, tt)))) why.0 refl here tt)
+    first_named (rule 11 algorithm_refused ∷ rule 12 proposals_refused ∷ rule 13 detector_refused ∷ rule 14 share_refused ∷ []) (rule 15 links_refused) (rule 16 below_refused ∷ rule 17 crashes_refused ∷ rule 19 outages_refused ∷ []) (Some (table_view c.args.tables.now.top.now)) c.in_err-links.field-0.0 error.LinkNumbers (algorithm, (proposals, (detector, (share, tt)))) why.0 refl here tt)
 
 pub first_below-requires-clause-all : goal.first_below-requires-clause-all
 first_below-requires-clause-all c =
@@ -51,7 +51,7 @@ returns-in-Some-first_below-clause-err c = λ other.
     let made : c.deref-2.result.now ≡ (record_of (table_view c.args.tables.now.top.now)).links = search rules in
     let found : pair_below (record_of (table_view c.args.tables.now.top.now)) ≡ Some c.in-Some-first_below.pair = below_of_parts (record_of (table_view c.args.tables.now.top.now)) c.args.numbers.now.processes c.args.numbers.now.lookahead c.deref-2.result.now c.requires.numbers.processes c.requires.numbers.lookahead made ∙ (sym c.first_below.ensures ∙ c.in-Some-first_below.is) in
     let here : below_refused (table_view c.args.tables.now.top.now) ≡ true = ap is_some found in
-    first_named (rule 11 algorithm_refused ∷ rule 12 proposals_refused ∷ rule 13 detector_refused ∷ rule 14 share_refused ∷ rule 15 links_refused ∷ []) (rule 16 below_refused) (rule 17 crashes_refused ∷ []) (Some (table_view c.args.tables.now.top.now)) c.below_lookahead.result (error.BelowLookahead c.in-Some-first_below.pair.0 c.in-Some-first_below.pair.1) (algorithm, (proposals, (detector, (share, (links, tt))))) c.below_lookahead.ensures refl here found
+    first_named (rule 11 algorithm_refused ∷ rule 12 proposals_refused ∷ rule 13 detector_refused ∷ rule 14 share_refused ∷ rule 15 links_refused ∷ []) (rule 16 below_refused) (rule 17 crashes_refused ∷ rule 19 outages_refused ∷ []) (Some (table_view c.args.tables.now.top.now)) c.below_lookahead.result (error.BelowLookahead c.in-Some-first_below.pair.0 c.in-Some-first_below.pair.1) (algorithm, (proposals, (detector, (share, (links, tt))))) c.below_lookahead.ensures refl here found
 
 pub returns-in_err-crashes-clause-err : goal.returns-in_err-crashes-clause-err
 returns-in_err-crashes-clause-err c = carried (StopsFirst part_rules (Some (table_view c.args.tables.now.top.now))) c.from_residual-in_err-crashes.result c.in_err-crashes.field-0.0 c.from_residual-in_err-crashes.ensures.1 (λ other.
@@ -65,7 +65,22 @@ returns-in_err-crashes-clause-err c = carried (StopsFirst part_rules (Some (tabl
     let below : below_refused (table_view c.args.tables.now.top.now) ≡ false = ap is_some (below_of_parts (record_of (table_view c.args.tables.now.top.now)) c.args.numbers.now.processes c.args.numbers.now.lookahead c.deref-2.result.now c.requires.numbers.processes c.requires.numbers.lookahead made ∙ (sym c.first_below.ensures ∙ none)) in
     let why = c.in_err-crashes.ensures.err other in
     let here : crashes_refused (table_view c.args.tables.now.top.now) ≡ true = search (rules, why) in
-    first_named (rule 11 algorithm_refused ∷ rule 12 proposals_refused ∷ rule 13 detector_refused ∷ rule 14 share_refused ∷ rule 15 links_refused ∷ rule 16 below_refused ∷ []) (rule 17 crashes_refused) ([]) (Some (table_view c.args.tables.now.top.now)) c.in_err-crashes.field-0.0 error.CrashLine (algorithm, (proposals, (detector, (share, (links, (below, tt)))))) why.0 refl here tt)
+    first_named (rule 11 algorithm_refused ∷ rule 12 proposals_refused ∷ rule 13 detector_refused ∷ rule 14 share_refused ∷ rule 15 links_refused ∷ rule 16 below_refused ∷ []) (rule 17 crashes_refused) (rule 19 outages_refused ∷ []) (Some (table_view c.args.tables.now.top.now)) c.in_err-crashes.field-0.0 error.CrashLine (algorithm, (proposals, (detector, (share, (links, (below, tt)))))) why.0 refl here tt)
+
+pub returns-in_err-outages-clause-err : goal.returns-in_err-outages-clause-err
+returns-in_err-outages-clause-err c = carried (StopsFirst part_rules (Some (table_view c.args.tables.now.top.now))) c.from_residual-in_err-outages.result c.in_err-outages.field-0.0 c.from_residual-in_err-outages.ensures.1 (λ other.
+    let algorithm : algorithm_refused (table_view c.args.tables.now.top.now) ≡ false = search rules in
+    let proposals : proposals_refused (table_view c.args.tables.now.top.now) ≡ false = search rules in
+    let detector : detector_refused (table_view c.args.tables.now.top.now) ≡ false = search (rules, c.in-Some-read_detector.ensures.none) in
+    let share : share_refused (table_view c.args.tables.now.top.now) ≡ false = search (rules, c.in-Some-read_share.ensures.none) in
+    let links : links_refused (table_view c.args.tables.now.top.now) ≡ false = search (rules, c.in_ok-links.ensures.ok) in
+    let made : c.deref-2.result.now ≡ (record_of (table_view c.args.tables.now.top.now)).links = search rules in
+    let none : c.first_below.result ≡ None = search (rules, c.in_default-first_below.is) in
+    let below : below_refused (table_view c.args.tables.now.top.now) ≡ false = ap is_some (below_of_parts (record_of (table_view c.args.tables.now.top.now)) c.args.numbers.now.processes c.args.numbers.now.lookahead c.deref-2.result.now c.requires.numbers.processes c.requires.numbers.lookahead made ∙ (sym c.first_below.ensures ∙ none)) in
+    let crashes : crashes_refused (table_view c.args.tables.now.top.now) ≡ false = search (rules, c.in_ok-crashes.ensures.ok) in
+    let why = c.in_err-outages.ensures.err other in
+    let here : outages_refused (table_view c.args.tables.now.top.now) ≡ true = search (rules, why) in
+    first_named (rule 11 algorithm_refused ∷ rule 12 proposals_refused ∷ rule 13 detector_refused ∷ rule 14 share_refused ∷ rule 15 links_refused ∷ rule 16 below_refused ∷ rule 17 crashes_refused ∷ []) (rule 19 outages_refused) ([]) (Some (table_view c.args.tables.now.top.now)) c.in_err-outages.field-0.0 error.OutageLine (algorithm, (proposals, (detector, (share, (links, (below, (crashes, tt))))))) why.0 refl here tt)
 
 pub returns-clause-ok : goal.returns-clause-ok
 returns-clause-ok c =
@@ -78,4 +93,5 @@ returns-clause-ok c =
     let none : c.first_below.result ≡ None = search (rules, c.in_default-first_below.is) in
     let below : below_refused (table_view c.args.tables.now.top.now) ≡ false = ap is_some (below_of_parts (record_of (table_view c.args.tables.now.top.now)) c.args.numbers.now.processes c.args.numbers.now.lookahead c.deref-2.result.now c.requires.numbers.processes c.requires.numbers.lookahead made ∙ (sym c.first_below.ensures ∙ none)) in
     let crashes : crashes_refused (table_view c.args.tables.now.top.now) ≡ false = search (rules, c.in_ok-crashes.ensures.ok) in
-    (algorithm, (proposals, (detector, (share, (links, (below, (crashes, tt)))))))
+    let outages : outages_refused (table_view c.args.tables.now.top.now) ≡ false = search (rules, c.in_ok-outages.ensures.ok) in
+    (algorithm, (proposals, (detector, (share, (links, (below, (crashes, (outages, tt))))))))

@@ -1,4 +1,4 @@
-use Rattle.std.proofs.Common.{◌≡◌, ◌∙◌, ◌<◌, ◌^◌, ap, sym, rules, [], ◌++◌, Some, subst, codes}
+use Rattle.std.proofs.Common.{◌≡◌, ◌∙◌, ◌<◌, ◌^◌, ap, sym, rules, [], ◌++◌, map, Some, subst, codes}
 use Rattle.toml.specs.View.{table_view}
 use Rattle.scenario.specs.Ranges.{IsInRange}
 use Rattle.scenario.specs.Text.{number_at, record_of}
@@ -41,6 +41,7 @@ invariant_of-result c =
       proposals = c.in_ok-parts.parts.proposals.items;
       crashes = c.in_ok-parts.parts.crashes.items;
       links = c.in_ok-parts.parts.links.items;
+      outages = map (λ v. v.items) c.in_ok-parts.parts.outages.items;
     } ≡ record_of (table_view c.args.table.now) = search rules in
     let seed : number_at (codes "seed") 0 (table_view c.args.table.now) < 2 ^ 63 = subst (λ x. x < 2 ^ 63) (c.in_ok-numbers.ensures.value.seed ∙ ap (number_at (codes "seed") 0) c.in-Ok.ensures.0) c.in_ok-numbers.ensures.value.seed_high in
     subst (λ s. IsInRange s) (sym same) (in_range (table_view c.args.table.now) all seed)

@@ -2,7 +2,7 @@ use Rattle.std.proofs.Common.{◌≡◌, ◌∷◌, [], ◌++◌, ℕ, ◌≤◌
 use Rattle.process_api.specs.declared.action.Action.{Action}
 use Rattle.process_api.specs.declared.action.Action.TheVariants.{Send}
 use Rattle.process_api.specs.declared.message.Payload.TheVariants.{Alive}
-use Rattle.timeout_detector.proofs.Numbering.{appended-passes, appended-fails}
+use Rattle.process_api.proofs.Numbering.{appended-passes, appended-fails}
 use Rattle.timeout_detector.proofs.alive.send_alive.Goals as goal
 use Rattle.timeout_detector.proofs.alive.send_alive.Goals.{then-ne+in_ok-send_to, else-ne}
 

@@ -4,7 +4,8 @@ use Rattle.std.specs.Vec.Iter.{drain_items}
 use Rattle.std.proofs.lemmas.List.{map-append}
 use Rattle.event_list.specs.Step.{Event}
 use Rattle.event_list.specs.World.{joined}
-use Rattle.windows.specs.Berth.{event_of, with_letters, IsOwnOrLetter}
+use Rattle.windows.specs.Agenda.{event_of}
+use Rattle.windows.specs.Berth.{with_letters, IsOwnOrLetter}
 use Rattle.windows.specs.Machine.{for_self, for_others}
 use Rattle.windows.proofs.Letters.{self_more, others_more, with_more}
 use Rattle.windows.proofs.berth.hand_on_all.Goals as goal

@@ -1,12 +1,14 @@
 use Rattle.std.proofs.Common.{◌≡◌, ◌∷◌, [], ◌++◌, ◌+◌, ◌*◌, List, map, ap, sym, subst, ◌∙◌, refl, arith, vec_len, length, length-append}
 use Rattle.std.specs.FinMap as events
 use Rattle.std.proofs.lemmas.List.{map-append}
+use Rattle.process_api.specs.Bounds.{most_step_actions}
 use Rattle.process_api.specs.declared.message.Letter.{Letter}
 use Rattle.event_list.specs.ScenarioSetting.{setting_of}
 use Rattle.event_list.specs.Seat.{process_of, own_of, IsSeated}
 use Rattle.event_list.specs.Step.{step}
 use Rattle.event_list.specs.World.{Has, joined}
-use Rattle.windows.specs.Berth.{event_of, with_letters}
+use Rattle.windows.specs.Agenda.{event_of}
+use Rattle.windows.specs.Berth.{with_letters}
 use Rattle.windows.specs.Machine.{for_self, for_others}
 use Rattle.windows.specs.Window.{BerthRun}
 use Rattle.windows.proofs.Berths.{BerthStands, berth_opens, berth_next, berth_ends}
@@ -32,7 +34,7 @@ loop-key-init g c =
         subst (λ es. BerthStands S p c.args.end before b.pending before b.pending es []) (sym c.requires.part)
             (berth_opens S p c.args.end before b.pending (λ key x h. is.own key x h ∙ sym is.is)),
       );
-      seated = λ most h. let same : most ≡ most + 4096 * vec_len b.part = omega (arith, b.part.ok.0, ap length c.requires.part) in
+      seated = λ most h. let same : most ≡ most + most_step_actions * vec_len b.part = omega (arith, b.part.ok.0, ap length c.requires.part) in
           subst (λ n. IsSeated mind s n b.seat) same h;
       within = omega (arith, b.part.ok.0, ap length c.requires.part);
     }
@@ -40,7 +42,7 @@ loop-key-init g c =
 pub take-requires-clause-seated : goal.take-requires-clause-seated
 take-requires-clause-seated g c κs within =
     let r = c.requires.berth in
-    (r.1 + 4096 * vec_len c.loop-key.berth.part, c.loop-key.invariant.seated r.1 r.2.seated, omega (arith, r.3, c.loop-key.invariant.within))
+    (r.1 + most_step_actions * vec_len c.loop-key.berth.part, c.loop-key.invariant.seated r.1 r.2.seated, omega (arith, r.3, c.loop-key.invariant.within))
 
 pub loop-key-preserved : goal.loop-key-preserved
 loop-key-preserved g c =
@@ -77,8 +79,8 @@ loop-key-preserved g c =
             (subst (λ es. BerthStands S p c.args.end start b.pending (process_of mind new.seat) new.pending es (map event_of sent ++ for_others p made.added)) (sym done.part)
             (berth_next S p c.args.end start b.pending before old.pending old.part.items (map event_of sent) i.stands.2 key x least due (process_of mind new.seat) new.pending made.entry done.process left refl)),
       );
-      seated = λ most h. let same : (most + 4096 * vec_len old.part) + 4096 ≡ most + 4096 * vec_len new.part = omega (arith, longer) in
-          subst (λ n. IsSeated mind s n new.seat) same (done.seated (most + 4096 * vec_len old.part) (i.seated most h));
+      seated = λ most h. let same : (most + most_step_actions * vec_len old.part) + most_step_actions ≡ most + most_step_actions * vec_len new.part = omega (arith, longer) in
+          subst (λ n. IsSeated mind s n new.seat) same (done.seated (most + most_step_actions * vec_len old.part) (i.seated most h));
       within = omega (arith, longer, c.if-len-left.false, c.len.ensures);
     }
 

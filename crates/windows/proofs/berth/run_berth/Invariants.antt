@@ -1,9 +1,11 @@
 use Rattle.std.proofs.Common.{◌≡◌, ◌≤◌, ◌+◌, ◌*◌, ◌-◌, List, map, vec_len}
+use Rattle.process_api.specs.Bounds.{most_step_actions}
 use Rattle.process_api.specs.declared.message.Letter.{Letter}
 use Rattle.event_list.specs.ScenarioSetting.{setting_of}
 use Rattle.event_list.specs.Seat.{process_of, own_of, IsSeated}
 use Rattle.mailboxes.specs.Mailboxes.{IsSlipOf}
-use Rattle.windows.specs.Berth.{event_of, with_letters}
+use Rattle.windows.specs.Agenda.{event_of}
+use Rattle.windows.specs.Berth.{with_letters}
 use Rattle.windows.proofs.Berths.{BerthStands}
 use Rattle.windows.proofs.berth.run_berth.Given as goal
 
@@ -17,7 +19,7 @@ invariant-loop-key g l =
       own : own_of mind l.berth.seat ≡ p;
       stands : (letters : List Letter) × (l.slip ≡ with_letters l.fn.slip letters)
           × BerthStands (setting_of s) p l.end (process_of mind l.fn.berth.seat) l.fn.berth.pending (process_of mind l.berth.seat) l.berth.pending l.berth.part.items (map event_of letters);
-      seated : (most : _) → IsSeated mind s most l.fn.berth.seat → IsSeated mind s (most + 4096 * vec_len l.berth.part) l.berth.seat;
+      seated : (most : _) → IsSeated mind s most l.fn.berth.seat → IsSeated mind s (most + most_step_actions * vec_len l.berth.part) l.berth.seat;
       within : vec_len l.berth.part ≤ l.left;
     }
 

@@ -1,4 +1,6 @@
-use Rattle.std.proofs.Common.{rules, ◌≡◌, ◌+◌, ◌-◌, min, sym, ap, ◌∙◌, subst}
+use Rattle.std.proofs.Common.{rules, ◌≡◌, ◌+◌, ◌-◌, min, sym, ap, ◌∙◌, subst, inl, inr, Result, Ok, Err, IfErr}
+use Rattle.event_list.specs.declared.error.RunError.{RunError}
+use Rattle.windows.specs.Refusals.{IsRefusal, IsRefusalOfOne}
 use Rattle.std.specs.Global.{Vec}
 use Rattle.event_list.specs.ScenarioSetting.{setting_of}
 use Rattle.event_list.specs.Seat.{own_of}
@@ -81,3 +83,11 @@ returns-clause-run g c =
     if_ok c.close.result _ _
     (λ part closed. (outcome_next mind old c.processes-processes.ensures.ranges c.requires.stage.0 c.requires.stage.1 c.args.plan.now.window c.requires.plan _ _ o c.close.new.self c.close.ensures.scenario left sum part.items closed).1)
     c.close.ensures.closed
+
+one_refused : {X : Type 0} (r : Result X RunError) → IfErr r IsRefusalOfOne → IfErr r IsRefusal
+one_refused (Ok x) h = h
+one_refused (Err e) (inl limit) = inl limit
+one_refused (Err e) (inr memory) = inr (inl memory)
+
+pub returns-clause-errors : goal.returns-clause-errors
+returns-clause-errors g c = one_refused c.close.result c.close.ensures.errors

@@ -1,6 +1,7 @@
 use Rattle.std.proofs.Common.{◌≡◌, ◌+◌, ◌*◌, List, length, map, sym, subst, ◌∙◌, refl, arith, vec_len, Some, slice_get, ◌-◌, ◌++◌, ◌∷◌, [], append-nil}
 use Rattle.std.specs.List.{All}
 use Rattle.std.proofs.lemmas.List.{length-map}
+use Rattle.process_api.specs.Bounds.{most_step_actions}
 use Rattle.process_api.specs.Mind.{Mind}
 use Rattle.event_list.specs.ScenarioSetting.{setting_of}
 use Rattle.event_list.specs.Seat.{process_of, IsSeated}
@@ -36,8 +37,8 @@ returns-then-taken-limit-clause-front g c =
 
 pub take-requires-clause-seated : goal.take-requires-clause-seated
 take-requires-clause-seated g c κs within =
-    let all = subst (λ s. All (IsSeated g.M.Process.mind s (4096 * c.loop-self.taken)) c.loop-self.self.seats.items) (sym c.new-streams.ensures) c.loop-self.invariant.seated in
-    (4096 * c.loop-self.taken, all, omega (arith, c.loop-self.invariant.within, c.limit-limit.ensures.ranges.limit_high))
+    let all = subst (λ s. All (IsSeated g.M.Process.mind s (most_step_actions * c.loop-self.taken)) c.loop-self.self.seats.items) (sym c.new-streams.ensures) c.loop-self.invariant.seated in
+    (most_step_actions * c.loop-self.taken, all, omega (arith, c.loop-self.invariant.within, c.limit-limit.ensures.ranges.limit_high))
 
 pub take-requires-clause-count : goal.take-requires-clause-count
 take-requires-clause-count g c κs within =
@@ -70,8 +71,8 @@ loop-self-preserved g c =
     let long : length ps ≡ s.processes = omega (arith, i.count, c.loop-self.self.seats.ok.0, length-map c.loop-self.self.seats.items (process_of mind)) in
     let stepped : (p : Process Mind) → slice_get ps (key.receiver - 1) ≡ Some p → IsStepped {S = S} ps later c.take_least.new.self c.take.new.self.pending key entry (step S p key input) =
     subst (λ r. (p : Process Mind) → slice_get ps (key.receiver - 1) ≡ Some p → IsStepped {S = setting_of r} ps later c.take_least.new.self c.take.new.self.pending key entry (step (setting_of r) p key input)) is done.stepped in
-    let seated : All (IsSeated mind s (4096 * old + 4096)) c.take.new.self.seats.items =
-    subst (λ r. All (IsSeated mind r (4096 * old + 4096)) c.take.new.self.seats.items) is (done.seated (4096 * old) (subst (λ r. All (IsSeated mind r (4096 * old)) c.loop-self.self.seats.items) (sym is) i.seated)) in
+    let seated : All (IsSeated mind s (most_step_actions * old + most_step_actions)) c.take.new.self.seats.items =
+    subst (λ r. All (IsSeated mind r (most_step_actions * old + most_step_actions)) c.take.new.self.seats.items) is (done.seated (most_step_actions * old) (subst (λ r. All (IsSeated mind r (most_step_actions * old)) c.loop-self.self.seats.items) (sym is) i.seated)) in
     record {
       going = record {
         trace = trace ++ entry ∷ [];
@@ -80,7 +81,7 @@ loop-self-preserved g c =
         long = longer trace entry old i.going.long;
         taken = taken_next _ _ (g.R.Recorder.recorded c.args.recorder.now c.record.new.self) trace entry i.going.taken (c.in_ok-record.ensures c.args.recorder.now);
       };
-      seated = let same : 4096 * old + 4096 ≡ 4096 * (old + 1) = omega arith in subst (λ n. All (IsSeated mind s n) c.take.new.self.seats.items) same seated;
+      seated = let same : most_step_actions * old + most_step_actions ≡ most_step_actions * (old + 1) = omega arith in subst (λ n. All (IsSeated mind s n) c.take.new.self.seats.items) same seated;
       count = done.count ∙ i.count;
       within = omega (arith, c.if-taken-limit.false, c.limit-limit.ensures.value);
     }

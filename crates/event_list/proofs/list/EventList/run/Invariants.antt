@@ -4,6 +4,7 @@ use Rattle.event_list.specs.ScenarioSetting.{setting_of}
 use Rattle.event_list.specs.Seat.{process_of, IsSeated}
 use Rattle.event_list.proofs.Recording.{Going}
 use Rattle.event_list.proofs.list.EventList.run.Given as goal
+use Rattle.process_api.specs.Bounds.{most_step_actions}
 
 abbrev pub invariant-loop-self : goal.invariant-loop-self
 invariant-loop-self g l =
@@ -11,7 +12,7 @@ invariant-loop-self g l =
     let recorded = g.R.Recorder.recorded in
     record {
       going : Going (setting_of l.fn.scenario) (map (process_of mind) l.self.seats.items) l.self.pending (recorded l.fn.recorder l.fn.recorder) (recorded l.fn.recorder l.recorder) l.taken;
-      seated : All (IsSeated mind l.fn.scenario (4096 * l.taken)) l.self.seats.items;
+      seated : All (IsSeated mind l.fn.scenario (most_step_actions * l.taken)) l.self.seats.items;
       count : vec_len l.self.seats ≡ l.fn.scenario.processes;
       within : l.taken ≤ l.fn.scenario.limit;
     }

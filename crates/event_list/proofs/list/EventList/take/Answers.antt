@@ -7,6 +7,7 @@ use Rattle.event_list.specs.Standing.{IsStepped}
 use Rattle.event_list.specs.Step.{step}
 use Rattle.event_list.proofs.Standing.{place_is, image_at}
 use Rattle.event_list.proofs.list.EventList.take.Goals as goal
+use Rattle.process_api.specs.Bounds.{most_step_actions}
 
 pub turn-requires-clause-own : goal.turn-requires-clause-own
 turn-requires-clause-own g c κs within =
@@ -30,8 +31,8 @@ returns-clause-seated g c =
     let there : old ≡ get_or xs i old = c.index_mut-seat.ensures.value in
     λ most all.
     let was : IsSeated mind s most old = subst (IsSeated mind s most) (sym there) (All-get_or (IsSeated mind s most) xs i old inside all) in
-    All-set (IsSeated mind s (most + 4096)) xs i c.turn.new.self (c.in_ok-entry.ensures.seated most was)
-    (All-weaker (IsSeated mind s most) (IsSeated mind s (most + 4096)) (λ x h. record { low = h.low; high = h.high; is_mind = h.is_mind; horizon = h.horizon; crash = h.crash; places = h.places; counts = λ q. omega (arith, h.counts q) }) xs all)
+    All-set (IsSeated mind s (most + most_step_actions)) xs i c.turn.new.self (c.in_ok-entry.ensures.seated most was)
+    (All-weaker (IsSeated mind s most) (IsSeated mind s (most + most_step_actions)) (λ x h. record { low = h.low; high = h.high; is_mind = h.is_mind; horizon = h.horizon; crash = h.crash; places = h.places; counts = λ q. omega (arith, h.counts q) }) xs all)
 
 pub returns-clause-stepped : goal.returns-clause-stepped
 returns-clause-stepped g c =

@@ -1,43 +1,91 @@
-use Rattle.std.proofs.Common.{◌≡◌, refl, ap, ◌∙◌, subst, map, sym, [], ◌∷◌, ◌++◌, ◌+◌, ◌≤◌, List, length, get_or, vec_len}
+use Rattle.std.proofs.Common.{rules, ◌≡◌, ap, ◌∙◌, subst, map, sym, [], ◌∷◌, ◌++◌, List, length, arith, append-nil, append_assoc, length-append}
 use Rattle.std.specs.Global.{Vec}
-use Rattle.std.specs.List.Sorted.{IsPermutation}
+use Rattle.std.specs.List.{All}
+use Rattle.std.specs.Vec.Iter.{into_iter_items}
 use Rattle.std.proofs.lemmas.List.{map-append}
-use Rattle.std.proofs.lemmas.Iterator.Adapters.{YieldsList-from_vec}
-use Rattle.std.proofs.lemmas.Iterator.Consumers.{YieldsList-end}
+use Rattle.std.proofs.lemmas.List.Elements.{All-nil, All-push, All-same, All-head, All-tail}
 use Rattle.process_api.specs.declared.message.Letter.{Letter}
 use Rattle.mailboxes.specs.Mailbox.{HomeView}
 use Rattle.mailboxes.specs.Mailboxes.{letters_in}
-use Rattle.mailboxes.proofs.Homes.{back_of}
-use Rattle.mailboxes.proofs.Lists.{Shuffled, Shuffled-more, Shuffled-at, length_more, map_same}
+use Rattle.mailboxes.proofs.Homes.{mailbox_of, back_of, Even}
+use Rattle.mailboxes.proofs.Lists.{Shuffled, Shuffled-refl, Shuffled-next, Shuffled-at}
 use Rattle.mailboxes.proofs.shared.SharedMailboxes.empty.Goals as goal
 
-abbrev items_of : Vec Letter → List Letter
-items_of v = v.items
+abbrev IsBlank : Vec Letter → Type 0
+IsBlank v = v.items ≡ []
 
--- one mailbox more was emptied
-one_more : (hs : List HomeView) (h : HomeView) (lists now : List (Vec Letter)) (v : Vec Letter) → now ≡ lists ++ v ∷ []
-    → Shuffled (map back_of hs) (letters_in lists) → IsPermutation h.back v.items → Shuffled (map back_of (hs ++ h ∷ [])) (letters_in now)
-one_more hs h lists now v is so_far same =
-    let left : map back_of (hs ++ h ∷ []) ≡ map back_of hs ++ h.back ∷ [] = map-append back_of hs (h ∷ []) in
-    let right : letters_in now ≡ letters_in lists ++ v.items ∷ [] = ap letters_in is ∙ map-append items_of lists (v ∷ []) in
-    let both : Shuffled (map back_of hs ++ h.back ∷ []) (letters_in lists ++ v.items ∷ []) = Shuffled-more (map back_of hs) (letters_in lists) h.back v.items so_far same in
-    subst (λ l. Shuffled l (letters_in now)) (sym left) (subst (Shuffled (map back_of hs ++ h.back ∷ [])) (sym right) both)
+abbrev IsIn : HomeView → Type 0
+IsIn h = h.out ≡ 0
+
+pub loop-home-init : goal.loop-home-init
+loop-home-init g c =
+    let hs = c.args.homes.items in
+    let homes : into_iter_items c.into_iter-home-iterator.result ≡ hs = c.into_iter-home-iterator.ensures.into_iter_gives.0 in
+    let lists : into_iter_items c.into_iter-empties.result ≡ c.args.lists.items = search rules in
+    let none = c.in_ok-emptied.ensures.items in
+    let empty = c.in_ok-filled.ensures.items in
+    record {
+      place = search rules;
+      boxes = λ i. map mailbox_of (none i) ++ map mailbox_of (homes i);
+      out = subst (All IsIn) (sym homes) c.requires.out;
+      none = All-same (Even 0) _ [] none (All-nil (Even 0));
+      same = ap length lists ∙ sym c.args.lists.ok.0 ∙ c.requires.count ∙ c.args.homes.ok.0 ∙ sym (ap length homes);
+      blank = subst (All IsBlank) (sym lists) c.requires.lists;
+      count = omega (arith, ap length empty, ap length homes);
+      letters = subst (Shuffled (map back_of hs)) (λ i. letters_in (sym empty i) ++ map back_of (sym homes i)) (Shuffled-refl (map back_of hs));
+    }
+
+pub empty-requires-clause-letters : goal.empty-requires-clause-letters
+empty-requires-clause-letters g c =
+    let f : into_iter_items c.loop-home.empties ≡ c.in-Some-next.list ∷ into_iter_items c.next-in-loop-home.new.self = c.in-Some-next.ensures.items in
+    All-head IsBlank c.in-Some-next.list (into_iter_items c.next-in-loop-home.new.self) (subst (All IsBlank) f c.loop-home.invariant.blank)
 
 pub loop-home-preserved : goal.loop-home-preserved
 loop-home-preserved g c =
-    let more = length_more c.loop-home.yielded c.in-Some.home (length c.loop-home.yielded) refl in (
-      tt,
-      tt,
-      ap (λ n. n + 1) c.loop-home.invariant.2 ∙ more,
-      c.push_reserved.ensures.len ∙ ap (λ n. n + 1) c.loop-home.invariant.3 ∙ more,
-      subst (λ n. vec_len c.args.homes ≤ n) (sym c.push_reserved.ensures.capacity) c.loop-home.invariant.4,
-      one_more c.loop-home.yielded c.in-Some.home c.loop-home.lists.items c.push_reserved.new.self.items c.in_ok-empty.field-0 c.push_reserved.ensures.items c.loop-home.invariant.5 c.in_ok-empty.ensures,
-    )
+    let i = c.loop-home.invariant in
+    let hs = c.args.homes.items in
+    let h = c.in-Some.home in
+    let left = into_iter_items c.next.new.self in
+    let e : into_iter_items c.loop-home.home-iterator ≡ h ∷ left = c.in-Some.ensures.steps.0 in
+    let list = c.in-Some-next.list in
+    let lists = into_iter_items c.next-in-loop-home.new.self in
+    let f : into_iter_items c.loop-home.empties ≡ list ∷ lists = c.in-Some-next.ensures.items in
+    let done = c.loop-home.emptied.items in
+    let new = c.in_ok-empty.field-0 in
+    let is = c.in_ok-empty.ensures in
+    let more : c.push.new.self.items ≡ done ++ new ∷ [] = c.in_ok-push.ensures.items in
+    let filled = c.loop-home.filled.items in
+    let got = c.empty.new.letters in
+    let fuller : c.push-in-loop-home.new.self.items ≡ filled ++ got ∷ [] = c.in_ok-push-2.ensures.items in
+    let items_of = λ (v : Vec Letter). v.items in
+    record {
+      place = omega (arith, i.place, ap length more, length-append done (new ∷ []));
+      boxes = ap (λ xs. map mailbox_of xs ++ map mailbox_of left) more
+          ∙ (ap (λ xs. xs ++ map mailbox_of left) (map-append mailbox_of done (new ∷ []))
+          ∙ (append_assoc (map mailbox_of done) (new.mailbox ∷ []) (map mailbox_of left)
+          ∙ (ap (λ m. map mailbox_of done ++ (m ∷ map mailbox_of left)) (ap mailbox_of is.home)
+          ∙ (ap (λ xs. map mailbox_of done ++ map mailbox_of xs) (sym e) ∙ i.boxes))));
+      out = All-tail IsIn h left (subst (All IsIn) e i.out);
+      none = subst (All (Even 0)) (sym more) (All-push (Even 0) done new i.none (ap (λ (x : HomeView). x.out) is.home, ap back_of is.home));
+      same = omega (arith, i.same, ap length e, ap length f);
+      blank = All-tail IsBlank list lists (subst (All IsBlank) f i.blank);
+      count = omega (arith, i.count, ap length e, ap length fuller, length-append filled (got ∷ []));
+      letters =
+          let was : Shuffled (map back_of hs) (letters_in filled ++ h.back ∷ map back_of left) = subst (λ xs. Shuffled (map back_of hs) (letters_in filled ++ map back_of xs)) e i.letters in
+          let next : Shuffled (map back_of hs) (letters_in filled ++ got.items ∷ map back_of left) = Shuffled-next (map back_of hs) (letters_in filled) (map back_of left) h.back got.items was is.letters in
+          subst (Shuffled (map back_of hs))
+          (sym (ap (λ xs. letters_in xs ++ map back_of left) fuller
+          ∙ (ap (λ xs. xs ++ map back_of left) (map-append items_of filled (got ∷ [])) ∙ append_assoc (letters_in filled) (got.items ∷ []) (map back_of left)))) next;
+    }
+
+none_left : {X : Type 0} (xs : List X) → length xs ≡ 0 → xs ≡ []
+none_left [] e = λ i. []
+none_left (x ∷ xs) e = absurd (omega (arith, e))
 
 pub returns-clause-letters : goal.returns-clause-letters
 returns-clause-letters g c =
-    let b = c.into_iter-home-iterator.ensures.into_iter_gives in
     let hs = c.args.homes.items in
-    let end = YieldsList-end (YieldsList-from_vec hs b.0 (b.1 ∙ c.args.homes.ok.0)) c.loop-home.yielded c.loop-home.home-iterator c.loop-home.yielded_by c.next.result c.next.new.self c.in-None.is c.next.ensures.steps in
-    let same : c.loop-home.yielded ≡ hs = sym (map_same c.loop-home.yielded) ∙ end.0 in
-    λ k lt. subst (λ l. IsPermutation (get_or (map back_of l) k []) (get_or (letters_in c.loop-home.lists.items) k [])) same (Shuffled-at _ _ k c.loop-home.invariant.5)
+    let none : into_iter_items c.loop-home.home-iterator ≡ [] = none_left _ (sym c.loop-home.home-iterator.rest.ok.0 ∙ c.in-None.ensures.steps.0) in
+    let all : Shuffled (map back_of hs) (letters_in c.loop-home.filled.items) =
+    subst (Shuffled (map back_of hs)) (ap (λ xs. letters_in c.loop-home.filled.items ++ map back_of xs) none ∙ append-nil (letters_in c.loop-home.filled.items)) c.loop-home.invariant.letters in
+    λ k lt. Shuffled-at (map back_of hs) (letters_in c.loop-home.filled.items) k all

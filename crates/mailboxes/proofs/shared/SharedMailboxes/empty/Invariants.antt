@@ -1,11 +1,22 @@
-use Rattle.std.proofs.Common.{◌≡◌, ◌≤◌, length, map, vec_len, vec_capacity}
+use Rattle.std.proofs.Common.{◌≡◌, ◌+◌, ◌++◌, [], length, map}
+use Rattle.std.specs.List.{All}
+use Rattle.std.specs.Vec.Iter.{into_iter_items}
 use Rattle.mailboxes.specs.Mailboxes.{letters_in}
 use Rattle.mailboxes.proofs.Lists.{Shuffled}
 use Rattle.mailboxes.proofs.shared.SharedMailboxes.empty.Given as goal
 
+-- the homes so far and the rest are of all mailboxes, and the lists so far with what the rest would give are right
 abbrev pub invariant-loop-home : goal.invariant-loop-home
 invariant-loop-home g l =
-    (goal.iterator-loop-home g).can_next l.home-iterator ×
-    (goal.iterator-loop-home g).is_finite l.home-iterator ×
-    (l.at ≡ length l.yielded) × (vec_len l.lists ≡ length l.yielded) × (vec_len l.fn.homes ≤ vec_capacity l.lists)
-    × Shuffled (map (λ h. h.back) l.yielded) (letters_in l.lists.items)
+    let rest = into_iter_items l.home-iterator in
+    let empties = into_iter_items l.empties in
+    record {
+      place : l.at ≡ length l.emptied.items;
+      boxes : map (λ h. h.mailbox) l.emptied.items ++ map (λ h. h.mailbox) rest ≡ map (λ h. h.mailbox) l.fn.homes.items;
+      out : All (λ h. h.out ≡ 0) rest;
+      none : All (λ h. (h.out ≡ 0) × (h.back ≡ [])) l.emptied.items;
+      same : length empties ≡ length rest;
+      blank : All (λ v. v.items ≡ []) empties;
+      count : length l.filled.items + length rest ≡ length l.fn.homes.items;
+      letters : Shuffled (map (λ h. h.back) l.fn.homes.items) (letters_in l.filled.items ++ map (λ h. h.back) rest);
+    }

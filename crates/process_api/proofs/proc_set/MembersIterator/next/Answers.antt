@@ -1,29 +1,49 @@
-use Rattle.std.proofs.Common.{rules, ◌≡◌, ◌+◌, ◌<◌, ◌^◌, [], sym, ◌∙◌, arith, w64}
+use Rattle.std.proofs.Common.{rules, ◌≡◌, ◌+◌, ◌*◌, ◌/◌, ◌<◌, ◌^◌, [], get_or, refl, sym, ap, ◌∙◌, arith, w64, Some}
 use Rattle.std.specs.Int.{trailing_zeros}
-use Rattle.process_api.specs.Bits.{members}
+use Rattle.process_api.specs.Bits.{is_set, members}
+use Rattle.process_api.specs.Bounds.{most_processes}
 use Rattle.process_api.specs.InOrder.{in_order}
-use Rattle.process_api.proofs.Rising.{in_order-word, in_order-none, lowest_place, found, yielded, progressed, without_lowest}
+use Rattle.process_api.proofs.BitWords.{lowest_place, lowest_set, none_below, none_set}
+use Rattle.process_api.proofs.Rising.{in_order-told, in_order-none, yielded, progressed}
 use Rattle.process_api.proofs.proc_set.MembersIterator.next.Goals as goal
 
-pub returns-then-self-eq0-clause-steps : goal.returns-then-self-eq0-clause-steps
-returns-then-self-eq0-clause-steps c =
-    let none : c.args.self.now ≡ [] = sym c.self.view_is ∙ in_order-none c.self.inside.bits c.if-self-eq0.true in
+pub returns-in_default-clause-steps : goal.returns-in_default-clause-steps
+returns-in_default-clause-steps c =
+    let words = c.self.inside.words in
+    let none : c.args.self.now ≡ [] = sym c.self.view_is ∙ in_order-none (is_set words) (λ i low. none_set words i (c.in_default.ensures.none refl (i / 64) (omega (arith, low)))) in
     (none, none)
+
+pub clear-requires : goal.clear-requires
+clear-requires c =
+    let words = c.self.inside.words in
+    let k = c.in-Some.k in
+    let first = c.in-Some.ensures.some in
+    let fits : get_or words k 0 < 2 ^ 64 = search rules in
+    let low = lowest_place words k first.1 fits first.2 in
+    omega (arith, low, first.0)
 
 pub returns-clause-steps : goal.returns-clause-steps
 returns-clause-steps c =
-    let bits = c.self.inside.bits in
-    let some : 0 < bits = omega (arith, c.if-self-eq0.false) in
-    let within : bits < 2 ^ 64 = search rules in
-    yielded c.new.result c.args.self.now (in_order (members 64 (without_lowest bits))) (trailing_zeros w64 bits + 1)
-    (found c.new.result (trailing_zeros w64 bits + 1) c.new.ensures.range c.new.ensures.value (omega arith) (omega (arith, lowest_place bits some within)))
-    (sym c.self.view_is ∙ in_order-word bits some within)
+    let words = c.self.inside.words in
+    let k = c.in-Some.k in
+    let first = c.in-Some.ensures.some in
+    let fits : get_or words k 0 < 2 ^ 64 = search rules in
+    let place = k * 64 + trailing_zeros w64 (get_or words k 0) in
+    let low = lowest_place words k first.1 fits first.2 in
+    yielded _ c.args.self.now (in_order (members most_processes (is_set c.clear.new.words))) (place + 1) (ap Some c.after.ensures)
+    (sym c.self.view_is
+    ∙ in_order-told (is_set words) (is_set c.clear.new.words) place (omega (arith, low, first.0)) (lowest_set words k first.1 fits first.2)
+    (none_below words k first.1 fits first.2) c.clear.ensures.own (λ i _ apart. c.clear.ensures.others i apart))
 
 pub returns-clause-goes : goal.returns-clause-goes
 returns-clause-goes c =
-    let bits = c.self.inside.bits in
-    let some : 0 < bits = omega (arith, c.if-self-eq0.false) in
-    let within : bits < 2 ^ 64 = search rules in
-    progressed c.new.result c.args.self.now (in_order (members 64 (without_lowest bits))) (trailing_zeros w64 bits + 1)
-    (found c.new.result (trailing_zeros w64 bits + 1) c.new.ensures.range c.new.ensures.value (omega arith) (omega (arith, lowest_place bits some within)))
-    (sym c.self.view_is ∙ in_order-word bits some within)
+    let words = c.self.inside.words in
+    let k = c.in-Some.k in
+    let first = c.in-Some.ensures.some in
+    let fits : get_or words k 0 < 2 ^ 64 = search rules in
+    let place = k * 64 + trailing_zeros w64 (get_or words k 0) in
+    let low = lowest_place words k first.1 fits first.2 in
+    progressed _ c.args.self.now (in_order (members most_processes (is_set c.clear.new.words))) (place + 1) (ap Some c.after.ensures)
+    (sym c.self.view_is
+    ∙ in_order-told (is_set words) (is_set c.clear.new.words) place (omega (arith, low, first.0)) (lowest_set words k first.1 fits first.2)
+    (none_below words k first.1 fits first.2) c.clear.ensures.own (λ i _ apart. c.clear.ensures.others i apart))

@@ -1,7 +1,11 @@
 use Rattle.std.proofs.Common.{◌∙◌}
 use Rattle.std.specs.FinSet as set
-use Rattle.process_api.proofs.BitWords.{members-union}
+use Rattle.process_api.specs.Bits.{is_set}
+use Rattle.process_api.specs.Bounds.{most_processes}
+use Rattle.process_api.proofs.Told.{members-union}
 use Rattle.process_api.proofs.proc_set.ProcSet.union.Goals as goal
 
 pub returns : goal.returns
-returns c = members-union c.self.inside.bits c.other.inside.bits ∙ (λ i. set.union (c.self.view_is i) (c.other.view_is i))
+returns c =
+    members-union most_processes (is_set c.self.inside.words) (is_set c.either.result) (is_set c.other.inside.words) c.either.ensures
+    ∙ (λ i. set.union (c.self.view_is i) (c.other.view_is i))

@@ -1,4 +1,5 @@
 use Rattle.std.proofs.Common.{◌≡◌, ◌≤◌, ℕ, subst}
+use Rattle.process_api.specs.Bounds.{most_processes}
 use Rattle.process_api.specs.Place.{Place}
 use Rattle.reduction.specs.Parts.{place_of, state_of}
 use Rattle.reduction.proofs.Joining.{joined_state, joined_actions, joined_changes, joined_allowed, joined_few}
@@ -28,7 +29,7 @@ returns-clause-allowed g c = joined_allowed _ c.args.self.now.base (state_of c.a
 
 pub returns-clause-few : goal.returns-clause-few
 returns-clause-few g c =
-    joined_few _ c.args.self.now.base (state_of c.args.self.now.gathering) _ _ (subst (λ n. n ≤ 64) c.args.self.now.processes c.args.self.now.gathering.few) c.in_ok-take.ensures.few
+    joined_few _ c.args.self.now.base (state_of c.args.self.now.gathering) _ _ (subst (λ n. n ≤ most_processes) c.args.self.now.processes c.args.self.now.gathering.few) c.in_ok-take.ensures.few
 
 pub returns-clause-changes : goal.returns-clause-changes
 returns-clause-changes g c =

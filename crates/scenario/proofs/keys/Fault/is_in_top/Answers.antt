@@ -1,6 +1,10 @@
 use Rattle.scenario.specs.Keys.{top_fields}
 use Rattle.scenario.proofs.keys.Fault.is_in_top.Goals as goal
 
-pub returns : goal.returns
+pub returns-then-is_second : goal.returns-then-is_second
 unfolding top_fields
-returns c = c.is_in.ensures
+returns-then-is_second c = rw (← c.is_second.ensures, c.if-is_second.true) c.is_in.ensures
+
+pub returns-else-is_second : goal.returns-else-is_second
+unfolding top_fields
+returns-else-is_second c = rw (← c.is_second.ensures, c.if-is_second.false) c.is_in-else-is_second.ensures

@@ -1,15 +1,15 @@
 use Rattle.std.proofs.Common.{◌≡◌, ◌∷◌, [], ◌++◌, ℕ, ◌-◌, ◌≤◌, Bool, true, false, not, ◌&&◌, nat_le, ap, sym, ◌∙◌}
 use Rattle.std.specs.FinSet as set
 use Rattle.process_api.specs.Place.{Place}
-use Rattle.process_api.specs.Timeout.{DetectorState, is_overdue, watches}
-use Rattle.process_api.specs.declared.numbers.DetectorNumbers.{DetectorNumbers}
+use Rattle.process_api.specs.Timeout.{TimeoutState, is_overdue, watches}
+use Rattle.process_api.specs.declared.numbers.TimeoutNumbers.{TimeoutNumbers}
 use Rattle.process_api.specs.declared.action.Action.{Action}
 use Rattle.process_api.specs.declared.action.Action.TheVariants.{Note}
 use Rattle.process_api.specs.declared.action.Note.TheVariants.{Suspect}
 use Rattle.scenario.specs.Opening.{place_of}
 use Rattle.timeout_detector.specs.View.{state_of}
-use Rattle.timeout_detector.proofs.Numbering.{appended-passes, appended-fails}
-use Rattle.timeout_detector.proofs.Members.{contains-insert_all_below, insert_all-passes, insert_all-fails}
+use Rattle.process_api.proofs.Numbering.{appended-passes, appended-fails}
+use Rattle.process_api.proofs.Membership.{contains-insert_all_below, insert_all-passes, insert_all-fails}
 use Rattle.timeout_detector.proofs.detector.TimeoutDetector.check.Goals as goal
 use Rattle.timeout_detector.proofs.detector.TimeoutDetector.check.Goals.{then-is_overdue+in_ok-note_that, else-is_overdue}
 
@@ -17,8 +17,8 @@ pub loop-number-preserved : goal.loop-number-preserved
 loop-number-preserved c =
     let start = c.args.self.now in
     let place : Place = place_of start.opening in
-    let numbers : DetectorNumbers = start.opening.detector in
-    let s : DetectorState = state_of start in
+    let numbers : TimeoutNumbers = start.numbers in
+    let s : TimeoutState = state_of start in
     let test : ℕ → Bool = is_overdue place numbers s c.args.now in
     let n : ℕ = c.loop-number.number in
     let low : 1 ≤ n = c.loop-number.auto.number in
@@ -27,13 +27,14 @@ loop-number-preserved c =
     let note : ℕ → Action = λ q. Note (Suspect 1 q) in
     let tested : c.is_overdue.result ≡ test n =
     c.is_overdue.ensures.value
-    ∙ ((λ k. is_overdue (place_of (i.opening k)) (i.opening k).detector (i.state k) c.args.now (is k))
+    ∙ ((λ k. is_overdue (place_of (i.opening k)) (i.numbers k) (i.state k) c.args.now (is k))
     ∙ ap (λ b. watches place numbers n && (not b && nat_le (s.bound n) (c.args.now - s.last_heard n))) (contains-insert_all_below s.suspects test n low)) in
     elim c.if-is_overdue.branch [
       | then-is_overdue+in_ok-note_that w ↦
           let passes : test n ≡ true = sym tested ∙ w.if-is_overdue.true in
           record {
             opening = ap (λ d. d.opening) w.self-is ∙ i.opening;
+            numbers = ap (λ d. d.numbers) w.self-is ∙ i.numbers;
             failure = ap (λ d. d.has_failed) w.self-is ∙ i.failure;
             state = ap state_of w.self-is
                 ∙ (ap (λ m. record (state_of c.loop-number.self) { suspects = m }) w.insert.ensures
@@ -47,6 +48,7 @@ loop-number-preserved c =
           let fails : test n ≡ false = sym tested ∙ w.if-is_overdue.false in
           record {
             opening = ap (λ d. d.opening) w.self-is ∙ i.opening;
+            numbers = ap (λ d. d.numbers) w.self-is ∙ i.numbers;
             failure = ap (λ d. d.has_failed) w.self-is ∙ i.failure;
             state = ap state_of w.self-is ∙ (i.state ∙ ap (λ m. record s { suspects = m }) (insert_all-fails s.suspects test n low fails));
             notes = ap (λ v. v.items) w.out-is ∙ (i.notes ∙ appended-fails c.args.out.now.items note test n low fails);

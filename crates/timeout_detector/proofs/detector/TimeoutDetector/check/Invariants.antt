@@ -12,9 +12,10 @@ use Rattle.timeout_detector.proofs.detector.TimeoutDetector.check.Given as goal
 abbrev pub invariant-loop-number : goal.invariant-loop-number
 invariant-loop-number l =
     let s = state_of l.fn.self in
-    let found = filter (is_overdue (place_of l.fn.self.opening) l.fn.self.opening.detector s l.fn.now) (numbers_to (l.number - 1)) in
+    let found = filter (is_overdue (place_of l.fn.self.opening) l.fn.self.numbers s l.fn.now) (numbers_to (l.number - 1)) in
     record {
       opening : l.self.opening ≡ l.fn.self.opening;
+      numbers : l.self.numbers ≡ l.fn.self.numbers;
       failure : l.self.has_failed ≡ l.fn.self.has_failed;
       state : state_of l.self ≡ record s { suspects = insert_all s.suspects found };
       notes : l.out.items ≡ l.fn.out.items ++ map (λ q. Note (Suspect 1 q)) found;

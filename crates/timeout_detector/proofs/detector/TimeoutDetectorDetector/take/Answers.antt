@@ -1,21 +1,25 @@
-use Rattle.std.proofs.Common.{ap}
+use Rattle.std.proofs.Common.{ap, subst, arith}
+use Rattle.std.specs.Prelude.{IsTrue}
+use Rattle.process_api.proofs.DetectorLaws.{base_allowed, base_few, base_changes}
+use Rattle.process_api.specs.Detector.{ByTimeout, opening_detector, has_pauses, step_detector}
+use Rattle.scenario.proofs.DetectorFacts.{opens_paced}
 use Rattle.scenario.specs.Opening.{place_of}
 use Rattle.timeout_detector.specs.View.{state_of}
-use Rattle.timeout_detector.proofs.Allowed.{lower_allowed, lower_few}
-use Rattle.timeout_detector.proofs.Changes.{lower_changes}
 use Rattle.timeout_detector.proofs.detector.TimeoutDetectorDetector.take.Goals as goal
 
 pub returns-clause-allowed : goal.returns-clause-allowed
 returns-clause-allowed c =
-    let o = c.args.self.now.opening in
-    lower_allowed (place_of o) o.detector o.numbers.period_low o.numbers.check_low (state_of c.args.self.now) c.args.now c.args.input.now
+    let d = c.args.self.now in
+    base_allowed (place_of d.opening) (ByTimeout d.numbers (state_of d)) c.args.now c.args.input.now
+    (subst (λ its. IsTrue (has_pauses (opening_detector its))) d.kind (opens_paced d.opening.detector d.opening.numbers))
 
 pub returns-clause-few : goal.returns-clause-few
 returns-clause-few c =
-    let o = c.args.self.now.opening in
-    lower_few (place_of o) o.detector o.few (state_of c.args.self.now) c.args.now c.args.input.now
+    let d = c.args.self.now in
+    base_few (place_of d.opening) (ByTimeout d.numbers (state_of d)) c.args.now c.args.input.now (omega (arith, d.opening.few))
 
 pub returns-clause-changes : goal.returns-clause-changes
+unfolding step_detector
 returns-clause-changes c =
-    let o = c.args.self.now.opening in
-    lower_changes (place_of o) o.detector (state_of c.args.self.now) c.args.now c.args.input.now c.step.new.self.suspects (ap (λ s. s.suspects) c.in_ok-step.ensures.state)
+    let d = c.args.self.now in
+    base_changes (place_of d.opening) (ByTimeout d.numbers (state_of d)) c.args.now c.args.input.now c.step.new.self.suspects (ap (λ s. s.suspects) c.in_ok-step.ensures.state)

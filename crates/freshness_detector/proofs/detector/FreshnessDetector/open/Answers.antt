@@ -1,0 +1,13 @@
+use Rattle.std.proofs.Common.{refl, ap, subst, ◌∙◌}
+use Rattle.std.specs.FinSet as set
+use Rattle.scenario.specs.Numbers.{AreInRange}
+use Rattle.scenario.specs.Opening.{place_of}
+use Rattle.freshness_detector.specs.Tables.{state_by}
+use Rattle.freshness_detector.proofs.Points.{opens_with_nobody}
+use Rattle.freshness_detector.proofs.detector.FreshnessDetector.open.Goals as goal
+
+pub invariant_of-result-clause-ranges : goal.invariant_of-result-clause-ranges
+invariant_of-result-clause-ranges c = subst AreInRange c.in-Freshness.is c.args.opening.now.numbers
+
+pub invariant_of-result-clause-current : goal.invariant_of-result-clause-current
+invariant_of-result-clause-current c = λ q. ap (λ m. set.contains m q) c.new.ensures ∙ opens_with_nobody (place_of c.args.opening.now) c.in-Freshness.numbers (state_by 0 0 c.in_ok-vec.field-0.items) refl q

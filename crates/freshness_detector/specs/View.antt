@@ -1,0 +1,49 @@
+-- What a detector is, as plain data.
+use Rattle.std.specs.Prelude.{ℕ, Bool, not, ◌&&◌, List, filter}
+use Rattle.std.specs.FinSet as set
+use Rattle.process_api.specs.Answer.{Answer}
+use Rattle.process_api.specs.Detector.{ByFreshness}
+use Rattle.process_api.specs.Freshness.{FreshnessState, watches, noted, next_check, heard, checked, step_freshness}
+use Rattle.process_api.specs.Mind.{Lower}
+use Rattle.process_api.specs.Numbers.{numbers_to}
+use Rattle.process_api.specs.declared.action.Action.{Action}
+use Rattle.process_api.specs.declared.message.StepInput.{StepInput}
+use Rattle.scenario.specs.Opening.{place_of, base_of}
+use Rattle.freshness_detector.specs.Tables.{state_by}
+use Rattle.freshness_detector.specs.declared.detector.FreshnessDetector.{FreshnessDetector}
+
+abbrev pub state_of : FreshnessDetector → FreshnessState
+state_of d = state_by d.sent d.reached d.latest.items
+
+-- the detector's part of a mind, with no reduction
+abbrev pub lower_of : FreshnessDetector → Lower
+lower_of d = record (base_of d.opening) { detector = ByFreshness d.numbers (state_of d) }
+
+-- what the definitions say of it: whom it watches, what it is once a point is reached or a heartbeat came, what it notes
+-- and asks for then, and what an input makes of it
+abbrev pub is_watched : FreshnessDetector → ℕ → Bool
+is_watched d = watches (place_of d.opening) d.numbers
+
+abbrev pub checked_by : FreshnessDetector → FreshnessState
+checked_by d = checked (place_of d.opening) d.numbers (state_of d)
+
+abbrev pub heard_by : FreshnessDetector → (q j : ℕ) → FreshnessState
+heard_by d = heard (place_of d.opening) d.numbers (state_of d)
+
+abbrev pub noted_by : FreshnessDetector → FreshnessState → List Action
+noted_by d after = noted (place_of d.opening) d.numbers (state_of d) after
+
+abbrev pub next_check_of : FreshnessDetector → List Action
+next_check_of d = next_check (place_of d.opening) d.numbers
+
+abbrev pub answer_of : FreshnessDetector → ℕ → StepInput → Answer FreshnessState
+answer_of d = step_freshness (place_of d.opening) d.numbers (state_of d)
+
+-- q becomes suspected as a point is reached: it is watched and not yet suspected, and no heartbeat of the point's number
+-- or later came from it
+abbrev pub is_late : FreshnessDetector → (point : ℕ) → ℕ → Bool
+is_late d point q = is_watched d q && (not (set.contains d.suspects q) && not ((state_of d).came q point))
+
+-- all of these, in rising order
+abbrev pub late_ones : FreshnessDetector → (point : ℕ) → List ℕ
+late_ones d point = filter (is_late d point) (numbers_to d.opening.processes)

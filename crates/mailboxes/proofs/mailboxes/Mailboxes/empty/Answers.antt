@@ -1,0 +1,89 @@
+use Rattle.std.proofs.Common.{◌≡◌, ◌<◌, ◌≤◌, ◌-◌, ℕ, [], length, get_or, sym, ap, ◌∙◌, subst, vec_len, arith}
+use Rattle.std.specs.List.{flat_map}
+use Rattle.std.specs.List.Sorted.{IsPermutation}
+use Rattle.std.proofs.lemmas.List.{length-map}
+use Rattle.std.proofs.lemmas.Iterator.Adapters.{YieldsList-from_vec}
+use Rattle.std.proofs.lemmas.Iterator.Consumers.{YieldsList-turn, YieldsList-end}
+use Rattle.mailboxes.specs.Mailboxes.{MailboxesView, SlipView, letters_in}
+use Rattle.mailboxes.proofs.Homes.{mailbox_of, fold_back-more, fits-more, turn_mailboxes, turn_out, end_out, end_length, end_posted}
+use Rattle.mailboxes.proofs.Lists.{map_same}
+use Rattle.mailboxes.proofs.mailboxes.Mailboxes.empty.Goals as goal
+
+pub take_back-requires-clause-homes : goal.take_back-requires-clause-homes
+take_back-requires-clause-homes g c =
+    c.self.invariant.0 ∙ sym (turn_mailboxes c.self.inside.slips c.self.inside.homes.items c.loop-slip.yielded c.loop-slip.homes.items c.self.invariant.1 c.loop-slip.invariant.3 c.loop-slip.invariant.2)
+
+few : (k n made slips : ℕ) → k < n → made ≡ n → made ≡ slips → k < slips
+few k n made slips lt e s = omega arith
+
+pub take_back-requires-clause-out : goal.take_back-requires-clause-out
+take_back-requires-clause-out g c =
+    let b = c.into_iter-slip-iterator.ensures.into_iter_gives in
+    let ss = c.args.slips.items in
+    let ys = c.loop-slip.yielded in
+    let turn : (length ys < length ss) × (c.in-Some.slip ≡ get_or ss (length ys) c.in-Some.slip) =
+    YieldsList-turn (YieldsList-from_vec ss b.0 (b.1 ∙ c.args.slips.ok.0)) ys c.loop-slip.slip-iterator c.loop-slip.yielded_by c.next.result c.next.new.self c.in-Some.slip c.in-Some.is c.next.ensures.steps in
+    turn_out c.self.inside.slips c.self.inside.homes.items ys c.loop-slip.homes.items c.self.invariant.1 c.loop-slip.invariant.3 c.loop-slip.invariant.2
+    (few (length ys) (length ss) (vec_len c.args.slips) c.self.inside.slips turn.0 c.args.slips.ok.0 (c.requires.all ∙ ap (λ (m : MailboxesView). m.slips) (sym c.self.view_is)))
+
+pub loop-slip-preserved : goal.loop-slip-preserved
+loop-slip-preserved g c =
+    let hs = c.self.inside.homes.items in
+    let ys = c.loop-slip.yielded in
+    let s = c.in-Some.slip in
+    let fits : length s.posted ≡ length hs =
+    c.take_back.ensures.lists ∙ c.loop-slip.homes.ok.0 ∙ end_length c.self.inside.slips hs ys c.loop-slip.homes.items c.self.invariant.1 c.loop-slip.invariant.3 c.loop-slip.invariant.2 in (
+      tt,
+      tt,
+      fold_back-more hs c.loop-slip.homes.items c.take_back.new.homes.items ys s c.loop-slip.invariant.2 c.take_back.ensures.homes,
+      fits-more (length hs) ys s c.loop-slip.invariant.3 fits,
+    )
+
+pub empty-requires-clause-homes : goal.empty-requires-clause-homes
+empty-requires-clause-homes g c =
+    c.self.invariant.0 ∙ sym (turn_mailboxes c.self.inside.slips c.self.inside.homes.items c.loop-slip.yielded c.loop-slip.homes.items c.self.invariant.1 c.loop-slip.invariant.3 c.loop-slip.invariant.2)
+
+pub empty-requires-clause-out : goal.empty-requires-clause-out
+empty-requires-clause-out g c =
+    let b = c.into_iter-slip-iterator.ensures.into_iter_gives in
+    let ss = c.args.slips.items in
+    let ys = c.loop-slip.yielded in
+    let end = YieldsList-end (YieldsList-from_vec ss b.0 (b.1 ∙ c.args.slips.ok.0)) ys c.loop-slip.slip-iterator c.loop-slip.yielded_by c.next.result c.next.new.self c.in-None.is c.next.ensures.steps in
+    let all : ys ≡ ss = sym (map_same ys) ∙ end.0 in
+    end_out c.self.inside.slips c.self.inside.homes.items ys c.loop-slip.homes.items c.self.invariant.1 c.loop-slip.invariant.3 c.loop-slip.invariant.2
+    (ap length all ∙ sym c.args.slips.ok.0 ∙ c.requires.all ∙ ap (λ (m : MailboxesView). m.slips) (sym c.self.view_is))
+
+pub returns-clause-count : goal.returns-clause-count
+returns-clause-count g c =
+    let hs = c.self.inside.homes.items in
+    c.in_ok-homes.ensures.count ∙ c.loop-slip.homes.ok.0
+    ∙ end_length c.self.inside.slips hs c.loop-slip.yielded c.loop-slip.homes.items c.self.invariant.1 c.loop-slip.invariant.3 c.loop-slip.invariant.2
+    ∙ sym (length-map hs mailbox_of) ∙ ap length (sym c.self.invariant.0) ∙ ap (λ (m : MailboxesView). length m.mailboxes) c.self.view_is
+
+place : (r n m : ℕ) → 1 ≤ r → r ≤ n → m ≡ n → r - 1 < m
+place r n m some le e = omega arith
+
+pub returns-clause-letters : goal.returns-clause-letters
+returns-clause-letters g c =
+    let b = c.into_iter-slip-iterator.ensures.into_iter_gives in
+    let ss = c.args.slips.items in
+    let ys = c.loop-slip.yielded in
+    let hs = c.self.inside.homes.items in
+    let end = YieldsList-end (YieldsList-from_vec ss b.0 (b.1 ∙ c.args.slips.ok.0)) ys c.loop-slip.slip-iterator c.loop-slip.yielded_by c.next.result c.next.new.self c.in-None.is c.next.ensures.steps in
+    let all : ys ≡ ss = sym (map_same ys) ∙ end.0 in
+    let long : vec_len c.loop-slip.homes ≡ length c.args.self.mailboxes =
+    c.loop-slip.homes.ok.0
+    ∙ end_length c.self.inside.slips hs ys c.loop-slip.homes.items c.self.invariant.1 c.loop-slip.invariant.3 c.loop-slip.invariant.2
+    ∙ sym (length-map hs mailbox_of) ∙ ap length (sym c.self.invariant.0) ∙ ap (λ (m : MailboxesView). length m.mailboxes) c.self.view_is in
+    λ r some le.
+    let posted = end_posted c.self.inside.slips hs ys c.loop-slip.homes.items c.self.invariant.1 c.loop-slip.invariant.3 c.loop-slip.invariant.2 (r - 1) in
+    subst (λ l. IsPermutation l (get_or (letters_in c.in_ok-homes.letters.items) (r - 1) [])) (posted ∙ ap (flat_map (λ (s : SlipView). get_or s.posted (r - 1) [])) all)
+    (c.in_ok-homes.ensures.letters (r - 1) (place r (length c.args.self.mailboxes) (vec_len c.loop-slip.homes) some le long))
+
+pub empty-requires-clause-count : goal.empty-requires-clause-count
+empty-requires-clause-count g c =
+    let hs = c.self.inside.homes.items in
+    c.requires.count
+    ∙ sym (c.loop-slip.homes.ok.0
+    ∙ end_length c.self.inside.slips hs c.loop-slip.yielded c.loop-slip.homes.items c.self.invariant.1 c.loop-slip.invariant.3 c.loop-slip.invariant.2
+    ∙ sym (length-map hs mailbox_of) ∙ ap length (sym c.self.invariant.0) ∙ ap (λ (m : MailboxesView). length m.mailboxes) c.self.view_is)

@@ -1,0 +1,45 @@
+-- Each kind of base detector has the laws of a base detector; and what these make of a base detector alone.
+use Rattle.std.proofs.Common.{◌≡◌, ℕ, ◌+◌, ◌≤◌, ap, sym, ◌∙◌, length, None, arith}
+use Rattle.std.specs.List.{All}
+use Rattle.std.proofs.lemmas.List.Elements.{All-from_recursion}
+use Rattle.std.specs.Prelude.{IsTrue}
+use Rattle.process_api.specs.Actions.{IsAllowed, notes_of_layer}
+use Rattle.process_api.specs.Bounds.{most_first_actions}
+use Rattle.process_api.specs.BaseDetector.{TrustsAll, IsDetectorStep}
+use Rattle.process_api.specs.Detector.{DetectorState, ByTimeout, ByFreshness, opening_detector, suspected_by, has_pauses, step_detector}
+use Rattle.process_api.specs.Mind.{Lower, most_actions}
+use Rattle.process_api.specs.Place.{Place}
+use Rattle.process_api.specs.React.{react_lower}
+use Rattle.process_api.specs.Sets.{Processes, changes}
+use Rattle.process_api.specs.declared.message.StepInput.{StepInput}
+use Rattle.process_api.specs.declared.numbers.DetectorNumbers.{DetectorNumbers}
+use Rattle.process_api.specs.declared.numbers.DetectorNumbers.TheVariants as numbers
+use Rattle.process_api.proofs.FreshnessLaws.{freshness_opens, freshness_laws}
+use Rattle.process_api.proofs.TimeoutLaws.{timeout_opens, timeout_laws}
+
+pub detector_opens : (place : Place) (numbers : DetectorNumbers) → TrustsAll (suspected_by place (opening_detector numbers))
+detector_opens place (numbers.Timeout its) = timeout_opens its
+detector_opens place (numbers.Freshness its) = freshness_opens place its
+
+pub detector_laws : (place : Place) (s : DetectorState) (now : ℕ) (x : StepInput)
+    → IsDetectorStep place (suspected_by place s) (suspected_by place (step_detector place s now x).state) (has_pauses s) (has_pauses (step_detector place s now x).state) (step_detector place s now x).actions
+unfolding step_detector
+detector_laws place (ByTimeout its s) now x = timeout_laws place its s now x
+detector_laws place (ByFreshness its s) now x = freshness_laws place its s now x
+
+-- a base detector with no reduction over it
+module _ (place : Place) (s : DetectorState) (now : ℕ) (x : StepInput) where
+  abbrev base : Lower
+  base = record { place = place; detector = s; reduction = None }
+
+  pub base_allowed : IsTrue (has_pauses s) → All (IsAllowed place.processes) (react_lower base now x).actions
+  unfolding react_lower
+  base_allowed paced = All-from_recursion (IsAllowed place.processes) _ ((detector_laws place s now x).allowed paced)
+
+  pub base_few : place.processes + 2 ≤ most_first_actions → length (react_lower base now x).actions ≤ most_actions base
+  unfolding react_lower
+  base_few room = omega (arith, room, (detector_laws place s now x).few)
+
+  pub base_changes : (after : Processes) → after ≡ suspected_by place (step_detector place s now x).state → notes_of_layer 1 (react_lower base now x).actions ≡ changes 1 place.processes (suspected_by place s) after
+  unfolding react_lower
+  base_changes after is = (detector_laws place s now x).notes ∙ ap (changes 1 place.processes (suspected_by place s)) (sym is)

@@ -1,0 +1,108 @@
+-- Tests of the numbers 1 to n.
+use Rattle.std.proofs.Common.{length, length-append, subst, ◌≡◌, ◌≢◌, ⊎_elim, ℕ, zero, suc, ◌+◌, ◌-◌, ◌≤◌, refl, sym, ap, ◌∙◌, List, [], ◌∷◌, ◌++◌, Bool, true, false, cond, nat_eq, append-nil, append_assoc, map, arith}
+use Rattle.std.proofs.lemmas.Bool.{cases_eq, eq-eqb, ne_eqb}
+use Rattle.std.proofs.lemmas.Bool.Decides.{nat_tests}
+use Rattle.std.proofs.lemmas.List.Elements.{filter-append}
+use Rattle.std.proofs.lemmas.List.{map-append}
+use Rattle.std.proofs.lemmas.List.Sums.{length-filter, count_by-le-length}
+use Rattle.std.specs.List.{filter}
+use Rattle.process_api.specs.Numbers.{numbers_to, is_process}
+
+filter-suc : (p : ℕ → Bool) (n : ℕ) → filter p (numbers_to (suc n)) ≡ filter p (numbers_to n) ++ cond (p (suc n)) (suc n ∷ []) []
+filter-suc p n = filter-append p (numbers_to n) (suc n ∷ [])
+
+filter-last : (p : ℕ → Bool) (q : ℕ) → 1 ≤ q → filter p (numbers_to (q + 1 - 1)) ≡ filter p (numbers_to (q - 1)) ++ cond (p q) (q ∷ []) []
+filter-last p q low =
+    let e : q + 1 - 1 ≡ suc (q - 1) = omega (arith, low) in
+    let f : suc (q - 1) ≡ q = omega (arith, low) in
+    ap (λ k. filter p (numbers_to k)) e ∙ (filter-suc p (q - 1) ∙ ap (λ k. filter p (numbers_to (q - 1)) ++ cond (p k) (k ∷ []) []) f)
+
+-- of 1 to q, the last passes the test
+pub filter-last_passes : (p : ℕ → Bool) (q : ℕ) → 1 ≤ q → p q ≡ true → filter p (numbers_to (q + 1 - 1)) ≡ filter p (numbers_to (q - 1)) ++ q ∷ []
+filter-last_passes p q low h = filter-last p q low ∙ ap (λ b. filter p (numbers_to (q - 1)) ++ cond b (q ∷ []) []) h
+
+-- or it doesn't
+pub filter-last_fails : (p : ℕ → Bool) (q : ℕ) → 1 ≤ q → p q ≡ false → filter p (numbers_to (q + 1 - 1)) ≡ filter p (numbers_to (q - 1))
+filter-last_fails p q low h = filter-last p q low ∙ (ap (λ b. filter p (numbers_to (q - 1)) ++ cond b (q ∷ []) []) h ∙ append-nil _)
+
+-- a list that goes through 1 to q gets what belongs to q, where q passes the test
+pub appended-passes : {X : Type 0} (old : List X) (f : ℕ → X) (p : ℕ → Bool) (q : ℕ) → 1 ≤ q → p q ≡ true → (old ++ map f (filter p (numbers_to (q - 1)))) ++ f q ∷ [] ≡ old ++ map f (filter p (numbers_to (q + 1 - 1)))
+appended-passes old f p q low h =
+    let found : List ℕ = filter p (numbers_to (q - 1)) in
+    append_assoc old (map f found) (f q ∷ [])
+    ∙ (ap (λ xs. old ++ xs) (sym (map-append f found (q ∷ []))) ∙ ap (λ xs. old ++ map f xs) (sym (filter-last_passes p q low h)))
+
+pub appended-fails : {X : Type 0} (old : List X) (f : ℕ → X) (p : ℕ → Bool) (q : ℕ) → 1 ≤ q → p q ≡ false → old ++ map f (filter p (numbers_to (q - 1))) ≡ old ++ map f (filter p (numbers_to (q + 1 - 1)))
+appended-fails old f p q low h = ap (λ xs. old ++ map f xs) (sym (filter-last_fails p q low h))
+
+-- tests that agree from 1 to n
+pub filter-same : (f g : ℕ → Bool) (n : ℕ) → ((q : ℕ) → 1 ≤ q → q ≤ n → f q ≡ g q) → filter f (numbers_to n) ≡ filter g (numbers_to n)
+filter-same f g zero agree = refl
+filter-same f g (suc n) agree =
+    let earlier : filter f (numbers_to n) ≡ filter g (numbers_to n) = filter-same f g n (λ q low high. agree q low (omega (arith, high))) in
+    let last : f (suc n) ≡ g (suc n) = agree (suc n) (omega arith) (omega arith) in
+    filter-suc f n ∙ ((λ i. earlier i ++ cond (last i) (suc n ∷ []) []) ∙ sym (filter-suc g n))
+
+-- nobody from 1 to n passes
+pub filter-none : (f : ℕ → Bool) (n : ℕ) → ((q : ℕ) → q ≤ n → f q ≡ false) → filter f (numbers_to n) ≡ []
+filter-none f zero fails = refl
+filter-none f (suc n) fails =
+    let earlier : filter f (numbers_to n) ≡ [] = filter-none f n (λ q high. fails q (omega (arith, high))) in
+    let last : f (suc n) ≡ false = fails (suc n) (omega arith) in
+    filter-suc f n ∙ (λ i. earlier i ++ cond (last i) (suc n ∷ []) [])
+
+-- the test for one number finds it
+pub filter-one : (f : ℕ → Bool) (q n : ℕ) → 1 ≤ q → q ≤ n → ((p : ℕ) → f p ≡ nat_eq p q) → filter f (numbers_to n) ≡ q ∷ []
+filter-one f q zero low high is = absurd (omega (arith, low, high))
+filter-one f q (suc n) low high is =
+    filter-suc f n ∙ ⊎_elim
+    (λ (e : q ≡ suc n).
+    let earlier : filter f (numbers_to n) ≡ [] = filter-none f n (λ p h. is p ∙ ne_eqb p q (λ same. omega (arith, h, e, same))) in
+    let last : f (suc n) ≡ true = is (suc n) ∙ eq-eqb (suc n) q (sym e) in
+    (λ i. earlier i ++ cond (last i) (suc n ∷ []) []) ∙ ap (λ k. k ∷ []) (sym e))
+    (λ (apart : q ≢ suc n).
+    let earlier : filter f (numbers_to n) ≡ q ∷ [] = filter-one f q n low (omega (arith, high, apart)) is in
+    let last : f (suc n) ≡ false = is (suc n) ∙ ne_eqb (suc n) q (λ e. apart (sym e)) in
+    λ i. earlier i ++ cond (last i) (suc n ∷ []) [])
+    (cases_eq q (suc n))
+
+pub is_process-none : (q : ℕ) → is_process 0 q ≡ false
+is_process-none q = grind (arith, nat_tests)
+
+pub is_process-last : (n q : ℕ) → q ≡ suc n → is_process (suc n) q ≡ true
+is_process-last n q e = grind (arith, nat_tests)
+
+pub is_process-past : (n q : ℕ) → q ≡ suc n → is_process n q ≡ false
+is_process-past n q e = grind (arith, nat_tests)
+
+pub is_process-more : (n q : ℕ) → q ≢ suc n → is_process (suc n) q ≡ is_process n q
+is_process-more n q apart = grind (arith, nat_tests)
+
+pub is_process_within : (n q : ℕ) → 1 ≤ q → q ≤ n → is_process n q ≡ true
+is_process_within n q low high = grind (arith, nat_tests)
+
+pub length-numbers_to : (n : ℕ) → length (numbers_to n) ≡ n
+length-numbers_to zero = refl
+length-numbers_to (suc n) = length-append (numbers_to n) (suc n ∷ []) ∙ omega (arith, length-numbers_to n)
+
+-- a test passes at most n of n numbers
+pub length-filter_to : (p : ℕ → Bool) (n : ℕ) → length (filter p (numbers_to n)) ≤ n
+length-filter_to p n = omega (arith, length-filter p (numbers_to n), count_by-le-length p (numbers_to n), length-numbers_to n)
+
+-- two tests that no number passes both
+length-last : (p : ℕ → Bool) (n : ℕ) → length (filter p (numbers_to (suc n))) ≡ length (filter p (numbers_to n)) + cond (p (suc n)) 1 0
+length-last p n =
+    ap length (filter-suc p n)
+    ∙ (length-append (filter p (numbers_to n)) (cond (p (suc n)) (suc n ∷ []) [])
+    ∙ ap (λ k. length (filter p (numbers_to n)) + k) (elim (p (suc n)) as (λ b. length (cond b (suc n ∷ []) []) ≡ cond b 1 0) [ true ↦ refl | false ↦ refl ]))
+
+pub length-apart : (f g : ℕ → Bool) (n : ℕ) → ((q : ℕ) → f q ≡ true → g q ≡ false) → length (filter f (numbers_to n)) + length (filter g (numbers_to n)) ≤ n
+length-apart f g zero apart = omega arith
+length-apart f g (suc n) apart = omega (arith, length-last f n, length-last g n, length-apart f g n apart, one_of_them)
+  where
+    one_of_them : cond (f (suc n)) 1 0 + cond (g (suc n)) 1 0 ≤ 1
+    one_of_them =
+        elim (f (suc n)) as (λ b. f (suc n) ≡ b → cond b 1 0 + cond (g (suc n)) 1 0 ≤ 1) [
+          | true ↦ λ is. subst (λ c. 1 + cond c 1 0 ≤ 1) (sym (apart (suc n) is)) (omega arith)
+          | false ↦ λ is. elim (g (suc n)) as (λ c. 0 + cond c 1 0 ≤ 1) [ true ↦ omega arith | false ↦ omega arith ]
+        ] refl

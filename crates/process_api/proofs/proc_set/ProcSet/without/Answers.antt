@@ -1,0 +1,11 @@
+use Rattle.std.proofs.Common.{◌∙◌}
+use Rattle.std.specs.FinSet as set
+use Rattle.process_api.specs.Bits.{is_set}
+use Rattle.process_api.specs.Bounds.{most_processes}
+use Rattle.process_api.proofs.Told.{members-difference}
+use Rattle.process_api.proofs.proc_set.ProcSet.without.Goals as goal
+
+pub returns : goal.returns
+returns c =
+    members-difference most_processes (is_set c.self.inside.words) (is_set c.without.result) (is_set c.other.inside.words) c.without.ensures
+    ∙ (λ i. set.difference (c.self.view_is i) (c.other.view_is i))

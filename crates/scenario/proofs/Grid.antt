@@ -1,0 +1,73 @@
+-- Cells by sender and then by receiver, one of each pair.
+use Rattle.std.proofs.Common.{◌≡◌, ℕ, zero, suc, add-zero, zero-add, ◌++◌, ◌+◌, ◌-◌, ◌*◌, ◌/◌, ◌%◌, ◌<◌, List, map, length, get_or, refl, ap, sym, ◌∙◌, arith, subst}
+use Rattle.std.specs.List.{range_with_len, flat_map}
+use Rattle.std.proofs.lemmas.List.{ext_get_or, length-append, get_or_append_left, get_or-append-add}
+use Rattle.std.proofs.Math.Nat.{zero-mul, suc-mul, mod-lt, div-lt_iff_lt-mul}
+use Rattle.std.proofs.lemmas.Nat.{div-add-mod'}
+use Rattle.std.proofs.lemmas.List.FromFn.{get_or-map-range_with_len, length-map-range_with_len}
+use Rattle.scenario.specs.Parts.{AreProcesses}
+use Rattle.scenario.proofs.KeyFacts.{pair_place}
+
+row_lengths : {X : Type 0} (g : ℕ → ℕ → X) (n a m : ℕ) → length (flat_map (λ f. map (g f) (range_with_len 1 n)) (range_with_len a m)) ≡ m * n
+row_lengths g n a zero = simp zero-mul
+row_lengths g n a (suc m) =
+    let one : length (map (g a) (range_with_len 1 n)) ≡ n = length-map-range_with_len (g a) 1 n in
+    let rest : length (flat_map (λ f. map (g f) (range_with_len 1 n)) (range_with_len (a + 1) m)) ≡ m * n = row_lengths g n (a + 1) m in
+    let more : suc m * n ≡ m * n + n = suc-mul m n in
+    length-append (map (g a) (range_with_len 1 n)) (flat_map (λ f. map (g f) (range_with_len 1 n)) (range_with_len (a + 1) m)) ∙ omega arith
+
+-- the k-th of row j, rows of n one after the other
+pub cell_at : {X : Type 0} (g : ℕ → ℕ → X) (n a m j k : ℕ) (d : X) → j < m → k < n
+    → get_or (flat_map (λ f. map (g f) (range_with_len 1 n)) (range_with_len a m)) (j * n + k) d ≡ g (a + j) (1 + k)
+cell_at g n a zero j k d lt in_row = absurd (omega arith)
+cell_at g n a (suc m) zero k d lt in_row =
+    let width : length (map (g a) (range_with_len 1 n)) ≡ n = length-map-range_with_len (g a) 1 n in
+    let place : zero * n + k ≡ k = simp (zero-mul, zero-add) in
+    ap (λ i. get_or (map (g a) (range_with_len 1 n) ++ flat_map (λ f. map (g f) (range_with_len 1 n)) (range_with_len (a + 1) m)) i d) place
+    ∙ (get_or_append_left (map (g a) (range_with_len 1 n)) (flat_map (λ f. map (g f) (range_with_len 1 n)) (range_with_len (a + 1) m)) d k (omega arith)
+    ∙ (get_or-map-range_with_len (g a) 1 n k (1 + k) d in_row refl ∙ ap (λ b. g b (1 + k)) (sym (add-zero a))))
+cell_at g n a (suc m) (suc j) k d lt in_row =
+    let width : length (map (g a) (range_with_len 1 n)) ≡ n = length-map-range_with_len (g a) 1 n in
+    let more : suc j * n ≡ j * n + n = suc-mul j n in
+    let place : suc j * n + k ≡ length (map (g a) (range_with_len 1 n)) + (j * n + k) = omega arith in
+    ap (λ i. get_or (map (g a) (range_with_len 1 n) ++ flat_map (λ f. map (g f) (range_with_len 1 n)) (range_with_len (a + 1) m)) i d) place
+    ∙ (get_or-append-add (map (g a) (range_with_len 1 n)) (flat_map (λ f. map (g f) (range_with_len 1 n)) (range_with_len (a + 1) m)) (j * n + k) d
+    ∙ (cell_at g n (a + 1) m j k d (omega arith) in_row ∙ ap (λ b. g b (1 + k)) (omega arith)))
+
+-- a place is that of some pair
+some_pair : (n i : ℕ) → i < n * n → (pair : ℕ × ℕ) × (AreProcesses n pair × (i ≡ pair_place n pair))
+some_pair zero i lt = absurd (let none : zero * zero ≡ zero = zero-mul zero in omega arith)
+some_pair (suc n) i lt =
+    let row : i / suc n < suc n = (div-lt_iff_lt-mul {k = suc n} {x = i} {y = suc n} (omega arith)).1 lt in
+    let column : i % suc n < suc n = mod-lt i {m = suc n} (omega arith) in
+    let first : i / suc n + 1 - 1 ≡ i / suc n = omega arith in
+    let second : i % suc n + 1 - 1 ≡ i % suc n = omega arith in (
+      (i / suc n + 1, i % suc n + 1),
+      (
+        record { from = record { low = omega arith; high = omega arith }; to = record { low = omega arith; high = omega arith } },
+        sym (ap (λ r. r * suc n + (i % suc n + 1 - 1)) first ∙ (ap (λ s. i / suc n * suc n + s) second ∙ div-add-mod' i (suc n))),
+      ),
+    )
+
+module _ {X : Type 0} (g : ℕ × ℕ → X) (n : ℕ) where
+  abbrev pub grid : List X
+  grid = flat_map (λ from. map (λ to. g (from, to)) (range_with_len 1 n)) (range_with_len 1 n)
+
+  pub grid_length : length grid ≡ n * n
+  grid_length = row_lengths (λ from to. g (from, to)) n 1 n
+
+  -- the cell of a pair
+  pub grid_at : (pair : ℕ × ℕ) (d : X) → AreProcesses n pair → get_or grid (pair_place n pair) d ≡ g pair
+  grid_at pair d good =
+      cell_at (λ from to. g (from, to)) n 1 n (pair.0 - 1) (pair.1 - 1) d (omega arith) (omega arith)
+      ∙ (ap (λ from. g (from, 1 + (pair.1 - 1))) (omega arith) ∙ ap (λ to. g (pair.0, to)) (omega arith))
+
+  -- cells that hold each pair's are all of them
+  pub grid_whole : (d : X) (cells : List X) → length cells ≡ n * n
+      → ((pair : ℕ × ℕ) → AreProcesses n pair → get_or cells (pair_place n pair) d ≡ g pair) → cells ≡ grid
+  grid_whole d cells full held =
+      ext_get_or d cells grid (full ∙ sym grid_length)
+      (λ i lt.
+      let here = some_pair n i (subst (λ m. i < m) full lt) in
+      ap (λ j. get_or cells j d) here.1.1
+      ∙ (held here.0 here.1.0 ∙ (sym (grid_at here.0 d here.1.0) ∙ ap (λ j. get_or grid j d) (sym here.1.1))))

@@ -1,0 +1,12 @@
+use Rattle.std.proofs.Common.{◌≡◌, ◌<◌, ◌++◌, [], length, map, drop, get_or}
+use Rattle.study.specs.Combinations.{combinations}
+use Rattle.study.specs.Settings.{choices, chosen}
+use Rattle.study.proofs.combination.pick_combination.Given as goal
+
+abbrev pub invariant-loop-axis : goal.invariant-loop-axis
+invariant-loop-axis l = record {
+  alike : l.alike ≡ length (combinations (map choices (drop l.axis-index l.axes)));
+  left : l.left < l.alike;
+  same : map chosen l.picked.items ++ get_or (combinations (map choices (drop l.axis-index l.axes))) l.left []
+      ≡ get_or (combinations (map choices l.axes)) l.fn.number [];
+}

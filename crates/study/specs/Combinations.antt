@@ -1,0 +1,8 @@
+-- All combinations of choices.
+use Rattle.std.specs.Prelude.{List, [], ◌∷◌, map}
+use Rattle.std.specs.List.{flat_map}
+
+-- one choice of each list, in all ways, in order: the last list's choice changes fastest
+abbrev pub combinations : {X : Type 0} → List (List X) → List (List X)
+combinations [] = [] ∷ []
+combinations (xs ∷ rest) = flat_map (λ x. map (λ others. x ∷ others) (combinations rest)) xs

@@ -1,0 +1,78 @@
+-- A scenario's file with a value at a path, in place of the one that is there.
+use Rattle.std.specs.Prelude.{ℕ, ◌-◌, zero, suc, List, [], ◌∷◌, Option, Some, None, Result, Ok, Err, pos, codes, Bool, true, false}
+use Rattle.std.specs.Ordering.{nat_cmp, match_ordering}
+use Rattle.std.specs.Cmp.Lexicographic.{slice_cmp}
+use Rattle.toml.specs.Data.{Data, integer, string, array, table, Items, no_items, item, Members, no_members, member, get_member, get_item}
+use Rattle.study.specs.Settings.{Path, top, inner, element, Given, number, text, Chosen}
+use Rattle.study.specs.Grid.{RunRecord}
+use Rattle.study.specs.declared.error.PlaceError.{PlaceError}
+use Rattle.study.specs.declared.error.PlaceError.TheVariants as error
+
+abbrev pub data_of : Given → Data
+data_of (number z) = integer z
+data_of (text s) = string s
+
+-- the members with a value at a key: it takes the place of the one that is there, or stands where the order of the
+-- keys has it
+abbrev pub put : List ℕ → Data → Members → Members
+put k d no_members = member k d no_members
+put k d (member l e ms) =
+    match_ordering (slice_cmp nat_cmp k l) (member k d (member l e ms)) (member l d ms) (member l e (put k d ms))
+
+-- the items with another one at a place, from 0
+abbrev pub put_item : ℕ → Data → Items → Items
+put_item place d no_items = no_items
+put_item zero d (item e ds) = item d ds
+put_item (suc place) d (item e ds) = item e (put_item place d ds)
+
+-- a table, or what isn't one
+abbrev pub table_of : Data → Result Members PlaceError
+table_of (table ms) = Ok ms
+table_of _ = Err error.NotATable
+
+-- the table at a key, an empty one where there is nothing
+abbrev pub table_or_new : Option Data → Result Members PlaceError
+table_or_new None = Ok no_members
+table_or_new (Some d) = table_of d
+
+abbrev pub items_of : Option Data → Result Items PlaceError
+items_of None = Err error.NoElement
+items_of (Some (array ds)) = Ok ds
+items_of (Some _) = Err error.NotATable
+
+-- the table that is there
+abbrev pub table_there : Option Data → Result Members PlaceError
+table_there None = Err error.NoElement
+table_there (Some d) = table_of d
+
+-- the table at a place of an array, from 1
+abbrev pub element_of : ℕ → Items → Result Members PlaceError
+element_of zero ds = Err error.NoElement
+element_of (suc i) ds = table_there (get_item i ds)
+
+abbrev pub then : {A B : Type 0} → Result A PlaceError → (A → Result B PlaceError) → Result B PlaceError
+then (Ok a) f = f a
+then (Err e) f = Err e
+
+-- the file's table with a value at a path, or why it can't be there
+abbrev pub set_at : Path → Data → Members → Result Members PlaceError
+set_at (top k) d t = Ok (put k d t)
+set_at (inner name k) d t = then (table_or_new (get_member name t)) (λ ms. Ok (put name (table (put k d ms)) t))
+set_at (element name place k) d t =
+    then (items_of (get_member name t)) (λ ds. then (element_of place ds)
+    (λ ms. Ok (put name (array (put_item (place - 1) (table (put k d ms)) ds)) t)))
+
+-- with all of these settings, one after the other
+abbrev pub set_all : List Chosen → Members → Result Members PlaceError
+set_all [] t = Ok t
+set_all (c ∷ cs) t = then (set_at c.path (data_of c.value) t) (set_all cs)
+
+-- the table of a run: the file's, with the point's settings, the run's and its seed
+abbrev pub table_of_run : List Chosen → RunRecord → Members → Result Members PlaceError
+table_of_run point run t =
+    then (set_all point t) (λ s. then (set_all run.settings s)
+    (λ u. Ok (put (codes "seed") (integer (pos run.seed)) u)))
+
+abbrev pub is_memory : PlaceError → Bool
+is_memory (error.Memory m) = true
+is_memory _ = false

@@ -1,0 +1,44 @@
+-- Keys of a scenario's file, and what they are set to.
+use Rattle.std.specs.Prelude.{ℕ, ℤ, List, map, string_bytes}
+use Rattle.study.specs.declared.key.Key.{Key}
+use Rattle.study.specs.declared.key.Key.TheVariants as key
+use Rattle.study.specs.declared.setting.Setting.{Setting}
+use Rattle.study.specs.declared.setting.Setting.TheVariants as setting
+use Rattle.study.specs.declared.axis.Axis.{Axis}
+use Rattle.study.specs.declared.axis.Choice.{Choice}
+
+-- where a key stands in the file
+pub data Path : Type 0 where
+  -- in the top table
+  top : (key : List ℕ) → Path
+  -- in a table of the top table
+  inner : (table key : List ℕ) → Path
+  -- in a table of an array of tables; the first is 1
+  element : (array : List ℕ) (place : ℕ) (key : List ℕ) → Path
+
+abbrev pub path_of : Key → Path
+path_of (key.Top k) = top (string_bytes k)
+path_of (key.Inner t k) = inner (string_bytes t) (string_bytes k)
+path_of (key.Element a place k) = element (string_bytes a) place (string_bytes k)
+
+-- what a key is set to
+pub data Given : Type 0 where
+  number : ℤ → Given
+  text : List ℕ → Given
+
+abbrev pub given_by : Setting → Given
+given_by (setting.Integer z) = number z
+given_by (setting.Text s) = text (string_bytes s)
+
+-- a key with one value
+pub record Chosen : Type 0 where
+  pub path : Path
+  pub value : Given
+
+-- the choices of an axis, in order
+abbrev pub choices : Axis → List Chosen
+choices a = map (λ v. record { path = path_of a.key; value = given_by v }) a.values.items
+
+-- one of them, in the code
+abbrev pub chosen : Choice → Chosen
+chosen c = record { path = path_of c.key.now; value = given_by c.value.now }

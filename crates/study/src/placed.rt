@@ -1,0 +1,199 @@
+//! A scenario's file with values at keys, in place of those that are there.
+ghost use Rattle.std.specs.Prelude.{◌≡◌, ◌<◌, ◌^◌, false, true, IfOk, OnOk, IfErr, Ok, Err, pos, codes, map, length, option_map, ◌≤◌};
+ghost use Rattle.toml.specs.Data.{get_member, table};
+ghost use Rattle.toml.specs.View.{view, table_view, array_view, items_view};
+ghost use Rattle.study.specs.Settings.{path_of, given_by, chosen, inner, element};
+ghost use Rattle.study.specs.Placed.{data_of, put as put_member, put_item, set_at, set_all, table_of, table_or_new, items_of, element_of, is_memory};
+
+use crate::axis::Choice;
+use crate::error::PlaceError;
+use crate::key::Key;
+use crate::setting::Setting;
+use std::alloc::{AllocError, Global};
+use toml::{Table, Value};
+
+/// The value that the file has for a setting.
+fn value_of(alloc: Global, setting: &Setting) -> Result<Value, AllocError>
+    ensures { IfOk result (λ v. view v ≡ data_of (given_by setting.now)) }
+{
+    match setting {
+        Setting::Integer(number) => Ok(Value::Integer(*number)),
+        Setting::Text(text) => Value::string(alloc, text.as_str()),
+    }
+}
+
+/// The value at a key of a table, if there is one.
+fn value_at<'a>(table: &'a Table, key: &str) -> Option<&'a Value>
+    ensures { option_map (λ v. view v.now) result ≡ get_member key.now (table_view table.now) }
+{
+    table.get(key)
+}
+
+/// Puts a value at a key of a table.
+pub(crate) fn put(
+    alloc: Global,
+    table: &mut Table,
+    key: &str,
+    value: Value,
+) -> Result<(), AllocError>
+    ensures { OnOk result (table_view table.new ≡ put_member key.now (view value) (table_view table.old)) }
+{
+    let name = String::from_str(alloc, key)?;
+    table.insert(name, value)?;
+    Ok(())
+}
+
+/// A copy of a value that is a table.
+fn copy_of_table(value: &Value) -> Result<Table, PlaceError>
+    ensures ok { IfOk result (λ t. table_of (view value.now) ≡ Ok (table_view t)) }
+    ensures err { IfErr result (λ e. is_memory e ≡ false → table_of (view value.now) ≡ Err e) }
+{
+    match value.clone() {
+        Ok(Value::Table(inner)) => Ok(inner),
+        Ok(_) => Err(PlaceError::NotATable),
+        Err(error) => Err(PlaceError::Memory(error)),
+    }
+}
+
+/// A copy of the table at a key of a table, or an empty one where there is nothing.
+fn copy_of_inner(alloc: Global, table: &Table, name: &str) -> Result<Table, PlaceError>
+    ensures ok { IfOk result (λ t. table_or_new (get_member name.now (table_view table.now)) ≡ Ok (table_view t)) }
+    ensures err { IfErr result (λ e. is_memory e ≡ false
+        → table_or_new (get_member name.now (table_view table.now)) ≡ Err e) }
+{
+    match value_at(table, name) {
+        Some(value) => copy_of_table(value),
+        None => Ok(Table::new(alloc)),
+    }
+}
+
+/// A copy of the array at a key of a table.
+fn copy_of_items(table: &Table, name: &str) -> Result<Vec<Value>, PlaceError>
+    ensures ok { IfOk result (λ v. items_of (get_member name.now (table_view table.now)) ≡ Ok (array_view v)) }
+    ensures err { IfErr result (λ e. is_memory e ≡ false
+        → items_of (get_member name.now (table_view table.now)) ≡ Err e) }
+{
+    let Some(value) = value_at(table, name) else {
+        return Err(PlaceError::NoElement);
+    };
+    match value.clone() {
+        Ok(Value::Array(items)) => Ok(items),
+        Ok(_) => Err(PlaceError::NotATable),
+        Err(error) => Err(PlaceError::Memory(error)),
+    }
+}
+
+/// A copy of the table at a place of an array, from 1.
+fn copy_of_element(items: &[Value], place: u64) -> Result<Table, PlaceError>
+    ensures ok { IfOk result (λ t. element_of place (items_view items.now) ≡ Ok (table_view t)) }
+    ensures within { OnOk result ((1 ≤ place) × (place ≤ length items.now)) }
+    ensures err { IfErr result (λ e. is_memory e ≡ false → element_of place (items_view items.now) ≡ Err e) }
+{
+    if place == 0 || place > items.len() as u64 {
+        return Err(PlaceError::NoElement);
+    }
+    copy_of_table(&items[place as usize - 1])
+}
+
+/// Puts a table at a place of an array, from 0.
+fn write_table(items: &mut Vec<Value>, index: usize, inner: Table)
+    requires { index < length items.old.items }
+    ensures { array_view items.new ≡ put_item index (table (table_view inner)) (array_view items.old) }
+{
+    items[index] = Value::Table(inner);
+}
+
+/// Puts a value at a key of a table of an array of tables.
+fn put_in_element(
+    alloc: Global,
+    table: &mut Table,
+    array: &str,
+    place: u64,
+    key: &str,
+    value: Value,
+) -> Result<(), PlaceError>
+    ensures ok { OnOk result (set_at (element array.now place key.now) (view value) (table_view table.old)
+        ≡ Ok (table_view table.new)) }
+    ensures err { IfErr result (λ e. is_memory e ≡ false
+        → set_at (element array.now place key.now) (view value) (table_view table.old) ≡ Err e) }
+{
+    let mut items = copy_of_items(table, array)?;
+    let mut inner = copy_of_element(&items, place)?;
+    if let Err(error) = put(alloc, &mut inner, key, value) {
+        return Err(PlaceError::Memory(error));
+    }
+    write_table(&mut items, place as usize - 1, inner);
+    match put(alloc, table, array, Value::Array(items)) {
+        Ok(()) => Ok(()),
+        Err(error) => Err(PlaceError::Memory(error)),
+    }
+}
+
+/// Puts a value at a key of a table of a table.
+fn put_in_inner(
+    alloc: Global,
+    table: &mut Table,
+    name: &str,
+    key: &str,
+    value: Value,
+) -> Result<(), PlaceError>
+    ensures ok { OnOk result (set_at (inner name.now key.now) (view value) (table_view table.old)
+        ≡ Ok (table_view table.new)) }
+    ensures err { IfErr result (λ e. is_memory e ≡ false
+        → set_at (inner name.now key.now) (view value) (table_view table.old) ≡ Err e) }
+{
+    let mut changed = copy_of_inner(alloc, table, name)?;
+    if let Err(error) = put(alloc, &mut changed, key, value) {
+        return Err(PlaceError::Memory(error));
+    }
+    match put(alloc, table, name, Value::Table(changed)) {
+        Ok(()) => Ok(()),
+        Err(error) => Err(PlaceError::Memory(error)),
+    }
+}
+
+/// Sets a key of a file's table.
+pub(crate) fn set(
+    alloc: Global,
+    table: &mut Table,
+    key: &Key,
+    setting: &Setting,
+) -> Result<(), PlaceError>
+    ensures ok { OnOk result (set_at (path_of key.now) (data_of (given_by setting.now)) (table_view table.old)
+        ≡ Ok (table_view table.new)) }
+    ensures err { IfErr result (λ e. is_memory e ≡ false
+        → set_at (path_of key.now) (data_of (given_by setting.now)) (table_view table.old) ≡ Err e) }
+{
+    let value = match value_of(alloc, setting) {
+        Ok(value) => value,
+        Err(error) => return Err(PlaceError::Memory(error)),
+    };
+    match key {
+        Key::Top(key) => match put(alloc, table, key.as_str(), value) {
+            Ok(()) => Ok(()),
+            Err(error) => Err(PlaceError::Memory(error)),
+        },
+        Key::Inner { table: name, key } => {
+            put_in_inner(alloc, table, name.as_str(), key.as_str(), value)
+        }
+        Key::Element { array, place, key } => {
+            put_in_element(alloc, table, array.as_str(), *place, key.as_str(), value)
+        }
+    }
+}
+
+/// Sets the keys of some choices, one after the other.
+pub(crate) fn set_choices(
+    alloc: Global,
+    table: &mut Table,
+    choices: &[Choice<'_>],
+) -> Result<(), PlaceError>
+    ensures ok { OnOk result (set_all (map chosen choices.now) (table_view table.old) ≡ Ok (table_view table.new)) }
+    ensures err { IfErr result (λ e. is_memory e ≡ false
+        → set_all (map chosen choices.now) (table_view table.old) ≡ Err e) }
+{
+    for choice in choices {
+        set(alloc, table, choice.key, choice.value)?;
+    }
+    Ok(())
+}

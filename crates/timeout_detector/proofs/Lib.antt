@@ -1,4 +1,0 @@
-pub mod Numbering
-pub mod Members
-pub mod Changes
-pub mod Allowed

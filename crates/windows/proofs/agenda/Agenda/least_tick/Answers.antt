@@ -1,0 +1,13 @@
+use Rattle.std.proofs.Common.{subst, sym, map, MatchOption}
+use Rattle.event_list.specs.World.{joined}
+use Rattle.windows.specs.Agenda.{event_of}
+use Rattle.event_list.specs.Pending.{IsEmpty, IsLeastTick}
+use Rattle.windows.proofs.Agendas.{least_both}
+use Rattle.windows.proofs.agenda.Agenda.least_tick.Goals as goal
+
+pub returns : goal.returns
+returns c =
+    let f = c.self.inside in
+    subst (λ m. MatchOption c.earlier.result (IsEmpty m) (λ tick. IsLeastTick m tick)) c.self.view_is
+    (subst (λ o. MatchOption o (IsEmpty (joined f.pending (map event_of f.letters.items))) (λ tick. IsLeastTick (joined f.pending (map event_of f.letters.items)) tick)) (sym c.earlier.ensures)
+    (least_both f.pending f.letters.items c.least_tick.result f.soonest c.least_tick.ensures c.self.invariant))

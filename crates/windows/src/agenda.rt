@@ -1,0 +1,157 @@
+//! What lies ahead of a process.
+ghost use Rattle.std.specs.Prelude.{◌≡◌, ◌<◌, ◌++◌, [], map, MatchOption, None, IfOk, OnOk, OnErr};
+ghost use Rattle.std.specs.FinMap as events;
+ghost use Rattle.event_list.specs.World.{IsLeast, NoneBelow, joined};
+ghost use Rattle.event_list.specs.Pending.{IsEmpty, IsLeastTick};
+ghost use Rattle.windows.specs.Agenda.{event_of, earlier_of, IsSoonestOf};
+
+use event_list::Pending;
+use process_api::{Key, Letter, StepInput};
+use std::alloc::{AllocError, Global};
+use std::marker::Model;
+use std::mem::replace;
+
+/// The pending events of a process, and letters that have come for it and lie in no bucket yet. Contracts see the
+/// finite set of both.
+///
+/// The starter delivers the letters of a window as they are. They are put into their buckets where the process is run
+/// next, by the worker that runs it.
+#[derive(Drop)]
+pub(crate) struct Agenda {
+    pending: Pending,
+    letters: Vec<Letter>,
+    // the least tick of the letters, if there are any
+    soonest: Option<u32>,
+}
+
+impl Model for Agenda {
+    ghost use Rattle.std.specs.Prelude.{map};
+    ghost use Rattle.std.specs.FinMap as events;
+    ghost use Rattle.process_api.specs.contracts.message.StepInput as step_input;
+    ghost use Rattle.event_list.specs.Pending.{key_code};
+    ghost use Rattle.event_list.specs.Step.{Events};
+    ghost use Rattle.event_list.specs.World.{joined};
+    ghost use Rattle.windows.specs.Agenda.{event_of, IsSoonestOf};
+
+    ghost Value = { Events };
+
+    ghost coded = { events.code key_code step_input.the_row.coded };
+
+    ghost view = { λ a. joined a.pending (map event_of a.letters.items) };
+
+    ghost invariant = { λ a. IsSoonestOf a.letters.items a.soonest };
+}
+
+/// The lesser of two ticks, as far as they are there.
+fn earlier(a: Option<u32>, b: Option<u32>) -> Option<u32>
+    ensures { result ≡ earlier_of a b }
+{
+    match (a, b) {
+        (Some(a), Some(b)) => Some(a.min(b)),
+        (Some(a), None) => Some(a),
+        (None, b) => b,
+    }
+}
+
+/// The least tick of letters, if there are any.
+fn soonest_of(letters: &[Letter]) -> Option<u32>
+    ensures { IsSoonestOf letters.now result }
+{
+    let mut soonest = None;
+    for letter in letters {
+        soonest = earlier(soonest, Some(letter.key.tick));
+    }
+    soonest
+}
+
+/// Appends letters to others. Where there are no others the list takes their place.
+fn append(letters: &mut Vec<Letter>, mut more: Vec<Letter>) -> Result<(), AllocError>
+    ensures ok { OnOk result (letters.new.items ≡ letters.old.items ++ more.items) }
+    ensures err { OnErr result (letters.new.items ≡ letters.old.items) }
+{
+    if letters.is_empty() {
+        *letters = more;
+        return Ok(());
+    }
+    letters.append(&mut more)
+}
+
+/// Letters join the pending events, each in its turn.
+fn join_all(pending: &mut Pending, letters: Vec<Letter>) -> Result<(), AllocError>
+    ensures { OnOk result (pending.new ≡ joined pending.old (map event_of letters.items)) }
+{
+    for letter in letters {
+        let Letter { key, payload } = letter;
+        let sender = key.sender;
+        pending.join(key, StepInput::Letter { sender, payload })?;
+    }
+    Ok(())
+}
+
+/// The letters join the pending events, and are used up.
+fn settle(
+    pending: &mut Pending,
+    letters: &mut Vec<Letter>,
+    soonest: &mut Option<u32>,
+) -> Result<(), AllocError>
+    ensures pending { OnOk result (pending.new ≡ joined pending.old (map event_of letters.old.items)) }
+    ensures letters { letters.new.items ≡ [] }
+    ensures soonest { soonest.new ≡ None }
+{
+    *soonest = None;
+    if letters.is_empty() {
+        return Ok(());
+    }
+    let waiting = replace(letters, Vec::new(*letters.allocator()));
+    join_all(pending, waiting)
+}
+
+impl Agenda {
+    /// The pending events alone.
+    pub(crate) fn new(alloc: Global, pending: Pending) -> Agenda
+        ensures { result ≡ pending }
+    {
+        Agenda {
+            pending,
+            letters: Vec::new(alloc),
+            soonest: None,
+        }
+    }
+
+    /// Letters come for the process. Where memory is refused they are gone.
+    pub(crate) fn deliver(&mut self, letters: Vec<Letter>) -> Result<(), AllocError>
+        ensures { OnOk result (self.new ≡ joined self.old (map event_of letters.items)) }
+    {
+        let soonest = earlier(self.soonest, soonest_of(&letters));
+        append(&mut self.letters, letters)?;
+        self.soonest = soonest;
+        Ok(())
+    }
+
+    /// One more event. Where memory is refused some events may be gone.
+    pub(crate) fn join(&mut self, key: Key, input: StepInput) -> Result<(), AllocError>
+        ensures { OnOk result (self.new ≡ events.insert self.old key input) }
+    {
+        settle(&mut self.pending, &mut self.letters, &mut self.soonest)?;
+        self.pending.join(key, input)?;
+        Ok(())
+    }
+
+    /// The tick of the least event, if there is one.
+    pub(crate) fn least_tick(&self) -> Option<u32>
+        ensures { MatchOption result (IsEmpty self.now) (λ tick. IsLeastTick self.now tick) }
+    {
+        earlier(self.pending.least_tick(), self.soonest)
+    }
+
+    /// Takes the least event, where it is below a tick. Where memory is refused some events may be gone.
+    pub(crate) fn take_below(&mut self, end: u32) -> Result<Option<(Key, StepInput)>, AllocError>
+        ensures least { IfOk result (λ r.
+            MatchOption r (NoneBelow end self.old) (λ e. IsLeast self.old e.0 e.1 × (e.0.tick < end))) }
+        ensures removed { IfOk result (λ r.
+            MatchOption r (self.new ≡ self.old) (λ e. self.new ≡ events.remove self.old e.0)) }
+    {
+        settle(&mut self.pending, &mut self.letters, &mut self.soonest)?;
+        self.pending.take_below(end)
+    }
+}
