@@ -44,8 +44,8 @@ pub struct FreshnessDetector {
 impl FreshnessDetector {
     ghost use Rattle.freshness_detector.specs.View.{state_of, is_watched, is_late, late_ones, checked_by, heard_by, noted_by, next_check_of, answer_of};
 
-    /// The detector with which a process opens that has the numbers of this kind: it sent no heartbeat, reached no point
-    /// and suspects nobody. Its table has a place for each process, and nothing else in it needs memory.
+    /// The detector with which a process opens that has the numbers of this kind: it sent no heartbeat, reached no
+    /// point and suspects nobody. Its table has a place for each process, and nothing else in it needs memory.
     pub fn open(alloc: Global, opening: &Opening) -> Result<FreshnessDetector, AllocError>
         requires kind { IsTrue (is_freshness opening.now.detector) }
         ensures opens { IfOk result (λ d. ⟦<FreshnessDetector as Detector>⟧.lower d ≡ base_of opening.now) }
@@ -86,8 +86,8 @@ impl FreshnessDetector {
             && !has_come(self.latest[usize::from(q.number())], point)
     }
 
-    /// Whom it suspects once a point is reached: those that it suspects already, and all that are late, in rising order,
-    /// each with its note.
+    /// Whom it suspects once a point is reached: those that it suspects already, and all that are late, in rising
+    /// order, each with its note.
     fn suspects_at(&self, point: u64, out: &mut Vec<Action>) -> Result<ProcSet, AllocError>
         ensures set { IfOk result (λ s. s ≡ insert_all self.now.suspects (late_ones self.now point)) }
         ensures notes { OnOk result (

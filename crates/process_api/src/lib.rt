@@ -7,8 +7,8 @@
 //! is that of [`Process`]: on `Ok`, `on_input` is `react`, and nothing else.
 //!
 //! A mind has parts, each with a definition of its own in `specs/`: a base detector of some kind (`Detector` joins the
-//! kinds; there are `Timeout` and `Freshness`), perhaps a reduction over it (`Reduction`), and perhaps a consensus algorithm
-//! (`ConsensusS`, `Coordinator` with `Diffusion`). The crates that implement a part meet [`Detector`] or
+//! kinds; there are `Timeout` and `Freshness`), perhaps a reduction over it (`Reduction`), and perhaps a consensus
+//! algorithm (`ConsensusS`, `Coordinator` with `Diffusion`). The crates that implement a part meet [`Detector`] or
 //! [`Algorithm`]. What stands above a base detector rests on its laws (`BaseDetector`), whichever its kind.
 #![tactic(auto)]
 
