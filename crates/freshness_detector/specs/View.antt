@@ -36,7 +36,7 @@ noted_by d after = noted (place_of d.opening) d.numbers (state_of d) after
 abbrev pub next_check_of : FreshnessDetector → List Action
 next_check_of d = next_check (place_of d.opening) d.numbers
 
-abbrev pub answer_of : FreshnessDetector → ℕ → StepInput → Answer FreshnessState
+abbrev pub answer_of : FreshnessDetector → StepInput → Answer FreshnessState
 answer_of d = step_freshness (place_of d.opening) d.numbers (state_of d)
 
 -- q becomes suspected as a point is reached: it is watched and not yet suspected, and no heartbeat of the point's

@@ -1,5 +1,5 @@
 //! The detector of one process.
-ghost use Rattle.std.specs.Prelude.{ℕ, ◌≡◌, ◌≤◌, ◌+◌, ◌++◌, ◌&&◌, nat_le, false, true, IsTrue, IfOk, OnOk, map, vec_len};
+ghost use Rattle.std.specs.Prelude.{◌≡◌, ◌≤◌, ◌+◌, ◌++◌, ◌&&◌, nat_le, false, true, IsTrue, IfOk, OnOk, map, vec_len};
 ghost use Rattle.std.specs.FinSet as set;
 ghost use Rattle.process_api.specs.Detector.{is_freshness};
 ghost use Rattle.process_api.specs.Sets.{insert_all};
@@ -94,10 +94,8 @@ impl FreshnessDetector {
             out.new.items ≡ out.old.items ++ map (λ q. Action.Note (Note.Suspect 1 q)) (late_ones self.now point)) }
     {
         let mut suspects = self.suspects.copy();
-        for number in 1..self.opening.processes + 1 {
-            let Some(q) = Pid::new(number) else {
-                unreachable!()
-            };
+        for before in 0..self.opening.processes {
+            let q = Pid::after(before);
             if self.is_late(point, q) {
                 suspects.insert(q);
                 note_that(out, Note::Suspect { layer: 1, who: q })?;
@@ -163,11 +161,10 @@ impl FreshnessDetector {
         payload: &Payload,
         out: &mut Vec<Action>,
     ) -> Result<(), AllocError>
-        ensures state { (now : ℕ) → OnOk result (
-            state_of self.new ≡ (answer_of self.old now (StepInput.Letter sender payload.now)).state) }
-        ensures actions { (now : ℕ) → OnOk result (
-            out.new.items
-            ≡ out.old.items ++ (answer_of self.old now (StepInput.Letter sender payload.now)).actions) }
+        ensures state { OnOk result (
+            state_of self.new ≡ (answer_of self.old (StepInput.Letter sender payload.now)).state) }
+        ensures actions { OnOk result (
+            out.new.items ≡ out.old.items ++ (answer_of self.old (StepInput.Letter sender payload.now)).actions) }
 
         ensures opening { self.new.opening ≡ self.old.opening }
         ensures numbers { self.new.numbers ≡ self.old.numbers }
@@ -183,15 +180,14 @@ impl FreshnessDetector {
 
     /// Takes one input. After an `Err` the tables are of no use.
     #[tactic(auto, using(std::proofs::Common::append_assoc))]
-    fn step(&mut self, now: u32, input: &StepInput, out: &mut Vec<Action>) -> Result<(), AllocError>
-        ensures state { OnOk result (state_of self.new ≡ (answer_of self.old now input.now).state) }
-        ensures actions { OnOk result (out.new.items ≡ out.old.items ++ (answer_of self.old now input.now).actions) }
+    fn step(&mut self, input: &StepInput, out: &mut Vec<Action>) -> Result<(), AllocError>
+        ensures state { OnOk result (state_of self.new ≡ (answer_of self.old input.now).state) }
+        ensures actions { OnOk result (out.new.items ≡ out.old.items ++ (answer_of self.old input.now).actions) }
 
         ensures opening { self.new.opening ≡ self.old.opening }
         ensures numbers { self.new.numbers ≡ self.old.numbers }
         ensures failure { self.new.has_failed ≡ self.old.has_failed }
     {
-        let _ = now;
         let numbers = self.numbers;
         match input {
             StepInput::Start => {
@@ -221,7 +217,7 @@ impl Detector for FreshnessDetector {
     #[tactic(auto, unfolding(process_api::specs::React::react_lower, process_api::specs::Detector::step_detector))]
     fn take(
         &mut self,
-        now: u32,
+        _now: u32,
         input: &StepInput,
         out: &mut Vec<Action>,
     ) -> Result<(), AllocError> {
@@ -229,7 +225,7 @@ impl Detector for FreshnessDetector {
             return Err(AllocError);
         }
         self.has_failed = true;
-        self.step(now, input, out)?;
+        self.step(input, out)?;
         self.has_failed = false;
         Ok(())
     }

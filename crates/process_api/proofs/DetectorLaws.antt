@@ -25,7 +25,7 @@ pub detector_laws : (place : Place) (s : DetectorState) (now : ℕ) (x : StepInp
     → IsDetectorStep place (suspected_by place s) (suspected_by place (step_detector place s now x).state) (has_pauses s) (has_pauses (step_detector place s now x).state) (step_detector place s now x).actions
 unfolding step_detector
 detector_laws place (ByTimeout its s) now x = timeout_laws place its s now x
-detector_laws place (ByFreshness its s) now x = freshness_laws place its s now x
+detector_laws place (ByFreshness its s) now x = freshness_laws place its s x
 
 -- a base detector with no reduction over it
 module _ (place : Place) (s : DetectorState) (now : ℕ) (x : StepInput) where
