@@ -19,8 +19,8 @@ state_of d = state_by d.sent d.reached d.latest.items
 abbrev pub lower_of : FreshnessDetector → Lower
 lower_of d = record (base_of d.opening) { detector = ByFreshness d.numbers (state_of d) }
 
--- what the definitions say of it: whom it watches, what it is once a point is reached or a heartbeat came, what it notes
--- and asks for then, and what an input makes of it
+-- what the definitions say of it: whom it watches, what it is once a point is reached or a heartbeat came, what it
+-- notes and asks for then, and what an input makes of it
 abbrev pub is_watched : FreshnessDetector → ℕ → Bool
 is_watched d = watches (place_of d.opening) d.numbers
 
@@ -36,11 +36,11 @@ noted_by d after = noted (place_of d.opening) d.numbers (state_of d) after
 abbrev pub next_check_of : FreshnessDetector → List Action
 next_check_of d = next_check (place_of d.opening) d.numbers
 
-abbrev pub answer_of : FreshnessDetector → ℕ → StepInput → Answer FreshnessState
+abbrev pub answer_of : FreshnessDetector → StepInput → Answer FreshnessState
 answer_of d = step_freshness (place_of d.opening) d.numbers (state_of d)
 
--- q becomes suspected as a point is reached: it is watched and not yet suspected, and no heartbeat of the point's number
--- or later came from it
+-- q becomes suspected as a point is reached: it is watched and not yet suspected, and no heartbeat of the point's
+-- number or later came from it
 abbrev pub is_late : FreshnessDetector → (point : ℕ) → ℕ → Bool
 is_late d point q = is_watched d q && (not (set.contains d.suspects q) && not ((state_of d).came q point))
 

@@ -1,5 +1,5 @@
 //! The detector of one process.
-ghost use Rattle.std.specs.Prelude.{ℕ, ◌≡◌, ◌≤◌, ◌+◌, ◌++◌, ◌&&◌, nat_le, false, true, IsTrue, IfOk, OnOk, map, vec_len};
+ghost use Rattle.std.specs.Prelude.{◌≡◌, ◌≤◌, ◌+◌, ◌++◌, ◌&&◌, nat_le, false, true, IsTrue, IfOk, OnOk, map, vec_len};
 ghost use Rattle.std.specs.FinSet as set;
 ghost use Rattle.process_api.specs.Detector.{is_freshness};
 ghost use Rattle.process_api.specs.Sets.{insert_all};
@@ -44,8 +44,8 @@ pub struct FreshnessDetector {
 impl FreshnessDetector {
     ghost use Rattle.freshness_detector.specs.View.{state_of, is_watched, is_late, late_ones, checked_by, heard_by, noted_by, next_check_of, answer_of};
 
-    /// The detector with which a process opens that has the numbers of this kind: it sent no heartbeat, reached no point
-    /// and suspects nobody. Its table has a place for each process, and nothing else in it needs memory.
+    /// The detector with which a process opens that has the numbers of this kind: it sent no heartbeat, reached no
+    /// point and suspects nobody. Its table has a place for each process, and nothing else in it needs memory.
     pub fn open(alloc: Global, opening: &Opening) -> Result<FreshnessDetector, AllocError>
         requires kind { IsTrue (is_freshness opening.now.detector) }
         ensures opens { IfOk result (λ d. ⟦<FreshnessDetector as Detector>⟧.lower d ≡ base_of opening.now) }
@@ -86,18 +86,16 @@ impl FreshnessDetector {
             && !has_come(self.latest[usize::from(q.number())], point)
     }
 
-    /// Whom it suspects once a point is reached: those that it suspects already, and all that are late, in rising order,
-    /// each with its note.
+    /// Whom it suspects once a point is reached: those that it suspects already, and all that are late, in rising
+    /// order, each with its note.
     fn suspects_at(&self, point: u64, out: &mut Vec<Action>) -> Result<ProcSet, AllocError>
         ensures set { IfOk result (λ s. s ≡ insert_all self.now.suspects (late_ones self.now point)) }
         ensures notes { OnOk result (
             out.new.items ≡ out.old.items ++ map (λ q. Action.Note (Note.Suspect 1 q)) (late_ones self.now point)) }
     {
         let mut suspects = self.suspects.copy();
-        for number in 1..self.opening.processes + 1 {
-            let Some(q) = Pid::new(number) else {
-                unreachable!()
-            };
+        for before in 0..self.opening.processes {
+            let q = Pid::after(before);
             if self.is_late(point, q) {
                 suspects.insert(q);
                 note_that(out, Note::Suspect { layer: 1, who: q })?;
@@ -163,11 +161,10 @@ impl FreshnessDetector {
         payload: &Payload,
         out: &mut Vec<Action>,
     ) -> Result<(), AllocError>
-        ensures state { (now : ℕ) → OnOk result (
-            state_of self.new ≡ (answer_of self.old now (StepInput.Letter sender payload.now)).state) }
-        ensures actions { (now : ℕ) → OnOk result (
-            out.new.items
-            ≡ out.old.items ++ (answer_of self.old now (StepInput.Letter sender payload.now)).actions) }
+        ensures state { OnOk result (
+            state_of self.new ≡ (answer_of self.old (StepInput.Letter sender payload.now)).state) }
+        ensures actions { OnOk result (
+            out.new.items ≡ out.old.items ++ (answer_of self.old (StepInput.Letter sender payload.now)).actions) }
 
         ensures opening { self.new.opening ≡ self.old.opening }
         ensures numbers { self.new.numbers ≡ self.old.numbers }
@@ -183,15 +180,14 @@ impl FreshnessDetector {
 
     /// Takes one input. After an `Err` the tables are of no use.
     #[tactic(auto, using(std::proofs::Common::append_assoc))]
-    fn step(&mut self, now: u32, input: &StepInput, out: &mut Vec<Action>) -> Result<(), AllocError>
-        ensures state { OnOk result (state_of self.new ≡ (answer_of self.old now input.now).state) }
-        ensures actions { OnOk result (out.new.items ≡ out.old.items ++ (answer_of self.old now input.now).actions) }
+    fn step(&mut self, input: &StepInput, out: &mut Vec<Action>) -> Result<(), AllocError>
+        ensures state { OnOk result (state_of self.new ≡ (answer_of self.old input.now).state) }
+        ensures actions { OnOk result (out.new.items ≡ out.old.items ++ (answer_of self.old input.now).actions) }
 
         ensures opening { self.new.opening ≡ self.old.opening }
         ensures numbers { self.new.numbers ≡ self.old.numbers }
         ensures failure { self.new.has_failed ≡ self.old.has_failed }
     {
-        let _ = now;
         let numbers = self.numbers;
         match input {
             StepInput::Start => {
@@ -221,7 +217,7 @@ impl Detector for FreshnessDetector {
     #[tactic(auto, unfolding(process_api::specs::React::react_lower, process_api::specs::Detector::step_detector))]
     fn take(
         &mut self,
-        now: u32,
+        _now: u32,
         input: &StepInput,
         out: &mut Vec<Action>,
     ) -> Result<(), AllocError> {
@@ -229,7 +225,7 @@ impl Detector for FreshnessDetector {
             return Err(AllocError);
         }
         self.has_failed = true;
-        self.step(now, input, out)?;
+        self.step(input, out)?;
         self.has_failed = false;
         Ok(())
     }

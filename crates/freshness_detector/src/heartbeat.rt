@@ -15,10 +15,8 @@ pub(crate) fn send_heartbeat(
     ensures { OnOk result (
         out.new.items ≡ out.old.items ++ to_others opening.now.processes opening.now.own (Payload.Heartbeat number)) }
 {
-    for other in 1..opening.processes + 1 {
-        let Some(q) = Pid::new(other) else {
-            unreachable!()
-        };
+    for before in 0..opening.processes {
+        let q = Pid::after(before);
         if q != opening.own {
             send_to(out, q, Payload::Heartbeat { number })?;
         }

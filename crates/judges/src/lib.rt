@@ -13,9 +13,9 @@
 //! Where the trace is the one that the event list defines and the algorithm is the rotating coordinator, [`decisions`]
 //! promises more (`specs/Agreement.antt`): no two outcomes have different values, each value was proposed, no process
 //! ends with no value, and each notes at most one decision, under any detector settings, delays, losses and crashes.
-//! Of the base detector the proof uses the laws in `specs/BaseDetector.antt` of `process_api` alone; its argument stands
-//! at the head of `proofs/Agreement.antt`. The crate above also promises `specs/Blame.antt`, which is proved here: each suspicion of
-//! layer 2 has an earlier entry that notes one of the same process on layer 1.
+//! Of the base detector the proof uses the laws in `specs/BaseDetector.antt` of `process_api` alone; its argument
+//! stands at the head of `proofs/Agreement.antt`. The crate above also promises `specs/Blame.antt`, which is proved
+//! here: each suspicion of layer 2 has an earlier entry that notes one of the same process on layer 1.
 //!
 //! [`RunningJudge`] and [`RunningOutcomes`] answer the same with no trace at hand: they are fed with its entries as
 //! these come, and hold nothing of them. The two calls feed them (`specs/Judging.antt` says what it is that they were

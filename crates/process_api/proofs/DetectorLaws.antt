@@ -5,27 +5,25 @@ use Rattle.std.proofs.lemmas.List.Elements.{All-from_recursion}
 use Rattle.std.specs.Prelude.{IsTrue}
 use Rattle.process_api.specs.Actions.{IsAllowed, notes_of_layer}
 use Rattle.process_api.specs.Bounds.{most_first_actions}
-use Rattle.process_api.specs.BaseDetector.{TrustsAll, IsDetectorStep}
-use Rattle.process_api.specs.Detector.{DetectorState, ByTimeout, ByFreshness, opening_detector, suspected_by, has_pauses, step_detector}
+use Rattle.process_api.specs.Laws.{OpensTrusting, StepsByLaws}
+use Rattle.process_api.specs.Detector.{DetectorState, ByTimeout, ByFreshness, suspected_by, has_pauses, step_detector}
 use Rattle.process_api.specs.Mind.{Lower, most_actions}
 use Rattle.process_api.specs.Place.{Place}
 use Rattle.process_api.specs.React.{react_lower}
 use Rattle.process_api.specs.Sets.{Processes, changes}
 use Rattle.process_api.specs.declared.message.StepInput.{StepInput}
-use Rattle.process_api.specs.declared.numbers.DetectorNumbers.{DetectorNumbers}
 use Rattle.process_api.specs.declared.numbers.DetectorNumbers.TheVariants as numbers
 use Rattle.process_api.proofs.FreshnessLaws.{freshness_opens, freshness_laws}
 use Rattle.process_api.proofs.TimeoutLaws.{timeout_opens, timeout_laws}
 
-pub detector_opens : (place : Place) (numbers : DetectorNumbers) → TrustsAll (suspected_by place (opening_detector numbers))
+pub detector_opens : OpensTrusting
 detector_opens place (numbers.Timeout its) = timeout_opens its
 detector_opens place (numbers.Freshness its) = freshness_opens place its
 
-pub detector_laws : (place : Place) (s : DetectorState) (now : ℕ) (x : StepInput)
-    → IsDetectorStep place (suspected_by place s) (suspected_by place (step_detector place s now x).state) (has_pauses s) (has_pauses (step_detector place s now x).state) (step_detector place s now x).actions
+pub detector_laws : StepsByLaws
 unfolding step_detector
 detector_laws place (ByTimeout its s) now x = timeout_laws place its s now x
-detector_laws place (ByFreshness its s) now x = freshness_laws place its s now x
+detector_laws place (ByFreshness its s) now x = freshness_laws place its s x
 
 -- a base detector with no reduction over it
 module _ (place : Place) (s : DetectorState) (now : ℕ) (x : StepInput) where

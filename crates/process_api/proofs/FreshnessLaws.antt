@@ -1,8 +1,8 @@
 -- The detector with freshness points has the laws of a base detector.
-use Rattle.std.proofs.Common.{◌≡◌, ◌⊎◌, inl, inr, ℕ, ◌+◌, ◌≤◌, refl, sym, ap, ◌∙◌, List, [], ◌∷◌, ◌++◌, map, length, length-append, append-nil, Bool, true, false, cond, not, ◌&&◌, ◌||◌, nat_eq, nat_le, nat_cmp, arith}
+use Rattle.std.proofs.Common.{◌≡◌, inr, ℕ, ◌+◌, ◌≤◌, refl, sym, ap, ◌∙◌, List, [], ◌∷◌, ◌++◌, map, length, length-append, append-nil, Bool, true, false, cond, not, ◌&&◌, ◌||◌, nat_eq, nat_le, nat_cmp, arith}
 use Rattle.std.proofs.lemmas.Bool.{leb-true, and_parts}
 use Rattle.std.proofs.lemmas.List.{length-map}
-use Rattle.std.specs.List.{AllByRecursion, filter}
+use Rattle.std.specs.List.{AllByRecursion}
 use Rattle.std.specs.FinSet as set
 use Rattle.std.specs.Prelude.{IsTrue}
 use Rattle.process_api.specs.Actions.{IsAllowed, notes_of_layer}
@@ -15,7 +15,6 @@ use Rattle.process_api.specs.Sets.{Processes, gone, changes}
 use Rattle.process_api.specs.Watching.{is_other}
 use Rattle.process_api.specs.declared.action.Action.{Action}
 use Rattle.process_api.specs.declared.action.Action.TheVariants as action
-use Rattle.process_api.specs.declared.action.Note.{Note}
 use Rattle.process_api.specs.declared.action.Note.TheVariants as note
 use Rattle.process_api.specs.declared.message.Payload.TheVariants as payload
 use Rattle.process_api.specs.declared.message.StepInput.{StepInput}
@@ -76,24 +75,24 @@ module _ (place : Place) (numbers : FreshnessNumbers) where
       (images (λ x. P (action.Note x)) (note.Suspect 1) (gone place.processes new old) (always (λ q. P (action.Note (note.Suspect 1 q))) f (gone place.processes new old)))
       (images (λ x. P (action.Note x)) (note.Trust 1) (gone place.processes old new) (always (λ q. P (action.Note (note.Trust 1 q))) g (gone place.processes old new))))
 
-  acts : (s : FreshnessState) (now : ℕ) (x : StepInput) → AllByRecursion IsOfDetector (step_freshness place numbers s now x).actions
-  acts s now input.Start = (tt, (tt, tt))
-  acts s now (input.Wake tag.Beat) = both IsOfDetector (heartbeat_to_others place numbers (next s.sent)) _ (all_sent IsOfDetector (next s.sent) (λ q h. tt)) (tt, tt)
-  acts s now (input.Wake tag.Check) = both IsOfDetector (noted place numbers s (checked place numbers s)) _ (all_noted IsOfDetector (λ q. refl) (λ q. refl) _ _) (tt, tt)
-  acts s now (input.Letter q (payload.Heartbeat j)) = go (watches place numbers q)
+  acts : (s : FreshnessState) (x : StepInput) → AllByRecursion IsOfDetector (step_freshness place numbers s x).actions
+  acts s input.Start = (tt, (tt, tt))
+  acts s (input.Wake tag.Beat) = both IsOfDetector (heartbeat_to_others place numbers (next s.sent)) _ (all_sent IsOfDetector (next s.sent) (λ q h. tt)) (tt, tt)
+  acts s (input.Wake tag.Check) = both IsOfDetector (noted place numbers s (checked place numbers s)) _ (all_noted IsOfDetector (λ q. refl) (λ q. refl) _ _) (tt, tt)
+  acts s (input.Letter q (payload.Heartbeat j)) = go (watches place numbers q)
     where
       go : (b : Bool) → AllByRecursion IsOfDetector (cond b (record { state = heard place numbers s q j; actions = noted place numbers s (heard place numbers s q j) }) (still s)).actions
       go true = all_noted IsOfDetector (λ q. refl) (λ q. refl) _ _
       go false = tt
-  acts s now x = tt
+  acts s x = tt
 
-  allowed : (s : FreshnessState) (now : ℕ) (x : StepInput) → IsTrue (nat_le 1 numbers.eta) → AllByRecursion (IsAllowed place.processes) (step_freshness place numbers s now x).actions
-  allowed s now x paced = go x
+  allowed : (s : FreshnessState) (x : StepInput) → IsTrue (nat_le 1 numbers.eta) → AllByRecursion (IsAllowed place.processes) (step_freshness place numbers s x).actions
+  allowed s x paced = go x
     where
       eta : 1 ≤ numbers.eta
       eta = leb-true 1 numbers.eta paced
 
-      go : (x : StepInput) → AllByRecursion (IsAllowed place.processes) (step_freshness place numbers s now x).actions
+      go : (x : StepInput) → AllByRecursion (IsAllowed place.processes) (step_freshness place numbers s x).actions
       go input.Start = (eta, (omega (arith, eta), tt))
       go (input.Wake tag.Beat) = both (IsAllowed place.processes) (heartbeat_to_others place numbers (next s.sent)) _ (all_sent (IsAllowed place.processes) (next s.sent) (λ q h. h)) (eta, tt)
       go (input.Wake tag.Check) = both (IsAllowed place.processes) (noted place numbers s (checked place numbers s)) _ (all_noted (IsAllowed place.processes) (λ q. tt) (λ q. tt) _ _) (eta, tt)
@@ -107,35 +106,35 @@ module _ (place : Place) (numbers : FreshnessNumbers) where
   length-letters : (i : ℕ) → length (heartbeat_to_others place numbers i) ≤ place.processes
   length-letters i = omega (arith, length-map (others place.processes place.own) (λ q. action.Send q (payload.Heartbeat i)), length-filter_to (λ q. not (nat_eq q place.own)) place.processes)
 
-  few : (s : FreshnessState) (now : ℕ) (x : StepInput) → length (step_freshness place numbers s now x).actions ≤ place.processes + 2
-  few s now input.Start = omega arith
-  few s now (input.Wake tag.Beat) = omega (arith, length-letters (next s.sent), length-append (heartbeat_to_others place numbers (next s.sent)) (next_beat place numbers))
-  few s now (input.Wake tag.Check) = omega (arith, length-changes 1 place.processes (suspected place numbers s) (suspected place numbers (checked place numbers s)), length-append (noted place numbers s (checked place numbers s)) (next_check place numbers))
-  few s now (input.Letter q (payload.Heartbeat j)) = go (watches place numbers q)
+  few : (s : FreshnessState) (x : StepInput) → length (step_freshness place numbers s x).actions ≤ place.processes + 2
+  few s input.Start = omega arith
+  few s (input.Wake tag.Beat) = omega (arith, length-letters (next s.sent), length-append (heartbeat_to_others place numbers (next s.sent)) (next_beat place numbers))
+  few s (input.Wake tag.Check) = omega (arith, length-changes 1 place.processes (suspected place numbers s) (suspected place numbers (checked place numbers s)), length-append (noted place numbers s (checked place numbers s)) (next_check place numbers))
+  few s (input.Letter q (payload.Heartbeat j)) = go (watches place numbers q)
     where
       go : (b : Bool) → length (cond b (record { state = heard place numbers s q j; actions = noted place numbers s (heard place numbers s q j) }) (still s)).actions ≤ place.processes + 2
       go true = omega (arith, length-changes 1 place.processes (suspected place numbers s) (suspected place numbers (heard place numbers s q j)))
       go false = omega arith
-  few s now x = omega arith
+  few s x = omega arith
 
-  notes : (s : FreshnessState) (now : ℕ) (x : StepInput)
-      → notes_of_layer 1 (step_freshness place numbers s now x).actions ≡ changes 1 place.processes (suspected place numbers s) (suspected place numbers (step_freshness place numbers s now x).state)
-  notes s now input.Start = changes-none 1 place.processes (suspected place numbers s)
-  notes s now (input.Wake tag.Beat) =
+  notes : (s : FreshnessState) (x : StepInput)
+      → notes_of_layer 1 (step_freshness place numbers s x).actions ≡ changes 1 place.processes (suspected place numbers s) (suspected place numbers (step_freshness place numbers s x).state)
+  notes s input.Start = changes-none 1 place.processes (suspected place numbers s)
+  notes s (input.Wake tag.Beat) =
       notes_of_layer-append 1 (heartbeat_to_others place numbers (next s.sent)) (next_beat place numbers)
       ∙ ((λ i. no_letters 1 (payload.Heartbeat (next s.sent)) (others place.processes place.own) i ++ [])
       ∙ changes-none 1 place.processes (suspected place numbers s))
-  notes s now (input.Wake tag.Check) =
+  notes s (input.Wake tag.Check) =
       notes_of_layer-append 1 (noted place numbers s (checked place numbers s)) (next_check place numbers)
       ∙ (append-nil _ ∙ changes_kept 1 place.processes (suspected place numbers s) (suspected place numbers (checked place numbers s)))
-  notes s now (input.Letter q (payload.Heartbeat j)) = go (watches place numbers q)
+  notes s (input.Letter q (payload.Heartbeat j)) = go (watches place numbers q)
     where
       go : (b : Bool) → notes_of_layer 1 (cond b (record { state = heard place numbers s q j; actions = noted place numbers s (heard place numbers s q j) }) (still s)).actions
           ≡ changes 1 place.processes (suspected place numbers s) (suspected place numbers (cond b (record { state = heard place numbers s q j; actions = noted place numbers s (heard place numbers s q j) }) (still s)).state)
       go true = changes_kept 1 place.processes (suspected place numbers s) (suspected place numbers (heard place numbers s q j))
       go false = changes-none 1 place.processes (suspected place numbers s)
-  notes s now x = changes-none 1 place.processes (suspected place numbers s)
+  notes s x = changes-none 1 place.processes (suspected place numbers s)
 
-  pub freshness_laws : (s : FreshnessState) (now : ℕ) (x : StepInput)
-      → IsDetectorStep place (suspected place numbers s) (suspected place numbers (step_freshness place numbers s now x).state) (nat_le 1 numbers.eta) (nat_le 1 numbers.eta) (step_freshness place numbers s now x).actions
-  freshness_laws s now x = record { acts = acts s now x; notes = notes s now x; others = λ q h. inr (only_others (step_freshness place numbers s now x).state q h); allowed = allowed s now x; paced = refl; few = few s now x }
+  pub freshness_laws : (s : FreshnessState) (x : StepInput)
+      → IsDetectorStep place (suspected place numbers s) (suspected place numbers (step_freshness place numbers s x).state) (nat_le 1 numbers.eta) (nat_le 1 numbers.eta) (step_freshness place numbers s x).actions
+  freshness_laws s x = record { acts = acts s x; notes = notes s x; others = λ q h. inr (only_others (step_freshness place numbers s x).state q h); allowed = allowed s x; paced = refl; few = few s x }

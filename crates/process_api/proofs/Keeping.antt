@@ -30,7 +30,7 @@ without_itself : (s : Processes) (p : ℕ) → set.contains (set.remove s p) p �
 without_itself s p = set.contains-remove nat_cmp_total s p p ∙ ap (λ b. not b && set.contains s p) (unsigned_tied p p ∙ eq-eqb p p refl)
 
 -- a base detector
-apart_from_itself : (place : Place) → is_other place.own place.processes place.own ≡ true → ⊥
+pub apart_from_itself : (place : Place) → is_other place.own place.processes place.own ≡ true → ⊥
 apart_from_itself place h = true≢false (sym (eq-eqb place.own place.own refl) ∙ out_of_not _ (both_true _ _ h).1)
 
 pub detector_keeps : (place : Place) (s : DetectorState) (now : ℕ) (x : StepInput) → set.contains (suspected_by place s) place.own ≡ false → set.contains (suspected_by place (step_detector place s now x).state) place.own ≡ false

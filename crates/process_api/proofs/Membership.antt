@@ -1,5 +1,5 @@
 -- Who is in a set after a change.
-use Rattle.std.proofs.Common.{◌≡◌, ◌≢◌, ◌⊎◌, inl, inr, ℕ, zero, suc, ◌+◌, ◌-◌, ◌≤◌, refl, sym, ap, ◌∙◌, List, [], ◌∷◌, ◌++◌, Bool, true, false, cond, not, ◌&&◌, ◌||◌, nat_eq, arith}
+use Rattle.std.proofs.Common.{◌≡◌, ◌≢◌, ◌⊎◌, inl, inr, ℕ, zero, suc, ◌+◌, refl, sym, ap, ◌∙◌, List, [], ◌∷◌, ◌++◌, Bool, true, false, cond, not, ◌&&◌, ◌||◌, nat_eq, arith}
 use Rattle.std.specs.FinSet as set
 use Rattle.std.specs.Cmp.{nat_cmp_total, unsigned_tied}
 use Rattle.std.specs.List.{filter}
@@ -53,16 +53,16 @@ contains-insert_all s t (suc n) q =
         ∙ sym (λ i. (is_process-last n q e i && (ap t e ∙ h) i) || set.contains s q)
     stays h (inr apart) = ap (λ b. (b && t q) || set.contains s q) (sym (is_process-more n q apart))
 
--- q isn't among those below it
-pub contains-insert_all_below : (s : Processes) (t : ℕ → Bool) (q : ℕ) → 1 ≤ q → set.contains (insert_all s (filter t (numbers_to (q - 1)))) q ≡ set.contains s q
-contains-insert_all_below s t q low = contains-insert_all s t (q - 1) q ∙ ap (λ b. (b && t q) || set.contains s q) (above q low)
+-- n + 1 isn't among those up to n
+pub contains-insert_all_below : (s : Processes) (t : ℕ → Bool) (n : ℕ) → set.contains (insert_all s (filter t (numbers_to n))) (n + 1) ≡ set.contains s (n + 1)
+contains-insert_all_below s t n = contains-insert_all s t n (n + 1) ∙ ap (λ b. (b && t (n + 1)) || set.contains s (n + 1)) (above n)
   where
-    above : (q : ℕ) → 1 ≤ q → is_process (q - 1) q ≡ false
-    above q low = grind (arith, nat_tests)
+    above : (n : ℕ) → is_process n (n + 1) ≡ false
+    above n = grind (arith, nat_tests)
 
--- the last of 1 to q joins, if it passes the test
-pub insert_all-passes : (s : Processes) (t : ℕ → Bool) (q : ℕ) → 1 ≤ q → t q ≡ true → set.insert (insert_all s (filter t (numbers_to (q - 1)))) q ≡ insert_all s (filter t (numbers_to (q + 1 - 1)))
-insert_all-passes s t q low h = sym (insert_all-append s (filter t (numbers_to (q - 1))) (q ∷ [])) ∙ ap (insert_all s) (sym (filter-last_passes t q low h))
+-- the last of 1 to n + 1 joins, if it passes the test
+pub insert_all-passes : (s : Processes) (t : ℕ → Bool) (n : ℕ) → t (n + 1) ≡ true → set.insert (insert_all s (filter t (numbers_to n))) (n + 1) ≡ insert_all s (filter t (numbers_to (n + 1)))
+insert_all-passes s t n h = sym (insert_all-append s (filter t (numbers_to n)) ((n + 1) ∷ [])) ∙ ap (insert_all s) (sym (filter-last_passes t n h))
 
-pub insert_all-fails : (s : Processes) (t : ℕ → Bool) (q : ℕ) → 1 ≤ q → t q ≡ false → insert_all s (filter t (numbers_to (q - 1))) ≡ insert_all s (filter t (numbers_to (q + 1 - 1)))
-insert_all-fails s t q low h = ap (insert_all s) (sym (filter-last_fails t q low h))
+pub insert_all-fails : (s : Processes) (t : ℕ → Bool) (n : ℕ) → t (n + 1) ≡ false → insert_all s (filter t (numbers_to n)) ≡ insert_all s (filter t (numbers_to (n + 1)))
+insert_all-fails s t n h = ap (insert_all s) (sym (filter-last_fails t n h))

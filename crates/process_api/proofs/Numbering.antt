@@ -1,5 +1,5 @@
 -- Tests of the numbers 1 to n.
-use Rattle.std.proofs.Common.{length, length-append, subst, ◌≡◌, ◌≢◌, ⊎_elim, ℕ, zero, suc, ◌+◌, ◌-◌, ◌≤◌, refl, sym, ap, ◌∙◌, List, [], ◌∷◌, ◌++◌, Bool, true, false, cond, nat_eq, append-nil, append_assoc, map, arith}
+use Rattle.std.proofs.Common.{length, length-append, subst, ◌≡◌, ◌≢◌, ⊎_elim, ℕ, zero, suc, ◌+◌, ◌≤◌, refl, sym, ap, ◌∙◌, List, [], ◌∷◌, ◌++◌, Bool, true, false, cond, nat_eq, append-nil, append_assoc, map, arith}
 use Rattle.std.proofs.lemmas.Bool.{cases_eq, eq-eqb, ne_eqb}
 use Rattle.std.proofs.lemmas.Bool.Decides.{nat_tests}
 use Rattle.std.proofs.lemmas.List.Elements.{filter-append}
@@ -11,29 +11,28 @@ use Rattle.process_api.specs.Numbers.{numbers_to, is_process}
 filter-suc : (p : ℕ → Bool) (n : ℕ) → filter p (numbers_to (suc n)) ≡ filter p (numbers_to n) ++ cond (p (suc n)) (suc n ∷ []) []
 filter-suc p n = filter-append p (numbers_to n) (suc n ∷ [])
 
-filter-last : (p : ℕ → Bool) (q : ℕ) → 1 ≤ q → filter p (numbers_to (q + 1 - 1)) ≡ filter p (numbers_to (q - 1)) ++ cond (p q) (q ∷ []) []
-filter-last p q low =
-    let e : q + 1 - 1 ≡ suc (q - 1) = omega (arith, low) in
-    let f : suc (q - 1) ≡ q = omega (arith, low) in
-    ap (λ k. filter p (numbers_to k)) e ∙ (filter-suc p (q - 1) ∙ ap (λ k. filter p (numbers_to (q - 1)) ++ cond (p k) (k ∷ []) []) f)
+filter-last : (p : ℕ → Bool) (n : ℕ) → filter p (numbers_to (n + 1)) ≡ filter p (numbers_to n) ++ cond (p (n + 1)) ((n + 1) ∷ []) []
+filter-last p n =
+    let e : n + 1 ≡ suc n = omega arith in
+    ap (λ k. filter p (numbers_to k)) e ∙ (filter-suc p n ∙ ap (λ k. filter p (numbers_to n) ++ cond (p k) (k ∷ []) []) (sym e))
 
--- of 1 to q, the last passes the test
-pub filter-last_passes : (p : ℕ → Bool) (q : ℕ) → 1 ≤ q → p q ≡ true → filter p (numbers_to (q + 1 - 1)) ≡ filter p (numbers_to (q - 1)) ++ q ∷ []
-filter-last_passes p q low h = filter-last p q low ∙ ap (λ b. filter p (numbers_to (q - 1)) ++ cond b (q ∷ []) []) h
+-- of 1 to n + 1, the last passes the test
+pub filter-last_passes : (p : ℕ → Bool) (n : ℕ) → p (n + 1) ≡ true → filter p (numbers_to (n + 1)) ≡ filter p (numbers_to n) ++ (n + 1) ∷ []
+filter-last_passes p n h = filter-last p n ∙ ap (λ b. filter p (numbers_to n) ++ cond b ((n + 1) ∷ []) []) h
 
 -- or it doesn't
-pub filter-last_fails : (p : ℕ → Bool) (q : ℕ) → 1 ≤ q → p q ≡ false → filter p (numbers_to (q + 1 - 1)) ≡ filter p (numbers_to (q - 1))
-filter-last_fails p q low h = filter-last p q low ∙ (ap (λ b. filter p (numbers_to (q - 1)) ++ cond b (q ∷ []) []) h ∙ append-nil _)
+pub filter-last_fails : (p : ℕ → Bool) (n : ℕ) → p (n + 1) ≡ false → filter p (numbers_to (n + 1)) ≡ filter p (numbers_to n)
+filter-last_fails p n h = filter-last p n ∙ (ap (λ b. filter p (numbers_to n) ++ cond b ((n + 1) ∷ []) []) h ∙ append-nil _)
 
--- a list that goes through 1 to q gets what belongs to q, where q passes the test
-pub appended-passes : {X : Type 0} (old : List X) (f : ℕ → X) (p : ℕ → Bool) (q : ℕ) → 1 ≤ q → p q ≡ true → (old ++ map f (filter p (numbers_to (q - 1)))) ++ f q ∷ [] ≡ old ++ map f (filter p (numbers_to (q + 1 - 1)))
-appended-passes old f p q low h =
-    let found : List ℕ = filter p (numbers_to (q - 1)) in
-    append_assoc old (map f found) (f q ∷ [])
-    ∙ (ap (λ xs. old ++ xs) (sym (map-append f found (q ∷ []))) ∙ ap (λ xs. old ++ map f xs) (sym (filter-last_passes p q low h)))
+-- a list that goes through 1 to n gets what belongs to n + 1, where that passes the test
+pub appended-passes : {X : Type 0} (old : List X) (f : ℕ → X) (p : ℕ → Bool) (n : ℕ) → p (n + 1) ≡ true → (old ++ map f (filter p (numbers_to n))) ++ f (n + 1) ∷ [] ≡ old ++ map f (filter p (numbers_to (n + 1)))
+appended-passes old f p n h =
+    let found : List ℕ = filter p (numbers_to n) in
+    append_assoc old (map f found) (f (n + 1) ∷ [])
+    ∙ (ap (λ xs. old ++ xs) (sym (map-append f found ((n + 1) ∷ []))) ∙ ap (λ xs. old ++ map f xs) (sym (filter-last_passes p n h)))
 
-pub appended-fails : {X : Type 0} (old : List X) (f : ℕ → X) (p : ℕ → Bool) (q : ℕ) → 1 ≤ q → p q ≡ false → old ++ map f (filter p (numbers_to (q - 1))) ≡ old ++ map f (filter p (numbers_to (q + 1 - 1)))
-appended-fails old f p q low h = ap (λ xs. old ++ map f xs) (sym (filter-last_fails p q low h))
+pub appended-fails : {X : Type 0} (old : List X) (f : ℕ → X) (p : ℕ → Bool) (n : ℕ) → p (n + 1) ≡ false → old ++ map f (filter p (numbers_to n)) ≡ old ++ map f (filter p (numbers_to (n + 1)))
+appended-fails old f p n h = ap (λ xs. old ++ map f xs) (sym (filter-last_fails p n h))
 
 -- tests that agree from 1 to n
 pub filter-same : (f g : ℕ → Bool) (n : ℕ) → ((q : ℕ) → 1 ≤ q → q ≤ n → f q ≡ g q) → filter f (numbers_to n) ≡ filter g (numbers_to n)

@@ -47,5 +47,5 @@ step_detector place (ByTimeout its s) now input =
     let next = step_timeout place its s now input in
     record { state = ByTimeout its next.state; actions = next.actions }
 step_detector place (ByFreshness its s) now input =
-    let next = step_freshness place its s now input in
+    let next = step_freshness place its s input in
     record { state = ByFreshness its next.state; actions = next.actions }

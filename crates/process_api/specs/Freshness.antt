@@ -1,6 +1,7 @@
 -- The detector with freshness points of Chen, Toueg and Aguilera (IEEE Transactions on Computers 51(5), 2002): what one
 -- input makes of it, and what it does. Heartbeats and points are numbered from 1. Heartbeat i is sent at tick i * eta,
--- and point i lies delta ticks later: from there to the next point only heartbeat i and later ones are fresh.
+-- and point i lies delta ticks later: from there to the next point only heartbeat i and later ones are fresh. No step
+-- asks for the tick, since both come by wakes.
 use Rattle.std.specs.Prelude.{ℕ, ◌+◌, min, Bool, false, not, ◌&&◌, ◌||◌, nat_le, if◌then◌else◌, List, [], ◌∷◌, ◌++◌, map, filter}
 use Rattle.std.specs.FinSet as set
 use Rattle.process_api.specs.Numbers.{numbers_to, change}
@@ -66,16 +67,16 @@ module _ (place : Place) (numbers : FreshnessNumbers) where
   abbrev pub heard : FreshnessState → (q j : ℕ) → FreshnessState
   heard s q j = record s { came = change s.came q (λ i. nat_le i j || s.came q i) }
 
-  abbrev pub step_freshness : FreshnessState → ℕ → StepInput → Answer FreshnessState
-  step_freshness s now input.Start = record { state = s; actions = first_wakes }
-  step_freshness s now (input.Wake tag.Beat) = record {
+  abbrev pub step_freshness : FreshnessState → StepInput → Answer FreshnessState
+  step_freshness s input.Start = record { state = s; actions = first_wakes }
+  step_freshness s (input.Wake tag.Beat) = record {
     state = record s { sent = next s.sent };
     actions = heartbeat_to_others (next s.sent) ++ next_beat;
   }
-  step_freshness s now (input.Wake tag.Check) = record {
+  step_freshness s (input.Wake tag.Check) = record {
     state = checked s;
     actions = noted s (checked s) ++ next_check;
   }
-  step_freshness s now (input.Letter sender (payload.Heartbeat j)) =
+  step_freshness s (input.Letter sender (payload.Heartbeat j)) =
       if watches sender then record { state = heard s sender j; actions = noted s (heard s sender j) } else still s
-  step_freshness s now x = still s
+  step_freshness s x = still s

@@ -14,6 +14,7 @@ pub mod Timeout
 pub mod Freshness
 pub mod Detector
 pub mod BaseDetector
+pub mod Laws
 pub mod Reduction
 pub mod ConsensusS
 pub mod Rounds

@@ -7,9 +7,10 @@
 //! is that of [`Process`]: on `Ok`, `on_input` is `react`, and nothing else.
 //!
 //! A mind has parts, each with a definition of its own in `specs/`: a base detector of some kind (`Detector` joins the
-//! kinds; there are `Timeout` and `Freshness`), perhaps a reduction over it (`Reduction`), and perhaps a consensus algorithm
-//! (`ConsensusS`, `Coordinator` with `Diffusion`). The crates that implement a part meet [`Detector`] or
-//! [`Algorithm`]. What stands above a base detector rests on its laws (`BaseDetector`), whichever its kind.
+//! kinds; there are `Timeout` and `Freshness`), perhaps a reduction over it (`Reduction`), and perhaps a consensus
+//! algorithm (`ConsensusS`, `Coordinator` with `Diffusion`). The crates that implement a part meet [`Detector`] or
+//! [`Algorithm`]. What stands above a base detector rests on its laws (`BaseDetector`), whichever its kind:
+//! [`law_base_detectors`] says that each kind has them.
 #![tactic(auto)]
 
 mod action;
@@ -17,6 +18,7 @@ mod cells;
 mod consensus;
 mod entry;
 mod key;
+mod laws;
 mod message;
 mod numbers;
 mod parts;
@@ -31,6 +33,7 @@ pub use cells::Cells;
 pub use consensus::{Estimate, Phase};
 pub use entry::{Entry, Kind};
 pub use key::Key;
+pub use laws::law_base_detectors;
 pub use message::{Letter, Payload, StepInput, Tag};
 pub use numbers::{DetectorNumbers, FreshnessNumbers, TimeoutNumbers, Watch};
 pub use parts::{Algorithm, Detector};

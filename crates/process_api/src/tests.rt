@@ -1,4 +1,5 @@
 mod alone;
+mod laws;
 
 use crate::*;
 use std::test::Fail;

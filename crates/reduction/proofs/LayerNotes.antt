@@ -1,5 +1,5 @@
 -- Which notes of layer 2 the reduction leaves.
-use Rattle.std.proofs.Common.{◌≡◌, refl, ◌∙◌, [], ◌++◌}
+use Rattle.std.proofs.Common.{◌≡◌, ◌∙◌, [], ◌++◌}
 use Rattle.process_api.specs.Actions.{notes_of_layer}
 use Rattle.process_api.specs.Answer.{to_all}
 use Rattle.process_api.specs.Numbers.{numbers_to}

@@ -35,8 +35,8 @@ pub fn read_scenario(alloc: Global, bytes: &[u8]) -> Result<Scenario, ScenarioEr
 ///
 /// # Errors
 ///
-/// The refusal of the first rule of tables that applies, in the order of [`ScenarioError`], which is never `NotToml`; or
-/// `Memory`, which comes where memory was refused, at any point.
+/// The refusal of the first rule of tables that applies, in the order of [`ScenarioError`], which is never `NotToml`;
+/// or `Memory`, which comes where memory was refused, at any point.
 pub fn read_table(alloc: Global, table: &Table) -> Result<Scenario, ScenarioError>
     ensures ok { OnOk result (Passes table_rules (Some (table_view table.now))) }
     ensures value { IfOk result (λ s. s ≡ record_of (table_view table.now)) }

@@ -11,10 +11,8 @@ pub(crate) fn send_alive(opening: &Opening, out: &mut Vec<Action>) -> Result<(),
     ensures { OnOk result (
         out.new.items ≡ out.old.items ++ to_others opening.now.processes opening.now.own Payload.Alive) }
 {
-    for number in 1..opening.processes + 1 {
-        let Some(q) = Pid::new(number) else {
-            unreachable!()
-        };
+    for before in 0..opening.processes {
+        let q = Pid::after(before);
         if q != opening.own {
             send_to(out, q, Payload::Alive)?;
         }

@@ -94,10 +94,8 @@ impl TimeoutDetector {
         ensures numbers { self.new.numbers ≡ self.old.numbers }
         ensures failure { self.new.has_failed ≡ self.old.has_failed }
     {
-        for number in 1..self.opening.processes + 1 {
-            let Some(q) = Pid::new(number) else {
-                unreachable!()
-            };
+        for before in 0..self.opening.processes {
+            let q = Pid::after(before);
             if self.is_overdue(now, q) {
                 self.suspects.insert(q);
                 note_that(out, Note::Suspect { layer: 1, who: q })?;

@@ -29,7 +29,8 @@ fn take_tick(
     parts: Vec<VecDeque<Entry>>,
     tick: u32,
 ) -> Result<Vec<VecDeque<Entry>>, RunError>
-    ensures same { IfOk result (λ left. IsPermutation (merged.old.items ++ all_of (map (λ part. part.items) parts.items))
+    ensures same { IfOk result (λ left. IsPermutation
+        (merged.old.items ++ all_of (map (λ part. part.items) parts.items))
         (merged.new.items ++ all_of (map (λ part. part.items) left.items))) }
     ensures fewer { IfOk result (λ left. SomeBegins tick (map (λ part. part.items) parts.items)
         → length (all_of (map (λ part. part.items) left.items))

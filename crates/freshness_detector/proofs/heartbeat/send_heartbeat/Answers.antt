@@ -1,4 +1,4 @@
-use Rattle.std.proofs.Common.{◌≡◌, ◌∷◌, [], ◌++◌, ℕ, ◌≤◌, Bool, not, nat_eq, ap, sym, ◌∙◌}
+use Rattle.std.proofs.Common.{◌≡◌, ◌∷◌, [], ◌++◌, ℕ, ◌+◌, Bool, not, nat_eq, ap, sym, ◌∙◌}
 use Rattle.process_api.specs.declared.action.Action.{Action}
 use Rattle.process_api.specs.declared.action.Action.TheVariants.{Send}
 use Rattle.process_api.specs.declared.message.Payload.TheVariants.{Heartbeat}
@@ -6,21 +6,20 @@ use Rattle.process_api.proofs.Numbering.{appended-passes, appended-fails}
 use Rattle.freshness_detector.proofs.heartbeat.send_heartbeat.Goals as goal
 use Rattle.freshness_detector.proofs.heartbeat.send_heartbeat.Goals.{then-ne+in_ok-send_to, else-ne}
 
-pub loop-other-preserved : goal.loop-other-preserved
-loop-other-preserved c =
+pub loop-before-preserved : goal.loop-before-preserved
+loop-before-preserved c =
     let own : ℕ = c.args.opening.now.own in
-    let n : ℕ = c.loop-other.other in
-    let low : 1 ≤ n = c.loop-other.auto.other in
-    let is : c.in-Some.q ≡ n = c.in-Some.ensures.value in
+    let n : ℕ = c.loop-before.before in
+    let is : c.after-q.result ≡ n + 1 = c.after-q.ensures in
     let letter : ℕ → Action = λ q. Send q (Heartbeat c.args.number) in
     let apart : ℕ → Bool = λ q. not (nat_eq q own) in
-    let tested : c.ne.result ≡ apart n = c.ne.ensures ∙ ap apart is in
+    let tested : c.ne.result ≡ apart (n + 1) = c.ne.ensures ∙ ap apart is in
     elim c.if-ne.branch [
       | then-ne+in_ok-send_to w ↦
           ap (λ v. v.items) w.out-is ∙ (w.in_ok-send_to.ensures.ok
-          ∙ ((λ i. c.loop-other.invariant i ++ letter (is i) ∷ [])
-          ∙ appended-passes c.args.out.now.items letter apart n low (sym tested ∙ w.if-ne.true)))
+          ∙ ((λ i. c.loop-before.invariant i ++ letter (is i) ∷ [])
+          ∙ appended-passes c.args.out.now.items letter apart n (sym tested ∙ w.if-ne.true)))
       | else-ne w ↦
-          ap (λ v. v.items) w.out-is ∙ (c.loop-other.invariant
-          ∙ appended-fails c.args.out.now.items letter apart n low (sym tested ∙ w.if-ne.false))
+          ap (λ v. v.items) w.out-is ∙ (c.loop-before.invariant
+          ∙ appended-fails c.args.out.now.items letter apart n (sym tested ∙ w.if-ne.false))
     ]

@@ -1,7 +1,7 @@
-use Rattle.std.proofs.Common.{◌≡◌, ◌++◌, ◌-◌}
+use Rattle.std.proofs.Common.{◌≡◌, ◌++◌}
 use Rattle.process_api.specs.Answer.{to_others}
 use Rattle.process_api.specs.declared.message.Payload.TheVariants.{Heartbeat}
 use Rattle.freshness_detector.proofs.heartbeat.send_heartbeat.Given as goal
 
-abbrev pub invariant-loop-other : goal.invariant-loop-other
-invariant-loop-other l = l.out.items ≡ l.fn.out.items ++ to_others (l.other - 1) l.fn.opening.own (Heartbeat l.fn.number)
+abbrev pub invariant-loop-before : goal.invariant-loop-before
+invariant-loop-before l = l.out.items ≡ l.fn.out.items ++ to_others l.before l.fn.opening.own (Heartbeat l.fn.number)

@@ -10,20 +10,20 @@ use Rattle.freshness_detector.specs.declared.detector.FreshnessDetector.{Freshne
 use Rattle.freshness_detector.proofs.detector.FreshnessDetector.receive.Goals as goal
 
 -- a watched process's heartbeat is heard
-heard : (d : FreshnessDetector) (q j now : ℕ) (what : Payload) → what ≡ payload.Heartbeat j → is_watched d q ≡ true
-    → ◌≡◌ {A = Answer FreshnessState} (record { state = heard_by d q j; actions = noted_by d (heard_by d q j) }) (answer_of d now (input.Letter q what))
-heard d q j now what is watched =
+heard : (d : FreshnessDetector) (q j : ℕ) (what : Payload) → what ≡ payload.Heartbeat j → is_watched d q ≡ true
+    → ◌≡◌ {A = Answer FreshnessState} (record { state = heard_by d q j; actions = noted_by d (heard_by d q j) }) (answer_of d (input.Letter q what))
+heard d q j what is watched =
     ap (λ b. cond b (record { state = heard_by d q j; actions = noted_by d (heard_by d q j) }) (still (state_of d))) (sym watched)
-    ∙ ap (λ x. answer_of d now (input.Letter q x)) (sym is)
+    ∙ ap (λ x. answer_of d (input.Letter q x)) (sym is)
 
 pub returns-in-Heartbeat-clause-state : goal.returns-in-Heartbeat-clause-state
-returns-in-Heartbeat-clause-state c = λ now.
+returns-in-Heartbeat-clause-state c =
     on_ok_weaker c.hear.result
-    (λ e. e ∙ ap (λ (a : Answer FreshnessState). a.state) (heard c.args.self.now c.args.sender c.in-Heartbeat.number now c.args.payload.now c.in-Heartbeat.is (sym c.watches.ensures.value ∙ c.if-watches.true)))
+    (λ e. e ∙ ap (λ (a : Answer FreshnessState). a.state) (heard c.args.self.now c.args.sender c.in-Heartbeat.number c.args.payload.now c.in-Heartbeat.is (sym c.watches.ensures.value ∙ c.if-watches.true)))
     c.hear.ensures.state
 
 pub returns-in-Heartbeat-clause-actions : goal.returns-in-Heartbeat-clause-actions
-returns-in-Heartbeat-clause-actions c = λ now.
+returns-in-Heartbeat-clause-actions c =
     on_ok_weaker c.hear.result
-    (λ e. e ∙ ap (λ (a : Answer FreshnessState). c.args.out.now.items ++ a.actions) (heard c.args.self.now c.args.sender c.in-Heartbeat.number now c.args.payload.now c.in-Heartbeat.is (sym c.watches.ensures.value ∙ c.if-watches.true)))
+    (λ e. e ∙ ap (λ (a : Answer FreshnessState). c.args.out.now.items ++ a.actions) (heard c.args.self.now c.args.sender c.in-Heartbeat.number c.args.payload.now c.in-Heartbeat.is (sym c.watches.ensures.value ∙ c.if-watches.true)))
     c.hear.ensures.actions

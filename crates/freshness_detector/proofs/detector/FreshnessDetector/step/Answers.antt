@@ -6,8 +6,8 @@ use Rattle.freshness_detector.proofs.detector.FreshnessDetector.step.Goals as go
 
 pub returns-in-Letter-clause-state : goal.returns-in-Letter-clause-state
 returns-in-Letter-clause-state c =
-    on_ok_weaker c.receive.result (λ e. e ∙ ap (λ (x : StepInput). (answer_of c.args.self.now c.args.now x).state) (sym c.in-Letter.is)) (c.receive.ensures.state c.args.now)
+    on_ok_weaker c.receive.result (λ e. e ∙ ap (λ (x : StepInput). (answer_of c.args.self.now x).state) (sym c.in-Letter.is)) c.receive.ensures.state
 
 pub returns-in-Letter-clause-actions : goal.returns-in-Letter-clause-actions
 returns-in-Letter-clause-actions c =
-    on_ok_weaker c.receive.result (λ e. e ∙ ap (λ (x : StepInput). c.args.out.now.items ++ (answer_of c.args.self.now c.args.now x).actions) (sym c.in-Letter.is)) (c.receive.ensures.actions c.args.now)
+    on_ok_weaker c.receive.result (λ e. e ∙ ap (λ (x : StepInput). c.args.out.now.items ++ (answer_of c.args.self.now x).actions) (sym c.in-Letter.is)) c.receive.ensures.actions

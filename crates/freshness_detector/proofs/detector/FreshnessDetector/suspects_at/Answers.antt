@@ -1,4 +1,4 @@
-use Rattle.std.proofs.Common.{◌≡◌, ◌∷◌, [], ◌++◌, ℕ, ◌≤◌, Bool, true, false, ap, sym, ◌∙◌}
+use Rattle.std.proofs.Common.{◌≡◌, ◌∷◌, [], ◌++◌, ℕ, ◌+◌, Bool, true, false, ap, sym, ◌∙◌}
 use Rattle.std.specs.FinSet as set
 use Rattle.process_api.specs.declared.action.Action.{Action}
 use Rattle.process_api.specs.declared.action.Action.TheVariants.{Note}
@@ -9,29 +9,28 @@ use Rattle.freshness_detector.specs.View.{is_late}
 use Rattle.freshness_detector.proofs.detector.FreshnessDetector.suspects_at.Goals as goal
 use Rattle.freshness_detector.proofs.detector.FreshnessDetector.suspects_at.Goals.{then-is_late+in_ok-note_that, else-is_late}
 
-pub loop-number-preserved : goal.loop-number-preserved
-loop-number-preserved c =
+pub loop-before-preserved : goal.loop-before-preserved
+loop-before-preserved c =
     let d = c.args.self.now in
     let test : ℕ → Bool = is_late d c.args.point in
-    let n : ℕ = c.loop-number.number in
-    let low : 1 ≤ n = c.loop-number.auto.number in
-    let is : c.in-Some.q ≡ n = c.in-Some.ensures.value in
-    let i = c.loop-number.invariant in
+    let n : ℕ = c.loop-before.before in
+    let is : c.after-q.result ≡ n + 1 = c.after-q.ensures in
+    let i = c.loop-before.invariant in
     let note : ℕ → Action = λ q. Note (Suspect 1 q) in
-    let tested : c.is_late.result ≡ test n = c.is_late.ensures ∙ ap test is in
+    let tested : c.is_late.result ≡ test (n + 1) = c.is_late.ensures ∙ ap test is in
     elim c.if-is_late.branch [
       | then-is_late+in_ok-note_that w ↦
-          let passes : test n ≡ true = sym tested ∙ w.if-is_late.true in
+          let passes : test (n + 1) ≡ true = sym tested ∙ w.if-is_late.true in
           record {
-            set = w.suspects-is ∙ (w.insert.ensures ∙ ((λ k. set.insert (i.set k) (is k)) ∙ insert_all-passes d.suspects test n low passes));
+            set = w.suspects-is ∙ (w.insert.ensures ∙ ((λ k. set.insert (i.set k) (is k)) ∙ insert_all-passes d.suspects test n passes));
             notes = ap (λ v. v.items) w.out-is ∙ (w.in_ok-note_that.ensures.ok
                 ∙ ((λ k. i.notes k ++ note (is k) ∷ [])
-                ∙ appended-passes c.args.out.now.items note test n low passes));
+                ∙ appended-passes c.args.out.now.items note test n passes));
           }
       | else-is_late w ↦
-          let fails : test n ≡ false = sym tested ∙ w.if-is_late.false in
+          let fails : test (n + 1) ≡ false = sym tested ∙ w.if-is_late.false in
           record {
-            set = w.suspects-is ∙ (i.set ∙ insert_all-fails d.suspects test n low fails);
-            notes = ap (λ v. v.items) w.out-is ∙ (i.notes ∙ appended-fails c.args.out.now.items note test n low fails);
+            set = w.suspects-is ∙ (i.set ∙ insert_all-fails d.suspects test n fails);
+            notes = ap (λ v. v.items) w.out-is ∙ (i.notes ∙ appended-fails c.args.out.now.items note test n fails);
           }
     ]

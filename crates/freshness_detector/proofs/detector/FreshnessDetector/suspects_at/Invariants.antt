@@ -1,4 +1,4 @@
-use Rattle.std.proofs.Common.{◌≡◌, ◌++◌, ◌-◌, map}
+use Rattle.std.proofs.Common.{◌≡◌, ◌++◌, map}
 use Rattle.std.specs.List.{filter}
 use Rattle.process_api.specs.Numbers.{numbers_to}
 use Rattle.process_api.specs.Sets.{insert_all}
@@ -7,9 +7,9 @@ use Rattle.process_api.specs.declared.action.Note.TheVariants.{Suspect}
 use Rattle.freshness_detector.specs.View.{is_late}
 use Rattle.freshness_detector.proofs.detector.FreshnessDetector.suspects_at.Given as goal
 
-abbrev pub invariant-loop-number : goal.invariant-loop-number
-invariant-loop-number l =
-    let found = filter (is_late l.fn.self l.fn.point) (numbers_to (l.number - 1)) in
+abbrev pub invariant-loop-before : goal.invariant-loop-before
+invariant-loop-before l =
+    let found = filter (is_late l.fn.self l.fn.point) (numbers_to l.before) in
     record {
       set : l.suspects ≡ insert_all l.fn.self.suspects found;
       notes : l.out.items ≡ l.fn.out.items ++ map (λ q. Note (Suspect 1 q)) found;

@@ -11,18 +11,18 @@ use Rattle.freshness_detector.proofs.detector.FreshnessDetectorDetector.take.Goa
 pub returns-clause-allowed : goal.returns-clause-allowed
 returns-clause-allowed c =
     let d = c.args.self.now in
-    base_allowed (place_of d.opening) (ByFreshness d.numbers (state_of d)) c.args.now c.args.input.now
+    base_allowed (place_of d.opening) (ByFreshness d.numbers (state_of d)) c.args._now c.args.input.now
     (subst (λ its. IsTrue (has_pauses (opening_detector its))) d.kind (opens_paced d.opening.detector d.opening.numbers))
 
 pub returns-clause-few : goal.returns-clause-few
 returns-clause-few c =
     let d = c.args.self.now in
-    base_few (place_of d.opening) (ByFreshness d.numbers (state_of d)) c.args.now c.args.input.now (omega (arith, d.opening.few))
+    base_few (place_of d.opening) (ByFreshness d.numbers (state_of d)) c.args._now c.args.input.now (omega (arith, d.opening.few))
 
 pub returns-clause-changes : goal.returns-clause-changes
 unfolding step_detector
 returns-clause-changes c =
     let d = c.args.self.now in
     let e = c.step.new.self in
-    base_changes (place_of d.opening) (ByFreshness d.numbers (state_of d)) c.args.now c.args.input.now (suspected (place_of e.opening) e.numbers (state_of e))
+    base_changes (place_of d.opening) (ByFreshness d.numbers (state_of d)) c.args._now c.args.input.now (suspected (place_of e.opening) e.numbers (state_of e))
     (λ i. suspected (place_of (c.step.ensures.opening i)) (c.step.ensures.numbers i) (c.in_ok-step.ensures.state i))

@@ -1,4 +1,4 @@
-use Rattle.std.proofs.Common.{◌≡◌, ◌∷◌, [], ◌++◌, ℕ, ◌-◌, ◌≤◌, Bool, true, false, not, ◌&&◌, nat_le, ap, sym, ◌∙◌}
+use Rattle.std.proofs.Common.{◌≡◌, ◌∷◌, [], ◌++◌, ℕ, ◌+◌, ◌-◌, Bool, true, false, not, ◌&&◌, nat_le, ap, sym, ◌∙◌}
 use Rattle.std.specs.FinSet as set
 use Rattle.process_api.specs.Place.{Place}
 use Rattle.process_api.specs.Timeout.{TimeoutState, is_overdue, watches}
@@ -13,44 +13,43 @@ use Rattle.process_api.proofs.Membership.{contains-insert_all_below, insert_all-
 use Rattle.timeout_detector.proofs.detector.TimeoutDetector.check.Goals as goal
 use Rattle.timeout_detector.proofs.detector.TimeoutDetector.check.Goals.{then-is_overdue+in_ok-note_that, else-is_overdue}
 
-pub loop-number-preserved : goal.loop-number-preserved
-loop-number-preserved c =
+pub loop-before-preserved : goal.loop-before-preserved
+loop-before-preserved c =
     let start = c.args.self.now in
     let place : Place = place_of start.opening in
     let numbers : TimeoutNumbers = start.numbers in
     let s : TimeoutState = state_of start in
     let test : ℕ → Bool = is_overdue place numbers s c.args.now in
-    let n : ℕ = c.loop-number.number in
-    let low : 1 ≤ n = c.loop-number.auto.number in
-    let is : c.in-Some.q ≡ n = c.in-Some.ensures.value in
-    let i = c.loop-number.invariant in
+    let n : ℕ = c.loop-before.before in
+    let is : c.after-q.result ≡ n + 1 = c.after-q.ensures in
+    let i = c.loop-before.invariant in
     let note : ℕ → Action = λ q. Note (Suspect 1 q) in
-    let tested : c.is_overdue.result ≡ test n =
+    let tested : c.is_overdue.result ≡ test (n + 1) =
     c.is_overdue.ensures.value
     ∙ ((λ k. is_overdue (place_of (i.opening k)) (i.numbers k) (i.state k) c.args.now (is k))
-    ∙ ap (λ b. watches place numbers n && (not b && nat_le (s.bound n) (c.args.now - s.last_heard n))) (contains-insert_all_below s.suspects test n low)) in
+    ∙ ap (λ b. watches place numbers (n + 1) && (not b && nat_le (s.bound (n + 1)) (c.args.now - s.last_heard (n + 1)))) (contains-insert_all_below s.suspects test n)) in
     elim c.if-is_overdue.branch [
       | then-is_overdue+in_ok-note_that w ↦
-          let passes : test n ≡ true = sym tested ∙ w.if-is_overdue.true in
+          let passes : test (n + 1) ≡ true = sym tested ∙ w.if-is_overdue.true in
           record {
             opening = ap (λ d. d.opening) w.self-is ∙ i.opening;
             numbers = ap (λ d. d.numbers) w.self-is ∙ i.numbers;
             failure = ap (λ d. d.has_failed) w.self-is ∙ i.failure;
             state = ap state_of w.self-is
-                ∙ (ap (λ m. record (state_of c.loop-number.self) { suspects = m }) w.insert.ensures
+                ∙ (ap (λ m. record (state_of c.loop-before.self) { suspects = m }) w.insert.ensures
                 ∙ ((λ k. record (i.state k) { suspects = set.insert (i.state k).suspects (is k) })
-                ∙ ap (λ m. record s { suspects = m }) (insert_all-passes s.suspects test n low passes)));
+                ∙ ap (λ m. record s { suspects = m }) (insert_all-passes s.suspects test n passes)));
             notes = ap (λ v. v.items) w.out-is ∙ (w.in_ok-note_that.ensures.ok
                 ∙ ((λ k. i.notes k ++ note (is k) ∷ [])
-                ∙ appended-passes c.args.out.now.items note test n low passes));
+                ∙ appended-passes c.args.out.now.items note test n passes));
           }
       | else-is_overdue w ↦
-          let fails : test n ≡ false = sym tested ∙ w.if-is_overdue.false in
+          let fails : test (n + 1) ≡ false = sym tested ∙ w.if-is_overdue.false in
           record {
             opening = ap (λ d. d.opening) w.self-is ∙ i.opening;
             numbers = ap (λ d. d.numbers) w.self-is ∙ i.numbers;
             failure = ap (λ d. d.has_failed) w.self-is ∙ i.failure;
-            state = ap state_of w.self-is ∙ (i.state ∙ ap (λ m. record s { suspects = m }) (insert_all-fails s.suspects test n low fails));
-            notes = ap (λ v. v.items) w.out-is ∙ (i.notes ∙ appended-fails c.args.out.now.items note test n low fails);
+            state = ap state_of w.self-is ∙ (i.state ∙ ap (λ m. record s { suspects = m }) (insert_all-fails s.suspects test n fails));
+            notes = ap (λ v. v.items) w.out-is ∙ (i.notes ∙ appended-fails c.args.out.now.items note test n fails);
           }
     ]

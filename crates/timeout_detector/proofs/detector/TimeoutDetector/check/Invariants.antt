@@ -1,4 +1,4 @@
-use Rattle.std.proofs.Common.{◌≡◌, ◌++◌, ◌-◌, map}
+use Rattle.std.proofs.Common.{◌≡◌, ◌++◌, map}
 use Rattle.std.specs.List.{filter}
 use Rattle.process_api.specs.Numbers.{numbers_to}
 use Rattle.process_api.specs.Sets.{insert_all}
@@ -9,10 +9,10 @@ use Rattle.scenario.specs.Opening.{place_of}
 use Rattle.timeout_detector.specs.View.{state_of}
 use Rattle.timeout_detector.proofs.detector.TimeoutDetector.check.Given as goal
 
-abbrev pub invariant-loop-number : goal.invariant-loop-number
-invariant-loop-number l =
+abbrev pub invariant-loop-before : goal.invariant-loop-before
+invariant-loop-before l =
     let s = state_of l.fn.self in
-    let found = filter (is_overdue (place_of l.fn.self.opening) l.fn.self.numbers s l.fn.now) (numbers_to (l.number - 1)) in
+    let found = filter (is_overdue (place_of l.fn.self.opening) l.fn.self.numbers s l.fn.now) (numbers_to l.before) in
     record {
       opening : l.self.opening ≡ l.fn.self.opening;
       numbers : l.self.numbers ≡ l.fn.self.numbers;
