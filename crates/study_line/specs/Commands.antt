@@ -1,0 +1,71 @@
+-- The command line, as clap sees it.
+use Rattle.std.specs.Prelude.{◌≡◌, [], ◌∷◌, Some, codes, false, true}
+use Rattle.clap.specs.Words.{App, Rule, Text, new_app, new_rule, with_rule, with_subcommand}
+use Rattle.clap.specs.declared.builder.action.ArgAction.TheVariants.{Append}
+use Rattle.clap.specs.declared.builder.command.Command.TheViews.{out-Command}
+use Rattle.clap.specs.declared.builder.command.Command.{Command}
+use Rattle.clap.specs.declared.builder.value_parser.ValueParser.TheVariants as parser
+
+-- help shows one name for the value
+abbrev pub path_rule : Rule
+path_rule = record (new_rule (codes "path")) { value_names = 1; required = true }
+
+-- an option that takes a value
+abbrev pub option_rule : Text → Rule
+option_rule name = record (new_rule name) { long = Some name; value_names = 1 }
+
+abbrev pub seeds_rule : Rule
+seeds_rule = record (option_rule (codes "seeds")) { required = true }
+
+-- an option that may be there several times, each time with a value
+abbrev pub axis_rule : Text → Rule
+axis_rule name = record (option_rule name) { action = Some Append }
+
+-- the runs of a study
+abbrev pub with_grid : App → App
+with_grid app =
+    with_rule (with_rule (with_rule app seeds_rule) (axis_rule (codes "vary"))) (axis_rule (codes "over"))
+
+-- points count from 1
+abbrev pub point_rule : Rule
+point_rule = record (option_rule (codes "point")) {
+  parser = Some (parser.Unsigned 1 18446744073709551615);
+  required = true;
+}
+
+-- runs count from 1, and where nothing is said the first is meant
+abbrev pub run_rule : Rule
+run_rule = record (option_rule (codes "run")) {
+  parser = Some (parser.Unsigned 1 18446744073709551615);
+  defaults = codes "1" ∷ [];
+}
+
+abbrev pub shard_rule : Rule
+shard_rule = option_rule (codes "shard")
+
+abbrev pub threads_rule : Rule
+threads_rule = record (option_rule (codes "threads")) { parser = Some (parser.Unsigned 1 64) }
+
+-- a command that takes a path
+abbrev pub with_path : Text → App
+with_path name = with_rule (new_app name) path_rule
+
+abbrev pub check_app : App
+check_app = with_path (codes "check")
+
+abbrev pub show_app : App
+show_app = with_rule (with_rule (with_grid (with_path (codes "show"))) point_rule) run_rule
+
+abbrev pub sweep_app : App
+sweep_app = with_rule (with_rule (with_grid (with_path (codes "sweep"))) shard_rule) threads_rule
+
+-- the program's command, which is nothing without one of these
+abbrev pub top_app : App
+top_app = let app = new_app (codes "fdstudy") in record app { top = record app.top { subcommand_required = true } }
+
+abbrev pub whole_app : App
+whole_app = with_subcommand (with_subcommand (with_subcommand top_app check_app.top) show_app.top) sweep_app.top
+
+-- no argument is one of each subcommand too
+abbrev pub IsLocal : Command → Type 0
+IsLocal c = (out-Command c).has_globals ≡ false

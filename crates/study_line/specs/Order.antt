@@ -1,0 +1,85 @@
+-- What the words of a command line state.
+use Rattle.std.specs.Prelude.{◌≡◌, ◌≢◌, [], ℕ, List, Ok, Option, Some, None, codes, map, option_map}
+use Rattle.std.specs.Option.{option_map_or}
+use Rattle.std.specs.Str.Parse.{ParsesUnsigned}
+use Rattle.std.specs.declared.num.ParseIntError.{ParseIntError}
+use Rattle.clap.specs.Words.{Row, Text, subcommand_of, all_of, first_of, one_of, fault_of, IsAmong}
+use Rattle.clap.specs.declared.error.kind.ErrorKind.{ErrorKind}
+use Rattle.clap.specs.declared.error.kind.ErrorKind.TheVariants.{DisplayHelp}
+use Rattle.study_line.specs.Commands.{whole_app}
+use Rattle.study_line.specs.declared.order.GridTexts.{GridTexts}
+use Rattle.study_line.specs.declared.order.Order.{Order}
+use Rattle.study_line.specs.declared.order.Order.TheVariants as order
+use Rattle.study_line.specs.declared.order.WordsError.{WordsError}
+use Rattle.study_line.specs.declared.order.WordsError.TheVariants as refusal
+
+-- ---- parts of an order
+
+abbrev pub IsTextAt : Text → List Row → Text → Type 0
+IsTextAt id rows text = first_of id rows ≡ Some text
+
+-- the texts of all uses of an argument, in their order
+abbrev pub texts_at : Text → List Row → List Text
+texts_at id rows = option_map_or (λ texts. texts) (all_of id rows) []
+
+-- the number that an argument's text writes
+abbrev pub IsNumberAt : Text → List Row → ℕ → Type 0
+IsNumberAt id rows n =
+    (text : Text) × (one_of id rows ≡ Some text) × ParsesUnsigned {E = ParseIntError} 64 10 text (Ok n)
+
+-- the number of an argument that may be missing
+abbrev pub MayBeNumberAt : Text → List Row → Option ℕ → Type 0
+MayBeNumberAt id rows (Some n) = IsNumberAt id rows n
+MayBeNumberAt id rows None = (n : ℕ) → IsNumberAt id rows n → ⊥
+
+-- which runs a study has
+pub record IsGridAt (rows : List Row) (grid : GridTexts) : Type 0 where
+  pub seeds : IsTextAt (codes "seeds") rows grid.seeds.now
+  pub vary : map (λ t. t.now) grid.vary.items ≡ texts_at (codes "vary") rows
+  pub over : map (λ t. t.now) grid.over.items ≡ texts_at (codes "over") rows
+
+-- ---- orders
+
+-- the order is what the subcommand of this name says by its own arguments
+abbrev pub StatesIn : Text → List Row → Order → Type 0
+StatesIn name rows (order.Check path) = (name ≡ codes "check") × IsTextAt (codes "path") rows path.now
+StatesIn name rows (order.Show path grid point run) = (name ≡ codes "show")
+    × IsTextAt (codes "path") rows path.now × IsGridAt rows grid
+    × IsNumberAt (codes "point") rows point × IsNumberAt (codes "run") rows run
+StatesIn name rows (order.Sweep path grid shard threads) = (name ≡ codes "sweep")
+    × IsTextAt (codes "path") rows path.now × IsGridAt rows grid
+    × (option_map (λ t. t.now) shard ≡ first_of (codes "shard") rows)
+    × MayBeNumberAt (codes "threads") rows threads
+
+-- the order is what the subcommand that was found says
+abbrev pub StatesFound : Option (Text × List Row) → Order → Type 0
+StatesFound met asked = (found : Text × List Row) × (met ≡ Some found) × StatesIn found.0 found.1 asked
+
+-- the order is what clap finds in the words, as in a simple command
+abbrev pub States : List Text → Order → Type 0
+States words asked = StatesFound (subcommand_of whole_app words) asked
+
+-- ---- why words state no order
+
+-- clap takes the words, and what it finds in them is no whole order
+pub record StatesNothing (words : List Text) : Type 0 where
+  pub taken : fault_of whole_app words ≡ []
+  pub nothing : (asked : Order) → States words asked → ⊥
+
+-- the words ask for help
+abbrev pub AsksHelp : List Text → Type 0
+AsksHelp words = IsAmong DisplayHelp (fault_of whole_app words)
+
+-- what is told of the words: help where they ask for it, a mistake where clap refuses them for another reason
+abbrev pub Explains : List Text → WordsError → Type 0
+Explains words (refusal.Help text) = AsksHelp words
+Explains words (refusal.Mistake text) =
+    (kind : ErrorKind) × (kind ≢ DisplayHelp) × IsAmong kind (fault_of whole_app words)
+Explains words refusal.Form = StatesNothing words
+Explains words refusal.Memory = Unit {0}
+
+-- why none was read of what may be stated: there is none, or memory was refused
+abbrev pub Lacks : {X : Type 0} → (X → Type 0) → WordsError → Type 0
+Lacks {X} IsStated refusal.Form = (stated : X) → IsStated stated → ⊥
+Lacks IsStated refusal.Memory = Unit {0}
+Lacks IsStated _ = ⊥

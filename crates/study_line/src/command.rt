@@ -1,0 +1,233 @@
+//! The command line, with its help.
+ghost use Rattle.std.specs.Prelude.{◌≡◌, IfOk, false};
+ghost use Rattle.clap.specs.Words.{app_of, rule_of};
+ghost use Rattle.study_line.specs.Commands.{IsLocal, axis_rule, check_app, path_rule, point_rule, run_rule, seeds_rule, shard_rule, show_app, sweep_app, threads_rule, top_app, whole_app, with_grid};
+
+use clap::{Arg, ArgAction, Command, value_parser};
+use std::alloc::{AllocError, Global};
+
+const ABOUT: &str = "Runs a scenario under many settings and adds up what its detectors did.
+
+A study has points, one for each combination of the values that are varied, and each point has runs, one for each \
+seed and each combination of the other values that are set. `sweep` prints a table with a row for each point and \
+layer of detectors, in which the measures of all its runs are added up; `show` prints the scenario of one run; and \
+`check` says where a scenario file breaks a rule, and why.";
+
+const EXAMPLE: &str = "Example:
+  fdstudy check examples/cluster_5.toml
+  fdstudy sweep examples/cluster_5.toml --seeds 1..=20 --vary detector.timeout=150,300,600
+  fdstudy show examples/cluster_5.toml --seeds 1..=20 --vary detector.timeout=150,300,600 --point 2 --run 7
+
+Exit status: 0 done, 1 file or the scenario of a run refused, 2 command line refused, 3 run failed, 4 writing failed.";
+
+const CHECK: &str = "Reads a scenario file and prints its size, or where it breaks a rule and why";
+
+const CHECK_EXAMPLE: &str = "Example:
+  fdstudy check - < examples/cluster_5.toml
+
+Of an accepted file the processes, the horizon and an estimate of a run are printed. A refused file ends with status \
+1 and one line on standard error.";
+
+const SHOW: &str = "Prints the scenario file of one run of a study";
+
+const SHOW_EXAMPLE: &str = "Example:
+  fdstudy show examples/cluster_5.toml --seeds 1..=20 --vary detector.timeout=150,300 --point 2 | fdbench list -
+
+The options that make the study are those of `sweep`. Comments of the file aren't printed.";
+
+const SWEEP: &str =
+    "Runs a study and prints its table, a row for each point and layer of detectors";
+
+const SWEEP_EXAMPLE: &str = "Example:
+  fdstudy sweep examples/cluster_5.toml --seeds 1..=20 --vary detector.timeout=150,300,600 --vary link.loss=0,10
+
+A KEY is a key of the scenario file by its path: `horizon`, `detector.timeout`, `link.loss`, `crash[1].at` for the \
+first table of an array; not `seed`. A VALUE is an integer, a text, or a range of integers A..=B or A..=B:STEP. The \
+values of a key that the file has give way to these; a key that it lacks is added.
+
+What is printed depends neither on the threads nor on the shards: the outputs of all shards, one after the other, are \
+that of the whole study.";
+
+const PATH: &str = "The scenario file, of at most 8388608 bytes; `-` is standard input";
+
+const SEEDS: &str = "The seeds of each point's runs, from A to B";
+
+const VARY: &str =
+    "A key with the values that make the points: all combinations, the last key varying fastest";
+
+const OVER: &str =
+    "A key with values that make runs, as the seeds do: the runs of a point are added up";
+
+const POINT: &str = "Which point, from 1, in the order of the table's rows";
+
+const RUN: &str =
+    "Which run of the point, from 1: for each combination of the values of --over all seeds";
+
+const SHARD: &str =
+    "Only the K-th of N consecutive blocks of the points, K from 1 [default: all points]";
+
+const THREADS: &str =
+    "How many threads share the runs, 1 to 64 [default: as many as there are processors]";
+
+/// The scenario file.
+fn path_argument<'a>(alloc: Global) -> Arg<'a>
+    ensures rule { rule_of result ≡ path_rule }
+    ensures local { result.global ≡ false }
+{
+    Arg::new(alloc, "path")
+        .value_name("SCENARIO")
+        .help(PATH)
+        .required(true)
+}
+
+/// The option for the seeds.
+fn seeds_option<'a>(alloc: Global) -> Arg<'a>
+    ensures rule { rule_of result ≡ seeds_rule }
+    ensures local { result.global ≡ false }
+{
+    Arg::new(alloc, "seeds")
+        .long("seeds")
+        .value_name("A..=B")
+        .required(true)
+        .help(SEEDS)
+}
+
+/// An option for axes, which may be there several times.
+fn axis_option<'a>(alloc: Global, name: &'a str, help: &'a str) -> Arg<'a>
+    ensures rule { rule_of result ≡ axis_rule name.now }
+    ensures local { result.global ≡ false }
+{
+    Arg::new(alloc, name)
+        .long(name)
+        .value_name("KEY=VALUE,..")
+        .help(help)
+        .action(ArgAction::Append)
+}
+
+/// A command with the options that say which runs a study has.
+fn with_grid_options<'a>(alloc: Global, command: Command<'a>) -> Result<Command<'a>, AllocError>
+    ensures app { IfOk result (λ c. app_of c ≡ with_grid (app_of command.entry)) }
+    ensures local { IsLocal command.entry → IfOk result IsLocal }
+{
+    let seeds = seeds_option(alloc);
+    let vary = axis_option(alloc, "vary", VARY);
+    let over = axis_option(alloc, "over", OVER);
+    command.arg(seeds)?.arg(vary)?.arg(over)
+}
+
+/// The option for the point.
+fn point_option<'a>(alloc: Global) -> Arg<'a>
+    ensures rule { rule_of result ≡ point_rule }
+    ensures local { result.global ≡ false }
+{
+    Arg::new(alloc, "point")
+        .long("point")
+        .value_name("K")
+        .help(POINT)
+        .value_parser(value_parser!(u64).range(1..))
+        .required(true)
+}
+
+/// The option for the run.
+fn run_option<'a>(alloc: Global) -> Arg<'a>
+    ensures rule { rule_of result ≡ run_rule }
+    ensures local { result.global ≡ false }
+{
+    Arg::new(alloc, "run")
+        .long("run")
+        .value_name("J")
+        .help(RUN)
+        .value_parser(value_parser!(u64).range(1..))
+        .default_value("1")
+}
+
+/// The option for the shard.
+fn shard_option<'a>(alloc: Global) -> Arg<'a>
+    ensures rule { rule_of result ≡ shard_rule }
+    ensures local { result.global ≡ false }
+{
+    Arg::new(alloc, "shard")
+        .long("shard")
+        .value_name("K/N")
+        .help(SHARD)
+}
+
+/// The option for the number of threads.
+fn threads_option<'a>(alloc: Global) -> Arg<'a>
+    ensures rule { rule_of result ≡ threads_rule }
+    ensures local { result.global ≡ false }
+{
+    Arg::new(alloc, "threads")
+        .long("threads")
+        .value_name("N")
+        .help(THREADS)
+        .value_parser(value_parser!(u64).range(1..=64))
+}
+
+/// `check SCENARIO`
+fn check_command<'a>(alloc: Global) -> Result<Command<'a>, AllocError>
+    ensures app { IfOk result (λ c. app_of c ≡ check_app) }
+    ensures local { IfOk result IsLocal }
+{
+    let path = path_argument(alloc);
+    Command::new(alloc, "check")
+        .about(CHECK)
+        .after_help(CHECK_EXAMPLE)
+        .arg(path)
+}
+
+/// `show SCENARIO --seeds A..=B [--vary KEY=VALUE,..]... [--over KEY=VALUE,..]... --point K [--run J]`
+fn show_command<'a>(alloc: Global) -> Result<Command<'a>, AllocError>
+    ensures app { IfOk result (λ c. app_of c ≡ show_app) }
+    ensures local { IfOk result IsLocal }
+{
+    let path = path_argument(alloc);
+    let point = point_option(alloc);
+    let run = run_option(alloc);
+    let command = Command::new(alloc, "show")
+        .about(SHOW)
+        .after_help(SHOW_EXAMPLE)
+        .arg(path)?;
+    with_grid_options(alloc, command)?.arg(point)?.arg(run)
+}
+
+/// `sweep SCENARIO --seeds A..=B [--vary KEY=VALUE,..]... [--over KEY=VALUE,..]... [--shard K/N] [--threads N]`
+fn sweep_command<'a>(alloc: Global) -> Result<Command<'a>, AllocError>
+    ensures app { IfOk result (λ c. app_of c ≡ sweep_app) }
+    ensures local { IfOk result IsLocal }
+{
+    let path = path_argument(alloc);
+    let shard = shard_option(alloc);
+    let threads = threads_option(alloc);
+    let command = Command::new(alloc, "sweep")
+        .about(SWEEP)
+        .after_help(SWEEP_EXAMPLE)
+        .arg(path)?;
+    with_grid_options(alloc, command)?.arg(shard)?.arg(threads)
+}
+
+/// The command line with no command yet.
+fn top_command<'a>(alloc: Global) -> Command<'a>
+    ensures app { app_of result ≡ top_app }
+    ensures local { IsLocal result }
+{
+    Command::new(alloc, "fdstudy")
+        .about(ABOUT)
+        .after_help(EXAMPLE)
+        .subcommand_required(true)
+}
+
+/// The command line.
+pub(crate) fn command<'a>(alloc: Global) -> Result<Command<'a>, AllocError>
+    ensures app { IfOk result (λ c. app_of c ≡ whole_app) }
+    ensures local { IfOk result IsLocal }
+{
+    let check = check_command(alloc)?;
+    let show = show_command(alloc)?;
+    let sweep = sweep_command(alloc)?;
+    let command = top_command(alloc);
+    command
+        .subcommand(check)?
+        .subcommand(show)?
+        .subcommand(sweep)
+}
