@@ -9,6 +9,7 @@ use Rattle.process_api.specs.declared.numbers.Watch.TheVariants as watch
 use Rattle.scenario.specs.Record.{Record}
 use Rattle.scenario.specs.declared.algorithm.AlgorithmKind.TheVariants as algorithm
 use Rattle.qos_report.specs.Measures.{pair_measures, layer_measures, all_measures}
+use Rattle.qos_report.specs.Watched.{watched_ticks}
 use Rattle.qos_report.specs.declared.pair_measures.PairMeasures.{PairMeasures}
 use Rattle.qos_report.specs.declared.pair_measures.Detection.{Detection}
 use Rattle.qos_report.specs.declared.pair_measures.Detection.TheVariants.{Na, NoTick, At}
@@ -94,3 +95,15 @@ no_crash : pair_measures (scenario 2 16 None (None ∷ None ∷ [])) timeline 1 
     ≡ record (quiet 1 1 2 Na) { mistakes = 3; mistake_ticks = 7; recurrence_sum = 12; recurrence_count = 2; duration_sum = 5; duration_count = 2; good_sum = 7; good_count = 2 }
 unfolding pair_measures
 no_crash = refl
+
+-- process 2 crashes at tick 3: it and process 1 watch each other for 3 ticks
+watched_to_a_crash : watched_ticks (scenario 2 10 None (None ∷ Some 3 ∷ [])) ≡ 6
+watched_to_a_crash = refl
+
+-- process 2 crashes at tick 3 and process 3 at tick 7: twice 3 ticks of 1 and 2, 7 of 1 and 3, and 3 of 2 and 3
+watched_to_two_crashes : watched_ticks (scenario 3 10 None (None ∷ Some 3 ∷ Some 7 ∷ [])) ≡ 26
+watched_to_two_crashes = refl
+
+-- a crash at the horizon or later ends nothing
+watched_to_the_horizon : watched_ticks (scenario 3 10 None (Some 11 ∷ Some 10 ∷ None ∷ [])) ≡ 60
+watched_to_the_horizon = refl

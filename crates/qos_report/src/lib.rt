@@ -1,5 +1,5 @@
 //! What a run tells: the measures of its failure detectors, its texts, and the calls that run a scenario and write
-//! them.
+//! them, or only measure it.
 //!
 //! [`measures`] gives, for each pair of processes on each layer, the quality of service of a failure detector after
 //! Chen, Toueg and Aguilera (IEEE Transactions on Computers 51(5), 2002), as sums and counts over the ticks of one run
@@ -18,6 +18,11 @@
 //!   refusal `bench_list` has written nothing (`Refuses`, there too). `bench_windows` has written the trace's header
 //!   and whole rows of its first entries, where the trace is asked for, and nothing of the report (`BreaksOff`); only
 //!   for want of memory at the opening nothing went out. `bench_list` starts no thread, and never answers `Spawn`.
+//! - [`measure_list`] runs a scenario as `bench_list` does, forms no text, and tells all that is measured of the run: on
+//!   `Ok` the [`RunFindings`] are those of the scenario's trace, which is within the limit (`specs/Measured.antt`). It
+//!   answers `Limit` only where that trace is longer, and else only `Memory`.
+//! - [`watched_ticks`] gives the ticks for which a pair is watched, over all pairs: what a mistake rate and the query
+//!   accuracy of a scenario's runs are divided by (`specs/Watched.antt`).
 //! - [`measures`] gives a row for each pair on each layer, by definition, of any trace. In the scenario's trace each
 //!   suspicion of layer 2 has an earlier one of layer 1 for the same process, and each mistake or detection on layer 2
 //!   rests on one (`specs/Resting.antt`).
@@ -31,7 +36,8 @@
 //! once the window is closed. A trace's text is formed row by row into one buffer, numbers by their digits; a report's
 //! rows are written by `csv`. All that is measured of a run takes one pass over its entries: an entry without notes is
 //! counted, and no more. That pass is the run itself, so by the list no entry is held, and by windows none whose window
-//! was closed; of a run whose report alone is asked for, and of any run by windows, nothing is held that grows with it.
+//! was closed; of a run whose report alone is asked for or that is only measured, and of any run by windows, nothing is
+//! held that grows with it.
 //!
 //! As an example, let process 2 of two crash at tick 3 of 10, and process 1 note at tick 9 that it suspects it. The
 //! report says so in the row `pair,1,1,2,detection,6`: on layer 1, observer 1 and subject 2, 6 ticks.

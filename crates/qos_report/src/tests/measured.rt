@@ -19,12 +19,12 @@ fn measures_of(
 }
 
 /// The measures of one pair.
-fn row(rows: &[PairMeasures], place: usize) -> Result<PairMeasures, Fail> {
+pub(super) fn row(rows: &[PairMeasures], place: usize) -> Result<PairMeasures, Fail> {
     Ok(rows.get(place).copied().ok_or("a row is missing")?)
 }
 
 /// A pair of which nothing is counted.
-fn quiet(
+pub(super) fn quiet(
     layer: u8,
     observer: u16,
     subject: u16,

@@ -1,0 +1,71 @@
+//! For how many ticks pairs are watched.
+use super::rows::scenario_of;
+use crate::watched_ticks;
+use scenario::read_scenario;
+use std::alloc::Global;
+use std::test::Fail;
+
+/// The ticks for which the pairs of so many processes are watched, up to this horizon.
+fn ticks_of(alloc: Global, processes: u16, horizon: u32, more: &str) -> Result<u64, Fail> {
+    Ok(watched_ticks(&scenario_of(alloc, processes, horizon, more)?))
+}
+
+/// Each of the two watches the other, and both end at the crash.
+#[test]
+fn one_crash(rt: HostRuntime) -> Result<(), Fail> {
+    let crash = "crash = [{ process = 2, at = 3 }]";
+    assert_eq!(rt; ticks_of(rt.alloc(), 2, 10, crash)?, 3 + 3);
+    Ok(())
+}
+
+/// A pair ends at the first of its crashes: 1 and 2 at tick 3, 1 and 3 at tick 7, 2 and 3 at tick 3.
+#[test]
+fn two_crashes(rt: HostRuntime) -> Result<(), Fail> {
+    let crashes = "crash = [{ process = 2, at = 3 }, { process = 3, at = 7 }]";
+    assert_eq!(rt; ticks_of(rt.alloc(), 3, 10, crashes)?, 2 * (3 + 7 + 3));
+    Ok(())
+}
+
+/// Who crashes at its start neither watches nor is watched.
+#[test]
+fn crash_at_start(rt: HostRuntime) -> Result<(), Fail> {
+    let crash = "crash = [{ process = 2, at = 0 }]";
+    assert_eq!(rt; ticks_of(rt.alloc(), 3, 20, crash)?, 2 * 20);
+    Ok(())
+}
+
+/// A crash at the horizon or later ends nothing, and neither does a reduction.
+#[test]
+fn up_to_the_horizon(rt: HostRuntime) -> Result<(), Fail> {
+    let alloc = rt.alloc();
+    assert_eq!(rt; ticks_of(alloc, 3, 10, "")?, 6 * 10);
+    assert_eq!(rt; ticks_of(alloc, 3, 10, "share = { period = 4 }")?, 6 * 10);
+    let crashes = "crash = [{ process = 1, at = 11 }, { process = 2, at = 10 }]";
+    assert_eq!(rt; ticks_of(alloc, 3, 10, crashes)?, 6 * 10);
+    Ok(())
+}
+
+/// One process has nobody to watch.
+#[test]
+fn alone(rt: HostRuntime) -> Result<(), Fail> {
+    assert_eq!(rt; ticks_of(rt.alloc(), 1, 10, "")?, 0);
+    Ok(())
+}
+
+const CROWD: &str = "version = 2
+processes = 256
+horizon = 10000000
+lookahead = 2
+seed = 1
+algorithm = \"none\"
+detector = { period = 4, check = 3, timeout = 5 }
+link = { min = 2, max = 2 }
+";
+
+/// As many processes as there can be, for the most ticks: 256 watch 255 others each.
+#[test]
+fn crowd(rt: HostRuntime) -> Result<(), Fail> {
+    let scenario = read_scenario(rt.alloc(), CROWD.as_bytes())?;
+    assert_eq!(rt; watched_ticks(&scenario), 256 * 255 * 10_000_000);
+    Ok(())
+}
