@@ -1,6 +1,5 @@
 pub mod Compare
 pub mod Mode
-pub mod Input
 pub mod Fault
 pub mod Scenario
 pub mod Answer

@@ -1,15 +1,11 @@
 -- The scenario that a path names.
-use Rattle.std.specs.Prelude.{◌≡◌, ◌<◌, ◌≤◌, ℕ, List, length, codes, Option, IfSome}
+use Rattle.std.specs.Prelude.{◌≡◌, ◌<◌, ◌≤◌, ℕ, List, length, Option, IfSome}
 use Rattle.event_list.specs.ScenarioSetting.{setting_of}
 use Rattle.event_list.specs.World.{IsTrace}
-use Rattle.fdbench.specs.Input.{most_bytes}
 use Rattle.process_api.specs.EntryRecord.{EntryRecord}
 use Rattle.scenario.specs.Refusals.{Accepts}
 use Rattle.scenario.specs.Record.{Record}
-
--- the path of standard input
-abbrev pub input_path : List ℕ
-input_path = codes "-"
+use Rattle.sources.specs.Input.{input_path, most_bytes}
 
 -- the scenario is that of the file's bytes, which are not too many. Of a path other than `-` they aren't known
 pub record IsScenarioAt (input : Option (List ℕ)) (path : List ℕ) (s : Record) : Type 0 where

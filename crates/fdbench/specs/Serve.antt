@@ -4,8 +4,9 @@ use Rattle.command_line.specs.Order.{States}
 use Rattle.command_line.specs.Told.{AsksHelp}
 use Rattle.command_line.specs.declared.order.Order.{Order}
 use Rattle.fdbench.specs.Answer.{Answers, AsksRun, Leaves, Writes, path_of}
-use Rattle.fdbench.specs.Scenario.{IsScenarioAt, input_path}
+use Rattle.fdbench.specs.Scenario.{IsScenarioAt}
 use Rattle.scenario.specs.Record.{Record}
+use Rattle.sources.specs.Input.{input_path}
 
 -- the piece is what the words ask for; of help its text isn't said
 abbrev pub Serves : Option (List ℕ) → List (List ℕ) → List ℕ → Type 0

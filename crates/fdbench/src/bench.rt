@@ -6,10 +6,8 @@ ghost use Rattle.qos_report.specs.Printed.{Finishes};
 ghost use Rattle.scenario.specs.Opening.{mind_of};
 ghost use Rattle.scenario.specs.Record.{opening_mind};
 
-use crate::detectors::AnyDetector;
-use crate::machines::make_all;
-use crate::stacks::{eventually_strong, idle, strong};
 use event_list::RunError;
+use machines::{AnyDetector, eventually_strong, idle, make_all, strong};
 use process_api::Process;
 use qos_report::{Outlet, PrintChoice, Summary, bench_list, bench_windows};
 use scenario::AlgorithmKind::{EventuallyStrong, Idle, Strong};

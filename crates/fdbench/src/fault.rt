@@ -66,10 +66,9 @@ impl Fault {
             Fault::Scenario(ScenarioError::BelowLookahead { from, to }) => put_pair(
                 faults, *from, *to,
             ),
-            Fault::Scenario(error) => put_pieces(
-                faults,
-                &["fdbench: scenario: ", name_of_scenario_error(error), "\n"],
-            ),
+            Fault::Scenario(error) => {
+                put_pieces(faults, &["fdbench: scenario: ", error.name(), "\n"])
+            }
             Fault::Plan(error) => put_pieces(
                 faults,
                 &["fdbench: plan: ", name_of_plan_error(*error), "\n"],
@@ -108,31 +107,6 @@ fn put_pair<O: Outlet>(faults: &mut O, from: Pid, to: Pid)
         faults,
         &["fdbench: scenario: BelowLookahead ", from, " ", to, "\n"],
     );
-}
-
-/// The name of a refusal of a scenario.
-fn name_of_scenario_error(error: &ScenarioError) -> &'static str {
-    match error {
-        ScenarioError::NotToml => "NotToml",
-        ScenarioError::UnknownKey => "UnknownKey",
-        ScenarioError::MissingKey => "MissingKey",
-        ScenarioError::WrongKind => "WrongKind",
-        ScenarioError::Version => "Version",
-        ScenarioError::Processes => "Processes",
-        ScenarioError::Horizon => "Horizon",
-        ScenarioError::Lookahead => "Lookahead",
-        ScenarioError::Limit => "Limit",
-        ScenarioError::Seed => "Seed",
-        ScenarioError::AlgorithmName => "AlgorithmName",
-        ScenarioError::Proposals => "Proposals",
-        ScenarioError::DetectorNumbers => "DetectorNumbers",
-        ScenarioError::Share => "Share",
-        ScenarioError::LinkNumbers => "LinkNumbers",
-        ScenarioError::BelowLookahead { .. } => "BelowLookahead",
-        ScenarioError::CrashLine => "CrashLine",
-        ScenarioError::OutageLine => "OutageLine",
-        ScenarioError::Memory(_) => "Memory",
-    }
 }
 
 /// The name of a refusal of a plan.

@@ -23,12 +23,8 @@
 
 mod bench;
 pub mod compare;
-mod detectors;
 mod fault;
-pub mod input;
-mod machines;
 pub mod serve;
-mod stacks;
 
 use crate::fault::Fault;
 pub use command_line::{Order, WordsError, read_words};

@@ -1,27 +1,26 @@
 //! One run of the program.
-ghost use Rattle.std.specs.Prelude.{◌≡◌, ◌≢◌, ◌⊎◌, ◌^◌, ◌-◌, ◌+◌, ◌<◌, ◌≤◌, IfOk, IfErr, OnOk, codes, true, length, map};
+ghost use Rattle.std.specs.Prelude.{◌≡◌, ◌≢◌, ◌⊎◌, ◌^◌, ◌-◌, ◌+◌, ◌<◌, ◌≤◌, IfOk, IfErr, OnOk, true, map};
 ghost use Rattle.std.specs.Io.KnownBytes.{Keeps};
 ghost use Rattle.std.specs.Process.{exit_status};
 ghost use Rattle.command_line.specs.Told.{IsHelp};
 ghost use Rattle.qos_report.specs.Writing.{WroteNothing};
 ghost use Rattle.fdbench.specs.Answer.{Answers, AsksRun, IsCheckAnswer, IsCompareAnswer, IsListAnswer, IsRunAnswer, IsRunFront, IsRunText, IsSameLine, Leaves, Writes, path_of};
 ghost use Rattle.fdbench.specs.Fault.{IsFirstFault, status_of};
-ghost use Rattle.fdbench.specs.Input.{AreAllOf, TakesAtMost, most_bytes};
-ghost use Rattle.fdbench.specs.Scenario.{IsScenarioAt, input_path};
+ghost use Rattle.fdbench.specs.Scenario.{IsScenarioAt};
 ghost use Rattle.fdbench.specs.Serve.{IsAsked, IsRunAsked, LeftOf, NamesNoInput, Serves, ServesFor};
 ghost use Rattle.fdbench.specs.Stop.{Stops, Went, WentPart};
+ghost use Rattle.sources.specs.Input.{TakesAtMost, input_path, most_bytes};
 ghost use Rattle.windows.specs.Plan.{IsPlanFor, NoneApplies};
 
 use crate::bench::{Mode, bench};
 use crate::compare::compare;
 use crate::fault::Fault;
-use crate::input::{InputError, read_all};
 use command_line::{Order, Told, read_words, told_of};
 use event_list::RunError;
 use qos_report::{Outlet, PrintChoice, StreamOutlet, put_all};
 use scenario::{Scenario, ScenarioError, read_scenario};
+use sources::{InputError, bytes_at};
 use std::alloc::{AllocError, Global};
-use std::fs;
 use std::io::{Read, Write};
 use std::marker::Sync;
 use std::process::ExitCode;
@@ -29,27 +28,6 @@ use std::rt::Files;
 use std::sync::Wait;
 use std::thread::Threads;
 use windows::Plan;
-
-/// The bytes at a path; `-` is the input.
-fn bytes_at<R: Files, I: Read>(
-    rt: &R,
-    alloc: Global,
-    path: &str,
-    input: &mut I,
-) -> Result<Vec<u8>, InputError>
-    ensures whole { IfOk result (λ bytes. path.now ≡ input_path → AreAllOf (I.remaining input.old) bytes.items) }
-    ensures short { IfOk result (λ bytes. length bytes.items ≤ most_bytes) }
-    ensures taken { TakesAtMost (most_bytes + 1) (I.remaining input.old) (I.remaining input.new) }
-    ensures untouched { path.now ≢ input_path → input.new ≡ input.old }
-{
-    if path == "-" {
-        return read_all(alloc, input);
-    }
-    match fs::open(rt, path) {
-        Ok(mut file) => read_all(alloc, &mut file),
-        Err(_) => Err(InputError::Unreadable),
-    }
-}
 
 /// The scenario at a path; `-` is the input.
 fn scenario_at<R: Files, I: Read>(

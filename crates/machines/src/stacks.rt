@@ -10,8 +10,8 @@ use scenario::Opening;
 use stack::{NoAlgorithm, Stack};
 use std::alloc::{AllocError, Global};
 
-/// A process that runs no algorithm, over the detector that was opened for it. Takes no memory. Its opening says that it
-/// runs none.
+/// A process that runs no algorithm, over the detector that was opened for it. Takes no memory. Its opening says that
+/// it runs none.
 pub fn idle<D: Detector>(opening: &Opening, detector: D) -> Stack<D, NoAlgorithm>
     requires algorithm { opening.now.algorithm ≡ Idle }
     requires lower { D.lower detector ≡ lower_of opening.now }
@@ -39,8 +39,8 @@ pub fn strong<D: Detector>(
     Ok(Stack::new(opening.own, detector, consensus))
 }
 
-/// A process that runs the rotating coordinator, over the detector that was opened for it. Its opening says that it runs
-/// this algorithm.
+/// A process that runs the rotating coordinator, over the detector that was opened for it. Its opening says that it
+/// runs this algorithm.
 ///
 /// # Errors
 ///

@@ -4,15 +4,13 @@ ghost use Rattle.event_list.specs.ScenarioSetting.{setting_of};
 ghost use Rattle.event_list.specs.World.{IsTrace};
 ghost use Rattle.scenario.specs.Opening.{mind_of};
 
-use crate::detectors::AnyDetector;
-use crate::machines::make_all;
-use crate::stacks::{eventually_strong, idle, strong};
 use crate::tests::files::{
     ALONE, COORDINATORS, EXCHANGE_CRASH, EXCHANGE_PAIR, ONE_CRASH, TAKEN_BACK, WATCH_NEXT,
 };
 use crate::tests::runs::changed;
 use event_list::{law_only_history, run_list};
 use judges::{Answer, Verdicts, decisions, judge};
+use machines::{AnyDetector, eventually_strong, idle, make_all, strong};
 use process_api::{Process, Trace};
 use scenario::{AlgorithmKind, Opening, Scenario, read_scenario};
 use std::alloc::{AllocError, Global};

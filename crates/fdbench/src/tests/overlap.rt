@@ -4,9 +4,9 @@ ghost use Rattle.process_api.specs.Numbers.{numbers_to};
 ghost use Rattle.scenario.specs.Opening.{mind_of};
 ghost use Rattle.scenario.specs.Record.{opening_mind};
 
-use crate::machines::make_all;
 use crate::tests::files::ONE_CRASH;
 use crate::tests::runs::{changed, trace_of};
+use machines::make_all;
 use process_api::{Action, DetectorNumbers, Pid, Process, StepInput};
 use qos_report::{MemoryOutlet, Outlet, PrintChoice, bench_windows, write_trace};
 use scenario::{AlgorithmKind, Opening, Scenario, read_scenario};

@@ -3,12 +3,11 @@ ghost use Rattle.std.specs.Prelude.{◌≡◌, IfOk};
 ghost use Rattle.scenario.specs.Opening.{mind_of};
 
 use crate::bench::{Mode, bench};
-use crate::machines::make_all;
-use crate::stacks::idle;
 use crate::tests::files::{FIVE, ONE_CRASH, ONE_PROCESS, TAKEN_BACK, WATCH_NEXT};
 use crate::tests::runs::{changed, run, trace_of};
 use event_list::run_list;
 use judges::Answer;
+use machines::{idle, make_all};
 use process_api::{DetectorNumbers, Process};
 use qos_report::{MemoryOutlet, Outlet, PrintChoice, write_report, write_trace};
 use scenario::{AlgorithmKind, Opening, read_scenario};
