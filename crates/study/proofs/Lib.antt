@@ -3,3 +3,9 @@ pub mod Blocks
 pub mod Combos
 pub mod Points
 pub mod Placing
+pub mod Texts
+pub mod Numerals
+pub mod KeyNames
+pub mod Parts
+pub mod Pieces
+pub mod Ranges

@@ -5,3 +5,8 @@ pub mod Settings
 pub mod Grid
 pub mod Placed
 pub mod Runs
+pub mod Words
+pub mod KeyWords
+pub mod AxisWords
+pub mod SeedWords
+pub mod ShardWords

@@ -1,33 +1,47 @@
 //! Studies: many runs of one scenario under a grid of settings, and what is said of all of them together.
 //!
-//! So far this crate says which runs a study has and what each run's scenario is, and finds percentiles. A [`Grid`]
-//! has points, all combinations of the values of its varied axes, and each point has runs, all combinations of the
-//! values of its other axes with each seed (`specs/Grid.antt`). The code finds a point or a run by its number, and
-//! lists none. A [`Shard`] is one of several consecutive blocks of the points (`specs/Shard.antt`). [`read_run`] reads
-//! a run's scenario from the file's table with the run's values in place of the file's (`specs/Placed.antt`).
+//! This crate says which runs a study has and what each run's scenario is, and finds percentiles. A [`Grid`] has
+//! points, all combinations of the values of its varied axes, and each point has runs, all combinations of the values
+//! of its other axes with each seed (`specs/Grid.antt`). The code finds a point or a run by its number, and lists none.
+//! A [`Shard`] is one of several consecutive blocks of the points (`specs/Shard.antt`). [`read_run`] reads a run's
+//! scenario from the file's table with the run's values in place of the file's (`specs/Placed.antt`), and
+//! [`scenario_text`] writes that table as a file. Keys, axes, [`Seeds`] and shards are read from words of a command line
+//! by their `parse` (`specs/KeyWords.antt`, `specs/AxisWords.antt`, `specs/SeedWords.antt`, `specs/ShardWords.antt`).
 #![tactic(auto)]
 
 mod axis;
+mod axis_words;
 mod combination;
 mod error;
 mod grid;
 mod key;
+mod key_words;
 mod percentiles;
 mod placed;
+mod range;
+mod range_words;
 mod read;
 mod run;
+mod seeds;
 mod setting;
 mod shard;
+mod shard_words;
+mod text;
+mod words;
 
 pub use axis::{Axis, Choice};
-pub use error::{GridError, PlaceError, ReadError};
+pub use error::{
+    AxisError, GridError, KeyError, PlaceError, ReadError, SeedsError, ShardError, TextError,
+};
 pub use grid::Grid;
 pub use key::Key;
 pub use percentiles::percentile;
 pub use read::{read_run, run_table};
 pub use run::Run;
+pub use seeds::Seeds;
 pub use setting::Setting;
 pub use shard::{Shard, law_shards};
+pub use text::scenario_text;
 
 #[cfg(test)]
 mod tests;

@@ -3,6 +3,7 @@ mod grids;
 mod numbers;
 mod scenarios;
 mod shards;
+mod words;
 
 use crate::{Axis, Choice, Key, Setting};
 use std::alloc::Global;

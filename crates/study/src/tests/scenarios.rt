@@ -1,8 +1,8 @@
 //! Scenarios of runs.
 use crate::tests::{element, inner, integers, top};
-use crate::{Axis, Grid, Key, PlaceError, ReadError, Setting, read_run, run_table};
+use crate::{Axis, Grid, Key, PlaceError, ReadError, Setting, read_run, scenario_text};
 use process_api::DetectorNumbers;
-use scenario::{Scenario, ScenarioError};
+use scenario::{Scenario, ScenarioError, read_scenario};
 use std::alloc::Global;
 use std::test::Fail;
 use toml::Table;
@@ -87,7 +87,7 @@ fn another_timeout(rt: HostRuntime) -> Result<(), Fail> {
     Ok(())
 }
 
-/// The printed table of a run whose crash comes at another tick.
+/// The text of a run whose crash comes at another tick, and what it is read as.
 #[test]
 fn another_crash_tick(rt: HostRuntime) -> Result<(), Fail> {
     let alloc = rt.alloc();
@@ -99,11 +99,8 @@ fn another_crash_tick(rt: HostRuntime) -> Result<(), Fail> {
     }
     let point = grid.point(alloc, 0)?;
     let run = grid.run(alloc, 0)?;
-    let Ok(changed) = run_table(alloc, &table(alloc, CRASH_FILE)?, &point, &run) else {
+    let Ok(text) = scenario_text(alloc, &table(alloc, CRASH_FILE)?, &point, &run) else {
         return Err(Fail::from("refused"));
-    };
-    let Ok(text) = toml::table_to_string(alloc, &changed) else {
-        return Err(Fail::from("not printed"));
     };
     let by_hand = CRASH_FILE.replace(alloc, "at = 3", "at = 4")?;
     let by_hand = by_hand.replace(alloc, "seed = 1", "seed = 9")?;
@@ -111,6 +108,10 @@ fn another_crash_tick(rt: HostRuntime) -> Result<(), Fail> {
         return Err(Fail::from("not printed"));
     };
     assert_eq!(rt; text.as_str(), expected.as_str());
+    let Ok(scenario) = read_scenario(alloc, text.as_bytes()) else {
+        return Err(Fail::from("not read"));
+    };
+    assert_eq!(rt; scenario.seed(), 9);
     Ok(())
 }
 

@@ -1,0 +1,25 @@
+use Rattle.std.proofs.Common.{◌≡◌, ◌==◌, None, Some, true, false, sym, ap, subst, lit<}
+use Rattle.std.proofs.lemmas.Str.Pattern.{split_parts, split_once_first}
+use Rattle.study.specs.Settings.{path_of}
+use Rattle.study.specs.Words.{has, before}
+use Rattle.study.specs.KeyWords.{SaysKey, SaysNoKey}
+use Rattle.study.specs.AxisWords.{first_fault, pieces, SaysNoAxis, no_equals, no_key, no_values, is_memory}
+use Rattle.study.proofs.KeyNames.{carried}
+use Rattle.study.proofs.Parts.{has_not, has_between}
+use Rattle.study.proofs.axis.Axis.parse.Goals as goal
+
+pub returns-in-None-clause-err : goal.returns-in-None-clause-err
+returns-in-None-clause-err c = λ other. no_equals (has_not 61 c.args.words.now (split_parts 61 c.args.words.now None c.in-None.ensures.cases (lit< tt)))
+
+pub returns-in_err-values-clause-err : goal.returns-in_err-values-clause-err
+returns-in_err-values-clause-err c =
+    let equals : has 61 c.args.words.now ≡ true = has_between 61 c.args.words.now c.in-Some.parts.0.now c.in-Some.parts.1.now (split_parts 61 c.args.words.now (Some c.in-Some.parts) c.in-Some.ensures.cases (lit< tt)).0 in
+    let split = split_once_first 61 c.args.words.now (Some c.in-Some.parts) c.in-Some.ensures.cases (lit< tt) in
+    carried (λ e. is_memory e ≡ false → SaysNoAxis c.args.words.now e) c.from_residual.result c.in_err-values.field-0.0 c.from_residual.ensures.1
+    (λ other. no_values equals (subst (λ k. SaysKey k (path_of c.in-Ok.key)) split.1 c.in-Ok.ensures.ok) (subst (λ v. first_fault 1000000 (pieces v) ≡ Some c.in_err-values.field-0.0) split.2 (c.in_err-values.ensures.err other)))
+
+pub returns-in-Err-clause-err : goal.returns-in-Err-clause-err
+returns-in-Err-clause-err c =
+    let equals : has 61 c.args.words.now ≡ true = has_between 61 c.args.words.now c.in-Some.parts.0.now c.in-Some.parts.1.now (split_parts 61 c.args.words.now (Some c.in-Some.parts) c.in-Some.ensures.cases (lit< tt)).0 in
+    let split = split_once_first 61 c.args.words.now (Some c.in-Some.parts) c.in-Some.ensures.cases (lit< tt) in
+    λ other. no_key equals (subst (λ k. SaysNoKey k c.in-Err.error) split.1 c.in-Err.ensures.err)

@@ -1,0 +1,9 @@
+use Rattle.std.proofs.Common.{None, if◌then◌else◌, codes, sym, ap, lit<}
+use Rattle.std.proofs.lemmas.Str.Pattern.{split_parts}
+use Rattle.study.specs.Words.{after}
+use Rattle.study.proofs.Parts.{has_not}
+use Rattle.study.proofs.range_words.end_and_step.Goals as goal
+
+pub returns-in-None-clause-step : goal.returns-in-None-clause-step
+returns-in-None-clause-step c =
+    sym (ap (λ b. if b then after 58 c.args.words.now else codes "1") (has_not 58 c.args.words.now (split_parts 58 c.args.words.now None c.in-None.ensures.cases (lit< tt))))

@@ -1,0 +1,109 @@
+//! Keys, as words of a command line.
+ghost use Rattle.std.specs.Prelude.{◌≡◌, ◌≢◌, ◌≤◌, ◌<◌, ◌^◌, ◌++◌, ◌∷◌, ℕ, false, codes, decimal, string_bytes, true, IfOk, IfErr, MatchOption};
+ghost use Rattle.std.specs.List.{list_all};
+ghost use Rattle.study.specs.Settings.{path_of, key_text};
+ghost use Rattle.study.specs.KeyWords.{is_name_byte, is_name, is_place, IsOwner, HasNames, SaysKey, SaysNoKey, is_memory};
+
+use crate::error::KeyError;
+use crate::key::Key;
+use crate::words::{is_natural_word, natural_in};
+use std::alloc::Global;
+
+/// Whether a byte may stand in a name: a letter, a digit, `_` or `-`.
+fn is_byte_of_name(byte: u8) -> bool
+    ensures { result ≡ is_name_byte byte }
+{
+    byte.is_ascii_alphanumeric() || byte == b'_' || byte == b'-'
+}
+
+/// Whether all bytes may stand in a name.
+fn are_bytes_of_name(bytes: &[u8]) -> bool
+    ensures { result ≡ list_all is_name_byte bytes.now }
+{
+    bytes.iter().all(|byte| is_byte_of_name(*byte))
+}
+
+/// Whether a word is a name: a key that needs no quotes in TOML.
+fn is_name_word(word: &str) -> bool
+    ensures { result ≡ is_name word.now }
+{
+    !word.is_empty() && are_bytes_of_name(word.as_bytes())
+}
+
+/// Whether a word is a natural number from 1 with no 0 in front.
+fn is_place_word(word: &str) -> bool
+    ensures { result ≡ is_place word.now }
+{
+    word.as_bytes().first() != Some(&b'0') && is_natural_word(word)
+}
+
+/// The place of a table before a closing bracket.
+fn place_in(word: &str) -> Option<u64>
+    ensures { MatchOption result
+        ((place : ℕ) → 1 ≤ place → place < 2 ^ 64 → word.now ≢ decimal place ++ codes "]")
+        (λ place. (1 ≤ place) × (place < 2 ^ 64) × (word.now ≡ decimal place ++ codes "]")) }
+{
+    let digits = word.strip_suffix(']')?;
+    if is_place_word(digits) {
+        natural_in(digits)
+    } else {
+        None
+    }
+}
+
+/// A name.
+fn name_in(alloc: Global, word: &str) -> Result<String, KeyError>
+    ensures ok { IfOk result (λ s. (string_bytes s ≡ word.now) × (is_name word.now ≡ true)) }
+    ensures err { IfErr result (λ e. is_memory e ≡ false → (e ≡ KeyError.NoKey) × (is_name word.now ≡ false)) }
+{
+    if !is_name_word(word) {
+        return Err(KeyError::NoKey);
+    }
+    String::from_str(alloc, word).map_err(KeyError::Memory)
+}
+
+/// The key of a table.
+fn owned_key(alloc: Global, owner: &str, key: &str) -> Result<Key, KeyError>
+    ensures ok { IfOk result (λ k. (owner.now ++ (46 ∷ key.now) ≡ key_text (path_of k)) × HasNames (path_of k)) }
+    ensures err { IfErr result (λ e. is_memory e ≡ false
+        → (e ≡ KeyError.NoKey) × (IsOwner owner.now → is_name key.now ≡ false)) }
+{
+    let key = name_in(alloc, key)?;
+    match owner.split_once('[') {
+        None => {
+            let table = name_in(alloc, owner)?;
+            Ok(Key::Inner { table, key })
+        }
+        Some((array, place)) => {
+            let array = name_in(alloc, array)?;
+            match place_in(place) {
+                Some(place) => Ok(Key::Element { array, place, key }),
+                None => Err(KeyError::NoKey),
+            }
+        }
+    }
+}
+
+impl Key {
+    /// The key that a word says: `horizon`, `detector.timeout`, or `crash[1].at`, where the first table is 1. Its names
+    /// have letters, digits, `_` and `-`.
+    ///
+    /// # Errors
+    ///
+    /// `Seed` for `seed`, and `NoKey` where the word says no key; `Memory` at any point.
+    pub fn parse(alloc: Global, word: &str) -> Result<Key, KeyError>
+        ensures ok { IfOk result (λ k. SaysKey word.now (path_of k)) }
+        ensures err { IfErr result (SaysNoKey word.now) }
+    {
+        if word == "seed" {
+            return Err(KeyError::Seed);
+        }
+        match word.split_once('.') {
+            None => {
+                let key = name_in(alloc, word)?;
+                Ok(Key::Top(key))
+            }
+            Some((owner, key)) => owned_key(alloc, owner, key),
+        }
+    }
+}

@@ -1,0 +1,66 @@
+//! Seeds, as words of a command line.
+ghost use Rattle.std.specs.Prelude.{◌≡◌, ◌^◌, ◌<◌, ◌≤◌, true, None, Some, IfOk, IfErr, MatchOption};
+ghost use Rattle.study.specs.SeedWords.{seeds_said, seeds_fault};
+ghost use Rattle.study.specs.Words.{is_natural, natural};
+
+use crate::error::SeedsError;
+use crate::words::{bounds_in, is_natural_word, natural_in};
+
+/// The seeds of a study: all from a first to a last.
+#[derive(Clone, Copy, Debug, PartialEq, Eq)]
+pub struct Seeds {
+    /// The first seed, 0 to 9,223,372,036,854,775,807.
+    pub first: u64,
+    /// The last seed, in the same range.
+    pub last: u64,
+}
+
+/// The words of the first seed and the last.
+fn ends_in(word: &str) -> Option<(&str, &str)>
+    ensures { MatchOption result (seeds_said word.now ≡ None) (λ ends.
+        (is_natural ends.0.now ≡ true) × (is_natural ends.1.now ≡ true)
+        × (seeds_said word.now ≡ Some (natural ends.0.now, natural ends.1.now))) }
+{
+    if is_natural_word(word) {
+        return Some((word, word));
+    }
+    let (first, last) = bounds_in(word)?;
+    if is_natural_word(first) && is_natural_word(last) {
+        Some((first, last))
+    } else {
+        None
+    }
+}
+
+/// A seed, if it isn't too high.
+fn seed_in(word: &str) -> Option<u64>
+    requires { is_natural word.now ≡ true }
+    ensures { MatchOption result (2 ^ 63 ≤ natural word.now) (λ n. (n ≡ natural word.now) × (n < 2 ^ 63)) }
+{
+    match natural_in(word) {
+        Some(seed) if seed <= i64::MAX as u64 => Some(seed),
+        _ => None,
+    }
+}
+
+impl Seeds {
+    /// The seeds that a word says: `A..=B`, all from A to B, or `A`, that one.
+    ///
+    /// # Errors
+    ///
+    /// The first reason against it, in the order of [`SeedsError`].
+    pub fn parse(word: &str) -> Result<Seeds, SeedsError>
+        ensures ok { IfOk result (λ s. (seeds_said word.now ≡ Some (s.first, s.last))
+            × (seeds_fault (seeds_said word.now) ≡ None)) }
+        ensures err { IfErr result (λ e. seeds_fault (seeds_said word.now) ≡ Some e) }
+    {
+        match ends_in(word) {
+            None => Err(SeedsError::NoSeeds),
+            Some((first, last)) => match (seed_in(first), seed_in(last)) {
+                (Some(first), Some(last)) if first <= last => Ok(Seeds { first, last }),
+                (Some(_), Some(_)) => Err(SeedsError::EmptyRange),
+                _ => Err(SeedsError::SeedTooHigh),
+            },
+        }
+    }
+}

@@ -1,0 +1,55 @@
+//! Numbers and bounds, as words of a command line.
+ghost use Rattle.std.specs.Prelude.{◌≡◌, ◌≤◌, ◌<◌, ◌^◌, true, false, MatchOption, option_map};
+ghost use Rattle.std.specs.Char.{is_ascii_digit};
+ghost use Rattle.std.specs.List.{list_all};
+ghost use Rattle.study.specs.Words.{is_natural, is_integer, natural, integer, fits, bounds};
+
+/// Whether all bytes are decimal digits.
+fn are_digits(bytes: &[u8]) -> bool
+    ensures { result ≡ list_all is_ascii_digit bytes.now }
+{
+    bytes.iter().all(|byte| byte.is_ascii_digit())
+}
+
+/// Whether a word is a natural number: decimal digits, at least one.
+pub(crate) fn is_natural_word(word: &str) -> bool
+    ensures { result ≡ is_natural word.now }
+{
+    !word.is_empty() && are_digits(word.as_bytes())
+}
+
+/// A natural number, if 64 bits hold it.
+pub(crate) fn natural_in(word: &str) -> Option<u64>
+    requires { is_natural word.now ≡ true }
+    ensures { MatchOption result (2 ^ 64 ≤ natural word.now) (λ n. (n ≡ natural word.now) × (n < 2 ^ 64)) }
+{
+    word.parse::<u64>().ok()
+}
+
+/// Whether a word is an integer: a natural number, after a minus sign or none.
+pub(crate) fn is_integer_word(word: &str) -> bool
+    ensures { result ≡ is_integer word.now }
+{
+    match word.strip_prefix('-') {
+        Some(digits) => is_natural_word(digits),
+        None => is_natural_word(word),
+    }
+}
+
+/// An integer, if 64 bits with a sign hold it.
+pub(crate) fn integer_in(word: &str) -> Option<i64>
+    requires { is_integer word.now ≡ true }
+    ensures { MatchOption result (fits (integer word.now) ≡ false)
+        (λ z. (fits z ≡ true) × (z ≡ integer word.now)) }
+{
+    word.parse::<i64>().ok()
+}
+
+/// What stands before and after `..=`, where a word has that at its first dot.
+pub(crate) fn bounds_in(word: &str) -> Option<(&str, &str)>
+    ensures { option_map (λ b. (b.0.now, b.1.now)) result ≡ bounds word.now }
+{
+    let (low, rest) = word.split_once('.')?;
+    let high = rest.strip_prefix(".=")?;
+    Some((low, high))
+}
