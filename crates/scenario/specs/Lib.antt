@@ -9,3 +9,4 @@ pub mod Rules
 pub mod Refusals
 pub mod Groups
 pub mod Parts
+pub mod Names

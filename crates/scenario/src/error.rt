@@ -1,4 +1,6 @@
 //! Why a scenario's file is refused.
+ghost use Rattle.std.specs.Prelude.{◌≡◌};
+ghost use Rattle.scenario.specs.Names.{name_of};
 
 use process_api::Pid;
 use std::alloc::AllocError;
@@ -75,4 +77,34 @@ pub enum ScenarioError {
     /// Memory was refused.
     #[error("out of memory")]
     Memory(#[from(alloc)] AllocError),
+}
+
+impl ScenarioError {
+    /// The refusal's name, which is the variant's: a line of fault calls it so. Of `BelowLookahead` the name alone,
+    /// without the pair.
+    pub fn name(&self) -> &'static str
+        ensures { result.now ≡ name_of self.now }
+    {
+        match self {
+            ScenarioError::NotToml => "NotToml",
+            ScenarioError::UnknownKey => "UnknownKey",
+            ScenarioError::MissingKey => "MissingKey",
+            ScenarioError::WrongKind => "WrongKind",
+            ScenarioError::Version => "Version",
+            ScenarioError::Processes => "Processes",
+            ScenarioError::Horizon => "Horizon",
+            ScenarioError::Lookahead => "Lookahead",
+            ScenarioError::Limit => "Limit",
+            ScenarioError::Seed => "Seed",
+            ScenarioError::AlgorithmName => "AlgorithmName",
+            ScenarioError::Proposals => "Proposals",
+            ScenarioError::DetectorNumbers => "DetectorNumbers",
+            ScenarioError::Share => "Share",
+            ScenarioError::LinkNumbers => "LinkNumbers",
+            ScenarioError::BelowLookahead { .. } => "BelowLookahead",
+            ScenarioError::CrashLine => "CrashLine",
+            ScenarioError::OutageLine => "OutageLine",
+            ScenarioError::Memory(_) => "Memory",
+        }
+    }
 }

@@ -46,25 +46,7 @@ fn changed(alloc: Global, text: &str, old: &str, new: &str) -> Result<String, Fa
 fn name_of(answer: &Result<Scenario, ScenarioError>) -> &'static str {
     match answer {
         Ok(_) => "accepted",
-        Err(ScenarioError::NotToml) => "NotToml",
-        Err(ScenarioError::UnknownKey) => "UnknownKey",
-        Err(ScenarioError::MissingKey) => "MissingKey",
-        Err(ScenarioError::WrongKind) => "WrongKind",
-        Err(ScenarioError::Version) => "Version",
-        Err(ScenarioError::Processes) => "Processes",
-        Err(ScenarioError::Horizon) => "Horizon",
-        Err(ScenarioError::Lookahead) => "Lookahead",
-        Err(ScenarioError::Limit) => "Limit",
-        Err(ScenarioError::Seed) => "Seed",
-        Err(ScenarioError::AlgorithmName) => "AlgorithmName",
-        Err(ScenarioError::Proposals) => "Proposals",
-        Err(ScenarioError::DetectorNumbers) => "DetectorNumbers",
-        Err(ScenarioError::Share) => "Share",
-        Err(ScenarioError::LinkNumbers) => "LinkNumbers",
-        Err(ScenarioError::BelowLookahead { .. }) => "BelowLookahead",
-        Err(ScenarioError::CrashLine) => "CrashLine",
-        Err(ScenarioError::OutageLine) => "OutageLine",
-        Err(ScenarioError::Memory(_)) => "Memory",
+        Err(error) => error.name(),
     }
 }
 

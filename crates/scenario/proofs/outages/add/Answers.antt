@@ -1,4 +1,4 @@
-use Rattle.std.proofs.Common.{◌≡◌, ◌<◌, ◌++◌, ◌∷◌, [], ap, sym, ◌∙◌, length, slice_set, arith}
+use Rattle.std.proofs.Common.{◌<◌, ◌++◌, ◌∷◌, [], ap, sym, ◌∙◌, length, slice_set, arith}
 use Rattle.std.proofs.lemmas.List.{map-set, get_or-map}
 use Rattle.scenario.specs.Parts.{outages_in}
 use Rattle.scenario.proofs.outages.add.Goals as goal

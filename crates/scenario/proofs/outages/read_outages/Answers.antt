@@ -3,7 +3,7 @@ use Rattle.std.proofs.lemmas.List.{take_all, length-map}
 use Rattle.toml.specs.View.{table_view}
 use Rattle.scenario.specs.Text.{pair_of}
 use Rattle.scenario.specs.Rules.{is_bad_outage}
-use Rattle.scenario.specs.Parts.{AreProcesses, outages_in, HoldOutages}
+use Rattle.scenario.specs.Parts.{AreProcesses, outages_in}
 use Rattle.scenario.proofs.Cuts.{none_held, none_among, bad_outage, outage_clean, outage_put, outages_whole}
 use Rattle.scenario.proofs.outages.read_outages.Goals as goal
 
