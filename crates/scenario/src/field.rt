@@ -1,8 +1,8 @@
 //! The keys that a table may have.
 
 /// The kind of a key's value.
-#[derive(Clone, Copy)]
-pub(crate) enum Kind {
+#[derive(Clone, Copy, Debug)]
+pub enum Kind {
     /// An integer.
     Number,
     /// A text.
@@ -16,10 +16,12 @@ pub(crate) enum Kind {
 }
 
 /// A key that a table may have.
-#[derive(Clone, Copy)]
-pub(crate) struct Field {
-    pub(crate) key: &'static str,
-    pub(crate) kind: Kind,
+#[derive(Clone, Copy, Debug)]
+pub struct Field {
+    /// The key.
+    pub key: &'static str,
+    /// The kind of its value.
+    pub kind: Kind,
     /// Whether the key must be there.
-    pub(crate) needed: bool,
+    pub needed: bool,
 }

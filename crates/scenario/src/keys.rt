@@ -4,7 +4,7 @@ ghost use Rattle.std.specs.List.{list_any};
 ghost use Rattle.std.specs.Option.{option_map_or};
 ghost use Rattle.toml.specs.View.{table_view};
 ghost use Rattle.scenario.specs.Parts.{fields_of, fault_of, table_in, tables_in, AreTables};
-ghost use Rattle.scenario.specs.Keys.{some_table, top_fields, timeout_fields, freshness_fields, detector_has, share_fields, link_fields, pair_fields, crash_fields, outage_fields};
+ghost use Rattle.scenario.specs.Keys.{some_table, top_fields, timeout_fields, freshness_fields, detector_fields, detector_has, share_fields, link_fields, pair_fields, crash_fields, outage_fields};
 ghost use Rattle.scenario.specs.Text.{is_second as second_in};
 ghost use Rattle.scenario.specs.Refusals.{key_rules};
 ghost use Rattle.scenario.specs.Groups.{Passes, StopsAt};
@@ -244,16 +244,102 @@ const OUTAGE: [Field; 4] = [
     },
 ];
 
+/// The keys of a file's top table, by whether the file is of version 2.
+#[tactic(auto, unfolding(crate::specs::Keys::top_fields))]
+pub fn top_keys(is_second: bool) -> &'static [Field]
+    ensures { fields_of result.now ≡ top_fields is_second }
+{
+    if is_second { &TOP } else { &TOP[..FIRST] }
+}
+
+/// The keys of a detector's table that names no freshness points, by whether the file is of version 2.
+#[tactic(auto, unfolding(crate::specs::Keys::timeout_fields))]
+fn timeout_keys(is_second: bool) -> &'static [Field]
+    ensures { fields_of result.now ≡ timeout_fields is_second }
+{
+    if is_second {
+        &TIMEOUT
+    } else {
+        &TIMEOUT[..FIRST_TIMEOUT]
+    }
+}
+
+/// The keys of one that does.
+#[tactic(auto, unfolding(crate::specs::Keys::freshness_fields))]
+fn freshness_keys() -> &'static [Field]
+    ensures { fields_of result.now ≡ freshness_fields }
+{
+    &FRESHNESS
+}
+
+/// The keys of a table `detector`, by whether the file is of version 2.
+pub fn detector_keys(is_second: bool, table: &Table) -> &'static [Field]
+    ensures { fields_of result.now ≡ detector_fields is_second (table_view table.now) }
+{
+    if is_second && is_fresh(table) {
+        freshness_keys()
+    } else {
+        timeout_keys(is_second)
+    }
+}
+
+/// The keys of a table `share`.
+#[tactic(auto, unfolding(crate::specs::Keys::share_fields))]
+pub fn share_keys() -> &'static [Field]
+    ensures { fields_of result.now ≡ share_fields }
+{
+    &SHARE
+}
+
+/// The keys of a table `link`.
+#[tactic(auto, unfolding(crate::specs::Keys::link_fields))]
+pub fn link_keys() -> &'static [Field]
+    ensures { fields_of result.now ≡ link_fields }
+{
+    &LINK
+}
+
+/// The keys of each table of `links`.
+#[tactic(auto, unfolding(crate::specs::Keys::pair_fields))]
+pub fn pair_keys() -> &'static [Field]
+    ensures { fields_of result.now ≡ pair_fields }
+{
+    &PAIR
+}
+
+/// The keys of each table of `crash`.
+#[tactic(auto, unfolding(crate::specs::Keys::crash_fields))]
+pub fn crash_keys() -> &'static [Field]
+    ensures { fields_of result.now ≡ crash_fields }
+{
+    &CRASH
+}
+
+/// The keys of each table of `outage`.
+#[tactic(auto, unfolding(crate::specs::Keys::outage_fields))]
+pub fn outage_keys() -> &'static [Field]
+    ensures { fields_of result.now ≡ outage_fields }
+{
+    &OUTAGE
+}
+
 /// The tables of a file. Where a value isn't of its kind its table, or all of its tables, are left out.
 #[derive(Drop)]
-pub(crate) struct Tables<'a> {
-    pub(crate) top: &'a Table,
-    pub(crate) detector: Option<&'a Table>,
-    pub(crate) share: Option<&'a Table>,
-    pub(crate) link: Option<&'a Table>,
-    pub(crate) links: Vec<&'a Table>,
-    pub(crate) crashes: Vec<&'a Table>,
-    pub(crate) outages: Vec<&'a Table>,
+pub struct Tables<'a> {
+    /// The top table.
+    pub top: &'a Table,
+    /// `detector`.
+    pub detector: Option<&'a Table>,
+    /// `share`.
+    pub share: Option<&'a Table>,
+    /// `link`.
+    pub link: Option<&'a Table>,
+    /// Those of `links`.
+    pub links: Vec<&'a Table>,
+    /// Those of `crash`.
+    pub crashes: Vec<&'a Table>,
+    /// Those of `outage`.
+    pub outages: Vec<&'a Table>,
 }
 
 /// A fault of a table's keys.
@@ -304,37 +390,13 @@ impl Fault {
     fn is_in_top(self, table: &Table) -> bool
         ensures { result ≡ fault_of self (top_fields (second_in (table_view table.now))) (table_view table.now) }
     {
-        if is_second(table) {
-            self.is_in(&TOP, table)
-        } else {
-            self.is_in(&TOP[..FIRST], table)
-        }
-    }
-
-    fn is_in_timeout(self, is_second: bool, table: &Table) -> bool
-        ensures { result ≡ fault_of self (timeout_fields is_second) (table_view table.now) }
-    {
-        if is_second {
-            self.is_in(&TIMEOUT, table)
-        } else {
-            self.is_in(&TIMEOUT[..FIRST_TIMEOUT], table)
-        }
-    }
-
-    fn is_in_freshness(self, table: &Table) -> bool
-        ensures { result ≡ fault_of self freshness_fields (table_view table.now) }
-    {
-        self.is_in(&FRESHNESS, table)
+        self.is_in(top_keys(is_second(table)), table)
     }
 
     fn is_in_detector_table(self, is_second: bool, table: &Table) -> bool
         ensures { result ≡ detector_has (fault_of self) is_second (table_view table.now) }
     {
-        if is_second && is_fresh(table) {
-            self.is_in_freshness(table)
-        } else {
-            self.is_in_timeout(is_second, table)
-        }
+        self.is_in(detector_keys(is_second, table), table)
     }
 
     fn is_in_detector(self, is_second: bool, table: Option<&Table>) -> bool
@@ -349,31 +411,31 @@ impl Fault {
     fn is_in_share(self, table: Option<&Table>) -> bool
         ensures { result ≡ option_map_or (fault_of self share_fields) (table_in table.entry) false }
     {
-        self.is_in_optional(&SHARE, table)
+        self.is_in_optional(share_keys(), table)
     }
 
     fn is_in_link(self, table: Option<&Table>) -> bool
         ensures { result ≡ option_map_or (fault_of self link_fields) (table_in table.entry) false }
     {
-        self.is_in_optional(&LINK, table)
+        self.is_in_optional(link_keys(), table)
     }
 
     fn is_in_links(self, tables: &[&Table]) -> bool
         ensures { result ≡ list_any (fault_of self pair_fields) (tables_in tables.now) }
     {
-        self.is_in_any(&PAIR, tables)
+        self.is_in_any(pair_keys(), tables)
     }
 
     fn is_in_crashes(self, tables: &[&Table]) -> bool
         ensures { result ≡ list_any (fault_of self crash_fields) (tables_in tables.now) }
     {
-        self.is_in_any(&CRASH, tables)
+        self.is_in_any(crash_keys(), tables)
     }
 
     fn is_in_outages(self, tables: &[&Table]) -> bool
         ensures { result ≡ list_any (fault_of self outage_fields) (tables_in tables.now) }
     {
-        self.is_in_any(&OUTAGE, tables)
+        self.is_in_any(outage_keys(), tables)
     }
 
     /// Whether some table of the file has the fault.
@@ -393,7 +455,7 @@ impl Fault {
 }
 
 /// The tables of a file.
-pub(crate) fn tables_of<'a>(alloc: Global, top: &'a Table) -> Result<Tables<'a>, AllocError>
+pub fn tables_of<'a>(alloc: Global, top: &'a Table) -> Result<Tables<'a>, AllocError>
     ensures { IfOk result (λ s. (table_view s.top.now ≡ table_view top.now) × AreTables s) }
 {
     let links = inner_tables(alloc, top, "links")?;

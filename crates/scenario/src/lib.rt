@@ -40,11 +40,18 @@ mod table;
 
 pub use algorithm::AlgorithmKind;
 pub use error::ScenarioError;
+pub use field::{Field, Kind};
+pub use keys::{
+    Tables, crash_keys, detector_keys, link_keys, outage_keys, pair_keys, share_keys, tables_of,
+    top_keys,
+};
 pub use link::Link;
+pub use numbers::natural;
 pub use opening::Opening;
 pub use outage::Outage;
 pub use read::{read_scenario, read_table};
 pub use record::Scenario;
+pub use table::{inner_array, is_lacking_field, is_listed_key, is_second};
 
 #[cfg(test)]
 mod tests;

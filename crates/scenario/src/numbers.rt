@@ -15,7 +15,7 @@ use process_api::MOST_PROCESSES;
 use toml::Table;
 
 /// The number, where it isn't negative.
-pub(crate) fn natural(value: i64) -> Option<u64>
+pub fn natural(value: i64) -> Option<u64>
     ensures value { result ≡ natural_of value }
     ensures high { IfSome result (λ n. n < 2 ^ 63) }
 {

@@ -22,7 +22,7 @@ pub(crate) fn number(table: &Table, key: &str, default: i64) -> i64
 
 /// Whether the file with this table is of version 2.
 #[tactic(auto, unfolding(crate::specs::Text::is_second))]
-pub(crate) fn is_second(table: &Table) -> bool
+pub fn is_second(table: &Table) -> bool
     ensures { result ≡ second_in (table_view table.now) }
 {
     number(table, "version", 0) == 2
@@ -105,7 +105,7 @@ fn tables_among<'a>(alloc: Global, values: &'a [Value]) -> Result<Vec<&'a Table>
 }
 
 /// The array at a key, if there is one.
-pub(crate) fn inner_array<'a>(table: &'a Table, key: &str) -> Option<&'a Vec<Value>>
+pub fn inner_array<'a>(table: &'a Table, key: &str) -> Option<&'a Vec<Value>>
     ensures { option_map (λ v. array_view v.now) result
         ≡ option_and_then as_array (get_member key.now (table_view table.now)) }
 {
@@ -136,7 +136,7 @@ pub(crate) fn inner_tables<'a>(
 }
 
 /// Whether the key is one of these.
-fn is_listed_key(fields: &[Field], key: &str) -> bool
+pub fn is_listed_key(fields: &[Field], key: &str) -> bool
     ensures { result ≡ is_listed (fields_of fields.now) key.now }
 {
     for field in fields {
@@ -160,7 +160,7 @@ pub(crate) fn has_unlisted_key(fields: &[Field], table: &Table) -> bool
 }
 
 /// Whether the field is needed and missing.
-fn is_lacking_field(field: &Field, table: &Table) -> bool
+pub fn is_lacking_field(field: &Field, table: &Table) -> bool
     ensures { result ≡ is_lacking (field_of field.now) (table_view table.now) }
 {
     field.needed && table.get(field.key).is_none()
@@ -180,7 +180,7 @@ pub(crate) fn has_lacking_key(fields: &[Field], table: &Table) -> bool
 
 impl Kind {
     /// Whether the value is of this kind.
-    fn takes(self, value: &Value) -> bool
+    pub fn takes(self, value: &Value) -> bool
         ensures { result ≡ is_of self (view value.now) }
     {
         match self {

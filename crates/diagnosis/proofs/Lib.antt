@@ -1,0 +1,4 @@
+pub mod Elements
+pub mod Looking
+pub mod Items
+pub mod Telling

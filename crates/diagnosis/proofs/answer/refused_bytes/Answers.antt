@@ -1,0 +1,7 @@
+use Rattle.std.proofs.Common.{refl}
+use Rattle.diagnosis.specs.declared.finding.Finding.TheVariants.{NotToml}
+use Rattle.diagnosis.proofs.Telling.{no_text}
+use Rattle.diagnosis.proofs.answer.refused_bytes.Goals as goal
+
+pub returns : goal.returns
+returns c = no_text c.args.bytes.now (NotToml c.in_ok-fault.fault) c.requires refl

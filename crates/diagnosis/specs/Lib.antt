@@ -1,0 +1,4 @@
+pub mod Place
+pub mod Ranges
+pub mod Faults
+pub mod Diagnosis

@@ -1,0 +1,145 @@
+//! Diagnoses of scenarios' files.
+ghost use Rattle.std.specs.Prelude.{◌≡◌, IfOk, Some, None};
+ghost use Rattle.toml.specs.View.{table_view};
+ghost use Rattle.scenario.specs.Refusals.{IsDocumentOf, table_rules, is_memory as is_for_memory};
+ghost use Rattle.scenario.specs.Groups.{StopsFirst};
+ghost use Rattle.diagnosis.specs.Diagnosis.{Breaks, IsDiagnosisOf, IsTableDiagnosisOf, RefusesFor, RefusesTableFor};
+
+use crate::estimate::{Estimate, estimate_of};
+use crate::finding::{Finding, NotToml};
+use crate::position::position_after;
+use crate::search::find;
+use scenario::{ScenarioError, read_table, tables_of};
+use std::alloc::{AllocError, Global};
+use toml::Table;
+
+/// What an accepted file has.
+#[derive(Clone, Copy, Debug)]
+pub struct Accepted {
+    /// How many processes there are.
+    pub processes: u16,
+    /// The tick at which the run ends.
+    pub horizon: u32,
+    /// About how much the run will be.
+    pub estimate: Estimate,
+}
+
+/// Why a file is refused.
+#[derive(Debug, Drop)]
+pub struct Refused {
+    /// The refusal.
+    pub refusal: ScenarioError,
+    /// What is wrong, and where.
+    pub finding: Finding,
+}
+
+/// What is said of a scenario's file.
+#[derive(Debug, Drop)]
+pub enum Diagnosis {
+    /// The file is accepted.
+    Accepted(Accepted),
+    /// It is refused.
+    Refused(Refused),
+}
+
+/// What is wrong with a table's file, that is refused.
+fn finding_of(alloc: Global, refusal: &ScenarioError, table: &Table) -> Result<Finding, AllocError>
+    ensures { IfOk result (Breaks refusal.now (Some (table_view table.now))) }
+{
+    let tables = tables_of(alloc, table)?;
+    match find(alloc, refusal, &tables)? {
+        Some(finding) => Ok(finding),
+        None => Ok(Finding::Unplaced),
+    }
+}
+
+/// Whether a refusal is for want of memory.
+fn is_memory(refusal: &ScenarioError) -> bool
+    ensures { result ≡ is_for_memory refusal.now }
+{
+    match refusal {
+        ScenarioError::Memory(_) => true,
+        _ => false,
+    }
+}
+
+/// Why a file's table is refused, with this refusal.
+fn refused_table(
+    alloc: Global,
+    table: &Table,
+    refusal: ScenarioError,
+) -> Result<Refused, AllocError>
+    requires { StopsFirst table_rules (Some (table_view table.now)) refusal }
+    ensures { IfOk result (RefusesTableFor (table_view table.now)) }
+{
+    if is_memory(&refusal) {
+        return Err(AllocError);
+    }
+    let finding = finding_of(alloc, &refusal, table)?;
+    Ok(Refused { refusal, finding })
+}
+
+/// Says of the table of a scenario's file what [`diagnose`] says of the file.
+///
+/// # Errors
+///
+/// Where memory was refused.
+pub fn diagnose_table(alloc: Global, table: &Table) -> Result<Diagnosis, AllocError>
+    ensures { IfOk result (IsTableDiagnosisOf (table_view table.now)) }
+{
+    match read_table(alloc, table) {
+        Ok(scenario) => Ok(Diagnosis::Accepted(Accepted {
+            processes: scenario.processes(),
+            horizon: scenario.horizon(),
+            estimate: estimate_of(&scenario),
+        })),
+        Err(refusal) => Ok(Diagnosis::Refused(refused_table(alloc, table, refusal)?)),
+    }
+}
+
+/// Where and why bytes are no TOML.
+fn not_toml(alloc: Global, bytes: &[u8], error: &toml::de::Error) -> Result<NotToml, AllocError> {
+    let place = match error.span() {
+        Some(span) => span.start,
+        None => 0,
+    };
+    let (line, column) = position_after(bytes.get(..place).unwrap_or(bytes));
+    let message = String::from_str(alloc, error.message())?;
+    Ok(NotToml {
+        line,
+        column,
+        message,
+    })
+}
+
+/// Why bytes that are no TOML are refused.
+fn refused_bytes(
+    alloc: Global,
+    bytes: &[u8],
+    error: &toml::de::Error,
+) -> Result<Refused, AllocError>
+    requires { IsDocumentOf bytes.now None }
+    ensures { IfOk result (RefusesFor bytes.now) }
+{
+    let fault = not_toml(alloc, bytes, error)?;
+    Ok(Refused {
+        refusal: ScenarioError::NotToml,
+        finding: Finding::NotToml(fault),
+    })
+}
+
+/// Says of a scenario's file what it has, where it is accepted, and else its refusal, which is that of
+/// [`scenario::read_scenario`], and what is wrong, and where.
+///
+/// # Errors
+///
+/// Where memory was refused.
+pub fn diagnose(alloc: Global, bytes: &[u8]) -> Result<Diagnosis, AllocError>
+    ensures { IfOk result (IsDiagnosisOf bytes.now) }
+{
+    match toml::table_from_slice(alloc, bytes) {
+        Ok(table) => diagnose_table(alloc, &table),
+        Err(error) if error.is_memory() => Err(AllocError),
+        Err(error) => Ok(Diagnosis::Refused(refused_bytes(alloc, bytes, &error)?)),
+    }
+}

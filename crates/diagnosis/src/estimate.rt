@@ -1,0 +1,69 @@
+//! About how much a run will be.
+ghost use Rattle.std.specs.Prelude.{◌≡◌};
+
+use process_api::{DetectorNumbers, Watch};
+use scenario::Scenario;
+
+/// How many entries a second a run is reckoned with.
+const ENTRIES_A_SECOND: u64 = 5_000_000;
+
+/// About how much a run will be. No proof says how near this comes, and no answer rests on it.
+#[derive(Clone, Copy, Debug)]
+pub struct Estimate {
+    /// Entries of the trace.
+    pub entries: u64,
+    /// Seconds that the run takes, rounded up, at 5,000,000 entries a second.
+    pub seconds: u64,
+}
+
+/// How often something with a period of some ticks happens below the horizon, from tick 0 on.
+fn turns(horizon: u64, period: u32) -> u64 {
+    (horizon / u64::from(period.max(1))).saturating_add(1)
+}
+
+/// To how many others a process sends its Alive letters or heartbeats, or of how many it gets some.
+fn others_of(processes: u64, watch: Watch) -> u64 {
+    let others = processes.saturating_sub(1);
+    match watch {
+        Watch::All => others,
+        Watch::Next => others.min(1),
+    }
+}
+
+/// Entries of one process's detector: its beats and its checks, and a letter of each turn of each other.
+fn detector_entries(horizon: u64, processes: u64, detector: DetectorNumbers) -> u64 {
+    let (beats, checks, watch) = match detector {
+        DetectorNumbers::Timeout(its) => (
+            turns(horizon, its.period),
+            turns(horizon, its.check),
+            its.watch,
+        ),
+        DetectorNumbers::Freshness(its) => {
+            let beats = turns(horizon, its.eta);
+            (beats, beats, its.watch)
+        }
+    };
+    let letters = beats.saturating_mul(others_of(processes, watch));
+    beats.saturating_add(checks).saturating_add(letters)
+}
+
+/// About how much a scenario's run will be, reckoned as if no process crashed and no letter was lost or came late. Each
+/// process has its start, and beats, checks and shares by their periods up to the horizon; of each beat one letter
+/// comes to each process that watches the sender, and of each share one to all. The few letters of an algorithm are
+/// left out.
+pub(crate) fn estimate_of(scenario: &Scenario) -> Estimate {
+    let horizon = u64::from(scenario.horizon());
+    let processes = u64::from(scenario.processes());
+    let shares = match scenario.share() {
+        Some(period) => turns(horizon, period).saturating_mul(processes + 1),
+        None => 0,
+    };
+    let entries = detector_entries(horizon, processes, scenario.detector())
+        .saturating_add(shares)
+        .saturating_add(1)
+        .saturating_mul(processes);
+    Estimate {
+        entries,
+        seconds: entries.div_ceil(ENTRIES_A_SECOND),
+    }
+}

@@ -1,0 +1,103 @@
+//! Faults of a table's keys.
+ghost use Rattle.std.specs.Prelude.{◌≡◌, map, true, false, Some, None, string_bytes, IfOk, IfSome};
+ghost use Rattle.std.specs.List.{Contains};
+ghost use Rattle.toml.specs.Data.{get_member};
+ghost use Rattle.toml.specs.View.{view, table_view};
+ghost use Rattle.scenario.specs.Parts.{field_of, fields_of};
+ghost use Rattle.diagnosis.specs.Faults.{IsKeyOf, IsUnknown, IsMissing, IsWrongKindOf, IsWrongKind};
+
+use crate::fault::{UnknownKey, WrongKind};
+use crate::values::{lacks, value_at};
+use scenario::{Field, is_lacking_field, is_listed_key};
+use std::alloc::{AllocError, Global};
+use strsim::damerau_levenshtein;
+use toml::Table;
+
+/// How many edits away from a key a suggestion may be: one for each three bytes of the key, and one more.
+fn most_edits(key: &str) -> usize {
+    key.len() / 3 + 1
+}
+
+/// The most alike to a key of the keys that a table may have and hasn't, if one is alike enough.
+fn most_alike(
+    alloc: Global,
+    fields: &[Field],
+    table: &Table,
+    key: &str,
+) -> Result<Option<&'static str>, AllocError>
+    ensures listed { IfOk result (λ s. IfSome s (λ k. IsKeyOf (fields_of fields.now) k.now)) }
+    ensures missing { IfOk result (λ s. IfSome s (λ k. get_member k.now (table_view table.now) ≡ None)) }
+{
+    let mut best = None;
+    let mut most = most_edits(key);
+    for field in fields {
+        if !lacks(table, field.key) {
+            continue;
+        }
+        let edits = damerau_levenshtein(alloc, key, field.key)?;
+        let is_better = edits < most || edits == most && best.is_none();
+        if !is_better {
+            continue;
+        }
+        best = Some(field.key);
+        most = edits;
+    }
+    Ok(best)
+}
+
+/// The first key of a table that isn't one of these, with the one that is perhaps meant.
+pub(crate) fn unknown_key(
+    alloc: Global,
+    fields: &[Field],
+    table: &Table,
+) -> Result<Option<UnknownKey>, AllocError>
+    ensures { IfOk result (λ found. IfSome found (IsUnknown (fields_of fields.now) (table_view table.now))) }
+{
+    for key in table.keys() {
+        if !is_listed_key(fields, key.as_str()) {
+            let suggestion = most_alike(alloc, fields, table, key.as_str())?;
+            let key = String::from_str(alloc, key.as_str())?;
+            return Ok(Some(UnknownKey { key, suggestion }));
+        }
+    }
+    Ok(None)
+}
+
+/// The first needed key of these that a table lacks.
+pub(crate) fn missing_key(fields: &[Field], table: &Table) -> Option<&'static str>
+    ensures { IfSome result (λ k. IsMissing (fields_of fields.now) (table_view table.now) k.now) }
+{
+    for field in fields {
+        if is_lacking_field(field, table) {
+            return Some(field.key);
+        }
+    }
+    None
+}
+
+/// The field's value, where it is of another kind.
+fn wrong_kind_of(field: &Field, table: &Table) -> Option<WrongKind>
+    ensures { IfSome result (IsWrongKindOf (field_of field.now) (table_view table.now)) }
+{
+    let value = value_at(table, field.key)?;
+    if field.kind.takes(value) {
+        return None;
+    }
+    Some(WrongKind {
+        key: field.key,
+        wanted: field.kind,
+        found: value.type_str(),
+    })
+}
+
+/// The first value at one of these keys that is of another kind than the key's.
+pub(crate) fn wrong_kind(fields: &[Field], table: &Table) -> Option<WrongKind>
+    ensures { IfSome result (IsWrongKind (fields_of fields.now) (table_view table.now)) }
+{
+    for field in fields {
+        if let Some(found) = wrong_kind_of(field, table) {
+            return Some(found);
+        }
+    }
+    None
+}
