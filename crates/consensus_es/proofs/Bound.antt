@@ -4,7 +4,8 @@ use Rattle.std.proofs.Math.Nat.{mod-add-div', add-mul-mod_self_right, add-mod_ri
 use Rattle.std.proofs.lemmas.Bool.{ltb-false, eqb-true, eq-eqb}
 use Rattle.process_api.specs.Bounds.{most_processes, most_algorithm_actions}
 use Rattle.process_api.specs.Place.{Place, same_place}
-use Rattle.process_api.specs.Coordinator.{Kept, Coordinator, best_to, is_decided, is_opening, is_running, keep, keep_one, enter, leave, propose, reply, adopt, end_wait, waits_left, end_waits, is_timely, is_early, receive, begin, step_coordinator, opening_coordinator}
+use Rattle.process_api.specs.Coordinator.{Kept, Coordinator, best_to, is_decided, is_opening, is_running, keep, enter, leave, propose, reply, adopt, end_wait, waits_left, end_waits, is_timely, is_early, receive, begin, step_coordinator, opening_coordinator}
+use Rattle.process_api.specs.Rows.{keep_one}
 use Rattle.process_api.specs.Answer.{Answer, to_all, after, still}
 use Rattle.process_api.specs.Rounds.{count_to, coordinator, majority, is_own, greatest_round}
 use Rattle.process_api.specs.Numbers.{numbers_to}

@@ -1,15 +1,13 @@
 -- The first entry of a table leaves.
-use Rattle.std.proofs.Common.{◌≡◌, ◌<◌, ◌≤◌, arith, IsSome, ℕ, refl, sym, ap, ◌∙◌, subst, Bool, true, false, cond, Option, None, Some, List, [], ◌∷◌, length, nat_eq, nat_lt, ◌&&◌, BTreeMap, slice_get, IfSome, IfNone, true≢false}
+use Rattle.std.proofs.Common.{◌≡◌, ◌<◌, ◌≤◌, arith, IsSome, ℕ, refl, sym, ap, ◌∙◌, subst, Bool, true, false, cond, Option, None, Some, List, [], ◌∷◌, length, nat_eq, nat_lt, BTreeMap, slice_get, IfSome, IfNone, true≢false}
 use Rattle.std.proofs.lemmas.Bool.{eqb-true, lt-ltb, ltb-true}
-use Rattle.std.specs.Ordering.{nat_cmp, ordering_then, is_gt}
-use Rattle.std.specs.declared.cmp.Ordering.{Ordering}
-use Rattle.std.specs.declared.cmp.Ordering.TheVariants.{Less, Equal, Greater}
+use Rattle.std.specs.Ordering.{nat_cmp}
 use Rattle.std.proofs.lemmas.Map.Keys.{le_from_not_gt}
 use Rattle.std.specs.Map.{lookup}
 use Rattle.std.specs.BTreeMap as tree
 use Rattle.consensus_es.specs.declared.row.Row.{Row}
 use Rattle.consensus_es.specs.Kept.{by_number, by_row, in_row, since, since_round}
-use Rattle.consensus_es.proofs.Rows.{same_number}
+use Rattle.process_api.proofs.Rows.{same_number}
 
 unsome : {A : Type 0} (d : A) (a b : A) → Some a ≡ Some b → a ≡ b
 unsome d a b e = ap (λ o. elim o [ None ↦ d | Some x ↦ x ]) e

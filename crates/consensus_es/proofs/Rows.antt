@@ -1,52 +1,24 @@
 -- Kept letters in rows, seen by round and sender.
-use Rattle.std.proofs.Common.{◌≡◌, ◌≢◌, ◌⊎◌, map, [], ◌∷◌, ◌++◌, ℕ, zero, suc, ◌+◌, ◌-◌, ◌≤◌, ◌<◌, add-one, inl, inr, refl, sym, ap, ◌∙◌, subst, Bool, true, false, cond, ◌&&◌, ◌||◌, nat_eq, nat_le, Option, None, Some, is_some, unwrap_or, Ordering, Less, Equal, Greater, is_eq, nat_cmp, true≢false, BTreeMap, List, length, get_or, replicate, take, arith}
-use Rattle.std.specs.Ordering.{eq_by_cmp}
+use Rattle.std.proofs.Common.{◌≡◌, ◌≢◌, ◌⊎◌, map, [], ◌∷◌, ◌++◌, ℕ, zero, suc, ◌+◌, ◌≤◌, ◌<◌, add-one, inl, inr, refl, sym, ap, ◌∙◌, Bool, true, false, cond, ◌&&◌, ◌||◌, nat_eq, nat_le, Option, None, Some, is_some, unwrap_or, nat_cmp, true≢false, BTreeMap, List, length, get_or, replicate, take, arith}
 use Rattle.std.specs.FinSet as set
 use Rattle.std.specs.FinMap.{nat_cmp-IsAntisymmetric}
-use Rattle.std.proofs.Math.ListN as list
-use Rattle.std.proofs.lemmas.List.{map-append, get_or-set_same, get_or-set_other, take_all}
-use Rattle.std.proofs.lemmas.Cmp.{tied_itself, nat_cmp_total}
+use Rattle.std.proofs.lemmas.List.{map-append, take_all}
+use Rattle.std.proofs.lemmas.Cmp.{nat_cmp_total}
 use Rattle.std.proofs.lemmas.Bool.{cases_eq, eq-eqb, ne_eqb, eqb-true, leb-true, leb-false}
 use Rattle.std.specs.BTreeMap as tree
 use Rattle.process_api.specs.Numbers.{numbers_to}
 use Rattle.process_api.specs.Rounds.{count_to}
 use Rattle.process_api.specs.Sets.{Processes, up_to}
-use Rattle.process_api.specs.Coordinator.{keep, keep_one, best_to, better}
+use Rattle.process_api.specs.Coordinator.{keep, best_to, better}
 use Rattle.process_api.specs.declared.consensus.Estimate.{Estimate}
 use Rattle.process_api.specs.declared.message.Payload.{Payload}
 use Rattle.process_api.specs.declared.action.Action.TheVariants as action
-use Rattle.consensus_es.specs.Cells.{cell_of, AreSenders}
+use Rattle.process_api.specs.Rows.{keep_one, cell_of, AreSenders}
+use Rattle.process_api.proofs.Rows.{same_number, filled}
 use Rattle.consensus_es.specs.Kept.{by_number, by_row, in_row, of_sender}
 use Rattle.consensus_es.specs.declared.row.Row.{Row}
 
-pub same_number : (a b : ℕ) → is_eq (nat_cmp a b) ≡ nat_eq b a
-same_number a b = go (cases_eq b a)
-  where
-    not_equal : (r : Ordering) → nat_cmp a b ≡ r → (b ≡ a → ⊥) → is_eq r ≡ false
-    not_equal Less e n = refl
-    not_equal Equal e n = absurd (n (sym (nat_cmp-IsAntisymmetric a b e)))
-    not_equal Greater e n = refl
-
-    go : (b ≡ a) ⊎ (b ≡ a → ⊥) → is_eq (nat_cmp a b) ≡ nat_eq b a
-    go (inl e) = ap is_eq (subst (λ z. nat_cmp a z ≡ Equal) (sym e) (tied_itself nat_cmp_total a)) ∙ sym (eq-eqb b a e)
-    go (inr n) = not_equal (nat_cmp a b) refl n ∙ sym (ne_eqb b a n)
-
 module _ {X : Type 0} where
-  filled : (o : Option X) (x : X) → is_some o ≡ true → o ≡ Some (unwrap_or o x)
-  filled None x e = absurd (true≢false (sym e))
-  filled (Some y) x e = refl
-
-  -- what is kept already stays
-  pub kept_there : (f : ℕ → Option X) (sender : ℕ) (x : X) → is_some (f sender) ≡ true → f ≡ keep_one f sender x
-  kept_there f sender x there = λ i q. at q i
-    where
-      at : (q : ℕ) → f q ≡ keep_one f sender x q
-      at q = go (nat_eq q sender) refl
-        where
-          go : (b : Bool) → nat_eq q sender ≡ b → f q ≡ cond b (Some (unwrap_or (f sender) x)) (f q)
-          go true e = ap f (eqb-true q sender e) ∙ filled (f sender) x there
-          go false e = refl
-
   -- a round's row changes as one letter is kept
   pub row_changed : (t u : BTreeMap ℕ (Row X)) (round sender : ℕ) (x : X) (row : Row X) → tree.Updates nat_cmp t u round (Some row)
       → of_sender row ≡ keep_one (in_row (by_number t round)) sender x → by_row (by_number u) ≡ keep (by_row (by_number t)) round sender x
@@ -77,56 +49,6 @@ module _ {X : Type 0} where
       at : (q : ℕ) → cell_of (take n xs ++ replicate m None) q ≡ cell_of xs q
       at zero = refl
       at (suc k) = ap (λ ys. get_or (ys ++ replicate m None) k None) (take_all n xs few) ∙ padded_at xs m k
-
-  pub no_cell : (xs : List (Option X)) (q : ℕ) → xs ≡ [] → cell_of xs q ≡ None
-  no_cell xs zero e = refl
-  no_cell xs (suc k) e = ap (λ ys. get_or ys k None) e
-
-  pub none_there : (xs : List (Option X)) → xs ≡ [] → cell_of xs ≡ (λ q. None)
-  none_there xs e = λ i q. no_cell xs q e i
-
-  pub no_senders : (s : Processes) (xs : List (Option X)) → s ≡ set.empty → xs ≡ [] → AreSenders s xs
-  no_senders s xs e f q = ap (λ z. set.contains z q) e ∙ (set.contains-empty nat_cmp q ∙ sym (ap is_some (no_cell xs q f)))
-
-  -- one cell is filled
-  pub cell_set : (xs : List (Option X)) (place : ℕ) (x : X) → place < length xs → (q : ℕ) → cell_of (list.set xs place (Some x)) q ≡ cond (nat_eq q (place + 1)) (Some x) (cell_of xs q)
-  cell_set xs place x room zero = go (nat_eq 0 (place + 1)) refl
-    where
-      go : (b : Bool) → nat_eq 0 (place + 1) ≡ b → None ≡ cond b (Some x) None
-      go true e = absurd (let h : 0 ≡ place + 1 = eqb-true 0 (place + 1) e in omega arith)
-      go false e = refl
-  cell_set xs place x room (suc k) = go (cases_eq k place)
-    where
-      go : (k ≡ place) ⊎ (k ≡ place → ⊥) → get_or (list.set xs place (Some x)) k None ≡ cond (nat_eq (suc k) (place + 1)) (Some x) (get_or xs k None)
-      go (inl e) = ap (λ z. get_or (list.set xs place (Some x)) z None) e ∙ (get_or-set_same xs place (Some x) None room ∙ ap (λ b. cond b (Some x) (get_or xs k None)) (sym (eq-eqb (suc k) (place + 1) (omega (arith, e)))))
-      go (inr n) = get_or-set_other xs place k (Some x) None n ∙ ap (λ b. cond b (Some x) (get_or xs k None)) (sym (ne_eqb (suc k) (place + 1) (λ e. n (omega (arith, e)))))
-
-  -- a letter that is new
-  pub kept_new : (xs ys : List (Option X)) (sender place : ℕ) (x : X) → sender ≡ place + 1 → cell_of ys ≡ cell_of xs → place < length ys → is_some (cell_of xs sender) ≡ false
-      → cell_of (list.set ys place (Some x)) ≡ keep_one (cell_of xs) sender x
-  kept_new xs ys sender place x at_place same room new = λ i q. at q i
-    where
-      none : (o : Option X) → is_some o ≡ false → o ≡ None
-      none None e = refl
-      none (Some y) e = absurd (true≢false e)
-
-      at : (q : ℕ) → cell_of (list.set ys place (Some x)) q ≡ keep_one (cell_of xs) sender x q
-      at q = cell_set ys place x room q ∙ ((λ i. cond (nat_eq q (sym at_place i)) (Some x) (same i q)) ∙ ap (λ o. cond (nat_eq q sender) (Some (unwrap_or o x)) (cell_of xs q)) (sym (none (cell_of xs sender) new)))
-
-  pub sender_new : (s : Processes) (xs ys : List (Option X)) (sender place : ℕ) (x : X) → sender ≡ place + 1 → cell_of ys ≡ cell_of xs → place < length ys → AreSenders s xs
-      → AreSenders (set.insert s sender) (list.set ys place (Some x))
-  sender_new s xs ys sender place x at_place same room were q =
-      set.contains-insert nat_cmp_total s sender q ∙ ((λ i. same_number q sender i || were q i) ∙ (go (nat_eq sender q) (nat_eq q (place + 1)) (turned (cases_eq q sender)) ∙ sym (ap is_some (cell_set ys place x room q))))
-    where
-      turned : (q ≡ sender) ⊎ (q ≡ sender → ⊥) → nat_eq sender q ≡ nat_eq q (place + 1)
-      turned (inl e) = eq-eqb sender q (sym e) ∙ sym (eq-eqb q (place + 1) (e ∙ at_place))
-      turned (inr n) = ne_eqb sender q (λ e. n (sym e)) ∙ sym (ne_eqb q (place + 1) (λ e. n (e ∙ sym at_place)))
-
-      go : (b c : Bool) → b ≡ c → (b || is_some (cell_of xs q)) ≡ is_some (cond c (Some x) (cell_of ys q))
-      go true true e = refl
-      go true false e = absurd (true≢false e)
-      go false true e = absurd (true≢false (sym e))
-      go false false e = ap (λ f. is_some (f q)) (sym same)
 
 -- a row that isn't there has no letters
 pub none_counted : (n : ℕ) → count_to n (λ q. false) ≡ 0
@@ -241,15 +163,11 @@ module _ {X : Type 0} where
   pub one_old : (t : BTreeMap ℕ X) (round : ℕ) (x : X) → is_some (tree.get nat_cmp t round) ≡ true → by_number t ≡ keep_one (by_number t) round x
   one_old t round x old = λ i r. at r i
     where
-      filled : (o : Option X) → is_some o ≡ true → o ≡ Some (unwrap_or o x)
-      filled None e = absurd (true≢false (sym e))
-      filled (Some y) e = refl
-
       at : (r : ℕ) → by_number t r ≡ keep_one (by_number t) round x r
       at r = go (nat_eq r round) refl
         where
           go : (b : Bool) → nat_eq r round ≡ b → by_number t r ≡ cond b (Some (unwrap_or (by_number t round) x)) (by_number t r)
-          go true e = ap (by_number t) (eqb-true r round e) ∙ filled (tree.get nat_cmp t round) old
+          go true e = ap (by_number t) (eqb-true r round e) ∙ filled (tree.get nat_cmp t round) x old
           go false e = refl
 
 -- one more receiver

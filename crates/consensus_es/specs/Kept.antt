@@ -3,7 +3,7 @@ use Rattle.std.specs.Prelude.{ℕ, Option, None, Some, nat_lt, if◌then◌else�
 use Rattle.std.specs.Ordering.{nat_cmp}
 use Rattle.std.specs.BTreeMap as tree
 use Rattle.std.specs.BTreeMap.{BTreeMap}
-use Rattle.consensus_es.specs.Cells.{cell_of}
+use Rattle.process_api.specs.Rows.{cell_of}
 use Rattle.consensus_es.specs.declared.letters.Letters.{Letters}
 use Rattle.consensus_es.specs.declared.proposals.Proposals.{Proposals}
 use Rattle.consensus_es.specs.declared.row.Row.{Row}

@@ -1,4 +1,3 @@
-pub mod Cells
 pub mod Kept
 pub mod Rounds
 pub mod State

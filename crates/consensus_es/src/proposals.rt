@@ -1,6 +1,6 @@
 //! Tables of proposals.
 ghost use Rattle.std.specs.Prelude.{◌≡◌, OnOk};
-ghost use Rattle.process_api.specs.Coordinator.{keep_one};
+ghost use Rattle.process_api.specs.Rows.{keep_one};
 
 use std::alloc::{AllocError, Global};
 use std::collections::BTreeMap;

@@ -1,8 +1,7 @@
 //! One round's letters of one kind.
 ghost use Rattle.std.specs.Prelude.{◌≡◌, ◌≤◌, None, OnOk, is_some, length};
-ghost use Rattle.process_api.specs.Coordinator.{keep_one};
 ghost use Rattle.process_api.specs.Rounds.{count_to};
-ghost use Rattle.consensus_es.specs.Cells.{cell_of, AreSenders};
+ghost use Rattle.process_api.specs.Rows.{keep_one, cell_of, AreSenders};
 
 use process_api::{Pid, ProcSet};
 use std::alloc::{AllocError, Global};

@@ -5,13 +5,13 @@ use Rattle.std.specs.BTreeMap as tree
 use Rattle.std.specs.BTreeMap.{BTreeMap}
 use Rattle.process_api.specs.Cells.{Vector, cell}
 use Rattle.process_api.specs.ConsensusS.{Kept, any_to, first_to}
-use Rattle.consensus_s.specs.Rows.{vector_of}
+use Rattle.process_api.specs.Rows.{cell_of}
 use Rattle.consensus_s.specs.declared.letters.Letters.{Letters}
 use Rattle.consensus_s.specs.declared.row.Row.{Row}
 
 -- the vectors of one round
 abbrev pub of_sender : Row → ℕ → Option Vector
-of_sender row = vector_of row.vectors.items
+of_sender row = cell_of row.vectors.items
 
 -- of a round that has no row, no vector
 abbrev pub in_row : Option Row → ℕ → Option Vector

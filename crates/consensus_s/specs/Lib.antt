@@ -1,4 +1,3 @@
-pub mod Rows
 pub mod Kept
 pub mod State
 pub mod Machine

@@ -2,7 +2,7 @@
 ghost use Rattle.std.specs.Prelude.{◌≡◌, ◌≤◌, ◌||◌, ℕ, None, OnOk, is_some, length};
 ghost use Rattle.std.specs.FinSet as set;
 ghost use Rattle.std.specs.Option.{option_copied};
-ghost use Rattle.consensus_s.specs.Rows.{keep_one, vector_of, AreHeard};
+ghost use Rattle.process_api.specs.Rows.{keep_one, cell_of, AreSenders};
 
 use process_api::{Cells, Pid, ProcSet};
 use std::alloc::{AllocError, Global};
@@ -13,7 +13,7 @@ pub(crate) struct Row {
     // process q has place q - 1
     vectors: Vec<Option<Cells>>,
     heard: ProcSet,
-    ghost counted: { AreHeard heard vectors.items },
+    ghost counted: { AreSenders heard vectors.items },
 }
 
 impl Row {
@@ -66,7 +66,7 @@ impl Row {
 
 /// Makes a row at least so wide, with empty cells.
 fn widen(vectors: &mut Vec<Option<Cells>>, places: usize) -> Result<(), AllocError>
-    ensures same { vector_of vectors.new.items ≡ vector_of vectors.old.items }
+    ensures same { cell_of vectors.new.items ≡ cell_of vectors.old.items }
     ensures wide { OnOk result (places ≤ length vectors.new.items) }
 {
     'cells: while vectors.len() < places {

@@ -14,4 +14,5 @@ pub mod Numbering
 pub mod Told
 pub mod OneCrash
 pub mod Rising
+pub mod Rows
 pub mod TimeoutLaws

@@ -3,6 +3,7 @@
 use Rattle.std.specs.Prelude.{ℕ, zero, suc, ◌+◌, ◌-◌, ◌*◌, Bool, true, false, not, ◌&&◌, nat_eq, nat_le, nat_lt, if◌then◌else◌, [], ◌∷◌, ◌++◌, Option, None, Some, is_some, unwrap_or}
 use Rattle.process_api.specs.Answer.{Answer, still, after, to_all}
 use Rattle.process_api.specs.Rounds.{greatest_round, coordinator, is_own, majority, count_to}
+use Rattle.process_api.specs.Rows.{keep_one}
 use Rattle.process_api.specs.Diffusion.{Seen, none_seen, also_seen, broadcast, relay}
 use Rattle.process_api.specs.declared.action.Action.TheVariants as action
 use Rattle.process_api.specs.declared.action.Note.TheVariants as note
@@ -72,9 +73,6 @@ opening_coordinator proposal = record {
 abbrev pub keep : {X : Type 0} → (ℕ → ℕ → Option X) → ℕ → ℕ → X → ℕ → ℕ → Option X
 keep kept round sender x =
     λ r q. if nat_eq r round && nat_eq q sender then Some (unwrap_or (kept round sender) x) else kept r q
-
-abbrev pub keep_one : {X : Type 0} → (ℕ → Option X) → ℕ → X → ℕ → Option X
-keep_one kept round x = λ r. if nat_eq r round then Some (unwrap_or (kept round) x) else kept r
 
 -- what is kept as a round is entered
 abbrev pub from_round : ℕ → Kept → Kept

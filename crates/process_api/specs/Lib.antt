@@ -6,6 +6,7 @@ pub mod Sets
 pub mod Bits
 pub mod InOrder
 pub mod Cells
+pub mod Rows
 pub mod Answer
 pub mod Actions
 pub mod Place

@@ -8,7 +8,8 @@ use Rattle.process_api.specs.Rounds.{count_to, coordinator, majority, is_own, gr
 use Rattle.process_api.specs.declared.consensus.Estimate.{Estimate}
 use Rattle.process_api.specs.declared.consensus.Phase.{Phase}
 use Rattle.process_api.specs.declared.consensus.Phase.TheVariants.{Opening, Collect, Await, Tally, Decided, Ended}
-use Rattle.process_api.specs.Coordinator.{Kept, Coordinator, best_to, is_decided, is_opening, keep, keep_one, leave, propose, collect, reply, adopt, await, tally, end_wait, waits_left, end_waits, settle, is_timely, is_early, deliver, receive, begin, step_coordinator, opening_coordinator}
+use Rattle.process_api.specs.Coordinator.{Kept, Coordinator, best_to, is_decided, is_opening, keep, leave, propose, collect, reply, adopt, await, tally, end_wait, waits_left, end_waits, settle, is_timely, is_early, deliver, receive, begin, step_coordinator, opening_coordinator}
+use Rattle.process_api.specs.Rows.{keep_one}
 use Rattle.process_api.specs.declared.message.Payload.{Payload}
 use Rattle.process_api.specs.declared.message.Payload.TheVariants as payload
 use Rattle.process_api.specs.declared.message.StepInput.{StepInput}

@@ -1,5 +1,5 @@
 use Rattle.std.proofs.Common.{◌∙◌, ◌-◌, ◌++◌, ap, arith, if◌then◌else◌, is_ok, vec_len, replicate, take, None}
-use Rattle.consensus_es.specs.Cells.{cell_of}
+use Rattle.process_api.specs.Rows.{cell_of}
 use Rattle.consensus_es.proofs.Rows.{padded}
 use Rattle.consensus_es.proofs.row.widen.Goals as goal
 

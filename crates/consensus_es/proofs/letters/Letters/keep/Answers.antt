@@ -1,6 +1,7 @@
 use Rattle.std.proofs.Common.{◌∙◌, ap, sym, subst, refl, IsSome}
 use Rattle.std.proofs.lemmas.Result.{on_ok_weaker}
-use Rattle.process_api.specs.Coordinator.{keep, keep_one}
+use Rattle.process_api.specs.Coordinator.{keep}
+use Rattle.process_api.specs.Rows.{keep_one}
 use Rattle.consensus_es.specs.Kept.{by_number, by_row, in_row}
 use Rattle.consensus_es.proofs.Rows.{row_changed}
 use Rattle.consensus_es.proofs.letters.Letters.keep.Goals as goal

@@ -1,4 +1,4 @@
-use Rattle.std.proofs.Common.{◌≡◌, ◌∙◌, ◌≤◌, ap, rules, arith, is_some}
+use Rattle.std.proofs.Common.{◌≡◌, ◌∙◌, ap, arith, is_some}
 use Rattle.std.specs.FinSet as set
 use Rattle.process_api.specs.Rounds.{count_to}
 use Rattle.consensus_es.specs.Kept.{of_sender}

@@ -1,6 +1,6 @@
 use Rattle.std.proofs.Common.{◌≡◌, ◌∙◌, ◌+◌, ◌-◌, ◌<◌, sym, ap, arith, is_some, length}
 use Rattle.std.specs.FinSet as set
-use Rattle.consensus_es.proofs.Rows.{kept_new, sender_new}
+use Rattle.process_api.proofs.Rows.{kept_new, sender_new}
 use Rattle.consensus_es.proofs.row.Row.keep.Goals as goal
 
 pub invariant_of-self : goal.invariant_of-self

@@ -1,4 +1,3 @@
-use Rattle.consensus_s.specs.State.{exchange_of}
 use Rattle.consensus_s.proofs.exchange.Exchange.gather.Goals as goal
 
 pub returns : goal.returns

@@ -2,7 +2,7 @@ use Rattle.std.proofs.Common.{◌∙◌, ap, sym, subst, refl, IsSome}
 use Rattle.std.proofs.lemmas.Result.{on_ok_weaker}
 use Rattle.process_api.specs.ConsensusS.{keep}
 use Rattle.consensus_s.specs.Kept.{by_number, by_row, in_row}
-use Rattle.consensus_s.specs.Rows.{keep_one}
+use Rattle.process_api.specs.Rows.{keep_one}
 use Rattle.consensus_s.proofs.Rows.{row_changed}
 use Rattle.consensus_s.proofs.letters.Letters.keep.Goals as goal
 

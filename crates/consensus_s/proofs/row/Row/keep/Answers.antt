@@ -1,7 +1,7 @@
 use Rattle.std.proofs.Common.{◌≡◌, ◌∙◌, ◌+◌, ◌-◌, ◌<◌, sym, ap, arith, is_some, length}
 use Rattle.std.specs.FinSet as set
-use Rattle.consensus_s.specs.Rows.{keep_one, vector_of}
-use Rattle.consensus_s.proofs.Rows.{kept_new, sender_new}
+use Rattle.process_api.specs.Rows.{keep_one, cell_of}
+use Rattle.process_api.proofs.Rows.{kept_new, sender_new}
 use Rattle.consensus_s.proofs.row.Row.keep.Goals as goal
 
 pub invariant_of-self : goal.invariant_of-self
@@ -24,4 +24,4 @@ returns c =
     let room : place < length c.widen.new.vectors.items = omega (arith, c.in_ok-widen.ensures.wide) in
     kept_new c.args.self.now.vectors.items c.widen.new.vectors.items c.args.sender place c.in_ok-cells.cells at_place c.widen.ensures.same room
     (sym (c.args.self.now.counted c.args.sender) ∙ (sym c.contains.ensures ∙ c.if-contains.false))
-    ∙ ap (keep_one (vector_of c.args.self.now.vectors.items) c.args.sender) c.in_ok-cells.ensures
+    ∙ ap (keep_one (cell_of c.args.self.now.vectors.items) c.args.sender) c.in_ok-cells.ensures

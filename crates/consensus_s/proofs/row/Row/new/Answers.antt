@@ -1,4 +1,4 @@
-use Rattle.consensus_s.proofs.Rows.{no_senders}
+use Rattle.process_api.proofs.Rows.{no_senders}
 use Rattle.consensus_s.proofs.row.Row.new.Goals as goal
 
 pub invariant_of-result : goal.invariant_of-result
