@@ -1,4 +1,17 @@
 //! The rows of a study: sums over the runs of each of its points.
+//!
+//! A run is done within its limit and has a trace, or it passes the limit (`specs/Results.antt`). [`RunNumbers`] is
+//! what one run gives, [`PointSums`] what the runs of a point add up to, and [`Table`] forms the text of the points'
+//! rows. What a row tells is defined by sums, counts and quantifiers over the list of a point's runs
+//! (`specs/Columns.antt`), and so is how it is written (`specs/RowText.antt`). It is proved that the sums of a point,
+//! to which runs were added one by one, are those of the list of these runs, and that the text has their rows.
+//!
+//! Detection times are kept with how often each came, so memory grows with how many different times there are, and not
+//! with the runs. Sums have 128 bits, and are exact of up to 1,000,000,000,000 runs.
+//!
+//! As an example, let process 2 of two crash at tick 3 of 10, process 1 detect it at tick 9, and the study have this one
+//! run, with `detector.timeout` 5. Its row begins `5,1,1,0,12,4,0,6,`: a time-out of 5, layer 1, one run, none that
+//! passed its limit, 12 entries, 4 letters sent, none lost, and 6 ticks of watching, 3 for each of the two pairs.
 #![tactic(auto)]
 
 mod adding;
@@ -15,3 +28,6 @@ pub use columns::{
 pub use point_sums::PointSums;
 pub use run_numbers::RunNumbers;
 pub use table::Table;
+
+#[cfg(test)]
+mod tests;

@@ -1,0 +1,4 @@
+//! Sums and rows by hand.
+mod rows;
+mod sums;
+mod times;
