@@ -1,6 +1,6 @@
 -- Sums over two lists, one after the other.
-use Rattle.std.proofs.Common.{◌≡◌, ℕ, ◌+◌, ◌-◌, ◌*◌, ◌^◌, ◌<◌, ◌≤◌, min, max, Bool, cond, Option, None, Some, List, [], ◌∷◌, ◌++◌, length, sum, sym, ap, ◌∙◌, subst, arith, append-nil, inl, inr, ◌⊎◌, le_trans}
-use Rattle.std.specs.List.{count_by, filter_map, sum_by, All, Contains}
+use Rattle.std.proofs.Common.{◌≡◌, ℕ, ◌+◌, ◌^◌, ◌<◌, ◌≤◌, max, Bool, cond, Option, None, Some, List, ◌++◌, length, sum, sym, ap, ◌∙◌, subst, arith, append-nil, inl, inr, ◌⊎◌, le_trans}
+use Rattle.std.specs.List.{count_by, filter_map, sum_by, All}
 use Rattle.std.proofs.lemmas.List.Elements.{All-append, Contains-append_left, Contains-append_right, filter_map-append}
 use Rattle.std.proofs.lemmas.List.Sums.{sum_by-append, count_by-le-length}
 use Rattle.judges.specs.declared.outcomes.Outcome.{Outcome}

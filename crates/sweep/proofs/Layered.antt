@@ -1,6 +1,6 @@
 -- The runs that have a layer, and what is added up of them.
-use Rattle.std.proofs.Common.{◌≡◌, ℕ, suc, ◌+◌, ◌*◌, ◌^◌, ◌<◌, ◌≤◌, Bool, true, false, cond, is_some, Option, Some, None, List, [], ◌∷◌, ◌++◌, length, sym, ap, ◌∙◌, refl, subst, arith, nat_lt, ◌||◌, ◌==◌, length-append}
-use Rattle.std.specs.List.{cons_option, count_by, filter, filter_map, flat_map, list_any, sum_by}
+use Rattle.std.proofs.Common.{◌≡◌, ℕ, ◌+◌, ◌^◌, ◌<◌, ◌≤◌, Bool, true, false, cond, is_some, Option, Some, None, List, [], ◌∷◌, ◌++◌, length, sym, ap, ◌∙◌, refl, subst, arith, nat_lt, ◌||◌, ◌==◌, length-append}
+use Rattle.std.specs.List.{cons_option, count_by, filter_map, flat_map, list_any}
 use Rattle.std.proofs.lemmas.Bool.{lt-ltb}
 use Rattle.std.proofs.lemmas.Grind.{flat_map-append}
 use Rattle.std.proofs.lemmas.List.Elements.{filter-append, filter_map-append}
@@ -10,8 +10,8 @@ use Rattle.qos_report.specs.Measures.{layer_measures}
 use Rattle.qos_report.specs.Watched.{watched_ticks}
 use Rattle.scenario.specs.Record.{Record}
 use Rattle.sweep.specs.Adding.{layer_plus}
-use Rattle.sweep.specs.Columns.{has_layer, on_layer, finished_of, finish_of, Finished, done_on, all_pairs, times_of, detection_time, is_limited, run_outcomes, do_disagree, AreDoneSums, AreVerdictCounts, AreTraceSums, ArePairSums, AreDecisionSums}
-use Rattle.sweep.specs.Fitting.{most_runs, most_of, IsLayerWithin, AreTracesWithin, ArePairsWithin, AreDecisionsWithin}
+use Rattle.sweep.specs.Columns.{has_layer, on_layer, finished_of, finish_of, Finished, done_on, all_pairs, times_of, detection_time, is_limited, run_outcomes, do_disagree, AreDoneSums, AreVerdictCounts, ArePairSums, AreDecisionSums}
+use Rattle.sweep.specs.Fitting.{most_runs, most_of, IsLayerWithin}
 use Rattle.sweep.specs.Results.{Trial}
 use Rattle.sweep.specs.Sums.{AreFitting, layer_times}
 use Rattle.sweep.specs.declared.columns.LayerSums.{LayerSums}

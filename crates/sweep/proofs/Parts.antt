@@ -1,8 +1,7 @@
 -- What one run gives, layer by layer.
-use Rattle.std.proofs.Common.{◌≡◌, ℕ, ◌+◌, ◌-◌, ◌*◌, ◌/◌, ◌^◌, ◌<◌, ◌≤◌, Bool, true, false, cond, is_some, Option, None, Some, List, [], ◌∷◌, ◌++◌, length, take, drop, sym, ap, ◌∙◌, refl, subst, arith, append-nil, length-append, map, unwrap_or, true≢false, le_trans, zero-add}
-use Rattle.std.specs.List.{All, count_by, filter_map, flat_map, sum_by}
+use Rattle.std.proofs.Common.{◌≡◌, ℕ, ◌*◌, ◌/◌, ◌^◌, ◌≤◌, Bool, true, false, cond, is_some, None, Some, List, [], ◌∷◌, ◌++◌, length, sym, ap, ◌∙◌, refl, subst, arith, append-nil, length-append, map, unwrap_or, true≢false, le_trans, zero-add}
+use Rattle.std.specs.List.{All, count_by, sum_by}
 use Rattle.std.proofs.Math.Nat.{mul-le-mul_right}
-use Rattle.std.proofs.Math.Seq.{take-append_seam, drop-append_seam}
 use Rattle.std.proofs.lemmas.List.{length-map}
 use Rattle.std.proofs.lemmas.List.Concat.{length-flat_map}
 use Rattle.std.proofs.lemmas.List.Sums.{sum_by-le}
@@ -13,7 +12,7 @@ use Rattle.process_api.specs.EntryRecord.{EntryRecord}
 use Rattle.process_api.specs.Numbers.{numbers_to, others}
 use Rattle.process_api.proofs.Numbering.{length-numbers_to, length-filter_to}
 use Rattle.qos_report.specs.Measured.{AreFindings}
-use Rattle.qos_report.specs.Measures.{layer_measures, all_measures, pair_measures}
+use Rattle.qos_report.specs.Measures.{layer_measures, pair_measures}
 use Rattle.qos_report.specs.declared.findings.RunFindings.{RunFindings}
 use Rattle.qos_report.proofs.Layers.{one_layer, two_layers}
 use Rattle.scenario.specs.Record.{Record}

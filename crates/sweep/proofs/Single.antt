@@ -1,13 +1,13 @@
 -- What one element of a list adds.
-use Rattle.std.proofs.Common.{◌≡◌, ℕ, zero, suc, ◌+◌, ◌*◌, ◌^◌, ◌<◌, ◌≤◌, Bool, true, false, cond, not, ◌==◌, ◌||◌, Option, None, Some, List, [], ◌∷◌, ◌++◌, length, take, get_or, sum, sym, ap, ◌∙◌, refl, subst, arith, append-nil, true≢false}
-use Rattle.std.specs.List.{All, Contains, cons_option, filter_map, list_any, sum_by}
+use Rattle.std.proofs.Common.{◌≡◌, ℕ, zero, suc, ◌+◌, ◌*◌, ◌^◌, ◌<◌, ◌≤◌, Bool, true, false, not, ◌==◌, ◌||◌, Option, None, Some, List, [], ◌∷◌, ◌++◌, length, take, get_or, sum, sym, ap, ◌∙◌, refl, subst, arith, append-nil, true≢false}
+use Rattle.std.specs.List.{All, cons_option, filter_map, list_any}
 use Rattle.std.proofs.lemmas.Bool.{eqb-true, eq-eqb}
 use Rattle.std.proofs.lemmas.List.{take_more}
 use Rattle.std.proofs.lemmas.List.Elements.{filter_map-append}
 use Rattle.std.proofs.lemmas.List.Folds.{list_any_none, list_any_at, list_any-append}
 use Rattle.judges.specs.declared.outcomes.Outcome.{Outcome}
 use Rattle.sweep.specs.Adding.{decisions_plus, of_outcome, tick_or_zero, with_value}
-use Rattle.sweep.specs.Columns.{IsNoneOr, IsGreatest, AreDecisionSums, decided_value, decision_tick, noted_round, do_differ}
+use Rattle.sweep.specs.Columns.{IsNoneOr, IsGreatest, AreDecisionSums, decision_tick, noted_round, do_differ}
 use Rattle.sweep.specs.Fitting.{AreDecisionsWithin}
 use Rattle.sweep.specs.declared.columns.DecisionSums.{DecisionSums}
 use Rattle.sweep.specs.declared.run_numbers.Values.{Values}

@@ -1,10 +1,5 @@
 -- Sums that fit their types: each is at most some number.
-use Rattle.std.specs.Prelude.{◌≡◌, ℕ, ◌*◌, ◌^◌, ◌≤◌, List, length}
-use Rattle.std.specs.List.{flat_map}
-use Rattle.judges.specs.declared.outcomes.Outcome.{Outcome}
-use Rattle.qos_report.specs.declared.pair_measures.PairMeasures.{PairMeasures}
-use Rattle.sweep.specs.Results.{Trial}
-use Rattle.sweep.specs.Columns.{Finished, AreTraceSums, ArePairSums, AreDecisionSums, AreLayerSums, done_on}
+use Rattle.std.specs.Prelude.{ℕ, ◌*◌, ◌^◌, ◌≤◌}
 use Rattle.sweep.specs.declared.columns.DecisionSums.{DecisionSums}
 use Rattle.sweep.specs.declared.columns.LayerSums.{LayerSums}
 use Rattle.sweep.specs.declared.columns.PairSums.{PairSums}

@@ -1,4 +1,4 @@
-use Rattle.std.proofs.Common.{◌≡◌, ◌+◌, take, ap, sym, ◌∙◌, subst}
+use Rattle.std.proofs.Common.{◌+◌, take, ap, sym, ◌∙◌, subst}
 use Rattle.std.specs.List.{filter_map}
 use Rattle.judges.specs.declared.outcomes.Outcome.{Outcome}
 use Rattle.sweep.specs.Adding.{with_value}

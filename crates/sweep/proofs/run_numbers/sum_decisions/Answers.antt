@@ -1,6 +1,5 @@
-use Rattle.std.proofs.Common.{◌≡◌, ◌*◌, ◌+◌, ◌^◌, ◌<◌, length, ap, ◌∙◌, subst, arith, take}
+use Rattle.std.proofs.Common.{◌^◌, ◌<◌, length, ap, ◌∙◌, subst, arith}
 use Rattle.sweep.specs.Adding.{decisions_plus, of_outcome}
-use Rattle.sweep.specs.Columns.{AreDecisionSums}
 use Rattle.sweep.specs.Fitting.{AreDecisionsWithin}
 use Rattle.sweep.proofs.Single.{outcome_added, outcome_within}
 use Rattle.sweep.proofs.run_numbers.sum_decisions.Goals as goal

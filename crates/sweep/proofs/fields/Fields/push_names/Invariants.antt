@@ -1,6 +1,5 @@
-use Rattle.std.proofs.Common.{◌≡◌, ◌++◌, map, take, decimal}
+use Rattle.std.proofs.Common.{◌≡◌, ◌++◌, map, take}
 use Rattle.sweep.specs.Fields.{AreWhole, texts_of}
-use Rattle.sweep.specs.RowText.{number_text}
 use Rattle.sweep.proofs.fields.Fields.push_names.Given as goal
 
 abbrev pub invariant-loop-name : goal.invariant-loop-name

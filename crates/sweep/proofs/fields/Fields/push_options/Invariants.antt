@@ -1,4 +1,4 @@
-use Rattle.std.proofs.Common.{◌≡◌, ◌++◌, map, take, decimal}
+use Rattle.std.proofs.Common.{◌≡◌, ◌++◌, map, take}
 use Rattle.sweep.specs.Fields.{AreWhole, texts_of}
 use Rattle.sweep.specs.RowText.{number_text}
 use Rattle.sweep.proofs.fields.Fields.push_options.Given as goal

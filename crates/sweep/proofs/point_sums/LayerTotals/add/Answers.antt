@@ -1,5 +1,5 @@
 use Rattle.std.proofs.Common.{◌≡◌, ◌+◌, ◌^◌, ◌<◌, ◌++◌, length, ap, sym, ◌∙◌, subst, arith}
-use Rattle.sweep.specs.Sums.{AreFitting, layer_times}
+use Rattle.sweep.specs.Sums.{layer_times}
 use Rattle.sweep.specs.Times.{AreCounted}
 use Rattle.sweep.proofs.Layered.{layer_added, times_both}
 use Rattle.sweep.proofs.point_sums.LayerTotals.add.Goals as goal

@@ -1,4 +1,4 @@
-use Rattle.std.proofs.Common.{◌≡◌, ℕ, ◌*◌, ◌^◌, length, ap, sym, ◌∙◌, refl, subst, cond, rules}
+use Rattle.std.proofs.Common.{◌≡◌, ℕ, ◌*◌, ◌^◌, length, ap, ◌∙◌, refl, subst, cond, rules}
 use Rattle.sweep.specs.Columns.{AreDecisionSums, do_disagree}
 use Rattle.sweep.specs.Fitting.{AreDecisionsWithin}
 use Rattle.sweep.specs.declared.columns.LayerSums.{LayerSums}

@@ -1,4 +1,4 @@
-use Rattle.std.proofs.Common.{◌≡◌, ◌++◌, [], true, false, cond, map, ap, sym, ◌∙◌, append_assoc, append-nil}
+use Rattle.std.proofs.Common.{◌++◌, [], cond, map, ap, sym, ◌∙◌, append_assoc, append-nil}
 use Rattle.study.specs.Settings.{chosen}
 use Rattle.sweep.specs.RowText.{layer_text}
 use Rattle.sweep.proofs.table.Table.push_point.Goals as goal
