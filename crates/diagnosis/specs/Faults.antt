@@ -177,13 +177,13 @@ abbrev pub is_of_process : ℤ → Members → Bool
 is_of_process process table = has_integer (codes "process") process table
 
 -- the place is one of an array, of which an earlier table is so
-pub record IsTwice (a : TableArray) (file : Members) (at : Place) (earlier : ℕ) (is_such : Members → Bool) : Type 0 where
+pub record IsTwice (a : TableArray) (file : Members) (at : Place) (earlier : ℕ) (test : Members → Bool) : Type 0 where
   pub number : ℕ
   pub place : at ≡ place.Element a number
   pub before : earlier < number
   pub other : Members
   pub there : numbered earlier (tables_at (array_key a) file) ≡ Some other
-  pub is : is_such other ≡ true
+  pub is : test other ≡ true
 
 -- the link of two processes has this `min`, and it is below the file's lookahead; it is the pair's own table, or `link`
 -- where the pair has none

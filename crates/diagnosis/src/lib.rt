@@ -1,4 +1,16 @@
 //! Diagnoses: what a scenario's file has, or where and why it is refused.
+//!
+//! [`diagnose`] takes a file's bytes and answers a [`Diagnosis`]. Of an accepted file it says how many processes
+//! there are, how long the run lasts, and about how much the run will be. Of a refused one it has the refusal,
+//! which is that of `read_scenario`, and a [`Finding`]: the place in the file, and what stands there.
+//! [`diagnose_table`] does so for a file's table whose bytes were read already. A [`Refused`] is printed as one
+//! line, `LinkNumbers: links[2500]: min 21 is above max 20`.
+//!
+//! What a finding names is so, and breaks the rule of the refusal (`specs/Faults.antt`): the file has a table at
+//! that place (`specs/Place.antt`), the table has that value at that key, and the rule lets no such value pass
+//! (`specs/Ranges.antt` has the ranges and the names). That each refused file gets a finding isn't proved, but
+//! tested: where the search finds nothing, the answer is [`Finding::Unplaced`]. So are the words of the line, its
+//! line and column where the bytes are no TOML, and the estimate.
 #![tactic(auto)]
 
 mod answer;

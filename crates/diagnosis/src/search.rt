@@ -317,7 +317,7 @@ fn find_in_arrays(
     find_twice(alloc, refusal, tables)
 }
 
-/// What is wrong with a file's tables, the first of it: the top table's before its tables', and those before the arrays'.
+/// What is wrong with a file's tables, the first of it: in the top table, in its tables, and then in its arrays.
 pub(crate) fn find(
     alloc: Global,
     refusal: &ScenarioError,
