@@ -1,0 +1,2 @@
+mod Dealt
+mod Taking
