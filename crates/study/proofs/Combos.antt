@@ -1,11 +1,12 @@
 -- Combinations, counted and picked by their numbers.
-use Rattle.std.proofs.Common.{◌≡◌, ℕ, zero, suc, ◌+◌, ◌*◌, ◌/◌, ◌%◌, ◌≤◌, ◌<◌, List, [], ◌∷◌, ◌++◌, length, vec_len, length-append, map, get_or, drop, sym, ◌∙◌, ap, arith}
+use Rattle.std.proofs.Common.{◌≡◌, ℕ, zero, suc, ◌+◌, ◌*◌, ◌/◌, ◌%◌, ◌≤◌, ◌<◌, List, [], ◌∷◌, ◌++◌, length, vec_len, length-append, map, get_or, drop, refl, sym, ◌∙◌, ap, arith}
 use Rattle.std.specs.List.{flat_map}
 use Rattle.std.proofs.Math.Nat.{suc-mul, zero-mul, zero-add, one-le-mul, mul-div_cancel_left, div-lt_iff_lt-mul, mod-lt, mul_assoc, le-mul_of_pos_right}
 use Rattle.std.proofs.lemmas.Nat.{div-add-mod'}
 use Rattle.std.proofs.lemmas.List.{length-map, get_or-map, get_or_append_left, get_or-append-add, drop_more}
 use Rattle.study.specs.Combinations.{combinations}
-use Rattle.study.specs.Settings.{choices, path_of, given_by}
+use Rattle.study.specs.Settings.{Path, Chosen, choices, path_of, given_by, text}
+use Rattle.study.specs.Grid.{paths_of}
 use Rattle.study.specs.declared.axis.Axis.{Axis}
 use Rattle.study.specs.declared.setting.Setting.{Setting}
 
@@ -118,3 +119,22 @@ picked_more axes i left a v within is inside read =
     ∙ ap (λ x. x ∷ get_or (combinations (map choices (drop (i + 1) axes))) (left % length (combinations (map choices (drop (i + 1) axes)))) [])
     (get_or-map (λ w. record { path = path_of a.key; value = given_by w }) a.values.items (left / length (combinations (map choices (drop (i + 1) axes)))) v (record { path = path_of a.key; value = given_by v }) in_list
     ∙ ap (λ w. record { path = path_of a.key; value = given_by w }) (sym read))))
+
+-- the keys of the first combination
+first_path : (p : Path) (vs : List Setting) → (get_or {A = Chosen} (map (λ v. record { path = p; value = given_by v }) vs) 0 (record { path = p; value = text [] })).path ≡ p
+first_path p [] = refl
+first_path p (v ∷ vs) = refl
+
+pub first_keys : (axes : List Axis) → map (λ c. c.path) (get_or (combinations (map choices axes)) 0 []) ≡ paths_of axes
+first_keys [] = refl
+first_keys (a ∷ axes) =
+    let some : 1 ≤ length (combinations (map choices axes)) = some_combinations axes in
+    let here : 1 ≤ vec_len a.values = axis_some a in
+    let within : 0 < length (choices a) = omega (arith, choices-length a) in
+    let x : Chosen = record { path = path_of a.key; value = text [] } in
+    let at = combination_at (choices a) (map choices axes) 0 0 x within some in
+    let place : 0 ≡ 0 * length (combinations (map choices axes)) + 0 = simp (zero-mul, zero-add) in
+    ap (λ k. map (λ c. c.path) (get_or (combinations (choices a ∷ map choices axes)) k [])) place
+    ∙ (ap (λ cs. map (λ c. c.path) cs) at
+    ∙ (ap (λ p. p ∷ map (λ c. c.path) (get_or (combinations (map choices axes)) 0 [])) (first_path (path_of a.key) a.values.items)
+    ∙ ap (λ ps. path_of a.key ∷ ps) (first_keys axes)))

@@ -1,5 +1,5 @@
 -- A grid of settings: its points, and the runs of a point.
-use Rattle.std.specs.Prelude.{◌≡◌, ℕ, ◌+◌, ◌-◌, ◌*◌, ◌<◌, ◌≤◌, ◌^◌, ◌==◌, List, [], ◌∷◌, ◌++◌, map, length, Bool, true, false, ◌&&◌, ◌||◌}
+use Rattle.std.specs.Prelude.{◌≡◌, ℕ, ◌+◌, ◌-◌, ◌*◌, ◌<◌, ◌≤◌, ◌^◌, ◌==◌, List, [], ◌∷◌, ◌++◌, map, length, get_or, Bool, true, false, ◌&&◌, ◌||◌}
 use Rattle.std.specs.List.{flat_map, range_with_len, list_any}
 use Rattle.scenario.specs.Table.{same_text}
 use Rattle.study.specs.Combinations.{combinations}
@@ -21,6 +21,10 @@ pub record GridRecord : Type 0 where
 -- the settings of each point: all combinations of the varied keys' choices, the last key's changing fastest
 abbrev pub points : GridRecord → List (List Chosen)
 points g = combinations g.vary
+
+-- the varied keys, in order: those of the first point's settings
+abbrev pub keys : GridRecord → List Path
+keys g = map (λ c. c.path) (get_or (points g) 0 [])
 
 -- one run of a point
 pub record RunRecord : Type 0 where
@@ -63,7 +67,7 @@ Applies vary over first last error.SeedTooHigh = 2 ^ 63 ≤ last
 Applies vary over first last error.KeyTwice = has_twice (paths_of vary ++ paths_of over) ≡ true
 Applies vary over first last error.TooManyPoints = 1000000 < length (combinations (map choices vary))
 Applies vary over first last error.TooManyRuns =
-    2 ^ 64 ≤ length (combinations (map choices over)) * (last + 1 - first)
+    1000000000000 < length (combinations (map choices over)) * (last + 1 - first)
 Applies vary over first last (error.Memory m) = Unit {0}
 
 abbrev pub number_of : GridError → ℕ

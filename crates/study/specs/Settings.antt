@@ -1,5 +1,6 @@
 -- Keys of a scenario's file, and what they are set to.
-use Rattle.std.specs.Prelude.{ℕ, ℤ, List, map, string_bytes}
+use Rattle.std.specs.Prelude.{ℕ, ℤ, List, ◌++◌, map, codes, string_bytes, decimal}
+use Rattle.std.specs.Fmt.{signed_decimal}
 use Rattle.study.specs.declared.key.Key.{Key}
 use Rattle.study.specs.declared.key.Key.TheVariants as key
 use Rattle.study.specs.declared.setting.Setting.{Setting}
@@ -21,6 +22,12 @@ path_of (key.Top k) = top (string_bytes k)
 path_of (key.Inner t k) = inner (string_bytes t) (string_bytes k)
 path_of (key.Element a place k) = element (string_bytes a) place (string_bytes k)
 
+-- a key as it is written: horizon, detector.timeout, crash[1].at
+abbrev pub key_text : Path → List ℕ
+key_text (top k) = k
+key_text (inner t k) = t ++ codes "." ++ k
+key_text (element a place k) = a ++ codes "[" ++ decimal place ++ codes "]." ++ k
+
 -- what a key is set to
 pub data Given : Type 0 where
   number : ℤ → Given
@@ -29,6 +36,11 @@ pub data Given : Type 0 where
 abbrev pub given_by : Setting → Given
 given_by (setting.Integer z) = number z
 given_by (setting.Text s) = text (string_bytes s)
+
+-- what a key is set to as it is written: an integer in decimal, a text as it stands
+abbrev pub given_text : Given → List ℕ
+given_text (number z) = signed_decimal z
+given_text (text s) = s
 
 -- a key with one value
 pub record Chosen : Type 0 where

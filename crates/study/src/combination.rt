@@ -8,18 +8,14 @@ use std::alloc::{AllocError, Global};
 
 /// How many combinations of the axes' values there are, if they aren't more than this.
 pub(crate) fn count_combinations(axes: &[Axis], most: u64) -> Option<u64>
-    requires { 1 ≤ most }
     ensures { MatchOption result (most < length (combinations (map choices axes.now)))
         (λ n. (n ≡ length (combinations (map choices axes.now))) × (1 ≤ n) × (n ≤ most)) }
 {
     let mut count = 1_u64;
     for axis in axes {
         count = count.checked_mul(axis.values.len() as u64)?;
-        if count > most {
-            return None;
-        }
     }
-    Some(count)
+    if count <= most { Some(count) } else { None }
 }
 
 /// The combination of this number, from 0, of so many: its values are found by division, from the first axis to the

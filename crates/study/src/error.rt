@@ -20,7 +20,7 @@ pub enum GridError {
     /// There are more than 1,000,000 points.
     #[error("there are too many points")]
     TooManyPoints,
-    /// A point has more runs than a number of 64 bits can count.
+    /// A point has more than 1,000,000,000,000 runs.
     #[error("there are too many runs")]
     TooManyRuns,
     /// Memory was refused.

@@ -1,7 +1,7 @@
 //! Grids of settings.
 ghost use Rattle.std.specs.Prelude.{◌≡◌, ◌<◌, ◌≤◌, ◌++◌, [], map, length, get_or, IfOk, OnOk, IfErr};
-ghost use Rattle.study.specs.Settings.{chosen, path_of};
-ghost use Rattle.study.specs.Grid.{points, runs, run_of, grid_of, paths_of, has_twice, NoneApplies, IsFirst};
+ghost use Rattle.study.specs.Settings.{choices, chosen, path_of};
+ghost use Rattle.study.specs.Grid.{points, keys, runs, run_of, grid_of, paths_of, has_twice, NoneApplies, IsFirst};
 
 use crate::axis::{Axis, Choice};
 use crate::combination::{count_combinations, pick_combination};
@@ -13,6 +13,9 @@ use std::marker::Model;
 
 /// How many points a grid may have.
 const MOST_POINTS: u64 = 1_000_000;
+
+/// How many runs a point may have. Sums of numbers of 64 bits over the pairs and the runs of a point fit into 128 bits.
+const MOST_RUNS: u64 = 1_000_000_000_000;
 
 /// Which runs a study has: its points, and the runs of each point.
 #[derive(Debug, Drop)]
@@ -47,7 +50,7 @@ impl Model for Grid {
       mixes : g.mixes ≡ length (combinations (map choices g.over.items));
       seeds_low : 1 ≤ g.seeds;
       seeds_high : g.first_seed + g.seeds ≤ 2 ^ 63;
-      runs_high : g.mixes * g.seeds < 2 ^ 64;
+      runs_high : g.mixes * g.seeds ≤ 1000000000000;
     } };
 }
 
@@ -104,7 +107,7 @@ impl Grid {
             return Err(GridError::TooManyPoints);
         };
         let seeds = last_seed + 1 - first_seed;
-        let Some(mixes) = count_combinations(&over, u64::MAX / seeds) else {
+        let Some(mixes) = count_combinations(&over, MOST_RUNS / seeds) else {
             return Err(GridError::TooManyRuns);
         };
         Ok(Grid {
@@ -125,9 +128,18 @@ impl Grid {
         self.points
     }
 
-    /// How many runs each point has.
+    /// The varied axes, in order.
+    pub fn varied(&self) -> &[Axis]
+        ensures choices { map choices result.now ≡ self.now.vary }
+        ensures keys { paths_of result.now ≡ keys self.now }
+    {
+        &self.vary
+    }
+
+    /// How many runs each point has, at most 1,000,000,000,000.
     pub fn runs(&self) -> u64
-        ensures { result ≡ length (runs self.now) }
+        ensures value { result ≡ length (runs self.now) }
+        ensures high { result ≤ 1000000000000 }
     {
         self.mixes * self.seeds
     }

@@ -1,8 +1,11 @@
 //! Keys of a scenario's file.
-ghost use Rattle.std.specs.Prelude.{◌≡◌, map};
+ghost use Rattle.std.specs.Prelude.{◌≡◌, map, string_bytes, IfOk};
 ghost use Rattle.std.specs.List.{list_any};
-ghost use Rattle.study.specs.Settings.{path_of};
+ghost use Rattle.study.specs.Settings.{path_of, key_text};
 ghost use Rattle.study.specs.Grid.{same_path, has_twice};
+
+use std::alloc::{AllocError, Global};
+use std::fmt;
 
 /// A key of a scenario's file, by its path.
 #[derive(Debug, Drop)]
@@ -28,6 +31,13 @@ pub enum Key {
 }
 
 impl Key {
+    /// The key as it is written: `horizon`, `detector.timeout`, `crash[1].at`.
+    pub fn text(&self, alloc: Global) -> Result<String, AllocError>
+        ensures { IfOk result (λ s. string_bytes s ≡ key_text (path_of self.now)) }
+    {
+        self.to_string(alloc)
+    }
+
     /// Whether both are one key.
     pub(crate) fn is(&self, other: &Key) -> bool
         ensures { result ≡ same_path (path_of self.now) (path_of other.now) }
@@ -58,6 +68,21 @@ impl Key {
                 }
                 _ => false,
             },
+        }
+    }
+}
+
+impl fmt::Display for Key {
+    ghost use Rattle.std.specs.Prelude.{Some};
+    ghost use Rattle.study.specs.Settings.{path_of, key_text};
+
+    ghost output = { λ k. Some (key_text (path_of k)) };
+
+    fn fmt<W: fmt::Write>(&self, f: &mut fmt::Formatter<W>) -> fmt::Result {
+        match self {
+            Key::Top(key) => write!(f, "{key}"),
+            Key::Inner { table, key } => write!(f, "{table}.{key}"),
+            Key::Element { array, place, key } => write!(f, "{array}[{place}].{key}"),
         }
     }
 }

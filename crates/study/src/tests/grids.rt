@@ -1,6 +1,7 @@
 //! Grids by hand.
 use crate::tests::{element, inner, integers, numbers_of, top};
-use crate::{Grid, GridError};
+use crate::{Axis, Grid, GridError, Setting};
+use itoa::Buffer;
 use std::alloc::Global;
 use std::test::Fail;
 
@@ -99,16 +100,69 @@ fn many(rt: HostRuntime) -> Result<(), Fail> {
     Ok(())
 }
 
+/// A point with 1,000,000,000,000 runs, and with more: by the axes whose values are added up, and by the seeds.
+#[test]
+fn many_runs(rt: HostRuntime) -> Result<(), Fail> {
+    let alloc = rt.alloc();
+    let ten = [0, 1, 2, 3, 4, 5, 6, 7, 8, 9];
+    let twelve = ["a", "b", "c", "d", "e", "f", "g", "h", "i", "j", "k", "l"];
+    assert_eq!(rt; square(alloc, &[], &twelve, &ten, 1)?, "taken");
+    assert_eq!(rt; square(alloc, &[], &twelve, &ten, 2)?, "TooManyRuns");
+    for (last, name) in [
+        (1_000_000_000_000, "taken"),
+        (1_000_000_000_001, "TooManyRuns"),
+    ] {
+        assert_eq!(rt; square(alloc, &[], &[], &ten, last)?, name, "{last}");
+    }
+    Ok(())
+}
+
+/// The varied axes, and the settings of a point, as they are written.
+#[test]
+fn written(rt: HostRuntime) -> Result<(), Fail> {
+    let alloc = rt.alloc();
+    let mut names = Vec::new(alloc);
+    names.push(Setting::Text(String::from_str(alloc, "es")?))?;
+    if names.is_empty() {
+        return Err(Fail::from("an axis has no values"));
+    }
+    let algorithms = Axis {
+        key: top(alloc, "algorithm")?,
+        values: names,
+    };
+    let timeouts = integers(alloc, inner(alloc, "detector", "timeout")?, &[5, -8])?;
+    let ticks = integers(alloc, element(alloc, "crash", 12, "at")?, &[3])?;
+    let vary = vec![in alloc; algorithms, timeouts, ticks]?;
+    let grid = Grid::new(alloc, vary, Vec::new(alloc), 1, 1)?;
+    let keys = ["algorithm", "detector.timeout", "crash[12].at"];
+    for (axis, text) in grid.varied().iter().zip(&keys) {
+        assert!(rt; axis.key.text(alloc)?.as_str() == *text, "{text}");
+    }
+    assert_eq!(rt; grid.varied().len(), 3);
+    if grid.points() < 2 {
+        return Err(Fail::from("too few points"));
+    }
+    let point = grid.point(alloc, 1)?;
+    for (choice, text) in point.iter().zip(&["es", "-8", "3"]) {
+        let mut buffer = Buffer::new();
+        assert!(rt; choice.value.text(&mut buffer) == *text, "{text}");
+    }
+    assert_eq!(rt; point.len(), 3);
+    Ok(())
+}
+
 /// Seeds that there can't be, and the highest.
 #[test]
 fn seeds(rt: HostRuntime) -> Result<(), Fail> {
     let alloc = rt.alloc();
-    for (last, name) in [
-        (0, "NoSeed"),
-        (HIGHEST_SEED, "taken"),
-        (HIGHEST_SEED + 1, "SeedTooHigh"),
+    for (first, last, name) in [
+        (1, 0, "NoSeed"),
+        (HIGHEST_SEED, HIGHEST_SEED, "taken"),
+        (HIGHEST_SEED, HIGHEST_SEED + 1, "SeedTooHigh"),
+        (0, HIGHEST_SEED, "TooManyRuns"),
     ] {
-        assert_eq!(rt; square(alloc, &["a"], &[], &[1], last)?, name, "{last}");
+        let grid = Grid::new(alloc, Vec::new(alloc), Vec::new(alloc), first, last);
+        assert_eq!(rt; name_of(&grid), name, "{first} to {last}");
     }
     Ok(())
 }

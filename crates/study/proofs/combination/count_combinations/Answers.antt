@@ -10,15 +10,8 @@ returns-in_err-count c =
     let i = c.loop-axis.axis-index in
     let from : length (combinations (map choices (drop i c.args.axes.now))) ≡ c.len.result * length (combinations (map choices (drop (i + 1) c.args.axes.now))) = length_from c.args.axes.now i c.axis-item.result c.loop-axis-test.true c.axis-item.is ∙ ap (λ n. n * length (combinations (map choices (drop (i + 1) c.args.axes.now)))) (sym c.len.ensures) in
     let low : c.loop-axis.count * c.len.result ≤ length (combinations (map choices c.args.axes.now)) = counted-le c.loop-axis.count c.len.result (length (combinations (map choices (drop (i + 1) c.args.axes.now)))) (length (combinations (map choices c.args.axes.now))) (length (combinations (map choices (drop i c.args.axes.now)))) c.loop-axis.invariant.whole from (some_combinations (drop (i + 1) c.args.axes.now)) in
-    let beyond : c.args.most < length (combinations (map choices c.args.axes.now)) = omega (arith, c.in_err-count.ensures) in
+    let beyond : c.args.most < length (combinations (map choices c.args.axes.now)) = omega (arith, c.in_err-count.ensures, c.ranges.most) in
     rw c.from_residual.ensures beyond
-
-pub returns-then-count-most : goal.returns-then-count-most
-returns-then-count-most c =
-    let i = c.loop-axis.axis-index in
-    let from : length (combinations (map choices (drop i c.args.axes.now))) ≡ c.len.result * length (combinations (map choices (drop (i + 1) c.args.axes.now))) = length_from c.args.axes.now i c.axis-item.result c.loop-axis-test.true c.axis-item.is ∙ ap (λ n. n * length (combinations (map choices (drop (i + 1) c.args.axes.now)))) (sym c.len.ensures) in
-    let low : c.loop-axis.count * c.len.result ≤ length (combinations (map choices c.args.axes.now)) = counted-le c.loop-axis.count c.len.result (length (combinations (map choices (drop (i + 1) c.args.axes.now)))) (length (combinations (map choices c.args.axes.now))) (length (combinations (map choices (drop i c.args.axes.now)))) c.loop-axis.invariant.whole from (some_combinations (drop (i + 1) c.args.axes.now)) in
-    omega (arith, c.in_ok-count.ensures)
 
 pub loop-axis-preserved : goal.loop-axis-preserved
 loop-axis-preserved c =
@@ -29,5 +22,4 @@ loop-axis-preserved c =
     record {
       whole = ap (λ n. n * length (combinations (map choices (drop (i + 1) c.args.axes.now)))) is ∙ counted c.loop-axis.count c.len.result (length (combinations (map choices (drop (i + 1) c.args.axes.now)))) (length (combinations (map choices c.args.axes.now))) (length (combinations (map choices (drop i c.args.axes.now)))) c.loop-axis.invariant.whole from;
       low = rw is (one-le-mul c.loop-axis.invariant.low some);
-      high = omega arith;
     }

@@ -7,5 +7,4 @@ abbrev pub invariant-loop-axis : goal.invariant-loop-axis
 invariant-loop-axis l = record {
   whole : l.count * length (combinations (map choices (drop l.axis-index l.axes))) ≡ length (combinations (map choices l.axes));
   low : 1 ≤ l.count;
-  high : l.count ≤ l.most;
 }
