@@ -16,18 +16,20 @@ use Rattle.judges.specs.Verdicts.{verdicts}
 use Rattle.judges.proofs.Entering.{judging_quiet}
 use Rattle.judges.proofs.Order.{before_one}
 use Rattle.qos_report.specs.Findings.{second_text, found_text}
+use Rattle.qos_report.specs.Measured.{AreFindings}
 use Rattle.qos_report.specs.Measures.{layers, all_measures}
 use Rattle.qos_report.specs.Printed.{items_of}
 use Rattle.qos_report.specs.ReportText.{Text, report_header, run_text, verdict_text, pair_text, decisions_text, report_text}
-use Rattle.qos_report.specs.Running.{IsCounting, IsTextWhere, IsLayer, IsSecondWhere, AreLayers, AreFindings, AreReported}
+use Rattle.qos_report.specs.Running.{IsCounting, IsTextWhere, IsLayer, IsSecondWhere, AreLayers, IsSumming, IsMeasuring, IsRunning}
 use Rattle.qos_report.specs.Rows.{row_of}
-use Rattle.qos_report.specs.Summary.{IsSummary}
 use Rattle.qos_report.specs.TraceText.{fields_of, trace_header, trace_text}
 use Rattle.qos_report.specs.declared.counts.Counts.{Counts}
-use Rattle.qos_report.specs.declared.running.Findings.{Findings}
-use Rattle.qos_report.specs.declared.running.RunningLayer.{RunningLayer}
-use Rattle.qos_report.specs.declared.running.RunningLayers.{RunningLayers}
-use Rattle.qos_report.specs.declared.summary.Summary.{Summary}
+use Rattle.qos_report.specs.declared.findings.RunFindings.{RunFindings}
+use Rattle.qos_report.specs.declared.running.Running.TheVariants.{Summed, Measured}
+use Rattle.qos_report.specs.declared.running_findings.RunningFindings.{RunningFindings}
+use Rattle.qos_report.specs.declared.running_findings.RunningLayer.{RunningLayer}
+use Rattle.qos_report.specs.declared.running_findings.RunningLayers.{RunningLayers}
+use Rattle.qos_report.specs.declared.running_summary.RunningSummary.{RunningSummary}
 use Rattle.qos_report.proofs.EachProcess.{append_none}
 use Rattle.qos_report.proofs.Entering.{metering_quiet}
 
@@ -36,13 +38,21 @@ pub counted : (trace : List EntryRecord) (c : Counts) → IsCounting trace c →
     → (c.entries ≡ length trace) × (c.sent ≡ sum_by (λ e. e.sent) trace) × (c.lost ≡ sum_by (λ e. e.lost) trace)
 counted trace c h small = (omega (arith, h.entries), omega (arith, h.sent, h.sent_high), omega (arith, h.lost, h.lost_high))
 
-pub text_none : (S : Record) (trace : List EntryRecord) (b : Bool) (text : Text) → AreReported S trace b None → IsTextWhere b text None
-text_none S trace true text h = h
-text_none S trace false text h = tt
+-- a running form is one of the summary alone, or of all
+module _ (S : Record) (trace : List EntryRecord) (b : Bool) where
+  pub is_summed : (r : RunningSummary) → IsRunning S trace b (Summed r) → (b ≡ false) × IsSumming S trace r
+  is_summed r = go b
+    where
+      go : (b : Bool) → IsRunning S trace b (Summed r) → (b ≡ false) × IsSumming S trace r
+      go true h = absurd h
+      go false h = (refl, h)
 
-pub text_some : (S : Record) (trace : List EntryRecord) (b : Bool) (r : RunningLayers) (text : Text) (t : Vec ℕ) → AreReported S trace b (Some r) → (AreLayers S trace r → t.items ≡ text) → IsTextWhere b text (Some t)
-text_some S trace true r text t h is = is h
-text_some S trace false r text t h is = h
+  pub is_measured : (r : RunningFindings) → IsRunning S trace b (Measured r) → (b ≡ true) × IsMeasuring S trace r
+  is_measured r = go b
+    where
+      go : (b : Bool) → IsRunning S trace b (Measured r) → (b ≡ true) × IsMeasuring S trace r
+      go true h = (refl, h)
+      go false h = absurd h
 
 pub text_items : (text : Text) (report : Option (Vec ℕ)) → IsTextWhere true text report → items_of report ≡ text
 text_items text None h = absurd h
@@ -94,11 +104,8 @@ module _ (S : Record) (trace : List EntryRecord) where
     second_quiet false (Some l) h = h
     second_quiet false None h = h
 
-    pub reported_quiet : (b : Bool) (r : Option RunningLayers) → AreReported S trace b r → AreReported S (trace ++ entry ∷ []) b r
-    reported_quiet true (Some r) h = record { first = layer_quiet 1 r.first h.first; second = second_quiet (is_some S.share) r.second h.second }
-    reported_quiet true None h = h
-    reported_quiet false (Some r) h = h
-    reported_quiet false None h = h
+    pub layers_quiet : (r : RunningLayers) → AreLayers S trace r → AreLayers S (trace ++ entry ∷ []) r
+    layers_quiet r h = record { first = layer_quiet 1 r.first h.first; second = second_quiet (is_some S.share) r.second h.second }
 
   -- ---- the report
 
@@ -110,9 +117,10 @@ module _ (S : Record) (trace : List EntryRecord) where
   second_is true = λ i. verdict_text 2 (verdicts S trace 2)
   second_is false = λ i. []
 
-  pub found_is : (summary : Summary) (f : Findings) → IsSummary S trace summary → AreFindings S trace f → found_text S.algorithm summary f ≡ report_text S trace
+  pub found_is : (f : RunFindings) → AreFindings S trace f → found_text S.algorithm f ≡ report_text S trace
   unfolding found_text report_text
-  found_is summary f s h =
+  found_is f h =
+      let s = h.summary in
       let g : ℕ → Text = λ layer. verdict_text layer (verdicts S trace layer) in
       let l : verdict_text 1 (verdicts S trace 1) ++ second_text (cond (is_some S.share) (Some (verdicts S trace 2)) None) ≡ flat_map g (layers S)
       = ap (λ t. verdict_text 1 (verdicts S trace 1) ++ t) (sym (second_is (is_some S.share))) ∙ sym (layers_text_is g (is_some S.share)) in

@@ -3,6 +3,7 @@ pub mod Waits
 pub mod Passes
 pub mod Lasting
 pub mod EachProcess
+pub mod Watching
 pub mod Closing
 pub mod Fed
 pub mod Keeping

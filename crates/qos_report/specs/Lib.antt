@@ -1,5 +1,6 @@
 pub mod Distances
 pub mod Measures
+pub mod Watched
 pub mod Tally
 pub mod Knows
 pub mod Meter
@@ -17,6 +18,7 @@ pub mod Summary
 pub mod Findings
 pub mod Running
 pub mod Printed
+pub mod Measured
 pub mod Recording
 pub mod Streaming
 pub mod Resting

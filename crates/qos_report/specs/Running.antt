@@ -1,20 +1,20 @@
 -- What it is that the running forms were fed with the entries of a trace.
-use Rattle.std.specs.Prelude.{◌≡◌, ℕ, ◌*◌, ◌-◌, ◌^◌, ◌≤◌, min, Bool, true, false, if◌then◌else◌, Option, None, Some, is_some, List, length}
+use Rattle.std.specs.Prelude.{◌≡◌, ℕ, ◌*◌, ◌-◌, ◌^◌, ◌≤◌, min, Bool, true, false, Option, None, Some, is_some, List, length}
 use Rattle.std.specs.Global.{Vec}
 use Rattle.std.specs.List.{sum_by}
 use Rattle.process_api.specs.EntryRecord.{EntryRecord}
 use Rattle.scenario.specs.Record.{Record}
 use Rattle.judges.specs.Judging.{IsDeciding, IsJudging}
-use Rattle.judges.specs.Verdicts.{verdicts}
-use Rattle.qos_report.specs.Measures.{all_measures}
 use Rattle.qos_report.specs.Metering.{IsMetering}
 use Rattle.qos_report.specs.ReportText.{Text, report_text}
 use Rattle.qos_report.specs.Summary.{IsSummary}
 use Rattle.qos_report.specs.declared.counts.Counts.{Counts}
-use Rattle.qos_report.specs.declared.running.Findings.{Findings}
 use Rattle.qos_report.specs.declared.running.Running.{Running}
-use Rattle.qos_report.specs.declared.running.RunningLayer.{RunningLayer}
-use Rattle.qos_report.specs.declared.running.RunningLayers.{RunningLayers}
+use Rattle.qos_report.specs.declared.running.Running.TheVariants.{Summed, Measured}
+use Rattle.qos_report.specs.declared.running_findings.RunningFindings.{RunningFindings}
+use Rattle.qos_report.specs.declared.running_findings.RunningLayer.{RunningLayer}
+use Rattle.qos_report.specs.declared.running_findings.RunningLayers.{RunningLayers}
+use Rattle.qos_report.specs.declared.running_summary.RunningSummary.{RunningSummary}
 use Rattle.qos_report.specs.declared.summary.Summary.{Summary}
 
 -- the counts stay at the greatest number; each entry has less than 2^32 letters
@@ -52,22 +52,20 @@ module _ (S : Record) where
       pub first : IsLayer 1 trace r.first
       pub second : IsSecond r.second
 
-    pub record AreFindings (f : Findings) : Type 0 where
-      pub first : f.first ≡ verdicts S trace 1
-      pub second : f.second ≡ (if is_some S.share then Some (verdicts S trace 2) else None)
-      pub measures : f.measures.items ≡ all_measures S trace
-
-    -- everything that is measured, with what a report tells where it is asked for
-    abbrev pub AreReported : (reported : Bool) → Option RunningLayers → Type 0
-    AreReported true (Some r) = AreLayers r
-    AreReported true None = ⊥
-    AreReported false (Some r) = ⊥
-    AreReported false None = Unit {0}
-
-    pub record IsRunning (reported : Bool) (r : Running) : Type 0 where
+    pub record IsSumming (r : RunningSummary) : Type 0 where
       pub counts : IsCounting trace r.counts
       pub outcomes : IsDeciding S.processes trace r.outcomes
-      pub layers : AreReported reported r.layers
+
+    pub record IsMeasuring (r : RunningFindings) : Type 0 where
+      pub summary : IsSumming r.summary
+      pub layers : AreLayers r.layers
+
+    -- everything that is measured where a report is asked for, and else the summary alone
+    abbrev pub IsRunning : (reported : Bool) → Running → Type 0
+    IsRunning true (Measured r) = IsMeasuring r
+    IsRunning true (Summed r) = ⊥
+    IsRunning false (Measured r) = ⊥
+    IsRunning false (Summed r) = IsSumming r
 
     -- what is told of the run: the summary, and the report where it is asked for
     pub record IsToldOf (reported : Bool) (told : Summary × Option (Vec ℕ)) : Type 0 where

@@ -40,8 +40,10 @@
 mod asked;
 mod bench;
 mod counts;
+mod findings;
 mod fuse_outlet;
 mod ledger;
+mod measured_run;
 mod measuring;
 mod memory_outlet;
 mod meter;
@@ -53,6 +55,8 @@ mod report;
 mod report_rows;
 mod rows;
 mod running;
+mod running_findings;
+mod running_summary;
 mod stream_outlet;
 mod streaming;
 mod summary;
@@ -60,10 +64,13 @@ mod tail;
 mod tally;
 mod trace_text;
 mod values;
+mod watched;
 mod writing;
 
 pub use bench::{bench_list, bench_windows};
+pub use findings::RunFindings;
 pub use fuse_outlet::FuseOutlet;
+pub use measured_run::measure_list;
 pub use measuring::measures;
 pub use memory_outlet::MemoryOutlet;
 pub use meter::Meter;
@@ -72,6 +79,7 @@ pub use pair_measures::{Detection, PairMeasures};
 pub use print_choice::PrintChoice;
 pub use stream_outlet::StreamOutlet;
 pub use summary::Summary;
+pub use watched::watched_ticks;
 pub use writing::{write_report, write_trace};
 
 #[cfg(test)]

@@ -5,11 +5,10 @@ ghost use Rattle.qos_report.specs.Findings.{found_text, layers_text};
 ghost use Rattle.qos_report.specs.ReportText.{pair_text, decision_text, decisions_text};
 ghost use Rattle.qos_report.specs.Rows.{IsBetweenRows, text_of};
 
+use crate::findings::RunFindings;
 use crate::pair_measures::PairMeasures;
 use crate::report_rows::{push_decision, push_pair, push_run, push_verdicts};
 use crate::rows::Rows;
-use crate::running::Findings;
-use crate::summary::Summary;
 use judges::Outcome;
 use scenario::AlgorithmKind;
 use std::alloc::{AllocError, Global};
@@ -18,7 +17,7 @@ use std::alloc::{AllocError, Global};
 const HEADER: &[u8] = b"section,layer,observer,subject,measure,value\n";
 
 /// Adds the rows of the verdicts: of layer 1, and of layer 2 where there is a reduction.
-fn push_layers(rows: &mut Rows, findings: &Findings) -> Result<(), AllocError>
+fn push_layers(rows: &mut Rows, findings: &RunFindings) -> Result<(), AllocError>
     requires { IsBetweenRows rows.old }
     ensures between { OnOk result (IsBetweenRows rows.new) }
     ensures text { OnOk result (text_of rows.new ≡ text_of rows.old ++ layers_text findings.now) }
@@ -71,7 +70,7 @@ fn push_decisions(
     }
 }
 
-/// The text of a report, of what is told of a run and of its layers.
+/// The text of a report, of what was found of a run.
 ///
 /// # Errors
 ///
@@ -80,15 +79,14 @@ fn push_decisions(
 pub(crate) fn text_of_report(
     alloc: Global,
     algorithm: AlgorithmKind,
-    summary: &Summary,
-    findings: &Findings,
+    findings: &RunFindings,
 ) -> Result<Vec<u8>, AllocError>
-    ensures { IfOk result (λ text. text.items ≡ found_text algorithm summary.now findings.now) }
+    ensures { IfOk result (λ text. text.items ≡ found_text algorithm findings.now) }
 {
     let mut rows = Rows::new(alloc, HEADER)?;
-    push_run(&mut rows, summary)?;
+    push_run(&mut rows, &findings.summary)?;
     push_layers(&mut rows, findings)?;
     push_pairs(&mut rows, &findings.measures)?;
-    push_decisions(&mut rows, algorithm, &summary.outcomes)?;
+    push_decisions(&mut rows, algorithm, &findings.summary.outcomes)?;
     rows.into_text()
 }

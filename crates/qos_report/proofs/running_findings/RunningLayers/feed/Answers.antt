@@ -1,7 +1,7 @@
 use Rattle.std.proofs.Common.{◌++◌, ◌∷◌, [], sym, subst, is_some}
 use Rattle.qos_report.specs.Running.{IsSecond}
 use Rattle.qos_report.proofs.Fed.{second_some, second_none}
-use Rattle.qos_report.proofs.running.RunningLayers.feed.Goals as goal
+use Rattle.qos_report.proofs.running_findings.RunningLayers.feed.Goals as goal
 
 pub returns-in-Some : goal.returns-in-Some
 returns-in-Some c = λ S trace h until. record {
