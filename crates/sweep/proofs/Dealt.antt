@@ -21,9 +21,9 @@ pub last_length : {T : Type 0} (n step : ℕ) (xs : List T) → 0 < step → IsC
 last_length n step xs pos column =
     let split : n / step * step + n % step ≡ n = div-add-mod' n step in
     let more : n / step < length xs =
-        lt_of_mul-lt-mul_right step {m = n / step} {n = length xs} (omega (arith, split, column.all)) in
+    lt_of_mul-lt-mul_right step {m = n / step} {n = length xs} (omega (arith, split, column.all)) in
     let less : length xs - 1 < n / step + 1 =
-        below_last n step (length xs - 1) pos (column.within (length xs - 1) (omega (arith, more))) in
+    below_last n step (length xs - 1) pos (column.within (length xs - 1) (omega (arith, more))) in
     omega (arith, more, less)
 
 -- a number stands in one column alone
@@ -55,7 +55,7 @@ shorter_column n step xs ys x pos is column =
     let rows : length ys * step ≡ n / step * step = ap (λ m. m * step) len in record {
       within = λ k lt.
           let high : (k + 1) * step ≤ n / step * step =
-              mul-le-mul_right {m = k + 1} {n = n / step} step (omega (arith, len, lt)) in
+          mul-le-mul_right {m = k + 1} {n = n / step} step (omega (arith, len, lt)) in
           omega (arith, high, split, pos);
       all = omega (arith, rows, split);
     }
@@ -64,7 +64,7 @@ shorter_column n step xs ys x pos is column =
 module _ {F T E : Type 0} (g : Shared F (ℕ × Unit {0}) T) (job : F) (first count step : ℕ) (columns : List (Vec T))
     (parts : List (Result (Vec T) E)) (len : length parts ≡ step) (all : map Ok columns ≡ parts)
     (each : (i : ℕ) (d : Result (Vec T) E) → i < step
-        → IfOk (slice_index_or parts i d) (λ v. AreEvery g job first count i step v.items)) where
+    → IfOk (slice_index_or parts i d) (λ v. AreEvery g job first count i step v.items)) where
   columns_len : length columns ≡ step
   columns_len = sym (length-map columns (λ (v : Vec T). Ok v)) ∙ ap length all ∙ len
 
@@ -72,7 +72,7 @@ module _ {F T E : Type 0} (g : Shared F (ℕ × Unit {0}) T) (job : F) (first co
       → AreEvery g job first count start step (slice_index_or columns start c).items
   every start c lt =
       let P : List (Result (Vec T) E) → Type 0 = λ l.
-          IfOk (slice_index_or l start (Ok c)) (λ v. AreEvery g job first count start step v.items) in
+      IfOk (slice_index_or l start (Ok c)) (λ v. AreEvery g job first count start step v.items) in
       let Q : Result (Vec T) E → Type 0 = λ r. IfOk r (λ v. AreEvery g job first count start step v.items) in
       subst Q (get_or-map (λ (v : Vec T). Ok v) columns start c) (subst P (sym all) (each start (Ok c) lt))
 
@@ -90,16 +90,16 @@ module _ {F T E : Type 0} (g : Shared F (ℕ × Unit {0}) T) (job : F) (first co
     each = λ i d lt.
         let low : i % step < step = mod_below i step pos in
         let mine : AreEvery g job first count (i % step) step (slice_index_or columns (i % step) answers).items =
-            every (i % step) answers low in
+        every (i % step) answers low in
         let split : i / step * step + i % step ≡ i = div-add-mod' i step in
         let within : i / step < length (slice_index_or columns (i % step) answers).items =
-            lt_of_mul-lt-mul_right step {m = i / step} {n = length (slice_index_or columns (i % step) answers).items}
-            (omega (arith, split, mine.column.all, lt)) in
+        lt_of_mul-lt-mul_right step {m = i / step} {n = length (slice_index_or columns (i % step) answers).items}
+        (omega (arith, split, mine.column.all, lt)) in
         let here : slice_index_or answers.items i d
-            ≡ slice_index_or (slice_index_or columns (i % length columns) answers).items (i / length columns) d =
-            ordered.each i answers d lt in
+        ≡ slice_index_or (slice_index_or columns (i % length columns) answers).items (i / length columns) d =
+        ordered.each i answers d lt in
         let P : ℕ → Type 0 = λ s. slice_index_or answers.items i d
-            ≡ slice_index_or (slice_index_or columns (i % s) answers).items (i / s) d in
+        ≡ slice_index_or (slice_index_or columns (i % s) answers).items (i / s) d in
         let number : first + (i % step + i / step * step) ≡ first + i = omega (arith, split) in
         let Q : ℕ → Type 0 = λ n. FnReturns g job (n, tt) (slice_index_or (slice_index_or columns (i % step) answers).items (i / step) d) in
         let R : T → Type 0 = λ x. FnReturns g job (first + i, tt) x in

@@ -1,2 +1,9 @@
 mod Dealt
 mod Taking
+mod Reading
+mod Numbered
+mod Zipped
+mod Advancing
+mod OneRow
+mod OneText
+mod Shards

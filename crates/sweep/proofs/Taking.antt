@@ -26,7 +26,7 @@ module _ {T : Type 0} (count step : ℕ) (begun : List (Vec T)) where
       let P : Vec T → Type 0 = λ v. IsColumn (n + 1) (n % step) step v.items in
       let low : n % step < step = mod_below n step pos in
       let shape : IsColumn (n + 1) (n % step) step column.items =
-          subst P (sym is) (taking.shapes (n % step) column low) in
+      subst P (sym is) (taking.shapes (n % step) column low) in
       omega (arith, last_length n step column.items pos shape)
 
   -- the answer for the highest number that is left is taken
@@ -64,12 +64,12 @@ module _ {T : Type 0} (count step : ℕ) (begun : List (Vec T)) where
         let P : Vec T → Type 0 = λ v. IsColumn n start step v.items in
         ⊎_elim
         (λ (y : (eqb start (n % step) ≡ true) × (start ≡ n % step)).
-            let Q : ℕ → Type 0 = λ s. IsColumn n s step (slice_index_or (set columns (n % step) after) s c).items in
-            let R : Vec T → Type 0 = λ v. IsColumn n (n % step) step v.items in
-            subst Q (sym y.1) (subst R (sym (at_same c)) (shorter_column n step column.items after.items x pos split shape)))
+        let Q : ℕ → Type 0 = λ s. IsColumn n s step (slice_index_or (set columns (n % step) after) s c).items in
+        let R : Vec T → Type 0 = λ v. IsColumn n (n % step) step v.items in
+        subst Q (sym y.1) (subst R (sym (at_same c)) (shorter_column n step column.items after.items x pos split shape)))
         (λ (z : (eqb start (n % step) ≡ false) × (start ≢ n % step)).
-            subst P (sym (at_other start c z.1))
-            (other_column n start step (slice_index_or columns start c).items lt z.1 (taking.shapes start c lt)))
+        subst P (sym (at_other start c z.1))
+        (other_column n start step (slice_index_or columns start c).items lt z.1 (taking.shapes start c lt)))
         (eqb_tells start (n % step))
 
     -- what the column of the number has is what it had
@@ -91,19 +91,19 @@ module _ {T : Type 0} (count step : ℕ) (begun : List (Vec T)) where
         ≡ slice_index_or (slice_index_or begun start c).items k d
     same_left start k c d lt =
         let Q : ℕ → Type 0 = λ s. k < length (slice_index_or (set columns (n % step) after) s c).items
-            → slice_index_or (slice_index_or (set columns (n % step) after) s c).items k d
-            ≡ slice_index_or (slice_index_or begun s c).items k d in
+        → slice_index_or (slice_index_or (set columns (n % step) after) s c).items k d
+        ≡ slice_index_or (slice_index_or begun s c).items k d in
         let R : Vec T → Type 0 = λ v. k < length v.items
-            → slice_index_or v.items k d ≡ slice_index_or (slice_index_or begun (n % step) c).items k d in
+        → slice_index_or v.items k d ≡ slice_index_or (slice_index_or begun (n % step) c).items k d in
         let S : Vec T → Type 0 = λ v. k < length v.items
-            → slice_index_or v.items k d ≡ slice_index_or (slice_index_or begun start c).items k d in
+        → slice_index_or v.items k d ≡ slice_index_or (slice_index_or begun start c).items k d in
         ⊎_elim
         (λ (y : (eqb start (n % step) ≡ true) × (start ≡ n % step)).
-            subst Q (sym y.1) (subst R (sym (at_same c)) (λ less.
-                sym (get_or_append_left after.items (x ∷ []) d k less) ∙ ap (λ l. slice_index_or l k d) (sym split)
-                ∙ kept k c d (omega (arith, less, shorter)))))
+        subst Q (sym y.1) (subst R (sym (at_same c)) (λ less.
+        sym (get_or_append_left after.items (x ∷ []) d k less) ∙ ap (λ l. slice_index_or l k d) (sym split)
+        ∙ kept k c d (omega (arith, less, shorter)))))
         (λ (z : (eqb start (n % step) ≡ false) × (start ≢ n % step)).
-            subst S (sym (at_other start c z.1)) (taking.same start k c d lt))
+        subst S (sym (at_other start c z.1)) (taking.same start k c d lt))
         (eqb_tells start (n % step))
 
     newest : (c : Vec T) (d : T) → x ≡ slice_index_or (slice_index_or begun (n % step) c).items (n / step) d
@@ -119,11 +119,11 @@ module _ {T : Type 0} (count step : ℕ) (begun : List (Vec T)) where
         let Q : ℕ → Type 0 = λ m. x ≡ slice_index_or (slice_index_or begun (m % step) c).items (m / step) d in
         ⊎_elim
         (λ (y : (eqb i (length answers) ≡ true) × (i ≡ length answers)).
-            let here : n ≡ count - 1 - i = omega (arith, y.1, taking.answered) in
-            get_or_push answers x d i (sym y.1) ∙ subst Q here (newest c d))
+        let here : n ≡ count - 1 - i = omega (arith, y.1, taking.answered) in
+        get_or_push answers x d i (sym y.1) ∙ subst Q here (newest c d))
         (λ (z : (eqb i (length answers) ≡ false) × (i ≢ length answers)).
-            let less : i < length answers = omega (arith, lt, sum, z.1) in
-            get_or_append_left answers (x ∷ []) d i less ∙ taking.each i c d less)
+        let less : i < length answers = omega (arith, lt, sum, z.1) in
+        get_or_append_left answers (x ∷ []) d i less ∙ taking.each i c d less)
         (eqb_tells i (length answers))
 
     pub takes : IsTaking n (set columns (n % step) after) (answers ++ x ∷ [])
@@ -149,9 +149,9 @@ module _ {T : Type 0} (count step : ℕ) (begun : List (Vec T)) where
             let place : length answers - 1 - number < length answers = omega (arith, low) in
             let back : count - 1 - (length answers - 1 - number) ≡ number = omega (arith, all, lt) in
             let Q : ℕ → Type 0 = λ m. slice_index_or (reverse answers) number d
-                ≡ slice_index_or (slice_index_or begun (m % length begun) c).items (m / length begun) d in
+            ≡ slice_index_or (slice_index_or begun (m % length begun) c).items (m / length begun) d in
             let S : ℕ → Type 0 = λ s. slice_index_or answers (length answers - 1 - number) d
-                ≡ slice_index_or (slice_index_or begun ((count - 1 - (length answers - 1 - number)) % s) c).items ((count - 1 - (length answers - 1 - number)) / s) d in
+            ≡ slice_index_or (slice_index_or begun ((count - 1 - (length answers - 1 - number)) % s) c).items ((count - 1 - (length answers - 1 - number)) / s) d in
             subst Q back (get_or-reverse answers number d low
             ∙ subst S (sym len) (taking.each (length answers - 1 - number) c d place));
       }

@@ -1,7 +1,6 @@
 -- What a row tells of a point's runs on a layer: sums, counts, percentiles and maxima over all of them.
 use Rattle.std.specs.Prelude.{◌≡◌, ℕ, ◌≤◌, ◌==◌, Bool, true, false, not, if◌then◌else◌, is_some, Option, None, Some, MatchOption, List, [], length, All, Contains}
 use Rattle.std.specs.List.{count_by, filter, filter_map, flat_map, list_any, sum, sum_by}
-use Rattle.judges.specs.Crashes.{end_of}
 use Rattle.judges.specs.Outcomes.{outcomes}
 use Rattle.judges.specs.Verdicts.{verdicts}
 use Rattle.judges.specs.declared.outcomes.Answer.{Answer}
@@ -9,8 +8,8 @@ use Rattle.judges.specs.declared.outcomes.Answer.TheVariants as answer
 use Rattle.judges.specs.declared.outcomes.Outcome.{Outcome}
 use Rattle.judges.specs.declared.verdicts.Verdicts.{Verdicts}
 use Rattle.process_api.specs.EntryRecord.{EntryRecord}
-use Rattle.process_api.specs.Numbers.{numbers_to, others}
 use Rattle.qos_report.specs.Measures.{layers, layer_measures}
+use Rattle.qos_report.specs.Watched.{watched_ticks}
 use Rattle.qos_report.specs.declared.pair_measures.Detection.{Detection}
 use Rattle.qos_report.specs.declared.pair_measures.Detection.TheVariants.{Na, NoTick, At}
 use Rattle.qos_report.specs.declared.pair_measures.PairMeasures.{PairMeasures}
@@ -53,11 +52,6 @@ abbrev pub finished_of : List Trial → List Finished
 finished_of trials = filter_map (λ t. finish_of t.scenario t.result) trials
 
 -- ---- what one run tells
-
--- for how many ticks its pairs are watched: each observer and each other subject, up to the first crash of the two or
--- the horizon
-abbrev pub watched_ticks : Record → ℕ
-watched_ticks S = sum_by (λ q. sum_by (end_of S q) (others S.processes q)) (numbers_to S.processes)
 
 abbrev pub detection_time : Detection → Option ℕ
 detection_time Na = None
@@ -118,39 +112,37 @@ pub record AreTraceSums (runs : List Finished) (s : TraceSums) : Type 0 where
   pub sent : s.sent ≡ sum_by (λ r. sum_by (λ e. e.sent) r.trace) runs
   pub lost : s.lost ≡ sum_by (λ r. sum_by (λ e. e.lost) r.trace) runs
 
--- the outcomes of all processes of all runs
-abbrev pub all_outcomes : List Finished → List Outcome
-all_outcomes runs = flat_map (λ r. outcomes r.trace r.scenario.processes) runs
+pub record ArePairSums (pairs : List PairMeasures) (s : PairSums) : Type 0 where
+  pub mistakes : s.mistakes ≡ sum_by (λ m. m.mistakes) pairs
+  pub mistake_ticks : s.mistake_ticks ≡ sum_by (λ m. m.mistake_ticks) pairs
+  pub recurrence_sum : s.recurrence_sum ≡ sum_by (λ m. m.recurrence_sum) pairs
+  pub recurrence_count : s.recurrence_count ≡ sum_by (λ m. m.recurrence_count) pairs
+  pub duration_sum : s.duration_sum ≡ sum_by (λ m. m.duration_sum) pairs
+  pub duration_count : s.duration_count ≡ sum_by (λ m. m.duration_count) pairs
+  pub good_sum : s.good_sum ≡ sum_by (λ m. m.good_sum) pairs
+  pub good_count : s.good_count ≡ sum_by (λ m. m.good_count) pairs
+  pub undetected : s.undetected ≡ count_by (λ m. is_undetected m.detection) pairs
 
-pub record AreDecisionSums (runs : List Finished) (s : DecisionSums) : Type 0 where
-  pub decided : s.decided ≡ count_by has_decided (all_outcomes runs)
-  pub decision_tick_sum : s.decision_tick_sum ≡ sum (filter_map decision_tick (all_outcomes runs))
-  pub decision_tick_max : IsNoneOr IsGreatest (filter_map decision_tick (all_outcomes runs)) s.decision_tick_max
-  pub rounds_max : IsNoneOr IsGreatest (filter_map noted_round (all_outcomes runs)) s.rounds_max
-  pub disagreements : s.disagreements ≡ count_by (λ r. do_disagree (outcomes r.trace r.scenario.processes)) runs
+-- the times of the detections
+abbrev pub times_of : List PairMeasures → List ℕ
+times_of pairs = filter_map (λ m. detection_time m.detection) pairs
+
+pub record AreDecisionSums (outcomes : List Outcome) (s : DecisionSums) : Type 0 where
+  pub decided : s.decided ≡ count_by has_decided outcomes
+  pub decision_tick_sum : s.decision_tick_sum ≡ sum (filter_map decision_tick outcomes)
+  pub decision_tick_max : IsNoneOr IsGreatest (filter_map decision_tick outcomes) s.decision_tick_max
+  pub rounds_max : IsNoneOr IsGreatest (filter_map noted_round outcomes) s.rounds_max
+
+-- the outcomes of all processes of a run
+abbrev pub run_outcomes : Finished → List Outcome
+run_outcomes r = outcomes r.trace r.scenario.processes
 
 module _ (layer : ℕ) where
   -- the measures of all pairs of all runs
   abbrev pub all_pairs : List Finished → List PairMeasures
   all_pairs runs = flat_map (λ r. layer_measures r.scenario r.trace layer) runs
 
-  -- the times of all detections
-  abbrev pub all_times : List Finished → List ℕ
-  all_times runs = filter_map (λ m. detection_time m.detection) (all_pairs runs)
-
-  pub record ArePairSums (runs : List Finished) (s : PairSums) : Type 0 where
-    pub pair_ticks : s.pair_ticks ≡ sum_by (λ r. watched_ticks r.scenario) runs
-    pub mistakes : s.mistakes ≡ sum_by (λ m. m.mistakes) (all_pairs runs)
-    pub mistake_ticks : s.mistake_ticks ≡ sum_by (λ m. m.mistake_ticks) (all_pairs runs)
-    pub recurrence_sum : s.recurrence_sum ≡ sum_by (λ m. m.recurrence_sum) (all_pairs runs)
-    pub recurrence_count : s.recurrence_count ≡ sum_by (λ m. m.recurrence_count) (all_pairs runs)
-    pub duration_sum : s.duration_sum ≡ sum_by (λ m. m.duration_sum) (all_pairs runs)
-    pub duration_count : s.duration_count ≡ sum_by (λ m. m.duration_count) (all_pairs runs)
-    pub good_sum : s.good_sum ≡ sum_by (λ m. m.good_sum) (all_pairs runs)
-    pub good_count : s.good_count ≡ sum_by (λ m. m.good_count) (all_pairs runs)
-    pub undetected : s.undetected ≡ count_by (λ m. is_undetected m.detection) (all_pairs runs)
-
-  -- in how many runs the verdicts hold
+  -- in how many runs a verdict holds
   abbrev pub count_verdicts : (Verdicts → Bool) → List Finished → ℕ
   count_verdicts holds runs = count_by (λ r. holds (verdicts r.scenario r.trace layer)) runs
 
@@ -163,6 +155,15 @@ module _ (layer : ℕ) where
         ≡ count_verdicts (λ v. is_some v.eventual_strong_accuracy) runs
     pub eventual_weak_accuracy : s.eventual_weak_accuracy ≡ count_verdicts (λ v. is_some v.eventual_weak_accuracy) runs
 
+  -- what the runs that are done add up to
+  pub record AreDoneSums (runs : List Finished) (s : LayerSums) : Type 0 where
+    pub traces : AreTraceSums runs s.traces
+    pub pair_ticks : s.pair_ticks ≡ sum_by (λ r. watched_ticks r.scenario) runs
+    pub pairs : ArePairSums (all_pairs runs) s.pairs
+    pub verdicts : AreVerdictCounts runs s.verdicts
+    pub decisions : AreDecisionSums (flat_map run_outcomes runs) s.decisions
+    pub disagreements : s.disagreements ≡ count_by (λ r. do_disagree (run_outcomes r)) runs
+
   -- those of the runs that have the layer and are done
   abbrev pub done_on : List Trial → List Finished
   done_on trials = finished_of (on_layer layer trials)
@@ -170,12 +171,9 @@ module _ (layer : ℕ) where
   pub record AreLayerSums (trials : List Trial) (s : LayerSums) : Type 0 where
     pub runs : s.runs ≡ length (on_layer layer trials)
     pub limited : s.limited ≡ count_by (λ t. is_limited t.result) (on_layer layer trials)
-    pub traces : AreTraceSums (done_on trials) s.traces
-    pub pairs : ArePairSums (done_on trials) s.pairs
-    pub verdicts : AreVerdictCounts (done_on trials) s.verdicts
-    pub decisions : AreDecisionSums (done_on trials) s.decisions
+    pub done : AreDoneSums (done_on trials) s
 
   -- what the layer's row tells of the runs
   pub record AreColumns (trials : List Trial) (c : Columns) : Type 0 where
     pub sums : AreLayerSums trials c.sums
-    pub times : AreTimes (all_times (done_on trials)) c.times
+    pub times : AreTimes (times_of (all_pairs (done_on trials))) c.times

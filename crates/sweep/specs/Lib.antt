@@ -1,3 +1,9 @@
+pub mod Parallel
 pub mod Results
 pub mod Columns
 pub mod RowText
+pub mod Sums
+pub mod StudyText
+pub mod Outcome
+pub mod Numbering
+pub mod Progress

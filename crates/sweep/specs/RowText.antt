@@ -1,9 +1,8 @@
 -- The text of a study: a line that names the columns, and a row for each point and layer.
 use Rattle.std.specs.Prelude.{◌≡◌, ℕ, if◌then◌else◌, is_some, Option, None, Some, List, [], ◌∷◌, ◌++◌, map, codes, decimal}
-use Rattle.std.specs.Fmt.{signed_decimal}
 use Rattle.std.specs.List.{list_any}
 use Rattle.csv.specs.Writing.{default_writer, row_text}
-use Rattle.study.specs.Settings.{Path, top, inner, element, Given, number, text, Chosen}
+use Rattle.study.specs.Settings.{Path, key_text, given_text, Chosen}
 use Rattle.sweep.specs.Columns.{AreColumns}
 use Rattle.sweep.specs.Results.{Trial}
 use Rattle.sweep.specs.declared.columns.Columns.{Columns}
@@ -20,17 +19,6 @@ Text = List ℕ
 -- quotes, each quote in it doubled (RFC 4180); any other field stands as it is
 abbrev pub line_text : List Text → Text
 line_text fields = row_text default_writer fields
-
--- a key by its path
-abbrev pub path_text : Path → Text
-path_text (top key) = key
-path_text (inner table key) = table ++ (codes "." ++ key)
-path_text (element array place key) = array ++ (codes "[" ++ (decimal place ++ (codes "]." ++ key)))
-
--- what a key is set to
-abbrev pub given_text : Given → Text
-given_text (number z) = signed_decimal z
-given_text (text bytes) = bytes
 
 -- nothing where there is none
 abbrev pub number_text : Option ℕ → Text
@@ -52,16 +40,16 @@ column_names =
 
 -- the first line: the varied keys by their paths, the layer, and the names of the columns
 unfoldable pub header_text : List Path → Text
-header_text keys = line_text (map path_text keys ++ codes "layer" ∷ column_names)
+header_text keys = line_text (map key_text keys ++ codes "layer" ∷ column_names)
 
 -- ---- a row
 
 abbrev pub trace_fields : TraceSums → List Text
 trace_fields s = decimal s.entries ∷ decimal s.sent ∷ decimal s.lost ∷ []
 
-abbrev pub mistake_fields : PairSums → List Text
-mistake_fields s =
-    decimal s.pair_ticks ∷ decimal s.mistakes ∷ decimal s.mistake_ticks ∷ decimal s.recurrence_sum
+abbrev pub mistake_fields : (pair_ticks : ℕ) → PairSums → List Text
+mistake_fields pair_ticks s =
+    decimal pair_ticks ∷ decimal s.mistakes ∷ decimal s.mistake_ticks ∷ decimal s.recurrence_sum
     ∷ decimal s.recurrence_count ∷ decimal s.duration_sum ∷ decimal s.duration_count ∷ decimal s.good_sum
     ∷ decimal s.good_count ∷ []
 
@@ -75,20 +63,20 @@ verdict_fields s =
     decimal s.strong_completeness ∷ decimal s.weak_completeness ∷ decimal s.strong_accuracy
     ∷ decimal s.weak_accuracy ∷ decimal s.eventual_strong_accuracy ∷ decimal s.eventual_weak_accuracy ∷ []
 
-abbrev pub decision_fields : DecisionSums → List Text
-decision_fields s =
+abbrev pub decision_fields : DecisionSums → (disagreements : ℕ) → List Text
+decision_fields s disagreements =
     decimal s.decided ∷ decimal s.decision_tick_sum ∷ number_text s.decision_tick_max ∷ number_text s.rounds_max
-    ∷ decimal s.disagreements ∷ []
+    ∷ decimal disagreements ∷ []
 
 -- the fields in the order of the names
 abbrev pub column_fields : Columns → List Text
 column_fields c =
     decimal c.sums.runs ∷ decimal c.sums.limited ∷ []
     ++ trace_fields c.sums.traces
-    ++ mistake_fields c.sums.pairs
+    ++ mistake_fields c.sums.pair_ticks c.sums.pairs
     ++ detection_fields c.sums.pairs.undetected c.times
     ++ verdict_fields c.sums.verdicts
-    ++ decision_fields c.sums.decisions
+    ++ decision_fields c.sums.decisions c.sums.disagreements
 
 -- the row of a point on a layer: what the varied keys are set to, the layer, and the columns
 unfoldable pub layer_text : List Chosen → (layer : ℕ) → Columns → Text

@@ -16,8 +16,6 @@ pub struct TraceSums {
 /// ticks.
 #[derive(Clone, Copy, Debug, PartialEq, Eq)]
 pub struct PairSums {
-    /// For how many ticks a pair was watched: up to the first crash of the two, or the horizon.
-    pub pair_ticks: u128,
     /// How many suspicions started that were mistakes.
     pub mistakes: u128,
     /// For how many ticks a process was suspected by mistake.
@@ -63,11 +61,9 @@ pub struct DecisionSums {
     /// The ticks at which they did.
     pub decision_tick_sum: u128,
     /// The greatest of these ticks, if there is one.
-    pub decision_tick_max: Option<u32>,
+    pub decision_tick_max: Option<u64>,
     /// The greatest round that a process noted, if one did.
     pub rounds_max: Option<u64>,
-    /// In how many runs two processes decided different values.
-    pub disagreements: u64,
 }
 
 /// The times from the crash of a process to the suspicion by another that lasts to the horizon, over all pairs of
@@ -79,13 +75,13 @@ pub struct DetectionTimes {
     /// Their sum.
     pub detection_sum: u128,
     /// The least of them which half of them are at most; none where there are none, as in the others.
-    pub detection_p50: Option<u32>,
+    pub detection_p50: Option<u64>,
     /// The least of them which 90 in 100 of them are at most.
-    pub detection_p90: Option<u32>,
+    pub detection_p90: Option<u64>,
     /// The least of them which 99 in 100 of them are at most.
-    pub detection_p99: Option<u32>,
+    pub detection_p99: Option<u64>,
     /// The greatest of them.
-    pub detection_max: Option<u32>,
+    pub detection_max: Option<u64>,
 }
 
 /// What is added up of runs on a layer, besides the times of detections.
@@ -97,12 +93,16 @@ pub struct LayerSums {
     pub limited: u64,
     /// Of their traces.
     pub traces: TraceSums,
+    /// For how many ticks pairs were watched: each up to the first crash of the two, or the horizon.
+    pub pair_ticks: u128,
     /// Of all pairs of processes.
     pub pairs: PairSums,
     /// Of the verdicts.
     pub verdicts: VerdictCounts,
     /// Of what was decided.
     pub decisions: DecisionSums,
+    /// In how many runs two processes decided different values.
+    pub disagreements: u64,
 }
 
 /// What a row tells.

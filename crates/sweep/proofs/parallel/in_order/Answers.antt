@@ -18,8 +18,8 @@ unreachable-requires g c =
     let P : ℕ → Type 0 = λ m. IsTaking c.args.count c.len-step.result c.args.columns.items m c.loop-number.columns.items c.loop-number.answers.items in
     let pos : 0 < c.len-step.result = omega (arith, c.len-step.ensures, c.requires.some) in
     let some : 0 < length c.index_mut.result.now.items =
-        filled c.args.count c.len-step.result c.args.columns.items (c.loop-number.number - 1) c.loop-number.columns.items c.loop-number.answers.items c.index_mut.result.now pos
-        c.index_mut.ensures.value (subst P next c.loop-number.invariant) in
+    filled c.args.count c.len-step.result c.args.columns.items (c.loop-number.number - 1) c.loop-number.columns.items c.loop-number.answers.items c.index_mut.result.now pos
+    c.index_mut.ensures.value (subst P next c.loop-number.invariant) in
     search rules
 
 pub loop-number-preserved : goal.loop-number-preserved

@@ -1,0 +1,5 @@
+//! stub
+#[derive(Drop)]
+pub struct RunNumbers {
+    pub(crate) stub: u64,
+}
