@@ -1,3 +1,9 @@
+pub mod Added
+pub mod Counting
+pub mod Layered
+pub mod Lines
+pub mod Single
+pub mod Parts
 mod Dealt
 mod Taking
 mod Reading
@@ -7,3 +13,4 @@ mod Advancing
 mod OneRow
 mod OneText
 mod Shards
+mod Ending

@@ -1,5 +1,6 @@
 -- The texts of shards, one after the other.
-use Rattle.std.proofs.Common.{◌≡◌, ℕ, zero, suc, ◌+◌, ◌-◌, ◌<◌, ◌≤◌, ◌++◌, ◌==◌, List, [], ◌∷◌, length, refl, sym, ap, ◌∙◌, subst, arith, append_assoc, append-nil, Bool, true, false, cond}
+use Rattle.std.proofs.Common.{◌≡◌, ℕ, zero, suc, ◌+◌, ◌-◌, ◌<◌, ◌≤◌, ◌++◌, ◌==◌, List, [], ◌∷◌, length, refl, sym, ap, ◌∙◌, subst, arith, append_assoc, append-nil, Bool, true, false, cond, eqb, ◌≢◌, ◌⊎◌, ⊎_elim}
+use Rattle.std.proofs.lemmas.Bool.Decides.{eqb_tells}
 use Rattle.std.specs.List.{AllZip, flat_map, range_with_len}
 use Rattle.std.proofs.lemmas.Grind.{flat_map-append}
 use Rattle.toml.specs.Data.{Members}
@@ -33,9 +34,12 @@ module _ (file : Members) (g : GridRecord) where
     shard number = record { number = number; of = of }
 
     no_header : (number : ℕ) → 2 ≤ number → header_of g (shard number) ≡ []
-    no_header (suc (suc k)) high = refl
-    no_header (suc zero) high = absurd (omega (arith, high))
-    no_header zero high = absurd (omega (arith, high))
+    no_header number high =
+        let P : Bool → Type 0 = λ b. cond b (header_text (keys g)) [] ≡ [] in
+        ⊎_elim
+        (λ (y : (eqb number 1 ≡ true) × (number ≡ 1)). absurd (omega (arith, y.1, high)))
+        (λ (n : (eqb number 1 ≡ false) × (number ≢ 1)). subst P (sym n.0) refl)
+        (eqb_tells number 1)
 
     -- the texts of shards that aren't the first have rows alone
     later : (a n : ℕ) (texts : List Text) → 2 ≤ a → AllZip (λ number text. IsStudyText file g (shard number) text) (range_with_len a n) texts

@@ -1,8 +1,12 @@
-pub mod Parallel
 pub mod Results
 pub mod Columns
 pub mod RowText
+pub mod Adding
+pub mod Fitting
+pub mod Times
 pub mod Sums
+pub mod Fields
+pub mod Parallel
 pub mod StudyText
 pub mod Outcome
 pub mod Numbering

@@ -10,6 +10,7 @@ ghost use Rattle.sweep.specs.Sums.{AreSums};
 
 use crate::error::SweepError;
 use crate::point_sums::PointSums;
+use crate::table::Table;
 use qos_report::{Outlet, put_all};
 use std::alloc::{AllocError, Global};
 use study::{Grid, Shard};
@@ -18,9 +19,10 @@ use study::{Grid, Shard};
 pub(crate) fn header_of(alloc: Global, grid: &Grid) -> Result<Vec<u8>, AllocError>
     ensures { IfOk result (λ t. t.items ≡ header_text (keys grid.now)) }
 {
-    let _alloc = alloc;
-    let _grid = grid;
-    Err(AllocError)
+    let mut table = Table::new(alloc);
+    table.push_header(alloc, grid.varied())?;
+    let text = table.into_text()?;
+    Ok(text)
 }
 
 /// The rows of a point, from 0, whose runs were added up.
@@ -34,9 +36,11 @@ pub(crate) fn rows_of(
     ensures { IfOk result (λ t. (trials : List Trial) → AreSums trials sums.now
         → ArePointRows (point_at grid.now number) trials t.items) }
 {
-    let _sums = sums;
-    let _point = grid.point(alloc, number)?;
-    Err(AllocError)
+    let settings = grid.point(alloc, number)?;
+    let mut table = Table::new(alloc);
+    table.push_point(alloc, &settings, sums)?;
+    let text = table.into_text()?;
+    Ok(text)
 }
 
 /// Writes a text that is whole, or answers `Write` at the first put that fails.

@@ -1,6 +1,4 @@
-use Rattle.sweep.specs.Sums.{AreSums}
 use Rattle.sweep.proofs.point_sums.PointSums.new.Goals as goal
 
 pub returns : goal.returns
-unfolding AreSums
-returns c = tt
+returns c = record { first = c.new.ensures 1; second = c.new-2.ensures 2 }

@@ -1,4 +1,4 @@
-use Rattle.std.proofs.Common.{rules, ◌≡◌, ℕ, ◌+◌, ◌*◌, ◌<◌, ◌≤◌, length, arith}
+use Rattle.std.proofs.Common.{rules, ◌≡◌, ℕ, ◌+◌, ◌*◌, ◌<◌, ◌≤◌, length, Ok, arith}
 use Rattle.std.specs.Prelude.{slice_index_or}
 use Rattle.toml.specs.Data.{Members}
 use Rattle.study.specs.Grid.{runs}
@@ -16,7 +16,7 @@ returns-in_err-take-in-Ok-clause-stops g c =
     let first = c.args.self.now.point * length (runs grid) + c.args.self.now.run in
     let i = c.loop-answer.answer-index in
     let at : AreNumbersAt file grid (first + i) c.in-Ok.numbers =
-    let h = answers i c.answer-item.result c.loop-answer-test.true in search rules in
+    let h = answers i (Ok c.in-Ok.numbers) c.loop-answer-test.true in search rules in
     let t = trial_here file grid c.loop-answer.self.point c.loop-answer.self.run (first + i) c.in-Ok.numbers c.loop-answer.invariant.run_low c.loop-answer.invariant.number at in
     let below : c.loop-answer.self.point < end =
     point_below c.loop-answer.self.point c.loop-answer.self.run (length (runs grid)) (first + i) c.loop-answer.invariant.run_low c.loop-answer.invariant.number end (omega (arith, few, c.loop-answer-test.true)) in
@@ -45,7 +45,7 @@ loop-answer-preserved g c = record {
       let first = c.args.self.now.point * length (runs grid) + c.args.self.now.run in
       let i = c.loop-answer.answer-index in
       let at : AreNumbersAt file grid (first + i) c.in-Ok.numbers =
-      let h = answers i c.answer-item.result c.loop-answer-test.true in search rules in
+      let h = answers i (Ok c.in-Ok.numbers) c.loop-answer-test.true in search rules in
       let t = trial_here file grid c.loop-answer.self.point c.loop-answer.self.run (first + i) c.in-Ok.numbers c.loop-answer.invariant.run_low c.loop-answer.invariant.number at in
       c.in_ok-take-in-Ok.ensures.done file start begin t.0 t.1 t.2 (c.loop-answer.invariant.way file start begin answers way);
 }

@@ -1,0 +1,120 @@
+-- Sums of sums. They stay at the greatest number of their types, should they reach it.
+use Rattle.std.specs.Prelude.{ℕ, ◌+◌, ◌-◌, ◌^◌, min, max, ◌==◌, ◌||◌, not, Option, None, Some, if◌then◌else◌, is_some}
+use Rattle.judges.specs.declared.outcomes.Outcome.{Outcome}
+use Rattle.judges.specs.declared.verdicts.Verdicts.{Verdicts}
+use Rattle.qos_report.specs.declared.pair_measures.PairMeasures.{PairMeasures}
+use Rattle.sweep.specs.Columns.{is_undetected, has_decided, decision_tick, noted_round}
+use Rattle.sweep.specs.declared.columns.DecisionSums.{DecisionSums}
+use Rattle.sweep.specs.declared.columns.LayerSums.{LayerSums}
+use Rattle.sweep.specs.declared.columns.PairSums.{PairSums}
+use Rattle.sweep.specs.declared.columns.TraceSums.{TraceSums}
+use Rattle.sweep.specs.declared.columns.VerdictCounts.{VerdictCounts}
+use Rattle.sweep.specs.declared.run_numbers.Values.{Values}
+
+-- of 128 bits, and of 64
+abbrev pub plus : ℕ → ℕ → ℕ
+plus a b = min (a + b) (2 ^ 128 - 1)
+
+abbrev pub plus_few : ℕ → ℕ → ℕ
+plus_few a b = min (a + b) (2 ^ 64 - 1)
+
+-- the greater of two, if there is one
+abbrev pub greater : Option ℕ → Option ℕ → Option ℕ
+greater None b = b
+greater (Some a) None = Some a
+greater (Some a) (Some b) = Some (max a b)
+
+abbrev pub traces_plus : TraceSums → TraceSums → TraceSums
+traces_plus a b = record {
+  entries = plus a.entries b.entries;
+  sent = plus a.sent b.sent;
+  lost = plus a.lost b.lost;
+}
+
+abbrev pub pairs_plus : PairSums → PairSums → PairSums
+pairs_plus a b = record {
+  mistakes = plus a.mistakes b.mistakes;
+  mistake_ticks = plus a.mistake_ticks b.mistake_ticks;
+  recurrence_sum = plus a.recurrence_sum b.recurrence_sum;
+  recurrence_count = plus a.recurrence_count b.recurrence_count;
+  duration_sum = plus a.duration_sum b.duration_sum;
+  duration_count = plus a.duration_count b.duration_count;
+  good_sum = plus a.good_sum b.good_sum;
+  good_count = plus a.good_count b.good_count;
+  undetected = plus a.undetected b.undetected;
+}
+
+abbrev pub verdicts_plus : VerdictCounts → VerdictCounts → VerdictCounts
+verdicts_plus a b = record {
+  strong_completeness = plus_few a.strong_completeness b.strong_completeness;
+  weak_completeness = plus_few a.weak_completeness b.weak_completeness;
+  strong_accuracy = plus_few a.strong_accuracy b.strong_accuracy;
+  weak_accuracy = plus_few a.weak_accuracy b.weak_accuracy;
+  eventual_strong_accuracy = plus_few a.eventual_strong_accuracy b.eventual_strong_accuracy;
+  eventual_weak_accuracy = plus_few a.eventual_weak_accuracy b.eventual_weak_accuracy;
+}
+
+abbrev pub decisions_plus : DecisionSums → DecisionSums → DecisionSums
+decisions_plus a b = record {
+  decided = plus a.decided b.decided;
+  decision_tick_sum = plus a.decision_tick_sum b.decision_tick_sum;
+  decision_tick_max = greater a.decision_tick_max b.decision_tick_max;
+  rounds_max = greater a.rounds_max b.rounds_max;
+}
+
+abbrev pub layer_plus : LayerSums → LayerSums → LayerSums
+layer_plus a b = record {
+  runs = plus_few a.runs b.runs;
+  limited = plus_few a.limited b.limited;
+  traces = traces_plus a.traces b.traces;
+  pair_ticks = plus a.pair_ticks b.pair_ticks;
+  pairs = pairs_plus a.pairs b.pairs;
+  verdicts = verdicts_plus a.verdicts b.verdicts;
+  decisions = decisions_plus a.decisions b.decisions;
+  disagreements = plus_few a.disagreements b.disagreements;
+}
+
+-- ---- what one thing adds
+
+abbrev pub of_pair : PairMeasures → PairSums
+of_pair m = record {
+  mistakes = m.mistakes;
+  mistake_ticks = m.mistake_ticks;
+  recurrence_sum = m.recurrence_sum;
+  recurrence_count = m.recurrence_count;
+  duration_sum = m.duration_sum;
+  duration_count = m.duration_count;
+  good_sum = m.good_sum;
+  good_count = m.good_count;
+  undetected = if is_undetected m.detection then 1 else 0;
+}
+
+abbrev pub of_verdicts : Verdicts → VerdictCounts
+of_verdicts v = record {
+  strong_completeness = if is_some v.strong_completeness then 1 else 0;
+  weak_completeness = if is_some v.weak_completeness then 1 else 0;
+  strong_accuracy = if v.strong_accuracy then 1 else 0;
+  weak_accuracy = if v.weak_accuracy then 1 else 0;
+  eventual_strong_accuracy = if is_some v.eventual_strong_accuracy then 1 else 0;
+  eventual_weak_accuracy = if is_some v.eventual_weak_accuracy then 1 else 0;
+}
+
+abbrev pub tick_or_zero : Option ℕ → ℕ
+tick_or_zero None = 0
+tick_or_zero (Some t) = t
+
+abbrev pub of_outcome : Outcome → DecisionSums
+of_outcome o = record {
+  decided = if has_decided o then 1 else 0;
+  decision_tick_sum = tick_or_zero (decision_tick o);
+  decision_tick_max = decision_tick o;
+  rounds_max = noted_round o;
+}
+
+-- the first of some values with one more, and whether one differs from it
+abbrev pub with_value : Values → Option ℕ → Values
+with_value values None = values
+with_value values (Some v) = elim values.first [
+  | None ↦ record { first = Some v; differ = values.differ }
+  | Some w ↦ record { first = Some w; differ = values.differ || not (w == v) }
+]
