@@ -139,6 +139,7 @@ impl Grid {
     /// How many runs each point has, at most 1,000,000,000,000.
     pub fn runs(&self) -> u64
         ensures value { result ≡ length (runs self.now) }
+        ensures low { 1 ≤ result }
         ensures high { result ≤ 1000000000000 }
     {
         self.mixes * self.seeds

@@ -4,3 +4,13 @@ pub mod Layered
 pub mod Lines
 pub mod Single
 pub mod Parts
+mod Dealt
+mod Taking
+mod Reading
+mod Numbered
+mod Zipped
+mod Advancing
+mod OneRow
+mod OneText
+mod Shards
+mod Ending

@@ -6,3 +6,8 @@ pub mod Fitting
 pub mod Times
 pub mod Sums
 pub mod Fields
+pub mod Parallel
+pub mod StudyText
+pub mod Outcome
+pub mod Numbering
+pub mod Progress

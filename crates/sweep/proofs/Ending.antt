@@ -1,0 +1,142 @@
+-- How a sweep ends: what went out, and which run was refused.
+use Rattle.std.proofs.Common.{◌≡◌, ℕ, ◌+◌, ◌-◌, ◌*◌, ◌/◌, ◌%◌, ◌<◌, ◌≤◌, ◌⊎◌, ⊎_elim, inl, inr, List, [], ◌++◌, length, take, Option, refl, sym, ap, ◌∙◌, subst, arith, append-nil}
+use Rattle.std.specs.List.{Contains, range_with_len}
+use Rattle.std.specs.Prelude.{slice_index_or}
+use Rattle.std.proofs.Math.Nat.{lt_of_mul-lt-mul_right, mul-le-mul_right}
+use Rattle.std.proofs.lemmas.List.FromFn.{length-range_with_len, get_or-range_with_len}
+use Rattle.std.proofs.lemmas.Nat.{div-add-mod', mod_below}
+use Rattle.toml.specs.Data.{Members}
+use Rattle.qos_report.specs.Writing.{Wrote, WrotePart, WroteNothing}
+use Rattle.qos_report.proofs.Written.{wrote_both, wrote_then_part}
+use Rattle.study.specs.Grid.{GridRecord, runs}
+use Rattle.study.specs.Shard.{ShardRecord}
+use Rattle.study.specs.declared.error.ReadError.{ReadError}
+use Rattle.sweep.specs.Numbering.{HasScenarioAt, IsFirstRefusal}
+use Rattle.sweep.specs.Outcome.{IsBefore, HasScenario, IsFirstRefused, WroteStudy, WroteFirst, WroteFront, BreaksOff}
+use Rattle.sweep.specs.Progress.{WroteUpTo, WroteFrontUpTo, StopsBelow, HeaderFails}
+use Rattle.sweep.specs.RowText.{Text}
+use Rattle.sweep.specs.StudyText.{header_of, numbers_of, HasRowsOf}
+use Rattle.sweep.specs.declared.error.SweepError.{SweepError}
+use Rattle.sweep.specs.declared.error.SweepError.TheVariants as error
+use Rattle.sweep.proofs.Numbered.{point_is, run_is, number_below}
+use Rattle.sweep.proofs.Zipped.{range_taken}
+
+module _ (file : Members) (g : GridRecord) (shard : ShardRecord) (begin end : ℕ)
+    (is : numbers_of g shard ≡ range_with_len begin (end - begin)) where
+  contains : (p : ℕ) → begin ≤ p → p < end → Contains (numbers_of g shard) p
+  contains p low high =
+      let lt : p - begin < end - begin = omega (arith, low, high) in
+      let len : length (range_with_len begin (end - begin)) ≡ end - begin = length-range_with_len begin (end - begin) in
+      let at : slice_index_or (range_with_len begin (end - begin)) (p - begin) p ≡ begin + (p - begin) =
+      get_or-range_with_len begin (end - begin) (p - begin) p lt in
+      let P : List ℕ → Type 0 = λ l. Contains l p in
+      subst P (sym is) (p - begin, omega (arith, lt, len), omega (arith, at, low))
+
+  within : (p : ℕ) → Contains (numbers_of g shard) p → (begin ≤ p) × (p < end)
+  within p c =
+      let P : List ℕ → Type 0 = λ l. Contains l p in
+      let d : Contains (range_with_len begin (end - begin)) p = subst P is c in
+      let len : length (range_with_len begin (end - begin)) ≡ end - begin = length-range_with_len begin (end - begin) in
+      let lt : d.0 < end - begin = omega (arith, d.1, len) in
+      let at : slice_index_or (range_with_len begin (end - begin)) d.0 p ≡ begin + d.0 =
+      get_or-range_with_len begin (end - begin) d.0 p lt in (
+        omega (arith, at, d.2),
+        omega (arith, at, d.2, lt),
+      )
+
+  -- ---- a refusal
+
+  earlier : (n p r : ℕ) → 1 ≤ length (runs g) → r < length (runs g)
+      → IsBefore p r (n / length (runs g)) (n % length (runs g)) → p * length (runs g) + r < n
+  earlier n p r some low before =
+      let w : ℕ = length (runs g) in
+      let split : n / w * w + n % w ≡ n = div-add-mod' n w in
+      ⊎_elim
+      (λ (lt : p < n / w).
+      let up : (p + 1) * w ≤ n / w * w = mul-le-mul_right {m = p + 1} {n = n / w} w (omega (arith, lt)) in
+      omega (arith, split, up, low))
+      (λ (same : (p ≡ n / w) × (r < n % w)).
+      let rows : p * w ≡ n / w * w = ap (λ k. k * w) same.0 in
+      omega (arith, split, rows, same.1))
+      before
+
+  first_refused : (point run : ℕ) (reason : ReadError) → 1 ≤ length (runs g)
+      → IsFirstRefusal file g (begin * length (runs g)) (end * length (runs g)) (error.Refused point run reason)
+      → IsFirstRefused file g shard point run reason
+  first_refused point run reason some (n, low, high, refused, before) =
+      let w : ℕ = length (runs g) in
+      let split : n / w * w + n % w ≡ n = div-add-mod' n w in
+      let rest : n % w < w = mod_below n w some in
+      let up : begin < n / w + 1 = lt_of_mul-lt-mul_right w {m = begin} {n = n / w + 1} (omega (arith, split, low, rest)) in
+      let below : n / w < end = number_below w n end some high in
+      record {
+        point_in = contains point (omega (arith, up, refused.0)) (omega (arith, below, refused.0));
+        run_in = omega (arith, rest, refused.1);
+        refused = refused.2;
+        before = λ p r inside small earlier_is.
+            let in_range = within p inside in
+            let P : ℕ → Type 0 = λ k. IsBefore p r k run in
+            let Q : ℕ → Type 0 = λ k. IsBefore p r (n / w) k in
+            let lt : p * w + r < n = earlier n p r some small (subst Q refused.1 (subst P refused.0 earlier_is)) in
+            let from : begin * w ≤ p * w = mul-le-mul_right {m = begin} {n = p} w in_range.0 in
+            let here : HasScenarioAt file g (p * w + r) = before (p * w + r) (omega (arith, from)) lt in
+            let R : ℕ → Type 0 = λ k. HasScenario file g k ((p * w + r) % w) in
+            let S : ℕ → Type 0 = λ k. HasScenario file g p k in
+            subst S (run_is p r w (p * w + r) small refl) (subst R (point_is p r w (p * w + r) small refl) here);
+      }
+
+  module _ {O : Type 0} (told : O → Option Text) (failed : O → ℕ) where
+    pub breaks_at_check : (old : O) (e : SweepError) → 1 ≤ length (runs g)
+        → IsFirstRefusal file g (begin * length (runs g)) (end * length (runs g)) e
+        → BreaksOff file g shard told failed old old e
+    breaks_at_check old (error.Refused point run reason) some refusal =
+        (first_refused point run reason some refusal, record { bytes = refl; failures = refl })
+    breaks_at_check old error.Memory some refusal = inl (record { bytes = refl; failures = refl })
+    breaks_at_check old error.Write some refusal = absurd refusal
+
+    pub breaks_at_header : (old new : O) (e : SweepError) → HeaderFails g shard told failed old new e
+        → BreaksOff file g shard told failed old new e
+    breaks_at_header old new (error.Refused point run reason) fails = absurd fails
+    breaks_at_header old new error.Memory fails = inl fails
+    breaks_at_header old new error.Write fails =
+        let P : Text → Type 0 = λ t. WrotePart told failed old new t in
+        record {
+          count = 0;
+          text = header_of g shard ++ [];
+          is_text = record { rows = []; has = record { parts = []; each = tt; text_is = refl }; text_is = refl };
+          wrote = subst P (sym (append-nil (header_of g shard))) fails;
+        }
+
+    module _ (old mid new : O) (header : Wrote told failed old mid (header_of g shard)) where
+      pub wrote_study : WroteUpTo file g told failed mid new begin end → WroteStudy file g shard told failed old new
+      wrote_study up =
+          let P : List ℕ → Type 0 = λ l. HasRowsOf file g l up.text in
+          record {
+            text = header_of g shard ++ up.text;
+            is_text = record { rows = up.text; has = subst P (sym is) up.has; text_is = refl };
+            wrote = wrote_both told failed old mid new (header_of g shard) up.text header up.wrote;
+          }
+
+      first_numbers : (point : ℕ) → point ≤ end → take (point - begin) (numbers_of g shard) ≡ range_with_len begin (point - begin)
+      first_numbers point le =
+          ap (λ l. take (point - begin) l) is ∙ range_taken begin (end - begin) (point - begin) (omega (arith, le))
+
+      pub breaks_at_points : (e : SweepError) → StopsBelow file g told failed mid new begin end e
+          → BreaksOff file g shard told failed old new e
+      breaks_at_points (error.Refused point run reason) stops = absurd stops
+      breaks_at_points error.Memory (point, le, up) =
+          let P : List ℕ → Type 0 = λ l. HasRowsOf file g l up.text in
+          inr (record {
+            count = point - begin;
+            text = header_of g shard ++ up.text;
+            is_text = record { rows = up.text; has = subst P (sym (first_numbers point le)) up.has; text_is = refl };
+            wrote = wrote_both told failed old mid new (header_of g shard) up.text header up.wrote;
+          })
+      breaks_at_points error.Write (point, le, up) =
+          let P : List ℕ → Type 0 = λ l. HasRowsOf file g l up.text in
+          record {
+            count = point - begin;
+            text = header_of g shard ++ up.text;
+            is_text = record { rows = up.text; has = subst P (sym (first_numbers point le)) up.has; text_is = refl };
+            wrote = wrote_then_part told failed old mid new (header_of g shard) up.text header up.wrote;
+          }

@@ -1,0 +1,65 @@
+-- A study has one text: the runs have one result each, and the rows are told by them.
+use Rattle.std.proofs.Common.{◌≡◌, ℕ, ◌<◌, ◌≤◌, ◌++◌, List, [], ◌∷◌, length, Result, Ok, Err, refl, sym, ap, ◌∙◌, subst, arith}
+use Rattle.std.specs.List.{AllZip, flat_map}
+use Rattle.toml.specs.Data.{Members}
+use Rattle.event_list.specs.ScenarioSetting.{setting_of}
+use Rattle.event_list.proofs.Closed.{one_trace}
+use Rattle.scenario.specs.Record.{Record}
+use Rattle.study.specs.Settings.{Chosen}
+use Rattle.study.specs.Grid.{GridRecord, RunRecord, runs}
+use Rattle.study.specs.Placed.{table_of_run}
+use Rattle.study.specs.Runs.{IsScenarioOf}
+use Rattle.study.specs.Shard.{ShardRecord}
+use Rattle.study.specs.declared.error.PlaceError.{PlaceError}
+use Rattle.sweep.specs.Results.{RunResult, finished, limited, IsResult, Trial}
+use Rattle.sweep.specs.RowText.{Text, ArePointRows}
+use Rattle.sweep.specs.StudyText.{point_at, header_of, numbers_of, IsTrialOf, AreRowsOf, HasRowsOf, HasOneText}
+use Rattle.sweep.proofs.OneRow.{one_point_rows}
+
+-- lists in step with one list are one, where what stands in step with anything is one
+one_list : {A B : Type 0} (R : A → B → Type 0) → ((x : A) (y z : B) → R x y → R x z → y ≡ z)
+    → (xs : List A) (ys zs : List B) → AllZip R xs ys → AllZip R xs zs → ys ≡ zs
+one_list R one [] [] [] a b = refl
+one_list R one [] [] (z ∷ zs) a b = absurd b
+one_list R one [] (y ∷ ys) zs a b = absurd a
+one_list R one (x ∷ xs) [] zs a b = absurd a
+one_list R one (x ∷ xs) (y ∷ ys) [] a b = absurd b
+one_list R one (x ∷ xs) (y ∷ ys) (z ∷ zs) a b =
+    ap (λ u. u ∷ ys) (one x y z a.0 b.0) ∙ ap (λ l. z ∷ l) (one_list R one xs ys zs a.1 b.1)
+
+one_scenario : (r : Result Members PlaceError) (S T : Record) → IsScenarioOf r S → IsScenarioOf r T → S ≡ T
+one_scenario (Ok t) S T a b = a.1 ∙ sym b.1
+one_scenario (Err e) S T a b = absurd a
+
+one_result : (S : Record) (a b : RunResult) → IsResult S a → IsResult S b → a ≡ b
+one_result S (finished t) (finished u) a b = ap finished (one_trace (setting_of S) u t b.is_trace a.is_trace)
+one_result S (finished t) limited a b =
+    let long : S.limit < length t = b t a.is_trace in absurd (omega (arith, long, a.within))
+one_result S limited (finished u) a b =
+    let long : S.limit < length u = a u b.is_trace in absurd (omega (arith, long, b.within))
+one_result S limited limited a b = refl
+
+one_trial : (file : Members) (settings : List Chosen) (run : RunRecord) (t u : Trial) → IsTrialOf file settings run t
+    → IsTrialOf file settings run u → t ≡ u
+one_trial file settings run t u a b =
+    let same = one_scenario (table_of_run settings run file) t.scenario u.scenario a.scenario b.scenario in
+    let P : Record → Type 0 = λ S. IsResult S u.result in
+    let result = one_result t.scenario t.result u.result a.result (subst P (sym same) b.result) in
+    λ i. record { scenario = same i; result = result i }
+
+module _ (file : Members) (g : GridRecord) where
+  one_rows : (number : ℕ) (a b : Text) → AreRowsOf file g number a → AreRowsOf file g number b → a ≡ b
+  one_rows number a b x y =
+      let same = one_list (IsTrialOf file (point_at g number)) (one_trial file (point_at g number)) (runs g) x.trials y.trials x.each y.each in
+      let P : List Trial → Type 0 = λ l. ArePointRows (point_at g number) l b in
+      one_point_rows (point_at g number) x.trials a b x.told (subst P (sym same) y.told)
+
+  all_rows_one : (numbers : List ℕ) (a b : Text) → HasRowsOf file g numbers a → HasRowsOf file g numbers b → a ≡ b
+  all_rows_one numbers a b x y =
+      x.text_is
+      ∙ ap (λ l. flat_map (λ r. r) l) (one_list (AreRowsOf file g) one_rows numbers x.parts y.parts x.each y.each)
+      ∙ sym y.text_is
+
+  pub one_text : (shard : ShardRecord) → HasOneText file g shard
+  one_text shard a b x y =
+      x.text_is ∙ ap (λ t. header_of g shard ++ t) (all_rows_one (numbers_of g shard) x.rows y.rows x.has y.has) ∙ sym y.text_is

@@ -1,0 +1,36 @@
+-- Runs whose scenarios were read, one number after the other.
+use Rattle.std.proofs.Common.{◌≡◌, ℕ, ◌+◌, ◌-◌, ◌≤◌, ◌<◌, ◌⊎◌, ⊎_elim, List, Bool, true, Result, Err, IfErr, arith, sym, subst}
+use Rattle.std.specs.Prelude.{slice_index_or}
+use Rattle.std.proofs.lemmas.Bool.{cases_lt}
+use Rattle.toml.specs.Data.{Members}
+use Rattle.study.specs.Grid.{GridRecord}
+use Rattle.sweep.specs.Numbering.{HasScenarioAt, IsRefusalAt, IsFirstRefusal}
+use Rattle.sweep.specs.declared.error.SweepError.{SweepError}
+use Rattle.sweep.specs.declared.error.SweepError.TheVariants as error
+
+-- what is said of an error's reason
+pub if_err : {T E : Type 0} (r : Result T E) (P : E → Type 0) (e : E) → r ≡ Err e → P e → IfErr r P
+if_err {T} {E} r P e is p = let Q : Result T E → Type 0 = λ q. IfErr q P in subst Q (sym is) p
+
+module _ (file : Members) (g : GridRecord) where
+  -- what the first answers of a batch say of the numbers before
+  pub read_more : (first next k : ℕ) (are_read : List Bool)
+      → ((n : ℕ) → first ≤ n → n < next → HasScenarioAt file g n)
+      → ((i : ℕ) (d : Bool) → i < k → slice_index_or are_read i d ≡ true → HasScenarioAt file g (next + i))
+      → ((i : ℕ) (d : Bool) → i < k → slice_index_or are_read i d ≡ true)
+      → (n : ℕ) → first ≤ n → n < next + k → HasScenarioAt file g n
+  read_more first next k are_read before each all n low high =
+      let P : ℕ → Type 0 = λ m. HasScenarioAt file g m in
+      ⊎_elim
+      (λ (lt : n < next). before n low lt)
+      (λ (ge : next ≤ n).
+      let i : n - next < k = omega (arith, ge, high) in
+      let same : next + (n - next) ≡ n = omega (arith, ge) in
+      subst P same (each (n - next) true i (all (n - next) true i)))
+      (cases_lt n next)
+
+  pub first_refusal : (first end n : ℕ) (e : SweepError) → first ≤ n → n < end → IsRefusalAt file g n e
+      → ((m : ℕ) → first ≤ m → m < n → HasScenarioAt file g m) → IsFirstRefusal file g first end e
+  first_refusal first end n (error.Refused point run reason) low high refused before = (n, low, high, refused, before)
+  first_refusal first end n error.Memory low high refused before = tt
+  first_refusal first end n error.Write low high refused before = refused

@@ -1,0 +1,31 @@
+-- Two lists in step.
+use Rattle.std.proofs.Common.{◌≡◌, ℕ, zero, suc, ◌+◌, ◌≤◌, List, [], ◌∷◌, ◌++◌, length, take, arith, refl, ap, ◌∙◌, add-one}
+use Rattle.std.specs.List.{AllZip, range_with_len}
+
+module _ {A B : Type 0} (R : A → B → Type 0) where
+  pub zip_length : (xs : List A) (ys : List B) → AllZip R xs ys → length xs ≡ length ys
+  zip_length [] [] z = refl
+  zip_length [] (y ∷ ys) z = absurd z
+  zip_length (x ∷ xs) [] z = absurd z
+  zip_length (x ∷ xs) (y ∷ ys) z = let r : length xs ≡ length ys = zip_length xs ys z.1 in ap suc r
+
+  -- one more of both
+  pub zip_push : (xs : List A) (ys : List B) (x : A) (y : B) → AllZip R xs ys → R x y
+      → AllZip R (xs ++ x ∷ []) (ys ++ y ∷ [])
+  zip_push [] [] x y z r = (r, tt)
+  zip_push [] (b ∷ ys) x y z r = absurd z
+  zip_push (a ∷ xs) [] x y z r = absurd z
+  zip_push (a ∷ xs) (b ∷ ys) x y z r = (z.0, zip_push xs ys x y z.1 r)
+
+-- numbers that follow one another, with one more
+range_push : (a n : ℕ) → range_with_len a (suc n) ≡ range_with_len a n ++ (a + n) ∷ []
+range_push a zero = ap (λ m. m ∷ []) (omega arith)
+range_push a (suc n) = ap (λ l. a ∷ l) (range_push (a + 1) n ∙ ap (λ m. range_with_len (a + 1) n ++ m ∷ []) (omega arith))
+
+pub range_more : (a n : ℕ) → range_with_len a (n + 1) ≡ range_with_len a n ++ (a + n) ∷ []
+range_more a n = ap (λ k. range_with_len a k) (add-one n) ∙ range_push a n
+
+pub range_taken : (a n k : ℕ) → k ≤ n → take k (range_with_len a n) ≡ range_with_len a k
+range_taken a n zero le = refl
+range_taken a zero (suc k) le = absurd (omega arith)
+range_taken a (suc n) (suc k) le = ap (λ l. a ∷ l) (range_taken (a + 1) n k (omega arith))

@@ -1,0 +1,15 @@
+use Rattle.std.proofs.Common.{rules}
+use Rattle.qos_report.specs.Measured.{MeasuresRun}
+use Rattle.qos_report.specs.Streaming.{IsLonger}
+use Rattle.sweep.specs.Results.{finished, limited}
+use Rattle.sweep.proofs.measuring.measure_scenario.Goals as goal
+
+pub returns-in_ok-numbers-in-Ok : goal.returns-in_ok-numbers-in-Ok
+returns-in_ok-numbers-in-Ok c =
+    let found : MeasuresRun c.args.scenario.now c.in-Ok.findings = search rules in
+    (finished found.trace, found.is_within, c.in_ok-numbers-in-Ok.ensures found)
+
+pub returns-in-Err-Limit : goal.returns-in-Err-Limit
+returns-in-Err-Limit c =
+    let long : IsLonger c.args.scenario.now = search rules in
+    (limited, long, c.of_limited.ensures)

@@ -1,0 +1,52 @@
+use Rattle.std.proofs.Common.{rules, ◌≡◌, ℕ, ◌-◌, ◌*◌, ◌≤◌, length, arith, ap, subst}
+use Rattle.std.specs.List.{range_with_len}
+use Rattle.std.proofs.lemmas.Result.{IfOk-weaker, MatchResult-weaker}
+use Rattle.toml.specs.View.{table_view}
+use Rattle.qos_report.specs.Writing.{Wrote}
+use Rattle.study.specs.Grid.{points, runs}
+use Rattle.sweep.specs.Numbering.{IsFirstRefusal}
+use Rattle.sweep.specs.Progress.{WroteUpTo, StopsBelow}
+use Rattle.sweep.specs.StudyText.{numbers_of, header_of}
+use Rattle.sweep.proofs.Reading.{if_err}
+use Rattle.sweep.proofs.Ending.{breaks_at_check, breaks_at_header, wrote_study, breaks_at_points}
+use Rattle.sweep.proofs.sweeping.sweep.Goals as goal
+
+pub returns-in_err-check_runs-clause-breaks_off : goal.returns-in_err-check_runs-clause-breaks_off
+returns-in_err-check_runs-clause-breaks_off g c =
+    let file = table_view c.args.file.now in
+    let grid = c.args.grid.now in
+    let is : numbers_of grid c.args.shard ≡ range_with_len c.from-begin.result (c.from-end.result - c.from-begin.result) = search rules in
+    let some : 1 ≤ length (runs grid) = omega (arith, c.runs-runs.ensures.value, c.runs-runs.ensures.low) in
+    let refusal : IsFirstRefusal file grid (c.from-begin.result * length (runs grid)) (c.from-end.result * length (runs grid)) c.in_err-check_runs.field-0.0 =
+    search rules in
+    if_err c.from_residual.result _ c.in_err-check_runs.field-0.0 (search rules)
+    (breaks_at_check file grid c.args.shard c.from-begin.result c.from-end.result is g.O.Outlet.told g.O.Outlet.failed c.args.outlet.now c.in_err-check_runs.field-0.0 some refusal)
+
+pub returns-in_err-write_header-clause-breaks_off :
+    goal.returns-in_err-write_header-clause-breaks_off
+returns-in_err-write_header-clause-breaks_off g c =
+    let file = table_view c.args.file.now in
+    let grid = c.args.grid.now in
+    let is : numbers_of grid c.args.shard ≡ range_with_len c.from-begin.result (c.from-end.result - c.from-begin.result) = search rules in
+    if_err c.from_residual-in_err-write_header.result _ c.in_err-write_header.field-0.0 (search rules)
+    (breaks_at_header file grid c.args.shard c.from-begin.result c.from-end.result is g.O.Outlet.told g.O.Outlet.failed c.args.outlet.now c.write_header.new.outlet c.in_err-write_header.field-0.0
+    c.in_err-write_header.ensures.part)
+
+pub returns-clause-done : goal.returns-clause-done
+returns-clause-done g c =
+    let file = table_view c.args.file.now in
+    let grid = c.args.grid.now in
+    let is : numbers_of grid c.args.shard ≡ range_with_len c.from-begin.result (c.from-end.result - c.from-begin.result) = search rules in
+    IfOk-weaker c.write_points.result _ _
+    (λ u up. wrote_study file grid c.args.shard c.from-begin.result c.from-end.result is g.O.Outlet.told g.O.Outlet.failed c.args.outlet.now c.write_header.new.outlet c.write_points.new.outlet
+    c.in_ok-write_header.ensures.whole up)
+    c.write_points.ensures.done
+
+pub returns-clause-breaks_off : goal.returns-clause-breaks_off
+returns-clause-breaks_off g c =
+    let file = table_view c.args.file.now in
+    let grid = c.args.grid.now in
+    let is : numbers_of grid c.args.shard ≡ range_with_len c.from-begin.result (c.from-end.result - c.from-begin.result) = search rules in
+    MatchResult-weaker c.write_points.result c.write_points.ensures.stops (λ u h. h)
+    (λ e stops. breaks_at_points file grid c.args.shard c.from-begin.result c.from-end.result is g.O.Outlet.told g.O.Outlet.failed c.args.outlet.now c.write_header.new.outlet c.write_points.new.outlet
+    c.in_ok-write_header.ensures.whole e stops)

@@ -1,0 +1,69 @@
+-- What a sweep leaves of an outlet.
+use Rattle.std.specs.Prelude.{◌≡◌, ◌⊎◌, ◌<◌, ℕ, false, List, [], take, length, get_or, Option, Contains}
+use Rattle.toml.specs.Data.{Members}
+use Rattle.qos_report.specs.Writing.{Wrote, WrotePart, WroteNothing}
+use Rattle.scenario.specs.Record.{Record}
+use Rattle.study.specs.Grid.{GridRecord, RunRecord, runs}
+use Rattle.study.specs.Placed.{table_of_run}
+use Rattle.study.specs.Runs.{IsScenarioOf, IsRefusedFor, is_memory}
+use Rattle.study.specs.Shard.{ShardRecord}
+use Rattle.study.specs.declared.error.ReadError.{ReadError}
+use Rattle.sweep.specs.RowText.{Text}
+use Rattle.sweep.specs.StudyText.{point_at, numbers_of, IsTextOf, IsStudyText}
+use Rattle.sweep.specs.declared.error.SweepError.{SweepError}
+use Rattle.sweep.specs.declared.error.SweepError.TheVariants as error
+
+-- the run of this number, from 0; what stands for a number that is too high is never asked for
+abbrev pub run_at : GridRecord → ℕ → RunRecord
+run_at g number = get_or (runs g) number (record { settings = []; seed = 0 })
+
+-- runs stand in the order of their points, and those of a point in their own
+abbrev pub IsBefore : (p r point run : ℕ) → Type 0
+IsBefore p r point run = (p < point) ⊎ ((p ≡ point) × (r < run))
+
+module _ (file : Members) (g : GridRecord) where
+  -- the run of a point has a scenario
+  abbrev pub HasScenario : (point run : ℕ) → Type 0
+  HasScenario point run = (S : Record) × IsScenarioOf (table_of_run (point_at g point) (run_at g run) file) S
+
+  -- it has none, for this reason
+  pub record IsRefused (point run : ℕ) (reason : ReadError) : Type 0 where
+    pub reason_is : IsRefusedFor (table_of_run (point_at g point) (run_at g run) file) reason
+    pub no_memory : is_memory reason ≡ false
+
+  module _ (shard : ShardRecord) where
+    -- of the shard's runs this one is refused, and none before it
+    pub record IsFirstRefused (point run : ℕ) (reason : ReadError) : Type 0 where
+      pub point_in : Contains (numbers_of g shard) point
+      pub run_in : run < length (runs g)
+      pub refused : IsRefused point run reason
+      pub before : (p r : ℕ) → Contains (numbers_of g shard) p → r < length (runs g) → IsBefore p r point run
+          → HasScenario p r
+
+    module _ {O : Type 0} (told : O → Option Text) (failed : O → ℕ) (old new : O) where
+      -- the shard's text went out, and nothing else
+      pub record WroteStudy : Type 0 where
+        pub text : Text
+        pub is_text : IsStudyText file g shard text
+        pub wrote : Wrote told failed old new text
+
+      -- the header and the rows of the first of the shard's points went out
+      pub record WroteFirst : Type 0 where
+        pub count : ℕ
+        pub text : Text
+        pub is_text : IsTextOf file g shard (take count (numbers_of g shard)) text
+        pub wrote : Wrote told failed old new text
+
+      -- a front part of these went out
+      pub record WroteFront : Type 0 where
+        pub count : ℕ
+        pub text : Text
+        pub is_text : IsTextOf file g shard (take count (numbers_of g shard)) text
+        pub wrote : WrotePart told failed old new text
+
+      -- a sweep breaks off: a scenario is refused, or memory, or a put failed
+      abbrev pub BreaksOff : SweepError → Type 0
+      BreaksOff (error.Refused point run reason) =
+          IsFirstRefused point run reason × WroteNothing told failed old new
+      BreaksOff error.Memory = WroteNothing told failed old new ⊎ WroteFirst
+      BreaksOff error.Write = WroteFront

@@ -1,0 +1,69 @@
+//! Runs one scenario and measures it.
+ghost use Rattle.std.specs.Prelude.{◌≡◌, ◌<◌, ◌≤◌, length, IfOk};
+ghost use Rattle.scenario.specs.Opening.{mind_of};
+ghost use Rattle.toml.specs.View.{table_view};
+ghost use Rattle.study.specs.Grid.{points, runs};
+ghost use Rattle.sweep.specs.Numbering.{point_of, IsAnswerAt};
+ghost use Rattle.sweep.specs.Results.{RunResult, IsResult};
+ghost use Rattle.sweep.specs.Sums.{AreNumbers};
+
+use crate::numbering::scenario_of;
+use crate::run_numbers::RunNumbers;
+use event_list::RunError;
+use machines::{AnyDetector, eventually_strong, idle, make_all, strong};
+use process_api::Process;
+use qos_report::measure_list;
+use scenario::AlgorithmKind::{EventuallyStrong, Idle, Strong};
+use scenario::{Opening, Scenario};
+use std::alloc::{AllocError, Global};
+use study::Grid;
+use toml::Table;
+
+/// What the run of a scenario gives to the sums. A run that passes its limit is counted, and gives nothing else.
+fn measure_scenario(alloc: Global, scenario: &Scenario) -> Result<RunNumbers, AllocError>
+    ensures { IfOk result (λ n. (r : RunResult) × IsResult scenario.now r
+        × AreNumbers (record { scenario = scenario.now; result = r }) n) }
+{
+    let _ticks = scenario.horizon();
+    let machines = make_all(
+        alloc,
+        scenario,
+        |opening: Opening| -> Result<Box<dyn Process>, AllocError>
+            ensures { IfOk result (λ made. mind made ≡ mind_of opening) }
+        {
+            let detector = AnyDetector::open(alloc, &opening)?;
+            match opening.algorithm {
+                Idle => Ok(Box::new(alloc, idle(&opening, detector))?),
+                Strong => Ok(Box::new(alloc, strong(alloc, &opening, detector)?)?),
+                EventuallyStrong => {
+                    Ok(Box::new(alloc, eventually_strong(alloc, &opening, detector)?)?)
+                }
+            }
+        },
+    )?;
+    match measure_list(alloc, scenario, machines) {
+        Ok(findings) => {
+            let numbers = RunNumbers::of_run(alloc, scenario, &findings)?;
+            Ok(numbers)
+        }
+        Err(RunError::Limit) => Ok(RunNumbers::of_limited(alloc, scenario)),
+        Err(_) => Err(AllocError),
+    }
+}
+
+/// What the run of this number gives. Its scenario was read before: what refuses it now is want of memory.
+pub(crate) fn measure_run(
+    alloc: Global,
+    file: &Table,
+    grid: &Grid,
+    number: u64,
+) -> Result<RunNumbers, AllocError>
+    requires some { 1 ≤ length (runs grid.now) }
+    requires within { point_of grid.now number < length (points grid.now) }
+    ensures { IsAnswerAt (table_view file.now) grid.now number result }
+{
+    let Ok(scenario) = scenario_of(alloc, file, grid, number) else {
+        return Err(AllocError);
+    };
+    measure_scenario(alloc, &scenario)
+}

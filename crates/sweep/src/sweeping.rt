@@ -1,0 +1,94 @@
+//! Sweeps: all runs of a study's points, and the rows that tell of them.
+ghost use Rattle.std.specs.Prelude.{◌^◌, ◌-◌, ◌*◌, ◌<◌, ◌≤◌, length, OnOk, IfErr};
+ghost use Rattle.toml.specs.View.{table_view};
+ghost use Rattle.study.specs.Grid.{points, runs};
+ghost use Rattle.sweep.specs.Outcome.{WroteStudy, BreaksOff};
+ghost use Rattle.sweep.specs.Progress.{WroteUpTo, StopsBelow};
+
+use crate::checking::check_runs;
+use crate::error::SweepError;
+use crate::measuring::measure_run;
+use crate::numbering::batch;
+use crate::parallel::in_parallel;
+use crate::progress::Progress;
+use crate::texts::write_header;
+use qos_report::Outlet;
+use std::alloc::Global;
+use std::marker::Sync;
+use std::thread::Threads;
+use study::{Grid, Shard};
+use toml::Table;
+
+/// Runs all runs of the points from one number up to another, and writes the rows of each point when its last run is in.
+fn write_points<R: Threads + Sync, O: Outlet>(
+    rt: &R,
+    alloc: Global,
+    file: &Table,
+    grid: &Grid,
+    begin: u64,
+    end: u64,
+    threads: u8,
+    outlet: &mut O,
+) -> Result<(), SweepError>
+    requires failures { O.failed outlet.old < 2 ^ 64 - 1 }
+    requires some { 1 ≤ length (runs grid.now) }
+    requires order { begin ≤ end }
+    requires within { end ≤ length (points grid.now) }
+    requires room { length (points grid.now) * length (runs grid.now) < 2 ^ 64 }
+    ensures done { OnOk result (WroteUpTo (table_view file.now) grid.now O.told O.failed outlet.old outlet.new begin end) }
+    ensures stops { IfErr result
+        (StopsBelow (table_view file.now) grid.now O.told O.failed outlet.old outlet.new begin end) }
+{
+    let runs = grid.runs();
+    let mut progress = Progress::at(alloc, begin);
+    let mut next = begin * runs;
+    while next < end * runs {
+        let count = batch(threads).min(end * runs - next);
+        let answers = in_parallel(
+            rt,
+            alloc,
+            next,
+            count,
+            threads,
+            &|number| measure_run(alloc, file, grid, number),
+        )?;
+        progress.take_all(alloc, grid, &answers, outlet)?;
+        next += count;
+    }
+    Ok(())
+}
+
+/// Sweeps the points of a shard of a study: runs all their runs by so many threads, and writes a row for each point and
+/// layer, with sums over its runs. The first shard begins with the header. The threads change nothing of the text.
+///
+/// Every run's scenario is read before the first run starts. A point's rows go out when its last run is in. Memory grows
+/// with neither the runs nor their horizon: what is held is what some dozens of runs for each thread give, and the sums
+/// of a point.
+///
+/// # Errors
+///
+/// `Refused` where a run of the shard has no scenario, for the first such run; then nothing went out. `Memory` where
+/// memory was refused: then nothing went out, or the header and the rows of the first points. `Write` where a put failed:
+/// then a front part of these.
+pub fn sweep<R: Threads + Sync, O: Outlet>(
+    rt: &R,
+    alloc: Global,
+    file: &Table,
+    grid: &Grid,
+    shard: Shard,
+    threads: u8,
+    outlet: &mut O,
+) -> Result<(), SweepError>
+    requires failures { O.failed outlet.old < 2 ^ 64 - 1 }
+    ensures done { OnOk result (WroteStudy (table_view file.now) grid.now shard O.told O.failed outlet.old outlet.new) }
+    ensures breaks_off { IfErr result
+        (BreaksOff (table_view file.now) grid.now shard O.told O.failed outlet.old outlet.new) }
+{
+    let runs = grid.runs();
+    let points = shard.points(grid.points() as u32);
+    let begin = u64::from(points.start);
+    let end = u64::from(points.end);
+    check_runs(rt, alloc, file, grid, begin * runs, end * runs, threads)?;
+    write_header(alloc, grid, shard, outlet)?;
+    write_points(rt, alloc, file, grid, begin, end, threads, outlet)
+}
