@@ -6,8 +6,8 @@ pub returns : goal.returns
 returns c =
     IfOk-weaker c.measure_scenario.result _ _
     (λ n told. record {
-        trial = record { scenario = c.in-Ok.scenario; result = told.0 };
-        is_trial = record { scenario = search rules; result = told.1 };
-        numbers = told.2;
-      })
+      trial = record { scenario = c.in-Ok.scenario; result = told.0 };
+      is_trial = record { scenario = search rules; result = told.1 };
+      numbers = told.2;
+    })
     c.measure_scenario.ensures
