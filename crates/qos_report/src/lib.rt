@@ -18,9 +18,9 @@
 //!   refusal `bench_list` has written nothing (`Refuses`, there too). `bench_windows` has written the trace's header
 //!   and whole rows of its first entries, where the trace is asked for, and nothing of the report (`BreaksOff`); only
 //!   for want of memory at the opening nothing went out. `bench_list` starts no thread, and never answers `Spawn`.
-//! - [`measure_list`] runs a scenario as `bench_list` does, forms no text, and tells all that is measured of the run: on
-//!   `Ok` the [`RunFindings`] are those of the scenario's trace, which is within the limit (`specs/Measured.antt`). It
-//!   answers `Limit` only where that trace is longer, and else only `Memory`.
+//! - [`measure_list`] runs a scenario as `bench_list` does, forms no text, and tells all that is measured of the run:
+//!   on `Ok` the [`RunFindings`] are those of the scenario's trace, which is within the limit (`specs/Measured.antt`).
+//!   It answers `Limit` only where that trace is longer, and else only `Memory`.
 //! - [`watched_ticks`] gives the ticks for which a pair is watched, over all pairs: what a mistake rate and the query
 //!   accuracy of a scenario's runs are divided by (`specs/Watched.antt`).
 //! - [`measures`] gives a row for each pair on each layer, by definition, of any trace. In the scenario's trace each

@@ -9,9 +9,9 @@
 //! Detection times are kept with how often each came, so memory grows with how many different times there are, and not
 //! with the runs. Sums have 128 bits, and are exact of up to 1,000,000,000,000 runs.
 //!
-//! As an example, let process 2 of two crash at tick 3 of 10, process 1 detect it at tick 9, and the study have this one
-//! run, with `detector.timeout` 5. Its row begins `5,1,1,0,12,4,0,6,`: a time-out of 5, layer 1, one run, none that
-//! passed its limit, 12 entries, 4 letters sent, none lost, and 6 ticks of watching, 3 for each of the two pairs.
+//! As an example, let process 2 of two crash at tick 3 of 10, process 1 detect it at tick 9, and the study have this
+//! one run, with `detector.timeout` 5. Its row begins `5,1,1,0,12,4,0,6,`: a time-out of 5, layer 1, one run, none
+//! that passed its limit, 12 entries, 4 letters sent, none lost, and 6 ticks of watching, 3 for each of the two pairs.
 #![tactic(auto)]
 
 mod adding;

@@ -19,7 +19,8 @@ use std::thread::Threads;
 use study::{Grid, Shard};
 use toml::Table;
 
-/// Runs all runs of the points from one number up to another, and writes the rows of each point when its last run is in.
+/// Runs all runs of the points from one number up to another, and writes the rows of each point when its last run is
+/// in.
 fn write_points<R: Threads + Sync, O: Outlet>(
     rt: &R,
     alloc: Global,
@@ -35,7 +36,8 @@ fn write_points<R: Threads + Sync, O: Outlet>(
     requires order { begin ≤ end }
     requires within { end ≤ length (points grid.now) }
     requires room { length (points grid.now) * length (runs grid.now) < 2 ^ 64 }
-    ensures done { OnOk result (WroteUpTo (table_view file.now) grid.now O.told O.failed outlet.old outlet.new begin end) }
+    ensures done { OnOk result
+        (WroteUpTo (table_view file.now) grid.now O.told O.failed outlet.old outlet.new begin end) }
     ensures stops { IfErr result
         (StopsBelow (table_view file.now) grid.now O.told O.failed outlet.old outlet.new begin end) }
 {
@@ -61,15 +63,15 @@ fn write_points<R: Threads + Sync, O: Outlet>(
 /// Sweeps the points of a shard of a study: runs all their runs by so many threads, and writes a row for each point and
 /// layer, with sums over its runs. The first shard begins with the header. The threads change nothing of the text.
 ///
-/// Every run's scenario is read before the first run starts. A point's rows go out when its last run is in. Memory grows
-/// with neither the runs nor their horizon: what is held is what some dozens of runs for each thread give, and the sums
-/// of a point.
+/// Every run's scenario is read before the first run starts. A point's rows go out when its last run is in. Memory
+/// grows with neither the runs nor their horizon: what is held is what some dozens of runs for each thread give, and
+/// the sums of a point.
 ///
 /// # Errors
 ///
 /// `Refused` where a run of the shard has no scenario, for the first such run; then nothing went out. `Memory` where
-/// memory was refused: then nothing went out, or the header and the rows of the first points. `Write` where a put failed:
-/// then a front part of these.
+/// memory was refused: then nothing went out, or the header and the rows of the first points. `Write` where a put
+/// failed: then a front part of these.
 pub fn sweep<R: Threads + Sync, O: Outlet>(
     rt: &R,
     alloc: Global,
