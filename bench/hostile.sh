@@ -14,37 +14,8 @@ cp "$root/crates/fdbench/out/fdbench" "$root/examples/lossy_coordinator.toml" "$
 fdbench="$folder/fdbench"
 five="$folder/lossy_coordinator.toml"
 many="$folder/sixty_four.toml"
-# a run that hangs is stopped after so many seconds
-limit="timeout --kill-after=1 60"
-wrong=0
-
-# Begins a kind of refusal: its name, and the statuses that may come.
-begin() {
-    kind=$1 allowed=" $2 " runs=0
-    declare -gA counts=()
-}
-
-# Counts a run that ended with the status $1. With status 0, "$folder/out" has to be the file $2, where one is named.
-ended() {
-    runs=$((runs + 1))
-    counts[$1]=$((${counts[$1]:-0} + 1))
-    if [[ $allowed != *" $1 "* ]]; then
-        echo "wrong: $kind: status $1: $(head -c 200 "$folder/err")"
-        wrong=$((wrong + 1))
-    elif [ "$1" -eq 0 ] && [ -n "${2:-}" ] && ! cmp -s "$folder/out" "$2"; then
-        echo "wrong: $kind: other bytes with status 0"
-        wrong=$((wrong + 1))
-    fi
-}
-
-# Ends a kind of refusal.
-end() {
-    printf '%s: %s runs:' "$kind" "$runs"
-    for status in $(printf '%s\n' "${!counts[@]}" | sort -n); do
-        printf ' status %s %s times;' "$status" "${counts[$status]}"
-    done
-    echo
-}
+# shellcheck source=bench/refusals.sh
+. "$root/bench/refusals.sh"
 
 for file in "$five" "$many"; do
     "$fdbench" list "$file" --print both > "$file.listed" || exit 1
@@ -84,11 +55,7 @@ if cc -shared -fPIC -O1 -o "$folder/refuse.so" "$root/bench/refuse.c" 2> /dev/nu
                 # beyond the last request
                 [ -e "$folder/refused" ] || break
                 ended "$status" "$folder/listed"
-                if [ -e "$folder/left" ]; then
-                    echo "wrong: $kind: memory is held at the end, request $request of $command, $example"
-                    wrong=$((wrong + 1))
-                    rm "$folder/left"
-                fi
+                held "request $request of $command, $example"
             done
         done
     done

@@ -1,5 +1,5 @@
 -- Which faults a table has, for which its file is refused.
-use Rattle.std.specs.Prelude.{◌≡◌, ◌≢◌, ℕ, zero, suc, ◌<◌, ℤ, ◌<ℤ◌, ◌≤ℤ◌, pos, List, map, Bool, true, false, ◌&&◌, Option, Some, None, is_some, option_and_then, IfSome, string_bytes, codes}
+use Rattle.std.specs.Prelude.{◌≡◌, ◌≢◌, ℕ, zero, suc, ◌<◌, ℤ, ◌<ℤ◌, ◌≤ℤ◌, pos, List, map, Bool, true, false, ◌&&◌, Option, Some, None, is_some, option_and_then, string_bytes, codes}
 use Rattle.std.specs.List.{Contains, list_any}
 use Rattle.std.specs.Option.{option_map_or}
 use Rattle.std.specs.Ordering.{int_eq}
@@ -10,6 +10,7 @@ use Rattle.scenario.specs.Rules.{is_within}
 use Rattle.scenario.specs.declared.error.ScenarioError.{ScenarioError}
 use Rattle.scenario.specs.declared.error.ScenarioError.TheVariants as error
 use Rattle.diagnosis.specs.Place.{fields_at, array_key, numbered}
+use Rattle.diagnosis.specs.Likeness.{IsMeant}
 use Rattle.diagnosis.specs.Ranges.{Range, ranges, Names, names}
 use Rattle.diagnosis.specs.declared.place.Place.{Place}
 use Rattle.diagnosis.specs.declared.place.Place.TheVariants as place
@@ -43,18 +44,11 @@ has_integer key value table = option_map_or (λ z. int_eq z value) (integer_in k
 
 -- ---- keys
 
--- the key is listed
-pub record IsKeyOf (fields : List Field) (key : List ℕ) : Type 0 where
-  pub field : Field
-  pub listed : Contains fields field
-  pub named : field.key ≡ key
-
--- the table has the key, which isn't listed; what is suggested is listed, and isn't there
+-- the table has the key, which isn't listed; what is suggested is one of the nearest of those that are
 pub record IsUnknown (fields : List Field) (table : Members) (u : UnknownKey) : Type 0 where
   pub there : Contains (keys_of table) (string_bytes u.key)
   pub unlisted : is_listed fields (string_bytes u.key) ≡ false
-  pub suggested : IfSome u.suggestion (λ key. IsKeyOf fields key.now)
-  pub missing : IfSome u.suggestion (λ key. get_member key.now table ≡ None)
+  pub suggested : IsMeant fields (string_bytes u.key) u.suggestion
 
 -- the key is listed and needed, and the table lacks it
 pub record IsMissing (fields : List Field) (table : Members) (key : List ℕ) : Type 0 where

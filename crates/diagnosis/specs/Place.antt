@@ -1,5 +1,5 @@
 -- The tables of a scenario's file, by their places.
-use Rattle.std.specs.Prelude.{ℕ, zero, suc, List, slice_get, Option, Some, None, codes}
+use Rattle.std.specs.Prelude.{ℕ, zero, suc, List, [], ◌++◌, slice_get, Option, Some, None, codes, decimal}
 use Rattle.toml.specs.Data.{Members}
 use Rattle.scenario.specs.Table.{Field, table_at, tables_at}
 use Rattle.scenario.specs.Keys.{top_fields, detector_fields, share_fields, link_fields, pair_fields, crash_fields, outage_fields}
@@ -20,6 +20,12 @@ abbrev pub array_key : TableArray → List ℕ
 array_key array.Links = codes "links"
 array_key array.Crash = codes "crash"
 array_key array.Outage = codes "outage"
+
+-- the path of the table at a place: nothing for the top table, `detector`, or `crash[1]`
+abbrev pub place_text : Place → List ℕ
+place_text place.Top = []
+place_text (place.Section s) = section_key s
+place_text (place.Element a number) = array_key a ++ codes "[" ++ decimal number ++ codes "]"
 
 -- the table of this number, from 1
 abbrev pub numbered : ℕ → List Members → Option Members

@@ -1,9 +1,10 @@
 //! Diagnoses of scenarios' files.
 ghost use Rattle.std.specs.Prelude.{◌≡◌, IfOk, Some, None};
 ghost use Rattle.toml.specs.View.{table_view};
+ghost use Rattle.toml.specs.Errors.{IsWithin, span_start, IsMemory as IsMemoryError};
 ghost use Rattle.scenario.specs.Refusals.{IsDocumentOf, table_rules, is_memory as is_for_memory};
 ghost use Rattle.scenario.specs.Groups.{StopsFirst};
-ghost use Rattle.diagnosis.specs.Diagnosis.{Breaks, IsDiagnosisOf, IsTableDiagnosisOf, RefusesFor, RefusesTableFor};
+ghost use Rattle.diagnosis.specs.Diagnosis.{Breaks, IsDiagnosisOf, IsPlaced, IsTableDiagnosisOf, RefusesFor, RefusesTableFor};
 
 use crate::estimate::{Estimate, estimate_of};
 use crate::finding::{Finding, NotToml};
@@ -98,12 +99,16 @@ pub fn diagnose_table(alloc: Global, table: &Table) -> Result<Diagnosis, AllocEr
 }
 
 /// Where and why bytes are no TOML.
-fn not_toml(alloc: Global, bytes: &[u8], error: &toml::de::Error) -> Result<NotToml, AllocError> {
+fn not_toml(alloc: Global, bytes: &[u8], error: &toml::de::Error) -> Result<NotToml, AllocError>
+    requires other { ¬ IsMemoryError error.now }
+    requires within { IsWithin bytes.now error.now }
+    ensures { IfOk result (IsPlaced bytes.now (span_start error.now)) }
+{
     let place = match error.span() {
         Some(span) => span.start,
         None => 0,
     };
-    let (line, column) = position_after(bytes.get(..place).unwrap_or(bytes));
+    let (line, column) = position_after(&bytes[..place]);
     let message = String::from_str(alloc, error.message())?;
     Ok(NotToml {
         line,
@@ -118,7 +123,9 @@ fn refused_bytes(
     bytes: &[u8],
     error: &toml::de::Error,
 ) -> Result<Refused, AllocError>
-    requires { IsDocumentOf bytes.now None }
+    requires document { IsDocumentOf bytes.now None }
+    requires other { ¬ IsMemoryError error.now }
+    requires within { IsWithin bytes.now error.now }
     ensures { IfOk result (RefusesFor bytes.now) }
 {
     let fault = not_toml(alloc, bytes, error)?;

@@ -15,11 +15,7 @@ pub(crate) fn crash_fault(top: &Table, number: u64, table: &Table) -> Option<Fau
     ensures { IfSome result (IsFault ScenarioError.CrashLine
         (table_view top.now) (Place.Element TableArray.Crash number) (table_view table.now)) }
 {
-    let process = Range {
-        key: "process",
-        low: 1,
-        high: processes_in(top)?,
-    };
+    let process = Range::of_process("process", processes_in(top)?);
     let at = Range {
         key: "at",
         low: 0,

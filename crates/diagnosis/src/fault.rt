@@ -8,7 +8,7 @@ use scenario::Kind;
 pub struct UnknownKey {
     /// The key.
     pub key: String,
-    /// The most alike of the keys that the table may have and hasn't, if one is alike enough.
+    /// One of the nearest of the keys that the table may have, if one is near enough, also where the table has it.
     pub suggestion: Option<&'static str>,
 }
 

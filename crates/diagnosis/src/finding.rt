@@ -26,6 +26,6 @@ pub enum Finding {
         /// The fault.
         fault: Fault,
     },
-    /// Nothing was found. No file is known for which this is the answer.
+    /// Nothing was found in a file that is TOML. No file is known for which this is the answer.
     Unplaced,
 }

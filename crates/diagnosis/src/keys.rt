@@ -4,43 +4,46 @@ ghost use Rattle.std.specs.List.{Contains};
 ghost use Rattle.toml.specs.Data.{get_member};
 ghost use Rattle.toml.specs.View.{view, table_view};
 ghost use Rattle.scenario.specs.Parts.{field_of, fields_of};
-ghost use Rattle.diagnosis.specs.Faults.{IsKeyOf, IsUnknown, IsMissing, IsWrongKindOf, IsWrongKind};
+ghost use Rattle.diagnosis.specs.Likeness.{IsMeant, edits, most_edits as most_edits_of};
+ghost use Rattle.diagnosis.specs.Faults.{IsUnknown, IsMissing, IsWrongKindOf, IsWrongKind};
 
 use crate::fault::{UnknownKey, WrongKind};
-use crate::values::{lacks, value_at};
+use crate::values::value_at;
 use scenario::{Field, is_lacking_field, is_listed_key};
 use std::alloc::{AllocError, Global};
 use strsim::damerau_levenshtein;
 use toml::Table;
 
-/// How many edits away from a key a suggestion may be: one for each three bytes of the key, and one more.
-fn most_edits(key: &str) -> usize {
-    key.len() / 3 + 1
+/// How many edits away from a key a suggestion may be: one for each three bytes of the key, and one at least.
+fn most_edits(key: &str) -> usize
+    ensures { result ≡ most_edits_of key.now }
+{
+    key.len().max(3) / 3
 }
 
-/// The most alike to a key of the keys that a table may have and hasn't, if one is alike enough.
+/// How many edits lead from one text to the other.
+fn edits_between(alloc: Global, a: &str, b: &str) -> Result<usize, AllocError>
+    ensures { IfOk result (λ d. d ≡ edits a.now b.now) }
+{
+    damerau_levenshtein(alloc, a, b)
+}
+
+/// The first of the nearest to a key of the keys that a table may have, if one is near enough.
 fn most_alike(
     alloc: Global,
     fields: &[Field],
-    table: &Table,
     key: &str,
 ) -> Result<Option<&'static str>, AllocError>
-    ensures listed { IfOk result (λ s. IfSome s (λ k. IsKeyOf (fields_of fields.now) k.now)) }
-    ensures missing { IfOk result (λ s. IfSome s (λ k. get_member k.now (table_view table.now) ≡ None)) }
+    ensures { IfOk result (IsMeant (fields_of fields.now) key.now) }
 {
     let mut best = None;
-    let mut most = most_edits(key);
+    let mut least = most_edits(key) + 1;
     for field in fields {
-        if !lacks(table, field.key) {
-            continue;
+        let edits = edits_between(alloc, key, field.key)?;
+        if edits < least {
+            best = Some(field.key);
+            least = edits;
         }
-        let edits = damerau_levenshtein(alloc, key, field.key)?;
-        let is_better = edits < most || edits == most && best.is_none();
-        if !is_better {
-            continue;
-        }
-        best = Some(field.key);
-        most = edits;
     }
     Ok(best)
 }
@@ -55,7 +58,7 @@ pub(crate) fn unknown_key(
 {
     for key in table.keys() {
         if !is_listed_key(fields, key.as_str()) {
-            let suggestion = most_alike(alloc, fields, table, key.as_str())?;
+            let suggestion = most_alike(alloc, fields, key.as_str())?;
             let key = String::from_str(alloc, key.as_str())?;
             return Ok(Some(UnknownKey { key, suggestion }));
         }

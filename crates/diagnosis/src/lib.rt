@@ -8,9 +8,10 @@
 //!
 //! What a finding names is so, and breaks the rule of the refusal (`specs/Faults.antt`): the file has a table at
 //! that place (`specs/Place.antt`), the table has that value at that key, and the rule lets no such value pass
-//! (`specs/Ranges.antt` has the ranges and the names). That each refused file gets a finding isn't proved, but
-//! tested: where the search finds nothing, the answer is [`Finding::Unplaced`]. So are the words of the line, its
-//! line and column where the bytes are no TOML, and the estimate.
+//! (`specs/Ranges.antt` has the ranges and the names). A suggested key is the table's, and none of its keys is nearer
+//! (`specs/Likeness.antt`). Line and column are those of a place of the file (`specs/Position.antt`), and a refusal is
+//! printed in the words of `specs/Text.antt`, with these numbers. That each refused file that is TOML gets a finding
+//! isn't proved, but tested: where the search finds nothing, the answer is [`Finding::Unplaced`]. So is the estimate.
 #![tactic(auto)]
 
 mod answer;

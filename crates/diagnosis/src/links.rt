@@ -70,16 +70,8 @@ pub(crate) fn pair_fault(top: &Table, number: u64, table: &Table) -> Option<Faul
         (table_view top.now) (Place.Element TableArray.Links number) (table_view table.now)) }
 {
     let high = processes_in(top)?;
-    let from = Range {
-        key: "from",
-        low: 1,
-        high,
-    };
-    let to = Range {
-        key: "to",
-        low: 1,
-        high,
-    };
+    let from = Range::of_process("from", high);
+    let to = Range::of_process("to", high);
     if let Some(outside) = first_outside(table, &[MIN, MAX, LOSS, from, to]) {
         return Some(Fault::Outside(outside));
     }

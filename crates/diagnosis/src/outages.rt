@@ -42,16 +42,8 @@ pub(crate) fn outage_fault(top: &Table, number: u64, table: &Table) -> Option<Fa
         (table_view top.now) (Place.Element TableArray.Outage number) (table_view table.now)) }
 {
     let high = processes_in(top)?;
-    let from = Range {
-        key: "from",
-        low: 1,
-        high,
-    };
-    let to = Range {
-        key: "to",
-        low: 1,
-        high,
-    };
+    let from = Range::of_process("from", high);
+    let to = Range::of_process("to", high);
     if let Some(outside) = first_outside(table, &[from, to, BEGIN, UNTIL]) {
         return Some(Fault::Outside(outside));
     }

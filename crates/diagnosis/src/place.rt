@@ -1,4 +1,6 @@
 //! Where a table stands in a scenario's file.
+ghost use Rattle.std.specs.Prelude.{◌≡◌};
+ghost use Rattle.diagnosis.specs.Place.{section_key, array_key};
 
 /// A table of the top table.
 #[derive(Clone, Copy, Debug)]
@@ -40,7 +42,9 @@ pub enum Place {
 
 impl Section {
     /// The key at which the table stands.
-    pub fn key(self) -> &'static str {
+    pub fn key(self) -> &'static str
+        ensures { result.now ≡ section_key self }
+    {
         match self {
             Section::Detector => "detector",
             Section::Share => "share",
@@ -51,7 +55,9 @@ impl Section {
 
 impl TableArray {
     /// The key at which the array stands.
-    pub fn key(self) -> &'static str {
+    pub fn key(self) -> &'static str
+        ensures { result.now ≡ array_key self }
+    {
         match self {
             TableArray::Links => "links",
             TableArray::Crash => "crash",

@@ -1,17 +1,29 @@
 //! Places in a text.
 ghost use Rattle.std.specs.Prelude.{◌≡◌};
+ghost use Rattle.std.specs.Fmt.{is_char_start};
+ghost use Rattle.diagnosis.specs.Position.{line_after, column_after};
+
+/// Whether a character starts at the byte.
+fn starts_character(byte: u8) -> bool
+    ensures { result ≡ is_char_start byte }
+{
+    byte < 0x80 || 0xC0 <= byte
+}
 
 /// The line and the column, both from 1, of the place after some bytes. A column counts characters, and a line ends
 /// with its line feed.
-pub(crate) fn position_after(before: &[u8]) -> (usize, usize) {
+pub(crate) fn position_after(before: &[u8]) -> (usize, usize)
+    ensures line { result.0 ≡ line_after before.now }
+    ensures column { result.1 ≡ column_after before.now }
+{
     let mut line = 1_usize;
     let mut column = 1_usize;
     for byte in before {
         if *byte == b'\n' {
-            line = line.saturating_add(1);
+            line += 1;
             column = 1;
-        } else if *byte & 0xC0 != 0x80 {
-            column = column.saturating_add(1);
+        } else if starts_character(*byte) {
+            column += 1;
         }
     }
     (line, column)

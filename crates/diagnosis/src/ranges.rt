@@ -2,7 +2,7 @@
 ghost use Rattle.std.specs.Prelude.{◌≡◌, map, IfSome};
 ghost use Rattle.toml.specs.View.{table_view};
 ghost use Rattle.scenario.specs.Rules.{is_within};
-ghost use Rattle.diagnosis.specs.Ranges.{range_of};
+ghost use Rattle.diagnosis.specs.Ranges.{range, range_of};
 ghost use Rattle.diagnosis.specs.Faults.{IsOutsideOf, IsOutside};
 
 use crate::fault::Outside;
@@ -16,6 +16,19 @@ pub(crate) struct Range {
     pub(crate) key: &'static str,
     pub(crate) low: u64,
     pub(crate) high: u64,
+}
+
+impl Range {
+    /// The range of a key that names one of so many processes.
+    pub(crate) fn of_process(key: &'static str, processes: u64) -> Range
+        ensures { range_of result ≡ range key.now 1 processes }
+    {
+        Range {
+            key,
+            low: 1,
+            high: processes,
+        }
+    }
 }
 
 /// Whether the number lies between the ends.

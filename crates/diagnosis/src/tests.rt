@@ -74,7 +74,7 @@ fn compare(rt: &impl Abort, alloc: Global, changes: &[(&str, &str, &str)]) -> Re
 }
 
 /// Faults of the text and of its keys.
-const KEYS: [(&str, &str, &str); 14] = [
+const KEYS: [(&str, &str, &str); 16] = [
     ("seed = 258", "seed = 258", "accepted"),
     (
         "seed = 258",
@@ -92,7 +92,17 @@ const KEYS: [(&str, &str, &str); 14] = [
         "att = 50",
         "UnknownKey: crash[1].att (did you mean crash[1].at?)",
     ),
-    ("max = 5", "max = 5\nmin_ = 5", "UnknownKey: links[2].min_"),
+    (
+        "max = 5",
+        "max = 5\nmin_ = 5",
+        "UnknownKey: links[2].min_ (did you mean links[2].min?)",
+    ),
+    (
+        "timeout = 12",
+        "timeout = 12\ntime_out = 5",
+        "UnknownKey: detector.time_out (did you mean detector.timeout?)",
+    ),
+    ("at = 50", "at = 50\ntick = 5", "UnknownKey: crash[1].tick"),
     ("seed = 258\n", "", "MissingKey: seed"),
     ("check = 3\n", "", "MissingKey: detector.check"),
     ("to = 2\n", "", "MissingKey: links[2].to"),
@@ -323,6 +333,14 @@ fn whole_files(rt: HostRuntime) -> Result<(), Fail> {
     assert_eq!(rt; line.as_str(), "MissingKey: version");
     let line = said(alloc, b"a = 1\na = 2\n")?;
     assert_eq!(rt; line.as_str(), "NotToml: line 2, column 1: duplicate key");
+    // a column is a character, of one byte or of two
+    for text in ["a = 1\nb = \"e\" x\n", "a = 1\nb = \"é\" x\n"] {
+        let line = said(alloc, text.as_bytes())?;
+        assert!(rt;
+            line.as_str().starts_with("NotToml: line 2, column 9: "),
+            "{line}"
+        );
+    }
     Ok(())
 }
 

@@ -1,13 +1,22 @@
 //! Diagnoses in words.
+ghost use Rattle.std.specs.Prelude.{◌≡◌, Some};
+ghost use Rattle.std.specs.Fmt.{WritesOnOk};
+ghost use Rattle.diagnosis.specs.Text.{path_text, unknown_text, kind_words, found_text, wrong_kind_text, outside_text, names_text, none_of_text, other_name_text, proposals_text, min_above_max_text, to_itself_text, not_before_text, below_text, twice_pair_text, twice_process_text, fault_text, not_toml_text, refused_text};
 
 use crate::answer::Refused;
-use crate::fault::{Fault, OtherName, ProposalsFault, UnknownKey, WrongKind};
-use crate::finding::Finding;
+use crate::fault::{
+    BelowLookahead, Fault, MinAboveMax, OtherName, Outside, ProposalsFault, UnknownKey, WrongKind,
+};
+use crate::finding::{Finding, NotToml};
 use crate::place::Place;
 use scenario::Kind;
 use std::fmt;
 
 impl fmt::Display for Place {
+    ghost use Rattle.diagnosis.specs.Place.{place_text};
+
+    ghost output = { λ p. Some (place_text p) };
+
     /// Writes the table's path: nothing for the top table, `detector`, or `crash[1]`.
     fn fmt<W: fmt::Write>(&self, f: &mut fmt::Formatter<W>) -> fmt::Result {
         match self {
@@ -22,18 +31,23 @@ impl fmt::Display for Place {
 }
 
 /// Writes the path of a key of a table, as a study's settings name it: `horizon`, `detector.timeout` or `crash[1].at`.
-fn write_path<W: fmt::Write>(f: &mut fmt::Formatter<W>, place: Place, key: &str) -> fmt::Result {
+fn write_path<W: fmt::Write>(f: &mut fmt::Formatter<W>, place: Place, key: &str) -> fmt::Result
+    ensures { WritesOnOk W.Write.write_str_gives f.old result (path_text place key.now) f.new }
+{
     match place {
         Place::Top => f.write_str(key),
         _ => write!(f, "{place}.{key}"),
     }
 }
 
+/// Writes the key that isn't one of the table's, and the one that is perhaps meant.
 fn write_unknown<W: fmt::Write>(
     f: &mut fmt::Formatter<W>,
     place: Place,
     unknown: &UnknownKey,
-) -> fmt::Result {
+) -> fmt::Result
+    ensures { WritesOnOk W.Write.write_str_gives f.old result (unknown_text place unknown.now) f.new }
+{
     write_path(f, place, unknown.key.as_str())?;
     match unknown.suggestion {
         Some(key) => {
@@ -46,7 +60,9 @@ fn write_unknown<W: fmt::Write>(
 }
 
 /// The words for a kind.
-fn words_of(kind: Kind) -> &'static str {
+fn words_of(kind: Kind) -> &'static str
+    ensures { result.now ≡ kind_words kind }
+{
     match kind {
         Kind::Number => "an integer",
         Kind::Text => "a string",
@@ -56,37 +72,82 @@ fn words_of(kind: Kind) -> &'static str {
     }
 }
 
+/// Writes TOML's word for what a value is.
+fn write_found<W: fmt::Write>(f: &mut fmt::Formatter<W>, found: &str) -> fmt::Result
+    ensures { WritesOnOk W.Write.write_str_gives f.old result (found_text found.now) f.new }
+{
+    if found == "array" {
+        f.write_str("another array")
+    } else {
+        write!(f, "of TOML's kind {found}")
+    }
+}
+
+/// Writes that a value is of another kind than its key's.
 fn write_wrong_kind<W: fmt::Write>(
     f: &mut fmt::Formatter<W>,
     place: Place,
     wrong: &WrongKind,
-) -> fmt::Result {
+) -> fmt::Result
+    ensures { WritesOnOk W.Write.write_str_gives f.old result (wrong_kind_text place wrong.now) f.new }
+{
     write_path(f, place, wrong.key)?;
     let wanted = words_of(wrong.wanted);
-    match wrong.found {
-        "array" => write!(f, ": not {wanted}, but another array"),
-        found => write!(f, ": not {wanted}, but of TOML's kind {found}"),
-    }
+    write!(f, ": not {wanted}, but ")?;
+    write_found(f, wrong.found)
 }
 
-fn write_other_name<W: fmt::Write>(
+/// Writes that a number lies outside its range.
+fn write_outside<W: fmt::Write>(
     f: &mut fmt::Formatter<W>,
     place: Place,
-    other: &OtherName,
-) -> fmt::Result {
-    write_path(f, place, other.key)?;
-    let value = other.value.as_str();
-    write!(f, ": \"{value}\" is none of")?;
-    for name in other.allowed {
+    outside: &Outside,
+) -> fmt::Result
+    ensures { WritesOnOk W.Write.write_str_gives f.old result (outside_text place outside.now) f.new }
+{
+    let (value, low, high) = (outside.value, outside.low, outside.high);
+    write_path(f, place, outside.key)?;
+    write!(f, ": {value} is not {low} to {high}")
+}
+
+/// Writes names, each after a space.
+fn write_names<W: fmt::Write>(f: &mut fmt::Formatter<W>, names: &[&str]) -> fmt::Result
+    ensures { WritesOnOk W.Write.write_str_gives f.old result (names_text names.now) f.new }
+{
+    for name in names {
         write!(f, " {name}")?;
     }
     Ok(())
 }
 
-fn write_proposals<W: fmt::Write>(
+/// Writes a text and the names of which it is none.
+fn write_none_of<W: fmt::Write>(
     f: &mut fmt::Formatter<W>,
-    fault: &ProposalsFault,
-) -> fmt::Result {
+    value: &str,
+    names: &[&str],
+) -> fmt::Result
+    ensures { WritesOnOk W.Write.write_str_gives f.old result (none_of_text value.now names.now) f.new }
+{
+    write!(f, ": \"{value}\" is none of")?;
+    write_names(f, names)
+}
+
+/// Writes that a text is none of the names for its key.
+fn write_other_name<W: fmt::Write>(
+    f: &mut fmt::Formatter<W>,
+    place: Place,
+    other: &OtherName,
+) -> fmt::Result
+    ensures { WritesOnOk W.Write.write_str_gives f.old result (other_name_text place other.now) f.new }
+{
+    write_path(f, place, other.key)?;
+    write_none_of(f, other.value.as_str(), other.allowed)
+}
+
+/// Writes how proposals don't fit.
+fn write_proposals<W: fmt::Write>(f: &mut fmt::Formatter<W>, fault: &ProposalsFault) -> fmt::Result
+    ensures { WritesOnOk W.Write.write_str_gives f.old result (proposals_text fault.now) f.new }
+{
     match fault {
         ProposalsFault::Unasked => f.write_str("proposals: there are some, and no algorithm"),
         ProposalsFault::Missing { processes } => {
@@ -101,76 +162,114 @@ fn write_proposals<W: fmt::Write>(
     }
 }
 
-/// Writes what is wrong with the table at a place.
-fn write_fault<W: fmt::Write>(
+/// Writes that a link's `min` is above its `max`.
+fn write_min_above_max<W: fmt::Write>(
     f: &mut fmt::Formatter<W>,
     place: Place,
-    fault: &Fault,
-) -> fmt::Result {
+    above: &MinAboveMax,
+) -> fmt::Result
+    ensures { WritesOnOk W.Write.write_str_gives f.old result (min_above_max_text place above.now) f.new }
+{
+    let (min, max) = (above.min, above.max);
+    write!(f, "{place}: min {min} is above max {max}")
+}
+
+/// Writes that an outage's `begin` isn't below its `until`.
+fn write_not_before<W: fmt::Write>(
+    f: &mut fmt::Formatter<W>,
+    place: Place,
+    begin: i64,
+    until: i64,
+) -> fmt::Result
+    ensures { WritesOnOk W.Write.write_str_gives f.old result (not_before_text place begin until) f.new }
+{
+    write!(f, "{place}: begin {begin} is not below until {until}")
+}
+
+/// Writes that the link of a pair has a `min` below the lookahead.
+fn write_below<W: fmt::Write>(f: &mut fmt::Formatter<W>, below: &BelowLookahead) -> fmt::Result
+    ensures { WritesOnOk W.Write.write_str_gives f.old result (below_text below.now) f.new }
+{
+    let (from, to) = (below.from.number(), below.to.number());
+    let (min, lookahead) = (below.min, below.lookahead);
+    write!(
+        f,
+        "link {from} to {to}: min {min} is below the lookahead {lookahead}"
+    )
+}
+
+/// Writes that an earlier table of `links` is of the pair.
+fn write_twice_pair<W: fmt::Write>(
+    f: &mut fmt::Formatter<W>,
+    place: Place,
+    from: i64,
+    to: i64,
+    earlier: u64,
+) -> fmt::Result
+    ensures { WritesOnOk W.Write.write_str_gives f.old result (twice_pair_text place from to earlier) f.new }
+{
+    write!(
+        f,
+        "{place}: link {from} to {to} has a table already, links[{earlier}]"
+    )
+}
+
+/// Writes that an earlier table of `crash` is of the process.
+fn write_twice_process<W: fmt::Write>(
+    f: &mut fmt::Formatter<W>,
+    place: Place,
+    process: i64,
+    earlier: u64,
+) -> fmt::Result
+    ensures { WritesOnOk W.Write.write_str_gives f.old result (twice_process_text place process earlier) f.new }
+{
+    write!(
+        f,
+        "{place}: process {process} has a table already, crash[{earlier}]"
+    )
+}
+
+/// Writes what is wrong with the table at a place.
+fn write_fault<W: fmt::Write>(f: &mut fmt::Formatter<W>, place: Place, fault: &Fault) -> fmt::Result
+    ensures { WritesOnOk W.Write.write_str_gives f.old result (fault_text place fault.now) f.new }
+{
     match fault {
         Fault::UnknownKey(unknown) => write_unknown(f, place, unknown),
         Fault::MissingKey { key } => write_path(f, place, key),
         Fault::WrongKind(wrong) => write_wrong_kind(f, place, wrong),
-        Fault::Outside(outside) => {
-            let (value, low, high) = (outside.value, outside.low, outside.high);
-            write_path(f, place, outside.key)?;
-            write!(f, ": {value} is not {low} to {high}")
-        }
+        Fault::Outside(outside) => write_outside(f, place, outside),
         Fault::OtherName(other) => write_other_name(f, place, other),
         Fault::Proposals(fault) => write_proposals(f, fault),
-        _ => write_relation(f, place, fault),
+        Fault::MinAboveMax(above) => write_min_above_max(f, place, above),
+        Fault::ToItself { process } => write!(f, "{place}: from and to are both {process}"),
+        Fault::NotBefore(ends) => write_not_before(f, place, ends.begin, ends.until),
+        Fault::BelowLookahead(below) => write_below(f, below),
+        Fault::TwicePair { from, to, earlier } => write_twice_pair(f, place, *from, *to, *earlier),
+        Fault::TwiceProcess { process, earlier } => {
+            write_twice_process(f, place, *process, *earlier)
+        }
     }
 }
 
-/// Writes how two values of a table, or two tables, don't go together.
-fn write_relation<W: fmt::Write>(
-    f: &mut fmt::Formatter<W>,
-    place: Place,
-    fault: &Fault,
-) -> fmt::Result {
-    match fault {
-        Fault::MinAboveMax(above) => {
-            let (min, max) = (above.min, above.max);
-            write!(f, "{place}: min {min} is above max {max}")
-        }
-        Fault::ToItself { process } => write!(f, "{place}: from and to are both {process}"),
-        Fault::NotBefore(ends) => {
-            let (begin, until) = (ends.begin, ends.until);
-            write!(f, "{place}: begin {begin} is not below until {until}")
-        }
-        Fault::BelowLookahead(below) => {
-            let (from, to) = (below.from.number(), below.to.number());
-            let (min, lookahead) = (below.min, below.lookahead);
-            write!(
-                f,
-                "link {from} to {to}: min {min} is below the lookahead {lookahead}"
-            )
-        }
-        Fault::TwicePair { from, to, earlier } => {
-            write!(
-                f,
-                "{place}: link {from} to {to} has a table already, links[{earlier}]"
-            )
-        }
-        Fault::TwiceProcess { process, earlier } => {
-            write!(
-                f,
-                "{place}: process {process} has a table already, crash[{earlier}]"
-            )
-        }
-        _ => Ok(()),
-    }
+/// Writes where and why bytes are no TOML.
+fn write_not_toml<W: fmt::Write>(f: &mut fmt::Formatter<W>, fault: &NotToml) -> fmt::Result
+    ensures { WritesOnOk W.Write.write_str_gives f.old result (not_toml_text fault.now) f.new }
+{
+    let (line, column) = (fault.line, fault.column);
+    let message = fault.message.as_str();
+    write!(f, "line {line}, column {column}: {message}")
 }
 
 impl fmt::Display for Refused {
+    ghost output = { λ r. Some (refused_text r) };
+
     /// Writes the refusal's name, and what is wrong and where, as `LinkNumbers: links[2500]: min 21 is above max 20`.
     fn fmt<W: fmt::Write>(&self, f: &mut fmt::Formatter<W>) -> fmt::Result {
         f.write_str(self.refusal.name())?;
         match &self.finding {
             Finding::NotToml(fault) => {
-                let (line, column) = (fault.line, fault.column);
-                let message = fault.message.as_str();
-                write!(f, ": line {line}, column {column}: {message}")
+                f.write_str(": ")?;
+                write_not_toml(f, fault)
             }
             Finding::At { place, fault } => {
                 f.write_str(": ")?;

@@ -1,6 +1,7 @@
 pub mod Openings
 pub mod Reaching
 pub mod Recording
+pub mod Posting
 pub mod Joining
 pub mod Rising
 pub mod Sets
@@ -25,3 +26,4 @@ pub mod Falling
 pub mod Dealing
 pub mod Ordered
 pub mod Taken
+pub mod Nearby

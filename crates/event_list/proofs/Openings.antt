@@ -15,6 +15,7 @@ use Rattle.event_list.specs.Standing.{Stands}
 use Rattle.event_list.specs.Step.{Events, Process}
 use Rattle.event_list.specs.World.{starts, opening, opened}
 use Rattle.event_list.proofs.Closed.{opening_world}
+use Rattle.event_list.proofs.Posting.{opening_posted}
 use Rattle.event_list.proofs.Reaching.{opening_reached}
 use Rattle.event_list.proofs.Sound.{setting_sound, opens_with_mind}
 
@@ -56,11 +57,12 @@ number_at f (suc n) p low high =
 
 -- machines that open as the scenario says stand at the opening
 module _ (s : Record) (is : IsInRange s) where
-  pub opening_stands : (processes : List (Process Mind)) (pending : Events) → processes ≡ map opened (map (opening_mind s) (numbers_to s.processes)) → pending ≡ starts s.processes → Stands (setting_of s) processes pending []
+  pub opening_stands : (processes : List (Process Mind)) (pending : Events) → processes ≡ map opened (map (opening_mind s) (numbers_to s.processes)) → pending ≡ starts s.processes → Stands (setting_of s) processes pending [] []
   opening_stands processes pending opens firsts = record {
     world = opening (setting_of s);
     is_world = opening_world (setting_of s) (setting_sound s is);
     reached = opening_reached (setting_of s);
+    posted = opening_posted (setting_of s);
     process = λ p own. ap (λ ps. slice_get ps (p - 1)) (opens ∙ both_maps (numbers_to s.processes)) ∙ number_at (λ q. opened (opening_mind s q)) s.processes p own.0 own.1;
     events = sym firsts;
   }

@@ -1,5 +1,5 @@
 -- Pending events in buckets, as a finite set of events.
-use Rattle.std.proofs.Common.{◌≡◌, ◌≢◌, ◌⊎◌, ◌≤◌, ◌<◌, inl, inr, refl, sym, ap, ◌∙◌, subst, arith, Less, Equal, Greater, true, false, cond, List, [], ◌∷◌, ◌++◌, reverse, length, Option, Some, None, is_lt, is_eq, is_gt, true≢false, ℕ, nat_cmp, IsSome, Ordering, get_or, length-append, ◌+◌, map, MatchOption, Result, Ok, Err, OnErr}
+use Rattle.std.proofs.Common.{◌≡◌, ◌≢◌, ◌⊎◌, ◌≤◌, ◌<◌, inl, inr, refl, sym, ap, ◌∙◌, subst, arith, Less, Equal, Greater, true, false, cond, List, [], ◌∷◌, ◌++◌, reverse, length, Option, Some, None, is_lt, is_eq, is_gt, true≢false, ℕ, nat_cmp, Ordering, get_or, length-append, ◌+◌, map, MatchOption, Result, Ok, Err, OnErr}
 use Rattle.std.specs.Global.{Vec}
 use Rattle.std.specs.BTreeMap as tree
 use Rattle.std.specs.FinMap as events
@@ -14,18 +14,22 @@ use Rattle.std.proofs.lemmas.Map.Views.{All-found}
 use Rattle.event_list.specs.Pending.{IsEmpty, IsLeastTick}
 use Rattle.event_list.specs.World.{Has, IsLeast, NoneBelow}
 use Rattle.event_list.proofs.Runs.{least_below}
-use Rattle.std.proofs.lemmas.Bool.{cases_eq}
+use Rattle.std.proofs.lemmas.Bool.{cases_eq, cases_lt}
 use Rattle.std.proofs.lemmas.Cmp.{ranked, tied_itself}
 use Rattle.std.proofs.lemmas.List.Elements.{recursion_from_All}
+use Rattle.std.proofs.lemmas.List.{append-nil}
 use Rattle.process_api.specs.Order.{key_cmp}
 use Rattle.process_api.specs.declared.key.Key.{Key}
 use Rattle.process_api.specs.declared.message.StepInput.{StepInput}
-use Rattle.event_list.specs.Buckets.{latest, Falls, Buckets, bucket, HasTick, IsInOrder, IsFiled, IsStowed, IsPopped, IsSame, seen_at, flat}
+use Rattle.event_list.specs.declared.calendar.Calendar.{Calendar}
+use Rattle.event_list.specs.Buckets.{latest, Falls, Buckets, bucket, HasTick, IsStowed, IsPopped, flat}
+use Rattle.event_list.specs.Calendar.{near_at, held_at, IsVacant, IsCalendar, HoldsSame, IsAdded, IsFirst, IsTaken, IsInOrder, seen_at, all_held, flat_ring}
 use Rattle.event_list.specs.Step.{Event, Events}
 use Rattle.process_api.proofs.KeyOrder.{keys_total, exact_keys, same_or_not, ticks_rise}
 use Rattle.event_list.proofs.Sets.{apart, not_None}
-use Rattle.event_list.proofs.Falling.{held, nat_apart, none_latest, all_weaker, all_front, all_reverse, or_None, find_append, latest_push, found_is, tied, latest_cons, all_append}
-use Rattle.event_list.proofs.Dealing.{by_found, none_of}
+use Rattle.event_list.proofs.Falling.{held, nat_apart, none_latest, all_weaker, all_front, all_reverse, or_None, find_append, latest_push, found_is, tied, latest_cons}
+use Rattle.event_list.proofs.Dealing.{by_found, none_of, latest_append}
+use Rattle.event_list.proofs.Nearby.{held_own, ring_find, calendar_of, nothing_after}
 
 pub empty_is : (es : List Event) → length es ≡ 0 → es ≡ []
 empty_is [] h = refl
@@ -43,81 +47,54 @@ rising a b n h = go (nat_cmp a b) refl
     go Equal e = absurd (n (sym (ranked a b Equal e)))
     go Greater e = absurd (true≢false (ap is_gt e ∙ h))
 
-module _ (m n : Buckets) (least : ℕ) (b : Vec Event) (upd : tree.Updates nat_cmp m n least None) (value : tree.get nat_cmp m least ≡ Some b) where
-  gone_here : bucket n least ≡ []
-  gone_here = ap held upd.1
+-- the bucket of the least tick was taken and put in order
+module _ (tick least : ℕ) (m n : Calendar) (b : List Event) (h : IsInOrder tick [] m) (kept : IsCalendar n) (taken : IsTaken m n least b) where
+  pub own_taken : AllByRecursion (λ e. e.0.tick ≡ least) b
+  own_taken = subst (AllByRecursion (λ e. e.0.tick ≡ least)) (sym taken.whole) (held_own m h.calendar least)
 
-  gone_other : (t : ℕ) → t ≢ least → bucket n t ≡ bucket m t
-  gone_other t other = ap held (upd.2 t (nat_apart least t other))
-
-  gone_has : (t : ℕ) → HasTick n t → (t ≢ least) × HasTick m t
-  gone_has t h = go (cases_eq t least)
+  none_up_to : (t : ℕ) → t ≤ least → held_at n t ≡ []
+  none_up_to t low = go (cases_eq t least)
     where
-      go : (t ≡ least) ⊎ (t ≢ least) → (t ≢ least) × HasTick m t
-      go (inl e) = absurd (true≢false (sym (subst IsSome (ap (tree.get nat_cmp n) e ∙ upd.1) h)))
-      go (inr other) = (other, subst IsSome (upd.2 t (nat_apart least t other)) h)
+      go : (t ≡ least) ⊎ (t ≢ least) → held_at n t ≡ []
+      go (inl e) = ap (held_at n) e ∙ taken.gone
+      go (inr other) = taken.others t other ∙ taken.first.none_before t (omega (arith, low, other))
 
-  was : bucket m least ≡ b.items
-  was = ap held value
+  module _ (sorted : List Event) (falls : Falls sorted) (as_found : (q : Key) → latest q sorted ≡ latest q b) where
+    own_sorted : AllByRecursion (λ e. e.0.tick ≡ least) sorted
+    own_sorted = by_found (λ k. k.tick ≡ least) sorted (reverse b) as_found (all_reverse (λ e. e.0.tick ≡ least) b own_taken)
 
-  here_or_gone : (t : ℕ) → (least ≡ t) ⊎ (t ≢ least) → (bucket n t ≡ []) ⊎ (bucket n t ≡ bucket m t)
-  here_or_gone t (inl e) = inl (subst (λ u. bucket n u ≡ []) e gone_here)
-  here_or_gone t (inr other) = inr (gone_other t other)
-
-  module _ (tick : ℕ) (h : IsInOrder tick [] m) (low : tree.IsLowerBound nat_cmp m least) (is_ordered : tree.IsOrdered nat_cmp n) where
-    own_left : (t : ℕ) → AllByRecursion (λ e. e.0.tick ≡ t) (bucket n t)
-    own_left t = go (cases_eq t least)
-      where
-        go : (t ≡ least) ⊎ (t ≢ least) → AllByRecursion (λ e. e.0.tick ≡ t) (bucket n t)
-        go (inl e) = subst (AllByRecursion (λ f. f.0.tick ≡ t)) (sym (ap (bucket n) e ∙ gone_here)) tt
-        go (inr other) = subst (AllByRecursion (λ f. f.0.tick ≡ t)) (sym (gone_other t other)) (h.own t)
-
-    pub own_taken : AllByRecursion (λ e. e.0.tick ≡ least) b.items
-    own_taken = subst (AllByRecursion (λ e. e.0.tick ≡ least)) was (h.own least)
-
-    above : (t : ℕ) → HasTick n t → least < t
-    above t there = let g = gone_has t there in rising least t g.0 (low t g.1)
-
-    -- with nothing due, once the bucket was not put in order
-    pub emptied : IsInOrder tick [] n
-    emptied = record {
-      ordered = is_ordered;
-      own = own_left;
-      full = λ t there. let g = gone_has t there in subst (λ es. 0 < length es) (sym (gone_other t g.0)) (h.full t g.1);
-      due_own = tt;
-      after = λ long t there. absurd (omega (arith, long));
-      falls = tt;
+    pub refilled : IsInOrder least sorted n
+    refilled = record {
+      calendar = kept;
+      due_own = own_sorted;
+      after = λ long t low. none_up_to t low;
+      falls = falls;
     }
 
-    module _ (sorted : List Event) (falls : Falls sorted) (as_found : (q : Key) → latest q sorted ≡ latest q b.items) where
-      own_sorted : AllByRecursion (λ e. e.0.tick ≡ least) sorted
-      own_sorted = by_found (λ k. k.tick ≡ least) sorted (reverse b.items) as_found (all_reverse (λ e. e.0.tick ≡ least) b.items own_taken)
+    pub refilled_same : (q : Key) → seen_at sorted n q ≡ seen_at [] m q
+    refilled_same q = go (cases_eq q.tick least)
+      where
+        go : (q.tick ≡ least) ⊎ (q.tick ≢ least) → seen_at sorted n q ≡ seen_at [] m q
+        go (inl e) =
+            ap (λ es. option_or (latest q sorted) (latest q es)) (ap (held_at n) e ∙ taken.gone)
+            ∙ (or_None (latest q sorted) ∙ (as_found q ∙ ap (latest q) (taken.whole ∙ sym (ap (held_at m) e))))
+        go (inr other) =
+            ap (λ o. option_or o (latest q (held_at n q.tick))) (other_tick least q sorted own_sorted other)
+            ∙ ap (latest q) (taken.others q.tick other)
 
-      pub refilled : IsInOrder least sorted n
-      refilled = record {
-        ordered = is_ordered;
-        own = own_left;
-        full = emptied.full;
-        due_own = own_sorted;
-        after = λ long t there. above t there;
-        falls = falls;
-      }
+    pub refilled_some : sorted ≡ [] → ⊥
+    refilled_some none =
+        let long : 0 < length b = subst (λ es. 0 < length es) (sym taken.whole) taken.first.some in
+        omega (arith, long, none_of b (λ q. sym (as_found q) ∙ ap (latest q) none))
 
-      pub refilled_same : (q : Key) → seen_at sorted n q ≡ seen_at [] m q
-      refilled_same q = go (cases_eq q.tick least)
-        where
-          go : (q.tick ≡ least) ⊎ (q.tick ≢ least) → seen_at sorted n q ≡ seen_at [] m q
-          go (inl e) =
-              ap (λ es. option_or (latest q sorted) (latest q es)) (ap (bucket n) e ∙ gone_here)
-              ∙ (or_None (latest q sorted) ∙ (as_found q ∙ ap (latest q) (sym (ap (bucket m) e ∙ was))))
-          go (inr other) =
-              ap (λ o. option_or o (latest q (bucket n q.tick))) (other_tick least q sorted own_sorted other)
-              ∙ ap (latest q) (gone_other q.tick other)
-
-      pub refilled_some : sorted ≡ [] → ⊥
-      refilled_some none =
-          let long : 0 < length b.items = subst (λ es. 0 < length es) was (h.full least (subst IsSome (sym value) refl)) in
-          omega (arith, long, none_of b.items (λ q. sym (as_found q) ∙ ap (latest q) none))
+-- with nothing due, once the bucket was not put in order
+pub emptied : (tick : ℕ) (m n : Calendar) → IsInOrder tick [] m → IsCalendar n → IsInOrder tick [] n
+emptied tick m n h kept = record {
+  calendar = kept;
+  due_own = tt;
+  after = λ long t low. absurd (omega (arith, long));
+  falls = tt;
+}
 
 -- ---- as a set
 
@@ -163,61 +140,58 @@ own_rows m ordered own = recursion_from_All IsOwnRow m.entries (λ k d h.
     let p = get_or m.entries k d in
     subst (AllByRecursion (λ e. e.0.tick ≡ p.0)) (ap held (All-found nat_cmp_total m ordered k d h)) (own p.0))
 
-abbrev pub seen : List Event → Buckets → Events
-seen due later = events.from_entries (reverse due ++ flat later.entries)
+abbrev pub seen : List Event → Calendar → Events
+seen due later = events.from_entries (reverse due ++ all_held later)
 
 own_is : (m : Buckets) → ((t : ℕ) → AllByRecursion (λ e. e.0.tick ≡ t) (bucket m t)) → IsOwn m
 unfolding IsOwn
 own_is m h = h
 
-get_seen : (tick : ℕ) (due : List Event) (later : Buckets) → IsInOrder tick due later → (q : Key) → events.get (seen due later) q ≡ seen_at due later q
+all_find : (c : Calendar) → IsCalendar c → (q : Key) → find key_cmp q (all_held c) ≡ latest q (held_at c q.tick)
+all_find c h q =
+    find_append q (flat_ring c.ring.items) (flat c.map.entries)
+    ∙ (ap (λ o. option_or o (find key_cmp q (flat c.map.entries))) (ring_find c.from c.ring.items h.placed q)
+    ∙ (ap (option_or (latest q (near_at c.from c.ring.items q.tick))) (flat_find c.map.entries h.ordered (own_rows c.map h.ordered (own_is c.map h.own)) q)
+    ∙ sym (latest_append q (bucket c.map q.tick) (near_at c.from c.ring.items q.tick))))
+
+get_seen : (tick : ℕ) (due : List Event) (later : Calendar) → IsInOrder tick due later → (q : Key) → events.get (seen due later) q ≡ seen_at due later q
 get_seen tick due later h q =
-    events.get-from_entries keys_total (reverse due ++ flat later.entries) q
-    ∙ (find_append q (reverse due) (flat later.entries) ∙ ap (option_or (latest q due)) (flat_find later.entries h.ordered (own_rows later h.ordered (own_is later h.own)) q))
+    events.get-from_entries keys_total (reverse due ++ all_held later) q
+    ∙ (find_append q (reverse due) (all_held later) ∙ ap (option_or (latest q due)) (all_find later h.calendar q))
 
 -- the same to see
-pub seen_same : (tick tick2 : ℕ) (due due2 : List Event) (later later2 : Buckets) → IsInOrder tick due later → IsInOrder tick2 due2 later2 → ((q : Key) → seen_at due2 later2 q ≡ seen_at due later q) → seen due2 later2 ≡ seen due later
+pub seen_same : (tick tick2 : ℕ) (due due2 : List Event) (later later2 : Calendar) → IsInOrder tick due later → IsInOrder tick2 due2 later2 → ((q : Key) → seen_at due2 later2 q ≡ seen_at due later q) → seen due2 later2 ≡ seen due later
 seen_same tick tick2 due due2 later later2 h h2 same =
     events.same_map keys_total exact_keys (seen due2 later2) (seen due later) (λ q. get_seen tick2 due2 later2 h2 q ∙ (same q ∙ sym (get_seen tick due later h q)))
 
-no_bucket : (m : Buckets) (t : ℕ) → (HasTick m t → ⊥) → bucket m t ≡ []
-no_bucket m t none = go (tree.get nat_cmp m t) refl
-  where
-    go : (o : Option (Vec Event)) → tree.get nat_cmp m t ≡ o → bucket m t ≡ []
-    go None e = ap held e
-    go (Some b) e = absurd (none (subst IsSome (sym e) refl))
+-- a new set
+pub vacant_order : (c : Calendar) → IsCalendar c → IsInOrder 0 [] c
+vacant_order c h = record { calendar = h; due_own = tt; after = λ long t low. absurd (omega (arith, long)); falls = tt }
 
-has_bucket : (m : Buckets) (t : ℕ) (q : Key) (y : StepInput) → latest q (bucket m t) ≡ Some y → HasTick m t
-has_bucket m t q y h = go (tree.get nat_cmp m t) refl
+pub vacant_seen : (c : Calendar) → IsCalendar c → IsVacant c → seen [] c ≡ events.empty
+vacant_seen c h none =
+    events.same_map keys_total exact_keys (seen [] c) events.empty (λ q. get_seen 0 [] c (vacant_order c h) q ∙ (ap (latest q) (none q.tick) ∙ sym (events.get-empty key_cmp q)))
+
+-- an event is found where there is one
+found_some : (q : Key) (y : StepInput) (es : List Event) → latest q es ≡ Some y → es ≡ [] → ⊥
+found_some q y es h none = not_None y (sym (ap (latest q) none) ∙ h)
+
+after_due : (tick t : ℕ) (due : List Event) (later : Calendar) (q : Key) (y : StepInput) → IsInOrder tick due later → 0 < length due → latest q (held_at later t) ≡ Some y → tick < t
+after_due tick t due later q y h long found = go (cases_lt tick t)
   where
-    go : (o : Option (Vec Event)) → tree.get nat_cmp m t ≡ o → HasTick m t
-    go None e = absurd (not_None y (sym (ap (λ o. latest q (held o)) e) ∙ h))
-    go (Some b) e = subst IsSome (sym e) refl
+    go : (tick < t) ⊎ (t ≤ tick) → tick < t
+    go (inl less) = less
+    go (inr low) = absurd (found_some q y (held_at later t) found (h.after long t low))
 
 -- an event joins
-module _ (tick : ℕ) (due : List Event) (later new : Buckets) (key : Key) (x : StepInput) (h : IsInOrder tick due later) (behind : 0 < length due → tick < key.tick) (filed : IsFiled later new key x) (ordered : tree.IsOrdered nat_cmp new) where
+module _ (tick : ℕ) (due : List Event) (later new : Calendar) (key : Key) (x : StepInput) (h : IsInOrder tick due later) (behind : 0 < length due → tick < key.tick) (added : IsAdded later new key x) (kept : IsCalendar new) where
   pub join_order : IsInOrder tick due new
   join_order = record {
-    ordered = ordered;
-    own = λ t. own t (cases_eq t key.tick);
-    full = λ t there. full t there (cases_eq t key.tick);
+    calendar = kept;
     due_own = h.due_own;
-    after = λ long t there. after long t there (cases_eq t key.tick);
+    after = λ long t low. let far = behind long in added.others t (λ e. omega (arith, low, far, e)) ∙ h.after long t low;
     falls = h.falls;
   }
-    where
-      own : (t : ℕ) → (t ≡ key.tick) ⊎ (t ≢ key.tick) → AllByRecursion (λ e. e.0.tick ≡ t) (bucket new t)
-      own t (inl e) = subst (AllByRecursion (λ f. f.0.tick ≡ t)) (sym (ap (bucket new) e ∙ filed.here))
-          (all_append (λ f. f.0.tick ≡ t) (bucket later key.tick) ((key, x) ∷ []) (subst (λ u. AllByRecursion (λ f. f.0.tick ≡ u) (bucket later key.tick)) (sym e) (h.own key.tick)) (sym e, tt))
-      own t (inr other) = subst (AllByRecursion (λ f. f.0.tick ≡ t)) (sym (filed.others t other)) (h.own t)
-
-      full : (t : ℕ) → HasTick new t → (t ≡ key.tick) ⊎ (t ≢ key.tick) → 0 < length (bucket new t)
-      full t there (inl e) = omega (arith, ap length (ap (bucket new) e ∙ filed.here), length-append (bucket later key.tick) ((key, x) ∷ []))
-      full t there (inr other) = subst (λ es. 0 < length es) (sym (filed.others t other)) (h.full t (filed.has t there other))
-
-      after : 0 < length due → (t : ℕ) → HasTick new t → (t ≡ key.tick) ⊎ (t ≢ key.tick) → tick < t
-      after long t there (inl e) = subst (λ u. tick < u) (sym e) (behind long)
-      after long t there (inr other) = h.after long t (filed.has t there other)
 
   not_due : (q : Key) (es : List Event) → (0 < length es → tick < key.tick) → AllByRecursion (λ e. e.0.tick ≡ tick) es → q.tick ≡ key.tick → latest q es ≡ None
   not_due q [] far own e = refl
@@ -230,73 +204,85 @@ module _ (tick : ℕ) (due : List Event) (later new : Buckets) (key : Key) (x : 
     where
       go : (q : Key) → (q.tick ≡ key.tick) ⊎ (q.tick ≢ key.tick) → seen_at due new q ≡ cond (eq_by_cmp key_cmp q key) (Some x) (seen_at due later q)
       go q (inl e) =
-          ap (λ o. option_or o (latest q (bucket new q.tick))) (not_due q due behind h.due_own e)
-          ∙ (ap (latest q) (ap (bucket new) e ∙ filed.here) ∙ (latest_push q (bucket later key.tick) (key, x)
-          ∙ ap (cond (eq_by_cmp key_cmp q key) (Some x)) (ap (λ t. latest q (bucket later t)) (sym e) ∙ sym (ap (λ o. option_or o (latest q (bucket later q.tick))) (not_due q due behind h.due_own e)))))
+          ap (λ o. option_or o (latest q (held_at new q.tick))) (not_due q due behind h.due_own e)
+          ∙ (ap (latest q) (ap (held_at new) e ∙ added.here) ∙ (latest_push q (held_at later key.tick) (key, x)
+          ∙ ap (cond (eq_by_cmp key_cmp q key) (Some x)) (ap (λ t. latest q (held_at later t)) (sym e) ∙ sym (ap (λ o. option_or o (latest q (held_at later q.tick))) (not_due q due behind h.due_own e)))))
       go q (inr other) =
-          ap (λ es. option_or (latest q due) (latest q es)) (filed.others q.tick other)
+          ap (λ es. option_or (latest q due) (latest q es)) (added.others q.tick other)
           ∙ sym (ap (λ b. cond b (Some x) (seen_at due later q)) (apart q key (λ s. other (ap (λ (k : Key). k.tick) s))))
 
 -- what was due goes back
-module _ (tick : ℕ) (due : List Event) (later new : Buckets) (h : IsInOrder tick due later) (long : 0 < length due) (stowed : IsStowed later new tick due) where
-  pub stow_order : IsInOrder tick [] new
-  stow_order = record {
+pub none_of_tick : (tick : ℕ) (due : List Event) (later : Calendar) → IsInOrder tick due later → 0 < length due → HasTick later.map tick → ⊥
+none_of_tick tick due later h long there =
+    omega (arith, h.calendar.full tick there, length-append (bucket later.map tick) (near_at later.from later.ring.items tick), ap length (h.after long tick (omega arith)))
+
+module _ (tick : ℕ) (due : List Event) (later : Calendar) (new : Buckets) (h : IsInOrder tick due later) (long : 0 < length due) (stowed : IsStowed later.map new tick due) where
+  stowed_calendar : IsCalendar (calendar_of later.from later.ring new)
+  stowed_calendar = record {
     ordered = stowed.ordered;
-    own = λ t. own t (cases_eq t tick);
     full = λ t there. full t there (cases_eq t tick);
-    due_own = tt;
-    after = λ short t there. absurd (omega (arith, short));
-    falls = tt;
+    own = λ t. own t (cases_eq t tick);
+    placed = h.calendar.placed;
+    room = h.calendar.room;
   }
     where
       own : (t : ℕ) → (t ≡ tick) ⊎ (t ≢ tick) → AllByRecursion (λ e. e.0.tick ≡ t) (bucket new t)
       own t (inl e) = subst (AllByRecursion (λ f. f.0.tick ≡ t)) (sym (ap (bucket new) e ∙ stowed.here)) (subst (λ u. AllByRecursion (λ f. f.0.tick ≡ u) due) (sym e) h.due_own)
-      own t (inr other) = subst (AllByRecursion (λ f. f.0.tick ≡ t)) (sym (stowed.others t other)) (h.own t)
+      own t (inr other) = subst (AllByRecursion (λ f. f.0.tick ≡ t)) (sym (stowed.others t other)) (h.calendar.own t)
 
       full : (t : ℕ) → HasTick new t → (t ≡ tick) ⊎ (t ≢ tick) → 0 < length (bucket new t)
       full t there (inl e) = subst (λ es. 0 < length es) (sym (ap (bucket new) e ∙ stowed.here)) long
-      full t there (inr other) = subst (λ es. 0 < length es) (sym (stowed.others t other)) (h.full t (stowed.has t there other))
+      full t there (inr other) = subst (λ es. 0 < length es) (sym (stowed.others t other)) (h.calendar.full t (stowed.has t there other))
 
-  pub none_of_tick : HasTick later tick → ⊥
-  none_of_tick there = let less = h.after long tick there in omega (arith, less)
+  pub stow_order : IsInOrder tick [] (calendar_of later.from later.ring new)
+  stow_order = record {
+    calendar = stowed_calendar;
+    due_own = tt;
+    after = λ short t low. absurd (omega (arith, short));
+    falls = tt;
+  }
 
-  pub stow_same : (q : Key) → seen_at [] new q ≡ seen_at due later q
+  none_near : near_at later.from later.ring.items tick ≡ []
+  none_near = nothing_after (bucket later.map tick) (near_at later.from later.ring.items tick) (h.after long tick (omega arith))
+
+  pub stow_same : (q : Key) → seen_at [] (calendar_of later.from later.ring new) q ≡ seen_at due later q
   stow_same q = go q (cases_eq q.tick tick)
     where
-      go : (q : Key) → (q.tick ≡ tick) ⊎ (q.tick ≢ tick) → seen_at [] new q ≡ seen_at due later q
+      go : (q : Key) → (q.tick ≡ tick) ⊎ (q.tick ≢ tick) → seen_at [] (calendar_of later.from later.ring new) q ≡ seen_at due later q
       go q (inl e) =
-          ap (latest q) (ap (bucket new) e ∙ stowed.here)
-          ∙ sym (ap (λ es. option_or (latest q due) (latest q es)) (ap (bucket later) e ∙ no_bucket later tick none_of_tick) ∙ or_None (latest q due))
+          ap (λ t. latest q (held_at (calendar_of later.from later.ring new) t)) e
+          ∙ (ap (λ es. latest q (es ++ near_at later.from later.ring.items tick)) stowed.here
+          ∙ (ap (λ es. latest q (due ++ es)) none_near
+          ∙ (ap (latest q) (append-nil due)
+          ∙ sym (ap (λ es. option_or (latest q due) (latest q es)) (ap (held_at later) e ∙ h.after long tick (omega arith)) ∙ or_None (latest q due)))))
       go q (inr other) =
-          ap (latest q) (stowed.others q.tick other)
-          ∙ sym (ap (λ o. option_or o (latest q (bucket later q.tick))) (other_tick tick q due h.due_own other))
+          ap (λ es. latest q (es ++ near_at later.from later.ring.items q.tick)) (stowed.others q.tick other)
+          ∙ sym (ap (λ o. option_or o (latest q (held_at later q.tick))) (other_tick tick q due h.due_own other))
 
 pub on_err : {X Y : Type 0} (r : Result X Y) (P : Type 0) → P → OnErr r P
 on_err (Ok x) P p = tt
 on_err (Err e) P p = p
 
--- the same buckets
-module _ (tick : ℕ) (due : List Event) (later new : Buckets) (h : IsInOrder tick due later) (same : IsSame later new) (ordered : tree.IsOrdered nat_cmp new) where
+-- the same events
+module _ (tick : ℕ) (due : List Event) (later new : Calendar) (h : IsInOrder tick due later) (same : HoldsSame later new) (kept : IsCalendar new) where
   same_order : IsInOrder tick due new
   same_order = record {
-    ordered = ordered;
-    own = λ t. subst (AllByRecursion (λ e. e.0.tick ≡ t)) (sym (same.each t)) (h.own t);
-    full = λ t there. subst (λ es. 0 < length es) (sym (same.each t)) (h.full t (same.has t there));
+    calendar = kept;
     due_own = h.due_own;
-    after = λ long t there. h.after long t (same.has t there);
+    after = λ long t low. same t ∙ h.after long t low;
     falls = h.falls;
   }
 
   pub same_seen : seen due new ≡ seen due later
-  same_seen = seen_same tick tick due due later new h same_order (λ q. ap (λ es. option_or (latest q due) (latest q es)) (same.each q.tick))
+  same_seen = seen_same tick tick due due later new h same_order (λ q. ap (λ es. option_or (latest q due) (latest q es)) (same q.tick))
 
 -- nothing is left
-pub seen_none : (tick : ℕ) (later : Buckets) → IsInOrder tick [] later → ((t : ℕ) → HasTick later t → ⊥) → IsEmpty (seen [] later)
+pub seen_none : (tick : ℕ) (later : Calendar) → IsInOrder tick [] later → IsVacant later → IsEmpty (seen [] later)
 seen_none tick later h none key input there =
-    not_None input (sym (get_seen tick [] later h key ∙ ap (latest key) (no_bucket later key.tick (none key.tick))) ∙ there)
+    not_None input (sym (get_seen tick [] later h key ∙ ap (latest key) (none key.tick)) ∙ there)
 
 -- the least event is taken
-module _ (tick : ℕ) (due new : List Event) (later : Buckets) (e : Event) (h : IsInOrder tick due later) (popped : IsPopped due new e) where
+module _ (tick : ℕ) (due new : List Event) (later : Calendar) (e : Event) (h : IsInOrder tick due later) (popped : IsPopped due new e) where
   at_tick : e.0.tick ≡ tick
   at_tick = found_is (λ k. k.tick ≡ tick) e.0 e.1 (reverse due) (all_reverse (λ f. f.0.tick ≡ tick) due h.due_own) popped.there
 
@@ -309,9 +295,7 @@ module _ (tick : ℕ) (due new : List Event) (later : Buckets) (e : Event) (h : 
 
   pub pop_order : IsInOrder tick new later
   pop_order = record {
-    ordered = h.ordered;
-    own = h.own;
-    full = h.full;
+    calendar = h.calendar;
     due_own = all_front (λ f. f.0.tick ≡ tick) new popped.more (subst (AllByRecursion (λ f. f.0.tick ≡ tick)) popped.front h.due_own);
     after = λ long. h.after some_due;
     falls = popped.falls;
@@ -319,7 +303,7 @@ module _ (tick : ℕ) (due new : List Event) (later : Buckets) (e : Event) (h : 
 
   pub pop_least_is : IsLeast (seen due later) e.0 e.1
   pop_least_is = record {
-    there = get_seen tick due later h e.0 ∙ ap (λ o. option_or o (latest e.0 (bucket later e.0.tick))) popped.there;
+    there = get_seen tick due later h e.0 ∙ ap (λ o. option_or o (latest e.0 (held_at later e.0.tick))) popped.there;
     none_before = λ q y there. before q y (latest q due) refl (sym (get_seen tick due later h q) ∙ there);
   }
     where
@@ -327,8 +311,8 @@ module _ (tick : ℕ) (due new : List Event) (later : Buckets) (e : Event) (h : 
       before q y (Some z) is there less =
           true≢false (sym (ap is_lt less) ∙ found_is (λ k. is_lt (key_cmp k e.0) ≡ false) q z (reverse due) (all_reverse (λ f. is_lt (key_cmp f.0 e.0) ≡ false) due popped.least) is)
       before q y None is there less =
-          let found : latest q (bucket later q.tick) ≡ Some y = sym (ap (λ o. option_or o (latest q (bucket later q.tick))) is) ∙ there in
-          let far = h.after some_due q.tick (has_bucket later q.tick q y found) in
+          let found : latest q (held_at later q.tick) ≡ Some y = sym (ap (λ o. option_or o (latest q (held_at later q.tick))) is) ∙ there in
+          let far = after_due tick q.tick due later q y h some_due found in
           let near = ticks_rise q e.0 less in
           omega (arith, far, near, at_tick)
 
@@ -337,39 +321,32 @@ module _ (tick : ℕ) (due new : List Event) (later : Buckets) (e : Event) (h : 
       get_seen tick new later pop_order q ∙ (go q (same_or_not q e.0)
       ∙ sym (events.get-remove keys_total (seen due later) e.0 q ∙ ap (cond (eq_by_cmp key_cmp q e.0) None) (get_seen tick due later h q))))
     where
-      alone : bucket later tick ≡ []
-      alone = no_bucket later tick (λ there. let less = h.after some_due tick there in omega (arith, less))
+      alone : held_at later tick ≡ []
+      alone = h.after some_due tick (omega arith)
 
       go : (q : Key) → (q ≡ e.0) ⊎ (q ≢ e.0) → seen_at new later q ≡ cond (eq_by_cmp key_cmp q e.0) None (seen_at due later q)
       go q (inl s) =
           ap (λ k. seen_at new later k) s
-          ∙ (ap (λ o. option_or o (latest e.0 (bucket later e.0.tick))) popped.gone
-          ∙ (ap (latest e.0) (ap (bucket later) at_tick ∙ alone) ∙ sym (ap (λ b. cond b None (seen_at due later q)) (tied q e.0 s))))
+          ∙ (ap (λ o. option_or o (latest e.0 (held_at later e.0.tick))) popped.gone
+          ∙ (ap (latest e.0) (ap (held_at later) at_tick ∙ alone) ∙ sym (ap (λ b. cond b None (seen_at due later q)) (tied q e.0 s))))
       go q (inr n) =
-          ap (λ o. option_or o (latest q (bucket later q.tick))) (popped.others q n)
+          ap (λ o. option_or o (latest q (held_at later q.tick))) (popped.others q n)
           ∙ sym (ap (λ b. cond b None (seen_at due later q)) (apart q e.0 n))
 
 -- what a call that takes the least event answers
-pub taken_order : (r : Option Event) (tick : ℕ) (old new : List Event) (later : Buckets) → IsInOrder tick old later → MatchOption r ((old ≡ []) × (new ≡ [])) (λ e. IsPopped old new e) → IsInOrder tick new later
+pub taken_order : (r : Option Event) (tick : ℕ) (old new : List Event) (later : Calendar) → IsInOrder tick old later → MatchOption r ((old ≡ []) × (new ≡ [])) (λ e. IsPopped old new e) → IsInOrder tick new later
 taken_order None tick old new later h is = subst (λ es. IsInOrder tick es later) (is.0 ∙ sym is.1) h
 taken_order (Some e) tick old new later h is = pop_order tick old new later e h is
 
-pub taken_least : (r : Option Event) (tick : ℕ) (old new : List Event) (later : Buckets) → IsInOrder tick old later → (old ≡ [] → (t : ℕ) → HasTick later t → ⊥) → MatchOption r ((old ≡ []) × (new ≡ [])) (λ e. IsPopped old new e)
+pub taken_least : (r : Option Event) (tick : ℕ) (old new : List Event) (later : Calendar) → IsInOrder tick old later → (old ≡ [] → IsVacant later) → MatchOption r ((old ≡ []) × (new ≡ [])) (λ e. IsPopped old new e)
     → MatchOption r (IsEmpty (seen old later)) (λ e. IsLeast (seen old later) e.0 e.1)
 taken_least None tick old new later h none is = subst (λ es. IsEmpty (seen es later)) (sym is.0) (seen_none tick later (subst (λ es. IsInOrder tick es later) is.0 h) (none is.0))
 taken_least (Some e) tick old new later h none is = pop_least_is tick old new later e h is
 
-pub taken_removed : (r : Option Event) (tick : ℕ) (old new : List Event) (later : Buckets) → IsInOrder tick old later → MatchOption r ((old ≡ []) × (new ≡ [])) (λ e. IsPopped old new e)
+pub taken_removed : (r : Option Event) (tick : ℕ) (old new : List Event) (later : Calendar) → IsInOrder tick old later → MatchOption r ((old ≡ []) × (new ≡ [])) (λ e. IsPopped old new e)
     → MatchOption r (seen new later ≡ seen old later) (λ e. seen new later ≡ events.remove (seen old later) e.0)
 taken_removed None tick old new later h is = ap (λ es. seen es later) (is.1 ∙ sym is.0)
 taken_removed (Some e) tick old new later h is = pop_same tick old new later e h is
-
-pub no_rows : (m : Buckets) → (0 < length m.entries → ⊥) → (t : ℕ) → HasTick m t → ⊥
-no_rows m none t there = go m.entries none there
-  where
-    go : (ps : List Row) → (0 < length ps → ⊥) → IsSome (lookup (tree.is_at (nat_cmp t)) ps) → ⊥
-    go [] f h = true≢false (sym h)
-    go (p ∷ ps) f h = f (omega arith)
 
 -- ---- the tick of the least event
 
@@ -389,31 +366,31 @@ least_at m t k y there at low = go (least_below (k.tick + 1) m)
     go (inl none) = let far = none k y there in absurd (omega (arith, far))
     go (inr l) = let below = l.3 in let above = low l.0 l.1 l.2.there in (l.0, l.1, l.2, omega (arith, below, above, at))
 
-pub tick_of_due : (tick : ℕ) (due : List Event) (later : Buckets) → IsInOrder tick due later → 0 < length due → IsLeastTick (seen due later) tick
+pub tick_of_due : (tick : ℕ) (due : List Event) (later : Calendar) → IsInOrder tick due later → 0 < length due → IsLeastTick (seen due later) tick
 tick_of_due tick due later h long =
     let f = last_found due long in
     let at : f.0.tick ≡ tick = found_is (λ k. k.tick ≡ tick) f.0 f.1 (reverse due) (all_reverse (λ g. g.0.tick ≡ tick) due h.due_own) f.2 in
-    least_at (seen due later) tick f.0 f.1 (get_seen tick due later h f.0 ∙ ap (λ o. option_or o (latest f.0 (bucket later f.0.tick))) f.2) at
+    least_at (seen due later) tick f.0 f.1 (get_seen tick due later h f.0 ∙ ap (λ o. option_or o (latest f.0 (held_at later f.0.tick))) f.2) at
     (λ q z there. low q z (latest q due) refl (sym (get_seen tick due later h q) ∙ there))
   where
     low : (q : Key) (z : StepInput) (o : Option StepInput) → latest q due ≡ o → seen_at due later q ≡ Some z → tick ≤ q.tick
     low q z (Some w) is there = let at = found_is (λ k. k.tick ≡ tick) q w (reverse due) (all_reverse (λ g. g.0.tick ≡ tick) due h.due_own) is in omega (arith, at)
     low q z None is there =
-        let found : latest q (bucket later q.tick) ≡ Some z = sym (ap (λ o. option_or o (latest q (bucket later q.tick))) is) ∙ there in
-        let far = h.after long q.tick (has_bucket later q.tick q z found) in
+        let found : latest q (held_at later q.tick) ≡ Some z = sym (ap (λ o. option_or o (latest q (held_at later q.tick))) is) ∙ there in
+        let far = after_due tick q.tick due later q z h long found in
         omega (arith, far)
 
-no_less : (a b : ℕ) → is_gt (nat_cmp a b) ≡ false → a ≤ b
-no_less a b h = go (nat_cmp a b) refl
+pub tick_of_later : (tick : ℕ) (later : Calendar) (least : ℕ) → IsInOrder tick [] later → IsFirst later least → IsLeastTick (seen [] later) least
+tick_of_later tick later least h first =
+    let f = last_found (held_at later least) first.some in
+    let at : f.0.tick ≡ least = found_is (λ k. k.tick ≡ least) f.0 f.1 (reverse (held_at later least)) (all_reverse (λ g. g.0.tick ≡ least) (held_at later least) (held_own later h.calendar least)) f.2 in
+    least_at (seen [] later) least f.0 f.1 (get_seen tick [] later h f.0 ∙ (ap (λ t. latest f.0 (held_at later t)) at ∙ f.2)) at
+    (λ q z there. low q z (cases_lt q.tick least) (sym (get_seen tick [] later h q) ∙ there))
   where
-    go : (r : Ordering) → r ≡ nat_cmp a b → a ≤ b
-    go Less e = let is : a < b = ranked a b Less e in omega (arith, is)
-    go Equal e = let is : a ≡ b = ranked a b Equal e in omega (arith, is)
-    go Greater e = absurd (true≢false (ap is_gt e ∙ h))
+    low : (q : Key) (z : StepInput) → (q.tick < least) ⊎ (least ≤ q.tick) → latest q (held_at later q.tick) ≡ Some z → least ≤ q.tick
+    low q z (inl less) found = absurd (found_some q z (held_at later q.tick) found (first.none_before q.tick less))
+    low q z (inr is) found = is
 
-pub tick_of_later : (tick : ℕ) (later : Buckets) (least : ℕ) → IsInOrder tick [] later → HasTick later least → tree.IsLowerBound nat_cmp later least → IsLeastTick (seen [] later) least
-tick_of_later tick later least h has low =
-    let f = last_found (bucket later least) (h.full least has) in
-    let at : f.0.tick ≡ least = found_is (λ k. k.tick ≡ least) f.0 f.1 (reverse (bucket later least)) (all_reverse (λ g. g.0.tick ≡ least) (bucket later least) (h.own least)) f.2 in
-    least_at (seen [] later) least f.0 f.1 (get_seen tick [] later h f.0 ∙ (ap (λ t. latest f.0 (bucket later t)) at ∙ f.2)) at
-    (λ q z there. no_less least q.tick (low q.tick (has_bucket later q.tick q z (sym (get_seen tick [] later h q) ∙ there))))
+pub tick_of : (o : Option ℕ) (tick : ℕ) (later : Calendar) → IsInOrder tick [] later → MatchOption o (IsVacant later) (IsFirst later) → MatchOption o (IsEmpty (seen [] later)) (λ t. IsLeastTick (seen [] later) t)
+tick_of None tick later h is = seen_none tick later h is
+tick_of (Some least) tick later h is = tick_of_later tick later least h is

@@ -5,6 +5,7 @@ use Rattle.std.specs.Prelude.{drop, Result, Ok, Err, IfOk, OnOk}
 use Rattle.process_api.specs.declared.action.Action.{Action}
 use Rattle.process_api.specs.declared.action.Note.{Note}
 use Rattle.process_api.specs.declared.action.Action.TheVariants as action
+use Rattle.event_list.specs.Posting.{Posted, posting, posted_by}
 use Rattle.event_list.specs.Setting.{Setting}
 use Rattle.event_list.specs.Step.{Event, raised, counted, joining, sent_by, lost_by, noted_by, counts_after, added, sent, lost, noted}
 
@@ -45,6 +46,13 @@ module _ {Mind : Type 0} (S : Setting Mind) (p now : ℕ) where
         ∙ (ap (λ k. (old ++ joining S p now f a) ++ added S p now k left) h
         ∙ (append_assoc old (joining S p now f a) (added S p now (counted p f a) left)
         ∙ (ap (λ xs. old ++ added S p now f xs) (sym e) ∙ is)))
+
+    pub one_posted : (old new whole : List Posted) → new ≡ old ++ posting S p now f a → old ++ posted_by S p now f rest ≡ whole → new ++ posted_by S p now g left ≡ whole
+    one_posted old new whole more is =
+        ap (λ xs. xs ++ posted_by S p now g left) more
+        ∙ (ap (λ k. (old ++ posting S p now f a) ++ posted_by S p now k left) h
+        ∙ (append_assoc old (posting S p now f a) (posted_by S p now (counted p f a) left)
+        ∙ (ap (λ xs. old ++ posted_by S p now f xs) (sym e) ∙ is)))
 
     pub one_lost : (old new whole : ℕ) → new ≡ old + lost_by S p now f a → old + lost S p now f rest ≡ whole → new + lost S p now g left ≡ whole
     one_lost old new whole more is =

@@ -30,6 +30,12 @@ module _ {Mind : Type 0} (S : Setting Mind) where
       let is : s.0 ≡ (made S w key input).entry = r.2 ∙ (λ i. (made S w (same_key i) (same_input i)).entry) in
       (rest, (λ i. (is i, same_input i) ∷ rest), subst (λ v. Run S S.horizon v rest last) (λ i. taken S w (same_key i) (same_input i)) r.3)
 
+  -- a run from the world after the least event's step is the rest of one from the world before
+  pub again : (w : World Mind) (key : Key) (input : StepInput) → IsLeast w.pending key input → key.tick < S.horizon → (rest : List Pair) (last : World Mind) → Run S S.horizon (taken S w key input) rest last → Run S S.horizon w (((made S w key input).entry, input) ∷ rest) last
+  again w key input least due rest last r =
+      subst (λ k. IsLeast w.pending k input × (k.tick < S.horizon) × ((made S w key input).entry ≡ (made S w k input).entry) × Run S S.horizon (taken S w k input) rest last)
+      (sym (step_key S (w.process key.receiver) key input)) (least, due, refl, r)
+
   -- one step further
   pub reached_next : (w : World Mind) (trace : List EntryRecord) (key : Key) (input : StepInput) → IsLeast w.pending key input → key.tick < S.horizon → IsReached S w trace → IsReached S (taken S w key input) (trace ++ (made S w key input).entry ∷ [])
   reached_next w trace key input least due was =
@@ -38,17 +44,12 @@ module _ {Mind : Type 0} (S : Setting Mind) where
         history = was.history ++ s ∷ [];
         trace_is = ap (λ es. es ++ s.0 ∷ []) was.trace_is ∙ sym (map-append (λ (t : Pair). t.0) was.history (s ∷ []));
         goes_on = λ rest last r. subst (λ h. Run S S.horizon (opening S) h last) (sym (append_assoc was.history (s ∷ []) rest))
-            (was.goes_on (s ∷ rest) last (again rest last r));
+            (was.goes_on (s ∷ rest) last (again w key input least due rest last r));
         comes_by = λ all last r.
             let before = was.comes_by all last r in
             let after = next w key input least due before.0 last before.2 in
             (after.0, before.1 ∙ (ap (λ h. was.history ++ h) after.1 ∙ sym (append_assoc was.history (s ∷ []) after.0)), after.2);
       }
-    where
-      again : (rest : List Pair) (last : World Mind) → Run S S.horizon (taken S w key input) rest last → Run S S.horizon w (((made S w key input).entry, input) ∷ rest) last
-      again rest last r =
-          subst (λ k. IsLeast w.pending k input × (k.tick < S.horizon) × ((made S w key input).entry ≡ (made S w k input).entry) × Run S S.horizon (taken S w k input) rest last)
-          (sym (step_key S (w.process key.receiver) key input)) (least, due, refl, r)
 
   -- where no event is left, the entries so far are the trace
   pub reached_end : (w : World Mind) (trace : List EntryRecord) → IsReached S w trace → NoneBelow S.horizon w.pending → IsTrace S trace

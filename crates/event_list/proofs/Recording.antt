@@ -3,6 +3,7 @@ use Rattle.std.proofs.Common.{◌≡◌, ◌+◌, ℕ, sym, ap, subst, ◌∙◌
 use Rattle.std.specs.Prelude.{take}
 use Rattle.process_api.specs.EntryRecord.{EntryRecord}
 use Rattle.process_api.specs.Mind.{Mind}
+use Rattle.event_list.specs.Posting.{Posted}
 use Rattle.event_list.specs.Recorder.{WereTaken, IsRecorded}
 use Rattle.event_list.specs.Setting.{Setting}
 use Rattle.event_list.specs.Standing.{Stands}
@@ -10,12 +11,14 @@ use Rattle.event_list.specs.Step.{Events, Process}
 use Rattle.event_list.specs.World.{IsTrace}
 use Rattle.event_list.proofs.Reaching.{reached_front}
 
--- so many entries were taken, and the list stands after them
-pub record Going (S : Setting Mind) (processes : List (Process Mind)) (pending : Events) (old now : List EntryRecord → Type 0) (count : ℕ) : Type 0 where
+-- so many entries were taken, and the letters of their steps were heard; the list stands after them
+pub record Going (S : Setting Mind) (processes : List (Process Mind)) (pending : Events) (old now : List EntryRecord → Type 0) (told : List Posted → Type 0) (count : ℕ) : Type 0 where
   pub trace : List EntryRecord
-  pub stands : Stands S processes pending trace
+  pub letters : List Posted
+  pub stands : Stands S processes pending trace letters
   pub long : length trace ≡ count
   pub taken : WereTaken old now trace
+  pub heard : told letters
 
 -- one entry more
 pub taken_next : (old now then : List EntryRecord → Type 0) (trace : List EntryRecord) (entry : EntryRecord) → WereTaken old now trace → ((taken : List EntryRecord) → now taken → then (taken ++ entry ∷ [])) → WereTaken old then (trace ++ entry ∷ [])
@@ -25,8 +28,8 @@ pub longer : (trace : List EntryRecord) (entry : EntryRecord) (count : ℕ) → 
 longer trace entry count long = omega (arith, long, length-append trace (entry ∷ []))
 
 -- what was taken is a front of every trace
-pub cut_short : (S : Setting Mind) (processes : List (Process Mind)) (pending : Events) (old now : List EntryRecord → Type 0) (limit : ℕ) → Going S processes pending old now limit → (whole : List EntryRecord) → IsTrace S whole → WereTaken old now (take limit whole)
-cut_short S processes pending old now limit is whole whole_is =
+pub cut_short : (S : Setting Mind) (processes : List (Process Mind)) (pending : Events) (old now : List EntryRecord → Type 0) (told : List Posted → Type 0) (limit : ℕ) → Going S processes pending old now told limit → (whole : List EntryRecord) → IsTrace S whole → WereTaken old now (take limit whole)
+cut_short S processes pending old now told limit is whole whole_is =
     subst (WereTaken old now) (reached_front S is.stands.world is.trace is.stands.reached whole whole_is ∙ ap (λ n. take n whole) is.long) is.taken
 
 -- what a recorder that keeps entries holds, where it held none

@@ -12,8 +12,10 @@ use Rattle.event_list.specs.ScenarioSetting.{setting_of}
 use Rattle.event_list.specs.Pending.{IsEmpty}
 use Rattle.event_list.specs.Setting.{Setting, IsSound, IsProcess}
 use Rattle.event_list.specs.Standing.{IsReached, Stands, IsStepped}
+use Rattle.event_list.specs.Posting.{Posted, posted_in, ArePosted}
 use Rattle.event_list.specs.Step.{Events, Process, step}
-use Rattle.event_list.specs.World.{Has, IsLeast, taken, joined, IsTrace}
+use Rattle.event_list.specs.World.{Has, IsLeast, NoneBelow, taken, joined, IsTrace}
+use Rattle.event_list.proofs.Posting.{posted_next, posted_end}
 use Rattle.event_list.proofs.Reaching.{reached_next, reached_end, reached_longer}
 use Rattle.event_list.proofs.Sets.{not_None, same_Some}
 use Rattle.event_list.proofs.Worlds.{taken_world}
@@ -37,7 +39,7 @@ set_other (x ∷ xs) zero (suc j) v apart = refl
 set_other (x ∷ xs) (suc i) zero v apart = refl
 set_other (x ∷ xs) (suc i) (suc j) v apart = set_other xs i j v (λ e. apart (ap suc e))
 
-module _ (S : Setting Mind) (processes : List (Process Mind)) (before : Events) (trace : List EntryRecord) (is : Stands S processes before trace) (key : Key) (input : StepInput) (first : IsLeast before key input) where
+module _ (S : Setting Mind) (processes : List (Process Mind)) (before : Events) (trace : List EntryRecord) (letters : List Posted) (is : Stands S processes before trace letters) (key : Key) (input : StepInput) (first : IsLeast before key input) where
   world_least : IsLeast is.world.pending key input
   world_least = subst (λ m. IsLeast m key input) (sym is.events) first
 
@@ -69,28 +71,32 @@ module _ (S : Setting Mind) (processes : List (Process Mind)) (before : Events) 
               ap (λ ps. slice_get ps (p - 1)) made.processes ∙ (set_other processes (key.receiver - 1) (p - 1) _ apart ∙ is.process p own)
         ] refl
 
-    pub stands_next : Stands S later joins (trace ++ entry ∷ [])
+    pub stands_next : Stands S later joins (trace ++ entry ∷ []) (letters ++ posted_in S (is.world.process key.receiver) key input)
     stands_next = record {
       world = taken S is.world key input;
       is_world = taken_world S is.world key input sound is.is_world world_least.there;
       reached = subst (λ e. IsReached S (taken S is.world key input) (trace ++ e ∷ [])) (sym made.entry_is) (reached_next S is.world trace key input world_least due is.reached);
+      posted = posted_next S is.world letters key input world_least due is.posted;
       process = next_process;
       events = sym (made.pending ∙ ap (λ m. joined m (step S (is.world.process key.receiver) key input).added) (removed ∙ ap (λ m. events.remove m key) (sym is.events)));
     }
 
 -- the receiver's mind knows its number
-pub first_own : (s : Record) (processes : List (Process Mind)) (before : Events) (trace : List EntryRecord) (is : Stands (setting_of s) processes before trace) (key : Key) (input : StepInput) → IsLeast before key input
+pub first_own : (s : Record) (processes : List (Process Mind)) (before : Events) (trace : List EntryRecord) (letters : List Posted) (is : Stands (setting_of s) processes before trace letters) (key : Key) (input : StepInput) → IsLeast before key input
     → (p : Process Mind) → slice_get processes (key.receiver - 1) ≡ Some p → p.mind.lower.place.own ≡ key.receiver
-first_own s processes before trace is key input first p there =
+first_own s processes before trace letters is key input first p there =
     let S = setting_of s in
-    let own : IsProcess S key.receiver = first_receiver S processes before trace is key input first in
-    let same : is.world.process key.receiver ≡ p = same_Some _ _ (sym (first_process S processes before trace is key input first) ∙ there) in
+    let own : IsProcess S key.receiver = first_receiver S processes before trace letters is key input first in
+    let same : is.world.process key.receiver ≡ p = same_Some _ _ (sym (first_process S processes before trace letters is key input first) ∙ there) in
     let mind = (is.world.process key.receiver).mind in
     ap (λ (q : Process Mind). q.mind.lower.place.own) (sym same) ∙ same_own mind.lower.place (place_in s key.receiver) (mind_place (place_in s key.receiver) mind (is.is_world.minds key.receiver own))
 
--- where nothing is pending, the trace is whole
-pub stands_end : (S : Setting Mind) (processes : List (Process Mind)) (pending : Events) (trace : List EntryRecord) → Stands S processes pending trace → IsEmpty pending → IsTrace S trace
-stands_end S processes pending trace is none = reached_end S is.world trace is.reached (λ q x h. absurd (none q x (subst (λ m. Has m q x) is.events h)))
+-- where nothing is pending, the trace is whole, and so are the letters
+pub stands_end : (S : Setting Mind) (processes : List (Process Mind)) (pending : Events) (trace : List EntryRecord) (letters : List Posted) → Stands S processes pending trace letters → IsEmpty pending → IsTrace S trace × ArePosted S letters
+stands_end S processes pending trace letters is none = (reached_end S is.world trace is.reached no_event, posted_end S is.world letters is.posted no_event)
+  where
+    no_event : NoneBelow S.horizon is.world.pending
+    no_event q x h = absurd (none q x (subst (λ m. Has m q x) is.events h))
 
 -- what a list's images have at a place
 pub place_is : {X Y : Type 0} (f : X → Y) (xs : List X) (i : ℕ) (d : X) (b : Y) → slice_get (map f xs) i ≡ Some b → f (get_or xs i d) ≡ b

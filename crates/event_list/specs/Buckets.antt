@@ -2,7 +2,7 @@
 use Rattle.std.specs.Prelude.{◌≡◌, ◌≢◌, ℕ, ◌<◌, false, List, [], ◌∷◌, ◌++◌, reverse, length, ◌-◌, slice_index_or, Option, None, Some, IsSome}
 use Rattle.std.specs.Global.{Vec}
 use Rattle.std.specs.Ordering.{is_lt, nat_cmp}
-use Rattle.std.specs.Option.{unwrap_or, option_map, option_or}
+use Rattle.std.specs.Option.{unwrap_or, option_map}
 use Rattle.std.specs.List.{AllByRecursion}
 use Rattle.std.specs.BTreeMap.{BTreeMap}
 use Rattle.std.specs.BTreeMap as tree
@@ -68,16 +68,3 @@ pub record IsStowed (old new : Buckets) (tick : ℕ) (due : List Event) : Type 0
   pub others : (t : ℕ) → t ≢ tick → bucket new t ≡ bucket old t
   pub has : (t : ℕ) → HasTick new t → (t ≢ tick → HasTick old t)
   pub ordered : tree.IsOrdered nat_cmp new
-
--- what is seen at a key: of the events that are due, and else of those of its tick
-abbrev pub seen_at : List Event → Buckets → Key → Option StepInput
-seen_at due later q = option_or (latest q due) (latest q (bucket later q.tick))
-
--- each bucket has the events of its tick, and those that are due are of this tick, in order, and before all others
-pub record IsInOrder (tick : ℕ) (due : List Event) (later : Buckets) : Type 0 where
-  pub ordered : tree.IsOrdered nat_cmp later
-  pub own : (t : ℕ) → AllByRecursion (λ e. e.0.tick ≡ t) (bucket later t)
-  pub full : (t : ℕ) → HasTick later t → 0 < length (bucket later t)
-  pub due_own : AllByRecursion (λ e. e.0.tick ≡ tick) due
-  pub after : 0 < length due → (t : ℕ) → HasTick later t → tick < t
-  pub falls : Falls due

@@ -1,9 +1,8 @@
--- Events that join, one after another.
+-- Events that join, or letters that are heard, one after another.
 use Rattle.std.specs.Prelude.{List, ◌++◌}
-use Rattle.event_list.specs.Step.{Event}
 
--- whatever had joined before, these events joined after it, in this order and nothing else. What it means that events
--- made the one of the other is `grown`
-abbrev pub HaveJoined : {J : Type 0} (grown : J → List Event → J → Type 0) (old new : J) → List Event → Type 0
-HaveJoined {J} grown old new events =
-    (first : J) (before : List Event) → grown first before old → grown first (before ++ events) new
+-- whatever had joined before, these joined after it, in this order and nothing else. What it means that they made the
+-- one of the other is `grown`
+abbrev pub HaveJoined : {J E : Type 0} (grown : J → List E → J → Type 0) (old new : J) → List E → Type 0
+HaveJoined {J} {E} grown old new more =
+    (first : J) (before : List E) → grown first before old → grown first (before ++ more) new

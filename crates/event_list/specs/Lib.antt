@@ -2,6 +2,7 @@ pub mod Setting
 pub mod ScenarioSetting
 pub mod Step
 pub mod World
+pub mod Posting
 pub mod Joins
 pub mod Lanes
 pub mod History
@@ -13,3 +14,4 @@ pub mod Seat
 pub mod Standing
 pub mod Recorder
 pub mod Buckets
+pub mod Calendar

@@ -4,6 +4,7 @@ use Rattle.process_api.specs.EntryRecord.{EntryRecord}
 use Rattle.process_api.specs.Mind.{Mind}
 use Rattle.process_api.specs.declared.key.Key.{Key}
 use Rattle.event_list.specs.Setting.{Setting, IsProcess}
+use Rattle.event_list.specs.Posting.{Posted, posted_along}
 use Rattle.event_list.specs.Step.{Events, Process, Made}
 use Rattle.event_list.specs.World.{World, Pair, Run, IsWorld, opening, joined, entries}
 
@@ -18,12 +19,20 @@ module _ {M : Type 0} (S : Setting M) where
         → Run S S.horizon (opening S) all last
         → (rest : List Pair) × (all ≡ history ++ rest) × Run S S.horizon w rest last
 
+  -- whatever the list does from this world, it sent these letters before
+  abbrev pub HasPosted : (w : World M) → List Posted → Type 0
+  HasPosted w letters = (rest : List Pair) (last : World M) → Run S S.horizon w rest last
+      → (whole : List Pair) × Run S S.horizon (opening S) whole last
+      × (posted_along S (opening S) whole ≡ letters ++ posted_along S w rest)
+
 -- these processes, of process 1 first, and pending events are those of a world that the list comes by after this trace
+-- and these letters
 pub record Stands (S : Setting Mind) (processes : List (Process Mind)) (pending : Events)
-    (trace : List EntryRecord) : Type 0 where
+    (trace : List EntryRecord) (letters : List Posted) : Type 0 where
   pub world : World Mind
   pub is_world : IsWorld S world
   pub reached : IsReached S world trace
+  pub posted : HasPosted S world letters
   pub process : (p : ℕ) → IsProcess S p → slice_get processes (p - 1) ≡ Some (world.process p)
   pub events : world.pending ≡ pending
 

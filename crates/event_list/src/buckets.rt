@@ -4,8 +4,10 @@ ghost use Rattle.std.specs.List.Sorted.{IsPermutation};
 ghost use Rattle.std.specs.BTreeMap.{IsOrdered};
 ghost use Rattle.std.specs.Ordering.{nat_cmp};
 ghost use Rattle.process_api.specs.declared.key.Key.{Key as KeyValue};
-ghost use Rattle.event_list.specs.Buckets.{EndsAt, Falls, HasTick, IsFiled, IsInOrder, IsPopped, IsSame, IsStowed, latest, seen_at};
+ghost use Rattle.event_list.specs.Buckets.{EndsAt, Falls, HasTick, IsFiled, IsPopped, IsSame, IsStowed, latest};
+ghost use Rattle.event_list.specs.Calendar.{IsInOrder, IsVacant, seen_at};
 
+use crate::calendar::Calendar;
 use crate::lanes::put_in_order;
 use process_api::{Key, StepInput};
 use std::alloc::{AllocError, Global};
@@ -121,7 +123,7 @@ pub(crate) fn settle(
     tick: u32,
     at: u32,
     due: &mut Vec<(Key, StepInput)>,
-    later: &mut BTreeMap<u32, Vec<(Key, StepInput)>>,
+    later: &mut Calendar,
 ) -> Result<(), AllocError>
     requires { IsInOrder tick due.old.items later.old }
     ensures in_order { IsInOrder tick due.new.items later.new }
@@ -131,7 +133,7 @@ pub(crate) fn settle(
     if due.is_empty() || tick < at {
         return Ok(());
     }
-    stow(tick, due, later)?;
+    stow(tick, due, &mut later.map)?;
     Ok(())
 }
 
@@ -139,7 +141,7 @@ pub(crate) fn settle(
 pub(crate) fn refill(
     tick: &mut u32,
     due: &mut Vec<(Key, StepInput)>,
-    later: &mut BTreeMap<u32, Vec<(Key, StepInput)>>,
+    later: &mut Calendar,
     spare: &mut Vec<Vec<(Key, StepInput)>>,
     lanes: &mut Vec<Vec<(Key, StepInput)>>,
 ) -> Result<(), AllocError>
@@ -147,12 +149,12 @@ pub(crate) fn refill(
     ensures in_order { IsInOrder tick.new due.new.items later.new }
     ensures same { OnOk result
         ((q : KeyValue) → seen_at due.new.items later.new q ≡ seen_at due.old.items later.old q) }
-    ensures left { OnOk result (due.new.items ≡ [] → (t : ℕ) → HasTick later.new t → ⊥) }
+    ensures left { OnOk result (due.new.items ≡ [] → IsVacant later.new) }
 {
     if !due.is_empty() {
         return Ok(());
     }
-    if let Some((least, mut bucket)) = later.pop_first() {
+    if let Some((least, mut bucket)) = later.take_first()? {
         put_in_order(lanes, &mut bucket)?;
         keep_bucket(spare, mem::replace(due, bucket));
         *tick = least;

@@ -12,11 +12,15 @@
 //! without any list: it is the only closed history of its scenario (`specs/History.antt`), in which each entry but the
 //! starts has one cause, and each event that is added below the horizon is taken once. [`run_list`] says these two of
 //! the trace that it gives (`specs/Effects.antt`). [`run_list_into`] is the same run, which holds no trace: it hands
-//! each entry to a [`Recorder`] as it comes (`specs/Recorder.antt`).
+//! each entry to a [`Recorder`] as it comes (`specs/Recorder.antt`). [`run_list_heard`] is the same run too: it also
+//! tells a [`Listener`] of each letter between different processes as it is put on its link (`specs/Posting.antt`),
+//! lost ones and late ones too, of which no trace tells.
 //!
 //! One call makes the step of a process, [`Seat::turn`]: a machine with its link counts, a key and an input go in, an
-//! entry comes out, and the events that join go where the caller says ([`Joins`]). The list calls it, and so may
-//! whoever runs processes apart from one another; [`Pending`] is their set of pending events.
+//! entry comes out, the events that join go where the caller says ([`Joins`]), and a [`Listener`] is told of the
+//! letters. The list calls it, and so may whoever runs processes apart from one another, with [`Nobody`] listening;
+//! [`Pending`] is their set of pending events. Its events lie in buckets by their ticks; the list's have a ring of
+//! buckets for the next 1,024 ticks ([`Pending::with_ring`], `specs/Calendar.antt`).
 //!
 //! As an example, two processes send each other a letter at tick 0 that takes 2 ticks, and the second crashes at
 //! tick 1. The trace has a `start` of each at tick 0, process 1 takes its letter at tick 2, and the letter to process
@@ -24,12 +28,15 @@
 #![tactic(auto)]
 
 mod buckets;
+mod calendar;
 mod error;
 mod joins;
 mod lanes;
 mod laws;
 mod links;
 mod list;
+mod listener;
+mod nobody;
 mod pending;
 mod recorder;
 mod seat;
@@ -39,7 +46,9 @@ mod tests;
 pub use error::RunError;
 pub use joins::Joins;
 pub use laws::law_only_history;
-pub use list::{run_list, run_list_into};
+pub use list::{run_list, run_list_heard, run_list_into};
+pub use listener::Listener;
+pub use nobody::Nobody;
 pub use pending::Pending;
 pub use recorder::Recorder;
-pub use seat::Seat;
+pub use seat::{Seat, kind_of_letter};

@@ -5,11 +5,13 @@ ghost use Rattle.process_api.specs.Actions.{IsAllowed};
 ghost use Rattle.process_api.specs.Bounds.{most_step_actions};
 ghost use Rattle.streams.specs.Fate.{fate_of};
 ghost use Rattle.event_list.specs.Joins.{HaveJoined};
+ghost use Rattle.event_list.specs.Posting.{posting, posted_by};
 ghost use Rattle.event_list.specs.ScenarioSetting.{setting_of};
 ghost use Rattle.event_list.specs.Seat.{count_of};
 ghost use Rattle.event_list.specs.Step.{raised, in_time, counted, joining, sent_by, lost_by, noted_by, counts_after, added as added_by, sent as sent_by_all, lost as lost_by_all, noted, dead};
 
 use crate::joins::Joins;
+use crate::listener::Listener;
 use process_api::{Action, Entry, Key, Kind, Note, Payload, Pid, StepInput, Tag};
 use std::alloc::{AllocError, Global};
 use std::mem;
@@ -47,6 +49,14 @@ fn join_after<J: Joins>(
         added.add(key, input)?;
     }
     Ok(())
+}
+
+/// What the receiver of a letter takes.
+#[inline(always)]
+fn letter_from(sender: Pid, payload: Payload) -> StepInput
+    ensures { result ≡ StepInput.Letter sender payload }
+{
+    StepInput::Letter { sender, payload }
 }
 
 /// A count of 0 for each process, and one for place 0.
@@ -131,13 +141,14 @@ impl Links {
 
     /// Puts a letter on its link, in the step of `key`. Answers how many letters were lost, 0 or 1.
     #[inline(always)]
-    fn post<J: Joins>(
+    fn post<J: Joins, L: Listener>(
         &mut self,
         streams: &Streams<'_>,
         key: Key,
         to: Pid,
         payload: Payload,
         added: &mut J,
+        listener: &mut L,
     ) -> Result<u32, AllocError>
         requires horizon { self.old.horizon ≡ streams.now.horizon }
         requires own { key.receiver ≤ streams.now.processes }
@@ -151,6 +162,9 @@ impl Links {
         ensures added { OnOk result (HaveJoined J.grown added.old added.new
             (joining (setting_of streams.now) key.receiver key.tick (count_of self.old.counts.items)
             (Action.Send to payload))) }
+        ensures heard { OnOk result (HaveJoined L.heard listener.old listener.new
+            (posting (setting_of streams.now) key.receiver key.tick (count_of self.old.counts.items)
+            (Action.Send to payload))) }
         ensures lost { IfOk result (λ lost. lost
             ≡ lost_by (setting_of streams.now) key.receiver key.tick (count_of self.old.counts.items)
             (Action.Send to payload)) }
@@ -163,15 +177,15 @@ impl Links {
             sender: own,
             number,
         };
-        let input = StepInput::Letter {
-            sender: own,
-            payload,
-        };
         if to == own {
+            let input = letter_from(own, payload);
             join_after(added, self.horizon, sent, 1, input)?;
             return Ok(0);
         }
-        match self.fate(streams, own, to, number, key.tick) {
+        let fate = self.fate(streams, own, to, number, key.tick);
+        listener.hear(&sent, &payload, fate)?;
+        let input = letter_from(own, payload);
+        match fate {
             Fate::Lost => Ok(1),
             Fate::Delay(ticks) => {
                 join_after(added, self.horizon, sent, ticks, input)?;
@@ -217,12 +231,13 @@ impl Links {
     /// Does what one action of the step of `key` says. Answers how many letters were put on a link, and how many of
     /// these were lost: 0 or 1 each.
     #[inline(always)]
-    fn act<J: Joins>(
+    fn act<J: Joins, L: Listener>(
         &mut self,
         streams: &Streams<'_>,
         key: &Key,
         action: Action,
         added: &mut J,
+        listener: &mut L,
         notes: &mut Vec<Note>,
     ) -> Result<(u32, u32), AllocError>
         requires horizon { self.old.horizon ≡ streams.now.horizon }
@@ -237,6 +252,8 @@ impl Links {
         ensures horizon { OnOk result (self.new.horizon ≡ self.old.horizon) }
         ensures added { OnOk result (HaveJoined J.grown added.old added.new
             (joining (setting_of streams.now) key.now.receiver key.now.tick (count_of self.old.counts.items) action)) }
+        ensures heard { OnOk result (HaveJoined L.heard listener.old listener.new
+            (posting (setting_of streams.now) key.now.receiver key.now.tick (count_of self.old.counts.items) action)) }
         ensures notes { OnOk result (notes.new.items ≡ notes.old.items ++ noted_by action) }
         ensures sent { IfOk result (λ n. n.0 ≡ sent_by action) }
         ensures lost { IfOk result (λ n. n.1
@@ -244,7 +261,7 @@ impl Links {
     {
         match action {
             Action::Send { to, payload } => {
-                let lost = self.post(streams, *key, to, payload, added)?;
+                let lost = self.post(streams, *key, to, payload, added, listener)?;
                 Ok((1, lost))
             }
             Action::Wake { pause, tag } => {
@@ -258,15 +275,17 @@ impl Links {
         }
     }
 
-    /// Does what the actions of the step of `key` say, in their order, adds the events that join, and makes the step's
-    /// entry. The actions are used up: what is in their places then means nothing.
-    pub fn perform<J: Joins>(
+    /// Does what the actions of the step of `key` say, in their order, adds the events that join, tells the listener of
+    /// the letters to other processes, and makes the step's entry. The actions are used up: what is in their places
+    /// then means nothing.
+    pub fn perform<J: Joins, L: Listener>(
         &mut self,
         streams: &Streams<'_>,
         key: Key,
         kind: Kind,
         actions: &mut Vec<Action>,
         added: &mut J,
+        listener: &mut L,
     ) -> Result<Entry, AllocError>
         requires horizon { self.old.horizon ≡ streams.now.horizon }
         requires places { vec_len self.old.counts ≡ streams.now.processes + 1 }
@@ -284,6 +303,9 @@ impl Links {
         ensures added { OnOk result (HaveJoined J.grown added.old added.new
             (added_by (setting_of streams.now) key.receiver key.tick (count_of self.old.counts.items)
             actions.old.items)) }
+        ensures heard { OnOk result (HaveJoined L.heard listener.old listener.new
+            (posted_by (setting_of streams.now) key.receiver key.tick (count_of self.old.counts.items)
+            actions.old.items)) }
         ensures entry { IfOk result (λ e. e ≡ record {
           key = key;
           kind = kind;
@@ -299,7 +321,7 @@ impl Links {
         for place in 0..actions.len() {
             // what is left in the place is never read
             let action = mem::replace(&mut actions[place], Action::Note(Note::NoValue));
-            let letters = self.act(streams, &key, action, added, &mut notes)?;
+            let letters = self.act(streams, &key, action, added, listener, &mut notes)?;
             sent += letters.0;
             lost += letters.1;
         }

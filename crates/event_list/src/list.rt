@@ -6,6 +6,8 @@ ghost use Rattle.process_api.specs.Mind.{Mind};
 ghost use Rattle.process_api.specs.Numbers.{numbers_to};
 ghost use Rattle.scenario.specs.Record.{opening_mind};
 ghost use Rattle.event_list.specs.Effects.{HasCauses, TakesOnce};
+ghost use Rattle.event_list.specs.Joins.{HaveJoined};
+ghost use Rattle.event_list.specs.Posting.{posted_in, WereHeard};
 ghost use Rattle.event_list.specs.Recorder.{WereTaken, IsRecorded, IsCutShort};
 ghost use Rattle.event_list.specs.ScenarioSetting.{setting_of};
 ghost use Rattle.event_list.specs.Seat.{process_of, IsMindIn, IsSeated};
@@ -15,6 +17,8 @@ ghost use Rattle.event_list.specs.Step.{Process, step};
 ghost use Rattle.event_list.specs.World.{starts, opened, IsTrace};
 
 use crate::error::RunError;
+use crate::listener::Listener;
+use crate::nobody::Nobody;
 use crate::pending::Pending;
 use crate::recorder::Recorder;
 use crate::seat::Seat;
@@ -54,7 +58,7 @@ fn starts_of(alloc: Global, processes: u16) -> Result<Pending, AllocError>
     requires { processes ≤ most_processes }
     ensures { IfOk result (λ m. m ≡ starts processes) }
 {
-    let mut pending = Pending::new(alloc);
+    let mut pending = Pending::with_ring(alloc)?;
     for before in 0..processes {
         let p = Pid::after(before);
         let key = Key {
@@ -79,7 +83,7 @@ impl<M: Process> EventList<M> {
         ensures seated { IfOk result (λ l. All (IsSeated M.mind scenario.now 0) l.seats.items) }
         ensures count { IfOk result (λ l. vec_len l.seats ≡ scenario.now.processes) }
         ensures opening { IfOk result (λ l.
-            Stands (setting_of scenario.now) (map (process_of M.mind) l.seats.items) l.pending []) }
+            Stands (setting_of scenario.now) (map (process_of M.mind) l.seats.items) l.pending [] []) }
     {
         let processes = scenario.processes();
         let seats = seats_of(alloc, scenario, machines)?;
@@ -93,11 +97,12 @@ impl<M: Process> EventList<M> {
 
     /// Makes the step of an event that was taken from the pending ones: its receiver's turn, and the events that it
     /// causes join.
-    fn take(
+    fn take<L: Listener>(
         &mut self,
         streams: &Streams<'_>,
         key: Key,
         input: &StepInput,
+        listener: &mut L,
     ) -> Result<Entry, AllocError>
         requires seated { (most : ℕ)
             × All (IsSeated M.mind streams.now most) self.old.seats.items × (most + most_step_actions < 2 ^ 64) }
@@ -115,21 +120,32 @@ impl<M: Process> EventList<M> {
             → slice_get (map (process_of M.mind) self.old.seats.items) (key.receiver - 1) ≡ Some before
             → IsStepped (map (process_of M.mind) self.old.seats.items) (map (process_of M.mind) self.new.seats.items)
             self.old.pending self.new.pending key e (step (setting_of streams.now) before key input.now)) }
+        ensures heard { OnOk result ((before : Process Mind)
+            → slice_get (map (process_of M.mind) self.old.seats.items) (key.receiver - 1) ≡ Some before
+            → HaveJoined L.heard listener.old listener.new (posted_in (setting_of streams.now) before key input.now)) }
     {
         let place = usize::from(key.receiver.number()) - 1;
         let seat = &mut self.seats[place];
-        let entry = seat.turn(streams, key, input, &mut self.actions, &mut self.pending)?;
+        let pending = &mut self.pending;
+        let entry = seat.turn(streams, key, input, &mut self.actions, pending, listener)?;
         Ok(entry)
     }
 
-    /// Takes the least pending event again and again, until none is left, and hands on the entries.
-    fn run<R: Recorder>(mut self, scenario: &Scenario, recorder: &mut R) -> Result<(), RunError>
+    /// Takes the least pending event again and again, until none is left, and hands on the entries and the letters.
+    fn run<R: Recorder, L: Listener>(
+        mut self,
+        scenario: &Scenario,
+        recorder: &mut R,
+        listener: &mut L,
+    ) -> Result<(), RunError>
         requires seated { All (IsSeated M.mind scenario.now 0) self.seats.items }
         requires count { vec_len self.seats ≡ scenario.now.processes }
-        requires opening { Stands (setting_of scenario.now) (map (process_of M.mind) self.seats.items) self.pending [] }
+        requires opening { Stands (setting_of scenario.now)
+            (map (process_of M.mind) self.seats.items) self.pending [] [] }
         ensures trace { IfOk result (λ _. (t : List EntryRecord)
             × IsTrace (setting_of scenario.now) t × (length t ≤ scenario.now.limit)
             × WereTaken (R.recorded recorder.old recorder.old) (R.recorded recorder.old recorder.new) t) }
+        ensures heard { OnOk result (WereHeard (setting_of scenario.now) L.heard listener.old listener.new) }
         ensures errors { IfErr result (λ e. (e ≡ RunError.Limit) ⊎ (e ≡ RunError.Memory)) }
         ensures limit { IsErrOf result RunError.Limit → (whole : List EntryRecord)
             → IsTrace (setting_of scenario.now) whole → scenario.now.limit < length whole }
@@ -143,7 +159,7 @@ impl<M: Process> EventList<M> {
             if taken >= limit {
                 return Err(RunError::Limit);
             }
-            let entry = self.take(&streams, key, &input)?;
+            let entry = self.take(&streams, key, &input, listener)?;
             drop(input);
             recorder.record(entry)?;
             taken += 1;
@@ -153,15 +169,17 @@ impl<M: Process> EventList<M> {
 }
 
 /// Runs machines by one event list.
-fn run_machines<M: Process, R: Recorder>(
+fn run_machines<M: Process, R: Recorder, L: Listener>(
     alloc: Global,
     scenario: &Scenario,
     machines: Vec<M>,
     recorder: &mut R,
+    listener: &mut L,
 ) -> Result<(), RunError>
     requires { map M.mind machines.items ≡ map (opening_mind scenario.now) (numbers_to scenario.now.processes) }
     ensures recorded { OnOk result (IsRecorded (setting_of scenario.now) scenario.now.limit
         (R.recorded recorder.old recorder.old) (R.recorded recorder.old recorder.new)) }
+    ensures heard { OnOk result (WereHeard (setting_of scenario.now) L.heard listener.old listener.new) }
     ensures errors { IfErr result (λ e. (e ≡ RunError.Limit) ⊎ (e ≡ RunError.Memory)) }
     ensures limit { IsErrOf result RunError.Limit → (whole : List EntryRecord)
         → IsTrace (setting_of scenario.now) whole → scenario.now.limit < length whole }
@@ -169,7 +187,7 @@ fn run_machines<M: Process, R: Recorder>(
         (R.recorded recorder.old recorder.old) (R.recorded recorder.old recorder.new) }
 {
     let _horizon = scenario.horizon();
-    EventList::open(alloc, scenario, machines)?.run(scenario, recorder)
+    EventList::open(alloc, scenario, machines)?.run(scenario, recorder, listener)
 }
 
 /// Runs machines by one event list, up to the horizon, and hands each entry to the recorder as it comes: nothing of the
@@ -197,7 +215,38 @@ pub fn run_list_into<R: Recorder>(
     ensures front { IsErrOf result RunError.Limit → IsCutShort (setting_of scenario.now) scenario.now.limit
         (R.recorded recorder.old recorder.old) (R.recorded recorder.old recorder.new) }
 {
-    run_machines(alloc, scenario, machines, recorder)
+    run_machines(alloc, scenario, machines, recorder, &mut Nobody)
+}
+
+/// Runs machines by one event list, as [`run_list_into`] does, and tells a listener of each letter to another process
+/// as it is put on its link. What the listener heard is, after what it had heard, the letters of the scenario's run:
+/// those of its steps in their order, which is that of the tick of sending, then of the sender, and of one step those
+/// of its actions in their order.
+///
+/// # Errors
+///
+/// `Limit` where the whole trace has more entries than the scenario's limit: the recorder took the first so many of
+/// them. `Memory` where memory was refused; the recorder and the listener are good for nothing then. The machines are
+/// gone.
+pub fn run_list_heard<R: Recorder, L: Listener>(
+    alloc: Global,
+    scenario: &Scenario,
+    machines: Vec<Box<dyn Process>>,
+    recorder: &mut R,
+    listener: &mut L,
+) -> Result<(), RunError>
+    requires { map mind machines.items ≡ map (opening_mind scenario.now) (numbers_to scenario.now.processes) }
+
+    ensures recorded { OnOk result (IsRecorded (setting_of scenario.now) scenario.now.limit
+        (R.recorded recorder.old recorder.old) (R.recorded recorder.old recorder.new)) }
+    ensures heard { OnOk result (WereHeard (setting_of scenario.now) L.heard listener.old listener.new) }
+    ensures errors { IfErr result (λ e. (e ≡ RunError.Limit) ⊎ (e ≡ RunError.Memory)) }
+    ensures limit { IsErrOf result RunError.Limit → (whole : List EntryRecord)
+        → IsTrace (setting_of scenario.now) whole → scenario.now.limit < length whole }
+    ensures front { IsErrOf result RunError.Limit → IsCutShort (setting_of scenario.now) scenario.now.limit
+        (R.recorded recorder.old recorder.old) (R.recorded recorder.old recorder.new) }
+{
+    run_machines(alloc, scenario, machines, recorder, listener)
 }
 
 /// Runs machines by one event list, up to the horizon. There is one machine for each process, of process 1 first, and
@@ -224,6 +273,6 @@ pub fn run_list(
         → IsTrace (setting_of scenario.now) whole → scenario.now.limit < length whole }
 {
     let mut entries = Vec::new(alloc);
-    run_machines(alloc, scenario, machines, &mut entries)?;
+    run_machines(alloc, scenario, machines, &mut entries, &mut Nobody)?;
     Ok(Trace::new(entries))
 }

@@ -2,12 +2,14 @@
 ghost use Rattle.std.specs.Prelude.{◌≡◌, ◌≤◌, ◌<◌, ◌+◌, ◌^◌, ℕ, IfOk, OnOk};
 ghost use Rattle.process_api.specs.Bounds.{most_step_actions};
 ghost use Rattle.event_list.specs.Joins.{HaveJoined};
+ghost use Rattle.event_list.specs.Posting.{posted_in};
 ghost use Rattle.event_list.specs.ScenarioSetting.{setting_of};
 ghost use Rattle.event_list.specs.Setting.{has_crashed};
-ghost use Rattle.event_list.specs.Step.{kind_of as kind_for, step};
+ghost use Rattle.event_list.specs.Step.{kind_of as kind_for, kind_of_payload, step};
 
 use crate::joins::Joins;
 use crate::links::Links;
+use crate::listener::Listener;
 use process_api::{Action, Entry, Key, Kind, Payload, Pid, Process, StepInput, Tag};
 use scenario::Scenario;
 use std::alloc::{AllocError, Global};
@@ -22,6 +24,23 @@ pub struct Seat<M> {
     links: Links,
 }
 
+/// The kind of the entry of whoever takes a letter that says this.
+pub fn kind_of_letter(payload: &Payload) -> Kind
+    ensures { result ≡ kind_of_payload payload.now }
+{
+    match payload {
+        Payload::Alive => Kind::Alive,
+        Payload::Heartbeat { .. } => Kind::Heartbeat,
+        Payload::Suspects(_) => Kind::Suspects,
+        Payload::Vector { .. } => Kind::Vector,
+        Payload::Last { .. } => Kind::Last,
+        Payload::Estimate { .. } => Kind::Estimate,
+        Payload::Proposal { .. } => Kind::Proposal,
+        Payload::Reply { .. } => Kind::Reply,
+        Payload::Decide { .. } => Kind::Decide,
+    }
+}
+
 /// The kind of the entry of an input.
 fn kind_of(input: &StepInput) -> Kind
     ensures { result ≡ kind_for input.now }
@@ -31,17 +50,7 @@ fn kind_of(input: &StepInput) -> Kind
         StepInput::Wake(Tag::Beat) => Kind::Beat,
         StepInput::Wake(Tag::Check) => Kind::Check,
         StepInput::Wake(Tag::Share) => Kind::Share,
-        StepInput::Letter { payload, .. } => match payload {
-            Payload::Alive => Kind::Alive,
-            Payload::Heartbeat { .. } => Kind::Heartbeat,
-            Payload::Suspects(_) => Kind::Suspects,
-            Payload::Vector { .. } => Kind::Vector,
-            Payload::Last { .. } => Kind::Last,
-            Payload::Estimate { .. } => Kind::Estimate,
-            Payload::Proposal { .. } => Kind::Proposal,
-            Payload::Reply { .. } => Kind::Reply,
-            Payload::Decide { .. } => Kind::Decide,
-        },
+        StepInput::Letter { payload, .. } => kind_of_letter(payload),
     }
 }
 
@@ -86,19 +95,21 @@ impl<M: Process> Seat<M> {
     }
 
     /// Makes the step of one event: the machine takes the input, unless the process has crashed, and what it does is
-    /// put on its links. The events that join go to `added` in their order. `actions` is room for the machine's answer;
-    /// what it held is thrown away.
+    /// put on its links. The events that join go to `added` in their order, and the listener is told of the letters to
+    /// other processes, in theirs. `actions` is room for the machine's answer; what it held is thrown away.
     ///
     /// # Errors
     ///
-    /// `AllocError` where memory was refused. The seat is good for nothing then, and `added` may hold anything.
-    pub fn turn<J: Joins>(
+    /// `AllocError` where memory was refused. The seat and the listener are good for nothing then, and `added` may hold
+    /// anything.
+    pub fn turn<J: Joins, L: Listener>(
         &mut self,
         streams: &Streams<'_>,
         key: Key,
         input: &StepInput,
         actions: &mut Vec<Action>,
         added: &mut J,
+        listener: &mut L,
     ) -> Result<Entry, AllocError>
         requires seated { (most : ℕ) × IsSeated M.mind streams.now most self.old × (most + most_step_actions < 2 ^ 64) }
         requires own { key.receiver ≡ own_of M.mind self.old }
@@ -109,6 +120,8 @@ impl<M: Process> Seat<M> {
             e ≡ (step (setting_of streams.now) (process_of M.mind self.old) key input.now).entry) }
         ensures added { OnOk result (HaveJoined J.grown added.old added.new
             (step (setting_of streams.now) (process_of M.mind self.old) key input.now).added) }
+        ensures heard { OnOk result (HaveJoined L.heard listener.old listener.new
+            (posted_in (setting_of streams.now) (process_of M.mind self.old) key input.now)) }
         ensures seated { OnOk result ((most : ℕ)
             → IsSeated M.mind streams.now most self.old
             → IsSeated M.mind streams.now (most + most_step_actions) self.new) }
@@ -119,6 +132,6 @@ impl<M: Process> Seat<M> {
         actions.clear();
         self.machine.on_input(key.tick, input, actions)?;
         self.links
-            .perform(streams, key, kind_of(input), actions, added)
+            .perform(streams, key, kind_of(input), actions, added, listener)
     }
 }

@@ -58,3 +58,34 @@ fn takes_many_in_order(rt: HostRuntime) -> Result<(), Fail> {
     assert!(rt; pending.take_least()?.is_none());
     Ok(())
 }
+
+/// Events of ticks with one place in the ring, and before and past what the ring has.
+#[test]
+fn takes_ticks_in_order(rt: HostRuntime) -> Result<(), Fail> {
+    let mut pending = Pending::with_ring(rt.alloc())?;
+    // 5, 1029, 2053 and 5125 leave the rest 5 by 1024
+    for tick in [5125, 5, 2053, 1029, u32::MAX] {
+        pending.join(key_of(tick, 1, 0)?, StepInput::Wake(Tag::Beat))?;
+    }
+    let (key, _) = pending.take_least()?.ok_or("nothing is pending")?;
+    assert_eq!(rt; key.tick, 5);
+    // now 1028 is in the year that begins at 5, and 1029, which lies in the map, is not
+    for (tick, number) in [(1028, 0), (1029, 1), (3, 0), (6, 0)] {
+        pending.join(key_of(tick, 1, number)?, StepInput::Wake(Tag::Check))?;
+    }
+    for tick in [3, 6, 1028] {
+        let (key, _) = pending.take_least()?.ok_or("too few events")?;
+        assert_eq!(rt; key.tick, tick);
+    }
+    // 1029 has events in the map, and a third comes to the ring; of the two with one key the later counts
+    pending.join(key_of(1029, 1, 0)?, StepInput::Wake(Tag::Check))?;
+    let (key, input) = pending.take_least()?.ok_or("too few events")?;
+    assert_eq!(rt; (key.tick, key.number), (1029, 0));
+    assert!(rt; matches!(input, StepInput::Wake(Tag::Check)));
+    for (tick, number) in [(1029, 1), (2053, 0), (5125, 0), (u32::MAX, 0)] {
+        let (key, _) = pending.take_least()?.ok_or("too few events")?;
+        assert_eq!(rt; (key.tick, key.number), (tick, number));
+    }
+    assert!(rt; pending.take_least()?.is_none());
+    Ok(())
+}

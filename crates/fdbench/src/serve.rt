@@ -43,7 +43,7 @@ fn scenario_at<R: Files, I: Read>(
 {
     let bytes = match bytes_at(rt, alloc, path, input) {
         Ok(bytes) => bytes,
-        Err(InputError::Unreadable) => return Err(Fault::Unreadable),
+        Err(InputError::NoSuchFile | InputError::Unreadable) => return Err(Fault::Unreadable),
         Err(InputError::TooLong) => return Err(Fault::TooLong),
         Err(InputError::Memory) => return Err(Fault::Scenario(ScenarioError::Memory(AllocError))),
     };

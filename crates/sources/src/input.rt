@@ -1,5 +1,5 @@
 //! Reading an input to its end.
-ghost use Rattle.std.specs.Prelude.{◌≡◌, ◌+◌, ◌≤◌, ◌<◌, IfOk, IfSome, OnOk, length, Err};
+ghost use Rattle.std.specs.Prelude.{◌≡◌, ◌≢◌, ◌+◌, ◌≤◌, ◌<◌, IfOk, IfSome, OnOk, length, Err};
 ghost use Rattle.std.specs.Io.KnownBytes.{IsAtEnd};
 ghost use Rattle.sources.specs.Input.{TakesAtMost, most_bytes};
 
@@ -16,6 +16,9 @@ const PIECE_BYTES: usize = 65_536;
 /// Why an input is refused.
 #[derive(Clone, Copy, Debug, PartialEq, Eq, Error)]
 pub enum InputError {
+    /// No file has that path.
+    #[error("no such file")]
+    NoSuchFile,
     /// The file can't be opened, or a read failed.
     #[error("the input can't be read")]
     Unreadable,
@@ -38,6 +41,7 @@ pub fn read_all<R: Read>(alloc: Global, input: &mut R) -> Result<Vec<u8>, InputE
     ensures whole { IfOk result (λ bytes. IfSome (R.remaining input.old) (λ all. bytes.items ≡ all)) }
     ensures end { OnOk result (IsAtEnd (R.remaining input.new)) }
     ensures long { result ≡ Err InputError.TooLong → IfSome (R.remaining input.old) (λ all. most_bytes < length all) }
+    ensures open { result ≢ Err InputError.NoSuchFile }
     ensures taken { TakesAtMost (most_bytes + 1) (R.remaining input.old) (R.remaining input.new) }
 {
     let mut bytes = Vec::new(alloc);

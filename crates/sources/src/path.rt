@@ -6,7 +6,7 @@ ghost use Rattle.sources.specs.Input.{AreAllOf, TakesAtMost, input_path, most_by
 use crate::input::{InputError, read_all};
 use std::alloc::Global;
 use std::fs;
-use std::io::Read;
+use std::io::{ErrorKind, Read};
 use std::rt::Files;
 
 /// All bytes at a path, where they are at most 8,388,608; the path `-` is the input. Of a path other than `-` contracts
@@ -14,8 +14,9 @@ use std::rt::Files;
 ///
 /// # Errors
 ///
-/// `TooLong` where there are more bytes, `Unreadable` where the file couldn't be opened or a read failed, and `Memory`
-/// where the bytes found no room.
+/// `NoSuchFile` where no file has that path, which never comes of `-`; `TooLong` where there are more bytes;
+/// `Unreadable` where the file couldn't be opened for another reason or a read failed; and `Memory` where the bytes
+/// found no room.
 pub fn bytes_at<R: Files, I: Read>(
     rt: &R,
     alloc: Global,
@@ -27,6 +28,7 @@ pub fn bytes_at<R: Files, I: Read>(
     ensures end { path.now ≡ input_path → OnOk result (IsAtEnd (I.remaining input.new)) }
     ensures long { path.now ≡ input_path → result ≡ Err InputError.TooLong
         → IfSome (I.remaining input.old) (λ all. most_bytes < length all) }
+    ensures absent { result ≡ Err InputError.NoSuchFile → path.now ≢ input_path }
     ensures taken { TakesAtMost (most_bytes + 1) (I.remaining input.old) (I.remaining input.new) }
     ensures untouched { path.now ≢ input_path → input.new ≡ input.old }
 {
@@ -35,6 +37,7 @@ pub fn bytes_at<R: Files, I: Read>(
     }
     match fs::open(rt, path) {
         Ok(mut file) => read_all(alloc, &mut file),
+        Err(error) if error.kind() == ErrorKind::NotFound => Err(InputError::NoSuchFile),
         Err(_) => Err(InputError::Unreadable),
     }
 }

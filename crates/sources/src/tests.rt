@@ -77,7 +77,9 @@ fn paths(rt: HostRuntime) -> Result<(), Fail> {
     let nothing = bytes_at(&rt, alloc, "/dev/null", &mut input)?;
     assert_eq!(rt; nothing.len(), 0);
     let absent = bytes_at(&rt, alloc, "no_such_folder/scenario.toml", &mut input);
-    assert!(rt; absent == Err(InputError::Unreadable));
+    assert!(rt; absent == Err(InputError::NoSuchFile));
+    let folder = bytes_at(&rt, alloc, "/", &mut input);
+    assert!(rt; folder == Err(InputError::Unreadable));
     assert_eq!(rt; input.len(), 2);
     let bytes = bytes_at(&rt, alloc, "-", &mut input)?;
     assert!(rt; bytes.as_slice() == b"ab".as_slice());

@@ -1,8 +1,8 @@
 -- Keys as words.
-use Rattle.std.proofs.Common.{◌≡◌, ◌≢◌, ◌⊎◌, ℕ, zero, suc, ◌+◌, ◌^◌, ◌≤◌, ◌<◌, List, [], ◌∷◌, ◌++◌, append_assoc, length, length-append, get_or, Bool, true, false, not, ◌==◌, ◌&&◌, codes, decimal, Option, Some, None, Result, Ok, Err, Bor, MatchOption, IfErr, IsErrAnd, refl, sym, ◌∙◌, ap, subst, inl, inr, rules, arith, lit<}
+use Rattle.std.proofs.Common.{◌≡◌, ◌≢◌, ℕ, zero, suc, ◌^◌, ◌≤◌, ◌<◌, List, [], ◌∷◌, ◌++◌, append_assoc, length, length-append, get_or, Bool, true, false, not, ◌==◌, codes, decimal, Option, Some, None, Result, Ok, Err, Bor, MatchOption, IfErr, IsErrAnd, refl, sym, ◌∙◌, ap, subst, inl, inr, arith, lit<}
 use Rattle.std.proofs.lemmas.Bool.{cases_Bool, and_parts, and_from, eqb-true, eq-eqb, false≢true}
 use Rattle.std.proofs.lemmas.Fmt.{decimal-digits_value, digits_decimal, digits_value-decimal, decimal_nonempty, first_decimal, decimal_digit}
-use Rattle.std.proofs.lemmas.List.{append_cancel_right, get_or-append-add}
+use Rattle.std.proofs.lemmas.List.{append_cancel_right}
 use Rattle.std.proofs.lemmas.List.Folds.{list_all-append}
 use Rattle.std.proofs.lemmas.Str.Pattern.{IsSplitOnceResult, split_after, split_parts}
 use Rattle.std.specs.Char.{is_ascii_digit}
@@ -12,7 +12,6 @@ use Rattle.study.specs.Words.{Word, is_natural, natural}
 use Rattle.study.specs.KeyWords.{is_name_byte, is_name, is_place, IsOwner, of_table, of_element, HasNames, SaysNoKey, is_memory}
 use Rattle.study.specs.declared.error.KeyError.{KeyError}
 use Rattle.study.specs.declared.error.KeyError.TheVariants as error
-use Rattle.std.proofs.Math.Dec.{ltb}
 use Rattle.study.proofs.Numerals.{own, natural_digits, natural_some}
 
 -- ---- bytes that a word lacks

@@ -1,12 +1,10 @@
 -- Ranges, as words and as numbers.
-use Rattle.std.proofs.Common.{◌≡◌, ℕ, ◌+◌, ◌*◌, ◌/◌, ◌≤◌, ◌<◌, ℤ, pos, ◌≤ℤ◌, ◌-ℤ◌, ◌+ℤ◌, List, Bool, true, false, ◌&&◌, codes, Option, Some, None, if◌then◌else◌, length, MatchOption, Bor, sym, ◌∙◌, ap, arith, lit<}
-use Rattle.std.proofs.Math.Dec.{eqb}
+use Rattle.std.proofs.Common.{◌≡◌, ℕ, ◌*◌, ◌/◌, ◌≤◌, ℤ, pos, ◌≤ℤ◌, ◌-ℤ◌, true, false, ◌&&◌, Option, Some, None, if◌then◌else◌, sym, ◌∙◌, ap, arith}
 use Rattle.std.proofs.Math.Nat.{mul-le-mul_left, div-mul-le_self}
 use Rattle.std.proofs.lemmas.Int.{ints}
 use Rattle.std.specs.Int.RustNames.{unsigned_abs}
-use Rattle.std.specs.List.{list_any, position_or_len}
 use Rattle.std.specs.Option.{option_and_then}
-use Rattle.study.specs.Words.{Word, has, before, after, is_integer, integer, bounds}
+use Rattle.study.specs.Words.{Word, is_integer, integer, bounds}
 use Rattle.study.specs.AxisWords.{RangeRecord, high_word, step_word, range_between, range_said}
 
 abbrev made : Word → Word → Word → Option RangeRecord

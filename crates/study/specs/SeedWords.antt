@@ -1,5 +1,5 @@
 -- Which words say which seeds.
-use Rattle.std.specs.Prelude.{ℕ, ◌^◌, nat_lt, not, Bool, ◌&&◌, Option, Some, None, if◌then◌else◌}
+use Rattle.std.specs.Prelude.{ℕ, ◌^◌, nat_lt, not, ◌&&◌, Option, Some, None, if◌then◌else◌}
 use Rattle.std.specs.Option.{option_and_then}
 use Rattle.study.specs.Words.{Word, is_natural, natural, bounds}
 use Rattle.study.specs.declared.error.SeedsError.{SeedsError}

@@ -1,5 +1,5 @@
 -- Which words say which shards.
-use Rattle.std.specs.Prelude.{ℕ, ◌^◌, nat_le, nat_lt, Bool, ◌&&◌, Option, Some, None, if◌then◌else◌}
+use Rattle.std.specs.Prelude.{◌^◌, nat_le, nat_lt, ◌&&◌, Option, Some, None, if◌then◌else◌}
 use Rattle.study.specs.Shard.{ShardRecord}
 use Rattle.study.specs.Words.{Word, has, before, after, is_natural, natural}
 use Rattle.study.specs.declared.error.ShardError.{ShardError}

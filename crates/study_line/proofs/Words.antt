@@ -10,7 +10,7 @@ use Rattle.clap.specs.declared.error.Error.{Error}
 use Rattle.clap.specs.declared.parser.matches.ArgMatches.{ArgMatches}
 use Rattle.clap.proofs.OnLiterals.{clap_on_literals}
 use Rattle.study_line.specs.Commands.{whole_app}
-use Rattle.study_line.specs.Order.{Explains, IsNumberAt, Lacks, MayBeNumberAt, States, StatesFound, StatesIn}
+use Rattle.study_line.specs.Order.{Explains, IsNumberAt, Lacks, MayBeUnsignedAt, States, StatesFound, StatesIn}
 use Rattle.study_line.specs.declared.order.Order.{Order}
 use Rattle.study_line.specs.declared.order.Order.TheVariants as order
 use Rattle.study_line.specs.declared.order.WordsError.{WordsError}
@@ -29,20 +29,20 @@ none_is f o y r is at there = let bad : None ≡ Some y = sym (ap (option_map f)
 some_injective : {A : Type 0} {x y : A} → Some x ≡ Some y → x ≡ y
 some_injective {x = x} e = ap (λ o. unwrap_or o x) e
 
--- how a number of 64 bits is read
-abbrev gives : Text → Result ℕ ParseIntError → Type 0
-gives text r = ParsesUnsigned 64 10 text r × ExplainsUnsignedError 10 text r × HasUnsignedDigitsIfOk text r
+-- how a number of so many bits is read
+abbrev gives : (bits : ℕ) → Text → Result ℕ ParseIntError → Type 0
+gives bits text r = ParsesUnsigned bits 10 text r × ExplainsUnsignedError 10 text r × HasUnsignedDigitsIfOk text r
 
 -- what was read is the number of the text that is there; where nothing was, there is none
-pub read_number : (id : Text) (rows : List Row) (there : Option Text) → there ≡ one_of id rows → (r : Option ℕ)
-    → (there ≡ None → r ≡ None) → ((t : Text) → there ≡ Some t → ReadsOne gives t r) → MayBeNumberAt id rows r
-read_number id rows (Some t) at (Some n) none value = (t, sym at, (value t refl).0)
-read_number id rows None at (Some n) none value = let bad : Some n ≡ None = none refl in cc
-read_number id rows (Some t) at None none value = λ n stated.
+pub read_number : (bits : ℕ) (id : Text) (rows : List Row) (there : Option Text) → there ≡ one_of id rows → (r : Option ℕ)
+    → (there ≡ None → r ≡ None) → ((t : Text) → there ≡ Some t → ReadsOne (gives bits) t r) → MayBeUnsignedAt bits id rows r
+read_number bits id rows (Some t) at (Some n) none value = (t, sym at, (value t refl).0)
+read_number bits id rows None at (Some n) none value = let bad : Some n ≡ None = none refl in cc
+read_number bits id rows (Some t) at None none value = λ n stated.
     let same : t ≡ stated.0 = some_injective (at ∙ stated.1) in
-    let parses = subst (λ s. ParsesUnsigned {E = ParseIntError} 64 10 s (Ok n)) (sym same) stated.2 in
+    let parses = subst (λ s. ParsesUnsigned {E = ParseIntError} bits 10 s (Ok n)) (sym same) stated.2 in
     (value t refl).1.0 parses.0
-read_number id rows None at None none value = λ n stated. let bad : None ≡ Some stated.0 = at ∙ stated.1 in cc
+read_number bits id rows None at None none value = λ n stated. let bad : None ≡ Some stated.0 = at ∙ stated.1 in cc
 
 -- the texts of all uses of an argument, and those of one that isn't used
 pub all_texts : (found : Option (Bor (List (Bor Text)))) (all : Option (List Text)) (s : Bor (List (Bor Text)))
@@ -64,6 +64,7 @@ pub lacks_part : {X Y : Type 0} (Part : X → Type 0) (Whole : Y → Type 0)
     → Lacks Part e → Lacks Whole e
 lacks_part Part Whole parts (refusal.Help text) h = h
 lacks_part Part Whole parts (refusal.Mistake text) h = h
+lacks_part Part Whole parts (refusal.NoPicture word) h = λ y whole. let part = parts y whole in h part.0 part.1
 lacks_part Part Whole parts refusal.Form h = λ y whole. let part = parts y whole in h part.0 part.1
 lacks_part Part Whole parts refusal.Memory h = tt
 
@@ -71,12 +72,16 @@ module _ (rows : List Row) where
   pub show_has_point : (asked : Order) → StatesIn (codes "show") rows asked
       → (n : ℕ) × IsNumberAt (codes "point") rows n
   show_has_point (order.Check path) h = let bad : codes "show" ≡ codes "check" = h.0 in search rules
+  show_has_point (order.Letters path) h = let bad : codes "show" ≡ codes "letters" = h.0 in search rules
+  show_has_point (order.Draw path named from until) h = let bad : codes "show" ≡ codes "draw" = h.0 in search rules
   show_has_point (order.Show path grid point run) h = (point, h.3)
   show_has_point (order.Sweep path grid shard threads) h = let bad : codes "show" ≡ codes "sweep" = h.0 in search rules
 
   pub show_has_run : (asked : Order) → StatesIn (codes "show") rows asked
       → (n : ℕ) × IsNumberAt (codes "run") rows n
   show_has_run (order.Check path) h = let bad : codes "show" ≡ codes "check" = h.0 in search rules
+  show_has_run (order.Letters path) h = let bad : codes "show" ≡ codes "letters" = h.0 in search rules
+  show_has_run (order.Draw path named from until) h = let bad : codes "show" ≡ codes "draw" = h.0 in search rules
   show_has_run (order.Show path grid point run) h = (run, h.4)
   show_has_run (order.Sweep path grid shard threads) h = let bad : codes "show" ≡ codes "sweep" = h.0 in search rules
 
@@ -107,6 +112,10 @@ module _ (c : Command) (words : List Text) (is : app_of c ≡ whole_app) where
   nothing_by_words m has taken (Ok asked) h = tt
   nothing_by_words m has taken (Err (refusal.Help text)) h = absurd h
   nothing_by_words m has taken (Err (refusal.Mistake text)) h = absurd h
+  nothing_by_words m has taken (Err (refusal.NoPicture word)) h = record {
+    taken = sym (ap (λ (a : App). fault_of a words) is) ∙ taken free_here;
+    nothing = λ asked stated. h asked (subst (λ met. StatesFound met asked) (sym (met_here m has)) stated);
+  }
   nothing_by_words m has taken (Err refusal.Form) h = record {
     taken = sym (ap (λ (a : App). fault_of a words) is) ∙ taken free_here;
     nothing = λ asked stated. h asked (subst (λ met. StatesFound met asked) (sym (met_here m has)) stated);

@@ -46,12 +46,29 @@ shard_rule = option_rule (codes "shard")
 abbrev pub threads_rule : Rule
 threads_rule = record (option_rule (codes "threads")) { parser = Some (parser.Unsigned 1 64) }
 
+abbrev pub picture_rule : Rule
+picture_rule = record (option_rule (codes "as")) { required = true }
+
+-- ticks are of 32 bits
+abbrev pub tick_rule : Text → Rule
+tick_rule name = record (option_rule name) { parser = Some (parser.Unsigned 0 4294967295) }
+
+-- which ticks are drawn
+abbrev pub with_ticks : App → App
+with_ticks app = with_rule (with_rule app (tick_rule (codes "from"))) (tick_rule (codes "until"))
+
 -- a command that takes a path
 abbrev pub with_path : Text → App
 with_path name = with_rule (new_app name) path_rule
 
 abbrev pub check_app : App
 check_app = with_path (codes "check")
+
+abbrev pub letters_app : App
+letters_app = with_path (codes "letters")
+
+abbrev pub draw_app : App
+draw_app = with_ticks (with_rule (with_path (codes "draw")) picture_rule)
 
 abbrev pub show_app : App
 show_app = with_rule (with_rule (with_grid (with_path (codes "show"))) point_rule) run_rule
@@ -63,8 +80,17 @@ sweep_app = with_rule (with_rule (with_grid (with_path (codes "sweep"))) shard_r
 abbrev pub top_app : App
 top_app = let app = new_app (codes "fdstudy") in record app { top = record app.top { subcommand_required = true } }
 
+-- the commands about one scenario as it stands
+abbrev pub with_scenario : App → App
+with_scenario app =
+    with_subcommand (with_subcommand (with_subcommand app check_app.top) letters_app.top) draw_app.top
+
+-- the commands about a study
+abbrev pub with_study : App → App
+with_study app = with_subcommand (with_subcommand app show_app.top) sweep_app.top
+
 abbrev pub whole_app : App
-whole_app = with_subcommand (with_subcommand (with_subcommand top_app check_app.top) show_app.top) sweep_app.top
+whole_app = with_study (with_scenario top_app)
 
 -- no argument is one of each subcommand too
 abbrev pub IsLocal : Command → Type 0

@@ -10,6 +10,8 @@ use Rattle.study_line.specs.Commands.{whole_app}
 use Rattle.study_line.specs.declared.order.GridTexts.{GridTexts}
 use Rattle.study_line.specs.declared.order.Order.{Order}
 use Rattle.study_line.specs.declared.order.Order.TheVariants as order
+use Rattle.study_line.specs.declared.order.Picture.{Picture}
+use Rattle.study_line.specs.declared.order.Picture.TheVariants as picture
 use Rattle.study_line.specs.declared.order.WordsError.{WordsError}
 use Rattle.study_line.specs.declared.order.WordsError.TheVariants as refusal
 
@@ -22,15 +24,34 @@ IsTextAt id rows text = first_of id rows ≡ Some text
 abbrev pub texts_at : Text → List Row → List Text
 texts_at id rows = option_map_or (λ texts. texts) (all_of id rows) []
 
--- the number that an argument's text writes
-abbrev pub IsNumberAt : Text → List Row → ℕ → Type 0
-IsNumberAt id rows n =
-    (text : Text) × (one_of id rows ≡ Some text) × ParsesUnsigned {E = ParseIntError} 64 10 text (Ok n)
+-- the number of so many bits that an argument's text writes
+abbrev pub IsUnsignedAt : (bits : ℕ) → Text → List Row → ℕ → Type 0
+IsUnsignedAt bits id rows n =
+    (text : Text) × (one_of id rows ≡ Some text) × ParsesUnsigned {E = ParseIntError} bits 10 text (Ok n)
 
--- the number of an argument that may be missing
+-- the same of an argument that may be missing
+abbrev pub MayBeUnsignedAt : (bits : ℕ) → Text → List Row → Option ℕ → Type 0
+MayBeUnsignedAt bits id rows (Some n) = IsUnsignedAt bits id rows n
+MayBeUnsignedAt bits id rows None = (n : ℕ) → IsUnsignedAt bits id rows n → ⊥
+
+-- numbers are of 64 bits, ticks of 32
+abbrev pub IsNumberAt : Text → List Row → ℕ → Type 0
+IsNumberAt = IsUnsignedAt 64
+
 abbrev pub MayBeNumberAt : Text → List Row → Option ℕ → Type 0
-MayBeNumberAt id rows (Some n) = IsNumberAt id rows n
-MayBeNumberAt id rows None = (n : ℕ) → IsNumberAt id rows n → ⊥
+MayBeNumberAt = MayBeUnsignedAt 64
+
+abbrev pub MayBeTickAt : Text → List Row → Option ℕ → Type 0
+MayBeTickAt = MayBeUnsignedAt 32
+
+-- the words of pictures
+abbrev pub picture_text : Picture → Text
+picture_text picture.Suspicions = codes "suspicions"
+picture_text picture.Letters = codes "letters"
+
+-- the picture that an argument's text names
+abbrev pub IsPictureAt : Text → List Row → Picture → Type 0
+IsPictureAt id rows named = IsTextAt id rows (picture_text named)
 
 -- which runs a study has
 pub record IsGridAt (rows : List Row) (grid : GridTexts) : Type 0 where
@@ -43,6 +64,10 @@ pub record IsGridAt (rows : List Row) (grid : GridTexts) : Type 0 where
 -- the order is what the subcommand of this name says by its own arguments
 abbrev pub StatesIn : Text → List Row → Order → Type 0
 StatesIn name rows (order.Check path) = (name ≡ codes "check") × IsTextAt (codes "path") rows path.now
+StatesIn name rows (order.Letters path) = (name ≡ codes "letters") × IsTextAt (codes "path") rows path.now
+StatesIn name rows (order.Draw path named from until) = (name ≡ codes "draw")
+    × IsTextAt (codes "path") rows path.now × IsPictureAt (codes "as") rows named
+    × MayBeTickAt (codes "from") rows from × MayBeTickAt (codes "until") rows until
 StatesIn name rows (order.Show path grid point run) = (name ≡ codes "show")
     × IsTextAt (codes "path") rows path.now × IsGridAt rows grid
     × IsNumberAt (codes "point") rows point × IsNumberAt (codes "run") rows run
@@ -75,11 +100,13 @@ abbrev pub Explains : List Text → WordsError → Type 0
 Explains words (refusal.Help text) = AsksHelp words
 Explains words (refusal.Mistake text) =
     (kind : ErrorKind) × (kind ≢ DisplayHelp) × IsAmong kind (fault_of whole_app words)
+Explains words (refusal.NoPicture word) = StatesNothing words
 Explains words refusal.Form = StatesNothing words
 Explains words refusal.Memory = Unit {0}
 
 -- why none was read of what may be stated: there is none, or memory was refused
 abbrev pub Lacks : {X : Type 0} → (X → Type 0) → WordsError → Type 0
+Lacks {X} IsStated (refusal.NoPicture word) = (stated : X) → IsStated stated → ⊥
 Lacks {X} IsStated refusal.Form = (stated : X) → IsStated stated → ⊥
 Lacks IsStated refusal.Memory = Unit {0}
 Lacks IsStated _ = ⊥

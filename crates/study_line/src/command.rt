@@ -1,7 +1,7 @@
 //! The command line, with its help.
 ghost use Rattle.std.specs.Prelude.{◌≡◌, IfOk, false};
 ghost use Rattle.clap.specs.Words.{app_of, rule_of};
-ghost use Rattle.study_line.specs.Commands.{IsLocal, axis_rule, check_app, path_rule, point_rule, run_rule, seeds_rule, shard_rule, show_app, sweep_app, threads_rule, top_app, whole_app, with_grid};
+ghost use Rattle.study_line.specs.Commands.{IsLocal, axis_rule, check_app, draw_app, letters_app, path_rule, picture_rule, point_rule, run_rule, seeds_rule, shard_rule, show_app, sweep_app, threads_rule, tick_rule, top_app, whole_app, with_grid, with_scenario, with_study, with_ticks};
 
 use clap::{Arg, ArgAction, Command, value_parser};
 use std::alloc::{AllocError, Global};
@@ -10,15 +10,20 @@ const ABOUT: &str = "Runs a scenario under many settings and adds up what its de
 
 A study has points, one for each combination of the values that are varied, and each point has runs, one for each \
 seed and each combination of the other values that are set. `sweep` prints a table with a row for each point and \
-layer of detectors, in which the measures of all its runs are added up; `show` prints the scenario of one run; and \
-`check` says where a scenario file breaks a rule, and why.";
+layer of detectors, in which the measures of all its runs are added up, and `show` prints the scenario of one run.
+
+Of one scenario as it stands, `check` says where it breaks a rule, and why; `letters` prints the letters of its run; \
+and `draw` draws a picture of its run.";
 
 const EXAMPLE: &str = "Example:
   fdstudy check examples/cluster_5.toml
+  fdstudy letters examples/one_crash.toml
+  fdstudy draw examples/one_crash.toml --as suspicions > one_crash.svg
   fdstudy sweep examples/cluster_5.toml --seeds 1..=20 --vary detector.timeout=150,300,600
   fdstudy show examples/cluster_5.toml --seeds 1..=20 --vary detector.timeout=150,300,600 --point 2 --run 7
 
-Exit status: 0 done, 1 file or the scenario of a run refused, 2 command line refused, 3 run failed, 4 writing failed.";
+Exit status: 0 done, 1 file, picture or the scenario of a run refused, 2 command line refused, 3 run failed, 4 writing \
+failed.";
 
 const CHECK: &str = "Reads a scenario file and prints its size, or where it breaks a rule and why";
 
@@ -27,6 +32,28 @@ const CHECK_EXAMPLE: &str = "Example:
 
 Of an accepted file the processes, the horizon and an estimate of a run are printed. A refused file ends with status \
 1 and one line on standard error.";
+
+const LETTERS: &str = "Prints the letters of a scenario's run, one row for each";
+
+const LETTERS_EXAMPLE: &str = "Example:
+  fdstudy letters examples/one_crash.toml
+
+A row tells when a letter was sent, from whom to whom, its number on that link, its kind, when it is due, and what \
+became of it: `taken`, `lost` by its link, `dead` where its receiver had crashed, or `late` where it is due at the \
+horizon or after. A run of more entries than the scenario's limit ends with status 3 and prints nothing.";
+
+const DRAW: &str = "Draws a picture of a scenario's run, as SVG on standard output";
+
+const DRAW_EXAMPLE: &str = "Example:
+  fdstudy draw examples/one_crash.toml --as suspicions > one_crash.svg
+  fdstudy draw examples/cluster_5.toml --as suspicions --from 30000 --until 31000 > crash.svg
+  fdstudy draw examples/cluster_5.toml --as letters --from 30000 --until 30030 > letters.svg
+
+In the picture of suspicions each process has a row for itself, with its crash and its decision, and one for each \
+other process, with a bar for each stretch of ticks through which it suspects it. In that of letters each process \
+has a line, and each letter that is sent at these ticks goes from its sender's line to its receiver's. At most 16 \
+processes and 2000 letters are drawn; more, or ticks that aren't those of the run, end with status 1. A run of more \
+entries than the scenario's limit ends with status 3. Nothing is printed then.";
 
 const SHOW: &str = "Prints the scenario file of one run of a study";
 
@@ -65,6 +92,14 @@ const RUN: &str =
 
 const SHARD: &str =
     "Only the K-th of N consecutive blocks of the points, K from 1 [default: all points]";
+
+const PICTURE: &str =
+    "Which picture: `suspicions`, who suspects whom, or `letters`, what went from whom to whom";
+
+const FROM: &str = "The first tick that is drawn [default: 0]";
+
+const UNTIL: &str =
+    "The tick before which the picture ends, at most the scenario's horizon [default: the horizon]";
 
 const THREADS: &str =
     "How many threads share the runs, 1 to 64 [default: as many as there are processors]";
@@ -164,6 +199,40 @@ fn threads_option<'a>(alloc: Global) -> Arg<'a>
         .value_parser(value_parser!(u64).range(1..=64))
 }
 
+/// The option for the picture.
+fn picture_option<'a>(alloc: Global) -> Arg<'a>
+    ensures rule { rule_of result ≡ picture_rule }
+    ensures local { result.global ≡ false }
+{
+    Arg::new(alloc, "as")
+        .long("as")
+        .value_name("PICTURE")
+        .required(true)
+        .help(PICTURE)
+}
+
+/// An option for a tick, of 32 bits.
+fn tick_option<'a>(alloc: Global, name: &'a str, help: &'a str) -> Arg<'a>
+    ensures rule { rule_of result ≡ tick_rule name.now }
+    ensures local { result.global ≡ false }
+{
+    Arg::new(alloc, name)
+        .long(name)
+        .value_name("T")
+        .help(help)
+        .value_parser(value_parser!(u64).range(0..=4294967295))
+}
+
+/// A command with the options that say which ticks are drawn.
+fn with_tick_options<'a>(alloc: Global, command: Command<'a>) -> Result<Command<'a>, AllocError>
+    ensures app { IfOk result (λ c. app_of c ≡ with_ticks (app_of command.entry)) }
+    ensures local { IsLocal command.entry → IfOk result IsLocal }
+{
+    let from = tick_option(alloc, "from", FROM);
+    let until = tick_option(alloc, "until", UNTIL);
+    command.arg(from)?.arg(until)
+}
+
 /// `check SCENARIO`
 fn check_command<'a>(alloc: Global) -> Result<Command<'a>, AllocError>
     ensures app { IfOk result (λ c. app_of c ≡ check_app) }
@@ -174,6 +243,33 @@ fn check_command<'a>(alloc: Global) -> Result<Command<'a>, AllocError>
         .about(CHECK)
         .after_help(CHECK_EXAMPLE)
         .arg(path)
+}
+
+/// `letters SCENARIO`
+fn letters_command<'a>(alloc: Global) -> Result<Command<'a>, AllocError>
+    ensures app { IfOk result (λ c. app_of c ≡ letters_app) }
+    ensures local { IfOk result IsLocal }
+{
+    let path = path_argument(alloc);
+    Command::new(alloc, "letters")
+        .about(LETTERS)
+        .after_help(LETTERS_EXAMPLE)
+        .arg(path)
+}
+
+/// `draw SCENARIO --as PICTURE [--from T] [--until T]`
+fn draw_command<'a>(alloc: Global) -> Result<Command<'a>, AllocError>
+    ensures app { IfOk result (λ c. app_of c ≡ draw_app) }
+    ensures local { IfOk result IsLocal }
+{
+    let path = path_argument(alloc);
+    let picture = picture_option(alloc);
+    let command = Command::new(alloc, "draw")
+        .about(DRAW)
+        .after_help(DRAW_EXAMPLE)
+        .arg(path)?
+        .arg(picture)?;
+    with_tick_options(alloc, command)
 }
 
 /// `show SCENARIO --seeds A..=B [--vary KEY=VALUE,..]... [--over KEY=VALUE,..]... --point K [--run J]`
@@ -217,17 +313,38 @@ fn top_command<'a>(alloc: Global) -> Command<'a>
         .subcommand_required(true)
 }
 
+/// A command with those that are about one scenario as it stands.
+fn with_scenario_commands<'a>(
+    alloc: Global,
+    command: Command<'a>,
+) -> Result<Command<'a>, AllocError>
+    ensures app { IfOk result (λ c. app_of c ≡ with_scenario (app_of command.entry)) }
+    ensures local { IsLocal command.entry → IfOk result IsLocal }
+{
+    let check = check_command(alloc)?;
+    let letters = letters_command(alloc)?;
+    let draw = draw_command(alloc)?;
+    command
+        .subcommand(check)?
+        .subcommand(letters)?
+        .subcommand(draw)
+}
+
+/// A command with those that are about a study.
+fn with_study_commands<'a>(alloc: Global, command: Command<'a>) -> Result<Command<'a>, AllocError>
+    ensures app { IfOk result (λ c. app_of c ≡ with_study (app_of command.entry)) }
+    ensures local { IsLocal command.entry → IfOk result IsLocal }
+{
+    let show = show_command(alloc)?;
+    let sweep = sweep_command(alloc)?;
+    command.subcommand(show)?.subcommand(sweep)
+}
+
 /// The command line.
 pub(crate) fn command<'a>(alloc: Global) -> Result<Command<'a>, AllocError>
     ensures app { IfOk result (λ c. app_of c ≡ whole_app) }
     ensures local { IfOk result IsLocal }
 {
-    let check = check_command(alloc)?;
-    let show = show_command(alloc)?;
-    let sweep = sweep_command(alloc)?;
-    let command = top_command(alloc);
-    command
-        .subcommand(check)?
-        .subcommand(show)?
-        .subcommand(sweep)
+    let command = with_scenario_commands(alloc, top_command(alloc))?;
+    with_study_commands(alloc, command)
 }

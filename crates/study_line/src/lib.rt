@@ -1,9 +1,9 @@
 //! What the words of a command line of `fdstudy` ask for.
 //!
-//! [`read_words`] reads the words, of which the first is the program's name, as a simple command: `check`, `show` or
-//! `sweep`, each with its own arguments and options. It answers the [`Order`] that `clap` finds in them, or what is to
-//! be told of words that make none. It stands apart from the program, so that nothing else reads `clap`. The axes, the
-//! seeds and the shard stay texts: the crate `study` reads them.
+//! [`read_words`] reads the words, of which the first is the program's name, as a simple command: `check`, `letters`,
+//! `draw`, `show` or `sweep`, each with its own arguments and options. It answers the [`Order`] that `clap` finds in
+//! them, or what is to be told of words that make none. It stands apart from the program, so that nothing else reads
+//! `clap`. The axes, the seeds and the shard stay texts: the crate `study` reads them.
 //!
 //! The one contract for the layer above is that of [`read_words`] (`specs/Order.antt`): on `Ok` the words state the
 //! order, each of its parts by its own argument. On `Err` they ask for help, or `clap` refuses them for a reason of a
@@ -17,7 +17,7 @@
 mod command;
 mod order;
 
-pub use order::{GridTexts, Order, WordsError, read_words};
+pub use order::{GridTexts, Order, Picture, WordsError, read_words};
 
 #[cfg(test)]
 mod tests;

@@ -2,7 +2,7 @@
 ghost use Rattle.std.specs.Prelude.{◌≡◌, List, IfOk, IfErr, map, codes};
 ghost use Rattle.clap.specs.Words.{Text, rows_of, found_of, subcommand_rows_of, fault_of, HasKind};
 ghost use Rattle.study_line.specs.Commands.{whole_app};
-ghost use Rattle.study_line.specs.Order.{Explains, IsGridAt, IsNumberAt, IsTextAt, Lacks, MayBeNumberAt, States, StatesFound, StatesIn, texts_at};
+ghost use Rattle.study_line.specs.Order.{Explains, IsGridAt, IsNumberAt, IsPictureAt, IsTextAt, Lacks, MayBeNumberAt, MayBeTickAt, States, StatesFound, StatesIn, texts_at};
 
 use crate::command::command;
 use clap::ArgMatches;
@@ -20,6 +20,15 @@ pub struct GridTexts<'a> {
     pub over: Vec<&'a str>,
 }
 
+/// Which picture of a run is drawn.
+#[derive(Clone, Copy, Debug, PartialEq, Eq)]
+pub enum Picture {
+    /// Who suspects whom.
+    Suspicions,
+    /// What went from whom to whom.
+    Letters,
+}
+
 /// What a command line asks for. The path `-` is standard input.
 #[derive(Debug, Drop)]
 pub enum Order<'a> {
@@ -27,6 +36,22 @@ pub enum Order<'a> {
     Check {
         /// Where the scenario file is.
         path: &'a str,
+    },
+    /// To print the letters of the scenario's run.
+    Letters {
+        /// Where the scenario file is.
+        path: &'a str,
+    },
+    /// To draw a picture of the scenario's run.
+    Draw {
+        /// Where the scenario file is.
+        path: &'a str,
+        /// Which picture.
+        picture: Picture,
+        /// The first tick that is drawn, where it is said.
+        from: Option<u32>,
+        /// The tick before which the picture ends, where it is said.
+        until: Option<u32>,
     },
     /// To print the scenario file of one run.
     Show {
@@ -59,6 +84,8 @@ pub enum WordsError {
     Help(String),
     /// `clap` refuses them, and says why.
     Mistake(String),
+    /// `clap` takes them, but no picture is named so.
+    NoPicture(String),
     /// `clap` takes them, but a part of the order is missing.
     Form,
     /// Memory was refused.
@@ -109,6 +136,31 @@ fn number_at(found: &ArgMatches<'_>, id: &str) -> Result<u64, WordsError>
     }
 }
 
+/// The tick of an argument, if it is there.
+fn tick_if_at(found: &ArgMatches<'_>, id: &str) -> Option<u32>
+    ensures { MayBeTickAt id.now (rows_of (found_of found.now)) result }
+{
+    found.get_one::<u32>(id)
+}
+
+/// The picture that an argument names.
+fn picture_at(alloc: Global, found: &ArgMatches<'_>, id: &str) -> Result<Picture, WordsError>
+    ensures stated { IfOk result (IsPictureAt id.now (rows_of (found_of found.now))) }
+    ensures refused { IfErr result (Lacks (IsPictureAt id.now (rows_of (found_of found.now)))) }
+{
+    let word = text_at(found, id)?;
+    if word == "suspicions" {
+        return Ok(Picture::Suspicions);
+    }
+    if word == "letters" {
+        return Ok(Picture::Letters);
+    }
+    match String::from_str(alloc, word) {
+        Ok(word) => Err(WordsError::NoPicture(word)),
+        Err(_) => Err(WordsError::Memory),
+    }
+}
+
 /// Which runs a study has.
 fn read_grid<'a>(alloc: Global, found: &ArgMatches<'a>) -> Result<GridTexts<'a>, WordsError>
     ensures stated { IfOk result (IsGridAt (rows_of (found_of found.now))) }
@@ -128,6 +180,32 @@ fn read_check<'a>(found: &ArgMatches<'a>) -> Result<Order<'a>, WordsError>
 {
     let path = text_at(found, "path")?;
     Ok(Order::Check { path })
+}
+
+/// What `letters` asks for.
+fn read_letters<'a>(found: &ArgMatches<'a>) -> Result<Order<'a>, WordsError>
+    ensures stated { IfOk result (StatesIn (codes "letters") (rows_of (found_of found.now))) }
+    ensures refused { IfErr result (Lacks (StatesIn (codes "letters") (rows_of (found_of found.now)))) }
+{
+    let path = text_at(found, "path")?;
+    Ok(Order::Letters { path })
+}
+
+/// What `draw` asks for.
+fn read_draw<'a>(alloc: Global, found: &ArgMatches<'a>) -> Result<Order<'a>, WordsError>
+    ensures stated { IfOk result (StatesIn (codes "draw") (rows_of (found_of found.now))) }
+    ensures refused { IfErr result (Lacks (StatesIn (codes "draw") (rows_of (found_of found.now)))) }
+{
+    let path = text_at(found, "path")?;
+    let picture = picture_at(alloc, found, "as")?;
+    let from = tick_if_at(found, "from");
+    let until = tick_if_at(found, "until");
+    Ok(Order::Draw {
+        path,
+        picture,
+        from,
+        until,
+    })
 }
 
 /// What `show` asks for.
@@ -175,6 +253,10 @@ fn read_found<'a>(
 {
     if name == "check" {
         read_check(found)
+    } else if name == "letters" {
+        read_letters(found)
+    } else if name == "draw" {
+        read_draw(alloc, found)
     } else if name == "show" {
         read_show(alloc, found)
     } else if name == "sweep" {
@@ -214,8 +296,9 @@ fn told_of(alloc: Global, error: &clap::Error) -> WordsError
 ///
 /// # Errors
 ///
-/// `Help` where they ask for help, `Mistake` where `clap` refuses them, `Form` where it takes them but a part of the
-/// order is missing, and `Memory`. As `clap` knows which parts must be there, a missing one is a `Mistake`.
+/// `Help` where they ask for help, `Mistake` where `clap` refuses them, `NoPicture` where it takes them but no picture
+/// is named so, `Form` where it takes them but a part of the order is missing, and `Memory`. As `clap` knows which
+/// parts must be there, a missing one is a `Mistake`.
 pub fn read_words<'a>(alloc: Global, words: &'a [&'a str]) -> Result<Order<'a>, WordsError>
     ensures stated { IfOk result (States (map (λ w. w.now) words.entry.now)) }
     ensures refused { IfErr result (Explains (map (λ w. w.now) words.entry.now)) }

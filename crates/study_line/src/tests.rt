@@ -1,15 +1,35 @@
 //! Command lines.
 
-use crate::{GridTexts, Order, WordsError, read_words};
+use crate::{GridTexts, Order, Picture, WordsError, read_words};
 use std::alloc::Global;
 use std::test::Fail;
 
 /// Words that `clap` refuses, apart by one space each, with a part of what it says of them.
-const REFUSED: [(&str, &str); 18] = [
+const REFUSED: [(&str, &str); 26] = [
     ("start -", "unrecognized subcommand 'start'"),
     ("check", "<SCENARIO>"),
     ("check - x", "unexpected argument 'x'"),
     ("check - --seeds 1..=2", "unexpected argument '--seeds'"),
+    ("letters", "<SCENARIO>"),
+    ("letters - --seeds 1..=2", "unexpected argument '--seeds'"),
+    ("draw -", "--as <PICTURE>"),
+    ("draw --as suspicions", "<SCENARIO>"),
+    (
+        "draw - --as suspicions --from x",
+        "invalid value 'x' for '--from",
+    ),
+    (
+        "draw - --as suspicions --from 4294967296",
+        "4294967296 is not in 0..=4294967295",
+    ),
+    (
+        "draw - --as suspicions --until 18446744073709551616",
+        "invalid value '18446744073709551616' for '--until",
+    ),
+    (
+        "draw - --as suspicions --point 1",
+        "unexpected argument '--point'",
+    ),
     ("show - --point 1", "--seeds <A..=B>"),
     ("show - --seeds 1..=2", "--point <K>"),
     ("show --seeds 1..=2 --point 1", "<SCENARIO>"),
@@ -67,6 +87,96 @@ fn checks(rt: HostRuntime) -> Result<(), Fail> {
     let words = ["fdstudy", "check", "-"];
     let order = read_words(rt.alloc(), &words);
     assert!(rt; matches!(order, Ok(Order::Check { path: "-" })));
+    Ok(())
+}
+
+#[test]
+fn letters(rt: HostRuntime) -> Result<(), Fail> {
+    let words = ["fdstudy", "letters", "x.toml"];
+    let order = read_words(rt.alloc(), &words);
+    assert!(rt; matches!(order, Ok(Order::Letters { path: "x.toml" })));
+    Ok(())
+}
+
+/// A picture is of all ticks where none are named.
+#[test]
+fn draws(rt: HostRuntime) -> Result<(), Fail> {
+    let alloc = rt.alloc();
+    let words = ["fdstudy", "draw", "-", "--as", "suspicions"];
+    let order = read_words(alloc, &words);
+    assert!(rt;
+        matches!(
+            order,
+            Ok(Order::Draw {
+                path: "-",
+                picture: Picture::Suspicions,
+                from: None,
+                until: None,
+            })
+        )
+    );
+    let words = [
+        "fdstudy",
+        "draw",
+        "--until=4294967295",
+        "--from",
+        "7",
+        "--as=suspicions",
+        "x.toml",
+    ];
+    let order = read_words(alloc, &words);
+    assert!(rt;
+        matches!(
+            order,
+            Ok(Order::Draw {
+                path: "x.toml",
+                picture: Picture::Suspicions,
+                from: Some(7),
+                until: Some(u32::MAX),
+            })
+        )
+    );
+    Ok(())
+}
+
+/// The two pictures are told apart.
+#[test]
+fn draws_letters(rt: HostRuntime) -> Result<(), Fail> {
+    let words = [
+        "fdstudy",
+        "draw",
+        "x.toml",
+        "--as",
+        "letters",
+        "--from=0",
+        "--until=1",
+    ];
+    let order = read_words(rt.alloc(), &words);
+    assert!(rt;
+        matches!(
+            order,
+            Ok(Order::Draw {
+                path: "x.toml",
+                picture: Picture::Letters,
+                from: Some(0),
+                until: Some(1),
+            })
+        )
+    );
+    Ok(())
+}
+
+/// A word that names no picture is told apart, whole.
+#[test]
+fn no_picture(rt: HostRuntime) -> Result<(), Fail> {
+    let alloc = rt.alloc();
+    for word in ["Suspicions", "suspicion", "suspicions,", "letter", "1"] {
+        let line = format!(in alloc; "draw - --as {word}")?;
+        let WordsError::NoPicture(named) = refusal_of(alloc, &line)? else {
+            return Err(Fail::new("another refusal"));
+        };
+        assert_eq!(rt; named.as_str(), word);
+    }
     Ok(())
 }
 
@@ -194,6 +304,14 @@ fn help(rt: HostRuntime) -> Result<(), Fail> {
         ("--help", "Usage: fdstudy", false, false, false),
         ("-h", "Usage: fdstudy", false, false, false),
         ("check --help", "Usage: fdstudy check", false, false, false),
+        (
+            "letters --help",
+            "Usage: fdstudy letters",
+            false,
+            false,
+            false,
+        ),
+        ("draw --help", "Usage: fdstudy draw", false, false, false),
         ("show --help", "Usage: fdstudy show", true, true, false),
         ("sweep --help", "Usage: fdstudy sweep", true, false, true),
         ("help sweep", "Usage: fdstudy sweep", true, false, true),

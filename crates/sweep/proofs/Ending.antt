@@ -1,19 +1,19 @@
 -- How a sweep ends: what went out, and which run was refused.
-use Rattle.std.proofs.Common.{◌≡◌, ℕ, ◌+◌, ◌-◌, ◌*◌, ◌/◌, ◌%◌, ◌<◌, ◌≤◌, ◌⊎◌, ⊎_elim, inl, inr, List, [], ◌++◌, length, take, Option, refl, sym, ap, ◌∙◌, subst, arith, append-nil}
+use Rattle.std.proofs.Common.{◌≡◌, ℕ, ◌+◌, ◌-◌, ◌*◌, ◌/◌, ◌%◌, ◌<◌, ◌≤◌, ⊎_elim, inl, inr, List, [], ◌++◌, length, take, Option, refl, sym, ap, ◌∙◌, subst, arith, append-nil}
 use Rattle.std.specs.List.{Contains, range_with_len}
 use Rattle.std.specs.Prelude.{slice_index_or}
 use Rattle.std.proofs.Math.Nat.{lt_of_mul-lt-mul_right, mul-le-mul_right}
 use Rattle.std.proofs.lemmas.List.FromFn.{length-range_with_len, get_or-range_with_len}
 use Rattle.std.proofs.lemmas.Nat.{div-add-mod', mod_below}
 use Rattle.toml.specs.Data.{Members}
-use Rattle.qos_report.specs.Writing.{Wrote, WrotePart, WroteNothing}
+use Rattle.qos_report.specs.Writing.{Wrote, WrotePart}
 use Rattle.qos_report.proofs.Written.{wrote_both, wrote_then_part}
 use Rattle.study.specs.Grid.{GridRecord, runs}
 use Rattle.study.specs.Shard.{ShardRecord}
 use Rattle.study.specs.declared.error.ReadError.{ReadError}
 use Rattle.sweep.specs.Numbering.{HasScenarioAt, IsFirstRefusal}
-use Rattle.sweep.specs.Outcome.{IsBefore, HasScenario, IsFirstRefused, WroteStudy, WroteFirst, WroteFront, BreaksOff}
-use Rattle.sweep.specs.Progress.{WroteUpTo, WroteFrontUpTo, StopsBelow, HeaderFails}
+use Rattle.sweep.specs.Outcome.{IsBefore, HasScenario, IsFirstRefused, WroteStudy, BreaksOff}
+use Rattle.sweep.specs.Progress.{WroteUpTo, StopsBelow, HeaderFails}
 use Rattle.sweep.specs.RowText.{Text}
 use Rattle.sweep.specs.StudyText.{header_of, numbers_of, HasRowsOf}
 use Rattle.sweep.specs.declared.error.SweepError.{SweepError}

@@ -14,3 +14,4 @@ mod OneRow
 mod OneText
 mod Shards
 mod Ending
+mod InTurn

@@ -1,6 +1,6 @@
 -- What a row tells is told by the runs alone.
-use Rattle.std.proofs.Common.{◌≡◌, ℕ, ◌≤◌, ◌++◌, List, [], length, Option, None, Some, is_some, cond, refl, sym, ap, ◌∙◌, subst, arith}
-use Rattle.std.specs.List.{All, Contains, list_any}
+use Rattle.std.proofs.Common.{◌≡◌, ℕ, ◌≤◌, ◌++◌, List, [], Option, None, Some, is_some, cond, refl, sym, ap, ◌∙◌, subst, arith}
+use Rattle.std.specs.List.{Contains, list_any}
 use Rattle.std.proofs.lemmas.List.Elements.{All-contains}
 use Rattle.judges.specs.declared.outcomes.Outcome.{Outcome}
 use Rattle.qos_report.specs.declared.pair_measures.PairMeasures.{PairMeasures}

@@ -1,11 +1,11 @@
 -- The texts of shards, one after the other.
-use Rattle.std.proofs.Common.{◌≡◌, ℕ, zero, suc, ◌+◌, ◌-◌, ◌<◌, ◌≤◌, ◌++◌, ◌==◌, List, [], ◌∷◌, length, refl, sym, ap, ◌∙◌, subst, arith, append_assoc, append-nil, Bool, true, false, cond, eqb, ◌≢◌, ◌⊎◌, ⊎_elim}
+use Rattle.std.proofs.Common.{◌≡◌, ℕ, zero, suc, ◌+◌, ◌≤◌, ◌++◌, List, [], ◌∷◌, length, refl, sym, ap, ◌∙◌, subst, arith, append_assoc, append-nil, Bool, true, false, cond, eqb, ◌≢◌, ⊎_elim}
 use Rattle.std.proofs.lemmas.Bool.Decides.{eqb_tells}
 use Rattle.std.specs.List.{AllZip, flat_map, range_with_len}
 use Rattle.std.proofs.lemmas.Grind.{flat_map-append}
 use Rattle.toml.specs.Data.{Members}
 use Rattle.study.specs.Grid.{GridRecord, points, keys}
-use Rattle.study.specs.Shard.{ShardRecord, block}
+use Rattle.study.specs.Shard.{ShardRecord}
 use Rattle.study.proofs.Blocks.{all_blocks}
 use Rattle.sweep.specs.RowText.{Text, header_text}
 use Rattle.sweep.specs.StudyText.{header_of, numbers_of, AreRowsOf, HasRowsOf, IsStudyText, ShardsMakeWhole}

@@ -1,11 +1,11 @@
 -- The answers of columns as they are taken, that for the highest number first.
-use Rattle.std.proofs.Common.{◌≡◌, ℕ, ◌+◌, ◌-◌, ◌*◌, ◌/◌, ◌%◌, ◌<◌, ◌≤◌, ◌≢◌, ◌⊎◌, ⊎_elim, List, [], ◌∷◌, ◌++◌, length, set, get_or, reverse, true, false, eqb, arith, sym, ap, subst, ◌∙◌, length-append}
+use Rattle.std.proofs.Common.{◌≡◌, ℕ, ◌+◌, ◌-◌, ◌/◌, ◌%◌, ◌<◌, ◌≢◌, ⊎_elim, List, [], ◌∷◌, ◌++◌, length, set, reverse, true, false, eqb, arith, sym, ap, subst, ◌∙◌, length-append}
 use Rattle.std.specs.Prelude.{slice_index_or}
 use Rattle.std.specs.Global.{Vec}
 use Rattle.std.proofs.lemmas.Bool.Decides.{eqb_tells}
 use Rattle.std.proofs.lemmas.List.{get_or-set_same, get_or-set_other, get_or_default, get_or_push, get_or_append_left, length-set, get_or-reverse, length-reverse}
 use Rattle.std.proofs.lemmas.Nat.{mod_below}
-use Rattle.sweep.specs.Parallel.{IsColumn, AreColumns, AreInOrder}
+use Rattle.sweep.specs.Parallel.{IsColumn, AreInOrder}
 use Rattle.sweep.proofs.Dealt.{last_length, other_column, shorter_column}
 
 module _ {T : Type 0} (count step : ℕ) (begun : List (Vec T)) where

@@ -1,5 +1,5 @@
 -- What a sweep leaves of an outlet.
-use Rattle.std.specs.Prelude.{◌≡◌, ◌⊎◌, ◌<◌, ℕ, false, List, [], take, length, get_or, Option, Contains}
+use Rattle.std.specs.Prelude.{◌≡◌, ◌⊎◌, ◌<◌, ℕ, false, [], take, length, get_or, Option, Contains}
 use Rattle.toml.specs.Data.{Members}
 use Rattle.qos_report.specs.Writing.{Wrote, WrotePart, WroteNothing}
 use Rattle.scenario.specs.Record.{Record}

@@ -1,6 +1,6 @@
 -- How far a sweep has come.
-use Rattle.std.specs.Prelude.{◌≡◌, ◌⊎◌, ℕ, ◌+◌, ◌-◌, ◌≤◌, ◌<◌, List, length, take, Option}
-use Rattle.std.specs.List.{AllZip, flat_map, range_with_len}
+use Rattle.std.specs.Prelude.{ℕ, ◌-◌, ◌≤◌, ◌<◌, List, length, take, Option}
+use Rattle.std.specs.List.{AllZip, range_with_len}
 use Rattle.toml.specs.Data.{Members}
 use Rattle.qos_report.specs.Writing.{Wrote, WrotePart, WroteNothing}
 use Rattle.study.specs.Grid.{GridRecord, runs}

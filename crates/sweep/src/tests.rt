@@ -1,4 +1,8 @@
-//! Sums and rows by hand.
+//! Sums and rows by hand, and sweeps of small studies.
+mod laws;
+mod parallel;
 mod rows;
+mod studies;
 mod sums;
+mod sweeps;
 mod times;

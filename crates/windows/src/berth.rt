@@ -11,7 +11,7 @@ ghost use Rattle.windows.specs.Machine.{for_self};
 ghost use Rattle.windows.specs.Refusals.{IsRefusalOfOne};
 
 use crate::agenda::Agenda;
-use event_list::{Pending, RunError, Seat};
+use event_list::{Nobody, Pending, RunError, Seat};
 use mailboxes::{SharedMailboxes, Slip};
 use process_api::{Action, Entry, Key, Letter, Pid, Process, StepInput};
 use scenario::Scenario;
@@ -149,7 +149,14 @@ impl<M: Process> Berth<M> {
         let own = key.receiver;
         self.added.clear();
         let seat = &mut self.seat;
-        let entry = seat.turn(streams, key, input, &mut self.actions, &mut self.added)?;
+        let entry = seat.turn(
+            streams,
+            key,
+            input,
+            &mut self.actions,
+            &mut self.added,
+            &mut Nobody,
+        )?;
         let pending = &mut self.pending;
         hand_on_all(rt, own, pending, mailboxes, slip, &mut self.added)?;
         self.part.push(entry)?;

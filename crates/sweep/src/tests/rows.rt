@@ -8,9 +8,17 @@ use std::alloc::Global;
 use std::test::Fail;
 use study::{Axis, Choice, Key, Setting};
 
-/// Two processes over 10 ticks, of which the second crashes at tick 3, with these keys and tables.
-pub(super) fn crash_at_3(alloc: Global, keys: &str, tables: &str) -> Result<Scenario, Fail> {
-    let text = format!(in alloc;
+/// The first line after the names of the varied keys.
+pub(super) const HEADER: &str =
+    "layer,runs,limited,entries,sent,lost,pair_ticks,mistakes,mistake_ticks,recurrence_sum,\
+     recurrence_count,duration_sum,duration_count,good_sum,good_count,detections,undetected,detection_sum,\
+     detection_p50,detection_p90,detection_p99,detection_max,strong_completeness,weak_completeness,\
+     strong_accuracy,weak_accuracy,eventual_strong_accuracy,eventual_weak_accuracy,decided,decision_tick_sum,\
+     decision_tick_max,rounds_max,disagreements\n";
+
+/// The text of a file: two processes over 10 ticks, of which the second crashes at tick 3, with these keys and tables.
+pub(super) fn crash_text(alloc: Global, keys: &str, tables: &str) -> Result<String, Fail> {
+    Ok(format!(in alloc;
         "version = 1
 processes = 2
 horizon = 10
@@ -30,7 +38,12 @@ process = 2
 at = 3
 {tables}
 "
-    )?;
+    )?)
+}
+
+/// The scenario of that file.
+pub(super) fn crash_at_3(alloc: Global, keys: &str, tables: &str) -> Result<Scenario, Fail> {
+    let text = crash_text(alloc, keys, tables)?;
     Ok(read_scenario(alloc, text.as_bytes())?)
 }
 

@@ -1,19 +1,16 @@
-use Rattle.std.proofs.Common.{refl, rules, get_or, [], false}
-use Rattle.scenario.specs.Parts.{field_of}
-use Rattle.scenario.specs.declared.field.Field.{Field}
-use Rattle.scenario.specs.declared.field.Kind.TheVariants.{Number}
-use Rattle.diagnosis.proofs.Elements.{contains_image}
+use Rattle.std.proofs.Common.{◌≡◌, get_or}
+use Rattle.diagnosis.specs.Likeness.{edits}
+use Rattle.diagnosis.proofs.Likenesses.{no_field, nearer, farther, ended}
 use Rattle.diagnosis.proofs.keys.most_alike.Goals as goal
-
-abbrev no_field : Field
-no_field = record { key = record { ref_ptr = (0, 0); now = [] }; kind = Number; needed = false }
+use Rattle.diagnosis.proofs.keys.most_alike.Goals.{then-edits-least, else-edits-least}
 
 pub loop-field-preserved : goal.loop-field-preserved
-loop-field-preserved c = record {
-  listed = record {
-    field = field_of (get_or c.args.fields.now c.loop-field.field-index no_field);
-    listed = contains_image field_of c.args.fields.now c.loop-field.field-index no_field c.loop-field-test.true;
-    named = refl;
-  };
-  missing = search rules;
-}
+loop-field-preserved c =
+    let counted : c.in_ok-edits.edits ≡ edits c.args.key.now (get_or c.args.fields.now c.loop-field.field-index no_field).key.now = c.in_ok-edits.ensures in
+    elim c.if-edits-least.branch [
+      | then-edits-least w ↦ rw (w.best-is, w.least-is) (nearer c.args.fields.now c.loop-field.field-index c.args.key.now c.loop-field.best c.loop-field.least c.in_ok-edits.edits c.loop-field-test.true counted w.if-edits-least.true c.loop-field.invariant)
+      | else-edits-least w ↦ rw (w.best-is, w.least-is) (farther c.args.fields.now c.loop-field.field-index c.args.key.now c.loop-field.best c.loop-field.least c.in_ok-edits.edits counted w.if-edits-least.false c.loop-field.invariant)
+    ]
+
+pub returns : goal.returns
+returns c = ended c.args.fields.now c.loop-field.field-index c.args.key.now c.loop-field.best c.loop-field.least c.loop-field-test.false c.loop-field.invariant

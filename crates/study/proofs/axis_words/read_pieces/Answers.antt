@@ -1,8 +1,7 @@
-use Rattle.std.proofs.Common.{◌≡◌, ◌<◌, ◌≤◌, ◌+◌, [], List, ℕ, Bor, Some, false, map, length, arith}
+use Rattle.std.proofs.Common.{◌≡◌, ◌≤◌, [], List, ℕ, Bor, Some, false, map, length, arith}
 use Rattle.std.proofs.lemmas.List.{length-map}
-use Rattle.std.specs.List.{flat_map}
 use Rattle.study.specs.Settings.{given_by}
-use Rattle.study.specs.AxisWords.{values, first_fault, pieces_said, piece_said, is_memory}
+use Rattle.study.specs.AxisWords.{first_fault, pieces_said, is_memory}
 use Rattle.study.proofs.KeyNames.{carried}
 use Rattle.study.proofs.Pieces.{fault_at, no_fault_at, values_at, adds_length, all_faults, all_values}
 use Rattle.study.proofs.axis_words.read_pieces.Goals as goal

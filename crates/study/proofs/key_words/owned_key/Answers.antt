@@ -1,7 +1,6 @@
-use Rattle.std.proofs.Common.{◌≡◌, false, None, Some, refl, ◌∙◌, sym, ap, string_bytes, lit<}
+use Rattle.std.proofs.Common.{◌≡◌, false, Some, refl, ◌∙◌, ap, string_bytes, lit<}
 use Rattle.std.proofs.lemmas.Str.Pattern.{split_parts}
 use Rattle.study.specs.KeyWords.{is_name, IsOwner, is_memory}
-use Rattle.study.specs.declared.error.KeyError.{KeyError}
 use Rattle.study.specs.declared.error.KeyError.TheVariants as error
 use Rattle.study.proofs.KeyNames.{carried, no_table, no_array, no_place, element_written}
 use Rattle.study.proofs.key_words.owned_key.Goals as goal

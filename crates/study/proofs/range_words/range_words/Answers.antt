@@ -1,4 +1,4 @@
-use Rattle.std.proofs.Common.{◌≡◌, ◌∙◌, sym}
+use Rattle.std.proofs.Common.{◌∙◌, sym}
 use Rattle.study.proofs.Ranges.{range_found, range_missing}
 use Rattle.study.proofs.range_words.range_words.Goals as goal
 

@@ -1,4 +1,3 @@
-use Rattle.std.proofs.Common.{◌≡◌}
 use Rattle.study.proofs.Numerals.{integer_read}
 use Rattle.study.proofs.words.integer_in.Goals as goal
 

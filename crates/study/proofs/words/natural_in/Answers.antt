@@ -1,4 +1,3 @@
-use Rattle.std.proofs.Common.{◌≡◌}
 use Rattle.study.proofs.Numerals.{natural_read}
 use Rattle.study.proofs.words.natural_in.Goals as goal
 

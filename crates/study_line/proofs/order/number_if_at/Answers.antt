@@ -7,5 +7,5 @@ pub returns : goal.returns
 returns c =
     let f = found_of c.args.found.now in
     let id = c.args.id.now in
-    read_number id _ (one_text f id) (one_text-rows f id) c.get_one.result
+    read_number 64 id _ (one_text f id) (one_text-rows f id) c.get_one.result
     c.get_one.ensures.none c.get_one.ensures.value

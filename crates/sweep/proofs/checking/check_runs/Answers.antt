@@ -1,4 +1,4 @@
-use Rattle.std.proofs.Common.{rules, ◌≡◌, ◌≤◌, ◌<◌, ◌+◌, ◌-◌, ◌*◌, ℕ, Bool, true, arith}
+use Rattle.std.proofs.Common.{rules, ◌≡◌, ◌≤◌, ◌<◌, ◌+◌, ℕ, Bool, true}
 use Rattle.std.specs.Prelude.{slice_index_or}
 use Rattle.toml.specs.View.{table_view}
 use Rattle.sweep.specs.Numbering.{HasScenarioAt}

@@ -1,4 +1,4 @@
-use Rattle.std.proofs.Common.{◌≡◌, ◌≤◌, ◌<◌, ◌+◌, ◌*◌, ℕ, vec_len}
+use Rattle.std.proofs.Common.{◌≡◌, ◌<◌, ◌+◌, ◌*◌, ℕ, vec_len}
 use Rattle.std.specs.Prelude.{slice_index_or}
 use Rattle.std.specs.Fn.{FnReturns}
 use Rattle.sweep.proofs.parallel.answer_every.Given as goal

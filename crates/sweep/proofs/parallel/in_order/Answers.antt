@@ -1,4 +1,4 @@
-use Rattle.std.proofs.Common.{rules, ◌≡◌, ℕ, ◌+◌, ◌-◌, ◌%◌, ◌<◌, ◌≤◌, length, set, vec_len, List, [], ◌∷◌, ◌++◌, reverse, arith, sym, subst}
+use Rattle.std.proofs.Common.{rules, ◌≡◌, ℕ, ◌+◌, ◌-◌, ◌%◌, ◌<◌, length, set, List, [], ◌∷◌, ◌++◌, reverse, arith, sym, subst}
 use Rattle.sweep.specs.Parallel.{AreInOrder}
 use Rattle.sweep.proofs.Taking.{IsTaking, filled, takes, taken}
 use Rattle.sweep.proofs.parallel.in_order.Goals as goal

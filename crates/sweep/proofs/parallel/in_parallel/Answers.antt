@@ -1,5 +1,4 @@
-use Rattle.std.proofs.Common.{rules, ◌≡◌, ℕ, ◌<◌, Result, Ok, Err, IfOk, slice_index_or, arith}
-use Rattle.std.specs.Global.{Vec}
+use Rattle.std.proofs.Common.{rules, ℕ, ◌<◌, Result, Ok, Err, IfOk, slice_index_or}
 use Rattle.sweep.specs.Parallel.{AreEvery, AreInOrder, AreAnswers}
 use Rattle.sweep.proofs.Dealt.{are_columns, are_answers}
 use Rattle.sweep.proofs.parallel.in_parallel.Goals as goal

@@ -1,12 +1,10 @@
-use Rattle.std.proofs.Common.{rules, ◌≡◌, ℕ, ◌-◌, ◌*◌, ◌≤◌, length, arith, ap, subst}
+use Rattle.std.proofs.Common.{rules, ◌≡◌, ◌-◌, ◌*◌, ◌≤◌, length, arith}
 use Rattle.std.specs.List.{range_with_len}
 use Rattle.std.proofs.lemmas.Result.{IfOk-weaker, MatchResult-weaker}
 use Rattle.toml.specs.View.{table_view}
-use Rattle.qos_report.specs.Writing.{Wrote}
-use Rattle.study.specs.Grid.{points, runs}
+use Rattle.study.specs.Grid.{runs}
 use Rattle.sweep.specs.Numbering.{IsFirstRefusal}
-use Rattle.sweep.specs.Progress.{WroteUpTo, StopsBelow}
-use Rattle.sweep.specs.StudyText.{numbers_of, header_of}
+use Rattle.sweep.specs.StudyText.{numbers_of}
 use Rattle.sweep.proofs.Reading.{if_err}
 use Rattle.sweep.proofs.Ending.{breaks_at_check, breaks_at_header, wrote_study, breaks_at_points}
 use Rattle.sweep.proofs.sweeping.sweep.Goals as goal

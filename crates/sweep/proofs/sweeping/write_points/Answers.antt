@@ -1,10 +1,9 @@
-use Rattle.std.proofs.Common.{rules, ◌≡◌, ℕ, ◌+◌, ◌-◌, ◌*◌, ◌<◌, ◌≤◌, List, [], length, take, arith, sym, ap, subst}
-use Rattle.std.specs.Prelude.{slice_index_or}
+use Rattle.std.proofs.Common.{rules, ◌≡◌, ℕ, ◌+◌, ◌*◌, ◌≤◌, List, [], length, take, arith, sym, ap, subst}
 use Rattle.std.specs.List.{AllZip}
 use Rattle.std.proofs.Math.Nat.{mul-le-mul_right}
 use Rattle.toml.specs.View.{table_view}
 use Rattle.qos_report.proofs.Written.{wrote_nothing}
-use Rattle.study.specs.Grid.{points, runs}
+use Rattle.study.specs.Grid.{runs}
 use Rattle.sweep.specs.Numbering.{AreAnswersFrom}
 use Rattle.sweep.specs.Progress.{WroteUpTo}
 use Rattle.sweep.specs.StudyText.{IsTrialOf, point_at}

@@ -5,7 +5,7 @@ use Rattle.event_list.specs.ScenarioSetting.{setting_of}
 use Rattle.event_list.specs.Seat.{count_of}
 use Rattle.std.proofs.lemmas.List.{length-set}
 use Rattle.event_list.proofs.Joining.{joined_next}
-use Rattle.event_list.proofs.Performing.{one_counted, one_added, one_lost, one_sent, one_noted, counted-le, rest_allowed, lost_by-le, sent_by-le, drop_at}
+use Rattle.event_list.proofs.Performing.{one_counted, one_added, one_posted, one_lost, one_sent, one_noted, counted-le, rest_allowed, lost_by-le, sent_by-le, drop_at}
 use Rattle.event_list.proofs.links.Links.perform.Goals as goal
 
 pub loop-place-preserved : goal.loop-place-preserved
@@ -31,6 +31,7 @@ loop-place-preserved h c =
       horizon = done.horizon ∙ i.horizon;
       room = λ q. omega (arith, ap (λ (k : ℕ → ℕ). k q) done.counts, counted-le p f a q, i.room q, shorter);
       added = joined_next h.J.Joins.grown _ _ _ _ _ _ _ done.added i.added (one_added S p now rest left a e f g done.counts _ _ _ refl i.added.whole);
+      heard = joined_next h.L.Listener.heard _ _ _ _ _ _ _ done.heard i.heard (one_posted S p now rest left a e f g done.counts _ _ _ refl i.heard.whole);
       sent = one_sent rest left a e _ _ _ (ap (λ n. c.loop-place.sent + n) done.sent) i.sent;
       lost = one_lost S p now rest left a e f g done.counts _ _ _ (ap (λ n. c.loop-place.lost + n) done.lost) i.lost;
       notes = one_noted rest left a e _ _ _ done.notes i.notes;

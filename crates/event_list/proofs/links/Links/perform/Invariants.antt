@@ -3,6 +3,7 @@ use Rattle.std.specs.List.{AllByRecursion}
 use Rattle.std.specs.Prelude.{drop}
 use Rattle.process_api.specs.Actions.{IsAllowed}
 use Rattle.event_list.specs.ScenarioSetting.{setting_of}
+use Rattle.event_list.specs.Posting.{posted_by}
 use Rattle.event_list.specs.Seat.{count_of}
 use Rattle.event_list.specs.Step.{counts_after, added, sent, lost, noted}
 use Rattle.event_list.proofs.Joining.{Joined}
@@ -25,6 +26,7 @@ invariant-loop-place g l =
       horizon : l.self.horizon ≡ l.fn.streams.horizon;
       room : (q : ℕ) → here q + length rest ≤ before q + length all;
       added : Joined g.J.Joins.grown l.fn.added l.added (added S p now here rest) (added S p now before all);
+      heard : Joined g.L.Listener.heard l.fn.listener l.listener (posted_by S p now here rest) (posted_by S p now before all);
       sent : l.sent + sent rest ≡ sent all;
       lost : l.lost + lost S p now here rest ≡ lost S p now before all;
       notes : l.notes.items ++ noted rest ≡ noted all;

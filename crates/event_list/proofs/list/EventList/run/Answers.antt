@@ -3,11 +3,14 @@ use Rattle.std.specs.List.{All}
 use Rattle.std.proofs.lemmas.List.{length-map}
 use Rattle.process_api.specs.Bounds.{most_step_actions}
 use Rattle.process_api.specs.Mind.{Mind}
+use Rattle.event_list.specs.Joins.{HaveJoined}
+use Rattle.event_list.specs.Posting.{posted_in}
 use Rattle.event_list.specs.ScenarioSetting.{setting_of}
 use Rattle.event_list.specs.Seat.{process_of, IsSeated}
 use Rattle.event_list.specs.Setting.{IsProcess}
 use Rattle.event_list.specs.Standing.{IsStepped}
 use Rattle.event_list.specs.Step.{Process, step}
+use Rattle.event_list.proofs.Joining.{none_joined, joined_then}
 use Rattle.event_list.proofs.Recording.{Going, taken_next, longer, cut_short}
 use Rattle.event_list.proofs.Sound.{setting_sound}
 use Rattle.event_list.proofs.Standing.{first_longer, first_receiver, first_process, first_own, stands_next, stands_end}
@@ -17,7 +20,7 @@ use Rattle.event_list.proofs.list.EventList.run.Goals as goal
 pub loop-self-init : goal.loop-self-init
 loop-self-init g c =
     record {
-      going = record { trace = []; stands = c.requires.opening; long = refl; taken = λ before had. subst (g.R.Recorder.recorded c.args.recorder.now c.args.recorder.now) (sym (append-nil before)) had };
+      going = record { trace = []; letters = []; stands = c.requires.opening; long = refl; taken = λ before had. subst (g.R.Recorder.recorded c.args.recorder.now c.args.recorder.now) (sym (append-nil before)) had; heard = none_joined g.L.Listener.heard c.args.listener.now };
       seated = c.requires.seated;
       count = c.requires.count;
       within = omega arith;
@@ -26,14 +29,14 @@ loop-self-init g c =
 pub returns-then-taken-limit-clause-limit : goal.returns-then-taken-limit-clause-limit
 returns-then-taken-limit-clause-limit g c =
     let going = c.loop-self.invariant.going in
-    λ _ whole is. omega (arith, going.long, c.limit-limit.ensures.value, c.if-taken-limit.true, first_longer _ _ _ _ going.stands _ _ (least_of c.loop-self.self.pending c.in_ok-key.field-0 (c.in-Some.key, c.in-Some.input) c.in-Some.is c.in_ok-key.ensures.least) whole is)
+    λ _ whole is. omega (arith, going.long, c.limit-limit.ensures.value, c.if-taken-limit.true, first_longer _ _ _ _ _ going.stands _ _ (least_of c.loop-self.self.pending c.in_ok-key.field-0 (c.in-Some.key, c.in-Some.input) c.in-Some.is c.in_ok-key.ensures.least) whole is)
 
 pub returns-then-taken-limit-clause-front : goal.returns-then-taken-limit-clause-front
 returns-then-taken-limit-clause-front g c =
     let i = c.loop-self.invariant in
     let s = c.args.scenario.now in
     let all : c.loop-self.taken ≡ s.limit = omega (arith, i.within, c.limit-limit.ensures.value, c.if-taken-limit.true) in
-    λ _. cut_short (setting_of s) _ _ _ _ s.limit (subst (Going (setting_of s) _ _ _ _) all i.going)
+    λ _. cut_short (setting_of s) _ _ _ _ _ s.limit (subst (Going (setting_of s) _ _ _ _ _) all i.going)
 
 pub take-requires-clause-seated : goal.take-requires-clause-seated
 take-requires-clause-seated g c κs within =
@@ -46,11 +49,11 @@ take-requires-clause-count g c κs within =
 
 pub take-requires-clause-receiver : goal.take-requires-clause-receiver
 take-requires-clause-receiver g c κs within =
-    subst (λ s. IsProcess (setting_of s) c.in-Some.key.receiver) (sym c.new-streams.ensures) (first_receiver _ _ _ _ c.loop-self.invariant.going.stands _ _ (least_of c.loop-self.self.pending c.in_ok-key.field-0 (c.in-Some.key, c.in-Some.input) c.in-Some.is c.in_ok-key.ensures.least))
+    subst (λ s. IsProcess (setting_of s) c.in-Some.key.receiver) (sym c.new-streams.ensures) (first_receiver _ _ _ _ _ c.loop-self.invariant.going.stands _ _ (least_of c.loop-self.self.pending c.in_ok-key.field-0 (c.in-Some.key, c.in-Some.input) c.in-Some.is c.in_ok-key.ensures.least))
 
 pub take-requires-clause-own : goal.take-requires-clause-own
 take-requires-clause-own g c κs within =
-    first_own c.args.scenario.now _ _ _ c.loop-self.invariant.going.stands _ _ (least_of c.loop-self.self.pending c.in_ok-key.field-0 (c.in-Some.key, c.in-Some.input) c.in-Some.is c.in_ok-key.ensures.least)
+    first_own c.args.scenario.now _ _ _ _ c.loop-self.invariant.going.stands _ _ (least_of c.loop-self.self.pending c.in_ok-key.field-0 (c.in-Some.key, c.in-Some.input) c.in-Some.is c.in_ok-key.ensures.least)
 
 pub loop-self-preserved : goal.loop-self-preserved
 loop-self-preserved g c =
@@ -60,6 +63,7 @@ loop-self-preserved g c =
     let i = c.loop-self.invariant in
     let ps = map (process_of mind) c.loop-self.self.seats.items in
     let trace = i.going.trace in
+    let letters = i.going.letters in
     let old = c.loop-self.taken in
     let entry = c.in_ok-entry.entry in
     let done = c.in_ok-entry.ensures in
@@ -71,15 +75,21 @@ loop-self-preserved g c =
     let long : length ps ≡ s.processes = omega (arith, i.count, c.loop-self.self.seats.ok.0, length-map c.loop-self.self.seats.items (process_of mind)) in
     let stepped : (p : Process Mind) → slice_get ps (key.receiver - 1) ≡ Some p → IsStepped {S = S} ps later c.take_least.new.self c.take.new.self.pending key entry (step S p key input) =
     subst (λ r. (p : Process Mind) → slice_get ps (key.receiver - 1) ≡ Some p → IsStepped {S = setting_of r} ps later c.take_least.new.self c.take.new.self.pending key entry (step (setting_of r) p key input)) is done.stepped in
+    let heard = g.L.Listener.heard in
+    let told : (p : Process Mind) → slice_get ps (key.receiver - 1) ≡ Some p → HaveJoined heard c.loop-self.listener c.take.new.listener (posted_in S p key input) =
+    subst (λ r. (p : Process Mind) → slice_get ps (key.receiver - 1) ≡ Some p → HaveJoined heard c.loop-self.listener c.take.new.listener (posted_in (setting_of r) p key input)) is done.heard in
     let seated : All (IsSeated mind s (most_step_actions * old + most_step_actions)) c.take.new.self.seats.items =
     subst (λ r. All (IsSeated mind r (most_step_actions * old + most_step_actions)) c.take.new.self.seats.items) is (done.seated (most_step_actions * old) (subst (λ r. All (IsSeated mind r (most_step_actions * old)) c.loop-self.self.seats.items) (sym is) i.seated)) in
     record {
       going = record {
         trace = trace ++ entry ∷ [];
-        stands = stands_next S ps c.loop-self.self.pending trace i.going.stands key input least (setting_sound s c.limit-limit.ensures.ranges) long c.take_least.new.self (removed_of c.loop-self.self.pending c.take_least.new.self c.in_ok-key.field-0 (c.in-Some.key, c.in-Some.input) c.in-Some.is c.in_ok-key.ensures.removed) later _ entry
-            (stepped _ (first_process S ps c.loop-self.self.pending trace i.going.stands key input least));
+        letters = letters ++ posted_in S (i.going.stands.world.process key.receiver) key input;
+        stands = stands_next S ps c.loop-self.self.pending trace letters i.going.stands key input least (setting_sound s c.limit-limit.ensures.ranges) long c.take_least.new.self (removed_of c.loop-self.self.pending c.take_least.new.self c.in_ok-key.field-0 (c.in-Some.key, c.in-Some.input) c.in-Some.is c.in_ok-key.ensures.removed) later _ entry
+            (stepped _ (first_process S ps c.loop-self.self.pending trace letters i.going.stands key input least));
         long = longer trace entry old i.going.long;
         taken = taken_next _ _ (g.R.Recorder.recorded c.args.recorder.now c.record.new.self) trace entry i.going.taken (c.in_ok-record.ensures c.args.recorder.now);
+        heard = joined_then heard c.args.listener.now c.loop-self.listener c.take.new.listener letters _ i.going.heard
+            (told _ (first_process S ps c.loop-self.self.pending trace letters i.going.stands key input least));
       };
       seated = let same : most_step_actions * old + most_step_actions ≡ most_step_actions * (old + 1) = omega arith in subst (λ n. All (IsSeated mind s n) c.take.new.self.seats.items) same seated;
       count = done.count ∙ i.count;
@@ -90,7 +100,15 @@ pub returns-clause-trace : goal.returns-clause-trace
 returns-clause-trace g c =
     let i = c.loop-self.invariant in (
       i.going.trace,
-      stands_end (setting_of c.args.scenario.now) _ _ _ i.going.stands (none_of c.loop-self.self.pending c.in_ok-key.field-0 c.in_default.is c.in_ok-key.ensures.least),
+      (stands_end (setting_of c.args.scenario.now) _ _ _ _ i.going.stands (none_of c.loop-self.self.pending c.in_ok-key.field-0 c.in_default.is c.in_ok-key.ensures.least)).0,
       omega (arith, i.going.long, i.within),
       i.going.taken,
+    )
+
+pub returns-clause-heard : goal.returns-clause-heard
+returns-clause-heard g c =
+    let i = c.loop-self.invariant in (
+      i.going.letters,
+      (stands_end (setting_of c.args.scenario.now) _ _ _ _ i.going.stands (none_of c.loop-self.self.pending c.in_ok-key.field-0 c.in_default.is c.in_ok-key.ensures.least)).1,
+      i.going.heard,
     )

@@ -1,5 +1,6 @@
 use Rattle.std.proofs.Common.{◌≡◌, ◌≤◌, ◌*◌, ◌-◌, map, vec_len}
 use Rattle.std.specs.List.{All}
+use Rattle.event_list.specs.Joins.{HaveJoined}
 use Rattle.event_list.specs.ScenarioSetting.{setting_of}
 use Rattle.event_list.specs.Seat.{process_of, IsSeated}
 use Rattle.event_list.proofs.Recording.{Going}
@@ -11,7 +12,7 @@ invariant-loop-self g l =
     let mind = g.M.Process.mind in
     let recorded = g.R.Recorder.recorded in
     record {
-      going : Going (setting_of l.fn.scenario) (map (process_of mind) l.self.seats.items) l.self.pending (recorded l.fn.recorder l.fn.recorder) (recorded l.fn.recorder l.recorder) l.taken;
+      going : Going (setting_of l.fn.scenario) (map (process_of mind) l.self.seats.items) l.self.pending (recorded l.fn.recorder l.fn.recorder) (recorded l.fn.recorder l.recorder) (HaveJoined g.L.Listener.heard l.fn.listener l.listener) l.taken;
       seated : All (IsSeated mind l.fn.scenario (most_step_actions * l.taken)) l.self.seats.items;
       count : vec_len l.self.seats ≡ l.fn.scenario.processes;
       within : l.taken ≤ l.fn.scenario.limit;

@@ -1,6 +1,8 @@
 use Rattle.std.proofs.Common.{[], refl, ◌≡◌, ◌+◌, ◌-◌, ◌<◌, length, get_or, slice_get, slice_set, map, ap, sym, subst, ◌∙◌, arith}
 use Rattle.std.proofs.lemmas.List.{map-set}
 use Rattle.std.proofs.lemmas.List.Elements.{All-set, All-weaker, All-get_or}
+use Rattle.event_list.specs.Joins.{HaveJoined}
+use Rattle.event_list.specs.Posting.{posted_in}
 use Rattle.event_list.specs.ScenarioSetting.{setting_of}
 use Rattle.event_list.specs.Seat.{process_of, IsSeated}
 use Rattle.event_list.specs.Standing.{IsStepped}
@@ -54,3 +56,17 @@ returns-clause-stepped g c =
       entry_is = c.in_ok-entry.ensures.entry;
       pending = c.in_ok-entry.ensures.added c.args.self.now.pending [] refl;
     })
+
+pub returns-clause-heard : goal.returns-clause-heard
+returns-clause-heard g c =
+    let f = process_of g.M.Process.mind in
+    let S = setting_of c.args.streams.now in
+    let key = c.args.key in
+    let xs = c.args.self.now.seats.items in
+    let i = c.from-place.result - 1 in
+    let old = c.index_mut-seat.result.now in
+    let at : i ≡ key.receiver - 1 = ap (λ n. n - 1) (c.from-place.ensures ∙ c.number.ensures.value) in
+    let there : old ≡ get_or xs i old = c.index_mut-seat.ensures.value in
+    λ before is.
+    let same : f old ≡ before = ap f there ∙ place_is f xs i old before (ap (λ n. slice_get (map f xs) n) at ∙ is) in
+    subst (λ b. HaveJoined g.L.Listener.heard c.args.listener.now c.turn.new.listener (posted_in S b key c.args.input.now)) same c.in_ok-entry.ensures.heard

@@ -1,7 +1,7 @@
-use Rattle.std.proofs.Common.{◌≡◌, ◌==◌, None, Some, true, false, sym, ap, subst, lit<}
+use Rattle.std.proofs.Common.{◌≡◌, None, Some, true, false, subst, lit<}
 use Rattle.std.proofs.lemmas.Str.Pattern.{split_parts, split_once_first}
 use Rattle.study.specs.Settings.{path_of}
-use Rattle.study.specs.Words.{has, before}
+use Rattle.study.specs.Words.{has}
 use Rattle.study.specs.KeyWords.{SaysKey, SaysNoKey}
 use Rattle.study.specs.AxisWords.{first_fault, pieces, SaysNoAxis, no_equals, no_key, no_values, is_memory}
 use Rattle.study.proofs.KeyNames.{carried}

@@ -1,5 +1,4 @@
-use Rattle.std.proofs.Common.{◌≡◌, false, None, Some, ◌∙◌, sym, ap}
-use Rattle.study.specs.KeyWords.{is_name, IsOwner, SaysNoKey}
+use Rattle.study.specs.KeyWords.{SaysNoKey}
 use Rattle.study.proofs.KeyNames.{carried, top_refused, owned_refused}
 use Rattle.study.proofs.key.Key.parse.Goals as goal
 

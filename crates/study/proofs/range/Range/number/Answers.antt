@@ -1,4 +1,4 @@
-use Rattle.std.proofs.Common.{◌≡◌, ◌*◌, ◌≤ℤ◌, ◌-ℤ◌, pos, ◌∙◌, ap, arith, w64, rules}
+use Rattle.std.proofs.Common.{◌≡◌, ◌*◌, pos, ◌∙◌, ap, arith, w64, rules}
 use Rattle.std.proofs.lemmas.Int.{ints, to_z-of_z}
 use Rattle.std.specs.Int.RustNames.{FitsSigned, unsigned_abs}
 use Rattle.study.proofs.Ranges.{reached}

@@ -1,10 +1,8 @@
-use Rattle.std.proofs.Common.{rules, ◌≡◌, ℕ, ◌+◌, ◌-◌, ◌*◌, ◌<◌, ◌≤◌, [], length, take, List, ◌∷◌, ◌++◌, arith, sym, subst}
+use Rattle.std.proofs.Common.{rules, ◌≡◌, ℕ, ◌+◌, ◌<◌, [], length, take, ◌∷◌, ◌++◌, arith, sym, subst}
 use Rattle.std.specs.List.{AllZip}
-use Rattle.toml.specs.Data.{Members}
 use Rattle.study.specs.Grid.{runs}
-use Rattle.sweep.specs.Results.{Trial}
 use Rattle.sweep.specs.StudyText.{AreRowsOf, IsTrialOf, point_at}
-use Rattle.sweep.specs.Progress.{IsUnderWay, WroteUpTo}
+use Rattle.sweep.specs.Progress.{WroteUpTo}
 use Rattle.sweep.specs.declared.error.SweepError.TheVariants.{Write}
 use Rattle.sweep.proofs.Reading.{if_err}
 use Rattle.sweep.proofs.Advancing.{more_trials, trials_length, all_trials, wrote_more, wrote_front}

@@ -1,9 +1,6 @@
-use Rattle.std.proofs.Common.{rules, ◌≡◌, ℕ, ◌+◌, ◌*◌, ◌<◌, ◌≤◌, length, Ok, arith}
-use Rattle.std.specs.Prelude.{slice_index_or}
-use Rattle.toml.specs.Data.{Members}
+use Rattle.std.proofs.Common.{rules, ◌+◌, ◌*◌, ◌<◌, length, Ok, arith}
 use Rattle.study.specs.Grid.{runs}
-use Rattle.sweep.specs.Numbering.{AreAnswersFrom, AreNumbersAt}
-use Rattle.sweep.specs.declared.error.SweepError.TheVariants.{Memory}
+use Rattle.sweep.specs.Numbering.{AreNumbersAt}
 use Rattle.sweep.proofs.Reading.{if_err}
 use Rattle.sweep.proofs.Numbered.{point_below}
 use Rattle.sweep.proofs.Advancing.{trial_here, stops_below}

@@ -1,0 +1,83 @@
+#!/bin/bash
+# Runs the built fdstudy where the machine refuses memory and writes, and feeds it bad input, as bench/hostile.sh does with
+# fdbench. Each run has to end by itself, with a status of the program's table, and where that is 0 with the same bytes as
+# with ample means; where there is a C compiler, each single request for memory is refused in turn.
+root=$(CDPATH='' cd -- "$(dirname -- "$0")/.." && pwd) || exit 1
+"$root/fdstudy" --help > /dev/null || exit 1
+folder=$(mktemp -d) || exit 1
+trap 'rm -r "$folder"' EXIT
+cp "$root/crates/fdstudy/out/fdstudy" "$root/examples/one_crash.toml" "$folder"
+fdstudy="$folder/fdstudy"
+file="$folder/one_crash.toml"
+grid="--seeds 1..=2 --vary detector.timeout=5,8"
+orders=("check" "letters" "draw --as suspicions" "draw --as letters" "show $grid --point 2" "sweep $grid --threads 1"
+    "sweep $grid --threads 2")
+# shellcheck source=bench/refusals.sh
+. "$root/bench/refusals.sh"
+
+for place in "${!orders[@]}"; do
+    read -r -a words <<< "${orders[$place]}"
+    "$fdstudy" "${words[0]}" "$file" "${words[@]:1}" > "$folder/ample_$place" || exit 1
+done
+
+# 127 is the system's loader, which found no room for the C library before the program began
+begin "memory refused, from 2.5 MiB on (ulimit -v)" "0 1 2 3 127"
+for ((room = 2500; room <= 60000; room += room / 16)); do
+    for place in "${!orders[@]}"; do
+        read -r -a words <<< "${orders[$place]}"
+        (ulimit -v "$room"; exec $limit "$fdstudy" "${words[0]}" "$file" "${words[@]:1}") > "$folder/out" 2> "$folder/err"
+        ended $? "$folder/ample_$place"
+    done
+done
+end
+
+if cc -shared -fPIC -O1 -o "$folder/refuse.so" "$root/bench/refuse.c" 2> /dev/null; then
+    begin "each request for memory refused in turn" "0 1 2 3"
+    for place in "${!orders[@]}"; do
+        read -r -a words <<< "${orders[$place]}"
+        for ((request = 1; ; request++)); do
+            rm -f "$folder/refused"
+            REFUSE=$request REFUSED=$folder/refused LEFT=$folder/left LD_PRELOAD=$folder/refuse.so \
+                $limit "$fdstudy" "${words[0]}" "$file" "${words[@]:1}" > "$folder/out" 2> "$folder/err"
+            status=$?
+            # beyond the last request
+            [ -e "$folder/refused" ] || break
+            ended "$status" "$folder/ample_$place"
+            held "request $request of ${orders[$place]}"
+        done
+    done
+    end
+fi
+
+begin "writes refused" "4"
+for order in "${orders[@]}"; do
+    read -r -a words <<< "$order"
+    $limit "$fdstudy" "${words[0]}" "$file" "${words[@]:1}" > /dev/full 2> "$folder/err"
+    ended $?
+    $limit "$fdstudy" "${words[0]}" "$file" "${words[@]:1}" >&- 2> "$folder/err"
+    ended $?
+done
+end
+
+begin "standard input closed, endless" "1"
+for order in "${orders[@]}"; do
+    read -r -a words <<< "$order"
+    $limit "$fdstudy" "${words[0]}" - "${words[@]:1}" <&- > "$folder/out" 2> "$folder/err"
+    ended $?
+    $limit "$fdstudy" "${words[0]}" - "${words[@]:1}" < /dev/zero > "$folder/out" 2> "$folder/err"
+    ended $?
+done
+end
+
+# each file has as many bytes as a scenario may have
+bytes=8388608
+begin "files of 8 MiB, each checked in ten seconds" "1"
+for line in '[' 'a=1' '[[crash]]' '#' 'crash = 1'; do
+    yes "$line" | head -c $bytes > "$folder/hostile"
+    timeout 10 "$fdstudy" check "$folder/hostile" > "$folder/out" 2> "$folder/err"
+    ended $?
+done
+end
+
+echo "$wrong wrong"
+[ "$wrong" -eq 0 ]

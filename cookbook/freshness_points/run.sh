@@ -1,0 +1,11 @@
+#!/bin/sh
+# Runs both detectors under many settings, writes out/time_outs.csv and out/freshness.csv, and draws freshness.svg. Wants
+# gnuplot.
+set -eu
+cd "$(dirname "$0")"
+mkdir -p out
+../../fdstudy sweep time_outs.toml --seeds 1..=50 --vary detector.timeout=60..=360:10 \
+    --over 'crash[1].at=90000..=90090:10' > out/time_outs.csv
+../../fdstudy sweep freshness.toml --seeds 1..=50 --vary detector.delta=10..=300:10 \
+    --over 'crash[1].at=90000..=90090:10' > out/freshness.csv
+gnuplot picture.gp > freshness.svg

@@ -1,0 +1,15 @@
+#!/bin/sh
+# Writes the texts of a run and of a study to out/, loads them into out/run.db, asks three questions by SQL, and makes a
+# table of rates by Python. Wants sqlite3 and python3.
+set -eu
+cd "$(dirname "$0")"
+mkdir -p out
+../../fdbench list cluster.toml --print trace > out/trace.csv
+../../fdbench list cluster.toml --print report > out/report.csv
+../../fdstudy letters cluster.toml > out/letters.csv
+../../fdstudy sweep cluster.toml --seeds 1..=20 --vary detector.period=25,50,100 --vary detector.timeout=70..=370:50 \
+    --over 'crash[1].at=15000..=15080:20' > out/study.csv
+rm -f out/run.db
+sqlite3 out/run.db < load.sql
+sqlite3 out/run.db < questions.sql
+python3 rates.py out/study.csv

@@ -1,0 +1,6 @@
+pub mod Stretching
+pub mod Sweeping
+pub mod Entries
+pub mod Joining
+pub mod RowShapes
+pub mod LineShapes

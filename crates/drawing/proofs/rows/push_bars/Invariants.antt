@@ -1,0 +1,8 @@
+use Rattle.std.proofs.Common.{◌≡◌, ◌++◌, map, take}
+use Rattle.drawing.specs.Suspicions.{bar_shape}
+use Rattle.drawing.proofs.rows.push_bars.Given as goal
+
+-- the bars so far
+abbrev pub invariant-loop-bar : goal.invariant-loop-bar
+invariant-loop-bar l =
+    l.shapes.items ≡ l.initial.shapes.items ++ map (bar_shape l.ticks.from l.ticks.until l.class l.top) (take l.bar-index l.bars)

@@ -1,0 +1,18 @@
+use Rattle.std.proofs.Common.{◌∙◌, sym, ap, false}
+use Rattle.drawing.specs.Sweeping.{passed_by}
+use Rattle.drawing.specs.declared.sweep.Sweep.{Sweep}
+use Rattle.drawing.proofs.Sweeping.{closed}
+use Rattle.drawing.proofs.sweep.Sweep.close.Goals as goal
+use Rattle.drawing.proofs.sweep.Sweep.close.Goals.{in-Some+in_ok-push, in_default}
+
+pub returns : goal.returns
+returns c test from h l =
+    let e = closed test from c.args.until c.args.self c.pass.new.self c.in_ok-pass.ensures h l in
+    elim c.match-self.branch [
+      | in-Some+in_ok-push w ↦
+          ap (λ (s : Sweep). s.ended.items) w.self-is ∙ w.in_ok-push.ensures.items
+          ∙ sym (ap (λ r. (passed_by c.args.until false c.pass.new.self.ended.items r).ended) w.in-Some.is) ∙ e
+      | in_default w ↦
+          ap (λ (s : Sweep). s.ended.items) w.self-is
+          ∙ sym (ap (λ r. (passed_by c.args.until false c.pass.new.self.ended.items r).ended) w.in_default.is) ∙ e
+    ]

@@ -1,0 +1,50 @@
+-- The pieces of a picture of letters, of a run and some ticks of it.
+use Rattle.std.specs.Prelude.{ℕ, List, flat_map}
+use Rattle.judges.specs.Out.{suspects}
+use Rattle.letters.specs.declared.letter.Letter.{Letter}
+use Rattle.process_api.specs.Numbers.{numbers_to, others}
+use Rattle.svg.specs.declared.shape.Shape.{Shape}
+use Rattle.drawing.specs.Lanes.{line_of, remark_of}
+use Rattle.drawing.specs.LettersPicture.{upper_layer, turn_class, line_shapes, turns_of, mark_shapes, letters_shapes}
+use Rattle.drawing.specs.Suspicions.{row_end}
+use Rattle.drawing.specs.Sweeping.{stretches}
+use Rattle.drawing.specs.declared.bars.Bar.{Bar}
+use Rattle.drawing.specs.declared.groups.Run.{Run}
+use Rattle.drawing.specs.declared.marks.Spot.{Spot}
+
+-- the stretches of suspicion of a pair
+abbrev pub turn_bars : Run → (q p : ℕ) → List Bar
+turn_bars run q p =
+    stretches (suspects (upper_layer run.scenario.now.share) run.trace.now q p) 0
+    (row_end run.scenario.now run.ticks.until q)
+
+abbrev pub spot_of : Run → (q p : ℕ) → Spot
+spot_of run q p = record {
+  class = turn_class run.scenario.now.share;
+  line = line_of run.scenario.now.processes q;
+  remark = remark_of run.scenario.now.processes q p;
+  end = row_end run.scenario.now run.ticks.until q;
+  subject = p;
+}
+
+unfoldable pub line_in : Run → (q : ℕ) → List Shape
+line_in run q = line_shapes run.scenario.now run.trace.now run.ticks.from run.ticks.until q
+
+abbrev pub lines_in : Run → List Shape
+lines_in run = flat_map (line_in run) (numbers_to run.scenario.now.processes)
+
+unfoldable pub turns_in : Run → (q p : ℕ) → List Shape
+turns_in run q p = turns_of run.scenario.now run.trace.now run.ticks.from run.ticks.until (turn_bars run) q p
+
+abbrev pub turns_of_others : Run → (q : ℕ) → List Shape
+turns_of_others run q = flat_map (turns_in run q) (others run.scenario.now.processes q)
+
+unfoldable pub marks_in : Run → (q : ℕ) → List Shape
+marks_in run q = mark_shapes run.scenario.now run.trace.now run.ticks.from run.ticks.until (turn_bars run) q
+
+abbrev pub all_marks_in : Run → List Shape
+all_marks_in run = flat_map (marks_in run) (numbers_to run.scenario.now.processes)
+
+unfoldable pub letters_in : Run → List Letter → List Shape
+letters_in run letters =
+    letters_shapes run.scenario.now run.trace.now run.ticks.from run.ticks.until (turn_bars run) letters

@@ -1,0 +1,9 @@
+pub mod Bars
+pub mod Sweeping
+pub mod Layout
+pub mod Suspicions
+pub mod Lanes
+pub mod LettersPicture
+pub mod Refusals
+pub mod Drawn
+pub mod LettersDrawn

@@ -1,0 +1,29 @@
+-- Why nothing is drawn.
+use Rattle.std.specs.Prelude.{ℕ, nat_lt, nat_le, ◌&&◌, if◌then◌else◌, Option, None, Some, List, length}
+use Rattle.letters.specs.declared.letter.Letter.{Letter}
+use Rattle.scenario.specs.Record.{Record}
+use Rattle.drawing.specs.LettersPicture.{sent_among}
+use Rattle.drawing.specs.declared.error.DrawError.{DrawError}
+use Rattle.drawing.specs.declared.error.DrawError.TheVariants.{TooManyProcesses, Ticks, TooManyLetters, Memory}
+use Rattle.drawing.specs.declared.layout.TheConstants.{MOST_DRAWN, MOST_LETTERS}
+
+-- of the processes and the ticks asked for the first refusal, if there is one
+abbrev pub refusal : Record → (from until : ℕ) → Option DrawError
+refusal S from until =
+    if nat_lt MOST_DRAWN S.processes then Some TooManyProcesses
+    else if nat_lt from until && nat_le until S.horizon then None
+    else Some Ticks
+
+-- where there is none of these, there is one where too many letters are sent at these ticks
+abbrev pub letters_refusal : Record → List Letter → (from until : ℕ) → Option DrawError
+letters_refusal S letters from until =
+    elim (refusal S from until) [
+      | Some first ↦ Some first
+      | None ↦ if nat_lt MOST_LETTERS (length (sent_among from until letters)) then Some TooManyLetters else None
+    ]
+
+abbrev pub IsMemory : DrawError → Type 0
+IsMemory TooManyProcesses = ⊥
+IsMemory Ticks = ⊥
+IsMemory TooManyLetters = ⊥
+IsMemory (Memory e) = Unit {0}

@@ -1,0 +1,73 @@
+//! Texts of a picture.
+ghost use Rattle.std.specs.Prelude.{◌≡◌, ◌≤◌, ◌<◌, IfOk, string_bytes};
+ghost use Rattle.drawing.specs.Layout.{point};
+ghost use Rattle.drawing.specs.Suspicions.{own_name, pair_name, title, word};
+
+use crate::layout::LEFT;
+use process_api::Pid;
+use std::alloc::{AllocError, Global};
+use svg::{Anchor, Caption, Class, Point, Shape};
+
+/// A text.
+pub(crate) fn text(class: Class, x: u32, y: u32, anchor: Anchor, text: String) -> Shape
+    ensures { result ≡ Shape.Text class (point x y) anchor (string_bytes text) }
+{
+    Shape::Text {
+        class,
+        at: Point { x, y },
+        anchor,
+        caption: Caption::new(text),
+    }
+}
+
+/// A word that is the same in each picture.
+pub(crate) fn word(alloc: Global, x: u32, y: u32, text: &str) -> Result<Shape, AllocError>
+    ensures { IfOk result (λ s. s ≡ word x y text.now) }
+{
+    let caption = Caption::copied(alloc, text)?;
+    Ok(Shape::Text {
+        class: Class::Label,
+        at: Point { x, y },
+        anchor: Anchor::Start,
+        caption,
+    })
+}
+
+/// The name of the row of an observer and another process.
+#[tactic(auto, unfolding(crate::specs::Suspicions::pair_name))]
+pub(crate) fn pair_name(
+    alloc: Global,
+    top: u32,
+    observer: Pid,
+    subject: Pid,
+) -> Result<Shape, AllocError>
+    requires { top ≤ 1100000 }
+    ensures { IfOk result (λ s. s ≡ pair_name top observer subject) }
+{
+    let one = observer.number();
+    let other = subject.number();
+    let name = format!(in alloc; "{one}: {other}")?;
+    Ok(text(Class::Label, LEFT - 10, top + 12, Anchor::End, name))
+}
+
+/// The name of the row of a process itself.
+#[tactic(auto, unfolding(crate::specs::Suspicions::own_name))]
+pub(crate) fn own_name(alloc: Global, top: u32, process: Pid) -> Result<Shape, AllocError>
+    requires { top ≤ 1100000 }
+    ensures { IfOk result (λ s. s ≡ own_name top process) }
+{
+    let number = process.number();
+    let name = format!(in alloc; "process {number}")?;
+    Ok(text(Class::Title, LEFT - 10, top + 12, Anchor::End, name))
+}
+
+/// The title of a picture of some ticks.
+#[tactic(auto, unfolding(crate::specs::Suspicions::title))]
+pub(crate) fn title(alloc: Global, words: &str, from: u32, until: u32) -> Result<Shape, AllocError>
+    requires { from < until }
+    ensures { IfOk result (λ s. s ≡ title words.now from until) }
+{
+    let last = until - 1;
+    let name = format!(in alloc; "{words}, ticks {from} to {last}")?;
+    Ok(text(Class::Title, LEFT, 20, Anchor::Start, name))
+}

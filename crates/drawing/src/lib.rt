@@ -1,0 +1,39 @@
+//! Pictures of a run, as SVG text.
+//!
+//! [`draw_suspicions`] draws who suspects whom. Each process has a group of rows: one line for itself, with its crash
+//! and its decision, and one for each other process, with a bar for each stretch of ticks through which it is
+//! suspected. A stretch is as long as can be within the ticks asked for (`specs/Bars.antt`); the bars of a pair are all
+//! its stretches, each once, in the order of their ticks. Where each shape stands is defined in `specs/Suspicions.antt`
+//! and `specs/Layout.antt`, and the text is that of these shapes.
+//!
+//! What is drawn is small: at most [`MOST_DRAWN`] processes, ticks that the run has. All else is refused by name
+//! ([`DrawError`]).
+//!
+//! As an example, let process 2 of two crash at tick 3 of 10, and process 1 note at tick 9 that it suspects it. In the
+//! picture of ticks 0 to 9 the row `1: 2` has one bar, from tick 9 to the end, and a cross at tick 3.
+#![tactic(auto)]
+
+mod arrows;
+mod axis;
+mod bars;
+mod error;
+mod groups;
+mod labels;
+mod lanes;
+mod layout;
+mod legend;
+mod letters_legend;
+mod letters_picture;
+mod marks;
+mod rows;
+mod suspicions;
+mod sweep;
+
+pub use bars::{Bar, bars_of};
+pub use error::DrawError;
+pub use layout::{MOST_DRAWN, MOST_LETTERS};
+pub use letters_picture::draw_letters;
+pub use suspicions::draw_suspicions;
+
+#[cfg(test)]
+mod tests;

@@ -1,0 +1,206 @@
+//! The marks on the lines of processes: what they decide, and whom they begin to suspect or to trust again.
+ghost use Rattle.std.specs.Prelude.{◌≡◌, ◌++◌, ◌≤◌, OnOk};
+ghost use Rattle.judges.specs.Outcomes.{outcome};
+ghost use Rattle.drawing.specs.Layout.{shown};
+ghost use Rattle.drawing.specs.LettersPicture.{bar_turns, side, turn_shapes, upper_layer, value_shapes};
+
+use crate::bars::{Bar, bars_of};
+use crate::groups::Run;
+use crate::labels::text;
+use crate::lanes::{line_of, remark_of};
+use crate::layout::{LEFT, Ticks, WIDTH};
+use crate::letters_legend::turn_class;
+use judges::{Answer, Outcome};
+use process_api::Pid;
+use scenario::Scenario;
+use std::alloc::{AllocError, Global};
+use svg::{Anchor, Class, Point, Shape};
+
+/// The upper layer of detectors.
+fn upper_layer(share: Option<u32>) -> u8
+    ensures { result ≡ upper_layer share }
+{
+    match share {
+        None => 1,
+        Some(_) => 2,
+    }
+}
+
+/// On which side of its place a text goes.
+fn side(x: u32) -> Anchor
+    ensures { result ≡ side x }
+{
+    if x < LEFT + WIDTH / 2 {
+        Anchor::Start
+    } else {
+        Anchor::End
+    }
+}
+
+/// Where the marks of a pair of processes stand.
+#[derive(Clone, Copy)]
+struct Spot {
+    class: Class,
+    /// Where the observer's line is, from the top.
+    line: u32,
+    /// Where the texts are, from the top.
+    remark: u32,
+    /// The tick at which the observer's line ends.
+    end: u32,
+    subject: Pid,
+}
+
+impl Ticks {
+    /// Appends a mark at a tick, if there is one to show.
+    fn push_turn(
+        &self,
+        alloc: Global,
+        shapes: &mut Vec<Shape>,
+        spot: &Spot,
+        sign: &str,
+        tick: Option<u32>,
+    ) -> Result<(), AllocError>
+        ensures { OnOk result (shapes.new.items ≡ shapes.old.items ++ turn_shapes self.now.from self.now.until
+            spot.now.class spot.now.line spot.now.remark sign.now spot.now.subject tick) }
+    {
+        match tick {
+            None => Ok(()),
+            Some(tick) => {
+                let x = self.x(tick);
+                let number = spot.subject.number();
+                let words = format!(in alloc; "{sign}{number}")?;
+                shapes.push(Shape::Disc {
+                    class: spot.class,
+                    center: Point { x, y: spot.line },
+                    radius: 3,
+                })?;
+                shapes.push(text(Class::Remark, x, spot.remark, Anchor::Middle, words))?;
+                Ok(())
+            }
+        }
+    }
+
+    /// Appends the marks of a stretch of suspicion.
+    fn push_bar_turns(
+        &self,
+        alloc: Global,
+        shapes: &mut Vec<Shape>,
+        spot: &Spot,
+        bar: Bar,
+    ) -> Result<(), AllocError>
+        ensures { OnOk result (shapes.new.items ≡ shapes.old.items ++ bar_turns self.now.from self.now.until
+            spot.now.class spot.now.line spot.now.remark spot.now.end spot.now.subject bar) }
+    {
+        self.push_turn(
+            alloc,
+            shapes,
+            spot,
+            "+",
+            self.shown(spot.end, Some(bar.begin)),
+        )?;
+        self.push_turn(
+            alloc,
+            shapes,
+            spot,
+            "-",
+            self.shown(spot.end, Some(bar.end)),
+        )?;
+        Ok(())
+    }
+
+    /// Appends what a process decides, if there is that to show.
+    fn push_value(
+        &self,
+        alloc: Global,
+        shapes: &mut Vec<Shape>,
+        line: u32,
+        answer: Answer,
+        tick: Option<u32>,
+    ) -> Result<(), AllocError>
+        requires { line ≤ 1100000 }
+        ensures { OnOk result (shapes.new.items
+            ≡ shapes.old.items ++ value_shapes self.now.from self.now.until line answer tick) }
+    {
+        match (answer, tick) {
+            (Answer::Value(value), Some(tick)) => {
+                let x = self.x(tick);
+                let words = format!(in alloc; "decides {value}")?;
+                shapes.push(text(Class::Remark, x, line + 16, side(x), words))?;
+                Ok(())
+            }
+            _ => Ok(()),
+        }
+    }
+}
+
+impl Run<'_> {
+    ghost use Rattle.drawing.specs.LettersDrawn.{marks_in, spot_of, turns_in, turns_of_others};
+
+    /// Where the marks of an observer and a subject stand.
+    fn spot(&self, observer: Pid, subject: Pid) -> Spot
+        ensures { result ≡ spot_of self.now observer subject }
+    {
+        let processes = self.scenario.processes();
+        Spot {
+            class: turn_class(self.scenario.share()),
+            line: line_of(processes, observer),
+            remark: remark_of(processes, observer, subject),
+            end: self.row_end(observer),
+            subject,
+        }
+    }
+
+    /// Appends the marks of an observer and a subject.
+    fn push_pair_turns(
+        &self,
+        alloc: Global,
+        shapes: &mut Vec<Shape>,
+        observer: Pid,
+        subject: Pid,
+    ) -> Result<(), AllocError>
+        ensures { OnOk result (shapes.new.items ≡ shapes.old.items ++ turns_in self.now observer subject) }
+    {
+        let spot = self.spot(observer, subject);
+        let layer = upper_layer(self.scenario.share());
+        for bar in &bars_of(alloc, self.trace, layer, observer, subject, 0, spot.end)? {
+            self.ticks.push_bar_turns(alloc, shapes, &spot, *bar)?;
+        }
+        Ok(())
+    }
+
+    /// Appends the marks of an observer and all others.
+    fn push_turns(
+        &self,
+        alloc: Global,
+        shapes: &mut Vec<Shape>,
+        observer: Pid,
+    ) -> Result<(), AllocError>
+        ensures { OnOk result (shapes.new.items ≡ shapes.old.items ++ turns_of_others self.now observer) }
+    {
+        for before in 0..self.scenario.processes() {
+            let subject = Pid::after(before);
+            if subject != observer {
+                self.push_pair_turns(alloc, shapes, observer, subject)?;
+            }
+        }
+        Ok(())
+    }
+
+    /// Appends the marks of a process.
+    pub fn push_marks(
+        &self,
+        alloc: Global,
+        shapes: &mut Vec<Shape>,
+        observer: Pid,
+        told: &Outcome,
+    ) -> Result<(), AllocError>
+        requires { told.now ≡ outcome self.now.trace.now observer }
+        ensures { OnOk result (shapes.new.items ≡ shapes.old.items ++ marks_in self.now observer) }
+    {
+        let line = line_of(self.scenario.processes(), observer);
+        let tick = self.ticks.shown(self.ticks.until, told.tick);
+        self.ticks
+            .push_value(alloc, shapes, line, told.value, tick)?;
+        self.push_turns(alloc, shapes, observer)
+    }
+}

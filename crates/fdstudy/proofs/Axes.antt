@@ -1,0 +1,30 @@
+-- Axes of words, one after the other.
+use Rattle.std.proofs.Common.{◌≡◌, ℕ, ◌+◌, ◌<◌, List, [], ◌∷◌, ◌++◌, map, length, get_or, take, Bor, sym, subst, add-one}
+use Rattle.std.proofs.Math.Seq.{take-suc}
+use Rattle.std.proofs.lemmas.List.{map-append}
+use Rattle.std.specs.List.{AllZip}
+use Rattle.study.specs.AxisWords.{SaysAxis}
+use Rattle.study.specs.declared.axis.Axis.{Axis}
+
+module _ {A B : Type 0} (R : A → B → Type 0) where
+  -- one more of both
+  zip_push : (xs : List A) (ys : List B) (x : A) (y : B) → AllZip R xs ys → R x y → AllZip R (xs ++ x ∷ []) (ys ++ y ∷ [])
+  zip_push [] [] x y z r = (r, tt)
+  zip_push [] (b ∷ ys) x y z r = absurd z
+  zip_push (a ∷ xs) [] x y z r = absurd z
+  zip_push (a ∷ xs) (b ∷ ys) x y z r = (z.0, zip_push xs ys x y z.1 r)
+
+words_more : (words : List (Bor (List ℕ))) (i : ℕ) (d : Bor (List ℕ)) → i < length words
+    → map (λ w. w.now) (take (i + 1) words) ≡ map (λ w. w.now) (take i words) ++ (get_or words i d).now ∷ []
+words_more words i d within = rw (add-one, take-suc words i d within) (simp map-append)
+
+pub one_more : (words : List (Bor (List ℕ))) (i : ℕ) (d : Bor (List ℕ)) (axes new : List Axis) (axis : Axis) → i < length words
+    → SaysAxis (get_or words i d).now axis → new ≡ axes ++ axis ∷ []
+    → AllZip SaysAxis (map (λ w. w.now) (take i words)) axes
+    → AllZip SaysAxis (map (λ w. w.now) (take (i + 1) words)) new
+one_more words i d axes new axis within says pushed so_far =
+    let P : List (List ℕ) → Type 0 = λ ws. AllZip SaysAxis ws (axes ++ axis ∷ []) in
+    let Q : List Axis → Type 0 = λ l. AllZip SaysAxis (map (λ w. w.now) (take (i + 1) words)) l in
+    let both : P (map (λ w. w.now) (take i words) ++ (get_or words i d).now ∷ []) =
+    zip_push SaysAxis (map (λ w. w.now) (take i words)) axes (get_or words i d).now axis so_far says in
+    subst Q (sym pushed) (subst P (sym (words_more words i d within)) both)

@@ -1,0 +1,3 @@
+pub mod Axes
+pub mod Stopping
+pub mod Answered

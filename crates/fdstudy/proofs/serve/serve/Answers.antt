@@ -1,0 +1,13 @@
+use Rattle.std.proofs.Common.{◌∙◌, sym, inl}
+use Rattle.fdstudy.proofs.Stopping.{at_four, at_three, left_as, part_as}
+use Rattle.fdstudy.proofs.serve.serve.Goals as goal
+
+pub returns-clause-broken : goal.returns-clause-broken
+returns-clause-broken g c four =
+    part_as _ _ _ _ _ _ (λ piece answers. inl (c.in-Ok.order, c.in-Ok.ensures.stated, answers))
+    (at_four _ _ _ _ _ _ c.in-Err-carry_out.fault (sym c.report.ensures.status ∙ four) c.in-Err-carry_out.ensures.stops)
+
+pub returns-clause-left : goal.returns-clause-left
+returns-clause-left g c three =
+    left_as _ _ _ _ _ _ (λ piece leaves. (c.in-Ok.order, c.in-Ok.ensures.stated, leaves))
+    (at_three _ _ _ _ _ _ c.in-Err-carry_out.fault (sym c.report.ensures.status ∙ three) c.in-Err-carry_out.ensures.stops)

@@ -1,0 +1,50 @@
+-- What `draw` answers.
+use Rattle.std.specs.Prelude.{◌≡◌, ℕ, List, Option, None, unwrap_or}
+use Rattle.drawing.specs.LettersPicture.{DrawsLetters}
+use Rattle.drawing.specs.Refusals.{letters_refusal, refusal}
+use Rattle.drawing.specs.Suspicions.{DrawsSuspicions}
+use Rattle.event_list.specs.ScenarioSetting.{setting_of}
+use Rattle.event_list.specs.World.{IsTrace}
+use Rattle.fdstudy.specs.File.{IsScenario}
+use Rattle.letters.specs.Letters.{AreLetters}
+use Rattle.letters.specs.declared.letter.Letter.{Letter}
+use Rattle.process_api.specs.EntryRecord.{EntryRecord}
+use Rattle.scenario.specs.Record.{Record}
+use Rattle.study_line.specs.declared.order.Picture.{Picture}
+use Rattle.study_line.specs.declared.order.Picture.TheVariants as picture
+
+-- the text is the picture of who suspects whom at these ticks of the scenario's run, and nothing speaks against it
+pub record ShowsSuspicions (s : Record) (from until : ℕ) (text : List ℕ) : Type 0 where
+  pub trace : List EntryRecord
+  pub is_trace : IsTrace (setting_of s) trace
+  pub allowed : refusal s from until ≡ None
+  pub draws : DrawsSuspicions s trace from until text
+
+-- the text is the picture of what went from whom to whom at these ticks of the scenario's run, and nothing speaks
+-- against it
+pub record ShowsLetters (s : Record) (from until : ℕ) (text : List ℕ) : Type 0 where
+  pub trace : List EntryRecord
+  pub is_trace : IsTrace (setting_of s) trace
+  pub letters : List Letter
+  pub are_letters : AreLetters s letters
+  pub allowed : letters_refusal s letters from until ≡ None
+  pub draws : DrawsLetters s trace letters from until text
+
+-- the text is that picture of the scenario's run
+abbrev pub Shows : Picture → Record → (from until : ℕ) → List ℕ → Type 0
+Shows picture.Suspicions s from until text = ShowsSuspicions s from until text
+Shows picture.Letters s from until text = ShowsLetters s from until text
+
+-- where nothing is said, a picture begins at tick 0 and ends at the horizon
+abbrev pub first_tick : Option ℕ → ℕ
+first_tick from = unwrap_or from 0
+
+abbrev pub end_of_ticks : Record → Option ℕ → ℕ
+end_of_ticks s until = unwrap_or until s.horizon
+
+-- the piece is the picture of the run of the file's scenario
+pub record IsDrawAnswer (input : Option (List ℕ)) (path : List ℕ) (named : Picture) (from until : Option ℕ)
+    (piece : List ℕ) : Type 0 where
+  pub scenario : Record
+  pub is_scenario : IsScenario input path scenario
+  pub shows : Shows named scenario (first_tick from) (end_of_ticks scenario until) piece

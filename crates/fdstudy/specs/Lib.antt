@@ -1,0 +1,12 @@
+pub mod Fault
+pub mod File
+pub mod Study
+pub mod Runs
+pub mod Check
+pub mod Letters
+pub mod Draw
+pub mod Show
+pub mod Sweep
+pub mod Answer
+pub mod Stop
+pub mod Serve

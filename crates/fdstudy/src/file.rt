@@ -1,0 +1,87 @@
+//! The file that a path names.
+ghost use Rattle.std.specs.Prelude.{◌≡◌, ◌≢◌, ◌+◌, IfOk, IfErr};
+ghost use Rattle.toml.specs.View.{table_view};
+ghost use Rattle.fdstudy.specs.Fault.{IsBefore};
+ghost use Rattle.fdstudy.specs.File.{AreBytes, IsScenario, IsTable};
+ghost use Rattle.sources.specs.Input.{TakesAtMost, input_path, most_bytes};
+
+use crate::fault::Fault;
+use diagnosis::{Diagnosis, diagnose};
+use scenario::{Scenario, read_scenario};
+use sources::{InputError, bytes_at};
+use std::alloc::Global;
+use std::io::Read;
+use std::rt::Files;
+use toml::Table;
+
+/// The bytes of the file at a path; `-` is the input.
+pub(crate) fn bytes_of<R: Files, I: Read>(
+    rt: &R,
+    alloc: Global,
+    path: &str,
+    input: &mut I,
+) -> Result<Vec<u8>, Fault>
+    ensures bytes { IfOk result (λ v. AreBytes (I.remaining input.old) path.now v.items) }
+    ensures refused { IfErr result IsBefore }
+    ensures taken { TakesAtMost (most_bytes + 1) (I.remaining input.old) (I.remaining input.new) }
+    ensures untouched { path.now ≢ input_path → input.new ≡ input.old }
+{
+    let why = match bytes_at(rt, alloc, path, input) {
+        Ok(bytes) => return Ok(bytes),
+        Err(InputError::NoSuchFile) => "no such file",
+        Err(InputError::Unreadable) => "unreadable",
+        Err(InputError::TooLong) => "more than 8388608 bytes",
+        Err(InputError::Memory) => return Err(Fault::Memory),
+    };
+    Err(Fault::Refused(format!(in alloc; "{path}: {why}\n").ok()))
+}
+
+/// Why a file's bytes are refused. Where they aren't, memory was refused before.
+fn refusal_of(alloc: Global, path: &str, bytes: &[u8]) -> Fault
+    ensures { IsBefore result }
+{
+    match diagnose(alloc, bytes) {
+        Ok(Diagnosis::Refused(refused)) => {
+            Fault::Refused(format!(in alloc; "{path}: {refused}\n").ok())
+        }
+        Ok(Diagnosis::Accepted(_)) | Err(_) => Fault::Memory,
+    }
+}
+
+/// The table of the file at a path; `-` is the input.
+pub(crate) fn table_of<R: Files, I: Read>(
+    rt: &R,
+    alloc: Global,
+    path: &str,
+    input: &mut I,
+) -> Result<Table, Fault>
+    ensures table { IfOk result (λ t. IsTable (I.remaining input.old) path.now (table_view t)) }
+    ensures refused { IfErr result IsBefore }
+    ensures taken { TakesAtMost (most_bytes + 1) (I.remaining input.old) (I.remaining input.new) }
+    ensures untouched { path.now ≢ input_path → input.new ≡ input.old }
+{
+    let bytes = bytes_of(rt, alloc, path, input)?;
+    match toml::table_from_slice(alloc, &bytes) {
+        Ok(table) => Ok(table),
+        Err(_) => Err(refusal_of(alloc, path, &bytes)),
+    }
+}
+
+/// The scenario of the file at a path; `-` is the input.
+pub(crate) fn scenario_at<R: Files, I: Read>(
+    rt: &R,
+    alloc: Global,
+    path: &str,
+    input: &mut I,
+) -> Result<Scenario, Fault>
+    ensures scenario { IfOk result (IsScenario (I.remaining input.old) path.now) }
+    ensures refused { IfErr result IsBefore }
+    ensures taken { TakesAtMost (most_bytes + 1) (I.remaining input.old) (I.remaining input.new) }
+    ensures untouched { path.now ≢ input_path → input.new ≡ input.old }
+{
+    let bytes = bytes_of(rt, alloc, path, input)?;
+    match read_scenario(alloc, &bytes) {
+        Ok(scenario) => Ok(scenario),
+        Err(_) => Err(refusal_of(alloc, path, &bytes)),
+    }
+}

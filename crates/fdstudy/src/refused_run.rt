@@ -1,0 +1,51 @@
+//! Why a run of a study is refused.
+ghost use Rattle.std.specs.Prelude.{◌<◌, length};
+ghost use Rattle.study.specs.Grid.{points, runs};
+
+use crate::run_name::RunName;
+use diagnosis::{Diagnosis, diagnose_table};
+use std::alloc::{AllocError, Global};
+use study::{Choice, Grid, PlaceError, Run, run_table};
+use toml::Table;
+
+/// What `check` says of a run's file, or why there is none.
+fn reason_of(
+    alloc: Global,
+    file: &Table,
+    settings: &[Choice<'_>],
+    run: &Run<'_>,
+) -> Result<String, AllocError> {
+    let table = match run_table(alloc, file, settings, run) {
+        Ok(table) => table,
+        Err(PlaceError::Memory(error)) => return Err(error),
+        Err(error) => return format!(in alloc; "{error:?}: {error}"),
+    };
+    match diagnose_table(alloc, &table)? {
+        Diagnosis::Refused(refused) => format!(in alloc; "{refused}"),
+        Diagnosis::Accepted(_) => Err(AllocError),
+    }
+}
+
+/// The line of a run that is refused, of a point, both from 0: its numbers from 1, its settings, and the reason.
+pub(crate) fn line_of_run(
+    alloc: Global,
+    path: &str,
+    file: &Table,
+    grid: &Grid,
+    point: u64,
+    run: u64,
+) -> Result<String, AllocError>
+    requires point { point < length (points grid.now) }
+    requires run { run < length (runs grid.now) }
+{
+    let settings = grid.point(alloc, point)?;
+    let its = grid.run(alloc, run)?;
+    let why = reason_of(alloc, file, &settings, &its)?;
+    let name = RunName {
+        point: point.saturating_add(1),
+        settings,
+        number: run.saturating_add(1),
+        run: its,
+    };
+    format!(in alloc; "{path}: {name}: {why}\n")
+}

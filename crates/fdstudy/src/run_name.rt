@@ -1,0 +1,44 @@
+//! A run of a study, named by its numbers and its settings.
+
+use std::fmt;
+use study::{Choice, Run, Setting};
+
+/// A run, with the settings of its point and its own.
+#[derive(Drop)]
+pub(crate) struct RunName<'a> {
+    /// Which point, from 1.
+    pub point: u64,
+    /// What the varied keys are set to.
+    pub settings: Vec<Choice<'a>>,
+    /// Which run of the point, from 1.
+    pub number: u64,
+    /// What is set besides.
+    pub run: Run<'a>,
+}
+
+/// Writes a key and what it is set to.
+fn write_choice<W: fmt::Write>(f: &mut fmt::Formatter<W>, choice: Choice<'_>) -> fmt::Result {
+    let key = choice.key;
+    match choice.value {
+        Setting::Integer(value) => write!(f, "{key}={value}, "),
+        Setting::Text(value) => {
+            let value = value.as_str();
+            write!(f, "{key}={value}, ")
+        }
+    }
+}
+
+impl fmt::Display for RunName<'_> {
+    /// Writes `run 3 of point 2 with detector.timeout=8, crash[1].at=4, seed=2`.
+    fn fmt<W: fmt::Write>(&self, f: &mut fmt::Formatter<W>) -> fmt::Result {
+        let (point, number, seed) = (self.point, self.number, self.run.seed);
+        write!(f, "run {number} of point {point} with ")?;
+        for choice in &self.settings {
+            write_choice(f, *choice)?;
+        }
+        for choice in &self.run.settings {
+            write_choice(f, *choice)?;
+        }
+        write!(f, "seed={seed}")
+    }
+}

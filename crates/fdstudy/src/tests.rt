@@ -1,0 +1,9 @@
+//! Runs of the program over memory.
+mod files;
+mod letter_rows;
+mod outlets;
+mod pictures;
+mod reports;
+mod runs;
+mod studies;
+mod words;

@@ -1,0 +1,4 @@
+pub mod Ordered
+mod OneStep
+pub mod Coming
+pub mod Only

@@ -1,0 +1,25 @@
+-- What a trace has of the letters between different processes.
+use Rattle.std.specs.Prelude.{◌≡◌, ◌≢◌, ◌⊎◌, Some, List}
+use Rattle.process_api.specs.EntryRecord.{EntryRecord}
+use Rattle.process_api.specs.declared.entry.Kind.TheVariants as kind
+use Rattle.event_list.specs.History.{IsIn}
+use Rattle.letters.specs.declared.letter.Letter.{Letter}
+use Rattle.letters.specs.declared.letter.LetterFate.TheVariants as fate
+
+-- the entry of a letter: it has the letter's key at the tick when the letter is due. Its kind is the letter's where
+-- that was taken, and dead where it is dead
+pub record IsEntryOf (letter : Letter) (entry : EntryRecord) : Type 0 where
+  pub due : letter.due ≡ Some entry.key.tick
+  pub receiver : letter.receiver ≡ entry.key.receiver
+  pub sender : letter.sender ≡ entry.key.sender
+  pub number : letter.number ≡ entry.key.number
+  pub end : ((letter.fate ≡ fate.Taken) × (entry.kind ≡ letter.kind))
+      ⊎ ((letter.fate ≡ fate.Dead) × (entry.kind ≡ kind.Dead))
+
+-- each letter that was taken, or is dead, has its entry in the trace, and each entry of an event that another process
+-- than its receiver caused is of one of the letters
+pub record AreInTrace (trace : List EntryRecord) (told : List Letter) : Type 0 where
+  pub entries : (letter : Letter) → IsIn letter told → (letter.fate ≡ fate.Taken) ⊎ (letter.fate ≡ fate.Dead)
+      → (entry : EntryRecord) × IsIn entry trace × IsEntryOf letter entry
+  pub letters : (entry : EntryRecord) → IsIn entry trace → entry.key.sender ≢ entry.key.receiver
+      → (letter : Letter) × IsIn letter told × IsEntryOf letter entry

@@ -1,0 +1,49 @@
+//! The letters of a run.
+ghost use Rattle.std.specs.Prelude.{◌≡◌, ◌<◌, ◌⊎◌, List, IfOk, IfErr, IsErrOf, length, map};
+ghost use Rattle.process_api.specs.EntryRecord.{EntryRecord};
+ghost use Rattle.process_api.specs.Mind.{Mind};
+ghost use Rattle.process_api.specs.Numbers.{numbers_to};
+ghost use Rattle.scenario.specs.Record.{opening_mind};
+ghost use Rattle.event_list.specs.ScenarioSetting.{setting_of};
+ghost use Rattle.event_list.specs.World.{IsTrace};
+ghost use Rattle.letters.specs.Letters.{AreInOrder, AreLetters};
+ghost use Rattle.letters.specs.Traces.{AreInTrace};
+
+use crate::book::LetterBook;
+use crate::letter::Letter;
+use event_list::{Nobody, RunError, run_list_heard};
+use process_api::Process;
+use scenario::Scenario;
+use std::alloc::Global;
+
+/// Runs machines by the single event list, up to the horizon, and gives the letters that they send to one another:
+/// those of each step of the run, each once, in the order of the steps, which is that of the tick of sending and then
+/// of the sender, and of one step in the order in which it sent them. There is one machine for each process, of process
+/// 1 first, and each opens as the scenario says. Letters to oneself are left out.
+///
+/// # Errors
+///
+/// `Limit` where the whole trace has more entries than the scenario's limit, `Memory` where memory was refused. The
+/// machines are gone then, and there are no letters.
+pub fn letters(
+    alloc: Global,
+    scenario: &Scenario,
+    machines: Vec<Box<dyn Process>>,
+) -> Result<Vec<Letter>, RunError>
+    requires { map mind machines.items ≡ map (opening_mind scenario.now) (numbers_to scenario.now.processes) }
+
+    ensures letters { IfOk result (λ letters. AreLetters scenario.now letters.items) }
+    ensures only { IfOk result (λ letters. (others : List Letter)
+        → AreLetters scenario.now others → others ≡ letters.items) }
+    ensures order { IfOk result (λ letters. AreInOrder letters.items) }
+    ensures trace { IfOk result (λ letters. (trace : List EntryRecord)
+        → IsTrace (setting_of scenario.now) trace → AreInTrace trace letters.items) }
+    ensures errors { IfErr result (λ e. (e ≡ RunError.Limit) ⊎ (e ≡ RunError.Memory)) }
+    ensures limit { IsErrOf result RunError.Limit → (whole : List EntryRecord)
+        → IsTrace (setting_of scenario.now) whole → scenario.now.limit < length whole }
+{
+    let _horizon = scenario.horizon();
+    let mut book = LetterBook::new(alloc, scenario);
+    run_list_heard(alloc, scenario, machines, &mut Nobody, &mut book)?;
+    Ok(book.letters)
+}

@@ -1,0 +1,3 @@
+pub mod Escaping
+pub mod Elements
+pub mod Document
