@@ -15,9 +15,20 @@ use std::test::Fail;
 use std::thread;
 
 /// How often a held worker looks, and yields, before it is let go.
-const TURNS: u32 = 2_000_000;
+const TURNS: u32 = 100_000_000;
 
-/// A gate that holds worker 1 in its first call until worker 2 has made two.
+/// Waits until a count has come to so many.
+fn wait_for(count: &AtomicU64, least: u64) {
+    for _ in 0..TURNS {
+        if count.load(Ordering::SeqCst) >= least {
+            return;
+        }
+        thread::yield_now();
+    }
+}
+
+/// A gate that holds worker 1 in its first call until worker 2 has made two, and worker 2 in its first until worker 1 is
+/// there: else it could take all three before worker 1 has begun.
 #[derive(Drop)]
 struct Holding {
     // how many calls each has made
@@ -29,20 +40,14 @@ struct Holding {
 
 impl Gate for Holding {
     fn entered<R: Wait>(&self, _rt: &R, worker: u16, _pid: Pid) {
-        if worker == 2 {
+        if worker != 1 {
             self.by_second.fetch_add(1, Ordering::SeqCst);
+            wait_for(&self.by_first, 1);
+        } else if self.by_first.fetch_add(1, Ordering::SeqCst) == 0 {
+            wait_for(&self.by_second, 2);
+            let seen = self.by_second.load(Ordering::SeqCst);
+            self.seen.store(seen, Ordering::SeqCst);
         }
-        if worker != 1 || self.by_first.fetch_add(1, Ordering::SeqCst) > 0 {
-            return;
-        }
-        for _ in 0..TURNS {
-            if self.by_second.load(Ordering::SeqCst) >= 2 {
-                break;
-            }
-            thread::yield_now();
-        }
-        let seen = self.by_second.load(Ordering::SeqCst);
-        self.seen.store(seen, Ordering::SeqCst);
     }
 }
 
@@ -100,12 +105,7 @@ impl Gate for Meeting {
             taken.store(number, Ordering::SeqCst);
         }
         self.calls.fetch_add(1, Ordering::SeqCst);
-        for _ in 0..TURNS {
-            if self.calls.load(Ordering::SeqCst) >= 2 {
-                break;
-            }
-            thread::yield_now();
-        }
+        wait_for(&self.calls, 2);
     }
 }
 
