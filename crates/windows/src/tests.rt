@@ -60,6 +60,11 @@ min = 2
 max = 2
 ";
 
+/// The scenario of `COORDINATORS`.
+fn three_coordinators(alloc: Global) -> Result<Scenario, Fail> {
+    Ok(read_scenario(alloc, COORDINATORS.as_bytes())?)
+}
+
 /// Whether two entries are the same.
 fn is_same(a: &Entry, b: &Entry) -> bool {
     a.key == b.key

@@ -66,3 +66,34 @@ pub fn coordinator(
         _ => Err(AllocError),
     }
 }
+
+/// The watchers of all processes, of process 1 first.
+pub fn all_watchers(alloc: Global, scenario: &Scenario) -> Result<Vec<Box<dyn Process>>, AllocError>
+    ensures { IfOk result (λ machines. map mind machines.items
+        ≡ map (opening_mind scenario.now) (numbers_to scenario.now.processes)) }
+{
+    make_all(
+        alloc,
+        scenario,
+        |opening: Opening| -> Result<Box<dyn Process>, AllocError>
+            ensures { IfOk result (λ made. mind made ≡ mind_of opening) }
+        { Ok(Box::new(alloc, watcher(alloc, &opening)?)?) },
+    )
+}
+
+/// The coordinators of all processes, of process 1 first.
+pub fn all_coordinators(
+    alloc: Global,
+    scenario: &Scenario,
+) -> Result<Vec<Box<dyn Process>>, AllocError>
+    ensures { IfOk result (λ machines. map mind machines.items
+        ≡ map (opening_mind scenario.now) (numbers_to scenario.now.processes)) }
+{
+    make_all(
+        alloc,
+        scenario,
+        |opening: Opening| -> Result<Box<dyn Process>, AllocError>
+            ensures { IfOk result (λ made. mind made ≡ mind_of opening) }
+        { Ok(Box::new(alloc, coordinator(alloc, &opening)?)?) },
+    )
+}

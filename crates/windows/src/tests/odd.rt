@@ -1,14 +1,10 @@
 //! Odd schedules: gates that hold workers back until another is at work, each for so many turns at most.
-ghost use Rattle.std.specs.Prelude.{◌≡◌, IfOk};
-ghost use Rattle.scenario.specs.Opening.{mind_of};
 
-use super::machines::{coordinator, make_all};
-use super::{COORDINATORS, are_same};
+use super::machines::all_coordinators;
+use super::{are_same, three_coordinators};
 use crate::{Gate, Plan, run_windows};
 use event_list::run_list;
-use process_api::{Pid, Process};
-use scenario::{Opening, read_scenario};
-use std::alloc::AllocError;
+use process_api::Pid;
 use std::sync::Wait;
 use std::sync::atomic::{AtomicU64, Ordering};
 use std::test::Fail;
@@ -71,24 +67,12 @@ impl Gate for Holding {
 #[test]
 fn held_back(rt: HostRuntime) -> Result<(), Fail> {
     let alloc = rt.alloc();
-    let scenario = read_scenario(alloc, COORDINATORS.as_bytes())?;
-    let machines = make_all(
-        alloc,
-        &scenario,
-        |opening: Opening| -> Result<Box<dyn Process>, AllocError>
-            ensures { IfOk result (λ made. mind made ≡ mind_of opening) }
-        { Ok(Box::new(alloc, coordinator(alloc, &opening)?)?) },
-    )?;
+    let scenario = three_coordinators(alloc)?;
+    let machines = all_coordinators(alloc, &scenario)?;
     let list = run_list(alloc, &scenario, machines)?;
     let plan = Plan::new(&scenario, 3, 2)?;
     for by_worker in [false, true] {
-        let machines = make_all(
-            alloc,
-            &scenario,
-            |opening: Opening| -> Result<Box<dyn Process>, AllocError>
-                ensures { IfOk result (λ made. mind made ≡ mind_of opening) }
-            { Ok(Box::new(alloc, coordinator(alloc, &opening)?)?) },
-        )?;
+        let machines = all_coordinators(alloc, &scenario)?;
         let gate = Holding::new(by_worker);
         let windows = run_windows(&rt, alloc, &scenario, machines, &plan, &gate)?;
         assert!(rt; are_same(windows.entries(), list.entries()));

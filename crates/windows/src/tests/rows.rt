@@ -1,15 +1,11 @@
 //! Windows of worked runs: how many entries and letters each has, and that the order of the calls means nothing.
-ghost use Rattle.std.specs.Prelude.{◌≡◌, IfOk};
-ghost use Rattle.scenario.specs.Opening.{mind_of};
 
 use super::calls::{after_windows, call_window, count_entries, in_given_order};
-use super::machines::{coordinator, make_all, watcher};
-use super::{COORDINATORS, ONE_CRASH, is_same, one_crash};
+use super::machines::{all_coordinators, all_watchers};
+use super::{ONE_CRASH, is_same, one_crash, three_coordinators};
 use crate::{Plan, Stage};
 use event_list::{RunError, run_list};
-use process_api::Process;
-use scenario::{Opening, read_scenario};
-use std::alloc::AllocError;
+use scenario::read_scenario;
 use std::test::Fail;
 
 /// Orders in which the berths of two processes can be called.
@@ -27,13 +23,7 @@ fn entries_and_letters(rt: HostRuntime) -> Result<(), Fail> {
     for order in OF_TWO {
         let mut before: usize = 0;
         for (end, entries, posted) in WINDOWS {
-            let machines = make_all(
-                alloc,
-                &scenario,
-                |opening: Opening| -> Result<Box<dyn Process>, AllocError>
-                    ensures { IfOk result (λ made. mind made ≡ mind_of opening) }
-                { Ok(Box::new(alloc, watcher(alloc, &opening)?)?) },
-            )?;
+            let machines = all_watchers(alloc, &scenario)?;
             let stage = Stage::open(alloc, &scenario, machines)?;
             let stage = after_windows(&rt, alloc, stage, &plan, before)?;
             let (berths, letters) = call_window(&rt, alloc, stage, end, &order)?;
@@ -62,13 +52,7 @@ fn no_room(rt: HostRuntime) -> Result<(), Fail> {
         text.push_str(ONE_CRASH)?;
         let scenario = read_scenario(alloc, text.as_bytes())?;
         let plan = Plan::new(&scenario, 1, 2)?;
-        let machines = make_all(
-            alloc,
-            &scenario,
-            |opening: Opening| -> Result<Box<dyn Process>, AllocError>
-                ensures { IfOk result (λ made. mind made ≡ mind_of opening) }
-            { Ok(Box::new(alloc, watcher(alloc, &opening)?)?) },
-        )?;
+        let machines = all_watchers(alloc, &scenario)?;
         let stage = Stage::open(alloc, &scenario, machines)?;
         let stage = after_windows(&rt, alloc, stage, &plan, 1)?;
         let called = call_window(&rt, alloc, stage, 4, &[1, 2]);
@@ -81,14 +65,8 @@ fn no_room(rt: HostRuntime) -> Result<(), Fail> {
 #[test]
 fn given_order(rt: HostRuntime) -> Result<(), Fail> {
     let alloc = rt.alloc();
-    let scenario = read_scenario(alloc, COORDINATORS.as_bytes())?;
-    let machines = make_all(
-        alloc,
-        &scenario,
-        |opening: Opening| -> Result<Box<dyn Process>, AllocError>
-            ensures { IfOk result (λ made. mind made ≡ mind_of opening) }
-        { Ok(Box::new(alloc, coordinator(alloc, &opening)?)?) },
-    )?;
+    let scenario = three_coordinators(alloc)?;
+    let machines = all_coordinators(alloc, &scenario)?;
     let Stage { berths, .. } = Stage::open(alloc, &scenario, machines)?;
     for (berth, number) in in_given_order(berths, &[2, 3, 1]).iter().zip([2, 3, 1]) {
         assert_eq!(rt; berth.pid().number(), number);
@@ -106,27 +84,15 @@ const ENDS: [u32; 6] = [2, 4, 6, 8, 10, 12];
 #[test]
 fn as_the_list(rt: HostRuntime) -> Result<(), Fail> {
     let alloc = rt.alloc();
-    let scenario = read_scenario(alloc, COORDINATORS.as_bytes())?;
-    let machines = make_all(
-        alloc,
-        &scenario,
-        |opening: Opening| -> Result<Box<dyn Process>, AllocError>
-            ensures { IfOk result (λ made. mind made ≡ mind_of opening) }
-        { Ok(Box::new(alloc, coordinator(alloc, &opening)?)?) },
-    )?;
+    let scenario = three_coordinators(alloc)?;
+    let machines = all_coordinators(alloc, &scenario)?;
     let list = run_list(alloc, &scenario, machines)?;
     let plan = Plan::new(&scenario, 1, 2)?;
     for order in OF_THREE {
         let order = order.as_slice();
         let mut before: usize = 0;
         for end in ENDS {
-            let machines = make_all(
-                alloc,
-                &scenario,
-                |opening: Opening| -> Result<Box<dyn Process>, AllocError>
-                    ensures { IfOk result (λ made. mind made ≡ mind_of opening) }
-                { Ok(Box::new(alloc, coordinator(alloc, &opening)?)?) },
-            )?;
+            let machines = all_coordinators(alloc, &scenario)?;
             let stage = Stage::open(alloc, &scenario, machines)?;
             let stage = after_windows(&rt, alloc, stage, &plan, before)?;
             let start = stage.start();

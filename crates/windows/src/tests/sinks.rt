@@ -1,14 +1,12 @@
 //! What a sink is handed, window by window.
-ghost use Rattle.std.specs.Prelude.{◌≡◌, ◌<◌, ◌-◌, ◌^◌, IfOk};
-ghost use Rattle.scenario.specs.Opening.{mind_of};
+ghost use Rattle.std.specs.Prelude.{◌≡◌, ◌<◌, ◌-◌, ◌^◌};
 
-use super::machines::{make_all, watcher};
+use super::machines::all_watchers;
 use super::{are_same, one_crash};
 use crate::{OpenGate, Plan, Sink, run_windows_into};
 use event_list::{RunError, run_list};
-use process_api::{Entry, Process};
-use scenario::Opening;
-use std::alloc::{AllocError, Global};
+use process_api::Entry;
+use std::alloc::Global;
 use std::test::Fail;
 
 /// Takes so many parts, and refuses each after them.
@@ -77,23 +75,11 @@ fn parts_in_order(rt: HostRuntime) -> Result<(), Fail> {
     let alloc = rt.alloc();
     let scenario = one_crash(alloc)?;
     let plan = Plan::new(&scenario, 2, 2)?;
-    let machines = make_all(
-        alloc,
-        &scenario,
-        |opening: Opening| -> Result<Box<dyn Process>, AllocError>
-            ensures { IfOk result (λ made. mind made ≡ mind_of opening) }
-        { Ok(Box::new(alloc, watcher(alloc, &opening)?)?) },
-    )?;
+    let machines = all_watchers(alloc, &scenario)?;
     let list = run_list(alloc, &scenario, machines)?;
     for most in 0..6 {
         for writes in [false, true] {
-            let machines = make_all(
-                alloc,
-                &scenario,
-                |opening: Opening| -> Result<Box<dyn Process>, AllocError>
-                    ensures { IfOk result (λ made. mind made ≡ mind_of opening) }
-                { Ok(Box::new(alloc, watcher(alloc, &opening)?)?) },
-            )?;
+            let machines = all_watchers(alloc, &scenario)?;
             let mut sink = Counting::new(alloc, most, writes);
             let done = run_windows_into(
                 &rt, alloc, &scenario, machines, &plan, &OpenGate, &mut sink,

@@ -1,14 +1,9 @@
 //! The ticks at which windows open: none opens where nothing is pending.
-ghost use Rattle.std.specs.Prelude.{◌≡◌, IfOk};
-ghost use Rattle.scenario.specs.Opening.{mind_of};
 
 use super::calls::after_windows;
-use super::machines::{coordinator, make_all, watcher};
-use super::{COORDINATORS, one_crash};
+use super::machines::{all_coordinators, all_watchers};
+use super::{one_crash, three_coordinators};
 use crate::{Plan, Stage};
-use process_api::Process;
-use scenario::{Opening, read_scenario};
-use std::alloc::AllocError;
 use std::test::Fail;
 
 /// The starts of windows of one tick for two processes that watch each other, and the horizon.
@@ -21,13 +16,7 @@ fn watchers(rt: HostRuntime) -> Result<(), Fail> {
     let plan = Plan::new(&scenario, 2, 1)?;
     let mut before: usize = 0;
     for start in OF_WATCHERS {
-        let machines = make_all(
-            alloc,
-            &scenario,
-            |opening: Opening| -> Result<Box<dyn Process>, AllocError>
-                ensures { IfOk result (λ made. mind made ≡ mind_of opening) }
-            { Ok(Box::new(alloc, watcher(alloc, &opening)?)?) },
-        )?;
+        let machines = all_watchers(alloc, &scenario)?;
         let stage = Stage::open(alloc, &scenario, machines)?;
         let stage = after_windows(&rt, alloc, stage, &plan, before)?;
         assert_eq!(rt; stage.start(), start);
@@ -43,17 +32,11 @@ const OF_COORDINATORS: [u32; 7] = [0, 2, 4, 6, 8, 10, 20];
 #[test]
 fn coordinators(rt: HostRuntime) -> Result<(), Fail> {
     let alloc = rt.alloc();
-    let scenario = read_scenario(alloc, COORDINATORS.as_bytes())?;
+    let scenario = three_coordinators(alloc)?;
     let plan = Plan::new(&scenario, 2, 2)?;
     let mut before: usize = 0;
     for start in OF_COORDINATORS {
-        let machines = make_all(
-            alloc,
-            &scenario,
-            |opening: Opening| -> Result<Box<dyn Process>, AllocError>
-                ensures { IfOk result (λ made. mind made ≡ mind_of opening) }
-            { Ok(Box::new(alloc, coordinator(alloc, &opening)?)?) },
-        )?;
+        let machines = all_coordinators(alloc, &scenario)?;
         let stage = Stage::open(alloc, &scenario, machines)?;
         let stage = after_windows(&rt, alloc, stage, &plan, before)?;
         assert_eq!(rt; stage.start(), start);

@@ -1,14 +1,10 @@
 //! Workers that are held, so that others take what is theirs.
-ghost use Rattle.std.specs.Prelude.{◌≡◌, IfOk};
-ghost use Rattle.scenario.specs.Opening.{mind_of};
 
-use super::machines::{coordinator, make_all};
-use super::{COORDINATORS, are_same};
+use super::machines::all_coordinators;
+use super::{are_same, three_coordinators};
 use crate::{Gate, Plan, run_windows};
 use event_list::run_list;
-use process_api::{Pid, Process};
-use scenario::{Opening, read_scenario};
-use std::alloc::AllocError;
+use process_api::Pid;
 use std::sync::Wait;
 use std::sync::atomic::{AtomicU64, Ordering};
 use std::test::Fail;
@@ -56,22 +52,10 @@ impl Gate for Holding {
 #[test]
 fn stolen_from_a_held_worker(rt: HostRuntime) -> Result<(), Fail> {
     let alloc = rt.alloc();
-    let scenario = read_scenario(alloc, COORDINATORS.as_bytes())?;
-    let machines = make_all(
-        alloc,
-        &scenario,
-        |opening: Opening| -> Result<Box<dyn Process>, AllocError>
-            ensures { IfOk result (λ made. mind made ≡ mind_of opening) }
-        { Ok(Box::new(alloc, coordinator(alloc, &opening)?)?) },
-    )?;
+    let scenario = three_coordinators(alloc)?;
+    let machines = all_coordinators(alloc, &scenario)?;
     let list = run_list(alloc, &scenario, machines)?;
-    let machines = make_all(
-        alloc,
-        &scenario,
-        |opening: Opening| -> Result<Box<dyn Process>, AllocError>
-            ensures { IfOk result (λ made. mind made ≡ mind_of opening) }
-        { Ok(Box::new(alloc, coordinator(alloc, &opening)?)?) },
-    )?;
+    let machines = all_coordinators(alloc, &scenario)?;
     let plan = Plan::new(&scenario, 2, 2)?;
     let gate = Holding {
         by_first: AtomicU64::new(0),
@@ -114,14 +98,8 @@ impl Gate for Meeting {
 #[test]
 fn dealt_by_rising_number(rt: HostRuntime) -> Result<(), Fail> {
     let alloc = rt.alloc();
-    let scenario = read_scenario(alloc, COORDINATORS.as_bytes())?;
-    let machines = make_all(
-        alloc,
-        &scenario,
-        |opening: Opening| -> Result<Box<dyn Process>, AllocError>
-            ensures { IfOk result (λ made. mind made ≡ mind_of opening) }
-        { Ok(Box::new(alloc, coordinator(alloc, &opening)?)?) },
-    )?;
+    let scenario = three_coordinators(alloc)?;
+    let machines = all_coordinators(alloc, &scenario)?;
     let plan = Plan::new(&scenario, 2, 2)?;
     let gate = Meeting {
         calls: AtomicU64::new(0),

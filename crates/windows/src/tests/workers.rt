@@ -1,16 +1,13 @@
 //! Workers that are watched: which processes they take, in which order one of them takes them, and which of two
 //! refusals comes first.
-ghost use Rattle.std.specs.Prelude.{◌≡◌, IfOk};
-ghost use Rattle.scenario.specs.Opening.{mind_of};
 
-use super::machines::{coordinator, make_all, watcher};
-use super::{COORDINATORS, are_same, one_crash};
+use super::machines::{all_coordinators, all_watchers};
+use super::{are_same, one_crash, three_coordinators};
 use crate::workers::both;
 use crate::{Gate, OpenGate, Plan, Stage, run_window, run_windows};
 use event_list::{RunError, run_list};
-use process_api::{Pid, Process};
-use scenario::{Opening, read_scenario};
-use std::alloc::AllocError;
+use process_api::Pid;
+use scenario::read_scenario;
 use std::sync::Wait;
 use std::sync::atomic::{AtomicU64, Ordering};
 use std::test::Fail;
@@ -55,15 +52,9 @@ impl Gate for Watching {
 #[test]
 fn taken_by_workers(rt: HostRuntime) -> Result<(), Fail> {
     let alloc = rt.alloc();
-    let scenario = read_scenario(alloc, COORDINATORS.as_bytes())?;
+    let scenario = three_coordinators(alloc)?;
     for (workers, greatest) in [(1, 1), (64, 3)] {
-        let machines = make_all(
-            alloc,
-            &scenario,
-            |opening: Opening| -> Result<Box<dyn Process>, AllocError>
-                ensures { IfOk result (λ made. mind made ≡ mind_of opening) }
-            { Ok(Box::new(alloc, coordinator(alloc, &opening)?)?) },
-        )?;
+        let machines = all_coordinators(alloc, &scenario)?;
         let plan = Plan::new(&scenario, workers, 2)?;
         let gate = Watching::new();
         run_windows(&rt, alloc, &scenario, machines, &plan, &gate)?;
@@ -83,13 +74,7 @@ fn first_window(rt: HostRuntime) -> Result<(), Fail> {
     let alloc = rt.alloc();
     let scenario = one_crash(alloc)?;
     let plan = Plan::new(&scenario, 2, 2)?;
-    let machines = make_all(
-        alloc,
-        &scenario,
-        |opening: Opening| -> Result<Box<dyn Process>, AllocError>
-            ensures { IfOk result (λ made. mind made ≡ mind_of opening) }
-        { Ok(Box::new(alloc, watcher(alloc, &opening)?)?) },
-    )?;
+    let machines = all_watchers(alloc, &scenario)?;
     let mut stage = Stage::open(alloc, &scenario, machines)?;
     assert_eq!(rt; stage.start(), 0);
     if stage.finished() {
@@ -123,21 +108,9 @@ max = 2
 fn sixty_four(rt: HostRuntime) -> Result<(), Fail> {
     let alloc = rt.alloc();
     let scenario = read_scenario(alloc, SIXTY_FOUR.as_bytes())?;
-    let machines = make_all(
-        alloc,
-        &scenario,
-        |opening: Opening| -> Result<Box<dyn Process>, AllocError>
-            ensures { IfOk result (λ made. mind made ≡ mind_of opening) }
-        { Ok(Box::new(alloc, watcher(alloc, &opening)?)?) },
-    )?;
+    let machines = all_watchers(alloc, &scenario)?;
     let list = run_list(alloc, &scenario, machines)?;
-    let machines = make_all(
-        alloc,
-        &scenario,
-        |opening: Opening| -> Result<Box<dyn Process>, AllocError>
-            ensures { IfOk result (λ made. mind made ≡ mind_of opening) }
-        { Ok(Box::new(alloc, watcher(alloc, &opening)?)?) },
-    )?;
+    let machines = all_watchers(alloc, &scenario)?;
     let plan = Plan::new(&scenario, 64, 2)?;
     let windows = run_windows(&rt, alloc, &scenario, machines, &plan, &OpenGate)?;
     // 64 starts, 64 checks, and a letter for each pair
