@@ -48,8 +48,8 @@ fn standing(done: u64) -> Standing {
 }
 
 /// Four points with 100 runs each. After 10 seconds a quarter of the runs is in, so 30 seconds are left; after 160
-/// seconds 250 runs are, so 96 seconds; after 10 hours 300, so 12,000 seconds; 100 seconds later one is left, so 90. What
-/// comes less than 200 milliseconds after a line isn't drawn. A shorter line is filled up with blanks.
+/// seconds 250 runs are, so 96 seconds; after 10 hours 300, so 12,000 seconds; 100 seconds later one is left, so 90.
+/// What comes less than 200 milliseconds after a line isn't drawn. A shorter line is filled up with blanks.
 #[test]
 fn lines(rt: HostRuntime) -> Result<(), Fail> {
     let alloc = rt.alloc();

@@ -88,21 +88,24 @@ fn report_of(alloc: Global, file: &str) -> Result<String, Fail> {
     text_of(alloc, outlet.bytes())
 }
 
-/// What rows have in their columns, by the columns' names.
-type Fields = Vec<(&'static str, String)>;
+/// What a row has in a column.
+#[derive(Drop)]
+struct Field {
+    column: String,
+    text: String,
+}
+
+/// What a row has in its columns.
+type Fields = Vec<Field>;
 
 /// One more column, which is empty where there is no number.
-fn push(
-    alloc: Global,
-    fields: &mut Fields,
-    column: &'static str,
-    number: Option<u64>,
-) -> Result<(), Fail> {
-    let field = match number {
+fn push(alloc: Global, fields: &mut Fields, column: &str, number: Option<u64>) -> Result<(), Fail> {
+    let text = match number {
         Some(number) => format!(in alloc; "{number}")?,
         None => String::new(alloc),
     };
-    fields.push((column, field))?;
+    let column = String::from_str(alloc, column)?;
+    fields.push(Field { column, text })?;
     Ok(())
 }
 
@@ -292,10 +295,11 @@ fn reports_of<R: Files + Threads + Sync + Abort>(
 /// A row has these fields, which are all columns but the three varied keys' and the layer's.
 fn has_fields<R: Abort>(rt: &R, header: &str, row: &str, fields: &Fields) {
     assert_eq!(rt; fields.len(), header.split(',').count().saturating_sub(4));
-    for (column, field) in fields {
+    for field in fields {
+        let (column, text) = (field.column.as_str(), field.text.as_str());
         assert!(rt;
-            column_of(header, row, column) == Some(field.as_str()),
-            "{column}, not {field}: {row}"
+            column_of(header, row, column) == Some(text),
+            "{column}, not {text}: {row}"
         );
     }
 }

@@ -79,7 +79,8 @@ fn heard_of<R: Threads + Sync>(
     Ok(keeper)
 }
 
-/// Seven points with 40 runs each are 280 runs, of which 128 come in at a time: the watcher hears of 0, 128, 256 and 280.
+/// Seven points with 40 runs each are 280 runs, of which 128 come in at a time: the watcher hears of 0, 128, 256 and
+/// 280.
 #[test]
 fn hears_of_all_runs(rt: HostRuntime) -> Result<(), Fail> {
     let alloc = rt.alloc();
