@@ -15,3 +15,4 @@ mod OneText
 mod Shards
 mod Ending
 mod InTurn
+mod Heard
