@@ -14,6 +14,8 @@ use Rattle.fdstudy.specs.Stop.{Stops, Went}
 use Rattle.fdstudy.specs.Study.{IsGrid, IsShardOf}
 use Rattle.fdstudy.specs.Sweep.{IsFaultOf, IsOfRun, IsSweepAnswer, IsSweepFront}
 use Rattle.fdstudy.specs.declared.fault.Fault.{Fault}
+use Rattle.fdstudy.specs.Why.{IsOfText, StopsShow, StopsSweep}
+use Rattle.fdstudy.proofs.Reasons.{study_run, study_text}
 use Rattle.fdstudy.proofs.Stopping.{stops_one}
 use Rattle.letters.specs.Letters.{AreLetters}
 use Rattle.letters.specs.LettersText.{letters_text}
@@ -84,6 +86,22 @@ in_block n b e point c =
 pub point_within : (g : GridRecord) (shard : ShardRecord) (point : ℕ) → Contains (numbers_of g shard) point → point < length (points g)
 point_within g shard point c = in_block (length (points g)) _ _ point c
 
+-- a run that has no text, for its settings or for want of memory
+pub show_why : (input : Option (List ℕ)) (path : List ℕ) (words : GridTexts) (point run : ℕ) (file : Members) (g : GridRecord) (p r : ℕ) (f : Fault)
+    → IsTable input path file → IsGrid words g → IsPlace point (length (points g)) p → IsPlace run (length (runs g)) r
+    → IsOfText (table_of_run (point_at g p) (run_at g r) file) f → StopsShow input path words point run f
+show_why input path words point run file g p r f is_file is_grid is_point is_run is = study_text _ _ _ f is (λ none line. inr (record {
+  file = file;
+  is_file = is_file;
+  grid = g;
+  is_grid = is_grid;
+  point_place = p;
+  is_point = is_point;
+  run_place = r;
+  is_run = is_run;
+  has_none = none;
+}))
+
 pub show_answer : (input : Option (List ℕ)) (path : List ℕ) (words : GridTexts) (point run : ℕ) (file : Members) (g : GridRecord) (p r : ℕ) (text : List ℕ)
     → IsTable input path file → IsGrid words g → IsPlace point (length (points g)) p → IsPlace run (length (runs g)) r
     → IsRunText (table_of_run (point_at g p) (run_at g r) file) text → IsShowAnswer input path words point run text
@@ -107,6 +125,23 @@ module _ (input : Option (List ℕ)) (path : List ℕ) (words : GridTexts) (word
   of_run (error.Refused point run reason) broke = (point_within g shard point broke.0.point_in, broke.0.run_in)
   of_run error.Memory broke = tt
   of_run error.Write broke = tt
+
+  pub sweep_why : (e : SweepError) (f : Fault) → IsFaultOf e f → BreaksOff file g shard told failed old new e
+      → StopsSweep input path words word f
+  sweep_why (error.Refused point run reason) f is broke = study_run _ _ f is (λ line. inr (record {
+    file = file;
+    is_file = is_file;
+    grid = g;
+    is_grid = is_grid;
+    shard = shard;
+    is_shard = is_shard;
+    point = point;
+    run = run;
+    reason = reason;
+    first = broke.0;
+  }))
+  sweep_why error.Memory f is broke = let P : Fault → Type 0 = λ x. StopsSweep input path words word x in subst P (sym is) tt
+  sweep_why error.Write f is broke = let P : Fault → Type 0 = λ x. StopsSweep input path words word x in subst P (sym is) tt
 
   pub swept : WroteStudy file g shard told failed old new → Went told failed old new (IsSweepAnswer input path words word)
   swept wrote = record {

@@ -1,8 +1,8 @@
 -- Axes of words, one after the other.
-use Rattle.std.proofs.Common.{◌≡◌, ℕ, ◌+◌, ◌<◌, List, [], ◌∷◌, ◌++◌, map, length, get_or, take, Bor, sym, subst, add-one}
+use Rattle.std.proofs.Common.{◌≡◌, refl, ℕ, zero, suc, ◌+◌, ◌<◌, arith, List, [], ◌∷◌, ◌++◌, map, length, get_or, take, Bor, sym, subst, add-one}
 use Rattle.std.proofs.Math.Seq.{take-suc}
 use Rattle.std.proofs.lemmas.List.{map-append}
-use Rattle.std.specs.List.{AllZip}
+use Rattle.std.specs.List.{AllZip, Contains}
 use Rattle.study.specs.AxisWords.{SaysAxis}
 use Rattle.study.specs.declared.axis.Axis.{Axis}
 
@@ -13,6 +13,14 @@ module _ {A B : Type 0} (R : A → B → Type 0) where
   zip_push [] (b ∷ ys) x y z r = absurd z
   zip_push (a ∷ xs) [] x y z r = absurd z
   zip_push (a ∷ xs) (b ∷ ys) x y z r = (z.0, zip_push xs ys x y z.1 r)
+
+-- one of the words stands among them
+pub word_there : (words : List (Bor (List ℕ))) (i : ℕ) (d : Bor (List ℕ)) → i < length words → Contains (map (λ w. w.now) words) (get_or words i d).now
+word_there [] i d within = absurd (omega (arith, within))
+word_there (w ∷ ws) zero d within = (0, omega arith, refl)
+word_there (w ∷ ws) (suc i) d within =
+    let rest = word_there ws i d (omega (arith, within)) in
+    (suc rest.0, omega (arith, rest.1), rest.2)
 
 words_more : (words : List (Bor (List ℕ))) (i : ℕ) (d : Bor (List ℕ)) → i < length words
     → map (λ w. w.now) (take (i + 1) words) ≡ map (λ w. w.now) (take i words) ++ (get_or words i d).now ∷ []

@@ -1,23 +1,23 @@
 -- What went out, and what stands where a command stops.
 use Rattle.std.proofs.Common.{◌≡◌, ◌⊎◌, inl, inr, sym, ℕ, List, Option, Result, Ok, Err, OnOk, IfErr, subst, arith}
-use Rattle.fdstudy.specs.Fault.{IsBefore, IsOfWords, status_of}
+use Rattle.fdstudy.specs.Fault.{IsBefore, IsOfWordsFor, status_of}
 use Rattle.fdstudy.specs.File.{IsScenario}
 use Rattle.fdstudy.specs.Runs.{IsOfRun, StopsAtLimit}
-use Rattle.fdstudy.specs.Stop.{Stops, Went, WentPart}
+use Rattle.fdstudy.specs.Stop.{Stops, Tells, Went, WentPart}
 use Rattle.fdstudy.specs.declared.fault.Fault.{Fault}
 use Rattle.fdstudy.specs.declared.fault.Fault.TheVariants.{Form, Limit, Memory, Refused, Words, WordsMemory, Write}
 use Rattle.qos_report.specs.Writing.{Wrote, WroteNothing, WrotePart}
 use Rattle.scenario.specs.Record.{Record}
 
 -- a fault of words comes before anything is written
-pub of_words_before : (f : Fault) → IsOfWords f → IsBefore f
-of_words_before Form is = tt
-of_words_before WordsMemory is = tt
-of_words_before (Words line) is = tt
-of_words_before (Refused line) is = absurd is
-of_words_before Limit is = absurd is
-of_words_before Memory is = absurd is
-of_words_before Write is = absurd is
+pub of_words_before : (Holds : Type 0) (f : Fault) → IsOfWordsFor Holds f → IsBefore f
+of_words_before Holds Form is = absurd is
+of_words_before Holds WordsMemory is = tt
+of_words_before Holds (Words line) is = tt
+of_words_before Holds (Refused line) is = absurd is
+of_words_before Holds Limit is = absurd is
+of_words_before Holds Memory is = absurd is
+of_words_before Holds Write is = absurd is
 
 module _ {O : Type 0} (told : O → Option (List ℕ)) (failed : O → ℕ) (old new : O) where
   module _ (IsWritten IsLeft : List ℕ → Type 0) where
@@ -96,6 +96,11 @@ module _ {O : Type 0} (told : O → Option (List ℕ)) (failed : O → ℕ) (old
     below_three Memory (inr is) stops = absurd (omega (arith, is))
     below_three Write (inl is) stops = absurd (omega (arith, is))
     below_three Write (inr is) stops = absurd (omega (arith, is))
+
+  -- a piece is told, whole or a part of it
+  pub tells_as : (P Q : List ℕ → Type 0) → ((piece : List ℕ) → P piece → Q piece) → Tells told failed old new P → Tells told failed old new Q
+  tells_as P Q f (inl went) = inl (record { piece = went.piece; is_wanted = f went.piece went.is_wanted; written = went.written })
+  tells_as P Q f (inr part) = inr (record { piece = part.piece; is_wanted = f part.piece part.is_wanted; written = part.written })
 
   -- what is wanted is wanted otherwise too
   pub part_as : (P Q : List ℕ → Type 0) → ((piece : List ℕ) → P piece → Q piece) → WentPart told failed old new P → WentPart told failed old new Q

@@ -1,12 +1,15 @@
 pub mod Fault
 pub mod File
 pub mod Study
+pub mod Refusal
+pub mod WordRefusals
 pub mod Runs
 pub mod Check
 pub mod Letters
 pub mod Draw
 pub mod Show
 pub mod Sweep
+pub mod Why
 pub mod Answer
 pub mod Stop
 pub mod Serve

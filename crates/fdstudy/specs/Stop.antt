@@ -18,6 +18,10 @@ module _ {O : Type 0} (told : O → Option (List ℕ)) (failed : O → ℕ) (old
       pub is_wanted : IsWanted piece
       pub written : WrotePart told failed old new piece
 
+  -- a piece that is wanted went out, as far as the outlet took it
+  abbrev pub Tells : (IsWanted : List ℕ → Type 0) → Type 0
+  Tells IsWanted = Went IsWanted ⊎ WentPart IsWanted
+
   -- after a failed write a front part of what was to be written went out; where memory was refused, nothing did or what
   -- may be left then; and after another fault nothing did
   abbrev pub Stops : (IsWritten IsLeft : List ℕ → Type 0) → Fault → Type 0

@@ -1,13 +1,14 @@
 //! The command `check`: what a scenario file has, or where it breaks a rule and why.
 ghost use Rattle.std.specs.Prelude.{◌≡◌, ◌≢◌, ◌^◌, ◌-◌, ◌+◌, ◌<◌, OnOk, IfOk, IfErr, string_bytes};
 ghost use Rattle.diagnosis.specs.Diagnosis.{AcceptsAs};
-ghost use Rattle.fdstudy.specs.Fault.{IsBefore};
 ghost use Rattle.fdstudy.specs.Check.{IsCheckAnswer, accepted_text};
+ghost use Rattle.fdstudy.specs.Refusal.{IsOfBytes};
 ghost use Rattle.fdstudy.specs.Stop.{Stops, Went};
+ghost use Rattle.fdstudy.specs.Why.{StopsCheck};
 ghost use Rattle.sources.specs.Input.{TakesAtMost, input_path, most_bytes};
 
 use crate::fault::Fault;
-use crate::file::bytes_of;
+use crate::file::{bytes_of, fault_of};
 use crate::writing::put_text;
 use diagnosis::{Accepted, Diagnosis, diagnose};
 use qos_report::Outlet;
@@ -19,7 +20,7 @@ use std::rt::Files;
 fn line_of(alloc: Global, accepted: &Accepted) -> Result<String, Fault>
     ensures line { IfOk result (λ s. string_bytes s ≡ accepted_text accepted.now.processes accepted.now.horizon
         accepted.now.estimate.entries accepted.now.estimate.seconds) }
-    ensures refused { IfErr result IsBefore }
+    ensures refused { IfErr result (λ fault. fault ≡ Fault.Memory) }
 {
     let (processes, horizon) = (accepted.processes, accepted.horizon);
     let (entries, seconds) = (accepted.estimate.entries, accepted.estimate.seconds);
@@ -34,13 +35,11 @@ fn line_of(alloc: Global, accepted: &Accepted) -> Result<String, Fault>
 /// What an accepted file has.
 fn accepted_in(alloc: Global, path: &str, bytes: &[u8]) -> Result<Accepted, Fault>
     ensures accepted { IfOk result (AcceptsAs bytes.now) }
-    ensures refused { IfErr result IsBefore }
+    ensures refused { IfErr result (IsOfBytes path.now bytes.now) }
 {
     match diagnose(alloc, bytes) {
         Ok(Diagnosis::Accepted(accepted)) => Ok(accepted),
-        Ok(Diagnosis::Refused(refused)) => Err(Fault::Refused(format!(in alloc;
-            "{path}: {refused}\n"
-        ).ok())),
+        Ok(Diagnosis::Refused(refused)) => Err(fault_of(alloc, path, &refused)),
         Err(_) => Err(Fault::Memory),
     }
 }
@@ -58,6 +57,7 @@ pub(crate) fn serve_check<R: Files, I: Read, O: Outlet>(
         OnOk result (Went O.told O.failed outlet.old outlet.new wanted) }
     ensures stops { let wanted = IsCheckAnswer (I.remaining input.old) path.now in
         IfErr result (Stops O.told O.failed outlet.old outlet.new wanted (λ _. ⊥)) }
+    ensures why { IfErr result (StopsCheck (I.remaining input.old) path.now) }
     ensures taken { TakesAtMost (most_bytes + 1) (I.remaining input.old) (I.remaining input.new) }
     ensures untouched { path.now ≢ input_path → input.new ≡ input.old }
 {

@@ -1,8 +1,10 @@
 //! Why a run of the program ends without having done what it was asked, and how it says so.
-ghost use Rattle.std.specs.Prelude.{◌≡◌, ◌^◌, ◌-◌, ◌+◌, ◌<◌, ◌≤◌};
-ghost use Rattle.fdstudy.specs.Fault.{status_of, IsOfWords};
+ghost use Rattle.std.specs.Prelude.{◌≡◌, ◌^◌, ◌-◌, ◌+◌, ◌<◌, ◌≤◌, IfOk, IfErr};
+ghost use Rattle.fdstudy.specs.Fault.{line_of, status_of, IsOfWords};
+ghost use Rattle.fdstudy.specs.Stop.{Tells};
 
-use qos_report::{Outlet, put_all};
+use crate::writing::tell_text;
+use qos_report::Outlet;
 use std::alloc::AllocError;
 
 /// Why the program did not do what it was asked.
@@ -28,7 +30,9 @@ pub(crate) enum Fault {
 impl Fault {
     /// A refusal of words, with its line.
     pub(crate) fn of_words(line: Result<String, AllocError>) -> Fault
-        ensures { IsOfWords result }
+        ensures words { IsOfWords result }
+        ensures line { IfOk line (λ text. result ≡ Fault.Words text) }
+        ensures memory { IfErr line (λ _. result ≡ Fault.WordsMemory) }
     {
         match line {
             Ok(line) => Fault::Words(line),
@@ -49,7 +53,9 @@ impl Fault {
     }
 
     /// The line that is told of the fault.
-    fn line(&self) -> &str {
+    fn line(&self) -> &str
+        ensures { result.now ≡ line_of self.now }
+    {
         match self {
             Fault::Form => "fdstudy: words: Form\n",
             Fault::WordsMemory => "fdstudy: words: Memory\n",
@@ -61,13 +67,15 @@ impl Fault {
         }
     }
 
-    /// Writes the fault's line and answers the exit status. Where the line can't be written, nobody is told.
+    /// Writes the fault's line and answers the exit status. Where the line can't be written whole, a front part of it
+    /// went out.
     pub(crate) fn report<O: Outlet>(&self, faults: &mut O) -> u8
         requires { O.failed faults.old < 2 ^ 64 - 1 }
         ensures status { result ≡ status_of self.now }
         ensures told { O.failed faults.new ≤ O.failed faults.old + 1 }
+        ensures line { Tells O.told O.failed faults.old faults.new (λ text. text ≡ line_of self.now) }
     {
-        put_all(faults, self.line().as_bytes());
+        tell_text(self.line(), faults);
         self.status()
     }
 }

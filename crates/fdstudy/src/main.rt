@@ -26,6 +26,7 @@ mod fault;
 mod file;
 mod lettering;
 mod picturing;
+mod progress_line;
 mod refused_run;
 mod run_name;
 mod running;
@@ -36,10 +37,11 @@ mod sweeping;
 mod writing;
 
 use crate::fault::Fault;
+use crate::progress_line::ProgressLine;
 use qos_report::StreamOutlet;
 use std::alloc::Global;
 use std::env;
-use std::io::{self, ErrorKind};
+use std::io::{self, ErrorKind, IsTerminal};
 use std::process::ExitCode;
 pub use study_line::{Order, Picture, WordsError, read_words};
 
@@ -61,6 +63,8 @@ fn lent<'a>(alloc: Global, words: &'a [String]) -> io::Result<Vec<&'a str>> {
 fn main(rt: HostRuntime) -> ExitCode {
     let mut outlet = StreamOutlet::new(rt.stdout());
     let mut faults = StreamOutlet::new(rt.stderr());
+    let terminal = rt.stderr().is_terminal().then_some(rt.stderr());
+    let mut line = ProgressLine::new(&rt, rt.alloc(), terminal, rt.stdout().is_terminal());
     let status = match words_of(&rt) {
         Ok(words) => match lent(rt.alloc(), &words) {
             Ok(texts) => serve::serve(
@@ -70,6 +74,7 @@ fn main(rt: HostRuntime) -> ExitCode {
                 &mut rt.stdin(),
                 &mut outlet,
                 &mut faults,
+                &mut line,
             ),
             Err(_) => Fault::WordsMemory.report(&mut faults),
         },

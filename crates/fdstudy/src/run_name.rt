@@ -28,17 +28,21 @@ fn write_choice<W: fmt::Write>(f: &mut fmt::Formatter<W>, choice: Choice<'_>) ->
     }
 }
 
+/// Writes keys and what they are set to.
+fn write_choices<W: fmt::Write>(f: &mut fmt::Formatter<W>, choices: &[Choice<'_>]) -> fmt::Result {
+    for choice in choices {
+        write_choice(f, *choice)?;
+    }
+    Ok(())
+}
+
 impl fmt::Display for RunName<'_> {
     /// Writes `run 3 of point 2 with detector.timeout=8, crash[1].at=4, seed=2`.
     fn fmt<W: fmt::Write>(&self, f: &mut fmt::Formatter<W>) -> fmt::Result {
         let (point, number, seed) = (self.point, self.number, self.run.seed);
         write!(f, "run {number} of point {point} with ")?;
-        for choice in &self.settings {
-            write_choice(f, *choice)?;
-        }
-        for choice in &self.run.settings {
-            write_choice(f, *choice)?;
-        }
+        write_choices(f, &self.settings)?;
+        write_choices(f, &self.run.settings)?;
         write!(f, "seed={seed}")
     }
 }

@@ -1,10 +1,12 @@
 //! One run of the program.
-ghost use Rattle.std.specs.Prelude.{◌≡◌, ◌≢◌, ◌⊎◌, ◌^◌, ◌-◌, ◌+◌, ◌<◌, ◌≤◌, IfErr, OnOk, map};
+ghost use Rattle.std.specs.Prelude.{◌≡◌, ◌≢◌, ◌⊎◌, ◌^◌, ◌-◌, ◌+◌, ◌<◌, ◌≤◌, false, IfErr, OnOk, map};
 ghost use Rattle.std.specs.Io.KnownBytes.{Keeps};
 ghost use Rattle.std.specs.Process.{exit_status};
 ghost use Rattle.fdstudy.specs.Answer.{Answers, Leaves, Writes, path_of};
-ghost use Rattle.fdstudy.specs.Serve.{IsAsked, IsHelp, LeftOf, NamesNoInput, Serves, ServesFor};
-ghost use Rattle.fdstudy.specs.Stop.{Stops, Went, WentPart};
+ghost use Rattle.fdstudy.specs.Fault.{line_of, IsOfWords};
+ghost use Rattle.fdstudy.specs.Serve.{IsAsked, IsHelp, IsWhy, LeftOf, NamesNoInput, Serves, ServesFor, TellsOf, no_picture_line};
+ghost use Rattle.fdstudy.specs.Stop.{Stops, Tells, Went, WentPart};
+ghost use Rattle.fdstudy.specs.Why.{StopsFor};
 ghost use Rattle.qos_report.specs.Writing.{WroteNothing};
 ghost use Rattle.sources.specs.Input.{TakesAtMost, input_path, most_bytes};
 
@@ -14,6 +16,7 @@ use crate::lettering::serve_letters;
 use crate::picturing::serve_draw;
 use crate::showing::serve_show;
 use crate::sweeping::serve_sweep;
+use crate::writing::tell_text;
 use qos_report::{Outlet, StreamOutlet, put_all};
 use std::alloc::Global;
 use std::io::{Read, Write};
@@ -22,14 +25,16 @@ use std::process::ExitCode;
 use std::rt::Files;
 use std::thread::Threads;
 use study_line::{Order, WordsError, read_words};
+use sweep::Watcher;
 
 /// Does what an order asks for.
-fn carry_out<R: Files + Threads + Sync, I: Read, O: Outlet>(
+fn carry_out<R: Files + Threads + Sync, I: Read, O: Outlet, W: Watcher>(
     rt: &R,
     alloc: Global,
     order: &Order<'_>,
     input: &mut I,
     outlet: &mut O,
+    watcher: &mut W,
 ) -> Result<(), Fault>
     requires { O.failed outlet.old < 2 ^ 64 - 1 }
     ensures done { let wanted = Answers (I.remaining input.old) order.now in
@@ -39,6 +44,8 @@ fn carry_out<R: Files + Threads + Sync, I: Read, O: Outlet>(
         IfErr result (Stops O.told O.failed outlet.old outlet.new written left) }
     ensures taken { TakesAtMost (most_bytes + 1) (I.remaining input.old) (I.remaining input.new) }
     ensures untouched { path_of order.now ≢ input_path → input.new ≡ input.old }
+    ensures why { IfErr result (StopsFor (I.remaining input.old) order.now) }
+    ensures hidden { W.shows watcher.old ≡ false → W.shows watcher.new ≡ false }
 {
     match order {
         Order::Check { path } => serve_check(rt, alloc, path, input, outlet),
@@ -60,8 +67,18 @@ fn carry_out<R: Files + Threads + Sync, I: Read, O: Outlet>(
             grid,
             shard,
             threads,
-        } => serve_sweep(rt, alloc, path, grid, *shard, *threads, input, outlet),
+        } => serve_sweep(
+            rt, alloc, path, grid, *shard, *threads, input, outlet, watcher,
+        ),
     }
+}
+
+/// The fault of a word that names no picture.
+fn no_picture(alloc: Global, word: &str) -> Fault
+    ensures words { IsOfWords result }
+    ensures line { (line_of result ≡ no_picture_line word.now) ⊎ (result ≡ Fault.WordsMemory) }
+{
+    Fault::of_words(format!(in alloc; "fdstudy: words: NoPicture: {word}\n"))
 }
 
 /// Tells of words that state no order: help goes to the outlet, all else to the faults.
@@ -79,6 +96,7 @@ fn tell<O: Outlet, F: Outlet>(
     ensures refused { result ≡ 2 → WroteNothing O.told O.failed outlet.old outlet.new }
     ensures silent { result ≡ 0 → WroteNothing F.told F.failed faults.old faults.new }
     ensures told { F.failed faults.new ≤ F.failed faults.old + 1 }
+    ensures why { result ≢ 0 → Tells F.told F.failed faults.old faults.new (TellsOf error.now result) }
 {
     match error {
         WordsError::Help(text) => {
@@ -89,13 +107,10 @@ fn tell<O: Outlet, F: Outlet>(
             }
         }
         WordsError::Mistake(text) => {
-            put_all(faults, text.as_bytes());
+            tell_text(text.as_str(), faults);
             2
         }
-        WordsError::NoPicture(word) => {
-            let line = format!(in alloc; "fdstudy: words: NoPicture: {word}\n");
-            Fault::of_words(line).report(faults)
-        }
+        WordsError::NoPicture(word) => no_picture(alloc, word).report(faults),
         WordsError::Form => Fault::Form.report(faults),
         WordsError::Memory => Fault::WordsMemory.report(faults),
     }
@@ -118,13 +133,16 @@ fn tell<O: Outlet, F: Outlet>(
 ///
 /// With status 1 or 2 nothing was written, and with 3 nothing but by `sweep`: its first line and the rows of the first
 /// points may have gone out. With 4 a front part of the text went out.
-pub fn serve<R: Files + Threads + Sync, I: Read, O: Outlet, F: Outlet>(
+///
+/// The watcher hears how far a `sweep` has come. What it shows is taken away before a fault is told.
+pub fn serve<R: Files + Threads + Sync, I: Read, O: Outlet, F: Outlet, W: Watcher>(
     rt: &R,
     alloc: Global,
     words: &[&str],
     input: &mut I,
     outlet: &mut O,
     faults: &mut F,
+    watcher: &mut W,
 ) -> u8
     requires outlet { O.failed outlet.old < 2 ^ 64 - 1 }
     requires faults { F.failed faults.old < 2 ^ 64 - 1 }
@@ -140,14 +158,17 @@ pub fn serve<R: Files + Threads + Sync, I: Read, O: Outlet, F: Outlet>(
     ensures asked { (result ≡ 1) ⊎ (result ≡ 3) → IsAsked (map (λ w. w.now) words.now) }
     ensures silent { result ≡ 0 → WroteNothing F.told F.failed faults.old faults.new }
     ensures told { F.failed faults.new ≤ F.failed faults.old + 1 }
+    ensures why { let why = IsWhy (I.remaining input.old) (map (λ w. w.now) words.now) result in
+        result ≢ 0 → Tells F.told F.failed faults.old faults.new why }
     ensures taken { TakesAtMost (most_bytes + 1) (I.remaining input.old) (I.remaining input.new) }
     ensures untouched { NamesNoInput (map (λ w. w.now) words.now) → input.new ≡ input.old }
+    ensures hidden { W.shows watcher.old ≡ false → W.shows watcher.new ≡ false }
 {
     let order = match read_words(alloc, words) {
         Ok(order) => order,
         Err(error) => return tell(alloc, &error, outlet, faults),
     };
-    match carry_out(rt, alloc, &order, input, outlet) {
+    match carry_out(rt, alloc, &order, input, outlet, watcher) {
         Ok(()) => 0,
         Err(fault) => fault.report(faults),
     }

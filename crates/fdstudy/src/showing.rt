@@ -1,9 +1,11 @@
 //! The command `show`: the scenario file of one run of a study.
 ghost use Rattle.std.specs.Prelude.{◌≡◌, ◌≢◌, ◌^◌, ◌-◌, ◌+◌, ◌<◌, OnOk, IfOk, IfErr, length, string_bytes};
 ghost use Rattle.toml.specs.View.{table_view};
-ghost use Rattle.fdstudy.specs.Fault.{IsBefore, IsOfWords};
+ghost use Rattle.fdstudy.specs.Fault.{IsOfWordsFor};
 ghost use Rattle.fdstudy.specs.Show.{IsPlace, IsShowAnswer};
 ghost use Rattle.fdstudy.specs.Stop.{Stops, Went};
+ghost use Rattle.fdstudy.specs.Why.{IsOfText, StopsShow};
+ghost use Rattle.fdstudy.specs.WordRefusals.{IsOutside};
 ghost use Rattle.sources.specs.Input.{TakesAtMost, input_path, most_bytes};
 ghost use Rattle.study.specs.Grid.{points, runs};
 ghost use Rattle.study.specs.Placed.{table_of_run};
@@ -27,7 +29,7 @@ use toml::Table;
 /// The place, from 0, of what counts from 1 among so many.
 fn place_of(alloc: Global, name: &str, number: u64, count: u64) -> Result<u64, Fault>
     ensures place { IfOk result (IsPlace number count) }
-    ensures refused { IfErr result IsOfWords }
+    ensures refused { IfErr result (IsOfWordsFor (IsOutside number count)) }
 {
     match number.checked_sub(1) {
         Some(place) if place < count => Ok(place),
@@ -50,7 +52,8 @@ fn text_of_run(
     requires run { run < length (runs grid.now) }
     ensures text { IfOk result (λ s. IsRunText
         (table_of_run (point_at grid.now point) (run_at grid.now run) (table_view file.now)) (string_bytes s)) }
-    ensures refused { IfErr result IsBefore }
+    ensures refused { IfErr result (IsOfText
+        (table_of_run (point_at grid.now point) (run_at grid.now run) (table_view file.now))) }
 {
     let (Ok(settings), Ok(its)) = (grid.point(alloc, point), grid.run(alloc, run)) else {
         return Err(Fault::Memory);
@@ -78,6 +81,7 @@ pub(crate) fn serve_show<R: Files, I: Read, O: Outlet>(
         OnOk result (Went O.told O.failed outlet.old outlet.new wanted) }
     ensures stops { let wanted = IsShowAnswer (I.remaining input.old) path.now words.now point run in
         IfErr result (Stops O.told O.failed outlet.old outlet.new wanted (λ _. ⊥)) }
+    ensures why { IfErr result (StopsShow (I.remaining input.old) path.now words.now point run) }
     ensures taken { TakesAtMost (most_bytes + 1) (I.remaining input.old) (I.remaining input.new) }
     ensures untouched { path.now ≢ input_path → input.new ≡ input.old }
 {

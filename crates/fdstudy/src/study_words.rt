@@ -1,9 +1,10 @@
 //! Studies, as words of a command line.
-ghost use Rattle.std.specs.Prelude.{◌≡◌, Some, IfOk, IfErr, map, option_map};
+ghost use Rattle.std.specs.Prelude.{◌≡◌, false, Some, IfOk, IfErr, map, option_map};
 ghost use Rattle.std.specs.List.{AllZip};
-ghost use Rattle.fdstudy.specs.Fault.{IsOfWords};
+ghost use Rattle.fdstudy.specs.Fault.{IsOfWords, IsOfWordsFor};
 ghost use Rattle.fdstudy.specs.Study.{IsGrid, IsShardOf};
-ghost use Rattle.study.specs.AxisWords.{SaysAxis};
+ghost use Rattle.fdstudy.specs.WordRefusals.{HasNoAxis, SaysNoGrid, SaysNoSeeds, SaysNoShard};
+ghost use Rattle.study.specs.AxisWords.{SaysAxis, is_memory};
 ghost use Rattle.study.specs.SeedWords.{seeds_said};
 
 use crate::fault::Fault;
@@ -13,7 +14,7 @@ use study_line::GridTexts;
 
 /// Why a word says no axis.
 fn axis_fault(alloc: Global, word: &str, error: &AxisError) -> Fault
-    ensures { IsOfWords result }
+    ensures { IsOfWordsFor (is_memory error.now ≡ false) result }
 {
     match error {
         AxisError::Memory(_) | AxisError::Key(KeyError::Memory(_)) => Fault::WordsMemory,
@@ -27,7 +28,7 @@ fn axis_fault(alloc: Global, word: &str, error: &AxisError) -> Fault
 /// The axes that words say, one after the other.
 fn axes_of(alloc: Global, words: &[&str]) -> Result<Vec<Axis>, Fault>
     ensures axes { IfOk result (λ v. AllZip SaysAxis (map (λ w. w.now) words.now) v.items) }
-    ensures refused { IfErr result IsOfWords }
+    ensures refused { IfErr result (IsOfWordsFor (HasNoAxis (map (λ w. w.now) words.now))) }
 {
     let mut axes = Vec::new(alloc);
     for word in words {
@@ -43,7 +44,7 @@ fn axes_of(alloc: Global, words: &[&str]) -> Result<Vec<Axis>, Fault>
 /// The seeds that a word says.
 fn seeds_of(alloc: Global, word: &str) -> Result<Seeds, Fault>
     ensures seeds { IfOk result (λ s. seeds_said word.now ≡ Some (s.first, s.last)) }
-    ensures refused { IfErr result IsOfWords }
+    ensures refused { IfErr result (IsOfWordsFor (SaysNoSeeds word.now)) }
 {
     match Seeds::parse(word) {
         Ok(seeds) => Ok(seeds),
@@ -56,7 +57,7 @@ fn seeds_of(alloc: Global, word: &str) -> Result<Seeds, Fault>
 /// The grid that the words of a study say.
 pub(crate) fn grid_of(alloc: Global, words: &GridTexts<'_>) -> Result<Grid, Fault>
     ensures grid { IfOk result (λ g. IsGrid words.now g) }
-    ensures refused { IfErr result IsOfWords }
+    ensures refused { IfErr result (IsOfWordsFor (SaysNoGrid words.now)) }
 {
     let vary = axes_of(alloc, &words.vary)?;
     let over = axes_of(alloc, &words.over)?;
@@ -71,7 +72,7 @@ pub(crate) fn grid_of(alloc: Global, words: &GridTexts<'_>) -> Result<Grid, Faul
 /// The shard that a word says, and all points where there is no word.
 pub(crate) fn shard_of(alloc: Global, word: Option<&str>) -> Result<Shard, Fault>
     ensures shard { IfOk result (IsShardOf (option_map (λ w. w.now) word.entry)) }
-    ensures refused { IfErr result IsOfWords }
+    ensures refused { IfErr result (IsOfWordsFor (SaysNoShard (option_map (λ w. w.now) word.entry))) }
 {
     let Some(word) = word else {
         return Ok(Shard::whole());

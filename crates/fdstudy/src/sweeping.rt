@@ -1,7 +1,8 @@
 //! The command `sweep`: the table of a study.
-ghost use Rattle.std.specs.Prelude.{◌≡◌, ◌≢◌, ◌^◌, ◌-◌, ◌+◌, ◌<◌, ◌≤◌, OnOk, IfErr, option_map};
+ghost use Rattle.std.specs.Prelude.{◌≡◌, ◌≢◌, ◌^◌, ◌-◌, ◌+◌, ◌<◌, ◌≤◌, false, OnOk, IfErr, option_map};
 ghost use Rattle.fdstudy.specs.Stop.{Stops, Went};
 ghost use Rattle.fdstudy.specs.Sweep.{IsFaultOf, IsOfRun, IsSweepAnswer, IsSweepFront};
+ghost use Rattle.fdstudy.specs.Why.{StopsSweep};
 ghost use Rattle.sources.specs.Input.{TakesAtMost, input_path, most_bytes};
 
 use crate::fault::Fault;
@@ -16,7 +17,7 @@ use std::rt::Files;
 use std::thread::{Threads, available_parallelism};
 use study::Grid;
 use study_line::GridTexts;
-use sweep::{SweepError, sweep};
+use sweep::{SweepError, Watcher, sweep};
 use toml::Table;
 
 /// How many threads share the runs: as many as were asked for, or else one for each processor; at most 64.
@@ -49,7 +50,7 @@ fn fault_of(alloc: Global, path: &str, file: &Table, grid: &Grid, error: &SweepE
 }
 
 /// Answers `sweep`: the rows of the study's points, of the shard's where one is named.
-pub(crate) fn serve_sweep<R: Files + Threads + Sync, I: Read, O: Outlet>(
+pub(crate) fn serve_sweep<R: Files + Threads + Sync, I: Read, O: Outlet, W: Watcher>(
     rt: &R,
     alloc: Global,
     path: &str,
@@ -58,6 +59,7 @@ pub(crate) fn serve_sweep<R: Files + Threads + Sync, I: Read, O: Outlet>(
     threads: Option<u64>,
     input: &mut I,
     outlet: &mut O,
+    watcher: &mut W,
 ) -> Result<(), Fault>
     requires { O.failed outlet.old < 2 ^ 64 - 1 }
     ensures done { let wanted = IsSweepAnswer (I.remaining input.old) path.now words.now
@@ -66,14 +68,17 @@ pub(crate) fn serve_sweep<R: Files + Threads + Sync, I: Read, O: Outlet>(
     ensures stops { let front = IsSweepFront (I.remaining input.old) path.now words.now
         (option_map (λ w. w.now) shard.entry) in
         IfErr result (Stops O.told O.failed outlet.old outlet.new front front) }
+    ensures why { IfErr result (StopsSweep (I.remaining input.old) path.now words.now
+        (option_map (λ w. w.now) shard.entry)) }
     ensures taken { TakesAtMost (most_bytes + 1) (I.remaining input.old) (I.remaining input.new) }
     ensures untouched { path.now ≢ input_path → input.new ≡ input.old }
+    ensures hidden { W.shows watcher.old ≡ false → W.shows watcher.new ≡ false }
 {
     let grid = grid_of(alloc, words)?;
     let shard = shard_of(alloc, shard)?;
     let file = table_of(rt, alloc, path, input)?;
     let threads = threads_for(rt, threads);
-    match sweep(rt, alloc, &file, &grid, shard, threads, outlet) {
+    match sweep(rt, alloc, &file, &grid, shard, threads, outlet, watcher) {
         Ok(()) => Ok(()),
         Err(error) => Err(fault_of(alloc, path, &file, &grid, &error)),
     }

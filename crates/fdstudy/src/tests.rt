@@ -3,6 +3,7 @@ mod files;
 mod letter_rows;
 mod outlets;
 mod pictures;
+mod progress_lines;
 mod reports;
 mod runs;
 mod studies;

@@ -1,5 +1,6 @@
 //! Texts that go out whole.
 ghost use Rattle.std.specs.Prelude.{◌≡◌, ◌^◌, ◌-◌, ◌<◌, OnOk, IfErr};
+ghost use Rattle.fdstudy.specs.Stop.{Tells};
 ghost use Rattle.qos_report.specs.Writing.{Wrote, WrotePart};
 
 use crate::fault::Fault;
@@ -27,4 +28,12 @@ pub(crate) fn put_text<O: Outlet>(text: &str, outlet: &mut O) -> Result<(), Faul
         × WrotePart O.told O.failed outlet.old outlet.new text.now) }
 {
     put_bytes(text.as_bytes(), outlet)
+}
+
+/// Writes a text as far as the outlet takes it. Where a put fails, nobody is told.
+pub(crate) fn tell_text<O: Outlet>(text: &str, outlet: &mut O)
+    requires { O.failed outlet.old < 2 ^ 64 - 1 }
+    ensures { Tells O.told O.failed outlet.old outlet.new (λ told. told ≡ text.now) }
+{
+    put_all(outlet, text.as_bytes());
 }

@@ -1,4 +1,3 @@
-pub mod Counting
 pub mod Blocks
 pub mod Combos
 pub mod Points

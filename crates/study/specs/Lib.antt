@@ -1,4 +1,3 @@
-pub mod Percentile
 pub mod Shard
 pub mod Combinations
 pub mod Settings

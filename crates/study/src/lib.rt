@@ -1,13 +1,12 @@
 //! Studies: many runs of one scenario under a grid of settings, and what is said of all of them together.
 //!
-//! This crate says which runs a study has and what each run's scenario is, and finds percentiles. A [`Grid`] has
-//! points, all combinations of the values of its varied axes, and each point has runs, all combinations of the values
-//! of its other axes with each seed (`specs/Grid.antt`). The code finds a point or a run by its number, and lists none.
-//! A [`Shard`] is one of several consecutive blocks of the points (`specs/Shard.antt`). [`read_run`] reads a run's
-//! scenario from the file's table with the run's values in place of the file's (`specs/Placed.antt`), and
-//! [`scenario_text`] writes that table as a file. Keys, axes, [`Seeds`] and shards are read from words of a command
-//! line by their `parse` (`specs/KeyWords.antt`, `specs/AxisWords.antt`, `specs/SeedWords.antt`,
-//! `specs/ShardWords.antt`).
+//! This crate says which runs a study has and what each run's scenario is. A [`Grid`] has points, all combinations of
+//! the values of its varied axes, and each point has runs, all combinations of the values of its other axes with each
+//! seed (`specs/Grid.antt`). The code finds a point or a run by its number, and lists none. A [`Shard`] is one of
+//! several consecutive blocks of the points (`specs/Shard.antt`). [`read_run`] reads a run's scenario from the file's
+//! table with the run's values in place of the file's (`specs/Placed.antt`), and [`scenario_text`] writes that table as
+//! a file. Keys, axes, [`Seeds`] and shards are read from words of a command line by their `parse`
+//! (`specs/KeyWords.antt`, `specs/AxisWords.antt`, `specs/SeedWords.antt`, `specs/ShardWords.antt`).
 #![tactic(auto)]
 
 mod axis;
@@ -17,7 +16,6 @@ mod error;
 mod grid;
 mod key;
 mod key_words;
-mod percentiles;
 mod placed;
 mod range;
 mod range_words;
@@ -36,7 +34,6 @@ pub use error::{
 };
 pub use grid::Grid;
 pub use key::Key;
-pub use percentiles::percentile;
 pub use read::{read_run, run_table};
 pub use run::Run;
 pub use seeds::Seeds;

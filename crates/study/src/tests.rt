@@ -1,6 +1,5 @@
 //! Studies by hand.
 mod grids;
-mod numbers;
 mod scenarios;
 mod shards;
 mod words;

@@ -14,7 +14,7 @@ use Rattle.std.proofs.Math.Nat.{mul-le-mul_right}
 use Rattle.std.proofs.lemmas.Map.{lookup-none}
 use Rattle.std.proofs.lemmas.Map.Entries.{none_below_head}
 use Rattle.std.proofs.lemmas.Map.Keys.{sorted_head, sorted_tail}
-use Rattle.study.specs.Percentile.{IsPercentile, at_most}
+use Rattle.sweep.specs.Percentile.{IsPercentile, at_most}
 use Rattle.sweep.specs.Times.{passing}
 
 -- ---- one more of a value

@@ -14,3 +14,4 @@ mod Shards
 mod Ending
 mod InTurn
 mod Placed
+mod Heard

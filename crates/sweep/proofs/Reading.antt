@@ -1,5 +1,5 @@
 -- Runs whose scenarios were read, one number after the other.
-use Rattle.std.proofs.Common.{◌≡◌, ℕ, ◌+◌, ◌-◌, ◌≤◌, ◌<◌, ⊎_elim, List, Bool, true, Result, Err, IfErr, arith, sym, subst}
+use Rattle.std.proofs.Common.{◌≡◌, ℕ, ◌+◌, ◌-◌, ◌≤◌, ◌<◌, ⊎_elim, List, Bool, true, Result, Ok, Err, IfErr, arith, sym, subst}
 use Rattle.std.specs.Prelude.{slice_index_or}
 use Rattle.std.proofs.lemmas.Bool.{cases_lt}
 use Rattle.toml.specs.Data.{Members}
@@ -34,3 +34,7 @@ module _ (file : Members) (g : GridRecord) where
   first_refusal first end n (error.Refused point run reason) low high refused before = (n, low, high, refused, before)
   first_refusal first end n error.Memory low high refused before = tt
   first_refusal first end n error.Write low high refused before = refused
+
+pub if_any_err : {A E : Type 0} (r : Result A E) (P : Type 0) → P → IfErr r (λ e. P)
+if_any_err (Ok a) P p = tt
+if_any_err (Err e) P p = p

@@ -14,7 +14,7 @@ use Rattle.qos_report.specs.declared.pair_measures.Detection.{Detection}
 use Rattle.qos_report.specs.declared.pair_measures.Detection.TheVariants.{Na, NoTick, At}
 use Rattle.qos_report.specs.declared.pair_measures.PairMeasures.{PairMeasures}
 use Rattle.scenario.specs.Record.{Record}
-use Rattle.study.specs.Percentile.{IsPercentile}
+use Rattle.sweep.specs.Percentile.{IsPercentile}
 use Rattle.sweep.specs.Results.{RunResult, finished, limited, Trial}
 use Rattle.sweep.specs.declared.columns.Columns.{Columns}
 use Rattle.sweep.specs.declared.columns.DecisionSums.{DecisionSums}

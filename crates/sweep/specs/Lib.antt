@@ -1,3 +1,4 @@
+pub mod Percentile
 pub mod Results
 pub mod Columns
 pub mod RowText
@@ -11,3 +12,4 @@ pub mod StudyText
 pub mod Outcome
 pub mod Numbering
 pub mod Progress
+pub mod Watching

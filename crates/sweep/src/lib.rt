@@ -30,6 +30,7 @@ mod sweeping;
 mod table;
 mod texts;
 mod time_counts;
+mod watcher;
 
 pub use columns::{
     Columns, DecisionSums, DetectionTimes, LayerSums, PairSums, TraceSums, VerdictCounts,
@@ -40,6 +41,7 @@ pub use point_sums::PointSums;
 pub use run_numbers::RunNumbers;
 pub use sweeping::sweep;
 pub use table::Table;
+pub use watcher::{Standing, Unwatched, Watcher};
 
 #[cfg(test)]
 mod tests;

@@ -1,9 +1,10 @@
 //! Sweeps: all runs of a study's points, and the rows that tell of them.
-ghost use Rattle.std.specs.Prelude.{◌^◌, ◌-◌, ◌*◌, ◌<◌, ◌≤◌, length, OnOk, IfErr};
+ghost use Rattle.std.specs.Prelude.{◌≡◌, ℕ, ◌^◌, ◌-◌, ◌*◌, ◌<◌, ◌≤◌, false, length, OnOk, IfErr};
 ghost use Rattle.toml.specs.View.{table_view};
 ghost use Rattle.study.specs.Grid.{points, runs};
 ghost use Rattle.sweep.specs.Outcome.{WroteStudy, BreaksOff};
 ghost use Rattle.sweep.specs.Progress.{WroteUpTo, StopsBelow};
+ghost use Rattle.sweep.specs.Watching.{HeardUpTo, HeardAll, HeardSome};
 
 use crate::checking::check_runs;
 use crate::error::SweepError;
@@ -12,6 +13,7 @@ use crate::numbering::batch;
 use crate::parallel::in_parallel;
 use crate::progress::Progress;
 use crate::texts::write_header;
+use crate::watcher::{Standing, Watcher};
 use qos_report::Outlet;
 use std::alloc::Global;
 use std::marker::Sync;
@@ -20,8 +22,8 @@ use study::{Grid, Shard};
 use toml::Table;
 
 /// Runs all runs of the points from one number up to another, and writes the rows of each point when its last run is
-/// in.
-fn write_points<R: Threads + Sync, O: Outlet>(
+/// in. The watcher hears of the beginning, and whenever more runs are in.
+fn write_points<R: Threads + Sync, O: Outlet, W: Watcher>(
     rt: &R,
     alloc: Global,
     file: &Table,
@@ -30,6 +32,7 @@ fn write_points<R: Threads + Sync, O: Outlet>(
     end: u64,
     threads: u8,
     outlet: &mut O,
+    watcher: &mut W,
 ) -> Result<(), SweepError>
     requires failures { O.failed outlet.old < 2 ^ 64 - 1 }
     requires some { 1 ≤ length (runs grid.now) }
@@ -40,10 +43,20 @@ fn write_points<R: Threads + Sync, O: Outlet>(
         (WroteUpTo (table_view file.now) grid.now O.told O.failed outlet.old outlet.new begin end) }
     ensures stops { IfErr result
         (StopsBelow (table_view file.now) grid.now O.told O.failed outlet.old outlet.new begin end) }
+    ensures heard { OnOk result (HeardUpTo W.heard watcher.old watcher.new (end - begin) (length (runs grid.now))
+        ((end - begin) * length (runs grid.now))) }
+    ensures heard_some { IfErr result (λ _. (done : ℕ) × (done ≤ (end - begin) * length (runs grid.now))
+        × HeardUpTo W.heard watcher.old watcher.new (end - begin) (length (runs grid.now)) done) }
 {
     let runs = grid.runs();
+    let points = end - begin;
     let mut progress = Progress::at(alloc, begin);
     let mut next = begin * runs;
+    watcher.hear(Standing {
+        points,
+        runs,
+        done: 0,
+    });
     while next < end * runs {
         let count = batch(threads).min(end * runs - next);
         let answers = in_parallel(
@@ -54,14 +67,24 @@ fn write_points<R: Threads + Sync, O: Outlet>(
             threads,
             &|number| measure_run(alloc, file, grid, number),
         )?;
+        watcher.make_way();
         progress.take_all(alloc, grid, &answers, outlet)?;
         next += count;
+        watcher.hear(Standing {
+            points,
+            runs,
+            done: next - begin * runs,
+        });
     }
     Ok(())
 }
 
 /// Sweeps the points of a shard of a study: runs all their runs by so many threads, and writes a row for each point and
-/// layer, with sums over its runs. The first shard begins with the header. The threads change nothing of the text.
+/// layer, with sums over its runs. The first shard begins with the header. The threads and the watcher change nothing
+/// of the text.
+///
+/// The watcher hears how many of the shard's runs are in: that none is, as the first begins, and then ever more, up to
+/// all of them. It is told when rows are to go out, and what it shows is taken away as the sweep ends.
 ///
 /// Every run's scenario is read before the first run starts. A point's rows go out when its last run is in. Memory
 /// grows with neither the runs nor their horizon: what is held is what some dozens of runs for each thread give, and
@@ -72,7 +95,7 @@ fn write_points<R: Threads + Sync, O: Outlet>(
 /// `Refused` where a run of the shard has no scenario, for the first such run; then nothing went out. `Memory` where
 /// memory was refused: then nothing went out, or the header and the rows of the first points. `Write` where a put
 /// failed: then a front part of these.
-pub fn sweep<R: Threads + Sync, O: Outlet>(
+pub fn sweep<R: Threads + Sync, O: Outlet, W: Watcher>(
     rt: &R,
     alloc: Global,
     file: &Table,
@@ -80,11 +103,15 @@ pub fn sweep<R: Threads + Sync, O: Outlet>(
     shard: Shard,
     threads: u8,
     outlet: &mut O,
+    watcher: &mut W,
 ) -> Result<(), SweepError>
     requires failures { O.failed outlet.old < 2 ^ 64 - 1 }
     ensures done { OnOk result (WroteStudy (table_view file.now) grid.now shard O.told O.failed outlet.old outlet.new) }
     ensures breaks_off { IfErr result
         (BreaksOff (table_view file.now) grid.now shard O.told O.failed outlet.old outlet.new) }
+    ensures heard { OnOk result (HeardAll W.heard watcher.old watcher.new grid.now shard) }
+    ensures heard_some { IfErr result (λ _. HeardSome W.heard watcher.old watcher.new grid.now shard) }
+    ensures hidden { W.shows watcher.old ≡ false → W.shows watcher.new ≡ false }
 {
     let runs = grid.runs();
     let points = shard.points(grid.points() as u32);
@@ -92,5 +119,7 @@ pub fn sweep<R: Threads + Sync, O: Outlet>(
     let end = u64::from(points.end);
     check_runs(rt, alloc, file, grid, begin * runs, end * runs, threads)?;
     write_header(alloc, grid, shard, outlet)?;
-    write_points(rt, alloc, file, grid, begin, end, threads, outlet)
+    let answer = write_points(rt, alloc, file, grid, begin, end, threads, outlet, watcher);
+    watcher.hide();
+    answer
 }

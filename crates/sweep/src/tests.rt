@@ -6,3 +6,4 @@ mod studies;
 mod sums;
 mod sweeps;
 mod times;
+mod watchers;

@@ -1,6 +1,6 @@
 //! Detection times, each with how often it came.
 ghost use Rattle.std.specs.Prelude.{◌≡◌, ◌<◌, ◌≤◌, ◌^◌, ◌+◌, ◌++◌, ◌∷◌, [], ℕ, List, length, IfOk, OnOk};
-ghost use Rattle.study.specs.Percentile.{IsPercentile};
+ghost use Rattle.sweep.specs.Percentile.{IsPercentile};
 ghost use Rattle.sweep.specs.Columns.{IsNoneOr, IsGreatest, AreTimes};
 ghost use Rattle.sweep.specs.Adding.{greater};
 

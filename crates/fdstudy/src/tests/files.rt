@@ -66,6 +66,10 @@ fn refused_runs(rt: HostRuntime) -> Result<(), Fail> {
             isn't there\n",
         ),
         (
+            "--vary horizon.x=3",
+            "-: run 1 of point 1 with horizon.x=3, seed=7: NotATable: the key's path goes through what is no table\n",
+        ),
+        (
             "--vary algorithm=s",
             "-: run 1 of point 1 with algorithm=s, seed=7: Proposals: proposals: there are none, and 2 processes\n",
         ),

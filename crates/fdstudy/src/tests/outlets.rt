@@ -6,6 +6,7 @@ use qos_report::{FuseOutlet, MemoryOutlet, Outlet, StreamOutlet, put_all};
 use std::io::{self, Write};
 use std::process::ExitCode;
 use std::test::Fail;
+use sweep::Unwatched;
 
 /// A writer that takes everything and cannot send it on.
 #[derive(Drop)]
@@ -37,7 +38,15 @@ fn ten_bytes(rt: HostRuntime) -> Result<(), Fail> {
         let mut outlet = FuseOutlet::new(alloc, 10, 1);
         let mut faults = MemoryOutlet::new(alloc);
         let mut input = ONE_CRASH.as_bytes();
-        let status = serve(&rt, alloc, &words, &mut input, &mut outlet, &mut faults);
+        let status = serve(
+            &rt,
+            alloc,
+            &words,
+            &mut input,
+            &mut outlet,
+            &mut faults,
+            &mut Unwatched,
+        );
         assert_eq!(rt; status, 4);
         assert_eq!(rt; outlet.failures(), 1);
         assert!(rt; outlet.bytes() == want.as_bytes());

@@ -8,6 +8,7 @@ use std::process::Abort;
 use std::rt::Files;
 use std::test::Fail;
 use std::thread::Threads;
+use sweep::Unwatched;
 
 /// Two processes over 10 ticks, of which the second crashes at tick 3.
 pub const ONE_CRASH: &str = "version = 1
@@ -65,7 +66,15 @@ pub fn run<R: Files + Threads + Sync>(
     let mut outlet = MemoryOutlet::new(alloc);
     let mut faults = MemoryOutlet::new(alloc);
     let mut rest = input.as_bytes();
-    let status = serve(rt, alloc, &words, &mut rest, &mut outlet, &mut faults);
+    let status = serve(
+        rt,
+        alloc,
+        &words,
+        &mut rest,
+        &mut outlet,
+        &mut faults,
+        &mut Unwatched,
+    );
     Ok(Ran {
         status,
         out: text_of(alloc, outlet.bytes())?,

@@ -4,7 +4,7 @@ ghost use Rattle.toml.specs.View.{table_view};
 ghost use Rattle.sweep.specs.StudyText.{IsStudyText};
 
 use super::studies::seven_points;
-use crate::{SweepError, law_one_text, law_shard_texts, sweep};
+use crate::{SweepError, Unwatched, law_one_text, law_shard_texts, sweep};
 use qos_report::MemoryOutlet;
 use std::alloc::Global;
 use std::marker::Sync;
@@ -31,7 +31,16 @@ fn sweep_shards<R: Threads + Sync>(
         let Some(shard) = Shard::new(before + 1, shards) else {
             unreachable!()
         };
-        sweep(rt, alloc, file, grid, shard, threads, &mut outlet)?;
+        sweep(
+            rt,
+            alloc,
+            file,
+            grid,
+            shard,
+            threads,
+            &mut outlet,
+            &mut Unwatched,
+        )?;
     }
     law_shard_texts(file, grid, shards);
     Ok(outlet)
@@ -51,7 +60,16 @@ fn shards_and_whole<R: Threads + Sync>(
 {
     let parts = sweep_shards(rt, alloc, file, grid, shards, threads)?;
     let mut whole = MemoryOutlet::new(alloc);
-    sweep(rt, alloc, file, grid, Shard::whole(), 1, &mut whole)?;
+    sweep(
+        rt,
+        alloc,
+        file,
+        grid,
+        Shard::whole(),
+        1,
+        &mut whole,
+        &mut Unwatched,
+    )?;
     law_one_text(file, grid, Shard::whole());
     Ok((parts, whole))
 }

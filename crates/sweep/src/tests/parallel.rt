@@ -1,6 +1,22 @@
 //! Calls that threads share out.
 use crate::parallel::in_parallel;
+use std::sync::atomic::{AtomicU64, Ordering};
 use std::test::Fail;
+use std::thread;
+
+/// How often a call looks for the others before it gives up.
+const TURNS: u32 = 100_000_000;
+
+/// Waits until so many calls have begun. Answers whether they have.
+fn have_begun(begun: &AtomicU64, count: u64) -> bool {
+    for _ in 0..TURNS {
+        if begun.load(Ordering::SeqCst) >= count {
+            return true;
+        }
+        thread::yield_now();
+    }
+    false
+}
 
 /// Ten numbers from 5, each by 7: by any number of threads the remainders stand in the numbers' order.
 #[test]
@@ -14,6 +30,30 @@ fn ten_remainders(rt: HostRuntime) -> Result<(), Fail> {
         );
         let none = in_parallel(&rt, alloc, 5, 0, threads, &|number| number % 7)?;
         assert!(rt; none.is_empty(), "{threads}");
+    }
+    Ok(())
+}
+
+/// As many calls as threads, of which none ends before all have begun: so each thread is at work on its own.
+#[test]
+fn threads_overlap(rt: HostRuntime) -> Result<(), Fail> {
+    let alloc = rt.alloc();
+    for threads in [2u8, 3, 4] {
+        let count = u64::from(threads);
+        let begun = AtomicU64::new(0);
+        let met = in_parallel(
+            &rt,
+            alloc,
+            0,
+            count,
+            threads,
+            &|_number| {
+                begun.fetch_add(1, Ordering::SeqCst);
+                have_begun(&begun, count)
+            },
+        )?;
+        assert_eq!(rt; begun.load(Ordering::SeqCst), count);
+        assert!(rt; met.iter().all(|is_met| *is_met), "{threads}");
     }
     Ok(())
 }

@@ -1,6 +1,6 @@
 //! What tests of sweeps share: small studies by words, and their texts.
 use super::rows::crash_text;
-use crate::sweep;
+use crate::{Unwatched, sweep};
 use qos_report::MemoryOutlet;
 use std::alloc::Global;
 use std::marker::Sync;
@@ -67,6 +67,7 @@ pub(super) fn swept<R: Threads + Sync>(
         shard,
         threads,
         &mut outlet,
+        &mut Unwatched,
     )?;
     Ok(outlet)
 }

@@ -1,7 +1,7 @@
 //! Sweeps of small studies.
 use super::rows::HEADER;
 use super::studies::{Study, seven_points, study_of, swept, two_points};
-use crate::{SweepError, sweep};
+use crate::{SweepError, Unwatched, sweep};
 use qos_report::{FuseOutlet, MemoryOutlet, Outlet};
 use scenario::ScenarioError;
 use std::alloc::Global;
@@ -93,7 +93,16 @@ fn outcome<R: Threads + Sync>(
     shard: Shard,
 ) -> (Result<(), SweepError>, MemoryOutlet) {
     let mut outlet = MemoryOutlet::new(alloc);
-    let answer = sweep(rt, alloc, &study.file, &study.grid, shard, 2, &mut outlet);
+    let answer = sweep(
+        rt,
+        alloc,
+        &study.file,
+        &study.grid,
+        shard,
+        2,
+        &mut outlet,
+        &mut Unwatched,
+    );
     (answer, outlet)
 }
 
@@ -155,6 +164,7 @@ fn ends_well<R: Threads + Sync + Abort>(
         Shard::whole(),
         2,
         &mut outlet,
+        &mut Unwatched,
     ) {
         Ok(()) => {
             assert_eq!(rt; outlet.failures(), 0);

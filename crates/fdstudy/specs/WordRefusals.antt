@@ -1,0 +1,56 @@
+-- Why words of a study are refused.
+use Rattle.std.specs.Prelude.{◌≡◌, ◌⊎◌, ◌<◌, ℕ, List, map, false, Option, Some}
+use Rattle.std.specs.List.{AllZip, Contains}
+use Rattle.study.specs.AxisWords.{SaysAxis, SaysNoAxis, is_memory as is_axis_memory}
+use Rattle.study.specs.Grid.{IsFirst, is_memory as is_grid_memory}
+use Rattle.study.specs.SeedWords.{seeds_fault, seeds_said}
+use Rattle.study.specs.ShardWords.{shard_fault, shard_said}
+use Rattle.study.specs.Words.{Word}
+use Rattle.study.specs.declared.axis.Axis.{Axis}
+use Rattle.study.specs.declared.error.AxisError.{AxisError}
+use Rattle.study.specs.declared.error.GridError.{GridError}
+use Rattle.study.specs.declared.error.SeedsError.{SeedsError}
+use Rattle.study.specs.declared.error.ShardError.{ShardError}
+use Rattle.study_line.specs.declared.order.GridTexts.{GridTexts}
+
+-- one of the words says no axis, for a reason other than memory
+pub record HasNoAxis (words : List Word) : Type 0 where
+  pub word : Word
+  pub there : Contains words word
+  pub reason : AxisError
+  pub other : is_axis_memory reason ≡ false
+  pub says : SaysNoAxis word reason
+
+-- the word says no seeds
+pub record SaysNoSeeds (word : Word) : Type 0 where
+  pub reason : SeedsError
+  pub is : seeds_fault (seeds_said word) ≡ Some reason
+
+-- the words say axes and seeds that make no grid
+pub record MakeNoGrid (words : GridTexts) : Type 0 where
+  pub vary : List Axis
+  pub over : List Axis
+  pub seeds : ℕ × ℕ
+  pub says_vary : AllZip SaysAxis (map (λ w. w.now) words.vary.items) vary
+  pub says_over : AllZip SaysAxis (map (λ w. w.now) words.over.items) over
+  pub says_seeds : seeds_said words.seeds.now ≡ Some seeds
+  pub reason : GridError
+  pub other : is_grid_memory reason ≡ false
+  pub first : IsFirst vary over seeds.0 seeds.1 reason
+
+-- the words say no grid
+abbrev pub SaysNoGrid : GridTexts → Type 0
+SaysNoGrid words =
+    HasNoAxis (map (λ w. w.now) words.vary.items) ⊎ (HasNoAxis (map (λ w. w.now) words.over.items)
+    ⊎ (SaysNoSeeds words.seeds.now ⊎ MakeNoGrid words))
+
+-- there is a word, and it says no shard
+pub record SaysNoShard (word : Option Word) : Type 0 where
+  pub text : Word
+  pub there : word ≡ Some text
+  pub reason : ShardError
+  pub is : shard_fault (shard_said text) ≡ Some reason
+
+-- what counts from 1 isn't among so many
+abbrev pub IsOutside : (number count : ℕ) → Type 0
+IsOutside number count = (number ≡ 0) ⊎ (count < number)

@@ -1,0 +1,138 @@
+//! What a watcher hears of a sweep.
+
+use super::studies::{Study, seven_points, study_of};
+use crate::{Standing, SweepError, Watcher, sweep};
+use qos_report::{FuseOutlet, MemoryOutlet};
+use std::alloc::Global;
+use std::marker::Sync;
+use std::process::Abort;
+use std::test::Fail;
+use std::thread::Threads;
+use study::Shard;
+
+/// Keeps the last that it heard, and whether each was one more of the same sweep.
+#[derive(Drop)]
+struct Keeper {
+    last: Option<Standing>,
+    count: u64,
+    all_rise: bool,
+    shows: bool,
+}
+
+impl Watcher for Keeper {
+    ghost heard = { λ _ _ _. Unit {0} };
+
+    ghost shows = { λ k. k.shows };
+
+    fn hear(&mut self, standing: Standing) {
+        let rises = match self.last {
+            None => standing.done == 0,
+            Some(last) => {
+                last.points == standing.points
+                    && last.runs == standing.runs
+                    && last.done < standing.done
+            }
+        };
+        self.all_rise = self.all_rise && rises;
+        self.count = self.count.saturating_add(1);
+        self.last = Some(standing);
+        self.shows = true;
+    }
+
+    fn make_way(&mut self) {}
+
+    fn hide(&mut self) {
+        self.shows = false;
+    }
+}
+
+impl Keeper {
+    fn new() -> Keeper {
+        Keeper {
+            last: None,
+            count: 0,
+            all_rise: true,
+            shows: false,
+        }
+    }
+}
+
+/// What a watcher of a shard's sweep heard, by two threads, of which each takes 64 runs at a time.
+fn heard_of<R: Threads + Sync>(
+    rt: &R,
+    alloc: Global,
+    study: &Study,
+    shard: Shard,
+) -> Result<Keeper, SweepError> {
+    let mut outlet = MemoryOutlet::new(alloc);
+    let mut keeper = Keeper::new();
+    sweep(
+        rt,
+        alloc,
+        &study.file,
+        &study.grid,
+        shard,
+        2,
+        &mut outlet,
+        &mut keeper,
+    )?;
+    Ok(keeper)
+}
+
+/// Seven points with 40 runs each are 280 runs, of which 128 come in at a time: the watcher hears of 0, 128, 256 and 280.
+#[test]
+fn hears_of_all_runs(rt: HostRuntime) -> Result<(), Fail> {
+    let alloc = rt.alloc();
+    let keeper = heard_of(&rt, alloc, &seven_points(alloc)?, Shard::whole())?;
+    let want = Standing {
+        points: 7,
+        runs: 40,
+        done: 280,
+    };
+    assert!(rt; keeper.last == Some(want));
+    assert_eq!(rt; keeper.count, 4);
+    assert!(rt; keeper.all_rise && !keeper.shows);
+    Ok(())
+}
+
+/// The last of three shards has the points 4 to 6 of seven: of these alone is told.
+#[test]
+fn shard_counts_its_own(rt: HostRuntime) -> Result<(), Fail> {
+    let alloc = rt.alloc();
+    let last = Shard::new(3, 3).ok_or("no shard")?;
+    let keeper = heard_of(&rt, alloc, &seven_points(alloc)?, last)?;
+    let want = Standing {
+        points: 3,
+        runs: 40,
+        done: 120,
+    };
+    assert!(rt; keeper.last == Some(want));
+    assert!(rt; keeper.all_rise && !keeper.shows);
+    Ok(())
+}
+
+/// Of a study with a refused run nothing is heard. Where the third put fails, after the header and the first row, the
+/// first 128 runs are not told of, and nothing is shown any more.
+#[test]
+fn breaks_off(rt: HostRuntime) -> Result<(), Fail> {
+    let alloc = rt.alloc();
+    let links = study_of(alloc, &["link.max=5,2,1"], &["link.min=2,3"], 3)?;
+    assert!(rt; heard_of(&rt, alloc, &links, Shard::whole()).is_err());
+    let seven = seven_points(alloc)?;
+    let mut outlet = FuseOutlet::new(alloc, usize::MAX, 2);
+    let mut keeper = Keeper::new();
+    let answer = sweep(
+        &rt,
+        alloc,
+        &seven.file,
+        &seven.grid,
+        Shard::whole(),
+        2,
+        &mut outlet,
+        &mut keeper,
+    );
+    assert!(rt; matches!(answer, Err(SweepError::Write)));
+    assert_eq!(rt; keeper.count, 1);
+    assert!(rt; keeper.all_rise && !keeper.shows);
+    Ok(())
+}
