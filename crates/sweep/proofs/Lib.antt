@@ -4,8 +4,6 @@ pub mod Layered
 pub mod Lines
 pub mod Single
 pub mod Parts
-mod Dealt
-mod Taking
 mod Reading
 mod Numbered
 mod Zipped
@@ -15,4 +13,5 @@ mod OneText
 mod Shards
 mod Ending
 mod InTurn
+mod Placed
 mod Heard

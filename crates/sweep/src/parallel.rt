@@ -1,30 +1,33 @@
 //! Calls for consecutive numbers, shared out among threads.
-ghost use Rattle.std.specs.Prelude.{◌≡◌, ℕ, ◌+◌, ◌*◌, ◌^◌, ◌<◌, ◌≤◌, IfOk, Ok, map, vec_len};
-ghost use Rattle.sweep.specs.Parallel.{AreAnswers, AreEvery, AreColumns, AreInOrder};
+ghost use Rattle.std.specs.Prelude.{◌≡◌, ℕ, ◌+◌, ◌^◌, ◌<◌, ◌≤◌, None, IfOk, Ok, fold, map, vec_len};
+ghost use Rattle.std.specs.List.{All};
+ghost use Rattle.sweep.specs.Parallel.{AreAnswers, ArePlaces, IsPlaced, with_answers, with_columns};
 
 use std::alloc::{AllocError, Global};
 use std::marker::{Send, Sync};
+use std::sync::atomic::{AtomicU64, Ordering};
 use std::thread::{self, Threads};
 
-/// What the job gives for every `step`-th of the numbers, from the one at `start`.
-fn answer_every<T: Drop, F: Fn(u64) -> T>(
+/// What the job gives for numbers that no other thread has taken, one after the other, each with its place: how far its
+/// number is from the first. `next` holds how many numbers are taken; it decides who makes a call, and nothing else.
+fn answer_some<T: Drop, F: Fn(u64) -> T>(
     alloc: Global,
     first: u64,
     count: u64,
-    start: u64,
-    step: u64,
+    next: &AtomicU64,
     job: &F,
-) -> Result<Vec<T>, AllocError>
+) -> Result<Vec<(u64, T)>, AllocError>
     requires room { first + count < 2 ^ 64 }
-    requires start { start < step }
-    requires step { step ≤ count }
     requires accepts { (number : ℕ) → first ≤ number → number < first + count → F.pre job.now number }
-    ensures { IfOk result (λ v. AreEvery F.Fn job.now first count start step v.items) }
+    ensures { IfOk result (λ v. All (IsPlaced F.Fn job.now first count) v.items) }
 {
-    let many = (count - start).div_ceil(step);
-    let mut answers = Vec::with_capacity(alloc, many as usize)?;
-    for k in 0..many {
-        answers.push(job(first + (start + k * step)))?;
+    let mut answers = Vec::new(alloc);
+    for _ in 0..count {
+        let place = next.fetch_add(1, Ordering::SeqCst);
+        if place >= count {
+            break;
+        }
+        answers.push((place, job(first + place)))?;
     }
     Ok(answers)
 }
@@ -43,31 +46,67 @@ fn all_of<T: Drop>(
     Ok(all)
 }
 
-/// The answers of the columns, in the order of their numbers: of each round through the columns one answer of each.
-fn in_order<T: Drop>(
-    alloc: Global,
-    mut columns: Vec<Vec<T>>,
-    count: u64,
-) -> Result<Vec<T>, AllocError>
-    requires some { 1 ≤ vec_len columns }
-    requires columns { AreColumns count columns.items }
-    ensures { IfOk result (λ v. AreInOrder count columns.items v.items) }
+/// So many places, all empty.
+fn empty_places<T: Drop>(alloc: Global, count: u64) -> Result<Vec<Option<T>>, AllocError>
+    ensures count { IfOk result (λ v. vec_len v ≡ count) }
+    ensures empty { IfOk result (λ v. All (λ place. place ≡ None) v.items) }
 {
-    let step = columns.len() as u64;
-    let mut answers = Vec::with_capacity(alloc, count as usize)?;
-    for number in (0..count).rev() {
-        let Some(answer) = columns[(number % step) as usize].pop() else {
-            unreachable!()
+    let mut places = Vec::with_capacity(alloc, count as usize)?;
+    for _ in 0..count {
+        places.push(None)?;
+    }
+    Ok(places)
+}
+
+/// Puts each answer into its place.
+fn put_all<T: Drop>(places: &mut Vec<Option<T>>, answers: Vec<(u64, T)>)
+    requires { All (λ answer. answer.0 < vec_len places.old) answers.items }
+    ensures { places.new.items ≡ with_answers places.old.items answers.items }
+{
+    for (place, answer) in answers {
+        places[place as usize] = Some(answer);
+    }
+}
+
+/// Puts each answer of each column into its place.
+fn put_columns<T: Drop>(places: &mut Vec<Option<T>>, columns: Vec<Vec<(u64, T)>>)
+    requires { All (λ column. All (λ answer. answer.0 < vec_len places.old) column.items) columns.items }
+    ensures { places.new.items ≡ with_columns places.old.items columns.items }
+{
+    for answers in columns {
+        put_all(places, answers);
+    }
+}
+
+/// The answers in the order of their places. Where a place is empty, the job is called for its number.
+fn filled<T: Drop, F: Fn(u64) -> T>(
+    alloc: Global,
+    first: u64,
+    places: Vec<Option<T>>,
+    job: &F,
+) -> Result<Vec<T>, AllocError>
+    requires room { first + vec_len places < 2 ^ 64 }
+    requires accepts { (number : ℕ) → first ≤ number → number < first + vec_len places → F.pre job.now number }
+    requires places { ArePlaces F.Fn job.now first places.items }
+    ensures { IfOk result (λ v. AreAnswers F.Fn job.now first (vec_len places) v.items) }
+{
+    let mut answers = Vec::with_capacity(alloc, places.len())?;
+    let mut number = first;
+    for place in places {
+        let answer = match place {
+            Some(answer) => answer,
+            None => job(number),
         };
         answers.push(answer)?;
+        number += 1;
     }
-    answers.reverse();
     Ok(answers)
 }
 
 /// What the job gives for each of `count` numbers from `first`, in their order, by so many threads: this one and, for
-/// each more, one that is started. Each takes every so-many-th number. No more are started than there are numbers.
-/// Where the system refuses a thread, another does its part.
+/// each more, one that is started. Each takes the next number that nobody has taken, as soon as it has done its last, so
+/// that none waits while another has calls left. No more are started than there are numbers. Where the system refuses a
+/// thread, others do its part.
 ///
 /// # Errors
 ///
@@ -84,15 +123,15 @@ pub fn in_parallel<R: Threads + Sync, T: Send + Drop, F: Fn(u64) -> T + Sync>(
     requires accepts { (number : ℕ) → first ≤ number → number < first + count → F.pre job.now number }
     ensures { IfOk result (λ v. AreAnswers F.Fn job.now first count v.items) }
 {
-    if count == 0 {
-        return Ok(Vec::new(alloc));
-    }
-    let step = u64::from(threads).max(1).min(count);
+    let workers = u64::from(threads).max(1).min(count);
+    let next = AtomicU64::new(0);
     let columns = thread::map_indices(
         rt,
         alloc,
-        step as usize,
-        &|start| answer_every(alloc, first, count, start as u64, step, job),
+        workers as usize,
+        &|_worker: usize| answer_some(alloc, first, count, &next, job),
     )?;
-    in_order(alloc, all_of(alloc, columns)?, count)
+    let mut places = empty_places(alloc, count)?;
+    put_columns(&mut places, all_of(alloc, columns)?);
+    filled(alloc, first, places, job)
 }

@@ -1,0 +1,6 @@
+use Rattle.std.proofs.Common.{◌≡◌, None, vec_len}
+use Rattle.std.specs.List.{All}
+use Rattle.sweep.proofs.parallel.empty_places.Given as goal
+
+abbrev pub invariant-loop : goal.invariant-loop
+invariant-loop g l = (vec_len l.places ≡ l.counter) × All (λ place. place ≡ None) l.places.items

@@ -1,0 +1,35 @@
+use Rattle.std.proofs.Common.{◌≡◌, ◌<◌, ℕ, [], ◌∷◌, sym, ap, ◌∙◌, vec_len}
+use Rattle.std.specs.Vec.Iter.{into_iter_items}
+use Rattle.std.proofs.lemmas.List.{nil_from_length}
+use Rattle.std.proofs.lemmas.List.Elements.{All-rest}
+use Rattle.sweep.specs.Parallel.{with_answers}
+use Rattle.sweep.proofs.parallel.put_all.Goals as goal
+
+pub loop-place-preserved-in-Some : goal.loop-place-preserved-in-Some
+loop-place-preserved-in-Some g c =
+    let rest = into_iter_items c.loop-place.place-iterator in
+    let left = into_iter_items c.next.new.self in
+    let e : rest ≡ (c.in-Some.place, c.in-Some.answer) ∷ left = c.in-Some.ensures.steps.0 in
+    record {
+      long = c.loop-place.invariant.long;
+      left = All-rest (λ answer. answer.0 < vec_len c.args.places.now) (c.in-Some.place, c.in-Some.answer) left rest e
+          c.loop-place.invariant.left;
+      same = ap (λ answers. with_answers c.loop-place.places.items answers) (sym e) ∙ c.loop-place.invariant.same;
+    }
+
+pub loop-place-preserved : goal.loop-place-preserved
+loop-place-preserved g c =
+    let rest = into_iter_items c.loop-place.place-iterator in
+    let left = into_iter_items c.next.new.self in
+    let e : rest ≡ (c.in-Some.place, c.in-Some.answer) ∷ left = c.in-Some.ensures.steps.0 in
+    record {
+      long = c.loop-place.invariant.long;
+      left = All-rest (λ answer. answer.0 < vec_len c.args.places.now) (c.in-Some.place, c.in-Some.answer) left rest e
+          c.loop-place.invariant.left;
+      same = ap (λ answers. with_answers c.loop-place.places.items answers) (sym e) ∙ c.loop-place.invariant.same;
+    }
+
+pub returns : goal.returns
+returns g c =
+    let e : into_iter_items c.loop-place.place-iterator ≡ [] = nil_from_length _ (sym c.loop-place.place-iterator.rest.ok.0 ∙ c.in-None.ensures.steps.0) in
+    ap (λ answers. with_answers c.loop-place.places.items answers) (sym e) ∙ c.loop-place.invariant.same
