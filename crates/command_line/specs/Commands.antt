@@ -19,23 +19,26 @@ option_rule name values = record (new_rule name) { long = Some name; value_names
 abbrev pub number : ValueParser
 number = parser.Unsigned 0 18446744073709551615
 
+-- a command that takes a path
+abbrev pub with_path : Text → App
+with_path name = with_rule (new_app name) path_rule
+
 abbrev pub check_app : App
-check_app = with_rule (new_app (codes "check")) path_rule
+check_app = with_path (codes "check")
 
 -- the parser is that of what can be printed
 abbrev pub list_app : ValueParser → App
-list_app prints = with_rule (with_rule (new_app (codes "list")) path_rule) (option_rule (codes "print") prints)
+list_app prints = with_rule (with_path (codes "list")) (option_rule (codes "print") prints)
 
 -- how the windows of a run are planned
 abbrev pub with_plan : App → App
 with_plan app = with_rule (with_rule app (option_rule (codes "workers") number)) (option_rule (codes "window") number)
 
 abbrev pub run_app : ValueParser → App
-run_app prints =
-    with_rule (with_plan (with_rule (new_app (codes "run")) path_rule)) (option_rule (codes "print") prints)
+run_app prints = with_rule (with_plan (with_path (codes "run"))) (option_rule (codes "print") prints)
 
 abbrev pub compare_app : App
-compare_app = with_plan (with_rule (new_app (codes "compare")) path_rule)
+compare_app = with_plan (with_path (codes "compare"))
 
 -- `check` and `list` added
 abbrev pub with_list : App → (list : ValueParser) → App
@@ -97,6 +100,18 @@ pub record IsCommand (c : Command) : Type 0 where
   pub prints : Prints
   pub app : app_of c ≡ app_with prints
   pub local : IsLocal c
+
+-- the command has `list` beside what it had
+pub record AddsList (old new : Command) : Type 0 where
+  pub prints : ValueParser
+  pub takes : TakesPrints prints
+  pub app : app_of new ≡ with_subcommand (app_of old) (list_app prints).top
+
+-- the command has `run` beside what it had
+pub record AddsRun (old new : Command) : Type 0 where
+  pub prints : ValueParser
+  pub takes : TakesPrints prints
+  pub app : app_of new ≡ with_subcommand (app_of old) (run_app prints).top
 
 -- the command has `check` and `list` beside what it had
 pub record AddsListCommands (old new : Command) : Type 0 where

@@ -1,7 +1,7 @@
 //! The command line, with its help.
 ghost use Rattle.std.specs.Prelude.{◌≡◌, IfOk, codes, false};
-ghost use Rattle.clap.specs.Words.{app_of, rule_of};
-ghost use Rattle.command_line.specs.Commands.{AddsListCommands, AddsWindowCommands, IsCheck, IsCommand, IsCompare, IsList, IsLocal, IsPrintOption, IsRun, number, option_rule, path_rule, with_plan};
+ghost use Rattle.clap.specs.Words.{app_of, rule_of, with_rule, with_subcommand};
+ghost use Rattle.command_line.specs.Commands.{AddsList, AddsListCommands, AddsRun, AddsWindowCommands, IsCheck, IsCommand, IsCompare, IsList, IsLocal, IsPrintOption, IsRun, check_app, compare_app, number, option_rule, path_rule, with_path, with_plan};
 
 use clap::{Arg, Command, value_parser};
 use std::alloc::{AllocError, Global};
@@ -62,6 +62,24 @@ const WORKERS: &str = "How many workers share each window, 1 to 64";
 
 const WINDOW: &str = "How many ticks a window has, 1 to the scenario's lookahead";
 
+/// A command with one argument more.
+fn with_argument<'a>(command: Command<'a>, argument: Arg<'a>) -> Result<Command<'a>, AllocError>
+    requires local { argument.global ≡ false }
+    ensures app { IfOk result (λ c. app_of c ≡ with_rule (app_of command.entry) (rule_of argument.entry)) }
+    ensures local { IsLocal command.entry → IfOk result IsLocal }
+{
+    command.arg(argument)
+}
+
+/// A command with one subcommand more.
+fn with_command<'a>(command: Command<'a>, added: Command<'a>) -> Result<Command<'a>, AllocError>
+    requires local { IsLocal added }
+    ensures app { IfOk result (λ c. app_of c ≡ with_subcommand (app_of command.entry) (app_of added.entry).top) }
+    ensures local { IsLocal command.entry → IfOk result IsLocal }
+{
+    command.subcommand(added)
+}
+
 /// The scenario file.
 fn path_argument<'a>(alloc: Global) -> Arg<'a>
     ensures rule { rule_of result ≡ path_rule }
@@ -82,15 +100,25 @@ fn print_option<'a>(alloc: Global) -> Arg<'a>
         .value_parser(PRINTS.as_slice())
 }
 
+/// A command that takes a scenario file.
+fn path_command<'a>(
+    alloc: Global,
+    name: &'a str,
+    about: &'a str,
+    example: &'a str,
+) -> Result<Command<'a>, AllocError>
+    ensures app { IfOk result (λ c. app_of c ≡ with_path name.now) }
+    ensures local { IfOk result IsLocal }
+{
+    let command = Command::new(alloc, name).about(about).after_help(example);
+    with_argument(command, path_argument(alloc))
+}
+
 /// `check PATH`
 fn check_command<'a>(alloc: Global) -> Result<Command<'a>, AllocError>
     ensures { IfOk result IsCheck }
 {
-    let path = path_argument(alloc);
-    Command::new(alloc, "check")
-        .about(CHECK)
-        .after_help(CHECK_EXAMPLE)
-        .arg(path)
+    path_command(alloc, "check", CHECK, CHECK_EXAMPLE)
 }
 
 /// The option for the number of workers.
@@ -121,13 +149,8 @@ fn window_option<'a>(alloc: Global) -> Arg<'a>
 fn list_command<'a>(alloc: Global) -> Result<Command<'a>, AllocError>
     ensures { IfOk result IsList }
 {
-    let path = path_argument(alloc);
-    let print = print_option(alloc);
-    Command::new(alloc, "list")
-        .about(LIST)
-        .after_help(LIST_EXAMPLE)
-        .arg(path)?
-        .arg(print)
+    let command = path_command(alloc, "list", LIST, LIST_EXAMPLE)?;
+    with_argument(command, print_option(alloc))
 }
 
 /// A command with the options that plan its windows.
@@ -135,34 +158,55 @@ fn with_plan_options<'a>(alloc: Global, command: Command<'a>) -> Result<Command<
     ensures app { IfOk result (λ c. app_of c ≡ with_plan (app_of command.entry)) }
     ensures local { IsLocal command.entry → IfOk result IsLocal }
 {
-    let workers = workers_option(alloc);
-    let window = window_option(alloc);
-    command.arg(workers)?.arg(window)
+    let command = with_argument(command, workers_option(alloc))?;
+    with_argument(command, window_option(alloc))
+}
+
+/// A command that takes a scenario file and the options that plan its windows.
+fn plan_command<'a>(
+    alloc: Global,
+    name: &'a str,
+    about: &'a str,
+    example: &'a str,
+) -> Result<Command<'a>, AllocError>
+    ensures app { IfOk result (λ c. app_of c ≡ with_plan (with_path name.now)) }
+    ensures local { IfOk result IsLocal }
+{
+    let command = path_command(alloc, name, about, example)?;
+    with_plan_options(alloc, command)
 }
 
 /// `run PATH --workers N --window N [--print WHAT]`
 fn run_command<'a>(alloc: Global) -> Result<Command<'a>, AllocError>
     ensures { IfOk result IsRun }
 {
-    let path = path_argument(alloc);
-    let print = print_option(alloc);
-    let command = Command::new(alloc, "run")
-        .about(RUN)
-        .after_help(RUN_EXAMPLE)
-        .arg(path)?;
-    with_plan_options(alloc, command)?.arg(print)
+    let planned = plan_command(alloc, "run", RUN, RUN_EXAMPLE)?;
+    with_argument(planned, print_option(alloc))
 }
 
 /// `compare PATH --workers N --window N`
 fn compare_command<'a>(alloc: Global) -> Result<Command<'a>, AllocError>
     ensures { IfOk result IsCompare }
 {
-    let path = path_argument(alloc);
-    let command = Command::new(alloc, "compare")
-        .about(COMPARE)
-        .after_help(COMPARE_EXAMPLE)
-        .arg(path)?;
-    with_plan_options(alloc, command)
+    plan_command(alloc, "compare", COMPARE, COMPARE_EXAMPLE)
+}
+
+/// A command with `check` added.
+fn with_check<'a>(alloc: Global, command: Command<'a>) -> Result<Command<'a>, AllocError>
+    ensures app { IfOk result (λ c. app_of c ≡ with_subcommand (app_of command.entry) check_app.top) }
+    ensures local { IsLocal command.entry → IfOk result IsLocal }
+{
+    let added = check_command(alloc)?;
+    with_command(command, added)
+}
+
+/// A command with `list` added.
+fn with_list<'a>(alloc: Global, command: Command<'a>) -> Result<Command<'a>, AllocError>
+    ensures app { IfOk result (AddsList command.entry) }
+    ensures local { IsLocal command.entry → IfOk result IsLocal }
+{
+    let added = list_command(alloc)?;
+    with_command(command, added)
 }
 
 /// A command with `check` and `list` added.
@@ -170,9 +214,26 @@ fn with_list_commands<'a>(alloc: Global, command: Command<'a>) -> Result<Command
     ensures app { IfOk result (AddsListCommands command.entry) }
     ensures local { IsLocal command.entry → IfOk result IsLocal }
 {
-    let check = check_command(alloc)?;
-    let list = list_command(alloc)?;
-    command.subcommand(check)?.subcommand(list)
+    let command = with_check(alloc, command)?;
+    with_list(alloc, command)
+}
+
+/// A command with `run` added.
+fn with_run<'a>(alloc: Global, command: Command<'a>) -> Result<Command<'a>, AllocError>
+    ensures app { IfOk result (AddsRun command.entry) }
+    ensures local { IsLocal command.entry → IfOk result IsLocal }
+{
+    let added = run_command(alloc)?;
+    with_command(command, added)
+}
+
+/// A command with `compare` added.
+fn with_compare<'a>(alloc: Global, command: Command<'a>) -> Result<Command<'a>, AllocError>
+    ensures app { IfOk result (λ c. app_of c ≡ with_subcommand (app_of command.entry) compare_app.top) }
+    ensures local { IsLocal command.entry → IfOk result IsLocal }
+{
+    let added = compare_command(alloc)?;
+    with_command(command, added)
 }
 
 /// A command with `run` and `compare` added.
@@ -180,9 +241,8 @@ fn with_window_commands<'a>(alloc: Global, command: Command<'a>) -> Result<Comma
     ensures app { IfOk result (AddsWindowCommands command.entry) }
     ensures local { IsLocal command.entry → IfOk result IsLocal }
 {
-    let run = run_command(alloc)?;
-    let compare = compare_command(alloc)?;
-    command.subcommand(run)?.subcommand(compare)
+    let command = with_run(alloc, command)?;
+    with_compare(alloc, command)
 }
 
 /// The command line.

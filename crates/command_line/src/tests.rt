@@ -1,192 +1,162 @@
 //! Command lines.
 
-use crate::{Order, Told, read_words, told_of};
-use print_choice::PrintChoice;
+use crate::{read_words, told_of};
 use std::alloc::Global;
+use std::process::Abort;
 use std::test::Fail;
 
-/// Words that `clap` refuses, apart by one space each, with a part of what it says of them.
-const REFUSED: [(&str, &str); 15] = [
-    ("start -", "unrecognized subcommand 'start'"),
-    ("check - x", "unexpected argument 'x'"),
-    ("check - --print trace", "unexpected argument '--print'"),
-    ("list - --workers 2", "unexpected argument '--workers'"),
-    ("list - --print all", "invalid value 'all'"),
-    ("list - --print", "a value is required for '--print"),
+/// Lines of words, apart by one space each, with the order that they state. Options may stand before the path, and a
+/// value after `=`. Where nothing is said of it, the report is printed. The workers and the window are told apart, in
+/// whichever order they stand.
+const ORDERS: [(&str, &str); 8] = [
+    ("fdbench check -", "Check { path: \"-\" }"),
     (
-        "list - --print trace --print both",
+        "fdbench list --print=trace x.toml",
+        "List { path: \"x.toml\", print: Trace }",
+    ),
+    (
+        "fdbench list - --print=trace",
+        "List { path: \"-\", print: Trace }",
+    ),
+    (
+        "fdbench list - --print=report",
+        "List { path: \"-\", print: Report }",
+    ),
+    (
+        "fdbench list - --print=both",
+        "List { path: \"-\", print: Both }",
+    ),
+    ("fdbench list -", "List { path: \"-\", print: Report }"),
+    (
+        "fdbench run --window 3 - --workers=2 --print both",
+        "Run { path: \"-\", workers: 2, window: 3, print: Both }",
+    ),
+    (
+        "fdbench compare x.toml --workers 64 --window 0",
+        "Compare { path: \"x.toml\", workers: 64, window: 0 }",
+    ),
+];
+
+/// Lines that `clap` takes, but something is missing.
+const MISSING: [&str; 13] = [
+    "fdbench check",
+    "fdbench list",
+    "fdbench list --print trace",
+    "fdbench run",
+    "fdbench run -",
+    "fdbench run - --workers 2",
+    "fdbench run - --window 2",
+    "fdbench run --workers 2 --window 2",
+    "fdbench compare",
+    "fdbench compare -",
+    "fdbench compare - --workers 2",
+    "fdbench compare - --window 2",
+    "fdbench compare --workers 2 --window 2",
+];
+
+/// Lines that `clap` refuses, with a part of what it says of them.
+const REFUSED: [(&str, &str); 15] = [
+    ("fdbench start -", "unrecognized subcommand 'start'"),
+    ("fdbench check - x", "unexpected argument 'x'"),
+    (
+        "fdbench check - --print trace",
+        "unexpected argument '--print'",
+    ),
+    (
+        "fdbench list - --workers 2",
+        "unexpected argument '--workers'",
+    ),
+    ("fdbench list - --print all", "invalid value 'all'"),
+    ("fdbench list - --print", "a value is required for '--print"),
+    (
+        "fdbench list - --print trace --print both",
         "cannot be used multiple times",
     ),
     (
-        "run - --workers 2 --window 2 --print all",
+        "fdbench run - --workers 2 --window 2 --print all",
         "invalid value 'all'",
     ),
     (
-        "run - --workers x --window 2",
+        "fdbench run - --workers x --window 2",
         "invalid value 'x' for '--workers",
     ),
     (
-        "run - --workers 2 --window 2.5",
+        "fdbench run - --workers 2 --window 2.5",
         "invalid value '2.5' for '--window",
     ),
     (
-        "run - --workers 2 --window=-1",
+        "fdbench run - --workers 2 --window=-1",
         "invalid value '-1' for '--window",
     ),
-    ("run - --workers 2 --window -1", "unexpected argument '-1'"),
     (
-        "compare - --workers 18446744073709551616 --window 2",
+        "fdbench run - --workers 2 --window -1",
+        "unexpected argument '-1'",
+    ),
+    (
+        "fdbench compare - --workers 18446744073709551616 --window 2",
         "invalid value '18446744073709551616' for '--workers",
     ),
     (
-        "compare - --workers 2 --window",
+        "fdbench compare - --workers 2 --window",
         "a value is required for '--window",
     ),
     (
-        "compare - --workers 2 --window 2 --print both",
+        "fdbench compare - --workers 2 --window 2 --print both",
         "unexpected argument '--print'",
     ),
 ];
 
-/// What is told of the words of a line, apart by one space each, after the program's name.
-fn told_of_line(alloc: Global, line: &str) -> Result<Told, Fail> {
-    let mut words = Vec::new(alloc);
-    words.push("fdbench")?;
-    for word in line.split(' ') {
-        words.push(word)?;
-    }
+/// Lines that ask for help, with what it says of how the command is called. Then whether it names the options that plan
+/// windows, and the one that says what is printed.
+const HELP: [(&str, &str, bool, bool); 8] = [
+    ("fdbench --help", "Usage: fdbench", false, false),
+    ("fdbench -h", "Usage: fdbench", false, false),
+    ("fdbench check --help", "Usage: fdbench check", false, false),
+    ("fdbench help check", "Usage: fdbench check", false, false),
+    ("fdbench list --help", "Usage: fdbench list", false, true),
+    ("fdbench run --help", "Usage: fdbench run", true, true),
+    (
+        "fdbench compare --help",
+        "Usage: fdbench compare",
+        true,
+        false,
+    ),
+    (
+        "fdbench help compare",
+        "Usage: fdbench compare",
+        true,
+        false,
+    ),
+];
+
+/// What the words of a line state, or what is told of words that state nothing, as `{:?}` writes it.
+fn answer_of(alloc: Global, line: &str) -> Result<String, Fail> {
+    let words: Vec<&str> = line.split(' ').collect(alloc)?;
     match read_words(alloc, &words) {
-        Ok(_) => Err(Fail::new("an order")),
-        Err(error) => Ok(told_of(alloc, &error)),
+        Ok(order) => Ok(format!(in alloc; "{order:?}")?),
+        Err(error) => Ok(format!(in alloc; "{:?}", told_of(alloc, &error))?),
     }
 }
 
-/// Options may stand before the path, and a value after `=`.
+/// The answer has this part, or hasn't.
+fn says<R: Abort>(rt: &R, answer: &str, part: &str, has_it: bool) {
+    assert!(rt; answer.contains(part) == has_it, "{part}: {answer}");
+}
+
 #[test]
 fn orders(rt: HostRuntime) -> Result<(), Fail> {
-    let alloc = rt.alloc();
-    let words = ["fdbench", "check", "-"];
-    let order = read_words(alloc, &words);
-    assert!(rt; matches!(order, Ok(Order::Check { path: "-" })));
-    let words = ["fdbench", "list", "--print=trace", "x.toml"];
-    let order = read_words(alloc, &words);
-    assert!(rt;
-        matches!(
-            order,
-            Ok(Order::List {
-                path: "x.toml",
-                print: PrintChoice::Trace
-            })
-        )
-    );
-    Ok(())
-}
-
-/// The workers and the window are told apart, in whichever order they stand.
-#[test]
-fn orders_to_run(rt: HostRuntime) -> Result<(), Fail> {
-    let alloc = rt.alloc();
-    let words = [
-        "fdbench",
-        "run",
-        "--window",
-        "3",
-        "-",
-        "--workers=2",
-        "--print",
-        "both",
-    ];
-    let order = read_words(alloc, &words);
-    assert!(rt;
-        matches!(
-            order,
-            Ok(Order::Run {
-                path: "-",
-                workers: 2,
-                window: 3,
-                print: PrintChoice::Both
-            })
-        )
-    );
-    Ok(())
-}
-
-#[test]
-fn orders_to_compare(rt: HostRuntime) -> Result<(), Fail> {
-    let alloc = rt.alloc();
-    let words = [
-        "fdbench",
-        "compare",
-        "x.toml",
-        "--workers",
-        "64",
-        "--window",
-        "0",
-    ];
-    let order = read_words(alloc, &words);
-    assert!(rt;
-        matches!(
-            order,
-            Ok(Order::Compare {
-                path: "x.toml",
-                workers: 64,
-                window: 0
-            })
-        )
-    );
-    Ok(())
-}
-
-/// Where nothing is said of it, the report is printed.
-#[test]
-fn prints(rt: HostRuntime) -> Result<(), Fail> {
-    let alloc = rt.alloc();
-    for (word, print) in [
-        ("--print=trace", PrintChoice::Trace),
-        ("--print=report", PrintChoice::Report),
-        ("--print=both", PrintChoice::Both),
-    ] {
-        let words = ["fdbench", "list", "-", word];
-        let Ok(Order::List { print: read, .. }) = read_words(alloc, &words) else {
-            return Err(Fail::new(word));
-        };
-        assert_eq!(rt; read, print);
+    for (line, want) in ORDERS {
+        let answer = answer_of(rt.alloc(), line)?;
+        assert_eq!(rt; answer.as_str(), want);
     }
-    let words = ["fdbench", "list", "-"];
-    let order = read_words(alloc, &words);
-    assert!(rt;
-        matches!(
-            order,
-            Ok(Order::List {
-                print: PrintChoice::Report,
-                ..
-            })
-        )
-    );
     Ok(())
 }
 
-/// `clap` takes the words, but something is missing.
 #[test]
 fn missing(rt: HostRuntime) -> Result<(), Fail> {
-    let alloc = rt.alloc();
-    for line in [
-        "check",
-        "list",
-        "list --print trace",
-        "run",
-        "run -",
-        "run - --workers 2",
-        "run - --window 2",
-        "run --workers 2 --window 2",
-        "compare",
-        "compare -",
-        "compare - --workers 2",
-        "compare - --window 2",
-        "compare --workers 2 --window 2",
-    ] {
-        let told = told_of_line(alloc, line)?;
-        assert!(rt; matches!(told, Told::Form), "{line}");
+    for line in MISSING {
+        let answer = answer_of(rt.alloc(), line)?;
+        assert_eq!(rt; answer.as_str(), "Form", "{line}");
     }
     Ok(())
 }
@@ -194,12 +164,10 @@ fn missing(rt: HostRuntime) -> Result<(), Fail> {
 /// What `clap` refuses is told in its own words.
 #[test]
 fn refused(rt: HostRuntime) -> Result<(), Fail> {
-    let alloc = rt.alloc();
     for (line, part) in REFUSED {
-        let Told::Mistake(text) = told_of_line(alloc, line)? else {
-            return Err(Fail::new(line));
-        };
-        assert!(rt; text.as_str().contains(part), "{line}: {text}");
+        let answer = answer_of(rt.alloc(), line)?;
+        assert!(rt; answer.as_str().starts_with("Mistake("), "{line}: {answer}");
+        says(&rt, &answer, part, true);
     }
     Ok(())
 }
@@ -207,25 +175,13 @@ fn refused(rt: HostRuntime) -> Result<(), Fail> {
 /// Help says how each command is called, and names the options that it takes, and no others.
 #[test]
 fn help(rt: HostRuntime) -> Result<(), Fail> {
-    let alloc = rt.alloc();
-    for (line, usage, plans, prints) in [
-        ("--help", "Usage: fdbench", false, false),
-        ("-h", "Usage: fdbench", false, false),
-        ("check --help", "Usage: fdbench check", false, false),
-        ("help check", "Usage: fdbench check", false, false),
-        ("list --help", "Usage: fdbench list", false, true),
-        ("run --help", "Usage: fdbench run", true, true),
-        ("compare --help", "Usage: fdbench compare", true, false),
-        ("help compare", "Usage: fdbench compare", true, false),
-    ] {
-        let Told::Help(text) = told_of_line(alloc, line)? else {
-            return Err(Fail::new(line));
-        };
-        let text = text.as_str();
-        assert!(rt; text.contains(usage), "{line}: {text}");
-        assert_eq!(rt; text.contains("--workers <N>"), plans, "{line}");
-        assert_eq!(rt; text.contains("--window <N>"), plans, "{line}");
-        assert_eq!(rt; text.contains("--print <WHAT>"), prints, "{line}");
+    for (line, usage, plans, prints) in HELP {
+        let answer = answer_of(rt.alloc(), line)?;
+        assert!(rt; answer.as_str().starts_with("Help("), "{line}: {answer}");
+        says(&rt, &answer, usage, true);
+        says(&rt, &answer, "--workers <N>", plans);
+        says(&rt, &answer, "--window <N>", plans);
+        says(&rt, &answer, "--print <WHAT>", prints);
     }
     Ok(())
 }

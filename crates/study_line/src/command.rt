@@ -1,7 +1,7 @@
 //! The command line, with its help.
 ghost use Rattle.std.specs.Prelude.{◌≡◌, IfOk, false};
-ghost use Rattle.clap.specs.Words.{app_of, rule_of};
-ghost use Rattle.study_line.specs.Commands.{IsLocal, axis_rule, check_app, draw_app, letters_app, path_rule, picture_rule, point_rule, run_rule, seeds_rule, shard_rule, show_app, sweep_app, threads_rule, tick_rule, top_app, whole_app, with_grid, with_scenario, with_study, with_ticks};
+ghost use Rattle.clap.specs.Words.{app_of, rule_of, with_rule, with_subcommand};
+ghost use Rattle.study_line.specs.Commands.{IsLocal, axis_rule, check_app, draw_app, letters_app, path_rule, picture_rule, point_rule, run_rule, seeds_rule, shard_rule, show_app, sweep_app, threads_rule, tick_rule, top_app, whole_app, with_grid, with_path, with_scenario, with_study, with_ticks};
 
 use clap::{Arg, ArgAction, Command, value_parser};
 use std::alloc::{AllocError, Global};
@@ -104,6 +104,24 @@ const UNTIL: &str =
 const THREADS: &str =
     "How many threads share the runs, 1 to 64 [default: as many as there are processors]";
 
+/// A command with one argument more.
+fn with_argument<'a>(command: Command<'a>, argument: Arg<'a>) -> Result<Command<'a>, AllocError>
+    requires local { argument.global ≡ false }
+    ensures app { IfOk result (λ c. app_of c ≡ with_rule (app_of command.entry) (rule_of argument.entry)) }
+    ensures local { IsLocal command.entry → IfOk result IsLocal }
+{
+    command.arg(argument)
+}
+
+/// A command with one subcommand more.
+fn with_command<'a>(command: Command<'a>, added: Command<'a>) -> Result<Command<'a>, AllocError>
+    requires local { IsLocal added }
+    ensures app { IfOk result (λ c. app_of c ≡ with_subcommand (app_of command.entry) (app_of added.entry).top) }
+    ensures local { IsLocal command.entry → IfOk result IsLocal }
+{
+    command.subcommand(added)
+}
+
 /// The scenario file.
 fn path_argument<'a>(alloc: Global) -> Arg<'a>
     ensures rule { rule_of result ≡ path_rule }
@@ -144,10 +162,9 @@ fn with_grid_options<'a>(alloc: Global, command: Command<'a>) -> Result<Command<
     ensures app { IfOk result (λ c. app_of c ≡ with_grid (app_of command.entry)) }
     ensures local { IsLocal command.entry → IfOk result IsLocal }
 {
-    let seeds = seeds_option(alloc);
-    let vary = axis_option(alloc, "vary", VARY);
-    let over = axis_option(alloc, "over", OVER);
-    command.arg(seeds)?.arg(vary)?.arg(over)
+    let command = with_argument(command, seeds_option(alloc))?;
+    let command = with_argument(command, axis_option(alloc, "vary", VARY))?;
+    with_argument(command, axis_option(alloc, "over", OVER))
 }
 
 /// The option for the point.
@@ -228,9 +245,36 @@ fn with_tick_options<'a>(alloc: Global, command: Command<'a>) -> Result<Command<
     ensures app { IfOk result (λ c. app_of c ≡ with_ticks (app_of command.entry)) }
     ensures local { IsLocal command.entry → IfOk result IsLocal }
 {
-    let from = tick_option(alloc, "from", FROM);
-    let until = tick_option(alloc, "until", UNTIL);
-    command.arg(from)?.arg(until)
+    let command = with_argument(command, tick_option(alloc, "from", FROM))?;
+    with_argument(command, tick_option(alloc, "until", UNTIL))
+}
+
+/// A command that takes a scenario file.
+fn path_command<'a>(
+    alloc: Global,
+    name: &'a str,
+    about: &'a str,
+    example: &'a str,
+) -> Result<Command<'a>, AllocError>
+    ensures app { IfOk result (λ c. app_of c ≡ with_path name.now) }
+    ensures local { IfOk result IsLocal }
+{
+    let command = Command::new(alloc, name).about(about).after_help(example);
+    with_argument(command, path_argument(alloc))
+}
+
+/// A command that takes a scenario file and the options that say which runs a study has.
+fn study_command<'a>(
+    alloc: Global,
+    name: &'a str,
+    about: &'a str,
+    example: &'a str,
+) -> Result<Command<'a>, AllocError>
+    ensures app { IfOk result (λ c. app_of c ≡ with_grid (with_path name.now)) }
+    ensures local { IfOk result IsLocal }
+{
+    let command = path_command(alloc, name, about, example)?;
+    with_grid_options(alloc, command)
 }
 
 /// `check SCENARIO`
@@ -238,11 +282,7 @@ fn check_command<'a>(alloc: Global) -> Result<Command<'a>, AllocError>
     ensures app { IfOk result (λ c. app_of c ≡ check_app) }
     ensures local { IfOk result IsLocal }
 {
-    let path = path_argument(alloc);
-    Command::new(alloc, "check")
-        .about(CHECK)
-        .after_help(CHECK_EXAMPLE)
-        .arg(path)
+    path_command(alloc, "check", CHECK, CHECK_EXAMPLE)
 }
 
 /// `letters SCENARIO`
@@ -250,11 +290,7 @@ fn letters_command<'a>(alloc: Global) -> Result<Command<'a>, AllocError>
     ensures app { IfOk result (λ c. app_of c ≡ letters_app) }
     ensures local { IfOk result IsLocal }
 {
-    let path = path_argument(alloc);
-    Command::new(alloc, "letters")
-        .about(LETTERS)
-        .after_help(LETTERS_EXAMPLE)
-        .arg(path)
+    path_command(alloc, "letters", LETTERS, LETTERS_EXAMPLE)
 }
 
 /// `draw SCENARIO --as PICTURE [--from T] [--until T]`
@@ -262,13 +298,8 @@ fn draw_command<'a>(alloc: Global) -> Result<Command<'a>, AllocError>
     ensures app { IfOk result (λ c. app_of c ≡ draw_app) }
     ensures local { IfOk result IsLocal }
 {
-    let path = path_argument(alloc);
-    let picture = picture_option(alloc);
-    let command = Command::new(alloc, "draw")
-        .about(DRAW)
-        .after_help(DRAW_EXAMPLE)
-        .arg(path)?
-        .arg(picture)?;
+    let command = path_command(alloc, "draw", DRAW, DRAW_EXAMPLE)?;
+    let command = with_argument(command, picture_option(alloc))?;
     with_tick_options(alloc, command)
 }
 
@@ -277,14 +308,9 @@ fn show_command<'a>(alloc: Global) -> Result<Command<'a>, AllocError>
     ensures app { IfOk result (λ c. app_of c ≡ show_app) }
     ensures local { IfOk result IsLocal }
 {
-    let path = path_argument(alloc);
-    let point = point_option(alloc);
-    let run = run_option(alloc);
-    let command = Command::new(alloc, "show")
-        .about(SHOW)
-        .after_help(SHOW_EXAMPLE)
-        .arg(path)?;
-    with_grid_options(alloc, command)?.arg(point)?.arg(run)
+    let command = study_command(alloc, "show", SHOW, SHOW_EXAMPLE)?;
+    let command = with_argument(command, point_option(alloc))?;
+    with_argument(command, run_option(alloc))
 }
 
 /// `sweep SCENARIO --seeds A..=B [--vary KEY=VALUE,..]... [--over KEY=VALUE,..]... [--shard K/N] [--threads N]`
@@ -292,14 +318,9 @@ fn sweep_command<'a>(alloc: Global) -> Result<Command<'a>, AllocError>
     ensures app { IfOk result (λ c. app_of c ≡ sweep_app) }
     ensures local { IfOk result IsLocal }
 {
-    let path = path_argument(alloc);
-    let shard = shard_option(alloc);
-    let threads = threads_option(alloc);
-    let command = Command::new(alloc, "sweep")
-        .about(SWEEP)
-        .after_help(SWEEP_EXAMPLE)
-        .arg(path)?;
-    with_grid_options(alloc, command)?.arg(shard)?.arg(threads)
+    let command = study_command(alloc, "sweep", SWEEP, SWEEP_EXAMPLE)?;
+    let command = with_argument(command, shard_option(alloc))?;
+    with_argument(command, threads_option(alloc))
 }
 
 /// The command line with no command yet.
@@ -313,6 +334,46 @@ fn top_command<'a>(alloc: Global) -> Command<'a>
         .subcommand_required(true)
 }
 
+/// A command with `check` added.
+fn with_check<'a>(alloc: Global, command: Command<'a>) -> Result<Command<'a>, AllocError>
+    ensures app { IfOk result (λ c. app_of c ≡ with_subcommand (app_of command.entry) check_app.top) }
+    ensures local { IsLocal command.entry → IfOk result IsLocal }
+{
+    with_command(command, check_command(alloc)?)
+}
+
+/// A command with `letters` added.
+fn with_letters<'a>(alloc: Global, command: Command<'a>) -> Result<Command<'a>, AllocError>
+    ensures app { IfOk result (λ c. app_of c ≡ with_subcommand (app_of command.entry) letters_app.top) }
+    ensures local { IsLocal command.entry → IfOk result IsLocal }
+{
+    with_command(command, letters_command(alloc)?)
+}
+
+/// A command with `draw` added.
+fn with_draw<'a>(alloc: Global, command: Command<'a>) -> Result<Command<'a>, AllocError>
+    ensures app { IfOk result (λ c. app_of c ≡ with_subcommand (app_of command.entry) draw_app.top) }
+    ensures local { IsLocal command.entry → IfOk result IsLocal }
+{
+    with_command(command, draw_command(alloc)?)
+}
+
+/// A command with `show` added.
+fn with_show<'a>(alloc: Global, command: Command<'a>) -> Result<Command<'a>, AllocError>
+    ensures app { IfOk result (λ c. app_of c ≡ with_subcommand (app_of command.entry) show_app.top) }
+    ensures local { IsLocal command.entry → IfOk result IsLocal }
+{
+    with_command(command, show_command(alloc)?)
+}
+
+/// A command with `sweep` added.
+fn with_sweep<'a>(alloc: Global, command: Command<'a>) -> Result<Command<'a>, AllocError>
+    ensures app { IfOk result (λ c. app_of c ≡ with_subcommand (app_of command.entry) sweep_app.top) }
+    ensures local { IsLocal command.entry → IfOk result IsLocal }
+{
+    with_command(command, sweep_command(alloc)?)
+}
+
 /// A command with those that are about one scenario as it stands.
 fn with_scenario_commands<'a>(
     alloc: Global,
@@ -321,13 +382,9 @@ fn with_scenario_commands<'a>(
     ensures app { IfOk result (λ c. app_of c ≡ with_scenario (app_of command.entry)) }
     ensures local { IsLocal command.entry → IfOk result IsLocal }
 {
-    let check = check_command(alloc)?;
-    let letters = letters_command(alloc)?;
-    let draw = draw_command(alloc)?;
-    command
-        .subcommand(check)?
-        .subcommand(letters)?
-        .subcommand(draw)
+    let command = with_check(alloc, command)?;
+    let command = with_letters(alloc, command)?;
+    with_draw(alloc, command)
 }
 
 /// A command with those that are about a study.
@@ -335,9 +392,8 @@ fn with_study_commands<'a>(alloc: Global, command: Command<'a>) -> Result<Comman
     ensures app { IfOk result (λ c. app_of c ≡ with_study (app_of command.entry)) }
     ensures local { IsLocal command.entry → IfOk result IsLocal }
 {
-    let show = show_command(alloc)?;
-    let sweep = sweep_command(alloc)?;
-    command.subcommand(show)?.subcommand(sweep)
+    let command = with_show(alloc, command)?;
+    with_sweep(alloc, command)
 }
 
 /// The command line.
