@@ -1,3 +1,4 @@
 pub mod Axes
 pub mod Stopping
+pub mod Refusing
 pub mod Answered
