@@ -1,6 +1,6 @@
 #!/bin/sh
 # Runs a study as eight shards by GNU parallel, puts their outputs together, and compares them with the study in one piece.
-# Wants parallel.
+# Draws what each shard found, shards.svg. Wants parallel and gnuplot.
 set -eu
 cd "$(dirname "$0")"
 mkdir -p out
@@ -9,4 +9,5 @@ parallel --will-cite './one_shard.sh {} 8 > out/shard_{}.csv' ::: 1 2 3 4 5 6 7 
 cat out/shard_1.csv out/shard_2.csv out/shard_3.csv out/shard_4.csv \
     out/shard_5.csv out/shard_6.csv out/shard_7.csv out/shard_8.csv > out/together.csv
 cmp out/whole.csv out/together.csv
+gnuplot picture.gp > shards.svg
 echo "the same: $(wc -l < out/whole.csv) lines"

@@ -1,6 +1,6 @@
 #!/bin/sh
-# Writes the texts of a run and of a study to out/, loads them into out/run.db, asks three questions by SQL, and makes a
-# table of rates by Python. Wants sqlite3 and python3.
+# Writes the texts of a run and of a study to out/, loads them into out/run.db, asks three questions by SQL, makes a table
+# of rates by Python, and draws rates.svg. Wants sqlite3, python3 and gnuplot.
 set -eu
 cd "$(dirname "$0")"
 mkdir -p out
@@ -13,3 +13,4 @@ rm -f out/run.db
 sqlite3 out/run.db < load.sql
 sqlite3 out/run.db < questions.sql
 python3 rates.py out/study.csv
+gnuplot picture.gp > rates.svg

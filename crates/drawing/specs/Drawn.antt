@@ -17,7 +17,8 @@ bars_in run layer q p =
 
 abbrev pub first_bars : Run → Row → List Shape
 first_bars run row =
-    map (bar_shape run.ticks.from run.ticks.until class.First (row.top + first_top run.scenario.now.share)) (bars_in run 1 row.observer row.subject)
+    map (bar_shape run.ticks.from run.ticks.until class.First (row.top + first_top run.scenario.now.share))
+    (bars_in run 1 row.observer row.subject)
 
 abbrev pub second_bars_of : Run → Row → List Shape
 second_bars_of run row =

@@ -25,7 +25,7 @@ use Rattle.drawing.specs.Lanes.{lanes_bottom, line_of, own_top, remark_of, on_wa
 use Rattle.drawing.specs.Layout.{point, x_of, is_among, shown}
 use Rattle.drawing.specs.Suspicions.{word, title, marks_legend, axis, row_end, own_at}
 use Rattle.drawing.specs.declared.bars.Bar.{Bar}
-use Rattle.drawing.specs.declared.layout.TheConstants.{LEFT, WIDTH, RIGHT, BOTTOM}
+use Rattle.drawing.specs.Sizes.{left_room, axis_width, right_room, foot_room}
 
 -- ---- letters
 
@@ -67,7 +67,7 @@ module _ (processes from until : ℕ) where
   abbrev pub leaving : Letter → (due : ℕ) → Shape
   leaving l due =
       shape.Line class.Late (place l.sent l.sender)
-      (point (LEFT + WIDTH)
+      (point (left_room + axis_width)
       (on_way (line_of processes l.sender) (line_of processes l.receiver) (until - l.sent) (due - l.sent)))
 
   -- a letter that is due at one of the ticks ends there on its receiver's line, with a head where it is taken
@@ -102,7 +102,7 @@ turn_class (Some period) = class.Second
 
 -- a text goes to the right of its place in the left half, and to the left of it in the right half
 abbrev pub side : (x : ℕ) → Anchor
-side x = if nat_lt x (LEFT + WIDTH / 2) then anchor.Start else anchor.End
+side x = if nat_lt x (left_room + axis_width / 2) then anchor.Start else anchor.End
 
 module _ (from until : ℕ) where
   -- what a process decides, below its line
@@ -143,26 +143,27 @@ line_entry style x words = entry (shape.Line style (point x 34) (point (x + 24) 
 
 abbrev pub taken_legend : List Shape
 taken_legend =
-    arrow_entry class.Detector LEFT (codes "letter of a detector")
-    ++ (arrow_entry class.Reduction (LEFT + 160) (codes "of the reduction")
-    ++ arrow_entry class.Consensus (LEFT + 300) (codes "of consensus"))
+    arrow_entry class.Detector left_room (codes "letter of a detector")
+    ++ (arrow_entry class.Reduction (left_room + 160) (codes "of the reduction")
+    ++ arrow_entry class.Consensus (left_room + 300) (codes "of consensus"))
 
 abbrev pub untaken_legend : List Shape
 untaken_legend =
-    entry (shape.Stub class.Lost (point (LEFT + 425) 34) (point (LEFT + 445) 34)) (LEFT + 425) (codes "lost")
-    ++ (line_entry class.Dead (LEFT + 500) (codes "to a crashed process")
-    ++ line_entry class.Late (LEFT + 675) (codes "due later"))
+    entry (shape.Stub class.Lost (point (left_room + 425) 34) (point (left_room + 445) 34)) (left_room + 425)
+    (codes "lost")
+    ++ (line_entry class.Dead (left_room + 500) (codes "to a crashed process")
+    ++ line_entry class.Late (left_room + 675) (codes "due later"))
 
 abbrev pub turns_legend : (share : Option ℕ) → List Shape
 turns_legend share =
-    shape.Disc (turn_class share) (point (LEFT + 150) 50) 3
-    ∷ word (LEFT + 162) 54 (codes "+2: suspects process 2, -2: trusts it again") ∷ []
+    shape.Disc (turn_class share) (point (left_room + 150) 50) 3
+    ∷ word (left_room + 162) 54 (codes "+2: suspects process 2, -2: trusts it again") ∷ []
 
 -- the title, and what arrows and marks mean
 unfoldable pub letters_legend : (from until : ℕ) (share : Option ℕ) → List Shape
 letters_legend from until share =
     (title (codes "What went from whom to whom") from until ∷ taken_legend)
-    ++ (untaken_legend ++ (marks_legend LEFT 54 ++ turns_legend share))
+    ++ (untaken_legend ++ (marks_legend left_room 54 ++ turns_legend share))
 
 -- ---- the picture
 
@@ -200,5 +201,5 @@ module _ (S : Record) (trace : List EntryRecord) (letters : List Letter) (from u
     pub bars : (q p : ℕ) → List Bar
     pub are_bars : (q p : ℕ) → AreBars (suspects (upper_layer S.share) trace q p) 0 (row_end S until q) (bars q p)
     pub text_is :
-        text ≡ svg_text (LEFT + WIDTH + RIGHT) (lanes_bottom S.processes + BOTTOM)
+        text ≡ svg_text (left_room + axis_width + right_room) (lanes_bottom S.processes + foot_room)
         (letters_shapes S trace from until bars letters)

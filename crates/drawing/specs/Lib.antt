@@ -1,3 +1,4 @@
+pub mod Sizes
 pub mod Bars
 pub mod Sweeping
 pub mod Layout

@@ -5,12 +5,12 @@ use Rattle.scenario.specs.Record.{Record}
 use Rattle.drawing.specs.LettersPicture.{sent_among}
 use Rattle.drawing.specs.declared.error.DrawError.{DrawError}
 use Rattle.drawing.specs.declared.error.DrawError.TheVariants.{TooManyProcesses, Ticks, TooManyLetters, Memory}
-use Rattle.drawing.specs.declared.layout.TheConstants.{MOST_DRAWN, MOST_LETTERS}
+use Rattle.drawing.specs.Sizes.{most_drawn, most_letters}
 
 -- of the processes and the ticks asked for the first refusal, if there is one
 abbrev pub refusal : Record → (from until : ℕ) → Option DrawError
 refusal S from until =
-    if nat_lt MOST_DRAWN S.processes then Some TooManyProcesses
+    if nat_lt most_drawn S.processes then Some TooManyProcesses
     else if nat_lt from until && nat_le until S.horizon then None
     else Some Ticks
 
@@ -19,7 +19,7 @@ abbrev pub letters_refusal : Record → List Letter → (from until : ℕ) → O
 letters_refusal S letters from until =
     elim (refusal S from until) [
       | Some first ↦ Some first
-      | None ↦ if nat_lt MOST_LETTERS (length (sent_among from until letters)) then Some TooManyLetters else None
+      | None ↦ if nat_lt most_letters (length (sent_among from until letters)) then Some TooManyLetters else None
     ]
 
 abbrev pub IsMemory : DrawError → Type 0

@@ -18,7 +18,7 @@ use Rattle.svg.specs.declared.shape.Shape.TheVariants as shape
 use Rattle.drawing.specs.Bars.{AreBars}
 use Rattle.drawing.specs.Layout.{point, x_of, labelled, shown, row_top, bottom_of}
 use Rattle.drawing.specs.declared.bars.Bar.{Bar}
-use Rattle.drawing.specs.declared.layout.TheConstants.{LEFT, WIDTH, RIGHT, TOP, BOTTOM}
+use Rattle.drawing.specs.Sizes.{left_room, axis_width, right_room, head_room, foot_room}
 
 -- a word that is the same in each picture
 abbrev pub word : (x y : ℕ) → List ℕ → Shape
@@ -39,7 +39,7 @@ sample class x = shape.Rect class (point x 34) 24 6
 
 -- what the bars of layer 1 mean
 abbrev pub first_legend : List Shape
-first_legend = sample class.First LEFT ∷ word (LEFT + 30) 42 (codes "suspected by the base detector") ∷ []
+first_legend = sample class.First left_room ∷ word (left_room + 30) 42 (codes "suspected by the base detector") ∷ []
 
 -- what the marks mean
 abbrev pub marks_legend : (x y : ℕ) → List Shape
@@ -50,26 +50,27 @@ marks_legend x y =
 -- what the bars of layer 2 mean, where there is such a layer
 abbrev pub second_legend : Option ℕ → List Shape
 second_legend None = []
-second_legend (Some period) = sample class.Second (LEFT + 400) ∷ word (LEFT + 430) 42 (codes "suspected by the reduction") ∷ []
+second_legend (Some period) =
+    sample class.Second (left_room + 400) ∷ word (left_room + 430) 42 (codes "suspected by the reduction") ∷ []
 
 -- the title of a picture of some ticks
 unfoldable pub title : (words : List ℕ) (from until : ℕ) → Shape
 title words from until =
-    shape.Text class.Title (point LEFT 20) anchor.Start
+    shape.Text class.Title (point left_room 20) anchor.Start
     (words ++ (codes ", ticks " ++ (decimal from ++ (codes " to " ++ decimal (until - 1)))))
 
 -- the name of the row of observer q and subject p
 unfoldable pub pair_name : (top q p : ℕ) → Shape
 pair_name top q p =
-    shape.Text class.Label (point (LEFT - 10) (top + 12)) anchor.End (decimal q ++ (codes ": " ++ decimal p))
+    shape.Text class.Label (point (left_room - 10) (top + 12)) anchor.End (decimal q ++ (codes ": " ++ decimal p))
 
 -- the name of the row of process q itself
 unfoldable pub own_name : (top q : ℕ) → Shape
-own_name top q = shape.Text class.Title (point (LEFT - 10) (top + 12)) anchor.End (codes "process " ++ decimal q)
+own_name top q = shape.Text class.Title (point (left_room - 10) (top + 12)) anchor.End (codes "process " ++ decimal q)
 
 -- a line above or below the rows
 abbrev pub edge : (y : ℕ) → Shape
-edge y = shape.Line class.Axis (point LEFT y) (point (LEFT + WIDTH) y)
+edge y = shape.Line class.Axis (point left_room y) (point (left_room + axis_width) y)
 
 module _ (from until : ℕ) where
   -- ---- the frame
@@ -78,19 +79,19 @@ module _ (from until : ℕ) where
   unfoldable pub legend : (share : Option ℕ) → List Shape
   legend share =
       (title (codes "Who suspects whom") from until ∷ first_legend)
-      ++ (marks_legend (LEFT + 240) 42 ++ second_legend share)
+      ++ (marks_legend (left_room + 240) 42 ++ second_legend share)
 
   -- a labelled tick: a line through the rows, and its number above and below them
   abbrev pub tick_shapes : (bottom tick : ℕ) → List Shape
   tick_shapes bottom tick =
-      shape.Line class.Grid (point (x_of from until tick) (TOP - 8)) (point (x_of from until tick) bottom)
-      ∷ shape.Text class.Label (point (x_of from until tick) (TOP - 12)) anchor.Middle (decimal tick)
+      shape.Line class.Grid (point (x_of from until tick) (head_room - 8)) (point (x_of from until tick) bottom)
+      ∷ shape.Text class.Label (point (x_of from until tick) (head_room - 12)) anchor.Middle (decimal tick)
       ∷ shape.Text class.Label (point (x_of from until tick) (bottom + 14)) anchor.Middle (decimal tick)
       ∷ []
 
   -- the axis of ticks
   unfoldable pub axis : (bottom : ℕ) → List Shape
-  axis bottom = edge (TOP - 8) ∷ edge bottom ∷ flat_map (tick_shapes bottom) (labelled from until)
+  axis bottom = edge (head_room - 8) ∷ edge bottom ∷ flat_map (tick_shapes bottom) (labelled from until)
 
   -- ---- the rows
 
@@ -110,7 +111,7 @@ module _ (from until : ℕ) where
 
   -- a line up to a tick
   abbrev pub life_line : Class → (y end : ℕ) → Shape
-  life_line class y end = shape.Line class (point LEFT y) (point (x_of from until end) y)
+  life_line class y end = shape.Line class (point left_room y) (point (x_of from until end) y)
 
 -- where the bars of the base detector begin, below the top of their row: in the middle, or above those of a reduction
 abbrev pub first_top : Option ℕ → ℕ
@@ -153,11 +154,13 @@ module _ (S : Record) (trace : List EntryRecord) (from until : ℕ) where
 
     unfoldable pub suspicions : List Shape
     suspicions =
-        legend from until S.share ++ (axis from until (bottom_of S.processes) ++ flat_map group_shapes (numbers_to S.processes))
+        legend from until S.share
+        ++ (axis from until (bottom_of S.processes) ++ flat_map group_shapes (numbers_to S.processes))
 
   -- the text is that of a picture in which the bars of each pair are exactly its maximal stretches of suspicion from
   -- `from` to the end of its row, each once, in their order
   pub record DrawsSuspicions (text : List ℕ) : Type 0 where
     pub bars : (layer q p : ℕ) → List Bar
     pub are_bars : (layer q p : ℕ) → AreBars (suspects layer trace q p) from (row_end S until q) (bars layer q p)
-    pub text_is : text ≡ svg_text (LEFT + WIDTH + RIGHT) (bottom_of S.processes + BOTTOM) (suspicions bars)
+    pub text_is :
+        text ≡ svg_text (left_room + axis_width + right_room) (bottom_of S.processes + foot_room) (suspicions bars)

@@ -41,7 +41,8 @@ found_of s = record { ended = s.ended.items; running = s.running }
 pub record IsPassed (until : ℕ) (old new : Sweep) : Type 0 where
   pub tick : new.tick ≡ max old.tick until
   pub current : new.current ≡ old.current
-  pub found : found_of new ≡ (if nat_lt old.tick until then passed old.tick old.current (found_of old) else found_of old)
+  pub found :
+      found_of new ≡ (if nat_lt old.tick until then passed old.tick old.current (found_of old) else found_of old)
 
 -- a test of ticks, but from a turn on as the turn says
 abbrev pub after : (ℕ → Bool) → Turn → ℕ → Bool

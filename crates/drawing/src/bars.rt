@@ -18,8 +18,8 @@ pub struct Bar {
 }
 
 /// The stretches of ticks through which an observer suspects a subject on a layer, each as long as can be within the
-/// ticks from `from` to `until - 1`, in their order. A process that notes at one tick that it trusts another and that it
-/// suspects it again suspects it through that tick.
+/// ticks from `from` to `until - 1`, in their order. A process that notes at one tick that it trusts another and that
+/// it suspects it again suspects it through that tick.
 ///
 /// # Errors
 ///

@@ -1,6 +1,8 @@
 //! Where things stand in a picture, in whole user units.
-ghost use Rattle.std.specs.Prelude.{◌≡◌, ◌≤◌, ◌<◌, ◌+◌, ◌*◌, nat_le, IfSome};
+ghost use Rattle.std.specs.Prelude.{◌≡◌, ◌≤◌, ◌<◌, nat_le, IfSome};
 ghost use Rattle.std.specs.List.{find};
+ghost use Rattle.drawing.specs.Layout.{group_height};
+ghost use Rattle.drawing.specs.Sizes.{steps};
 
 /// The most processes that are drawn.
 pub const MOST_DRAWN: u16 = 16;
@@ -37,8 +39,9 @@ const STEPS: [u32; 18] = [
 const LAST_STEP: u32 = 1_000_000;
 
 /// The least step that isn't below a number.
+#[tactic(auto, unfolding(crate::specs::Sizes::steps))]
 fn step_from(least: u32) -> Option<u32>
-    ensures value { result ≡ find (λ step. nat_le least step) STEPS }
+    ensures value { result ≡ find (λ step. nat_le least step) steps }
     ensures some { IfSome result (λ step. 0 < step) }
 {
     STEPS.iter().copied().find(|step| least <= *step)
@@ -105,7 +108,7 @@ impl Ticks {
 /// How high the rows of a process are, and the room below them.
 pub(crate) fn group_height(processes: u16) -> u32
     requires { processes ≤ 256 }
-    ensures value { result ≡ processes * ROW + GAP }
+    ensures value { result ≡ group_height processes }
     ensures small { result ≤ 4106 }
 {
     u32::from(processes) * ROW + GAP

@@ -33,7 +33,7 @@ pub use bars::{Bar, bars_of};
 pub use error::DrawError;
 pub use layout::{MOST_DRAWN, MOST_LETTERS};
 pub use letters_picture::draw_letters;
-pub use suspicions::draw_suspicions;
+pub use suspicions::{check_ticks, draw_suspicions};
 
 #[cfg(test)]
 mod tests;

@@ -69,6 +69,22 @@ pub(crate) fn ticks_of(scenario: &Scenario, from: u32, until: u32) -> Result<Tic
     Err(DrawError::Ticks)
 }
 
+/// Tells before there is a run whether the ticks from `from` to `until - 1` of it can be drawn. Whether there are too
+/// many letters isn't known then.
+///
+/// # Errors
+///
+/// `TooManyProcesses` where there are more than [`MOST_DRAWN`]; else `Ticks` where `from` isn't below `until`, or
+/// `until` is above the horizon.
+pub fn check_ticks(scenario: &Scenario, from: u32, until: u32) -> Result<(), DrawError>
+    ensures { MatchOption (refusal scenario.now from until) (IsOk result) (λ e. result ≡ Err e) }
+{
+    match ticks_of(scenario, from, until) {
+        Err(error) => Err(error),
+        Ok(_) => Ok(()),
+    }
+}
+
 /// The picture of who suspects whom at the ticks from `from` to `until - 1` of a run, as an SVG document.
 ///
 /// Each process has a row for itself, with its crash and its decision, and one for each other process, with a bar for

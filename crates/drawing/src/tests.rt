@@ -2,6 +2,7 @@
 mod bars;
 mod letters_pictures;
 mod pictures;
+mod whole;
 
 ghost use Rattle.std.specs.Prelude.{IsTrue, OnOk};
 ghost use Rattle.process_api.specs.Order.{is_rising};

@@ -1,4 +1,5 @@
 pub mod Axes
 pub mod Stopping
 pub mod Reasons
+pub mod Refusing
 pub mod Answered

@@ -6,7 +6,7 @@ use Rattle.fdstudy.specs.File.{AreBytes}
 use Rattle.fdstudy.specs.Refusal.{IsBeforeReading, IsNoTable, IsOfBytes, IsOfFile, IsOfTable, IsRight, IsRightOfTable, IsToldWith, IsUnread, refusal_text, FileRefusal, absent, unreadable, too_long, broken, line_with}
 use Rattle.fdstudy.specs.Why.{HasNone, IsOfStudy, IsOfText, StopsCheck}
 use Rattle.fdstudy.specs.declared.fault.Fault.{Fault}
-use Rattle.fdstudy.specs.declared.fault.Fault.TheVariants.{Form, Limit, Memory, Refused, Words, WordsMemory, Write}
+use Rattle.fdstudy.specs.declared.fault.Fault.TheVariants.{Form, Limit, Memory, NotDrawn, Refused, Words, WordsMemory, Write}
 use Rattle.scenario.specs.Refusals.{IsDocumentOf}
 use Rattle.study.specs.declared.error.PlaceError.{PlaceError}
 use Rattle.toml.specs.Data.{Members}
@@ -19,6 +19,7 @@ words_because Holds Form is holds = absurd is
 words_because Holds WordsMemory is holds = tt
 words_because Holds (Words line) is holds = holds
 words_because Holds (Refused line) is holds = absurd is
+words_because Holds (NotDrawn error line) is holds = absurd is
 words_because Holds Limit is holds = absurd is
 words_because Holds Memory is holds = absurd is
 words_because Holds Write is holds = absurd is
@@ -28,6 +29,7 @@ words_as P Q Form is then = absurd is
 words_as P Q WordsMemory is then = tt
 words_as P Q (Words line) is then = then is
 words_as P Q (Refused line) is then = absurd is
+words_as P Q (NotDrawn error line) is then = absurd is
 words_as P Q Limit is then = absurd is
 words_as P Q Memory is then = absurd is
 words_as P Q Write is then = absurd is
@@ -39,6 +41,7 @@ of_bytes_before path bytes Form is = absurd is
 of_bytes_before path bytes WordsMemory is = absurd is
 of_bytes_before path bytes (Words line) is = absurd is
 of_bytes_before path bytes (Refused line) is = tt
+of_bytes_before path bytes (NotDrawn error line) is = absurd is
 of_bytes_before path bytes Limit is = absurd is
 of_bytes_before path bytes Memory is = tt
 of_bytes_before path bytes Write is = absurd is
@@ -48,6 +51,7 @@ of_text_before table Form is = absurd is
 of_text_before table WordsMemory is = absurd is
 of_text_before table (Words line) is = absurd is
 of_text_before table (Refused line) is = tt
+of_text_before table (NotDrawn error line) is = absurd is
 of_text_before table Limit is = absurd is
 of_text_before table Memory is = tt
 of_text_before table Write is = absurd is
@@ -72,6 +76,7 @@ module _ (input : Option (List ℕ)) (path : List ℕ) where
   unread_told r WordsMemory before right is = absurd is
   unread_told r (Words line) before right is = absurd is
   unread_told r (Refused line) before right is = record { refusal = r; before = before; right = right; says = is }
+  unread_told r (NotDrawn error line) before right is = absurd is
   unread_told r Limit before right is = absurd is
   unread_told r Memory before right is = absurd is
   unread_told r Write before right is = absurd is
@@ -81,6 +86,7 @@ module _ (input : Option (List ℕ)) (path : List ℕ) where
   unread_file WordsMemory is = absurd is
   unread_file (Words line) is = absurd is
   unread_file (Refused line) is = record { refusal = is.refusal; right = is.right; says = is.says }
+  unread_file (NotDrawn error line) is = absurd is
   unread_file Limit is = absurd is
   unread_file Memory is = tt
   unread_file Write is = absurd is
@@ -90,6 +96,7 @@ module _ (input : Option (List ℕ)) (path : List ℕ) where
   unread_table WordsMemory is = absurd is
   unread_table (Words line) is = absurd is
   unread_table (Refused line) is = record { refusal = is.refusal; right = table_refused is.refusal is.before is.right; says = is.says }
+  unread_table (NotDrawn error line) is = absurd is
   unread_table Limit is = absurd is
   unread_table Memory is = tt
   unread_table Write is = absurd is
@@ -100,6 +107,7 @@ module _ (input : Option (List ℕ)) (path : List ℕ) where
   bytes_file bytes WordsMemory are is = absurd is
   bytes_file bytes (Words line) are is = absurd is
   bytes_file bytes (Refused line) are is = record { refusal = broken is.diagnosed; right = (bytes, are, is.refuses); says = is.says }
+  bytes_file bytes (NotDrawn error line) are is = absurd is
   bytes_file bytes Limit are is = absurd is
   bytes_file bytes Memory are is = tt
   bytes_file bytes Write are is = absurd is
@@ -109,6 +117,7 @@ module _ (input : Option (List ℕ)) (path : List ℕ) where
   bytes_table bytes WordsMemory are none is = absurd is
   bytes_table bytes (Words line) are none is = absurd is
   bytes_table bytes (Refused line) are none is = record { refusal = broken is.diagnosed; right = (bytes, are, none, is.refuses); says = is.says }
+  bytes_table bytes (NotDrawn error line) are none is = absurd is
   bytes_table bytes Limit are none is = absurd is
   bytes_table bytes Memory are none is = tt
   bytes_table bytes Write are none is = absurd is
@@ -118,6 +127,7 @@ module _ (input : Option (List ℕ)) (path : List ℕ) where
   check_file WordsMemory is = absurd is
   check_file (Words line) is = absurd is
   check_file (Refused line) is = is
+  check_file (NotDrawn error line) is = absurd is
   check_file Limit is = absurd is
   check_file Memory is = tt
   check_file Write is = absurd is
@@ -130,6 +140,7 @@ module _ (OfWords : Type 0) (OfFile : Option (String Global) → Type 0) where
   study_words P WordsMemory is then = tt
   study_words P (Words line) is then = then is
   study_words P (Refused line) is then = absurd is
+  study_words P (NotDrawn error line) is then = absurd is
   study_words P Limit is then = absurd is
   study_words P Memory is then = absurd is
   study_words P Write is then = absurd is
@@ -140,6 +151,7 @@ module _ (OfWords : Type 0) (OfFile : Option (String Global) → Type 0) where
   study_file input path WordsMemory is then = absurd is
   study_file input path (Words line) is then = absurd is
   study_file input path (Refused line) is then = then line is
+  study_file input path (NotDrawn error line) is then = absurd is
   study_file input path Limit is then = absurd is
   study_file input path Memory is then = tt
   study_file input path Write is then = absurd is
@@ -150,6 +162,7 @@ module _ (OfWords : Type 0) (OfFile : Option (String Global) → Type 0) where
   study_text table WordsMemory is then = absurd is
   study_text table (Words line) is then = absurd is
   study_text table (Refused line) is then = then is line
+  study_text table (NotDrawn error line) is then = absurd is
   study_text table Limit is then = absurd is
   study_text table Memory is then = tt
   study_text table Write is then = absurd is
@@ -160,6 +173,7 @@ module _ (OfWords : Type 0) (OfFile : Option (String Global) → Type 0) where
   study_run WordsMemory is then = tt
   study_run (Words line) is then = absurd (omega (arith, is))
   study_run (Refused line) is then = then line
+  study_run (NotDrawn error line) is then = absurd (omega (arith, is))
   study_run Limit is then = absurd (omega (arith, is))
   study_run Memory is then = tt
   study_run Write is then = tt

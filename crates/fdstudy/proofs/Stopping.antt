@@ -1,13 +1,15 @@
 -- What went out, and what stands where a command stops.
 use Rattle.std.proofs.Common.{◌≡◌, ◌⊎◌, inl, inr, sym, ℕ, List, Option, Result, Ok, Err, OnOk, IfErr, subst, arith}
+use Rattle.fdstudy.specs.Draw.{IsOfPicture}
 use Rattle.fdstudy.specs.Fault.{IsBefore, IsOfWordsFor, status_of}
 use Rattle.fdstudy.specs.File.{IsScenario}
 use Rattle.fdstudy.specs.Runs.{IsOfRun, StopsAtLimit}
 use Rattle.fdstudy.specs.Stop.{Stops, Tells, Went, WentPart}
 use Rattle.fdstudy.specs.declared.fault.Fault.{Fault}
-use Rattle.fdstudy.specs.declared.fault.Fault.TheVariants.{Form, Limit, Memory, Refused, Words, WordsMemory, Write}
+use Rattle.fdstudy.specs.declared.fault.Fault.TheVariants.{Form, Limit, Memory, NotDrawn, Refused, Words, WordsMemory, Write}
 use Rattle.qos_report.specs.Writing.{Wrote, WroteNothing, WrotePart}
 use Rattle.scenario.specs.Record.{Record}
+use Rattle.study_line.specs.declared.order.Picture.{Picture}
 
 -- a fault of words comes before anything is written
 pub of_words_before : (Holds : Type 0) (f : Fault) → IsOfWordsFor Holds f → IsBefore f
@@ -15,6 +17,7 @@ of_words_before Holds Form is = absurd is
 of_words_before Holds WordsMemory is = tt
 of_words_before Holds (Words line) is = tt
 of_words_before Holds (Refused line) is = absurd is
+of_words_before Holds (NotDrawn error line) is = absurd is
 of_words_before Holds Limit is = absurd is
 of_words_before Holds Memory is = absurd is
 of_words_before Holds Write is = absurd is
@@ -27,19 +30,33 @@ module _ {O : Type 0} (told : O → Option (List ℕ)) (failed : O → ℕ) (old
     stops_before WordsMemory is nothing = nothing
     stops_before (Words line) is nothing = nothing
     stops_before (Refused line) is nothing = nothing
+    stops_before (NotDrawn error line) is nothing = absurd is
     stops_before Limit is nothing = absurd is
     stops_before Memory is nothing = inl nothing
     stops_before Write is nothing = absurd is
 
-    -- a command whose run is refused, or its picture, before anything is written
+    -- a command whose run is refused, before anything is written
     pub stops_of_run : (s : Record) (f : Fault) → IsOfRun s f → WroteNothing told failed old new → Stops told failed old new IsWritten IsLeft f
     stops_of_run s Form is nothing = absurd is
     stops_of_run s WordsMemory is nothing = absurd is
     stops_of_run s (Words line) is nothing = absurd is
-    stops_of_run s (Refused line) is nothing = nothing
+    stops_of_run s (Refused line) is nothing = absurd is
+    stops_of_run s (NotDrawn error line) is nothing = absurd is
     stops_of_run s Limit is nothing = nothing
     stops_of_run s Memory is nothing = inl nothing
     stops_of_run s Write is nothing = absurd is
+
+    -- a command whose picture is refused, or its run, before anything is written
+    pub stops_of_picture : (named : Picture) (s : Record) (from until : ℕ) (f : Fault) → IsOfPicture named s from until f → WroteNothing told failed old new
+        → Stops told failed old new IsWritten IsLeft f
+    stops_of_picture named s from until Form is nothing = absurd is
+    stops_of_picture named s from until WordsMemory is nothing = absurd is
+    stops_of_picture named s from until (Words line) is nothing = absurd is
+    stops_of_picture named s from until (Refused line) is nothing = absurd is
+    stops_of_picture named s from until (NotDrawn error line) is nothing = nothing
+    stops_of_picture named s from until Limit is nothing = nothing
+    stops_of_picture named s from until Memory is nothing = inl nothing
+    stops_of_picture named s from until Write is nothing = absurd is
 
     -- a command that stops with status 1
     pub stops_one : (f : Fault) → status_of f ≡ 1 → WroteNothing told failed old new → Stops told failed old new IsWritten IsLeft f
@@ -47,6 +64,7 @@ module _ {O : Type 0} (told : O → Option (List ℕ)) (failed : O → ℕ) (old
     stops_one WordsMemory is nothing = nothing
     stops_one (Words line) is nothing = nothing
     stops_one (Refused line) is nothing = nothing
+    stops_one (NotDrawn error line) is nothing = nothing
     stops_one Limit is nothing = absurd (omega (arith, is))
     stops_one Memory is nothing = inl nothing
     stops_one Write is nothing = absurd (omega (arith, is))
@@ -70,6 +88,7 @@ module _ {O : Type 0} (told : O → Option (List ℕ)) (failed : O → ℕ) (old
     at_four WordsMemory is stops = absurd (omega (arith, is))
     at_four (Words line) is stops = absurd (omega (arith, is))
     at_four (Refused line) is stops = absurd (omega (arith, is))
+    at_four (NotDrawn error line) is stops = absurd (omega (arith, is))
     at_four Limit is stops = absurd (omega (arith, is))
     at_four Memory is stops = absurd (omega (arith, is))
     at_four Write is stops = stops
@@ -80,6 +99,7 @@ module _ {O : Type 0} (told : O → Option (List ℕ)) (failed : O → ℕ) (old
     at_three WordsMemory is stops = inl stops
     at_three (Words line) is stops = inl stops
     at_three (Refused line) is stops = inl stops
+    at_three (NotDrawn error line) is stops = inl stops
     at_three Limit is stops = inl stops
     at_three Memory is stops = stops
     at_three Write is stops = absurd (omega (arith, is))
@@ -90,6 +110,7 @@ module _ {O : Type 0} (told : O → Option (List ℕ)) (failed : O → ℕ) (old
     below_three WordsMemory is stops = stops
     below_three (Words line) is stops = stops
     below_three (Refused line) is stops = stops
+    below_three (NotDrawn error line) is stops = stops
     below_three Limit (inl is) stops = absurd (omega (arith, is))
     below_three Limit (inr is) stops = absurd (omega (arith, is))
     below_three Memory (inl is) stops = absurd (omega (arith, is))
@@ -120,6 +141,7 @@ limit_before input path Form is = tt
 limit_before input path WordsMemory is = tt
 limit_before input path (Words line) is = tt
 limit_before input path (Refused line) is = tt
+limit_before input path (NotDrawn error line) is = absurd is
 limit_before input path Limit is = absurd is
 limit_before input path Memory is = tt
 limit_before input path Write is = absurd is
@@ -131,6 +153,7 @@ limit_of_run input path s Form at is = tt
 limit_of_run input path s WordsMemory at is = tt
 limit_of_run input path s (Words line) at is = tt
 limit_of_run input path s (Refused line) at is = tt
+limit_of_run input path s (NotDrawn error line) at is = tt
 limit_of_run input path s Limit at is = (s, at, is)
 limit_of_run input path s Memory at is = tt
 limit_of_run input path s Write at is = tt

@@ -6,7 +6,7 @@ use Rattle.event_list.specs.declared.error.RunError.{RunError}
 use Rattle.event_list.specs.declared.error.RunError.TheVariants as error
 use Rattle.fdstudy.specs.File.{IsScenario}
 use Rattle.fdstudy.specs.declared.fault.Fault.{Fault}
-use Rattle.fdstudy.specs.declared.fault.Fault.TheVariants.{Limit, Memory, Refused}
+use Rattle.fdstudy.specs.declared.fault.Fault.TheVariants.{Limit, Memory}
 use Rattle.process_api.specs.EntryRecord.{EntryRecord}
 use Rattle.scenario.specs.Record.{Record}
 
@@ -19,9 +19,8 @@ fault_of_run _ = Memory
 abbrev pub IsTooLong : Record → Type 0
 IsTooLong s = (trace : List EntryRecord) → IsTrace (setting_of s) trace → s.limit < length trace
 
--- the fault is that of a run of the scenario, or of its picture: for the limit only where the trace is longer
+-- the fault is that of a run of the scenario: for the limit only where the trace is longer
 abbrev pub IsOfRun : Record → Fault → Type 0
-IsOfRun s (Refused line) = Unit {0}
 IsOfRun s Limit = IsTooLong s
 IsOfRun s Memory = Unit {0}
 IsOfRun s _ = ⊥

@@ -1,6 +1,7 @@
 -- Why an order isn't carried out: which of its words, its file or its runs are refused.
 use Rattle.std.specs.Prelude.{◌≡◌, ◌⊎◌, ℕ, List, length, false, Option, Result, String, option_map}
 use Rattle.std.specs.declared.alloc.Global.{Global}
+use Rattle.fdstudy.specs.Draw.{StopsPicture}
 use Rattle.fdstudy.specs.File.{IsTable}
 use Rattle.fdstudy.specs.Refusal.{IsNoTable, IsOfFile}
 use Rattle.fdstudy.specs.Runs.{StopsAtLimit}
@@ -91,11 +92,11 @@ module _ (input : Option (List ℕ)) (path : List ℕ) where
       abbrev pub StopsSweep : Fault → Type 0
       StopsSweep = IsOfStudy (SaysNoGrid words ⊎ SaysNoShard word) (λ line. IsNoTable input path line ⊎ HasRefusedRun)
 
--- an order isn't carried out for this fault. Of the commands that run one scenario the limit alone is told here
+-- an order isn't carried out for this fault. Of a run's letters and of pictures a refused file isn't told here
 abbrev pub StopsFor : Option (List ℕ) → Order → Fault → Type 0
 StopsFor input (order.Check path) fault = StopsCheck input path.now fault
 StopsFor input (order.Letters path) fault = StopsAtLimit input path.now fault
-StopsFor input (order.Draw path named from until) fault = StopsAtLimit input path.now fault
+StopsFor input (order.Draw path named from until) fault = StopsPicture input path.now named from until fault
 StopsFor input (order.Show path grid point run) fault = StopsShow input path.now grid point run fault
 StopsFor input (order.Sweep path grid shard threads) fault =
     StopsSweep input path.now grid (option_map (λ w. w.now) shard) fault

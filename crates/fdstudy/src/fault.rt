@@ -4,6 +4,7 @@ ghost use Rattle.fdstudy.specs.Fault.{line_of, status_of, IsOfWords};
 ghost use Rattle.fdstudy.specs.Stop.{Tells};
 
 use crate::writing::tell_text;
+use drawing::DrawError;
 use qos_report::Outlet;
 use std::alloc::AllocError;
 
@@ -16,9 +17,11 @@ pub(crate) enum Fault {
     WordsMemory,
     /// A word is refused, as this line says.
     Words(String),
-    /// The file can't be read, or it, a run's scenario or a picture is refused, as this line says. There is none where
-    /// memory was refused for it.
+    /// The file can't be read, or it or a run's scenario is refused, as this line says. There is none where memory was
+    /// refused for it.
     Refused(Option<String>),
+    /// The picture is refused for this reason, as this line says. There is none where memory was refused for it.
+    NotDrawn(DrawError, Option<String>),
     /// The run has more entries than the scenario's limit.
     Limit,
     /// Memory was refused.
@@ -46,7 +49,7 @@ impl Fault {
     {
         match self {
             Fault::Form | Fault::WordsMemory | Fault::Words(_) => 2,
-            Fault::Refused(_) => 1,
+            Fault::Refused(_) | Fault::NotDrawn(..) => 1,
             Fault::Limit | Fault::Memory => 3,
             Fault::Write => 4,
         }
@@ -59,8 +62,12 @@ impl Fault {
         match self {
             Fault::Form => "fdstudy: words: Form\n",
             Fault::WordsMemory => "fdstudy: words: Memory\n",
-            Fault::Words(line) | Fault::Refused(Some(line)) => line.as_str(),
-            Fault::Refused(None) => "fdstudy: refused, and no memory to say why\n",
+            Fault::Words(line) | Fault::Refused(Some(line)) | Fault::NotDrawn(_, Some(line)) => {
+                line.as_str()
+            }
+            Fault::Refused(None) | Fault::NotDrawn(_, None) => {
+                "fdstudy: refused, and no memory to say why\n"
+            }
             Fault::Limit => "fdstudy: run: Limit\n",
             Fault::Memory => "fdstudy: run: Memory\n",
             Fault::Write => "fdstudy: run: Write\n",

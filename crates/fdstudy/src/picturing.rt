@@ -1,8 +1,8 @@
 //! The command `draw`: pictures of a scenario's run.
-ghost use Rattle.std.specs.Prelude.{◌≡◌, ◌≢◌, ◌^◌, ◌-◌, ◌+◌, ◌<◌, OnOk, IfErr, IfOk};
-ghost use Rattle.scenario.specs.Record.{Record};
-ghost use Rattle.fdstudy.specs.Draw.{IsDrawAnswer, Shows, ShowsLetters, ShowsSuspicions, end_of_ticks, first_tick};
-ghost use Rattle.fdstudy.specs.Runs.{IsOfRun, StopsAtLimit};
+ghost use Rattle.std.specs.Prelude.{◌≡◌, ◌≢◌, ◌^◌, ◌-◌, ◌+◌, ◌<◌, OnOk, IfErr, IfOk, None};
+ghost use Rattle.drawing.specs.Refusals.{refusal};
+ghost use Rattle.fdstudy.specs.Draw.{IsDrawAnswer, IsOfPicture, Shows, ShowsLetters, ShowsSuspicions};
+ghost use Rattle.fdstudy.specs.Draw.{StopsPicture, TellsOf, end_of_ticks, first_tick};
 ghost use Rattle.fdstudy.specs.Stop.{Stops, Went};
 ghost use Rattle.sources.specs.Input.{TakesAtMost, input_path, most_bytes};
 
@@ -10,7 +10,7 @@ use crate::fault::Fault;
 use crate::file::scenario_at;
 use crate::running::{letters_of, trace_of};
 use crate::writing::put_bytes;
-use drawing::{DrawError, draw_letters, draw_suspicions};
+use drawing::{DrawError, check_ticks, draw_letters, draw_suspicions};
 use qos_report::Outlet;
 use scenario::Scenario;
 use std::alloc::Global;
@@ -39,16 +39,17 @@ fn span_of(scenario: &Scenario, from: Option<u32>, until: Option<u32>) -> Span
 }
 
 /// The fault of a picture that is refused, with its name and its reason.
-fn fault_of(alloc: Global, path: &str, error: &DrawError) -> Fault
-    ensures { (s : Record) → IsOfRun s result }
+fn fault_of(alloc: Global, path: &str, error: DrawError) -> Fault
+    ensures { TellsOf error result }
 {
-    let name = match error {
+    let name = match &error {
         DrawError::TooManyProcesses => "TooManyProcesses",
         DrawError::Ticks => "Ticks",
         DrawError::TooManyLetters => "TooManyLetters",
         DrawError::Memory(_) => return Fault::Memory,
     };
-    Fault::Refused(format!(in alloc; "{path}: {name}: {error}\n").ok())
+    let line = format!(in alloc; "{path}: {name}: {error}\n").ok();
+    Fault::NotDrawn(error, line)
 }
 
 /// The picture of who suspects whom at these ticks of the scenario's run.
@@ -58,13 +59,14 @@ fn suspicions_of(
     scenario: &Scenario,
     span: Span,
 ) -> Result<Vec<u8>, Fault>
+    requires { refusal scenario.now span.from span.until ≡ None }
     ensures shows { IfOk result (λ text. ShowsSuspicions scenario.now span.from span.until text.items) }
-    ensures refused { IfErr result (IsOfRun scenario.now) }
+    ensures refused { IfErr result (IsOfPicture Picture.Suspicions scenario.now span.from span.until) }
 {
     let trace = trace_of(alloc, scenario)?;
     match draw_suspicions(alloc, scenario, &trace, span.from, span.until) {
         Ok(text) => Ok(text),
-        Err(error) => Err(fault_of(alloc, path, &error)),
+        Err(error) => Err(fault_of(alloc, path, error)),
     }
 }
 
@@ -75,18 +77,20 @@ fn letters_picture_of(
     scenario: &Scenario,
     span: Span,
 ) -> Result<Vec<u8>, Fault>
+    requires { refusal scenario.now span.from span.until ≡ None }
     ensures shows { IfOk result (λ text. ShowsLetters scenario.now span.from span.until text.items) }
-    ensures refused { IfErr result (IsOfRun scenario.now) }
+    ensures refused { IfErr result (IsOfPicture Picture.Letters scenario.now span.from span.until) }
 {
     let trace = trace_of(alloc, scenario)?;
     let letters = letters_of(alloc, scenario)?;
     match draw_letters(alloc, scenario, &trace, &letters, span.from, span.until) {
         Ok(text) => Ok(text),
-        Err(error) => Err(fault_of(alloc, path, &error)),
+        Err(error) => Err(fault_of(alloc, path, error)),
     }
 }
 
-/// A picture of these ticks of the scenario's run.
+/// A picture of these ticks of the scenario's run. What its processes and these ticks refuse is told before the run is
+/// made.
 fn picture_of(
     alloc: Global,
     path: &str,
@@ -95,8 +99,11 @@ fn picture_of(
     span: Span,
 ) -> Result<Vec<u8>, Fault>
     ensures shows { IfOk result (λ text. Shows picture scenario.now span.from span.until text.items) }
-    ensures refused { IfErr result (IsOfRun scenario.now) }
+    ensures refused { IfErr result (IsOfPicture picture scenario.now span.from span.until) }
 {
+    if let Err(error) = check_ticks(scenario, span.from, span.until) {
+        return Err(fault_of(alloc, path, error));
+    }
     match picture {
         Picture::Suspicions => suspicions_of(alloc, path, scenario, span),
         Picture::Letters => letters_picture_of(alloc, path, scenario, span),
@@ -119,7 +126,7 @@ pub(crate) fn serve_draw<R: Files, I: Read, O: Outlet>(
         OnOk result (Went O.told O.failed outlet.old outlet.new wanted) }
     ensures stops { let wanted = IsDrawAnswer (I.remaining input.old) path.now picture from until in
         IfErr result (Stops O.told O.failed outlet.old outlet.new wanted (λ _. ⊥)) }
-    ensures limit { IfErr result (StopsAtLimit (I.remaining input.old) path.now) }
+    ensures refused { IfErr result (StopsPicture (I.remaining input.old) path.now picture from until) }
     ensures taken { TakesAtMost (most_bytes + 1) (I.remaining input.old) (I.remaining input.new) }
     ensures untouched { path.now ≢ input_path → input.new ≡ input.old }
 {

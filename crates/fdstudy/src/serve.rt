@@ -129,8 +129,8 @@ fn tell<O: Outlet, F: Outlet>(
 /// | 3 | the run passes its limit, or memory was refused |
 /// | 4 | writing to the outlet failed |
 ///
-/// Faults are looked for in this order: words, file, runs, picture. So 1 comes only where the words make a whole
-/// order. Nothing of the input is taken but for an order that names `-`.
+/// Faults are looked for in this order: words, file, processes and ticks of a picture, runs, letters of a picture. So 1
+/// comes only where the words make a whole order. Nothing of the input is taken but for an order that names `-`.
 ///
 /// With status 1 or 2 nothing was written, and with 3 nothing but by `sweep`: its first line and the rows of the first
 /// points may have gone out. With 4 a front part of the text went out.

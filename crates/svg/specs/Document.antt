@@ -1,8 +1,8 @@
 -- A picture as a document.
 use Rattle.std.specs.Prelude.{ℕ, List, [], ◌∷◌, ◌++◌, flat_map, codes, decimal}
 use Rattle.svg.specs.Elements.{attribute, shape_text}
+use Rattle.svg.specs.Style.{style_text}
 use Rattle.svg.specs.declared.shape.Shape.{Shape}
-use Rattle.svg.specs.declared.style.TheConstants.{STYLE}
 
 -- its size in user units
 abbrev pub view_box_text : (width height : ℕ) → List ℕ
@@ -13,10 +13,11 @@ view_box_text width height =
 abbrev pub pixels : (width height : ℕ) → List (List ℕ × ℕ)
 pixels width height = (codes "width", width) ∷ (codes "height", height) ∷ []
 
+-- what stands before the shapes: the size, and how each class is painted
 abbrev pub head_text : (width height : ℕ) → List ℕ
 head_text width height =
     codes "<svg xmlns=\"http://www.w3.org/2000/svg\" role=\"img\""
-    ++ (view_box_text width height ++ (flat_map attribute (pixels width height) ++ (codes ">\n" ++ STYLE.now)))
+    ++ (view_box_text width height ++ (flat_map attribute (pixels width height) ++ (codes ">\n" ++ style_text)))
 
 -- the head, the shapes in their order, and the end
 unfoldable pub svg_text : (width height : ℕ) → List Shape → List ℕ

@@ -1,3 +1,4 @@
 pub mod Escaping
 pub mod Elements
+pub mod Style
 pub mod Document

@@ -4,7 +4,7 @@ ghost use Rattle.svg.specs.Document.{head_text, svg_text, view_box_text};
 
 use crate::elements::{push_attributes, push_number, push_shape};
 use crate::shape::Shape;
-use crate::style::STYLE;
+use crate::style::style;
 use std::alloc::{AllocError, Global};
 
 /// A picture, in whole user units.
@@ -41,7 +41,7 @@ fn head(alloc: Global, width: u32, height: u32) -> Result<Vec<u8>, AllocError>
     push_view_box(&mut out, width, height)?;
     push_attributes(&mut out, &[("width", width), ("height", height)])?;
     out.extend_from_slice(b">\n")?;
-    out.extend_from_slice(STYLE)?;
+    out.extend_from_slice(style())?;
     Ok(out)
 }
 
@@ -53,7 +53,8 @@ fn head(alloc: Global, width: u32, height: u32) -> Result<Vec<u8>, AllocError>
 /// `AllocError` where memory was refused.
 #[tactic(auto, unfolding(crate::specs::Document::svg_text))]
 pub fn svg_text(alloc: Global, picture: &Picture) -> Result<Vec<u8>, AllocError>
-    ensures { IfOk result (λ text. text.items ≡ svg_text picture.now.width picture.now.height picture.now.shapes.items) }
+    ensures { IfOk result (λ text. text.items
+        ≡ svg_text picture.now.width picture.now.height picture.now.shapes.items) }
 {
     let mut out = head(alloc, picture.width, picture.height)?;
     for shape in &picture.shapes {

@@ -1,8 +1,10 @@
-//! How the classes of shapes are drawn.
+//! How the classes of shapes are painted.
+ghost use Rattle.std.specs.Prelude.{◌≡◌};
+ghost use Rattle.svg.specs.Style.{style_text};
 
 /// The style sheet, and the marks that shapes refer to: a cross, a stop, and a head in the colour of each class that
 /// has one.
-pub(crate) const STYLE: &[u8] = b"<style>
+const STYLE: &[u8] = b"<style>
 :root{color-scheme:light dark}
 text{font:12px sans-serif;fill:#24292f}
 .title{font-weight:bold}
@@ -49,3 +51,11 @@ text{fill:#e6edf3}
 <path id=\"cross\" d=\"M-4 -4L4 4M4 -4L-4 4\"/>
 </defs>
 ";
+
+/// The style sheet and the marks that each document has.
+#[tactic(auto, unfolding(crate::specs::Style::style_text))]
+pub(crate) fn style() -> &'static [u8]
+    ensures { result.now ≡ style_text }
+{
+    STYLE
+}

@@ -46,7 +46,7 @@ fn letter_of(row: &str) -> Result<Letter, Fail> {
     })
 }
 
-fn letters_of(alloc: Global, rows: &str) -> Result<Vec<Letter>, Fail> {
+pub fn letters_of(alloc: Global, rows: &str) -> Result<Vec<Letter>, Fail> {
     let mut letters = Vec::new(alloc);
     for row in rows.lines() {
         letters.push(letter_of(row)?)?;

@@ -1,6 +1,6 @@
 //! The letters of a run.
 
-use crate::tests::runs::{ONE_CRASH, printed, refuses};
+use crate::tests::runs::{COORDINATORS, ONE_CRASH, SHARED, STRONG, printed, refuses};
 use std::test::Fail;
 
 /// Both processes send a letter at tick 0, which takes 2 ticks. Of those of process 1 at ticks 4 and 8 the first comes
@@ -12,10 +12,72 @@ const ROWS: &str = "sent,sender,receiver,number,kind,due,fate
 8,1,2,3,alive,10,late
 ";
 
+/// Each process sends its vector of round 1 at its start. At tick 1 it has its own and suspects the other, so it leaves
+/// the round and sends its last vector.
+const STRONG_ROWS: &str = "sent,sender,receiver,number,kind,due,fate
+0,1,2,1,alive,2,taken
+0,1,2,2,vector,2,taken
+0,2,1,1,alive,2,taken
+0,2,1,2,vector,2,taken
+1,1,2,3,last,3,taken
+1,2,1,3,last,3,taken
+";
+
+/// Process 2 coordinates round 1. It proposes at tick 2, as it has the estimate of process 1 beside its own, and it
+/// sends its decision as it has the reply of process 1 at tick 6; the others pass it on at tick 8. Process 3 coordinates
+/// round 2.
+const COORDINATOR_ROWS: &str = "sent,sender,receiver,number,kind,due,fate
+0,1,2,1,alive,2,taken
+0,1,3,1,alive,2,taken
+0,1,2,2,estimate,2,taken
+0,2,1,1,alive,2,taken
+0,2,3,1,alive,2,taken
+0,3,1,1,alive,2,taken
+0,3,2,1,alive,2,taken
+0,3,2,2,estimate,2,taken
+2,2,1,2,proposal,4,taken
+2,2,3,2,proposal,4,taken
+4,1,2,3,reply,6,taken
+4,1,3,2,estimate,6,taken
+4,3,2,3,reply,6,taken
+6,2,1,3,decide,8,taken
+6,2,3,3,decide,8,taken
+6,2,3,4,estimate,8,taken
+6,3,1,2,proposal,8,taken
+6,3,2,4,proposal,8,taken
+8,1,2,4,decide,10,taken
+8,1,3,3,decide,10,taken
+8,3,1,3,decide,10,taken
+8,3,2,5,decide,10,taken
+";
+
+/// Processes 1 and 3 say that they are alive once, and share at ticks 4 and 8.
+const SHARED_ROWS: &str = "sent,sender,receiver,number,kind,due,fate
+0,1,2,1,alive,2,dead
+0,1,3,1,alive,2,taken
+0,3,1,1,alive,2,taken
+0,3,2,1,alive,2,dead
+4,1,2,2,suspects,6,dead
+4,1,3,2,suspects,6,taken
+4,3,1,2,suspects,6,taken
+4,3,2,2,suspects,6,dead
+8,1,2,3,suspects,10,dead
+8,1,3,3,suspects,10,taken
+8,3,1,3,suspects,10,taken
+8,3,2,3,suspects,10,dead
+";
+
 #[test]
-fn one_crash(rt: HostRuntime) -> Result<(), Fail> {
-    let text = printed(&rt, rt.alloc(), "letters -", ONE_CRASH)?;
-    assert_eq!(rt; text.as_str(), ROWS);
+fn worked_runs(rt: HostRuntime) -> Result<(), Fail> {
+    for (file, rows) in [
+        (ONE_CRASH, ROWS),
+        (STRONG, STRONG_ROWS),
+        (COORDINATORS, COORDINATOR_ROWS),
+        (SHARED, SHARED_ROWS),
+    ] {
+        let text = printed(&rt, rt.alloc(), "letters -", file)?;
+        assert_eq!(rt; text.as_str(), rows);
+    }
     Ok(())
 }
 
@@ -31,5 +93,21 @@ fn limits(rt: HostRuntime) -> Result<(), Fail> {
     for line in ["letters -", "draw - --as suspicions", "draw - --as letters"] {
         refuses(&rt, alloc, line, &above, 3, "fdstudy: run: Limit\n")?;
     }
+    Ok(())
+}
+
+/// Where a picture's ticks or its processes are refused, its run isn't made, so no limit is passed.
+#[test]
+fn picture_before_limit(rt: HostRuntime) -> Result<(), Fail> {
+    let alloc = rt.alloc();
+    let above = ONE_CRASH.replace(alloc, "horizon = 10", "horizon = 10\nlimit = 11")?;
+    let fault = "-: Ticks: these ticks aren't those of the run\n";
+    for picture in ["suspicions", "letters"] {
+        let line = format!(in alloc; "draw - --as {picture} --until 11")?;
+        refuses(&rt, alloc, &line, &above, 1, fault)?;
+    }
+    let many = above.replace(alloc, "processes = 2", "processes = 17")?;
+    let fault = "-: TooManyProcesses: there are more than 16 processes\n";
+    refuses(&rt, alloc, "draw - --as letters", &many, 1, fault)?;
     Ok(())
 }

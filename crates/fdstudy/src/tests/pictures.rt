@@ -1,8 +1,12 @@
 //! Pictures of a run.
 
-use crate::tests::runs::{ONE_CRASH, printed, refuses, run};
+use crate::tests::runs::{COORDINATORS, ONE_CRASH, SHARED, STRONG, printed, refuses, run};
 use std::alloc::Global;
+use std::marker::Sync;
+use std::process::Abort;
+use std::rt::Files;
 use std::test::Fail;
+use std::thread::Threads;
 
 /// Ticks that are asked for, what the title says of them, and the bar of process 1, which suspects process 2 from tick
 /// 9 on: the ticks share 800 units from 88 on.
@@ -82,6 +86,69 @@ fn letters_of_one_crash(rt: HostRuntime) -> Result<(), Fail> {
         .count();
     assert_eq!(rt; arrows, 1, "{text}");
     Ok(())
+}
+
+/// Both processes suspect each other at tick 1 and from tick 4 on, and process 1 decides at tick 2. A tick is 80 units
+/// wide.
+const STRONG_SHAPES: [&str; 8] = [
+    "<circle class=\"decision\" cx=\"248\" cy=\"88\" r=\"4\"/>\n",
+    "<rect class=\"first\" x=\"168\" y=\"100\" width=\"80\" height=\"6\"/>\n",
+    "<rect class=\"first\" x=\"408\" y=\"100\" width=\"480\" height=\"6\"/>\n",
+    "<rect class=\"first\" x=\"168\" y=\"142\" width=\"80\" height=\"6\"/>\n",
+    "<rect class=\"first\" x=\"408\" y=\"142\" width=\"480\" height=\"6\"/>\n",
+    "<line marker-end=\"url(#head)\" class=\"consensus\" x1=\"88\" y1=\"106\" x2=\"248\" y2=\"160\"/>\n",
+    "<line marker-end=\"url(#head)\" class=\"consensus\" x1=\"168\" y1=\"160\" x2=\"328\" y2=\"106\"/>\n",
+    "<text class=\"remark\" x=\"248\" y=\"122\" text-anchor=\"start\">decides 10</text>\n",
+];
+
+/// Process 2 decides at tick 7, and the others at tick 8. A tick is 40 units wide.
+const COORDINATOR_SHAPES: [&str; 7] = [
+    "<circle class=\"decision\" cx=\"408\" cy=\"88\" r=\"4\"/>\n",
+    "<circle class=\"decision\" cx=\"368\" cy=\"146\" r=\"4\"/>\n",
+    "<circle class=\"decision\" cx=\"408\" cy=\"204\" r=\"4\"/>\n",
+    "<line marker-end=\"url(#head)\" class=\"consensus\" x1=\"168\" y1=\"178\" x2=\"248\" y2=\"115\"/>\n",
+    "<line marker-end=\"url(#head)\" class=\"consensus\" x1=\"328\" y1=\"178\" x2=\"408\" y2=\"241\"/>\n",
+    "<text class=\"remark\" x=\"368\" y=\"194\" text-anchor=\"start\">decides 10</text>\n",
+    "<text class=\"remark\" x=\"408\" y=\"257\" text-anchor=\"start\">decides 10</text>\n",
+];
+
+/// Of ten ticks from tick 1 on: process 1 suspects process 2 from tick 6 on, by the reduction from tick 9 on; process 3
+/// suspects process 1 from tick 9 on, and by the reduction process 2 at tick 10.
+const SHARED_SHAPES: [&str; 8] = [
+    "<rect class=\"first\" x=\"488\" y=\"97\" width=\"400\" height=\"6\"/>\n",
+    "<rect class=\"second\" x=\"728\" y=\"104\" width=\"160\" height=\"6\"/>\n",
+    "<rect class=\"first\" x=\"728\" y=\"213\" width=\"160\" height=\"6\"/>\n",
+    "<rect class=\"second\" x=\"808\" y=\"236\" width=\"80\" height=\"6\"/>\n",
+    "<line marker-end=\"url(#head)\" class=\"reduction\" x1=\"648\" y1=\"115\" x2=\"808\" y2=\"241\"/>\n",
+    "<line class=\"dead\" x1=\"648\" y1=\"115\" x2=\"808\" y2=\"178\"/>\n",
+    "<text class=\"remark\" x=\"728\" y=\"100\" text-anchor=\"middle\">+2</text>\n",
+    "<text class=\"remark\" x=\"808\" y=\"235\" text-anchor=\"middle\">+2</text>\n",
+];
+
+/// Each shape is in one of the two pictures of a file's run from a tick on.
+fn shows<R: Files + Threads + Sync + Abort>(
+    rt: &R,
+    alloc: Global,
+    file: &str,
+    from: u8,
+    shapes: &[&str],
+) -> Result<(), Fail> {
+    let line = format!(in alloc; "draw - --as suspicions --from {from}")?;
+    let mut text = printed(rt, alloc, &line, file)?;
+    let line = format!(in alloc; "draw - --as letters --from {from}")?;
+    text.push_str(printed(rt, alloc, &line, file)?.as_str())?;
+    for shape in shapes {
+        assert!(rt; text.as_str().contains(*shape), "{shape}{text}");
+    }
+    Ok(())
+}
+
+#[test]
+fn worked_runs(rt: HostRuntime) -> Result<(), Fail> {
+    let alloc = rt.alloc();
+    shows(&rt, alloc, STRONG, 0, &STRONG_SHAPES)?;
+    shows(&rt, alloc, COORDINATORS, 0, &COORDINATOR_SHAPES)?;
+    shows(&rt, alloc, SHARED, 1, &SHARED_SHAPES)
 }
 
 /// Sixteen processes send 240 letters every 4 ticks: 1,920 by tick 28, and 2,160 by tick 32.

@@ -32,6 +32,72 @@ process = 2
 at = 3
 ";
 
+/// Two processes that decide by rounds of vectors. Each suspects the other from tick 1 on, trusts it again at tick 2
+/// and suspects it from tick 4 on.
+pub const STRONG: &str = "version = 1
+processes = 2
+horizon = 10
+lookahead = 2
+seed = 1
+algorithm = \"s\"
+proposals = [10, 20]
+
+[detector]
+period = 100
+check = 1
+timeout = 1
+
+[link]
+min = 2
+max = 2
+";
+
+/// Three processes that decide by rotating coordinators, none of which suspects another.
+pub const COORDINATORS: &str = "version = 1
+processes = 3
+horizon = 20
+lookahead = 2
+seed = 1
+algorithm = \"es\"
+proposals = [10, 20, 30]
+
+[detector]
+period = 100
+check = 100
+timeout = 100
+
+[link]
+min = 2
+max = 2
+";
+
+/// Three processes in a circle, each of which watches the next, and shares whom it suspects each 4 ticks. The second
+/// never starts.
+pub const SHARED: &str = "version = 1
+processes = 3
+horizon = 11
+lookahead = 2
+seed = 1
+algorithm = \"none\"
+
+[detector]
+period = 100
+check = 3
+timeout = 5
+watch = \"next\"
+
+[share]
+period = 4
+
+[link]
+min = 2
+max = 2
+
+[[crash]]
+process = 2
+at = 0
+";
+
 /// What a run answered, wrote and said of faults.
 #[derive(Drop)]
 pub struct Ran {

@@ -5,7 +5,7 @@ use Rattle.drawing.specs.Lanes.{lanes_bottom}
 use Rattle.drawing.specs.LettersDrawn.{turn_bars, letters_in}
 use Rattle.drawing.specs.LettersPicture.{upper_layer}
 use Rattle.drawing.specs.Suspicions.{row_end}
-use Rattle.drawing.specs.declared.layout.TheConstants.{LEFT, WIDTH, RIGHT, BOTTOM}
+use Rattle.drawing.specs.Sizes.{left_room, axis_width, right_room, foot_room}
 use Rattle.drawing.proofs.Joining.{if_ok}
 use Rattle.drawing.proofs.Stretching.{stretches_are_bars}
 use Rattle.drawing.proofs.letters_picture.text_of.Goals as goal
@@ -20,7 +20,7 @@ returns c =
       bars = turn_bars run;
       are_bars = λ q p. stretches_are_bars (suspects (upper_layer S.share) run.trace.now q p) 0 (row_end S run.ticks.until q);
       text_is =
-          e ∙ ap (λ h. svg_text (LEFT + WIDTH + RIGHT) (h + BOTTOM) c.in_ok-shapes_of.field-0.items) (c.lanes_bottom.ensures.value ∙ ap lanes_bottom c.processes.ensures.value)
-          ∙ ap (svg_text (LEFT + WIDTH + RIGHT) (lanes_bottom S.processes + BOTTOM)) c.in_ok-shapes_of.ensures;
+          e ∙ ap (λ h. svg_text (left_room + axis_width + right_room) (h + foot_room) c.in_ok-shapes_of.field-0.items) (c.lanes_bottom.ensures.value ∙ ap lanes_bottom c.processes.ensures.value)
+          ∙ ap (svg_text (left_room + axis_width + right_room) (lanes_bottom S.processes + foot_room)) c.in_ok-shapes_of.ensures;
     })
     c.svg_text.ensures

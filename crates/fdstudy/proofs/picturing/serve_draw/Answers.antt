@@ -1,6 +1,7 @@
-use Rattle.std.proofs.Common.{ℕ, List, sym, subst}
+use Rattle.std.proofs.Common.{rules, ℕ, List, sym, subst}
 use Rattle.fdstudy.specs.Draw.{Shows}
 use Rattle.fdstudy.proofs.Answered.{draw_answer}
+use Rattle.fdstudy.proofs.Refusing.{picture_stops}
 use Rattle.fdstudy.proofs.Stopping.{put_done, put_stops}
 use Rattle.fdstudy.proofs.picturing.serve_draw.Goals as goal
 
@@ -19,3 +20,10 @@ returns-clause-stops g c =
     c.span_of-span.result.from c.span_of-span.result.until c.deref.result.now c.in_ok-scenario.ensures.scenario c.span_of-span.ensures.from c.span_of-span.ensures.until
     (subst P (sym c.deref.ensures.value) c.in_ok-text.ensures.shows) in
     put_stops _ _ _ _ _ (λ _. ⊥) c.put_bytes.result _ wanted c.put_bytes.ensures.part
+
+pub returns-in_err-text-clause-refused : goal.returns-in_err-text-clause-refused
+returns-in_err-text-clause-refused g c =
+    let stops = picture_stops (g.I.Read.remaining c.args.input.now) c.args.path.now c.args.picture c.args.from c.args.until c.in_ok-scenario.scenario
+    c.in_err-text.field-0.0 c.span_of-span.result.from c.span_of-span.result.until c.in_ok-scenario.ensures.scenario c.span_of-span.ensures.from
+    c.span_of-span.ensures.until c.in_err-text.ensures.refused in
+    search rules
