@@ -16,7 +16,7 @@ use Rattle.fdstudy.specs.Sweep.{IsFaultOf, IsOfRun, IsSweepAnswer, IsSweepFront}
 use Rattle.fdstudy.specs.declared.fault.Fault.{Fault}
 use Rattle.fdstudy.specs.Why.{IsOfText, StopsShow, StopsSweep}
 use Rattle.fdstudy.proofs.Reasons.{study_run, study_text}
-use Rattle.fdstudy.proofs.Stopping.{stops_one}
+use Rattle.fdstudy.proofs.Stopping.{refusal_one, stops_one}
 use Rattle.letters.specs.Letters.{AreLetters}
 use Rattle.letters.specs.LettersText.{letters_text}
 use Rattle.letters.specs.declared.letter.Letter.{Letter}
@@ -164,7 +164,7 @@ module _ (input : Option (List ℕ)) (path : List ℕ) (words : GridTexts) (word
 
   pub sweep_stops : (e : SweepError) (f : Fault) → IsFaultOf e f → BreaksOff file g shard told failed old new e
       → Stops told failed old new (IsSweepFront input path words word) (IsSweepFront input path words word) f
-  sweep_stops (error.Refused point run reason) f is broke = stops_one told failed old new _ _ f is broke.1
+  sweep_stops (error.Refused point run reason) f is broke = stops_one told failed old new _ _ f (refusal_one f is) broke.1
   sweep_stops error.Memory f is broke =
       let P : Fault → Type 0 = λ x. Stops told failed old new (IsSweepFront input path words word) (IsSweepFront input path words word) x in
       subst P (sym is) (left broke)

@@ -1,7 +1,7 @@
 -- Why commands stop, for each of their faults.
 use Rattle.std.proofs.Common.{◌≡◌, ◌++◌, codes, append_assoc, ℕ, List, None, Option, Result, String, arith}
 use Rattle.std.specs.declared.alloc.Global.{Global}
-use Rattle.fdstudy.specs.Fault.{IsBefore, IsOfWords, IsOfWordsFor, status_of}
+use Rattle.fdstudy.specs.Fault.{IsBefore, IsOfWords, IsOfWordsFor, IsRefusal}
 use Rattle.fdstudy.specs.File.{AreBytes}
 use Rattle.fdstudy.specs.Refusal.{IsBeforeReading, IsNoTable, IsOfBytes, IsOfFile, IsOfTable, IsRight, IsRightOfTable, IsToldWith, IsUnread, refusal_text, FileRefusal, absent, unreadable, too_long, broken, line_with}
 use Rattle.fdstudy.specs.Why.{HasNone, IsOfStudy, IsOfText, StopsCheck}
@@ -167,13 +167,13 @@ module _ (OfWords : Type 0) (OfFile : Option (String Global) → Type 0) where
   study_text table Memory is then = tt
   study_text table Write is then = absurd is
 
-  -- a run is refused, with status 1
-  pub study_run : (f : Fault) → status_of f ≡ 1 → ((line : Option (String Global)) → OfFile line) → IsOfStudy OfWords OfFile f
-  study_run Form is then = absurd (omega (arith, is))
-  study_run WordsMemory is then = tt
-  study_run (Words line) is then = absurd (omega (arith, is))
+  -- a run is refused
+  pub study_run : (f : Fault) → IsRefusal f → ((line : Option (String Global)) → OfFile line) → IsOfStudy OfWords OfFile f
+  study_run Form is then = absurd is
+  study_run WordsMemory is then = absurd is
+  study_run (Words line) is then = absurd is
   study_run (Refused line) is then = then line
-  study_run (NotDrawn error line) is then = absurd (omega (arith, is))
-  study_run Limit is then = absurd (omega (arith, is))
-  study_run Memory is then = tt
-  study_run Write is then = tt
+  study_run (NotDrawn error line) is then = absurd is
+  study_run Limit is then = absurd is
+  study_run Memory is then = absurd is
+  study_run Write is then = absurd is

@@ -1,7 +1,7 @@
 -- What went out, and what stands where a command stops.
-use Rattle.std.proofs.Common.{◌≡◌, ◌⊎◌, inl, inr, sym, ℕ, List, Option, Result, Ok, Err, OnOk, IfErr, subst, arith}
+use Rattle.std.proofs.Common.{◌≡◌, ◌⊎◌, inl, inr, refl, sym, ℕ, List, Option, Result, Ok, Err, OnOk, IfErr, subst, arith}
 use Rattle.fdstudy.specs.Draw.{IsOfPicture}
-use Rattle.fdstudy.specs.Fault.{IsBefore, IsOfWordsFor, status_of}
+use Rattle.fdstudy.specs.Fault.{IsBefore, IsOfWordsFor, IsRefusal, status_of}
 use Rattle.fdstudy.specs.File.{IsScenario}
 use Rattle.fdstudy.specs.Runs.{IsOfRun, StopsAtLimit}
 use Rattle.fdstudy.specs.Stop.{Stops, Tells, Went, WentPart}
@@ -21,6 +21,17 @@ of_words_before Holds (NotDrawn error line) is = absurd is
 of_words_before Holds Limit is = absurd is
 of_words_before Holds Memory is = absurd is
 of_words_before Holds Write is = absurd is
+
+-- a refusal ends with status 1
+pub refusal_one : (f : Fault) → IsRefusal f → status_of f ≡ 1
+refusal_one Form is = absurd is
+refusal_one WordsMemory is = absurd is
+refusal_one (Words line) is = absurd is
+refusal_one (Refused line) is = refl
+refusal_one (NotDrawn error line) is = absurd is
+refusal_one Limit is = absurd is
+refusal_one Memory is = absurd is
+refusal_one Write is = absurd is
 
 module _ {O : Type 0} (told : O → Option (List ℕ)) (failed : O → ℕ) (old new : O) where
   module _ (IsWritten IsLeft : List ℕ → Type 0) where

@@ -34,6 +34,11 @@ IsBefore (NotDrawn error line) = ⊥
 IsBefore Limit = ⊥
 IsBefore _ = Unit {0}
 
+-- the fault is that a file or a run is refused
+abbrev pub IsRefusal : Fault → Type 0
+IsRefusal (Refused line) = Unit {0}
+IsRefusal _ = ⊥
+
 -- the fault is that words are refused, for a reason that holds, or that memory was while they were read
 abbrev pub IsOfWordsFor : Type 0 → Fault → Type 0
 IsOfWordsFor Holds (Words line) = Holds

@@ -1,7 +1,7 @@
 -- What `sweep` answers.
 use Rattle.std.specs.Prelude.{◌≡◌, ◌<◌, ℕ, List, length, take, Option}
 use Rattle.toml.specs.Data.{Members}
-use Rattle.fdstudy.specs.Fault.{status_of}
+use Rattle.fdstudy.specs.Fault.{IsRefusal}
 use Rattle.fdstudy.specs.File.{IsTable}
 use Rattle.fdstudy.specs.Study.{IsGrid, IsShardOf}
 use Rattle.fdstudy.specs.declared.fault.Fault.{Fault}
@@ -38,7 +38,7 @@ module _ (input : Option (List ℕ)) (path : List ℕ) (words : GridTexts) (word
 
 -- the fault of a sweep that breaks off: of a run that is refused its line isn't said
 abbrev pub IsFaultOf : SweepError → Fault → Type 0
-IsFaultOf (error.Refused point run reason) f = status_of f ≡ 1
+IsFaultOf (error.Refused point run reason) f = IsRefusal f
 IsFaultOf error.Memory f = f ≡ Memory
 IsFaultOf error.Write f = f ≡ Write
 
