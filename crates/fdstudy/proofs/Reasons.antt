@@ -1,5 +1,5 @@
 -- Why commands stop, for each of their faults.
-use Rattle.std.proofs.Common.{◌≡◌, ◌++◌, codes, append_assoc, ℕ, List, None, Option, Result, String, arith}
+use Rattle.std.proofs.Common.{◌≡◌, ◌++◌, codes, append_assoc, ℕ, List, None, Option, Result, String}
 use Rattle.std.specs.declared.alloc.Global.{Global}
 use Rattle.fdstudy.specs.Fault.{IsBefore, IsOfWords, IsOfWordsFor, IsRefusal}
 use Rattle.fdstudy.specs.File.{AreBytes}
