@@ -1,4 +1,4 @@
-use Rattle.std.proofs.Common.{rules, ◌≡◌, ◌+◌, ◌<◌, ℕ, suc, [], ◌∷◌, None, Some, length, sym, ap, subst, ◌∙◌, vec_len, arith}
+use Rattle.std.proofs.Common.{rules, ◌≡◌, ◌+◌, ℕ, suc, ◌∷◌, None, ap, subst, ◌∙◌, vec_len, arith}
 use Rattle.std.specs.Prelude.{slice_index_or}
 use Rattle.std.specs.Fn.{FnReturns}
 use Rattle.std.specs.Vec.Iter.{into_iter_items}

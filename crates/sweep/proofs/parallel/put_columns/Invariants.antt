@@ -1,4 +1,4 @@
-use Rattle.std.proofs.Common.{◌≡◌, ◌<◌, vec_len, length}
+use Rattle.std.proofs.Common.{◌≡◌, ◌<◌, vec_len}
 use Rattle.std.specs.List.{All}
 use Rattle.std.specs.Vec.Iter.{into_iter_items}
 use Rattle.sweep.specs.Parallel.{with_columns}
