@@ -2,7 +2,9 @@
 
 use crate::tests::agreement::agree;
 use crate::tests::files::{FIVE, TWO_FRESH};
-use crate::tests::runs::{changed, field, report_of, rows, run, sum_of, trace_of};
+use crate::tests::runs::{
+    answers, changed, field, is_answer, printed_by, report_of, rows, sum_of, trace_of,
+};
 use std::alloc::{AllocError, Global};
 use std::test::Fail;
 
@@ -32,19 +34,8 @@ fn two_fresh(rt: HostRuntime) -> Result<(), Fail> {
     assert_eq!(rt; entries.len(), 13);
     assert_eq!(rt; sum_of(&entries, 5), 4);
     for (workers, window) in [("1", "1"), ("2", "2"), ("2", "1")] {
-        let words = [
-            "run",
-            "-",
-            "--workers",
-            workers,
-            "--window",
-            window,
-            "--print",
-            "trace",
-        ];
-        let ran = run(&rt, alloc, &words, TWO_FRESH.as_bytes())?;
-        assert_eq!(rt; ran.out.as_str(), CRASH_AT_4, "{workers} {window}");
-        assert_eq!(rt; ran.status, 0);
+        let ran = printed_by(&rt, alloc, (workers, window), "trace", TWO_FRESH)?;
+        is_answer(&rt, &ran, 0, CRASH_AT_4, "");
     }
     Ok(())
 }
@@ -85,10 +76,7 @@ fn parts_over_it(rt: HostRuntime) -> Result<(), Fail> {
         let file = changed(alloc, TWO_FRESH, "[link]", &link)?;
         let file = changed(alloc, &file, "\"none\"", algorithm)?;
         let words = ["compare", "-", "--workers", "2", "--window", "2"];
-        let ran = run(&rt, alloc, &words, file.as_bytes())?;
-        assert_eq!(rt; ran.faults.as_str(), "");
-        assert_eq!(rt; ran.out.as_str(), "same\n");
-        assert_eq!(rt; ran.status, 0);
+        answers(&rt, alloc, &words, file.as_bytes(), (0, "same\n", ""))?;
     }
     Ok(())
 }

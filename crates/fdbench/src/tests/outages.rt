@@ -4,7 +4,7 @@ use crate::tests::files::{
     ALONE, COORDINATORS, EXCHANGE_CRASH, EXCHANGE_PAIR, FIVE, ONE_CRASH, ONE_PROCESS, TAKEN_BACK,
     WATCH_NEXT,
 };
-use crate::tests::runs::{changed, printed, report_of, rows, run, sum_of, trace_of};
+use crate::tests::runs::{answers, changed, printed, report_of, rows, sum_of, trace_of};
 use std::alloc::Global;
 use std::test::Fail;
 
@@ -52,9 +52,7 @@ fn one_crash_cut(rt: HostRuntime) -> Result<(), Fail> {
         assert!(rt; report.lines().any(|line: &str| line == row), "{row}");
     }
     let words = ["compare", "-", "--workers", "2", "--window", "2"];
-    let ran = run(&rt, alloc, &words, file.as_bytes())?;
-    assert_eq!(rt; (ran.status, ran.out.as_str()), (0, "same\n"));
-    Ok(())
+    answers(&rt, alloc, &words, file.as_bytes(), (0, "same\n", ""))
 }
 
 /// An outage in which no letter is sent changes nothing: the only letter of process 2 goes out at tick 0.
@@ -100,10 +98,9 @@ fn refused(rt: HostRuntime) -> Result<(), Fail> {
         ("version = 2", "version = 1", "UnknownKey"),
     ] {
         let text = changed(alloc, &file, old, new)?;
-        let ran = run(&rt, alloc, &["check", "-"], text.as_bytes())?;
         let line = format!(in alloc; "fdbench: scenario: {name}\n")?;
-        assert_eq!(rt; ran.faults.as_str(), line.as_str());
-        assert_eq!(rt; (ran.status, ran.out.as_str()), (1, ""));
+        let want = (1, "", line.as_str());
+        answers(&rt, alloc, &["check", "-"], text.as_bytes(), want)?;
     }
     Ok(())
 }
@@ -120,13 +117,8 @@ fn crowd(rt: HostRuntime) -> Result<(), Fail> {
     assert_eq!(rt; sum_of(&rows, 5), 65_280);
     assert_eq!(rt; rows.first().copied(), Some("0,1,1,0,start,255,0,"));
     let words = ["compare", "-", "--workers", "64", "--window", "1"];
-    let ran = run(&rt, alloc, &words, file.as_bytes())?;
-    assert_eq!(rt; (ran.status, ran.out.as_str()), (0, "same\n"));
+    answers(&rt, alloc, &words, file.as_bytes(), (0, "same\n", ""))?;
     let file = changed(alloc, ONE_PROCESS, one, "version = 2\nprocesses = 257\n")?;
-    let ran = run(&rt, alloc, &["check", "-"], file.as_bytes())?;
-    assert_eq!(rt;
-        (ran.status, ran.faults.as_str()),
-        (1, "fdbench: scenario: Processes\n")
-    );
-    Ok(())
+    let want = (1, "", "fdbench: scenario: Processes\n");
+    answers(&rt, alloc, &["check", "-"], file.as_bytes(), want)
 }

@@ -33,25 +33,28 @@ impl Write for Stuck {
     }
 }
 
-/// An outlet that takes 10 bytes and then fails holds the first 10 of the text.
-#[test]
-fn ten_bytes(rt: HostRuntime) -> Result<(), Fail> {
-    let alloc = rt.alloc();
-    let words = ["fdbench", "list", "-", "--print", "trace"];
+/// A run of a file whose outlet takes 10 bytes and then fails: it holds the first 10 of the trace's text.
+pub fn stops_at_ten_bytes<R: Files + Threads + Wait + Sync + Abort>(
+    rt: &R,
+    alloc: Global,
+    words: &[&str],
+    file: &str,
+) {
     let mut outlet = FuseOutlet::new(alloc, 10, 1);
     let mut faults = MemoryOutlet::new(alloc);
-    let status = serve(
-        &rt,
-        alloc,
-        &words,
-        &mut ONE_PROCESS.as_bytes(),
-        &mut outlet,
-        &mut faults,
-    );
+    let mut input = file.as_bytes();
+    let status = serve(rt, alloc, words, &mut input, &mut outlet, &mut faults);
     assert_eq!(rt; status, 4);
     assert_eq!(rt; outlet.failures(), 1);
     assert!(rt; outlet.bytes() == b"tick,recei".as_slice());
     assert!(rt; faults.bytes() == b"fdbench: run: Write\n".as_slice());
+}
+
+/// An outlet that takes 10 bytes and then fails holds the first 10 of the text.
+#[test]
+fn ten_bytes(rt: HostRuntime) -> Result<(), Fail> {
+    let words = ["fdbench", "list", "-", "--print", "trace"];
+    stops_at_ten_bytes(&rt, rt.alloc(), &words, ONE_PROCESS);
     Ok(())
 }
 

@@ -87,6 +87,23 @@ impl Holding {
         })
     }
 
+    /// How many calls there were, how many of them found their process as it was, and the sum of the workers' numbers.
+    fn counts(&self) -> (usize, u64, u64) {
+        (
+            self.calls.load(Ordering::SeqCst),
+            self.kept.load(Ordering::SeqCst),
+            self.workers.load(Ordering::SeqCst),
+        )
+    }
+
+    /// How many inputs each process has taken.
+    fn inputs(&self) -> (u64, u64) {
+        (
+            self.first.load(Ordering::SeqCst),
+            self.second.load(Ordering::SeqCst),
+        )
+    }
+
     /// The inputs that a process has taken.
     fn taken(&self, pid: Pid) -> &Arc<AtomicU64, Global> {
         if pid.number() == 1 {
@@ -213,11 +230,8 @@ fn overlaps<R: Files + Threads + Wait + Sync + Abort>(
     let scenario = read_scenario(alloc, file.as_bytes())?;
     let gate = Holding::new(alloc)?;
     let outlet = text_of(rt, alloc, &scenario, &gate, start)?;
-    assert_eq!(rt; gate.calls.load(Ordering::SeqCst), 10);
-    assert_eq!(rt; gate.kept.load(Ordering::SeqCst), 10);
-    assert_eq!(rt; gate.workers.load(Ordering::SeqCst), 15);
-    assert_eq!(rt; gate.first.load(Ordering::SeqCst), IN_ALL);
-    assert_eq!(rt; gate.second.load(Ordering::SeqCst), IN_ALL);
+    assert_eq!(rt; gate.counts(), (10, 10, 15));
+    assert_eq!(rt; gate.inputs(), (IN_ALL, IN_ALL));
     let listed = trace_of(rt, alloc, &file)?;
     assert!(rt; outlet.bytes() == listed.as_bytes());
     Ok(())

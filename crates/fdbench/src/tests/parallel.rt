@@ -1,10 +1,9 @@
 //! Runs by windows that workers share.
 
 use crate::compare::same_bytes;
-use crate::serve::serve;
 use crate::tests::files::{COORDINATORS, FIVE, ONE_CRASH, ONE_PROCESS, WATCH_NEXT};
-use crate::tests::runs::{changed, printed, run};
-use qos_report::{FuseOutlet, MemoryOutlet, Outlet};
+use crate::tests::outlets::stops_at_ten_bytes;
+use crate::tests::runs::{answers, changed, is_answer, printed, printed_by};
 use std::alloc::Global;
 use std::marker::Sync;
 use std::process::Abort;
@@ -48,23 +47,8 @@ fn prints_as_list<R: Files + Threads + Wait + Sync + Abort>(
 ) -> Result<(), Fail> {
     let want = printed(rt, alloc, print, file)?;
     for (workers, window) in PLANS {
-        let words = [
-            "run",
-            "-",
-            "--workers",
-            workers,
-            "--window",
-            window,
-            "--print",
-            print,
-        ];
-        let ran = run(rt, alloc, &words, file.as_bytes())?;
-        assert!(rt;
-            ran.out.as_str() == want.as_str(),
-            "{workers} {window} {print}"
-        );
-        assert_eq!(rt; ran.faults.as_str(), "");
-        assert_eq!(rt; ran.status, 0);
+        let ran = printed_by(rt, alloc, (workers, window), print, file)?;
+        is_answer(rt, &ran, 0, &want, "");
     }
     Ok(())
 }
@@ -77,11 +61,7 @@ fn refuses<R: Files + Threads + Wait + Sync + Abort>(
     file: &str,
     line: &str,
 ) -> Result<(), Fail> {
-    let ran = run(rt, alloc, words, file.as_bytes())?;
-    assert_eq!(rt; ran.faults.as_str(), line);
-    assert_eq!(rt; ran.out.as_str(), "");
-    assert_eq!(rt; ran.status, 3);
-    Ok(())
+    answers(rt, alloc, words, file.as_bytes(), (3, "", line))
 }
 
 #[test]
@@ -124,10 +104,7 @@ fn compared(rt: HostRuntime) -> Result<(), Fail> {
         (FIVE, "3", "2"),
     ] {
         let words = ["compare", "-", "--workers", workers, "--window", window];
-        let ran = run(&rt, alloc, &words, file.as_bytes())?;
-        assert_eq!(rt; ran.out.as_str(), "same\n");
-        assert_eq!(rt; ran.faults.as_str(), "");
-        assert_eq!(rt; ran.status, 0);
+        answers(&rt, alloc, &words, file.as_bytes(), (0, "same\n", ""))?;
     }
     Ok(())
 }
@@ -150,10 +127,8 @@ fn file_first(rt: HostRuntime) -> Result<(), Fail> {
     let alloc = rt.alloc();
     for command in ["run", "compare"] {
         let words = [command, "-", "--workers", "0", "--window", "0"];
-        let ran = run(&rt, alloc, &words, b"")?;
-        assert_eq!(rt; ran.faults.as_str(), "fdbench: scenario: MissingKey\n");
-        assert_eq!(rt; ran.out.as_str(), "");
-        assert_eq!(rt; ran.status, 1);
+        let want = (1, "", "fdbench: scenario: MissingKey\n");
+        answers(&rt, alloc, &words, b"", want)?;
     }
     Ok(())
 }
@@ -180,20 +155,8 @@ fn stops_at_limit<R: Files + Threads + Wait + Sync + Abort>(
     file: &str,
     want: &str,
 ) -> Result<(), Fail> {
-    let words = [
-        "run",
-        "-",
-        "--workers",
-        "2",
-        "--window",
-        "2",
-        "--print",
-        print,
-    ];
-    let ran = run(rt, alloc, &words, file.as_bytes())?;
-    assert_eq!(rt; ran.faults.as_str(), "fdbench: run: Limit\n");
-    assert_eq!(rt; ran.out.as_str(), want, "{print}");
-    assert_eq!(rt; ran.status, 3);
+    let ran = printed_by(rt, alloc, ("2", "2"), print, file)?;
+    is_answer(rt, &ran, 3, want, "fdbench: run: Limit\n");
     Ok(())
 }
 
@@ -250,7 +213,6 @@ fn limit_in_the_first_window(rt: HostRuntime) -> Result<(), Fail> {
 /// An outlet that takes 10 bytes and then fails holds the first 10 of the text.
 #[test]
 fn ten_bytes(rt: HostRuntime) -> Result<(), Fail> {
-    let alloc = rt.alloc();
     let words = [
         "fdbench",
         "run",
@@ -262,14 +224,7 @@ fn ten_bytes(rt: HostRuntime) -> Result<(), Fail> {
         "--print",
         "trace",
     ];
-    let mut outlet = FuseOutlet::new(alloc, 10, 1);
-    let mut faults = MemoryOutlet::new(alloc);
-    let mut input = ONE_CRASH.as_bytes();
-    let status = serve(&rt, alloc, &words, &mut input, &mut outlet, &mut faults);
-    assert_eq!(rt; status, 4);
-    assert_eq!(rt; outlet.failures(), 1);
-    assert!(rt; outlet.bytes() == b"tick,recei".as_slice());
-    assert!(rt; faults.bytes() == b"fdbench: run: Write\n".as_slice());
+    stops_at_ten_bytes(&rt, rt.alloc(), &words, ONE_CRASH);
     Ok(())
 }
 

@@ -1,9 +1,7 @@
 //! Files that are refused, and how the program says so.
 
-use crate::serve::serve;
 use crate::tests::files::ONE_CRASH;
-use crate::tests::runs::{changed, run};
-use qos_report::MemoryOutlet;
+use crate::tests::runs::{answers, changed, is_answer, run_over};
 use std::alloc::Global;
 use std::io::{self, ErrorKind, Read};
 use std::marker::Sync;
@@ -20,50 +18,49 @@ fn refuses<R: Files + Threads + Wait + Sync + Abort>(
     file: &[u8],
     line: &str,
 ) -> Result<(), Fail> {
-    let ran = run(rt, alloc, &["check", "-"], file)?;
-    assert_eq!(rt; ran.faults.as_str(), line);
-    assert_eq!(rt; ran.out.as_str(), "");
-    assert_eq!(rt; ran.status, 1);
-    Ok(())
+    answers(rt, alloc, &["check", "-"], file, (1, "", line))
 }
+
+/// Changes of the file of one crash, with the name of the refusal.
+const SCENARIOS: [(&str, &str, &str); 20] = [
+    ("processes = 2", "processes =", "NotToml"),
+    ("version = 1", "version = 1\ncolour = 1", "UnknownKey"),
+    ("horizon = 10\n", "", "MissingKey"),
+    ("horizon = 10", "horizon = \"10\"", "WrongKind"),
+    (
+        "version = 1\nprocesses = 2\nhorizon = 10",
+        "version = 3\nprocesses = 2\nhorizon = 0",
+        "Version",
+    ),
+    ("processes = 2", "processes = 65", "Processes"),
+    ("horizon = 10", "horizon = 10000001", "Horizon"),
+    ("lookahead = 2", "lookahead = 0", "Lookahead"),
+    ("seed = 1", "seed = 1\nlimit = 0", "Limit"),
+    ("seed = 1", "seed = -1", "Seed"),
+    ("\"none\"", "\"x\"", "AlgorithmName"),
+    ("\"none\"", "\"s\"", "Proposals"),
+    ("\"none\"", "\"none\"\nproposals = [1, 2]", "Proposals"),
+    ("period = 4", "period = 0", "DetectorNumbers"),
+    ("[link]", "[share]\nperiod = 0\n\n[link]", "Share"),
+    ("min = 2", "min = 3", "LinkNumbers"),
+    ("min = 2", "min = 1", "BelowLookahead 1 2"),
+    ("at = 3", "at = 10000001", "CrashLine"),
+    (
+        "at = 3",
+        "at = 3\n\n[[crash]]\nprocess = 2\nat = 4",
+        "CrashLine",
+    ),
+    (
+        "version = 1",
+        "version = 2\noutage = [{ from = 2, to = 1, begin = 3, until = 3 }]",
+        "OutageLine",
+    ),
+];
 
 #[test]
 fn scenarios(rt: HostRuntime) -> Result<(), Fail> {
     let alloc = rt.alloc();
-    for (old, new, name) in [
-        ("processes = 2", "processes =", "NotToml"),
-        ("version = 1", "version = 1\ncolour = 1", "UnknownKey"),
-        ("horizon = 10\n", "", "MissingKey"),
-        ("horizon = 10", "horizon = \"10\"", "WrongKind"),
-        (
-            "version = 1\nprocesses = 2\nhorizon = 10",
-            "version = 3\nprocesses = 2\nhorizon = 0",
-            "Version",
-        ),
-        ("processes = 2", "processes = 65", "Processes"),
-        ("horizon = 10", "horizon = 10000001", "Horizon"),
-        ("lookahead = 2", "lookahead = 0", "Lookahead"),
-        ("seed = 1", "seed = 1\nlimit = 0", "Limit"),
-        ("seed = 1", "seed = -1", "Seed"),
-        ("\"none\"", "\"x\"", "AlgorithmName"),
-        ("\"none\"", "\"s\"", "Proposals"),
-        ("\"none\"", "\"none\"\nproposals = [1, 2]", "Proposals"),
-        ("period = 4", "period = 0", "DetectorNumbers"),
-        ("[link]", "[share]\nperiod = 0\n\n[link]", "Share"),
-        ("min = 2", "min = 3", "LinkNumbers"),
-        ("min = 2", "min = 1", "BelowLookahead 1 2"),
-        ("at = 3", "at = 10000001", "CrashLine"),
-        (
-            "at = 3",
-            "at = 3\n\n[[crash]]\nprocess = 2\nat = 4",
-            "CrashLine",
-        ),
-        (
-            "version = 1",
-            "version = 2\noutage = [{ from = 2, to = 1, begin = 3, until = 3 }]",
-            "OutageLine",
-        ),
-    ] {
+    for (old, new, name) in SCENARIOS {
         let file = changed(alloc, ONE_CRASH, old, new)?;
         let line = format!(in alloc; "fdbench: scenario: {name}\n")?;
         refuses(&rt, alloc, file.as_bytes(), &line)?;
@@ -84,14 +81,14 @@ fn long_files(rt: HostRuntime) -> Result<(), Fail> {
             file.push(b'.')?;
         }
     }
-    let ran = run(&rt, alloc, &["check", "-"], &file)?;
-    assert_eq!(rt; ran.out.as_str(), "ok\n");
-    assert_eq!(rt; ran.faults.as_str(), "");
-    assert_eq!(rt; ran.status, 0);
+    answers(&rt, alloc, &["check", "-"], &file, (0, "ok\n", ""))?;
     file.push(b'.')?;
     refuses(&rt, alloc, &file, "fdbench: input: too long\n")?;
     Ok(())
 }
+
+/// What is said of an input that can't be read.
+const UNREADABLE: &str = "fdbench: input: unreadable\n";
 
 /// A reader that gives a part of a file and then fails.
 #[derive(Drop)]
@@ -134,16 +131,10 @@ impl Read for Endless {
 /// Of an input without end no more is read than shows that it is too long.
 #[test]
 fn endless_input(rt: HostRuntime) -> Result<(), Fail> {
-    let alloc = rt.alloc();
-    let words = ["fdbench", "check", "-"];
-    let mut outlet = MemoryOutlet::new(alloc);
-    let mut faults = MemoryOutlet::new(alloc);
     let mut input = Endless { left: 8_388_609 };
-    let status = serve(&rt, alloc, &words, &mut input, &mut outlet, &mut faults);
+    let ran = run_over(&rt, rt.alloc(), &["check", "-"], &mut input)?;
     assert_eq!(rt; input.left, 0);
-    assert!(rt; faults.bytes() == b"fdbench: input: too long\n".as_slice());
-    assert_eq!(rt; outlet.bytes().len(), 0);
-    assert_eq!(rt; status, 1);
+    is_answer(&rt, &ran, 1, "", "fdbench: input: too long\n");
     Ok(())
 }
 
@@ -167,40 +158,28 @@ impl Read for Failing {
 /// A read that fails is the last, of whatever kind: one that was interrupted, or one for want of memory, too.
 #[test]
 fn failing_reads(rt: HostRuntime) -> Result<(), Fail> {
-    let alloc = rt.alloc();
-    let words = ["fdbench", "check", "-"];
     for kind in [
         ErrorKind::Interrupted,
         ErrorKind::OutOfMemory,
         ErrorKind::UnexpectedEof,
         ErrorKind::Other,
     ] {
-        let mut outlet = MemoryOutlet::new(alloc);
-        let mut faults = MemoryOutlet::new(alloc);
         let mut input = Failing {
             kind,
             has_failed: false,
         };
-        let status = serve(&rt, alloc, &words, &mut input, &mut outlet, &mut faults);
-        assert!(rt; faults.bytes() == b"fdbench: input: unreadable\n".as_slice());
-        assert_eq!(rt; outlet.bytes().len(), 0);
-        assert_eq!(rt; status, 1);
+        let ran = run_over(&rt, rt.alloc(), &["check", "-"], &mut input)?;
+        is_answer(&rt, &ran, 1, "", UNREADABLE);
     }
     Ok(())
 }
 
 #[test]
 fn unreadable(rt: HostRuntime) -> Result<(), Fail> {
-    let alloc = rt.alloc();
     for path in ["-", "no_such_folder/scenario.toml"] {
-        let mut outlet = MemoryOutlet::new(alloc);
-        let mut faults = MemoryOutlet::new(alloc);
         let mut input = Torn { is_torn: false };
-        let words = ["fdbench", "check", path];
-        let status = serve(&rt, alloc, &words, &mut input, &mut outlet, &mut faults);
-        assert_eq!(rt; status, 1);
-        assert_eq!(rt; outlet.bytes().len(), 0);
-        assert!(rt; faults.bytes() == b"fdbench: input: unreadable\n".as_slice());
+        let ran = run_over(&rt, rt.alloc(), &["check", path], &mut input)?;
+        is_answer(&rt, &ran, 1, "", UNREADABLE);
     }
     Ok(())
 }

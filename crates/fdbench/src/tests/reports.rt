@@ -1,13 +1,12 @@
 //! Reports.
 
-use crate::bench::{Mode, bench};
 use crate::tests::files::{
     COORDINATORS, EXCHANGE_CRASH, EXCHANGE_PAIR, FIVE, ONE_CRASH, TAKEN_BACK, WATCH_NEXT,
 };
 use crate::tests::runs::{changed, printed, report_of, trace_of};
+use crate::tests::traces::summary_of;
 use judges::Answer;
-use qos_report::{MemoryOutlet, PrintChoice};
-use scenario::read_scenario;
+use qos_report::PrintChoice;
 use sha2::{Digest, Sha256};
 use std::process::Abort;
 use std::test::Fail;
@@ -219,22 +218,11 @@ decision,0,3,0,rounds,3
 #[test]
 fn summary_of_decisions(rt: HostRuntime) -> Result<(), Fail> {
     let alloc = rt.alloc();
-    let scenario = read_scenario(alloc, COORDINATORS.as_bytes())?;
-    let mut outlet = MemoryOutlet::new(alloc);
-    let summary = bench(
-        &rt,
-        alloc,
-        &scenario,
-        Mode::List,
-        PrintChoice::Report,
-        &mut outlet,
-    )?;
-    assert_eq!(rt; summary.entries, 34);
-    assert_eq!(rt; summary.sent, 31);
+    let summary = summary_of(&rt, alloc, COORDINATORS, PrintChoice::Report)?;
+    assert_eq!(rt; (summary.entries, summary.sent), (34, 31));
     assert_eq!(rt; summary.outcomes.len(), 3);
     for outcome in summary.outcomes.as_slice() {
-        assert_eq!(rt; outcome.value, Answer::Value(10));
-        assert_eq!(rt; outcome.rounds, 2);
+        assert_eq!(rt; (outcome.value, outcome.rounds), (Answer::Value(10), 2));
     }
     Ok(())
 }

@@ -3,6 +3,7 @@
 use crate::serve::serve;
 use qos_report::MemoryOutlet;
 use std::alloc::{AllocError, Global};
+use std::io::Read;
 use std::marker::Sync;
 use std::process::Abort;
 use std::rt::Files;
@@ -24,6 +25,39 @@ fn text_of(alloc: Global, bytes: &[u8]) -> Result<String, Fail> {
     Ok(String::from_str(alloc, text)?)
 }
 
+/// The words of a line: the program's name, and then these.
+fn line_of<'a>(alloc: Global, words: &[&'a str]) -> Result<Vec<&'a str>, Fail> {
+    let mut line = Vec::new(alloc);
+    line.push("fdbench")?;
+    line.extend_from_slice(words)?;
+    Ok(line)
+}
+
+/// What a run answered, with the texts of what it wrote.
+fn ran_of(alloc: Global, status: u8, out: &[u8], faults: &[u8]) -> Result<Ran, Fail> {
+    let out = text_of(alloc, out)?;
+    let faults = text_of(alloc, faults)?;
+    Ok(Ran {
+        status,
+        out,
+        faults,
+    })
+}
+
+/// One run with these words after the program's name, over what this reader gives.
+pub fn run_over<R: Files + Threads + Wait + Sync, I: Read>(
+    rt: &R,
+    alloc: Global,
+    words: &[&str],
+    input: &mut I,
+) -> Result<Ran, Fail> {
+    let line = line_of(alloc, words)?;
+    let mut outlet = MemoryOutlet::new(alloc);
+    let mut faults = MemoryOutlet::new(alloc);
+    let status = serve(rt, alloc, &line, input, &mut outlet, &mut faults);
+    ran_of(alloc, status, outlet.bytes(), faults.bytes())
+}
+
 /// One run with these words after the program's name, over this input.
 pub fn run<R: Files + Threads + Wait + Sync>(
     rt: &R,
@@ -31,18 +65,49 @@ pub fn run<R: Files + Threads + Wait + Sync>(
     words: &[&str],
     input: &[u8],
 ) -> Result<Ran, Fail> {
-    let mut line = Vec::new(alloc);
-    line.push("fdbench")?;
-    line.extend_from_slice(words)?;
-    let mut outlet = MemoryOutlet::new(alloc);
-    let mut faults = MemoryOutlet::new(alloc);
     let mut rest = input;
-    let status = serve(rt, alloc, &line, &mut rest, &mut outlet, &mut faults);
-    Ok(Ran {
-        status,
-        out: text_of(alloc, outlet.bytes())?,
-        faults: text_of(alloc, faults.bytes())?,
-    })
+    run_over(rt, alloc, words, &mut rest)
+}
+
+/// A run answered this status, and wrote this and this of faults.
+pub fn is_answer<R: Abort>(rt: &R, ran: &Ran, status: u8, out: &str, faults: &str) {
+    assert_eq!(rt; ran.faults.as_str(), faults);
+    assert_eq!(rt; ran.out.as_str(), out);
+    assert_eq!(rt; ran.status, status);
+}
+
+/// One run with these words over this input answers this status, and writes this and this of faults.
+pub fn answers<R: Files + Threads + Wait + Sync + Abort>(
+    rt: &R,
+    alloc: Global,
+    words: &[&str],
+    input: &[u8],
+    (status, out, faults): (u8, &str, &str),
+) -> Result<(), Fail> {
+    let ran = run(rt, alloc, words, input)?;
+    is_answer(rt, &ran, status, out, faults);
+    Ok(())
+}
+
+/// What `run` prints of a file by so many workers and windows of so many ticks.
+pub fn printed_by<R: Files + Threads + Wait + Sync>(
+    rt: &R,
+    alloc: Global,
+    (workers, window): (&str, &str),
+    print: &str,
+    file: &str,
+) -> Result<Ran, Fail> {
+    let words = [
+        "run",
+        "-",
+        "--workers",
+        workers,
+        "--window",
+        window,
+        "--print",
+        print,
+    ];
+    run(rt, alloc, &words, file.as_bytes())
 }
 
 /// What `list` prints of a file.

@@ -4,15 +4,19 @@ ghost use Rattle.scenario.specs.Opening.{mind_of};
 
 use crate::bench::{Mode, bench};
 use crate::tests::files::{FIVE, ONE_CRASH, ONE_PROCESS, TAKEN_BACK, WATCH_NEXT};
-use crate::tests::runs::{changed, run, trace_of};
+use crate::tests::runs::{answers, changed, trace_of};
 use event_list::run_list;
 use judges::Answer;
 use machines::{idle, make_all};
 use process_api::{DetectorNumbers, Process};
-use qos_report::{MemoryOutlet, Outlet, PrintChoice, write_report, write_trace};
+use qos_report::{MemoryOutlet, Outlet, PrintChoice, Summary, write_report, write_trace};
 use scenario::{AlgorithmKind, Opening, read_scenario};
-use std::alloc::AllocError;
+use std::alloc::{AllocError, Global};
+use std::marker::Sync;
+use std::process::Abort;
+use std::sync::Wait;
 use std::test::Fail;
+use std::thread::Threads;
 use timeout_detector::TimeoutDetector;
 
 /// The trace of one crash.
@@ -106,29 +110,30 @@ fn one_crash(rt: HostRuntime) -> Result<(), Fail> {
     Ok(())
 }
 
+/// What `list` tells of a file's run, over an outlet that takes all.
+pub fn summary_of<R: Threads + Wait + Sync + Abort>(
+    rt: &R,
+    alloc: Global,
+    file: &str,
+    print: PrintChoice,
+) -> Result<Summary, Fail> {
+    let scenario = read_scenario(alloc, file.as_bytes())?;
+    let mut outlet = MemoryOutlet::new(alloc);
+    let summary = bench(rt, alloc, &scenario, Mode::List, print, &mut outlet)?;
+    assert_eq!(rt; outlet.failures(), 0);
+    Ok(summary)
+}
+
 #[test]
 fn summary_of_one_crash(rt: HostRuntime) -> Result<(), Fail> {
     let alloc = rt.alloc();
-    let scenario = read_scenario(alloc, ONE_CRASH.as_bytes())?;
-    let mut outlet = MemoryOutlet::new(alloc);
-    let summary = bench(
-        &rt,
-        alloc,
-        &scenario,
-        Mode::List,
-        PrintChoice::Trace,
-        &mut outlet,
-    )?;
-    assert_eq!(rt; summary.entries, 12);
-    assert_eq!(rt; summary.sent, 4);
-    assert_eq!(rt; summary.lost, 0);
+    let summary = summary_of(&rt, alloc, ONE_CRASH, PrintChoice::Trace)?;
+    assert_eq!(rt; (summary.entries, summary.sent, summary.lost), (12, 4, 0));
     assert_eq!(rt; summary.outcomes.len(), 2);
     for outcome in summary.outcomes.as_slice() {
-        assert_eq!(rt; outcome.value, Answer::None);
-        assert_eq!(rt; outcome.tick, None);
-        assert_eq!(rt; outcome.rounds, 0);
+        let found = (outcome.value, outcome.tick, outcome.rounds);
+        assert_eq!(rt; found, (Answer::None, None, 0));
     }
-    assert_eq!(rt; outlet.failures(), 0);
     Ok(())
 }
 
@@ -240,9 +245,6 @@ fn limits(rt: HostRuntime) -> Result<(), Fail> {
     let trace = trace_of(&rt, alloc, enough.as_str())?;
     assert_eq!(rt; trace.as_str(), CRASH_AT_3);
     let short = changed(alloc, ONE_CRASH, "seed = 1\n", "seed = 1\nlimit = 11\n")?;
-    let ran = run(&rt, alloc, &words, short.as_bytes())?;
-    assert_eq!(rt; ran.status, 3);
-    assert_eq!(rt; ran.out.as_str(), "");
-    assert_eq!(rt; ran.faults.as_str(), "fdbench: run: Limit\n");
-    Ok(())
+    let want = (3, "", "fdbench: run: Limit\n");
+    answers(&rt, alloc, &words, short.as_bytes(), want)
 }

@@ -1,7 +1,7 @@
 //! Command lines, from the words to the status.
 
 use crate::tests::files::ONE_CRASH;
-use crate::tests::runs::{printed, run};
+use crate::tests::runs::{answers, printed, run};
 use std::alloc::Global;
 use std::marker::Sync;
 use std::process::Abort;
@@ -24,21 +24,21 @@ fn prints(rt: HostRuntime) -> Result<(), Fail> {
         ["list", "-"].as_slice(),
         ["run", "-", "--workers", "2", "--window", "2"].as_slice(),
     ] {
-        let ran = run(&rt, alloc, words, ONE_CRASH.as_bytes())?;
-        assert_eq!(rt; ran.out.as_str(), report.as_str());
-        assert_eq!(rt; ran.faults.as_str(), "");
-        assert_eq!(rt; ran.status, 0);
+        answers(
+            &rt,
+            alloc,
+            words,
+            ONE_CRASH.as_bytes(),
+            (0, report.as_str(), ""),
+        )?;
     }
     Ok(())
 }
 
 #[test]
 fn accepted(rt: HostRuntime) -> Result<(), Fail> {
-    let ran = run(&rt, rt.alloc(), &["check", "-"], ONE_CRASH.as_bytes())?;
-    assert_eq!(rt; ran.out.as_str(), "ok\n");
-    assert_eq!(rt; ran.faults.as_str(), "");
-    assert_eq!(rt; ran.status, 0);
-    Ok(())
+    let input = ONE_CRASH.as_bytes();
+    answers(&rt, rt.alloc(), &["check", "-"], input, (0, "ok\n", ""))
 }
 
 /// Nothing goes out for words that lack something, and the line names no more than that.
@@ -47,11 +47,8 @@ fn is_refused_as_form<R: Files + Threads + Wait + Sync + Abort>(
     alloc: Global,
     words: &[&str],
 ) -> Result<(), Fail> {
-    let ran = run(rt, alloc, words, ONE_CRASH.as_bytes())?;
-    assert_eq!(rt; ran.faults.as_str(), "fdbench: words: Form\n");
-    assert_eq!(rt; ran.out.as_str(), "");
-    assert_eq!(rt; ran.status, 2);
-    Ok(())
+    let want = (2, "", "fdbench: words: Form\n");
+    answers(rt, alloc, words, ONE_CRASH.as_bytes(), want)
 }
 
 /// Where `clap` takes the words but something is missing.
@@ -68,15 +65,13 @@ fn told_by_clap(rt: HostRuntime) -> Result<(), Fail> {
     let ran = run(&rt, alloc, &["start", "-"], ONE_CRASH.as_bytes())?;
     let part = "unrecognized subcommand 'start'";
     assert!(rt; ran.faults.as_str().contains(part), "{}", ran.faults);
-    assert_eq!(rt; ran.out.as_str(), "");
-    assert_eq!(rt; ran.status, 2);
+    assert_eq!(rt; (ran.status, ran.out.as_str()), (2, ""));
     let ran = run(&rt, alloc, &["run", "--help"], b"")?;
     assert!(rt;
         ran.out.as_str().contains("Usage: fdbench run"),
         "{}",
         ran.out
     );
-    assert_eq!(rt; ran.faults.as_str(), "");
-    assert_eq!(rt; ran.status, 0);
+    assert_eq!(rt; (ran.status, ran.faults.as_str()), (0, ""));
     Ok(())
 }
