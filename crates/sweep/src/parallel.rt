@@ -104,8 +104,8 @@ fn filled<T: Drop, F: Fn(u64) -> T>(
 }
 
 /// What the job gives for each of `count` numbers from `first`, in their order, by so many threads: this one and, for
-/// each more, one that is started. Each takes the next number that nobody has taken, as soon as it has done its last, so
-/// that none waits while another has calls left. No more are started than there are numbers. Where the system refuses a
+/// each more, one that is started. Each takes the next number that nobody has taken as soon as it has done its last, so
+/// none waits while another has calls left. No more are started than there are numbers. Where the system refuses a
 /// thread, others do its part.
 ///
 /// # Errors

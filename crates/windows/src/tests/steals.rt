@@ -23,8 +23,8 @@ fn wait_for(count: &AtomicU64, least: u64) {
     }
 }
 
-/// A gate that holds worker 1 in its first call until worker 2 has made two, and worker 2 in its first until worker 1 is
-/// there: else it could take all three before worker 1 has begun.
+/// A gate that holds worker 1 in its first call until worker 2 has made two, and worker 2 in its first until worker 1
+/// is there: else it could take all three before worker 1 has begun.
 #[derive(Drop)]
 struct Holding {
     // how many calls each has made

@@ -17,7 +17,7 @@ loop-place-preserved g c =
     let Q : ℕ → Type 0 = λ m. FnReturns g.F.Fn c.args.job.now (m, tt) c.match-place.answer in
     let gives : FnReturns g.F.Fn c.args.job.now (n, tt) c.match-place.answer =
     elim c.match-place.branch [
-      in-Some-place w ↦ subst Q here (i.left 0 c.match-place.answer (ap (λ r. slice_index_or r 0 None) e ∙ search rules))
+      | in-Some-place w ↦ subst Q here (i.left 0 c.match-place.answer (ap (λ r. slice_index_or r 0 None) e ∙ search rules))
       | in-None-place w ↦ search rules
     ] in
     record {
@@ -29,7 +29,7 @@ loop-place-preserved g c =
           subst P later (i.left (suc k) answer (ap (λ r. slice_index_or r (suc k) None) e ∙ is));
       each = let R : ℕ → Type 0 = λ m. FnReturns g.F.Fn c.args.job.now (m, tt) c.match-place.answer in
           let more = one_more g.F.Fn c.args.job.now c.args.first (vec_len c.loop-place.answers) c.loop-place.answers.items
-              c.push.new.self.items c.match-place.answer c.loop-place.answers.ok.0 (search rules)
-              (subst R i.number_is gives) i.each in
+          c.push.new.self.items c.match-place.answer c.loop-place.answers.ok.0 (search rules)
+          (subst R i.number_is gives) i.each in
           λ k d lt. more k d (search rules);
     }
