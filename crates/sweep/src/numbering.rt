@@ -45,9 +45,9 @@ pub(crate) fn scenario_of(
     read_run(alloc, file, &point, &run)
 }
 
-/// How many runs are handed out at a time, so that each thread has some dozens of them.
+/// How many runs are handed out at a time, so that each thread has some hundreds of them.
 pub(crate) fn batch(threads: u8) -> u64
     ensures { 1 ≤ result }
 {
-    64 * u64::from(threads.max(1))
+    256 * u64::from(threads.max(1))
 }

@@ -87,7 +87,7 @@ fn write_points<R: Threads + Sync, O: Outlet, W: Watcher>(
 /// all of them. It is told when rows are to go out, and what it shows is taken away as the sweep ends.
 ///
 /// Every run's scenario is read before the first run starts. A point's rows go out when its last run is in. Memory
-/// grows with neither the runs nor their horizon: what is held is what some dozens of runs for each thread give, and
+/// grows with neither the runs nor their horizon: what is held is what some hundreds of runs for each thread give, and
 /// the sums of a point.
 ///
 /// # Errors

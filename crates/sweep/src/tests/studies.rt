@@ -40,9 +40,9 @@ pub(super) fn study_of(
     Ok(Study { file, grid })
 }
 
-/// Seven points with 40 runs each, of which 20 have the crash at tick 3 and 20 have it at tick 4.
+/// Seven points with 160 runs each, of which 80 have the crash at tick 3 and 80 have it at tick 4.
 pub(super) fn seven_points(alloc: Global) -> Result<Study, Fail> {
-    study_of(alloc, &["link.loss=0..=600:100"], &["crash[1].at=3,4"], 20)
+    study_of(alloc, &["link.loss=0..=600:100"], &["crash[1].at=3,4"], 80)
 }
 
 /// Two points with one run each.

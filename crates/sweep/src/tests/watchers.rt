@@ -57,7 +57,7 @@ impl Keeper {
     }
 }
 
-/// What a watcher of a shard's sweep heard, by two threads, of which each takes 64 runs at a time; nothing where the
+/// What a watcher of a shard's sweep heard, by two threads, of which each takes 256 runs at a time; nothing where the
 /// sweep breaks off.
 fn heard_of<R: Threads + Sync>(
     rt: &R,
@@ -82,8 +82,8 @@ fn heard_of<R: Threads + Sync>(
     }
 }
 
-/// Seven points with 40 runs each are 280 runs, of which 128 come in at a time: the watcher hears of 0, 128, 256 and
-/// 280.
+/// Seven points with 160 runs each are 1,120 runs, of which 512 come in at a time: the watcher hears of 0, 512, 1,024
+/// and 1,120.
 #[test]
 fn hears_of_all_runs(rt: HostRuntime) -> Result<(), Fail> {
     let alloc = rt.alloc();
@@ -91,8 +91,8 @@ fn hears_of_all_runs(rt: HostRuntime) -> Result<(), Fail> {
     let keeper = heard_of(&rt, alloc, &seven, Shard::whole()).ok_or("no sweep")?;
     let want = Standing {
         points: 7,
-        runs: 40,
-        done: 280,
+        runs: 160,
+        done: 1_120,
     };
     assert!(rt; keeper.last == Some(want));
     assert_eq!(rt; keeper.count, 4);
@@ -109,8 +109,8 @@ fn shard_counts_its_own(rt: HostRuntime) -> Result<(), Fail> {
     let keeper = heard_of(&rt, alloc, &seven, last).ok_or("no sweep")?;
     let want = Standing {
         points: 3,
-        runs: 40,
-        done: 120,
+        runs: 160,
+        done: 480,
     };
     assert!(rt; keeper.last == Some(want));
     assert!(rt; keeper.all_rise && !keeper.shows);
@@ -118,7 +118,7 @@ fn shard_counts_its_own(rt: HostRuntime) -> Result<(), Fail> {
 }
 
 /// Of a study with a refused run nothing is heard. Where the third put fails, after the header and the first row, the
-/// first 128 runs are not told of, and nothing is shown any more.
+/// first 512 runs are not told of, and nothing is shown any more.
 #[test]
 fn breaks_off(rt: HostRuntime) -> Result<(), Fail> {
     let alloc = rt.alloc();
