@@ -24,8 +24,8 @@ const STRONG_ROWS: &str = "sent,sender,receiver,number,kind,due,fate
 ";
 
 /// Process 2 coordinates round 1. It proposes at tick 2, as it has the estimate of process 1 beside its own, and it
-/// sends its decision as it has the reply of process 1 at tick 6; the others pass it on at tick 8. Round 2 has process 3
-/// as its coordinator.
+/// sends its decision as it has the reply of process 1 at tick 6; the others pass it on at tick 8. In round 2 that is
+/// process 3.
 const COORDINATOR_ROWS: &str = "sent,sender,receiver,number,kind,due,fate
 0,1,2,1,alive,2,taken
 0,1,3,1,alive,2,taken
