@@ -2,3 +2,4 @@ pub mod Totals
 pub mod Ledgers
 pub mod Lists
 pub mod Homes
+pub mod Emptied

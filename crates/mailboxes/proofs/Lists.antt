@@ -2,6 +2,7 @@
 use Rattle.std.proofs.Common.{◌≡◌, ℕ, zero, suc, ◌+◌, ◌<◌, List, [], ◌∷◌, ◌++◌, length, map, take, drop, set, get_or, refl, sym, ap, ◌∙◌, subst, arith}
 use Rattle.std.proofs.lemmas.List.{length-map}
 use Rattle.std.proofs.lemmas.List.Sorted.{IsPermutation-refl, IsPermutation-trans}
+use Rattle.std.specs.List.{AllZip}
 use Rattle.std.specs.List.Sorted.{IsPermutation}
 use Rattle.mailboxes.specs.Places.{each_with}
 
@@ -54,10 +55,7 @@ module _ {A B C : Type 0} (f : A → C) (g : B → C) where
 module _ {A : Type 0} where
   -- each list of ys has the elements of the one of xs at its place
   abbrev pub Shuffled : List (List A) → List (List A) → Type 0
-  Shuffled [] [] = Unit {0}
-  Shuffled [] (y ∷ ys) = ⊥
-  Shuffled (x ∷ xs) [] = ⊥
-  Shuffled (x ∷ xs) (y ∷ ys) = IsPermutation x y × Shuffled xs ys
+  Shuffled xs ys = AllZip IsPermutation xs ys
 
   pub Shuffled-refl : (xs : List (List A)) → Shuffled xs xs
   Shuffled-refl [] = tt
@@ -74,6 +72,12 @@ module _ {A : Type 0} where
   Shuffled-more [] (z ∷ zs) x y h p = absurd h
   Shuffled-more (z ∷ zs) [] x y h p = absurd h
   Shuffled-more (a ∷ as') (b ∷ bs) x y h p = (h.0, Shuffled-more as' bs x y h.1 p)
+
+  pub Shuffled-append : (as' bs xs ys : List (List A)) → Shuffled as' xs → Shuffled bs ys → Shuffled (as' ++ bs) (xs ++ ys)
+  Shuffled-append [] bs [] ys h k = k
+  Shuffled-append [] bs (x ∷ xs) ys h k = absurd h
+  Shuffled-append (a ∷ as') bs [] ys h k = absurd h
+  Shuffled-append (a ∷ as') bs (x ∷ xs) ys h k = (h.0, Shuffled-append as' bs xs ys h.1 k)
 
   pub Shuffled-at : (xs ys : List (List A)) (k : ℕ) → Shuffled xs ys → IsPermutation (get_or xs k []) (get_or ys k [])
   Shuffled-at [] [] k h = IsPermutation-refl []

@@ -18,9 +18,12 @@
 //! public for another crate's queues or deques.
 //!
 //! What threads share by reference is [`SharedMailboxes`]; [`Mailboxes`] has it, and beside it the owner's passes, by
-//! which slips are made and taken back and which no other thread may touch.
+//! which slips are made and taken back. They aren't shared: one thread has each of them at a time. [`Mailboxes::empty`]
+//! gives the lists that `collect` gives, and the mailboxes back as new ones; [`Mailboxes::empty_by`] does the same by
+//! several threads, each of which has the passes of mailboxes of its own, once every slip is back.
 #![tactic(auto)]
 
+mod emptying;
 mod ledger;
 mod mailbox;
 mod mailboxes;

@@ -1,10 +1,11 @@
 //! The mailboxes whole: the queues, and the owner's pass of each.
-ghost use Rattle.std.specs.Prelude.{◌≡◌, ◌≤◌, ◌+◌, ℕ, [], true, length, IfOk, IfErr, OnOk, OnErr, vec_len};
+ghost use Rattle.std.specs.Prelude.{◌≡◌, ◌≤◌, ◌+◌, ℕ, [], true, length, map, IfOk, IfErr, OnOk, OnErr, vec_len};
 ghost use Rattle.std.specs.List.{All};
 ghost use Rattle.std.specs.List.Sorted.{IsPermutation};
 ghost use Rattle.event_list.specs.declared.error.RunError.TheVariants.{Memory};
 ghost use Rattle.mailboxes.specs.Mailboxes.{IsSlipOf, unused, with_letter, posted_to, list_of, letters_in, mailboxes_of};
 
+use crate::emptying::{empty_by, empty_in_turn};
 use crate::mailbox::Home;
 use crate::shared::SharedMailboxes;
 use crate::slip::Slip;
@@ -13,6 +14,7 @@ use process_api::Letter;
 use std::alloc::{AllocError, Global};
 use std::marker::Model;
 use std::sync::Wait;
+use std::thread::Threads;
 
 /// A mailbox for each receiver, 1 to n. Contracts see which they are, and how many slips were made.
 #[derive(Drop)]
@@ -142,6 +144,59 @@ impl Mailboxes {
             IsPermutation (posted_to slips.items q) (list_of (letters_in r.1.items) q)) }
         ensures err { IfErr result (λ e. e ≡ Memory) }
     {
+        let (shared, homes) = self.take_back(slips);
+        let (homes, letters) = empty_in_turn(rt, alloc, shared.boxes(), homes, lists)?;
+        let mailboxes = Mailboxes {
+            shared,
+            homes,
+            slips: 0,
+        };
+        Ok((mailboxes, letters))
+    }
+
+    /// As `empty`, where up to so many threads empty mailboxes at once, the caller's among them: for 0 and 1 it does
+    /// all alone. It also does what was meant for a thread that can't be started.
+    ///
+    /// # Errors
+    ///
+    /// `Memory`: memory was refused. The mailboxes and the letters are gone then.
+    pub fn empty_by<R: Threads + Wait + Sync>(
+        self,
+        rt: &R,
+        alloc: Global,
+        threads: usize,
+        lists: Vec<Vec<Letter>>,
+        slips: Vec<Slip>,
+    ) -> Result<(Mailboxes, Vec<Vec<Letter>>), RunError>
+        requires all { vec_len slips ≡ self.slips }
+        requires slips { All (IsSlipOf self.mailboxes) slips.items }
+        requires count { vec_len lists ≡ length self.mailboxes }
+        requires lists { All (λ l. l.items ≡ []) lists.items }
+        ensures mailboxes { IfOk result (λ r. r.0 ≡ mailboxes_of self.mailboxes 0) }
+        ensures count { IfOk result (λ r. vec_len r.1 ≡ length self.mailboxes) }
+        ensures letters { IfOk result (λ r. (q : ℕ) → 1 ≤ q → q ≤ length self.mailboxes →
+            IsPermutation (posted_to slips.items q) (list_of (letters_in r.1.items) q)) }
+        ensures err { IfErr result (λ e. e ≡ Memory) }
+    {
+        let (shared, homes) = self.take_back(slips);
+        let (homes, letters) = empty_by(rt, alloc, threads, shared.boxes(), homes, lists)?;
+        let mailboxes = Mailboxes {
+            shared,
+            homes,
+            slips: 0,
+        };
+        Ok((mailboxes, letters))
+    }
+
+    // Takes the slips back, which are all that were made. The queues are left, and the owner's passes.
+    fn take_back(self, slips: Vec<Slip>) -> (SharedMailboxes, Vec<Home>)
+        requires all { vec_len slips ≡ self.slips }
+        requires slips { All (IsSlipOf self.mailboxes) slips.items }
+        ensures shared { result.0 ≡ self.mailboxes }
+        ensures homes { result.0 ≡ map (λ h. h.mailbox) result.1.items }
+        ensures out { All (λ h. h.out ≡ 0) result.1.items }
+        ensures letters { (r : ℕ) → list_of (map (λ h. h.back) result.1.items) r ≡ posted_to slips.items r }
+    {
         let Mailboxes {
             shared,
             mut homes,
@@ -150,12 +205,6 @@ impl Mailboxes {
         for slip in slips {
             shared.take_back(&mut homes, slip);
         }
-        let (homes, letters) = shared.empty(rt, alloc, homes, lists)?;
-        let mailboxes = Mailboxes {
-            shared,
-            homes,
-            slips: 0,
-        };
-        Ok((mailboxes, letters))
+        (shared, homes)
     }
 }

@@ -1,9 +1,8 @@
 //! The part of the mailboxes that threads share: the queues.
-ghost use Rattle.std.specs.Prelude.{◌≡◌, ◌≤◌, ◌<◌, ◌+◌, ℕ, [], length, map, IfOk, IfErr, OnOk, OnErr, vec_len, slice_index_or};
+ghost use Rattle.std.specs.Prelude.{◌≡◌, ◌≤◌, ◌<◌, ◌+◌, [], length, map, IfOk, IfErr, OnOk, OnErr, vec_len};
 ghost use Rattle.std.specs.List.{All};
-ghost use Rattle.std.specs.List.Sorted.{IsPermutation};
 ghost use Rattle.mailboxes.specs.Mailbox.{one_out, all_back};
-ghost use Rattle.mailboxes.specs.Mailboxes.{IsSlipOf, unused, with_letter, letters_in};
+ghost use Rattle.mailboxes.specs.Mailboxes.{IsSlipOf, unused, with_letter};
 
 use crate::mailbox::{Home, Mailbox, Ticket};
 use crate::slip::Slip;
@@ -28,6 +27,13 @@ impl Model for SharedMailboxes {
 }
 
 impl SharedMailboxes {
+    /// The mailboxes, by receiver.
+    pub(crate) fn boxes(&self) -> &[Mailbox]
+        ensures { result.now ≡ self.now }
+    {
+        self.boxes.as_slice()
+    }
+
     /// Posts a letter to its receiver, 1 to n. Where memory is refused the letter comes back, and the slip and the
     /// mailboxes are as they were.
     pub fn post<R: Wait>(&self, rt: &R, slip: &mut Slip, letter: Letter) -> Result<(), Letter>
@@ -87,41 +93,6 @@ impl SharedMailboxes {
             self.boxes[at].take_back(&mut homes[at], ticket);
             at += 1;
         }
-    }
-
-    /// Moves the letters of each mailbox into a list of its own, in some order, once every slip is back. The mailboxes
-    /// are as they were at first then. Answers the owner's passes, and the lists.
-    pub(crate) fn empty<R: Wait>(
-        &self,
-        rt: &R,
-        alloc: Global,
-        homes: Vec<Home>,
-        lists: Vec<Vec<Letter>>,
-    ) -> Result<(Vec<Home>, Vec<Vec<Letter>>), AllocError>
-        requires homes { self.now ≡ map (λ h. h.mailbox) homes.items }
-        requires out { All (λ h. h.out ≡ 0) homes.items }
-        requires count { vec_len lists ≡ vec_len homes }
-        requires lists { All (λ l. l.items ≡ []) lists.items }
-        ensures homes { IfOk result (λ r. self.now ≡ map (λ h. h.mailbox) r.0.items) }
-        ensures none { IfOk result (λ r. All (λ h. (h.out ≡ 0) × (h.back ≡ [])) r.0.items) }
-        ensures count { IfOk result (λ r. vec_len r.1 ≡ vec_len homes) }
-        ensures letters { IfOk result (λ r. (k : ℕ) → k < vec_len homes →
-            IsPermutation (slice_index_or (map (λ h. h.back) homes.items) k [])
-            (slice_index_or (letters_in r.1.items) k [])) }
-    {
-        let mut emptied = Vec::with_capacity(alloc, homes.len())?;
-        let mut filled = Vec::with_capacity(alloc, homes.len())?;
-        let mut empties = lists.into_iter();
-        let mut at = 0;
-        for home in homes {
-            let Some(mut list) = empties.next() else {
-                unreachable!()
-            };
-            emptied.push(self.boxes[at].empty(rt, home, &mut list)?)?;
-            filled.push(list)?;
-            at += 1;
-        }
-        Ok((emptied, filled))
     }
 }
 

@@ -7,6 +7,7 @@ use std::alloc::{AllocError, Global};
 use std::sync::Wait;
 use std::test::Fail;
 use std::thread;
+use std::thread::Threads;
 
 // A letter of process 1 with this number.
 fn letter(receiver: Pid, number: u64) -> Option<Letter>
@@ -149,5 +150,62 @@ fn two_threads_post_to_one_receiver(rt: HostRuntime) -> Result<(), Fail> {
     let lists = mailboxes.collect(&rt, alloc, vec![in alloc; first, second]?)?;
     let numbers = numbers(alloc, lists.get(1).ok_or("no list")?)?;
     assert!(rt; numbers.iter().copied().eq(1..=2000));
+    Ok(())
+}
+
+// Posts to three of five receivers by two slips, and empties the mailboxes by so many threads.
+fn post_and_empty_by<R: Threads + Wait + Sync>(
+    rt: &R,
+    alloc: Global,
+    threads: usize,
+    mut mailboxes: Mailboxes,
+) -> Result<(Mailboxes, Vec<Vec<Letter>>), Fail>
+    requires count { length mailboxes.mailboxes ≡ 5 }
+    requires slips { mailboxes.slips ≡ 0 }
+    ensures count { IfOk result (λ r. length r.0.mailboxes ≡ 5) }
+    ensures slips { IfOk result (λ r. r.0.slips ≡ 0) }
+{
+    let two = Pid::new(2).ok_or("refused")?;
+    let three = Pid::new(3).ok_or("refused")?;
+    let five = Pid::new(5).ok_or("refused")?;
+    let mut first = mailboxes.slip(alloc)?;
+    let mut second = mailboxes.slip(alloc)?;
+    mailboxes.post(rt, &mut first, letter(two, 1).ok_or("refused")?)?;
+    mailboxes.post(rt, &mut first, letter(five, 2).ok_or("refused")?)?;
+    mailboxes.post(rt, &mut second, letter(three, 3).ok_or("refused")?)?;
+    mailboxes.post(rt, &mut second, letter(two, 4).ok_or("refused")?)?;
+    let lists = mailboxes.lists(alloc)?;
+    let slips = vec![in alloc; first, second]?;
+    Ok(mailboxes.empty_by(rt, alloc, threads, lists, slips)?)
+}
+
+// Whether each list has the numbers that were posted to its receiver.
+fn are_as_posted(alloc: Global, lists: &[Vec<Letter>]) -> Result<bool, AllocError> {
+    let posted = [
+        [].as_slice(),
+        [1, 4].as_slice(),
+        [3].as_slice(),
+        [].as_slice(),
+        [2].as_slice(),
+    ];
+    let mut same = lists.len() == posted.len();
+    for (list, numbers_posted) in lists.iter().zip(posted) {
+        same &= numbers(alloc, list)?.as_slice() == numbers_posted;
+    }
+    Ok(same)
+}
+
+#[test]
+fn emptied_by_several_threads(rt: HostRuntime) -> Result<(), Fail> {
+    let alloc = rt.alloc();
+    let mailboxes = Mailboxes::new(alloc, 5)?;
+    let (mailboxes, alone) = post_and_empty_by(&rt, alloc, 1, mailboxes)?;
+    assert!(rt; are_as_posted(alloc, &alone)?);
+    let (mailboxes, by_two) = post_and_empty_by(&rt, alloc, 2, mailboxes)?;
+    assert!(rt; are_as_posted(alloc, &by_two)?);
+    let (mailboxes, by_four) = post_and_empty_by(&rt, alloc, 4, mailboxes)?;
+    assert!(rt; are_as_posted(alloc, &by_four)?);
+    let (_mailboxes, by_nine) = post_and_empty_by(&rt, alloc, 9, mailboxes)?;
+    assert!(rt; are_as_posted(alloc, &by_nine)?);
     Ok(())
 }

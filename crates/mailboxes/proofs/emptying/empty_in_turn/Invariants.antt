@@ -1,9 +1,9 @@
-use Rattle.std.proofs.Common.{◌≡◌, ◌+◌, ◌++◌, [], length, map}
+use Rattle.std.proofs.Common.{◌≡◌, ◌++◌, [], length, map}
 use Rattle.std.specs.List.{All}
 use Rattle.std.specs.Vec.Iter.{into_iter_items}
 use Rattle.mailboxes.specs.Mailboxes.{letters_in}
 use Rattle.mailboxes.proofs.Lists.{Shuffled}
-use Rattle.mailboxes.proofs.shared.SharedMailboxes.empty.Given as goal
+use Rattle.mailboxes.proofs.emptying.empty_in_turn.Given as goal
 
 -- the homes so far and the rest are of all mailboxes, and the lists so far with what the rest would give are right
 abbrev pub invariant-loop-home : goal.invariant-loop-home
@@ -17,6 +17,5 @@ invariant-loop-home g l =
       none : All (λ h. (h.out ≡ 0) × (h.back ≡ [])) l.emptied.items;
       same : length empties ≡ length rest;
       blank : All (λ v. v.items ≡ []) empties;
-      count : length l.filled.items + length rest ≡ length l.fn.homes.items;
       letters : Shuffled (map (λ h. h.back) l.fn.homes.items) (letters_in l.filled.items ++ map (λ h. h.back) rest);
     }

@@ -8,14 +8,9 @@ use Rattle.process_api.specs.declared.message.Letter.{Letter}
 use Rattle.mailboxes.specs.Mailbox.{HomeView}
 use Rattle.mailboxes.specs.Mailboxes.{letters_in}
 use Rattle.mailboxes.proofs.Homes.{mailbox_of, back_of, Even}
-use Rattle.mailboxes.proofs.Lists.{Shuffled, Shuffled-refl, Shuffled-next, Shuffled-at}
-use Rattle.mailboxes.proofs.shared.SharedMailboxes.empty.Goals as goal
-
-abbrev IsBlank : Vec Letter → Type 0
-IsBlank v = v.items ≡ []
-
-abbrev IsIn : HomeView → Type 0
-IsIn h = h.out ≡ 0
+use Rattle.mailboxes.proofs.Emptied.{IsBlank, IsIn}
+use Rattle.mailboxes.proofs.Lists.{Shuffled, Shuffled-refl, Shuffled-next}
+use Rattle.mailboxes.proofs.emptying.empty_in_turn.Goals as goal
 
 pub loop-home-init : goal.loop-home-init
 loop-home-init g c =
@@ -27,11 +22,10 @@ loop-home-init g c =
     record {
       place = search rules;
       boxes = λ i. map mailbox_of (none i) ++ map mailbox_of (homes i);
-      out = subst (All IsIn) (sym homes) c.requires.out;
+      out = subst (All IsIn) (sym homes) c.requires.1;
       none = All-same (Even 0) _ [] none (All-nil (Even 0));
-      same = ap length lists ∙ sym c.args.lists.ok.0 ∙ c.requires.count ∙ c.args.homes.ok.0 ∙ sym (ap length homes);
-      blank = subst (All IsBlank) (sym lists) c.requires.lists;
-      count = omega (arith, ap length empty, ap length homes);
+      same = ap length lists ∙ c.requires.2 ∙ sym (ap length homes);
+      blank = subst (All IsBlank) (sym lists) c.requires.3;
       letters = subst (Shuffled (map back_of hs)) (λ i. letters_in (sym empty i) ++ map back_of (sym homes i)) (Shuffled-refl (map back_of hs));
     }
 
@@ -69,7 +63,6 @@ loop-home-preserved g c =
       none = subst (All (Even 0)) (sym more) (All-push (Even 0) done new i.none (ap (λ (x : HomeView). x.out) is.home, ap back_of is.home));
       same = omega (arith, i.same, ap length e, ap length f);
       blank = All-tail IsBlank list lists (subst (All IsBlank) f i.blank);
-      count = omega (arith, i.count, ap length e, ap length fuller, length-append filled (got ∷ []));
       letters =
           let was : Shuffled (map back_of hs) (letters_in filled ++ h.back ∷ map back_of left) = subst (λ xs. Shuffled (map back_of hs) (letters_in filled ++ map back_of xs)) e i.letters in
           let next : Shuffled (map back_of hs) (letters_in filled ++ got.items ∷ map back_of left) = Shuffled-next (map back_of hs) (letters_in filled) (map back_of left) h.back got.items was is.letters in
@@ -82,10 +75,15 @@ none_left : {X : Type 0} (xs : List X) → length xs ≡ 0 → xs ≡ []
 none_left [] e = λ i. []
 none_left (x ∷ xs) e = absurd (omega (arith, e))
 
-pub returns-clause-letters : goal.returns-clause-letters
-returns-clause-letters g c =
+pub returns : goal.returns
+returns g c =
     let hs = c.args.homes.items in
+    let done = c.loop-home.emptied.items in
+    let filled = c.loop-home.filled.items in
+    let i = c.loop-home.invariant in
     let none : into_iter_items c.loop-home.home-iterator ≡ [] = none_left _ (sym c.loop-home.home-iterator.rest.ok.0 ∙ c.in-None.ensures.steps.0) in
-    let all : Shuffled (map back_of hs) (letters_in c.loop-home.filled.items) =
-    subst (Shuffled (map back_of hs)) (ap (λ xs. letters_in c.loop-home.filled.items ++ map back_of xs) none ∙ append-nil (letters_in c.loop-home.filled.items)) c.loop-home.invariant.letters in
-    λ k lt. Shuffled-at (map back_of hs) (letters_in c.loop-home.filled.items) k all
+    let rest = λ (xs : List HomeView). map mailbox_of done ++ map mailbox_of xs in (
+      c.requires.0 ∙ sym i.boxes ∙ ap rest none ∙ append-nil (map mailbox_of done),
+      i.none,
+      subst (Shuffled (map back_of hs)) (ap (λ xs. letters_in filled ++ map back_of xs) none ∙ append-nil (letters_in filled)) i.letters,
+    )
