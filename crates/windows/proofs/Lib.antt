@@ -23,3 +23,4 @@ pub mod Starts
 pub mod Dealings
 pub mod Deals
 pub mod Agendas
+pub mod Posted

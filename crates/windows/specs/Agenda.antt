@@ -3,7 +3,10 @@ use Rattle.std.specs.Prelude.{◌≡◌, ◌⊎◌, ◌≤◌, ℕ, List, [], �
 use Rattle.std.specs.List.{AllByRecursion}
 use Rattle.process_api.specs.declared.message.Letter.{Letter}
 use Rattle.process_api.specs.declared.message.StepInput.TheVariants as input
-use Rattle.event_list.specs.Step.{Event}
+use Rattle.event_list.specs.Pending.{IsEmpty, IsLeastTick}
+use Rattle.event_list.specs.Step.{Event, Events}
+use Rattle.windows.specs.declared.agenda.Ahead.{Ahead}
+use Rattle.windows.specs.declared.agenda.Ahead.TheVariants as ahead
 
 -- the event that a letter becomes
 abbrev pub event_of : Letter → Event
@@ -24,3 +27,9 @@ SomeAt tick (x ∷ xs) = (x.key.tick ≡ tick) ⊎ SomeAt tick xs
 abbrev pub IsSoonestOf : List Letter → Option ℕ → Type 0
 IsSoonestOf letters soonest =
     MatchOption soonest (letters ≡ []) (λ tick. AllByRecursion (λ x. tick ≤ x.key.tick) letters × SomeAt tick letters)
+
+-- what is known of the least tick of a set of events is so
+abbrev pub IsAheadOf : Events → Ahead → Type 0
+IsAheadOf set ahead.Unknown = Unit {0}
+IsAheadOf set ahead.Nothing = IsEmpty set
+IsAheadOf set (ahead.At tick) = IsLeastTick set tick

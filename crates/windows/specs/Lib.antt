@@ -11,3 +11,4 @@ pub mod Workers
 pub mod Refusals
 pub mod Shared
 pub mod Sink
+pub mod Closing

@@ -3,7 +3,7 @@ ghost use Rattle.std.specs.Prelude.{◌≡◌, ◌<◌, ◌++◌, [], map, Match
 ghost use Rattle.std.specs.FinMap as events;
 ghost use Rattle.event_list.specs.World.{IsLeast, NoneBelow, joined};
 ghost use Rattle.event_list.specs.Pending.{IsEmpty, IsLeastTick};
-ghost use Rattle.windows.specs.Agenda.{event_of, earlier_of, IsSoonestOf};
+ghost use Rattle.windows.specs.Agenda.{event_of, earlier_of, IsSoonestOf, IsAheadOf};
 
 use event_list::Pending;
 use process_api::{Key, Letter, StepInput};
@@ -11,14 +11,25 @@ use std::alloc::{AllocError, Global};
 use std::marker::Model;
 use std::mem::replace;
 
+/// What is known of the least pending tick.
+#[derive(Clone, Copy)]
+pub(crate) enum Ahead {
+    Unknown,
+    Nothing,
+    At(u32),
+}
+
 /// The pending events of a process, and letters that have come for it and lie in no bucket yet. Contracts see the
 /// finite set of both.
 ///
 /// The starter delivers the letters of a window as they are. They are put into their buckets where the process is run
-/// next, by the worker that runs it.
+/// next, by the worker that runs it. The worker looks for the least tick that is left too, so that the starter, which
+/// asks for it twice a window, searches no bucket.
 #[derive(Drop)]
 pub(crate) struct Agenda {
     pending: Pending,
+    // the least tick of the pending events
+    ahead: Ahead,
     letters: Vec<Letter>,
     // the least tick of the letters, if there are any
     soonest: Option<u32>,
@@ -31,7 +42,7 @@ impl Model for Agenda {
     ghost use Rattle.event_list.specs.Pending.{key_code};
     ghost use Rattle.event_list.specs.Step.{Events};
     ghost use Rattle.event_list.specs.World.{joined};
-    ghost use Rattle.windows.specs.Agenda.{event_of, IsSoonestOf};
+    ghost use Rattle.windows.specs.Agenda.{event_of, IsSoonestOf, IsAheadOf};
 
     ghost Value = { Events };
 
@@ -39,7 +50,7 @@ impl Model for Agenda {
 
     ghost view = { λ a. joined a.pending (map event_of a.letters.items) };
 
-    ghost invariant = { λ a. IsSoonestOf a.letters.items a.soonest };
+    ghost invariant = { λ a. IsAheadOf a.pending a.ahead × IsSoonestOf a.letters.items a.soonest };
 }
 
 /// The lesser of two ticks, as far as they are there.
@@ -62,6 +73,31 @@ fn soonest_of(letters: &[Letter]) -> Option<u32>
         soonest = earlier(soonest, Some(letter.key.tick));
     }
     soonest
+}
+
+/// The least pending tick, which is looked for where it isn't known.
+fn least_of(pending: &Pending, ahead: Ahead) -> Option<u32>
+    requires { IsAheadOf pending.now ahead }
+    ensures { MatchOption result (IsEmpty pending.now) (λ tick. IsLeastTick pending.now tick) }
+{
+    match ahead {
+        Ahead::Unknown => pending.least_tick(),
+        Ahead::Nothing => None,
+        Ahead::At(tick) => Some(tick),
+    }
+}
+
+/// What is known of the least pending tick after a look, where one is to be had.
+fn look(pending: &Pending, looks: bool) -> Ahead
+    ensures { IsAheadOf pending.now result }
+{
+    if !looks {
+        return Ahead::Unknown;
+    }
+    match pending.least_tick() {
+        Some(tick) => Ahead::At(tick),
+        None => Ahead::Nothing,
+    }
 }
 
 /// Appends letters to others. Where there are no others the list takes their place.
@@ -113,6 +149,7 @@ impl Agenda {
     {
         Agenda {
             pending,
+            ahead: Ahead::Unknown,
             letters: Vec::new(alloc),
             soonest: None,
         }
@@ -132,6 +169,7 @@ impl Agenda {
     pub(crate) fn join(&mut self, key: Key, input: StepInput) -> Result<(), AllocError>
         ensures { OnOk result (self.new ≡ events.insert self.old key input) }
     {
+        self.ahead = Ahead::Unknown;
         settle(&mut self.pending, &mut self.letters, &mut self.soonest)?;
         self.pending.join(key, input)?;
         Ok(())
@@ -141,7 +179,7 @@ impl Agenda {
     pub(crate) fn least_tick(&self) -> Option<u32>
         ensures { MatchOption result (IsEmpty self.now) (λ tick. IsLeastTick self.now tick) }
     {
-        earlier(self.pending.least_tick(), self.soonest)
+        earlier(least_of(&self.pending, self.ahead), self.soonest)
     }
 
     /// Takes the least event, where it is below a tick. Where memory is refused some events may be gone.
@@ -151,7 +189,10 @@ impl Agenda {
         ensures removed { IfOk result (λ r.
             MatchOption r (self.new ≡ self.old) (λ e. self.new ≡ events.remove self.old e.0)) }
     {
+        self.ahead = Ahead::Unknown;
         settle(&mut self.pending, &mut self.letters, &mut self.soonest)?;
-        self.pending.take_below(end)
+        let taken = self.pending.take_below(end)?;
+        self.ahead = look(&self.pending, taken.is_none());
+        Ok(taken)
     }
 }

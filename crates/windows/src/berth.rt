@@ -1,5 +1,5 @@
 //! One process of a window: its machine, its pending events, and its part of the trace.
-ghost use Rattle.std.specs.Prelude.{◌≡◌, ◌≤◌, ◌<◌, ◌+◌, ◌*◌, ◌^◌, ◌++◌, [], ◌∷◌, ℕ, List, length, vec_len, IfErr, IfOk, OnOk, IsErrOf};
+ghost use Rattle.std.specs.Prelude.{◌≡◌, ◌≤◌, ◌<◌, ◌+◌, ◌*◌, ◌^◌, ◌++◌, [], ◌∷◌, ℕ, List, drop, length, vec_len, IfErr, IfOk, OnOk, IsErrOf};
 ghost use Rattle.std.specs.List.{AllByRecursion};
 ghost use Rattle.process_api.specs.Bounds.{most_step_actions};
 ghost use Rattle.process_api.specs.declared.message.Letter.{Letter as SentLetter};
@@ -16,6 +16,7 @@ use mailboxes::{SharedMailboxes, Slip};
 use process_api::{Action, Entry, Key, Letter, Pid, Process, StepInput};
 use scenario::Scenario;
 use std::alloc::{AllocError, Global};
+use std::mem::replace;
 use std::sync::Wait;
 use streams::Streams;
 
@@ -60,6 +61,17 @@ fn hand_on<R: Wait>(
     Ok(())
 }
 
+/// The event at a place of a list. What is left in the place means nothing.
+#[inline(always)]
+fn take_out(events: &mut Vec<(Key, StepInput)>, place: usize) -> (Key, StepInput)
+    requires { place < vec_len events.old }
+    ensures count { vec_len events.new ≡ vec_len events.old }
+    ensures event { drop place events.old.items ≡ result ∷ drop (place + 1) events.new.items }
+{
+    let key = events[place].0;
+    replace(&mut events[place], (key, StepInput::Start))
+}
+
 /// The events that a step of process `own` caused, each handed on in its turn. They are used up.
 fn hand_on_all<R: Wait>(
     rt: &R,
@@ -75,7 +87,8 @@ fn hand_on_all<R: Wait>(
     ensures pending { OnOk result (pending.new ≡ joined pending.old (for_self own added.old.items)) }
     ensures letters { OnOk result (ArePosted own added.old.items slip.old slip.new) }
 {
-    for (key, input) in added.drain(..) {
+    for place in 0..added.len() {
+        let (key, input) = take_out(added, place);
         hand_on(rt, own, pending, mailboxes, slip, key, input)?;
     }
     Ok(())

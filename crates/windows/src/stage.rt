@@ -8,22 +8,24 @@ ghost use Rattle.process_api.specs.Order.{is_rising};
 ghost use Rattle.scenario.specs.Record.{opening_mind};
 ghost use Rattle.event_list.specs.ScenarioSetting.{setting_of};
 ghost use Rattle.event_list.specs.Seat.{process_of, own_of, IsMindIn, IsSeated};
-ghost use Rattle.event_list.specs.World.{opened, opening, joined};
-ghost use Rattle.mailboxes.specs.Mailboxes.{letters_in};
+ghost use Rattle.event_list.specs.World.{opened, opening};
+ghost use Rattle.mailboxes.specs.Mailboxes.{IsSlipOf, letters_in};
 ghost use Rattle.trace_merge.specs.Parts.{all_of, AreDisjoint};
-ghost use Rattle.windows.specs.Agenda.{event_of};
+ghost use Rattle.windows.specs.Closing.{IsClosedBy};
 ghost use Rattle.windows.specs.Machine.{StandsFor};
 ghost use Rattle.windows.specs.Refusals.{IsRefusalOfOne};
-ghost use Rattle.windows.specs.Stage.{stage_of, start_event, delivered, IsOpened, IsClosed, IsNextStart, IsStageAfter};
+ghost use Rattle.windows.specs.Stage.{stage_of, start_event, delivered, IsOpened, IsNextStart, IsStageAfter};
 
 use crate::berth::Berth;
+use crate::halves::empty_and_merge;
 use event_list::{Pending, RunError};
-use mailboxes::Mailboxes;
+use mailboxes::{Mailboxes, Slip};
 use process_api::{Entry, Key, Letter, Pid, Process, StepInput};
 use scenario::Scenario;
 use std::alloc::{AllocError, Global};
 use std::mem::replace;
-use trace_merge::merge;
+use std::sync::Wait;
+use std::thread::Threads;
 
 /// All processes of a scenario between two windows: each in its berth, the tick at which the next window starts, and
 /// how many entries the trace has so far. The parameter has no bound here, so that machines may be boxed.
@@ -39,11 +41,19 @@ pub struct Stage<'s, M> {
     pub(crate) mailboxes: Option<Mailboxes>,
 }
 
+/// What the workers of a window left: the berths, of process 1 first, the mailboxes, and all slips.
+#[derive(Drop)]
+pub(crate) struct Ran<M> {
+    pub berths: Vec<Berth<M>>,
+    pub mailboxes: Mailboxes,
+    pub slips: Vec<Slip>,
+}
+
 /// The start of a process, alone.
 fn start_of(alloc: Global, p: Pid) -> Result<Pending, AllocError>
     ensures { IfOk result (λ m. m ≡ start_event p) }
 {
-    let mut pending = Pending::new(alloc);
+    let mut pending = Pending::with_ring(alloc)?;
     let key = Key {
         tick: 0,
         receiver: p,
@@ -73,47 +83,59 @@ fn berths_of<M: Process>(
     Ok(berths)
 }
 
-/// A berth takes the letters of its mailbox, and gives its part of the window. The letters are used up.
-fn deliver<M: Process>(
-    alloc: Global,
-    berth: &mut Berth<M>,
-    letters: Vec<Letter>,
-) -> Result<Vec<Entry>, AllocError>
+/// A berth gives its part of the window, and keeps an empty one.
+fn take_part<M>(alloc: Global, berth: &mut Berth<M>) -> Result<Vec<Entry>, AllocError>
     ensures seat { OnOk result (berth.new.seat ≡ berth.old.seat) }
-    ensures pending { OnOk result (berth.new.pending ≡ joined berth.old.pending (map event_of letters.items)) }
-    ensures part { OnOk result (berth.new.part.items ≡ []) }
+    ensures pending { OnOk result (berth.new.pending ≡ berth.old.pending) }
+    ensures empty { OnOk result (berth.new.part.items ≡ []) }
     ensures entries { IfOk result (λ v. v.items ≡ berth.old.part.items) }
 {
-    berth.pending.deliver(letters)?;
     // as much room as this window's part took
     let next = Vec::with_capacity(alloc, berth.part.len())?;
     Ok(replace(&mut berth.part, next))
 }
 
-/// Each berth takes the letters of its mailbox and gives its part of the window. Both lists have process 1 first.
-fn deliver_all<M: Process>(
+/// Each berth gives its part of the window. Answers the berths, and the parts in the same order.
+fn take_parts<M: Process>(
     alloc: Global,
     berths: Vec<Berth<M>>,
-    letters: Vec<Vec<Letter>>,
 ) -> Result<(Vec<Berth<M>>, Vec<Vec<Entry>>), AllocError>
-    requires { vec_len letters ≡ vec_len berths }
     ensures seats { IfOk result (λ r. map (λ b. b.seat) r.0.items ≡ map (λ b. b.seat) berths.items) }
-    ensures pending { IfOk result (λ r.
-        map (λ b. b.pending) r.0.items ≡ delivered (map (λ b. b.pending) berths.items) (letters_in letters.items)) }
+    ensures pending { IfOk result (λ r. map (λ b. b.pending) r.0.items ≡ map (λ b. b.pending) berths.items) }
     ensures empty { IfOk result (λ r. All (λ b. b.part.items ≡ []) r.0.items) }
     ensures parts { IfOk result (λ r. map (λ v. v.items) r.1.items ≡ map (λ b. b.part.items) berths.items) }
 {
     let mut done = Vec::with_capacity(alloc, berths.len())?;
     let mut parts = Vec::with_capacity(alloc, berths.len())?;
+    for mut berth in berths {
+        parts.push(take_part(alloc, &mut berth)?)?;
+        done.push(berth)?;
+    }
+    Ok((done, parts))
+}
+
+/// Each berth takes the letters of its mailbox, which are used up. Both lists have process 1 first.
+fn deliver_all<M: Process>(
+    alloc: Global,
+    berths: Vec<Berth<M>>,
+    letters: Vec<Vec<Letter>>,
+) -> Result<Vec<Berth<M>>, AllocError>
+    requires { vec_len letters ≡ vec_len berths }
+    ensures seats { IfOk result (λ r. map (λ b. b.seat) r.items ≡ map (λ b. b.seat) berths.items) }
+    ensures pending { IfOk result (λ r.
+        map (λ b. b.pending) r.items ≡ delivered (map (λ b. b.pending) berths.items) (letters_in letters.items)) }
+    ensures parts { IfOk result (λ r. map (λ b. b.part) r.items ≡ map (λ b. b.part) berths.items) }
+{
+    let mut done = Vec::with_capacity(alloc, berths.len())?;
     let mut lists = letters.into_iter();
     for mut berth in berths {
         let Some(list) = lists.next() else {
             unreachable!()
         };
-        parts.push(deliver(alloc, &mut berth, list)?)?;
+        berth.pending.deliver(list)?;
         done.push(berth)?;
     }
-    Ok((done, parts))
+    Ok(done)
 }
 
 /// The tick at which the next window opens: the least pending tick, or the horizon where none is below it.
@@ -175,34 +197,45 @@ impl<'s, M: Process> Stage<'s, M> {
         self.start == self.scenario.horizon()
     }
 
-    /// Closes a window: the berths that its workers left, of process 1 first, take the letters of their mailboxes, and
-    /// their parts are merged. The next window starts at the least pending tick. Answers the merged part, which has at
-    /// most `left` entries.
+    /// Closes a window: the mailboxes are emptied, and the parts that the berths have of it are merged; by more than
+    /// one worker, and where it is worth it, at once. Then each berth takes the letters of its mailbox. The next window
+    /// starts at the least pending tick. Answers the merged part, which has at most `left` entries.
     ///
     /// # Errors
     ///
     /// `Limit` where the parts have more than `left` entries together, and `Memory` where memory was refused. The stage
     /// may only be dropped then.
-    pub(crate) fn close(
+    pub(crate) fn close<R: Threads + Wait + Sync>(
         &mut self,
+        rt: &R,
         alloc: Global,
-        berths: Vec<Berth<M>>,
-        letters: Vec<Vec<Letter>>,
+        workers: u16,
+        ran: Ran<M>,
         left: u64,
     ) -> Result<Vec<Entry>, RunError>
-        requires lists { vec_len letters ≡ vec_len berths }
-        requires rising { All (λ b. IsTrue (is_rising b.part.items)) berths.items }
-        requires disjoint { AreDisjoint (map (λ b. b.part.items) berths.items) }
+        requires all { vec_len ran.slips ≡ ran.mailboxes.slips }
+        requires slips { All (IsSlipOf ran.mailboxes.mailboxes) ran.slips.items }
+        requires boxes { length ran.mailboxes.mailboxes ≡ vec_len ran.berths }
+        requires rising { All (λ b. IsTrue (is_rising b.part.items)) ran.berths.items }
+        requires disjoint { AreDisjoint (map (λ b. b.part.items) ran.berths.items) }
         requires room { self.old.so_far + left < 2 ^ 64 }
 
         ensures scenario { self.new.scenario.now ≡ self.old.scenario.now }
-        ensures closed { IfOk result (λ merged. IsClosed M.mind left self.old.so_far berths.items
-            (letters_in letters.items) merged.items self.new) }
+        ensures closed { IfOk result (λ merged. IsClosedBy M.mind left self.old.so_far ran.berths.items
+            ran.slips.items merged.items self.new) }
         ensures errors { IfErr result IsRefusalOfOne }
-        ensures limit { IsErrOf result RunError.Limit → left < length (all_of (map (λ b. b.part.items) berths.items)) }
+        ensures limit { IsErrOf result RunError.Limit
+            → left < length (all_of (map (λ b. b.part.items) ran.berths.items)) }
     {
-        let (berths, parts) = deliver_all(alloc, berths, letters)?;
-        let merged = merge(alloc, parts)?;
+        let Ran {
+            berths,
+            mailboxes,
+            slips,
+        } = ran;
+        let (berths, parts) = take_parts(alloc, berths)?;
+        let (merged, emptied) = empty_and_merge(rt, alloc, workers, parts, mailboxes, slips)?;
+        let (mailboxes, letters) = emptied;
+        let berths = deliver_all(alloc, berths, letters)?;
         let made = merged.len() as u64;
         if made > left {
             return Err(RunError::Limit);
@@ -210,6 +243,7 @@ impl<'s, M: Process> Stage<'s, M> {
         self.so_far += made;
         self.start = next_start(&berths, self.scenario.horizon());
         self.berths = berths;
+        self.mailboxes = Some(mailboxes);
         Ok(merged)
     }
 }

@@ -7,13 +7,14 @@ ghost use Rattle.process_api.specs.EntryRecord.{EntryRecord};
 ghost use Rattle.event_list.specs.ScenarioSetting.{setting_of};
 ghost use Rattle.event_list.specs.Seat.{own_of};
 ghost use Rattle.event_list.specs.World.{IsTrace};
-ghost use Rattle.mailboxes.specs.Mailboxes.{letters_in, unused};
+ghost use Rattle.mailboxes.specs.Mailboxes.{IsSlipOf, unused};
+ghost use Rattle.windows.specs.Closing.{IsOutcomeBy};
 ghost use Rattle.windows.specs.Deques.{deques_of};
 ghost use Rattle.windows.specs.Plan.{IsPlanFor, most_workers};
 ghost use Rattle.windows.specs.Refusals.{IsRefusal};
 ghost use Rattle.windows.specs.Shared.{AreReady, IsOneTooLong, IsFreshIn, IsStart, AreAnswers, HadWindow, IsCountOfWorkers};
 ghost use Rattle.windows.specs.Stage.{IsStage, IsStageAfter, IsWindowRun};
-ghost use Rattle.windows.specs.Workers.{IsOutcome, RiseBy, dealt_to};
+ghost use Rattle.windows.specs.Workers.{RiseBy, dealt_to};
 
 use crate::berth::Berth;
 use crate::deal::deal;
@@ -21,11 +22,11 @@ use crate::gate::Gate;
 use crate::gather::{gather, part, run_rest, starts_of};
 use crate::plan::Plan;
 use crate::shared::{Shared, Window};
-use crate::stage::Stage;
+use crate::stage::{Ran, Stage};
 use crate::workers::{Start, Work, start_workers};
 use event_list::RunError;
 use mailboxes::{Mailboxes, Slip};
-use process_api::{Entry, Letter, Process};
+use process_api::{Entry, Process};
 use std::alloc::{AllocError, Global};
 use std::mem::replace;
 use std::sync::Wait;
@@ -151,32 +152,38 @@ fn mailboxes_for(
     }
 }
 
-/// Runs one window of all processes. Answers their berths, the mailboxes, which are as they were, and the letters of
-/// each process, of process 1 first.
+/// Runs one window of all processes. Answers their berths, of process 1 first, and the mailboxes with all slips, by
+/// which the letters of the window were posted.
 fn run_all<M: Process, G: Gate, R: Threads + Wait + Sync>(
     rt: &R,
     alloc: Global,
     gate: &G,
-    plan: &Plan,
+    workers: u16,
     mut mailboxes: Mailboxes,
     window: &Window<'_>,
     berths: Vec<Berth<M>>,
-) -> Result<(Vec<Berth<M>>, Mailboxes, Vec<Vec<Letter>>), RunError>
+) -> Result<Ran<M>, RunError>
+    requires some { 0 < workers }
+    requires few { workers ≤ most_workers }
     requires boxes { length mailboxes.mailboxes ≡ window.now.streams.processes }
     requires slips { mailboxes.slips ≡ 0 }
     requires ready { AreReady M.mind window.now berths.items }
     requires rising { RiseBy (λ b. own_of M.mind b.seat) berths.items }
 
+    ensures boxes { IfOk result (λ r. length r.mailboxes.mailboxes ≡ window.now.streams.processes) }
+    ensures all { IfOk result (λ r. vec_len r.slips ≡ r.mailboxes.slips) }
+    ensures slips { IfOk result (λ r. All (IsSlipOf r.mailboxes.mailboxes) r.slips.items) }
     ensures outcome { IfOk result (λ r.
-        IsOutcome M.mind window.now.streams window.now.end berths.items r.0.items (letters_in r.2.items)) }
+        IsOutcomeBy M.mind window.now.streams window.now.end berths.items r.berths.items r.slips.items) }
     ensures errors { IfErr result IsRefusal }
     ensures limit { IsErrOf result RunError.Limit → IsOneTooLong M.mind window.now berths.items }
 {
-    let workers = plan.workers();
     let (done, slips) = run_berths_of(rt, alloc, gate, workers, &mut mailboxes, window, berths)?;
-    let lists = mailboxes.lists(alloc)?;
-    let (mailboxes, letters) = mailboxes.empty(rt, alloc, lists, slips)?;
-    Ok((in_order(done), mailboxes, letters))
+    Ok(Ran {
+        berths: in_order(done),
+        mailboxes,
+        slips,
+    })
 }
 
 /// The end of a window, which is cut at the horizon.
@@ -188,9 +195,10 @@ pub(crate) fn cut_at(end: u32, horizon: u32) -> u32
 
 /// Runs the next window of a stage. The smaller of the plan's workers and the number of processes with an event below
 /// the window's end are started, each a thread. These processes are dealt to them in turn; a worker takes its own, one
-/// after the other, then those of others that are left, and runs them; and the workers are joined. Then the letters are
-/// delivered, and the parts of the trace are merged. Answers the merged part. The next window starts at the least
-/// pending tick, so that none is opened in which nothing happens.
+/// after the other, then those of others that are left, and runs them; and the workers are joined. Then the mailboxes
+/// are emptied and the parts of the trace merged, at once where that is worth a thread, and the letters are delivered.
+/// Answers the merged part. The next window starts at the least pending tick, so that none is opened in which nothing
+/// happens.
 ///
 /// # Errors
 ///
@@ -224,7 +232,7 @@ pub fn run_window<M: Process, G: Gate, R: Threads + Wait + Sync>(
     let streams = Streams::new(scenario);
     let window = Window { streams, end, left };
     let berths = replace(&mut stage.berths, Vec::new(alloc));
-    let (berths, mailboxes, letters) = run_all(rt, alloc, gate, plan, mailboxes, &window, berths)?;
-    stage.mailboxes = Some(mailboxes);
-    stage.close(alloc, berths, letters, left)
+    let workers = plan.workers();
+    let ran = run_all(rt, alloc, gate, workers, mailboxes, &window, berths)?;
+    stage.close(rt, alloc, workers, ran, left)
 }

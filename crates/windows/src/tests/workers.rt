@@ -3,6 +3,7 @@
 
 use super::machines::{all_coordinators, all_watchers};
 use super::{are_same, one_crash, three_coordinators};
+use crate::halves::WORTH_A_THREAD;
 use crate::workers::both;
 use crate::{Gate, OpenGate, Plan, Stage, run_window, run_windows};
 use event_list::{RunError, run_list};
@@ -87,15 +88,17 @@ fn first_window(rt: HostRuntime) -> Result<(), Fail> {
     Ok(())
 }
 
-/// As many processes as there can be, each of which sends a letter to every other at its start.
+/// As many processes as there can be, each of which sends a letter to every other at each tick. The second of three
+/// windows has 8,256 entries and posts 8,064 letters, which the third takes: both are worth four threads that close
+/// them.
 const SIXTY_FOUR: &str = "version = 1
 processes = 64
-horizon = 4
+horizon = 6
 lookahead = 2
 seed = 1
 algorithm = \"none\"
 [detector]
-period = 4
+period = 1
 check = 3
 timeout = 5
 grow = 1
@@ -110,12 +113,15 @@ fn sixty_four(rt: HostRuntime) -> Result<(), Fail> {
     let scenario = read_scenario(alloc, SIXTY_FOUR.as_bytes())?;
     let machines = all_watchers(alloc, &scenario)?;
     let list = run_list(alloc, &scenario, machines)?;
-    let machines = all_watchers(alloc, &scenario)?;
-    let plan = Plan::new(&scenario, 64, 2)?;
-    let windows = run_windows(&rt, alloc, &scenario, machines, &plan, &OpenGate)?;
-    // 64 starts, 64 checks, and a letter for each pair
-    assert_eq!(rt; list.entries().len(), 4_160);
-    assert!(rt; are_same(windows.entries(), list.entries()));
+    // 64 starts, 64 checks, 320 beats, and four letters for each pair
+    assert_eq!(rt; list.entries().len(), 16_576);
+    assert!(rt; 4 * WORTH_A_THREAD <= 8_192);
+    for workers in [1, 2, 4, 64] {
+        let machines = all_watchers(alloc, &scenario)?;
+        let plan = Plan::new(&scenario, workers, 2)?;
+        let windows = run_windows(&rt, alloc, &scenario, machines, &plan, &OpenGate)?;
+        assert!(rt; are_same(windows.entries(), list.entries()));
+    }
     Ok(())
 }
 

@@ -1,6 +1,6 @@
-use Rattle.std.proofs.Common.{◌≡◌, ◌++◌, List, length, map}
+use Rattle.std.proofs.Common.{◌≡◌, ◌++◌, List, length, map, vec_len}
 use Rattle.std.specs.List.{AllByRecursion}
-use Rattle.std.specs.Vec.Iter.{drain_items}
+use Rattle.std.specs.Prelude.{drop}
 use Rattle.process_api.specs.declared.message.Letter.{Letter}
 use Rattle.event_list.specs.World.{joined}
 use Rattle.mailboxes.specs.Mailboxes.{IsSlipOf}
@@ -10,10 +10,11 @@ use Rattle.windows.specs.Machine.{for_self, for_others}
 use Rattle.windows.proofs.berth.hand_on_all.Given as goal
 
 -- what was done so far and what the rest does is what all do
-abbrev pub invariant-loop-key : goal.invariant-loop-key
-invariant-loop-key g l =
-    let rest = drain_items l.key-iterator in
+abbrev pub invariant-loop-place : goal.invariant-loop-place
+invariant-loop-place g l =
+    let rest = drop l.place l.added.items in
     record {
+      many : vec_len l.added ≡ vec_len l.fn.added;
       slip : IsSlipOf l.mailboxes l.slip;
       events : AllByRecursion (IsOwnOrLetter (length l.mailboxes) l.own) rest;
       pending : joined l.pending (for_self l.own rest) ≡ joined l.fn.pending (for_self l.own l.fn.added.items);

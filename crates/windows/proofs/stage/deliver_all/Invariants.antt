@@ -1,5 +1,4 @@
-use Rattle.std.proofs.Common.{◌≡◌, ◌++◌, [], length, map}
-use Rattle.std.specs.List.{All}
+use Rattle.std.proofs.Common.{◌≡◌, ◌++◌, length, map}
 use Rattle.std.specs.Vec.Iter.{into_iter_items}
 use Rattle.mailboxes.specs.Mailboxes.{letters_in}
 use Rattle.windows.specs.Stage.{delivered}
@@ -13,7 +12,6 @@ invariant-loop-berth g l =
     record {
       seats : map (λ b. b.seat) l.done.items ++ map (λ b. b.seat) rest ≡ map (λ b. b.seat) l.fn.berths.items;
       pending : map (λ b. b.pending) l.done.items ++ delivered (map (λ b. b.pending) rest) (letters_in lists) ≡ delivered (map (λ b. b.pending) l.fn.berths.items) (letters_in l.fn.letters.items);
-      empty : All (λ b. b.part.items ≡ []) l.done.items;
-      parts : map (λ v. v.items) l.parts.items ++ map (λ b. b.part.items) rest ≡ map (λ b. b.part.items) l.fn.berths.items;
+      parts : map (λ b. b.part) l.done.items ++ map (λ b. b.part) rest ≡ map (λ b. b.part) l.fn.berths.items;
       same : length lists ≡ length rest;
     }

@@ -2,12 +2,14 @@ use Rattle.std.proofs.Common.{rules, ◌≡◌, ◌+◌, ◌-◌, min, sym, ap, 
 use Rattle.event_list.specs.declared.error.RunError.{RunError}
 use Rattle.windows.specs.Refusals.{IsRefusal, IsRefusalOfOne}
 use Rattle.std.specs.Global.{Vec}
+use Rattle.scenario.specs.Record.{Record}
 use Rattle.event_list.specs.ScenarioSetting.{setting_of}
 use Rattle.event_list.specs.Seat.{own_of}
 use Rattle.windows.specs.Machine.{end_of}
 use Rattle.windows.specs.Workers.{RiseBy}
 use Rattle.windows.specs.declared.berth.Berth.{Berth}
-use Rattle.windows.proofs.Settled.{sum_of, if_ok, outcome_at, long_at, ready_at, stage_ready, stage_rises, long_limit, outcome_rising, outcome_disjoint, outcome_limit, outcome_next}
+use Rattle.windows.proofs.Posted.{outcome_by, many_by, rising_by, disjoint_by, limit_by, next_by}
+use Rattle.windows.proofs.Settled.{sum_of, if_ok, long_at, ready_at, stage_ready, stage_rises, long_limit}
 use Rattle.windows.proofs.window.run_window.Goals as goal
 
 pub run_all-requires-clause-ready : goal.run_all-requires-clause-ready
@@ -23,8 +25,8 @@ run_all-requires-clause-rising g c κs within =
     subst (RiseBy (λ (b : Berth _). own_of g.M.Process.mind b.seat)) (sym (ap (λ (v : Vec _). v.items) c.replace-berths.ensures.value))
     (stage_rises g.M.Process.mind old c.processes-processes.ensures.ranges c.requires.stage.0 c.requires.stage.1)
 
-pub returns-in_err-berths-clause-limit : goal.returns-in_err-berths-clause-limit
-returns-in_err-berths-clause-limit g c is =
+pub returns-in_err-ran-clause-limit : goal.returns-in_err-ran-clause-limit
+returns-in_err-ran-clause-limit g c is =
     let old = c.args.stage.now in
     let mind = g.M.Process.mind in
     let left = c.limit.result - old.so_far in
@@ -34,21 +36,30 @@ returns-in_err-berths-clause-limit g c is =
     (long_at mind c.new-streams.result old.scenario.now c.cut_at-end.result _ left c.replace-berths.result.items old.berths.items c.new-streams.ensures end (ap (λ (v : Vec _). v.items) c.replace-berths.ensures.value)
     (c.run_all.ensures.limit (search rules)))
 
+pub close-requires-clause-boxes : goal.close-requires-clause-boxes
+close-requires-clause-boxes g c κs within =
+    let old = c.args.stage.now in
+    let mind = g.M.Process.mind in
+    let end : c.cut_at-end.result ≡ end_of (setting_of old.scenario.now) c.args.plan.now.window old.start = c.cut_at-end.ensures ∙ (λ i. min (old.start + c.window.ensures.value i) (c.horizon.ensures.value i)) in
+    let by = outcome_by mind c.new-streams.result old.scenario.now c.cut_at-end.result _ c.replace-berths.result.items old.berths.items c.in_ok-ran.ran.berths.items c.in_ok-ran.ran.slips.items c.new-streams.ensures end (ap (λ (v : Vec _). v.items) c.replace-berths.ensures.value) c.in_ok-ran.ensures.outcome in
+    let many = many_by mind old c.processes-processes.ensures.ranges c.requires.stage.0 c.requires.stage.1 c.args.plan.now.window c.requires.plan _ _ by in
+    c.in_ok-ran.ensures.boxes ∙ (ap (λ (r : Record). r.processes) c.new-streams.ensures ∙ (sym many ∙ sym c.in_ok-ran.ran.berths.ok.0))
+
 pub close-requires-clause-rising : goal.close-requires-clause-rising
 close-requires-clause-rising g c κs within =
     let old = c.args.stage.now in
     let mind = g.M.Process.mind in
     let end : c.cut_at-end.result ≡ end_of (setting_of old.scenario.now) c.args.plan.now.window old.start = c.cut_at-end.ensures ∙ (λ i. min (old.start + c.window.ensures.value i) (c.horizon.ensures.value i)) in
-    let o = outcome_at mind c.new-streams.result old.scenario.now c.cut_at-end.result _ c.replace-berths.result.items old.berths.items _ _ c.new-streams.ensures end (ap (λ (v : Vec _). v.items) c.replace-berths.ensures.value) c.in_ok-berths.ensures.outcome in
-    outcome_rising mind old c.processes-processes.ensures.ranges c.requires.stage.0 c.requires.stage.1 c.args.plan.now.window c.requires.plan _ _ o
+    let by = outcome_by mind c.new-streams.result old.scenario.now c.cut_at-end.result _ c.replace-berths.result.items old.berths.items c.in_ok-ran.ran.berths.items c.in_ok-ran.ran.slips.items c.new-streams.ensures end (ap (λ (v : Vec _). v.items) c.replace-berths.ensures.value) c.in_ok-ran.ensures.outcome in
+    rising_by mind old c.processes-processes.ensures.ranges c.requires.stage.0 c.requires.stage.1 c.args.plan.now.window c.requires.plan _ _ by
 
 pub close-requires-clause-disjoint : goal.close-requires-clause-disjoint
 close-requires-clause-disjoint g c κs within =
     let old = c.args.stage.now in
     let mind = g.M.Process.mind in
     let end : c.cut_at-end.result ≡ end_of (setting_of old.scenario.now) c.args.plan.now.window old.start = c.cut_at-end.ensures ∙ (λ i. min (old.start + c.window.ensures.value i) (c.horizon.ensures.value i)) in
-    let o = outcome_at mind c.new-streams.result old.scenario.now c.cut_at-end.result _ c.replace-berths.result.items old.berths.items _ _ c.new-streams.ensures end (ap (λ (v : Vec _). v.items) c.replace-berths.ensures.value) c.in_ok-berths.ensures.outcome in
-    outcome_disjoint mind old c.processes-processes.ensures.ranges c.requires.stage.0 c.requires.stage.1 c.args.plan.now.window c.requires.plan _ _ o
+    let by = outcome_by mind c.new-streams.result old.scenario.now c.cut_at-end.result _ c.replace-berths.result.items old.berths.items c.in_ok-ran.ran.berths.items c.in_ok-ran.ran.slips.items c.new-streams.ensures end (ap (λ (v : Vec _). v.items) c.replace-berths.ensures.value) c.in_ok-ran.ensures.outcome in
+    disjoint_by mind old c.processes-processes.ensures.ranges c.requires.stage.0 c.requires.stage.1 c.args.plan.now.window c.requires.plan _ _ by
 
 pub returns-clause-limit : goal.returns-clause-limit
 returns-clause-limit g c is =
@@ -57,8 +68,8 @@ returns-clause-limit g c is =
     let left = c.limit.result - old.so_far in
     let sum : left + old.so_far ≡ old.scenario.now.limit = sum_of _ _ _ c.limit.ensures.value c.requires.stage.1.within in
     let end : c.cut_at-end.result ≡ end_of (setting_of old.scenario.now) c.args.plan.now.window old.start = c.cut_at-end.ensures ∙ (λ i. min (old.start + c.window.ensures.value i) (c.horizon.ensures.value i)) in
-    let o = outcome_at mind c.new-streams.result old.scenario.now c.cut_at-end.result _ c.replace-berths.result.items old.berths.items _ _ c.new-streams.ensures end (ap (λ (v : Vec _). v.items) c.replace-berths.ensures.value) c.in_ok-berths.ensures.outcome in
-    outcome_limit mind old c.processes-processes.ensures.ranges c.requires.stage.0 c.requires.stage.1 c.args.plan.now.window c.requires.plan _ _ o left sum (c.close.ensures.limit is)
+    let by = outcome_by mind c.new-streams.result old.scenario.now c.cut_at-end.result _ c.replace-berths.result.items old.berths.items c.in_ok-ran.ran.berths.items c.in_ok-ran.ran.slips.items c.new-streams.ensures end (ap (λ (v : Vec _). v.items) c.replace-berths.ensures.value) c.in_ok-ran.ensures.outcome in
+    limit_by mind old c.processes-processes.ensures.ranges c.requires.stage.0 c.requires.stage.1 c.args.plan.now.window c.requires.plan _ _ by left sum (c.close.ensures.limit is)
 
 pub returns-clause-stage : goal.returns-clause-stage
 returns-clause-stage g c =
@@ -67,9 +78,9 @@ returns-clause-stage g c =
     let left = c.limit.result - old.so_far in
     let sum : left + old.so_far ≡ old.scenario.now.limit = sum_of _ _ _ c.limit.ensures.value c.requires.stage.1.within in
     let end : c.cut_at-end.result ≡ end_of (setting_of old.scenario.now) c.args.plan.now.window old.start = c.cut_at-end.ensures ∙ (λ i. min (old.start + c.window.ensures.value i) (c.horizon.ensures.value i)) in
-    let o = outcome_at mind c.new-streams.result old.scenario.now c.cut_at-end.result _ c.replace-berths.result.items old.berths.items _ _ c.new-streams.ensures end (ap (λ (v : Vec _). v.items) c.replace-berths.ensures.value) c.in_ok-berths.ensures.outcome in
+    let by = outcome_by mind c.new-streams.result old.scenario.now c.cut_at-end.result _ c.replace-berths.result.items old.berths.items c.in_ok-ran.ran.berths.items c.in_ok-ran.ran.slips.items c.new-streams.ensures end (ap (λ (v : Vec _). v.items) c.replace-berths.ensures.value) c.in_ok-ran.ensures.outcome in
     if_ok c.close.result _ _
-    (λ part closed trace is. (outcome_next mind old c.processes-processes.ensures.ranges trace is c.args.plan.now.window c.requires.plan _ _ o c.close.new.self c.close.ensures.scenario left sum part.items closed).0)
+    (λ part closed trace is. (next_by mind old c.processes-processes.ensures.ranges trace is c.args.plan.now.window c.requires.plan _ _ by c.close.new.self c.close.ensures.scenario left sum part.items closed).0)
     c.close.ensures.closed
 
 pub returns-clause-run : goal.returns-clause-run
@@ -79,9 +90,9 @@ returns-clause-run g c =
     let left = c.limit.result - old.so_far in
     let sum : left + old.so_far ≡ old.scenario.now.limit = sum_of _ _ _ c.limit.ensures.value c.requires.stage.1.within in
     let end : c.cut_at-end.result ≡ end_of (setting_of old.scenario.now) c.args.plan.now.window old.start = c.cut_at-end.ensures ∙ (λ i. min (old.start + c.window.ensures.value i) (c.horizon.ensures.value i)) in
-    let o = outcome_at mind c.new-streams.result old.scenario.now c.cut_at-end.result _ c.replace-berths.result.items old.berths.items _ _ c.new-streams.ensures end (ap (λ (v : Vec _). v.items) c.replace-berths.ensures.value) c.in_ok-berths.ensures.outcome in
+    let by = outcome_by mind c.new-streams.result old.scenario.now c.cut_at-end.result _ c.replace-berths.result.items old.berths.items c.in_ok-ran.ran.berths.items c.in_ok-ran.ran.slips.items c.new-streams.ensures end (ap (λ (v : Vec _). v.items) c.replace-berths.ensures.value) c.in_ok-ran.ensures.outcome in
     if_ok c.close.result _ _
-    (λ part closed. (outcome_next mind old c.processes-processes.ensures.ranges c.requires.stage.0 c.requires.stage.1 c.args.plan.now.window c.requires.plan _ _ o c.close.new.self c.close.ensures.scenario left sum part.items closed).1)
+    (λ part closed. (next_by mind old c.processes-processes.ensures.ranges c.requires.stage.0 c.requires.stage.1 c.args.plan.now.window c.requires.plan _ _ by c.close.new.self c.close.ensures.scenario left sum part.items closed).1)
     c.close.ensures.closed
 
 one_refused : {X : Type 0} (r : Result X RunError) → IfErr r IsRefusalOfOne → IfErr r IsRefusal

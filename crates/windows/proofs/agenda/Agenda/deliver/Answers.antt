@@ -8,10 +8,12 @@ use Rattle.windows.proofs.agenda.Agenda.deliver.Goals as goal
 pub invariant_of-self-2 : goal.invariant_of-self-2
 invariant_of-self-2 c =
     let f = c.self.inside in
-    let more = c.args.letters.items in
-    subst (λ xs. IsSoonestOf xs c.earlier-soonest.result) (sym c.in_ok-append.ensures.ok)
-    (subst (IsSoonestOf (f.letters.items ++ more)) (sym c.earlier-soonest.ensures) (soonest_both f.letters.items more f.soonest c.soonest_of.result c.self.invariant
-    (subst (λ xs. IsSoonestOf xs c.soonest_of.result) c.deref.ensures.value c.soonest_of.ensures)))
+    let more = c.args.letters.items in (
+      c.self.invariant.0,
+      subst (λ xs. IsSoonestOf xs c.earlier-soonest.result) (sym c.in_ok-append.ensures.ok)
+          (subst (IsSoonestOf (f.letters.items ++ more)) (sym c.earlier-soonest.ensures) (soonest_both f.letters.items more f.soonest c.soonest_of.result c.self.invariant.1
+          (subst (λ xs. IsSoonestOf xs c.soonest_of.result) c.deref.ensures.value c.soonest_of.ensures))),
+    )
 
 pub returns : goal.returns
 returns c =

@@ -10,4 +10,4 @@ returns c =
     let f = c.self.inside in
     subst (λ m. MatchOption c.earlier.result (IsEmpty m) (λ tick. IsLeastTick m tick)) c.self.view_is
     (subst (λ o. MatchOption o (IsEmpty (joined f.pending (map event_of f.letters.items))) (λ tick. IsLeastTick (joined f.pending (map event_of f.letters.items)) tick)) (sym c.earlier.ensures)
-    (least_both f.pending f.letters.items c.least_tick.result f.soonest c.least_tick.ensures c.self.invariant))
+    (least_both f.pending f.letters.items c.least_of.result f.soonest c.least_of.ensures c.self.invariant.1))

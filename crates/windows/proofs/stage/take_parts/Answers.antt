@@ -1,14 +1,12 @@
-use Rattle.std.proofs.Common.{◌≡◌, ◌∷◌, [], ◌++◌, length, map, ap, sym, subst, ◌∙◌, append_assoc, arith}
+use Rattle.std.proofs.Common.{◌≡◌, ◌∷◌, [], ◌++◌, map, ap, sym, subst, ◌∙◌, append_assoc}
 use Rattle.std.specs.List.{All}
 use Rattle.std.specs.Vec.Iter.{into_iter_items}
 use Rattle.std.proofs.lemmas.List.{map-append}
 use Rattle.std.proofs.lemmas.List.Elements.{All-push}
 use Rattle.std.specs.Global.{Vec}
 use Rattle.process_api.specs.declared.entry.Entry.{Entry}
-use Rattle.mailboxes.specs.Mailboxes.{letters_in}
-use Rattle.windows.specs.Stage.{delivered}
 use Rattle.windows.specs.declared.berth.Berth.{Berth}
-use Rattle.windows.proofs.stage.deliver_all.Goals as goal
+use Rattle.windows.proofs.stage.take_parts.Goals as goal
 
 pub loop-berth-preserved : goal.loop-berth-preserved
 loop-berth-preserved g c =
@@ -19,34 +17,29 @@ loop-berth-preserved g c =
     let rest = into_iter_items c.loop-berth.berth-iterator in
     let left = into_iter_items c.next.new.self in
     let old = c.in-Some.berth in
-    let new = c.deliver.new.berth in
+    let new = c.take_part.new.berth in
     let e : rest ≡ old ∷ left = c.in-Some.ensures.steps.0 in
-    let lists = into_iter_items c.loop-berth.lists in
-    let lists_left = into_iter_items c.next-in-loop-berth.new.self in
-    let list = c.in-Some-next.list in
-    let f : lists ≡ list ∷ lists_left = c.in-Some-next.ensures.items in
     let done = c.loop-berth.done.items in
     let more : c.push-in-loop-berth.new.self.items ≡ done ++ new ∷ [] = c.in_ok-push-2.ensures.items in
     let parts = c.loop-berth.parts.items in
-    let part = c.in_ok-deliver.field-0 in
+    let part = c.in_ok-take_part.field-0 in
     let items_of = λ (v : Vec Entry). v.items in
-    let taken = c.in_ok-deliver.ensures in
+    let taken = c.in_ok-take_part.ensures in
     record {
       seats = ap (λ xs. map seat_of xs ++ map seat_of left) more
           ∙ (ap (λ xs. xs ++ map seat_of left) (map-append seat_of done (new ∷ []))
           ∙ (append_assoc (map seat_of done) (seat_of new ∷ []) (map seat_of left)
           ∙ (ap (λ x. map seat_of done ++ (x ∷ map seat_of left)) taken.seat
           ∙ (ap (λ xs. map seat_of done ++ map seat_of xs) (sym e) ∙ i.seats))));
-      pending = ap (λ xs. map pending_of xs ++ delivered (map pending_of left) (letters_in lists_left)) more
-          ∙ (ap (λ xs. xs ++ delivered (map pending_of left) (letters_in lists_left)) (map-append pending_of done (new ∷ []))
-          ∙ (append_assoc (map pending_of done) (pending_of new ∷ []) (delivered (map pending_of left) (letters_in lists_left))
-          ∙ (ap (λ x. map pending_of done ++ (x ∷ delivered (map pending_of left) (letters_in lists_left))) taken.pending
-          ∙ ((λ k. map pending_of done ++ delivered (map pending_of (sym e k)) (letters_in (sym f k))) ∙ i.pending))));
-      empty = subst (All (λ b. b.part.items ≡ [])) (sym more) (All-push (λ b. b.part.items ≡ []) done new i.empty taken.part);
+      pending = ap (λ xs. map pending_of xs ++ map pending_of left) more
+          ∙ (ap (λ xs. xs ++ map pending_of left) (map-append pending_of done (new ∷ []))
+          ∙ (append_assoc (map pending_of done) (pending_of new ∷ []) (map pending_of left)
+          ∙ (ap (λ x. map pending_of done ++ (x ∷ map pending_of left)) taken.pending
+          ∙ (ap (λ xs. map pending_of done ++ map pending_of xs) (sym e) ∙ i.pending))));
+      empty = subst (All (λ b. b.part.items ≡ [])) (sym more) (All-push (λ b. b.part.items ≡ []) done new i.empty taken.empty);
       parts = ap (λ vs. map items_of vs ++ map part_of left) c.in_ok-push.ensures.items
           ∙ (ap (λ xs. xs ++ map part_of left) (map-append items_of parts (part ∷ []))
           ∙ (append_assoc (map items_of parts) (items_of part ∷ []) (map part_of left)
           ∙ (ap (λ x. map items_of parts ++ (x ∷ map part_of left)) taken.entries
           ∙ (ap (λ xs. map items_of parts ++ map part_of xs) (sym e) ∙ i.parts))));
-      same = omega (arith, i.same, ap length e, ap length f);
     }

@@ -1,0 +1,74 @@
+-- What a window's processes come to where their letters are known as slips posted them.
+use Rattle.std.proofs.Common.{◌≡◌, ℕ, ◌+◌, ◌-◌, ◌≤◌, ◌<◌, sym, ◌∙◌, subst, List, [], ◌++◌, length, map}
+use Rattle.std.specs.List.{All}
+use Rattle.std.specs.List.Sorted.{IsPermutation}
+use Rattle.std.specs.Prelude.{IsTrue}
+use Rattle.std.proofs.lemmas.List.{length-map}
+use Rattle.std.proofs.lemmas.List.Sorted.{IsPermutation-refl}
+use Rattle.std.proofs.lemmas.Option.{get_or_from_slice_get}
+use Rattle.process_api.specs.EntryRecord.{EntryRecord}
+use Rattle.process_api.specs.Mind.{Mind}
+use Rattle.process_api.specs.Numbers.{numbers_to}
+use Rattle.process_api.specs.Order.{is_rising}
+use Rattle.process_api.specs.declared.message.Letter.{Letter}
+use Rattle.scenario.specs.Ranges.{IsInRange}
+use Rattle.scenario.specs.Record.{Record}
+use Rattle.event_list.specs.ScenarioSetting.{setting_of}
+use Rattle.event_list.specs.World.{IsTrace}
+use Rattle.event_list.proofs.Openings.{number_at, length-numbers_to}
+use Rattle.mailboxes.specs.Mailboxes.{SlipView, list_of, posted_to}
+use Rattle.trace_merge.specs.Parts.{all_of, AreDisjoint}
+use Rattle.windows.specs.Closing.{AreLettersOf, IsOutcomeBy, IsClosedBy}
+use Rattle.windows.specs.Machine.{end_of}
+use Rattle.windows.specs.Stage.{IsStageAfter, IsWindowRun}
+use Rattle.windows.specs.Workers.{IsOutcome}
+use Rattle.windows.specs.declared.berth.Berth.{Berth}
+use Rattle.windows.specs.declared.stage.Stage.{Stage}
+use Rattle.windows.proofs.Settled.{outcome_many, outcome_rising, outcome_disjoint, outcome_limit, outcome_next}
+
+-- the letters to each receiver in the order of the slips
+abbrev posted_lists : List SlipView → ℕ → List (List Letter)
+posted_lists slips n = map (posted_to slips) (numbers_to n)
+
+posted_are : (slips : List SlipView) (n : ℕ) → AreLettersOf slips n (posted_lists slips n)
+posted_are slips n = record {
+  count = length-map (numbers_to n) (posted_to slips) ∙ length-numbers_to n;
+  each = λ r low high.
+      let here : list_of (posted_lists slips n) r ≡ posted_to slips r = get_or_from_slice_get (posted_lists slips n) (r - 1) (posted_to slips r) [] (number_at (posted_to slips) n r low high) in
+      subst (IsPermutation (posted_to slips r)) (sym here) (IsPermutation-refl (posted_to slips r));
+}
+
+pub outcome_by : {M : Type 0} (mind : M → Mind) (s s' : Record) (e e' : ℕ) (bs bs' news : List (Berth M)) (slips : List SlipView) → s ≡ s' → e ≡ e' → bs ≡ bs'
+    → IsOutcomeBy mind s e bs news slips → IsOutcomeBy mind s' e' bs' news slips
+outcome_by mind s s' e e' bs bs' news slips p q r o =
+    subst (λ z. IsOutcomeBy mind z e' bs' news slips) p (subst (λ z. IsOutcomeBy mind s z bs' news slips) q (subst (λ z. IsOutcomeBy mind s e z news slips) r o))
+
+module _ {M : Type 0} (mind : M → Mind) (old : Stage M) (ranges : IsInRange old.scenario.now) (trace_so_far : List EntryRecord) (is : IsStageAfter mind trace_so_far old)
+    (window : ℕ) (short : window ≤ old.scenario.now.lookahead) (news : List (Berth M)) (slips : List SlipView)
+    (by : IsOutcomeBy mind old.scenario.now (end_of (setting_of old.scenario.now) window old.start) old.berths.items news slips) where
+  abbrev s : Record
+  s = old.scenario.now
+
+  abbrev lists : List (List Letter)
+  lists = posted_lists slips s.processes
+
+  as_posted : IsOutcome mind s (end_of (setting_of s) window old.start) old.berths.items news lists
+  as_posted = by lists (posted_are slips s.processes)
+
+  pub many_by : length news ≡ s.processes
+  many_by = sym (outcome_many mind old ranges trace_so_far is window short news lists as_posted) ∙ as_posted.count
+
+  pub rising_by : All (λ b. IsTrue (is_rising b.part.items)) news
+  rising_by = outcome_rising mind old ranges trace_so_far is window short news lists as_posted
+
+  pub disjoint_by : AreDisjoint (map (λ b. b.part.items) news)
+  disjoint_by = outcome_disjoint mind old ranges trace_so_far is window short news lists as_posted
+
+  pub limit_by : (left : ℕ) → left + old.so_far ≡ s.limit → left < length (all_of (map (λ b. b.part.items) news)) → (trace : List EntryRecord) → IsTrace (setting_of s) trace → s.limit < length trace
+  limit_by = outcome_limit mind old ranges trace_so_far is window short news lists as_posted
+
+  pub next_by : (new : Stage M) → new.scenario.now ≡ old.scenario.now → (left : ℕ) → left + old.so_far ≡ s.limit → (merged : List EntryRecord) → IsClosedBy mind left old.so_far news slips merged new
+      → IsStageAfter mind (trace_so_far ++ merged) new × IsWindowRun mind window old new merged
+  next_by new same left sum merged closed =
+      let o = by closed.0 (subst (λ n. AreLettersOf slips n closed.0) many_by closed.1) in
+      outcome_next mind old ranges trace_so_far is window short news closed.0 o new same left sum merged closed.2

@@ -1,0 +1,105 @@
+//! The two halves of a window's close, of which neither needs the other: the mailboxes are emptied, and the parts of
+//! the trace are merged.
+ghost use Rattle.std.specs.Prelude.{◌≡◌, length, map, IsTrue, IfOk, IfErr, vec_len, IsPermutation};
+ghost use Rattle.std.specs.List.{All};
+ghost use Rattle.process_api.specs.Order.{is_rising};
+ghost use Rattle.event_list.specs.declared.error.RunError.TheVariants.{Memory};
+ghost use Rattle.mailboxes.specs.Mailboxes.{IsSlipOf, letters_in};
+ghost use Rattle.trace_merge.specs.Parts.{all_of, AreDisjoint};
+ghost use Rattle.windows.specs.Closing.{AreLettersOf};
+
+use event_list::RunError;
+use mailboxes::{Mailboxes, Slip};
+use process_api::{Entry, Letter};
+use std::alloc::Global;
+use std::sync::Wait;
+use std::thread::{Threads, join};
+use trace_merge::merge;
+
+/// The mailboxes, as new ones are, and the letters that they had, of receiver 1 first.
+pub(crate) type Emptied = (Mailboxes, Vec<Vec<Letter>>);
+
+// How many entries are worth a thread. To start one and join it costs some 50 microseconds, about as long as it takes to
+// merge so many entries, or to take so many letters out of their mailboxes.
+pub(crate) const WORTH_A_THREAD: usize = 2048;
+
+/// How many threads close a window with these parts: one for each 2,048 entries, but no more than there are workers.
+/// Where that is none or one, the caller does all.
+fn threads_for(workers: u16, parts: &[Vec<Entry>]) -> usize {
+    let mut entries = 0usize;
+    for part in parts {
+        entries = entries.saturating_add(part.len());
+    }
+    usize::from(workers).min(entries / WORTH_A_THREAD)
+}
+
+/// Empties the mailboxes, by so many threads at most. The slips are all that were made.
+fn empty_all<R: Threads + Wait + Sync>(
+    rt: &R,
+    alloc: Global,
+    threads: usize,
+    mailboxes: Mailboxes,
+    slips: Vec<Slip>,
+) -> Result<Emptied, RunError>
+    requires all { vec_len slips ≡ mailboxes.slips }
+    requires slips { All (IsSlipOf mailboxes.mailboxes) slips.items }
+    ensures count { IfOk result (λ r. vec_len r.1 ≡ length mailboxes.mailboxes) }
+    ensures letters { IfOk result (λ r.
+        AreLettersOf slips.items (length mailboxes.mailboxes) (letters_in r.1.items)) }
+    ensures errors { IfErr result (λ e. e ≡ Memory) }
+{
+    let lists = mailboxes.lists(alloc)?;
+    mailboxes.empty_by(rt, alloc, threads, lists, slips)
+}
+
+/// Merges the parts, and empties the mailboxes: at once, where there is more than one worker and the parts are worth
+/// more than one thread, and else one after the other. Of these threads one merges and the others empty.
+///
+/// # Errors
+///
+/// `Memory` where memory was refused.
+pub(crate) fn empty_and_merge<R: Threads + Wait + Sync>(
+    rt: &R,
+    alloc: Global,
+    workers: u16,
+    parts: Vec<Vec<Entry>>,
+    mailboxes: Mailboxes,
+    slips: Vec<Slip>,
+) -> Result<(Vec<Entry>, Emptied), RunError>
+    requires rising { All (λ v. IsTrue (is_rising v.items)) parts.items }
+    requires disjoint { AreDisjoint (map (λ v. v.items) parts.items) }
+    requires all { vec_len slips ≡ mailboxes.slips }
+    requires slips { All (IsSlipOf mailboxes.mailboxes) slips.items }
+
+    ensures rising { IfOk result (λ r. IsTrue (is_rising r.0.items)) }
+    ensures same { IfOk result (λ r. IsPermutation (all_of (map (λ v. v.items) parts.items)) r.0.items) }
+    ensures count { IfOk result (λ r. vec_len r.1.1 ≡ length mailboxes.mailboxes) }
+    ensures letters { IfOk result (λ r.
+        AreLettersOf slips.items (length mailboxes.mailboxes) (letters_in r.1.1.items)) }
+    ensures errors { IfErr result (λ e. e ≡ Memory) }
+{
+    let threads = threads_for(workers, &parts);
+    if threads < 2 {
+        let merged = merge(alloc, parts)?;
+        return Ok((merged, empty_all(rt, alloc, 1, mailboxes, slips)?));
+    }
+    let others = threads - 1;
+    let (merged, emptied) = join(
+        rt,
+        || -> Result<Vec<Entry>, RunError>
+            requires { All (λ v. IsTrue (is_rising v.items)) parts.items
+                × AreDisjoint (map (λ v. v.items) parts.items) }
+            ensures rising { IfOk result (λ v. IsTrue (is_rising v.items)) }
+            ensures same { IfOk result (λ v. IsPermutation (all_of (map (λ w. w.items) parts.items)) v.items) }
+            ensures errors { IfErr result (λ e. e ≡ Memory) }
+        { merge(alloc, parts) },
+        || -> Result<Emptied, RunError>
+            requires { (vec_len slips ≡ mailboxes.slips) × All (IsSlipOf mailboxes.mailboxes) slips.items }
+            ensures count { IfOk result (λ r. vec_len r.1 ≡ length mailboxes.mailboxes) }
+            ensures letters { IfOk result (λ r.
+                AreLettersOf slips.items (length mailboxes.mailboxes) (letters_in r.1.items)) }
+            ensures errors { IfErr result (λ e. e ≡ Memory) }
+        { empty_all(rt, alloc, others, mailboxes, slips) },
+    );
+    Ok((merged?, emptied?))
+}
