@@ -1,16 +1,19 @@
 #!/usr/bin/env python3
 """Times the program: `list` with the report and with the trace, and `run` by 1, 2 and 4 workers with the report.
 
-    bench/bench.py [--program P] [--beside P] [--rounds N] [--only NAME,..] [--modes MODE,..] [--horizon PER_CENT] [--same]
+    bench/bench.py [--program P] [--beside P] [--before P] [--rounds N] [--only NAME,..] [--modes MODE,..]
+                   [--horizon PER_CENT] [--same]
 
-For each scenario of this folder and each mode it prints the best time of N rounds (3), millions of entries a second, and
-the most memory that the process had (20 MiB are the least that is shown: they are Python's, before the program begins).
-A window of `run` is as long as the scenario's lookahead. The rounds are interleaved, so that a busy machine slows all
-modes alike; compare times of one table alone. What is printed goes nowhere.
+For each scenario of this folder and each mode it prints the best time of N rounds (3), millions of entries a second, the
+most memory that the process had (20 MiB are the least that is shown: they are Python's, before the program begins), and
+processor time in nanoseconds an entry; with list-report among the modes also how many times as long it takes as that,
+by wall and by processor. A window of `run` is as long as the scenario's lookahead. The rounds are interleaved, so that a
+busy machine slows all modes alike; compare times of one table alone. What is printed goes nowhere.
 
 P is the program's file; where none is named, ./fdbench proves and builds it. --beside times another program that takes
-the words `list PATH --print WHAT` and writes the same bytes, and adds the ratio of both times. --same compares the bytes
-first, by their hashes. --horizon runs a part of each scenario. Modes are list-report, list-trace, run-1 and so on.
+the words `list PATH --print WHAT` and writes the same bytes, and adds the ratio of both times. --before times another
+state of the program in the same rounds and modes, and prints its rows too. --same compares the bytes first, by their
+hashes. --horizon runs a part of each scenario. Modes are list-report, list-trace, run-1 and so on.
 """
 import argparse
 import hashlib
@@ -50,7 +53,7 @@ def words_of(mode, path, window):
 
 
 def timed(command):
-    """How many seconds a run takes, and how many MiB it has at most."""
+    """How many seconds a run takes, how many of processor time, and how many MiB it has at most."""
     began = time.perf_counter()
     ran = subprocess.Popen(command, stdout=subprocess.DEVNULL)
     _, status, usage = os.wait4(ran.pid, 0)
@@ -58,7 +61,7 @@ def timed(command):
     ran.returncode = os.waitstatus_to_exitcode(status)
     if ran.returncode:
         sys.exit(f"bench: status {ran.returncode}: {' '.join(command)}")
-    return took, usage.ru_maxrss / 1024
+    return took, usage.ru_utime + usage.ru_stime, usage.ru_maxrss / 1024
 
 
 def hash_of(command):
@@ -79,35 +82,48 @@ def same_as_list(mode, path, window):
     return ["list", path, "--print", "trace" if mode == "list-trace" else "report"]
 
 
+def line_of(name, state, mode, best, entries):
+    """The row of a mode: beside its own numbers how it stands to the list's, where the list was timed."""
+    took, spent, memory = best[state, mode]
+    line = f"{name:<11} {state:<7} {mode:<12} {took:8.3f} {entries / took / 1e6:8.2f} {memory:8.0f}"
+    line += f" {spent / entries * 1e9:8.0f}"
+    if (state, "list-report") in best:
+        whole, alone, _ = best[state, "list-report"]
+        line += f" {took / whole:7.2f} {spent / alone:7.2f}"
+    return line
+
+
 def bench(name, path, window, given):
     modes = given.modes.split(",")
     entries = entries_of(given.program, path)
-    runs = [(mode, [given.program] + words_of(mode, path, window)) for mode in modes]
+    states = {"before": given.before, "now": given.program} if given.before else {"now": given.program}
+    runs = [((state, mode), [it] + words_of(mode, path, window)) for mode in modes for state, it in states.items()]
     if given.beside:
         whats = {same_as_list(mode, path, window)[3] for mode in modes}
-        runs = [(f"beside-{what}", [given.beside, "list", path, "--print", what]) for what in sorted(whats)] + runs
+        runs = [(("beside", what), [given.beside, "list", path, "--print", what]) for what in sorted(whats)] + runs
     if given.same:
-        for mode, command in runs:
-            what = mode.partition("-")[2] if mode.startswith("beside") else same_as_list(mode, path, window)[3]
+        for (state, mode), command in runs:
+            what = mode if state == "beside" else same_as_list(mode, path, window)[3]
             if hash_of(command) != hash_of([given.program, "list", path, "--print", what]):
                 sys.exit(f"bench: other bytes: {' '.join(command)}")
     best = {}
     for _ in range(given.rounds):
-        for mode, command in runs:
-            best[mode] = min(best.get(mode, (float("inf"), 0)), timed(command))
-    for mode in modes:
-        took, memory = best[mode]
-        line = f"{name:<11} {mode:<12} {took:8.3f} {entries / took / 1e6:8.2f} {memory:8.0f}"
-        if given.beside:
-            other = best["beside-" + same_as_list(mode, path, window)[3]][0]
-            line += f" {other:8.3f} {took / other:7.2f}"
-        print(line, flush=True)
+        for key, command in runs:
+            best[key] = min(best.get(key, (float("inf"), 0, 0)), timed(command))
+    for state in states:
+        for mode in modes:
+            line = line_of(name, state, mode, best, entries)
+            if given.beside:
+                other = best["beside", same_as_list(mode, path, window)[3]][0]
+                line += f" {other:8.3f} {best[state, mode][0] / other:7.2f}"
+            print(line, flush=True)
 
 
 def main():
     parser = argparse.ArgumentParser(description=__doc__.partition("\n")[0])
     parser.add_argument("--program")
     parser.add_argument("--beside")
+    parser.add_argument("--before")
     parser.add_argument("--rounds", type=int, default=3)
     parser.add_argument("--only", default=",".join(SCENARIOS))
     parser.add_argument("--modes", default=",".join(MODES))
@@ -117,7 +133,10 @@ def main():
     if given.program is None:
         subprocess.run([os.path.join(ROOT, "fdbench"), "--help"], stdout=subprocess.DEVNULL, check=True)
         given.program = os.path.join(ROOT, "crates", "fdbench", "out", "fdbench")
-    print("scenario    mode          seconds  Mentr/s      MiB" + ("   beside   ratio" if given.beside else ""))
+    head = "scenario    state   mode          seconds  Mentr/s      MiB ns/entry"
+    if "list-report" in given.modes.split(","):
+        head += "    wall    proc"
+    print(head + ("   beside   ratio" if given.beside else ""))
     with tempfile.TemporaryDirectory() as folder:
         for name in given.only.split(","):
             path, window = scenario_at(folder, name, given.horizon)
