@@ -1,8 +1,12 @@
 /* Preloaded into a program, it refuses one request for memory: the one whose number REFUSE holds, from 1, of malloc,
-   calloc, realloc and aligned_alloc in all threads. As it does so it makes the file that REFUSED names. Where the program
-   ends while it still holds blocks that it was given, the C library's own aside, it makes the file that LEFT names. */
+   calloc, realloc and aligned_alloc in all threads; or one start of a thread, that whose number REFUSE_THREAD holds. As it
+   does so it makes the file that REFUSED names. Where the program ends while it still holds blocks that it was given, the C
+   library's own aside, it makes the file that LEFT names. */
+#define _GNU_SOURCE
+#include <dlfcn.h>
 #include <errno.h>
 #include <fcntl.h>
+#include <pthread.h>
 #include <stdatomic.h>
 #include <stddef.h>
 #include <stdlib.h>
@@ -16,14 +20,19 @@ extern void *__libc_memalign(size_t, size_t);
 extern void __libc_free(void *);
 extern void __libc_freeres(void);
 
+typedef int starts(pthread_t *, const pthread_attr_t *, void *(*)(void *), void *);
+
 static atomic_long requests;
+static atomic_long threads;
 static atomic_long held;
-static long refused;
+static long refused, refused_thread;
 static const char *refused_file, *left_file;
 
 __attribute__((constructor)) static void begin(void) {
     const char *number = getenv("REFUSE");
+    const char *thread = getenv("REFUSE_THREAD");
     refused = number ? atol(number) : 0;
+    refused_thread = thread ? atol(thread) : 0;
     refused_file = getenv("REFUSED");
     left_file = getenv("LEFT");
     atomic_store(&requests, 0);
@@ -65,6 +74,14 @@ void free(void *block) {
     if (block)
         atomic_fetch_sub(&held, 1);
     __libc_free(block);
+}
+
+int pthread_create(pthread_t *thread, const pthread_attr_t *attributes, void *(*run)(void *), void *given_to) {
+    if (atomic_fetch_add(&threads, 1) + 1 == refused_thread) {
+        make(refused_file);
+        return EAGAIN;
+    }
+    return ((starts *)dlsym(RTLD_NEXT, "pthread_create"))(thread, attributes, run, given_to);
 }
 
 void _exit(int status) {

@@ -1,5 +1,5 @@
 #!/bin/bash
-# Runs two scenarios many times by windows, with workers and windows chosen at random, and compares each trace and report
+# Runs three scenarios many times by windows, with workers and windows chosen at random, and compares each trace and report
 # with that of the single event list. Prints how many runs there were and how many differed; status 1 where one did. The
 # program is proved and built first, where that is needed. The number of runs of each scenario may be given.
 root=$(CDPATH='' cd -- "$(dirname -- "$0")/.." && pwd) || exit 1
@@ -27,5 +27,6 @@ stress() {
 
 stress "$root/examples/lossy_coordinator.toml" 2
 stress "$root/bench/sixty_four.toml" 4
-echo "$((2 * runs)) runs, $differences different"
+stress "$root/bench/crowd_64.toml" 2
+echo "$((3 * runs)) runs, $differences different"
 [ "$differences" -eq 0 ]
