@@ -64,28 +64,25 @@ if cc -shared -fPIC -O1 -o "$folder/refuse.so" "$root/bench/refuse.c" 2> /dev/nu
     # windows that several threads close: a worker that can't be had ends the run, such a thread doesn't
     crowd="$root/bench/crowd_64.toml"
     "$fdbench" list "$crowd" --print both > "$folder/listed" || exit 1
+    # refuses one request after the other, each by the variable $1, in steps of $2
+    refuse_in_turn() {
+        for ((request = 1; ; request += $2)); do
+            rm -f "$folder/refused"
+            (
+                export "$1=$request" "REFUSED=$folder/refused" "LEFT=$folder/left" "LD_PRELOAD=$folder/refuse.so"
+                exec "$fdbench" run "$crowd" --workers 4 --window 2 --print both
+            ) > "$folder/out" 2> "$folder/err"
+            status=$?
+            [ -e "$folder/refused" ] || break
+            ended "$status" "$folder/listed"
+            held "$1 $request of the crowd"
+        done
+        end
+    }
     begin "each start of a thread refused in turn, 64 processes, 4 workers" "0 3"
-    for ((request = 1; ; request++)); do
-        rm -f "$folder/refused"
-        REFUSE_THREAD=$request REFUSED=$folder/refused LEFT=$folder/left LD_PRELOAD=$folder/refuse.so \
-            "$fdbench" run "$crowd" --workers 4 --window 2 --print both > "$folder/out" 2> "$folder/err"
-        status=$?
-        [ -e "$folder/refused" ] || break
-        ended "$status" "$folder/listed"
-        held "thread $request"
-    done
-    end
+    refuse_in_turn REFUSE_THREAD 1
     begin "one request for memory in 61 refused, 64 processes, 4 workers" "0 1 2 3"
-    for ((request = 1; ; request += 61)); do
-        rm -f "$folder/refused"
-        REFUSE=$request REFUSED=$folder/refused LEFT=$folder/left LD_PRELOAD=$folder/refuse.so \
-            "$fdbench" run "$crowd" --workers 4 --window 2 --print both > "$folder/out" 2> "$folder/err"
-        status=$?
-        [ -e "$folder/refused" ] || break
-        ended "$status" "$folder/listed"
-        held "request $request of the crowd"
-    done
-    end
+    refuse_in_turn REFUSE 61
 fi
 
 if [ "$(id -u)" -eq 0 ]; then
