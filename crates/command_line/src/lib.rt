@@ -20,6 +20,3 @@ mod told;
 
 pub use order::{Order, WordsError, read_words};
 pub use told::{Told, told_of};
-
-#[cfg(test)]
-mod tests;

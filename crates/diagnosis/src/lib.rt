@@ -43,6 +43,3 @@ pub use fault::{
 };
 pub use finding::{Finding, NotToml};
 pub use place::{Place, Section, TableArray};
-
-#[cfg(test)]
-mod tests;

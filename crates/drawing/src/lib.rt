@@ -34,6 +34,3 @@ pub use error::DrawError;
 pub use layout::{MOST_DRAWN, MOST_LETTERS};
 pub use letters_picture::draw_letters;
 pub use suspicions::{check_ticks, draw_suspicions};
-
-#[cfg(test)]
-mod tests;

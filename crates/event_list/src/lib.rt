@@ -40,8 +40,6 @@ mod nobody;
 mod pending;
 mod recorder;
 mod seat;
-#[cfg(test)]
-mod tests;
 
 pub use error::RunError;
 pub use joins::Joins;

@@ -49,6 +49,3 @@ pub use pair::{Gauge, Pair, turn_of};
 pub use pairs::Pairs;
 pub use running::RunningJudge;
 pub use verdicts::{Verdicts, judge};
-
-#[cfg(test)]
-mod tests;

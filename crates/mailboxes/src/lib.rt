@@ -35,6 +35,3 @@ pub use ledger::{Account, Telling, Ticketing};
 pub use mailboxes::Mailboxes;
 pub use shared::SharedMailboxes;
 pub use slip::Slip;
-
-#[cfg(test)]
-mod tests;

@@ -2,7 +2,20 @@ mod alone;
 mod laws;
 
 use crate::*;
+use std::alloc::Global;
+use std::fmt::Debug;
+use std::process::Abort;
 use std::test::Fail;
+
+// What came is what was wanted.
+fn same<R: Abort, T: PartialEq + Debug>(rt: &R, came: &T, wanted: &T) {
+    assert_eq!(rt; came, wanted);
+}
+
+// The process of this number.
+fn numbered(number: u16) -> Result<Pid, Fail> {
+    Ok(Pid::new(number).ok_or("refused")?)
+}
 
 #[test]
 fn processes_are_numbered_1_to_256(rt: HostRuntime) -> Result<(), Fail> {
@@ -10,9 +23,9 @@ fn processes_are_numbered_1_to_256(rt: HostRuntime) -> Result<(), Fail> {
         assert!(rt; Pid::new(number).is_none(), "at {number}");
     }
     for number in [1, 2, 64, 65, 255, 256] {
-        let pid = Pid::new(number).ok_or("refused")?;
-        assert_eq!(rt; pid.number(), number);
-        assert_eq!(rt; Pid::after(number - 1), pid);
+        let made = numbered(number)?;
+        same(&rt, &made.number(), &number);
+        same(&rt, &Pid::after(number - 1), &made);
     }
     Ok(())
 }
@@ -21,7 +34,7 @@ fn processes_are_numbered_1_to_256(rt: HostRuntime) -> Result<(), Fail> {
 fn set_of(numbers: &[u16]) -> Result<ProcSet, Fail> {
     let mut set = ProcSet::new();
     for number in numbers {
-        set.insert(Pid::new(*number).ok_or("refused")?);
+        set.insert(numbered(*number)?);
     }
     Ok(set)
 }
@@ -38,37 +51,36 @@ fn members_come_in_rising_order(rt: HostRuntime) -> Result<(), Fail> {
 
 #[test]
 fn sets_gain_and_lose_members(rt: HostRuntime) -> Result<(), Fail> {
-    let two = Pid::new(2).ok_or("refused")?;
-    let five = Pid::new(5).ok_or("refused")?;
-    let last = Pid::new(256).ok_or("refused")?;
+    let two = numbered(2)?;
+    let five = numbered(5)?;
     let mut set = set_of(&[2, 5])?;
     let kept = set.copy();
     set.remove(two);
-    assert!(rt; set.contains(five) && !set.contains(two));
-    set.insert(last);
+    same(
+        &rt,
+        &(set.contains(five), set.contains(two)),
+        &(true, false),
+    );
+    set.insert(numbered(256)?);
     let both = kept.union(&set);
-    assert_eq!(rt; both.len(), 3);
-    assert_eq!(rt; both.up_to(5).len(), 2);
-    assert!(rt; both.up_to(1).is_empty());
+    let lens = (both.len(), both.up_to(5).len(), both.up_to(1).is_empty());
+    same(&rt, &lens, &(3, 2, true));
     let gone = both.without(&set);
-    assert!(rt; gone.contains(two));
-    assert_eq!(rt; gone.len(), 1);
+    same(&rt, &(gone.contains(two), gone.len()), &(true, 1));
     Ok(())
 }
 
 #[test]
 fn processes_64_apart_are_different_members(rt: HostRuntime) -> Result<(), Fail> {
-    let one = Pid::new(1).ok_or("refused")?;
+    let one = numbered(1)?;
     let mut set = set_of(&[65, 129, 193])?;
     assert!(rt; !set.contains(one));
-    assert_eq!(rt; set.up_to(64).len(), 0);
-    assert_eq!(rt; set.up_to(65).len(), 1);
-    assert_eq!(rt; set.up_to(192).len(), 2);
-    assert_eq!(rt; set.up_to(65535).len(), 3);
+    for (most, members) in [(64, 0), (65, 1), (192, 2), (65535, 3)] {
+        same(&rt, &set.up_to(most).len(), &members);
+    }
     set.insert(one);
-    set.remove(Pid::new(129).ok_or("refused")?);
-    assert!(rt; set.contains(one));
-    assert_eq!(rt; set.len(), 3);
+    set.remove(numbered(129)?);
+    same(&rt, &(set.contains(one), set.len()), &(true, 3));
     Ok(())
 }
 
@@ -84,8 +96,8 @@ fn key(tick: u32, receiver: Pid, sender: Pid, number: u64) -> Key {
 
 #[test]
 fn keys_rise_by_tick_receiver_sender_and_number(rt: HostRuntime) -> Result<(), Fail> {
-    let one = Pid::new(1).ok_or("refused")?;
-    let two = Pid::new(2).ok_or("refused")?;
+    let one = numbered(1)?;
+    let two = numbered(2)?;
     let rising = [
         key(3, one, one, 9),
         key(3, one, two, 1),
@@ -101,31 +113,41 @@ fn keys_rise_by_tick_receiver_sender_and_number(rt: HostRuntime) -> Result<(), F
     Ok(())
 }
 
+// Cells of three processes, of which the second has a number.
+fn cells(alloc: Global) -> Result<Cells, Fail> {
+    Ok(Cells::new(vec![in alloc; None, Some(20u32), None]?))
+}
+
 #[test]
 fn cells_are_copied(rt: HostRuntime) -> Result<(), Fail> {
-    let alloc = rt.alloc();
-    let two = Pid::new(2).ok_or("refused")?;
-    let four = Pid::new(4).ok_or("refused")?;
-    let cells = Cells::new(vec![in alloc; None, Some(20u32), None]?);
-    let copied = cells.copy()?;
-    assert_eq!(rt; copied.get(two), Some(20));
-    assert_eq!(rt; copied.get(four), None);
-    assert_eq!(rt; copied.into_vec().len(), 3);
+    let two = numbered(2)?;
+    let four = numbered(4)?;
+    let copied = cells(rt.alloc())?.copy()?;
+    let found = (copied.get(two), copied.get(four));
+    same(&rt, &found, &(Some(20), None));
+    same(&rt, &copied.into_vec().len(), &3);
     Ok(())
+}
+
+// A letter, a wake and a note, appended one after the other.
+fn three_actions(alloc: Global) -> Result<Vec<Action>, Fail> {
+    let one = numbered(1)?;
+    let mut out = Vec::new(alloc);
+    send_to(&mut out, one, Payload::Alive)?;
+    wake_after(&mut out, 7, Tag::Share)?;
+    note_that(&mut out, Note::Round(1))?;
+    Ok(out)
 }
 
 #[test]
 fn actions_are_appended(rt: HostRuntime) -> Result<(), Fail> {
     let alloc = rt.alloc();
-    let one = Pid::new(1).ok_or("refused")?;
-    let mut out = Vec::new(alloc);
-    send_to(&mut out, one, Payload::Alive)?;
-    wake_after(&mut out, 7, Tag::Share)?;
-    note_that(&mut out, Note::Round(1))?;
+    let out = three_actions(alloc)?;
     let text = format!(in alloc; "{out:?}")?;
-    assert_eq!(rt;
-        text.as_str(),
-        "[Send { to: Pid { number: 1 }, payload: Alive }, Wake { pause: 7, tag: Share }, Note(Round(1))]"
+    same(
+        &rt,
+        &text.as_str(),
+        &"[Send { to: Pid { number: 1 }, payload: Alive }, Wake { pause: 7, tag: Share }, Note(Round(1))]",
     );
     Ok(())
 }
@@ -133,13 +155,8 @@ fn actions_are_appended(rt: HostRuntime) -> Result<(), Fail> {
 #[test]
 fn a_trace_gives_its_entries(rt: HostRuntime) -> Result<(), Fail> {
     let alloc = rt.alloc();
-    let one = Pid::new(1).ok_or("refused")?;
-    let key = Key {
-        tick: 0,
-        receiver: one,
-        sender: one,
-        number: 0,
-    };
+    let one = numbered(1)?;
+    let key = key(0, one, one, 0);
     let entry = Entry {
         key,
         kind: Kind::Start,
@@ -150,7 +167,7 @@ fn a_trace_gives_its_entries(rt: HostRuntime) -> Result<(), Fail> {
     let mut entries = Vec::new(alloc);
     entries.push(entry)?;
     let trace = Trace::new(entries);
-    assert_eq!(rt; trace.entries().len(), 1);
-    assert_eq!(rt; trace.into_vec().len(), 1);
+    same(&rt, &trace.entries().len(), &1);
+    same(&rt, &trace.into_vec().len(), &1);
     Ok(())
 }

@@ -87,6 +87,3 @@ pub use stream_outlet::StreamOutlet;
 pub use summary::Summary;
 pub use watched::watched_ticks;
 pub use writing::{write_report, write_trace};
-
-#[cfg(test)]
-mod tests;

@@ -52,6 +52,3 @@ pub use outage::Outage;
 pub use read::{read_scenario, read_table};
 pub use record::Scenario;
 pub use table::{inner_array, is_lacking_field, is_listed_key, is_second};
-
-#[cfg(test)]
-mod tests;

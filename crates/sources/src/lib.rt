@@ -15,6 +15,3 @@ mod path;
 
 pub use input::{InputError, read_all};
 pub use path::bytes_at;
-
-#[cfg(test)]
-mod tests;

@@ -7,6 +7,7 @@ use rand_chacha::ChaCha8Rng;
 use rand_core::{Rng, SeedableRng};
 use scenario::{Scenario, read_scenario};
 use std::alloc::Global;
+use std::process::Abort;
 use std::test::Fail;
 
 const LINKS_OF_FIVE: &str = "[link]\nmin = 2\nmax = 9\nloss = 300\n";
@@ -41,6 +42,18 @@ fn delays(scenario: &Scenario, from: u16, to: u16) -> Result<[u32; 12], Fail> {
         }
     }
     Ok(delays)
+}
+
+/// Letters 1 to 12 of a link have these delays.
+fn delays_are<R: Abort>(
+    rt: &R,
+    scenario: &Scenario,
+    (from, to): (u16, u16),
+    wanted: [u32; 12],
+) -> Result<(), Fail> {
+    let came = delays(scenario, from, to)?;
+    assert_eq!(rt; came, wanted, "from {from} to {to}");
+    Ok(())
 }
 
 /// The places of the words in `WORDS`.
@@ -118,22 +131,10 @@ fn words_of_five_streams(rt: HostRuntime) -> Result<(), Fail> {
 #[test]
 fn fates_of_four_links(rt: HostRuntime) -> Result<(), Fail> {
     let scenario = scenario(rt.alloc(), 5, 1, LINKS_OF_FIVE)?;
-    assert_eq!(rt;
-        delays(&scenario, 1, 2)?,
-        [6, 3, 8, 6, 9, 3, 0, 7, 9, 8, 0, 6]
-    );
-    assert_eq!(rt;
-        delays(&scenario, 2, 1)?,
-        [5, 3, 3, 4, 0, 7, 5, 2, 4, 6, 0, 0]
-    );
-    assert_eq!(rt;
-        delays(&scenario, 3, 4)?,
-        [9, 5, 3, 4, 0, 3, 3, 3, 0, 9, 0, 6]
-    );
-    assert_eq!(rt;
-        delays(&scenario, 5, 1)?,
-        [5, 5, 0, 0, 2, 6, 5, 0, 7, 7, 0, 0]
-    );
+    delays_are(&rt, &scenario, (1, 2), [6, 3, 8, 6, 9, 3, 0, 7, 9, 8, 0, 6])?;
+    delays_are(&rt, &scenario, (2, 1), [5, 3, 3, 4, 0, 7, 5, 2, 4, 6, 0, 0])?;
+    delays_are(&rt, &scenario, (3, 4), [9, 5, 3, 4, 0, 3, 3, 3, 0, 9, 0, 6])?;
+    delays_are(&rt, &scenario, (5, 1), [5, 5, 0, 0, 2, 6, 5, 0, 7, 7, 0, 0])?;
     Ok(())
 }
 
@@ -165,11 +166,9 @@ fn any_order_gives_the_same(rt: HostRuntime) -> Result<(), Fail> {
             Fate::Delay(2 + b % 8)
         };
         for sent_at in [0, 199, u32::MAX] {
-            assert_eq!(rt; streams.fate(from, to, number, sent_at), fate);
-            assert_eq!(rt;
-                streams.next_fate(from, to, number, sent_at, &mut kept),
-                fate
-            );
+            let one = streams.fate(from, to, number, sent_at);
+            let next = streams.next_fate(from, to, number, sent_at, &mut kept);
+            assert_eq!(rt; (one, next), (fate, fate));
         }
     }
     Ok(())
@@ -190,8 +189,8 @@ fn other_links_keep_their_fates(rt: HostRuntime) -> Result<(), Fail> {
 #[test]
 fn sure_links(rt: HostRuntime) -> Result<(), Fail> {
     let scenario = scenario(rt.alloc(), 5, 1, "[link]\nmin = 5\nmax = 5\n")?;
-    assert_eq!(rt; delays(&scenario, 1, 2)?, [5; 12]);
-    assert_eq!(rt; delays(&scenario, 5, 4)?, [5; 12]);
+    delays_are(&rt, &scenario, (1, 2), [5; 12])?;
+    delays_are(&rt, &scenario, (5, 4), [5; 12])?;
     Ok(())
 }
 
@@ -205,18 +204,9 @@ const OUTAGES: &str = "[link]\nmin = 2\nmax = 9\nloss = 300\n\
 #[test]
 fn letters_lost_in_outages(rt: HostRuntime) -> Result<(), Fail> {
     let scenario = scenario(rt.alloc(), 5, 1, OUTAGES)?;
-    assert_eq!(rt;
-        delays(&scenario, 1, 2)?,
-        [6, 3, 0, 0, 0, 0, 0, 7, 9, 8, 0, 6]
-    );
-    assert_eq!(rt;
-        delays(&scenario, 2, 1)?,
-        [5, 3, 3, 4, 0, 7, 5, 2, 4, 6, 0, 0]
-    );
-    assert_eq!(rt;
-        delays(&scenario, 5, 1)?,
-        [0, 5, 0, 0, 2, 6, 5, 0, 7, 7, 0, 0]
-    );
+    delays_are(&rt, &scenario, (1, 2), [6, 3, 0, 0, 0, 0, 0, 7, 9, 8, 0, 6])?;
+    delays_are(&rt, &scenario, (2, 1), [5, 3, 3, 4, 0, 7, 5, 2, 4, 6, 0, 0])?;
+    delays_are(&rt, &scenario, (5, 1), [0, 5, 0, 0, 2, 6, 5, 0, 7, 7, 0, 0])?;
     Ok(())
 }
 
@@ -225,10 +215,7 @@ fn letters_lost_in_outages(rt: HostRuntime) -> Result<(), Fail> {
 fn sure_links_cut(rt: HostRuntime) -> Result<(), Fail> {
     let links = "[link]\nmin = 5\nmax = 5\n[[outage]]\nfrom = 5\nto = 4\nbegin = 0\nuntil = 12\n";
     let scenario = scenario(rt.alloc(), 5, 1, links)?;
-    assert_eq!(rt;
-        delays(&scenario, 5, 4)?,
-        [0, 0, 0, 0, 0, 0, 0, 0, 0, 0, 0, 5]
-    );
-    assert_eq!(rt; delays(&scenario, 4, 5)?, [5; 12]);
+    delays_are(&rt, &scenario, (5, 4), [0, 0, 0, 0, 0, 0, 0, 0, 0, 0, 0, 5])?;
+    delays_are(&rt, &scenario, (4, 5), [5; 12])?;
     Ok(())
 }

@@ -4,9 +4,16 @@ mod scenarios;
 mod shards;
 mod words;
 
-use crate::{Axis, Choice, Key, Setting};
+use crate::{Axis, Choice, Grid, Key, Run, Setting};
 use std::alloc::Global;
+use std::fmt::Debug;
+use std::process::Abort;
 use std::test::Fail;
+
+/// What came is what was wanted.
+fn same<R: Abort, T: PartialEq + Debug>(rt: &R, came: &T, wanted: &T) {
+    assert_eq!(rt; came, wanted);
+}
 
 /// A key of the top table.
 fn top(alloc: Global, key: &str) -> Result<Key, Fail> {
@@ -30,16 +37,43 @@ fn element(alloc: Global, array: &str, place: u64, key: &str) -> Result<Key, Fai
     })
 }
 
+/// An axis of these values.
+fn axis(key: Key, values: Vec<Setting>) -> Result<Axis, Fail> {
+    if values.is_empty() {
+        return Err(Fail::from("an axis has no values"));
+    }
+    Ok(Axis { key, values })
+}
+
 /// An axis of integers.
 fn integers(alloc: Global, key: Key, numbers: &[i64]) -> Result<Axis, Fail> {
     let mut values = Vec::new(alloc);
     for number in numbers {
         values.push(Setting::Integer(*number))?;
     }
-    if values.is_empty() {
-        return Err(Fail::from("an axis has no values"));
+    axis(key, values)
+}
+
+/// An axis of one text.
+fn one_text(alloc: Global, key: Key, text: &str) -> Result<Axis, Fail> {
+    let values = vec![in alloc; Setting::Text(String::from_str(alloc, text)?)]?;
+    axis(key, values)
+}
+
+/// The settings of a grid's point.
+fn point_of(alloc: Global, grid: &Grid, number: u64) -> Result<Vec<Choice<'_>>, Fail> {
+    if number >= grid.points() {
+        return Err(Fail::from("too few points"));
     }
-    Ok(Axis { key, values })
+    Ok(grid.point(alloc, number)?)
+}
+
+/// A run of a point of a grid.
+fn run_of(alloc: Global, grid: &Grid, number: u64) -> Result<Run<'_>, Fail> {
+    if number >= grid.runs() {
+        return Err(Fail::from("too few runs"));
+    }
+    Ok(grid.run(alloc, number)?)
 }
 
 /// The integers of some choices.

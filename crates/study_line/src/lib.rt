@@ -18,6 +18,3 @@ mod command;
 mod order;
 
 pub use order::{GridTexts, Order, Picture, WordsError, read_words};
-
-#[cfg(test)]
-mod tests;

@@ -6,12 +6,11 @@ pub mod Single
 pub mod Parts
 mod Reading
 mod Numbered
-mod Zipped
+pub mod Zipped
 mod Advancing
 mod OneRow
 mod OneText
 mod Shards
 mod Ending
-mod InTurn
 mod Placed
 mod Heard

@@ -9,6 +9,9 @@
 //! Detection times are kept with how often each came, so memory grows with how many different times there are, and not
 //! with the runs. Sums have 128 bits, and are exact of up to 1,000,000,000,000 runs.
 //!
+//! [`in_parallel`] shares out calls for consecutive numbers among threads, and gives what they answer in the numbers'
+//! order (`specs/Parallel.antt`). A sweep has its runs read and done by it.
+//!
 //! As an example, let process 2 of two crash at tick 3 of 10, process 1 detect it at tick 9, and the study have this
 //! one run, with `detector.timeout` 5. Its row begins `5,1,1,0,12,4,0,6,`: a time-out of 5, layer 1, one run, none
 //! that passed its limit, 12 entries, 4 letters sent, none lost, and 6 ticks of watching, 3 for each of the two pairs.
@@ -37,11 +40,9 @@ pub use columns::{
 };
 pub use error::SweepError;
 pub use laws::{law_one_text, law_shard_texts};
+pub use parallel::in_parallel;
 pub use point_sums::PointSums;
 pub use run_numbers::RunNumbers;
 pub use sweeping::sweep;
 pub use table::Table;
 pub use watcher::{Standing, Unwatched, Watcher};
-
-#[cfg(test)]
-mod tests;

@@ -12,6 +12,3 @@ mod by_tick;
 mod merging;
 
 pub use merging::merge;
-
-#[cfg(test)]
-mod tests;

@@ -26,8 +26,8 @@ use streams::Streams;
 pub struct Berth<M> {
     pub(crate) seat: Seat<M>,
     pub(crate) pending: Agenda,
-    // the entries of the open window, in the order of their keys
-    pub(crate) part: Vec<Entry>,
+    /// The entries of the open window, in the order of their keys.
+    pub part: Vec<Entry>,
     // room for what one step makes
     actions: Vec<Action>,
     added: Vec<(Key, StepInput)>,

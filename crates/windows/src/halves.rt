@@ -19,9 +19,9 @@ use trace_merge::merge;
 /// The mailboxes, as new ones are, and the letters that they had, of receiver 1 first.
 pub(crate) type Emptied = (Mailboxes, Vec<Vec<Letter>>);
 
-// How many entries are worth a thread. To start one and join it costs some 50 microseconds, about as long as it takes
-// to merge so many entries, or to take so many letters out of their mailboxes.
-pub(crate) const WORTH_A_THREAD: usize = 2048;
+/// How many entries are worth a thread. To start one and join it costs some 50 microseconds, about as long as it takes
+/// to merge so many entries, or to take so many letters out of their mailboxes.
+pub const WORTH_A_THREAD: usize = 2048;
 
 /// How many threads close a window with these parts: one for each 2,048 entries, but no more than there are workers.
 /// Where that is none or one, the caller does all.

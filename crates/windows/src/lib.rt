@@ -60,17 +60,17 @@ mod run;
 mod shared;
 mod sink;
 mod stage;
-#[cfg(test)]
-mod tests;
 mod window;
 mod workers;
 
 pub use berth::{Berth, run_berth};
 pub use error::PlanError;
 pub use gate::{Gate, OpenGate};
+pub use halves::WORTH_A_THREAD;
 pub use laws::law_any_order;
 pub use plan::Plan;
 pub use run::{run_windows, run_windows_into};
 pub use sink::Sink;
 pub use stage::Stage;
 pub use window::run_window;
+pub use workers::both;

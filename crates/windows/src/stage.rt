@@ -31,12 +31,13 @@ use std::thread::Threads;
 /// how many entries the trace has so far. The parameter has no bound here, so that machines may be boxed.
 #[derive(Drop)]
 pub struct Stage<'s, M> {
-    pub(crate) scenario: &'s Scenario,
-    // of process 1 first
-    pub(crate) berths: Vec<Berth<M>>,
+    /// The scenario that is run.
+    pub scenario: &'s Scenario,
+    /// Of each process, of process 1 first.
+    pub berths: Vec<Berth<M>>,
     pub(crate) start: u32,
-    // how many entries the windows so far have
-    pub(crate) so_far: u64,
+    /// How many entries the windows so far have.
+    pub so_far: u64,
     // those of the window before, if there was one, to be used again
     pub(crate) mailboxes: Option<Mailboxes>,
 }

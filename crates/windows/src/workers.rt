@@ -121,7 +121,7 @@ fn rank(refusal: RunError) -> u8
 
 /// Both answers, or the first of their refusals: that of a thread comes before that of memory, and this before that of
 /// a place in the trace.
-pub(crate) fn both<A: Drop, B: Drop>(
+pub fn both<A: Drop, B: Drop>(
     left: Result<A, RunError>,
     right: Result<B, RunError>,
 ) -> Result<(A, B), RunError>

@@ -1,10 +1,17 @@
 //! Traces of the rotating coordinator.
 
 use crate::tests::files::{ALONE, COORDINATORS, FIVE};
-use crate::tests::runs::{changed, field, rows, sum_of, trace_of};
-use sha2::{Digest, Sha256};
-use std::alloc::{AllocError, Global};
+use crate::tests::reports::has_digest;
+use crate::tests::runs::{
+    count_of, field, has_notes, has_part, lists, lists_again, same, seeded, sum_of, trace_of,
+};
+use std::alloc::Global;
+use std::marker::Sync;
+use std::process::Abort;
+use std::rt::Files;
+use std::sync::Wait;
 use std::test::Fail;
+use std::thread::Threads;
 
 /// All three decide the value of the least sender.
 const AGREEMENT: &str = "tick,receiver,sender,number,kind,sent,lost,notes
@@ -44,92 +51,87 @@ const AGREEMENT: &str = "tick,receiver,sender,number,kind,sent,lost,notes
 10,3,1,3,decide,0,0,
 ";
 
-/// Tick and process of each decision, with its note.
-fn decisions(alloc: Global, trace: &str) -> Result<String, AllocError> {
-    let mut text = String::new(alloc);
-    for row in trace.lines() {
-        if field(row, 7).contains("decided") {
-            text.push_str(field(row, 0))?;
-            text.push_str(" ")?;
-            text.push_str(field(row, 1))?;
-            text.push_str(" ")?;
-            text.push_str(field(row, 7))?;
-            text.push_str("\n")?;
-        }
-    }
-    Ok(text)
-}
-
 #[test]
 fn agreement(rt: HostRuntime) -> Result<(), Fail> {
-    let trace = trace_of(&rt, rt.alloc(), COORDINATORS)?;
-    assert_eq!(rt; trace.as_str(), AGREEMENT);
-    Ok(())
+    lists(&rt, rt.alloc(), "trace", COORDINATORS, AGREEMENT)
+}
+
+/// The trace of the three processes with these tables too.
+fn trace_with<R: Files + Threads + Wait + Sync + Abort>(
+    rt: &R,
+    alloc: Global,
+    tables: &str,
+) -> Result<String, Fail> {
+    let file = format!(in alloc; "{COORDINATORS}{tables}")?;
+    trace_of(rt, alloc, &file)
 }
 
 /// The first coordinator crashes once its proposal is out: the second round keeps the value.
 #[test]
 fn coordinator_crashes(rt: HostRuntime) -> Result<(), Fail> {
-    let alloc = rt.alloc();
-    let mut file = String::from_str(alloc, COORDINATORS)?;
-    file.push_str("\n[[crash]]\nprocess = 2\nat = 3\n")?;
-    let trace = trace_of(&rt, alloc, file.as_str())?;
-    assert_eq!(rt; rows(alloc, &trace)?.len(), 32);
-    assert_eq!(rt;
-        decisions(alloc, &trace)?.as_str(),
-        "11 3 decided:10\n12 1 decided:10\n"
-    );
+    let trace = trace_with(&rt, rt.alloc(), "\n[[crash]]\nprocess = 2\nat = 3\n")?;
+    same(&rt, &count_of(&trace), &32);
+    let want = &[("11", "3", "decided:10"), ("12", "1", "decided:10")];
+    has_notes(&rt, &trace, "decided", want);
     Ok(())
 }
+
+/// Links by which process 2 sends nothing to the others.
+const UNHEARD: &str = "
+[[links]]
+from = 2
+to = 1
+min = 2
+max = 2
+loss = 1000
+
+[[links]]
+from = 2
+to = 3
+min = 2
+max = 2
+loss = 1000
+";
 
 /// The first coordinator's letters to the others are lost: nobody decides.
 #[test]
 fn coordinator_unheard(rt: HostRuntime) -> Result<(), Fail> {
-    let alloc = rt.alloc();
-    let mut file = String::from_str(alloc, COORDINATORS)?;
-    file.push_str("\n[[links]]\nfrom = 2\nto = 1\nmin = 2\nmax = 2\nloss = 1000\n")?;
-    file.push_str("\n[[links]]\nfrom = 2\nto = 3\nmin = 2\nmax = 2\nloss = 1000\n")?;
-    let trace = trace_of(&rt, alloc, file.as_str())?;
-    let rows = rows(alloc, &trace)?;
-    assert_eq!(rt; rows.len(), 12);
-    assert_eq!(rt; sum_of(&rows, 5), 13);
-    assert_eq!(rt; sum_of(&rows, 6), 4);
-    assert_eq!(rt; decisions(alloc, &trace)?.as_str(), "");
+    let trace = trace_with(&rt, rt.alloc(), UNHEARD)?;
+    let came = (count_of(&trace), sum_of(&trace, 5), sum_of(&trace, 6));
+    same(&rt, &came, &(12, 13, 4));
+    has_notes(&rt, &trace, "decided", &[]);
     Ok(())
+}
+
+/// The rows of a trace have these ticks.
+fn has_ticks<R: Abort>(rt: &R, trace: &str, wanted: &[&str]) {
+    same(rt, &count_of(trace), &wanted.len());
+    for (row, tick) in trace.lines().skip(1).zip(wanted.iter()) {
+        same(rt, &field(row, 0), tick);
+    }
 }
 
 /// One process is its own coordinator.
 #[test]
 fn alone(rt: HostRuntime) -> Result<(), Fail> {
-    let alloc = rt.alloc();
-    let trace = trace_of(&rt, alloc, ALONE)?;
-    let rows = rows(alloc, &trace)?;
-    let mut ticks = String::new(alloc);
-    for row in rows.iter() {
-        ticks.push_str(field(row, 0))?;
-        ticks.push_str(" ")?;
-    }
-    assert_eq!(rt; ticks.as_str(), "0 1 2 3 4 4 ");
-    assert_eq!(rt; decisions(alloc, &trace)?.as_str(), "4 1 decided:7\n");
-    assert!(rt; trace.as_str().contains("\n3,1,1,5,reply,2,0,round:2\n"));
-    assert!(rt; trace.as_str().contains("\n4,1,1,6,decide,"));
+    let trace = trace_of(&rt, rt.alloc(), ALONE)?;
+    has_ticks(&rt, &trace, &["0", "1", "2", "3", "4", "4"]);
+    has_part(&rt, &trace, "\n3,1,1,5,reply,2,0,round:2\n");
+    has_part(&rt, &trace, "\n4,1,1,6,decide,");
+    has_notes(&rt, &trace, "decided", &[("4", "1", "decided:7")]);
     Ok(())
 }
 
 /// The SHA-256 digest of the text of five processes.
-const FIVE_DIGEST: [u8; 32] = [
-    0x64, 0xeb, 0xd4, 0xf1, 0x07, 0xf6, 0x4e, 0xad, 0x38, 0xec, 0x41, 0x5f, 0x6b, 0x5d, 0xe1, 0x4f,
-    0xdf, 0xce, 0x9e, 0x1f, 0xcd, 0x7f, 0x1d, 0x57, 0xba, 0xcf, 0xfe, 0x61, 0x5f, 0x12, 0x05, 0x02,
-];
+const FIVE_DIGEST: &[u8] = b"\x64\xeb\xd4\xf1\x07\xf6\x4e\xad\x38\xec\x41\x5f\x6b\x5d\xe1\x4f\
+    \xdf\xce\x9e\x1f\xcd\x7f\x1d\x57\xba\xcf\xfe\x61\x5f\x12\x05\x02";
 
 /// Five processes over links that lose and delay letters at random: the text is known from a program of other make.
 #[test]
 fn five(rt: HostRuntime) -> Result<(), Fail> {
-    let alloc = rt.alloc();
-    let trace = trace_of(&rt, alloc, FIVE)?;
-    assert_eq!(rt; rows(alloc, &trace)?.len(), 1139);
-    assert_eq!(rt; trace.len(), 24955);
-    assert!(rt; Sha256::digest(trace.as_bytes()) == FIVE_DIGEST);
+    let trace = trace_of(&rt, rt.alloc(), FIVE)?;
+    same(&rt, &count_of(&trace), &1139);
+    has_digest(&rt, &trace, 24955, FIVE_DIGEST);
     Ok(())
 }
 
@@ -138,11 +140,7 @@ fn five(rt: HostRuntime) -> Result<(), Fail> {
 fn ten_seeds(rt: HostRuntime) -> Result<(), Fail> {
     let alloc = rt.alloc();
     for seed in 1..11u32 {
-        let line = format!(in alloc; "seed = {seed}\n")?;
-        let file = changed(alloc, FIVE, "seed = 1\n", &line)?;
-        let first = trace_of(&rt, alloc, &file)?;
-        let again = trace_of(&rt, alloc, &file)?;
-        assert!(rt; first.as_str() == again.as_str(), "{seed}");
+        lists_again(&rt, alloc, "trace", &seeded(alloc, FIVE, seed)?)?;
     }
     Ok(())
 }

@@ -1,8 +1,7 @@
 //! Traces of the exchange of vectors.
 
 use crate::tests::files::{ALONE, EXCHANGE_CRASH, EXCHANGE_PAIR};
-use crate::tests::runs::{changed, field, trace_of};
-use std::alloc::{AllocError, Global};
+use crate::tests::runs::{changed, has_notes, lists, trace_of};
 use std::test::Fail;
 
 /// Each suspects the other too early. One decides, and the other finds no value.
@@ -39,37 +38,28 @@ const PAIR: &str = "tick,receiver,sender,number,kind,sent,lost,notes
 9,2,2,12,check,0,0,
 ";
 
-/// The rows with notes: tick, process and notes.
-fn noted(alloc: Global, trace: &str) -> Result<String, AllocError> {
-    let mut text = String::new(alloc);
-    for row in trace.lines().skip(1) {
-        if !field(row, 7).is_empty() {
-            text.push_str(field(row, 0))?;
-            text.push_str(" ")?;
-            text.push_str(field(row, 1))?;
-            text.push_str(" ")?;
-            text.push_str(field(row, 7))?;
-            text.push_str("\n")?;
-        }
-    }
-    Ok(text)
-}
-
 #[test]
 fn pair(rt: HostRuntime) -> Result<(), Fail> {
-    let trace = trace_of(&rt, rt.alloc(), EXCHANGE_PAIR)?;
-    assert_eq!(rt; trace.as_str(), PAIR);
-    Ok(())
+    lists(&rt, rt.alloc(), "trace", EXCHANGE_PAIR, PAIR)
 }
+
+/// Ticks, processes and notes where one of three crashes.
+const CRASH_NOTES: [(&str, &str, &str); 8] = [
+    ("0", "2", "round:1"),
+    ("0", "3", "round:1"),
+    ("6", "2", "suspect:1:1 round:2"),
+    ("6", "3", "suspect:1:1 round:2"),
+    ("8", "2", "round:3"),
+    ("8", "3", "round:3"),
+    ("10", "2", "decided:20"),
+    ("10", "3", "decided:20"),
+];
 
 /// The crashed process is suspected in the entry that ends the first round.
 #[test]
 fn crash(rt: HostRuntime) -> Result<(), Fail> {
-    let alloc = rt.alloc();
-    let trace = trace_of(&rt, alloc, EXCHANGE_CRASH)?;
-    let want = "0 2 round:1\n0 3 round:1\n6 2 suspect:1:1 round:2\n6 3 suspect:1:1 round:2\n\
-        8 2 round:3\n8 3 round:3\n10 2 decided:20\n10 3 decided:20\n";
-    assert_eq!(rt; noted(alloc, &trace)?.as_str(), want);
+    let trace = trace_of(&rt, rt.alloc(), EXCHANGE_CRASH)?;
+    has_notes(&rt, &trace, "", &CRASH_NOTES);
     Ok(())
 }
 
@@ -77,10 +67,7 @@ fn crash(rt: HostRuntime) -> Result<(), Fail> {
 fn alone(rt: HostRuntime) -> Result<(), Fail> {
     let alloc = rt.alloc();
     let file = changed(alloc, ALONE, "\"es\"", "\"s\"")?;
-    let trace = trace_of(&rt, alloc, file.as_str())?;
-    assert_eq!(rt;
-        trace.as_str(),
-        "tick,receiver,sender,number,kind,sent,lost,notes\n0,1,1,0,start,1,0,round:1\n1,1,1,3,last,0,0,decided:7\n"
-    );
-    Ok(())
+    let want =
+        "tick,receiver,sender,number,kind,sent,lost,notes\n0,1,1,0,start,1,0,round:1\n1,1,1,3,last,0,0,decided:7\n";
+    lists(&rt, alloc, "trace", &file, want)
 }

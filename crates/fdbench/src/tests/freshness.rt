@@ -1,12 +1,17 @@
 //! Runs of detectors with freshness points.
 
-use crate::tests::agreement::agree;
+use crate::tests::agreement::hundred_agree;
 use crate::tests::files::{FIVE, TWO_FRESH};
 use crate::tests::runs::{
-    answers, changed, field, is_answer, printed_by, report_of, rows, sum_of, trace_of,
+    changed, compares, count_of, field, lists, report_of, runs_by, same, sum_of,
 };
 use std::alloc::{AllocError, Global};
+use std::marker::Sync;
+use std::process::Abort;
+use std::rt::Files;
+use std::sync::Wait;
 use std::test::Fail;
+use std::thread::Threads;
 
 /// Heartbeat 1 of process 2 comes in the tick of point 1, just after it; no heartbeat 2 comes before point 2.
 const CRASH_AT_4: &str = "tick,receiver,sender,number,kind,sent,lost,notes
@@ -28,14 +33,15 @@ const CRASH_AT_4: &str = "tick,receiver,sender,number,kind,sent,lost,notes
 #[test]
 fn two_fresh(rt: HostRuntime) -> Result<(), Fail> {
     let alloc = rt.alloc();
-    let listed = trace_of(&rt, alloc, TWO_FRESH)?;
-    assert_eq!(rt; listed.as_str(), CRASH_AT_4);
-    let entries = rows(alloc, &listed)?;
-    assert_eq!(rt; entries.len(), 13);
-    assert_eq!(rt; sum_of(&entries, 5), 4);
-    for (workers, window) in [("1", "1"), ("2", "2"), ("2", "1")] {
-        let ran = printed_by(&rt, alloc, (workers, window), "trace", TWO_FRESH)?;
-        is_answer(&rt, &ran, 0, CRASH_AT_4, "");
+    lists(&rt, alloc, "trace", TWO_FRESH, CRASH_AT_4)?;
+    same(
+        &rt,
+        &(count_of(CRASH_AT_4), sum_of(CRASH_AT_4, 5)),
+        &(13, 4),
+    );
+    for plan in &[("1", "1"), ("2", "2"), ("2", "1")] {
+        let want = (0, CRASH_AT_4, "");
+        runs_by(&rt, alloc, *plan, "trace", TWO_FRESH, want)?;
     }
     Ok(())
 }
@@ -43,65 +49,61 @@ fn two_fresh(rt: HostRuntime) -> Result<(), Fail> {
 /// The suspicion that was taken back in its tick is no mistake; the crash is detected 4 ticks later.
 #[test]
 fn two_fresh_reported(rt: HostRuntime) -> Result<(), Fail> {
-    let alloc = rt.alloc();
-    let report = report_of(&rt, alloc, TWO_FRESH)?;
-    let mut found = 0u32;
-    for row in report.lines() {
-        if row.starts_with("pair,1,1,2,mistakes,") {
-            assert_eq!(rt; field(row, 5), "0");
-            found = found.saturating_add(1);
-        }
-        if row.starts_with("pair,1,1,2,detection,") {
-            assert_eq!(rt; field(row, 5), "4");
-            found = found.saturating_add(1);
-        }
-    }
-    assert_eq!(rt; found, 2);
+    let report = report_of(&rt, rt.alloc(), TWO_FRESH)?;
+    let mistakes = values_of(&report, "pair,1,1,2,mistakes,");
+    let detections = values_of(&report, "pair,1,1,2,detection,");
+    same(&rt, &(mistakes, detections), &((1, "0"), (1, "4")));
     Ok(())
 }
 
-/// The two runs of a file write the same, with a reduction and with each algorithm over the detector.
+/// How many rows begin so, and the value of the last of them.
+fn values_of<'a>(report: &'a str, start: &str) -> (u32, &'a str) {
+    let mut values = (0u32, "");
+    for row in report.lines() {
+        if row.starts_with(start) {
+            values = (values.0.saturating_add(1), field(row, 5));
+        }
+    }
+    values
+}
+
+/// The two runs of two processes write the same, with these tables and this algorithm over the detector.
+fn compares_with<R: Files + Threads + Wait + Sync + Abort>(
+    rt: &R,
+    alloc: Global,
+    link: &str,
+    algorithm: &str,
+) -> Result<(), Fail> {
+    let idle = changed(alloc, TWO_FRESH, "[link]", link)?;
+    let file = changed(alloc, &idle, "\"none\"", algorithm)?;
+    compares(rt, alloc, ("2", "2"), &file)
+}
+
+/// With a reduction and with each algorithm over the detector.
 #[test]
 fn parts_over_it(rt: HostRuntime) -> Result<(), Fail> {
     let alloc = rt.alloc();
-    for (share, algorithm) in [
-        ("", "\"none\""),
-        ("[share]\nperiod = 4\n\n", "\"none\""),
-        ("", "\"s\"\nproposals = [10, 20]"),
-        ("[share]\nperiod = 4\n\n", "\"s\"\nproposals = [10, 20]"),
-        ("", "\"es\"\nproposals = [10, 20]"),
-        ("[share]\nperiod = 4\n\n", "\"es\"\nproposals = [10, 20]"),
+    for algorithm in &[
+        "\"none\"",
+        "\"s\"\nproposals = [10, 20]",
+        "\"es\"\nproposals = [10, 20]",
     ] {
-        let link = format!(in alloc; "{share}[link]")?;
-        let file = changed(alloc, TWO_FRESH, "[link]", &link)?;
-        let file = changed(alloc, &file, "\"none\"", algorithm)?;
-        let words = ["compare", "-", "--workers", "2", "--window", "2"];
-        answers(&rt, alloc, &words, file.as_bytes(), (0, "same\n", ""))?;
+        compares_with(&rt, alloc, "[link]", algorithm)?;
+        compares_with(&rt, alloc, "[share]\nperiod = 4\n\n[link]", algorithm)?;
     }
     Ok(())
 }
 
-/// The file of five processes with this seed, and with freshness points in the place of time-outs.
-fn fresh(alloc: Global, seed: u32) -> Result<String, AllocError> {
-    let line = format!(in alloc; "seed = {seed}\n")?;
-    let seeded = changed(alloc, FIVE, "seed = 1\n", &line)?;
-    let second = changed(alloc, &seeded, "version = 1\n", "version = 2\n")?;
-    changed(
-        alloc,
-        &second,
-        "period = 5\ncheck = 3\ntimeout = 12\ngrow = 2\n",
-        "kind = \"freshness\"\neta = 5\ndelta = 3\n",
-    )
+/// The file of five processes, with freshness points in the place of time-outs.
+fn fresh(alloc: Global) -> Result<String, AllocError> {
+    let second = changed(alloc, FIVE, "version = 1\n", "version = 2\n")?;
+    let old = "period = 5\ncheck = 3\ntimeout = 12\ngrow = 2\n";
+    let new = "kind = \"freshness\"\neta = 5\ndelta = 3\n";
+    changed(alloc, &second, old, new)
 }
 
 /// In each of a hundred runs of five processes that propose 1 to 5, those that decide have one value, one of these.
 #[test]
 fn hundred_seeds(rt: HostRuntime) -> Result<(), Fail> {
-    let alloc = rt.alloc();
-    let mut decided = 0u32;
-    for seed in 1..101u32 {
-        decided = decided.saturating_add(agree(&rt, alloc, &fresh(alloc, seed)?, seed)?);
-    }
-    assert!(rt; decided > 0);
-    Ok(())
+    hundred_agree(&rt, rt.alloc(), &fresh(rt.alloc())?)
 }

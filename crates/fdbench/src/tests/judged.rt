@@ -7,9 +7,9 @@ ghost use Rattle.scenario.specs.Opening.{mind_of};
 use crate::tests::files::{
     ALONE, COORDINATORS, EXCHANGE_CRASH, EXCHANGE_PAIR, ONE_CRASH, TAKEN_BACK, WATCH_NEXT,
 };
-use crate::tests::runs::changed;
+use crate::tests::runs::{changed, same};
 use event_list::{law_only_history, run_list};
-use judges::{Answer, Verdicts, decisions, judge};
+use judges::{Answer, Outcome, Verdicts, decisions, judge};
 use machines::{AnyDetector, eventually_strong, idle, make_all, strong};
 use process_api::{Process, Trace};
 use scenario::{AlgorithmKind, Opening, Scenario, read_scenario};
@@ -49,24 +49,47 @@ fn verdicts_of(alloc: Global, file: &str, layer: u8) -> Result<Verdicts, Fail>
     Ok(judge(alloc, &scenario, &trace, layer)?)
 }
 
+/// The verdicts on a layer of a file's run are these.
+fn verdicts_are<R: Abort>(
+    rt: &R,
+    alloc: Global,
+    file: &str,
+    layer: u8,
+    wanted: Verdicts,
+) -> Result<(), Fail>
+    requires { (1 ≤ layer) × (layer ≤ 2) }
+{
+    let verdicts = verdicts_of(alloc, file, layer)?;
+    same(rt, &verdicts, &wanted);
+    Ok(())
+}
+
+/// The outcomes of a file's run, of process 1 first.
+pub fn outcomes_of(alloc: Global, file: &str) -> Result<Vec<Outcome>, Fail> {
+    let scenario = read_scenario(alloc, file.as_bytes())?;
+    let trace = trace_of(alloc, &scenario)?;
+    Ok(decisions(alloc, &scenario, &trace)?)
+}
+
 /// The outcomes of a file's run, of process 1 first, are these: value, tick and greatest round.
 fn outcomes_are<R: Abort>(
     rt: &R,
     alloc: Global,
     file: &str,
-    want: &[(Answer, Option<u32>, u64)],
+    wanted: &[(Answer, Option<u32>, u64)],
 ) -> Result<(), Fail> {
-    let scenario = read_scenario(alloc, file.as_bytes())?;
-    let trace = trace_of(alloc, &scenario)?;
-    let outcomes = decisions(alloc, &scenario, &trace)?;
-    assert_eq!(rt; outcomes.len(), want.len());
-    for (before, (value, tick, rounds)) in want.iter().enumerate() {
-        let outcome = outcomes.get(before).ok_or("no outcome")?;
-        assert_eq!(rt; usize::from(outcome.pid.number()), before + 1);
-        assert_eq!(rt;
-            (outcome.value, outcome.tick, outcome.rounds),
-            (*value, *tick, *rounds)
+    let outcomes = outcomes_of(alloc, file)?;
+    same(rt, &outcomes.len(), &wanted.len());
+    let mut number = 0u16;
+    for (outcome, (value, tick, rounds)) in outcomes.iter().zip(wanted.iter()) {
+        number = number.saturating_add(1);
+        let came = (
+            outcome.pid.number(),
+            outcome.value,
+            outcome.tick,
+            outcome.rounds,
         );
+        same(rt, &came, &(number, *value, *tick, *rounds));
     }
     Ok(())
 }
@@ -87,10 +110,10 @@ fn without_mistake(strong: Option<u32>, weak: Option<u32>) -> Verdicts {
 #[test]
 fn one_crash(rt: HostRuntime) -> Result<(), Fail> {
     let alloc = rt.alloc();
-    for (at, from) in [("at = 3", 9), ("at = 0", 6), ("at = 10", 0)] {
+    for (at, from) in &[("at = 3", 9), ("at = 0", 6), ("at = 10", 0)] {
         let file = changed(alloc, ONE_CRASH, "at = 3", at)?;
-        let verdicts = verdicts_of(alloc, &file, 1)?;
-        assert_eq!(rt; verdicts, without_mistake(Some(from), Some(from)), "{at}");
+        let want = without_mistake(Some(*from), Some(*from));
+        verdicts_are(&rt, alloc, &file, 1, want)?;
     }
     Ok(())
 }
@@ -98,18 +121,17 @@ fn one_crash(rt: HostRuntime) -> Result<(), Fail> {
 /// Where each watches the next, one alone suspects the crashed process, until the reduction has shared that.
 #[test]
 fn watch_next(rt: HostRuntime) -> Result<(), Fail> {
-    let alloc = rt.alloc();
-    let base = verdicts_of(alloc, WATCH_NEXT, 1)?;
-    assert_eq!(rt; base, without_mistake(None, Some(6)));
-    let reduced = verdicts_of(alloc, WATCH_NEXT, 2)?;
-    assert_eq!(rt; reduced, without_mistake(Some(10), Some(9)));
-    Ok(())
+    let (base, reduced) = (
+        without_mistake(None, Some(6)),
+        without_mistake(Some(10), Some(9)),
+    );
+    verdicts_are(&rt, rt.alloc(), WATCH_NEXT, 1, base)?;
+    verdicts_are(&rt, rt.alloc(), WATCH_NEXT, 2, reduced)
 }
 
 /// Two processes that are correct suspect each other up to the horizon.
 #[test]
 fn each_suspected(rt: HostRuntime) -> Result<(), Fail> {
-    let verdicts = verdicts_of(rt.alloc(), EXCHANGE_PAIR, 1)?;
     let want = Verdicts {
         strong_completeness: Some(0),
         weak_completeness: Some(0),
@@ -118,14 +140,12 @@ fn each_suspected(rt: HostRuntime) -> Result<(), Fail> {
         eventual_strong_accuracy: None,
         eventual_weak_accuracy: None,
     };
-    assert_eq!(rt; verdicts, want);
-    Ok(())
+    verdicts_are(&rt, rt.alloc(), EXCHANGE_PAIR, 1, want)
 }
 
 /// Of two suspicions one is taken back inside its tick, and the other lasts up to the horizon.
 #[test]
 fn one_suspected(rt: HostRuntime) -> Result<(), Fail> {
-    let verdicts = verdicts_of(rt.alloc(), TAKEN_BACK, 1)?;
     let want = Verdicts {
         strong_completeness: Some(0),
         weak_completeness: Some(0),
@@ -134,56 +154,65 @@ fn one_suspected(rt: HostRuntime) -> Result<(), Fail> {
         eventual_strong_accuracy: None,
         eventual_weak_accuracy: Some(0),
     };
-    assert_eq!(rt; verdicts, want);
-    Ok(())
+    verdicts_are(&rt, rt.alloc(), TAKEN_BACK, 1, want)
+}
+
+/// The file of one crash over 10,000,000 ticks.
+fn far(alloc: Global) -> Result<String, AllocError> {
+    let file = changed(alloc, ONE_CRASH, "horizon = 10\n", "horizon = 10000000\n")?;
+    let old = "period = 4\ncheck = 3\ntimeout = 5\n";
+    let new = "period = 1000000\ncheck = 1000000\ntimeout = 1000000\n";
+    changed(alloc, &file, old, new)
+}
+
+/// How many entries the trace of a file's run has.
+fn entries_of(alloc: Global, file: &str) -> Result<usize, Fail> {
+    let scenario = read_scenario(alloc, file.as_bytes())?;
+    Ok(trace_of(alloc, &scenario)?.entries().len())
 }
 
 /// A run of 10,000,000 ticks with 33 entries: the crash is suspected at the second check.
 #[test]
 fn far_horizon(rt: HostRuntime) -> Result<(), Fail> {
     let alloc = rt.alloc();
-    let mut file = changed(alloc, ONE_CRASH, "horizon = 10\n", "horizon = 10000000\n")?;
-    for (old, new) in [
-        ("period = 4\n", "period = 1000000\n"),
-        ("check = 3\n", "check = 1000000\n"),
-        ("timeout = 5\n", "timeout = 1000000\n"),
-    ] {
-        file = changed(alloc, &file, old, new)?;
-    }
-    let scenario = read_scenario(alloc, file.as_bytes())?;
-    let trace = trace_of(alloc, &scenario)?;
-    assert_eq!(rt; trace.entries().len(), 33);
-    let verdicts = judge(alloc, &scenario, &trace, 1)?;
-    assert_eq!(rt; verdicts, without_mistake(Some(2_000_000), Some(2_000_000)));
+    let file = far(alloc)?;
+    same(&rt, &entries_of(alloc, &file)?, &33);
+    let want = without_mistake(Some(2_000_000), Some(2_000_000));
+    verdicts_are(&rt, alloc, &file, 1, want)?;
     let nothing = (Answer::None, None, 0);
-    outcomes_are(&rt, alloc, &file, &[nothing, nothing])?;
-    Ok(())
+    outcomes_are(&rt, alloc, &file, &[nothing, nothing])
 }
+
+/// The outcomes of three processes that agree by rotating coordinators, with these tables before that of all links.
+fn coordinators_with<R: Abort>(
+    rt: &R,
+    alloc: Global,
+    tables: &str,
+    wanted: &[(Answer, Option<u32>, u64)],
+) -> Result<(), Fail> {
+    let link = format!(in alloc; "{tables}[link]\n")?;
+    let file = changed(alloc, COORDINATORS, "[link]\n", &link)?;
+    outcomes_are(rt, alloc, &file, wanted)
+}
+
+/// Tables by which the second process crashes once its proposal is out.
+const CRASH: &str = "[[crash]]\nprocess = 2\nat = 3\n\n";
+
+/// Tables by which the second process's letters to the others are lost.
+const UNHEARD: &str = "[[links]]\nfrom = 2\nto = 1\nmin = 2\nmax = 2\nloss = 1000\n\n\
+    [[links]]\nfrom = 2\nto = 3\nmin = 2\nmax = 2\nloss = 1000\n\n";
 
 /// Three processes agree by rotating coordinators: all hear the first one, or it crashes once its proposal is out, or
 /// its letters to the others are lost.
 #[test]
 fn coordinators(rt: HostRuntime) -> Result<(), Fail> {
     let alloc = rt.alloc();
-    let crash = "[[crash]]\nprocess = 2\nat = 3\n\n[link]\n";
-    let lost = "[[links]]\nfrom = 2\nto = 1\nmin = 2\nmax = 2\nloss = 1000\n\n\
-        [[links]]\nfrom = 2\nto = 3\nmin = 2\nmax = 2\nloss = 1000\n\n[link]\n";
-    let (ten, none) = (Answer::Value(10), Answer::None);
-    for (tables, want) in [
-        (
-            "[link]\n",
-            [(ten, Some(8), 2), (ten, Some(7), 2), (ten, Some(8), 2)],
-        ),
-        (
-            crash,
-            [(ten, Some(12), 3), (none, None, 1), (ten, Some(11), 3)],
-        ),
-        (lost, [(none, None, 1), (none, None, 1), (none, None, 1)]),
-    ] {
-        let file = changed(alloc, COORDINATORS, "[link]\n", tables)?;
-        outcomes_are(&rt, alloc, &file, &want)?;
-    }
-    Ok(())
+    let (ten, none) = (Answer::Value(10), (Answer::None, None, 1));
+    let all = [(ten, Some(8), 2), (ten, Some(7), 2), (ten, Some(8), 2)];
+    coordinators_with(&rt, alloc, "", &all)?;
+    let others = [(ten, Some(12), 3), none, (ten, Some(11), 3)];
+    coordinators_with(&rt, alloc, CRASH, &others)?;
+    coordinators_with(&rt, alloc, UNHEARD, &[none, none, none])
 }
 
 /// One process decides by its own coordinator.
@@ -201,8 +230,7 @@ fn exchanges(rt: HostRuntime) -> Result<(), Fail> {
     outcomes_are(&rt, alloc, EXCHANGE_CRASH, &[crashed, twenty, twenty])?;
     let ten = (Answer::Value(10), Some(2), 2);
     let no_value = (Answer::NoValue, Some(3), 2);
-    outcomes_are(&rt, alloc, EXCHANGE_PAIR, &[ten, no_value])?;
-    Ok(())
+    outcomes_are(&rt, alloc, EXCHANGE_PAIR, &[ten, no_value])
 }
 
 /// Two runs of a scenario: by the law of its only history they are one trace.
@@ -220,7 +248,7 @@ fn one_trace(rt: HostRuntime) -> Result<(), Fail> {
     let alloc = rt.alloc();
     let scenario = read_scenario(alloc, COORDINATORS.as_bytes())?;
     let (first, second) = run_twice(alloc, &scenario)?;
-    assert_eq!(rt; first.entries().len(), 34);
-    assert_eq!(rt; second.entries().len(), 34);
+    let came = (first.entries().len(), second.entries().len());
+    same(&rt, &came, &(34, 34));
     Ok(())
 }

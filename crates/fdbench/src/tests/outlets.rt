@@ -5,7 +5,7 @@ ghost use Rattle.fdbench.specs.Mode.{IsModeFor};
 use crate::bench::{Mode, bench};
 use crate::serve::{finish, serve};
 use crate::tests::files::{ONE_CRASH, ONE_PROCESS};
-use crate::tests::runs::printed;
+use crate::tests::runs::{printed, same};
 use event_list::RunError;
 use qos_report::{FuseOutlet, MemoryOutlet, Outlet, PrintChoice, StreamOutlet, put_all};
 use scenario::{Scenario, read_scenario};
@@ -44,18 +44,30 @@ pub fn stops_at_ten_bytes<R: Files + Threads + Wait + Sync + Abort>(
     let mut faults = MemoryOutlet::new(alloc);
     let mut input = file.as_bytes();
     let status = serve(rt, alloc, words, &mut input, &mut outlet, &mut faults);
-    assert_eq!(rt; status, 4);
-    assert_eq!(rt; outlet.failures(), 1);
-    assert!(rt; outlet.bytes() == b"tick,recei".as_slice());
-    assert!(rt; faults.bytes() == b"fdbench: run: Write\n".as_slice());
+    let came = (status, outlet.failures(), outlet.bytes(), faults.bytes());
+    let line = b"fdbench: run: Write\n".as_slice();
+    same(rt, &came, &(4, 1, b"tick,recei".as_slice(), line));
 }
 
 /// An outlet that takes 10 bytes and then fails holds the first 10 of the text.
 #[test]
 fn ten_bytes(rt: HostRuntime) -> Result<(), Fail> {
-    let words = ["fdbench", "list", "-", "--print", "trace"];
-    stops_at_ten_bytes(&rt, rt.alloc(), &words, ONE_PROCESS);
+    let words = &["fdbench", "list", "-", "--print", "trace"];
+    stops_at_ten_bytes(&rt, rt.alloc(), words, ONE_PROCESS);
     Ok(())
+}
+
+/// Whether a run of a scenario is refused for one put that failed, as there is no more room.
+fn overfills<R: Threads + Wait + Sync>(
+    rt: &R,
+    alloc: Global,
+    scenario: &Scenario,
+    room: &mut [u8],
+) -> bool {
+    let mut outlet = StreamOutlet::new(room);
+    let print = PrintChoice::Trace;
+    let ran = bench(rt, alloc, scenario, Mode::List, print, &mut outlet);
+    matches!(ran, Err(RunError::Write)) && outlet.failures() == 1
 }
 
 /// A writer that is full ends a run in the same way.
@@ -64,20 +76,8 @@ fn full_writer(rt: HostRuntime) -> Result<(), Fail> {
     let alloc = rt.alloc();
     let scenario = read_scenario(alloc, ONE_PROCESS.as_bytes())?;
     let mut room = [0u8; 10];
-    {
-        let mut outlet = StreamOutlet::new(room.as_mut_slice());
-        let ran = bench(
-            &rt,
-            alloc,
-            &scenario,
-            Mode::List,
-            PrintChoice::Trace,
-            &mut outlet,
-        );
-        assert!(rt; matches!(ran, Err(RunError::Write)));
-        assert_eq!(rt; outlet.failures(), 1);
-    }
-    assert!(rt; room.as_slice() == b"tick,recei".as_slice());
+    assert!(rt; overfills(&rt, alloc, &scenario, room.as_mut_slice()));
+    same(&rt, &room.as_slice(), &b"tick,recei".as_slice());
     Ok(())
 }
 
@@ -98,30 +98,34 @@ fn takes_every_byte<R: Files + Threads + Wait + Sync + Abort>(
     alloc: Global,
     by_windows: bool,
     print: PrintChoice,
-    word: &str,
+    wanted: &[u8],
 ) -> Result<(), Fail> {
     let scenario = read_scenario(alloc, ONE_CRASH.as_bytes())?;
-    let want = printed(rt, alloc, word, ONE_CRASH)?;
     let mode = mode_of(&scenario, by_windows)?;
     let mut outlet = FuseOutlet::new(alloc, 1, u64::MAX);
     let summary = bench(rt, alloc, &scenario, mode, print, &mut outlet)?;
-    assert!(rt; outlet.bytes() == want.as_bytes());
-    assert_eq!(rt; outlet.failures(), 0);
-    assert_eq!(rt; summary.entries, 12);
+    let came = (outlet.bytes(), outlet.failures(), summary.entries);
+    same(rt, &came, &(wanted, 0, 12));
     Ok(())
+}
+
+/// By the list and by windows, of what this word asks for.
+fn takes_choice<R: Files + Threads + Wait + Sync + Abort>(
+    rt: &R,
+    alloc: Global,
+    print: PrintChoice,
+    word: &str,
+) -> Result<(), Fail> {
+    let want = printed(rt, alloc, word, ONE_CRASH)?;
+    takes_every_byte(rt, alloc, false, print, want.as_bytes())?;
+    takes_every_byte(rt, alloc, true, print, want.as_bytes())
 }
 
 #[test]
 fn byte_by_byte(rt: HostRuntime) -> Result<(), Fail> {
-    for (print, word) in [
-        (PrintChoice::Trace, "trace"),
-        (PrintChoice::Report, "report"),
-        (PrintChoice::Both, "both"),
-    ] {
-        takes_every_byte(&rt, rt.alloc(), false, print, word)?;
-        takes_every_byte(&rt, rt.alloc(), true, print, word)?;
-    }
-    Ok(())
+    takes_choice(&rt, rt.alloc(), PrintChoice::Trace, "trace")?;
+    takes_choice(&rt, rt.alloc(), PrintChoice::Report, "report")?;
+    takes_choice(&rt, rt.alloc(), PrintChoice::Both, "both")
 }
 
 /// Whether a run of both texts ends well over an outlet that takes at most `most` bytes at a put, `times` times. If
@@ -129,30 +133,29 @@ fn byte_by_byte(rt: HostRuntime) -> Result<(), Fail> {
 fn ends_well<R: Threads + Wait + Sync + Abort>(
     rt: &R,
     alloc: Global,
+    scenario: &Scenario,
     by_windows: bool,
     most: usize,
     times: u64,
     whole: &[u8],
 ) -> Result<bool, Fail> {
-    let scenario = read_scenario(alloc, ONE_CRASH.as_bytes())?;
-    let mode = mode_of(&scenario, by_windows)?;
+    let mode = mode_of(scenario, by_windows)?;
     let mut outlet = FuseOutlet::new(alloc, most, times);
-    match bench(rt, alloc, &scenario, mode, PrintChoice::Both, &mut outlet) {
-        Ok(_) => {
-            assert_eq!(rt; outlet.failures(), 0);
-            assert!(rt; outlet.bytes() == whole);
-            Ok(true)
-        }
+    let is_done = match bench(rt, alloc, scenario, mode, PrintChoice::Both, &mut outlet) {
+        Ok(_) => true,
         Err(error) => {
             assert!(rt; matches!(error, RunError::Write));
-            assert_eq!(rt; outlet.failures(), 1);
-            assert!(rt; whole.starts_with(outlet.bytes()));
-            Ok(false)
+            false
         }
-    }
+    };
+    same(rt, &outlet.failures(), &u64::from(!is_done));
+    let bytes = outlet.bytes();
+    assert!(rt; whole.starts_with(bytes) && (bytes.len() == whole.len() || !is_done));
+    Ok(is_done)
 }
 
-/// A run makes so many puts: it fails at each of them, and ends well where none fails.
+/// Over an outlet that takes at most so many bytes at a put a run makes so many puts: it fails at each of them, and
+/// ends well where none fails.
 fn fails_at_each_put<R: Threads + Wait + Sync + Abort>(
     rt: &R,
     alloc: Global,
@@ -161,12 +164,11 @@ fn fails_at_each_put<R: Threads + Wait + Sync + Abort>(
     puts: u64,
     whole: &[u8],
 ) -> Result<(), Fail> {
-    for before in 0..puts {
-        let ended = ends_well(rt, alloc, by_windows, most, before, whole)?;
-        assert!(rt; !ended);
+    let scenario = read_scenario(alloc, ONE_CRASH.as_bytes())?;
+    for before in 0..=puts {
+        let ended = ends_well(rt, alloc, &scenario, by_windows, most, before, whole)?;
+        same(rt, &ended, &(before == puts));
     }
-    let ended = ends_well(rt, alloc, by_windows, most, puts, whole)?;
-    assert!(rt; ended);
     Ok(())
 }
 
@@ -181,28 +183,24 @@ fn each_write_fails(rt: HostRuntime) -> Result<(), Fail> {
     fails_at_each_put(&rt, alloc, false, usize::MAX, 1, whole)?;
     fails_at_each_put(&rt, alloc, false, 1, count, whole)?;
     fails_at_each_put(&rt, alloc, true, usize::MAX, 7, whole)?;
-    fails_at_each_put(&rt, alloc, true, 1, count, whole)?;
-    Ok(())
+    fails_at_each_put(&rt, alloc, true, 1, count, whole)
 }
 
-/// `check` and help end in the same way.
+/// Words that `check` or help answers.
+const LONG: [[&str; 3]; 2] = [["fdbench", "check", "-"], ["fdbench", "list", "--help"]];
+
+/// `check` and help end in the same way where there is no room for what they write.
 #[test]
 fn no_room(rt: HostRuntime) -> Result<(), Fail> {
     let alloc = rt.alloc();
-    for words in [["fdbench", "check", "-"], ["fdbench", "list", "--help"]] {
+    for words in &LONG {
         let mut room = [0u8; 1];
         let mut outlet = StreamOutlet::new(room.as_mut_slice());
         let mut faults = MemoryOutlet::new(alloc);
-        let status = serve(
-            &rt,
-            alloc,
-            &words,
-            &mut ONE_CRASH.as_bytes(),
-            &mut outlet,
-            &mut faults,
-        );
-        assert_eq!(rt; status, 4);
-        assert!(rt; faults.bytes() == b"fdbench: run: Write\n".as_slice());
+        let mut input = ONE_CRASH.as_bytes();
+        let status = serve(&rt, alloc, words, &mut input, &mut outlet, &mut faults);
+        let line = b"fdbench: run: Write\n".as_slice();
+        same(&rt, &(status, faults.bytes()), &(4, line));
     }
     Ok(())
 }
@@ -211,7 +209,7 @@ fn no_room(rt: HostRuntime) -> Result<(), Fail> {
 #[test]
 fn nobody_is_told(rt: HostRuntime) -> Result<(), Fail> {
     let alloc = rt.alloc();
-    for (path, want) in [
+    for (path, want) in &[
         ("no_such_folder/scenario.toml", 1),
         ("", 1),
         ("--no-such-option", 2),
@@ -222,37 +220,32 @@ fn nobody_is_told(rt: HostRuntime) -> Result<(), Fail> {
         let words = ["fdbench", "check", path];
         let mut input = b"".as_slice();
         let status = serve(&rt, alloc, &words, &mut input, &mut outlet, &mut faults);
-        assert_eq!(rt; status, want);
-        assert_eq!(rt; faults.failures(), 1);
+        same(&rt, &(status, faults.failures()), &(*want, 1));
     }
     Ok(())
+}
+
+/// Over a writer that can't be flushed a run of this status ends with that one and with this line.
+fn ends_stuck<R: Abort>(rt: &R, alloc: Global, status: u8, want: u8, line: &[u8]) {
+    let mut outlet = StreamOutlet::new(Stuck);
+    let mut faults = MemoryOutlet::new(alloc);
+    assert!(rt; put_all(&mut outlet, b"ok\n"));
+    let code = finish(status, &mut outlet, &mut faults);
+    same(rt, &(code, faults.bytes()), &(ExitCode::from(want), line));
 }
 
 /// A flush that fails turns status 0 into 4, with the line of a failed write; another status stays.
 #[test]
 fn flushes(rt: HostRuntime) -> Result<(), Fail> {
     let alloc = rt.alloc();
-    for (status, want, line) in [
-        (0, 4, b"fdbench: run: Write\n".as_slice()),
-        (1, 1, b"".as_slice()),
-        (4, 4, b"".as_slice()),
-    ] {
-        let mut outlet = StreamOutlet::new(Stuck);
-        let mut faults = MemoryOutlet::new(alloc);
-        assert!(rt; put_all(&mut outlet, b"ok\n"));
-        assert_eq!(rt;
-            finish(status, &mut outlet, &mut faults),
-            ExitCode::from(want)
-        );
-        assert!(rt; faults.bytes() == line);
-    }
+    ends_stuck(&rt, alloc, 0, 4, b"fdbench: run: Write\n");
+    ends_stuck(&rt, alloc, 1, 1, b"");
+    ends_stuck(&rt, alloc, 4, 4, b"");
     for status in 0..5u8 {
         let mut outlet = StreamOutlet::new(Vec::new(alloc));
         let mut faults = MemoryOutlet::new(alloc);
-        assert_eq!(rt;
-            finish(status, &mut outlet, &mut faults),
-            ExitCode::from(status)
-        );
+        let code = finish(status, &mut outlet, &mut faults);
+        same(&rt, &code, &ExitCode::from(status));
     }
     Ok(())
 }

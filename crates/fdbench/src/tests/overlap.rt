@@ -3,9 +3,10 @@ ghost use Rattle.std.specs.Prelude.{◌≡◌, IfOk, map};
 ghost use Rattle.process_api.specs.Numbers.{numbers_to};
 ghost use Rattle.scenario.specs.Opening.{mind_of};
 ghost use Rattle.scenario.specs.Record.{opening_mind};
+ghost use Rattle.windows.specs.Plan.{IsPlanFor};
 
 use crate::tests::files::ONE_CRASH;
-use crate::tests::runs::{changed, trace_of};
+use crate::tests::runs::{changed, same, trace_of};
 use machines::make_all;
 use process_api::{Action, DetectorNumbers, Pid, Process, StepInput};
 use qos_report::{MemoryOutlet, Outlet, PrintChoice, bench_windows, write_trace};
@@ -156,42 +157,52 @@ enum Start {
     Texts,
 }
 
-/// The trace's text of a run of these machines by two workers and windows of 2 ticks.
-fn text_by<R: Threads + Wait + Sync>(
+/// The text of the trace that a run of these machines answers.
+fn text_of_trace<R: Threads + Wait + Sync>(
     rt: &R,
     alloc: Global,
     scenario: &Scenario,
     machines: Vec<Box<dyn Process>>,
+    plan: &Plan,
     gate: &Holding,
-    start: Start,
 ) -> Result<MemoryOutlet, Fail>
-    requires { map mind machines.items ≡ map (opening_mind scenario.now) (numbers_to scenario.now.processes) }
+    requires machines { map mind machines.items ≡ map (opening_mind scenario.now) (numbers_to scenario.now.processes) }
+    requires plan { IsPlanFor scenario.now plan.now }
 {
-    let plan = Plan::new(scenario, 2, 2)?;
+    let trace = run_windows(rt, alloc, scenario, machines, plan, gate)?;
     let mut outlet = MemoryOutlet::new(alloc);
-    match start {
-        Start::Trace => {
-            let trace = run_windows(rt, alloc, scenario, machines, &plan, gate)?;
-            write_trace(alloc, &trace, &mut outlet)?;
-        }
-        Start::Texts => {
-            let print = PrintChoice::Trace;
-            bench_windows(
-                rt,
-                alloc,
-                scenario,
-                machines,
-                &plan,
-                gate,
-                print,
-                &mut outlet,
-            )?;
-        }
-    }
+    write_trace(alloc, &trace, &mut outlet)?;
     Ok(outlet)
 }
 
-/// The trace's text of a run of machines that the gate counts.
+/// The text that a run of these machines writes.
+fn text_written<R: Threads + Wait + Sync>(
+    rt: &R,
+    alloc: Global,
+    scenario: &Scenario,
+    machines: Vec<Box<dyn Process>>,
+    plan: &Plan,
+    gate: &Holding,
+) -> Result<MemoryOutlet, Fail>
+    requires machines { map mind machines.items ≡ map (opening_mind scenario.now) (numbers_to scenario.now.processes) }
+    requires plan { IsPlanFor scenario.now plan.now }
+{
+    let print = PrintChoice::Trace;
+    let mut outlet = MemoryOutlet::new(alloc);
+    bench_windows(
+        rt,
+        alloc,
+        scenario,
+        machines,
+        plan,
+        gate,
+        print,
+        &mut outlet,
+    )?;
+    Ok(outlet)
+}
+
+/// The trace's text of a run of machines that the gate counts, by two workers and windows of 2 ticks.
 fn text_of<R: Threads + Wait + Sync>(
     rt: &R,
     alloc: Global,
@@ -199,6 +210,7 @@ fn text_of<R: Threads + Wait + Sync>(
     gate: &Holding,
     start: Start,
 ) -> Result<MemoryOutlet, Fail> {
+    let plan = Plan::new(scenario, 2, 2)?;
     let machines = make_all(
         alloc,
         scenario,
@@ -216,25 +228,39 @@ fn text_of<R: Threads + Wait + Sync>(
             }
         },
     )?;
-    text_by(rt, alloc, scenario, machines, gate, start)
+    match start {
+        Start::Trace => text_of_trace(rt, alloc, scenario, machines, &plan, gate),
+        Start::Texts => text_written(rt, alloc, scenario, machines, &plan, gate),
+    }
 }
 
 /// Each of the ten calls found its process as it was before the window, and five of them waited for the other process.
-/// In each window worker 1 made one call, and worker 2 the other.
+/// In each window worker 1 made one call, and worker 2 the other. The text is the one that is wanted.
+fn overlaps_in<R: Threads + Wait + Sync + Abort>(
+    rt: &R,
+    alloc: Global,
+    scenario: &Scenario,
+    start: Start,
+    wanted: &[u8],
+) -> Result<(), Fail> {
+    let gate = Holding::new(alloc)?;
+    let outlet = text_of(rt, alloc, scenario, &gate, start)?;
+    same(rt, &gate.counts(), &(10, 10, 15));
+    let came = (gate.inputs(), outlet.bytes());
+    same(rt, &came, &((IN_ALL, IN_ALL), wanted));
+    Ok(())
+}
+
+/// So it is where the crash is at the horizon, with the text that the list gives.
 fn overlaps<R: Files + Threads + Wait + Sync + Abort>(
     rt: &R,
     alloc: Global,
     start: Start,
 ) -> Result<(), Fail> {
     let file = changed(alloc, ONE_CRASH, "at = 3", "at = 10")?;
-    let scenario = read_scenario(alloc, file.as_bytes())?;
-    let gate = Holding::new(alloc)?;
-    let outlet = text_of(rt, alloc, &scenario, &gate, start)?;
-    assert_eq!(rt; gate.counts(), (10, 10, 15));
-    assert_eq!(rt; gate.inputs(), (IN_ALL, IN_ALL));
     let listed = trace_of(rt, alloc, &file)?;
-    assert!(rt; outlet.bytes() == listed.as_bytes());
-    Ok(())
+    let scenario = read_scenario(alloc, file.as_bytes())?;
+    overlaps_in(rt, alloc, &scenario, start, listed.as_bytes())
 }
 
 #[test]

@@ -3,8 +3,8 @@
 use crate::compare::same_bytes;
 use crate::tests::files::{COORDINATORS, FIVE, ONE_CRASH, ONE_PROCESS, WATCH_NEXT};
 use crate::tests::outlets::stops_at_ten_bytes;
-use crate::tests::runs::{answers, changed, is_answer, printed, printed_by};
-use std::alloc::Global;
+use crate::tests::runs::{answers, changed, compares, lists, lists_again, printed, runs_by, same};
+use std::alloc::{AllocError, Global};
 use std::marker::Sync;
 use std::process::Abort;
 use std::rt::Files;
@@ -46,9 +46,8 @@ fn prints_as_list<R: Files + Threads + Wait + Sync + Abort>(
     file: &str,
 ) -> Result<(), Fail> {
     let want = printed(rt, alloc, print, file)?;
-    for (workers, window) in PLANS {
-        let ran = printed_by(rt, alloc, (workers, window), print, file)?;
-        is_answer(rt, &ran, 0, &want, "");
+    for plan in &PLANS {
+        runs_by(rt, alloc, *plan, print, file, (0, &want, ""))?;
     }
     Ok(())
 }
@@ -66,57 +65,68 @@ fn refuses<R: Files + Threads + Wait + Sync + Abort>(
 
 #[test]
 fn coordinators(rt: HostRuntime) -> Result<(), Fail> {
-    for print in ["trace", "report", "both"] {
+    for print in &["trace", "report", "both"] {
         prints_as_list(&rt, rt.alloc(), print, COORDINATORS)?;
     }
     Ok(())
 }
 
+/// One process alone, with a lookahead of 2 ticks.
+fn alone_of_two(alloc: Global) -> Result<String, AllocError> {
+    let longer = changed(alloc, ONE_PROCESS, "lookahead = 1", "lookahead = 2")?;
+    changed(alloc, &longer, "min = 1\nmax = 1", "min = 2\nmax = 2")
+}
+
 /// A crash, one process alone, and a reduction.
 #[test]
 fn detectors(rt: HostRuntime) -> Result<(), Fail> {
-    let alone = changed(rt.alloc(), ONE_PROCESS, "lookahead = 1", "lookahead = 2")?;
-    let alone = changed(rt.alloc(), &alone, "min = 1\nmax = 1", "min = 2\nmax = 2")?;
-    for file in [ONE_CRASH, WATCH_NEXT, &alone] {
+    for file in &[ONE_CRASH, WATCH_NEXT] {
         prints_as_list(&rt, rt.alloc(), "both", file)?;
     }
-    Ok(())
+    prints_as_list(&rt, rt.alloc(), "both", &alone_of_two(rt.alloc())?)
 }
 
 /// Over links that lose and delay letters at random.
 #[test]
 fn five(rt: HostRuntime) -> Result<(), Fail> {
-    let alloc = rt.alloc();
-    let first = printed(&rt, alloc, "both", FIVE)?;
-    prints_as_list(&rt, alloc, "both", FIVE)?;
-    let again = printed(&rt, alloc, "both", FIVE)?;
-    assert!(rt; first.as_str() == again.as_str());
-    Ok(())
+    prints_as_list(&rt, rt.alloc(), "both", FIVE)?;
+    lists_again(&rt, rt.alloc(), "both", FIVE)
 }
+
+/// Files, with the workers and the window of their run.
+const COMPARED: [(&str, (&str, &str)); 4] = [
+    (COORDINATORS, ("2", "2")),
+    (COORDINATORS, ("64", "1")),
+    (ONE_CRASH, ("2", "2")),
+    (FIVE, ("3", "2")),
+];
 
 #[test]
 fn compared(rt: HostRuntime) -> Result<(), Fail> {
-    let alloc = rt.alloc();
-    for (file, workers, window) in [
-        (COORDINATORS, "2", "2"),
-        (COORDINATORS, "64", "1"),
-        (ONE_CRASH, "2", "2"),
-        (FIVE, "3", "2"),
-    ] {
-        let words = ["compare", "-", "--workers", workers, "--window", window];
-        answers(&rt, alloc, &words, file.as_bytes(), (0, "same\n", ""))?;
+    for (file, plan) in &COMPARED {
+        compares(&rt, rt.alloc(), *plan, file)?;
     }
     Ok(())
+}
+
+/// A plan is refused with this line.
+fn refuses_plan<R: Files + Threads + Wait + Sync + Abort>(
+    rt: &R,
+    alloc: Global,
+    command: &str,
+    (workers, window): (&str, &str),
+    line: &str,
+) -> Result<(), Fail> {
+    let words = [command, "-", "--workers", workers, "--window", window];
+    refuses(rt, alloc, &words, COORDINATORS, line)
 }
 
 #[test]
 fn plans(rt: HostRuntime) -> Result<(), Fail> {
     let alloc = rt.alloc();
-    for (workers, window, line) in REFUSED {
-        let words = ["run", "-", "--workers", workers, "--window", window];
-        refuses(&rt, alloc, &words, COORDINATORS, line)?;
-        let words = ["compare", "-", "--workers", workers, "--window", window];
-        refuses(&rt, alloc, &words, COORDINATORS, line)?;
+    for (workers, window, line) in &REFUSED {
+        refuses_plan(&rt, alloc, "run", (*workers, *window), line)?;
+        refuses_plan(&rt, alloc, "compare", (*workers, *window), line)?;
     }
     Ok(())
 }
@@ -125,12 +135,11 @@ fn plans(rt: HostRuntime) -> Result<(), Fail> {
 #[test]
 fn file_first(rt: HostRuntime) -> Result<(), Fail> {
     let alloc = rt.alloc();
-    for command in ["run", "compare"] {
-        let words = [command, "-", "--workers", "0", "--window", "0"];
-        let want = (1, "", "fdbench: scenario: MissingKey\n");
-        answers(&rt, alloc, &words, b"", want)?;
-    }
-    Ok(())
+    let want = (1, "", "fdbench: scenario: MissingKey\n");
+    let words = &["run", "-", "--workers", "0", "--window", "0"];
+    answers(&rt, alloc, words, b"", want)?;
+    let words = &["compare", "-", "--workers", "0", "--window", "0"];
+    answers(&rt, alloc, words, b"", want)
 }
 
 /// The first line and the first ten rows of the trace of `ONE_CRASH`: those of its windows of 2 ticks but the last.
@@ -147,17 +156,18 @@ const TEN_ROWS: &str = "tick,receiver,sender,number,kind,sent,lost,notes
 6,2,1,2,dead,0,0,
 ";
 
-/// By two workers and windows of 2 ticks a run of the file is refused for its limit, and has printed this.
+/// For its limit the file is refused: by two workers and windows of 2 ticks this has been printed, and by the list
+/// nothing.
 fn stops_at_limit<R: Files + Threads + Wait + Sync + Abort>(
     rt: &R,
     alloc: Global,
     print: &str,
     file: &str,
-    want: &str,
+    printed: &str,
 ) -> Result<(), Fail> {
-    let ran = printed_by(rt, alloc, ("2", "2"), print, file)?;
-    is_answer(rt, &ran, 3, want, "fdbench: run: Limit\n");
-    Ok(())
+    let line = "fdbench: run: Limit\n";
+    runs_by(rt, alloc, ("2", "2"), print, file, (3, printed, line))?;
+    refuses(rt, alloc, &["list", "-", "--print", print], file, line)
 }
 
 /// A limit of as many entries as the trace has is kept.
@@ -165,11 +175,9 @@ fn stops_at_limit<R: Files + Threads + Wait + Sync + Abort>(
 fn limit_kept(rt: HostRuntime) -> Result<(), Fail> {
     let alloc = rt.alloc();
     let enough = changed(alloc, ONE_CRASH, "seed = 1\n", "seed = 1\nlimit = 12\n")?;
-    let want = printed(&rt, alloc, "trace", ONE_CRASH)?;
     prints_as_list(&rt, alloc, "trace", &enough)?;
-    let kept = printed(&rt, alloc, "trace", &enough)?;
-    assert_eq!(rt; kept.as_str(), want.as_str());
-    Ok(())
+    let want = printed(&rt, alloc, "trace", ONE_CRASH)?;
+    lists(&rt, alloc, "trace", &enough, &want)
 }
 
 /// With one less it is crossed inside the last window, from tick 8 to the horizon: the rows of the windows before went
@@ -177,43 +185,38 @@ fn limit_kept(rt: HostRuntime) -> Result<(), Fail> {
 #[test]
 fn limits(rt: HostRuntime) -> Result<(), Fail> {
     let alloc = rt.alloc();
+    same(&rt, &TEN_ROWS.len(), &235);
     let short = changed(alloc, ONE_CRASH, "seed = 1\n", "seed = 1\nlimit = 11\n")?;
-    assert_eq!(rt; TEN_ROWS.len(), 235);
-    for (print, want) in [("trace", TEN_ROWS), ("both", TEN_ROWS), ("report", "")] {
+    for (print, want) in &[("trace", TEN_ROWS), ("both", TEN_ROWS), ("report", "")] {
         stops_at_limit(&rt, alloc, print, &short, want)?;
-        let words = ["list", "-", "--print", print];
-        refuses(&rt, alloc, &words, &short, "fdbench: run: Limit\n")?;
     }
-    let words = ["compare", "-", "--workers", "2", "--window", "2"];
-    refuses(&rt, alloc, &words, &short, "fdbench: run: Limit\n")?;
-    Ok(())
+    let words = &["compare", "-", "--workers", "2", "--window", "2"];
+    refuses(&rt, alloc, words, &short, "fdbench: run: Limit\n")
 }
 
-/// The file of five processes with 64, of which the first window alone has more entries than the limit.
+/// The file of five processes with 64, and with a limit of one entry.
+fn crowd(alloc: Global) -> Result<String, AllocError> {
+    let others = ", 1".repeat(alloc, 63)?;
+    let proposals = format!(in alloc; "proposals = [1{others}]")?;
+    let file = changed(alloc, FIVE, "proposals = [1, 2, 3, 4, 5]", &proposals)?;
+    let file = changed(alloc, &file, "processes = 5", "processes = 64")?;
+    changed(alloc, &file, "seed = 1\n", "seed = 1\nlimit = 1\n")
+}
+
+/// The first window alone has more entries than the limit.
 #[test]
 fn limit_in_the_first_window(rt: HostRuntime) -> Result<(), Fail> {
     let alloc = rt.alloc();
-    let mut proposals = String::from_str(alloc, "proposals = [1")?;
-    for _ in 1..64u32 {
-        proposals.push_str(", 1")?;
-    }
-    proposals.push_str("]")?;
-    let file = changed(alloc, FIVE, "proposals = [1, 2, 3, 4, 5]", &proposals)?;
-    let file = changed(alloc, &file, "processes = 5", "processes = 64")?;
-    let file = changed(alloc, &file, "seed = 1\n", "seed = 1\nlimit = 1\n")?;
+    let file = crowd(alloc)?;
     let header = "tick,receiver,sender,number,kind,sent,lost,notes\n";
-    for (print, want) in [("trace", header), ("report", "")] {
-        stops_at_limit(&rt, alloc, print, &file, want)?;
-        let words = ["list", "-", "--print", print];
-        refuses(&rt, alloc, &words, &file, "fdbench: run: Limit\n")?;
-    }
-    Ok(())
+    stops_at_limit(&rt, alloc, "trace", &file, header)?;
+    stops_at_limit(&rt, alloc, "report", &file, "")
 }
 
 /// An outlet that takes 10 bytes and then fails holds the first 10 of the text.
 #[test]
 fn ten_bytes(rt: HostRuntime) -> Result<(), Fail> {
-    let words = [
+    let words = &[
         "fdbench",
         "run",
         "-",
@@ -224,21 +227,24 @@ fn ten_bytes(rt: HostRuntime) -> Result<(), Fail> {
         "--print",
         "trace",
     ];
-    stops_at_ten_bytes(&rt, rt.alloc(), &words, ONE_CRASH);
+    stops_at_ten_bytes(&rt, rt.alloc(), words, ONE_CRASH);
     Ok(())
 }
 
+/// Texts, and whether their bytes are the same.
+const COMPARED_BYTES: [(&str, &str, bool); 6] = [
+    ("ab", "ac", false),
+    ("ab", "a", false),
+    ("a", "ab", false),
+    ("", "a", false),
+    ("ab", "ab", true),
+    ("", "", true),
+];
+
 #[test]
 fn bytes_compared(rt: HostRuntime) {
-    for (left, right, same) in [
-        ("ab", "ac", false),
-        ("ab", "a", false),
-        ("a", "ab", false),
-        ("", "a", false),
-        ("ab", "ab", true),
-        ("", "", true),
-    ] {
+    for (left, right, are_same) in &COMPARED_BYTES {
         let found = same_bytes(left.as_bytes(), right.as_bytes());
-        assert_eq!(rt; found, same, "{left} {right}");
+        same(&rt, &(*left, *right, found), &(*left, *right, *are_same));
     }
 }

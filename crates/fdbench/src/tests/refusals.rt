@@ -1,8 +1,8 @@
 //! Files that are refused, and how the program says so.
 
 use crate::tests::files::ONE_CRASH;
-use crate::tests::runs::{answers, changed, is_answer, run_over};
-use std::alloc::Global;
+use crate::tests::runs::{changed, checks, is_answer, refuses_scenario, run_over, same};
+use std::alloc::{AllocError, Global};
 use std::io::{self, ErrorKind, Read};
 use std::marker::Sync;
 use std::process::Abort;
@@ -10,16 +10,6 @@ use std::rt::Files;
 use std::sync::Wait;
 use std::test::Fail;
 use std::thread::Threads;
-
-/// `check` refuses the file with this line, and writes nothing else.
-fn refuses<R: Files + Threads + Wait + Sync + Abort>(
-    rt: &R,
-    alloc: Global,
-    file: &[u8],
-    line: &str,
-) -> Result<(), Fail> {
-    answers(rt, alloc, &["check", "-"], file, (1, "", line))
-}
 
 /// Changes of the file of one crash, with the name of the refusal.
 const SCENARIOS: [(&str, &str, &str); 20] = [
@@ -60,13 +50,18 @@ const SCENARIOS: [(&str, &str, &str); 20] = [
 #[test]
 fn scenarios(rt: HostRuntime) -> Result<(), Fail> {
     let alloc = rt.alloc();
-    for (old, new, name) in SCENARIOS {
-        let file = changed(alloc, ONE_CRASH, old, new)?;
-        let line = format!(in alloc; "fdbench: scenario: {name}\n")?;
-        refuses(&rt, alloc, file.as_bytes(), &line)?;
+    for (old, new, name) in &SCENARIOS {
+        refuses_scenario(&rt, alloc, &changed(alloc, ONE_CRASH, old, new)?, name)?;
     }
-    refuses(&rt, alloc, b"", "fdbench: scenario: MissingKey\n")?;
-    Ok(())
+    refuses_scenario(&rt, alloc, "", "MissingKey")
+}
+
+/// The file of one crash with a comment that fills it up to so many bytes.
+fn filled(alloc: Global, length: usize) -> Result<Vec<u8>, AllocError> {
+    let mut file = Vec::from_slice(alloc, ONE_CRASH.as_bytes())?;
+    file.push(b'#')?;
+    file.resize(length, b'.')?;
+    Ok(file)
 }
 
 /// A comment that fills the file up to the most bytes that are read is nothing to the scenario. One byte more is too
@@ -74,17 +69,9 @@ fn scenarios(rt: HostRuntime) -> Result<(), Fail> {
 #[test]
 fn long_files(rt: HostRuntime) -> Result<(), Fail> {
     let alloc = rt.alloc();
-    let mut file = Vec::from_slice(alloc, ONE_CRASH.as_bytes())?;
-    file.push(b'#')?;
-    for _ in 0..8_388_608usize {
-        if file.len() < 8_388_608 {
-            file.push(b'.')?;
-        }
-    }
-    answers(&rt, alloc, &["check", "-"], &file, (0, "ok\n", ""))?;
-    file.push(b'.')?;
-    refuses(&rt, alloc, &file, "fdbench: input: too long\n")?;
-    Ok(())
+    checks(&rt, alloc, &filled(alloc, 8_388_608)?, (0, "ok\n", ""))?;
+    let want = (1, "", "fdbench: input: too long\n");
+    checks(&rt, alloc, &filled(alloc, 8_388_609)?, want)
 }
 
 /// What is said of an input that can't be read.
@@ -133,8 +120,8 @@ impl Read for Endless {
 fn endless_input(rt: HostRuntime) -> Result<(), Fail> {
     let mut input = Endless { left: 8_388_609 };
     let ran = run_over(&rt, rt.alloc(), &["check", "-"], &mut input)?;
-    assert_eq!(rt; input.left, 0);
-    is_answer(&rt, &ran, 1, "", "fdbench: input: too long\n");
+    same(&rt, &input.left, &0);
+    is_answer(&rt, &ran, (1, "", "fdbench: input: too long\n"));
     Ok(())
 }
 
@@ -155,31 +142,45 @@ impl Read for Failing {
     }
 }
 
+/// A file that is read so is told of as unreadable.
+fn is_unreadable<R: Files + Threads + Wait + Sync + Abort, I: Read>(
+    rt: &R,
+    alloc: Global,
+    path: &str,
+    input: &mut I,
+) -> Result<(), Fail> {
+    let ran = run_over(rt, alloc, &["check", path], input)?;
+    is_answer(rt, &ran, (1, "", UNREADABLE));
+    Ok(())
+}
+
 /// A read that fails is the last, of whatever kind: one that was interrupted, or one for want of memory, too.
 #[test]
 fn failing_reads(rt: HostRuntime) -> Result<(), Fail> {
-    for kind in [
+    for kind in &[
         ErrorKind::Interrupted,
         ErrorKind::OutOfMemory,
         ErrorKind::UnexpectedEof,
         ErrorKind::Other,
     ] {
-        let mut input = Failing {
-            kind,
-            has_failed: false,
-        };
-        let ran = run_over(&rt, rt.alloc(), &["check", "-"], &mut input)?;
-        is_answer(&rt, &ran, 1, "", UNREADABLE);
+        let has_failed = false;
+        is_unreadable(
+            &rt,
+            rt.alloc(),
+            "-",
+            &mut Failing {
+                kind: *kind,
+                has_failed,
+            },
+        )?;
     }
     Ok(())
 }
 
 #[test]
 fn unreadable(rt: HostRuntime) -> Result<(), Fail> {
-    for path in ["-", "no_such_folder/scenario.toml"] {
-        let mut input = Torn { is_torn: false };
-        let ran = run_over(&rt, rt.alloc(), &["check", path], &mut input)?;
-        is_answer(&rt, &ran, 1, "", UNREADABLE);
+    for path in &["-", "no_such_folder/scenario.toml"] {
+        is_unreadable(&rt, rt.alloc(), path, &mut Torn { is_torn: false })?;
     }
     Ok(())
 }

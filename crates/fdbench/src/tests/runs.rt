@@ -3,6 +3,7 @@
 use crate::serve::serve;
 use qos_report::MemoryOutlet;
 use std::alloc::{AllocError, Global};
+use std::fmt::Debug;
 use std::io::Read;
 use std::marker::Sync;
 use std::process::Abort;
@@ -69,11 +70,20 @@ pub fn run<R: Files + Threads + Wait + Sync>(
     run_over(rt, alloc, words, &mut rest)
 }
 
+/// What came is what was wanted.
+pub fn same<R: Abort, T: PartialEq + Debug>(rt: &R, came: &T, wanted: &T) {
+    assert_eq!(rt; came, wanted);
+}
+
+/// A text has this part.
+pub fn has_part<R: Abort>(rt: &R, text: &str, part: &str) {
+    assert!(rt; text.contains(part), "{part}: {text}");
+}
+
 /// A run answered this status, and wrote this and this of faults.
-pub fn is_answer<R: Abort>(rt: &R, ran: &Ran, status: u8, out: &str, faults: &str) {
-    assert_eq!(rt; ran.faults.as_str(), faults);
-    assert_eq!(rt; ran.out.as_str(), out);
-    assert_eq!(rt; ran.status, status);
+pub fn is_answer<R: Abort>(rt: &R, ran: &Ran, wanted: (u8, &str, &str)) {
+    let came = (ran.status, ran.out.as_str(), ran.faults.as_str());
+    same(rt, &came, &wanted);
 }
 
 /// One run with these words over this input answers this status, and writes this and this of faults.
@@ -82,21 +92,66 @@ pub fn answers<R: Files + Threads + Wait + Sync + Abort>(
     alloc: Global,
     words: &[&str],
     input: &[u8],
-    (status, out, faults): (u8, &str, &str),
+    wanted: (u8, &str, &str),
 ) -> Result<(), Fail> {
     let ran = run(rt, alloc, words, input)?;
-    is_answer(rt, &ran, status, out, faults);
+    is_answer(rt, &ran, wanted);
     Ok(())
 }
 
-/// What `run` prints of a file by so many workers and windows of so many ticks.
-pub fn printed_by<R: Files + Threads + Wait + Sync>(
+/// `check` answers this status, and writes this and this of faults.
+pub fn checks<R: Files + Threads + Wait + Sync + Abort>(
+    rt: &R,
+    alloc: Global,
+    file: &[u8],
+    wanted: (u8, &str, &str),
+) -> Result<(), Fail> {
+    answers(rt, alloc, &["check", "-"], file, wanted)
+}
+
+/// `check` refuses the file, and names the refusal so.
+pub fn refuses_scenario<R: Files + Threads + Wait + Sync + Abort>(
+    rt: &R,
+    alloc: Global,
+    file: &str,
+    name: &str,
+) -> Result<(), Fail> {
+    let line = format!(in alloc; "fdbench: scenario: {name}\n")?;
+    checks(rt, alloc, file.as_bytes(), (1, "", &line))
+}
+
+/// `list` prints this of a file.
+pub fn lists<R: Files + Threads + Wait + Sync + Abort>(
+    rt: &R,
+    alloc: Global,
+    print: &str,
+    file: &str,
+    wanted: &str,
+) -> Result<(), Fail> {
+    let words = ["list", "-", "--print", print];
+    answers(rt, alloc, &words, file.as_bytes(), (0, wanted, ""))
+}
+
+/// `list` prints the same of a file a second time.
+pub fn lists_again<R: Files + Threads + Wait + Sync + Abort>(
+    rt: &R,
+    alloc: Global,
+    print: &str,
+    file: &str,
+) -> Result<(), Fail> {
+    let first = printed(rt, alloc, print, file)?;
+    lists(rt, alloc, print, file, &first)
+}
+
+/// `run` by so many workers and windows of so many ticks answers this status, and writes this and this of faults.
+pub fn runs_by<R: Files + Threads + Wait + Sync + Abort>(
     rt: &R,
     alloc: Global,
     (workers, window): (&str, &str),
     print: &str,
     file: &str,
-) -> Result<Ran, Fail> {
+    wanted: (u8, &str, &str),
+) -> Result<(), Fail> {
     let words = [
         "run",
         "-",
@@ -107,7 +162,30 @@ pub fn printed_by<R: Files + Threads + Wait + Sync>(
         "--print",
         print,
     ];
-    run(rt, alloc, &words, file.as_bytes())
+    answers(rt, alloc, &words, file.as_bytes(), wanted)
+}
+
+/// The two runs of a file write the same, by so many workers and windows of so many ticks.
+pub fn compares<R: Files + Threads + Wait + Sync + Abort>(
+    rt: &R,
+    alloc: Global,
+    (workers, window): (&str, &str),
+    file: &str,
+) -> Result<(), Fail> {
+    let words = ["compare", "-", "--workers", workers, "--window", window];
+    answers(rt, alloc, &words, file.as_bytes(), (0, "same\n", ""))
+}
+
+/// What a run with these words over this input writes, which answers status 0.
+pub fn written<R: Files + Threads + Wait + Sync + Abort>(
+    rt: &R,
+    alloc: Global,
+    words: &[&str],
+    input: &[u8],
+) -> Result<String, Fail> {
+    let ran = run(rt, alloc, words, input)?;
+    same(rt, &(ran.status, ran.faults.as_str()), &(0, ""));
+    Ok(ran.out)
 }
 
 /// What `list` prints of a file.
@@ -117,10 +195,7 @@ pub fn printed<R: Files + Threads + Wait + Sync + Abort>(
     print: &str,
     file: &str,
 ) -> Result<String, Fail> {
-    let ran = run(rt, alloc, &["list", "-", "--print", print], file.as_bytes())?;
-    assert_eq!(rt; ran.faults.as_str(), "");
-    assert_eq!(rt; ran.status, 0);
-    Ok(ran.out)
+    written(rt, alloc, &["list", "-", "--print", print], file.as_bytes())
 }
 
 /// The trace that a file gives.
@@ -146,21 +221,40 @@ pub fn changed(alloc: Global, file: &str, old: &str, new: &str) -> Result<String
     file.replace(alloc, old, new)
 }
 
+/// The file with this seed in the place of seed 1.
+pub fn seeded(alloc: Global, file: &str, seed: u32) -> Result<String, AllocError> {
+    let line = format!(in alloc; "seed = {seed}\n")?;
+    changed(alloc, file, "seed = 1\n", &line)
+}
+
 /// A field of a row, counted from 0.
 pub fn field(row: &str, place: usize) -> &str {
     row.split(',').nth(place).unwrap_or("")
 }
 
-/// The rows of a trace below its header.
-pub fn rows(alloc: Global, trace: &str) -> Result<Vec<&str>, AllocError> {
-    trace.lines().skip(1).collect(alloc)
+/// How many rows a trace has below its header.
+pub fn count_of(trace: &str) -> usize {
+    trace.lines().skip(1).count()
 }
 
 /// The sum of a column of numbers.
-pub fn sum_of(rows: &[&str], place: usize) -> u64 {
+pub fn sum_of(trace: &str, place: usize) -> u64 {
     let mut sum = 0u64;
-    for row in rows {
+    for row in trace.lines().skip(1) {
         sum = sum.saturating_add(field(row, place).parse::<u64>().unwrap_or(0));
     }
     sum
+}
+
+/// The rows of a trace that note something with this part have these ticks, processes and notes.
+pub fn has_notes<R: Abort>(rt: &R, trace: &str, part: &str, wanted: &[(&str, &str, &str)]) {
+    let mut left = wanted.iter();
+    for row in trace.lines().skip(1) {
+        let notes = field(row, 7);
+        if !notes.is_empty() && notes.contains(part) {
+            let came = (field(row, 0), field(row, 1), notes);
+            same(rt, &Some(&came), &left.next());
+        }
+    }
+    assert!(rt; left.next().is_none());
 }

@@ -4,13 +4,13 @@ ghost use Rattle.scenario.specs.Opening.{mind_of};
 
 use crate::bench::{Mode, bench};
 use crate::tests::files::{FIVE, ONE_CRASH, ONE_PROCESS, TAKEN_BACK, WATCH_NEXT};
-use crate::tests::runs::{answers, changed, trace_of};
+use crate::tests::runs::{answers, changed, has_part, lists, lists_again, same, trace_of};
 use event_list::run_list;
 use judges::Answer;
 use machines::{idle, make_all};
-use process_api::{DetectorNumbers, Process};
+use process_api::{DetectorNumbers, Process, Trace};
 use qos_report::{MemoryOutlet, Outlet, PrintChoice, Summary, write_report, write_trace};
-use scenario::{AlgorithmKind, Opening, read_scenario};
+use scenario::{AlgorithmKind, Opening, Scenario, read_scenario};
 use std::alloc::{AllocError, Global};
 use std::marker::Sync;
 use std::process::Abort;
@@ -98,16 +98,20 @@ const ALL_LOST: &str = "tick,receiver,sender,number,kind,sent,lost,notes
 #[test]
 fn one_crash(rt: HostRuntime) -> Result<(), Fail> {
     let alloc = rt.alloc();
-    for (at, want) in [
+    for (at, want) in &[
         ("at = 3", CRASH_AT_3),
         ("at = 0", CRASH_AT_0),
         ("at = 10", CRASH_AT_HORIZON),
     ] {
         let file = changed(alloc, ONE_CRASH, "at = 3", at)?;
-        let trace = trace_of(&rt, alloc, file.as_str())?;
-        assert_eq!(rt; trace.as_str(), want, "{at}");
+        lists(&rt, alloc, "trace", &file, want)?;
     }
     Ok(())
+}
+
+/// An outlet took these bytes, and no put failed.
+fn took<R: Abort>(rt: &R, outlet: &MemoryOutlet, wanted: &[u8]) {
+    same(rt, &(outlet.bytes(), outlet.failures()), &(wanted, 0));
 }
 
 /// What `list` tells of a file's run, over an outlet that takes all.
@@ -120,32 +124,30 @@ pub fn summary_of<R: Threads + Wait + Sync + Abort>(
     let scenario = read_scenario(alloc, file.as_bytes())?;
     let mut outlet = MemoryOutlet::new(alloc);
     let summary = bench(rt, alloc, &scenario, Mode::List, print, &mut outlet)?;
-    assert_eq!(rt; outlet.failures(), 0);
+    same(rt, &outlet.failures(), &0);
     Ok(summary)
 }
 
 #[test]
 fn summary_of_one_crash(rt: HostRuntime) -> Result<(), Fail> {
-    let alloc = rt.alloc();
-    let summary = summary_of(&rt, alloc, ONE_CRASH, PrintChoice::Trace)?;
-    assert_eq!(rt; (summary.entries, summary.sent, summary.lost), (12, 4, 0));
-    assert_eq!(rt; summary.outcomes.len(), 2);
+    let summary = summary_of(&rt, rt.alloc(), ONE_CRASH, PrintChoice::Trace)?;
+    let came = (summary.entries, summary.sent, summary.lost);
+    same(&rt, &came, &(12, 4, 0));
+    same(&rt, &summary.outcomes.len(), &2);
     for outcome in summary.outcomes.as_slice() {
         let found = (outcome.value, outcome.tick, outcome.rounds);
-        assert_eq!(rt; found, (Answer::None, None, 0));
+        same(&rt, &found, &(Answer::None, None, 0));
     }
     Ok(())
 }
 
+/// The trace of one process, which takes its start alone.
+const ALONE_TRACE: &str = "tick,receiver,sender,number,kind,sent,lost,notes\n0,1,1,0,start,0,0,\n";
+
 #[test]
 fn one_process(rt: HostRuntime) -> Result<(), Fail> {
-    let trace = trace_of(&rt, rt.alloc(), ONE_PROCESS)?;
-    assert_eq!(rt; trace.len(), 68);
-    assert_eq!(rt;
-        trace.as_str(),
-        "tick,receiver,sender,number,kind,sent,lost,notes\n0,1,1,0,start,0,0,\n"
-    );
-    Ok(())
+    same(&rt, &ALONE_TRACE.len(), &68);
+    lists(&rt, rt.alloc(), "trace", ONE_PROCESS, ALONE_TRACE)
 }
 
 /// The report of one process that takes its start alone.
@@ -161,14 +163,11 @@ verdict,1,0,0,eventual_strong_accuracy,0
 verdict,1,0,0,eventual_weak_accuracy,0
 ";
 
-/// A machine of one's own, its run, and the texts of its trace.
-#[test]
-fn own_machine(rt: HostRuntime) -> Result<(), Fail> {
-    let alloc = rt.alloc();
-    let scenario = read_scenario(alloc, ONE_PROCESS.as_bytes())?;
+/// The run of one process over a machine of one's own.
+fn own_trace(alloc: Global, scenario: &Scenario) -> Result<Trace, Fail> {
     let machines = make_all(
         alloc,
-        &scenario,
+        scenario,
         |opening: Opening| -> Result<Box<dyn Process>, AllocError>
             ensures { IfOk result (λ made. mind made ≡ mind_of opening) }
         {
@@ -181,44 +180,55 @@ fn own_machine(rt: HostRuntime) -> Result<(), Fail> {
             }
         },
     )?;
-    let trace = run_list(alloc, &scenario, machines)?;
+    Ok(run_list(alloc, scenario, machines)?)
+}
+
+/// The texts of a trace are those of one process that takes its start alone.
+fn has_texts<R: Abort>(
+    rt: &R,
+    alloc: Global,
+    scenario: &Scenario,
+    trace: &Trace,
+) -> Result<(), Fail> {
     let mut outlet = MemoryOutlet::new(alloc);
-    write_trace(alloc, &trace, &mut outlet)?;
-    let want = b"tick,receiver,sender,number,kind,sent,lost,notes\n0,1,1,0,start,0,0,\n".as_slice();
-    assert!(rt; outlet.bytes() == want);
-    assert_eq!(rt; outlet.failures(), 0);
+    write_trace(alloc, trace, &mut outlet)?;
+    took(rt, &outlet, ALONE_TRACE.as_bytes());
     let mut outlet = MemoryOutlet::new(alloc);
-    write_report(alloc, &scenario, &trace, &mut outlet)?;
-    assert!(rt; outlet.bytes() == ALONE_REPORT);
-    assert_eq!(rt; outlet.failures(), 0);
+    write_report(alloc, scenario, trace, &mut outlet)?;
+    took(rt, &outlet, ALONE_REPORT);
     Ok(())
+}
+
+/// A machine of one's own, its run, and the texts of its trace.
+#[test]
+fn own_machine(rt: HostRuntime) -> Result<(), Fail> {
+    let alloc = rt.alloc();
+    let scenario = read_scenario(alloc, ONE_PROCESS.as_bytes())?;
+    let trace = own_trace(alloc, &scenario)?;
+    has_texts(&rt, alloc, &scenario, &trace)
 }
 
 #[test]
 fn suspicion_taken_back(rt: HostRuntime) -> Result<(), Fail> {
-    let trace = trace_of(&rt, rt.alloc(), TAKEN_BACK)?;
-    assert_eq!(rt; trace.as_str(), TAKEN_BACK_TRACE);
-    Ok(())
+    lists(&rt, rt.alloc(), "trace", TAKEN_BACK, TAKEN_BACK_TRACE)
 }
 
 #[test]
 fn all_letters_lost(rt: HostRuntime) -> Result<(), Fail> {
     let alloc = rt.alloc();
     let file = changed(alloc, ONE_CRASH, "max = 2\n", "max = 2\nloss = 1000\n")?;
-    let trace = trace_of(&rt, alloc, file.as_str())?;
-    assert_eq!(rt; trace.as_str(), ALL_LOST);
-    Ok(())
+    lists(&rt, alloc, "trace", &file, ALL_LOST)
 }
 
 #[test]
 fn watch_next(rt: HostRuntime) -> Result<(), Fail> {
     let trace = trace_of(&rt, rt.alloc(), WATCH_NEXT)?;
-    for line in [
+    for line in &[
         "\n6,1,1,5,check,0,0,suspect:1:2\n",
         "\n9,1,1,11,suspects,0,0,suspect:2:2\n",
         "\n10,3,1,6,suspects,0,0,suspect:2:2\n",
     ] {
-        assert!(rt; trace.as_str().contains(line), "{line}");
+        has_part(&rt, &trace, line);
     }
     Ok(())
 }
@@ -229,10 +239,9 @@ fn same_each_time(rt: HostRuntime) -> Result<(), Fail> {
     let alloc = rt.alloc();
     let consensus = "algorithm = \"es\"\nproposals = [1, 2, 3, 4, 5]\n";
     let file = changed(alloc, FIVE, consensus, "algorithm = \"none\"\n")?;
-    let first = trace_of(&rt, alloc, file.as_str())?;
-    let second = trace_of(&rt, alloc, file.as_str())?;
-    assert!(rt; first.as_str() == second.as_str());
-    assert!(rt; first.as_str().contains(",alive,"));
+    lists_again(&rt, alloc, "trace", &file)?;
+    let trace = trace_of(&rt, alloc, &file)?;
+    has_part(&rt, &trace, ",alive,");
     Ok(())
 }
 
@@ -240,11 +249,13 @@ fn same_each_time(rt: HostRuntime) -> Result<(), Fail> {
 #[test]
 fn limits(rt: HostRuntime) -> Result<(), Fail> {
     let alloc = rt.alloc();
-    let words = ["list", "-", "--print", "trace"];
-    let enough = changed(alloc, ONE_CRASH, "seed = 1\n", "seed = 1\nlimit = 12\n")?;
-    let trace = trace_of(&rt, alloc, enough.as_str())?;
-    assert_eq!(rt; trace.as_str(), CRASH_AT_3);
-    let short = changed(alloc, ONE_CRASH, "seed = 1\n", "seed = 1\nlimit = 11\n")?;
-    let want = (3, "", "fdbench: run: Limit\n");
-    answers(&rt, alloc, &words, short.as_bytes(), want)
+    for (limit, want) in &[
+        ("seed = 1\nlimit = 12\n", (0, CRASH_AT_3, "")),
+        ("seed = 1\nlimit = 11\n", (3, "", "fdbench: run: Limit\n")),
+    ] {
+        let file = changed(alloc, ONE_CRASH, "seed = 1\n", limit)?;
+        let words = &["list", "-", "--print", "trace"];
+        answers(&rt, alloc, words, file.as_bytes(), *want)?;
+    }
+    Ok(())
 }

@@ -1,7 +1,7 @@
 //! Command lines, from the words to the status.
 
 use crate::tests::files::ONE_CRASH;
-use crate::tests::runs::{answers, printed, run};
+use crate::tests::runs::{answers, checks, has_part, printed, run, same, written};
 use std::alloc::Global;
 use std::marker::Sync;
 use std::process::Abort;
@@ -10,35 +10,44 @@ use std::sync::Wait;
 use std::test::Fail;
 use std::thread::Threads;
 
+/// With these words and no choice of what is printed this report is printed of one crash.
+fn reports<R: Files + Threads + Wait + Sync + Abort>(
+    rt: &R,
+    alloc: Global,
+    words: &[&str],
+    report: &str,
+) -> Result<(), Fail> {
+    answers(rt, alloc, words, ONE_CRASH.as_bytes(), (0, report, ""))
+}
+
+/// Where both are asked for, the report follows the trace.
+fn ends_both<R: Files + Threads + Wait + Sync + Abort>(
+    rt: &R,
+    alloc: Global,
+    report: &str,
+) -> Result<(), Fail> {
+    let trace = printed(rt, alloc, "trace", ONE_CRASH)?;
+    let both = printed(rt, alloc, "both", ONE_CRASH)?;
+    let (trace, both) = (trace.as_str(), both.as_str());
+    let has_headers = report.starts_with("section,layer,") && trace.starts_with("tick,receiver,");
+    assert!(rt; has_headers && both.strip_prefix(trace) == Some(report));
+    Ok(())
+}
+
 /// Where nothing is said of it, the report is printed.
 #[test]
 fn prints(rt: HostRuntime) -> Result<(), Fail> {
     let alloc = rt.alloc();
     let report = printed(&rt, alloc, "report", ONE_CRASH)?;
-    let trace = printed(&rt, alloc, "trace", ONE_CRASH)?;
-    let both = printed(&rt, alloc, "both", ONE_CRASH)?;
-    assert!(rt; report.as_str().starts_with("section,layer,"));
-    assert!(rt; trace.as_str().starts_with("tick,receiver,"));
-    assert!(rt; both.as_str().strip_prefix(trace.as_str()) == Some(report.as_str()));
-    for words in [
-        ["list", "-"].as_slice(),
-        ["run", "-", "--workers", "2", "--window", "2"].as_slice(),
-    ] {
-        answers(
-            &rt,
-            alloc,
-            words,
-            ONE_CRASH.as_bytes(),
-            (0, report.as_str(), ""),
-        )?;
-    }
-    Ok(())
+    reports(&rt, alloc, &["list", "-"], &report)?;
+    let words = &["run", "-", "--workers", "2", "--window", "2"];
+    reports(&rt, alloc, words, &report)?;
+    ends_both(&rt, alloc, &report)
 }
 
 #[test]
 fn accepted(rt: HostRuntime) -> Result<(), Fail> {
-    let input = ONE_CRASH.as_bytes();
-    answers(&rt, rt.alloc(), &["check", "-"], input, (0, "ok\n", ""))
+    checks(&rt, rt.alloc(), ONE_CRASH.as_bytes(), (0, "ok\n", ""))
 }
 
 /// Nothing goes out for words that lack something, and the line names no more than that.
@@ -63,15 +72,9 @@ fn missing(rt: HostRuntime) -> Result<(), Fail> {
 fn told_by_clap(rt: HostRuntime) -> Result<(), Fail> {
     let alloc = rt.alloc();
     let ran = run(&rt, alloc, &["start", "-"], ONE_CRASH.as_bytes())?;
-    let part = "unrecognized subcommand 'start'";
-    assert!(rt; ran.faults.as_str().contains(part), "{}", ran.faults);
-    assert_eq!(rt; (ran.status, ran.out.as_str()), (2, ""));
-    let ran = run(&rt, alloc, &["run", "--help"], b"")?;
-    assert!(rt;
-        ran.out.as_str().contains("Usage: fdbench run"),
-        "{}",
-        ran.out
-    );
-    assert_eq!(rt; (ran.status, ran.faults.as_str()), (0, ""));
+    has_part(&rt, &ran.faults, "unrecognized subcommand 'start'");
+    same(&rt, &(ran.status, ran.out.as_str()), &(2, ""));
+    let help = written(&rt, alloc, &["run", "--help"], b"")?;
+    has_part(&rt, &help, "Usage: fdbench run");
     Ok(())
 }

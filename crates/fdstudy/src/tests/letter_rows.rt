@@ -1,6 +1,7 @@
 //! The letters of a run.
 
-use crate::tests::runs::{COORDINATORS, ONE_CRASH, SHARED, STRONG, printed, refuses};
+use crate::tests::runs::{COORDINATORS, ONE_CRASH, SHARED, STRONG, printed, prints, refuses};
+use std::alloc::{AllocError, Global};
 use std::test::Fail;
 
 /// Both processes send a letter at tick 0, which takes 2 ticks. Of those of process 1 at ticks 4 and 8 the first comes
@@ -69,28 +70,32 @@ const SHARED_ROWS: &str = "sent,sender,receiver,number,kind,due,fate
 
 #[test]
 fn worked_runs(rt: HostRuntime) -> Result<(), Fail> {
-    for (file, rows) in [
+    for (file, rows) in &[
         (ONE_CRASH, ROWS),
         (STRONG, STRONG_ROWS),
         (COORDINATORS, COORDINATOR_ROWS),
         (SHARED, SHARED_ROWS),
     ] {
-        let text = printed(&rt, rt.alloc(), "letters -", file)?;
-        assert_eq!(rt; text.as_str(), rows);
+        prints(&rt, rt.alloc(), "letters -", file, rows)?;
     }
     Ok(())
+}
+
+/// The file of one crash with this limit.
+fn limited(alloc: Global, limit: u8) -> Result<String, AllocError> {
+    let new = format!(in alloc; "horizon = 10\nlimit = {limit}")?;
+    ONE_CRASH.replace(alloc, "horizon = 10", &new)
 }
 
 /// The run has 12 entries. Where its limit is lower nothing is printed, neither letters nor a picture.
 #[test]
 fn limits(rt: HostRuntime) -> Result<(), Fail> {
     let alloc = rt.alloc();
-    let within = ONE_CRASH.replace(alloc, "horizon = 10", "horizon = 10\nlimit = 12")?;
-    let text = printed(&rt, alloc, "letters -", &within)?;
-    assert_eq!(rt; text.as_str(), ROWS);
+    let within = limited(alloc, 12)?;
+    prints(&rt, alloc, "letters -", &within, ROWS)?;
     printed(&rt, alloc, "draw - --as suspicions", &within)?;
-    let above = ONE_CRASH.replace(alloc, "horizon = 10", "horizon = 10\nlimit = 11")?;
-    for line in ["letters -", "draw - --as suspicions", "draw - --as letters"] {
+    let above = limited(alloc, 11)?;
+    for line in &["letters -", "draw - --as suspicions", "draw - --as letters"] {
         refuses(&rt, alloc, line, &above, 3, "fdstudy: run: Limit\n")?;
     }
     Ok(())
@@ -100,14 +105,15 @@ fn limits(rt: HostRuntime) -> Result<(), Fail> {
 #[test]
 fn picture_before_limit(rt: HostRuntime) -> Result<(), Fail> {
     let alloc = rt.alloc();
-    let above = ONE_CRASH.replace(alloc, "horizon = 10", "horizon = 10\nlimit = 11")?;
+    let above = limited(alloc, 11)?;
     let fault = "-: Ticks: these ticks aren't those of the run\n";
-    for picture in ["suspicions", "letters"] {
-        let line = format!(in alloc; "draw - --as {picture} --until 11")?;
-        refuses(&rt, alloc, &line, &above, 1, fault)?;
+    for line in &[
+        "draw - --as suspicions --until 11",
+        "draw - --as letters --until 11",
+    ] {
+        refuses(&rt, alloc, line, &above, 1, fault)?;
     }
     let many = above.replace(alloc, "processes = 2", "processes = 17")?;
     let fault = "-: TooManyProcesses: there are more than 16 processes\n";
-    refuses(&rt, alloc, "draw - --as letters", &many, 1, fault)?;
-    Ok(())
+    refuses(&rt, alloc, "draw - --as letters", &many, 1, fault)
 }

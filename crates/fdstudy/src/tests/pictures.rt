@@ -1,58 +1,52 @@
 //! Pictures of a run.
 
-use crate::tests::runs::{COORDINATORS, ONE_CRASH, SHARED, STRONG, printed, refuses, run};
-use std::alloc::Global;
+use crate::tests::runs::{
+    COORDINATORS, ONE_CRASH, SHARED, STRONG, has_part, printed, refuses, same, tells,
+};
+use std::alloc::{AllocError, Global};
 use std::marker::Sync;
 use std::process::Abort;
 use std::rt::Files;
 use std::test::Fail;
 use std::thread::Threads;
 
-/// Ticks that are asked for, what the title says of them, and the bar of process 1, which suspects process 2 from tick
-/// 9 on: the ticks share 800 units from 88 on.
+/// Lines that ask for ticks of the run, what the title says of them, and the bar of process 1, which suspects process 2
+/// from tick 9 on: the ticks share 800 units from 88 on.
 const BARS: [(&str, &str, &str); 5] = [
-    ("", "ticks 0 to 9", "x=\"808\" y=\"100\" width=\"80\""),
     (
-        "--until 10",
+        "draw - --as suspicions",
         "ticks 0 to 9",
-        "x=\"808\" y=\"100\" width=\"80\"",
+        "<rect class=\"first\" x=\"808\" y=\"100\" width=\"80\" height=\"6\"/>\n",
     ),
     (
-        "--from 5",
+        "draw - --as suspicions --until 10",
+        "ticks 0 to 9",
+        "<rect class=\"first\" x=\"808\" y=\"100\" width=\"80\" height=\"6\"/>\n",
+    ),
+    (
+        "draw - --as suspicions --from 5",
         "ticks 5 to 9",
-        "x=\"728\" y=\"100\" width=\"160\"",
+        "<rect class=\"first\" x=\"728\" y=\"100\" width=\"160\" height=\"6\"/>\n",
     ),
     (
-        "--from 8 --until 10",
+        "draw - --as suspicions --from 8 --until 10",
         "ticks 8 to 9",
-        "x=\"488\" y=\"100\" width=\"400\"",
+        "<rect class=\"first\" x=\"488\" y=\"100\" width=\"400\" height=\"6\"/>\n",
     ),
     (
-        "--from 9",
+        "draw - --as suspicions --from 9",
         "ticks 9 to 9",
-        "x=\"88\" y=\"100\" width=\"800\"",
+        "<rect class=\"first\" x=\"88\" y=\"100\" width=\"800\" height=\"6\"/>\n",
     ),
 ];
 
-/// A line that asks for a picture with these options.
-fn line_of(alloc: Global, options: &str) -> Result<String, Fail> {
-    if options.is_empty() {
-        return Ok(String::from_str(alloc, "draw - --as suspicions")?);
-    }
-    Ok(format!(in alloc; "draw - --as suspicions {options}")?)
-}
-
 #[test]
 fn bars(rt: HostRuntime) -> Result<(), Fail> {
-    let alloc = rt.alloc();
-    for (options, title, bar) in BARS {
-        let line = line_of(alloc, options)?;
-        let text = printed(&rt, alloc, &line, ONE_CRASH)?;
-        let text = text.as_str();
-        assert!(rt; text.contains(title), "{line}: {text}");
-        let bar = format!(in alloc; "<rect class=\"first\" {bar} height=\"6\"/>\n")?;
-        assert!(rt; text.contains(bar.as_str()), "{line}: {text}");
-        assert!(rt; text.ends_with("</svg>\n"), "{line}");
+    for (line, title, bar) in &BARS {
+        let text = printed(&rt, rt.alloc(), line, ONE_CRASH)?;
+        has_part(&rt, &text, title);
+        has_part(&rt, &text, bar);
+        assert!(rt; text.as_str().ends_with("</svg>\n"), "{line}");
     }
     Ok(())
 }
@@ -66,25 +60,22 @@ const SHAPES: [&str; 5] = [
     "<circle class=\"first\" cx=\"808\" cy=\"106\" r=\"3\"/>\n",
 ];
 
+/// How many lines of a text have this part.
+fn lines_with(text: &str, part: &str) -> usize {
+    text.lines()
+        .filter(|line: &&str| line.contains(part))
+        .count()
+}
+
 #[test]
 fn letters_of_one_crash(rt: HostRuntime) -> Result<(), Fail> {
-    let alloc = rt.alloc();
-    let text = printed(&rt, alloc, "draw - --as letters", ONE_CRASH)?;
-    for shape in SHAPES {
-        assert!(rt; text.as_str().contains(shape), "{shape}{text}");
+    let text = printed(&rt, rt.alloc(), "draw - --as letters", ONE_CRASH)?;
+    for shape in &SHAPES {
+        has_part(&rt, &text, shape);
     }
-    let text = printed(
-        &rt,
-        alloc,
-        "draw - --as letters --from 1 --until 8",
-        ONE_CRASH,
-    )?;
-    let arrows = text
-        .as_str()
-        .lines()
-        .filter(|it: &&str| it.contains("x1=\"430\" y1=\"106\""))
-        .count();
-    assert_eq!(rt; arrows, 1, "{text}");
+    let line = "draw - --as letters --from 1 --until 8";
+    let text = printed(&rt, rt.alloc(), line, ONE_CRASH)?;
+    same(&rt, &lines_with(&text, "x1=\"430\" y1=\"106\""), &1);
     Ok(())
 }
 
@@ -125,20 +116,19 @@ const SHARED_SHAPES: [&str; 8] = [
     "<text class=\"remark\" x=\"808\" y=\"235\" text-anchor=\"middle\">+2</text>\n",
 ];
 
-/// Each shape is in one of the two pictures of a file's run from a tick on.
+/// Each shape is in one of the two pictures of a file's run that these lines ask for.
 fn shows<R: Files + Threads + Sync + Abort>(
     rt: &R,
     alloc: Global,
+    (bars, letters): (&str, &str),
     file: &str,
-    from: u8,
     shapes: &[&str],
 ) -> Result<(), Fail> {
-    let line = format!(in alloc; "draw - --as suspicions --from {from}")?;
-    let mut text = printed(rt, alloc, &line, file)?;
-    let line = format!(in alloc; "draw - --as letters --from {from}")?;
-    text.push_str(printed(rt, alloc, &line, file)?.as_str())?;
+    let bars = printed(rt, alloc, bars, file)?;
+    let letters = printed(rt, alloc, letters, file)?;
     for shape in shapes {
-        assert!(rt; text.as_str().contains(*shape), "{shape}{text}");
+        let is_shown = bars.contains(*shape) || letters.contains(*shape);
+        assert!(rt; is_shown, "{shape}: {bars}{letters}");
     }
     Ok(())
 }
@@ -146,28 +136,40 @@ fn shows<R: Files + Threads + Sync + Abort>(
 #[test]
 fn worked_runs(rt: HostRuntime) -> Result<(), Fail> {
     let alloc = rt.alloc();
-    shows(&rt, alloc, STRONG, 0, &STRONG_SHAPES)?;
-    shows(&rt, alloc, COORDINATORS, 0, &COORDINATOR_SHAPES)?;
-    shows(&rt, alloc, SHARED, 1, &SHARED_SHAPES)
+    let from_0 = (
+        "draw - --as suspicions --from 0",
+        "draw - --as letters --from 0",
+    );
+    shows(&rt, alloc, from_0, STRONG, &STRONG_SHAPES)?;
+    shows(&rt, alloc, from_0, COORDINATORS, &COORDINATOR_SHAPES)?;
+    let from_1 = (
+        "draw - --as suspicions --from 1",
+        "draw - --as letters --from 1",
+    );
+    shows(&rt, alloc, from_1, SHARED, &SHARED_SHAPES)
+}
+
+/// The file of one crash with so many processes.
+fn crowd(alloc: Global, processes: u8) -> Result<String, AllocError> {
+    let new = format!(in alloc; "processes = {processes}")?;
+    ONE_CRASH.replace(alloc, "processes = 2", &new)
+}
+
+/// Sixteen processes over 100 ticks, of which one crashes near the end.
+fn talkative(alloc: Global) -> Result<String, AllocError> {
+    let longer = crowd(alloc, 16)?.replace(alloc, "horizon = 10", "horizon = 100")?;
+    longer.replace(alloc, "at = 3", "at = 99")
 }
 
 /// Sixteen processes send 240 letters every 4 ticks: 1,920 by tick 28, and 2,160 by tick 32.
 #[test]
 fn too_many_letters(rt: HostRuntime) -> Result<(), Fail> {
     let alloc = rt.alloc();
-    let many = ONE_CRASH.replace(alloc, "processes = 2", "processes = 16")?;
-    let longer = many.replace(alloc, "horizon = 10", "horizon = 100")?;
-    let file = longer.replace(alloc, "at = 3", "at = 99")?;
+    let file = talkative(alloc)?;
     let fault = "-: TooManyLetters: there are more than 2,000 letters to draw\n";
-    refuses(
-        &rt,
-        alloc,
-        "draw - --as letters --until 33",
-        &file,
-        1,
-        fault,
-    )?;
-    refuses(&rt, alloc, "draw - --as letters", &file, 1, fault)?;
+    for line in &["draw - --as letters --until 33", "draw - --as letters"] {
+        refuses(&rt, alloc, line, &file, 1, fault)?;
+    }
     printed(&rt, alloc, "draw - --as letters --until 32", &file)?;
     Ok(())
 }
@@ -175,41 +177,42 @@ fn too_many_letters(rt: HostRuntime) -> Result<(), Fail> {
 /// Before tick 9 nobody is suspected: of bars the legend's sample alone is drawn.
 #[test]
 fn no_bar(rt: HostRuntime) -> Result<(), Fail> {
-    let alloc = rt.alloc();
-    for options in ["--until 9", "--from 3 --until 9"] {
-        let line = line_of(alloc, options)?;
-        let text = printed(&rt, alloc, &line, ONE_CRASH)?;
+    for line in &[
+        "draw - --as suspicions --until 9",
+        "draw - --as suspicions --from 3 --until 9",
+    ] {
+        let text = printed(&rt, rt.alloc(), line, ONE_CRASH)?;
         let bars = text
-            .as_str()
             .lines()
-            .filter(|it: &&str| it.starts_with("<rect class=\"first\""))
+            .filter(|line: &&str| line.starts_with("<rect class=\"first\""))
             .count();
-        assert_eq!(rt; bars, 1, "{line}");
+        same(&rt, &(*line, bars), &(*line, 1));
     }
     Ok(())
 }
 
-/// The horizon is 10.
+/// Lines that ask for other ticks than those before the horizon, which is 10.
+const NO_TICKS: [&str; 6] = [
+    "draw - --as suspicions --from 5 --until 5",
+    "draw - --as suspicions --from 6 --until 5",
+    "draw - --as suspicions --until 11",
+    "draw - --as suspicions --from 10",
+    "draw - --as suspicions --until 0",
+    "draw - --as suspicions --from 4294967295",
+];
+
+/// The horizon is 10, and a picture has room for 16 processes.
 #[test]
 fn refused(rt: HostRuntime) -> Result<(), Fail> {
     let alloc = rt.alloc();
-    for options in [
-        "--from 5 --until 5",
-        "--from 6 --until 5",
-        "--until 11",
-        "--from 10",
-        "--until 0",
-        "--from 4294967295",
-    ] {
-        let line = line_of(alloc, options)?;
-        let fault = "-: Ticks: these ticks aren't those of the run\n";
-        refuses(&rt, alloc, &line, ONE_CRASH, 1, fault)?;
+    let fault = "-: Ticks: these ticks aren't those of the run\n";
+    for line in &NO_TICKS {
+        refuses(&rt, alloc, line, ONE_CRASH, 1, fault)?;
     }
-    let many = ONE_CRASH.replace(alloc, "processes = 2", "processes = 17")?;
     let fault = "-: TooManyProcesses: there are more than 16 processes\n";
-    refuses(&rt, alloc, "draw - --as suspicions", &many, 1, fault)?;
-    let sixteen = ONE_CRASH.replace(alloc, "processes = 2", "processes = 16")?;
-    printed(&rt, alloc, "draw - --as suspicions", &sixteen)?;
+    let line = "draw - --as suspicions";
+    refuses(&rt, alloc, line, &crowd(alloc, 17)?, 1, fault)?;
+    printed(&rt, alloc, line, &crowd(alloc, 16)?)?;
     Ok(())
 }
 
@@ -217,23 +220,10 @@ fn refused(rt: HostRuntime) -> Result<(), Fail> {
 #[test]
 fn words(rt: HostRuntime) -> Result<(), Fail> {
     let alloc = rt.alloc();
-    for word in ["circles", "Suspicions"] {
-        let line = format!(in alloc; "draw - --as {word}")?;
-        let fault = format!(in alloc; "fdstudy: words: NoPicture: {word}\n")?;
-        refuses(&rt, alloc, &line, ONE_CRASH, 2, &fault)?;
-    }
-    let ran = run(
-        &rt,
-        alloc,
-        "draw - --as suspicions --until 4294967306",
-        ONE_CRASH,
-    )?;
-    assert!(rt;
-        ran.faults.as_str().contains("4294967306 is not in 0..="),
-        "{}",
-        ran.faults
-    );
-    assert_eq!(rt; ran.out.as_str(), "");
-    assert_eq!(rt; ran.status, 2);
-    Ok(())
+    let fault = "fdstudy: words: NoPicture: circles\n";
+    refuses(&rt, alloc, "draw - --as circles", ONE_CRASH, 2, fault)?;
+    let fault = "fdstudy: words: NoPicture: Suspicions\n";
+    refuses(&rt, alloc, "draw - --as Suspicions", ONE_CRASH, 2, fault)?;
+    let line = "draw - --as suspicions --until 4294967306";
+    tells(&rt, alloc, line, "4294967306 is not in 0..=")
 }

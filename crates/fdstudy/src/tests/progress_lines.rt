@@ -1,6 +1,7 @@
 //! The line of progress, by a clock that the test sets, on a terminal in memory.
 
 use crate::progress_line::ProgressLine;
+use crate::tests::runs::same;
 use std::cell::Cell;
 use std::io::{self, Write};
 use std::test::Fail;
@@ -47,6 +48,18 @@ fn standing(done: u64) -> Standing {
     }
 }
 
+/// What the clock shows, and how many runs are in.
+const TIMES: [(Option<u64>, u64); 8] = [
+    (Some(5_000), 0),
+    (Some(5_100), 64),
+    (Some(15_000), 100),
+    (Some(15_199), 110),
+    (None, 200),
+    (Some(165_000), 250),
+    (Some(36_005_000), 300),
+    (Some(36_105_000), 399),
+];
+
 /// Four points with 100 runs each. After 10 seconds a quarter of the runs is in, so 30 seconds are left; after 160
 /// seconds 250 runs are, so 96 seconds; after 10 hours 300, so 12,000 seconds; 100 seconds later one is left, so 90.
 /// What comes less than 200 milliseconds after a line isn't drawn. A shorter line is filled up with blanks.
@@ -56,19 +69,10 @@ fn lines(rt: HostRuntime) -> Result<(), Fail> {
     let clock = Hand(Cell::new(None));
     let mut screen = Vec::new(alloc);
     let mut line = ProgressLine::new(&clock, alloc, Some(&mut screen), false);
-    for (millis, done) in [
-        (Some(5_000), 0),
-        (Some(5_100), 64),
-        (Some(15_000), 100),
-        (Some(15_199), 110),
-        (None, 200),
-        (Some(165_000), 250),
-        (Some(36_005_000), 300),
-        (Some(36_105_000), 399),
-    ] {
-        clock.0.set(millis);
+    for (millis, done) in &TIMES {
+        clock.0.set(*millis);
         line.make_way();
-        line.hear(standing(done));
+        line.hear(standing(*done));
     }
     line.hide();
     line.hide();
@@ -79,7 +83,7 @@ fn lines(rt: HostRuntime) -> Result<(), Fail> {
         \r3 of 4 points, 3 h 20 min left\
         \r3 of 4 points, 1 min left     \
         \r                              \r";
-    assert_eq!(rt; std::str::from_utf8(&screen)?, want);
+    same(&rt, &std::str::from_utf8(&screen)?, &want);
     Ok(())
 }
 
@@ -98,7 +102,7 @@ fn makes_way(rt: HostRuntime) -> Result<(), Fail> {
     line.hear(standing(200));
     drop(line);
     let want = "\r0 of 4 points\r             \r\r1 of 4 points, 0 s left";
-    assert_eq!(rt; std::str::from_utf8(&screen)?, want);
+    same(&rt, &std::str::from_utf8(&screen)?, &want);
     Ok(())
 }
 

@@ -3,6 +3,7 @@
 use crate::serve::serve;
 use qos_report::MemoryOutlet;
 use std::alloc::Global;
+use std::fmt::Debug;
 use std::marker::Sync;
 use std::process::Abort;
 use std::rt::Files;
@@ -111,6 +112,16 @@ pub fn text_of(alloc: Global, bytes: &[u8]) -> Result<String, Fail> {
     Ok(String::from_str(alloc, std::str::from_utf8(bytes)?)?)
 }
 
+/// What came is what was wanted.
+pub fn same<R: Abort, T: PartialEq + Debug>(rt: &R, came: &T, wanted: &T) {
+    assert_eq!(rt; came, wanted);
+}
+
+/// A text has this part.
+pub fn has_part<R: Abort>(rt: &R, text: &str, part: &str) {
+    assert!(rt; text.contains(part), "{part}: {text}");
+}
+
 /// The words of a line, apart by one space each, after the program's name.
 pub fn words_of(alloc: Global, line: &str) -> Result<Vec<&str>, Fail> {
     let mut words = Vec::new(alloc);
@@ -119,6 +130,17 @@ pub fn words_of(alloc: Global, line: &str) -> Result<Vec<&str>, Fail> {
         words.push(word)?;
     }
     Ok(words)
+}
+
+/// What a run answered, with the texts of what it wrote.
+fn ran_of(alloc: Global, status: u8, out: &[u8], faults: &[u8]) -> Result<Ran, Fail> {
+    let out = text_of(alloc, out)?;
+    let faults = text_of(alloc, faults)?;
+    Ok(Ran {
+        status,
+        out,
+        faults,
+    })
 }
 
 /// One run with the words of a line, over this input.
@@ -141,11 +163,7 @@ pub fn run<R: Files + Threads + Sync>(
         &mut faults,
         &mut Unwatched,
     );
-    Ok(Ran {
-        status,
-        out: text_of(alloc, outlet.bytes())?,
-        faults: text_of(alloc, faults.bytes())?,
-    })
+    ran_of(alloc, status, outlet.bytes(), faults.bytes())
 }
 
 /// What a run prints that is done.
@@ -156,9 +174,34 @@ pub fn printed<R: Files + Threads + Sync + Abort>(
     input: &str,
 ) -> Result<String, Fail> {
     let ran = run(rt, alloc, line, input)?;
-    assert_eq!(rt; ran.faults.as_str(), "", "{line}");
-    assert_eq!(rt; ran.status, 0, "{line}");
+    let came = (line, ran.status, ran.faults.as_str());
+    same(rt, &came, &(line, 0, ""));
     Ok(ran.out)
+}
+
+/// A run with the words of a line answers this status, and writes this and this of faults.
+fn answers<R: Files + Threads + Sync + Abort>(
+    rt: &R,
+    alloc: Global,
+    line: &str,
+    input: &str,
+    (status, out, faults): (u8, &str, &str),
+) -> Result<(), Fail> {
+    let ran = run(rt, alloc, line, input)?;
+    let came = (line, ran.status, ran.out.as_str(), ran.faults.as_str());
+    same(rt, &came, &(line, status, out, faults));
+    Ok(())
+}
+
+/// A run is done, and prints this.
+pub fn prints<R: Files + Threads + Sync + Abort>(
+    rt: &R,
+    alloc: Global,
+    line: &str,
+    input: &str,
+    wanted: &str,
+) -> Result<(), Fail> {
+    answers(rt, alloc, line, input, (0, wanted, ""))
 }
 
 /// A run is refused with this status and this line, and writes nothing.
@@ -170,9 +213,18 @@ pub fn refuses<R: Files + Threads + Sync + Abort>(
     status: u8,
     fault: &str,
 ) -> Result<(), Fail> {
-    let ran = run(rt, alloc, line, input)?;
-    assert_eq!(rt; ran.faults.as_str(), fault);
-    assert_eq!(rt; ran.out.as_str(), "", "{line}");
-    assert_eq!(rt; ran.status, status, "{line}");
+    answers(rt, alloc, line, input, (status, "", fault))
+}
+
+/// A run is refused with status 2, writes nothing, and tells this among the faults.
+pub fn tells<R: Files + Threads + Sync + Abort>(
+    rt: &R,
+    alloc: Global,
+    line: &str,
+    part: &str,
+) -> Result<(), Fail> {
+    let ran = run(rt, alloc, line, ONE_CRASH)?;
+    has_part(rt, &ran.faults, part);
+    same(rt, &(ran.status, ran.out.as_str()), &(2, ""));
     Ok(())
 }

@@ -1,6 +1,6 @@
 //! Words that are refused.
 
-use crate::tests::runs::{ONE_CRASH, refuses, run};
+use crate::tests::runs::{ONE_CRASH, has_part, printed, refuses, tells};
 use std::alloc::Global;
 use std::marker::Sync;
 use std::process::Abort;
@@ -108,7 +108,7 @@ fn shards_refused(rt: HostRuntime) -> Result<(), Fail> {
 
 #[test]
 fn lines_refused(rt: HostRuntime) -> Result<(), Fail> {
-    for (line, name) in LINES {
+    for (line, name) in &LINES {
         refuses_words(&rt, rt.alloc(), line, name)?;
     }
     Ok(())
@@ -117,22 +117,8 @@ fn lines_refused(rt: HostRuntime) -> Result<(), Fail> {
 /// What `clap` refuses is told in its own words, among the faults; its help is what was asked for.
 #[test]
 fn told_by_clap(rt: HostRuntime) -> Result<(), Fail> {
-    let alloc = rt.alloc();
-    let ran = run(&rt, alloc, "sweep -", ONE_CRASH)?;
-    assert!(rt;
-        ran.faults.as_str().contains("--seeds <A..=B>"),
-        "{}",
-        ran.faults
-    );
-    assert_eq!(rt; ran.out.as_str(), "");
-    assert_eq!(rt; ran.status, 2);
-    let ran = run(&rt, alloc, "sweep --help", "")?;
-    assert!(rt;
-        ran.out.as_str().contains("Usage: fdstudy sweep"),
-        "{}",
-        ran.out
-    );
-    assert_eq!(rt; ran.faults.as_str(), "");
-    assert_eq!(rt; ran.status, 0);
+    tells(&rt, rt.alloc(), "sweep -", "--seeds <A..=B>")?;
+    let help = printed(&rt, rt.alloc(), "sweep --help", "")?;
+    has_part(&rt, &help, "Usage: fdstudy sweep");
     Ok(())
 }

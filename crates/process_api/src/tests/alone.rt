@@ -2,6 +2,7 @@
 ghost use Rattle.std.specs.Prelude.{◌≡◌, ◌++◌, OnOk};
 ghost use Rattle.process_api.specs.Alone.{alone, does};
 
+use super::{numbered, same};
 use crate::*;
 use std::alloc::{AllocError, Global};
 use std::test::Fail;
@@ -61,45 +62,49 @@ impl Process for Alone {
     }
 }
 
-// What the box does with one input.
+// A boxed machine, for which memory is refused or not.
+fn boxed(alloc: Global, refuses: bool) -> Result<Box<dyn Process>, AllocError> {
+    let machine = Alone {
+        refuses,
+        failed: false,
+    };
+    Ok(Box::new(alloc, machine)?)
+}
+
+// What the box does with one input, as text.
 fn answer_of(
     alloc: Global,
     machine: &mut Box<dyn Process>,
     now: u32,
     input: &StepInput,
-) -> Result<Vec<Action>, AllocError> {
+) -> Result<String, AllocError> {
     let mut out = Vec::new(alloc);
     machine.on_input(now, input, &mut out)?;
-    Ok(out)
-}
-
-// The same as text.
-fn text_of(alloc: Global, actions: &[Action]) -> Result<String, AllocError> {
-    format!(in alloc; "{actions:?}")
+    format!(in alloc; "{out:?}")
 }
 
 #[test]
 fn a_boxed_process_alone_wakes_itself(rt: HostRuntime) -> Result<(), Fail> {
     let alloc = rt.alloc();
-    let one = Pid::new(1).ok_or("refused")?;
-    let mut machine: Box<dyn Process> = Box::new(
-        alloc,
-        Alone {
-            refuses: false,
-            failed: false,
-        },
-    )?;
-    assert_eq!(rt; machine.pid(), one);
-    let start = answer_of(alloc, &mut machine, 0, &StepInput::Start)?;
-    assert_eq!(rt;
-        text_of(alloc, &start)?.as_str(),
-        "[Wake { pause: 4, tag: Beat }, Wake { pause: 3, tag: Check }]"
-    );
-    let check = answer_of(alloc, &mut machine, 3, &StepInput::Wake(Tag::Check))?;
-    assert_eq!(rt;
-        text_of(alloc, &check)?.as_str(),
-        "[Wake { pause: 3, tag: Check }]"
-    );
+    let one = numbered(1)?;
+    let mut machine = boxed(alloc, false)?;
+    same(&rt, &machine.pid(), &one);
+    let inputs = [
+        (
+            0,
+            StepInput::Start,
+            "[Wake { pause: 4, tag: Beat }, Wake { pause: 3, tag: Check }]",
+        ),
+        (
+            3,
+            StepInput::Wake(Tag::Check),
+            "[Wake { pause: 3, tag: Check }]",
+        ),
+    ];
+    for (now, input, wanted) in &inputs {
+        let answer = answer_of(alloc, &mut machine, *now, input)?;
+        same(&rt, &answer.as_str(), wanted);
+    }
     assert!(rt; !machine.failed());
     Ok(())
 }
@@ -107,20 +112,14 @@ fn a_boxed_process_alone_wakes_itself(rt: HostRuntime) -> Result<(), Fail> {
 #[test]
 fn a_failed_process_keeps_failing(rt: HostRuntime) -> Result<(), Fail> {
     let alloc = rt.alloc();
-    let mut machine: Box<dyn Process> = Box::new(
-        alloc,
-        Alone {
-            refuses: true,
-            failed: false,
-        },
-    )?;
+    let mut machine = boxed(alloc, true)?;
     let mut out = Vec::new(alloc);
     note_that(&mut out, Note::Round(1))?;
     assert!(rt; !machine.failed());
     for now in 0..3 {
-        assert!(rt; machine.on_input(now, &StepInput::Start, &mut out).is_err());
-        assert!(rt; machine.failed());
-        assert_eq!(rt; out.len(), 1);
+        let is_refused = machine.on_input(now, &StepInput::Start, &mut out).is_err();
+        let found = (is_refused, machine.failed(), out.len());
+        same(&rt, &found, &(true, true, 1));
     }
     Ok(())
 }

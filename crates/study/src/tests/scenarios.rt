@@ -1,6 +1,6 @@
 //! Scenarios of runs.
-use crate::tests::{element, inner, integers, top};
-use crate::{Axis, Grid, Key, PlaceError, ReadError, Setting, read_run, scenario_text};
+use crate::tests::{element, inner, integers, one_text, point_of, run_of, same, top};
+use crate::{Axis, Grid, Key, PlaceError, ReadError, read_run, scenario_text};
 use process_api::DetectorNumbers;
 use scenario::{Scenario, ScenarioError, read_scenario};
 use std::alloc::Global;
@@ -42,11 +42,8 @@ fn table(alloc: Global, text: &str) -> Result<Table, Fail> {
 fn first_run(alloc: Global, axis: Axis) -> Result<Result<Scenario, ReadError>, Fail> {
     let vary = vec![in alloc; axis]?;
     let grid = Grid::new(alloc, vary, Vec::new(alloc), 5, 5)?;
-    if grid.points() == 0 || grid.runs() == 0 {
-        return Err(Fail::from("no run"));
-    }
-    let point = grid.point(alloc, 0)?;
-    let run = grid.run(alloc, 0)?;
+    let point = point_of(alloc, &grid, 0)?;
+    let run = run_of(alloc, &grid, 0)?;
     Ok(read_run(alloc, &table(alloc, CRASH_FILE)?, &point, &run))
 }
 
@@ -69,49 +66,58 @@ fn answer(alloc: Global, key: Key, number: i64) -> Result<&'static str, Fail> {
     Ok(name_of(&first_run(alloc, axis)?))
 }
 
+/// The scenario of the first run with another time-out.
+fn with_timeout(alloc: Global, timeout: i64) -> Result<Scenario, Fail> {
+    let axis = integers(alloc, inner(alloc, "detector", "timeout")?, &[timeout])?;
+    match first_run(alloc, axis)? {
+        Ok(scenario) => Ok(scenario),
+        Err(_) => Err(Fail::from("refused")),
+    }
+}
+
 /// The value takes the place of the file's, and nothing else changes but the seed.
 #[test]
 fn another_timeout(rt: HostRuntime) -> Result<(), Fail> {
-    let alloc = rt.alloc();
-    let axis = integers(alloc, inner(alloc, "detector", "timeout")?, &[8])?;
-    let Ok(scenario) = first_run(alloc, axis)? else {
-        return Err(Fail::from("refused"));
-    };
+    let scenario = with_timeout(rt.alloc(), 8)?;
     let DetectorNumbers::Timeout(numbers) = scenario.detector() else {
         return Err(Fail::from("another detector"));
     };
-    assert_eq!(rt; numbers.timeout, 8);
-    assert_eq!(rt; numbers.period, 4);
-    assert_eq!(rt; scenario.seed(), 5);
-    assert_eq!(rt; scenario.horizon(), 10);
+    same(&rt, &(numbers.timeout, numbers.period), &(8, 4));
+    same(&rt, &(scenario.seed(), scenario.horizon()), &(5, 10));
     Ok(())
+}
+
+/// The text of the first run with seed 9 whose crash comes at another tick.
+fn text_of_tick(alloc: Global, tick: i64) -> Result<String, Fail> {
+    let axis = integers(alloc, element(alloc, "crash", 1, "at")?, &[tick])?;
+    let over = vec![in alloc; axis]?;
+    let grid = Grid::new(alloc, Vec::new(alloc), over, 9, 9)?;
+    let point = point_of(alloc, &grid, 0)?;
+    let run = run_of(alloc, &grid, 0)?;
+    match scenario_text(alloc, &table(alloc, CRASH_FILE)?, &point, &run) {
+        Ok(text) => Ok(text),
+        Err(_) => Err(Fail::from("refused")),
+    }
+}
+
+/// The text of the crash file with that seed and a crash at tick 4, changed by hand.
+fn text_by_hand(alloc: Global) -> Result<String, Fail> {
+    let text = CRASH_FILE.replace(alloc, "at = 3", "at = 4")?;
+    let text = text.replace(alloc, "seed = 1", "seed = 9")?;
+    match toml::table_to_string(alloc, &table(alloc, &text)?) {
+        Ok(text) => Ok(text),
+        Err(_) => Err(Fail::from("not printed")),
+    }
 }
 
 /// The text of a run whose crash comes at another tick, and what it is read as.
 #[test]
 fn another_crash_tick(rt: HostRuntime) -> Result<(), Fail> {
-    let alloc = rt.alloc();
-    let axis = integers(alloc, element(alloc, "crash", 1, "at")?, &[4])?;
-    let over = vec![in alloc; axis]?;
-    let grid = Grid::new(alloc, Vec::new(alloc), over, 9, 9)?;
-    if grid.points() == 0 || grid.runs() == 0 {
-        return Err(Fail::from("no run"));
-    }
-    let point = grid.point(alloc, 0)?;
-    let run = grid.run(alloc, 0)?;
-    let Ok(text) = scenario_text(alloc, &table(alloc, CRASH_FILE)?, &point, &run) else {
-        return Err(Fail::from("refused"));
-    };
-    let by_hand = CRASH_FILE.replace(alloc, "at = 3", "at = 4")?;
-    let by_hand = by_hand.replace(alloc, "seed = 1", "seed = 9")?;
-    let Ok(expected) = toml::table_to_string(alloc, &table(alloc, by_hand.as_str())?) else {
-        return Err(Fail::from("not printed"));
-    };
-    assert_eq!(rt; text.as_str(), expected.as_str());
-    let Ok(scenario) = read_scenario(alloc, text.as_bytes()) else {
-        return Err(Fail::from("not read"));
-    };
-    assert_eq!(rt; scenario.seed(), 9);
+    let text = text_of_tick(rt.alloc(), 4)?;
+    let by_hand = text_by_hand(rt.alloc())?;
+    same(&rt, &text.as_str(), &by_hand.as_str());
+    let scenario = read_scenario(rt.alloc(), text.as_bytes())?;
+    same(&rt, &scenario.seed(), &9);
     Ok(())
 }
 
@@ -129,7 +135,7 @@ fn keys_of_tables(rt: HostRuntime) -> Result<(), Fail> {
         ("crash", "at", 1, "NotATable"),
     ] {
         let found = answer(alloc, inner(alloc, table, key)?, number)?;
-        assert_eq!(rt; found, name, "{table}.{key}");
+        same(&rt, &(found, table, key), &(name, table, key));
     }
     Ok(())
 }
@@ -139,7 +145,8 @@ fn keys_of_tables(rt: HostRuntime) -> Result<(), Fail> {
 fn other_keys(rt: HostRuntime) -> Result<(), Fail> {
     let alloc = rt.alloc();
     for (key, name) in [("limit", "accepted"), ("algorithm", "WrongKind")] {
-        assert_eq!(rt; answer(alloc, top(alloc, key)?, 100)?, name, "{key}");
+        let found = answer(alloc, top(alloc, key)?, 100)?;
+        same(&rt, &(found, key), &(name, key));
     }
     for (array, place, key, name) in [
         ("crash", 1, "at", "accepted"),
@@ -149,7 +156,7 @@ fn other_keys(rt: HostRuntime) -> Result<(), Fail> {
         ("link", 1, "min", "NotATable"),
     ] {
         let found = answer(alloc, element(alloc, array, place, key)?, 1)?;
-        assert_eq!(rt; found, name, "{array}[{place}].{key}");
+        same(&rt, &(found, array, place), &(name, array, place));
     }
     Ok(())
 }
@@ -159,15 +166,8 @@ fn other_keys(rt: HostRuntime) -> Result<(), Fail> {
 fn texts(rt: HostRuntime) -> Result<(), Fail> {
     let alloc = rt.alloc();
     for (key, name) in [("algorithm", "accepted"), ("horizon", "WrongKind")] {
-        let values = vec![in alloc; Setting::Text(String::from_str(alloc, "none")?)]?;
-        if values.is_empty() {
-            return Err(Fail::from("an axis has no values"));
-        }
-        let axis = Axis {
-            key: top(alloc, key)?,
-            values,
-        };
-        assert_eq!(rt; name_of(&first_run(alloc, axis)?), name, "{key}");
+        let axis = one_text(alloc, top(alloc, key)?, "none")?;
+        same(&rt, &(name_of(&first_run(alloc, axis)?), key), &(name, key));
     }
     Ok(())
 }

@@ -1,52 +1,61 @@
 //! Words of a command line, by hand.
-use crate::tests::top;
+use crate::tests::{same, top};
 use crate::{Axis, AxisError, Key, KeyError, Seeds, SeedsError, Setting, Shard, ShardError};
 use itoa::Buffer;
 use std::alloc::Global;
+use std::process::Abort;
 use std::test::Fail;
 
 /// The key that a word says as it is written, or the name of the error.
 fn key_of(alloc: Global, word: &str) -> Result<String, Fail> {
-    match Key::parse(alloc, word) {
-        Ok(key) => Ok(key.text(alloc)?),
-        Err(KeyError::Seed) => Ok(String::from_str(alloc, "Seed")?),
-        Err(KeyError::NoKey) => Ok(String::from_str(alloc, "NoKey")?),
-        Err(KeyError::Memory(error)) => Err(error.into()),
-    }
+    let name = match Key::parse(alloc, word) {
+        Ok(key) => return Ok(key.text(alloc)?),
+        Err(KeyError::Seed) => "Seed",
+        Err(KeyError::NoKey) => "NoKey",
+        Err(KeyError::Memory(error)) => return Err(error.into()),
+    };
+    Ok(String::from_str(alloc, name)?)
 }
+
+/// Words that say keys.
+const KEYS: [&str; 6] = [
+    "horizon",
+    "detector.timeout",
+    "crash[1].at",
+    "links[18446744073709551615].min",
+    "a-b_9.0",
+    "seed.low",
+];
+
+/// Words that say none, with the reason.
+const NO_KEYS: [(&str, &str); 15] = [
+    ("seed", "Seed"),
+    ("", "NoKey"),
+    (".timeout", "NoKey"),
+    ("detector.", "NoKey"),
+    ("a.b.c", "NoKey"),
+    ("a b", "NoKey"),
+    ("crash[0].at", "NoKey"),
+    ("crash[01].at", "NoKey"),
+    ("crash[+1].at", "NoKey"),
+    ("crash[].at", "NoKey"),
+    ("crash[1]", "NoKey"),
+    ("crash[1]at", "NoKey"),
+    ("crash[1]x.at", "NoKey"),
+    ("[1].at", "NoKey"),
+    ("links[18446744073709551616].min", "NoKey"),
+];
 
 /// Keys of the top table, of tables and of tables of arrays, and what is none.
 #[test]
 fn keys(rt: HostRuntime) -> Result<(), Fail> {
-    let alloc = rt.alloc();
-    for word in [
-        "horizon",
-        "detector.timeout",
-        "crash[1].at",
-        "links[18446744073709551615].min",
-        "a-b_9.0",
-        "seed.low",
-    ] {
-        assert!(rt; key_of(alloc, word)?.as_str() == word, "{word}");
+    for word in KEYS {
+        let key = key_of(rt.alloc(), word)?;
+        same(&rt, &key.as_str(), &word);
     }
-    for (word, name) in [
-        ("seed", "Seed"),
-        ("", "NoKey"),
-        (".timeout", "NoKey"),
-        ("detector.", "NoKey"),
-        ("a.b.c", "NoKey"),
-        ("a b", "NoKey"),
-        ("crash[0].at", "NoKey"),
-        ("crash[01].at", "NoKey"),
-        ("crash[+1].at", "NoKey"),
-        ("crash[].at", "NoKey"),
-        ("crash[1]", "NoKey"),
-        ("crash[1]at", "NoKey"),
-        ("crash[1]x.at", "NoKey"),
-        ("[1].at", "NoKey"),
-        ("links[18446744073709551616].min", "NoKey"),
-    ] {
-        assert!(rt; key_of(alloc, word)?.as_str() == name, "{word}");
+    for (word, name) in NO_KEYS {
+        let answer = key_of(rt.alloc(), word)?;
+        same(&rt, &(answer.as_str(), word), &(name, word));
     }
     Ok(())
 }
@@ -82,93 +91,103 @@ fn listed(alloc: Global, axis: &Axis) -> Result<String, Fail> {
     Ok(text)
 }
 
-/// Integers, ranges and texts.
-#[test]
-fn values(rt: HostRuntime) -> Result<(), Fail> {
-    let alloc = rt.alloc();
-    for (words, values) in [
-        ("a=5", "5|"),
-        ("a=-5,07,-0", "-5|7|0|"),
-        ("a=3..=6", "3|4|5|6|"),
-        ("a=1..=10:4", "1|5|9|"),
-        ("a=1..=9:4,2", "1|5|9|2|"),
-        ("a=-3..=3:3", "-3|0|3|"),
-        ("a=7..=7:100", "7|"),
-        ("a=none,s,es", "'none|'s|'es|"),
-        ("a=b=c", "'b=c|"),
-        (
-            "a=+5,5.0,1..5,1..=x,1..=5:",
-            "'+5|'5.0|'1..5|'1..=x|'1..=5:|",
-        ),
-        ("a=9223372036854775807", "9223372036854775807|"),
-        ("a=-9223372036854775808", "-9223372036854775808|"),
-        (
-            "a=-9223372036854775808..=9223372036854775807:9223372036854775807",
-            "-9223372036854775808|-1|9223372036854775806|",
-        ),
-    ] {
-        assert!(rt; values_of(alloc, words)?.as_str() == values, "{words}");
+/// Words, and what is answered to them as those of an axis.
+fn compare_values<R: Abort>(rt: &R, alloc: Global, answers: &[(&str, &str)]) -> Result<(), Fail> {
+    for (words, wanted) in answers {
+        let values = values_of(alloc, words)?;
+        same(rt, &(values.as_str(), words), &(*wanted, words));
     }
     Ok(())
 }
 
-/// Words that say no axis, by the first reason.
+/// Integers, ranges and texts.
+const VALUES: [(&str, &str); 13] = [
+    ("a=5", "5|"),
+    ("a=-5,07,-0", "-5|7|0|"),
+    ("a=3..=6", "3|4|5|6|"),
+    ("a=1..=10:4", "1|5|9|"),
+    ("a=1..=9:4,2", "1|5|9|2|"),
+    ("a=-3..=3:3", "-3|0|3|"),
+    ("a=7..=7:100", "7|"),
+    ("a=none,s,es", "'none|'s|'es|"),
+    ("a=b=c", "'b=c|"),
+    (
+        "a=+5,5.0,1..5,1..=x,1..=5:",
+        "'+5|'5.0|'1..5|'1..=x|'1..=5:|",
+    ),
+    ("a=9223372036854775807", "9223372036854775807|"),
+    ("a=-9223372036854775808", "-9223372036854775808|"),
+    (
+        "a=-9223372036854775808..=9223372036854775807:9223372036854775807",
+        "-9223372036854775808|-1|9223372036854775806|",
+    ),
+];
+
+#[test]
+fn values(rt: HostRuntime) -> Result<(), Fail> {
+    compare_values(&rt, rt.alloc(), &VALUES)
+}
+
+/// Words that say no axis, with the first reason.
+const NO_VALUES: [(&str, &str); 18] = [
+    ("a", "NoEquals"),
+    ("a.b.c", "NoEquals"),
+    ("=5", "Key"),
+    ("a.b.c=", "Key"),
+    ("seed=1", "Seed"),
+    ("a=", "NoValue"),
+    ("a=1,,5..=4", "NoValue"),
+    ("a=5..=4,", "EmptyRange"),
+    ("a=1..=0", "EmptyRange"),
+    ("a=5..=4:0", "StepTooLow"),
+    ("a=1..=4:-1", "StepTooLow"),
+    ("a=9223372036854775808", "NumberTooLarge"),
+    ("a=-9223372036854775809", "NumberTooLarge"),
+    ("a=9223372036854775808..=1:0", "NumberTooLarge"),
+    ("a=1..=1000000,", "NoValue"),
+    ("a=1..=1000000,1", "TooManyValues"),
+    ("a=0..=1000000", "TooManyValues"),
+    (
+        "a=-9223372036854775808..=9223372036854775807",
+        "TooManyValues",
+    ),
+];
+
 #[test]
 fn no_values(rt: HostRuntime) -> Result<(), Fail> {
-    let alloc = rt.alloc();
-    for (words, name) in [
-        ("a", "NoEquals"),
-        ("a.b.c", "NoEquals"),
-        ("=5", "Key"),
-        ("a.b.c=", "Key"),
-        ("seed=1", "Seed"),
-        ("a=", "NoValue"),
-        ("a=1,,5..=4", "NoValue"),
-        ("a=5..=4,", "EmptyRange"),
-        ("a=1..=0", "EmptyRange"),
-        ("a=5..=4:0", "StepTooLow"),
-        ("a=1..=4:-1", "StepTooLow"),
-        ("a=9223372036854775808", "NumberTooLarge"),
-        ("a=-9223372036854775809", "NumberTooLarge"),
-        ("a=9223372036854775808..=1:0", "NumberTooLarge"),
-        ("a=1..=1000000,", "NoValue"),
-        ("a=1..=1000000,1", "TooManyValues"),
-        ("a=0..=1000000", "TooManyValues"),
-        (
-            "a=-9223372036854775808..=9223372036854775807",
-            "TooManyValues",
-        ),
-    ] {
-        assert!(rt; values_of(alloc, words)?.as_str() == name, "{words}");
-    }
-    Ok(())
+    compare_values(&rt, rt.alloc(), &NO_VALUES)
 }
 
 /// The key of an axis, and as many values as there may be.
 #[test]
 fn axes(rt: HostRuntime) -> Result<(), Fail> {
-    let alloc = rt.alloc();
-    let Ok(axis) = Axis::parse(alloc, "horizon=1..=1000000") else {
+    let Ok(axis) = Axis::parse(rt.alloc(), "horizon=1..=1000000") else {
         return Err(Fail::from("refused"));
     };
-    assert_eq!(rt; axis.values.len(), 1_000_000);
-    assert!(rt; axis.key.is(&top(alloc, "horizon")?));
+    let horizon = top(rt.alloc(), "horizon")?;
+    same(&rt, &axis.values.len(), &1_000_000);
+    assert!(rt; axis.key.is(&horizon));
     Ok(())
 }
 
 /// Seeds, and what says none.
 #[test]
 fn seeds(rt: HostRuntime) -> Result<(), Fail> {
+    let highest = i64::MAX as u64;
     for (word, first, last) in [
         ("1..=100", 1, 100),
         ("0", 0, 0),
         (
             "9223372036854775807..=9223372036854775807",
-            i64::MAX as u64,
-            i64::MAX as u64,
+            highest,
+            highest,
         ),
     ] {
-        assert_eq!(rt; Seeds::parse(word), Ok(Seeds { first, last }), "{word}");
+        same(
+            &rt,
+            &(Seeds::parse(word), word),
+            &(Ok(Seeds { first, last }), word),
+        );
     }
     for (word, error) in [
         ("", SeedsError::NoSeeds),
@@ -180,7 +199,7 @@ fn seeds(rt: HostRuntime) -> Result<(), Fail> {
         ("99999999999999999999..=1", SeedsError::SeedTooHigh),
         ("2..=1", SeedsError::EmptyRange),
     ] {
-        assert_eq!(rt; Seeds::parse(word), Err(error), "{word}");
+        same(&rt, &(Seeds::parse(word), word), &(Err(error), word));
     }
     Ok(())
 }
@@ -194,7 +213,7 @@ fn shards(rt: HostRuntime) -> Result<(), Fail> {
         ("4294967295/4294967295", u32::MAX, u32::MAX),
     ] {
         let shard = Shard::new(number, of).ok_or("no shard")?;
-        assert_eq!(rt; Shard::parse(word), Ok(shard), "{word}");
+        same(&rt, &(Shard::parse(word), word), &(Ok(shard), word));
     }
     for (word, error) in [
         ("1", ShardError::NoShard),
@@ -206,7 +225,7 @@ fn shards(rt: HostRuntime) -> Result<(), Fail> {
         ("1/4294967296", ShardError::OutOfRange),
         ("4294967296/4294967296", ShardError::OutOfRange),
     ] {
-        assert_eq!(rt; Shard::parse(word), Err(error), "{word}");
+        same(&rt, &(Shard::parse(word), word), &(Err(error), word));
     }
     Ok(())
 }

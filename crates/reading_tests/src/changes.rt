@@ -1,0 +1,32 @@
+//! Texts of which a part is changed.
+use std::alloc::Global;
+use std::test::Fail;
+
+/// Two processes, of which the second crashes at tick 3.
+pub const CRASH_FILE: &str = "version = 1
+processes = 2
+horizon = 10
+lookahead = 2
+seed = 1
+algorithm = \"none\"
+
+[detector]
+period = 4
+check = 3
+timeout = 5
+grow = 1
+
+[link]
+min = 2
+max = 2
+
+[[crash]]
+process = 2
+at = 3
+";
+
+/// The text with a part of it, where it first stands, changed.
+pub fn changed(alloc: Global, text: &str, old: &str, new: &str) -> Result<String, Fail> {
+    let (before, after) = text.split_once(old).ok_or("the text has no such part")?;
+    Ok(format!(in alloc; "{before}{new}{after}")?)
+}

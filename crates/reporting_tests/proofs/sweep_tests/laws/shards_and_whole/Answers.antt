@@ -1,0 +1,18 @@
+use Rattle.std.proofs.Common.{◌++◌, Some, sym, ap, ◌∙◌, subst}
+use Rattle.toml.specs.View.{table_view}
+use Rattle.qos_report.specs.Outlet.{Held}
+use Rattle.study.specs.Shard.{ShardRecord}
+use Rattle.sweep.specs.Outcome.{WroteStudy}
+use Rattle.sweep.specs.StudyText.{HasOneText}
+use Rattle.reporting_tests.proofs.sweep_tests.laws.shards_and_whole.Goals as goal
+
+-- both are the one text of the whole
+pub returns : goal.returns
+returns g c =
+    let P : ShardRecord → Type 0 = λ s. WroteStudy (table_view c.args.file.now) c.args.grid.now s
+    (λ (o : Held). Some o.bytes) (λ o. o.failures) c.new-whole.result c.sweep.new.outlet in
+    let Q : ShardRecord → Type 0 = λ s. HasOneText (table_view c.args.file.now) c.args.grid.now s in
+    let out = subst P c.whole.ensures c.in_ok-sweep.ensures.done in
+    let one = subst Q c.whole-3.ensures c.law_one_text.ensures in
+    let same = one c.in_ok-parts.parts.bytes out.text c.in_ok-parts.ensures.whole out.is_text in
+    record { same = same ∙ sym (out.wrote.bytes ∙ ap (λ o. o.bytes ++ out.text) c.new-whole.ensures) }

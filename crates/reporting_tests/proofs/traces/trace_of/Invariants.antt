@@ -1,0 +1,6 @@
+use Rattle.std.specs.Bool.{IsTrue}
+use Rattle.process_api.specs.Order.{is_rising}
+use Rattle.reporting_tests.proofs.traces.trace_of.Given as goal
+
+abbrev pub invariant-loop-row : goal.invariant-loop-row
+invariant-loop-row g l = IsTrue (is_rising l.entries.items)

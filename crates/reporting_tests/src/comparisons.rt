@@ -1,0 +1,8 @@
+//! Comparisons that all tests make.
+use std::fmt::Debug;
+use std::process::Abort;
+
+/// What came is what was wanted.
+pub fn same<R: Abort, T: PartialEq + Debug>(rt: &R, came: &T, wanted: &T) {
+    assert_eq!(rt; came, wanted);
+}

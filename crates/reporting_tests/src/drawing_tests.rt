@@ -1,0 +1,5 @@
+//! Bars and pictures of worked traces.
+mod bars;
+mod letters_pictures;
+mod pictures;
+mod whole;

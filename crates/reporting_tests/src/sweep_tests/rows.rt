@@ -1,0 +1,131 @@
+//! What tests share: runs, the settings of a point, and the text of its rows.
+use crate::comparisons::same;
+use crate::findings::{outcome, quiet, without_mistake};
+use crate::traces::{CRASH_AT_3, scenario_of};
+use judges::Answer;
+use qos_report::{Detection, RunFindings, Summary};
+use scenario::Scenario;
+use std::alloc::Global;
+use std::process::Abort;
+use study::{Axis, Choice, Key, Setting};
+use sweep::{PointSums, RunNumbers, Table};
+
+/// The first line after the names of the varied keys.
+pub const HEADER: &str =
+    "layer,runs,limited,entries,sent,lost,pair_ticks,mistakes,mistake_ticks,recurrence_sum,\
+     recurrence_count,duration_sum,duration_count,good_sum,good_count,detections,undetected,detection_sum,\
+     detection_p50,detection_p90,detection_p99,detection_max,strong_completeness,weak_completeness,\
+     strong_accuracy,weak_accuracy,eventual_strong_accuracy,eventual_weak_accuracy,decided,decision_tick_sum,\
+     decision_tick_max,rounds_max,disagreements\n";
+
+/// The bytes are the first line, which begins with these words, and these rows.
+pub fn is_text<R: Abort>(rt: &R, alloc: Global, bytes: &[u8], words: &str, rows: &str) {
+    let wanted = format!(in alloc; "{words}{HEADER}{rows}").expect(rt, "no memory");
+    is_same(rt, bytes, wanted.as_str());
+}
+
+/// The bytes are this text.
+fn is_same<R: Abort>(rt: &R, bytes: &[u8], wanted: &str) {
+    let text = std::str::from_utf8(bytes).expect(rt, "no text");
+    same(rt, &text, &wanted);
+}
+
+/// The scenario of two processes over ten ticks, of which the second crashes at tick 3.
+pub fn crash_at_3<R: Abort>(rt: &R, alloc: Global) -> Scenario {
+    scenario_of(rt, alloc, 2, 10, CRASH_AT_3)
+}
+
+/// What is found of the run of `examples/one_crash.toml`, as its report tells it, with another detection.
+pub fn one_crash<R: Abort>(
+    rt: &R,
+    alloc: Global,
+    tick: Option<u32>,
+    detection: Detection,
+) -> RunFindings {
+    let none = (Answer::None, None, 0);
+    let outcomes = Vec::from_array(alloc, [outcome(rt, 1, none), outcome(rt, 2, none)]);
+    let pairs = [
+        quiet(rt, 1, 1, 2, detection),
+        quiet(rt, 1, 2, 1, Detection::Na),
+    ];
+    RunFindings {
+        summary: Summary {
+            entries: 12,
+            sent: 4,
+            lost: 0,
+            outcomes: outcomes.expect(rt, "no memory"),
+        },
+        first: without_mistake(tick, tick),
+        second: None,
+        measures: Vec::from_array(alloc, pairs).expect(rt, "no memory"),
+    }
+}
+
+/// What the run of a scenario gives, of which this is found.
+pub fn run_of<R: Abort>(
+    rt: &R,
+    alloc: Global,
+    scenario: &Scenario,
+    found: &RunFindings,
+) -> RunNumbers {
+    RunNumbers::of_run(alloc, scenario, found).expect(rt, "no memory")
+}
+
+/// What the run of one crash gives, with this detection.
+pub fn crash_run<R: Abort>(
+    rt: &R,
+    alloc: Global,
+    tick: Option<u32>,
+    detection: Detection,
+) -> RunNumbers {
+    let found = one_crash(rt, alloc, tick, detection);
+    run_of(rt, alloc, &crash_at_3(rt, alloc), &found)
+}
+
+/// A varied time-out, with one value.
+pub fn timeout<R: Abort>(rt: &R, alloc: Global, value: Setting) -> Axis {
+    let mut values = Vec::new(alloc);
+    values.push(value).expect(rt, "no memory");
+    assert!(rt; !values.is_empty());
+    Axis {
+        key: Key::Inner {
+            table: String::from_str(alloc, "detector").expect(rt, "no memory"),
+            key: String::from_str(alloc, "timeout").expect(rt, "no memory"),
+        },
+        values,
+    }
+}
+
+/// The text of the rows of a point with these settings and sums.
+fn rows_of<R: Abort>(rt: &R, alloc: Global, settings: &[Choice<'_>], sums: &PointSums) -> Vec<u8> {
+    let mut table = Table::new(alloc);
+    table
+        .push_point(alloc, settings, sums)
+        .expect(rt, "no memory");
+    table.into_text().expect(rt, "no memory")
+}
+
+/// The rows of these runs' point, at one time-out, are these.
+pub fn are_rows<R: Abort>(
+    rt: &R,
+    alloc: Global,
+    runs: &[RunNumbers],
+    value: Setting,
+    wanted: &str,
+) {
+    let mut sums = PointSums::new(alloc);
+    for run in runs {
+        sums.add(run).expect(rt, "no memory");
+    }
+    let axis = timeout(rt, alloc, value);
+    let settings = [Choice {
+        key: &axis.key,
+        value: axis.values.first().expect(rt, "an axis has no values"),
+    }];
+    is_same(rt, &rows_of(rt, alloc, &settings, &sums), wanted);
+}
+
+/// The rows of a point without settings and without runs are these.
+pub fn are_empty_rows<R: Abort>(rt: &R, alloc: Global, wanted: &str) {
+    is_same(rt, &rows_of(rt, alloc, &[], &PointSums::new(alloc)), wanted);
+}

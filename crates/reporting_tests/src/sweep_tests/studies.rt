@@ -1,0 +1,87 @@
+//! What tests of sweeps share: small studies by words, and their texts.
+use crate::traces::{CRASH_AT_3, file_of};
+use qos_report::MemoryOutlet;
+use std::alloc::Global;
+use std::marker::Sync;
+use std::process::Abort;
+use std::thread::Threads;
+use study::{Axis, Grid, Shard};
+use sweep::{Unwatched, sweep};
+use toml::Table;
+
+/// A study of the file in which process 2 of two crashes at tick 3.
+#[derive(Drop)]
+pub struct Study {
+    pub file: Table,
+    pub grid: Grid,
+}
+
+/// The axes that these words say.
+fn axes<R: Abort>(rt: &R, alloc: Global, words: &[&str]) -> Vec<Axis> {
+    let mut axes = Vec::new(alloc);
+    for word in words {
+        let axis = Axis::parse(alloc, word).expect(rt, "no axis");
+        axes.push(axis).expect(rt, "no memory");
+    }
+    axes
+}
+
+/// The study that varies some keys and adds up over others, of the seeds from 1 to the last.
+pub fn study_of<R: Abort>(
+    rt: &R,
+    alloc: Global,
+    vary: &[&str],
+    over: &[&str],
+    last_seed: u64,
+) -> Study {
+    let text = file_of(rt, alloc, 2, 10, CRASH_AT_3);
+    let file = toml::table_from_str(alloc, text.as_str());
+    let (vary, over) = (axes(rt, alloc, vary), axes(rt, alloc, over));
+    Study {
+        file: file.expect(rt, "no TOML"),
+        grid: Grid::new(alloc, vary, over, 1, last_seed).expect(rt, "no study"),
+    }
+}
+
+/// Seven points with 160 runs each, of which 80 have the crash at tick 3 and 80 have it at tick 4.
+pub fn seven_points<R: Abort>(rt: &R, alloc: Global) -> Study {
+    study_of(
+        rt,
+        alloc,
+        &["link.loss=0..=600:100"],
+        &["crash[1].at=3,4"],
+        80,
+    )
+}
+
+/// Two points with one run each.
+pub fn two_points<R: Abort>(rt: &R, alloc: Global) -> Study {
+    study_of(rt, alloc, &["detector.timeout=5,8"], &[], 1)
+}
+
+/// The shard of so many that has this number, from 1.
+pub fn shard<R: Abort>(rt: &R, number: u32, of: u32) -> Shard {
+    Shard::new(number, of).expect(rt, "no shard")
+}
+
+/// The text of the whole study, by so many threads.
+pub fn swept<R: Threads + Sync + Abort>(
+    rt: &R,
+    alloc: Global,
+    study: &Study,
+    threads: u8,
+) -> MemoryOutlet {
+    let mut outlet = MemoryOutlet::new(alloc);
+    let answer = sweep(
+        rt,
+        alloc,
+        &study.file,
+        &study.grid,
+        Shard::whole(),
+        threads,
+        &mut outlet,
+        &mut Unwatched,
+    );
+    answer.expect(rt, "no sweep");
+    outlet
+}

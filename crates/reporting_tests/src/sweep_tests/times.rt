@@ -1,0 +1,78 @@
+//! Percentiles of the times after which crashes were detected.
+use super::rows::{crash_at_3, one_crash, run_of};
+use crate::comparisons::same;
+use crate::findings::quiet;
+use qos_report::Detection;
+use std::alloc::Global;
+use std::process::Abort;
+use sweep::{DetectionTimes, PointSums, RunNumbers};
+
+/// What a run gives in which crashes are detected after these times, one for each pair.
+fn run_with<R: Abort>(rt: &R, alloc: Global, times: &[u32]) -> RunNumbers {
+    let mut found = one_crash(rt, alloc, None, Detection::Na);
+    for time in times {
+        let pair = quiet(rt, 1, 1, 2, Detection::At(*time));
+        found.measures.push(pair).expect(rt, "no memory");
+    }
+    run_of(rt, alloc, &crash_at_3(rt, alloc), &found)
+}
+
+/// What is told of these times, all of one run.
+fn times_of<R: Abort>(rt: &R, alloc: Global, times: &[u32]) -> DetectionTimes {
+    let mut sums = PointSums::new(alloc);
+    sums.add(&run_with(rt, alloc, times))
+        .expect(rt, "no memory");
+    sums.first().times
+}
+
+/// What is told of the times from 100 down to 1, each of a run of its own.
+fn times_of_hundred<R: Abort>(rt: &R, alloc: Global) -> DetectionTimes {
+    let mut sums = PointSums::new(alloc);
+    for time in 1..101 {
+        let run = run_with(rt, alloc, &[101 - time]);
+        sums.add(&run).expect(rt, "no memory");
+    }
+    sums.first().times
+}
+
+/// So many times with this sum, the percentiles 50, 90 and 99, and the greatest.
+fn are_times<R: Abort>(
+    rt: &R,
+    times: DetectionTimes,
+    (detections, detection_sum): (u128, u128),
+    [half, most, nearly_all, greatest]: [Option<u64>; 4],
+) {
+    let wanted = DetectionTimes {
+        detections,
+        detection_sum,
+        detection_p50: half,
+        detection_p90: most,
+        detection_p99: nearly_all,
+        detection_max: greatest,
+    };
+    same(rt, &times, &wanted);
+}
+
+/// The textbook's five values, a hundred values, values that come often, and none.
+#[test]
+fn percentiles(rt: HostRuntime) {
+    let alloc = rt.alloc();
+    let five = times_of(&rt, alloc, &[40, 15, 50, 20, 35]);
+    are_times(
+        &rt,
+        five,
+        (5, 160),
+        [Some(35), Some(50), Some(50), Some(50)],
+    );
+    let hundred = times_of_hundred(&rt, alloc);
+    are_times(
+        &rt,
+        hundred,
+        (100, 5050),
+        [Some(50), Some(90), Some(99), Some(100)],
+    );
+    let often = times_of(&rt, alloc, &[7, 3, 3, 3, 3, 3, 3, 3, 3, 9]);
+    are_times(&rt, often, (10, 40), [Some(3), Some(7), Some(9), Some(9)]);
+    let none = PointSums::new(alloc).first().times;
+    are_times(&rt, none, (0, 0), [None; 4]);
+}

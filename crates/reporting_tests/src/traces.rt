@@ -1,0 +1,175 @@
+//! Scenarios and traces for tests, these in the form in which a trace is printed.
+ghost use Rattle.std.specs.Prelude.{IsTrue, OnOk};
+ghost use Rattle.process_api.specs.Order.{is_rising};
+
+use process_api::{Entry, Key, Kind, Note, Pid, Trace};
+use scenario::{Scenario, read_scenario};
+use std::alloc::{AllocError, Global};
+use std::process::Abort;
+
+/// Tables by which process 2 crashes at tick 3.
+pub const CRASH_AT_3: &str = "[[crash]]
+process = 2
+at = 3
+";
+
+/// The trace of two processes, of which the second crashes at tick 3 and the first suspects it at tick 9.
+pub const ONE_CRASH: &str = "0,1,1,0,start,1,0,
+0,2,2,0,start,1,0,
+2,1,2,1,alive,0,0,
+2,2,1,1,alive,0,0,
+3,1,1,2,check,0,0,
+3,2,2,2,dead,0,0,
+4,1,1,1,beat,1,0,
+4,2,2,1,dead,0,0,
+6,1,1,3,check,0,0,
+6,2,1,2,dead,0,0,
+8,1,1,4,beat,1,0,
+9,1,1,5,check,0,0,suspect:1:2
+";
+
+/// Of three processes two suspect process 2 by the reduction, after one of them by its base detector.
+pub const SHARED: &str = "6,1,1,5,check,0,0,suspect:1:2
+9,1,1,11,suspects,0,0,suspect:2:2
+10,3,1,6,suspects,0,0,suspect:2:2
+";
+
+/// The file of a scenario of so many processes and ticks, with these keys and tables.
+pub fn file_of<R: Abort>(
+    rt: &R,
+    alloc: Global,
+    processes: u16,
+    horizon: u32,
+    more: &str,
+) -> String {
+    let text = format!(in alloc;
+        "version = 1
+processes = {processes}
+horizon = {horizon}
+lookahead = 2
+seed = 1
+algorithm = \"none\"
+{more}
+[detector]
+period = 4
+check = 3
+timeout = 5
+[link]
+min = 2
+max = 2
+"
+    );
+    text.expect(rt, "no memory")
+}
+
+/// The scenario of that file.
+pub fn scenario_of<R: Abort>(
+    rt: &R,
+    alloc: Global,
+    processes: u16,
+    horizon: u32,
+    more: &str,
+) -> Scenario {
+    let file = file_of(rt, alloc, processes, horizon, more);
+    read_scenario(alloc, file.as_bytes()).expect(rt, "not a scenario")
+}
+
+/// The process with this number.
+pub fn pid<R: Abort>(rt: &R, number: u16) -> Pid {
+    Pid::new(number).expect(rt, "not a process")
+}
+
+/// A part of a row, which isn't missing.
+pub fn word_of<'a, R: Abort>(rt: &R, part: Option<&'a str>) -> &'a str {
+    part.expect(rt, "a part of the row is missing")
+}
+
+pub fn pid_of<R: Abort>(rt: &R, part: Option<&str>) -> Pid {
+    let number = word_of(rt, part).parse::<u16>();
+    pid(rt, number.expect(rt, "not a number"))
+}
+
+pub fn number_of<R: Abort>(rt: &R, part: Option<&str>) -> u64 {
+    word_of(rt, part).parse::<u64>().expect(rt, "not a number")
+}
+
+pub fn small_number_of<R: Abort>(rt: &R, part: Option<&str>) -> u32 {
+    word_of(rt, part).parse::<u32>().expect(rt, "not a number")
+}
+
+fn layer_of<R: Abort>(rt: &R, part: Option<&str>) -> u8 {
+    word_of(rt, part).parse::<u8>().expect(rt, "not a number")
+}
+
+fn note_of<R: Abort>(rt: &R, text: &str) -> Note {
+    let mut parts = text.split(':');
+    let word = word_of(rt, parts.next());
+    let first = parts.next();
+    let second = parts.next();
+    match word {
+        "suspect" => Note::Suspect {
+            layer: layer_of(rt, first),
+            who: pid_of(rt, second),
+        },
+        "trust" => Note::Trust {
+            layer: layer_of(rt, first),
+            who: pid_of(rt, second),
+        },
+        "round" => Note::Round(number_of(rt, first)),
+        "decided" => Note::Decided(small_number_of(rt, first)),
+        "novalue" => Note::NoValue,
+        _ => panic!(rt; "no such note"),
+    }
+}
+
+/// The notes of an entry, as they are printed.
+fn notes_of<R: Abort>(rt: &R, alloc: Global, texts: &str) -> Vec<Note> {
+    let mut notes = Vec::new(alloc);
+    for text in texts.split(' ') {
+        if !text.is_empty() {
+            notes.push(note_of(rt, text)).expect(rt, "no memory");
+        }
+    }
+    notes
+}
+
+/// An entry of the form `tick,receiver,sender,number,kind,sent,lost,notes`. Its kind and its counts, which no judge,
+/// no measure and no picture reads, are left out.
+fn entry_of<R: Abort>(rt: &R, alloc: Global, row: &str) -> Entry {
+    let mut parts = row.split(',');
+    let key = Key {
+        tick: small_number_of(rt, parts.next()),
+        receiver: pid_of(rt, parts.next()),
+        sender: pid_of(rt, parts.next()),
+        number: number_of(rt, parts.next()),
+    };
+    Entry {
+        key,
+        kind: Kind::Start,
+        sent: 0,
+        lost: 0,
+        notes: notes_of(rt, alloc, parts.nth(3).unwrap_or("")),
+    }
+}
+
+/// Adds an entry whose key comes after all others.
+fn add<R: Abort>(rt: &R, entries: &mut Vec<Entry>, entry: Entry) -> Result<(), AllocError>
+    requires { IsTrue (is_rising entries.old.items) }
+    ensures { OnOk result (IsTrue (is_rising entries.new.items)) }
+{
+    let count = entries.len();
+    if count > 0 && !entries[count - 1].key.is_before(&entry.key) {
+        panic!(rt; "the keys don't rise");
+    }
+    entries.push(entry)?;
+    Ok(())
+}
+
+/// The trace of these rows.
+pub fn trace_of<R: Abort>(rt: &R, alloc: Global, rows: &str) -> Trace {
+    let mut entries: Vec<Entry> = Vec::new(alloc);
+    for row in rows.lines() {
+        add(rt, &mut entries, entry_of(rt, alloc, row)).expect(rt, "no memory");
+    }
+    Trace::new(entries)
+}

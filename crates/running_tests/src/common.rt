@@ -1,0 +1,24 @@
+//! What tests of several crates use.
+ghost use Rattle.std.specs.Prelude.{◌≡◌, ◌≤◌};
+ghost use Rattle.process_api.specs.Bounds.{most_processes};
+
+use process_api::Pid;
+use std::fmt::Debug;
+use std::process::Abort;
+
+/// Why a test stops where it had no memory.
+pub const NO_MEMORY: &str = "memory was refused";
+
+/// What came is what was wanted.
+pub fn same<R: Abort, T: PartialEq + Debug>(rt: &R, came: &T, wanted: &T) {
+    assert_eq!(rt; came, wanted);
+}
+
+/// The process of this number.
+pub fn pid(number: u16) -> Pid
+    requires low { 1 ≤ number }
+    requires high { number ≤ most_processes }
+    ensures { result ≡ number }
+{
+    Pid::after(number - 1)
+}

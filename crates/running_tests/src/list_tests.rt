@@ -1,0 +1,113 @@
+//! The set of pending events, once with ample memory.
+ghost use Rattle.std.specs.Prelude.{◌≤◌};
+ghost use Rattle.process_api.specs.Bounds.{most_processes};
+
+use crate::common::{NO_MEMORY, pid, same};
+use event_list::Pending;
+use process_api::{Key, StepInput, Tag};
+use std::process::Abort;
+use std::test::Fail;
+
+/// An event's key, on the link from a process to itself.
+fn key_of(tick: u32, process: u16, number: u64) -> Key
+    requires low { 1 ≤ process }
+    requires high { process ≤ most_processes }
+{
+    let own = pid(process);
+    Key {
+        tick,
+        receiver: own,
+        sender: own,
+        number,
+    }
+}
+
+/// Takes the least event. Answers its tick, its receiver, its number and the input.
+fn take<R: Abort>(rt: &R, pending: &mut Pending) -> (u32, u16, u64, StepInput) {
+    let taken = pending.take_least().expect(rt, NO_MEMORY);
+    let (key, input) = taken.expect(rt, "too few events");
+    (key.tick, key.receiver.number(), key.number, input)
+}
+
+/// The least events are those of these ticks, receivers and numbers, and are taken.
+fn are_taken<R: Abort>(rt: &R, pending: &mut Pending, wanted: &[(u32, u16, u64)]) {
+    for wanted in wanted {
+        let (tick, receiver, number, _) = take(rt, pending);
+        same(rt, &(tick, receiver, number), wanted);
+    }
+}
+
+/// No event is pending.
+fn is_empty<R: Abort>(rt: &R, pending: &mut Pending) {
+    let taken = pending.take_least().expect(rt, NO_MEMORY);
+    assert!(rt; taken.is_none());
+}
+
+#[test]
+fn takes_least_first(rt: HostRuntime) -> Result<(), Fail> {
+    let mut pending = Pending::new(rt.alloc());
+    pending.join(key_of(3, 1, 2), StepInput::Wake(Tag::Check))?;
+    let mut added = vec![in rt.alloc();
+        (key_of(0, 2, 0), StepInput::Start),
+        (key_of(0, 1, 0), StepInput::Start),
+    ]?;
+    pending.join_all(&mut added)?;
+    same(&rt, &pending.least_tick(), &Some(0));
+    are_taken(&rt, &mut pending, &[(0, 1, 0), (0, 2, 0)]);
+    assert!(rt; pending.take_below(3)?.is_none());
+    let (key, _) = pending.take_below(4)?.ok_or("nothing is below")?;
+    same(&rt, &(key.tick, pending.least_tick()), &(3, None));
+    Ok(())
+}
+
+/// So many events of one tick that they are put in order by way of lanes.
+#[test]
+fn takes_many_in_order(rt: HostRuntime) -> Result<(), Fail> {
+    let mut pending = Pending::new(rt.alloc());
+    for place in 0..30u64 {
+        // receivers in turn, with numbers that don't rise
+        let receiver = place as u16 % 5 + 1;
+        let key = key_of(7, receiver, place * 7 % 30);
+        pending.join(key, StepInput::Wake(Tag::Beat))?;
+    }
+    let mut last = (0u16, 0u64);
+    for _place in 0..30 {
+        let (_, receiver, number, _) = take(&rt, &mut pending);
+        assert!(rt; last < (receiver, number));
+        last = (receiver, number);
+    }
+    is_empty(&rt, &mut pending);
+    Ok(())
+}
+
+/// Events of process 1 with these ticks and numbers join.
+fn join_all<R: Abort>(rt: &R, pending: &mut Pending, events: &[(u32, u64)], tag: Tag) {
+    for (tick, number) in events {
+        let key = key_of(*tick, 1, *number);
+        let joined = pending.join(key, StepInput::Wake(tag));
+        joined.expect(rt, NO_MEMORY);
+    }
+}
+
+/// Events of ticks with one place in the ring, and before and past what the ring has.
+#[test]
+fn takes_ticks_in_order(rt: HostRuntime) -> Result<(), Fail> {
+    let mut pending = Pending::with_ring(rt.alloc())?;
+    // 5, 1029, 2053 and 5125 leave the rest 5 by 1024
+    let beats = [(5125, 0), (5, 0), (2053, 0), (1029, 0), (u32::MAX, 0)];
+    join_all(&rt, &mut pending, &beats, Tag::Beat);
+    are_taken(&rt, &mut pending, &[(5, 1, 0)]);
+    // now 1028 is in the year that begins at 5, and 1029, which lies in the map, is not
+    let checks = [(1028, 0), (1029, 1), (3, 0), (6, 0)];
+    join_all(&rt, &mut pending, &checks, Tag::Check);
+    are_taken(&rt, &mut pending, &[(3, 1, 0), (6, 1, 0), (1028, 1, 0)]);
+    // 1029 has events in the map, and a third comes to the ring; of the two with one key the later counts
+    join_all(&rt, &mut pending, &[(1029, 0)], Tag::Check);
+    let (tick, _, number, input) = take(&rt, &mut pending);
+    same(&rt, &(tick, number), &(1029, 0));
+    assert!(rt; matches!(input, StepInput::Wake(Tag::Check)));
+    let last = [(1029, 1, 1), (2053, 1, 0), (5125, 1, 0), (u32::MAX, 1, 0)];
+    are_taken(&rt, &mut pending, &last);
+    is_empty(&rt, &mut pending);
+    Ok(())
+}

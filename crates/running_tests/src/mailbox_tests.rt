@@ -1,0 +1,207 @@
+//! Letters that are posted by slips and come out of mailboxes: none, some, by one thread and by several.
+ghost use Rattle.std.specs.Prelude.{◌≡◌, ◌≤◌, length, IfOk};
+ghost use Rattle.process_api.specs.Bounds.{most_processes};
+ghost use Rattle.mailboxes.specs.Mailboxes.{IsSlipOf};
+
+use crate::common::{NO_MEMORY, pid, same};
+use mailboxes::{Mailboxes, SharedMailboxes, Slip};
+use process_api::{Key, Letter, Payload, Pid};
+use std::alloc::{AllocError, Global};
+use std::process::Abort;
+use std::sync::Wait;
+use std::test::Fail;
+use std::thread;
+use std::thread::Threads;
+
+/// A letter of process 1 with this number.
+fn letter(receiver: Pid, number: u64) -> Letter
+    ensures { result.key.receiver ≡ receiver }
+{
+    let key = Key {
+        tick: 7,
+        receiver,
+        sender: pid(1),
+        number,
+    };
+    let payload = Payload::Alive;
+    Letter { key, payload }
+}
+
+/// Posts a letter with this number to a receiver.
+fn post<R: Abort + Wait>(rt: &R, mailboxes: &Mailboxes, slip: &mut Slip, receiver: u16, number: u64)
+    requires slip { IsSlipOf mailboxes.now.mailboxes slip.old }
+    requires low { 1 ≤ receiver }
+    requires high { receiver ≤ most_processes }
+    requires boxes { receiver ≤ length mailboxes.now.mailboxes }
+    ensures { IsSlipOf mailboxes.now.mailboxes slip.new }
+{
+    let posted = mailboxes.post(rt, slip, letter(pid(receiver), number));
+    assert!(rt; posted.is_ok());
+}
+
+/// The numbers of a list's letters, least first.
+fn numbers(alloc: Global, letters: &Vec<Letter>) -> Result<Vec<u64>, AllocError> {
+    let mut numbers = Vec::new(alloc);
+    for letter in letters {
+        numbers.push(letter.key.number)?;
+    }
+    numbers.sort()?;
+    Ok(numbers)
+}
+
+/// There is a list for each of these receivers, and its letters have the numbers that are wanted.
+fn have_numbers<R: Abort>(rt: &R, alloc: Global, lists: &[Vec<Letter>], wanted: &[&[u64]]) {
+    same(rt, &lists.len(), &wanted.len());
+    for (list, wanted) in lists.iter().zip(wanted) {
+        let came = numbers(alloc, list).expect(rt, NO_MEMORY);
+        same(rt, &came.as_slice(), wanted);
+    }
+}
+
+#[test]
+fn three_letters_of_two_slips(rt: HostRuntime) -> Result<(), Fail> {
+    let alloc = rt.alloc();
+    let mut mailboxes = Mailboxes::new(alloc, 3)?;
+    let mut first = mailboxes.slip(alloc)?;
+    let mut second = mailboxes.slip(alloc)?;
+    post(&rt, &mailboxes, &mut first, 2, 1);
+    post(&rt, &mailboxes, &mut first, 3, 2);
+    post(&rt, &mailboxes, &mut second, 2, 3);
+    let lists = mailboxes.collect(&rt, alloc, vec![in alloc; first, second]?)?;
+    have_numbers(&rt, alloc, &lists, &[&[], &[1, 3], &[2]]);
+    Ok(())
+}
+
+#[test]
+fn a_letter_posted_twice_comes_twice(rt: HostRuntime) -> Result<(), Fail> {
+    let alloc = rt.alloc();
+    let mut mailboxes = Mailboxes::new(alloc, 3)?;
+    let mut slip = mailboxes.slip(alloc)?;
+    post(&rt, &mailboxes, &mut slip, 2, 1);
+    post(&rt, &mailboxes, &mut slip, 2, 1);
+    let lists = mailboxes.collect(&rt, alloc, vec![in alloc; slip]?)?;
+    have_numbers(&rt, alloc, &lists, &[&[], &[1, 1], &[]]);
+    Ok(())
+}
+
+/// Empties mailboxes of which one slip was made.
+fn empty<R: Abort + Wait>(
+    rt: &R,
+    alloc: Global,
+    mailboxes: Mailboxes,
+    slip: Slip,
+) -> (Mailboxes, Vec<Vec<Letter>>)
+    requires one { mailboxes.slips ≡ 1 }
+    requires slip { IsSlipOf mailboxes.mailboxes slip }
+    ensures count { length result.0.mailboxes ≡ length mailboxes.mailboxes }
+    ensures slips { result.0.slips ≡ 0 }
+{
+    let lists = mailboxes.lists(alloc).expect(rt, NO_MEMORY);
+    let slips = vec![in alloc; slip].expect(rt, NO_MEMORY);
+    let emptied = mailboxes.empty(rt, alloc, lists, slips);
+    emptied.expect(rt, NO_MEMORY)
+}
+
+#[test]
+fn emptied_mailboxes_are_used_again(rt: HostRuntime) -> Result<(), Fail> {
+    let alloc = rt.alloc();
+    let mut mailboxes = Mailboxes::new(alloc, 3)?;
+    let mut slip = mailboxes.slip(alloc)?;
+    post(&rt, &mailboxes, &mut slip, 2, 1);
+    let (mut mailboxes, lists) = empty(&rt, alloc, mailboxes, slip);
+    have_numbers(&rt, alloc, &lists, &[&[], &[1], &[]]);
+    let mut slip = mailboxes.slip(alloc).expect(&rt, NO_MEMORY);
+    post(&rt, &mailboxes, &mut slip, 3, 2);
+    post(&rt, &mailboxes, &mut slip, 2, 3);
+    let (mailboxes, lists) = empty(&rt, alloc, mailboxes, slip);
+    have_numbers(&rt, alloc, &lists, &[&[], &[3], &[2]]);
+    let lists = mailboxes.collect(&rt, alloc, Vec::new(alloc))?;
+    have_numbers(&rt, alloc, &lists, &[&[], &[], &[]]);
+    Ok(())
+}
+
+#[test]
+fn no_slip_no_letter(rt: HostRuntime) -> Result<(), Fail> {
+    let alloc = rt.alloc();
+    for n in [0, 1, 256] {
+        let lists = Mailboxes::new(alloc, n)?.collect(&rt, alloc, Vec::new(alloc))?;
+        same(&rt, &lists.len(), &usize::from(n));
+        assert!(rt; lists.iter().all(|list| list.is_empty()));
+    }
+    Ok(())
+}
+
+/// Posts letters with 1,000 numbers from `first` to this receiver.
+fn post_many<R: Wait>(
+    rt: &R,
+    mailboxes: &SharedMailboxes,
+    mut slip: Slip,
+    receiver: Pid,
+    first: u64,
+) -> Result<Slip, Letter>
+    requires slip { IsSlipOf mailboxes.now slip }
+    requires receiver { receiver ≤ length mailboxes.now }
+    requires first { first ≤ 1000000 }
+    ensures slip { IfOk result (λ s. IsSlipOf mailboxes.now s) }
+{
+    for number in first..first + 1000 {
+        mailboxes.post(rt, &mut slip, letter(receiver, number))?;
+    }
+    Ok(slip)
+}
+
+#[test]
+fn two_threads_post_to_one_receiver(rt: HostRuntime) -> Result<(), Fail> {
+    let alloc = rt.alloc();
+    let two = pid(2);
+    let mut mailboxes = Mailboxes::new(alloc, 3)?;
+    let first = mailboxes.slip(alloc)?;
+    let second = mailboxes.slip(alloc)?;
+    let shared = mailboxes.shared();
+    let (first, second) = thread::join(
+        &rt,
+        || post_many(&rt, shared, first, two, 1),
+        || post_many(&rt, shared, second, two, 1001),
+    );
+    let slips = vec![in alloc; first?, second?]?;
+    let lists = mailboxes.collect(&rt, alloc, slips)?;
+    let numbers = numbers(alloc, lists.get(1).ok_or("no list")?)?;
+    assert!(rt; numbers.iter().copied().eq(1..=2000));
+    Ok(())
+}
+
+/// Posts to three of five receivers by two slips, and empties the mailboxes by so many threads.
+fn post_and_empty_by<R: Abort + Threads + Wait + Sync>(
+    rt: &R,
+    alloc: Global,
+    threads: usize,
+    mut mailboxes: Mailboxes,
+) -> (Mailboxes, Vec<Vec<Letter>>)
+    requires count { length mailboxes.mailboxes ≡ 5 }
+    requires slips { mailboxes.slips ≡ 0 }
+    ensures count { length result.0.mailboxes ≡ 5 }
+    ensures slips { result.0.slips ≡ 0 }
+{
+    let mut first = mailboxes.slip(alloc).expect(rt, NO_MEMORY);
+    let mut second = mailboxes.slip(alloc).expect(rt, NO_MEMORY);
+    post(rt, &mailboxes, &mut first, 2, 1);
+    post(rt, &mailboxes, &mut first, 5, 2);
+    post(rt, &mailboxes, &mut second, 3, 3);
+    post(rt, &mailboxes, &mut second, 2, 4);
+    let lists = mailboxes.lists(alloc).expect(rt, NO_MEMORY);
+    let slips = vec![in alloc; first, second].expect(rt, NO_MEMORY);
+    let emptied = mailboxes.empty_by(rt, alloc, threads, lists, slips);
+    emptied.expect(rt, NO_MEMORY)
+}
+
+#[test]
+fn emptied_by_several_threads(rt: HostRuntime) -> Result<(), Fail> {
+    let alloc = rt.alloc();
+    let mut mailboxes = Mailboxes::new(alloc, 5)?;
+    for threads in [1, 2, 4, 9] {
+        let (emptied, lists) = post_and_empty_by(&rt, alloc, threads, mailboxes);
+        have_numbers(&rt, alloc, &lists, &[&[], &[1, 4], &[3], &[], &[2]]);
+        mailboxes = emptied;
+    }
+    Ok(())
+}

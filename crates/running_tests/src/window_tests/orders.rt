@@ -1,0 +1,29 @@
+//! The law at runs in which two workers take turns.
+ghost use Rattle.event_list.specs.ScenarioSetting.{setting_of};
+ghost use Rattle.windows.specs.Alternation.{AlternatingIsList, AlternatingIsOneByOne, ListOrderIsAny};
+ghost use Rattle.windows.specs.Plan.{IsPlanFor};
+
+use super::one_crash;
+use scenario::Scenario;
+use std::test::Fail;
+use windows::{Plan, law_any_order};
+
+/// Two workers hold processes 1 and 2 at once, and run their events in turns, with letters posted in between. Such a
+/// run does what the list does, and closes as a run of one worker that takes the processes one after the other. Turns
+/// in the list's own order, which go from worker to worker as its steps go from process to process, close as any run.
+fn taking_turns(scenario: &Scenario, plan: &Plan)
+    requires window { IsPlanFor scenario.now plan.now }
+    ensures list { AlternatingIsList (setting_of scenario.now) plan.now.window }
+    ensures one_by_one { AlternatingIsOneByOne (setting_of scenario.now) plan.now.window }
+    ensures list_order { ListOrderIsAny (setting_of scenario.now) plan.now.window }
+{
+    law_any_order(scenario, plan);
+}
+
+#[test]
+fn turns_of_two_workers(rt: HostRuntime) -> Result<(), Fail> {
+    let scenario = one_crash(rt.alloc())?;
+    let plan = Plan::new(&scenario, 2, 2)?;
+    taking_turns(&scenario, &plan);
+    Ok(())
+}

@@ -1,0 +1,147 @@
+//! Runs in which each input in turn is refused by the machine that takes it.
+ghost use Rattle.std.specs.Prelude.{◌≡◌, IfOk, map};
+ghost use Rattle.process_api.specs.Numbers.{numbers_to};
+ghost use Rattle.scenario.specs.Opening.{mind_of};
+ghost use Rattle.scenario.specs.Record.{opening_mind};
+
+use super::makers::watcher;
+use super::one_crash;
+use super::runs::same_trace;
+use crate::common::same;
+use event_list::{RunError, run_list};
+use machines::make_all;
+use process_api::{Action, Pid, Process, StepInput, Trace};
+use scenario::{Opening, Scenario};
+use stack::{NoAlgorithm, Stack};
+use std::alloc::{AllocError, Global};
+use std::sync::atomic::{AtomicU64, Ordering};
+use std::sync::{Arc, Wait};
+use std::test::Fail;
+use std::thread::Threads;
+use timeout_detector::TimeoutDetector;
+use windows::{OpenGate, Plan, run_windows};
+
+/// A machine that is refused memory where all machines together have taken so many inputs.
+#[derive(Drop)]
+struct Refused {
+    stack: Stack<TimeoutDetector, NoAlgorithm>,
+    failed: bool,
+    limit: u64,
+    taken: Arc<AtomicU64, Global>,
+}
+
+impl Process for Refused {
+    ghost mind = { λ r. ⟦<Stack<TimeoutDetector, NoAlgorithm> as Process>⟧.mind r.stack };
+
+    ghost has_failed = { λ r. r.failed };
+
+    fn pid(&self) -> Pid {
+        self.stack.pid()
+    }
+
+    fn on_input(
+        &mut self,
+        now: u32,
+        input: &StepInput,
+        out: &mut Vec<Action>,
+    ) -> Result<(), AllocError> {
+        if self.failed {
+            return Err(AllocError);
+        }
+        self.failed = true;
+        if self.taken.fetch_add(1, Ordering::SeqCst) >= self.limit {
+            return Err(AllocError);
+        }
+        self.stack.on_input(now, input, out)?;
+        self.failed = false;
+        Ok(())
+    }
+
+    fn failed(&self) -> bool {
+        self.failed
+    }
+}
+
+/// Two machines that are refused at the input after so many.
+fn machines_of(
+    alloc: Global,
+    scenario: &Scenario,
+    limit: u64,
+) -> Result<Vec<Box<dyn Process>>, AllocError>
+    ensures { IfOk result (λ machines. map mind machines.items
+        ≡ map (opening_mind scenario.now) (numbers_to scenario.now.processes)) }
+{
+    let taken = Arc::new(alloc, AtomicU64::new(0))?;
+    make_all(
+        alloc,
+        scenario,
+        |opening: Opening| -> Result<Box<dyn Process>, AllocError>
+            ensures { IfOk result (λ made. mind made ≡ mind_of opening) }
+        {
+            let machine = Refused {
+                stack: watcher(alloc, &opening)?,
+                failed: false,
+                limit,
+                taken: Arc::try_clone(&taken)?,
+            };
+            Ok(Box::new(alloc, machine)?)
+        },
+    )
+}
+
+/// What the list makes of machines that are refused at the input after so many.
+fn listed(alloc: Global, scenario: &Scenario, limit: u64) -> Result<Result<Trace, RunError>, Fail> {
+    let machines = machines_of(alloc, scenario, limit)?;
+    Ok(run_list(alloc, scenario, machines))
+}
+
+/// What two workers make of machines that are refused at the input after so many, by windows of 2 ticks.
+fn run_by_two<R: Threads + Wait + Sync>(
+    rt: &R,
+    alloc: Global,
+    scenario: &Scenario,
+    limit: u64,
+) -> Result<Result<Trace, RunError>, Fail> {
+    let plan = Plan::new(scenario, 2, 2)?;
+    let machines = machines_of(alloc, scenario, limit)?;
+    Ok(run_windows(rt, alloc, scenario, machines, &plan, &OpenGate))
+}
+
+/// How many inputs the two processes take: of the 12 entries 3 are of a process that has crashed.
+const INPUTS: u64 = 9;
+
+/// Where any one input is refused, both runs answer `Memory`; where none is, both have the same trace.
+#[test]
+fn each_input(rt: HostRuntime) -> Result<(), Fail> {
+    let alloc = rt.alloc();
+    let scenario = one_crash(alloc)?;
+    for limit in 0..INPUTS {
+        let list = listed(alloc, &scenario, limit)?.err();
+        let windows = run_by_two(&rt, alloc, &scenario, limit)?.err();
+        let refused = Some(RunError::Memory);
+        same(&rt, &(limit, list, windows), &(limit, refused, refused));
+    }
+    let list = listed(alloc, &scenario, INPUTS)??;
+    let windows = run_by_two(&rt, alloc, &scenario, INPUTS)??;
+    same(&rt, &list.entries().len(), &12);
+    same_trace(&rt, &windows, &list);
+    Ok(())
+}
+
+/// A machine that was refused once answers so again, and leaves nothing behind.
+#[test]
+fn refused_again(rt: HostRuntime) -> Result<(), Fail> {
+    let alloc = rt.alloc();
+    let scenario = one_crash(alloc)?;
+    let mut machines = machines_of(alloc, &scenario, 1)?;
+    let mut out = Vec::new(alloc);
+    let first = machines.first_mut().ok_or("no machine")?;
+    first.on_input(0, &StepInput::Start, &mut out)?;
+    let count = out.len();
+    for now in 1..4 {
+        let answer = first.on_input(now, &StepInput::Start, &mut out);
+        assert!(rt; answer.is_err() && first.failed());
+    }
+    same(&rt, &out.len(), &count);
+    Ok(())
+}

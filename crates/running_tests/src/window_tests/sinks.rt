@@ -1,0 +1,134 @@
+//! What a sink is handed, window by window.
+ghost use Rattle.std.specs.Prelude.{◌≡◌, ◌<◌, ◌-◌, ◌^◌};
+
+use super::makers::all_machines;
+use super::runs::list_of;
+use super::{are_same, one_crash};
+use crate::common::same;
+use event_list::RunError;
+use process_api::Entry;
+use scenario::Scenario;
+use std::alloc::Global;
+use std::process::Abort;
+use std::sync::Wait;
+use std::test::Fail;
+use std::thread::Threads;
+use windows::{OpenGate, Plan, Sink, run_windows_into};
+
+/// Takes so many parts, and refuses each after them.
+#[derive(Drop)]
+struct Counting {
+    entries: Vec<Entry>,
+    // the length of each part that it was handed, taken or not
+    handed: Vec<usize>,
+    most: usize,
+    // whether it refuses because it can't write, and not for want of memory
+    writes: bool,
+    failures: u64,
+}
+
+impl Counting {
+    fn new(alloc: Global, most: usize, writes: bool) -> Counting
+        ensures { result.failures ≡ 0 }
+    {
+        Counting {
+            entries: Vec::new(alloc),
+            handed: Vec::new(alloc),
+            most,
+            writes,
+            failures: 0,
+        }
+    }
+}
+
+impl Sink for Counting {
+    ghost use Rattle.std.specs.Prelude.{◌≡◌, ◌++◌};
+
+    ghost took = { λ old part new. new.entries.items ≡ old.entries.items ++ part };
+
+    ghost took_front = { λ old part new. new.entries.items ≡ old.entries.items };
+
+    ghost failed = { λ s. s.failures };
+
+    fn part(&mut self, mut entries: Vec<Entry>) -> Result<(), RunError> {
+        self.handed.push(entries.len())?;
+        if self.handed.len() <= self.most {
+            self.entries.append(&mut entries)?;
+            return Ok(());
+        }
+        if self.writes {
+            self.failures += 1;
+            return Err(RunError::Write);
+        }
+        Err(RunError::Memory)
+    }
+
+    fn failures(&self) -> u64 {
+        self.failures
+    }
+}
+
+/// How many entries each window of 2 ticks has.
+const PARTS: [usize; 5] = [2, 4, 2, 2, 2];
+
+/// How many entries the windows before each have, and all windows.
+const BEFORE: [usize; 6] = [0, 2, 6, 8, 10, 12];
+
+/// Two workers hand the parts of the windows of 2 ticks to a sink. Answers the refusal, if there is one.
+fn hand_to<R: Threads + Wait + Sync>(
+    rt: &R,
+    alloc: Global,
+    scenario: &Scenario,
+    sink: &mut Counting,
+) -> Result<Option<RunError>, Fail>
+    requires { sink.old.failures ≡ 0 }
+{
+    let plan = Plan::new(scenario, 2, 2)?;
+    let machines = all_machines(alloc, scenario)?;
+    let done = run_windows_into(rt, alloc, scenario, machines, &plan, &OpenGate, sink);
+    Ok(done.err())
+}
+
+/// A sink that takes so many parts, and refuses each after them, has the list's entries of these windows. It was handed
+/// the part after them too, where there is one, and then no other.
+fn takes_so_many<R: Abort + Threads + Wait + Sync>(
+    rt: &R,
+    alloc: Global,
+    scenario: &Scenario,
+    list: &[Entry],
+    most: usize,
+    refusal: RunError,
+) -> Result<(), Fail>
+    requires { most < 6 }
+{
+    let mut sink = Counting::new(alloc, most, refusal == RunError::Write);
+    let came = hand_to(rt, alloc, scenario, &mut sink)?;
+    let refusal = if most < 5 { Some(refusal) } else { None };
+    let failures = u64::from(refusal == Some(RunError::Write));
+    same(
+        rt,
+        &(most, came, sink.failures()),
+        &(most, refusal, failures),
+    );
+    let handed = most.saturating_add(1).min(5);
+    assert!(rt; sink.handed.as_slice() == &PARTS[..handed]);
+    let before = BEFORE[most];
+    assert!(rt; before <= list.len());
+    assert!(rt; are_same(&sink.entries, &list[..before]));
+    Ok(())
+}
+
+/// The parts come one by one, in the order of the windows. After a refused one none is handed on, nor that one again,
+/// and the sink has the entries of the windows before it.
+#[test]
+fn parts_in_order(rt: HostRuntime) -> Result<(), Fail> {
+    let alloc = rt.alloc();
+    let scenario = one_crash(alloc)?;
+    let list = list_of(alloc, &scenario)?;
+    for most in 0..6 {
+        for refusal in [RunError::Memory, RunError::Write] {
+            takes_so_many(&rt, alloc, &scenario, list.entries(), most, refusal)?;
+        }
+    }
+    Ok(())
+}

@@ -1,0 +1,170 @@
+//! Workers that are watched: which processes they take, in which order one of them takes them, and which of two
+//! refusals comes first.
+
+use super::makers::all_machines;
+use super::runs::{list_of, run_by, same_trace};
+use super::{one_crash, three_coordinators};
+use crate::common::same;
+use event_list::RunError;
+use process_api::Pid;
+use scenario::read_scenario;
+use std::sync::Wait;
+use std::sync::atomic::{AtomicU64, Ordering};
+use std::test::Fail;
+use windows::{Gate, OpenGate, Plan, Stage, WORTH_A_THREAD, both, run_window};
+
+/// A gate that keeps what it sees.
+#[derive(Drop)]
+struct Watching {
+    // the numbers of the processes, a digit each, in the order of the calls
+    taken: AtomicU64,
+    // the greatest number of a worker
+    greatest: AtomicU64,
+    // calls of the starter
+    by_starter: AtomicU64,
+}
+
+impl Watching {
+    fn new() -> Watching {
+        Watching {
+            taken: AtomicU64::new(0),
+            greatest: AtomicU64::new(0),
+            by_starter: AtomicU64::new(0),
+        }
+    }
+}
+
+impl Gate for Watching {
+    fn entered<R: Wait>(&self, _rt: &R, worker: u16, pid: Pid) {
+        let taken = self.taken.load(Ordering::SeqCst).wrapping_mul(10);
+        let number = u64::from(pid.number());
+        self.taken
+            .store(taken.wrapping_add(number), Ordering::SeqCst);
+        self.greatest.fetch_max(u64::from(worker), Ordering::SeqCst);
+        if worker == 0 {
+            self.by_starter.fetch_add(1, Ordering::SeqCst);
+        }
+    }
+}
+
+/// A single worker takes each process that has an event in the window, by rising number: all three but in the window
+/// that starts at tick 6, in which the first has none. The starter takes nobody. A worker more than there are processes
+/// isn't started.
+#[test]
+fn taken_by_workers(rt: HostRuntime) -> Result<(), Fail> {
+    let alloc = rt.alloc();
+    let scenario = three_coordinators(alloc)?;
+    for (workers, greatest) in [(1, 1), (64, 3)] {
+        let gate = Watching::new();
+        run_by(&rt, alloc, &scenario, workers, &gate)?;
+        assert!(rt; gate.greatest.load(Ordering::SeqCst) <= greatest);
+        same(&rt, &gate.by_starter.load(Ordering::SeqCst), &0);
+        if workers == 1 {
+            let taken = gate.taken.load(Ordering::SeqCst);
+            same(&rt, &taken, &12_312_312_323_123_123);
+        }
+    }
+    Ok(())
+}
+
+/// A window ends where the next one starts.
+#[test]
+fn first_window(rt: HostRuntime) -> Result<(), Fail> {
+    let alloc = rt.alloc();
+    let scenario = one_crash(alloc)?;
+    let plan = Plan::new(&scenario, 2, 2)?;
+    let machines = all_machines(alloc, &scenario)?;
+    let mut stage = Stage::open(alloc, &scenario, machines)?;
+    same(&rt, &stage.start(), &0);
+    if stage.finished() {
+        return Err("a run of no ticks".into());
+    }
+    let part = run_window(&rt, alloc, &mut stage, &plan, &OpenGate)?;
+    let came = (part.len(), stage.start(), stage.finished());
+    same(&rt, &came, &(2, 2, false));
+    Ok(())
+}
+
+/// As many processes as there can be, each of which sends a letter to every other at each tick. The second of three
+/// windows has 8,256 entries and posts 8,064 letters, which the third takes: both are worth four threads that close
+/// them.
+const SIXTY_FOUR: &str = "version = 1
+processes = 64
+horizon = 6
+lookahead = 2
+seed = 1
+algorithm = \"none\"
+[detector]
+period = 1
+check = 3
+timeout = 5
+grow = 1
+[link]
+min = 2
+max = 2
+";
+
+#[test]
+fn sixty_four(rt: HostRuntime) -> Result<(), Fail> {
+    let alloc = rt.alloc();
+    let scenario = read_scenario(alloc, SIXTY_FOUR.as_bytes())?;
+    let list = list_of(alloc, &scenario)?;
+    // 64 starts, 64 checks, 320 beats, and four letters for each pair
+    same(&rt, &list.entries().len(), &16_576);
+    assert!(rt; 4 * WORTH_A_THREAD <= 8_192);
+    for workers in [1, 2, 4, 64] {
+        let windows = run_by(&rt, alloc, &scenario, workers, &OpenGate)?;
+        same_trace(&rt, &windows, &list);
+    }
+    Ok(())
+}
+
+/// What two workers answer, 1 and 2 where they aren't refused, and what is answered of both: of refusals that of a
+/// thread comes before that of memory, and this before that of a place.
+const BOTH: [(
+    Result<u8, RunError>,
+    Result<u8, RunError>,
+    Result<(u8, u8), RunError>,
+); 9] = [
+    (
+        Err(RunError::Spawn),
+        Err(RunError::Memory),
+        Err(RunError::Spawn),
+    ),
+    (
+        Err(RunError::Memory),
+        Err(RunError::Spawn),
+        Err(RunError::Spawn),
+    ),
+    (
+        Err(RunError::Spawn),
+        Err(RunError::Limit),
+        Err(RunError::Spawn),
+    ),
+    (
+        Err(RunError::Limit),
+        Err(RunError::Spawn),
+        Err(RunError::Spawn),
+    ),
+    (
+        Err(RunError::Memory),
+        Err(RunError::Limit),
+        Err(RunError::Memory),
+    ),
+    (
+        Err(RunError::Limit),
+        Err(RunError::Memory),
+        Err(RunError::Memory),
+    ),
+    (Ok(1), Err(RunError::Limit), Err(RunError::Limit)),
+    (Err(RunError::Limit), Ok(2), Err(RunError::Limit)),
+    (Ok(1), Ok(2), Ok((1, 2))),
+];
+
+#[test]
+fn first_refusal(rt: HostRuntime) -> Result<(), Fail> {
+    for (left, right, answer) in BOTH {
+        same(&rt, &both(left, right), &answer);
+    }
+    Ok(())
+}
