@@ -3,7 +3,7 @@
 use crate::compare::same_bytes;
 use crate::tests::files::{COORDINATORS, FIVE, ONE_CRASH, ONE_PROCESS, WATCH_NEXT};
 use crate::tests::outlets::stops_at_ten_bytes;
-use crate::tests::runs::{answers, changed, compares, lists, lists_again, printed, runs_by, same};
+use crate::tests::runs::{answers, changed, compares, lists, printed, runs_by, same};
 use std::alloc::{AllocError, Global};
 use std::marker::Sync;
 use std::process::Abort;
@@ -89,8 +89,9 @@ fn detectors(rt: HostRuntime) -> Result<(), Fail> {
 /// Over links that lose and delay letters at random.
 #[test]
 fn five(rt: HostRuntime) -> Result<(), Fail> {
+    let first = printed(&rt, rt.alloc(), "both", FIVE)?;
     prints_as_list(&rt, rt.alloc(), "both", FIVE)?;
-    lists_again(&rt, rt.alloc(), "both", FIVE)
+    lists(&rt, rt.alloc(), "both", FIVE, &first)
 }
 
 /// Files, with the workers and the window of their run.

@@ -4,7 +4,7 @@ ghost use Rattle.scenario.specs.Opening.{mind_of};
 
 use crate::bench::{Mode, bench};
 use crate::tests::files::{FIVE, ONE_CRASH, ONE_PROCESS, TAKEN_BACK, WATCH_NEXT};
-use crate::tests::runs::{answers, changed, has_part, lists, lists_again, same, trace_of};
+use crate::tests::runs::{answers, changed, has_part, lists, same, trace_of};
 use event_list::run_list;
 use judges::Answer;
 use machines::{idle, make_all};
@@ -239,10 +239,9 @@ fn same_each_time(rt: HostRuntime) -> Result<(), Fail> {
     let alloc = rt.alloc();
     let consensus = "algorithm = \"es\"\nproposals = [1, 2, 3, 4, 5]\n";
     let file = changed(alloc, FIVE, consensus, "algorithm = \"none\"\n")?;
-    lists_again(&rt, alloc, "trace", &file)?;
     let trace = trace_of(&rt, alloc, &file)?;
     has_part(&rt, &trace, ",alive,");
-    Ok(())
+    lists(&rt, alloc, "trace", &file, &trace)
 }
 
 /// A limit of as many entries as the trace has is kept; with one less nothing is written.
