@@ -22,6 +22,3 @@ mod detector;
 mod heartbeat;
 
 pub use detector::FreshnessDetector;
-
-#[cfg(test)]
-mod tests;

@@ -17,8 +17,6 @@ mod book;
 mod letter;
 mod rows;
 mod running;
-#[cfg(test)]
-mod tests;
 mod text;
 
 pub use letter::{Letter, LetterFate};

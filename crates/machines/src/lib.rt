@@ -23,6 +23,3 @@ mod stacks;
 pub use detectors::{AnyDetector, BaseDetector};
 pub use making::make_all;
 pub use stacks::{eventually_strong, idle, strong};
-
-#[cfg(test)]
-mod tests;

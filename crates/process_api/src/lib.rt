@@ -41,6 +41,3 @@ pub use pid::{MOST_PROCESSES, Pid};
 pub use proc_set::{Members, ProcSet};
 pub use process::Process;
 pub use trace::Trace;
-
-#[cfg(test)]
-mod tests;

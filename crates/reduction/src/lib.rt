@@ -17,6 +17,3 @@ mod gathering;
 mod reduced;
 
 pub use reduced::Reduced;
-
-#[cfg(test)]
-mod tests;

@@ -38,8 +38,8 @@ impl Key {
         self.to_string(alloc)
     }
 
-    /// Whether both are one key.
-    pub(crate) fn is(&self, other: &Key) -> bool
+    /// Whether both are one key, written alike.
+    pub fn is(&self, other: &Key) -> bool
         ensures { result ≡ same_path (path_of self.now) (path_of other.now) }
     {
         match self {

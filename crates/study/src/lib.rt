@@ -40,6 +40,3 @@ pub use seeds::Seeds;
 pub use setting::Setting;
 pub use shard::{Shard, law_shards};
 pub use text::scenario_text;
-
-#[cfg(test)]
-mod tests;

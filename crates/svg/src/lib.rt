@@ -23,6 +23,4 @@ pub use caption::Caption;
 pub use class::Class;
 pub use document::{Picture, svg_text};
 pub use shape::{Anchor, Point, Shape};
-
-#[cfg(test)]
-mod tests;
+pub use style::style;

@@ -54,7 +54,7 @@ text{fill:#e6edf3}
 
 /// The style sheet and the marks that each document has.
 #[tactic(auto, unfolding(crate::specs::Style::style_text))]
-pub(crate) fn style() -> &'static [u8]
+pub fn style() -> &'static [u8]
     ensures { result.now ≡ style_text }
 {
     STYLE

@@ -21,6 +21,3 @@ mod bound;
 mod detector;
 
 pub use detector::TimeoutDetector;
-
-#[cfg(test)]
-mod tests;

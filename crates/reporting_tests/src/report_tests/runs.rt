@@ -1,43 +1,18 @@
 //! Worked runs, of which all is measured.
-ghost use Rattle.std.specs.Prelude.{◌≡◌, IfOk};
-ghost use Rattle.scenario.specs.Opening.{mind_of};
-
+use crate::boxed::all_machines;
 use crate::comparisons::same;
 use crate::findings::{are_quiet, outcome, without_mistake};
 use crate::traces::scenario_of;
 use event_list::RunError;
 use judges::{Answer, Outcome};
-use machines::{AnyDetector, eventually_strong, idle, make_all, strong};
-use process_api::Process;
 use qos_report::{Detection, RunFindings, Summary, measure_list};
-use scenario::AlgorithmKind::{EventuallyStrong, Idle, Strong};
-use scenario::{Opening, Scenario, read_scenario};
-use std::alloc::{AllocError, Global};
+use scenario::{Scenario, read_scenario};
+use std::alloc::Global;
 use std::process::Abort;
 
-/// What is measured of a run over machines that are made here.
-fn found_of<R: Abort>(rt: &R, alloc: Global, scenario: &Scenario) -> Result<RunFindings, RunError> {
-    let machines = make_all(
-        alloc,
-        scenario,
-        |opening: Opening| -> Result<Box<dyn Process>, AllocError>
-            ensures { IfOk result (λ made. mind made ≡ mind_of opening) }
-        {
-            let detector = AnyDetector::open(alloc, &opening).expect(rt, "no memory");
-            match opening.algorithm {
-                Idle => Ok(Box::new(alloc, idle(&opening, detector))?),
-                Strong => {
-                    let machine = strong(alloc, &opening, detector).expect(rt, "no memory");
-                    Ok(Box::new(alloc, machine)?)
-                }
-                EventuallyStrong => {
-                    let machine = eventually_strong(alloc, &opening, detector);
-                    Ok(Box::new(alloc, machine.expect(rt, "no memory"))?)
-                }
-            }
-        },
-    )?;
-    measure_list(alloc, scenario, machines)
+/// What is measured of a run.
+fn found_of(alloc: Global, scenario: &Scenario) -> Result<RunFindings, RunError> {
+    measure_list(alloc, scenario, all_machines(alloc, scenario)?)
 }
 
 /// The process has this outcome.
@@ -63,7 +38,7 @@ fn are_counted<R: Abort>(rt: &R, summary: &Summary, counts: (u64, u128, u128), o
 /// What is measured of the run of a file's scenario.
 fn found_of_file<R: Abort>(rt: &R, alloc: Global, file: &str) -> RunFindings {
     let scenario = read_scenario(alloc, file.as_bytes()).expect(rt, "not a scenario");
-    found_of(rt, alloc, &scenario).expect(rt, "no run")
+    found_of(alloc, &scenario).expect(rt, "no run")
 }
 
 /// Process 1 hears last of process 2, which crashes at tick 3, at tick 2, and suspects it at its check at tick 9.
@@ -71,7 +46,7 @@ fn found_of_file<R: Abort>(rt: &R, alloc: Global, file: &str) -> RunFindings {
 fn one_crash(rt: HostRuntime) {
     let alloc = rt.alloc();
     let scenario = scenario_of(&rt, alloc, 2, 10, "crash = [{ process = 2, at = 3 }]");
-    let found = found_of(&rt, alloc, &scenario).expect(&rt, "no run");
+    let found = found_of(alloc, &scenario).expect(&rt, "no run");
     are_counted(&rt, &found.summary, (12, 4, 0), 2);
     for number in [1, 2] {
         is_outcome(
@@ -154,7 +129,7 @@ fn entries_within<R: Abort>(rt: &R, alloc: Global, limit: u64) -> Result<u64, Ru
     let more = format!(in alloc; "limit = {limit}\ncrash = [{{ process = 2, at = 3 }}]");
     let more = more.expect(rt, "no memory");
     let scenario = scenario_of(rt, alloc, 2, 10, &more);
-    found_of(rt, alloc, &scenario).map(|found| found.summary.entries)
+    found_of(alloc, &scenario).map(|found| found.summary.entries)
 }
 
 /// The run of one crash has 12 entries: a limit of 12 doesn't stop it, one of 11 does.
