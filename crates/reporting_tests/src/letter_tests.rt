@@ -3,11 +3,13 @@ mod runs;
 mod texts;
 
 use crate::boxed::all_machines;
+use crate::comparisons::same;
 use event_list::{RunError, run_list};
 use letters::{Letter, letters, letters_text};
 use process_api::Trace;
 use scenario::{Scenario, read_scenario};
 use std::alloc::Global;
+use std::process::Abort;
 use std::test::Fail;
 
 /// Two processes over 10 ticks, which send each other a letter at ticks 0, 4 and 8, with these tables.
@@ -42,4 +44,10 @@ pub(super) fn trace_of(alloc: Global, scenario: &Scenario) -> Result<Trace, RunE
 pub(super) fn text_of(alloc: Global, scenario: &Scenario) -> Result<Vec<u8>, Fail> {
     let letters = letters_of(alloc, scenario)?;
     Ok(letters_text(alloc, &letters)?)
+}
+
+/// The text that came is the one that was wanted.
+pub(super) fn is_text<R: Abort>(rt: &R, came: &[u8], wanted: &str) -> Result<(), Fail> {
+    same(rt, &std::str::from_utf8(came)?, &wanted);
+    Ok(())
 }

@@ -4,7 +4,7 @@ ghost use Rattle.svg.specs.Document.{head_text, svg_text, view_box_text};
 
 use crate::elements::{push_attributes, push_number, push_shape};
 use crate::shape::Shape;
-use crate::style::style;
+use crate::style_sheet::style;
 use std::alloc::{AllocError, Global};
 
 /// A picture, in whole user units.

@@ -17,10 +17,10 @@ mod document;
 mod elements;
 mod escaping;
 mod shape;
-mod style;
+mod style_sheet;
 
 pub use caption::Caption;
 pub use class::Class;
 pub use document::{Picture, svg_text};
 pub use shape::{Anchor, Point, Shape};
-pub use style::style;
+pub use style_sheet::style;

@@ -1,10 +1,13 @@
 //! The letters of worked runs.
-
-use super::{letters_of, text_of, trace_of, two_processes};
+use super::{is_text, letters_of, text_of, trace_of, two_processes};
+use crate::comparisons::same;
+use crate::traces::pid;
 use event_list::RunError;
 use letters::{Letter, LetterFate};
-use process_api::{Kind, Pid};
+use process_api::{Entry, Kind};
 use scenario::read_scenario;
+use std::alloc::{AllocError, Global};
+use std::process::Abort;
 use std::test::Fail;
 
 /// Letters take 2 ticks.
@@ -57,42 +60,52 @@ const ALL_LOST: &str = "sent,sender,receiver,number,kind,due,fate
 8,1,2,3,alive,,lost
 ";
 
+/// The letters of a run of two processes with these tables are told by this text.
+fn are_told<R: Abort>(rt: &R, alloc: Global, tables: &str, wanted: &str) -> Result<(), Fail> {
+    let scenario = two_processes(alloc, tables)?;
+    is_text(rt, &text_of(alloc, &scenario)?, wanted)
+}
+
+/// These tables, and a crash of process 2.
+fn crash_at(alloc: Global, links: &str, tick: u32) -> Result<String, AllocError> {
+    format!(in alloc; "{links}[[crash]]\nprocess = 2\nat = {tick}\n")
+}
+
 #[test]
 fn crashes(rt: HostRuntime) -> Result<(), Fail> {
     let alloc = rt.alloc();
-    for (at, want) in [
-        ("2", CRASH_AT_2),
-        ("3", CRASH_AT_3),
-        ("4", CRASH_AT_3),
-        ("5", CRASH_AT_5),
+    for (tick, wanted) in [
+        (2, CRASH_AT_2),
+        (3, CRASH_AT_3),
+        (4, CRASH_AT_3),
+        (5, CRASH_AT_5),
     ] {
-        let tables = format!(in alloc; "{SURE}[[crash]]\nprocess = 2\nat = {at}\n")?;
-        let text = text_of(alloc, &two_processes(alloc, tables.as_str())?)?;
-        assert_eq!(rt; std::str::from_utf8(&text)?, want, "{at}");
+        are_told(&rt, alloc, &crash_at(alloc, SURE, tick)?, wanted)?;
     }
-    let text = text_of(alloc, &two_processes(alloc, SURE)?)?;
-    assert_eq!(rt; std::str::from_utf8(&text)?, NO_CRASH);
-    Ok(())
+    are_told(&rt, alloc, SURE, NO_CRASH)
 }
 
 #[test]
 fn all_lost(rt: HostRuntime) -> Result<(), Fail> {
     let alloc = rt.alloc();
-    let tables = format!(in alloc; "{LOSSY}[[crash]]\nprocess = 2\nat = 3\n")?;
-    let scenario = two_processes(alloc, tables.as_str())?;
-    let text = text_of(alloc, &scenario)?;
-    assert_eq!(rt; std::str::from_utf8(&text)?, ALL_LOST);
-    let letters = letters_of(alloc, &scenario)?;
+    are_told(&rt, alloc, &crash_at(alloc, LOSSY, 3)?, ALL_LOST)
+}
+
+/// The last of the letters in `ALL_LOST`.
+#[test]
+fn last_lost(rt: HostRuntime) -> Result<(), Fail> {
+    let alloc = rt.alloc();
+    let scenario = two_processes(alloc, &crash_at(alloc, LOSSY, 3)?)?;
     let last = Letter {
         sent: 8,
-        sender: Pid::new(1).ok_or("no process")?,
-        receiver: Pid::new(2).ok_or("no process")?,
+        sender: pid(&rt, 1),
+        receiver: pid(&rt, 2),
         number: 3,
         kind: Kind::Alive,
         due: None,
         fate: LetterFate::Lost,
     };
-    assert!(rt; letters.last() == Some(&last));
+    assert!(rt; letters_of(alloc, &scenario)?.last() == Some(&last));
     Ok(())
 }
 
@@ -136,9 +149,7 @@ const ROUND_1: &str = "sent,sender,receiver,number,kind,due,fate
 fn own_letters_left_out(rt: HostRuntime) -> Result<(), Fail> {
     let alloc = rt.alloc();
     let scenario = read_scenario(alloc, COORDINATORS.as_bytes())?;
-    let text = text_of(alloc, &scenario)?;
-    assert_eq!(rt; std::str::from_utf8(&text)?, ROUND_1);
-    Ok(())
+    is_text(&rt, &text_of(alloc, &scenario)?, ROUND_1)
 }
 
 /// The run of `CRASH_AT_3` has 12 entries.
@@ -151,48 +162,63 @@ fn limits(rt: HostRuntime) -> Result<(), Fail> {
 [detector]\nperiod = 4\ncheck = 3\ntimeout = 5\n{SURE}[[crash]]\nprocess = 2\nat = 3\n"
         )?;
         let scenario = read_scenario(alloc, file.as_bytes())?;
-        assert_eq!(rt; letters_of(alloc, &scenario).err(), refusal);
+        same(&rt, &letters_of(alloc, &scenario).err(), &refusal);
     }
     Ok(())
 }
 
-/// In the run of `CRASH_AT_3`, tick, receiver, sender, number and kind of each entry that another process caused.
-const CAUSED_BY_OTHERS: [(u32, u16, u16, u64, Kind); 3] = [
+/// What an entry and the letter that it takes have in common: tick, receiver, sender, number and kind.
+type Row = (u64, u16, u16, u64, Kind);
+
+/// In the run of `CRASH_AT_3`, what has an entry that another process caused.
+const CAUSED_BY_OTHERS: [Row; 3] = [
     (2, 1, 2, 1, Kind::Alive),
     (2, 2, 1, 1, Kind::Alive),
     (6, 2, 1, 2, Kind::Dead),
 ];
 
-/// Of the four letters the last is late, and has no entry.
-#[test]
-fn entries_of_letters(rt: HostRuntime) -> Result<(), Fail> {
-    let alloc = rt.alloc();
-    let tables = format!(in alloc; "{SURE}[[crash]]\nprocess = 2\nat = 3\n")?;
-    let scenario = two_processes(alloc, tables.as_str())?;
-    let trace = trace_of(alloc, &scenario)?;
-    let mut caused = Vec::new(alloc);
-    for entry in trace.entries() {
-        let key = entry.key;
-        if key.sender != key.receiver {
-            let (receiver, sender) = (key.receiver.number(), key.sender.number());
-            caused.push((key.tick, receiver, sender, key.number, entry.kind))?;
+/// The entries that another process caused.
+fn caused_by_others(alloc: Global, entries: &[Entry]) -> Result<Vec<Row>, AllocError> {
+    let mut rows = Vec::new(alloc);
+    for Entry { key, kind, .. } in entries {
+        let (receiver, sender) = (key.receiver.number(), key.sender.number());
+        if sender != receiver {
+            rows.push((u64::from(key.tick), receiver, sender, key.number, *kind))?;
         }
     }
-    assert!(rt; caused.as_slice() == CAUSED_BY_OTHERS.as_slice());
-    let mut come = Vec::new(alloc);
-    for letter in &letters_of(alloc, &scenario)? {
+    Ok(rows)
+}
+
+/// The letters that have an entry.
+fn with_entries(alloc: Global, letters: &[Letter]) -> Result<Vec<Row>, AllocError> {
+    let mut rows = Vec::new(alloc);
+    for letter in letters {
         let kind = match letter.fate {
             LetterFate::Taken => letter.kind,
             LetterFate::Dead => Kind::Dead,
             LetterFate::Lost | LetterFate::Late => continue,
         };
         let (receiver, sender) = (letter.receiver.number(), letter.sender.number());
-        come.push((letter.due, receiver, sender, letter.number, kind))?;
+        rows.push((
+            letter.due.unwrap_or(0),
+            receiver,
+            sender,
+            letter.number,
+            kind,
+        ))?;
     }
-    assert_eq!(rt; come.len(), 3);
-    for (tick, receiver, sender, number, kind) in CAUSED_BY_OTHERS {
-        let row = (Some(u64::from(tick)), receiver, sender, number, kind);
-        assert!(rt; come.contains(&row), "{number}");
-    }
+    Ok(rows)
+}
+
+/// Of the four letters the last is late, and has no entry.
+#[test]
+fn entries_of_letters(rt: HostRuntime) -> Result<(), Fail> {
+    let alloc = rt.alloc();
+    let scenario = two_processes(alloc, &crash_at(alloc, SURE, 3)?)?;
+    let trace = trace_of(alloc, &scenario)?;
+    let caused = caused_by_others(alloc, trace.entries())?;
+    assert!(rt; caused.as_slice() == CAUSED_BY_OTHERS.as_slice());
+    let come = with_entries(alloc, &letters_of(alloc, &scenario)?)?;
+    assert!(rt; come.len() == 3 && CAUSED_BY_OTHERS.iter().all(|row: &Row| come.contains(row)));
     Ok(())
 }

@@ -1,7 +1,9 @@
 //! Texts of letters.
-
+use super::is_text;
 use letters::{Letter, LetterFate, letters_text};
 use process_api::{Kind, Pid};
+use std::alloc::Global;
+use std::process::Abort;
 use std::test::Fail;
 
 /// The kinds of letters, and their names.
@@ -30,28 +32,38 @@ fn letter(kind: Kind, due: Option<u64>, fate: LetterFate) -> Result<Letter, Fail
     })
 }
 
+/// The text of these letters is the header and these lines.
+fn have_lines<R: Abort>(
+    rt: &R,
+    alloc: Global,
+    letters: &[Letter],
+    lines: &str,
+) -> Result<(), Fail> {
+    let wanted = format!(in alloc; "sent,sender,receiver,number,kind,due,fate\n{lines}")?;
+    is_text(rt, &letters_text(alloc, letters)?, &wanted)
+}
+
 #[test]
 fn header_alone(rt: HostRuntime) -> Result<(), Fail> {
-    let text = letters_text(rt.alloc(), &[])?;
-    assert_eq!(rt;
-        std::str::from_utf8(&text)?,
-        "sent,sender,receiver,number,kind,due,fate\n"
-    );
-    Ok(())
+    have_lines(&rt, rt.alloc(), &[], "")
 }
 
 #[test]
 fn kinds(rt: HostRuntime) -> Result<(), Fail> {
     let alloc = rt.alloc();
     for (kind, name) in KINDS {
-        let text = letters_text(alloc, &[letter(kind, None, LetterFate::Lost)?])?;
-        let want = format!(in alloc;
-            "sent,sender,receiver,number,kind,due,fate\n4294967295,3,256,1000000000000,{name},,lost\n"
-        )?;
-        assert_eq!(rt; std::str::from_utf8(&text)?, want.as_str());
+        let lost = letter(kind, None, LetterFate::Lost)?;
+        let line = format!(in alloc; "4294967295,3,256,1000000000000,{name},,lost\n")?;
+        have_lines(&rt, alloc, &[lost], &line)?;
     }
     Ok(())
 }
+
+/// A row of each fate that `kinds` has not.
+const FATES: &str = "4294967295,3,256,1000000000000,alive,0,taken
+4294967295,3,256,1000000000000,reply,5000000000,late
+4294967295,3,256,1000000000000,last,7,dead
+";
 
 #[test]
 fn fates(rt: HostRuntime) -> Result<(), Fail> {
@@ -60,14 +72,5 @@ fn fates(rt: HostRuntime) -> Result<(), Fail> {
         letter(Kind::Reply, Some(5_000_000_000), LetterFate::Late)?,
         letter(Kind::Last, Some(7), LetterFate::Dead)?,
     ];
-    let text = letters_text(rt.alloc(), &rows)?;
-    assert_eq!(rt;
-        std::str::from_utf8(&text)?,
-        "sent,sender,receiver,number,kind,due,fate
-4294967295,3,256,1000000000000,alive,0,taken
-4294967295,3,256,1000000000000,reply,5000000000,late
-4294967295,3,256,1000000000000,last,7,dead
-"
-    );
-    Ok(())
+    have_lines(&rt, rt.alloc(), &rows, FATES)
 }

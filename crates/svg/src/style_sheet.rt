@@ -52,7 +52,7 @@ text{fill:#e6edf3}
 </defs>
 ";
 
-/// The style sheet and the marks that each document has.
+/// The style sheet and the marks that each document has, as SVG text.
 #[tactic(auto, unfolding(crate::specs::Style::style_text))]
 pub fn style() -> &'static [u8]
     ensures { result.now ≡ style_text }
