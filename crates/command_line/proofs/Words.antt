@@ -1,5 +1,5 @@
 -- What clap's matches say of a number.
-use Rattle.std.proofs.Common.{rules, ◌≡◌, ◌≢◌, inl, inr, ◌∙◌, ap, sym, subst, codes, [], ℕ, List, Option, Some, None, Result, Ok, Err, IfOk, IfSome, IsNone, refl, true, false}
+use Rattle.std.proofs.Common.{rules, ◌≡◌, ◌≢◌, inl, inr, ◌∙◌, ap, sym, subst, codes, [], ℕ, List, Option, Some, None, Result, Ok, Err, IfSome, IsNone, refl, true, false}
 use Rattle.clap.specs.Words.{App, Row, Text, HasKind, HasMatchesOf, IsAmong, ReadsOne, app_of, fault_of, is_simple, is_simple_and_free, kind_of, subcommand_of, subcommand_rows_of}
 use Rattle.clap.specs.declared.builder.command.Command.{Command}
 use Rattle.clap.specs.declared.error.Error.{Error}
@@ -82,11 +82,6 @@ module _ (rows : List Row) where
 
 -- what a command doesn't ask for, its name doesn't
 pub ruleset asks_nothing = (check_asks_nothing, list_asks_nothing, run_asks_nothing, compare_asks_nothing)
-
--- what holds of a value by two clauses
-pub both_ok : {A E : Type 0} (r : Result A E) (P Q R : A → Type 0) → IfOk r P → IfOk r Q → ((x : A) → P x → Q x → R x) → IfOk r R
-both_ok (Ok x) P Q R p q f = f x p q
-both_ok (Err e) P Q R p q f = tt
 
 simple : (prints : Prints) → is_simple (app_with prints) ≡ true
 unfolding clap_on_literals

@@ -1,5 +1,5 @@
 -- The command line, as clap sees it.
-use Rattle.std.specs.Prelude.{◌≡◌, [], ◌∷◌, Some, map, codes, false}
+use Rattle.std.specs.Prelude.{◌≡◌, [], ◌∷◌, IfOk, Ok, Result, Some, map, codes, false}
 use Rattle.clap.specs.Words.{App, Rule, Text, rule_of, app_of, new_app, new_rule, with_rule, with_subcommand}
 use Rattle.clap.specs.declared.builder.arg.Arg.{Arg}
 use Rattle.clap.specs.declared.builder.command.Command.TheViews.{out-Command}
@@ -66,10 +66,6 @@ pub record IsPrintOption (a : Arg) : Type 0 where
   pub takes : TakesPrints prints
   pub rule : rule_of a ≡ option_rule (codes "print") prints
 
-pub record IsCheck (c : Command) : Type 0 where
-  pub app : app_of c ≡ check_app
-  pub local : IsLocal c
-
 pub record IsList (c : Command) : Type 0 where
   pub prints : ValueParser
   pub takes : TakesPrints prints
@@ -80,10 +76,6 @@ pub record IsRun (c : Command) : Type 0 where
   pub prints : ValueParser
   pub takes : TakesPrints prints
   pub app : app_of c ≡ run_app prints
-  pub local : IsLocal c
-
-pub record IsCompare (c : Command) : Type 0 where
-  pub app : app_of c ≡ compare_app
   pub local : IsLocal c
 
 -- the parsers of what `list` prints, and of what `run` prints
@@ -101,26 +93,33 @@ pub record IsCommand (c : Command) : Type 0 where
   pub app : app_of c ≡ app_with prints
   pub local : IsLocal c
 
--- the command has `list` beside what it had
-pub record AddsList (old new : Command) : Type 0 where
-  pub prints : ValueParser
-  pub takes : TakesPrints prints
-  pub app : app_of new ≡ with_subcommand (app_of old) (list_app prints).top
+-- where a command was made it is this one
+abbrev pub Makes : {E : Type 0} → App → Result Command E → Type 0
+Makes app made = IfOk made (λ c. (app_of c ≡ app) × IsLocal c)
 
--- the command has `run` beside what it had
-pub record AddsRun (old new : Command) : Type 0 where
-  pub prints : ValueParser
-  pub takes : TakesPrints prints
-  pub app : app_of new ≡ with_subcommand (app_of old) (run_app prints).top
+-- the command has another beside what it had
+pub record Adds {E : Type 0} (old added : Result Command E) (new : Command) : Type 0 where
+  pub before : Command
+  pub was : old ≡ Ok before
+  pub sub : Command
+  pub is : added ≡ Ok sub
+  pub app : app_of new ≡ with_subcommand (app_of before) (app_of sub).top
+  pub local : IsLocal new
 
 -- the command has `check` and `list` beside what it had
-pub record AddsListCommands (old new : Command) : Type 0 where
+pub record AddsListCommands {E : Type 0} (old : Result Command E) (new : Command) : Type 0 where
+  pub before : Command
+  pub was : old ≡ Ok before
   pub prints : ValueParser
   pub takes : TakesPrints prints
-  pub app : app_of new ≡ with_list (app_of old) prints
+  pub app : app_of new ≡ with_list (app_of before) prints
+  pub local : IsLocal new
 
 -- the command has `run` and `compare` beside what it had
-pub record AddsWindowCommands (old new : Command) : Type 0 where
+pub record AddsWindowCommands {E : Type 0} (old : Result Command E) (new : Command) : Type 0 where
+  pub before : Command
+  pub was : old ≡ Ok before
   pub prints : ValueParser
   pub takes : TakesPrints prints
-  pub app : app_of new ≡ with_windows (app_of old) prints
+  pub app : app_of new ≡ with_windows (app_of before) prints
+  pub local : IsLocal new

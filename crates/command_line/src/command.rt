@@ -1,8 +1,9 @@
 //! The command line, with its help.
 ghost use Rattle.std.specs.Prelude.{◌≡◌, IfOk, codes, false};
-ghost use Rattle.clap.specs.Words.{app_of, rule_of, with_rule, with_subcommand};
-ghost use Rattle.command_line.specs.Commands.{AddsList, AddsListCommands, AddsRun, AddsWindowCommands, IsCheck, IsCommand, IsCompare, IsList, IsLocal, IsPrintOption, IsRun, check_app, compare_app, number, option_rule, path_rule, with_path, with_plan};
+ghost use Rattle.clap.specs.Words.{App, rule_of, with_rule};
+ghost use Rattle.command_line.specs.Commands.{Adds, AddsListCommands, AddsWindowCommands, IsCommand, IsList, IsLocal, IsPrintOption, IsRun, Makes, check_app, compare_app, number, option_rule, path_rule, with_path, with_plan};
 
+use clap::builder::ValueParser;
 use clap::{Arg, Command, value_parser};
 use std::alloc::{AllocError, Global};
 
@@ -62,21 +63,25 @@ const WORKERS: &str = "How many workers share each window, 1 to 64";
 
 const WINDOW: &str = "How many ticks a window has, 1 to the scenario's lookahead";
 
+/// A command that was made, unless memory was refused.
+type Made<'a> = Result<Command<'a>, AllocError>;
+
 /// A command with one argument more.
-fn with_argument<'a>(command: Command<'a>, argument: Arg<'a>) -> Result<Command<'a>, AllocError>
+fn with_argument<'a>(command: Made<'a>, argument: Arg<'a>) -> Made<'a>
     requires local { argument.global ≡ false }
-    ensures app { IfOk result (λ c. app_of c ≡ with_rule (app_of command.entry) (rule_of argument.entry)) }
-    ensures local { IsLocal command.entry → IfOk result IsLocal }
+    ensures { (app : App) → Makes app command.entry → Makes (with_rule app (rule_of argument.entry)) result }
 {
+    let command = command?;
     command.arg(argument)
 }
 
 /// A command with one subcommand more.
-fn with_command<'a>(command: Command<'a>, added: Command<'a>) -> Result<Command<'a>, AllocError>
-    requires local { IsLocal added }
-    ensures app { IfOk result (λ c. app_of c ≡ with_subcommand (app_of command.entry) (app_of added.entry).top) }
-    ensures local { IsLocal command.entry → IfOk result IsLocal }
+fn with_command<'a>(command: Made<'a>, added: Made<'a>) -> Made<'a>
+    requires local { IfOk command IsLocal × IfOk added IsLocal }
+    ensures { IfOk result (Adds command.entry added.entry) }
 {
+    let command = command?;
+    let added = added?;
     command.subcommand(added)
 }
 
@@ -88,37 +93,30 @@ fn path_argument<'a>(alloc: Global) -> Arg<'a>
     Arg::new(alloc, "path").value_name("PATH").help(PATH)
 }
 
+/// An option that takes a value that a parser takes.
+fn option<'a>(
+    alloc: Global,
+    name: &'a str,
+    value: &'a str,
+    help: &'a str,
+    values: ValueParser<'a>,
+) -> Arg<'a>
+    ensures rule { rule_of result ≡ option_rule name.now values.entry }
+    ensures local { result.global ≡ false }
+{
+    Arg::new(alloc, name)
+        .long(name)
+        .value_name(value)
+        .help(help)
+        .value_parser(values)
+}
+
 /// The option that says what is printed.
 fn print_option<'a>(alloc: Global) -> Arg<'a>
     ensures rule { IsPrintOption result }
     ensures local { result.global ≡ false }
 {
-    Arg::new(alloc, "print")
-        .long("print")
-        .value_name("WHAT")
-        .help(PRINT)
-        .value_parser(PRINTS.as_slice())
-}
-
-/// A command that takes a scenario file.
-fn path_command<'a>(
-    alloc: Global,
-    name: &'a str,
-    about: &'a str,
-    example: &'a str,
-) -> Result<Command<'a>, AllocError>
-    ensures app { IfOk result (λ c. app_of c ≡ with_path name.now) }
-    ensures local { IfOk result IsLocal }
-{
-    let command = Command::new(alloc, name).about(about).after_help(example);
-    with_argument(command, path_argument(alloc))
-}
-
-/// `check PATH`
-fn check_command<'a>(alloc: Global) -> Result<Command<'a>, AllocError>
-    ensures { IfOk result IsCheck }
-{
-    path_command(alloc, "check", CHECK, CHECK_EXAMPLE)
+    option(alloc, "print", "WHAT", PRINT, PRINTS.as_slice().into())
 }
 
 /// The option for the number of workers.
@@ -126,11 +124,7 @@ fn workers_option<'a>(alloc: Global) -> Arg<'a>
     ensures rule { rule_of result ≡ option_rule (codes "workers") number }
     ensures local { result.global ≡ false }
 {
-    Arg::new(alloc, "workers")
-        .long("workers")
-        .value_name("N")
-        .help(WORKERS)
-        .value_parser(value_parser!(u64))
+    option(alloc, "workers", "N", WORKERS, value_parser!(u64))
 }
 
 /// The option for the length of a window.
@@ -138,120 +132,87 @@ fn window_option<'a>(alloc: Global) -> Arg<'a>
     ensures rule { rule_of result ≡ option_rule (codes "window") number }
     ensures local { result.global ≡ false }
 {
-    Arg::new(alloc, "window")
-        .long("window")
-        .value_name("N")
-        .help(WINDOW)
-        .value_parser(value_parser!(u64))
+    option(alloc, "window", "N", WINDOW, value_parser!(u64))
+}
+
+/// A command that takes a scenario file.
+fn path_command<'a>(alloc: Global, name: &'a str, about: &'a str, example: &'a str) -> Made<'a>
+    ensures { Makes (with_path name.now) result }
+{
+    let command = Command::new(alloc, name).about(about).after_help(example);
+    with_argument(Ok(command), path_argument(alloc))
+}
+
+/// `check PATH`
+fn check_command<'a>(alloc: Global) -> Made<'a>
+    ensures { Makes check_app result }
+{
+    path_command(alloc, "check", CHECK, CHECK_EXAMPLE)
 }
 
 /// `list PATH [--print WHAT]`
-fn list_command<'a>(alloc: Global) -> Result<Command<'a>, AllocError>
+fn list_command<'a>(alloc: Global) -> Made<'a>
     ensures { IfOk result IsList }
 {
-    let command = path_command(alloc, "list", LIST, LIST_EXAMPLE)?;
+    let command = path_command(alloc, "list", LIST, LIST_EXAMPLE);
     with_argument(command, print_option(alloc))
 }
 
 /// A command with the options that plan its windows.
-fn with_plan_options<'a>(alloc: Global, command: Command<'a>) -> Result<Command<'a>, AllocError>
-    ensures app { IfOk result (λ c. app_of c ≡ with_plan (app_of command.entry)) }
-    ensures local { IsLocal command.entry → IfOk result IsLocal }
+fn with_plan_options<'a>(alloc: Global, command: Made<'a>) -> Made<'a>
+    ensures { (app : App) → Makes app command.entry → Makes (with_plan app) result }
 {
-    let command = with_argument(command, workers_option(alloc))?;
+    let command = with_argument(command, workers_option(alloc));
     with_argument(command, window_option(alloc))
 }
 
 /// A command that takes a scenario file and the options that plan its windows.
-fn plan_command<'a>(
-    alloc: Global,
-    name: &'a str,
-    about: &'a str,
-    example: &'a str,
-) -> Result<Command<'a>, AllocError>
-    ensures app { IfOk result (λ c. app_of c ≡ with_plan (with_path name.now)) }
-    ensures local { IfOk result IsLocal }
+fn plan_command<'a>(alloc: Global, name: &'a str, about: &'a str, example: &'a str) -> Made<'a>
+    ensures { Makes (with_plan (with_path name.now)) result }
 {
-    let command = path_command(alloc, name, about, example)?;
-    with_plan_options(alloc, command)
+    with_plan_options(alloc, path_command(alloc, name, about, example))
 }
 
 /// `run PATH --workers N --window N [--print WHAT]`
-fn run_command<'a>(alloc: Global) -> Result<Command<'a>, AllocError>
+fn run_command<'a>(alloc: Global) -> Made<'a>
     ensures { IfOk result IsRun }
 {
-    let planned = plan_command(alloc, "run", RUN, RUN_EXAMPLE)?;
+    let planned = plan_command(alloc, "run", RUN, RUN_EXAMPLE);
     with_argument(planned, print_option(alloc))
 }
 
 /// `compare PATH --workers N --window N`
-fn compare_command<'a>(alloc: Global) -> Result<Command<'a>, AllocError>
-    ensures { IfOk result IsCompare }
+fn compare_command<'a>(alloc: Global) -> Made<'a>
+    ensures { Makes compare_app result }
 {
     plan_command(alloc, "compare", COMPARE, COMPARE_EXAMPLE)
 }
 
-/// A command with `check` added.
-fn with_check<'a>(alloc: Global, command: Command<'a>) -> Result<Command<'a>, AllocError>
-    ensures app { IfOk result (λ c. app_of c ≡ with_subcommand (app_of command.entry) check_app.top) }
-    ensures local { IsLocal command.entry → IfOk result IsLocal }
-{
-    let added = check_command(alloc)?;
-    with_command(command, added)
-}
-
-/// A command with `list` added.
-fn with_list<'a>(alloc: Global, command: Command<'a>) -> Result<Command<'a>, AllocError>
-    ensures app { IfOk result (AddsList command.entry) }
-    ensures local { IsLocal command.entry → IfOk result IsLocal }
-{
-    let added = list_command(alloc)?;
-    with_command(command, added)
-}
-
 /// A command with `check` and `list` added.
-fn with_list_commands<'a>(alloc: Global, command: Command<'a>) -> Result<Command<'a>, AllocError>
-    ensures app { IfOk result (AddsListCommands command.entry) }
-    ensures local { IsLocal command.entry → IfOk result IsLocal }
+fn with_list_commands<'a>(alloc: Global, command: Made<'a>) -> Made<'a>
+    requires local { IfOk command IsLocal }
+    ensures { IfOk result (AddsListCommands command.entry) }
 {
-    let command = with_check(alloc, command)?;
-    with_list(alloc, command)
-}
-
-/// A command with `run` added.
-fn with_run<'a>(alloc: Global, command: Command<'a>) -> Result<Command<'a>, AllocError>
-    ensures app { IfOk result (AddsRun command.entry) }
-    ensures local { IsLocal command.entry → IfOk result IsLocal }
-{
-    let added = run_command(alloc)?;
-    with_command(command, added)
-}
-
-/// A command with `compare` added.
-fn with_compare<'a>(alloc: Global, command: Command<'a>) -> Result<Command<'a>, AllocError>
-    ensures app { IfOk result (λ c. app_of c ≡ with_subcommand (app_of command.entry) compare_app.top) }
-    ensures local { IsLocal command.entry → IfOk result IsLocal }
-{
-    let added = compare_command(alloc)?;
-    with_command(command, added)
+    let command = with_command(command, check_command(alloc));
+    with_command(command, list_command(alloc))
 }
 
 /// A command with `run` and `compare` added.
-fn with_window_commands<'a>(alloc: Global, command: Command<'a>) -> Result<Command<'a>, AllocError>
-    ensures app { IfOk result (AddsWindowCommands command.entry) }
-    ensures local { IsLocal command.entry → IfOk result IsLocal }
+fn with_window_commands<'a>(alloc: Global, command: Made<'a>) -> Made<'a>
+    requires local { IfOk command IsLocal }
+    ensures { IfOk result (AddsWindowCommands command.entry) }
 {
-    let command = with_run(alloc, command)?;
-    with_compare(alloc, command)
+    let command = with_command(command, run_command(alloc));
+    with_command(command, compare_command(alloc))
 }
 
 /// The command line.
-pub(crate) fn command<'a>(alloc: Global) -> Result<Command<'a>, AllocError>
+pub(crate) fn command<'a>(alloc: Global) -> Made<'a>
     ensures { IfOk result IsCommand }
 {
     let command = Command::new(alloc, "fdbench")
         .about(ABOUT)
         .after_help(EXAMPLE);
-    let command = with_list_commands(alloc, command)?;
+    let command = with_list_commands(alloc, Ok(command));
     with_window_commands(alloc, command)
 }

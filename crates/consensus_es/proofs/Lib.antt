@@ -4,4 +4,4 @@ mod Settled
 mod Settling
 mod Keeping
 mod Bound
-mod Best
+mod Choosing

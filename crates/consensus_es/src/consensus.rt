@@ -2,14 +2,14 @@
 ghost use Rattle.std.specs.Prelude.{◌≡◌, Bool, false, IsSome, IfOk, unwrap_or};
 ghost use Rattle.process_api.specs.Coordinator.{opening_coordinator};
 ghost use Rattle.process_api.specs.Mind.{Coordinating};
-ghost use Rattle.scenario.specs.Opening.{place_of};
+ghost use Rattle.scenario_record.specs.Opening.{place_of};
 ghost use Rattle.consensus_es.specs.Orderly.{IsOrderly};
 ghost use Rattle.consensus_es.specs.State.{state_of};
 
 use crate::membership::Membership;
 use crate::progress::Progress;
 use process_api::{Action, Algorithm, ProcSet, StepInput};
-use scenario::Opening;
+use scenario_record::Opening;
 use std::alloc::{AllocError, Global};
 
 /// One process's part in consensus by rotating coordinators (Chandra and Toueg, Journal of the ACM 43(2), 1996).

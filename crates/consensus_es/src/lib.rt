@@ -7,16 +7,17 @@
 //! `specs/Diffusion.antt` of `process_api`), and nothing else. This crate's own `specs/` only say how tables and sets
 //! in memory are seen as that definition's state, and what holds of every state that a process comes to.
 //!
-//! For example, process 1 of three opens with the proposal 10. At its start it notes round 1 and sends its estimate,
-//! 10 with the stamp 0, to process 2, the coordinator of round 1. When process 2's proposal comes it adopts it, sends
-//! an ack to process 2, and enters round 2, whose coordinator is process 3. When a decision of round 1 comes it
-//! passes it on to all three, and notes that it has decided. From then on only decisions of other rounds have an
-//! effect: it passes each on once.
+//! For example, process 1 of three opens with the proposal 10. At its start it notes round 1 and sends its estimate, 10
+//! with the stamp 0, to process 2, the coordinator of round 1. When process 2's proposal comes it adopts it, sends an
+//! ack to process 2, and enters round 2, whose coordinator is process 3. When a decision of round 1 comes it passes it
+//! on to all three, and notes that it has decided. From then on only decisions of other rounds have an effect: it
+//! passes each on once.
 //!
-//! [`Diffusion`] is the second half of that by itself: the rounds whose decision was received, and who passes one
-//! on. [`Membership`] is what both know of their surroundings: the own number, and among how many. [`law_settled`] says
-//! what follows from the definition: that waits end as long as one can, that one input makes few actions and leaves few
-//! rounds, and that the best estimate is chosen.
+//! [`Diffusion`] is the second half of that by itself: the rounds whose decision was received, and who passes one on.
+//! [`Progress`] is the first half: how far a process has come. [`Membership`] is what both know of their surroundings:
+//! the own number, and among how many. [`Letters`] keeps the letters of a kind, of which [`best`] chooses the estimate
+//! with the largest stamp. [`law_settled`] says what follows from the definition: that waits end as long as one can,
+//! that one input makes few actions and leaves few rounds, and that the best estimate is chosen.
 #![tactic(auto)]
 
 mod consensus;
@@ -31,7 +32,6 @@ mod row;
 pub use consensus::EsConsensus;
 pub use diffusion::Diffusion;
 pub use laws::law_settled;
+pub use letters::Letters;
 pub use membership::Membership;
-
-#[cfg(test)]
-mod tests;
+pub use progress::{Progress, best};

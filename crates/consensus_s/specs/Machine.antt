@@ -1,7 +1,7 @@
 -- What a machine's part is, as plain data.
 use Rattle.std.specs.Prelude.{Bool}
 use Rattle.process_api.specs.Mind.{AlgorithmState, Exchanging}
-use Rattle.scenario.specs.Opening.{place_of}
+use Rattle.scenario_record.specs.Opening.{place_of}
 use Rattle.consensus_s.specs.declared.machine.SConsensus.{SConsensus}
 use Rattle.consensus_s.specs.State.{exchange_of}
 

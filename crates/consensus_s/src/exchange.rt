@@ -10,7 +10,7 @@ ghost use Rattle.consensus_s.specs.State.{end_one, exchange_of, IsOrderly};
 use crate::letters::Letters;
 use crate::vectors::{common_after, first_value, known_after, known_at_first, news_after};
 use process_api::{Action, Cells, Note, Payload, Pid, ProcSet, StepInput, note_that, send_to};
-use scenario::Opening;
+use scenario_record::Opening;
 use std::alloc::{AllocError, Global};
 
 /// What a process knows, and how far it is.

@@ -5,7 +5,7 @@ ghost use Rattle.consensus_s.specs.State.{exchange_of, IsOrderly};
 
 use crate::exchange::Exchange;
 use process_api::{Action, Algorithm, ProcSet, StepInput};
-use scenario::Opening;
+use scenario_record::Opening;
 use std::alloc::{AllocError, Global};
 
 /// Consensus with a detector of class S at one process (Chandra and Toueg, Journal of the ACM 43(2), 1996).
@@ -21,7 +21,7 @@ impl SConsensus {
     ghost use Rattle.std.specs.Prelude.{IsSome, IfOk, unwrap_or};
     ghost use Rattle.process_api.specs.ConsensusS.{opening_exchange};
     ghost use Rattle.process_api.specs.Mind.{Exchanging};
-    ghost use Rattle.scenario.specs.Opening.{place_of};
+    ghost use Rattle.scenario_record.specs.Opening.{place_of};
     ghost use Rattle.consensus_s.specs.Machine.{state_of, is_failed};
 
     /// The algorithm of a process that has a proposal, before its start.

@@ -9,7 +9,7 @@ use process_api::{
     Action, Algorithm, Cells, DetectorNumbers, Note, Payload, Pid, ProcSet, StepInput, Tag,
     TimeoutNumbers, Watch,
 };
-use scenario::{AlgorithmKind, Opening};
+use scenario_record::{AlgorithmKind, Opening};
 use std::alloc::{AllocError, Global};
 use std::process::Abort;
 use std::test::Fail;

@@ -1,7 +1,7 @@
 -- What a diagnosis says of a file.
 use Rattle.std.specs.Prelude.{◌≡◌, ℕ, ◌≤◌, List, length, take, false, Option, Some, None}
 use Rattle.toml.specs.Data.{Members}
-use Rattle.scenario.specs.Record.{Record}
+use Rattle.scenario_record.specs.Record.{Record}
 use Rattle.scenario.specs.Text.{record_of}
 use Rattle.scenario.specs.Refusals.{Accepts, Refuses, IsDocumentOf, IsFirst, is_memory, table_rules}
 use Rattle.scenario.specs.Groups.{Passes}

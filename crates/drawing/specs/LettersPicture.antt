@@ -11,7 +11,7 @@ use Rattle.process_api.specs.EntryRecord.{EntryRecord}
 use Rattle.process_api.specs.Numbers.{numbers_to, others}
 use Rattle.process_api.specs.declared.entry.Kind.{Kind}
 use Rattle.process_api.specs.declared.entry.Kind.TheVariants as kind
-use Rattle.scenario.specs.Record.{Record}
+use Rattle.scenario_record.specs.Record.{Record}
 use Rattle.svg.specs.Document.{svg_text}
 use Rattle.svg.specs.declared.class.Class.{Class}
 use Rattle.svg.specs.declared.class.Class.TheVariants as class

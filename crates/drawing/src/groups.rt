@@ -9,7 +9,7 @@ use crate::layout::Ticks;
 use crate::rows::{decided, life_line, push_bars, push_crash, push_decision, row_top};
 use judges::{Outcome, end_tick};
 use process_api::{Pid, Trace};
-use scenario::Scenario;
+use scenario_record::Scenario;
 use std::alloc::{AllocError, Global};
 use svg::{Class, Shape};
 

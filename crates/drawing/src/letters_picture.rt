@@ -16,7 +16,7 @@ use crate::suspicions::ticks_of;
 use judges::{Outcome, decisions};
 use letters::Letter;
 use process_api::{Pid, Trace};
-use scenario::Scenario;
+use scenario_record::Scenario;
 use std::alloc::{AllocError, Global};
 use svg::{Picture, Shape, svg_text};
 

@@ -12,7 +12,7 @@ use crate::layout::{LEFT, Ticks, WIDTH};
 use crate::letters_legend::turn_class;
 use judges::{Answer, Outcome};
 use process_api::Pid;
-use scenario::Scenario;
+use scenario_record::Scenario;
 use std::alloc::{AllocError, Global};
 use svg::{Anchor, Class, Point, Shape};
 

@@ -12,7 +12,7 @@ use crate::layout::{BOTTOM, LEFT, MOST_DRAWN, RIGHT, TOP, Ticks, WIDTH, group_he
 use crate::legend::push_legend;
 use judges::decisions;
 use process_api::{Pid, Trace};
-use scenario::Scenario;
+use scenario_record::Scenario;
 use std::alloc::{AllocError, Global};
 use svg::{Picture, Shape, svg_text};
 

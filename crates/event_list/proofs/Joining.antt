@@ -2,8 +2,8 @@
 use Rattle.std.proofs.Common.{◌≡◌, ◌++◌, ◌∷◌, [], List, refl, sym, subst, ◌∙◌, append_assoc, append-nil}
 use Rattle.std.specs.FinMap as events
 use Rattle.event_list.specs.Joins.{HaveJoined}
-use Rattle.event_list.specs.Step.{Event, Events}
-use Rattle.event_list.specs.World.{joined}
+use Rattle.trace_laws.specs.Step.{Event, Events}
+use Rattle.trace_laws.specs.World.{joined}
 
 -- some of all have joined, and the rest is left
 pub record Joined {J E : Type 0} (grown : J → List E → J → Type 0) (old now : J) (rest all : List E) : Type 0 where

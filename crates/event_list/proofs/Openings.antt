@@ -7,17 +7,17 @@ use Rattle.std.proofs.lemmas.List.Elements.{All-from_recursion}
 use Rattle.process_api.specs.Mind.{Mind}
 use Rattle.process_api.specs.Numbers.{numbers_to}
 use Rattle.process_api.proofs.Lists.{both}
-use Rattle.scenario.specs.Ranges.{IsInRange}
-use Rattle.scenario.specs.Record.{Record, opening_mind}
-use Rattle.event_list.specs.ScenarioSetting.{setting_of}
+use Rattle.scenario_record.specs.Ranges.{IsInRange}
+use Rattle.scenario_record.specs.Record.{Record, opening_mind}
+use Rattle.trace_laws.specs.ScenarioSetting.{setting_of}
 use Rattle.event_list.specs.Seat.{IsMindIn}
 use Rattle.event_list.specs.Standing.{Stands}
-use Rattle.event_list.specs.Step.{Events, Process}
-use Rattle.event_list.specs.World.{starts, opening, opened}
-use Rattle.event_list.proofs.Closed.{opening_world}
+use Rattle.trace_laws.specs.Step.{Events, Process}
+use Rattle.trace_laws.specs.World.{starts, opening, opened}
+use Rattle.trace_laws.proofs.Closed.{opening_world}
 use Rattle.event_list.proofs.Posting.{opening_posted}
 use Rattle.event_list.proofs.Reaching.{opening_reached}
-use Rattle.event_list.proofs.Sound.{setting_sound, opens_with_mind}
+use Rattle.trace_laws.proofs.Sound.{setting_sound, opens_with_mind}
 
 slice_get-front : {X : Type 0} (xs ys : List X) (i : ℕ) → i < length xs → slice_get (xs ++ ys) i ≡ slice_get xs i
 slice_get-front [] ys i h = absurd (none i h)

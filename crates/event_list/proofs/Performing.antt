@@ -6,8 +6,8 @@ use Rattle.process_api.specs.declared.action.Action.{Action}
 use Rattle.process_api.specs.declared.action.Note.{Note}
 use Rattle.process_api.specs.declared.action.Action.TheVariants as action
 use Rattle.event_list.specs.Posting.{Posted, posting, posted_by}
-use Rattle.event_list.specs.Setting.{Setting}
-use Rattle.event_list.specs.Step.{Event, raised, counted, joining, sent_by, lost_by, noted_by, counts_after, added, sent, lost, noted}
+use Rattle.trace_laws.specs.Setting.{Setting}
+use Rattle.trace_laws.specs.Step.{Event, raised, counted, joining, sent_by, lost_by, noted_by, counts_after, added, sent, lost, noted}
 
 pub raised-le : (counts : ℕ → ℕ) (to q : ℕ) → raised counts to q ≤ counts q + 1
 raised-le counts to q = grind arith

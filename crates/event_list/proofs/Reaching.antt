@@ -6,12 +6,12 @@ use Rattle.std.proofs.lemmas.List.{map-append, length-map}
 use Rattle.process_api.specs.declared.key.Key.{Key}
 use Rattle.process_api.specs.declared.message.StepInput.{StepInput}
 use Rattle.process_api.specs.EntryRecord.{EntryRecord}
-use Rattle.event_list.specs.Setting.{Setting}
-use Rattle.event_list.specs.World.{World, Has, IsLeast, NoneBelow, Run, opening, made, taken, entries, IsTrace}
-use Rattle.event_list.specs.History.{Pair}
+use Rattle.trace_laws.specs.Setting.{Setting}
+use Rattle.trace_laws.specs.World.{World, Has, IsLeast, NoneBelow, Run, opening, made, taken, entries, IsTrace}
+use Rattle.trace_laws.specs.History.{Pair}
 use Rattle.event_list.specs.Standing.{IsReached}
-use Rattle.event_list.proofs.Sets.{one_input, least_is_one}
-use Rattle.event_list.proofs.Steps.{step_key}
+use Rattle.trace_laws.proofs.Sets.{one_input, least_is_one}
+use Rattle.trace_laws.proofs.Steps.{step_key}
 
 module _ {Mind : Type 0} (S : Setting Mind) where
   pub opening_reached : IsReached S (opening S) []

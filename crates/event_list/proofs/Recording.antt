@@ -5,10 +5,10 @@ use Rattle.process_api.specs.EntryRecord.{EntryRecord}
 use Rattle.process_api.specs.Mind.{Mind}
 use Rattle.event_list.specs.Posting.{Posted}
 use Rattle.event_list.specs.Recorder.{WereTaken, IsRecorded}
-use Rattle.event_list.specs.Setting.{Setting}
+use Rattle.trace_laws.specs.Setting.{Setting}
 use Rattle.event_list.specs.Standing.{Stands}
-use Rattle.event_list.specs.Step.{Events, Process}
-use Rattle.event_list.specs.World.{IsTrace}
+use Rattle.trace_laws.specs.Step.{Events, Process}
+use Rattle.trace_laws.specs.World.{IsTrace}
 use Rattle.event_list.proofs.Reaching.{reached_front}
 
 -- so many entries were taken, and the letters of their steps were heard; the list stands after them

@@ -7,18 +7,18 @@ use Rattle.process_api.specs.Mind.{Mind}
 use Rattle.process_api.specs.declared.key.Key.{Key}
 use Rattle.process_api.specs.declared.message.StepInput.{StepInput}
 use Rattle.process_api.proofs.Minds.{mind_place, same_own}
-use Rattle.scenario.specs.Record.{Record, place_in}
-use Rattle.event_list.specs.ScenarioSetting.{setting_of}
-use Rattle.event_list.specs.Pending.{IsEmpty}
-use Rattle.event_list.specs.Setting.{Setting, IsSound, IsProcess}
+use Rattle.scenario_record.specs.Record.{Record, place_in}
+use Rattle.trace_laws.specs.ScenarioSetting.{setting_of}
+use Rattle.pending_events.specs.Pending.{IsEmpty}
+use Rattle.trace_laws.specs.Setting.{Setting, IsSound, IsProcess}
 use Rattle.event_list.specs.Standing.{IsReached, Stands, IsStepped}
 use Rattle.event_list.specs.Posting.{Posted, posted_in, ArePosted}
-use Rattle.event_list.specs.Step.{Events, Process, step}
-use Rattle.event_list.specs.World.{Has, IsLeast, NoneBelow, taken, joined, IsTrace}
+use Rattle.trace_laws.specs.Step.{Events, Process, step}
+use Rattle.trace_laws.specs.World.{Has, IsLeast, NoneBelow, taken, joined, IsTrace}
 use Rattle.event_list.proofs.Posting.{posted_next, posted_end}
 use Rattle.event_list.proofs.Reaching.{reached_next, reached_end, reached_longer}
-use Rattle.event_list.proofs.Sets.{not_None, same_Some}
-use Rattle.event_list.proofs.Worlds.{taken_world}
+use Rattle.trace_laws.proofs.Sets.{not_None, same_Some}
+use Rattle.trace_laws.proofs.Worlds.{taken_world}
 
 none_below : (i : ℕ) → i < 0 → ⊥
 none_below i h = omega arith

@@ -1,17 +1,5 @@
-pub mod Setting
-pub mod ScenarioSetting
-pub mod Step
-pub mod World
 pub mod Posting
 pub mod Joins
-pub mod Lanes
-pub mod History
-pub mod Effects
-pub mod Theorems
-pub mod Plain
-pub mod Pending
 pub mod Seat
 pub mod Standing
 pub mod Recorder
-pub mod Buckets
-pub mod Calendar

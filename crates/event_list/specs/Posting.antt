@@ -7,9 +7,9 @@ use Rattle.process_api.specs.declared.message.Payload.{Payload}
 use Rattle.process_api.specs.declared.message.StepInput.{StepInput}
 use Rattle.streams.specs.declared.fate.Fate.{Fate}
 use Rattle.event_list.specs.Joins.{HaveJoined}
-use Rattle.event_list.specs.Setting.{Setting, has_crashed}
-use Rattle.event_list.specs.Step.{Process, counted}
-use Rattle.event_list.specs.World.{World, Pair, Run, opening, taken}
+use Rattle.trace_laws.specs.Setting.{Setting, has_crashed}
+use Rattle.trace_laws.specs.Step.{Process, counted}
+use Rattle.trace_laws.specs.World.{World, Pair, Run, opening, taken}
 
 -- a letter to another process: its key on its link, at the tick when it is sent, what it says, and its fate there
 pub record Posted : Type 0 where

@@ -3,9 +3,9 @@ use Rattle.std.specs.Prelude.{ℕ, ◌≤◌, List, ◌++◌, length, take, IsTr
 use Rattle.process_api.specs.EntryRecord.{EntryRecord}
 use Rattle.process_api.specs.Mind.{Mind}
 use Rattle.process_api.specs.Order.{is_rising}
-use Rattle.event_list.specs.Setting.{Setting}
-use Rattle.event_list.specs.World.{IsTrace}
-use Rattle.event_list.specs.Effects.{HasCauses, TakesOnce}
+use Rattle.trace_laws.specs.Setting.{Setting}
+use Rattle.trace_laws.specs.World.{IsTrace}
+use Rattle.trace_laws.specs.Effects.{HasCauses, TakesOnce}
 
 -- whatever was taken before, these entries were taken after it, in this order and nothing else
 abbrev pub WereTaken : (old new : List EntryRecord → Type 0) → List EntryRecord → Type 0

@@ -1,8 +1,8 @@
 -- Machines with their link counts, as processes.
 use Rattle.std.specs.Prelude.{◌≡◌, ℕ, ◌+◌, ◌≤◌, List, length, slice_index_or, IsTrue}
 use Rattle.process_api.specs.Mind.{Mind, is_mind_at}
-use Rattle.scenario.specs.Record.{Record, crash, place_in}
-use Rattle.event_list.specs.Step.{Process}
+use Rattle.scenario_record.specs.Record.{Record, crash, place_in}
+use Rattle.trace_laws.specs.Step.{Process}
 use Rattle.event_list.specs.declared.seat.Seat.{Seat}
 
 -- counts that are kept by receiver, as a function

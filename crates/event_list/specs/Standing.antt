@@ -3,10 +3,10 @@ use Rattle.std.specs.Prelude.{◌≡◌, ℕ, ◌-◌, List, ◌++◌, Some, sli
 use Rattle.process_api.specs.EntryRecord.{EntryRecord}
 use Rattle.process_api.specs.Mind.{Mind}
 use Rattle.process_api.specs.declared.key.Key.{Key}
-use Rattle.event_list.specs.Setting.{Setting, IsProcess}
+use Rattle.trace_laws.specs.Setting.{Setting, IsProcess}
 use Rattle.event_list.specs.Posting.{Posted, posted_along}
-use Rattle.event_list.specs.Step.{Events, Process, Made}
-use Rattle.event_list.specs.World.{World, Pair, Run, IsWorld, opening, joined, entries}
+use Rattle.trace_laws.specs.Step.{Events, Process, Made}
+use Rattle.trace_laws.specs.World.{World, Pair, Run, IsWorld, opening, joined, entries}
 
 module _ {M : Type 0} (S : Setting M) where
   -- the list comes by this world, after these entries

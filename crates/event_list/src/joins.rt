@@ -1,10 +1,10 @@
 //! Where the events of a step go.
 ghost use Rattle.std.specs.Prelude.{◌≡◌, ◌++◌, ◌∷◌, [], List, OnOk};
 ghost use Rattle.event_list.specs.Joins.{HaveJoined};
-ghost use Rattle.event_list.specs.Step.{Event};
-ghost use Rattle.event_list.specs.World.{joined};
+ghost use Rattle.trace_laws.specs.Step.{Event};
+ghost use Rattle.trace_laws.specs.World.{joined};
 
-use crate::pending::Pending;
+use pending_events::Pending;
 use process_api::{Key, StepInput};
 use std::alloc::AllocError;
 

@@ -1,6 +1,6 @@
 //! The laws of cause and effect.
-ghost use Rattle.event_list.specs.ScenarioSetting.{setting_of};
-ghost use Rattle.event_list.specs.Theorems.{
+ghost use Rattle.trace_laws.specs.ScenarioSetting.{setting_of};
+ghost use Rattle.trace_laws.specs.Theorems.{
   HasOneCause,
   HasOneTrace,
   HasOnlyHistory,
@@ -10,7 +10,7 @@ ghost use Rattle.event_list.specs.Theorems.{
   TraceIsClosed,
 };
 
-use scenario::Scenario;
+use scenario_record::Scenario;
 
 /// Cause and effect in a scenario, for every history of it. There is one trace, and it exists. With its inputs it is a
 /// closed history, and every closed history has its entries. In a closed history, each entry that isn't of a start has

@@ -1,43 +1,37 @@
-//! The single event list: what a scenario's trace is, and the run that gives it.
+//! The single event list: the run that gives a scenario's trace.
 //!
 //! A world is the processes, how much each put on its links, and a finite set of pending events. The list takes the
 //! least pending event, by tick, receiver, sender and number, again and again. The receiver takes the event's input,
 //! and what it does counts on its links and adds events; a crashed receiver does nothing. Events at the horizon or
-//! later never join. Each step is an entry of the trace. All this is defined for any kind of minds, any reaction and
-//! any fates (`specs/Setting.antt`, `Step.antt`, `World.antt`), from any world up to any tick; one definition says
-//! what a scenario is to it (`specs/ScenarioSetting.antt`).
+//! later never join. Each step is an entry of the trace. All this is defined in `trace_laws`, for any kind of minds,
+//! any reaction and any fates, from any world up to any tick; one definition there says what a scenario is to it.
 //!
 //! The one contract for the layers above: [`run_list`], on `Ok`, gives the defined trace, and it answers `Limit`
 //! only where the whole trace has more entries than the scenario's limit. [`law_only_history`] says what a trace is
-//! without any list: it is the only closed history of its scenario (`specs/History.antt`), in which each entry but the
-//! starts has one cause, and each event that is added below the horizon is taken once. [`run_list`] says these two of
-//! the trace that it gives (`specs/Effects.antt`). [`run_list_into`] is the same run, which holds no trace: it hands
-//! each entry to a [`Recorder`] as it comes (`specs/Recorder.antt`). [`run_list_heard`] is the same run too: it also
-//! tells a [`Listener`] of each letter between different processes as it is put on its link (`specs/Posting.antt`),
-//! lost ones and late ones too, of which no trace tells.
+//! without any list: it is the only closed history of its scenario, in which each entry but the starts has one cause,
+//! and each event that is added below the horizon is taken once. [`run_list`] says these two of the trace that it
+//! gives. [`run_list_into`] is the same run, which holds no trace: it hands each entry to a [`Recorder`] as it comes
+//! (`specs/Recorder.antt`). [`run_list_heard`] is the same run too: it also tells a [`Listener`] of each letter between
+//! different processes as it is put on its link (`specs/Posting.antt`), lost ones and late ones too, of which no trace
+//! tells.
 //!
 //! One call makes the step of a process, [`Seat::turn`]: a machine with its link counts, a key and an input go in, an
 //! entry comes out, the events that join go where the caller says ([`Joins`]), and a [`Listener`] is told of the
 //! letters. The list calls it, and so may whoever runs processes apart from one another, with [`Nobody`] listening;
-//! [`Pending`] is their set of pending events. Its events lie in buckets by their ticks; the list's have a ring of
-//! buckets for the next 1,024 ticks ([`Pending::with_ring`], `specs/Calendar.antt`).
+//! [`Pending`] is their set of pending events. It is that of `pending_events`, and is handed on from here.
 //!
 //! As an example, two processes send each other a letter at tick 0 that takes 2 ticks, and the second crashes at
 //! tick 1. The trace has a `start` of each at tick 0, process 1 takes its letter at tick 2, and the letter to process
 //! 2 at tick 2 is `dead`.
 #![tactic(auto)]
 
-mod buckets;
-mod calendar;
 mod error;
 mod joins;
-mod lanes;
 mod laws;
 mod links;
 mod list;
 mod listener;
 mod nobody;
-mod pending;
 mod recorder;
 mod seat;
 
@@ -47,6 +41,6 @@ pub use laws::law_only_history;
 pub use list::{run_list, run_list_heard, run_list_into};
 pub use listener::Listener;
 pub use nobody::Nobody;
-pub use pending::Pending;
+pub use pending_events::Pending;
 pub use recorder::Recorder;
 pub use seat::{Seat, kind_of_letter};

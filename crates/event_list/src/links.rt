@@ -6,9 +6,9 @@ ghost use Rattle.process_api.specs.Bounds.{most_step_actions};
 ghost use Rattle.streams.specs.Fate.{fate_of};
 ghost use Rattle.event_list.specs.Joins.{HaveJoined};
 ghost use Rattle.event_list.specs.Posting.{posting, posted_by};
-ghost use Rattle.event_list.specs.ScenarioSetting.{setting_of};
+ghost use Rattle.trace_laws.specs.ScenarioSetting.{setting_of};
 ghost use Rattle.event_list.specs.Seat.{count_of};
-ghost use Rattle.event_list.specs.Step.{raised, in_time, counted, joining, sent_by, lost_by, noted_by, counts_after, added as added_by, sent as sent_by_all, lost as lost_by_all, noted, dead};
+ghost use Rattle.trace_laws.specs.Step.{raised, in_time, counted, joining, sent_by, lost_by, noted_by, counts_after, added as added_by, sent as sent_by_all, lost as lost_by_all, noted, dead};
 
 use crate::joins::Joins;
 use crate::listener::Listener;

@@ -3,15 +3,15 @@ ghost use Rattle.std.specs.Prelude.{◌≡◌, ◌≤◌, ◌<◌, ◌+◌, ◌^
 ghost use Rattle.process_api.specs.Bounds.{most_step_actions};
 ghost use Rattle.event_list.specs.Joins.{HaveJoined};
 ghost use Rattle.event_list.specs.Posting.{posted_in};
-ghost use Rattle.event_list.specs.ScenarioSetting.{setting_of};
-ghost use Rattle.event_list.specs.Setting.{has_crashed};
-ghost use Rattle.event_list.specs.Step.{kind_of as kind_for, kind_of_payload, step};
+ghost use Rattle.trace_laws.specs.ScenarioSetting.{setting_of};
+ghost use Rattle.trace_laws.specs.Setting.{has_crashed};
+ghost use Rattle.trace_laws.specs.Step.{kind_of as kind_for, kind_of_payload, step};
 
 use crate::joins::Joins;
 use crate::links::Links;
 use crate::listener::Listener;
 use process_api::{Action, Entry, Key, Kind, Payload, Pid, Process, StepInput, Tag};
-use scenario::Scenario;
+use scenario_record::Scenario;
 use std::alloc::{AllocError, Global};
 use streams::Streams;
 
@@ -66,7 +66,7 @@ fn is_down(crash: Option<u32>, tick: u32) -> bool
 
 impl<M: Process> Seat<M> {
     ghost use Rattle.event_list.specs.Seat.{process_of, own_of, IsMindIn, IsSeated};
-    ghost use Rattle.event_list.specs.World.{opened};
+    ghost use Rattle.trace_laws.specs.World.{opened};
 
     /// The seat of a machine that put nothing on any link.
     ///

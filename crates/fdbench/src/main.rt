@@ -10,24 +10,15 @@
 //! share. `fdbench compare PATH --workers N --window N` runs the file both ways, and says whether they wrote the
 //! same.
 //!
-//! The one contract is that of [`serve::serve`]: with status 0 the outlet grows by what the words ask for, which for
-//! `list` and `run` is the texts of the scenario's one trace, and for `compare` is `same`; with status 4 by a front
-//! part of it; with another status by nothing, but that a `run` of status 3 may leave the trace's first line and rows.
-//! The texts are defined by `qos_report`, in its `specs/TraceText.antt` and `specs/ReportText.antt`, the trace by the
-//! event list's definitions, and the words by `command_line`. The process ends with the status, by the contract of
-//! [`serve::finish`].
+//! What it does for which words is said and proved in `bench_commands`: this program hands it the words, the standard
+//! streams and the files, and ends with the status that it answers.
 //!
 //! For example, `fdbench list - --print trace` on a file with two processes and a horizon of 1 tick prints the header
 //! and two rows of kind `start`, and `fdbench compare - --workers 2 --window 1` on the same file prints `same`.
 #![tactic(auto)]
 
-mod bench;
-pub mod compare;
-mod fault;
-pub mod serve;
-
-use crate::fault::Fault;
-pub use command_line::{Order, WordsError, read_words};
+use bench_commands::fault::Fault;
+use bench_commands::serve;
 use qos_report::StreamOutlet;
 use std::alloc::Global;
 use std::env;
@@ -71,6 +62,3 @@ fn main(rt: HostRuntime) -> ExitCode {
     };
     serve::finish(status, &mut outlet, &mut faults)
 }
-
-#[cfg(test)]
-mod tests;

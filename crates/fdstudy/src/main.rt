@@ -8,42 +8,21 @@
 //! runs are added up. `fdstudy show PATH` prints the scenario file of one of these runs, which `fdbench list -` takes,
 //! and `fdstudy letters -` and `fdstudy draw -` too.
 //!
-//! The one contract is that of [`serve::serve`]: with status 0 the outlet grows by what the words ask for, which for
-//! `sweep` is the study's text, for `show` the run's, for `check` the line of an accepted file, for `letters` the text
-//! of the letters of its run and for `draw` a picture of it; with status 4 by a front part of it; with another status
-//! by nothing, but that a `sweep` of status 3 may leave the rows of the first points. Each command has a module and a
-//! file of definitions: `specs/Sweep.antt`, `specs/Show.antt`, `specs/Check.antt`, `specs/Letters.antt` and
-//! `specs/Draw.antt`. The study's text is defined by `sweep`, its grid and its words by `study`, letters by `letters`,
-//! pictures by `drawing`, and the command line by `study_line`. The process ends with the status, by the contract of
-//! [`serve::finish`].
+//! What it does for which words is said and proved in `study_commands`: this program hands it the words, the standard
+//! streams and the files, and ends with the status that it answers.
 //!
 //! For example, `fdstudy sweep - --seeds 1..=20 --vary detector.timeout=5,10` prints the line of the columns' names and
 //! two rows, each over 20 runs.
 #![tactic(auto)]
 
-mod checking;
-mod fault;
-mod file;
-mod lettering;
-mod picturing;
-mod progress_line;
-mod refused_run;
-mod run_name;
-mod running;
-pub mod serve;
-mod showing;
-mod study_words;
-mod sweeping;
-mod writing;
-
-use crate::fault::Fault;
-use crate::progress_line::ProgressLine;
-use qos_report::StreamOutlet;
+use reporting::StreamOutlet;
 use std::alloc::Global;
 use std::env;
 use std::io::{self, ErrorKind, IsTerminal};
 use std::process::ExitCode;
-pub use study_line::{Order, Picture, WordsError, read_words};
+use study_commands::fault::Fault;
+use study_commands::progress_line::ProgressLine;
+use study_commands::serve;
 
 /// The words of the command line.
 fn words_of(rt: &HostRuntime) -> io::Result<Vec<String>> {
@@ -85,6 +64,3 @@ fn main(rt: HostRuntime) -> ExitCode {
     };
     serve::finish(status, &mut outlet, &mut faults)
 }
-
-#[cfg(test)]
-mod tests;

@@ -5,8 +5,8 @@ use Rattle.std.specs.FinSet as set
 use Rattle.process_api.specs.Freshness.{FreshnessState, suspected}
 use Rattle.process_api.specs.Sets.{Processes}
 use Rattle.process_api.specs.declared.numbers.FreshnessNumbers.{FreshnessNumbers}
-use Rattle.scenario.specs.Opening.{place_of}
-use Rattle.scenario.specs.declared.opening.Opening.{Opening}
+use Rattle.scenario_record.specs.Opening.{place_of}
+use Rattle.scenario_record.specs.declared.opening.Opening.{Opening}
 
 -- latest: for each process the greatest number of its heartbeats that came, if one did
 abbrev pub state_by : (sent reached : ℕ) → (latest : List (Option ℕ)) → FreshnessState

@@ -4,8 +4,8 @@ ghost use Rattle.std.specs.FinSet as set;
 ghost use Rattle.process_api.specs.Detector.{is_freshness};
 ghost use Rattle.process_api.specs.Sets.{insert_all};
 ghost use Rattle.process_api.specs.declared.numbers.DetectorNumbers.TheVariants.{Freshness};
-ghost use Rattle.scenario.specs.Numbers.{AreFreshnessInRange};
-ghost use Rattle.scenario.specs.Opening.{base_of};
+ghost use Rattle.scenario_record.specs.Numbers.{AreFreshnessInRange};
+ghost use Rattle.scenario_record.specs.Opening.{base_of};
 ghost use Rattle.freshness_detector.specs.Tables.{state_by, AreSuspects};
 
 use crate::count::{greatest, has_come, next};
@@ -14,7 +14,7 @@ use process_api::{
     Action, Detector, DetectorNumbers, FreshnessNumbers, Note, Payload, Pid, ProcSet, StepInput,
     Tag, note_that, wake_after,
 };
-use scenario::Opening;
+use scenario_record::Opening;
 use std::alloc::{AllocError, Global};
 
 /// The detector with freshness points of one process (Chen, Toueg and Aguilera, IEEE Transactions on Computers 51(5),

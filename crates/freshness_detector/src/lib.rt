@@ -8,8 +8,8 @@
 //!
 //! The one contract for the layers above is that of [`process_api::Detector`]: what [`FreshnessDetector`] is, as plain
 //! data, and what each input makes of it, is `step_freshness` of `process_api/specs/Freshness.antt`, and it opens as
-//! the scenario's opening says (`base_of` of `scenario/specs/Opening.antt`). The definition says who is suspected by
-//! the heartbeats that came; the code keeps the greatest number of each process, and the set of suspects.
+//! the scenario's opening says (`base_of` of `scenario_record/specs/Opening.antt`). The definition says who is
+//! suspected by the heartbeats that came; the code keeps the greatest number of each process, and the set of suspects.
 //!
 //! An example in words: two processes, eta 3, delta 2, letters take 2 ticks. Process 2 sends heartbeat 1 at tick 3 and
 //! crashes at tick 4. Process 1 reaches point 1 at tick 5, before heartbeat 1 of process 2 comes in that tick: it

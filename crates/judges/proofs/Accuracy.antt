@@ -2,7 +2,7 @@
 use Rattle.std.proofs.Common.{◌≡◌, ℕ, suc, ◌<◌, ◌≤◌, min, Bool, true, false, cond, not, ◌&&◌, refl, sym, ap, ◌∙◌, arith, List}
 use Rattle.std.proofs.lemmas.Bool.{lt-ltb, ltb-true, ltb-false, not-true, not_from_false}
 use Rattle.process_api.specs.EntryRecord.{EntryRecord}
-use Rattle.scenario.specs.Record.{Record}
+use Rattle.scenario_record.specs.Record.{Record}
 use Rattle.judges.specs.Crashes.{crash_tick, is_up, is_crashed, is_correct, end_of}
 use Rattle.judges.specs.Ticks.{all_below, any_below}
 use Rattle.judges.specs.Out.{suspects}

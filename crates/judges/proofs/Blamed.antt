@@ -7,14 +7,14 @@ use Rattle.process_api.specs.Order.{is_before, is_rising}
 use Rattle.process_api.specs.declared.action.Note.{Note}
 use Rattle.process_api.specs.declared.action.Note.TheVariants.{Suspect, Trust, Round, Decided, NoValue}
 use Rattle.process_api.proofs.KeyOrder.{ticks_rise}
-use Rattle.scenario.specs.Ranges.{IsInRange}
-use Rattle.scenario.specs.Record.{Record}
-use Rattle.event_list.specs.History.{IsIn}
-use Rattle.event_list.specs.ScenarioSetting.{setting_of}
-use Rattle.event_list.specs.World.{IsTrace}
-use Rattle.event_list.proofs.Closed.{trace_rises}
-use Rattle.event_list.proofs.Sound.{setting_sound}
-use Rattle.event_list.proofs.Steps.{in_append, in_left, in_right}
+use Rattle.scenario_record.specs.Ranges.{IsInRange}
+use Rattle.scenario_record.specs.Record.{Record}
+use Rattle.trace_laws.specs.History.{IsIn}
+use Rattle.trace_laws.specs.ScenarioSetting.{setting_of}
+use Rattle.trace_laws.specs.World.{IsTrace}
+use Rattle.trace_laws.proofs.Closed.{trace_rises}
+use Rattle.trace_laws.proofs.Sound.{setting_sound}
+use Rattle.trace_laws.proofs.Steps.{in_append, in_left, in_right}
 use Rattle.judges.specs.Blame.{IsBlamedBy, SharesSuspicions}
 use Rattle.judges.specs.Out.{Set, nobody, with, without, notes_until, after_note, out}
 use Rattle.judges.proofs.Instances.{runs_reduction}

@@ -7,7 +7,7 @@ use Rattle.std.proofs.lemmas.List.Sums.{fold-append}
 use Rattle.std.proofs.lemmas.Nat.{mul-add-lt, div-mul-add, mod-mul-add}
 use Rattle.process_api.specs.Bounds.{most_processes}
 use Rattle.process_api.specs.EntryRecord.{EntryRecord}
-use Rattle.scenario.specs.Record.{Record}
+use Rattle.scenario_record.specs.Record.{Record}
 use Rattle.judges.specs.Crashes.{end_of}
 use Rattle.judges.specs.Ends.{AreEnds, end_tick, opened_at}
 use Rattle.judges.specs.Pair.{opened, turned, all_turned, AreTurned}

@@ -19,8 +19,8 @@ use Rattle.process_api.specs.declared.message.Payload.TheVariants as payload
 use Rattle.process_api.specs.declared.message.StepInput.{StepInput}
 use Rattle.process_api.specs.declared.message.StepInput.TheVariants as input
 use Rattle.process_api.specs.declared.message.Tag.TheVariants as tag
-use Rattle.event_list.specs.History.{IsIn}
-use Rattle.event_list.proofs.Steps.{in_append}
+use Rattle.trace_laws.specs.History.{IsIn}
+use Rattle.trace_laws.proofs.Steps.{in_append}
 use Rattle.judges.proofs.Agreement.Local.{is_send, only_all}
 
 abbrev pub note_of : Action → Note

@@ -15,11 +15,11 @@ use Rattle.process_api.specs.declared.message.StepInput.{StepInput}
 use Rattle.process_api.proofs.DetectorLaws.{detector_opens, detector_laws}
 use Rattle.process_api.proofs.Keeping.{lower_place, lower_trusts, suspects_leave_out}
 use Rattle.process_api.proofs.Minds.{same_own, mind_place, mind_trusts, mind_stands}
-use Rattle.scenario.specs.Record.{Record, proposal, place_in, opening_algorithm}
-use Rattle.scenario.specs.declared.algorithm.AlgorithmKind.TheVariants as kind
-use Rattle.event_list.specs.ScenarioSetting.{setting_of}
-use Rattle.event_list.specs.History.{IsIn}
-use Rattle.event_list.proofs.Steps.{in_append}
+use Rattle.scenario_record.specs.Record.{Record, proposal, place_in, opening_algorithm}
+use Rattle.scenario_record.specs.declared.algorithm.AlgorithmKind.TheVariants as kind
+use Rattle.trace_laws.specs.ScenarioSetting.{setting_of}
+use Rattle.trace_laws.specs.History.{IsIn}
+use Rattle.trace_laws.proofs.Steps.{in_append}
 use Rattle.judges.proofs.Algorithms.{IsOfAlgorithm, algorithm_acts}
 use Rattle.judges.proofs.Agreement.Joined.{IsOfLower, IsJoined, RunsCoordinator}
 use Rattle.judges.proofs.PartsActions.{each_of, detector_is_lower, detector_is_other, algorithm_is_other, reduction_lower}

@@ -3,7 +3,7 @@ use Rattle.std.specs.Prelude.{◌≡◌, ℕ, suc, ◌<◌, Bool, not, ◌&&◌,
 use Rattle.process_api.specs.EntryRecord.{EntryRecord}
 use Rattle.judges.specs.declared.verdicts.Verdicts.{Verdicts}
 use Rattle.judges.specs.declared.track.Track.{Track}
-use Rattle.scenario.specs.Record.{Record}
+use Rattle.scenario_record.specs.Record.{Record}
 use Rattle.judges.specs.Crashes.{is_crashed, is_correct, end_of}
 use Rattle.judges.specs.Ticks.{all_below, any_below}
 use Rattle.judges.specs.Out.{suspects}

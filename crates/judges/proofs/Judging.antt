@@ -1,7 +1,7 @@
 -- The verdicts are what the tracks tell.
 use Rattle.std.proofs.Common.{◌≡◌, ℕ, suc, ◌<◌, Bool, true, false, cond, not, ◌&&◌, subst, arith, None, Some, List}
 use Rattle.process_api.specs.EntryRecord.{EntryRecord}
-use Rattle.scenario.specs.Record.{Record}
+use Rattle.scenario_record.specs.Record.{Record}
 use Rattle.judges.specs.Crashes.{is_crashed, is_correct, end_of}
 use Rattle.judges.specs.Ticks.{all_below, any_below, all_from}
 use Rattle.judges.specs.Out.{suspects}

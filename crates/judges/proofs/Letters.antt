@@ -9,15 +9,15 @@ use Rattle.process_api.specs.declared.action.Action.{Action}
 use Rattle.process_api.specs.declared.action.Action.TheVariants as action
 use Rattle.streams.specs.declared.fate.Fate.{Fate}
 use Rattle.streams.specs.declared.fate.Fate.TheVariants as fate
-use Rattle.event_list.specs.Setting.{Setting}
-use Rattle.event_list.specs.Step.{Event, in_time, by_fate, counted, joining, added}
-use Rattle.event_list.specs.World.{Has, starts, start_of}
-use Rattle.event_list.specs.History.{IsIn}
-use Rattle.event_list.proofs.Steps.{in_append}
-use Rattle.event_list.proofs.Sets.{inserted}
+use Rattle.trace_laws.specs.Setting.{Setting}
+use Rattle.trace_laws.specs.Step.{Event, in_time, by_fate, counted, joining, added}
+use Rattle.trace_laws.specs.World.{Has, starts, start_of}
+use Rattle.trace_laws.specs.History.{IsIn}
+use Rattle.trace_laws.proofs.Steps.{in_append}
+use Rattle.trace_laws.proofs.Sets.{inserted}
 use Rattle.std.specs.FinMap as finmap
 use Rattle.process_api.specs.Order.{key_cmp}
-use Rattle.event_list.proofs.Sets.{not_None}
+use Rattle.trace_laws.proofs.Sets.{not_None}
 
 abbrev sender_of : StepInput → ℕ
 sender_of input.Start = 0

@@ -3,7 +3,7 @@ use Rattle.std.proofs.Common.{◌≡◌, ℕ, zero, suc, ◌<◌, ◌≤◌, Boo
 use Rattle.std.specs.Bool.{Decides}
 use Rattle.std.proofs.lemmas.Bool.{cases_lt, lt-ltb, le-ltb, ltb-true, ltb-false, both_ways, and_parts, and_from, true≢false, not-true, not_from_false}
 use Rattle.process_api.specs.EntryRecord.{EntryRecord}
-use Rattle.scenario.specs.Record.{Record}
+use Rattle.scenario_record.specs.Record.{Record}
 use Rattle.judges.specs.Crashes.{crash_tick, is_up, is_crashed, is_correct}
 use Rattle.judges.specs.Ticks.{all_below, all_from, least_below, first_of}
 use Rattle.judges.specs.Out.{suspects}

@@ -14,7 +14,7 @@ use Rattle.process_api.specs.declared.message.StepInput.{StepInput}
 use Rattle.process_api.specs.declared.message.StepInput.TheVariants as input
 use Rattle.process_api.specs.declared.message.Tag.TheVariants as tag
 use Rattle.process_api.proofs.Lists.{both, images, always}
-use Rattle.event_list.specs.History.{IsIn}
+use Rattle.trace_laws.specs.History.{IsIn}
 use Rattle.process_api.specs.BaseDetector.{IsOfDetector}
 use Rattle.judges.proofs.Algorithms.{IsOfAlgorithm}
 use Rattle.judges.proofs.Agreement.Joined.{IsOfLower}

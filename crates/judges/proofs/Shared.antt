@@ -16,13 +16,13 @@ use Rattle.process_api.specs.declared.message.Payload.{Payload}
 use Rattle.process_api.specs.declared.message.Payload.TheVariants as payload
 use Rattle.process_api.specs.declared.message.StepInput.{StepInput}
 use Rattle.process_api.specs.declared.message.StepInput.TheVariants as input
-use Rattle.event_list.specs.Setting.{Setting, IsSound, IsProcess, has_crashed}
-use Rattle.event_list.specs.Step.{Process, Made, noted, dead, made_by}
-use Rattle.event_list.specs.World.{World, Pair, Has, IsWorld, Run, made, taken, opening, entries, IsTrace}
-use Rattle.event_list.specs.History.{IsIn}
-use Rattle.event_list.proofs.Steps.{in_append, in_left, in_right}
-use Rattle.event_list.proofs.Worlds.{process_at, process_other, taken_cases, taken_world}
-use Rattle.event_list.proofs.Closed.{opening_world}
+use Rattle.trace_laws.specs.Setting.{Setting, IsSound, IsProcess, has_crashed}
+use Rattle.trace_laws.specs.Step.{Process, Made, noted, dead, made_by}
+use Rattle.trace_laws.specs.World.{World, Pair, Has, IsWorld, Run, made, taken, opening, entries, IsTrace}
+use Rattle.trace_laws.specs.History.{IsIn}
+use Rattle.trace_laws.proofs.Steps.{in_append, in_left, in_right}
+use Rattle.trace_laws.proofs.Worlds.{process_at, process_other, taken_cases, taken_world}
+use Rattle.trace_laws.proofs.Closed.{opening_world}
 use Rattle.judges.proofs.Gathering.{is_note, note_of, noted_came, sends_suspects}
 use Rattle.judges.proofs.Letters.{added_letter, no_letter_first}
 use Rattle.judges.proofs.Sharing.{IsShared, RunsReduction}

@@ -9,8 +9,8 @@ use Rattle.process_api.specs.declared.action.Action.TheVariants.{Send, Wake, Not
 use Rattle.process_api.specs.declared.action.Note.TheVariants.{Suspect, Trust, Round, Decided, NoValue}
 use Rattle.process_api.specs.declared.message.Payload.TheVariants.{Alive, Heartbeat, Suspects, Vector, Last, Estimate, Proposal, Reply, Decide}
 use Rattle.process_api.specs.declared.message.StepInput.{StepInput}
-use Rattle.event_list.specs.Setting.{Setting, IsProcess}
-use Rattle.event_list.specs.History.{IsIn}
+use Rattle.trace_laws.specs.Setting.{Setting, IsProcess}
+use Rattle.trace_laws.specs.History.{IsIn}
 
 -- an action that is not the reduction's: no set of suspects is sent, and nobody is suspected on layer 2
 abbrev pub IsOfOther : Action → Type 0

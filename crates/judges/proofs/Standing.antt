@@ -3,7 +3,7 @@ use Rattle.std.proofs.Common.{◌≡◌, ℕ, ◌<◌, ◌≤◌, Bool, true, fa
 use mathlib.Core.Bool.{beq}
 use Rattle.std.proofs.lemmas.Bool.{cases_lt, cond_both, le-leb, lt-leb, true≢false}
 use Rattle.process_api.specs.EntryRecord.{EntryRecord}
-use Rattle.scenario.specs.Record.{Record}
+use Rattle.scenario_record.specs.Record.{Record}
 use Rattle.judges.specs.Crashes.{end_of}
 use Rattle.judges.specs.Out.{suspects}
 use Rattle.judges.specs.Pair.{opened, turned, all_turned, kept_at}

@@ -12,8 +12,8 @@ use Rattle.process_api.specs.declared.action.Action.{Action}
 use Rattle.process_api.specs.declared.action.Action.TheVariants as action
 use Rattle.process_api.specs.declared.action.Note.{Note}
 use Rattle.process_api.specs.declared.action.Note.TheVariants as note
-use Rattle.event_list.specs.History.{IsIn}
-use Rattle.event_list.proofs.Steps.{in_append, in_left, in_right}
+use Rattle.trace_laws.specs.History.{IsIn}
+use Rattle.trace_laws.proofs.Steps.{in_append, in_left, in_right}
 
 in_numbers : (n q : ℕ) → 1 ≤ q → q ≤ n → IsIn q (numbers_to n)
 in_numbers zero q low high = absurd (omega (arith, low, high))

@@ -4,11 +4,11 @@ use Rattle.std.specs.Prelude.{◌≡◌, ◌≢◌, ◌⊎◌, ℕ, List, [], �
 use Rattle.process_api.specs.EntryRecord.{EntryRecord}
 use Rattle.process_api.specs.declared.action.Note.{Note}
 use Rattle.process_api.specs.declared.action.Note.TheVariants.{Decided}
-use Rattle.scenario.specs.Record.{Record, proposal}
-use Rattle.scenario.specs.declared.algorithm.AlgorithmKind.TheVariants.{EventuallyStrong}
-use Rattle.event_list.specs.History.{IsIn}
-use Rattle.event_list.specs.ScenarioSetting.{setting_of}
-use Rattle.event_list.specs.World.{IsTrace}
+use Rattle.scenario_record.specs.Record.{Record, proposal}
+use Rattle.scenario_record.specs.declared.algorithm.AlgorithmKind.TheVariants.{EventuallyStrong}
+use Rattle.trace_laws.specs.History.{IsIn}
+use Rattle.trace_laws.specs.ScenarioSetting.{setting_of}
+use Rattle.trace_laws.specs.World.{IsTrace}
 use Rattle.judges.specs.Meaning.{IsProcess}
 use Rattle.judges.specs.Outcomes.{notes_of, is_answer, outcomes}
 use Rattle.judges.specs.declared.outcomes.Answer.TheVariants.{Value, NoValue}

@@ -3,7 +3,7 @@ use Rattle.std.specs.Prelude.{◌≡◌, ℕ, ◌≤◌, true, List}
 use Rattle.process_api.specs.EntryRecord.{EntryRecord}
 use Rattle.process_api.specs.Order.{is_before}
 use Rattle.process_api.specs.declared.action.Note.TheVariants.{Suspect}
-use Rattle.event_list.specs.History.{IsIn}
+use Rattle.trace_laws.specs.History.{IsIn}
 
 -- some entry notes that its process suspects p on layer 1, at tick t or before
 abbrev pub IsBlamedBy : List EntryRecord → (p t : ℕ) → Type 0

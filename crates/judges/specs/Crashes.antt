@@ -1,6 +1,6 @@
 -- Who has crashed, and when a suspicion is a mistake.
 use Rattle.std.specs.Prelude.{ℕ, suc, min, Bool, nat_lt, not, unwrap_or}
-use Rattle.scenario.specs.Record.{Record, crash}
+use Rattle.scenario_record.specs.Record.{Record, crash}
 
 module _ (s : Record) where
   -- a process that never crashes counts as one that crashes after the horizon

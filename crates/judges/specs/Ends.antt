@@ -1,6 +1,6 @@
 -- Up to which tick a process is up, cut at the horizon.
 use Rattle.std.specs.Prelude.{◌≡◌, ℕ, suc, ◌/◌, ◌%◌, ◌<◌, min, List, length, slice_index}
-use Rattle.scenario.specs.Record.{Record}
+use Rattle.scenario_record.specs.Record.{Record}
 use Rattle.judges.specs.Crashes.{crash_tick}
 use Rattle.judges.specs.Pair.{opened}
 use Rattle.judges.specs.declared.pair.Pair.{Pair}

@@ -1,7 +1,7 @@
 -- What it is that a judge, or outcomes, were fed with the entries of a trace.
 use Rattle.std.specs.Prelude.{◌≡◌, ℕ, List}
 use Rattle.process_api.specs.EntryRecord.{EntryRecord}
-use Rattle.scenario.specs.Record.{Record}
+use Rattle.scenario_record.specs.Record.{Record}
 use Rattle.judges.specs.Pairs.{ArePairs}
 pub use Rattle.judges.specs.Pairs.{AreUntil}
 use Rattle.judges.specs.Track.{new_track, passed}

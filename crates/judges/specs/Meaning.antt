@@ -2,7 +2,7 @@
 use Rattle.std.specs.Prelude.{◌≡◌, ℕ, ◌<◌, ◌≤◌, true, Option, None, Some, List}
 use Rattle.std.specs.Bool.{Decides}
 use Rattle.process_api.specs.EntryRecord.{EntryRecord}
-use Rattle.scenario.specs.Record.{Record}
+use Rattle.scenario_record.specs.Record.{Record}
 use Rattle.judges.specs.Crashes.{crash_tick}
 use Rattle.judges.specs.Out.{out}
 use Rattle.judges.specs.declared.verdicts.Verdicts.{Verdicts}

@@ -1,7 +1,7 @@
 -- What it is that all pairs were fed with the entries of a trace, and how they open.
 use Rattle.std.specs.Prelude.{◌≡◌, ℕ, suc, ◌+◌, ◌*◌, ◌<◌, ◌≤◌, Bool, List, [], ◌∷◌, get_or}
 use Rattle.process_api.specs.EntryRecord.{EntryRecord}
-use Rattle.scenario.specs.Record.{Record}
+use Rattle.scenario_record.specs.Record.{Record}
 use Rattle.judges.specs.Crashes.{end_of}
 use Rattle.judges.specs.Turns.{turns}
 use Rattle.judges.specs.Pair.{opened, all_turned}

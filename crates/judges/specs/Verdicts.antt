@@ -3,7 +3,7 @@
 use Rattle.std.specs.Prelude.{ℕ, suc, Bool, true, not, ◌&&◌, if◌then◌else◌, Option, List}
 use Rattle.process_api.specs.EntryRecord.{EntryRecord}
 use Rattle.judges.specs.declared.verdicts.Verdicts.{Verdicts}
-use Rattle.scenario.specs.Record.{Record}
+use Rattle.scenario_record.specs.Record.{Record}
 use Rattle.judges.specs.Crashes.{is_up, is_crashed, is_correct}
 use Rattle.judges.specs.Ticks.{all_below, any_below, all_from, least_below}
 use Rattle.judges.specs.Out.{suspects}

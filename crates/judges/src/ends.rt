@@ -4,7 +4,7 @@ ghost use Rattle.process_api.specs.Bounds.{most_processes};
 ghost use Rattle.judges.specs.Ends.{AreEnds, end_tick};
 
 use process_api::Pid;
-use scenario::Scenario;
+use scenario_record::Scenario;
 use std::alloc::{AllocError, Global};
 
 /// The tick up to which a process is up, cut at the horizon.

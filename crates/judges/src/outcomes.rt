@@ -1,13 +1,13 @@
 //! What the processes of a run decided.
 ghost use Rattle.std.specs.Prelude.{◌≡◌, ◌≤◌, ◌++◌, ◌∷◌, ℕ, List, [], IfOk};
 ghost use Rattle.process_api.specs.EntryRecord.{EntryRecord};
-ghost use Rattle.scenario.specs.Ranges.{IsInRange};
+ghost use Rattle.scenario_record.specs.Ranges.{IsInRange};
 ghost use Rattle.judges.specs.Agreement.{Agree, DecidesOnce, IsCoordinated};
 ghost use Rattle.judges.specs.Outcomes.{outcome, outcomes};
 ghost use Rattle.judges.specs.Noting.{all_noted, noted};
 
 use process_api::{Entry, Note, Pid, Trace};
-use scenario::Scenario;
+use scenario_record::Scenario;
 use std::alloc::{AllocError, Global};
 
 /// What a process decided.

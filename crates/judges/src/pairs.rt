@@ -2,7 +2,7 @@
 ghost use Rattle.std.specs.Prelude.{◌≡◌, ℕ, ◌+◌, ◌*◌, ◌<◌, ◌≤◌, ◌++◌, ◌∷◌, [], ◌==◌, if◌then◌else◌, List, Some, length, vec_len, get_or, IfOk};
 ghost use Rattle.process_api.specs.Bounds.{most_processes};
 ghost use Rattle.process_api.specs.EntryRecord.{EntryRecord};
-ghost use Rattle.scenario.specs.Record.{Record};
+ghost use Rattle.scenario_record.specs.Record.{Record};
 ghost use Rattle.judges.specs.Ends.{opened_at};
 ghost use Rattle.judges.specs.Pair.{AreTurned};
 ghost use Rattle.judges.specs.Turns.{noted_turns, turn_of, turns_at};
@@ -11,7 +11,7 @@ ghost use Rattle.judges.specs.declared.pair.Pair.{Pair};
 use crate::ends::end_ticks;
 use crate::pair::{Gauge, Pair, turn_of};
 use process_api::{Entry, Key, Note, Pid};
-use scenario::Scenario;
+use scenario_record::Scenario;
 use std::alloc::{AllocError, Global};
 
 /// The pair at a place, by observer and then by subject.

@@ -6,7 +6,7 @@ use crate::pairs::Pairs;
 use crate::track::Track;
 use crate::verdicts::Verdicts;
 use process_api::Entry;
-use scenario::Scenario;
+use scenario_record::Scenario;
 use std::alloc::{AllocError, Global};
 
 /// Judges one layer, fed with the entries of a trace as they come, in the order of their keys.
@@ -20,7 +20,7 @@ pub struct RunningJudge {
 
 impl RunningJudge {
     ghost use Rattle.process_api.specs.EntryRecord.{EntryRecord};
-    ghost use Rattle.scenario.specs.Record.{Record};
+    ghost use Rattle.scenario_record.specs.Record.{Record};
     ghost use Rattle.judges.specs.Pairs.{AreUntil};
     ghost use Rattle.judges.specs.Judging.{IsJudging};
     ghost use Rattle.judges.specs.Verdicts.{verdicts};

@@ -5,7 +5,7 @@ ghost use Rattle.judges.specs.Meaning.{AreVerdicts};
 
 use crate::running::RunningJudge;
 use process_api::Trace;
-use scenario::Scenario;
+use scenario_record::Scenario;
 use std::alloc::{AllocError, Global};
 
 /// The verdicts on one layer, after Chandra and Toueg (Journal of the ACM 43(2), 1996), cut at the horizon.

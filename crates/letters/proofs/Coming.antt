@@ -8,22 +8,22 @@ use Rattle.process_api.specs.declared.entry.Kind.TheVariants as kind
 use Rattle.process_api.specs.declared.key.Key.{Key}
 use Rattle.process_api.specs.declared.message.StepInput.{StepInput}
 use Rattle.process_api.specs.declared.message.StepInput.TheVariants.{Start}
-use Rattle.scenario.specs.Ranges.{IsInRange}
-use Rattle.scenario.specs.Record.{Record}
+use Rattle.scenario_record.specs.Ranges.{IsInRange}
+use Rattle.scenario_record.specs.Record.{Record}
 use Rattle.streams.specs.declared.fate.Fate.{Fate}
 use Rattle.streams.specs.declared.fate.Fate.TheVariants as link
-use Rattle.event_list.specs.History.{IsIn, IsTaken, Pair}
+use Rattle.trace_laws.specs.History.{IsIn, IsTaken, Pair}
 use Rattle.event_list.specs.Posting.{Posted, posted_in, posted_along}
-use Rattle.event_list.specs.ScenarioSetting.{setting_of}
-use Rattle.event_list.specs.Setting.{Setting, IsSound, has_crashed}
-use Rattle.event_list.specs.Step.{Event, kind_of, kind_of_payload}
-use Rattle.event_list.specs.World.{World, Has, IsWorld, Run, opening, starts, start_of, made, taken, entries, IsTrace}
-use Rattle.event_list.proofs.Closed.{closed_of_run, opening_world}
-use Rattle.event_list.proofs.Runs.{one_run}
-use Rattle.event_list.proofs.Sets.{inserted, not_None}
-use Rattle.event_list.proofs.Sound.{setting_sound}
-use Rattle.event_list.proofs.Steps.{in_append, in_left, in_right}
-use Rattle.event_list.proofs.Worlds.{taken_cases, taken_new, taken_world}
+use Rattle.trace_laws.specs.ScenarioSetting.{setting_of}
+use Rattle.trace_laws.specs.Setting.{Setting, IsSound, has_crashed}
+use Rattle.trace_laws.specs.Step.{Event, kind_of, kind_of_payload}
+use Rattle.trace_laws.specs.World.{World, Has, IsWorld, Run, opening, starts, start_of, made, taken, entries, IsTrace}
+use Rattle.trace_laws.proofs.Closed.{closed_of_run, opening_world}
+use Rattle.trace_laws.proofs.Runs.{one_run}
+use Rattle.trace_laws.proofs.Sets.{inserted, not_None}
+use Rattle.trace_laws.proofs.Sound.{setting_sound}
+use Rattle.trace_laws.proofs.Steps.{in_append, in_left, in_right}
+use Rattle.trace_laws.proofs.Worlds.{taken_cases, taken_new, taken_world}
 use Rattle.letters.specs.Letters.{due_of, fate_of, letter_of, AreLetters}
 use Rattle.letters.specs.Traces.{IsEntryOf, AreInTrace}
 use Rattle.letters.specs.declared.letter.Letter.{Letter}

@@ -10,11 +10,11 @@ use Rattle.process_api.specs.declared.message.StepInput.{StepInput}
 use Rattle.process_api.specs.declared.message.StepInput.TheVariants as input
 use Rattle.streams.specs.declared.fate.Fate.{Fate}
 use Rattle.streams.specs.declared.fate.Fate.TheVariants as link
-use Rattle.event_list.specs.History.{IsIn}
+use Rattle.trace_laws.specs.History.{IsIn}
 use Rattle.event_list.specs.Posting.{Posted, posting, posted_by, posted_in}
-use Rattle.event_list.specs.Setting.{Setting, has_crashed}
-use Rattle.event_list.specs.Step.{Event, Process, Made, in_time, by_fate, counted, joining, added, step, made_by, dead, kind_of}
-use Rattle.event_list.proofs.Steps.{in_append, in_left, in_right}
+use Rattle.trace_laws.specs.Setting.{Setting, has_crashed}
+use Rattle.trace_laws.specs.Step.{Event, Process, Made, in_time, by_fate, counted, joining, added, step, made_by, dead, kind_of}
+use Rattle.trace_laws.proofs.Steps.{in_append, in_left, in_right}
 
 -- the event that a letter becomes so many ticks after it was sent
 abbrev pub event_of : Posted → ℕ → Event

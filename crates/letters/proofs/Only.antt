@@ -1,10 +1,10 @@
 -- A scenario's run has these letters alone.
 use Rattle.std.proofs.Common.{◌≡◌, ap, sym, ◌∙◌, List, map}
-use Rattle.scenario.specs.Record.{Record}
+use Rattle.scenario_record.specs.Record.{Record}
 use Rattle.event_list.specs.Posting.{posted_along}
-use Rattle.event_list.specs.ScenarioSetting.{setting_of}
-use Rattle.event_list.specs.World.{opening}
-use Rattle.event_list.proofs.Runs.{one_run}
+use Rattle.trace_laws.specs.ScenarioSetting.{setting_of}
+use Rattle.trace_laws.specs.World.{opening}
+use Rattle.trace_laws.proofs.Runs.{one_run}
 use Rattle.letters.specs.Letters.{letter_of, AreLetters}
 use Rattle.letters.specs.declared.letter.Letter.{Letter}
 

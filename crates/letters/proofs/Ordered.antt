@@ -10,17 +10,17 @@ use Rattle.process_api.specs.declared.action.Action.{Action}
 use Rattle.process_api.specs.declared.action.Action.TheVariants.{Send, Wake, Note}
 use Rattle.process_api.specs.declared.key.Key.{Key}
 use Rattle.process_api.specs.declared.message.StepInput.{StepInput}
-use Rattle.scenario.specs.Ranges.{IsInRange}
-use Rattle.scenario.specs.Record.{Record}
-use Rattle.event_list.specs.History.{IsIn, Pair}
+use Rattle.scenario_record.specs.Ranges.{IsInRange}
+use Rattle.scenario_record.specs.Record.{Record}
+use Rattle.trace_laws.specs.History.{IsIn, Pair}
 use Rattle.event_list.specs.Posting.{Posted, posting, posted_by, posted_in, posted_along}
-use Rattle.event_list.specs.ScenarioSetting.{setting_of}
-use Rattle.event_list.specs.Setting.{Setting, has_crashed}
-use Rattle.event_list.specs.Step.{Process, counted}
-use Rattle.event_list.specs.World.{World, opening, taken}
-use Rattle.event_list.proofs.Closed.{trace_is_closed}
-use Rattle.event_list.proofs.Rising.{IsRising, rising_pairs}
-use Rattle.event_list.proofs.Sound.{setting_sound}
+use Rattle.trace_laws.specs.ScenarioSetting.{setting_of}
+use Rattle.trace_laws.specs.Setting.{Setting, has_crashed}
+use Rattle.trace_laws.specs.Step.{Process, counted}
+use Rattle.trace_laws.specs.World.{World, opening, taken}
+use Rattle.trace_laws.proofs.Closed.{trace_is_closed}
+use Rattle.trace_laws.proofs.Rising.{IsRising, rising_pairs}
+use Rattle.trace_laws.proofs.Sound.{setting_sound}
 use Rattle.letters.specs.Letters.{letter_of, IsNotAfter, AreInOrder, AreLetters}
 use Rattle.letters.specs.declared.letter.Letter.{Letter}
 

@@ -1,13 +1,13 @@
 -- The letters of a scenario's run, and what becomes of each.
 use Rattle.std.specs.Prelude.{◌≡◌, ◌⊎◌, ℕ, ◌+◌, ◌<◌, ◌≤◌, if◌then◌else◌, nat_le, Option, None, Some, List, [], ◌∷◌, map}
 use Rattle.std.specs.List.{All}
-use Rattle.scenario.specs.Record.{Record}
+use Rattle.scenario_record.specs.Record.{Record}
 use Rattle.streams.specs.declared.fate.Fate.{Fate}
 use Rattle.streams.specs.declared.fate.Fate.TheVariants as link
 use Rattle.event_list.specs.Posting.{Posted, ArePosted}
-use Rattle.event_list.specs.ScenarioSetting.{setting_of}
-use Rattle.event_list.specs.Setting.{Setting, has_crashed}
-use Rattle.event_list.specs.Step.{kind_of_payload}
+use Rattle.trace_laws.specs.ScenarioSetting.{setting_of}
+use Rattle.trace_laws.specs.Setting.{Setting, has_crashed}
+use Rattle.trace_laws.specs.Step.{kind_of_payload}
 use Rattle.letters.specs.declared.letter.Letter.{Letter}
 use Rattle.letters.specs.declared.letter.LetterFate.{LetterFate}
 use Rattle.letters.specs.declared.letter.LetterFate.TheVariants as fate

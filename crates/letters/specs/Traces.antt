@@ -2,7 +2,7 @@
 use Rattle.std.specs.Prelude.{◌≡◌, ◌≢◌, ◌⊎◌, Some, List}
 use Rattle.process_api.specs.EntryRecord.{EntryRecord}
 use Rattle.process_api.specs.declared.entry.Kind.TheVariants as kind
-use Rattle.event_list.specs.History.{IsIn}
+use Rattle.trace_laws.specs.History.{IsIn}
 use Rattle.letters.specs.declared.letter.Letter.{Letter}
 use Rattle.letters.specs.declared.letter.LetterFate.TheVariants as fate
 

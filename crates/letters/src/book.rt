@@ -1,12 +1,12 @@
 //! The letters of a run, as they are heard of.
 ghost use Rattle.std.specs.Prelude.{◌≡◌, []};
-ghost use Rattle.event_list.specs.ScenarioSetting.{setting_of};
+ghost use Rattle.trace_laws.specs.ScenarioSetting.{setting_of};
 ghost use Rattle.letters.specs.Letters.{due_of, fate_of as fate_for, letter_of as letter_for};
 
 use crate::letter::{Letter, LetterFate};
 use event_list::{Listener, kind_of_letter};
 use process_api::{Key, Payload, Pid};
-use scenario::Scenario;
+use scenario_record::Scenario;
 use std::alloc::{AllocError, Global};
 use streams::Fate;
 

@@ -3,9 +3,9 @@ ghost use Rattle.std.specs.Prelude.{◌≡◌, ◌<◌, ◌⊎◌, List, IfOk, I
 ghost use Rattle.process_api.specs.EntryRecord.{EntryRecord};
 ghost use Rattle.process_api.specs.Mind.{Mind};
 ghost use Rattle.process_api.specs.Numbers.{numbers_to};
-ghost use Rattle.scenario.specs.Record.{opening_mind};
-ghost use Rattle.event_list.specs.ScenarioSetting.{setting_of};
-ghost use Rattle.event_list.specs.World.{IsTrace};
+ghost use Rattle.scenario_record.specs.Record.{opening_mind};
+ghost use Rattle.trace_laws.specs.ScenarioSetting.{setting_of};
+ghost use Rattle.trace_laws.specs.World.{IsTrace};
 ghost use Rattle.letters.specs.Letters.{AreInOrder, AreLetters};
 ghost use Rattle.letters.specs.Traces.{AreInTrace};
 
@@ -13,7 +13,7 @@ use crate::book::LetterBook;
 use crate::letter::Letter;
 use event_list::{Nobody, RunError, run_list_heard};
 use process_api::Process;
-use scenario::Scenario;
+use scenario_record::Scenario;
 use std::alloc::Global;
 
 /// Runs machines by the single event list, up to the horizon, and gives the letters that they send to one another:

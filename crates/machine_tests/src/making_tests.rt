@@ -1,6 +1,6 @@
 //! Machines of small scenarios, at their start.
 ghost use Rattle.std.specs.Prelude.{◌≡◌, IfOk};
-ghost use Rattle.scenario.specs.Opening.{mind_of};
+ghost use Rattle.scenario_record.specs.Opening.{mind_of};
 
 use crate::comparisons::same;
 use machines::{AnyDetector, eventually_strong, idle, make_all, strong};

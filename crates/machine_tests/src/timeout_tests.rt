@@ -1,7 +1,7 @@
 //! The time-out detector, input by input.
 ghost use Rattle.std.specs.Prelude.{◌≤◌};
 ghost use Rattle.process_api.specs.Bounds.{most_processes};
-ghost use Rattle.scenario.specs.Numbers.{AreTimeoutInRange};
+ghost use Rattle.scenario_record.specs.Numbers.{AreTimeoutInRange};
 
 use crate::comparisons::same_text;
 use crate::inputs::Given::{self, AliveFrom, Beat, Check, Share, Start};

@@ -1,12 +1,12 @@
 //! The detector of a process, of whichever kind its opening says. Each part is chosen by itself: the base detector, and
 //! whether a reduction stands over it.
 ghost use Rattle.std.specs.Prelude.{◌≡◌, IfOk};
-ghost use Rattle.scenario.specs.Opening.{base_of, lower_of};
+ghost use Rattle.scenario_record.specs.Opening.{base_of, lower_of};
 
 use freshness_detector::FreshnessDetector;
 use process_api::{Action, Detector, DetectorNumbers, ProcSet, StepInput};
 use reduction::Reduced;
-use scenario::Opening;
+use scenario_record::Opening;
 use std::alloc::{AllocError, Global};
 use timeout_detector::TimeoutDetector;
 

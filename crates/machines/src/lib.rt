@@ -6,7 +6,7 @@
 //! [`make_all`] makes the machines of all processes, in the order of their numbers, by a maker.
 //!
 //! The contract of each is one sentence: what it makes has the mind, or the part of it, with which the scenario says
-//! that the process opens (`scenario/specs/Opening.antt`). What a machine does from then on is the contract of
+//! that the process opens (`scenario_record/specs/Opening.antt`). What a machine does from then on is the contract of
 //! [`process_api::Process`].
 //!
 //! Runs take boxes. Where a box hides what it holds, contracts know of it only in the function that made it: so the

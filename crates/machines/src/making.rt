@@ -1,11 +1,11 @@
 //! The machines of a scenario.
 ghost use Rattle.std.specs.Prelude.{◌≡◌, IfOk, map};
 ghost use Rattle.process_api.specs.Numbers.{numbers_to};
-ghost use Rattle.scenario.specs.Opening.{mind_of};
-ghost use Rattle.scenario.specs.Record.{opening_mind};
+ghost use Rattle.scenario_record.specs.Opening.{mind_of};
+ghost use Rattle.scenario_record.specs.Record.{opening_mind};
 
 use process_api::{Pid, Process};
-use scenario::{Opening, Scenario};
+use scenario_record::{Opening, Scenario};
 use std::alloc::{AllocError, Global};
 
 /// One machine for each process of the scenario, in the order of their numbers. The maker is handed what a process

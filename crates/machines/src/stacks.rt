@@ -1,12 +1,12 @@
 //! The machine of a process: its detector, and above it the algorithm that the process runs, or none.
 ghost use Rattle.std.specs.Prelude.{◌≡◌, IfOk};
-ghost use Rattle.scenario.specs.Opening.{lower_of, mind_of};
-ghost use Rattle.scenario.specs.declared.algorithm.AlgorithmKind.TheVariants.{EventuallyStrong, Idle, Strong};
+ghost use Rattle.scenario_record.specs.Opening.{lower_of, mind_of};
+ghost use Rattle.scenario_record.specs.declared.algorithm.AlgorithmKind.TheVariants.{EventuallyStrong, Idle, Strong};
 
 use consensus_es::EsConsensus;
 use consensus_s::SConsensus;
 use process_api::{Detector, Process};
-use scenario::Opening;
+use scenario_record::Opening;
 use stack::{NoAlgorithm, Stack};
 use std::alloc::{AllocError, Global};
 

@@ -9,7 +9,7 @@ use Rattle.mailboxes.specs.Mailbox.{MailboxId, HomeView}
 use Rattle.mailboxes.specs.Mailboxes.{SlipView, posted_to, list_of, letters_in}
 use Rattle.mailboxes.specs.Emptying.{AreToEmpty, AreEmptied}
 use Rattle.mailboxes.proofs.Homes.{mailbox_of, back_of, Even}
-use Rattle.mailboxes.proofs.Lists.{Shuffled, Shuffled-append, Shuffled-at}
+use Rattle.ledger.proofs.Lists.{Shuffled, Shuffled-append, Shuffled-at}
 
 abbrev pub IsBlank : Vec Letter → Type 0
 IsBlank v = v.items ≡ []

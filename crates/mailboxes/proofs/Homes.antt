@@ -6,7 +6,7 @@ use Rattle.std.proofs.lemmas.List.Sums.{fold-append}
 use Rattle.process_api.specs.declared.message.Letter.{Letter}
 use Rattle.mailboxes.specs.Mailbox.{MailboxId, TicketView, HomeView, ticket_of, one_out, one_back, all_back}
 use Rattle.mailboxes.specs.Mailboxes.{SlipView, slip_of, unused}
-use Rattle.mailboxes.proofs.Lists.{with-length, with-map}
+use Rattle.ledger.proofs.Lists.{with-length, with-map}
 
 abbrev pub mailbox_of : HomeView → MailboxId
 mailbox_of h = h.mailbox

@@ -6,16 +6,13 @@
 //!
 //! The one contract for the layers above is that of [`Mailboxes::collect`]: under every schedule of the threads, the
 //! list of receiver r has the letters that the slips posted to r, each as often as it was posted, and no others. In
-//! which order a list has them isn't said. It rests on a rule of the queue (`specs/Ledger.antt`): what all passes have
-//! put is, counted with repetitions, what they have taken and what the queue holds. Nothing is promised about how long
-//! a call waits, or that it returns.
+//! which order a list has them isn't said. It rests on the ledger of the queue (`ledger`): what all passes have put is,
+//! counted with repetitions, what they have taken and what the queue holds. Nothing is promised about how long a call
+//! waits, or that it returns.
 //!
 //! In words: with three mailboxes and two slips, one thread posts letter a to 2 and letter b to 3 by the first slip,
 //! while another posts letter c to 2 by the second; then `collect` with both slips gives an empty list, a list of a and
 //! c in one order or the other, and the list of b alone.
-//!
-//! The ledger itself is generic in the item and in the kinds of step; [`Account`], [`Ticketing`] and [`Telling`] are
-//! public for another crate's queues or deques.
 //!
 //! What threads share by reference is [`SharedMailboxes`]; [`Mailboxes`] has it, and beside it the owner's passes, by
 //! which slips are made and taken back. They aren't shared: one thread has each of them at a time. [`Mailboxes::empty`]
@@ -24,14 +21,12 @@
 #![tactic(auto)]
 
 mod emptying;
-mod ledger;
 mod mailbox;
 mod mailboxes;
 mod rule;
 mod shared;
 mod slip;
 
-pub use ledger::{Account, Telling, Ticketing};
 pub use mailboxes::Mailboxes;
 pub use shared::SharedMailboxes;
 pub use slip::Slip;

@@ -2,12 +2,12 @@
 ghost use Rattle.std.specs.Prelude.{◌≡◌, ◌≢◌, ◌<◌, ◌+◌, [], ◌∷◌, ◌++◌, None, IfOk, IfErr, OnOk, OnErr};
 ghost use Rattle.std.specs.List.Sorted.{IsPermutation};
 ghost use Rattle.crossbeam_queue.specs.SegTies.{IsSegPassOf};
-ghost use Rattle.mailboxes.specs.Ledger.{account, has_taken};
+ghost use Rattle.ledger.specs.Ledger.{account, has_taken};
 ghost use Rattle.mailboxes.specs.Mailbox.{ticket_of, home_of, one_out, one_back};
 
-use crate::ledger::{Account, Settling, Ticketing};
 use crate::rule::{EachOnce, Pop, Push};
 use crossbeam_queue::{RuledSegQueue, SegPass};
+use ledger::{Account, Settling, Ticketing};
 use process_api::Letter;
 use std::alloc::{AllocError, Global};
 use std::marker::Model;
@@ -48,7 +48,7 @@ impl Model for Ticket {
     ghost use Rattle.process_api.specs.contracts.message.Letter as letter;
     ghost use Rattle.mailboxes.specs.contracts.mailbox.Mailbox as mailbox;
     ghost use Rattle.mailboxes.specs.Mailbox.{TicketView, ticket_code, ticket_of};
-    ghost use Rattle.mailboxes.specs.Ledger.{new_pass, has_put};
+    ghost use Rattle.ledger.specs.Ledger.{new_pass, has_put};
 
     ghost Value = { TicketView };
 

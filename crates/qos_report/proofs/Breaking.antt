@@ -2,23 +2,24 @@
 use Rattle.std.proofs.Common.{◌≡◌, ◌≢◌, ◌⊎◌, ℕ, ◌+◌, inl, inr, refl, sym, ap, ◌∙◌, subst, arith, Bool, true, false, true≢false, Option, None, Some, List, [], ◌++◌, Err}
 use Rattle.std.specs.Prelude.{IsTrue}
 use Rattle.std.specs.Global.{Vec}
-use Rattle.event_list.specs.ScenarioSetting.{setting_of}
-use Rattle.event_list.specs.World.{IsTrace}
+use Rattle.trace_laws.specs.ScenarioSetting.{setting_of}
+use Rattle.trace_laws.specs.World.{IsTrace}
 use Rattle.event_list.specs.declared.error.RunError.{RunError}
 use Rattle.event_list.specs.declared.error.RunError.TheVariants.{Limit, Memory, Spawn, Write}
 use Rattle.process_api.specs.EntryRecord.{EntryRecord}
-use Rattle.scenario.specs.Record.{Record}
+use Rattle.scenario_record.specs.Record.{Record}
 use Rattle.windows.specs.Sink.{writes_of}
 use Rattle.print_choice.specs.declared.PrintChoice.{PrintChoice}
 use Rattle.print_choice.specs.declared.PrintChoice.TheVariants as choice
-use Rattle.qos_report.specs.Printed.{BreaksOff, WroteRows, items_of, printed, prints_report, prints_trace}
-use Rattle.qos_report.specs.ReportText.{report_text}
-use Rattle.qos_report.specs.Running.{IsTextWhere}
-use Rattle.qos_report.specs.Streaming.{IsLonger, WroteFirst, WroteFront, WroteWhere}
-use Rattle.qos_report.specs.TraceText.{rows_text, trace_header, trace_text}
-use Rattle.qos_report.specs.Writing.{Wrote, WrotePart, WroteNothing}
-use Rattle.qos_report.proofs.EachProcess.{append_none}
-use Rattle.qos_report.proofs.Written.{part_of_more, wrote_both, wrote_then_part}
+use Rattle.reporting.specs.Printed.{BreaksOff, WroteRows, items_of, printed, prints_report, prints_trace}
+use Rattle.reporting.specs.ReportText.{report_text}
+use Rattle.reporting.specs.Running.{IsTextWhere}
+use Rattle.reporting.specs.Printed.{IsLonger}
+use Rattle.qos_report.specs.Streaming.{WroteFirst, WroteFront, WroteWhere}
+use Rattle.reporting.specs.TraceText.{rows_text, trace_header, trace_text}
+use Rattle.reporting.specs.Writing.{Wrote, WrotePart, WroteNothing}
+use Rattle.reporting.proofs.EachProcess.{append_none}
+use Rattle.reporting.proofs.Written.{part_of_more, wrote_both, wrote_then_part}
 
 trace_text_is : (trace : List EntryRecord) → trace_header ++ rows_text trace ≡ trace_text trace
 unfolding trace_text

@@ -1,22 +1,23 @@
 -- What a sink took, window by window.
 use Rattle.std.proofs.Common.{◌≡◌, ◌⊎◌, ◌≤◌, ℕ, inl, inr, refl, sym, ap, ◌∙◌, subst, true, Option, List, [], ◌∷◌, ◌++◌, length, append_assoc, Result, Ok, Err, OnOk, OnErr}
-use Rattle.event_list.specs.ScenarioSetting.{setting_of}
-use Rattle.event_list.specs.Setting.{IsSound}
-use Rattle.event_list.specs.World.{IsTrace}
+use Rattle.trace_laws.specs.ScenarioSetting.{setting_of}
+use Rattle.trace_laws.specs.Setting.{IsSound}
+use Rattle.trace_laws.specs.World.{IsTrace}
 use Rattle.event_list.specs.declared.error.RunError.{RunError}
-use Rattle.event_list.proofs.Closed.{trace_rises}
+use Rattle.trace_laws.proofs.Closed.{trace_rises}
 use Rattle.judges.proofs.Order.{rising_front}
 use Rattle.process_api.specs.EntryRecord.{EntryRecord}
 use Rattle.process_api.specs.Order.{is_rising}
-use Rattle.scenario.specs.Record.{Record}
+use Rattle.scenario_record.specs.Record.{Record}
 use Rattle.windows.specs.Sink.{TookAll, TookFront, TookTrace}
-use Rattle.windows.specs.Theorems.{end_to_end}
-use Rattle.qos_report.specs.Running.{IsRunning}
+use Rattle.window_laws.specs.Theorems.{end_to_end}
+use Rattle.reporting.specs.Running.{IsRunning}
 use Rattle.qos_report.specs.Streaming.{StreamedFront, StreamedTrace, TookFrontOfPart, TookPart, WroteFront, WroteWhere}
-use Rattle.qos_report.specs.TraceText.{rows_text}
+use Rattle.reporting.specs.TraceText.{rows_text}
 use Rattle.qos_report.specs.declared.streaming.Streaming.{Streaming}
-use Rattle.qos_report.proofs.EachProcess.{append_none}
-use Rattle.qos_report.proofs.Written.{front_more, front_of, rows_both, then_front, where_both, where_nothing}
+use Rattle.reporting.proofs.EachProcess.{append_none}
+use Rattle.reporting.proofs.Written.{rows_both}
+use Rattle.qos_report.proofs.UnderWay.{front_more, front_of, then_front, where_both, where_nothing}
 
 module _ {O : Type 0} (told : O → Option (List ℕ)) (failed : O → ℕ) where
   took_none : (s : Streaming O) → TookPart told failed s [] s

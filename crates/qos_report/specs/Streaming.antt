@@ -1,16 +1,16 @@
 -- What a sink leaves that writes the rows of a run's entries as its windows close.
-use Rattle.std.specs.Prelude.{◌≡◌, ◌⊎◌, ◌<◌, ℕ, Bool, true, false, List, [], ◌++◌, length, Option, IsTrue}
-use Rattle.event_list.specs.ScenarioSetting.{setting_of}
-use Rattle.event_list.specs.World.{IsTrace}
+use Rattle.std.specs.Prelude.{◌≡◌, ◌⊎◌, ℕ, Bool, true, false, List, [], ◌++◌, Option, IsTrue}
+use Rattle.trace_laws.specs.ScenarioSetting.{setting_of}
+use Rattle.trace_laws.specs.World.{IsTrace}
 use Rattle.process_api.specs.EntryRecord.{EntryRecord}
 use Rattle.process_api.specs.Order.{is_rising}
-use Rattle.scenario.specs.Record.{Record}
-use Rattle.qos_report.specs.Printed.{IsTraceWithin}
-use Rattle.qos_report.specs.ReportText.{Text}
-use Rattle.qos_report.specs.Running.{IsRunning}
-use Rattle.qos_report.specs.TraceText.{rows_text}
-use Rattle.qos_report.specs.Writing.{Wrote, WrotePart}
-use Rattle.qos_report.specs.declared.running.Running.{Running}
+use Rattle.scenario_record.specs.Record.{Record}
+use Rattle.reporting.specs.Printed.{IsTraceWithin}
+use Rattle.reporting.specs.ReportText.{Text}
+use Rattle.reporting.specs.Running.{IsRunning}
+use Rattle.reporting.specs.TraceText.{rows_text}
+use Rattle.reporting.specs.Writing.{Wrote, WrotePart}
+use Rattle.reporting.specs.declared.running.Running.{Running}
 use Rattle.qos_report.specs.declared.streaming.Streaming.{Streaming}
 
 module _ {O : Type 0} (told : O → Option (List ℕ)) (failed : O → ℕ) where
@@ -56,10 +56,6 @@ module _ {O : Type 0} (told : O → Option (List ℕ)) (failed : O → ℕ) wher
   pub record TookFrontOfPart (old : Streaming O) (part : List EntryRecord) (new : Streaming O) : Type 0 where
     pub outlet : new.outlet.ghost_name ≡ old.outlet.ghost_name
     pub written : WroteFront old.outlet.now new.outlet.now old.is_traced part
-
--- the scenario's trace has more entries than its limit
-abbrev pub IsLonger : Record → Type 0
-IsLonger S = (trace : List EntryRecord) → IsTrace (setting_of S) trace → S.limit < length trace
 
 module _ (S : Record) {O : Type 0} (told : O → Option (List ℕ)) (failed : O → ℕ) (asked : Bool) where
   -- a run by windows is done: the scenario's trace was measured, and its rows went out where they are asked for

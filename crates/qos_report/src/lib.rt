@@ -1,89 +1,26 @@
-//! What a run tells: the measures of its failure detectors, its texts, and the calls that run a scenario and write
-//! them, or only measure it.
+//! Runs that write what they tell: a scenario and its machines go in, and texts go out to an outlet.
 //!
-//! [`measures`] gives, for each pair of processes on each layer, the quality of service of a failure detector after
-//! Chen, Toueg and Aguilera (IEEE Transactions on Computers 51(5), 2002), as sums and counts over the ticks of one run
-//! (`specs/Measures.antt`). [`write_trace`] writes a row for each entry of a trace (`specs/TraceText.antt`), and
-//! [`write_report`] a row for each number of the run, each verdict, each measure and each decision
-//! (`specs/ReportText.antt`). Texts go to an [`Outlet`]: over memory, over any writer, or over memory with a fuse that
-//! blows, which shows what a failed write leaves.
+//! [`bench_windows`] runs a scenario by windows that worker threads share. It has the promise of `bench_list`, which
+//! runs it by the single event list: on `Ok` the outlet has grown by exactly the texts of the scenario's one trace,
+//! whatever the threads did, and the [`Summary`] is that trace's (`Finishes` in the definitions of `reporting`). Where
+//! it is refused it has written the trace's header and whole rows of its first entries, where the trace is asked for,
+//! and nothing of the report (`BreaksOff`); only for want of memory at the opening nothing went out.
 //!
-//! Contracts for the layers above:
+//! The trace goes out piece by piece: its header before the first window, and the rows of a window's entries once the
+//! window is closed (`specs/Streaming.antt`). No entry is held of a window that was closed.
 //!
-//! - [`bench_list`] and [`bench_windows`] run a scenario over given machines. On `Ok` the outlet has grown by exactly
-//!   the texts of the scenario's trace that were asked for, the trace is within the limit, and the [`Summary`] is that
-//!   trace's; with the rotating coordinator its outcomes agree, each process decides at most once, and none notes that
-//!   it ends with no value (`Finishes` of `specs/Printed.antt`). `Write` is answered only where a put failed, and then
-//!   a front part of these texts went out; `Limit` comes only of a trace that is longer than the limit. After any other
-//!   refusal `bench_list` has written nothing (`Refuses`, there too). `bench_windows` has written the trace's header
-//!   and whole rows of its first entries, where the trace is asked for, and nothing of the report (`BreaksOff`); only
-//!   for want of memory at the opening nothing went out. `bench_list` starts no thread, and never answers `Spawn`.
-//! - [`measure_list`] runs a scenario as `bench_list` does, forms no text, and tells all that is measured of the run:
-//!   on `Ok` the [`RunFindings`] are those of the scenario's trace, which is within the limit (`specs/Measured.antt`).
-//!   It answers `Limit` only where that trace is longer, and else only `Memory`.
-//! - [`watched_ticks`] gives the ticks for which a pair is watched, over all pairs: what a mistake rate and the query
-//!   accuracy of a scenario's runs are divided by (`specs/Watched.antt`).
-//! - [`measures`] gives a row for each pair on each layer, by definition, of any trace. In the scenario's trace each
-//!   suspicion of layer 2 has an earlier one of layer 1 for the same process, and each mistake or detection on layer 2
-//!   rests on one (`specs/Resting.antt`).
-//! - [`Meter`] gives the measures of one pair on one layer with no trace at hand: it is fed with the entries as they
-//!   come (`specs/MeterFed.antt`).
-//! - [`write_trace`] and [`write_report`] write one text of any trace, whole or a front part (`specs/Writing.antt`).
-//! - [`Outlet`] says what a put does, and [`put_all`] hands on a whole piece up to the first put that fails.
+//! Measures, texts and outlets are those of `reporting`, and are handed on from here.
 //!
-//! Nothing is ever tried again. By the list each text is formed whole before the first of its bytes is written; by
-//! windows the trace goes out piece by piece: its header before the first window, and the rows of a window's entries
-//! once the window is closed. A trace's text is formed row by row into one buffer, numbers by their digits; a report's
-//! rows are written by `csv`. All that is measured of a run takes one pass over its entries: an entry without notes is
-//! counted, and no more. That pass is the run itself, so by the list no entry is held, and by windows none whose window
-//! was closed; of a run whose report alone is asked for or that is only measured, and of any run by windows, nothing is
-//! held that grows with it.
-//!
-//! As an example, let process 2 of two crash at tick 3 of 10, and process 1 note at tick 9 that it suspects it. The
-//! report says so in the row `pair,1,1,2,detection,6`: on layer 1, observer 1 and subject 2, 6 ticks.
+//! For example, two processes of which the second crashes, by two workers and windows of 2 ticks, write the report that
+//! `bench_list` writes of them.
 #![tactic(auto)]
 
-mod asked;
 mod bench;
-mod counts;
-mod findings;
-mod fuse_outlet;
-mod ledger;
-mod measured_run;
-mod measuring;
-mod memory_outlet;
-mod meter;
-mod outlet;
-mod pair_measures;
-mod panel;
-mod recording;
-mod report;
-mod report_rows;
-mod rows;
-mod running;
-mod running_findings;
-mod running_summary;
-mod stream_outlet;
 mod streaming;
-mod summary;
-mod tail;
-mod tally;
-mod trace_text;
-mod values;
-mod watched;
-mod writing;
 
-pub use bench::{bench_list, bench_windows};
-pub use findings::RunFindings;
-pub use fuse_outlet::FuseOutlet;
-pub use measured_run::measure_list;
-pub use measuring::measures;
-pub use memory_outlet::MemoryOutlet;
-pub use meter::Meter;
-pub use outlet::{Outlet, put_all};
-pub use pair_measures::{Detection, PairMeasures};
+pub use bench::bench_windows;
 pub use print_choice::PrintChoice;
-pub use stream_outlet::StreamOutlet;
-pub use summary::Summary;
-pub use watched::watched_ticks;
-pub use writing::{write_report, write_trace};
+pub use reporting::{
+    Detection, FuseOutlet, MemoryOutlet, Meter, Outlet, PairMeasures, RunFindings, StreamOutlet,
+    Summary, bench_list, measure_list, measures, put_all, watched_ticks, write_report, write_trace,
+};

@@ -2,20 +2,18 @@
 ghost use Rattle.std.specs.Prelude.{◌≡◌, ◌<◌, ◌^◌, ◌-◌, ◌+◌, ◌++◌, ◌∷◌, [], List, map, true, OnOk, OnErr, IfErr, IfOk, IsErrOf, IsTrue};
 ghost use Rattle.process_api.specs.EntryRecord.{EntryRecord};
 ghost use Rattle.process_api.specs.Numbers.{numbers_to};
-ghost use Rattle.scenario.specs.Record.{opening_mind};
-ghost use Rattle.qos_report.specs.Streaming.{AreUnderWay, IsLonger, StreamedFront, StreamedTrace, WroteFront, WroteWhere};
-ghost use Rattle.qos_report.specs.TraceText.{rows_text, trace_header};
-ghost use Rattle.qos_report.specs.Writing.{Wrote, WrotePart};
+ghost use Rattle.scenario_record.specs.Record.{opening_mind};
+ghost use Rattle.reporting.specs.Printed.{IsLonger};
+ghost use Rattle.qos_report.specs.Streaming.{AreUnderWay, StreamedFront, StreamedTrace, WroteFront, WroteWhere};
+ghost use Rattle.reporting.specs.TraceText.{rows_text, trace_header};
+ghost use Rattle.reporting.specs.Writing.{Wrote, WrotePart};
 ghost use Rattle.windows.specs.Plan.{IsPlanFor};
 ghost use Rattle.windows.specs.Sink.{IsRefusalOfSink, writes_of};
 
-use crate::outlet::Outlet;
-use crate::running::Running;
-use crate::trace_text::{HEADER, append_entry};
-use crate::writing::write_text;
 use event_list::RunError;
 use process_api::{Entry, Process};
-use scenario::Scenario;
+use reporting::{HEADER, Outlet, Running, append_entry, write_text};
+use scenario_record::Scenario;
 use std::alloc::Global;
 use std::marker::Sync;
 use std::sync::Wait;

@@ -2,11 +2,11 @@
 ghost use Rattle.std.specs.Prelude.{◌≡◌, false, IsSome, option_map};
 ghost use Rattle.process_api.specs.Mind.{layer_of};
 ghost use Rattle.process_api.specs.Reduction.{opening_reduction};
-ghost use Rattle.scenario.specs.Opening.{place_of};
+ghost use Rattle.scenario_record.specs.Opening.{place_of};
 
 use crate::gathering::Gathering;
 use process_api::{Action, Detector, ProcSet, StepInput};
-use scenario::Opening;
+use scenario_record::Opening;
 use std::alloc::AllocError;
 
 /// The reduction over a detector of layer 1: a detector of layer 2, which suspects whom other processes suspect

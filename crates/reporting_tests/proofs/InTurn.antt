@@ -3,7 +3,7 @@ use Rattle.std.proofs.Common.{◌≡◌, ℕ, ◌+◌, List, [], ◌∷◌, ◌+
 use Rattle.std.specs.List.{AllZip, flat_map, range_with_len}
 use Rattle.std.proofs.lemmas.List.{flat_map_more}
 use Rattle.toml.specs.Data.{Members}
-use Rattle.qos_report.specs.Outlet.{Held}
+use Rattle.reporting.specs.Outlet.{Held}
 use Rattle.study.specs.Grid.{GridRecord}
 use Rattle.sweep.specs.Outcome.{WroteStudy}
 use Rattle.sweep.specs.RowText.{Text}

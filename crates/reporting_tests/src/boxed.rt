@@ -1,8 +1,8 @@
 //! The machines of a scenario, in boxes.
 ghost use Rattle.std.specs.Prelude.{◌≡◌, IfOk, map};
 ghost use Rattle.process_api.specs.Numbers.{numbers_to};
-ghost use Rattle.scenario.specs.Opening.{mind_of};
-ghost use Rattle.scenario.specs.Record.{opening_mind};
+ghost use Rattle.scenario_record.specs.Opening.{mind_of};
+ghost use Rattle.scenario_record.specs.Record.{opening_mind};
 
 use machines::{AnyDetector, eventually_strong, idle, make_all, strong};
 use process_api::Process;

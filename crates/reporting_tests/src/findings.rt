@@ -2,7 +2,7 @@
 use crate::comparisons::same;
 use crate::traces::pid;
 use judges::{Answer, Outcome, Verdicts};
-use qos_report::{Detection, PairMeasures};
+use reporting::{Detection, PairMeasures};
 use std::process::Abort;
 
 /// A pair of which nothing is counted.

@@ -1,6 +1,6 @@
 //! Tests of what judges, measures, sweeps and draws.
 //!
-//! These are the tests of `letters`, `judges`, `qos_report`, `sweep`, `svg` and `drawing`, a module for each: letters
+//! These are the tests of `letters`, `judges`, `reporting`, `sweep`, `svg` and `drawing`, a module for each: letters
 //! of a run, verdicts and outcomes, measures and outlets, rows of studies, and pictures, each over traces and runs
 //! that are worked out by hand. They stand apart from these crates, since a crate with tests is proved twice,
 //! without them and with them, and this crate has nothing else. What they share is in modules of its own: comparisons,

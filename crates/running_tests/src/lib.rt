@@ -1,9 +1,9 @@
 //! Tests of what runs machines.
 //!
-//! These are the tests of the crates `event_list`, `mailboxes`, `trace_merge` and `windows`, a module for each: pending
-//! events, letters that threads post, parts that are merged, and runs by windows. They stand apart from these crates,
-//! since a crate with tests is proved twice, without them and with them, and this crate has nothing else. What they
-//! share is in a module of its own.
+//! These are the tests of the crates `streams`, `pending_events`, `mailboxes`, `trace_merge` and `windows`, a module
+//! for each: fates of letters, pending events, letters that threads post, parts that are merged, and runs by windows.
+//! They stand apart from these crates, since a crate with tests is proved twice, without them and with them, and this
+//! crate has nothing else. What they share is in a module of its own.
 #![tactic(auto)]
 
 #[cfg(test)]
@@ -14,5 +14,7 @@ mod list_tests;
 mod mailbox_tests;
 #[cfg(test)]
 mod merge_tests;
+#[cfg(test)]
+mod stream_tests;
 #[cfg(test)]
 mod window_tests;

@@ -7,10 +7,10 @@ use Rattle.std.proofs.lemmas.List.Elements.{filter-append}
 use Rattle.std.proofs.lemmas.List.Folds.{list_any-append, list_any_at}
 use Rattle.toml.specs.Data.{Members}
 use Rattle.scenario.specs.Text.{pair_of, same_pair, outage_of, pair_outages, outages_among}
-use Rattle.scenario.specs.Ranges.{IsOutage}
+use Rattle.scenario_record.specs.Ranges.{IsOutage}
 use Rattle.scenario.specs.Rules.{is_outside, is_bad_outage, are_bad_outages}
 use Rattle.scenario.specs.Parts.{AreProcesses, HoldOutages}
-use Rattle.scenario.specs.declared.outage.Outage.{Outage}
+use Rattle.scenario_record.specs.declared.outage.Outage.{Outage}
 use Rattle.scenario.proofs.KeyFacts.{pair_alike, pair_itself, pair_apart, pair_place, pair_within}
 use Rattle.scenario.proofs.Grid.{grid_at, grid_whole}
 use Rattle.scenario.proofs.Slots.{tables_more}

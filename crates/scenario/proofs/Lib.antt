@@ -11,5 +11,4 @@ pub mod Cuts
 pub mod Places
 pub mod BelowFacts
 pub mod RangeFacts
-pub mod DetectorFacts
 pub mod Reading

@@ -9,17 +9,17 @@ use Rattle.std.proofs.lemmas.List.FromFn.{length-map-range_with_len}
 use Rattle.std.proofs.lemmas.List.Folds.{list_any-append}
 use Rattle.toml.specs.Data.{Members}
 use Rattle.process_api.specs.declared.numbers.DetectorNumbers.TheVariants as numbers
-use Rattle.scenario.specs.Numbers.{AreInRange, AreTimeoutInRange, AreFreshnessInRange, is_idle}
-use Rattle.scenario.specs.Record.{Record, proposal, crash, link, no_link}
-use Rattle.scenario.specs.Ranges.{IsLink, IsInRange}
+use Rattle.scenario_record.specs.Numbers.{AreInRange, AreTimeoutInRange, AreFreshnessInRange, is_idle}
+use Rattle.scenario_record.specs.Record.{Record, proposal, crash, link, no_link}
+use Rattle.scenario_record.specs.Ranges.{IsLink, IsInRange}
 use Rattle.scenario.specs.Table.{has_key, integers_at, table_at, table_or_empty, tables_at}
 use Rattle.scenario.specs.Text.{natural_of, natural, number_at, is_second, algorithm_in, processes_of, is_fresh, timeout_of, freshness_of, detector_of, share_of, delays_of, pair_of, same_pair, link_among, crash_process, crash_tick, crash_among, crashes_among, record_of}
 use Rattle.scenario.specs.Rules.{is_bad_proposal, are_other_than, are_bad_proposals, is_bad_detector, is_bad_timeout, is_bad_freshness, is_bad_share, is_bad_link, is_bad_pair, are_bad_pairs, is_bad_crash, are_bad_crashes, is_below, pairs, pairs_from, pair_below, most_in}
 use Rattle.scenario.specs.Refusals.{table_rules}
 use Rattle.scenario.specs.Groups.{Passes}
 use Rattle.scenario.specs.Parts.{AreProcesses}
-use Rattle.scenario.specs.declared.algorithm.AlgorithmKind.{AlgorithmKind}
-use Rattle.scenario.specs.declared.algorithm.AlgorithmKind.TheVariants as kind
+use Rattle.scenario_record.specs.declared.algorithm.AlgorithmKind.{AlgorithmKind}
+use Rattle.scenario_record.specs.declared.algorithm.AlgorithmKind.TheVariants as kind
 use Rattle.scenario.proofs.Within.{neither, within, within_of}
 use Rattle.scenario.proofs.Slots.{some_found}
 use Rattle.scenario.proofs.Taking.{link_at, links_length}

@@ -1,7 +1,7 @@
 -- What reading a scenario answers, from what reading its table answers.
 use Rattle.std.proofs.Common.{◌≡◌, ℕ, List, [], ◌∷◌, Some, None, Result, Ok, Err, OnOk, IfOk, IfErr, refl, false, is_none}
 use Rattle.toml.specs.Data.{Members}
-use Rattle.scenario.specs.Record.{Record}
+use Rattle.scenario_record.specs.Record.{Record}
 use Rattle.scenario.specs.Text.{record_of}
 use Rattle.scenario.specs.Refusals.{Accepts, Refuses, IsDocumentOf, is_memory, table_rules, rules, rule_at, IsFirst}
 use Rattle.scenario.specs.Groups.{Passes, StopsFirst}

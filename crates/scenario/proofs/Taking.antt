@@ -8,7 +8,7 @@ use Rattle.toml.specs.Data.{Members}
 use Rattle.scenario.specs.Text.{crash_process, crash_tick, crash_among, crashes_among, delays_of, pair_of, same_pair, link_among, links_among}
 use Rattle.scenario.specs.Rules.{is_bad_crash, are_bad_crashes, is_bad_pair, are_bad_pairs, same_process}
 use Rattle.scenario.specs.Parts.{IsProcess, AreProcesses, HoldCrashes, HoldLinks}
-use Rattle.scenario.specs.declared.link.Link.{Link}
+use Rattle.scenario_record.specs.declared.link.Link.{Link}
 use Rattle.scenario.proofs.Slots.{taken, put, step_bad, step_repeat, step_on, tables_more}
 use Rattle.scenario.proofs.KeyFacts.{process_alike, process_itself, process_apart, pair_alike, pair_itself, pair_apart, pair_place, pair_within}
 use Rattle.scenario.proofs.Grid.{grid_at, grid_length, grid_whole}

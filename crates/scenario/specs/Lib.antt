@@ -1,7 +1,3 @@
-pub mod Numbers
-pub mod Opening
-pub mod Record
-pub mod Ranges
 pub mod Table
 pub mod Keys
 pub mod Text

@@ -8,7 +8,7 @@ use Rattle.process_api.specs.Bounds.{most_processes}
 use Rattle.toml.specs.Data.{Members}
 use Rattle.toml.specs.View.{table_view}
 use Rattle.toml.specs.declared.value.Value.{Value}
-use Rattle.scenario.specs.Record.{no_link}
+use Rattle.scenario_record.specs.Record.{no_link}
 use Rattle.scenario.specs.Table as table
 use Rattle.scenario.specs.Table.{has_unlisted, has_lacking, has_mistyped, integers_at, table_at, table_or_empty, tables_at}
 use Rattle.scenario.specs.Text.{number_at, natural, algorithm_in, processes_of, detector_of, share_of, delays_of, pair_of, same_pair, links_among, pair_outages, outages_among, crash_process, crash_tick, crashes_among}
@@ -19,8 +19,8 @@ use Rattle.scenario.specs.declared.keys.Fault.{Fault}
 use Rattle.scenario.specs.declared.keys.Fault.TheVariants.{Unlisted, Lacking, Mistyped}
 use Rattle.scenario.specs.declared.numbers.TopNumbers.{TopNumbers}
 use Rattle.scenario.specs.declared.parts.Parts.{Parts}
-use Rattle.scenario.specs.declared.link.Link.{Link}
-use Rattle.scenario.specs.declared.outage.Outage.{Outage}
+use Rattle.scenario_record.specs.declared.link.Link.{Link}
+use Rattle.scenario_record.specs.declared.outage.Outage.{Outage}
 
 -- a key of the code's lists
 abbrev pub field_of : Field → table.Field

@@ -3,7 +3,7 @@ use Rattle.std.specs.Prelude.{◌≡◌, ℕ, ◌<◌, List, [], ◌∷◌, ◌+
 use Rattle.std.specs.Option.{option_map_or}
 use Rattle.toml.specs.Data.{Members}
 use Rattle.toml.specs.Parse.{parse_document}
-use Rattle.scenario.specs.Record.{Record}
+use Rattle.scenario_record.specs.Record.{Record}
 use Rattle.scenario.specs.Text.{record_of}
 use Rattle.scenario.specs.Rules.{unknown_key, missing_key, wrong_kind, version_refused, processes_refused, horizon_refused, lookahead_refused, limit_refused, seed_refused, algorithm_refused, proposals_refused, detector_refused, share_refused, links_refused, pair_below, below_refused, crashes_refused, outages_refused}
 use Rattle.scenario.specs.declared.error.ScenarioError.{ScenarioError}

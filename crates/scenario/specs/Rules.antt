@@ -3,13 +3,13 @@ use Rattle.std.specs.Prelude.{ℕ, ◌==◌, nat_le, nat_lt, ℤ, pos, List, [],
 use Rattle.std.specs.List.{list_any, range_with_len, flat_map}
 use Rattle.std.specs.Option.{option_map_or}
 use Rattle.toml.specs.Data.{Members}
-use Rattle.scenario.specs.Record.{Record, link}
+use Rattle.scenario_record.specs.Record.{Record, link}
 use Rattle.scenario.specs.Table.{number_or, same_text, integers_at, has_key, table_at, table_or_empty, tables_at, has_unlisted, has_lacking, has_mistyped}
 use Rattle.scenario.specs.Keys.{some_table}
 use Rattle.scenario.specs.Text.{natural_of, is_second, kind_in, is_fresh, algorithm_in, watch_in, delays_of, pair_of, same_pair, outage_of, crash_process, processes_of, record_of}
-use Rattle.scenario.specs.declared.algorithm.AlgorithmKind.{AlgorithmKind}
-use Rattle.scenario.specs.declared.link.Link.{Link}
-use Rattle.scenario.specs.declared.algorithm.AlgorithmKind.TheVariants as kind
+use Rattle.scenario_record.specs.declared.algorithm.AlgorithmKind.{AlgorithmKind}
+use Rattle.scenario_record.specs.declared.link.Link.{Link}
+use Rattle.scenario_record.specs.declared.algorithm.AlgorithmKind.TheVariants as kind
 use Rattle.process_api.specs.Bounds.{most_processes}
 
 -- ---- words

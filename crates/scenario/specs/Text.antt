@@ -9,12 +9,12 @@ use Rattle.process_api.specs.declared.numbers.FreshnessNumbers.{FreshnessNumbers
 use Rattle.process_api.specs.declared.numbers.TimeoutNumbers.{TimeoutNumbers}
 use Rattle.process_api.specs.declared.numbers.Watch.{Watch}
 use Rattle.process_api.specs.declared.numbers.Watch.TheVariants as watch
-use Rattle.scenario.specs.Record.{Record}
+use Rattle.scenario_record.specs.Record.{Record}
 use Rattle.scenario.specs.Table.{number_or, text_or, integers_at, same_text, table_at, table_or_empty, tables_at}
-use Rattle.scenario.specs.declared.algorithm.AlgorithmKind.{AlgorithmKind}
-use Rattle.scenario.specs.declared.algorithm.AlgorithmKind.TheVariants as kind
-use Rattle.scenario.specs.declared.link.Link.{Link}
-use Rattle.scenario.specs.declared.outage.Outage.{Outage}
+use Rattle.scenario_record.specs.declared.algorithm.AlgorithmKind.{AlgorithmKind}
+use Rattle.scenario_record.specs.declared.algorithm.AlgorithmKind.TheVariants as kind
+use Rattle.scenario_record.specs.declared.link.Link.{Link}
+use Rattle.scenario_record.specs.declared.outage.Outage.{Outage}
 
 -- the number, where it isn't negative
 abbrev pub natural_of : ℤ → Option ℕ

@@ -5,8 +5,8 @@ ghost use Rattle.scenario.specs.Rules.{pairs, pairs_from, is_below};
 ghost use Rattle.scenario.specs.Parts.{link_in};
 
 use crate::error::ScenarioError;
-use crate::link::Link;
 use process_api::Pid;
+use scenario_record::Link;
 
 /// Whether the processes differ and a letter from one to the other may take fewer ticks than the lookahead.
 fn is_low(links: &[Link], lookahead: u32, n: u16, from: u16, to: u16) -> bool

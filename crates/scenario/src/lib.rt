@@ -1,54 +1,43 @@
 //! Scenarios: what a run is asked to do, read from a TOML file.
 //!
-//! [`read_scenario`] takes a file's bytes and answers the [`Scenario`] that the file stands for, or the one reason
-//! for which it is refused. Its contract is this crate's one promise. `Ok` is the record of the file's table
-//! (`specs/Text.antt`), defaults filled in, and every field is in its range (`specs/Ranges.antt`). An error is the
-//! refusal of the first rule that applies. Each rule is a test of the whole table by itself (`specs/Rules.antt`); the
-//! order in which they are tried is a list of its own (`specs/Refusals.antt`). So of several faults in one file the
-//! answer is always the same one, whatever the order of the file's lines. Only `Memory` may come at any point.
-//! [`read_table`] is the second half of that call: it reads the table of a file whose bytes were read already.
+//! [`read_scenario`] takes a file's bytes and answers the [`Scenario`] that the file stands for, or the one reason for
+//! which it is refused. Its contract is this crate's one promise. `Ok` is the record of the file's table
+//! (`specs/Text.antt`), defaults filled in, and every field is in its range. An error is the refusal of the first rule
+//! that applies. Each rule is a test of the whole table by itself (`specs/Rules.antt`); the order in which they are
+//! tried is a list of its own (`specs/Refusals.antt`). So of several faults in one file the answer is always the same
+//! one, whatever the order of the file's lines. Only `Memory` may come at any point. [`read_table`] is the second half
+//! of that call: it reads the table of a file whose bytes were read already.
 //!
-//! A scenario's readers take no memory, and what a [`Scenario`] is keeps its ranges: so of a process above the number
-//! of processes [`Scenario::crash`] and [`Scenario::proposal`] answer nothing. [`Scenario::opening`] gives what a
-//! process opens with, and with it the mind of its machine (`specs/Opening.antt`).
+//! What a [`Scenario`] is stands in `scenario_record`, below whatever runs one, and is handed on from here.
 //!
-//! For example, a file says that two processes watch each other for ten ticks, that a letter takes two ticks, and
-//! that process 2 crashes at tick 3. Then `crash` answers 3 for process 2 and nothing for process 1, `link` from 1 to
-//! 2 is that of the table `link`, and `limit` is 1,000,000, since the file doesn't name it. With `min = 1` in that
-//! table, where the lookahead is 2, the file is refused: `BelowLookahead` from 1 to 2.
+//! For example, a file says that two processes watch each other for ten ticks, that a letter takes two ticks, and that
+//! process 2 crashes at tick 3. Then `crash` answers 3 for process 2 and nothing for process 1, `link` from 1 to 2 is
+//! that of the table `link`, and `limit` is 1,000,000, since the file doesn't name it. With `min = 1` in that table,
+//! where the lookahead is 2, the file is refused: `BelowLookahead` from 1 to 2.
 #![tactic(auto)]
 
-mod algorithm;
 mod below;
 mod crashes;
 mod detector;
 mod error;
 mod field;
 mod keys;
-mod link;
 mod links;
 mod names;
 mod numbers;
-mod opening;
-mod outage;
 mod outages;
 mod parts;
 mod proposals;
 mod read;
-mod record;
 mod table;
 
-pub use algorithm::AlgorithmKind;
 pub use error::ScenarioError;
 pub use field::{Field, Kind};
 pub use keys::{
     Tables, crash_keys, detector_keys, link_keys, outage_keys, pair_keys, share_keys, tables_of,
     top_keys,
 };
-pub use link::Link;
 pub use numbers::natural;
-pub use opening::Opening;
-pub use outage::Outage;
 pub use read::{read_scenario, read_table};
-pub use record::Scenario;
+pub use scenario_record::{AlgorithmKind, Link, Opening, Outage, Scenario};
 pub use table::{inner_array, is_lacking_field, is_listed_key, is_second};

@@ -9,8 +9,8 @@ ghost use Rattle.scenario.specs.Refusals.{GivenBy};
 ghost use Rattle.scenario.specs.Parts.{table_in, tables_in, HoldLinks};
 
 use crate::error::ScenarioError;
-use crate::link::Link;
 use crate::numbers::ranged;
+use scenario_record::Link;
 use std::alloc::{AllocError, Global};
 use toml::Table;
 

@@ -2,8 +2,8 @@
 ghost use Rattle.std.specs.Prelude.{◌≡◌};
 ghost use Rattle.scenario.specs.Text.{algorithm_named, watch_named};
 
-use crate::algorithm::AlgorithmKind;
 use process_api::Watch;
+use scenario_record::AlgorithmKind;
 
 /// The algorithm of this name.
 #[tactic(auto, unfolding(crate::specs::Text::algorithm_named))]

@@ -10,7 +10,7 @@ ghost use Rattle.scenario.specs.Parts.{tables_in, outages_in};
 use crate::error::ScenarioError;
 use crate::links::place_of;
 use crate::numbers::ranged;
-use crate::outage::Outage;
+use scenario_record::Outage;
 use std::alloc::{AllocError, Global};
 use toml::Table;
 

@@ -5,21 +5,19 @@ ghost use Rattle.scenario.specs.Refusals.{part_rules};
 ghost use Rattle.scenario.specs.Parts.{AreTables, AreNumbersOf, ArePartsOf};
 ghost use Rattle.scenario.specs.Groups.{Passes, StopsFirst};
 
-use crate::algorithm::AlgorithmKind;
 use crate::below::{below_lookahead, first_below};
 use crate::crashes::read_crashes;
 use crate::detector::{read_detector, read_share};
 use crate::error::ScenarioError;
 use crate::keys::Tables;
-use crate::link::Link;
 use crate::links::read_links;
 use crate::names::algorithm_of;
 use crate::numbers::TopNumbers;
-use crate::outage::Outage;
 use crate::outages::read_outages;
 use crate::proposals::read_proposals;
 use crate::table::text;
 use process_api::DetectorNumbers;
+use scenario_record::{AlgorithmKind, Link, Outage};
 use std::alloc::Global;
 
 /// The parts of a scenario that stand on the numbers of its top table.

@@ -7,10 +7,10 @@ ghost use Rattle.scenario.specs.Text.{natural, natural_of, proposals_of};
 ghost use Rattle.scenario.specs.Rules.{is_bad_proposal, has_other_proposals, has_bad_proposals};
 ghost use Rattle.scenario.specs.Refusals.{GivenBy};
 
-use crate::algorithm::AlgorithmKind;
 use crate::error::ScenarioError;
 use crate::numbers::natural;
 use crate::table::{has, inner_array};
+use scenario_record::AlgorithmKind;
 use std::alloc::{AllocError, Global};
 use toml::{Table, Value};
 

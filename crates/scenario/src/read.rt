@@ -9,7 +9,7 @@ use crate::error::ScenarioError;
 use crate::keys::{check_keys, tables_of};
 use crate::numbers::read_numbers;
 use crate::parts::read_parts;
-use crate::record::Scenario;
+use scenario_record::{Fields, Scenario};
 use std::alloc::{AllocError, Global};
 use toml::Table;
 
@@ -49,7 +49,7 @@ pub fn read_table(alloc: Global, table: &Table) -> Result<Scenario, ScenarioErro
     check_keys(&tables)?;
     let numbers = read_numbers(tables.top)?;
     let parts = read_parts(alloc, &tables, &numbers)?;
-    Ok(Scenario {
+    Ok(Scenario::of(Fields {
         processes: numbers.processes,
         horizon: numbers.horizon,
         lookahead: numbers.lookahead,
@@ -62,5 +62,5 @@ pub fn read_table(alloc: Global, table: &Table) -> Result<Scenario, ScenarioErro
         crashes: parts.crashes,
         links: parts.links,
         outages: parts.outages,
-    })
+    }))
 }

@@ -4,9 +4,9 @@ use Rattle.std.specs.Prelude.{ℕ, ◌+◌, ◌-◌, ◌*◌, ◌%◌, ◌^◌, 
 use Rattle.std.specs.Int.{w64, to_le_bytes}
 use Rattle.std.specs.List.{list_any}
 use Rattle.rand_chacha.specs.ChaCha.{word_at, key_of}
-use Rattle.scenario.specs.Record.{Record, link, outages_on}
-use Rattle.scenario.specs.declared.link.Link.{Link}
-use Rattle.scenario.specs.declared.outage.Outage.{Outage}
+use Rattle.scenario_record.specs.Record.{Record, link, outages_on}
+use Rattle.scenario_record.specs.declared.link.Link.{Link}
+use Rattle.scenario_record.specs.declared.outage.Outage.{Outage}
 use Rattle.streams.specs.declared.fate.Fate.{Fate}
 use Rattle.streams.specs.declared.fate.Fate.TheVariants.{Lost, Delay}
 

@@ -18,6 +18,3 @@ mod streams;
 
 pub use fate::Fate;
 pub use streams::{LinkWords, Streams};
-
-#[cfg(test)]
-mod tests;

@@ -1,6 +1,6 @@
 //! One stream of random words for each link.
 ghost use Rattle.std.specs.Prelude.{◌≡◌, ◌≢◌, ◌<◌, ◌≤◌, ◌^◌, ◌+◌};
-ghost use Rattle.scenario.specs.Record.{Record};
+ghost use Rattle.scenario_record.specs.Record.{Record};
 ghost use Rattle.std.specs.List.{list_any};
 ghost use Rattle.streams.specs.Fate.{covers, fate_of, key_of_seed, stream_of, word};
 
@@ -9,7 +9,7 @@ use process_api::Pid;
 use rand_chacha::ChaCha8Rng;
 use rand_core::SeedableRng;
 use rand_core::utils::NextWord;
-use scenario::{Outage, Scenario};
+use scenario_record::{Outage, Scenario};
 use std::marker::Model;
 
 /// Words of a link that are at hand for its next letters. Nothing that is answered depends on them: they are left
@@ -130,7 +130,7 @@ impl LinkWords {
     /// The two words at a place of a link's stream, and after it. Where the generator stands there already, its next
     /// words are these.
     #[tactic(auto, unfolding(crate::specs::Fate::word))]
-    pub(crate) fn pair_at(&mut self, seed: u64, from: Pid, to: Pid, place: u128) -> (u32, u32)
+    pub fn pair_at(&mut self, seed: u64, from: Pid, to: Pid, place: u128) -> (u32, u32)
         requires { place < 2 ^ 66 }
         ensures first { result.0 ≡ word seed from to place }
         ensures second { result.1 ≡ word seed from to (place + 1) }

@@ -3,7 +3,7 @@ use Rattle.std.proofs.Common.{◌≡◌, ◌≤◌, ℕ, suc, List, [], ◌∷�
 use Rattle.std.proofs.lemmas.Option.{same_Some}
 use Rattle.toml.specs.Data.{Members, members_depth}
 use Rattle.toml.specs.Parse.{parse_document}
-use Rattle.scenario.specs.Record.{Record}
+use Rattle.scenario_record.specs.Record.{Record}
 use Rattle.scenario.specs.Text.{record_of}
 use Rattle.scenario.specs.Refusals.{Rule, rule_at, rules, table_rules, Accepts}
 use Rattle.scenario.specs.Groups.{Passes}

@@ -2,7 +2,7 @@
 use Rattle.std.specs.Prelude.{◌≡◌, ◌≤◌, ℕ, List, Bool, false, Some, Result, Ok, Err}
 use Rattle.toml.specs.Data.{Members, members_depth, members_have_valid_dates}
 use Rattle.toml.specs.Parse.{parse_document}
-use Rattle.scenario.specs.Record.{Record}
+use Rattle.scenario_record.specs.Record.{Record}
 use Rattle.scenario.specs.Text.{record_of}
 use Rattle.scenario.specs.Refusals.{Accepts, IsFirst, table_rules, is_memory as is_scenario_memory}
 use Rattle.scenario.specs.Groups.{Passes}

@@ -1,6 +1,6 @@
 -- The command line, as clap sees it.
-use Rattle.std.specs.Prelude.{◌≡◌, [], ◌∷◌, Some, codes, false, true}
-use Rattle.clap.specs.Words.{App, Rule, Text, new_app, new_rule, with_rule, with_subcommand}
+use Rattle.std.specs.Prelude.{◌≡◌, [], ◌∷◌, IfOk, Result, Some, codes, false, true}
+use Rattle.clap.specs.Words.{App, Rule, Text, app_of, new_app, new_rule, with_rule, with_subcommand}
 use Rattle.clap.specs.declared.builder.action.ArgAction.TheVariants.{Append}
 use Rattle.clap.specs.declared.builder.command.Command.TheViews.{out-Command}
 use Rattle.clap.specs.declared.builder.command.Command.{Command}
@@ -95,3 +95,7 @@ whole_app = with_study (with_scenario top_app)
 -- no argument is one of each subcommand too
 abbrev pub IsLocal : Command → Type 0
 IsLocal c = (out-Command c).has_globals ≡ false
+
+-- where a command was made it is this one
+abbrev pub Makes : {E : Type 0} → App → Result Command E → Type 0
+Makes app made = IfOk made (λ c. (app_of c ≡ app) × IsLocal c)

@@ -1,8 +1,9 @@
 //! The command line, with its help.
-ghost use Rattle.std.specs.Prelude.{◌≡◌, IfOk, false};
-ghost use Rattle.clap.specs.Words.{app_of, rule_of, with_rule, with_subcommand};
-ghost use Rattle.study_line.specs.Commands.{IsLocal, axis_rule, check_app, draw_app, letters_app, path_rule, picture_rule, point_rule, run_rule, seeds_rule, shard_rule, show_app, sweep_app, threads_rule, tick_rule, top_app, whole_app, with_grid, with_path, with_scenario, with_study, with_ticks};
+ghost use Rattle.std.specs.Prelude.{◌≡◌, Some, false};
+ghost use Rattle.clap.specs.Words.{App, app_of, rule_of, with_rule, with_subcommand};
+ghost use Rattle.study_line.specs.Commands.{IsLocal, Makes, axis_rule, check_app, draw_app, letters_app, option_rule, path_rule, picture_rule, point_rule, run_rule, seeds_rule, shard_rule, show_app, sweep_app, threads_rule, tick_rule, top_app, whole_app, with_grid, with_path, with_scenario, with_study, with_ticks};
 
+use clap::builder::ValueParser;
 use clap::{Arg, ArgAction, Command, value_parser};
 use std::alloc::{AllocError, Global};
 
@@ -104,21 +105,25 @@ const UNTIL: &str =
 const THREADS: &str =
     "How many threads share the runs, 1 to 64 [default: as many as there are processors]";
 
+/// A command that was made, unless memory was refused.
+type Made<'a> = Result<Command<'a>, AllocError>;
+
 /// A command with one argument more.
-fn with_argument<'a>(command: Command<'a>, argument: Arg<'a>) -> Result<Command<'a>, AllocError>
+fn with_argument<'a>(command: Made<'a>, argument: Arg<'a>) -> Made<'a>
     requires local { argument.global ≡ false }
-    ensures app { IfOk result (λ c. app_of c ≡ with_rule (app_of command.entry) (rule_of argument.entry)) }
-    ensures local { IsLocal command.entry → IfOk result IsLocal }
+    ensures { (app : App) → Makes app command.entry → Makes (with_rule app (rule_of argument.entry)) result }
 {
+    let command = command?;
     command.arg(argument)
 }
 
 /// A command with one subcommand more.
-fn with_command<'a>(command: Command<'a>, added: Command<'a>) -> Result<Command<'a>, AllocError>
-    requires local { IsLocal added }
-    ensures app { IfOk result (λ c. app_of c ≡ with_subcommand (app_of command.entry) (app_of added.entry).top) }
-    ensures local { IsLocal command.entry → IfOk result IsLocal }
+fn with_command<'a>(command: Made<'a>, added: Made<'a>) -> Made<'a>
+    ensures { (app sub : App) → Makes app command.entry → Makes sub added.entry
+        → Makes (with_subcommand app sub.top) result }
 {
+    let command = command?;
+    let added = added?;
     command.subcommand(added)
 }
 
@@ -133,16 +138,37 @@ fn path_argument<'a>(alloc: Global) -> Arg<'a>
         .required(true)
 }
 
+/// An option that takes a value.
+fn option<'a>(alloc: Global, name: &'a str, value: &'a str, help: &'a str) -> Arg<'a>
+    ensures rule { rule_of result ≡ option_rule name.now }
+    ensures local { result.global ≡ false }
+{
+    Arg::new(alloc, name)
+        .long(name)
+        .value_name(value)
+        .help(help)
+}
+
+/// An option that takes a value that a parser takes.
+fn parsed_option<'a>(
+    alloc: Global,
+    name: &'a str,
+    value: &'a str,
+    help: &'a str,
+    values: ValueParser<'a>,
+) -> Arg<'a>
+    ensures rule { rule_of result ≡ record (option_rule name.now) { parser = Some values.entry } }
+    ensures local { result.global ≡ false }
+{
+    option(alloc, name, value, help).value_parser(values)
+}
+
 /// The option for the seeds.
 fn seeds_option<'a>(alloc: Global) -> Arg<'a>
     ensures rule { rule_of result ≡ seeds_rule }
     ensures local { result.global ≡ false }
 {
-    Arg::new(alloc, "seeds")
-        .long("seeds")
-        .value_name("A..=B")
-        .required(true)
-        .help(SEEDS)
+    option(alloc, "seeds", "A..=B", SEEDS).required(true)
 }
 
 /// An option for axes, which may be there several times.
@@ -150,20 +176,15 @@ fn axis_option<'a>(alloc: Global, name: &'a str, help: &'a str) -> Arg<'a>
     ensures rule { rule_of result ≡ axis_rule name.now }
     ensures local { result.global ≡ false }
 {
-    Arg::new(alloc, name)
-        .long(name)
-        .value_name("KEY=VALUE,..")
-        .help(help)
-        .action(ArgAction::Append)
+    option(alloc, name, "KEY=VALUE,..", help).action(ArgAction::Append)
 }
 
 /// A command with the options that say which runs a study has.
-fn with_grid_options<'a>(alloc: Global, command: Command<'a>) -> Result<Command<'a>, AllocError>
-    ensures app { IfOk result (λ c. app_of c ≡ with_grid (app_of command.entry)) }
-    ensures local { IsLocal command.entry → IfOk result IsLocal }
+fn with_grid_options<'a>(alloc: Global, command: Made<'a>) -> Made<'a>
+    ensures { (app : App) → Makes app command.entry → Makes (with_grid app) result }
 {
-    let command = with_argument(command, seeds_option(alloc))?;
-    let command = with_argument(command, axis_option(alloc, "vary", VARY))?;
+    let command = with_argument(command, seeds_option(alloc));
+    let command = with_argument(command, axis_option(alloc, "vary", VARY));
     with_argument(command, axis_option(alloc, "over", OVER))
 }
 
@@ -172,12 +193,8 @@ fn point_option<'a>(alloc: Global) -> Arg<'a>
     ensures rule { rule_of result ≡ point_rule }
     ensures local { result.global ≡ false }
 {
-    Arg::new(alloc, "point")
-        .long("point")
-        .value_name("K")
-        .help(POINT)
-        .value_parser(value_parser!(u64).range(1..))
-        .required(true)
+    let values = value_parser!(u64).range(1..);
+    parsed_option(alloc, "point", "K", POINT, values).required(true)
 }
 
 /// The option for the run.
@@ -185,12 +202,8 @@ fn run_option<'a>(alloc: Global) -> Arg<'a>
     ensures rule { rule_of result ≡ run_rule }
     ensures local { result.global ≡ false }
 {
-    Arg::new(alloc, "run")
-        .long("run")
-        .value_name("J")
-        .help(RUN)
-        .value_parser(value_parser!(u64).range(1..))
-        .default_value("1")
+    let values = value_parser!(u64).range(1..);
+    parsed_option(alloc, "run", "J", RUN, values).default_value("1")
 }
 
 /// The option for the shard.
@@ -198,10 +211,7 @@ fn shard_option<'a>(alloc: Global) -> Arg<'a>
     ensures rule { rule_of result ≡ shard_rule }
     ensures local { result.global ≡ false }
 {
-    Arg::new(alloc, "shard")
-        .long("shard")
-        .value_name("K/N")
-        .help(SHARD)
+    option(alloc, "shard", "K/N", SHARD)
 }
 
 /// The option for the number of threads.
@@ -209,11 +219,8 @@ fn threads_option<'a>(alloc: Global) -> Arg<'a>
     ensures rule { rule_of result ≡ threads_rule }
     ensures local { result.global ≡ false }
 {
-    Arg::new(alloc, "threads")
-        .long("threads")
-        .value_name("N")
-        .help(THREADS)
-        .value_parser(value_parser!(u64).range(1..=64))
+    let values = value_parser!(u64).range(1..=64);
+    parsed_option(alloc, "threads", "N", THREADS, values)
 }
 
 /// The option for the picture.
@@ -221,11 +228,7 @@ fn picture_option<'a>(alloc: Global) -> Arg<'a>
     ensures rule { rule_of result ≡ picture_rule }
     ensures local { result.global ≡ false }
 {
-    Arg::new(alloc, "as")
-        .long("as")
-        .value_name("PICTURE")
-        .required(true)
-        .help(PICTURE)
+    option(alloc, "as", "PICTURE", PICTURE).required(true)
 }
 
 /// An option for a tick, of 32 bits.
@@ -233,93 +236,71 @@ fn tick_option<'a>(alloc: Global, name: &'a str, help: &'a str) -> Arg<'a>
     ensures rule { rule_of result ≡ tick_rule name.now }
     ensures local { result.global ≡ false }
 {
-    Arg::new(alloc, name)
-        .long(name)
-        .value_name("T")
-        .help(help)
-        .value_parser(value_parser!(u64).range(0..=4294967295))
+    let values = value_parser!(u64).range(0..=4294967295);
+    parsed_option(alloc, name, "T", help, values)
 }
 
 /// A command with the options that say which ticks are drawn.
-fn with_tick_options<'a>(alloc: Global, command: Command<'a>) -> Result<Command<'a>, AllocError>
-    ensures app { IfOk result (λ c. app_of c ≡ with_ticks (app_of command.entry)) }
-    ensures local { IsLocal command.entry → IfOk result IsLocal }
+fn with_tick_options<'a>(alloc: Global, command: Made<'a>) -> Made<'a>
+    ensures { (app : App) → Makes app command.entry → Makes (with_ticks app) result }
 {
-    let command = with_argument(command, tick_option(alloc, "from", FROM))?;
+    let command = with_argument(command, tick_option(alloc, "from", FROM));
     with_argument(command, tick_option(alloc, "until", UNTIL))
 }
 
 /// A command that takes a scenario file.
-fn path_command<'a>(
-    alloc: Global,
-    name: &'a str,
-    about: &'a str,
-    example: &'a str,
-) -> Result<Command<'a>, AllocError>
-    ensures app { IfOk result (λ c. app_of c ≡ with_path name.now) }
-    ensures local { IfOk result IsLocal }
+fn path_command<'a>(alloc: Global, name: &'a str, about: &'a str, example: &'a str) -> Made<'a>
+    ensures { Makes (with_path name.now) result }
 {
     let command = Command::new(alloc, name).about(about).after_help(example);
-    with_argument(command, path_argument(alloc))
+    with_argument(Ok(command), path_argument(alloc))
 }
 
 /// A command that takes a scenario file and the options that say which runs a study has.
-fn study_command<'a>(
-    alloc: Global,
-    name: &'a str,
-    about: &'a str,
-    example: &'a str,
-) -> Result<Command<'a>, AllocError>
-    ensures app { IfOk result (λ c. app_of c ≡ with_grid (with_path name.now)) }
-    ensures local { IfOk result IsLocal }
+fn study_command<'a>(alloc: Global, name: &'a str, about: &'a str, example: &'a str) -> Made<'a>
+    ensures { Makes (with_grid (with_path name.now)) result }
 {
-    let command = path_command(alloc, name, about, example)?;
-    with_grid_options(alloc, command)
+    with_grid_options(alloc, path_command(alloc, name, about, example))
 }
 
 /// `check SCENARIO`
-fn check_command<'a>(alloc: Global) -> Result<Command<'a>, AllocError>
-    ensures app { IfOk result (λ c. app_of c ≡ check_app) }
-    ensures local { IfOk result IsLocal }
+fn check_command<'a>(alloc: Global) -> Made<'a>
+    ensures { Makes check_app result }
 {
     path_command(alloc, "check", CHECK, CHECK_EXAMPLE)
 }
 
 /// `letters SCENARIO`
-fn letters_command<'a>(alloc: Global) -> Result<Command<'a>, AllocError>
-    ensures app { IfOk result (λ c. app_of c ≡ letters_app) }
-    ensures local { IfOk result IsLocal }
+fn letters_command<'a>(alloc: Global) -> Made<'a>
+    ensures { Makes letters_app result }
 {
     path_command(alloc, "letters", LETTERS, LETTERS_EXAMPLE)
 }
 
 /// `draw SCENARIO --as PICTURE [--from T] [--until T]`
-fn draw_command<'a>(alloc: Global) -> Result<Command<'a>, AllocError>
-    ensures app { IfOk result (λ c. app_of c ≡ draw_app) }
-    ensures local { IfOk result IsLocal }
+fn draw_command<'a>(alloc: Global) -> Made<'a>
+    ensures { Makes draw_app result }
 {
-    let command = path_command(alloc, "draw", DRAW, DRAW_EXAMPLE)?;
-    let command = with_argument(command, picture_option(alloc))?;
+    let command = path_command(alloc, "draw", DRAW, DRAW_EXAMPLE);
+    let command = with_argument(command, picture_option(alloc));
     with_tick_options(alloc, command)
 }
 
 /// `show SCENARIO --seeds A..=B [--vary KEY=VALUE,..]... [--over KEY=VALUE,..]... --point K [--run J]`
-fn show_command<'a>(alloc: Global) -> Result<Command<'a>, AllocError>
-    ensures app { IfOk result (λ c. app_of c ≡ show_app) }
-    ensures local { IfOk result IsLocal }
+fn show_command<'a>(alloc: Global) -> Made<'a>
+    ensures { Makes show_app result }
 {
-    let command = study_command(alloc, "show", SHOW, SHOW_EXAMPLE)?;
-    let command = with_argument(command, point_option(alloc))?;
+    let command = study_command(alloc, "show", SHOW, SHOW_EXAMPLE);
+    let command = with_argument(command, point_option(alloc));
     with_argument(command, run_option(alloc))
 }
 
 /// `sweep SCENARIO --seeds A..=B [--vary KEY=VALUE,..]... [--over KEY=VALUE,..]... [--shard K/N] [--threads N]`
-fn sweep_command<'a>(alloc: Global) -> Result<Command<'a>, AllocError>
-    ensures app { IfOk result (λ c. app_of c ≡ sweep_app) }
-    ensures local { IfOk result IsLocal }
+fn sweep_command<'a>(alloc: Global) -> Made<'a>
+    ensures { Makes sweep_app result }
 {
-    let command = study_command(alloc, "sweep", SWEEP, SWEEP_EXAMPLE)?;
-    let command = with_argument(command, shard_option(alloc))?;
+    let command = study_command(alloc, "sweep", SWEEP, SWEEP_EXAMPLE);
+    let command = with_argument(command, shard_option(alloc));
     with_argument(command, threads_option(alloc))
 }
 
@@ -334,73 +315,27 @@ fn top_command<'a>(alloc: Global) -> Command<'a>
         .subcommand_required(true)
 }
 
-/// A command with `check` added.
-fn with_check<'a>(alloc: Global, command: Command<'a>) -> Result<Command<'a>, AllocError>
-    ensures app { IfOk result (λ c. app_of c ≡ with_subcommand (app_of command.entry) check_app.top) }
-    ensures local { IsLocal command.entry → IfOk result IsLocal }
-{
-    with_command(command, check_command(alloc)?)
-}
-
-/// A command with `letters` added.
-fn with_letters<'a>(alloc: Global, command: Command<'a>) -> Result<Command<'a>, AllocError>
-    ensures app { IfOk result (λ c. app_of c ≡ with_subcommand (app_of command.entry) letters_app.top) }
-    ensures local { IsLocal command.entry → IfOk result IsLocal }
-{
-    with_command(command, letters_command(alloc)?)
-}
-
-/// A command with `draw` added.
-fn with_draw<'a>(alloc: Global, command: Command<'a>) -> Result<Command<'a>, AllocError>
-    ensures app { IfOk result (λ c. app_of c ≡ with_subcommand (app_of command.entry) draw_app.top) }
-    ensures local { IsLocal command.entry → IfOk result IsLocal }
-{
-    with_command(command, draw_command(alloc)?)
-}
-
-/// A command with `show` added.
-fn with_show<'a>(alloc: Global, command: Command<'a>) -> Result<Command<'a>, AllocError>
-    ensures app { IfOk result (λ c. app_of c ≡ with_subcommand (app_of command.entry) show_app.top) }
-    ensures local { IsLocal command.entry → IfOk result IsLocal }
-{
-    with_command(command, show_command(alloc)?)
-}
-
-/// A command with `sweep` added.
-fn with_sweep<'a>(alloc: Global, command: Command<'a>) -> Result<Command<'a>, AllocError>
-    ensures app { IfOk result (λ c. app_of c ≡ with_subcommand (app_of command.entry) sweep_app.top) }
-    ensures local { IsLocal command.entry → IfOk result IsLocal }
-{
-    with_command(command, sweep_command(alloc)?)
-}
-
 /// A command with those that are about one scenario as it stands.
-fn with_scenario_commands<'a>(
-    alloc: Global,
-    command: Command<'a>,
-) -> Result<Command<'a>, AllocError>
-    ensures app { IfOk result (λ c. app_of c ≡ with_scenario (app_of command.entry)) }
-    ensures local { IsLocal command.entry → IfOk result IsLocal }
+fn with_scenario_commands<'a>(alloc: Global, command: Made<'a>) -> Made<'a>
+    ensures { (app : App) → Makes app command.entry → Makes (with_scenario app) result }
 {
-    let command = with_check(alloc, command)?;
-    let command = with_letters(alloc, command)?;
-    with_draw(alloc, command)
+    let command = with_command(command, check_command(alloc));
+    let command = with_command(command, letters_command(alloc));
+    with_command(command, draw_command(alloc))
 }
 
 /// A command with those that are about a study.
-fn with_study_commands<'a>(alloc: Global, command: Command<'a>) -> Result<Command<'a>, AllocError>
-    ensures app { IfOk result (λ c. app_of c ≡ with_study (app_of command.entry)) }
-    ensures local { IsLocal command.entry → IfOk result IsLocal }
+fn with_study_commands<'a>(alloc: Global, command: Made<'a>) -> Made<'a>
+    ensures { (app : App) → Makes app command.entry → Makes (with_study app) result }
 {
-    let command = with_show(alloc, command)?;
-    with_sweep(alloc, command)
+    let command = with_command(command, show_command(alloc));
+    with_command(command, sweep_command(alloc))
 }
 
 /// The command line.
-pub(crate) fn command<'a>(alloc: Global) -> Result<Command<'a>, AllocError>
-    ensures app { IfOk result (λ c. app_of c ≡ whole_app) }
-    ensures local { IfOk result IsLocal }
+pub(crate) fn command<'a>(alloc: Global) -> Made<'a>
+    ensures { Makes whole_app result }
 {
-    let command = with_scenario_commands(alloc, top_command(alloc))?;
+    let command = with_scenario_commands(alloc, Ok(top_command(alloc)));
     with_study_commands(alloc, command)
 }

@@ -5,7 +5,7 @@ use std::alloc::{AllocError, Global};
 use std::marker::Model;
 
 /// A text in a picture. Contracts see its bytes, in UTF-8.
-#[derive(Debug, Drop)]
+#[derive(Drop)]
 pub struct Caption {
     text: String,
 }

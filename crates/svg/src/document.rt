@@ -8,7 +8,7 @@ use crate::style_sheet::style;
 use std::alloc::{AllocError, Global};
 
 /// A picture, in whole user units.
-#[derive(Debug, Drop)]
+#[derive(Drop)]
 pub struct Picture {
     /// How wide it is.
     pub width: u32,
@@ -26,8 +26,7 @@ fn push_view_box(out: &mut Vec<u8>, width: u32, height: u32) -> Result<(), Alloc
     push_number(out, width)?;
     out.extend_from_slice(b" ")?;
     push_number(out, height)?;
-    out.extend_from_slice(b"\"")?;
-    Ok(())
+    out.extend_from_slice(b"\"")
 }
 
 /// What stands before the shapes.

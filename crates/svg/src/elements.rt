@@ -17,8 +17,7 @@ pub(crate) fn push_number(out: &mut Vec<u8>, number: u32) -> Result<(), AllocErr
     ensures { OnOk result (out.new.items ≡ out.old.items ++ decimal number) }
 {
     let mut buffer = Buffer::new();
-    out.extend_from_slice(buffer.format(number).as_bytes())?;
-    Ok(())
+    out.extend_from_slice(buffer.format(number).as_bytes())
 }
 
 fn push_attribute(out: &mut Vec<u8>, name: &str, number: u32) -> Result<(), AllocError>
@@ -28,8 +27,7 @@ fn push_attribute(out: &mut Vec<u8>, name: &str, number: u32) -> Result<(), Allo
     out.extend_from_slice(name.as_bytes())?;
     out.extend_from_slice(b"=\"")?;
     push_number(out, number)?;
-    out.extend_from_slice(b"\"")?;
-    Ok(())
+    out.extend_from_slice(b"\"")
 }
 
 /// Appends attributes in their order.
@@ -70,8 +68,7 @@ fn push_element(
         ≡ out.old.items ++ element start.now class (map (λ a. (a.0.now, a.1)) numbers.now)) }
 {
     push_opening(out, start, class, numbers)?;
-    out.extend_from_slice(b"/>\n")?;
-    Ok(())
+    out.extend_from_slice(b"/>\n")
 }
 
 /// Appends an element from one point to another.
@@ -103,8 +100,7 @@ fn push_text(
     out.extend_from_slice(anchor.name().as_bytes())?;
     out.extend_from_slice(b"\">")?;
     push_escaped(out, caption.bytes())?;
-    out.extend_from_slice(b"</text>\n")?;
-    Ok(())
+    out.extend_from_slice(b"</text>\n")
 }
 
 /// Appends a shape.

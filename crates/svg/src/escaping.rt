@@ -9,15 +9,14 @@ fn push_byte(out: &mut Vec<u8>, byte: u8) -> Result<(), AllocError>
     ensures { OnOk result (out.new.items ≡ out.old.items ++ written byte) }
 {
     match byte {
-        b'&' => out.extend_from_slice(b"&amp;")?,
-        b'<' => out.extend_from_slice(b"&lt;")?,
-        b'>' => out.extend_from_slice(b"&gt;")?,
-        b'"' => out.extend_from_slice(b"&quot;")?,
-        b'\'' => out.extend_from_slice(b"&apos;")?,
-        0..=31 => out.push(b' ')?,
-        other => out.push(other)?,
+        b'&' => out.extend_from_slice(b"&amp;"),
+        b'<' => out.extend_from_slice(b"&lt;"),
+        b'>' => out.extend_from_slice(b"&gt;"),
+        b'"' => out.extend_from_slice(b"&quot;"),
+        b'\'' => out.extend_from_slice(b"&apos;"),
+        0..=31 => out.extend_from_slice(b" "),
+        other => out.extend_from_slice(&[other]),
     }
-    Ok(())
 }
 
 /// Appends a text, escaped.

@@ -6,7 +6,7 @@ use crate::caption::Caption;
 use crate::class::Class;
 
 /// A place in a picture, in whole user units from its top left corner.
-#[derive(Clone, Copy, Debug, PartialEq, Eq)]
+#[derive(Clone, Copy)]
 pub struct Point {
     /// To the right.
     pub x: u32,
@@ -15,7 +15,7 @@ pub struct Point {
 }
 
 /// Which part of a text stands at its place.
-#[derive(Clone, Copy, Debug, PartialEq, Eq)]
+#[derive(Clone, Copy)]
 pub enum Anchor {
     /// Its beginning.
     Start,
@@ -39,7 +39,7 @@ impl Anchor {
 }
 
 /// One shape of a picture. A later one is drawn over an earlier one.
-#[derive(Debug, Drop)]
+#[derive(Drop)]
 pub enum Shape {
     /// A filled rectangle, by its top left corner and its size.
     Rect {

@@ -4,7 +4,7 @@ use Rattle.std.specs.List.{count_by, filter_map, sum_by, All}
 use Rattle.std.proofs.lemmas.List.Elements.{All-append, Contains-append_left, Contains-append_right, filter_map-append}
 use Rattle.std.proofs.lemmas.List.Sums.{sum_by-append, count_by-le-length}
 use Rattle.judges.specs.declared.outcomes.Outcome.{Outcome}
-use Rattle.qos_report.specs.declared.pair_measures.PairMeasures.{PairMeasures}
+use Rattle.reporting.specs.declared.pair_measures.PairMeasures.{PairMeasures}
 use Rattle.sweep.specs.Adding.{plus, plus_few, greater, pairs_plus, decisions_plus, traces_plus}
 use Rattle.sweep.specs.Columns.{IsNoneOr, IsGreatest, Finished, ArePairSums, AreDecisionSums, AreTraceSums, is_undetected, has_decided, decision_tick, noted_round}
 use Rattle.sweep.specs.Fitting.{ArePairsWithin, AreDecisionsWithin, AreTracesWithin}

@@ -5,8 +5,8 @@ use Rattle.std.proofs.Math.Seq.{take-length}
 use Rattle.std.proofs.lemmas.Grind.{flat_map-append}
 use Rattle.std.proofs.lemmas.List.{take_more, length-take}
 use Rattle.toml.specs.Data.{Members}
-use Rattle.qos_report.specs.Writing.{Wrote, WrotePart}
-use Rattle.qos_report.proofs.Written.{wrote_both, wrote_then_part}
+use Rattle.reporting.specs.Writing.{Wrote, WrotePart}
+use Rattle.reporting.proofs.Written.{wrote_both, wrote_then_part}
 use Rattle.study.specs.Grid.{GridRecord, RunRecord, runs}
 use Rattle.sweep.specs.Outcome.{run_at}
 use Rattle.sweep.specs.Results.{Trial}

@@ -6,8 +6,8 @@ use Rattle.std.proofs.Math.Nat.{lt_of_mul-lt-mul_right, mul-le-mul_right}
 use Rattle.std.proofs.lemmas.List.FromFn.{length-range_with_len, get_or-range_with_len}
 use Rattle.std.proofs.lemmas.Nat.{div-add-mod', mod_below}
 use Rattle.toml.specs.Data.{Members}
-use Rattle.qos_report.specs.Writing.{Wrote, WrotePart}
-use Rattle.qos_report.proofs.Written.{wrote_both, wrote_then_part}
+use Rattle.reporting.specs.Writing.{Wrote, WrotePart}
+use Rattle.reporting.proofs.Written.{wrote_both, wrote_then_part}
 use Rattle.study.specs.Grid.{GridRecord, runs}
 use Rattle.study.specs.Shard.{ShardRecord}
 use Rattle.study.specs.declared.error.ReadError.{ReadError}

@@ -6,9 +6,9 @@ use Rattle.std.proofs.lemmas.Grind.{flat_map-append}
 use Rattle.std.proofs.lemmas.List.Elements.{filter-append, filter_map-append}
 use Rattle.std.proofs.lemmas.List.Sums.{count_by-le-length, length-filter}
 use Rattle.judges.specs.Verdicts.{verdicts}
-use Rattle.qos_report.specs.Measures.{layer_measures}
-use Rattle.qos_report.specs.Watched.{watched_ticks}
-use Rattle.scenario.specs.Record.{Record}
+use Rattle.reporting.specs.Measures.{layer_measures}
+use Rattle.reporting.specs.Watched.{watched_ticks}
+use Rattle.scenario_record.specs.Record.{Record}
 use Rattle.sweep.specs.Adding.{layer_plus}
 use Rattle.sweep.specs.Columns.{has_layer, on_layer, finished_of, finish_of, Finished, done_on, all_pairs, times_of, detection_time, is_limited, run_outcomes, do_disagree, AreDoneSums, AreVerdictCounts, ArePairSums, AreDecisionSums}
 use Rattle.sweep.specs.Fitting.{most_runs, most_of, IsLayerWithin}

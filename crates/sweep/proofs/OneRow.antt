@@ -3,7 +3,7 @@ use Rattle.std.proofs.Common.{◌≡◌, ℕ, ◌≤◌, ◌++◌, List, [], Opt
 use Rattle.std.specs.List.{Contains, list_any}
 use Rattle.std.proofs.lemmas.List.Elements.{All-contains}
 use Rattle.judges.specs.declared.outcomes.Outcome.{Outcome}
-use Rattle.qos_report.specs.declared.pair_measures.PairMeasures.{PairMeasures}
+use Rattle.reporting.specs.declared.pair_measures.PairMeasures.{PairMeasures}
 use Rattle.sweep.specs.Percentile.{IsPercentile}
 use Rattle.study.specs.Settings.{Chosen}
 use Rattle.sweep.specs.Columns.{Finished, IsNoneOr, IsGreatest, AreTimes, AreTraceSums, ArePairSums, AreDecisionSums, AreVerdictCounts, AreLayerSums, AreColumns}

@@ -2,9 +2,9 @@
 use Rattle.std.proofs.Common.{◌≡◌, ℕ, ◌<◌, ◌++◌, List, [], ◌∷◌, length, Result, Ok, Err, refl, sym, ap, ◌∙◌, subst, arith}
 use Rattle.std.specs.List.{AllZip, flat_map}
 use Rattle.toml.specs.Data.{Members}
-use Rattle.event_list.specs.ScenarioSetting.{setting_of}
-use Rattle.event_list.proofs.Closed.{one_trace}
-use Rattle.scenario.specs.Record.{Record}
+use Rattle.trace_laws.specs.ScenarioSetting.{setting_of}
+use Rattle.trace_laws.proofs.Closed.{one_trace}
+use Rattle.scenario_record.specs.Record.{Record}
 use Rattle.study.specs.Settings.{Chosen}
 use Rattle.study.specs.Grid.{GridRecord, RunRecord, runs}
 use Rattle.study.specs.Placed.{table_of_run}

@@ -11,14 +11,14 @@ use Rattle.judges.specs.declared.verdicts.Verdicts.{Verdicts}
 use Rattle.process_api.specs.EntryRecord.{EntryRecord}
 use Rattle.process_api.specs.Numbers.{numbers_to, others}
 use Rattle.process_api.proofs.Numbering.{length-numbers_to, length-filter_to}
-use Rattle.qos_report.specs.Measured.{AreFindings}
-use Rattle.qos_report.specs.Measures.{layer_measures, pair_measures}
-use Rattle.qos_report.specs.declared.findings.RunFindings.{RunFindings}
-use Rattle.qos_report.proofs.Layers.{one_layer, two_layers}
-use Rattle.scenario.specs.Record.{Record}
-use Rattle.scenario.specs.Ranges.{IsInRange}
-use Rattle.qos_report.specs.declared.pair_measures.PairMeasures.{PairMeasures}
-use Rattle.qos_report.specs.declared.summary.Summary.{Summary}
+use Rattle.reporting.specs.Measured.{AreFindings}
+use Rattle.reporting.specs.Measures.{layer_measures, pair_measures}
+use Rattle.reporting.specs.declared.findings.RunFindings.{RunFindings}
+use Rattle.reporting.proofs.Layers.{one_layer, two_layers}
+use Rattle.scenario_record.specs.Record.{Record}
+use Rattle.scenario_record.specs.Ranges.{IsInRange}
+use Rattle.reporting.specs.declared.pair_measures.PairMeasures.{PairMeasures}
+use Rattle.reporting.specs.declared.summary.Summary.{Summary}
 use Rattle.sweep.specs.Adding.{of_verdicts}
 use Rattle.sweep.specs.Columns.{has_layer, on_layer, finished_of, Finished, done_on, all_pairs, times_of, detection_time, is_limited, do_disagree, AreDoneSums, AreVerdictCounts, AreTraceSums, ArePairSums, AreDecisionSums}
 use Rattle.sweep.specs.Fitting.{most_of, IsLayerWithin, AreTracesWithin, ArePairsWithin, AreDecisionsWithin}

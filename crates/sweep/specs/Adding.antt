@@ -2,7 +2,7 @@
 use Rattle.std.specs.Prelude.{ℕ, ◌+◌, ◌-◌, ◌^◌, min, max, ◌==◌, ◌||◌, not, Option, None, Some, if◌then◌else◌, is_some}
 use Rattle.judges.specs.declared.outcomes.Outcome.{Outcome}
 use Rattle.judges.specs.declared.verdicts.Verdicts.{Verdicts}
-use Rattle.qos_report.specs.declared.pair_measures.PairMeasures.{PairMeasures}
+use Rattle.reporting.specs.declared.pair_measures.PairMeasures.{PairMeasures}
 use Rattle.sweep.specs.Columns.{is_undetected, has_decided, decision_tick, noted_round}
 use Rattle.sweep.specs.declared.columns.DecisionSums.{DecisionSums}
 use Rattle.sweep.specs.declared.columns.LayerSums.{LayerSums}

@@ -8,12 +8,12 @@ use Rattle.judges.specs.declared.outcomes.Answer.TheVariants as answer
 use Rattle.judges.specs.declared.outcomes.Outcome.{Outcome}
 use Rattle.judges.specs.declared.verdicts.Verdicts.{Verdicts}
 use Rattle.process_api.specs.EntryRecord.{EntryRecord}
-use Rattle.qos_report.specs.Measures.{layers, layer_measures}
-use Rattle.qos_report.specs.Watched.{watched_ticks}
-use Rattle.qos_report.specs.declared.pair_measures.Detection.{Detection}
-use Rattle.qos_report.specs.declared.pair_measures.Detection.TheVariants.{Na, NoTick, At}
-use Rattle.qos_report.specs.declared.pair_measures.PairMeasures.{PairMeasures}
-use Rattle.scenario.specs.Record.{Record}
+use Rattle.reporting.specs.Measures.{layers, layer_measures}
+use Rattle.reporting.specs.Watched.{watched_ticks}
+use Rattle.reporting.specs.declared.pair_measures.Detection.{Detection}
+use Rattle.reporting.specs.declared.pair_measures.Detection.TheVariants.{Na, NoTick, At}
+use Rattle.reporting.specs.declared.pair_measures.PairMeasures.{PairMeasures}
+use Rattle.scenario_record.specs.Record.{Record}
 use Rattle.sweep.specs.Percentile.{IsPercentile}
 use Rattle.sweep.specs.Results.{RunResult, finished, limited, Trial}
 use Rattle.sweep.specs.declared.columns.Columns.{Columns}

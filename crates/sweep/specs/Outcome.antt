@@ -1,8 +1,8 @@
 -- What a sweep leaves of an outlet.
 use Rattle.std.specs.Prelude.{◌≡◌, ◌⊎◌, ◌<◌, ℕ, false, [], take, length, get_or, Option, Contains}
 use Rattle.toml.specs.Data.{Members}
-use Rattle.qos_report.specs.Writing.{Wrote, WrotePart, WroteNothing}
-use Rattle.scenario.specs.Record.{Record}
+use Rattle.reporting.specs.Writing.{Wrote, WrotePart, WroteNothing}
+use Rattle.scenario_record.specs.Record.{Record}
 use Rattle.study.specs.Grid.{GridRecord, RunRecord, runs}
 use Rattle.study.specs.Placed.{table_of_run}
 use Rattle.study.specs.Runs.{IsScenarioOf, IsRefusedFor, is_memory}

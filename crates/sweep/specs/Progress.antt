@@ -2,7 +2,7 @@
 use Rattle.std.specs.Prelude.{ℕ, ◌-◌, ◌≤◌, ◌<◌, List, length, take, Option}
 use Rattle.std.specs.List.{AllZip, range_with_len}
 use Rattle.toml.specs.Data.{Members}
-use Rattle.qos_report.specs.Writing.{Wrote, WrotePart, WroteNothing}
+use Rattle.reporting.specs.Writing.{Wrote, WrotePart, WroteNothing}
 use Rattle.study.specs.Grid.{GridRecord, runs}
 use Rattle.study.specs.Shard.{ShardRecord}
 use Rattle.sweep.specs.Results.{Trial}

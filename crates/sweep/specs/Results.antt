@@ -1,9 +1,9 @@
 -- What becomes of runs.
 use Rattle.std.specs.Prelude.{List}
 use Rattle.process_api.specs.EntryRecord.{EntryRecord}
-use Rattle.scenario.specs.Record.{Record}
-use Rattle.qos_report.specs.Printed.{IsTraceWithin}
-use Rattle.qos_report.specs.Streaming.{IsLonger}
+use Rattle.scenario_record.specs.Record.{Record}
+use Rattle.reporting.specs.Printed.{IsTraceWithin}
+use Rattle.reporting.specs.Printed.{IsLonger}
 
 -- a run is done, and this is its trace; or it passed its limit
 pub data RunResult : Type 0 where

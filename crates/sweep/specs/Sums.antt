@@ -3,13 +3,13 @@ use Rattle.std.specs.Prelude.{◌≡◌, ℕ, ◌*◌, ◌^◌, ◌<◌, ◌≤�
 use Rattle.judges.specs.Verdicts.{verdicts}
 use Rattle.judges.specs.declared.verdicts.Verdicts.{Verdicts}
 use Rattle.process_api.specs.EntryRecord.{EntryRecord}
-use Rattle.qos_report.specs.Measures.{layer_measures}
-use Rattle.qos_report.specs.Summary.{IsSummary}
-use Rattle.qos_report.specs.Watched.{watched_ticks}
-use Rattle.qos_report.specs.declared.pair_measures.PairMeasures.{PairMeasures}
-use Rattle.qos_report.specs.declared.summary.Summary.{Summary}
-use Rattle.scenario.specs.Ranges.{IsInRange}
-use Rattle.scenario.specs.Record.{Record}
+use Rattle.reporting.specs.Measures.{layer_measures}
+use Rattle.reporting.specs.Summary.{IsSummary}
+use Rattle.reporting.specs.Watched.{watched_ticks}
+use Rattle.reporting.specs.declared.pair_measures.PairMeasures.{PairMeasures}
+use Rattle.reporting.specs.declared.summary.Summary.{Summary}
+use Rattle.scenario_record.specs.Ranges.{IsInRange}
+use Rattle.scenario_record.specs.Record.{Record}
 use Rattle.sweep.specs.Columns.{AreLayerSums, all_pairs, done_on, times_of}
 use Rattle.sweep.specs.Fitting.{IsLayerWithin, most_of}
 use Rattle.sweep.specs.Results.{Trial}

@@ -12,7 +12,7 @@ pub struct TraceSums {
 }
 
 /// Sums over all ordered pairs of different processes of runs, after Chen, Toueg and Aguilera (IEEE Transactions on
-/// Computers 51(5), 2002), as [`PairMeasures`](qos_report::PairMeasures) has them for one pair. Sums of times are in
+/// Computers 51(5), 2002), as [`PairMeasures`](reporting::PairMeasures) has them for one pair. Sums of times are in
 /// ticks.
 #[derive(Clone, Copy, Debug, PartialEq, Eq)]
 pub struct PairSums {

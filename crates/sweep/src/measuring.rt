@@ -1,6 +1,6 @@
 //! Runs one scenario and measures it.
 ghost use Rattle.std.specs.Prelude.{◌≡◌, ◌<◌, ◌≤◌, length, IfOk};
-ghost use Rattle.scenario.specs.Opening.{mind_of};
+ghost use Rattle.scenario_record.specs.Opening.{mind_of};
 ghost use Rattle.toml.specs.View.{table_view};
 ghost use Rattle.study.specs.Grid.{points, runs};
 ghost use Rattle.sweep.specs.Numbering.{point_of, IsAnswerAt};
@@ -12,7 +12,7 @@ use crate::run_numbers::RunNumbers;
 use event_list::RunError;
 use machines::{AnyDetector, eventually_strong, idle, make_all, strong};
 use process_api::Process;
-use qos_report::measure_list;
+use reporting::measure_list;
 use scenario::AlgorithmKind::{EventuallyStrong, Idle, Strong};
 use scenario::{Opening, Scenario};
 use std::alloc::{AllocError, Global};

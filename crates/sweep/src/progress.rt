@@ -8,7 +8,7 @@ use crate::error::SweepError;
 use crate::point_sums::PointSums;
 use crate::run_numbers::RunNumbers;
 use crate::texts::{rows_of, write_text};
-use qos_report::Outlet;
+use reporting::Outlet;
 use std::alloc::{AllocError, Global};
 use study::Grid;
 

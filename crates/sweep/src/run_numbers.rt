@@ -1,10 +1,10 @@
 //! What one run gives to the sums of its point.
 ghost use Rattle.std.specs.Prelude.{◌≡◌, ◌≤◌, ◌*◌, ◌^◌, ◌∷◌, [], ℕ, List, length, IfOk, is_some, true, false};
 ghost use Rattle.process_api.specs.EntryRecord.{EntryRecord};
-ghost use Rattle.qos_report.specs.Measured.{AreFindings, MeasuresRun};
-ghost use Rattle.qos_report.specs.Measures.{layer_measures};
-ghost use Rattle.scenario.specs.Ranges.{IsInRange};
-ghost use Rattle.scenario.specs.Record.{Record};
+ghost use Rattle.reporting.specs.Measured.{AreFindings, MeasuresRun};
+ghost use Rattle.reporting.specs.Measures.{layer_measures};
+ghost use Rattle.scenario_record.specs.Ranges.{IsInRange};
+ghost use Rattle.scenario_record.specs.Record.{Record};
 ghost use Rattle.sweep.specs.Adding.{of_pair, of_verdicts, of_outcome};
 ghost use Rattle.sweep.specs.Columns.{ArePairSums, AreDecisionSums, decided_value, decision_tick, detection_time, do_disagree, has_layer, times_of};
 ghost use Rattle.sweep.specs.Fitting.{ArePairsWithin, AreDecisionsWithin};
@@ -12,7 +12,7 @@ ghost use Rattle.sweep.specs.Results.{Trial, finished, limited};
 
 use crate::columns::{DecisionSums, LayerSums, PairSums, TraceSums, VerdictCounts};
 use judges::{Answer, Outcome, Verdicts};
-use qos_report::{Detection, PairMeasures, RunFindings, Summary, watched_ticks};
+use reporting::{Detection, PairMeasures, RunFindings, Summary, watched_ticks};
 use scenario::Scenario;
 use std::alloc::{AllocError, Global};
 

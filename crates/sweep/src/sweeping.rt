@@ -14,7 +14,7 @@ use crate::parallel::in_parallel;
 use crate::progress::Progress;
 use crate::texts::write_header;
 use crate::watcher::{Standing, Watcher};
-use qos_report::Outlet;
+use reporting::Outlet;
 use std::alloc::Global;
 use std::marker::Sync;
 use std::thread::Threads;

@@ -1,6 +1,6 @@
 //! The texts that go out.
 ghost use Rattle.std.specs.Prelude.{◌≡◌, ◌^◌, ◌-◌, ◌<◌, List, length, Err, IfOk, IfErr, OnOk};
-ghost use Rattle.qos_report.specs.Writing.{Wrote, WrotePart};
+ghost use Rattle.reporting.specs.Writing.{Wrote, WrotePart};
 ghost use Rattle.study.specs.Grid.{points, keys};
 ghost use Rattle.sweep.specs.Results.{Trial};
 ghost use Rattle.sweep.specs.RowText.{header_text, ArePointRows};
@@ -11,7 +11,7 @@ ghost use Rattle.sweep.specs.Sums.{AreSums};
 use crate::error::SweepError;
 use crate::point_sums::PointSums;
 use crate::table::Table;
-use qos_report::{Outlet, put_all};
+use reporting::{Outlet, put_all};
 use std::alloc::{AllocError, Global};
 use study::{Grid, Shard};
 

@@ -6,7 +6,7 @@ use Rattle.process_api.specs.Timeout.{TimeoutState, watches, checked, heard, ste
 use Rattle.process_api.specs.Detector.{ByTimeout}
 use Rattle.process_api.specs.Mind.{Lower}
 use Rattle.process_api.specs.declared.message.StepInput.{StepInput}
-use Rattle.scenario.specs.Opening.{place_of, base_of}
+use Rattle.scenario_record.specs.Opening.{place_of, base_of}
 use Rattle.timeout_detector.specs.declared.detector.TimeoutDetector.{TimeoutDetector}
 
 -- its tables as functions: processes that they have no place for are as at the opening

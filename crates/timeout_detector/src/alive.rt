@@ -3,7 +3,7 @@ ghost use Rattle.std.specs.Prelude.{◌≡◌, ◌≤◌, ◌++◌, OnOk};
 ghost use Rattle.process_api.specs.Answer.{to_others};
 
 use process_api::{Action, Payload, Pid, send_to};
-use scenario::Opening;
+use scenario_record::Opening;
 use std::alloc::AllocError;
 
 /// Appends an Alive letter to each other process, in rising order, whoever is watched.

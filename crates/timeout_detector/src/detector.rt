@@ -3,7 +3,7 @@ ghost use Rattle.std.specs.Prelude.{◌≡◌, ◌≢◌, ◌≤◌, ◌+◌, �
 ghost use Rattle.std.specs.FinSet as set;
 ghost use Rattle.process_api.specs.Detector.{is_timeout};
 ghost use Rattle.process_api.specs.declared.numbers.DetectorNumbers.TheVariants.{Timeout};
-ghost use Rattle.scenario.specs.Opening.{base_of};
+ghost use Rattle.scenario_record.specs.Opening.{base_of};
 
 use crate::alive::send_alive;
 use crate::bound::grown;
@@ -11,7 +11,7 @@ use process_api::{
     Action, Detector, DetectorNumbers, Note, Payload, Pid, ProcSet, StepInput, Tag, TimeoutNumbers,
     note_that, wake_after,
 };
-use scenario::Opening;
+use scenario_record::Opening;
 use std::alloc::{AllocError, Global};
 
 /// The time-out detector of one process (Chandra and Toueg, Journal of the ACM 43(2), 1996).
@@ -184,48 +184,5 @@ impl Detector for TimeoutDetector {
 
     fn suspects(&self) -> ProcSet {
         self.suspects.copy()
-    }
-}
-
-#[cfg(test)]
-mod tests {
-    use super::*;
-    use process_api::{Pid, Watch};
-    use scenario::AlgorithmKind;
-    use std::test::Fail;
-
-    /// A machine that has failed answers `Err` from then on, and does nothing.
-    #[test]
-    fn failed(rt: HostRuntime) -> Result<(), Fail> {
-        let detector = DetectorNumbers::Timeout(TimeoutNumbers {
-            period: 4,
-            check: 3,
-            timeout: 5,
-            grow: 1,
-            watch: Watch::All,
-        });
-        let Some(own) = Pid::new(1) else {
-            unreachable!()
-        };
-        let opening = Opening {
-            own,
-            processes: 2,
-            horizon: 10,
-            detector,
-            share: None,
-            algorithm: AlgorithmKind::Idle,
-            proposal: None,
-        };
-        let mut machine = TimeoutDetector::open(rt.alloc(), &opening)?;
-        machine.has_failed = true;
-        let mut out = Vec::new(rt.alloc());
-        assert!(rt; machine.take(0, &StepInput::Start, &mut out).is_err());
-        assert!(rt;
-            machine
-                .take(9, &StepInput::Wake(Tag::Check), &mut out)
-                .is_err()
-        );
-        assert!(rt; out.is_empty());
-        Ok(())
     }
 }

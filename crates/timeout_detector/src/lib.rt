@@ -8,7 +8,7 @@
 //!
 //! The one contract for the layers above is that of [`process_api::Detector`]: what [`TimeoutDetector`] is, as plain
 //! data, and what each input makes of it, is `step_timeout` of `process_api/specs/Timeout.antt`, and it opens as the
-//! scenario's opening says (`base_of` of `scenario/specs/Opening.antt`).
+//! scenario's opening says (`base_of` of `scenario_record/specs/Opening.antt`).
 //!
 //! An example in words: two processes, period 4, check 3, time-out 5. Process 1 takes an Alive letter of process 2 at
 //! tick 2. Its checks at ticks 3 and 6 find silences of 1 and 4 ticks, and do nothing. The check at tick 9 finds 7,

@@ -8,12 +8,12 @@ use Rattle.process_api.specs.declared.key.Key.{Key}
 use Rattle.process_api.specs.declared.message.Letter.{Letter}
 use Rattle.process_api.specs.declared.message.StepInput.{StepInput}
 use Rattle.process_api.proofs.KeyOrder.{same_or_not}
-use Rattle.event_list.specs.History.{IsIn}
-use Rattle.event_list.specs.Pending.{IsEmpty, IsLeastTick}
-use Rattle.event_list.specs.Step.{Event, Events}
-use Rattle.event_list.specs.World.{Has, IsLeast, NoneBelow, joined}
-use Rattle.event_list.proofs.Runs.{least_below}
-use Rattle.event_list.proofs.Sets.{insert_at, insert_other, joined_cases}
+use Rattle.trace_laws.specs.History.{IsIn}
+use Rattle.pending_events.specs.Pending.{IsEmpty, IsLeastTick}
+use Rattle.trace_laws.specs.Step.{Event, Events}
+use Rattle.trace_laws.specs.World.{Has, IsLeast, NoneBelow, joined}
+use Rattle.trace_laws.proofs.Runs.{least_below}
+use Rattle.trace_laws.proofs.Sets.{insert_at, insert_other, joined_cases}
 use Rattle.windows.specs.Agenda.{event_of, earlier_of, SomeAt, IsSoonestOf}
 use Rattle.windows.proofs.Starts.{from_least}
 

@@ -14,38 +14,38 @@ use Rattle.process_api.specs.Order.{key_cmp, is_rising}
 use Rattle.process_api.specs.declared.key.Key.{Key}
 use Rattle.process_api.specs.declared.message.Letter.{Letter}
 use Rattle.process_api.specs.declared.message.StepInput.{StepInput}
-use Rattle.scenario.specs.Ranges.{IsInRange}
-use Rattle.scenario.specs.Record.{Record}
-use Rattle.event_list.specs.History.{IsIn, Pair, pairs_of}
-use Rattle.event_list.specs.Pending.{IsLeastTick}
-use Rattle.event_list.specs.ScenarioSetting.{setting_of}
+use Rattle.scenario_record.specs.Ranges.{IsInRange}
+use Rattle.scenario_record.specs.Record.{Record}
+use Rattle.trace_laws.specs.History.{IsIn, Pair, pairs_of}
+use Rattle.pending_events.specs.Pending.{IsLeastTick}
+use Rattle.trace_laws.specs.ScenarioSetting.{setting_of}
 use Rattle.event_list.specs.Seat.{process_of, own_of, IsSeated}
-use Rattle.event_list.specs.Setting.{Setting, IsSound, IsProcess}
+use Rattle.trace_laws.specs.Setting.{Setting, IsSound, IsProcess}
 use Rattle.event_list.specs.Standing.{IsReached}
-use Rattle.event_list.specs.Step.{Event, Events, Process}
-use Rattle.event_list.specs.World.{World, IsWorld, Has, NoneBelow, Run, taken, joined, entries, opening_process, IsTrace}
-use Rattle.event_list.proofs.Closed.{closed_of_run}
-use Rattle.event_list.proofs.Pairs.{in_pairs}
+use Rattle.trace_laws.specs.Step.{Event, Events, Process}
+use Rattle.trace_laws.specs.World.{World, IsWorld, Has, NoneBelow, Run, taken, joined, entries, opening_process, IsTrace}
+use Rattle.trace_laws.proofs.Closed.{closed_of_run}
+use Rattle.trace_laws.proofs.Pairs.{in_pairs}
 use Rattle.event_list.proofs.Reaching.{reached_next, reached_end}
-use Rattle.event_list.proofs.Rising.{IsRising, rising_pairs, rising_entries}
-use Rattle.event_list.proofs.Runs.{run_exists, one_run}
-use Rattle.event_list.proofs.Sets.{joined_cases, one_input, insert_at, not_None, same_Some}
-use Rattle.event_list.proofs.Sound.{setting_sound}
+use Rattle.trace_laws.proofs.Rising.{IsRising, rising_pairs, rising_entries}
+use Rattle.trace_laws.proofs.Runs.{run_exists, one_run}
+use Rattle.trace_laws.proofs.Sets.{joined_cases, one_input, insert_at, not_None, same_Some}
+use Rattle.trace_laws.proofs.Sound.{setting_sound}
 use Rattle.trace_merge.specs.Parts.{all_of, AreDisjoint}
 use Rattle.windows.specs.Agenda.{event_of}
 use Rattle.windows.specs.Berth.{RanTo, IsBerth}
-use Rattle.windows.specs.Machine.{StageRecord, Act, StandsFor, IsRun, end_of, first_status}
-use Rattle.windows.specs.Theorems.{IsListRun, IsMerge}
+use Rattle.window_laws.specs.Machine.{StageRecord, Act, StandsFor, IsRun, end_of, first_status}
+use Rattle.window_laws.specs.Theorems.{IsListRun, IsMerge}
 use Rattle.windows.specs.Stage.{of_process, stage_of, AreHome, IsStageAfter, IsClosed, IsNextStart, IsWindowRun}
-use Rattle.windows.specs.Window.{BerthRun, IsPosted, AreBerths, IsSameStage}
+use Rattle.window_laws.specs.Window.{BerthRun, IsPosted, AreBerths, IsSameStage}
 use Rattle.windows.specs.declared.berth.Berth.{Berth}
 use Rattle.windows.specs.declared.stage.Stage.{Stage}
-use Rattle.windows.proofs.Outcome.{IsWhole, whole, own_run}
+use Rattle.window_laws.proofs.Outcome.{IsWhole, whole, own_run}
 use Rattle.windows.proofs.Places.{there, there_map, from_map, same_at, at_process, at_nobody, at_delivered, all_at, all_place, disjoint_from, no_more, in_all, all_in, part_few, in_place}
-use Rattle.windows.proofs.Unions.{joined_kept}
-use Rattle.windows.proofs.Whole.{run_on, one_merge}
-use Rattle.windows.proofs.Together.{berths_run}
-use Rattle.windows.proofs.Order.{any_order}
+use Rattle.window_laws.proofs.Unions.{joined_kept}
+use Rattle.window_laws.proofs.Whole.{run_on, one_merge}
+use Rattle.window_laws.proofs.Together.{berths_run}
+use Rattle.window_laws.proofs.Order.{any_order}
 use Rattle.windows.proofs.Members.{contains_in, in_contains}
 
 -- ---- lists by process

@@ -8,17 +8,17 @@ use Rattle.std.proofs.lemmas.List.Elements.{All-nil, All-cons, All-head, All-tai
 use Rattle.std.proofs.lemmas.List.Sorted.{IsPermutation-refl, IsPermutation-trans, IsPermutation-sym, IsPermutation-middle, IsPermutation-append_left, IsPermutation-append_right, IsPermutation-push_more, IsPermutation-map, All-permutation, Contains-permutation}
 use Rattle.process_api.specs.Mind.{Mind}
 use Rattle.process_api.specs.declared.message.Letter.{Letter}
-use Rattle.scenario.specs.Record.{Record}
+use Rattle.scenario_record.specs.Record.{Record}
 use Rattle.mailboxes.specs.Mailbox.{MailboxId}
 use Rattle.mailboxes.specs.Mailboxes.{SlipView, IsSlipOf, unused, with_letter, list_of, posted_to}
-use Rattle.event_list.specs.History.{IsIn}
+use Rattle.trace_laws.specs.History.{IsIn}
 use Rattle.event_list.specs.Seat.{own_of}
-use Rattle.event_list.specs.World.{NoneBelow}
+use Rattle.trace_laws.specs.World.{NoneBelow}
 use Rattle.windows.proofs.Members.{contains_in, in_contains}
 use Rattle.windows.proofs.Ranked.{rises_same, sorted_is}
-use Rattle.event_list.proofs.Steps.{in_append, in_left, in_right}
+use Rattle.trace_laws.proofs.Steps.{in_append, in_left, in_right}
 use Rattle.windows.specs.Berth.{IsBerth, with_letters}
-use Rattle.windows.specs.Deques.{DequeId, RestView, all_put}
+use Rattle.deques.specs.Deques.{DequeId, RestView, all_put}
 use Rattle.windows.specs.Workers.{Stay, stay, taken_in, left_in, all_stays, with_stays, IsSent, IsStay, IsReady, IsFresh, AreRunBy, AreWorks, AreRun, IsRest, HasLong, IsOutcome, RiseBy}
 use Rattle.windows.specs.declared.workers.Start.{Start}
 use Rattle.windows.specs.declared.berth.Berth.{Berth}

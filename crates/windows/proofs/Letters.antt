@@ -16,16 +16,16 @@ use Rattle.process_api.proofs.Allowed.{react_allowed}
 use Rattle.process_api.proofs.Keeping.{react_keeps}
 use Rattle.process_api.proofs.Lists.{both}
 use Rattle.process_api.proofs.Minds.{mind_place, same_own}
-use Rattle.scenario.specs.Record.{Record, place_in}
+use Rattle.scenario_record.specs.Record.{Record, place_in}
 use Rattle.streams.specs.declared.fate.Fate.{Fate}
 use Rattle.streams.specs.declared.fate.Fate.TheVariants as fate
-use Rattle.event_list.specs.ScenarioSetting.{setting_of}
-use Rattle.event_list.specs.Setting.{Setting, has_crashed}
-use Rattle.event_list.specs.Step.{Event, Events, Process, Made, in_time, by_fate, joining, counted, added, step, made_by, dead}
-use Rattle.event_list.specs.World.{joined}
+use Rattle.trace_laws.specs.ScenarioSetting.{setting_of}
+use Rattle.trace_laws.specs.Setting.{Setting, has_crashed}
+use Rattle.trace_laws.specs.Step.{Event, Events, Process, Made, in_time, by_fate, joining, counted, added, step, made_by, dead}
+use Rattle.trace_laws.specs.World.{joined}
 use Rattle.mailboxes.specs.Mailboxes.{SlipView, with_letter}
 use Rattle.windows.specs.Berth.{IsOwnOrLetter, with_letters}
-use Rattle.windows.specs.Machine.{for_self, for_others}
+use Rattle.window_laws.specs.Machine.{for_self, for_others}
 
 -- the events of one more
 pub self_more : (p : ℕ) (x : Event) (es : List Event) (m : Events) → joined (joined m (for_self p (x ∷ []))) (for_self p es) ≡ joined m (for_self p (x ∷ es))

@@ -1,15 +1,5 @@
-pub mod Unions
-pub mod Family
-pub mod Reached
-pub mod Order
-pub mod Whole
-pub mod Solo
-pub mod Exists
-pub mod Together
 pub mod Members
-pub mod Berths
 pub mod Letters
-pub mod Outcome
 pub mod Places
 pub mod Opening
 pub mod Closing
@@ -20,7 +10,5 @@ pub mod Settled
 pub mod Taken
 pub mod Handed
 pub mod Starts
-pub mod Dealings
-pub mod Deals
 pub mod Agendas
 pub mod Posted

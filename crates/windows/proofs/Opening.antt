@@ -13,20 +13,20 @@ use Rattle.process_api.specs.declared.message.StepInput.{StepInput}
 use Rattle.process_api.specs.declared.message.StepInput.TheVariants.{Start}
 use Rattle.process_api.proofs.KeyOrder.{same_or_not}
 use Rattle.process_api.proofs.Minds.{mind_place, same_own}
-use Rattle.scenario.specs.Ranges.{IsInRange}
-use Rattle.scenario.specs.Record.{Record, opening_mind, place_in}
-use Rattle.event_list.specs.ScenarioSetting.{setting_of}
+use Rattle.scenario_record.specs.Ranges.{IsInRange}
+use Rattle.scenario_record.specs.Record.{Record, opening_mind, place_in}
+use Rattle.trace_laws.specs.ScenarioSetting.{setting_of}
 use Rattle.event_list.specs.Seat.{process_of, own_of, IsSeated}
-use Rattle.event_list.specs.Setting.{Setting, IsSound, IsProcess}
-use Rattle.event_list.specs.Step.{Process}
-use Rattle.event_list.specs.World.{Has, starts, start_of, opened, opening, opening_process}
-use Rattle.event_list.proofs.Closed.{opening_world}
+use Rattle.trace_laws.specs.Setting.{Setting, IsSound, IsProcess}
+use Rattle.trace_laws.specs.Step.{Process}
+use Rattle.trace_laws.specs.World.{Has, starts, start_of, opened, opening, opening_process}
+use Rattle.trace_laws.proofs.Closed.{opening_world}
 use Rattle.event_list.proofs.Openings.{number_at, length-numbers_to}
 use Rattle.event_list.proofs.Reaching.{opening_reached}
-use Rattle.event_list.proofs.Sets.{inserted, insert_at, insert_other, not_None}
-use Rattle.event_list.proofs.Sound.{setting_sound, opens_with_mind}
+use Rattle.trace_laws.proofs.Sets.{inserted, insert_at, insert_other, not_None}
+use Rattle.trace_laws.proofs.Sound.{setting_sound, opens_with_mind}
 use Rattle.windows.specs.Berth.{IsBerth}
-use Rattle.windows.specs.Machine.{StageRecord, StandsFor}
+use Rattle.window_laws.specs.Machine.{StageRecord, StandsFor}
 use Rattle.windows.specs.Stage.{of_process, stage_of, start_event, IsOpened, AreHome, IsStageAfter}
 use Rattle.windows.specs.declared.berth.Berth.{Berth}
 use Rattle.windows.specs.declared.stage.Stage.{Stage}

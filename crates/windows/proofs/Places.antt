@@ -7,11 +7,11 @@ use Rattle.std.proofs.lemmas.List.Elements.{All-from_recursion, All-get_or}
 use Rattle.std.proofs.lemmas.Option.{slice_get-map, slice_get_within, get_or_from_slice_get}
 use Rattle.process_api.specs.EntryRecord.{EntryRecord}
 use Rattle.process_api.specs.declared.message.Letter.{Letter}
-use Rattle.event_list.specs.History.{IsIn, Pair, pairs_of}
-use Rattle.event_list.specs.Step.{Events}
-use Rattle.event_list.specs.World.{joined, entries}
-use Rattle.event_list.proofs.Sets.{not_None, same_Some}
-use Rattle.event_list.proofs.Steps.{in_append, in_left, in_right}
+use Rattle.trace_laws.specs.History.{IsIn, Pair, pairs_of}
+use Rattle.trace_laws.specs.Step.{Events}
+use Rattle.trace_laws.specs.World.{joined, entries}
+use Rattle.trace_laws.proofs.Sets.{not_None, same_Some}
+use Rattle.trace_laws.proofs.Steps.{in_append, in_left, in_right}
 use Rattle.trace_merge.specs.Parts.{all_of, AreApart, AreDisjoint}
 use Rattle.windows.specs.Agenda.{event_of}
 use Rattle.windows.specs.Stage.{of_process, delivered}

@@ -11,15 +11,15 @@ use Rattle.process_api.specs.Mind.{Mind}
 use Rattle.process_api.specs.Numbers.{numbers_to}
 use Rattle.process_api.specs.Order.{is_rising}
 use Rattle.process_api.specs.declared.message.Letter.{Letter}
-use Rattle.scenario.specs.Ranges.{IsInRange}
-use Rattle.scenario.specs.Record.{Record}
-use Rattle.event_list.specs.ScenarioSetting.{setting_of}
-use Rattle.event_list.specs.World.{IsTrace}
+use Rattle.scenario_record.specs.Ranges.{IsInRange}
+use Rattle.scenario_record.specs.Record.{Record}
+use Rattle.trace_laws.specs.ScenarioSetting.{setting_of}
+use Rattle.trace_laws.specs.World.{IsTrace}
 use Rattle.event_list.proofs.Openings.{number_at, length-numbers_to}
 use Rattle.mailboxes.specs.Mailboxes.{SlipView, list_of, posted_to}
 use Rattle.trace_merge.specs.Parts.{all_of, AreDisjoint}
 use Rattle.windows.specs.Closing.{AreLettersOf, IsOutcomeBy, IsClosedBy}
-use Rattle.windows.specs.Machine.{end_of}
+use Rattle.window_laws.specs.Machine.{end_of}
 use Rattle.windows.specs.Stage.{IsStageAfter, IsWindowRun}
 use Rattle.windows.specs.Workers.{IsOutcome}
 use Rattle.windows.specs.declared.berth.Berth.{Berth}

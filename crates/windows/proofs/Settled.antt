@@ -9,21 +9,21 @@ use Rattle.process_api.specs.EntryRecord.{EntryRecord}
 use Rattle.process_api.specs.Mind.{Mind}
 use Rattle.process_api.specs.Order.{is_rising}
 use Rattle.process_api.specs.declared.message.Letter.{Letter}
-use Rattle.scenario.specs.Ranges.{IsInRange}
-use Rattle.scenario.specs.Record.{Record}
-use Rattle.event_list.specs.History.{IsIn}
-use Rattle.event_list.specs.ScenarioSetting.{setting_of}
+use Rattle.scenario_record.specs.Ranges.{IsInRange}
+use Rattle.scenario_record.specs.Record.{Record}
+use Rattle.trace_laws.specs.History.{IsIn}
+use Rattle.trace_laws.specs.ScenarioSetting.{setting_of}
 use Rattle.event_list.specs.Seat.{process_of, own_of}
-use Rattle.event_list.specs.Setting.{Setting, IsProcess}
-use Rattle.event_list.specs.World.{IsTrace}
-use Rattle.event_list.proofs.Sets.{not_None, same_Some}
+use Rattle.trace_laws.specs.Setting.{Setting, IsProcess}
+use Rattle.trace_laws.specs.World.{IsTrace}
+use Rattle.trace_laws.proofs.Sets.{not_None, same_Some}
 use Rattle.mailboxes.specs.Mailboxes.{list_of}
 use Rattle.trace_merge.specs.Parts.{all_of, AreDisjoint}
 use Rattle.windows.specs.Agenda.{event_of}
 use Rattle.windows.specs.Berth.{RanTo, IsBerth}
-use Rattle.windows.specs.Machine.{end_of}
+use Rattle.window_laws.specs.Machine.{end_of}
 use Rattle.windows.specs.Stage.{IsStageAfter, IsClosed, IsWindowRun}
-use Rattle.windows.specs.Window.{BerthRun}
+use Rattle.window_laws.specs.Window.{BerthRun}
 use Rattle.windows.specs.Workers.{Stay, IsReady, IsStay, HasLong, IsOutcome, AllAbove, RiseBy}
 use Rattle.windows.specs.declared.berth.Berth.{Berth}
 use Rattle.windows.specs.declared.stage.Stage.{Stage}

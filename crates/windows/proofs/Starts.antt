@@ -6,12 +6,12 @@ use Rattle.std.proofs.lemmas.List.Elements.{All-push}
 use Rattle.process_api.specs.declared.key.Key.{Key}
 use Rattle.process_api.specs.Order.{key_cmp}
 use Rattle.process_api.proofs.KeyOrder.{before_or_not, ticks_rise}
-use Rattle.event_list.specs.History.{IsIn}
-use Rattle.event_list.specs.Pending.{IsEmpty, IsLeastTick}
-use Rattle.event_list.specs.Step.{Events}
-use Rattle.event_list.specs.World.{NoneBelow}
-use Rattle.event_list.proofs.Sets.{not_None}
-use Rattle.event_list.proofs.Steps.{in_left, in_right}
+use Rattle.trace_laws.specs.History.{IsIn}
+use Rattle.pending_events.specs.Pending.{IsEmpty, IsLeastTick}
+use Rattle.trace_laws.specs.Step.{Events}
+use Rattle.trace_laws.specs.World.{NoneBelow}
+use Rattle.trace_laws.proofs.Sets.{not_None}
+use Rattle.trace_laws.proofs.Steps.{in_left, in_right}
 use Rattle.windows.specs.Stage.{IsNextStart}
 use Rattle.windows.proofs.Places.{all_at, all_place}
 

@@ -1,8 +1,8 @@
 -- What `take_below` says, by its answer.
 use Rattle.std.proofs.Common.{◌≡◌, ℕ, ◌<◌, subst, Option, Some, None, MatchOption}
 use Rattle.std.specs.FinMap as events
-use Rattle.event_list.specs.Step.{Event, Events}
-use Rattle.event_list.specs.World.{IsLeast, NoneBelow}
+use Rattle.trace_laws.specs.Step.{Event, Events}
+use Rattle.trace_laws.specs.World.{IsLeast, NoneBelow}
 
 pub below_of : (end : ℕ) (m : Events) (r : Option Event) (e : Event) → r ≡ Some e → MatchOption r (NoneBelow end m) (λ e. IsLeast m e.0 e.1 × (e.0.tick < end)) → IsLeast m e.0 e.1 × (e.0.tick < end)
 below_of end m r e is h = subst (λ r. MatchOption r (NoneBelow end m) (λ e. IsLeast m e.0 e.1 × (e.0.tick < end))) is h

@@ -6,11 +6,11 @@ use Rattle.std.proofs.lemmas.List.Elements.{All-nil, All-push}
 use Rattle.std.proofs.lemmas.List.Sorted.{IsPermutation-refl, IsPermutation-trans, IsPermutation-append_left}
 use Rattle.process_api.specs.Mind.{Mind}
 use Rattle.process_api.specs.declared.message.Letter.{Letter}
-use Rattle.scenario.specs.Record.{Record}
+use Rattle.scenario_record.specs.Record.{Record}
 use Rattle.mailboxes.specs.Mailbox.{MailboxId}
 use Rattle.mailboxes.specs.Mailboxes.{SlipView, IsSlipOf, unused}
 use Rattle.windows.specs.Berth.{with_letters}
-use Rattle.windows.specs.Deques.{DequeId, HandView, TookOne}
+use Rattle.deques.specs.Deques.{DequeId, HandView, TookOne}
 use Rattle.windows.specs.Workers.{Stay, stay, with_stays, IsStay, AreRunBy, IsWork, IsFresh}
 use Rattle.windows.specs.declared.berth.Berth.{Berth}
 

@@ -3,8 +3,8 @@ use Rattle.std.specs.Prelude.{◌≡◌, ◌⊎◌, ◌≤◌, ℕ, List, [], �
 use Rattle.std.specs.List.{AllByRecursion}
 use Rattle.process_api.specs.declared.message.Letter.{Letter}
 use Rattle.process_api.specs.declared.message.StepInput.TheVariants as input
-use Rattle.event_list.specs.Pending.{IsEmpty, IsLeastTick}
-use Rattle.event_list.specs.Step.{Event, Events}
+use Rattle.pending_events.specs.Pending.{IsEmpty, IsLeastTick}
+use Rattle.trace_laws.specs.Step.{Event, Events}
 use Rattle.windows.specs.declared.agenda.Ahead.{Ahead}
 use Rattle.windows.specs.declared.agenda.Ahead.TheVariants as ahead
 

@@ -6,16 +6,16 @@ use Rattle.process_api.specs.declared.message.Letter.{Letter}
 use Rattle.process_api.specs.declared.message.Payload.{Payload}
 use Rattle.process_api.specs.declared.message.StepInput.{StepInput}
 use Rattle.process_api.specs.declared.message.StepInput.TheVariants as input
-use Rattle.scenario.specs.Record.{Record}
-use Rattle.event_list.specs.ScenarioSetting.{setting_of}
+use Rattle.scenario_record.specs.Record.{Record}
+use Rattle.trace_laws.specs.ScenarioSetting.{setting_of}
 use Rattle.event_list.specs.Seat.{process_of, own_of, IsSeated}
 use Rattle.event_list.specs.declared.seat.Seat.{Seat}
-use Rattle.event_list.specs.Step.{Event, Events, Process, Made, step}
-use Rattle.event_list.specs.World.{Pair, Has, entries}
+use Rattle.trace_laws.specs.Step.{Event, Events, Process, Made, step}
+use Rattle.trace_laws.specs.World.{Pair, Has, entries}
 use Rattle.mailboxes.specs.Mailboxes.{SlipView, with_letter}
 use Rattle.windows.specs.Agenda.{event_of}
-use Rattle.windows.specs.Machine.{for_others}
-use Rattle.windows.specs.Window.{BerthRun}
+use Rattle.window_laws.specs.Machine.{for_others}
+use Rattle.window_laws.specs.Window.{BerthRun}
 use Rattle.windows.specs.declared.berth.Berth.{Berth}
 
 -- an event that process p causes: one of its own, or a letter to one of processes 1 to n

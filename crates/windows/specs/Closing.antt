@@ -4,7 +4,7 @@ use Rattle.std.specs.List.Sorted.{IsPermutation}
 use Rattle.process_api.specs.EntryRecord.{EntryRecord}
 use Rattle.process_api.specs.Mind.{Mind}
 use Rattle.process_api.specs.declared.message.Letter.{Letter}
-use Rattle.scenario.specs.Record.{Record}
+use Rattle.scenario_record.specs.Record.{Record}
 use Rattle.mailboxes.specs.Mailboxes.{SlipView, list_of, posted_to}
 use Rattle.windows.specs.Stage.{IsClosed}
 use Rattle.windows.specs.Workers.{IsOutcome}

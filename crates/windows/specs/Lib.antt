@@ -1,12 +1,7 @@
-pub mod Machine
-pub mod Window
-pub mod Theorems
 pub mod Plan
 pub mod Agenda
-pub mod Alternation
 pub mod Berth
 pub mod Stage
-pub mod Deques
 pub mod Workers
 pub mod Refusals
 pub mod Shared

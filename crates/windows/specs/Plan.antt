@@ -1,6 +1,6 @@
 -- Plans: how many workers share a window, and how long windows are.
 use Rattle.std.specs.Prelude.{◌≡◌, ℕ, ◌≤◌, ◌<◌}
-use Rattle.scenario.specs.Record.{Record}
+use Rattle.scenario_record.specs.Record.{Record}
 use Rattle.windows.specs.declared.error.PlanError.{PlanError}
 use Rattle.windows.specs.declared.error.PlanError.TheVariants as error
 use Rattle.windows.specs.declared.plan.TheConstants.{MOST_WORKERS}

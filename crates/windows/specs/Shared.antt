@@ -4,12 +4,12 @@ use Rattle.std.specs.Global.{Vec}
 use Rattle.std.specs.List.{All}
 use Rattle.std.specs.List.Sorted.{IsPermutation}
 use Rattle.process_api.specs.Mind.{Mind}
-use Rattle.event_list.specs.World.{NoneBelow}
+use Rattle.trace_laws.specs.World.{NoneBelow}
 use Rattle.event_list.specs.declared.error.RunError.{RunError}
 use Rattle.event_list.specs.declared.error.RunError.TheVariants.{Limit}
 use Rattle.mailboxes.specs.Mailbox.{MailboxId}
 use Rattle.mailboxes.specs.Mailboxes.{SlipView}
-use Rattle.windows.specs.Deques.{RestView}
+use Rattle.deques.specs.Deques.{RestView}
 use Rattle.windows.specs.Refusals.{IsRefusal}
 use Rattle.windows.specs.Workers.{IsFresh, IsReady, IsWork, IsAnswer, IsRest, AreRun, HasLong, HaveLong}
 use Rattle.windows.specs.declared.berth.Berth.{Berth}

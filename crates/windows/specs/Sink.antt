@@ -1,11 +1,11 @@
 -- What is handed on to a sink.
 use Rattle.std.specs.Prelude.{◌≡◌, ◌⊎◌, ℕ, List, [], ◌∷◌, ◌++◌, Result, Ok, Err}
 use Rattle.process_api.specs.EntryRecord.{EntryRecord}
-use Rattle.event_list.specs.Setting.{Setting}
-use Rattle.event_list.specs.World.{IsTrace}
+use Rattle.trace_laws.specs.Setting.{Setting}
+use Rattle.trace_laws.specs.World.{IsTrace}
 use Rattle.event_list.specs.declared.error.RunError.{RunError}
 use Rattle.event_list.specs.declared.error.RunError.TheVariants.{Limit, Memory, Spawn, Write}
-use Rattle.windows.specs.Theorems.{end_to_end}
+use Rattle.window_laws.specs.Theorems.{end_to_end}
 
 -- a sink refuses a part for want of memory, or because it can't be written
 abbrev pub IsRefusalOfSink : RunError → Type 0

@@ -9,21 +9,21 @@ use Rattle.process_api.specs.Mind.{Mind}
 use Rattle.process_api.specs.Order.{is_rising}
 use Rattle.process_api.specs.declared.message.Letter.{Letter}
 use Rattle.process_api.specs.declared.message.StepInput.TheVariants.{Start}
-use Rattle.scenario.specs.Record.{Record}
-use Rattle.event_list.specs.History.{IsIn}
-use Rattle.event_list.specs.Pending.{IsLeastTick}
-use Rattle.event_list.specs.ScenarioSetting.{setting_of}
+use Rattle.scenario_record.specs.Record.{Record}
+use Rattle.trace_laws.specs.History.{IsIn}
+use Rattle.pending_events.specs.Pending.{IsLeastTick}
+use Rattle.trace_laws.specs.ScenarioSetting.{setting_of}
 use Rattle.event_list.specs.Seat.{process_of, own_of, IsSeated}
-use Rattle.event_list.specs.Setting.{IsProcess}
+use Rattle.trace_laws.specs.Setting.{IsProcess}
 use Rattle.event_list.specs.Standing.{IsReached}
-use Rattle.event_list.specs.Step.{Events}
-use Rattle.event_list.specs.World.{World, IsWorld, NoneBelow, joined, start_of, opening_process}
+use Rattle.trace_laws.specs.Step.{Events}
+use Rattle.trace_laws.specs.World.{World, IsWorld, NoneBelow, joined, start_of, opening_process}
 use Rattle.trace_merge.specs.Parts.{all_of}
 use Rattle.windows.specs.Agenda.{event_of}
 use Rattle.windows.specs.Berth.{IsBerth}
-use Rattle.windows.specs.Machine.{StageRecord, Act, StandsFor, IsRun, end_of, first_status}
-use Rattle.windows.specs.Theorems.{IsMerge}
-use Rattle.windows.specs.Window.{IsSameStage}
+use Rattle.window_laws.specs.Machine.{StageRecord, Act, StandsFor, IsRun, end_of, first_status}
+use Rattle.window_laws.specs.Theorems.{IsMerge}
+use Rattle.window_laws.specs.Window.{IsSameStage}
 use Rattle.windows.specs.declared.berth.Berth.{Berth}
 use Rattle.windows.specs.declared.stage.Stage.{Stage}
 

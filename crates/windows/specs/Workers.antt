@@ -5,15 +5,15 @@ use Rattle.std.specs.List.Sorted.{IsPermutation}
 use Rattle.process_api.specs.Bounds.{most_step_actions}
 use Rattle.process_api.specs.Mind.{Mind}
 use Rattle.process_api.specs.declared.message.Letter.{Letter}
-use Rattle.scenario.specs.Record.{Record}
+use Rattle.scenario_record.specs.Record.{Record}
 use Rattle.event_list.specs.Seat.{own_of}
-use Rattle.event_list.specs.History.{IsIn}
+use Rattle.trace_laws.specs.History.{IsIn}
 use Rattle.event_list.specs.declared.error.RunError.{RunError}
 use Rattle.event_list.specs.declared.error.RunError.TheVariants.{Limit}
 use Rattle.mailboxes.specs.Mailbox.{MailboxId}
 use Rattle.mailboxes.specs.Mailboxes.{SlipView, IsSlipOf, unused, list_of, posted_to}
 use Rattle.windows.specs.Berth.{IsBerth, IsLong, RanTo, with_letters}
-use Rattle.windows.specs.Deques.{DequeId, HandView, RestView, all_put}
+use Rattle.deques.specs.Deques.{DequeId, HandView, RestView, all_put}
 use Rattle.windows.specs.Refusals.{IsRefusalOfOne}
 use Rattle.windows.specs.declared.berth.Berth.{Berth}
 use Rattle.windows.specs.declared.workers.Start.{Start}

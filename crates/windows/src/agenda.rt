@@ -1,8 +1,8 @@
 //! What lies ahead of a process.
 ghost use Rattle.std.specs.Prelude.{◌≡◌, ◌<◌, ◌++◌, [], map, MatchOption, None, IfOk, OnOk, OnErr};
 ghost use Rattle.std.specs.FinMap as events;
-ghost use Rattle.event_list.specs.World.{IsLeast, NoneBelow, joined};
-ghost use Rattle.event_list.specs.Pending.{IsEmpty, IsLeastTick};
+ghost use Rattle.trace_laws.specs.World.{IsLeast, NoneBelow, joined};
+ghost use Rattle.pending_events.specs.Pending.{IsEmpty, IsLeastTick};
 ghost use Rattle.windows.specs.Agenda.{event_of, earlier_of, IsSoonestOf, IsAheadOf};
 
 use event_list::Pending;
@@ -39,9 +39,9 @@ impl Model for Agenda {
     ghost use Rattle.std.specs.Prelude.{map};
     ghost use Rattle.std.specs.FinMap as events;
     ghost use Rattle.process_api.specs.contracts.message.StepInput as step_input;
-    ghost use Rattle.event_list.specs.Pending.{key_code};
-    ghost use Rattle.event_list.specs.Step.{Events};
-    ghost use Rattle.event_list.specs.World.{joined};
+    ghost use Rattle.pending_events.specs.Pending.{key_code};
+    ghost use Rattle.trace_laws.specs.Step.{Events};
+    ghost use Rattle.trace_laws.specs.World.{joined};
     ghost use Rattle.windows.specs.Agenda.{event_of, IsSoonestOf, IsAheadOf};
 
     ghost Value = { Events };

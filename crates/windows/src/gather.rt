@@ -1,18 +1,18 @@
 //! The starter's side of a window: it deals the waiting berths to the workers, and brings together what they give back.
 ghost use Rattle.std.specs.Prelude.{◌≡◌, ◌+◌, ◌++◌, map, true, false, IfOk, IfErr, IsErrOf, vec_len, IsPermutation};
 ghost use Rattle.std.specs.List.{All};
-ghost use Rattle.event_list.specs.World.{NoneBelow};
+ghost use Rattle.trace_laws.specs.World.{NoneBelow};
 ghost use Rattle.mailboxes.specs.Mailboxes.{mailboxes_of, unused};
-ghost use Rattle.windows.specs.Deques.{deques_of, all_put};
+ghost use Rattle.deques.specs.Deques.{deques_of, all_put};
 ghost use Rattle.windows.specs.Refusals.{IsRefusalOfOne};
 ghost use Rattle.windows.specs.Shared.{AreReady, IsOneTooLong, IsRestIn};
 ghost use Rattle.windows.specs.Workers.{IsFresh, BringsTogether};
 
 use crate::berth::{Berth, run_berth};
-use crate::deal::{Dealer, Rest};
 use crate::gate::Gate;
 use crate::shared::Shared;
 use crate::workers::{Start, Work};
+use deques::{Dealer, Rest};
 use event_list::RunError;
 use mailboxes::{Mailboxes, Slip};
 use process_api::Process;

@@ -1,11 +1,11 @@
 //! The law of windows.
-ghost use Rattle.event_list.specs.ScenarioSetting.{setting_of};
+ghost use Rattle.trace_laws.specs.ScenarioSetting.{setting_of};
 ghost use Rattle.windows.specs.Plan.{IsPlanFor};
-ghost use Rattle.windows.specs.Theorems.{AnyOrder, CloseAlike, HasRun, MakeTrace};
-ghost use Rattle.windows.specs.Window.{LawBerths};
+ghost use Rattle.window_laws.specs.Theorems.{AnyOrder, CloseAlike, HasRun, MakeTrace};
+ghost use Rattle.window_laws.specs.Window.{LawBerths};
 
 use crate::plan::Plan;
-use scenario::Scenario;
+use scenario_record::Scenario;
 
 /// Any order of acts inside a window gives what the event list gives. From every stage that stands for a world of this
 /// scenario, each run of the window machine, whatever the order of its acts, closes on a stage that stands for the

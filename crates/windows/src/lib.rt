@@ -6,18 +6,18 @@
 //! and run each by itself (conservative windows, as in textbooks: R. M. Fujimoto, Parallel and Distributed Simulation
 //! Systems, Wiley, 2000). A [`Plan`] says how many workers there are and how long a window is.
 //!
-//! The definition is a machine over single acts (`specs/Machine.antt`). A worker *takes* a process that waits; it makes
+//! The definition is a machine over single acts, in `window_laws`. A worker *takes* a process that waits; it makes
 //! a *turn*, the step of the least pending event of the process that it holds, whose letters to others go to the
 //! worker's tray; it *posts* a letter from its tray to the mailbox of the receiver; and it *returns* a process that has
 //! no event below the window's end. When all processes are done the window *closes*: each mailbox moves into its
 //! receiver's pending events, and the next window opens. A run is any list of allowed acts whose one close is the last.
 //!
-//! [`law_any_order`] says that the order of the acts means nothing (`specs/Theorems.antt`). From a stage that stands
+//! [`law_any_order`] says that the order of the acts means nothing, as `window_laws` proves. From a stage that stands
 //! for a world of the event list, each run closes on a stage that stands for the world after exactly the list's steps
 //! below the window's end; the processes' parts of the trace, merged, are these steps' entries; any two runs close
 //! alike; and one of them makes its turns in the list's own order. Windows one after the other, from the opening up to
-//! the horizon, make the trace. What each process makes of a window by itself (`specs/Window.antt`) is what some run
-//! makes, so it is enough to run each process to the window's end, wherever and whenever that happens.
+//! the horizon, make the trace. What each process makes of a window by itself is what some run makes, so it is enough
+//! to run each process to the window's end, wherever and whenever that happens.
 //!
 //! The code runs it so. A [`Stage`] has a [`Berth`] for each process: its machine, its pending events, and its part of
 //! the trace. [`run_window`] takes a worker for each process that has an event below the window's end, but no more
@@ -30,9 +30,9 @@
 //! memory, and this before that of a place in the trace. The merged part goes to a [`Sink`], and the next window opens
 //! at the least pending tick.
 //!
-//! That each berth comes out of the deques once rests on the ledger of the crate `mailboxes`: of each deque, what was
-//! put is, counted with repetitions, what all passes have taken and what it holds, and whoever pops or steals gets one
-//! of those that were put.
+//! That each berth comes out of the deques once is the promise of the crate `deques`. It rests on the ledger of each:
+//! what was put is, counted with repetitions, what all passes have taken and what it holds, and whoever pops or steals
+//! gets one of those that were put.
 //!
 //! The one contract for the layers above is that of [`run_windows_into`]: on `Ok`, under every schedule of the threads,
 //! the sink took the trace that the event list gives; [`run_windows`] is the same with a sink that keeps. No contract
@@ -45,17 +45,13 @@
 
 mod agenda;
 mod berth;
-mod deal;
-mod deque;
 mod error;
 mod gate;
 mod gather;
 mod halves;
-mod hand;
 mod kept;
 mod laws;
 mod plan;
-mod rule;
 mod run;
 mod shared;
 mod sink;

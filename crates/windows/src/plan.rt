@@ -3,7 +3,7 @@ ghost use Rattle.std.specs.Prelude.{◌≡◌, IfOk, OnOk, IfErr};
 ghost use Rattle.windows.specs.Plan.{IsPlan, IsPlanFor, plan_of, NoneApplies, IsFirst};
 
 use crate::error::PlanError;
-use scenario::Scenario;
+use scenario_record::Scenario;
 use std::marker::Model;
 
 /// How many workers can share a window.

@@ -2,7 +2,7 @@
 ghost use Rattle.std.specs.Prelude.{◌≡◌, length};
 
 use crate::berth::Berth;
-use crate::deque::Front;
+use deques::Front;
 use mailboxes::SharedMailboxes;
 use std::alloc::Global;
 use streams::Streams;

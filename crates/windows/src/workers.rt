@@ -9,8 +9,8 @@ ghost use Rattle.windows.specs.Shared.{IsStart, IsWorkIn, IsAnswerTo, IsOneTooLo
 
 use crate::berth::{Berth, run_berth};
 use crate::gate::Gate;
-use crate::hand::Hand;
 use crate::shared::Shared;
+use deques::Hand;
 use event_list::RunError;
 use mailboxes::Slip;
 use process_api::Process;

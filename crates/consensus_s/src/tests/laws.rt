@@ -7,7 +7,7 @@ ghost use Rattle.consensus_s.specs.State.{exchange_of, IsOrderly};
 use crate::exchange::Exchange;
 use crate::law_settled;
 use process_api::{Action, ProcSet, StepInput, Tag};
-use scenario::Opening;
+use scenario_record::Opening;
 use std::alloc::AllocError;
 
 /// A wake that comes right after an input does nothing more, and no wait is over then.

@@ -5,14 +5,14 @@ use Rattle.process_api.specs.EntryRecord.{EntryRecord}
 use Rattle.process_api.specs.Numbers.{numbers_to}
 use Rattle.process_api.specs.declared.action.Note.TheVariants.{Decided}
 use Rattle.process_api.proofs.Lists.{numbers_are}
-use Rattle.scenario.specs.Numbers.{is_idle}
-use Rattle.scenario.specs.Ranges.{IsInRange}
-use Rattle.scenario.specs.Record.{Record, proposal}
-use Rattle.scenario.specs.declared.algorithm.AlgorithmKind.TheVariants as kind
-use Rattle.event_list.specs.History.{IsIn}
-use Rattle.event_list.specs.ScenarioSetting.{setting_of}
-use Rattle.event_list.specs.World.{IsTrace}
-use Rattle.event_list.proofs.Sound.{setting_sound}
+use Rattle.scenario_record.specs.Numbers.{is_idle}
+use Rattle.scenario_record.specs.Ranges.{IsInRange}
+use Rattle.scenario_record.specs.Record.{Record, proposal}
+use Rattle.scenario_record.specs.declared.algorithm.AlgorithmKind.TheVariants as kind
+use Rattle.trace_laws.specs.History.{IsIn}
+use Rattle.trace_laws.specs.ScenarioSetting.{setting_of}
+use Rattle.trace_laws.specs.World.{IsTrace}
+use Rattle.trace_laws.proofs.Sound.{setting_sound}
 use Rattle.judges.specs.Agreement.{Agrees, DecidesOnce, answers_of}
 use Rattle.judges.specs.Meaning.{IsProcess}
 use Rattle.judges.specs.Outcomes.{notes_of, is_answer, value_of, outcome, outcomes}

@@ -11,16 +11,16 @@ use Rattle.process_api.specs.declared.action.Note.{Note}
 use Rattle.process_api.specs.declared.action.Note.TheVariants as note
 use Rattle.process_api.specs.declared.action.Action.{Action}
 use Rattle.process_api.specs.declared.action.Action.TheVariants as action
-use Rattle.event_list.specs.Setting.{Setting, IsSound, IsProcess, has_crashed}
+use Rattle.trace_laws.specs.Setting.{Setting, IsSound, IsProcess, has_crashed}
 use Rattle.process_api.specs.Answer.{Answer}
 use Rattle.process_api.specs.EntryRecord.{EntryRecord}
 use Rattle.process_api.specs.Numbers.{change}
-use Rattle.event_list.specs.Step.{Process, Made, noted, dead, made_by}
-use Rattle.event_list.specs.World.{World, Pair, Has, IsWorld, Run, made, taken, opening, entries, IsTrace}
-use Rattle.event_list.specs.History.{IsIn}
-use Rattle.event_list.proofs.Steps.{in_left, in_right, change_at, change_other}
-use Rattle.event_list.proofs.Worlds.{process_at, process_other, taken_cases, taken_world}
-use Rattle.event_list.proofs.Closed.{opening_world}
+use Rattle.trace_laws.specs.Step.{Process, Made, noted, dead, made_by}
+use Rattle.trace_laws.specs.World.{World, Pair, Has, IsWorld, Run, made, taken, opening, entries, IsTrace}
+use Rattle.trace_laws.specs.History.{IsIn}
+use Rattle.trace_laws.proofs.Steps.{in_left, in_right, change_at, change_other}
+use Rattle.trace_laws.proofs.Worlds.{process_at, process_other, taken_cases, taken_world}
+use Rattle.trace_laws.proofs.Closed.{opening_world}
 use Rattle.judges.proofs.Agreement.Joined.{RunsCoordinator}
 use Rattle.judges.proofs.Agreement.Answering.{answers_in, answers_by}
 use Rattle.judges.proofs.Agreement.Local.{Local, Fine, next_of, verdicts, verdicts-append}

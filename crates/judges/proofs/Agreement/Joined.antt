@@ -6,8 +6,8 @@ use Rattle.process_api.specs.declared.action.Action.TheVariants.{Send, Wake, Not
 use Rattle.process_api.specs.declared.action.Note.TheVariants.{Suspect, Trust, Round, Decided, NoValue}
 use Rattle.process_api.specs.declared.message.Payload.TheVariants.{Alive, Heartbeat, Suspects, Vector, Last, Estimate, Proposal, Reply, Decide}
 use Rattle.process_api.specs.declared.message.StepInput.{StepInput}
-use Rattle.event_list.specs.Setting.{Setting, IsProcess}
-use Rattle.event_list.specs.History.{IsIn}
+use Rattle.trace_laws.specs.Setting.{Setting, IsProcess}
+use Rattle.trace_laws.specs.History.{IsIn}
 
 -- what the lower parts may do: they send no letter of the algorithm, and note suspicion and trust alone
 abbrev pub IsOfLower : Action → Type 0

@@ -13,8 +13,8 @@ use Rattle.process_api.specs.declared.action.Note.{Note}
 use Rattle.process_api.specs.declared.action.Note.TheVariants as note
 use Rattle.process_api.specs.declared.action.Action.{Action}
 use Rattle.process_api.specs.declared.action.Action.TheVariants as action
-use Rattle.event_list.specs.History.{IsIn}
-use Rattle.event_list.proofs.Steps.{in_append, change_at, change_other}
+use Rattle.trace_laws.specs.History.{IsIn}
+use Rattle.trace_laws.proofs.Steps.{in_append, change_at, change_other}
 use Rattle.process_api.specs.Numbers.{change}
 use Rattle.judges.proofs.Agreement.Answering.{answers_in}
 use Rattle.judges.proofs.Agreement.Locking.{IsChosen, IsLocked, Origin}

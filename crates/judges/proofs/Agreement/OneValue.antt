@@ -3,10 +3,10 @@ use Rattle.std.proofs.Common.{◌≡◌, ◌⊎◌, ℕ, ◌≤◌, inl, inr, re
 use Rattle.process_api.specs.Coordinator.{is_decided}
 use Rattle.process_api.specs.declared.message.Payload.TheVariants as payload
 use Rattle.process_api.specs.declared.action.Action.{Action}
-use Rattle.event_list.specs.Setting.{Setting, IsSound, IsProcess}
+use Rattle.trace_laws.specs.Setting.{Setting, IsSound, IsProcess}
 use Rattle.process_api.specs.EntryRecord.{EntryRecord}
-use Rattle.event_list.specs.World.{World, IsTrace}
-use Rattle.event_list.specs.History.{IsIn}
+use Rattle.trace_laws.specs.World.{World, IsTrace}
+use Rattle.trace_laws.specs.History.{IsIn}
 use Rattle.judges.proofs.Agreement.Joined.{RunsCoordinator}
 use Rattle.judges.proofs.Agreement.Answering.{answers_by}
 use Rattle.std.proofs.lemmas.Bool.{leb-true, and_parts}

@@ -17,8 +17,8 @@ use Rattle.process_api.specs.declared.message.StepInput.TheVariants as input
 use Rattle.process_api.specs.declared.action.Note.TheVariants as note
 use Rattle.process_api.specs.declared.action.Action.{Action}
 use Rattle.process_api.specs.declared.action.Action.TheVariants as action
-use Rattle.event_list.specs.History.{IsIn}
-use Rattle.event_list.proofs.Steps.{in_append}
+use Rattle.trace_laws.specs.History.{IsIn}
+use Rattle.trace_laws.proofs.Steps.{in_append}
 use Rattle.judges.proofs.Agreement.Joined.{IsOfLower}
 use Rattle.judges.proofs.Agreement.Majorities.{best_found, best_tops, there_is, is_true_there, some_same}
 use Rattle.judges.proofs.Agreement.Locking.{IsChosen, IsLocked}

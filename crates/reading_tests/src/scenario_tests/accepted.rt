@@ -22,11 +22,11 @@ max = 3
 
 /// What it stands for: defaults are filled in, and each of the four pairs has the common link.
 const FEWEST_IS: &str =
-    "Scenario { processes: 2, horizon: 10, lookahead: 2, limit: 1000000, seed: 1, \
+    "Scenario { fields: Fields { processes: 2, horizon: 10, lookahead: 2, limit: 1000000, seed: 1, \
     algorithm: Idle, detector: Timeout(TimeoutNumbers { period: 4, check: 3, timeout: 5, grow: 1, watch: All }), \
     share: None, proposals: [], crashes: [None, None], \
     links: [Link { min: 2, max: 3, loss: 0 }, Link { min: 2, max: 3, loss: 0 }, \
-    Link { min: 2, max: 3, loss: 0 }, Link { min: 2, max: 3, loss: 0 }], outages: [] }";
+    Link { min: 2, max: 3, loss: 0 }, Link { min: 2, max: 3, loss: 0 }], outages: [] } }";
 
 /// A file with every key.
 const EVERY: &str = "version = 2
@@ -84,7 +84,8 @@ until = 1
 ";
 
 /// What it stands for: the links and their outages are those from process 1 first, each to processes 1, 2 and 3.
-const EVERY_IS: &str = "Scenario { processes: 3, horizon: 10000000, lookahead: 7, limit: 12, \
+const EVERY_IS: &str =
+    "Scenario { fields: Fields { processes: 3, horizon: 10000000, lookahead: 7, limit: 12, \
     seed: 9223372036854775807, algorithm: EventuallyStrong, \
     detector: Timeout(TimeoutNumbers { period: 4, check: 3, timeout: 5, grow: 6, watch: Next }), \
     share: Some(8), proposals: [0, 20, 4294967295], crashes: [Some(0), None, Some(10000000)], \
@@ -94,7 +95,7 @@ const EVERY_IS: &str = "Scenario { processes: 3, horizon: 10000000, lookahead: 7
     Link { min: 10, max: 11, loss: 0 }, Link { min: 7, max: 9, loss: 300 }, Link { min: 7, max: 9, loss: 300 }], \
     outages: [[], [], [], \
     [], [], [Outage { begin: 9, until: 10000000 }, Outage { begin: 0, until: 1 }], \
-    [Outage { begin: 2, until: 5 }], [], []] }";
+    [Outage { begin: 2, until: 5 }], [], []] } }";
 
 #[test]
 fn fewest_and_every_key(rt: HostRuntime) -> Result<(), Fail> {

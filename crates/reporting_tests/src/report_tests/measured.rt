@@ -2,7 +2,7 @@
 use crate::comparisons::same;
 use crate::findings::{Quiet, are_quiet, is_row, quiet};
 use crate::traces::{ONE_CRASH, SHARED, scenario_of, trace_of};
-use qos_report::{Detection, Meter, PairMeasures, measures};
+use reporting::{Detection, Meter, PairMeasures, measures};
 use std::alloc::Global;
 use std::process::Abort;
 

@@ -1,6 +1,6 @@
 //! Outlets over a writer.
 use crate::comparisons::same;
-use qos_report::{Outlet, StreamOutlet};
+use reporting::{Outlet, StreamOutlet};
 use std::io::{self, Write};
 
 /// A writer that is interrupted once, and then takes everything.

@@ -5,7 +5,7 @@ use crate::findings::{are_quiet, outcome, without_mistake};
 use crate::traces::scenario_of;
 use event_list::RunError;
 use judges::{Answer, Outcome};
-use qos_report::{Detection, RunFindings, Summary, measure_list};
+use reporting::{Detection, RunFindings, Summary, measure_list};
 use scenario::{Scenario, read_scenario};
 use std::alloc::Global;
 use std::process::Abort;

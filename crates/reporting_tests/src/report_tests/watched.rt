@@ -1,7 +1,7 @@
 //! For how many ticks pairs are watched.
 use crate::comparisons::same;
 use crate::traces::scenario_of;
-use qos_report::watched_ticks;
+use reporting::watched_ticks;
 use scenario::read_scenario;
 use std::alloc::Global;
 use std::process::Abort;

@@ -4,7 +4,7 @@ ghost use Rattle.toml.specs.View.{table_view};
 ghost use Rattle.sweep.specs.StudyText.{IsStudyText};
 
 use super::studies::seven_points;
-use qos_report::MemoryOutlet;
+use reporting::MemoryOutlet;
 use std::alloc::Global;
 use std::marker::Sync;
 use std::thread::Threads;

@@ -3,7 +3,7 @@ use crate::comparisons::same;
 use crate::findings::{outcome, quiet, without_mistake};
 use crate::traces::{CRASH_AT_3, scenario_of};
 use judges::Answer;
-use qos_report::{Detection, RunFindings, Summary};
+use reporting::{Detection, RunFindings, Summary};
 use scenario::Scenario;
 use std::alloc::Global;
 use std::process::Abort;

@@ -1,6 +1,6 @@
 //! What tests of sweeps share: small studies by words, and their texts.
 use crate::traces::{CRASH_AT_3, file_of};
-use qos_report::MemoryOutlet;
+use reporting::MemoryOutlet;
 use std::alloc::Global;
 use std::marker::Sync;
 use std::process::Abort;

@@ -5,7 +5,7 @@ use super::rows::{
 use crate::findings::{outcome, quiet, without_mistake};
 use crate::traces::scenario_of;
 use judges::Answer;
-use qos_report::{Detection, PairMeasures, RunFindings};
+use reporting::{Detection, PairMeasures, RunFindings};
 use std::alloc::Global;
 use std::process::Abort;
 use study::Setting;

@@ -2,7 +2,7 @@
 use super::rows::is_text;
 use super::studies::{Study, seven_points, shard, study_of, swept, two_points};
 use crate::comparisons::same;
-use qos_report::{FuseOutlet, MemoryOutlet, Outlet};
+use reporting::{FuseOutlet, MemoryOutlet, Outlet};
 use scenario::ScenarioError;
 use std::alloc::Global;
 use std::marker::Sync;

@@ -2,7 +2,7 @@
 use super::rows::{crash_at_3, one_crash, run_of};
 use crate::comparisons::same;
 use crate::findings::quiet;
-use qos_report::Detection;
+use reporting::Detection;
 use std::alloc::Global;
 use std::process::Abort;
 use sweep::{DetectionTimes, PointSums, RunNumbers};

@@ -1,7 +1,7 @@
 //! What a watcher hears of a sweep.
 use super::studies::{Study, seven_points, shard, study_of};
 use crate::comparisons::same;
-use qos_report::{FuseOutlet, MemoryOutlet};
+use reporting::{FuseOutlet, MemoryOutlet};
 use std::alloc::Global;
 use std::marker::Sync;
 use std::process::Abort;

@@ -1,8 +1,8 @@
 //! Machines for runs by windows: time-out detectors, alone or with the rotating coordinator above them.
 ghost use Rattle.std.specs.Prelude.{◌≡◌, IfOk, map};
 ghost use Rattle.process_api.specs.Numbers.{numbers_to};
-ghost use Rattle.scenario.specs.Opening.{mind_of};
-ghost use Rattle.scenario.specs.Record.{opening_mind};
+ghost use Rattle.scenario_record.specs.Opening.{mind_of};
+ghost use Rattle.scenario_record.specs.Record.{opening_mind};
 
 use consensus_es::EsConsensus;
 use machines::make_all;

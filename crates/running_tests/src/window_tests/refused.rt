@@ -1,8 +1,8 @@
 //! Runs in which each input in turn is refused by the machine that takes it.
 ghost use Rattle.std.specs.Prelude.{◌≡◌, IfOk, map};
 ghost use Rattle.process_api.specs.Numbers.{numbers_to};
-ghost use Rattle.scenario.specs.Opening.{mind_of};
-ghost use Rattle.scenario.specs.Record.{opening_mind};
+ghost use Rattle.scenario_record.specs.Opening.{mind_of};
+ghost use Rattle.scenario_record.specs.Record.{opening_mind};
 
 use super::makers::watcher;
 use super::one_crash;

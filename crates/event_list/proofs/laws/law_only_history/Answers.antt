@@ -1,9 +1,9 @@
-use Rattle.event_list.specs.ScenarioSetting.{setting_of}
-use Rattle.event_list.proofs.Causes.{has_one_cause, is_taken_once}
-use Rattle.event_list.proofs.Closed.{opening_world, has_one_trace, trace_is_closed, only_history}
-use Rattle.event_list.proofs.Simulate.{plain_trace}
-use Rattle.event_list.proofs.Sound.{setting_sound}
-use Rattle.event_list.proofs.Worlds.{taken_world}
+use Rattle.trace_laws.specs.ScenarioSetting.{setting_of}
+use Rattle.trace_laws.proofs.Causes.{has_one_cause, is_taken_once}
+use Rattle.trace_laws.proofs.Closed.{opening_world, has_one_trace, trace_is_closed, only_history}
+use Rattle.trace_laws.proofs.Simulate.{plain_trace}
+use Rattle.trace_laws.proofs.Sound.{setting_sound}
+use Rattle.trace_laws.proofs.Worlds.{taken_world}
 use Rattle.event_list.proofs.laws.law_only_history.Goals as goal
 
 pub returns-clause-worlds : goal.returns-clause-worlds

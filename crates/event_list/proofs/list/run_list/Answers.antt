@@ -1,8 +1,8 @@
 use Rattle.std.proofs.Common.{◌≤◌, length, subst, sym, ◌∙◌}
 use Rattle.process_api.specs.Order.{is_rising}
-use Rattle.event_list.specs.Effects.{HasCauses, TakesOnce}
-use Rattle.event_list.specs.ScenarioSetting.{setting_of}
-use Rattle.event_list.specs.World.{IsTrace}
+use Rattle.trace_laws.specs.Effects.{HasCauses, TakesOnce}
+use Rattle.trace_laws.specs.ScenarioSetting.{setting_of}
+use Rattle.trace_laws.specs.World.{IsTrace}
 use Rattle.std.specs.Prelude.{IsTrue}
 use Rattle.event_list.proofs.Recording.{all_kept}
 use Rattle.event_list.proofs.list.run_list.Goals as goal

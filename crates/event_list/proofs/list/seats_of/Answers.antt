@@ -5,8 +5,8 @@ use Rattle.std.proofs.lemmas.List.{map-append}
 use Rattle.std.proofs.lemmas.List.Elements.{All-push, All-rest}
 use Rattle.process_api.specs.Mind.{Mind}
 use Rattle.event_list.specs.Seat.{process_of, IsMindIn, IsSeated}
-use Rattle.event_list.specs.Step.{Process}
-use Rattle.event_list.specs.World.{opened}
+use Rattle.trace_laws.specs.Step.{Process}
+use Rattle.trace_laws.specs.World.{opened}
 use Rattle.event_list.proofs.list.seats_of.Goals as goal
 
 pub loop-machine-preserved : goal.loop-machine-preserved

@@ -1,5 +1,5 @@
 use Rattle.std.proofs.Common.{◌≡◌}
-use Rattle.event_list.specs.World.{starts}
+use Rattle.trace_laws.specs.World.{starts}
 use Rattle.event_list.proofs.list.starts_of.Given as goal
 
 abbrev pub invariant-loop-before : goal.invariant-loop-before

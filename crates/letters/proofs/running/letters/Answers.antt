@@ -1,5 +1,5 @@
 use Rattle.std.proofs.Common.{◌++◌, [], map, refl, sym, ◌∙◌, append-nil}
-use Rattle.event_list.specs.ScenarioSetting.{setting_of}
+use Rattle.trace_laws.specs.ScenarioSetting.{setting_of}
 use Rattle.letters.specs.Book.{HasHeard}
 use Rattle.letters.specs.Letters.{letter_of}
 use Rattle.letters.proofs.Coming.{letters_in_trace}

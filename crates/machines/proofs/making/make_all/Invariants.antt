@@ -1,6 +1,6 @@
 use Rattle.std.proofs.Common.{◌≡◌, map}
 use Rattle.process_api.specs.Numbers.{numbers_to}
-use Rattle.scenario.specs.Record.{opening_mind}
+use Rattle.scenario_record.specs.Record.{opening_mind}
 use Rattle.machines.proofs.making.make_all.Given as goal
 
 -- the machines so far open as the scenario says

@@ -9,7 +9,7 @@ use Rattle.mailboxes.specs.Mailbox.{HomeView}
 use Rattle.mailboxes.specs.Mailboxes.{letters_in}
 use Rattle.mailboxes.proofs.Homes.{mailbox_of, back_of, Even}
 use Rattle.mailboxes.proofs.Emptied.{IsBlank, IsIn}
-use Rattle.mailboxes.proofs.Lists.{Shuffled, Shuffled-refl, Shuffled-next}
+use Rattle.ledger.proofs.Lists.{Shuffled, Shuffled-refl, Shuffled-next}
 use Rattle.mailboxes.proofs.emptying.empty_in_turn.Goals as goal
 
 pub loop-home-init : goal.loop-home-init

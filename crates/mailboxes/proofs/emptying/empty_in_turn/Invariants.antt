@@ -2,7 +2,7 @@ use Rattle.std.proofs.Common.{◌≡◌, ◌++◌, [], length, map}
 use Rattle.std.specs.List.{All}
 use Rattle.std.specs.Vec.Iter.{into_iter_items}
 use Rattle.mailboxes.specs.Mailboxes.{letters_in}
-use Rattle.mailboxes.proofs.Lists.{Shuffled}
+use Rattle.ledger.proofs.Lists.{Shuffled}
 use Rattle.mailboxes.proofs.emptying.empty_in_turn.Given as goal
 
 -- the homes so far and the rest are of all mailboxes, and the lists so far with what the rest would give are right

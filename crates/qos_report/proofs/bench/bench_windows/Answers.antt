@@ -1,20 +1,20 @@
 use Rattle.std.proofs.Common.{rules, ◌<◌, ◌^◌, ap, subst, refl, Err, Ok, length, arith}
 use Rattle.std.specs.Prelude.{IsTrue}
-use Rattle.event_list.proofs.Closed.{has_trace}
-use Rattle.event_list.proofs.Effects.{trace_has_causes, trace_takes_once}
-use Rattle.event_list.proofs.Sound.{setting_sound}
-use Rattle.event_list.specs.ScenarioSetting.{setting_of}
-use Rattle.event_list.specs.Setting.{IsSound}
+use Rattle.trace_laws.proofs.Closed.{has_trace}
+use Rattle.trace_laws.proofs.Effects.{trace_has_causes, trace_takes_once}
+use Rattle.trace_laws.proofs.Sound.{setting_sound}
+use Rattle.trace_laws.specs.ScenarioSetting.{setting_of}
+use Rattle.trace_laws.specs.Setting.{IsSound}
 use Rattle.event_list.specs.declared.error.RunError.TheVariants.{Memory, Write}
 use Rattle.judges.proofs.Agreement.Agreed.{agrees}
 use Rattle.qos_report.proofs.Breaking.{breaks_at_close, breaks_at_opening, breaks_in_rows, breaks_in_write, part_in_header, part_in_report, wrote_printed}
-use Rattle.qos_report.proofs.Fed.{if_reason}
-use Rattle.qos_report.proofs.Finishing.{finishes}
-use Rattle.qos_report.specs.ReportText.{report_text}
-use Rattle.qos_report.specs.Running.{IsTextWhere}
+use Rattle.reporting.proofs.Fed.{if_reason}
+use Rattle.reporting.proofs.Finishing.{finishes}
+use Rattle.reporting.specs.ReportText.{report_text}
+use Rattle.reporting.specs.Running.{IsTextWhere}
 use Rattle.qos_report.specs.Streaming.{WroteFront, WroteWhere}
-use Rattle.qos_report.specs.TraceText.{rows_text, trace_header}
-use Rattle.qos_report.specs.declared.running.Running.{Running}
+use Rattle.reporting.specs.TraceText.{rows_text, trace_header}
+use Rattle.reporting.specs.declared.running.Running.{Running}
 use Rattle.qos_report.proofs.bench.bench_windows.Goals as goal
 
 pub returns-clause-done : goal.returns-clause-done

@@ -2,9 +2,9 @@ use Rattle.std.proofs.Common.{◌∙◌, ◌++◌, ◌∷◌, [], suc, sym, ap, 
 use Rattle.std.proofs.lemmas.List.{take_all, take_more}
 use Rattle.windows.proofs.Handed.{on_err}
 use Rattle.qos_report.specs.Streaming.{AreUnderWay, WroteFront}
-use Rattle.qos_report.specs.Writing.{WrotePart}
-use Rattle.qos_report.proofs.Fed.{err_part, split_at}
-use Rattle.qos_report.proofs.Written.{front_more, part_out}
+use Rattle.reporting.specs.Writing.{WrotePart}
+use Rattle.reporting.proofs.Fed.{err_part, split_at}
+use Rattle.qos_report.proofs.UnderWay.{front_more, part_out}
 use Rattle.qos_report.proofs.streaming.write_rows.Goals as goal
 
 pub returns-in_err-write_row-clause-front : goal.returns-in_err-write_row-clause-front

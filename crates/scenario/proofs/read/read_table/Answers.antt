@@ -1,6 +1,6 @@
 use Rattle.std.proofs.Common.{◌≡◌, ◌∙◌, ◌<◌, ◌^◌, ap, sym, rules, [], ◌++◌, map, Some, subst, codes}
 use Rattle.toml.specs.View.{table_view}
-use Rattle.scenario.specs.Ranges.{IsInRange}
+use Rattle.scenario_record.specs.Ranges.{IsInRange}
 use Rattle.scenario.specs.Text.{number_at, record_of}
 use Rattle.scenario.specs.Refusals.{key_rules, number_rules, part_rules, table_rules}
 use Rattle.scenario.specs.Groups.{Passes, StopsAt, StopsFirst}
@@ -23,8 +23,8 @@ returns-in_err-parts-clause-err c = carried (StopsFirst table_rules (Some (table
     let numbers : Passes number_rules (Some (table_view c.args.table.now)) = search rules in
     first_after (key_rules ++ number_rules) part_rules (Some (table_view c.args.table.now)) c.in_err-parts.field-0.0 (passes_joined key_rules number_rules (Some (table_view c.args.table.now)) keys numbers) ((subst (λ t. StopsFirst part_rules (Some t) c.in_err-parts.field-0.0) c.in-Ok.ensures.0 c.in_err-parts.ensures.err) other))
 
-pub invariant_of-result : goal.invariant_of-result
-invariant_of-result c =
+pub of-requires : goal.of-requires
+of-requires c =
     let keys : Passes key_rules (Some (table_view c.args.table.now)) = search rules in
     let numbers : Passes number_rules (Some (table_view c.args.table.now)) = search rules in
     let parts : Passes part_rules (Some (table_view c.args.table.now)) = search rules in

@@ -1,6 +1,6 @@
 use Rattle.std.proofs.Common.{rules}
-use Rattle.qos_report.specs.Measured.{MeasuresRun}
-use Rattle.qos_report.specs.Streaming.{IsLonger}
+use Rattle.reporting.specs.Measured.{MeasuresRun}
+use Rattle.reporting.specs.Printed.{IsLonger}
 use Rattle.sweep.specs.Results.{finished, limited}
 use Rattle.sweep.proofs.measuring.measure_scenario.Goals as goal
 

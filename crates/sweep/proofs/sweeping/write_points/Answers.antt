@@ -2,7 +2,7 @@ use Rattle.std.proofs.Common.{rules, ◌≡◌, ℕ, ◌+◌, ◌-◌, ◌*◌, 
 use Rattle.std.specs.List.{AllZip}
 use Rattle.std.proofs.Math.Nat.{mul-le-mul_right}
 use Rattle.toml.specs.View.{table_view}
-use Rattle.qos_report.proofs.Written.{wrote_nothing}
+use Rattle.reporting.proofs.Written.{wrote_nothing}
 use Rattle.study.specs.Grid.{runs}
 use Rattle.sweep.specs.Numbering.{AreAnswersFrom}
 use Rattle.sweep.specs.Progress.{WroteUpTo}

@@ -1,6 +1,6 @@
 use Rattle.std.proofs.Common.{◌≡◌, map}
 use Rattle.std.specs.Vec.Iter.{into_iter_items}
-use Rattle.event_list.specs.World.{joined}
+use Rattle.trace_laws.specs.World.{joined}
 use Rattle.windows.specs.Agenda.{event_of}
 use Rattle.windows.proofs.agenda.join_all.Given as goal
 

@@ -2,11 +2,11 @@ use Rattle.std.proofs.Common.{◌≡◌, ◌+◌, ◌∷◌, ◌++◌, List, len
 use Rattle.std.specs.List.{AllByRecursion}
 use Rattle.std.specs.Prelude.{drop}
 use Rattle.std.proofs.lemmas.List.{map-append}
-use Rattle.event_list.specs.Step.{Event}
-use Rattle.event_list.specs.World.{joined}
+use Rattle.trace_laws.specs.Step.{Event}
+use Rattle.trace_laws.specs.World.{joined}
 use Rattle.windows.specs.Agenda.{event_of}
 use Rattle.windows.specs.Berth.{with_letters, IsOwnOrLetter}
-use Rattle.windows.specs.Machine.{for_self, for_others}
+use Rattle.window_laws.specs.Machine.{for_self, for_others}
 use Rattle.windows.proofs.Letters.{self_more, others_more, with_more}
 use Rattle.windows.proofs.berth.hand_on_all.Goals as goal
 

@@ -2,11 +2,11 @@ use Rattle.std.proofs.Common.{◌≡◌, ◌++◌, List, length, map, vec_len}
 use Rattle.std.specs.List.{AllByRecursion}
 use Rattle.std.specs.Prelude.{drop}
 use Rattle.process_api.specs.declared.message.Letter.{Letter}
-use Rattle.event_list.specs.World.{joined}
+use Rattle.trace_laws.specs.World.{joined}
 use Rattle.mailboxes.specs.Mailboxes.{IsSlipOf}
 use Rattle.windows.specs.Agenda.{event_of}
 use Rattle.windows.specs.Berth.{with_letters, IsOwnOrLetter}
-use Rattle.windows.specs.Machine.{for_self, for_others}
+use Rattle.window_laws.specs.Machine.{for_self, for_others}
 use Rattle.windows.proofs.berth.hand_on_all.Given as goal
 
 -- what was done so far and what the rest does is what all do

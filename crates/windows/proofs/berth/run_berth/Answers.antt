@@ -3,15 +3,15 @@ use Rattle.std.specs.FinMap as events
 use Rattle.std.proofs.lemmas.List.{map-append}
 use Rattle.process_api.specs.Bounds.{most_step_actions}
 use Rattle.process_api.specs.declared.message.Letter.{Letter}
-use Rattle.event_list.specs.ScenarioSetting.{setting_of}
+use Rattle.trace_laws.specs.ScenarioSetting.{setting_of}
 use Rattle.event_list.specs.Seat.{process_of, own_of, IsSeated}
-use Rattle.event_list.specs.Step.{step}
-use Rattle.event_list.specs.World.{Has, joined}
+use Rattle.trace_laws.specs.Step.{step}
+use Rattle.trace_laws.specs.World.{Has, joined}
 use Rattle.windows.specs.Agenda.{event_of}
 use Rattle.windows.specs.Berth.{with_letters}
-use Rattle.windows.specs.Machine.{for_self, for_others}
-use Rattle.windows.specs.Window.{BerthRun}
-use Rattle.windows.proofs.Berths.{BerthStands, berth_opens, berth_next, berth_ends}
+use Rattle.window_laws.specs.Machine.{for_self, for_others}
+use Rattle.window_laws.specs.Window.{BerthRun}
+use Rattle.window_laws.proofs.Berths.{BerthStands, berth_opens, berth_next, berth_ends}
 use Rattle.windows.proofs.Letters.{with_more}
 use Rattle.windows.proofs.Taken.{below_of, removed_of, none_below_of, kept_of}
 use Rattle.windows.proofs.berth.run_berth.Goals as goal

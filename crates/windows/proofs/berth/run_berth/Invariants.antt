@@ -1,12 +1,12 @@
 use Rattle.std.proofs.Common.{◌≡◌, ◌≤◌, ◌+◌, ◌*◌, ◌-◌, List, map, vec_len}
 use Rattle.process_api.specs.Bounds.{most_step_actions}
 use Rattle.process_api.specs.declared.message.Letter.{Letter}
-use Rattle.event_list.specs.ScenarioSetting.{setting_of}
+use Rattle.trace_laws.specs.ScenarioSetting.{setting_of}
 use Rattle.event_list.specs.Seat.{process_of, own_of, IsSeated}
 use Rattle.mailboxes.specs.Mailboxes.{IsSlipOf}
 use Rattle.windows.specs.Agenda.{event_of}
 use Rattle.windows.specs.Berth.{with_letters}
-use Rattle.windows.proofs.Berths.{BerthStands}
+use Rattle.window_laws.proofs.Berths.{BerthStands}
 use Rattle.windows.proofs.berth.run_berth.Given as goal
 
 abbrev pub invariant-loop-key : goal.invariant-loop-key

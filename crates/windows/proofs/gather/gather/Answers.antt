@@ -4,10 +4,10 @@ use Rattle.std.specs.List.Sorted.{IsPermutation}
 use Rattle.std.specs.Vec.Iter.{into_iter_items}
 use Rattle.std.proofs.lemmas.List.Elements.{All-nil, All-push, All-same, All-head, All-tail}
 use Rattle.std.proofs.lemmas.List.Sorted.{IsPermutation-refl}
-use Rattle.windows.specs.Deques.{HandView, deques_of}
+use Rattle.deques.specs.Deques.{HandView, deques_of}
 use Rattle.windows.specs.Workers.{IsWork}
 use Rattle.windows.specs.declared.workers.Work.{Work}
-use Rattle.windows.proofs.Deals.{map_turn, flat_push, none_left}
+use Rattle.deques.proofs.Deals.{map_turn, flat_push, none_left}
 use Rattle.windows.proofs.Gathered.{works_none, works_more, works_taken}
 use Rattle.windows.proofs.gather.gather.Goals as goal
 

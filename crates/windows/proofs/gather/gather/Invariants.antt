@@ -1,9 +1,9 @@
 use Rattle.std.proofs.Common.{◌≡◌, ◌≤◌, ◌+◌, ◌++◌, ℕ, List, length, map, vec_len, vec_capacity}
 use Rattle.std.specs.List.{All, flat_map}
 use Rattle.std.specs.Vec.Iter.{into_iter_items}
-use Rattle.scenario.specs.Record.{Record}
+use Rattle.scenario_record.specs.Record.{Record}
 use Rattle.mailboxes.specs.Mailbox.{MailboxId}
-use Rattle.windows.specs.Deques.{deques_of}
+use Rattle.deques.specs.Deques.{deques_of}
 use Rattle.windows.specs.Workers.{IsWork, AreWorks}
 use Rattle.windows.proofs.gather.gather.Given as goal
 

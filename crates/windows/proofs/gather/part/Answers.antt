@@ -3,8 +3,8 @@ use Rattle.std.specs.List.Sorted.{IsPermutation}
 use Rattle.std.proofs.lemmas.List.Elements.{All-push, All-same}
 use Rattle.std.proofs.lemmas.Iterator.Adapters.{YieldsList-from_vec}
 use Rattle.std.proofs.lemmas.Iterator.Consumers.{YieldsList-end}
-use Rattle.mailboxes.proofs.Lists.{map_same}
-use Rattle.event_list.specs.World.{NoneBelow}
+use Rattle.ledger.proofs.Lists.{map_same}
+use Rattle.trace_laws.specs.World.{NoneBelow}
 use Rattle.windows.specs.declared.berth.Berth.{Berth}
 use Rattle.windows.proofs.Gathered.{one_put, one_idle}
 use Rattle.windows.proofs.gather.part.Goals as goal

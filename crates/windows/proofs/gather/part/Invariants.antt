@@ -1,7 +1,7 @@
 use Rattle.std.proofs.Common.{◌++◌}
 use Rattle.std.specs.List.{All}
 use Rattle.std.specs.List.Sorted.{IsPermutation}
-use Rattle.event_list.specs.World.{NoneBelow}
+use Rattle.trace_laws.specs.World.{NoneBelow}
 use Rattle.windows.proofs.gather.part.Given as goal
 
 abbrev pub invariant-loop-berth : goal.invariant-loop-berth

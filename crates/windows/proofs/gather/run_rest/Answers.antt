@@ -3,7 +3,7 @@ use Rattle.std.specs.List.{Contains}
 use Rattle.std.specs.List.Sorted.{IsPermutation}
 use Rattle.std.proofs.lemmas.List.Elements.{All-contains}
 use Rattle.std.proofs.lemmas.List.Sorted.{IsPermutation-refl, IsPermutation-trans, IsPermutation-append_left}
-use Rattle.windows.specs.Deques.{RestView, all_put}
+use Rattle.deques.specs.Deques.{RestView, all_put}
 use Rattle.windows.specs.Workers.{IsReady}
 use Rattle.windows.proofs.Work.{run_begins, run_more, same_run}
 use Rattle.windows.proofs.gather.run_rest.Goals as goal

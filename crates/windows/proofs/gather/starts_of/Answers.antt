@@ -3,10 +3,10 @@ use Rattle.std.specs.List.{All}
 use Rattle.std.specs.Vec.Iter.{into_iter_items}
 use Rattle.std.proofs.lemmas.List.Elements.{All-nil, All-push, All-same, All-head, All-tail}
 use Rattle.mailboxes.specs.Mailboxes.{MailboxesView, mailboxes_of, unused}
-use Rattle.windows.specs.Deques.{HandView, deques_of, all_put, IsDealt}
+use Rattle.deques.specs.Deques.{HandView, deques_of, all_put, IsDealt}
 use Rattle.windows.specs.Workers.{IsFresh}
 use Rattle.windows.specs.declared.workers.Start.{Start}
-use Rattle.windows.proofs.Deals.{map_turn}
+use Rattle.deques.proofs.Deals.{map_turn}
 use Rattle.windows.proofs.gather.starts_of.Goals as goal
 
 pub loop-hand-init : goal.loop-hand-init

@@ -2,7 +2,7 @@ use Rattle.std.proofs.Common.{◌≡◌, ◌≤◌, ◌+◌, ◌++◌, length, m
 use Rattle.std.specs.List.{All}
 use Rattle.std.specs.Vec.Iter.{into_iter_items}
 use Rattle.mailboxes.specs.Mailboxes.{mailboxes_of}
-use Rattle.windows.specs.Deques.{deques_of, all_put, IsDealt}
+use Rattle.deques.specs.Deques.{deques_of, all_put, IsDealt}
 use Rattle.windows.specs.Workers.{IsFresh}
 use Rattle.windows.proofs.gather.starts_of.Given as goal
 

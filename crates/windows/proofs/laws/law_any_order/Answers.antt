@@ -1,9 +1,9 @@
-use Rattle.event_list.specs.ScenarioSetting.{setting_of}
-use Rattle.event_list.proofs.Sound.{setting_sound}
-use Rattle.windows.proofs.Exists.{any_run}
-use Rattle.windows.proofs.Order.{any_order, close_alike}
-use Rattle.windows.proofs.Together.{berths_run}
-use Rattle.windows.proofs.Whole.{windows_trace}
+use Rattle.trace_laws.specs.ScenarioSetting.{setting_of}
+use Rattle.trace_laws.proofs.Sound.{setting_sound}
+use Rattle.window_laws.proofs.Exists.{any_run}
+use Rattle.window_laws.proofs.Order.{any_order, close_alike}
+use Rattle.window_laws.proofs.Together.{berths_run}
+use Rattle.window_laws.proofs.Whole.{windows_trace}
 use Rattle.windows.proofs.laws.law_any_order.Goals as goal
 
 pub returns-clause-any_order : goal.returns-clause-any_order

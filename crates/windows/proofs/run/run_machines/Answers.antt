@@ -1,10 +1,10 @@
 use Rattle.std.proofs.Common.{rules, ◌≡◌, ◌<◌, ◌≤◌, [], ◌++◌, ◌∷◌, List, inl, inr, refl, length, subst, sym, ap, ◌∙◌, true, arith, append-nil}
 use Rattle.std.proofs.lemmas.Bool.{eqb-true}
 use Rattle.process_api.specs.EntryRecord.{EntryRecord}
-use Rattle.event_list.specs.ScenarioSetting.{setting_of}
-use Rattle.event_list.specs.World.{IsTrace}
+use Rattle.trace_laws.specs.ScenarioSetting.{setting_of}
+use Rattle.trace_laws.specs.World.{IsTrace}
 use Rattle.windows.specs.Stage.{IsStageAfter}
-use Rattle.windows.specs.Theorems.{end_to_end}
+use Rattle.window_laws.specs.Theorems.{end_to_end}
 use Rattle.windows.proofs.Closing.{stage_trace, stage_front}
 use Rattle.windows.proofs.Handed.{took_more, end_to_end_more, on_err, trace_within}
 use Rattle.windows.proofs.run.run_machines.Goals as goal

@@ -2,7 +2,7 @@ use Rattle.std.proofs.Common.{◌≡◌, ◌-◌, List}
 use Rattle.process_api.specs.EntryRecord.{EntryRecord}
 use Rattle.windows.specs.Sink.{TookAll}
 use Rattle.windows.specs.Stage.{IsStageAfter}
-use Rattle.windows.specs.Theorems.{end_to_end}
+use Rattle.window_laws.specs.Theorems.{end_to_end}
 use Rattle.windows.proofs.run.run_machines.Given as goal
 
 abbrev pub invariant-loop-alloc : goal.invariant-loop-alloc

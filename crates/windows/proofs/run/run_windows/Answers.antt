@@ -1,9 +1,9 @@
 use Rattle.std.proofs.Common.{◌≡◌, ◌++◌, subst, sym, ap, ◌∙◌}
-use Rattle.event_list.specs.ScenarioSetting.{setting_of}
-use Rattle.event_list.specs.World.{IsTrace}
-use Rattle.event_list.proofs.Closed.{trace_rises}
-use Rattle.event_list.proofs.Sound.{setting_sound}
-use Rattle.windows.specs.Theorems.{end_to_end}
+use Rattle.trace_laws.specs.ScenarioSetting.{setting_of}
+use Rattle.trace_laws.specs.World.{IsTrace}
+use Rattle.trace_laws.proofs.Closed.{trace_rises}
+use Rattle.trace_laws.proofs.Sound.{setting_sound}
+use Rattle.window_laws.specs.Theorems.{end_to_end}
 use Rattle.windows.specs.declared.kept.Kept.{Kept}
 use Rattle.windows.proofs.Handed.{kept_all}
 use Rattle.windows.proofs.run.run_windows.Goals as goal

@@ -5,8 +5,8 @@ use Rattle.std.proofs.lemmas.List.{map-append}
 use Rattle.std.proofs.lemmas.List.Elements.{All-push, All-rest}
 use Rattle.process_api.specs.Mind.{Mind}
 use Rattle.event_list.specs.Seat.{process_of, own_of, IsMindIn}
-use Rattle.event_list.specs.Step.{Process}
-use Rattle.event_list.specs.World.{opened}
+use Rattle.trace_laws.specs.Step.{Process}
+use Rattle.trace_laws.specs.World.{opened}
 use Rattle.windows.specs.Stage.{start_event, IsOpened}
 use Rattle.windows.specs.declared.berth.Berth.{Berth}
 use Rattle.windows.proofs.stage.berths_of.Goals as goal

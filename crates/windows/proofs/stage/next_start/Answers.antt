@@ -1,6 +1,6 @@
 use Rattle.std.proofs.Common.{rules, ◌≡◌, ◌+◌, ◌++◌, ◌∷◌, [], map, ap, sym, subst, ◌∙◌, take, min}
 use Rattle.std.proofs.lemmas.List.{take_more, map-append}
-use Rattle.event_list.specs.Step.{Events}
+use Rattle.trace_laws.specs.Step.{Events}
 use Rattle.windows.specs.Stage.{IsNextStart}
 use Rattle.windows.specs.declared.berth.Berth.{Berth}
 use Rattle.windows.proofs.Starts.{none_pending, one_empty, one_pending}

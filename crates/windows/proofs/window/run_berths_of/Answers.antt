@@ -1,7 +1,7 @@
 use Rattle.std.proofs.Common.{rules, ◌≡◌, ap, sym, ◌∙◌, subst}
 use Rattle.std.specs.List.{All}
 use Rattle.std.proofs.lemmas.List.Sorted.{All-permutation}
-use Rattle.windows.specs.Deques.{all_put, deques_of}
+use Rattle.deques.specs.Deques.{all_put, deques_of}
 use Rattle.windows.specs.Shared.{AreReady, IsOneTooLong}
 use Rattle.windows.specs.Workers.{IsReady, dealt_to}
 use Rattle.windows.specs.declared.workers.Start.{Start}

@@ -1,6 +1,6 @@
 use Rattle.std.proofs.Common.{rules, ◌≡◌, map, sym, ap, ◌∙◌, subst}
 use Rattle.std.proofs.lemmas.List.Elements.{All-weaker}
-use Rattle.windows.specs.Deques.{deques_of, all_put}
+use Rattle.deques.specs.Deques.{deques_of, all_put}
 use Rattle.windows.specs.Shared.{AreReady, IsOneTooLong, IsFreshIn, IsStart, IsWorkIn}
 use Rattle.windows.specs.Workers.{dealt_to, BringsTogether}
 use Rattle.windows.specs.declared.workers.Start.{Start}

@@ -2,10 +2,10 @@ use Rattle.std.proofs.Common.{rules, ◌≡◌, ◌+◌, ◌-◌, min, sym, ap, 
 use Rattle.event_list.specs.declared.error.RunError.{RunError}
 use Rattle.windows.specs.Refusals.{IsRefusal, IsRefusalOfOne}
 use Rattle.std.specs.Global.{Vec}
-use Rattle.scenario.specs.Record.{Record}
-use Rattle.event_list.specs.ScenarioSetting.{setting_of}
+use Rattle.scenario_record.specs.Record.{Record}
+use Rattle.trace_laws.specs.ScenarioSetting.{setting_of}
 use Rattle.event_list.specs.Seat.{own_of}
-use Rattle.windows.specs.Machine.{end_of}
+use Rattle.window_laws.specs.Machine.{end_of}
 use Rattle.windows.specs.Workers.{RiseBy}
 use Rattle.windows.specs.declared.berth.Berth.{Berth}
 use Rattle.windows.proofs.Posted.{outcome_by, many_by, rising_by, disjoint_by, limit_by, next_by}

@@ -5,7 +5,7 @@ use Rattle.windows.specs.declared.workers.Start.{Start}
 use Rattle.windows.specs.declared.workers.Work.{Work}
 use Rattle.windows.specs.Shared.{IsStart, IsWorkIn, IsAnswerTo, IsOneTooLong}
 use Rattle.event_list.specs.declared.error.RunError.TheVariants.{Limit}
-use Rattle.windows.proofs.Deals.{map_push}
+use Rattle.deques.proofs.Deals.{map_push}
 use Rattle.windows.proofs.workers.+start_workers.Goals as goal
 
 pub spawn_with-started-requires-clause-runs : goal.spawn_with-started-requires-clause-runs

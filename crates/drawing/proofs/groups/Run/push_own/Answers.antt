@@ -1,7 +1,7 @@
 use Rattle.std.proofs.Common.{◌≡◌, ◌∙◌, ◌++◌, ◌∷◌, ◌+◌, [], ap}
 use Rattle.judges.specs.Outcomes.{outcome}
 use Rattle.judges.specs.declared.outcomes.Outcome.{Outcome}
-use Rattle.scenario.specs.Record.{crash}
+use Rattle.scenario_record.specs.Record.{crash}
 use Rattle.svg.specs.declared.class.Class.TheVariants.{Life}
 use Rattle.drawing.specs.Drawn.{own_of}
 use Rattle.drawing.specs.Layout.{shown}

@@ -1,5 +1,5 @@
 use Rattle.std.proofs.Common.{◌≡◌, ◌∙◌, ◌++◌, ◌∷◌, ◌+◌, [], ap}
-use Rattle.scenario.specs.Record.{crash}
+use Rattle.scenario_record.specs.Record.{crash}
 use Rattle.svg.specs.declared.class.Class.TheVariants.{Grid}
 use Rattle.drawing.specs.Drawn.{pair_of, first_bars, second_bars_of}
 use Rattle.drawing.specs.Layout.{shown}

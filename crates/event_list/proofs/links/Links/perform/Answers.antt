@@ -1,7 +1,7 @@
 use Rattle.std.proofs.Common.{◌≡◌, ◌+◌, ◌∷◌, ℕ, length, ap, ◌∙◌, sym, refl, arith, subst, slice_set, slice_index_or}
 use Rattle.std.specs.Prelude.{drop}
 use Rattle.process_api.specs.declared.action.Action.{Action}
-use Rattle.event_list.specs.ScenarioSetting.{setting_of}
+use Rattle.trace_laws.specs.ScenarioSetting.{setting_of}
 use Rattle.event_list.specs.Seat.{count_of}
 use Rattle.std.proofs.lemmas.List.{length-set}
 use Rattle.event_list.proofs.Joining.{joined_next}

@@ -2,10 +2,10 @@ use Rattle.std.proofs.Common.{◌≡◌, ◌≤◌, ◌+◌, ◌++◌, ℕ, leng
 use Rattle.std.specs.List.{AllByRecursion}
 use Rattle.std.specs.Prelude.{drop}
 use Rattle.process_api.specs.Actions.{IsAllowed}
-use Rattle.event_list.specs.ScenarioSetting.{setting_of}
+use Rattle.trace_laws.specs.ScenarioSetting.{setting_of}
 use Rattle.event_list.specs.Posting.{posted_by}
 use Rattle.event_list.specs.Seat.{count_of}
-use Rattle.event_list.specs.Step.{counts_after, added, sent, lost, noted}
+use Rattle.trace_laws.specs.Step.{counts_after, added, sent, lost, noted}
 use Rattle.event_list.proofs.Joining.{Joined}
 use Rattle.event_list.proofs.links.Links.perform.Given as goal
 

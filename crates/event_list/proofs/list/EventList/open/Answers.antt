@@ -1,9 +1,9 @@
 use Rattle.std.proofs.Common.{length, map, ap, ◌∙◌, arith}
 use Rattle.std.proofs.lemmas.List.{length-map}
 use Rattle.process_api.specs.Numbers.{numbers_to}
-use Rattle.scenario.specs.Record.{opening_mind}
+use Rattle.scenario_record.specs.Record.{opening_mind}
 use Rattle.event_list.specs.Seat.{process_of}
-use Rattle.event_list.specs.World.{opened, starts}
+use Rattle.trace_laws.specs.World.{opened, starts}
 use Rattle.event_list.proofs.Openings.{opening_stands, machines_open, length-numbers_to}
 use Rattle.event_list.proofs.list.EventList.open.Goals as goal
 

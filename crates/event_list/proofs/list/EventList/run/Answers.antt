@@ -5,16 +5,16 @@ use Rattle.process_api.specs.Bounds.{most_step_actions}
 use Rattle.process_api.specs.Mind.{Mind}
 use Rattle.event_list.specs.Joins.{HaveJoined}
 use Rattle.event_list.specs.Posting.{posted_in}
-use Rattle.event_list.specs.ScenarioSetting.{setting_of}
+use Rattle.trace_laws.specs.ScenarioSetting.{setting_of}
 use Rattle.event_list.specs.Seat.{process_of, IsSeated}
-use Rattle.event_list.specs.Setting.{IsProcess}
+use Rattle.trace_laws.specs.Setting.{IsProcess}
 use Rattle.event_list.specs.Standing.{IsStepped}
-use Rattle.event_list.specs.Step.{Process, step}
+use Rattle.trace_laws.specs.Step.{Process, step}
 use Rattle.event_list.proofs.Joining.{none_joined, joined_then}
 use Rattle.event_list.proofs.Recording.{Going, taken_next, longer, cut_short}
-use Rattle.event_list.proofs.Sound.{setting_sound}
+use Rattle.trace_laws.proofs.Sound.{setting_sound}
 use Rattle.event_list.proofs.Standing.{first_longer, first_receiver, first_process, first_own, stands_next, stands_end}
-use Rattle.event_list.proofs.Taken.{least_of, removed_of, none_of}
+use Rattle.pending_events.proofs.Taken.{least_of, removed_of, none_of}
 use Rattle.event_list.proofs.list.EventList.run.Goals as goal
 
 pub loop-self-init : goal.loop-self-init

@@ -3,10 +3,10 @@ use Rattle.std.proofs.lemmas.List.{map-set}
 use Rattle.std.proofs.lemmas.List.Elements.{All-set, All-weaker, All-get_or}
 use Rattle.event_list.specs.Joins.{HaveJoined}
 use Rattle.event_list.specs.Posting.{posted_in}
-use Rattle.event_list.specs.ScenarioSetting.{setting_of}
+use Rattle.trace_laws.specs.ScenarioSetting.{setting_of}
 use Rattle.event_list.specs.Seat.{process_of, IsSeated}
 use Rattle.event_list.specs.Standing.{IsStepped}
-use Rattle.event_list.specs.Step.{step}
+use Rattle.trace_laws.specs.Step.{step}
 use Rattle.event_list.proofs.Standing.{place_is, image_at}
 use Rattle.event_list.proofs.list.EventList.take.Goals as goal
 use Rattle.process_api.specs.Bounds.{most_step_actions}

@@ -1,8 +1,8 @@
 use Rattle.std.proofs.Common.{◌≡◌, ◌+◌, ◌∙◌, ℕ, zero, suc, ap, refl, replicate}
 use Rattle.process_api.specs.Mind.{Mind}
 use Rattle.event_list.specs.Seat.{count_of}
-use Rattle.event_list.specs.Step.{Process}
-use Rattle.event_list.specs.World.{opened}
+use Rattle.trace_laws.specs.Step.{Process}
+use Rattle.trace_laws.specs.World.{opened}
 use Rattle.event_list.proofs.seat.Seat.new.Goals as goal
 
 zero_at : (n q : ℕ) → count_of (replicate n 0) q ≡ 0

@@ -3,11 +3,11 @@ use Rattle.std.specs.Prelude.{IsTrue}
 use Rattle.process_api.specs.Mind.{Mind, is_mind_at}
 use Rattle.process_api.proofs.Minds.{mind_place, same_own}
 use Rattle.process_api.proofs.Keeping.{react_keeps}
-use Rattle.scenario.specs.Record.{crash, place_in}
-use Rattle.event_list.specs.ScenarioSetting.{setting_of}
+use Rattle.scenario_record.specs.Record.{crash, place_in}
+use Rattle.trace_laws.specs.ScenarioSetting.{setting_of}
 use Rattle.event_list.specs.Seat.{process_of, own_of, IsSeated}
-use Rattle.event_list.specs.Setting.{has_crashed}
-use Rattle.event_list.specs.Step.{dead, lost, made_by, noted, sent}
+use Rattle.trace_laws.specs.Setting.{has_crashed}
+use Rattle.trace_laws.specs.Step.{dead, lost, made_by, noted, sent}
 use Rattle.event_list.proofs.Performing.{if_ok_then, on_ok_three}
 use Rattle.event_list.proofs.seat.Seat.turn.Goals as goal
 

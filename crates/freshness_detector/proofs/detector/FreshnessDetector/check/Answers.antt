@@ -3,7 +3,7 @@ use Rattle.std.proofs.lemmas.Result.{on_ok_weaker}
 use Rattle.std.specs.FinSet as set
 use Rattle.process_api.specs.declared.action.Action.TheVariants.{Note}
 use Rattle.process_api.specs.declared.action.Note.TheVariants.{Suspect}
-use Rattle.scenario.specs.Opening.{place_of}
+use Rattle.scenario_record.specs.Opening.{place_of}
 use Rattle.freshness_detector.specs.View.{state_of, checked_by, late_ones, noted_by, next_check_of}
 use Rattle.freshness_detector.proofs.Points.{came_before, joined_members, joined_notes}
 use Rattle.freshness_detector.proofs.Tables.{next_above, next_counted}

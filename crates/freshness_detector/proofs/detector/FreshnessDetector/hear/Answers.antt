@@ -6,7 +6,7 @@ use Rattle.std.specs.FinSet as set
 use Rattle.process_api.specs.Freshness.{suspected}
 use Rattle.process_api.specs.Numbers.{is_process}
 use Rattle.process_api.specs.Watching.{is_other}
-use Rattle.scenario.specs.Opening.{place_of}
+use Rattle.scenario_record.specs.Opening.{place_of}
 use Rattle.freshness_detector.specs.Tables.{state_by}
 use Rattle.freshness_detector.specs.declared.detector.FreshnessDetector.{FreshnessDetector}
 use Rattle.freshness_detector.specs.View.{state_of, heard_by}

@@ -3,8 +3,8 @@ use Rattle.std.specs.Prelude.{IsTrue}
 use Rattle.process_api.proofs.DetectorLaws.{base_allowed, base_few, base_changes}
 use Rattle.process_api.specs.Detector.{ByFreshness, opening_detector, has_pauses, step_detector}
 use Rattle.process_api.specs.Freshness.{suspected}
-use Rattle.scenario.proofs.DetectorFacts.{opens_paced}
-use Rattle.scenario.specs.Opening.{place_of}
+use Rattle.scenario_record.proofs.DetectorFacts.{opens_paced}
+use Rattle.scenario_record.specs.Opening.{place_of}
 use Rattle.freshness_detector.specs.View.{state_of}
 use Rattle.freshness_detector.proofs.detector.FreshnessDetectorDetector.take.Goals as goal
 

@@ -1,8 +1,8 @@
 use Rattle.std.proofs.Common.{◌≡◌, ap, arith, [], ◌∷◌, refl}
 use Rattle.process_api.specs.declared.message.Letter.{Letter}
-use Rattle.mailboxes.specs.declared.ledger.Account.{Account}
-use Rattle.mailboxes.specs.Ledger.{has_put}
-use Rattle.mailboxes.proofs.Ledgers.{puts}
+use Rattle.ledger.specs.declared.account.Account.{Account}
+use Rattle.ledger.specs.Ledger.{has_put}
+use Rattle.ledger.proofs.Ledgers.{puts}
 use Rattle.mailboxes.proofs.mailbox.Mailbox.post.Goals as goal
 
 pub push_as-requires-clause-rule : goal.push_as-requires-clause-rule

@@ -1,4 +1,4 @@
-use Rattle.mailboxes.proofs.Ledgers.{merges}
+use Rattle.ledger.proofs.Ledgers.{merges}
 use Rattle.mailboxes.proofs.mailbox.Mailbox.take_back.Goals as goal
 
 pub absorb-requires-clause-rule : goal.absorb-requires-clause-rule

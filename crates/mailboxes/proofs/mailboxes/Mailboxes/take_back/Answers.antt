@@ -4,7 +4,7 @@ use Rattle.std.proofs.lemmas.Iterator.Adapters.{YieldsList-from_vec}
 use Rattle.std.proofs.lemmas.Iterator.Consumers.{YieldsList-turn, YieldsList-end}
 use Rattle.mailboxes.specs.Mailboxes.{MailboxesView, SlipView}
 use Rattle.mailboxes.proofs.Homes.{fold_back-more, fits-more, turn_mailboxes, turn_out, end_out, end_length, end_posted}
-use Rattle.mailboxes.proofs.Lists.{map_same}
+use Rattle.ledger.proofs.Lists.{map_same}
 use Rattle.mailboxes.proofs.mailboxes.Mailboxes.take_back.Goals as goal
 
 pub take_back-requires-clause-homes : goal.take_back-requires-clause-homes

@@ -1,7 +1,7 @@
 use Rattle.std.proofs.Common.{◌≡◌, ◌<◌, length, [], ◌∷◌, ◌++◌, map, set, get_or, sym, ap, ◌∙◌, add-one, rules}
 use Rattle.mailboxes.specs.Mailbox.{one_out}
 use Rattle.mailboxes.specs.Mailboxes.{unused}
-use Rattle.mailboxes.proofs.Lists.{mixed_at, mixed_more, map_take_more, take_all}
+use Rattle.ledger.proofs.Lists.{mixed_at, mixed_more, map_take_more, take_all}
 use Rattle.mailboxes.proofs.Homes.{blank, blank-slip, slip_with}
 use Rattle.mailboxes.proofs.shared.SharedMailboxes.slip.Goals as goal
 

@@ -7,7 +7,7 @@ use Rattle.process_api.specs.declared.message.Letter.{Letter}
 use Rattle.mailboxes.specs.Mailbox.{MailboxId, HomeView, TicketView, one_back, all_back}
 use Rattle.mailboxes.specs.Mailboxes.{SlipView}
 use Rattle.mailboxes.proofs.Homes.{mailbox_of}
-use Rattle.mailboxes.proofs.Lists.{with-nil, with-at, with-more, with-length, parts_agree, below_parts, length_more, map_same}
+use Rattle.ledger.proofs.Lists.{with-nil, with-at, with-more, with-length, parts_agree, below_parts, length_more, map_same}
 use Rattle.mailboxes.proofs.shared.SharedMailboxes.take_back.Goals as goal
 
 abbrev whose : TicketView → MailboxId

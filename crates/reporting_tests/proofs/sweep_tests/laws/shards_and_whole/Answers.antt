@@ -1,6 +1,6 @@
 use Rattle.std.proofs.Common.{◌++◌, Some, sym, ap, ◌∙◌, subst}
 use Rattle.toml.specs.View.{table_view}
-use Rattle.qos_report.specs.Outlet.{Held}
+use Rattle.reporting.specs.Outlet.{Held}
 use Rattle.study.specs.Shard.{ShardRecord}
 use Rattle.sweep.specs.Outcome.{WroteStudy}
 use Rattle.sweep.specs.StudyText.{HasOneText}

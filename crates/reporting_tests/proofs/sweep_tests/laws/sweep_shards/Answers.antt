@@ -1,7 +1,7 @@
 use Rattle.std.proofs.Common.{◌≡◌, ℕ, Some, sym, subst, arith}
 use Rattle.std.specs.List.{AllZip, range_with_len}
 use Rattle.toml.specs.View.{table_view}
-use Rattle.qos_report.specs.Outlet.{Held}
+use Rattle.reporting.specs.Outlet.{Held}
 use Rattle.study.specs.Shard.{ShardRecord}
 use Rattle.sweep.specs.Outcome.{WroteStudy}
 use Rattle.sweep.specs.RowText.{Text}

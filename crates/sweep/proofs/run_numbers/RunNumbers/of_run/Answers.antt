@@ -1,6 +1,6 @@
 use Rattle.std.proofs.Common.{◌≡◌, ◌^◌, ◌<◌, length, take, drop, ap, ◌∙◌, arith}
 use Rattle.std.proofs.Math.Seq.{take-append_seam, drop-append_seam}
-use Rattle.qos_report.specs.Measures.{layer_measures}
+use Rattle.reporting.specs.Measures.{layer_measures}
 use Rattle.sweep.specs.Results.{finished}
 use Rattle.sweep.proofs.Layered.{has_first, has_second}
 use Rattle.sweep.proofs.Parts.{alone, parts, shared}

@@ -6,7 +6,7 @@ use Rattle.process_api.specs.declared.numbers.TimeoutNumbers.{TimeoutNumbers}
 use Rattle.process_api.specs.declared.action.Action.{Action}
 use Rattle.process_api.specs.declared.action.Action.TheVariants.{Note}
 use Rattle.process_api.specs.declared.action.Note.TheVariants.{Suspect}
-use Rattle.scenario.specs.Opening.{place_of}
+use Rattle.scenario_record.specs.Opening.{place_of}
 use Rattle.timeout_detector.specs.View.{state_of}
 use Rattle.process_api.proofs.Numbering.{appended-passes, appended-fails}
 use Rattle.process_api.proofs.Membership.{contains-insert_all_below, insert_all-passes, insert_all-fails}

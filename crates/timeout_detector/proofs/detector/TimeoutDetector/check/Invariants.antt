@@ -5,7 +5,7 @@ use Rattle.process_api.specs.Sets.{insert_all}
 use Rattle.process_api.specs.Timeout.{is_overdue}
 use Rattle.process_api.specs.declared.action.Action.TheVariants.{Note}
 use Rattle.process_api.specs.declared.action.Note.TheVariants.{Suspect}
-use Rattle.scenario.specs.Opening.{place_of}
+use Rattle.scenario_record.specs.Opening.{place_of}
 use Rattle.timeout_detector.specs.View.{state_of}
 use Rattle.timeout_detector.proofs.detector.TimeoutDetector.check.Given as goal
 

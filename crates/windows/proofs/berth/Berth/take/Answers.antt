@@ -2,13 +2,13 @@ use Rattle.std.proofs.Common.{[], append-nil, ◌≡◌, ◌++◌, length, ap, s
 use Rattle.std.specs.List.{AllByRecursion}
 use Rattle.std.specs.Prelude.{IsTrue}
 use Rattle.process_api.specs.Mind.{is_mind_at}
-use Rattle.scenario.specs.Record.{place_in}
-use Rattle.event_list.specs.ScenarioSetting.{setting_of}
+use Rattle.scenario_record.specs.Record.{place_in}
+use Rattle.trace_laws.specs.ScenarioSetting.{setting_of}
 use Rattle.event_list.specs.Seat.{process_of}
-use Rattle.event_list.specs.Step.{step}
-use Rattle.event_list.specs.World.{joined}
+use Rattle.trace_laws.specs.Step.{step}
+use Rattle.trace_laws.specs.World.{joined}
 use Rattle.windows.specs.Berth.{made_in, ArePosted, IsOwnOrLetter}
-use Rattle.windows.specs.Machine.{for_self}
+use Rattle.window_laws.specs.Machine.{for_self}
 use Rattle.windows.proofs.Letters.{step_causes, step_own}
 use Rattle.windows.proofs.berth.Berth.take.Goals as goal
 

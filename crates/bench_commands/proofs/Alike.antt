@@ -1,0 +1,15 @@
+-- Both ways to run a scenario write the same.
+use Rattle.std.proofs.Common.{◌≡◌, ◌∙◌, ap, sym, refl, ℕ, List, Bool, true, false}
+use Rattle.trace_laws.specs.ScenarioSetting.{setting_of}
+use Rattle.trace_laws.proofs.Closed.{one_trace}
+use Rattle.reporting.specs.Printed.{printed}
+use Rattle.print_choice.specs.declared.PrintChoice.TheVariants.{Both}
+use Rattle.scenario_record.specs.Record.{Record}
+use Rattle.bench_commands.specs.Compare.{IsWritten}
+
+pub written_alike : (S : Record) (a b : List ℕ) → IsWritten S a → IsWritten S b → a ≡ b
+written_alike S a b x y = x.text ∙ (ap (printed Both S) (one_trace (setting_of S) y.trace x.trace y.is_within.is_trace x.is_within.is_trace) ∙ sym y.text)
+
+pub not_different : (same : Bool) → (same ≡ false → ⊥) → same ≡ true
+not_different true h = refl
+not_different false h = absurd (h refl)

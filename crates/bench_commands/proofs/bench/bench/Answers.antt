@@ -1,0 +1,12 @@
+use Rattle.std.proofs.Common.{rules}
+use Rattle.trace_laws.proofs.Sound.{setting_sound}
+use Rattle.event_list.specs.declared.error.RunError.TheVariants.{Memory}
+use Rattle.bench_commands.proofs.Stopping.{refused_at_machines}
+use Rattle.reporting.proofs.Fed.{if_reason}
+use Rattle.bench_commands.proofs.bench.bench.Goals as goal
+
+pub returns-in_err-machines-clause-refused : goal.returns-in_err-machines-clause-refused
+returns-in_err-machines-clause-refused g c =
+    let s = c.args.scenario.now in
+    if_reason c.from_residual.result _ Memory (search rules)
+    (refused_at_machines s c.args.print g.O.Outlet.told g.O.Outlet.failed (setting_sound s c.horizon-ticks.ensures.ranges) c.args.outlet.now c.args.mode)

@@ -1,0 +1,62 @@
+//! Whether both ways to run a scenario write the same.
+ghost use Rattle.std.specs.Prelude.{◌≡◌, ◌≢◌, IfErr, IfOk, IsErrOf, Err, List, true, false, ℕ};
+ghost use Rattle.bench_commands.specs.Compare.{IsWritten};
+ghost use Rattle.bench_commands.specs.Mode.{IsModeFor};
+ghost use Rattle.bench_commands.specs.Scenario.{IsTooLong};
+ghost use Rattle.windows.specs.Plan.{IsPlanFor};
+
+use crate::bench::{Mode, bench};
+use event_list::RunError;
+use qos_report::{MemoryOutlet, PrintChoice};
+use scenario::Scenario;
+use std::alloc::Global;
+use std::marker::Sync;
+use std::sync::Wait;
+use std::thread::Threads;
+use windows::Plan;
+
+/// Whether two texts are the same, byte by byte.
+pub fn same_bytes(left: &[u8], right: &[u8]) -> bool
+    ensures same { result ≡ true → left.now ≡ right.now }
+    ensures different { result ≡ false → left.now ≢ right.now }
+{
+    left == right
+}
+
+/// Both texts of a run in a mode, in memory. A growth that the outlet is refused is want of memory.
+fn written_by<R: Threads + Wait + Sync>(
+    rt: &R,
+    alloc: Global,
+    scenario: &Scenario,
+    mode: Mode,
+) -> Result<MemoryOutlet, RunError>
+    requires { IsModeFor scenario.now mode }
+    ensures written { IfOk result (λ outlet. IsWritten scenario.now outlet.bytes) }
+    ensures other { IfErr result (λ error. error ≢ RunError.Write) }
+    ensures long { IsErrOf result RunError.Limit → IsTooLong scenario.now }
+{
+    let mut outlet = MemoryOutlet::new(alloc);
+    match bench(rt, alloc, scenario, mode, PrintChoice::Both, &mut outlet) {
+        Ok(_) => Ok(outlet),
+        Err(RunError::Write) => Err(RunError::Memory),
+        Err(error) => Err(error),
+    }
+}
+
+/// Runs a scenario by the single event list and by windows, and says whether the texts are the same, trace and report.
+/// They always are.
+pub fn compare<R: Threads + Wait + Sync>(
+    rt: &R,
+    alloc: Global,
+    scenario: &Scenario,
+    plan: Plan,
+) -> Result<bool, RunError>
+    requires { IsPlanFor scenario.now plan }
+    ensures same { IfOk result (λ same. (same ≡ true) × ((bytes : List ℕ) × IsWritten scenario.now bytes)) }
+    ensures other { IfErr result (λ error. error ≢ RunError.Write) }
+    ensures long { IsErrOf result RunError.Limit → IsTooLong scenario.now }
+{
+    let listed = written_by(rt, alloc, scenario, Mode::List)?;
+    let windowed = written_by(rt, alloc, scenario, Mode::Windows(plan))?;
+    Ok(same_bytes(listed.bytes(), windowed.bytes()))
+}

@@ -1,0 +1,2 @@
+pub mod Dealings
+pub mod Deals

@@ -1,0 +1,48 @@
+use Rattle.std.proofs.Common.{◌≡◌, ◌≤◌, ◌∷◌, [], ◌++◌, length, map, ap, sym, subst, ◌∙◌, vec_len, arith}
+use Rattle.std.specs.List.{All, flat_map}
+use Rattle.std.specs.List.Sorted.{IsPermutation}
+use Rattle.std.specs.Global.{Vec}
+use Rattle.std.specs.Vec.Iter.{into_iter_items}
+use Rattle.std.proofs.lemmas.List.{length-map}
+use Rattle.std.proofs.lemmas.List.Elements.{All-push, All-same, All-head, All-tail}
+use Rattle.deques.specs.Deques.{OwnerView, HandView, PermitView, deques_of, dealt_of}
+use Rattle.deques.proofs.Deals.{Counts, count_out_of, map_turn, flat_push, apart_more}
+use Rattle.deques.proofs.dealing.apart.Goals as goal
+
+pub loop-hand-preserved : goal.loop-hand-preserved
+loop-hand-preserved g c =
+    let inv = c.loop-hand.invariant in
+    let own_of = λ (h : HandView _). h.own in
+    let all = map own_of c.args.hands.items in
+    let n = vec_len c.args.hands in
+    let h = c.in-Some.hand in
+    let o = c.hand.inside.owner in
+    let ps = c.hand.inside.permits in
+    let left = into_iter_items c.next.new.self in
+    let e : into_iter_items c.loop-hand.hand-iterator ≡ h ∷ left = c.in-Some.ensures.steps.0 in
+    let owners = c.loop-hand.owners.items in
+    let lists = c.loop-hand.lists.items in
+    let more : c.push_reserved.new.self.items ≡ owners ++ o ∷ [] = c.push_reserved.ensures.items in
+    let listed : c.push_reserved-in-loop-hand.new.self.items ≡ lists ++ ps ∷ [] = c.push_reserved-in-loop-hand.ensures.items in
+    let taken_of = λ (x : OwnerView _). x.taken in
+    let stolen = λ (v : Vec _). flat_map (λ (p : PermitView _). p.taken) v.items in
+    let hand_taken = λ (x : HandView _). x.taken in
+    let OfAll : HandView _ → Type 0 = λ x. x.deques ≡ deques_of all in
+    let ListOfAll : Vec _ → Type 0 = λ v. map (λ (p : PermitView _). p.deque) v.items ≡ deques_of all in
+    let of_all : OfAll h = All-head OfAll h left (subst (All OfAll) e inv.left) in
+    let many : length all ≡ n = length-map c.args.hands.items own_of ∙ sym c.args.hands.ok.0 in
+    record {
+      own = map_turn dealt_of own_of owners c.push_reserved.new.self.items o _ left h all more e (ap own_of c.hand.view_is) inv.own;
+      owners = All-same (Counts n) _ (owners ++ o ∷ []) more
+          (All-push (Counts n) owners o inv.owners (count_out_of n ps.len all o ps.items h c.hand.view_is of_all many ps.ok.0 c.hand.invariant.1, c.hand.invariant.2));
+      deques = All-same ListOfAll _ (lists ++ ps ∷ []) listed (All-push ListOfAll lists ps inv.deques (ap (λ (x : HandView _). x.deques) c.hand.view_is ∙ of_all));
+      left = All-tail OfAll h left (subst (All OfAll) e inv.left);
+      taken = apart_more (flat_map hand_taken c.args.hands.items) (flat_map taken_of owners) (flat_map taken_of c.push_reserved.new.self.items) (flat_map stolen lists) (flat_map stolen c.push_reserved-in-loop-hand.new.self.items)
+          h.taken o.taken (stolen ps) (flat_map hand_taken left)
+          (subst (λ l. IsPermutation (flat_map hand_taken c.args.hands.items) ((flat_map taken_of owners ++ flat_map stolen lists) ++ flat_map hand_taken l)) e inv.taken)
+          (sym (ap hand_taken c.hand.view_is)) (flat_push taken_of owners _ o more) (flat_push stolen lists _ ps listed);
+      made = omega (arith, inv.made, ap length e, c.push_reserved.ensures.len);
+      count = omega (arith, inv.count, ap length e, c.push_reserved-in-loop-hand.ensures.len);
+      room = subst (λ m. n ≤ m) (sym c.push_reserved.ensures.capacity) inv.room;
+      space = subst (λ m. n ≤ m) (sym c.push_reserved-in-loop-hand.ensures.capacity) inv.space;
+    }

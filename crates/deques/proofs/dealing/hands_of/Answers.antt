@@ -1,0 +1,108 @@
+use Rattle.std.proofs.Common.{rules, ◌≡◌, ◌<◌, ◌≤◌, ◌+◌, ℕ, suc, ◌∷◌, [], ◌++◌, length, map, ap, sym, subst, ◌∙◌, append_assoc, vec_len, arith}
+use Rattle.std.specs.List.{All, Contains}
+use Rattle.std.specs.Global.{Vec}
+use Rattle.std.specs.Vec.Iter.{into_iter_items}
+use Rattle.std.proofs.lemmas.List.{map-append}
+use Rattle.std.proofs.lemmas.List.Elements.{All-nil, All-push, All-same, All-head, All-tail}
+use Rattle.deques.specs.Deques.{OwnerView, HandView, dealt_of, HasTold, AreBlank, IsDealt}
+use Rattle.deques.proofs.dealing.hands_of.Goals as goal
+
+low : (place rest left n len many : ℕ) → place + rest ≡ n → rest ≡ suc left → many ≡ n → len ≡ many → place < len
+low place rest left n len many p r m e = omega arith
+
+pub loop-owner-init : goal.loop-owner-init
+loop-owner-init g c =
+    let own_of = λ (h : HandView _). h.own in
+    let own = map dealt_of c.args.owners.items in
+    let os = into_iter_items c.into_iter-owner-iterator.result in
+    let none = c.in_ok-hands.ensures.items in
+    let n = vec_len c.args.owners in
+    let P : OwnerView _ → Type 0 = HasTold n own in
+    let Q : Vec _ → Type 0 = λ v. AreBlank n own v.items in
+    let all : os ≡ c.args.owners.items = c.into_iter-owner-iterator.ensures.into_iter_gives.0 in
+    let lists : into_iter_items c.into_iter-lists.result ≡ c.args.lists.items = search rules in
+    record {
+      own = (λ i. map own_of (none i) ++ map dealt_of (all i));
+      hands = All-same (IsDealt own) _ [] none (All-nil (IsDealt own));
+      owners = subst (All P) (sym all) c.requires.owners;
+      blank = subst (All Q) (sym lists) c.requires.lists;
+      same = ap length lists ∙ sym c.args.lists.ok.0 ∙ c.requires.count ∙ c.args.owners.ok.0 ∙ sym (ap length all);
+      place = omega (arith, ap length all, c.args.owners.ok.0);
+      count = omega (arith, ap length all, c.args.owners.ok.0, c.in_ok-hands.ensures.len);
+      room = search rules;
+    }
+
+pub new-requires-clause-place : goal.new-requires-clause-place
+new-requires-clause-place g c =
+    let inv = c.loop-owner.invariant in
+    let own = map dealt_of c.args.owners.items in
+    let n = vec_len c.args.owners in
+    let ps = c.in-Some-next.permits in
+    let Q : Vec _ → Type 0 = λ v. AreBlank n own v.items in
+    let blank : Q ps = All-head Q ps (into_iter_items c.next-in-loop-owner.new.self) (subst (All Q) c.in-Some-next.ensures.items inv.blank) in
+    low c.loop-owner.place _ (length (into_iter_items c.next.new.self)) n ps.len (length ps.items) inv.place (ap length c.in-Some.ensures.steps.0) blank.0 ps.ok.0
+
+pub new-requires-clause-out : goal.new-requires-clause-out
+new-requires-clause-out g c =
+    let inv = c.loop-owner.invariant in
+    let own = map dealt_of c.args.owners.items in
+    let n = vec_len c.args.owners in
+    let ps = c.in-Some-next.permits in
+    let P : OwnerView _ → Type 0 = HasTold n own in
+    let Q : Vec _ → Type 0 = λ v. AreBlank n own v.items in
+    let told : P c.in-Some.owner = All-head P c.in-Some.owner (into_iter_items c.next.new.self) (subst (All P) c.in-Some.ensures.steps.0 inv.owners) in
+    let blank : Q ps = All-head Q ps (into_iter_items c.next-in-loop-owner.new.self) (subst (All Q) c.in-Some-next.ensures.items inv.blank) in
+    told.0 ∙ sym blank.0 ∙ sym ps.ok.0
+
+pub new-requires-clause-told : goal.new-requires-clause-told
+new-requires-clause-told g c =
+    let P : OwnerView _ → Type 0 = HasTold (vec_len c.args.owners) (map dealt_of c.args.owners.items) in
+    (All-head P c.in-Some.owner (into_iter_items c.next.new.self) (subst (All P) c.in-Some.ensures.steps.0 c.loop-owner.invariant.owners)).1
+
+pub new-requires-clause-known : goal.new-requires-clause-known
+new-requires-clause-known g c =
+    let inv = c.loop-owner.invariant in
+    let own = map dealt_of c.args.owners.items in
+    let n = vec_len c.args.owners in
+    let ps = c.in-Some-next.permits in
+    let P : OwnerView _ → Type 0 = HasTold n own in
+    let Q : Vec _ → Type 0 = λ v. AreBlank n own v.items in
+    let told : P c.in-Some.owner = All-head P c.in-Some.owner (into_iter_items c.next.new.self) (subst (All P) c.in-Some.ensures.steps.0 inv.owners) in
+    let blank : Q ps = All-head Q ps (into_iter_items c.next-in-loop-owner.new.self) (subst (All Q) c.in-Some-next.ensures.items inv.blank) in
+    λ x here. subst (λ l. Contains l x) (sym blank.2) (told.3 x here)
+
+pub loop-owner-preserved : goal.loop-owner-preserved
+loop-owner-preserved g c =
+    let inv = c.loop-owner.invariant in
+    let own = map dealt_of c.args.owners.items in
+    let n = vec_len c.args.owners in
+    let o = c.in-Some.owner in
+    let ps = c.in-Some-next.permits in
+    let left = into_iter_items c.next.new.self in
+    let lists_left = into_iter_items c.next-in-loop-owner.new.self in
+    let e : into_iter_items c.loop-owner.owner-iterator ≡ o ∷ left = c.in-Some.ensures.steps.0 in
+    let f : into_iter_items c.loop-owner.lists ≡ ps ∷ lists_left = c.in-Some-next.ensures.items in
+    let P : OwnerView _ → Type 0 = HasTold n own in
+    let Q : Vec _ → Type 0 = λ v. AreBlank n own v.items in
+    let told : P o = All-head P o left (subst (All P) e inv.owners) in
+    let blank : Q ps = All-head Q ps lists_left (subst (All Q) f inv.blank) in
+    let own_of = λ (h : HandView _). h.own in
+    let hands = c.loop-owner.hands.items in
+    let h = c.new.result in
+    let more : c.push_reserved.new.self.items ≡ hands ++ h ∷ [] = c.push_reserved.ensures.items in
+    record {
+      own = ap (λ xs. map own_of xs ++ map dealt_of left) more
+          ∙ (ap (λ xs. xs ++ map dealt_of left) (map-append own_of hands (h ∷ []))
+          ∙ (append_assoc (map own_of hands) (own_of h ∷ []) (map dealt_of left)
+          ∙ (ap (λ x. map own_of hands ++ (x ∷ map dealt_of left)) (ap own_of c.new.ensures)
+          ∙ (ap (λ xs. map own_of hands ++ map dealt_of xs) (sym e) ∙ inv.own))));
+      hands = All-same (IsDealt own) _ (hands ++ h ∷ []) more
+          (All-push (IsDealt own) hands h inv.hands
+          (ap (λ (v : HandView _). v.deques) c.new.ensures ∙ blank.1, ap (λ (v : HandView _). v.known) c.new.ensures ∙ blank.2, ap (λ (v : HandView _). v.taken) c.new.ensures ∙ (λ i. told.2 i ++ blank.3 i)));
+      owners = All-tail P o left (subst (All P) e inv.owners);
+      blank = All-tail Q ps lists_left (subst (All Q) f inv.blank);
+      same = omega (arith, inv.same, ap length e, ap length f);
+      place = omega (arith, inv.place, ap length e);
+      count = omega (arith, inv.count, ap length e, c.push_reserved.ensures.len);
+      room = subst (λ m. n ≤ m) (sym c.push_reserved.ensures.capacity) inv.room;
+    }

@@ -1,0 +1,86 @@
+use Rattle.std.proofs.Common.{◌≡◌, ℕ, ◌<◌, ◌∷◌, [], List, refl, map, length, set, get_or, sym, ap, ◌∙◌, subst, arith}
+use Rattle.std.proofs.lemmas.List.{length-map, map-append}
+use Rattle.std.proofs.lemmas.List.Elements.{All-get_or}
+use Rattle.std.proofs.lemmas.Iterator.Adapters.{YieldsList-from_vec}
+use Rattle.std.proofs.lemmas.Iterator.Consumers.{YieldsList-turn}
+use Rattle.ledger.specs.Places.{each_with}
+use Rattle.ledger.proofs.Lists.{with-nil, with-at, with-more, with-length, parts_agree, below_parts, length_more}
+use Rattle.deques.specs.Deques.{OwnerView, PermitView, one_back}
+use Rattle.deques.proofs.Deals.{stolen_by, deque_of, from_deque}
+use Rattle.deques.proofs.dealing.take_all_back.Goals as goal
+
+pub loop-permit-init : goal.loop-permit-init
+loop-permit-init g c = (tt, tt, refl, sym (with-nil one_back _))
+
+below : (k at n m : ℕ) → k < n → at ≡ k → m ≡ n → at < m
+below k at n m lt e s = omega arith
+
+-- which of the owners is at hand
+module _ {T : Type 0} (hs owners : List (OwnerView T)) (ys : List (PermitView T)) (at : ℕ) (d : OwnerView T) (value : d ≡ get_or owners at d) (so_far : owners ≡ each_with one_back hs (map stolen_by ys)) (many : at ≡ length ys) where
+  rows_many : at ≡ length (map stolen_by ys)
+  rows_many = many ∙ sym (length-map ys stolen_by)
+
+  here : d ≡ get_or hs (length (map stolen_by ys)) d
+  here = value ∙ (λ j. get_or (so_far j) (rows_many j) d) ∙ with-at one_back hs (map stolen_by ys) d
+
+  here_too : d ≡ get_or hs (length ys) d
+  here_too = here ∙ ap (λ k. get_or hs k d) (length-map ys stolen_by)
+
+pub index_mut-requires : goal.index_mut-requires
+index_mut-requires g c =
+    let b = c.into_iter-permit-iterator.ensures.into_iter_gives in
+    let ts = c.args.permits.items in
+    let ys = c.loop-permit.yielded in
+    let hs = c.args.owners.now.items in
+    let turn : (length ys < length ts) × (c.in-Some.permit ≡ get_or ts (length ys) c.in-Some.permit) =
+    YieldsList-turn (YieldsList-from_vec ts b.0 (b.1 ∙ c.args.permits.ok.0)) ys c.loop-permit.permit-iterator c.loop-permit.yielded_by c.next.result c.next.new.self c.in-Some.permit c.in-Some.is c.next.ensures.steps in
+    below (length ys) c.loop-permit.at (length hs) _ (below_parts from_deque deque_of ts hs (length ys) c.requires.deques turn.0) c.loop-permit.invariant.2
+    (c.loop-permit.owners.ok.0 ∙ ap length c.loop-permit.invariant.3 ∙ with-length one_back hs (map stolen_by ys))
+
+pub take_back-requires-clause-deque : goal.take_back-requires-clause-deque
+take_back-requires-clause-deque g c =
+    let b = c.into_iter-permit-iterator.ensures.into_iter_gives in
+    let ts = c.args.permits.items in
+    let ys = c.loop-permit.yielded in
+    let hs = c.args.owners.now.items in
+    let d = c.index_mut.result.now in
+    let p = c.in-Some.permit in
+    let turn : (length ys < length ts) × (p ≡ get_or ts (length ys) p) =
+    YieldsList-turn (YieldsList-from_vec ts b.0 (b.1 ∙ c.args.permits.ok.0)) ys c.loop-permit.permit-iterator c.loop-permit.yielded_by c.next.result c.next.new.self p c.in-Some.is c.next.ensures.steps in
+    ap from_deque turn.1 ∙ parts_agree from_deque deque_of ts hs (length ys) p d turn.0 c.requires.deques
+    ∙ sym (ap deque_of (here_too hs c.loop-permit.owners.items ys c.loop-permit.at d c.index_mut.ensures.value c.loop-permit.invariant.3 c.loop-permit.invariant.2))
+
+pub take_back-requires-clause-out : goal.take_back-requires-clause-out
+take_back-requires-clause-out g c =
+    let b = c.into_iter-permit-iterator.ensures.into_iter_gives in
+    let ts = c.args.permits.items in
+    let ys = c.loop-permit.yielded in
+    let hs = c.args.owners.now.items in
+    let d = c.index_mut.result.now in
+    let turn : (length ys < length ts) × (c.in-Some.permit ≡ get_or ts (length ys) c.in-Some.permit) =
+    YieldsList-turn (YieldsList-from_vec ts b.0 (b.1 ∙ c.args.permits.ok.0)) ys c.loop-permit.permit-iterator c.loop-permit.yielded_by c.next.result c.next.new.self c.in-Some.permit c.in-Some.is c.next.ensures.steps in
+    let lt : length ys < length hs = below_parts from_deque deque_of ts hs (length ys) c.requires.deques turn.0 in
+    subst (λ (o : OwnerView _). 0 < o.out) (sym (here_too hs c.loop-permit.owners.items ys c.loop-permit.at d c.index_mut.ensures.value c.loop-permit.invariant.3 c.loop-permit.invariant.2))
+    (All-get_or (λ (o : OwnerView _). 0 < o.out) hs (length ys) d lt c.requires.out)
+
+pub loop-permit-preserved : goal.loop-permit-preserved
+loop-permit-preserved g c =
+    let b = c.into_iter-permit-iterator.ensures.into_iter_gives in
+    let ts = c.args.permits.items in
+    let ys = c.loop-permit.yielded in
+    let hs = c.args.owners.now.items in
+    let d = c.index_mut.result.now in
+    let t = c.in-Some.permit in
+    let rows = map stolen_by ys in
+    let turn : (length ys < length ts) × (t ≡ get_or ts (length ys) t) =
+    YieldsList-turn (YieldsList-from_vec ts b.0 (b.1 ∙ c.args.permits.ok.0)) ys c.loop-permit.permit-iterator c.loop-permit.yielded_by c.next.result c.next.new.self t c.in-Some.is c.next.ensures.steps in
+    let lt : length ys < length hs = below_parts from_deque deque_of ts hs (length ys) c.requires.deques turn.0 in
+    let old = here hs c.loop-permit.owners.items ys c.loop-permit.at d c.index_mut.ensures.value c.loop-permit.invariant.3 c.loop-permit.invariant.2 in
+    let many = rows_many hs c.loop-permit.owners.items ys c.loop-permit.at d c.index_mut.ensures.value c.loop-permit.invariant.3 c.loop-permit.invariant.2 in (
+      tt,
+      tt,
+      length_more ys t c.loop-permit.at c.loop-permit.invariant.2,
+      (λ j. set (c.loop-permit.invariant.3 j) (many j) ((c.take_back.ensures ∙ ap (λ (o : OwnerView _). one_back o t.taken) old) j))
+          ∙ with-more one_back hs rows t.taken d (subst (λ k. k < length hs) (sym (length-map ys stolen_by)) lt)
+          ∙ ap (each_with one_back hs) (sym (map-append stolen_by ys (t ∷ []))),
+    )

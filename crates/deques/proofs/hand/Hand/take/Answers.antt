@@ -1,0 +1,10 @@
+use Rattle.std.proofs.Common.{subst}
+use Rattle.deques.specs.Deques.{TookOne}
+use Rattle.deques.proofs.Dealings.{hand_at, hand_popped}
+use Rattle.deques.proofs.hand.Hand.take.Goals as goal
+
+pub returns-in-Some : goal.returns-in-Some
+returns-in-Some g c =
+    let old = c.self.inside in
+    subst (λ h. TookOne h (hand_at c.pop.new.self old.permits.items) c.in-Some.item) c.self.view_is
+    (hand_popped old.owner c.pop.new.self old.permits.items c.in-Some.item c.self.invariant.2 c.self.invariant.3 c.in-Some.ensures)

@@ -1,0 +1,81 @@
+//! A worker's hand: its own deque, and the permits to steal from the others.
+ghost use Rattle.std.specs.Prelude.{◌≡◌, ◌<◌, ◌++◌, map, vec_len, Some, MatchOption};
+ghost use Rattle.std.specs.List.{Contains, flat_map};
+ghost use Rattle.deques.specs.Deques.{hand_of, TookOne};
+
+use crate::deque::{Front, Owner, Permit};
+use std::marker::Model;
+use std::sync::Wait;
+
+/// What a worker takes by. Contracts see its own deque with what was put into it, the deques of its permits, all that
+/// was put into these, and what it has taken.
+#[derive(Drop)]
+pub struct Hand<T> {
+    /// The place of its own deque among all.
+    pub(crate) place: usize,
+    pub(crate) owner: Owner<T>,
+    /// A permit for each deque, in their order. That for its own is never used.
+    pub(crate) permits: Vec<Permit<T>>,
+}
+
+impl<T> Model for Hand<T> {
+    ghost use Rattle.std.specs.Prelude.{◌≡◌, ◌<◌, ◌++◌, map, vec_len, Some};
+    ghost use Rattle.std.specs.List.{Contains, flat_map};
+    ghost use Rattle.deques.specs.Deques.{HandView, hand_of};
+
+    ghost Value = { HandView T };
+
+    ghost view = { λ h. hand_of (h.owner.deque, h.owner.put) (map (λ p. p.deque) h.permits.items)
+        (flat_map (λ p. p.known) h.permits.items) (h.owner.taken ++ flat_map (λ p. p.taken) h.permits.items) };
+
+    ghost invariant = { λ h. (h.place < vec_len h.permits) × (h.owner.out ≡ vec_len h.permits)
+        × (h.owner.told ≡ Some h.owner.put)
+        × ((x : T) → Contains h.owner.put x → Contains (flat_map (λ p. p.known) h.permits.items) x) };
+}
+
+impl<T: Drop> Hand<T> {
+    /// The hand of the worker whose deque has this place.
+    pub(crate) fn new(place: usize, owner: Owner<T>, permits: Vec<Permit<T>>) -> Hand<T>
+        requires place { place < vec_len permits }
+        requires out { owner.out ≡ vec_len permits }
+        requires told { owner.told ≡ Some owner.put }
+        requires known { (x : T) → Contains owner.put x → Contains (flat_map (λ p. p.known) permits.items) x }
+        ensures { result ≡ hand_of (owner.deque, owner.put) (map (λ p. p.deque) permits.items)
+            (flat_map (λ p. p.known) permits.items) (owner.taken ++ flat_map (λ p. p.taken) permits.items) }
+    {
+        Hand {
+            place,
+            owner,
+            permits,
+        }
+    }
+
+    /// An item from the front of another's deque: of the next one, and then round the circle. None where each was empty
+    /// at one moment of the call.
+    fn steal<R: Wait>(&mut self, rt: &R, fronts: &Vec<Front<T>>) -> Option<T>
+        requires { fronts.now.items ≡ self.old.deques }
+        ensures { MatchOption result (self.new ≡ self.old) (TookOne self.old self.new) }
+    {
+        let count = fronts.len();
+        let mut at = self.place;
+        for _ in 1..count {
+            at = (at + 1) % count;
+            if let Some(item) = fronts[at].steal(rt, &mut self.permits[at]) {
+                return Some(item);
+            }
+        }
+        None
+    }
+
+    /// An item of its own deque, or one that is stolen. None where its own was empty, and then each of the others, at
+    /// one moment of the call.
+    pub fn take<R: Wait>(&mut self, rt: &R, fronts: &Vec<Front<T>>) -> Option<T>
+        requires { fronts.now.items ≡ self.old.deques }
+        ensures { MatchOption result (self.new ≡ self.old) (TookOne self.old self.new) }
+    {
+        match self.owner.pop() {
+            Some(item) => Some(item),
+            None => self.steal(rt, fronts),
+        }
+    }
+}

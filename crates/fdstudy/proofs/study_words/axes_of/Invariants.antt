@@ -1,7 +1,0 @@
-use Rattle.std.proofs.Common.{map, take}
-use Rattle.std.specs.List.{AllZip}
-use Rattle.study.specs.AxisWords.{SaysAxis}
-use Rattle.fdstudy.proofs.study_words.axes_of.Given as goal
-
-abbrev pub invariant-loop-word : goal.invariant-loop-word
-invariant-loop-word l = AllZip SaysAxis (map (λ w. w.now) (take l.word-index l.words)) l.axes.items

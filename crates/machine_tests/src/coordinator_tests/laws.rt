@@ -1,0 +1,142 @@
+//! What a caller has of the laws.
+ghost use Rattle.std.specs.Prelude.{◌≡◌, ◌≤◌, ◌<◌, ◌+◌, ◌*◌, ◌++◌, ◌∷◌, ℕ, true, false, None, Some, List, length, OnOk, IfOk};
+ghost use Rattle.std.specs.FinSet as set;
+ghost use Rattle.process_api.specs.Coordinator.{end_wait, step_coordinator};
+ghost use Rattle.process_api.specs.Rounds.{coordinator as coordinator_of};
+ghost use Rattle.process_api.specs.declared.action.Action.{Action as ActionData};
+ghost use Rattle.process_api.specs.declared.action.Action.TheVariants as Action;
+ghost use Rattle.process_api.specs.declared.consensus.Estimate.{Estimate as EstimateData};
+ghost use Rattle.process_api.specs.declared.consensus.Phase.TheVariants as Phase;
+ghost use Rattle.process_api.specs.declared.message.Payload.TheVariants as Payload;
+ghost use Rattle.consensus_es.specs.Kept.{by_sender};
+ghost use Rattle.consensus_es.specs.Orderly.{IsOrderly};
+ghost use Rattle.consensus_es.specs.State.{state_of, Does};
+
+use consensus_es::{Letters, Membership, Progress, best, law_settled};
+use process_api::{Action, Estimate, Pid, ProcSet, StepInput, Tag};
+use std::alloc::{AllocError, Global};
+use std::process::Abort;
+use std::test::Fail;
+
+/// A process opens and takes one input: no wait is over then, it has made few actions, and it is in one of the first
+/// rounds.
+fn open_and_take(
+    alloc: Global,
+    membership: &Membership,
+    input: &StepInput,
+    suspects: &ProcSet,
+    out: &mut Vec<Action>,
+) -> Result<Progress, AllocError>
+    requires { set.contains suspects.now membership.now.own ≡ false }
+    ensures over { IfOk result (λ s.
+        end_wait membership.now.processes membership.now.own (set.contains suspects.now) (state_of s) ≡ None) }
+    ensures orderly { IfOk result (λ s. IsOrderly membership.now.processes membership.now.own (state_of s)) }
+    ensures little { OnOk result (length out.new.items ≤ length out.old.items + (6 * membership.now.processes + 3)) }
+    ensures rounds { IfOk result (λ s. (state_of s).round ≤ membership.now.processes) }
+{
+    law_settled();
+    let mut progress = Progress::open(alloc, 10);
+    progress.take(membership, input, suspects, out)?;
+    Ok(progress)
+}
+
+/// A wake that comes right after an input does nothing more.
+fn take_and_wake(
+    progress: &mut Progress,
+    membership: &Membership,
+    input: &StepInput,
+    suspects: &ProcSet,
+    out: &mut Vec<Action>,
+) -> Result<(), AllocError>
+    ensures { OnOk result (Does progress.new out.old.items out.new.items (
+        step_coordinator membership.now.processes membership.now.own
+        (set.contains suspects.now) input.now (state_of progress.old))) }
+{
+    law_settled();
+    progress.take(membership, input, suspects, out)?;
+    progress.take(membership, &StepInput::Wake(Tag::Check), suspects, out)
+}
+
+/// Where a process waits for a proposal that hasn't come, of a coordinator that it suspects, a nack is the first that
+/// it sends.
+fn wake_waiting(
+    progress: &mut Progress,
+    membership: &Membership,
+    suspects: &ProcSet,
+    out: &mut Vec<Action>,
+) -> Result<(), AllocError>
+    ensures { (state_of progress.old).phase ≡ Phase.Await
+        → (state_of progress.old).kept.proposals (state_of progress.old).round ≡ None
+        → set.contains suspects.now (coordinator_of membership.now.processes (state_of progress.old).round) ≡ true
+        → OnOk result ((rest : List ActionData) × (out.new.items ≡ out.old.items
+        ++ Action.Send (coordinator_of membership.now.processes (state_of progress.old).round)
+        (Payload.Reply (state_of progress.old).round false) ∷ rest)) }
+{
+    law_settled();
+    progress.take(membership, &StepInput::Wake(Tag::Check), suspects, out)
+}
+
+/// Of two estimates the second process's is chosen only where its stamp is larger.
+fn best_of_two(
+    estimates: &Letters<Estimate>,
+    membership: &Membership,
+    round: u64,
+) -> Option<Estimate>
+    requires { membership.now.processes ≡ 2 }
+    ensures first { (a b e : EstimateData)
+        → by_sender estimates.now round 1 ≡ Some a → by_sender estimates.now round 2 ≡ Some b
+        → result ≡ Some e → b.stamp ≤ a.stamp → e ≡ a }
+    ensures second { (a b e : EstimateData)
+        → by_sender estimates.now round 1 ≡ Some a → by_sender estimates.now round 2 ≡ Some b
+        → result ≡ Some e → a.stamp < b.stamp → e ≡ b }
+{
+    law_settled();
+    best(estimates, membership, round)
+}
+
+/// Process 1 of three starts, and then suspects process 2, the coordinator of round 1.
+#[test]
+fn waits_settle(rt: HostRuntime) -> Result<(), Fail> {
+    let alloc = rt.alloc();
+    let own = Pid::new(1).ok_or("no process")?;
+    let membership = Membership::new(own, 3);
+    let mut suspects = ProcSet::new();
+    let mut out = Vec::new(alloc);
+    let mut progress = open_and_take(alloc, &membership, &StepInput::Start, &suspects, &mut out)?;
+    assert_eq!(rt; out.len(), 2);
+    suspects.insert(Pid::new(2).ok_or("no process")?);
+    wake_waiting(&mut progress, &membership, &suspects, &mut out)?;
+    assert_eq!(rt; out.len(), 5);
+    take_and_wake(
+        &mut progress,
+        &membership,
+        &StepInput::Start,
+        &suspects,
+        &mut out,
+    )?;
+    assert_eq!(rt; out.len(), 5);
+    Ok(())
+}
+
+/// Two processes' estimates, of one stamp and of two.
+#[test]
+fn largest_stamp_then_least_sender(rt: HostRuntime) -> Result<(), Fail> {
+    let first = Pid::new(1).ok_or("no process")?;
+    let second = Pid::new(2).ok_or("no process")?;
+    let membership = Membership::new(first, 2);
+    let mut estimates = Letters::new(rt.alloc());
+    for (round, stamp, want) in [(1, 0, 10), (2, 1, 20)] {
+        estimates.keep(
+            round,
+            first,
+            Estimate {
+                value: 10,
+                stamp: 0,
+            },
+        )?;
+        estimates.keep(round, second, Estimate { value: 20, stamp })?;
+        let chosen = best_of_two(&estimates, &membership, round).ok_or("none is chosen")?;
+        assert_eq!(rt; chosen.value, want);
+    }
+    Ok(())
+}

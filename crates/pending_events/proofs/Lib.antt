@@ -1,0 +1,7 @@
+pub mod Falling
+pub mod Dealing
+pub mod Nearby
+pub mod Ordered
+pub mod Taken
+pub mod Tree
+pub mod Popped

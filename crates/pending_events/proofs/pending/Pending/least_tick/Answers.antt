@@ -1,0 +1,19 @@
+use Rattle.std.proofs.Common.{◌≡◌, ◌<◌, ◌∙◌, ap, sym, subst, length, [], rules, MatchOption}
+use Rattle.pending_events.specs.Calendar.{IsInOrder}
+use Rattle.pending_events.specs.Pending.{IsEmpty, IsLeastTick}
+use Rattle.pending_events.proofs.Ordered.{empty_is, seen, tick_of, tick_of_due}
+use Rattle.pending_events.proofs.pending.Pending.least_tick.Goals as goal
+
+pub returns-then-not-is_empty : goal.returns-then-not-is_empty
+returns-then-not-is_empty c =
+    let f = c.self.inside in
+    let long : 0 < length f.due.items = search rules in
+    subst (λ m. IsLeastTick m f.tick) c.self.view_is (tick_of_due f.tick f.due.items f.later c.self.invariant long)
+
+pub returns : goal.returns
+returns c =
+    let f = c.self.inside in
+    let none : f.due.items ≡ [] = empty_is _ (search rules) in
+    let h = subst (λ es. IsInOrder f.tick es f.later) none c.self.invariant in
+    subst (λ m. MatchOption c.least_tick.result (IsEmpty m) (λ tick. IsLeastTick m tick)) (ap (λ es. seen es f.later) (sym none) ∙ c.self.view_is)
+    (tick_of c.least_tick.result f.tick f.later h c.least_tick.ensures)

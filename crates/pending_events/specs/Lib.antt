@@ -1,0 +1,4 @@
+pub mod Buckets
+pub mod Calendar
+pub mod Lanes
+pub mod Pending

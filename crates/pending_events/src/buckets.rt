@@ -1,0 +1,163 @@
+//! Events by their ticks.
+ghost use Rattle.std.specs.Prelude.{◌≡◌, ◌-◌, ◌<◌, ℕ, [], MatchOption, OnErr, OnOk, take, true, vec_len};
+ghost use Rattle.std.specs.List.Sorted.{IsPermutation};
+ghost use Rattle.std.specs.BTreeMap.{IsOrdered};
+ghost use Rattle.std.specs.Ordering.{nat_cmp};
+ghost use Rattle.process_api.specs.declared.key.Key.{Key as KeyValue};
+ghost use Rattle.pending_events.specs.Buckets.{EndsAt, Falls, HasTick, IsFiled, IsPopped, IsSame, IsStowed, latest};
+ghost use Rattle.pending_events.specs.Calendar.{IsInOrder, IsVacant, seen_at};
+
+use crate::calendar::Calendar;
+use crate::lanes::put_in_order;
+use process_api::{Key, StepInput};
+use std::alloc::{AllocError, Global};
+use std::cmp::Reverse;
+use std::collections::BTreeMap;
+use std::mem;
+
+/// Puts events in order, the least last. Of events with one key, the one that came last stays last.
+pub(crate) fn sort_falling(bucket: &mut Vec<(Key, StepInput)>) -> Result<(), AllocError>
+    ensures falls { OnOk result (Falls bucket.new.items) }
+    ensures latest { (q : KeyValue) → latest q bucket.new.items ≡ latest q bucket.old.items }
+    ensures ticks { IsPermutation bucket.old.items bucket.new.items }
+{
+    bucket.sort_by_key(|event| Reverse(event.0))?;
+    Ok(())
+}
+
+/// Takes the least event of a bucket that is in order, and drops what came before it with the same key.
+#[inline(always)]
+pub(crate) fn pop_least(bucket: &mut Vec<(Key, StepInput)>) -> Option<(Key, StepInput)>
+    requires { Falls bucket.old.items }
+    ensures { MatchOption result
+        ((bucket.old.items ≡ []) × (bucket.new.items ≡ []))
+        (λ e. IsPopped bucket.old.items bucket.new.items e) }
+{
+    let (key, input) = bucket.pop()?;
+    while ends_at(bucket, &key) {
+        drop_last(bucket);
+    }
+    Some((key, input))
+}
+
+/// Whether the last event of a bucket has this key.
+fn ends_at(bucket: &[(Key, StepInput)], key: &Key) -> bool
+    ensures yes { result ≡ true → EndsAt bucket.now key.now }
+    ensures no { EndsAt bucket.now key.now → result ≡ true }
+{
+    match bucket.last() {
+        Some((next, _)) => next.cmp(key).is_eq(),
+        None => false,
+    }
+}
+
+/// Drops the last event of a bucket, if there is one.
+fn drop_last(bucket: &mut Vec<(Key, StepInput)>)
+    ensures { bucket.new.items ≡ take (vec_len bucket.old - 1) bucket.old.items }
+{
+    bucket.pop();
+}
+
+/// An empty bucket: one that was kept for reuse, or a new one.
+fn empty_bucket(alloc: Global, spare: &mut Vec<Vec<(Key, StepInput)>>) -> Vec<(Key, StepInput)>
+    ensures { result.items ≡ [] }
+{
+    match spare.pop() {
+        Some(mut bucket) => {
+            bucket.clear();
+            bucket
+        }
+        None => Vec::new(alloc),
+    }
+}
+
+/// Keeps a bucket for reuse, or lets it go where there is no room.
+fn keep_bucket(spare: &mut Vec<Vec<(Key, StepInput)>>, bucket: Vec<(Key, StepInput)>) {
+    drop(spare.push(bucket));
+}
+
+/// Adds an event to the bucket of its tick.
+#[inline(always)]
+pub(crate) fn file(
+    alloc: Global,
+    spare: &mut Vec<Vec<(Key, StepInput)>>,
+    later: &mut BTreeMap<u32, Vec<(Key, StepInput)>>,
+    key: Key,
+    input: StepInput,
+) -> Result<(), AllocError>
+    ensures ok { OnOk result (IsFiled later.old later.new key input) }
+    ensures err { OnErr result (IsSame later.old later.new) }
+    ensures ordered { IsOrdered nat_cmp later.new }
+{
+    if let Some(bucket) = later.get_mut(&key.tick) {
+        bucket.push((key, input))?;
+        return Ok(());
+    }
+    let mut bucket = empty_bucket(alloc, spare);
+    bucket.push((key, input))?;
+    later.insert(key.tick, bucket)?;
+    Ok(())
+}
+
+/// Puts the events of a tick, which are in order, to the other buckets, where there is none of that tick.
+fn stow(
+    tick: u32,
+    due: &mut Vec<(Key, StepInput)>,
+    later: &mut BTreeMap<u32, Vec<(Key, StepInput)>>,
+) -> Result<(), AllocError>
+    requires { HasTick later.old tick → ⊥ }
+    ensures ok { OnOk result ((due.new.items ≡ []) × IsStowed later.old later.new tick due.old.items) }
+    ensures err { OnErr result ((due.new.items ≡ due.old.items) × (later.new.entries ≡ later.old.entries)) }
+{
+    let bucket = mem::replace(due, Vec::new(*due.allocator()));
+    if let Err(refused) = later.insert(tick, bucket) {
+        *due = refused.value.1;
+        return Err(AllocError);
+    }
+    Ok(())
+}
+
+/// Makes room for an event of a tick: what is due goes back, unless it is before that tick.
+#[inline(always)]
+pub(crate) fn settle(
+    tick: u32,
+    at: u32,
+    due: &mut Vec<(Key, StepInput)>,
+    later: &mut Calendar,
+) -> Result<(), AllocError>
+    requires { IsInOrder tick due.old.items later.old }
+    ensures in_order { IsInOrder tick due.new.items later.new }
+    ensures same { (q : KeyValue) → seen_at due.new.items later.new q ≡ seen_at due.old.items later.old q }
+    ensures behind { OnOk result (0 < vec_len due.new → tick < at) }
+{
+    if due.is_empty() || tick < at {
+        return Ok(());
+    }
+    stow(tick, due, &mut later.map)?;
+    Ok(())
+}
+
+/// Takes the bucket of the least tick out, where nothing is due, and puts it in order.
+pub(crate) fn refill(
+    tick: &mut u32,
+    due: &mut Vec<(Key, StepInput)>,
+    later: &mut Calendar,
+    spare: &mut Vec<Vec<(Key, StepInput)>>,
+    lanes: &mut Vec<Vec<(Key, StepInput)>>,
+) -> Result<(), AllocError>
+    requires { IsInOrder tick.old due.old.items later.old }
+    ensures in_order { IsInOrder tick.new due.new.items later.new }
+    ensures same { OnOk result
+        ((q : KeyValue) → seen_at due.new.items later.new q ≡ seen_at due.old.items later.old q) }
+    ensures left { OnOk result (due.new.items ≡ [] → IsVacant later.new) }
+{
+    if !due.is_empty() {
+        return Ok(());
+    }
+    if let Some((least, mut bucket)) = later.take_first()? {
+        put_in_order(lanes, &mut bucket)?;
+        keep_bucket(spare, mem::replace(due, bucket));
+        *tick = least;
+    }
+    Ok(())
+}

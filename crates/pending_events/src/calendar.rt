@@ -1,0 +1,258 @@
+//! Events by their ticks: a ring of buckets for the ticks ahead, and a map of buckets for all others.
+ghost use Rattle.std.specs.Prelude.{◌≡◌, ◌≢◌, ◌++◌, ◌<◌, ◌≤◌, ◌%◌, ◌⊎◌, ℕ, [], ◌∷◌, IfOk, MatchOption, OnErr, OnOk, false, length, true, vec_len};
+ghost use Rattle.std.specs.BTreeMap.{IsLowerBound, IsOrdered, get};
+ghost use Rattle.std.specs.Ordering.{nat_cmp};
+ghost use Rattle.pending_events.specs.Buckets.{HasTick, bucket};
+ghost use Rattle.pending_events.specs.Calendar.{HoldsSame, IsAdded, IsCalendar, IsFirst, IsNear, IsTaken, IsVacant, NoneAhead, near_at, year};
+ghost use Rattle.pending_events.specs.Lanes.{lane};
+
+use crate::buckets::file;
+use crate::lanes::open_lanes;
+use process_api::{Key, StepInput};
+use std::alloc::{AllocError, Global};
+use std::collections::BTreeMap;
+use std::mem;
+
+/// How many ticks a year has. A ring has as many places.
+const YEAR: u32 = 1024;
+
+/// Where the last year begins.
+const LAST_YEAR: u32 = u32::MAX - YEAR;
+
+/// Events by their ticks. The year is the 1,024 ticks from `from` on. An event of the year lies in the ring: the place
+/// of its bucket is its tick's rest by 1,024, so each tick of the year has a place of its own. Every other event lies
+/// in the map, and so does every event where there is no ring. The year only moves forward, to the tick whose events
+/// are taken. So of the events of one tick those in the map came first.
+#[derive(Drop)]
+pub(crate) struct Calendar {
+    pub(crate) from: u32,
+    pub(crate) ring: Vec<Vec<(Key, StepInput)>>,
+    // by tick
+    pub(crate) map: BTreeMap<u32, Vec<(Key, StepInput)>>,
+}
+
+impl Calendar {
+    /// No event, and no ring: all events will lie in the map.
+    pub(crate) fn new(alloc: Global) -> Calendar
+        ensures calendar { IsCalendar result }
+        ensures vacant { IsVacant result }
+    {
+        Calendar {
+            from: 0,
+            ring: Vec::new(alloc),
+            map: BTreeMap::new(alloc),
+        }
+    }
+
+    /// No event, and a ring.
+    pub(crate) fn with_ring(alloc: Global) -> Result<Calendar, AllocError>
+        ensures calendar { IfOk result (λ c. IsCalendar c) }
+        ensures vacant { IfOk result (λ c. IsVacant c) }
+    {
+        let mut ring = Vec::new(alloc);
+        open_lanes(alloc, &mut ring, YEAR as usize - 1)?;
+        Ok(Calendar {
+            from: 0,
+            ring,
+            map: BTreeMap::new(alloc),
+        })
+    }
+
+    /// The least tick of which there are events.
+    pub(crate) fn least_tick(&self) -> Option<u32>
+        requires { IsCalendar self.now }
+        ensures { MatchOption result (IsVacant self.now) (λ tick. IsFirst self.now tick) }
+    {
+        let listed = least_listed(&self.map);
+        if self.ring.is_empty() {
+            return listed;
+        }
+        let end = (self.from + YEAR).min(listed.unwrap_or(u32::MAX));
+        match first_filled(&self.ring, self.from, end) {
+            Some(tick) => Some(tick),
+            None => listed,
+        }
+    }
+
+    /// Takes the events of the least tick.
+    pub(crate) fn take_first(&mut self) -> Result<Option<(u32, Vec<(Key, StepInput)>)>, AllocError>
+        requires { IsCalendar self.old }
+        ensures calendar { IsCalendar self.new }
+        ensures taken { IfOk result (λ r. MatchOption r
+            (IsVacant self.old × IsVacant self.new)
+            (λ p. IsTaken self.old self.new p.0 p.1.items)) }
+    {
+        if self.ring.is_empty() {
+            return Ok(self.map.pop_first());
+        }
+        let Some(tick) = self.least_tick() else {
+            return Ok(None);
+        };
+        let alloc = *self.ring.allocator();
+        let listed = take_listed(alloc, &mut self.map, tick);
+        let near = take_near(alloc, self.from, &mut self.ring, tick);
+        let bucket = followed_by(listed, near)?;
+        self.from = self.from.max(tick.min(LAST_YEAR));
+        Ok(Some((tick, bucket)))
+    }
+}
+
+/// Whether a tick is in the year.
+#[inline(always)]
+fn is_near(from: u32, tick: u32) -> bool
+    ensures yes { result ≡ true → IsNear from tick }
+    ensures no { IsNear from tick → result ≡ true }
+{
+    from <= tick && tick - from < YEAR
+}
+
+/// The least tick of a map.
+fn least_listed(map: &BTreeMap<u32, Vec<(Key, StepInput)>>) -> Option<u32>
+    ensures { MatchOption result ((t : ℕ) → HasTick map.now t → ⊥)
+        (λ tick. HasTick map.now tick × IsLowerBound nat_cmp map.now tick) }
+{
+    match map.first_key_value() {
+        Some((tick, _)) => Some(*tick),
+        None => None,
+    }
+}
+
+/// Whether there are events in the bucket at a tick's place.
+fn is_filled(ring: &[Vec<(Key, StepInput)>], tick: u32) -> bool
+    ensures yes { result ≡ true → 0 < length (lane ring.now (tick % year)) }
+    ensures no { result ≡ false → lane ring.now (tick % year) ≡ [] }
+{
+    let place = (tick % YEAR) as usize;
+    place < ring.len() && !ring[place].is_empty()
+}
+
+/// The first tick of a part of the year with events at its place.
+fn first_filled(ring: &[Vec<(Key, StepInput)>], from: u32, end: u32) -> Option<u32>
+    ensures { MatchOption result (NoneAhead ring.now from end) (λ tick.
+        (from ≤ tick) × (tick < end) × NoneAhead ring.now from tick × (0 < length (lane ring.now (tick % year)))) }
+{
+    for tick in from..end {
+        if is_filled(ring, tick) {
+            return Some(tick);
+        }
+    }
+    None
+}
+
+/// Takes the events of a tick out of the map.
+fn take_listed(
+    alloc: Global,
+    map: &mut BTreeMap<u32, Vec<(Key, StepInput)>>,
+    tick: u32,
+) -> Vec<(Key, StepInput)>
+    ensures whole { result.items ≡ bucket map.old tick }
+    ensures gone { HasTick map.new tick → ⊥ }
+    ensures others { (t : ℕ) → t ≢ tick → get nat_cmp map.new t ≡ get nat_cmp map.old t }
+    ensures ordered { IsOrdered nat_cmp map.new }
+{
+    match map.remove(&tick) {
+        Some(bucket) => bucket,
+        None => Vec::new(alloc),
+    }
+}
+
+/// Takes the events of a tick out of the ring, if the tick is in the year.
+fn take_near(
+    alloc: Global,
+    from: u32,
+    ring: &mut Vec<Vec<(Key, StepInput)>>,
+    tick: u32,
+) -> Vec<(Key, StepInput)>
+    ensures whole { result.items ≡ near_at from ring.old.items tick }
+    ensures gone { near_at from ring.new.items tick ≡ [] }
+    ensures others { (t : ℕ) → t ≢ tick → near_at from ring.new.items t ≡ near_at from ring.old.items t }
+    ensures left { (place : ℕ) → (lane ring.new.items place ≡ [])
+        ⊎ (lane ring.new.items place ≡ lane ring.old.items place) }
+{
+    let place = (tick % YEAR) as usize;
+    if is_near(from, tick) && place < ring.len() {
+        return mem::replace(&mut ring[place], Vec::new(alloc));
+    }
+    Vec::new(alloc)
+}
+
+/// Events, and then others.
+fn followed_by(
+    mut early: Vec<(Key, StepInput)>,
+    mut late: Vec<(Key, StepInput)>,
+) -> Result<Vec<(Key, StepInput)>, AllocError>
+    ensures { IfOk result (λ v. v.items ≡ early.items ++ late.items) }
+{
+    if early.is_empty() {
+        return Ok(late);
+    }
+    early.append(&mut late)?;
+    Ok(early)
+}
+
+/// Gives an empty bucket the memory of one that was kept for reuse.
+fn furnish(spare: &mut Vec<Vec<(Key, StepInput)>>, bucket: &mut Vec<(Key, StepInput)>)
+    requires { bucket.old.items ≡ [] }
+    ensures { bucket.new.items ≡ [] }
+{
+    if let Some(mut kept) = spare.pop() {
+        kept.clear();
+        *bucket = kept;
+    }
+}
+
+/// Adds an event to the end of a bucket.
+#[inline(always)]
+fn put_last(
+    spare: &mut Vec<Vec<(Key, StepInput)>>,
+    bucket: &mut Vec<(Key, StepInput)>,
+    key: Key,
+    input: StepInput,
+) -> Result<(), AllocError>
+    ensures ok { OnOk result (bucket.new.items ≡ bucket.old.items ++ (key, input) ∷ []) }
+    ensures err { OnErr result (bucket.new.items ≡ bucket.old.items) }
+{
+    if bucket.is_empty() {
+        furnish(spare, bucket);
+    }
+    bucket.push((key, input))?;
+    Ok(())
+}
+
+/// Adds an event to the end of the bucket at a place of the ring.
+#[inline(always)]
+fn put_near(
+    spare: &mut Vec<Vec<(Key, StepInput)>>,
+    ring: &mut Vec<Vec<(Key, StepInput)>>,
+    place: usize,
+    key: Key,
+    input: StepInput,
+) -> Result<(), AllocError>
+    requires { place < vec_len ring.old }
+    ensures ok { OnOk result (lane ring.new.items place ≡ lane ring.old.items place ++ (key, input) ∷ []) }
+    ensures err { OnErr result (lane ring.new.items place ≡ lane ring.old.items place) }
+    ensures others { (other : ℕ) → other ≢ place → lane ring.new.items other ≡ lane ring.old.items other }
+{
+    put_last(spare, &mut ring[place], key, input)
+}
+
+/// Adds an event to those of its tick.
+#[inline(always)]
+pub(crate) fn add(
+    alloc: Global,
+    spare: &mut Vec<Vec<(Key, StepInput)>>,
+    calendar: &mut Calendar,
+    key: Key,
+    input: StepInput,
+) -> Result<(), AllocError>
+    requires { IsCalendar calendar.old }
+    ensures calendar { IsCalendar calendar.new }
+    ensures ok { OnOk result (IsAdded calendar.old calendar.new key input) }
+    ensures err { OnErr result (HoldsSame calendar.old calendar.new) }
+{
+    let place = (key.tick % YEAR) as usize;
+    if place < calendar.ring.len() && is_near(calendar.from, key.tick) {
+        return put_near(spare, &mut calendar.ring, place, key, input);
+    }
+    file(alloc, spare, &mut calendar.map, key, input)
+}

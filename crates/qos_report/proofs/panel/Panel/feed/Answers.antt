@@ -1,5 +1,0 @@
-use Rattle.qos_report.specs.Tally.{new_tally}
-use Rattle.qos_report.proofs.panel.Panel.feed.Goals as goal
-
-pub returns : goal.returns
-returns c = λ S layer trace h until. c.feed.ensures S layer new_tally trace h until

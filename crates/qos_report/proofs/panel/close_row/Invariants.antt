@@ -1,8 +1,0 @@
-use Rattle.std.proofs.Common.{◌≡◌, ◌-◌, suc, ◌++◌, map}
-use Rattle.process_api.specs.Numbers.{others}
-use Rattle.qos_report.specs.Meter.{closed}
-use Rattle.qos_report.specs.Panel.{metered}
-use Rattle.qos_report.proofs.panel.close_row.Given as goal
-
-abbrev pub invariant-loop-column : goal.invariant-loop-column
-invariant-loop-column l = l.rows.items ≡ l.fn.rows.items ++ map (λ p. closed (metered l.pairs l.row (p - 1))) (others l.column (suc l.row))

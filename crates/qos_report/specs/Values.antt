@@ -1,8 +1,0 @@
--- The text of a report's value.
-use Rattle.std.specs.Prelude.{ℕ, List, decimal}
-use Rattle.qos_report.specs.declared.values.Value.{Value}
-use Rattle.qos_report.specs.declared.values.Value.TheVariants.{Number, Word}
-
-abbrev pub value_text : Value → List ℕ
-value_text (Number number) = decimal number
-value_text (Word word) = word.now

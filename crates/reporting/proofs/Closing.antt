@@ -1,0 +1,122 @@
+-- The measures at the close.
+use Rattle.std.proofs.Common.{◌≡◌, ℕ, suc, ◌+◌, ◌-◌, ◌*◌, ◌<◌, min, Bool, true, false, cond, refl, sym, ap, ◌∙◌, subst, arith, None, Some, List, map, get_or, add-one}
+use Rattle.process_api.specs.Numbers.{others}
+use Rattle.process_api.specs.EntryRecord.{EntryRecord}
+use Rattle.scenario_record.specs.Record.{Record}
+use Rattle.judges.specs.Crashes.{crash_tick, end_of}
+use Rattle.judges.specs.Out.{suspects}
+use Rattle.judges.specs.Pair.{opened, kept_at}
+use Rattle.judges.specs.Pairs.{ArePairs, fed}
+use Rattle.judges.specs.Ticks.{least_from}
+use Rattle.judges.specs.declared.pair.Pair.{Pair}
+use Rattle.judges.specs.declared.pairs.Pairs.{Pairs}
+use Rattle.judges.proofs.Standing.{IsKnown, fed_known}
+use Rattle.reporting.specs.Distances.{count_below, sum_of_distances, count_of_distances}
+use Rattle.reporting.specs.Measures.{starts, ends, is_measured, delay_after, pair_measures, layer_measures}
+use Rattle.reporting.specs.Knows.{Knows}
+use Rattle.reporting.specs.Tally.{counted, new_tally}
+use Rattle.reporting.specs.Meter.{closed, detected}
+use Rattle.reporting.specs.MeterFed.{IsFed}
+use Rattle.reporting.specs.Panel.{pair, metered, closed_row, closed_rows}
+use Rattle.reporting.specs.declared.meter.Meter.{Meter}
+use Rattle.reporting.specs.declared.tally.Tally.{Tally}
+use Rattle.reporting.specs.declared.pair_measures.Detection.TheVariants.{Na}
+use Rattle.reporting.proofs.Lasting.{least_from-since, least_from-none}
+use Rattle.reporting.proofs.Keeping.{tallies_keep, none_known}
+use Rattle.reporting.proofs.EachProcess.{others_same, rows_same}
+use Rattle.reporting.proofs.Entering.{crash_is}
+
+abbrev pub known_of : (S : Record) (layer q p : ℕ) (trace : List EntryRecord) (horizon : ℕ) → Pair Tally → Type 0
+known_of S layer q p trace horizon = IsKnown counted (λ (t : Tally). t.tick) Knows tallies_keep (suspects layer trace q p) horizon (end_of S q p)
+
+pair_known : (S : Record) (layer q p : ℕ) (trace : List EntryRecord) (m : Meter) → IsFed S layer q p trace m → known_of S layer q p trace m.horizon m.pair
+pair_known S layer q p trace m h =
+    subst (λ n. known_of S layer q p trace n m.pair) (sym h.horizon)
+    (subst (known_of S layer q p trace S.horizon) (sym h.pair) (fed_known counted (λ (t : Tally). t.tick) Knows tallies_keep S layer q p new_tally trace refl none_known h.in_order))
+
+module _ (S : Record) (layer q p : ℕ) (trace : List EntryRecord) (m : Meter) (h : IsFed S layer q p trace m) where
+  abbrev t : Tally
+  t = kept_at counted m.horizon m.pair
+
+  at_horizon : t.tick ≡ S.horizon
+  at_horizon = (pair_known S layer q p trace m h).behind ∙ h.horizon
+
+  knows : Knows (suspects layer trace q p) (end_of S q p) t
+  knows = (pair_known S layer q p trace m h).knows
+
+  at_end : min t.tick (end_of S q p) ≡ end_of S q p
+  at_end = omega (arith, at_horizon)
+
+  lasting : least_from (suspects layer trace q p) S.horizon ≡ cond t.was t.started None
+  lasting = ap (least_from (suspects layer trace q p)) (sym at_horizon) ∙ go t.was refl
+    where
+      go : (b : Bool) → t.was ≡ b → least_from (suspects layer trace q p) t.tick ≡ cond b t.started None
+      go true e = let s = knows.since e in least_from-since _ s.0 t.tick s.2 ∙ sym s.1
+      go false e = least_from-none _ t.tick (sym knows.was ∙ e)
+
+  pub closed_is : closed m ≡ pair_measures S trace layer q p
+  unfolding pair_measures
+  closed_is =
+      let f = suspects layer trace q p in
+      let s = starts (suspects layer trace q p) in
+      let r = ends (suspects layer trace q p) in
+      let mistakes = knows.mistakes ∙ ap (count_below s) at_end in
+      let mistake_ticks = knows.mistake_ticks ∙ ap (count_below f) at_end in
+      let rs = knows.recurrence.sum ∙ ap (sum_of_distances s s) at_end in
+      let rc = knows.recurrence.count ∙ ap (count_of_distances s s) at_end in
+      let ds = knows.duration.sum ∙ ap (sum_of_distances s r) at_end in
+      let dc = knows.duration.count ∙ ap (count_of_distances s r) at_end in
+      let gs = knows.good.sum ∙ ap (sum_of_distances r s) at_end in
+      let gc = knows.good.count ∙ ap (count_of_distances r s) at_end in
+      let detection = ap (detected m.crash) (sym lasting) ∙ ap (λ c. detected c (least_from f S.horizon)) h.crash ∙ by_case (is_measured S q p) in
+      λ i. record {
+        layer = h.same_layer i;
+        observer = h.observer i;
+        subject = h.subject i;
+        mistakes = mistakes i;
+        mistake_ticks = mistake_ticks i;
+        recurrence_sum = rs i;
+        recurrence_count = rc i;
+        duration_sum = ds i;
+        duration_count = dc i;
+        good_sum = gs i;
+        good_count = gc i;
+        detection = detection i;
+      }
+    where
+      by_case : (b : Bool) → detected (cond b (Some (crash_tick S p)) None) (least_from (suspects layer trace q p) S.horizon)
+          ≡ cond b (delay_after (crash_tick S p) (least_from (suspects layer trace q p) S.horizon)) Na
+      by_case true = refl
+      by_case false = refl
+
+module _ (S : Record) (layer : ℕ) (trace : List EntryRecord) (pairs : Pairs Tally) (h : ArePairs counted S layer new_tally trace pairs) where
+  module _ (i j : ℕ) (l : i < S.processes) (m : j < S.processes) where
+    pair_is : pair pairs i j ≡ fed counted S layer (suc i) (suc j) new_tally trace
+    pair_is = ap (λ n. get_or pairs.pairs.items (i * n + j) (opened 0 new_tally)) h.processes ∙ h.each i j (opened 0 new_tally) l m
+
+    end_is : (pair pairs i j).end ≡ end_of S (suc i) (suc j)
+    end_is = ap (λ (x : Pair Tally). x.end) pair_is ∙ (fed_known counted (λ (t : Tally). t.tick) Knows tallies_keep S layer (suc i) (suc j) new_tally trace refl none_known h.in_order).same_end
+
+  metered_fed : (i j : ℕ) → i < S.processes → j < S.processes → IsFed S layer (suc i) (suc j) trace (metered pairs i j)
+  metered_fed i j l m = record {
+    same_layer = h.same_layer;
+    observer = add-one i;
+    subject = add-one j;
+    horizon = h.horizon;
+    crash = crash_is S (suc i) (suc j) (pair pairs i i).end (pair pairs j j).end pairs.horizon (omega (arith, end_is i i l l)) (omega (arith, end_is j j m m)) h.horizon;
+    in_order = h.in_order;
+    pair = pair_is i j l m;
+  }
+
+  row_is : (i : ℕ) → i < S.processes → closed_row pairs i ≡ map (pair_measures S trace layer (suc i)) (others S.processes (suc i))
+  row_is i l =
+      ap (λ n. map (λ p. closed (metered pairs i (p - 1))) (others n (suc i))) h.processes
+      ∙ others_same (λ p. closed (metered pairs i (p - 1))) (pair_measures S trace layer (suc i)) S.processes (suc i)
+      (λ j m. ap (λ k. closed (metered pairs i k)) (omega arith) ∙ closed_is S layer (suc i) (suc j) trace (metered pairs i j) (metered_fed i j l m))
+
+  pub metering_closed : closed_rows pairs pairs.processes ≡ layer_measures S trace layer
+  unfolding layer_measures
+  metering_closed =
+      ap (closed_rows pairs) h.processes
+      ∙ rows_same (λ q. closed_row pairs (q - 1)) (λ q. map (pair_measures S trace layer q) (others S.processes q)) S.processes
+      (λ j l. ap (closed_row pairs) (omega arith) ∙ row_is j l)

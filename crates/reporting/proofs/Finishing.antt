@@ -1,0 +1,72 @@
+-- A run from its trace to its texts: what it leaves once it is done, and once it is refused.
+use Rattle.std.proofs.Common.{◌≡◌, ◌≢◌, ℕ, ◌<◌, ◌∙◌, sym, ap, subst, refl, Bool, true, false, true≢false, List, length, Option, Result, Ok, Err, IfOk, IfErr, OnOk}
+use Rattle.trace_laws.specs.Effects.{HasCauses, TakesOnce}
+use Rattle.trace_laws.specs.ScenarioSetting.{setting_of}
+use Rattle.trace_laws.specs.World.{IsTrace}
+use Rattle.event_list.specs.declared.error.RunError.{RunError}
+use Rattle.event_list.specs.declared.error.RunError.TheVariants.{Limit, Memory, Spawn, Write}
+use Rattle.judges.specs.Agreement.{Agree, Agrees, IsCoordinated}
+use Rattle.process_api.specs.EntryRecord.{EntryRecord}
+use Rattle.scenario_record.specs.Record.{Record}
+use Rattle.reporting.specs.Printed.{printed, IsTraceWithin, Finishes, Refuses}
+use Rattle.reporting.specs.Summary.{IsSummary}
+use Rattle.reporting.specs.Writing.{Wrote, WrotePart, WroteNothing}
+use Rattle.print_choice.specs.declared.PrintChoice.{PrintChoice}
+use Rattle.reporting.specs.declared.summary.Summary.{Summary}
+
+abbrev is_limit : RunError → Bool
+is_limit Limit = true
+is_limit Memory = false
+is_limit Spawn = false
+is_limit Write = false
+
+abbrev is_write : RunError → Bool
+is_write Limit = false
+is_write Memory = false
+is_write Spawn = false
+is_write Write = true
+
+apart : (test : RunError → Bool) (a b : RunError) → test a ≡ false → test b ≡ true → a ≢ b
+apart test a b fails passes e = true≢false (sym passes ∙ ap test (sym e) ∙ fails)
+
+module _ (S : Record) (print : PrintChoice) {O : Type 0} (told : O → Option (List ℕ)) (failed : O → ℕ) (old new : O) where
+  -- nothing was written yet
+  pub refuses_before : (e : RunError) → e ≢ Write → (e ≡ Limit → (trace : List EntryRecord) → IsTrace (setting_of S) trace → S.limit < length trace)
+      → told new ≡ told old → failed new ≡ failed old → Refuses S print told failed old new e
+  refuses_before e other long bytes failures = record {
+    write = λ is. absurd (other is);
+    others = λ _. record { bytes = bytes; failures = failures };
+    limit = long;
+  }
+
+  module _ (trace : List EntryRecord) (within : IsTraceWithin S trace) where
+    pub finishes : HasCauses (setting_of S) trace → TakesOnce (setting_of S) trace → (r : Result Summary RunError)
+        → OnOk r (Wrote told failed old new (printed print S trace)) → IfOk r (IsSummary S trace) → (IsCoordinated S trace → Agrees S trace)
+        → IfOk r (Finishes S print told failed old new)
+    finishes causes once (Ok summary) text summed agrees = record {
+      trace = trace;
+      is_within = within;
+      text = text;
+      summed = summed;
+      causes = causes;
+      once = once;
+      agree = λ e. subst (Agree S) (sym summed.decided) (agrees (e, within.is_trace)).agree;
+      decides_once = λ e. (agrees (e, within.is_trace)).once;
+    }
+    finishes causes once (Err e) text summed agrees = tt
+
+    -- the texts were formed, or were being formed
+    pub refuses_after : (r : Result Summary RunError)
+        → (r ≡ Err Write → WrotePart told failed old new (printed print S trace)) → (r ≡ Err Memory → WroteNothing told failed old new)
+        → (r ≢ Err Limit) × (r ≢ Err Spawn) → IfErr r (Refuses S print told failed old new)
+    refuses_after (Ok summary) part nothing only = tt
+    refuses_after (Err Limit) part nothing only = absurd (only.0 refl)
+    refuses_after (Err Spawn) part nothing only = absurd (only.1 refl)
+    refuses_after (Err Memory) part nothing only =
+        let n = nothing refl in
+        refuses_before Memory (apart is_write Memory Write refl refl) (λ e. absurd (apart is_limit Memory Limit refl refl e)) n.bytes n.failures
+    refuses_after (Err Write) part nothing only = record {
+      write = λ _. (trace, within, part refl);
+      others = λ other. absurd (other refl);
+      limit = λ e. absurd (apart is_limit Write Limit refl refl e);
+    }

@@ -1,0 +1,105 @@
+-- Every row of layer 2 with a mistake or a detection rests on an earlier suspicion of layer 1.
+use Rattle.std.proofs.Common.{◌≡◌, ℕ, zero, suc, ◌+◌, ◌<◌, ◌≤◌, refl, sym, ap, ◌∙◌, subst, Bool, true, false, cond, arith, true≢false, List, [], ◌∷◌, map, Option, None, Some, is_some, unwrap_or}
+use Rattle.std.specs.List.{All, AllByRecursion, flat_map}
+use Rattle.std.proofs.lemmas.List.Elements.{All-from_recursion}
+use Rattle.process_api.specs.EntryRecord.{EntryRecord}
+use Rattle.process_api.specs.Numbers.{numbers_to, others}
+use Rattle.process_api.proofs.Lists.{both, images, always}
+use Rattle.process_api.proofs.Minds.{both_true}
+use Rattle.scenario_record.specs.Ranges.{IsInRange}
+use Rattle.scenario_record.specs.Record.{Record}
+use Rattle.trace_laws.specs.ScenarioSetting.{setting_of}
+use Rattle.trace_laws.specs.World.{IsTrace}
+use Rattle.judges.specs.Crashes.{crash_tick, end_of}
+use Rattle.judges.specs.Out.{suspects}
+use Rattle.judges.specs.Ticks.{all_from, first_of, least_below, least_from}
+use Rattle.judges.proofs.Blamed.{blamed_by_out}
+use Rattle.judges.proofs.Lasting.{all_from-at}
+use Rattle.reporting.specs.Distances.{count_below}
+use Rattle.reporting.specs.Measures.{starts, delay_after, is_measured, detection, measured, pair_measures, layer_measures, layers, all_measures}
+use Rattle.reporting.specs.Resting.{HasBlame, RestsOnBlame}
+use Rattle.reporting.specs.declared.pair_measures.Detection.{Detection}
+use Rattle.reporting.specs.declared.pair_measures.Detection.TheVariants.{Na, NoTick, At}
+
+-- ---- ticks
+
+some_counted : (test : ℕ → Bool) (end : ℕ) → 1 ≤ count_below test end → (t : ℕ) × (t < end) × (test t ≡ true)
+some_counted test zero h = absurd (omega arith)
+some_counted test (suc t) h = go (test t) refl h (some_counted test t)
+  where
+    go : (b : Bool) → test t ≡ b → 1 ≤ count_below test t + cond b 1 0 → (1 ≤ count_below test t → (u : ℕ) × (u < t) × (test u ≡ true)) → (u : ℕ) × (u < suc t) × (test u ≡ true)
+    go true is h rest = (t, omega arith, is)
+    go false is h rest = let r = rest (omega arith) in (r.0, omega (arith, r.1), r.2)
+
+abbrev Found : (ℕ → Bool) → ℕ → ℕ → Type 0
+Found test end t = (t < end) × (test t ≡ true)
+
+some_same : (s t : ℕ) → Some s ≡ Some t → s ≡ t
+some_same s t e = ap (λ o. unwrap_or o s) e
+
+least_passes : (test : ℕ → Bool) (end t : ℕ) → least_below test end ≡ Some t → Found test end t
+least_passes test zero t e = absurd (true≢false (sym (ap is_some e)))
+least_passes test (suc u) t e = go (least_below test u) (test u) refl refl e (least_passes test u)
+  where
+    here : (b : Bool) → test u ≡ b → cond b (Some u) None ≡ Some t → Found test (suc u) t
+    here true is same = let at = some_same u t same in (omega (arith, at), ap test (sym at) ∙ is)
+    here false is same = absurd (true≢false (sym (ap is_some same)))
+
+    go : (o : Option ℕ) (b : Bool) → least_below test u ≡ o → test u ≡ b → first_of o (cond b (Some u) None) ≡ Some t
+        → ((t : ℕ) → least_below test u ≡ Some t → Found test u t) → Found test (suc u) t
+    go None b none is same rest = here b is same
+    go (Some v) b some is same rest = let r = rest t (some ∙ same) in (omega (arith, r.0), r.1)
+
+abbrev is_number : Detection → Bool
+is_number Na = false
+is_number NoTick = false
+is_number (At ticks) = true
+
+-- a detection is by the suspicion that lasts to the horizon
+detected : (S : Record) (q p : ℕ) (suspected : ℕ → Bool) (ticks : ℕ) → detection S q p suspected ≡ At ticks
+    → (t : ℕ) × (least_from suspected S.horizon ≡ Some t) × (suspected t ≡ true)
+detected S q p suspected ticks h = go (is_measured S q p) h
+  where
+    by : (o : Option ℕ) → least_from suspected S.horizon ≡ o → delay_after (crash_tick S p) o ≡ At ticks
+        → (t : ℕ) × (least_from suspected S.horizon ≡ Some t) × (suspected t ≡ true)
+    by None is f = absurd (true≢false (sym (ap is_number f)))
+    by (Some t) is f =
+        let r = least_passes (λ t. all_from suspected t S.horizon) S.horizon t is in
+        (t, is, all_from-at suspected t S.horizon t r.1 (omega arith) r.0)
+
+    go : (b : Bool) → cond b (delay_after (crash_tick S p) (least_from suspected S.horizon)) Na ≡ At ticks
+        → (t : ℕ) × (least_from suspected S.horizon ≡ Some t) × (suspected t ≡ true)
+    go true f = by (least_from suspected S.horizon) refl f
+    go false f = absurd (true≢false (sym (ap is_number f)))
+
+-- ---- rows
+
+all_flat : {X A : Type 0} (P : A → Type 0) (f : X → List A) (xs : List X) → ((x : X) → AllByRecursion P (f x)) → AllByRecursion P (flat_map f xs)
+all_flat P f [] each = tt
+all_flat P f (x ∷ xs) each = both P (f x) (flat_map f xs) (each x) (all_flat P f xs each)
+
+module _ (S : Record) (ranges : IsInRange S) (trace : List EntryRecord) (is_trace : IsTrace (setting_of S) trace) where
+  -- whom a row of layer 2 tells of, some base detector had suspected
+  has_blame : (q p : ℕ) → HasBlame S trace (measured S 2 q p (suspects 2 trace q p))
+  has_blame q p = record {
+    mistake = λ some.
+        let r = some_counted (starts (suspects 2 trace q p)) (end_of S q p) some in
+        (r.0, (r.1, r.2), blamed_by_out S ranges trace is_trace q r.0 p (both_true _ _ r.2).0);
+    detection = λ ticks is.
+        let r = detected S q p (suspects 2 trace q p) ticks is in
+        (r.0, r.1, blamed_by_out S ranges trace is_trace q r.0 p r.2);
+  }
+
+  rests : (layer q p : ℕ) → RestsOnBlame S trace (pair_measures S trace layer q p)
+  unfolding pair_measures
+  rests layer q p two = subst (λ l. HasBlame S trace (measured S l q p (suspects l trace q p))) (sym two) (has_blame q p)
+
+  all_by_recursion : AllByRecursion (RestsOnBlame S trace) (all_measures S trace)
+  unfolding all_measures layer_measures
+  all_by_recursion =
+      all_flat (RestsOnBlame S trace) (layer_measures S trace) (layers S) (λ layer.
+      all_flat (RestsOnBlame S trace) (λ q. map (pair_measures S trace layer q) (others S.processes q)) (numbers_to S.processes) (λ q.
+      images (RestsOnBlame S trace) (pair_measures S trace layer q) (others S.processes q) (always (λ p. RestsOnBlame S trace (pair_measures S trace layer q p)) (rests layer q) (others S.processes q))))
+
+  pub all_rest : All (RestsOnBlame S trace) (all_measures S trace)
+  all_rest = All-from_recursion (RestsOnBlame S trace) (all_measures S trace) all_by_recursion

@@ -1,0 +1,11 @@
+use Rattle.std.proofs.Common.{◌∷◌, []}
+use Rattle.judges.proofs.Order.{before_one, rising_front}
+use Rattle.reporting.proofs.Fed.{on_ok}
+use Rattle.reporting.proofs.recording.RecordingRecorder.record.Goals as goal
+
+pub returns : goal.returns
+returns c =
+    on_ok c.feed.result
+    (λ fed first taken was S print opened rises.
+    fed S print taken (was S print opened (rising_front taken (c.args.entry ∷ []) rises)) (before_one taken c.args.entry [] rises))
+    c.feed.ensures

@@ -1,0 +1,64 @@
+-- The text of a trace.
+use Rattle.std.specs.Prelude.{ℕ, List, [], ◌∷◌, ◌++◌, map, codes, decimal}
+use Rattle.std.specs.List.{join_with_byte, flat_map}
+use Rattle.process_api.specs.EntryRecord.{EntryRecord}
+use Rattle.process_api.specs.declared.action.Note.{Note}
+use Rattle.process_api.specs.declared.action.Note.TheVariants.{Suspect, Trust, Round, Decided, NoValue}
+use Rattle.process_api.specs.declared.entry.Kind.{Kind}
+use Rattle.process_api.specs.declared.entry.Kind.TheVariants as kind
+use Rattle.reporting.specs.Rows.{row_of}
+
+abbrev pub space : ℕ
+space = 32
+
+abbrev pub kind_text : Kind → List ℕ
+kind_text kind.Start = codes "start"
+kind_text kind.Beat = codes "beat"
+kind_text kind.Check = codes "check"
+kind_text kind.Share = codes "share"
+kind_text kind.Alive = codes "alive"
+kind_text kind.Heartbeat = codes "heartbeat"
+kind_text kind.Suspects = codes "suspects"
+kind_text kind.Vector = codes "vector"
+kind_text kind.Last = codes "last"
+kind_text kind.Estimate = codes "estimate"
+kind_text kind.Proposal = codes "proposal"
+kind_text kind.Reply = codes "reply"
+kind_text kind.Decide = codes "decide"
+kind_text kind.Dead = codes "dead"
+
+abbrev pub note_text : Note → List ℕ
+note_text (Suspect layer who) = codes "suspect:" ++ (decimal layer ++ (codes ":" ++ decimal who))
+note_text (Trust layer who) = codes "trust:" ++ (decimal layer ++ (codes ":" ++ decimal who))
+note_text (Round round) = codes "round:" ++ decimal round
+note_text (Decided value) = codes "decided:" ++ decimal value
+note_text NoValue = codes "novalue"
+
+-- the notes in order, with a space between them
+unfoldable pub notes_text : List Note → List ℕ
+notes_text notes = join_with_byte space (map note_text notes)
+
+-- the first line: the names of the columns
+unfoldable pub trace_header : List ℕ
+trace_header = codes "tick,receiver,sender,number,kind,sent,lost,notes\n"
+
+-- the fields of an entry's row: tick, receiver, sender and number of its key, its kind, how many letters it sent, how
+-- many of them were lost, and its notes
+abbrev pub fields_of : EntryRecord → List (List ℕ)
+fields_of e =
+    decimal e.key.tick ∷ decimal e.key.receiver ∷ decimal e.key.sender ∷ decimal e.key.number ∷ kind_text e.kind
+    ∷ decimal e.sent ∷ decimal e.lost ∷ notes_text e.notes ∷ []
+
+-- those before the notes
+abbrev pub first_fields_of : EntryRecord → List (List ℕ)
+first_fields_of e =
+    decimal e.key.tick ∷ decimal e.key.receiver ∷ decimal e.key.sender ∷ decimal e.key.number ∷ kind_text e.kind
+    ∷ decimal e.sent ∷ decimal e.lost ∷ []
+
+-- a row for each entry
+abbrev pub rows_text : List EntryRecord → List ℕ
+rows_text entries = flat_map (λ e. row_of (fields_of e)) entries
+
+-- the text of a trace: the header, and a row for each entry
+unfoldable pub trace_text : List EntryRecord → List ℕ
+trace_text trace = trace_header ++ rows_text trace

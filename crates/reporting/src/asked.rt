@@ -1,0 +1,25 @@
+//! What is asked for.
+ghost use Rattle.std.specs.Prelude.{◌≡◌};
+ghost use Rattle.reporting.specs.Printed.{prints_report, prints_trace};
+
+use print_choice::PrintChoice;
+
+/// Whether the trace is asked for.
+pub fn prints_trace(print: PrintChoice) -> bool
+    ensures { result ≡ prints_trace print }
+{
+    match print {
+        PrintChoice::Trace | PrintChoice::Both => true,
+        PrintChoice::Report => false,
+    }
+}
+
+/// Whether the report is asked for.
+pub fn prints_report(print: PrintChoice) -> bool
+    ensures { result ≡ prints_report print }
+{
+    match print {
+        PrintChoice::Report | PrintChoice::Both => true,
+        PrintChoice::Trace => false,
+    }
+}

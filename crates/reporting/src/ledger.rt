@@ -1,0 +1,49 @@
+//! A tally whose numbers fit their types.
+ghost use Rattle.std.specs.Prelude.{◌≡◌};
+ghost use Rattle.reporting.specs.Tally.{counted, new_tally};
+
+use crate::tally::Tally;
+use judges::Gauge;
+use std::marker::Model;
+
+/// What is counted of a pair; contracts see its tally.
+#[derive(Clone, Copy, Debug)]
+pub(crate) struct Ledger {
+    tally: Tally,
+}
+
+impl Model for Ledger {
+    ghost use Rattle.reporting.specs.Tally.{InRange};
+    ghost use Rattle.reporting.specs.declared.tally.Tally.{Tally};
+
+    ghost Value = { Tally };
+
+    ghost view = { λ l. l.tally };
+
+    ghost invariant = { λ l. InRange l.tally };
+
+    ghost inverse = { λ t. record { tally = t } };
+}
+
+impl Ledger {
+    /// Nothing is counted.
+    pub fn new() -> Ledger
+        ensures { result ≡ new_tally }
+    {
+        Ledger { tally: Tally::NEW }
+    }
+
+    pub fn tally(&self) -> Tally
+        ensures { result ≡ self.now }
+    {
+        self.tally
+    }
+}
+
+impl Gauge for Ledger {
+    ghost passed = { counted };
+
+    fn pass(&mut self, until: u32, suspected: bool, end: u32) {
+        self.tally.pass(until, suspected, end);
+    }
+}

@@ -1,0 +1,45 @@
+//! A run of which all is measured and no text is formed.
+ghost use Rattle.std.specs.Prelude.{◌≡◌, ◌⊎◌, ◌<◌, List, length, map, IfErr, IfOk, IsErrOf};
+ghost use Rattle.trace_laws.specs.ScenarioSetting.{setting_of};
+ghost use Rattle.trace_laws.specs.World.{IsTrace};
+ghost use Rattle.process_api.specs.EntryRecord.{EntryRecord};
+ghost use Rattle.process_api.specs.Numbers.{numbers_to};
+ghost use Rattle.reporting.specs.Measured.{MeasuresRun};
+ghost use Rattle.scenario_record.specs.Record.{opening_mind};
+
+use crate::findings::RunFindings;
+use crate::running_findings::RunningFindings;
+use event_list::{RunError, run_list_into};
+use process_api::Process;
+use scenario_record::Scenario;
+use std::alloc::Global;
+
+/// Runs a scenario by one global event list and tells all that is measured of it: what the report tells, with no text
+/// formed. No entry is held: each is measured as it comes.
+///
+/// The machines are those of processes 1 to n, in this order, each in its opening state. They are consumed.
+///
+/// With the rotating coordinator no two outcomes of the summary have different values, each value was proposed, each
+/// process decides at most once, and none notes that it ends with no value: whatever the detector, the links and the
+/// crashes.
+///
+/// # Errors
+///
+/// `Limit` where the run has more entries than the scenario's limit, `Memory` where memory was refused.
+pub fn measure_list(
+    alloc: Global,
+    scenario: &Scenario,
+    machines: Vec<Box<dyn Process>>,
+) -> Result<RunFindings, RunError>
+    requires machines { map mind machines.items
+        ≡ map (opening_mind scenario.now) (numbers_to scenario.now.processes) }
+    ensures done { IfOk result (MeasuresRun scenario.now) }
+    ensures errors { IfErr result (λ e. (e ≡ RunError.Limit) ⊎ (e ≡ RunError.Memory)) }
+    ensures limit { IsErrOf result RunError.Limit → (whole : List EntryRecord)
+        → IsTrace (setting_of scenario.now) whole → scenario.now.limit < length whole }
+{
+    let _ticks = scenario.horizon();
+    let mut running = RunningFindings::open(alloc, scenario)?;
+    run_list_into(alloc, scenario, machines, &mut running)?;
+    Ok(running.close(alloc)?)
+}

@@ -1,0 +1,182 @@
+//! Rows of a report.
+ghost use Rattle.std.specs.Prelude.{◌≡◌, ◌++◌, map, OnOk};
+ghost use Rattle.reporting.specs.ReportText.{report_row, report_rows, run_text, verdict_text, pair_text, decision_text};
+ghost use Rattle.reporting.specs.Rows.{IsBetweenRows, text_of};
+ghost use Rattle.reporting.specs.Values.{value_text};
+
+use crate::pair_measures::PairMeasures;
+use crate::rows::Rows;
+use crate::summary::Summary;
+use crate::values::{Value, of_answer, of_count, of_detection, of_tick, of_truth};
+use itoa::Buffer;
+use judges::{Outcome, Verdicts};
+use std::alloc::AllocError;
+
+/// What rows are about. The layer, the observer and the subject are 0 where they have none.
+#[derive(Clone, Copy, Debug)]
+struct About {
+    section: &'static str,
+    layer: u8,
+    observer: u16,
+    subject: u16,
+}
+
+/// Adds the row of a value, which has a name.
+#[tactic(auto, unfolding(crate::specs::ReportText::report_row))]
+fn push_value(
+    rows: &mut Rows,
+    about: &About,
+    name: &'static str,
+    value: Value,
+) -> Result<(), AllocError>
+    requires { IsBetweenRows rows.old }
+    ensures between { OnOk result (IsBetweenRows rows.new) }
+    ensures text { OnOk result (text_of rows.new ≡ text_of rows.old
+        ++ report_row about.now.section.now about.now.layer about.now.observer about.now.subject
+        (name.now, value_text value)) }
+{
+    let mut layer = Buffer::new();
+    let mut observer = Buffer::new();
+    let mut subject = Buffer::new();
+    let mut number = Buffer::new();
+    let text = value.text(&mut number);
+    rows.push(&[
+        about.section.as_bytes(),
+        layer.format(about.layer).as_bytes(),
+        observer.format(about.observer).as_bytes(),
+        subject.format(about.subject).as_bytes(),
+        name.as_bytes(),
+        text.as_bytes(),
+    ])
+}
+
+/// Adds the rows of these values, each with its name.
+#[tactic(auto, unfolding(crate::specs::ReportText::report_rows))]
+fn push_values(
+    rows: &mut Rows,
+    about: &About,
+    values: &[(&'static str, Value)],
+) -> Result<(), AllocError>
+    requires { IsBetweenRows rows.old }
+    ensures between { OnOk result (IsBetweenRows rows.new) }
+    ensures text { OnOk result (text_of rows.new ≡ text_of rows.old
+        ++ report_rows about.now.section.now about.now.layer about.now.observer about.now.subject
+        (map (λ v. (v.0.now, value_text v.1)) values.now)) }
+{
+    for (name, value) in values {
+        push_value(rows, about, name, *value)?;
+    }
+    Ok(())
+}
+
+/// Adds the rows of a run.
+pub(crate) fn push_run(rows: &mut Rows, summary: &Summary) -> Result<(), AllocError>
+    requires { IsBetweenRows rows.old }
+    ensures between { OnOk result (IsBetweenRows rows.new) }
+    ensures text { OnOk result (text_of rows.new ≡ text_of rows.old
+        ++ run_text summary.now.entries summary.now.sent summary.now.lost) }
+{
+    let about = About {
+        section: "run",
+        layer: 0,
+        observer: 0,
+        subject: 0,
+    };
+    push_values(
+        rows,
+        &about,
+        &[
+            ("entries", of_count(summary.entries)),
+            ("sent", Value::Number(summary.sent)),
+            ("lost", Value::Number(summary.lost)),
+        ],
+    )
+}
+
+/// Adds the rows of the verdicts on a layer.
+pub(crate) fn push_verdicts(
+    rows: &mut Rows,
+    layer: u8,
+    verdicts: &Verdicts,
+) -> Result<(), AllocError>
+    requires { IsBetweenRows rows.old }
+    ensures between { OnOk result (IsBetweenRows rows.new) }
+    ensures text { OnOk result (text_of rows.new ≡ text_of rows.old ++ verdict_text layer verdicts.now) }
+{
+    let about = About {
+        section: "verdict",
+        layer,
+        observer: 0,
+        subject: 0,
+    };
+    push_values(
+        rows,
+        &about,
+        &[
+            ("strong_completeness", of_tick(verdicts.strong_completeness)),
+            ("weak_completeness", of_tick(verdicts.weak_completeness)),
+            ("strong_accuracy", of_truth(verdicts.strong_accuracy)),
+            ("weak_accuracy", of_truth(verdicts.weak_accuracy)),
+            (
+                "eventual_strong_accuracy",
+                of_tick(verdicts.eventual_strong_accuracy),
+            ),
+            (
+                "eventual_weak_accuracy",
+                of_tick(verdicts.eventual_weak_accuracy),
+            ),
+        ],
+    )
+}
+
+/// Adds the rows of the measures of a pair.
+pub(crate) fn push_pair(rows: &mut Rows, measures: &PairMeasures) -> Result<(), AllocError>
+    requires { IsBetweenRows rows.old }
+    ensures between { OnOk result (IsBetweenRows rows.new) }
+    ensures text { OnOk result (text_of rows.new ≡ text_of rows.old ++ pair_text measures.now) }
+{
+    let about = About {
+        section: "pair",
+        layer: measures.layer,
+        observer: measures.observer.number(),
+        subject: measures.subject.number(),
+    };
+    push_values(
+        rows,
+        &about,
+        &[
+            ("mistakes", of_count(measures.mistakes)),
+            ("mistake_ticks", of_count(measures.mistake_ticks)),
+            ("recurrence_sum", of_count(measures.recurrence_sum)),
+            ("recurrence_count", of_count(measures.recurrence_count)),
+            ("duration_sum", of_count(measures.duration_sum)),
+            ("duration_count", of_count(measures.duration_count)),
+            ("good_sum", of_count(measures.good_sum)),
+            ("good_count", of_count(measures.good_count)),
+            ("detection", of_detection(measures.detection)),
+        ],
+    )
+}
+
+/// Adds the rows of what a process decided.
+pub(crate) fn push_decision(rows: &mut Rows, outcome: &Outcome) -> Result<(), AllocError>
+    requires { IsBetweenRows rows.old }
+    ensures between { OnOk result (IsBetweenRows rows.new) }
+    ensures text { OnOk result (text_of rows.new ≡ text_of rows.old ++ decision_text outcome.now) }
+{
+    let about = About {
+        section: "decision",
+        layer: 0,
+        observer: outcome.pid.number(),
+        subject: 0,
+    };
+    push_values(
+        rows,
+        &about,
+        &[
+            ("value", of_answer(outcome.value)),
+            ("tick", of_tick(outcome.tick)),
+            ("rounds", of_count(outcome.rounds)),
+        ],
+    )
+}

@@ -1,0 +1,124 @@
+//! Writing the texts of a finished trace.
+ghost use Rattle.std.specs.Prelude.{◌≡◌, ◌≢◌, ◌^◌, ◌-◌, ◌+◌, ◌<◌, Err, List, length, OnOk, IfErr, IfOk};
+ghost use Rattle.process_api.specs.EntryRecord.{EntryRecord};
+ghost use Rattle.print_choice.specs.declared.PrintChoice.{PrintChoice};
+ghost use Rattle.reporting.specs.Printed.{items_of, printed};
+ghost use Rattle.reporting.specs.Recording.{IsRecording};
+ghost use Rattle.reporting.specs.ReportText.{report_text};
+ghost use Rattle.reporting.specs.Summary.{IsSummary};
+ghost use Rattle.reporting.specs.TraceText.{trace_text};
+ghost use Rattle.reporting.specs.Writing.{Wrote, WrotePart, WroteNothing};
+
+use crate::outlet::{Outlet, put_all};
+use crate::recording::Recording;
+use crate::running::Running;
+use crate::summary::Summary;
+use crate::trace_text::text_of_trace;
+use event_list::RunError;
+use process_api::Trace;
+use scenario_record::Scenario;
+use std::alloc::Global;
+
+/// Writes a text that is whole, or answers `Write` at the first put that fails.
+pub fn write_text<O: Outlet>(text: &[u8], outlet: &mut O) -> Result<(), RunError>
+    requires { O.failed outlet.old < 2 ^ 64 - 1 }
+    ensures whole { OnOk result (Wrote O.told O.failed outlet.old outlet.new text.now) }
+    ensures part { result ≡ Err RunError.Write → WrotePart O.told O.failed outlet.old outlet.new text.now }
+    ensures only { IfErr result (λ reason. reason ≡ RunError.Write) }
+{
+    if put_all(outlet, text) {
+        Ok(())
+    } else {
+        Err(RunError::Write)
+    }
+}
+
+/// Writes the text of a trace: a header line, and a row for each entry. The whole text is formed before any of it is
+/// written.
+///
+/// # Errors
+///
+/// `Memory` where memory was refused; then nothing was written. `Write` where a put failed; then a front part of the
+/// text went out.
+pub fn write_trace<O: Outlet>(alloc: Global, trace: &Trace, outlet: &mut O) -> Result<(), RunError>
+    requires { O.failed outlet.old < 2 ^ 64 - 1 }
+    ensures whole { OnOk result (Wrote O.told O.failed outlet.old outlet.new (trace_text trace.now)) }
+    ensures part { result ≡ Err RunError.Write
+        → WrotePart O.told O.failed outlet.old outlet.new (trace_text trace.now) }
+    ensures memory { result ≡ Err RunError.Memory → WroteNothing O.told O.failed outlet.old outlet.new }
+    ensures only { (result ≢ Err RunError.Limit) × (result ≢ Err RunError.Spawn) }
+{
+    match text_of_trace(alloc, trace.entries()) {
+        Ok(text) => write_text(&text, outlet),
+        Err(_) => Err(RunError::Memory),
+    }
+}
+
+/// Writes the texts of a run that was recorded, and answers its summary. Both are formed before any text is written. In
+/// the trace of a scenario with the rotating coordinator the outcomes agree, and whoever decides does so once.
+///
+/// # Errors
+///
+/// `Memory` where memory was refused; then nothing was written. `Write` where a put failed; then a front part of the
+/// texts went out.
+pub(crate) fn write_recorded<O: Outlet>(
+    alloc: Global,
+    scenario: &Scenario,
+    recording: Recording,
+    outlet: &mut O,
+) -> Result<Summary, RunError>
+    requires { O.failed outlet.old < 2 ^ 64 - 1 }
+    ensures whole { OnOk result ((print : PrintChoice) (trace : List EntryRecord)
+        → IsRecording scenario.now print trace recording → length trace < 2 ^ 64
+        → Wrote O.told O.failed outlet.old outlet.new (printed print scenario.now trace)) }
+    ensures summed { IfOk result (λ s. (print : PrintChoice) (trace : List EntryRecord)
+        → IsRecording scenario.now print trace recording → length trace < 2 ^ 64 → IsSummary scenario.now trace s) }
+    ensures part { result ≡ Err RunError.Write → (print : PrintChoice) (trace : List EntryRecord)
+        → IsRecording scenario.now print trace recording → length trace < 2 ^ 64
+        → WrotePart O.told O.failed outlet.old outlet.new (printed print scenario.now trace) }
+    ensures memory { result ≡ Err RunError.Memory → WroteNothing O.told O.failed outlet.old outlet.new }
+    ensures only { (result ≢ Err RunError.Limit) × (result ≢ Err RunError.Spawn) }
+{
+    let (summary, text) = recording.close(alloc, scenario)?;
+    write_text(&text, outlet)?;
+    Ok(summary)
+}
+
+/// Writes a text, if there is one.
+pub fn write_if_any<O: Outlet>(text: Option<Vec<u8>>, outlet: &mut O) -> Result<(), RunError>
+    requires { O.failed outlet.old < 2 ^ 64 - 1 }
+    ensures whole { OnOk result (Wrote O.told O.failed outlet.old outlet.new (items_of text)) }
+    ensures part { result ≡ Err RunError.Write → WrotePart O.told O.failed outlet.old outlet.new (items_of text) }
+    ensures only { IfErr result (λ reason. reason ≡ RunError.Write) }
+{
+    match text {
+        None => Ok(()),
+        Some(text) => write_text(&text, outlet),
+    }
+}
+
+/// Writes the report of a finished trace: a header line, and a row for each number of the run, each verdict on a layer,
+/// each measure of a pair and each process's decision. The whole text is formed before any of it is written.
+///
+/// # Errors
+///
+/// `Memory` where memory was refused; then nothing was written. `Write` where a put failed; then a front part of the
+/// text went out.
+pub fn write_report<O: Outlet>(
+    alloc: Global,
+    scenario: &Scenario,
+    trace: &Trace,
+    outlet: &mut O,
+) -> Result<(), RunError>
+    requires { O.failed outlet.old < 2 ^ 64 - 1 }
+    ensures whole { OnOk result (Wrote O.told O.failed outlet.old outlet.new (report_text scenario.now trace.now)) }
+    ensures part { result ≡ Err RunError.Write
+        → WrotePart O.told O.failed outlet.old outlet.new (report_text scenario.now trace.now) }
+    ensures memory { result ≡ Err RunError.Memory → WroteNothing O.told O.failed outlet.old outlet.new }
+    ensures only { (result ≢ Err RunError.Limit) × (result ≢ Err RunError.Spawn) }
+{
+    let mut running = Running::open(alloc, scenario, true)?;
+    running.feed_all(trace.entries());
+    let (_summary, report) = running.close(alloc, scenario)?;
+    write_if_any(report, outlet)
+}

@@ -1,0 +1,221 @@
+//! Words and fates with values from outside: they were computed by a program of its own, written apart from this one
+//! and checked with the block of RFC 8439, section 2.3.2, and the 8-round vectors of
+//! draft-strombergson-chacha-test-vectors.
+use process_api::Pid;
+use rand_chacha::ChaCha8Rng;
+use rand_core::{Rng, SeedableRng};
+use scenario::{Scenario, read_scenario};
+use std::alloc::Global;
+use std::process::Abort;
+use std::test::Fail;
+use streams::{Fate, LinkWords, Streams};
+
+const LINKS_OF_FIVE: &str = "[link]\nmin = 2\nmax = 9\nloss = 300\n";
+
+/// A scenario of so many processes with this seed and these links.
+fn scenario(alloc: Global, processes: u16, seed: u64, links: &str) -> Result<Scenario, Fail> {
+    let text = format!(in alloc;
+        "version = 2\nprocesses = {processes}\nhorizon = 200\nlookahead = 2\nseed = {seed}\nalgorithm = \"none\"\n\
+         [detector]\nperiod = 5\ncheck = 3\ntimeout = 12\ngrow = 2\n{links}"
+    )?;
+    Ok(read_scenario(alloc, text.as_bytes())?)
+}
+
+fn pid(number: u16) -> Result<Pid, Fail> {
+    Ok(Pid::new(number).ok_or("no process")?)
+}
+
+/// Letters 1 to 12 of a link, each sent at the tick of its number and asked for in their turn: their delays, and 0 for
+/// a lost one.
+fn delays(scenario: &Scenario, from: u16, to: u16) -> Result<[u32; 12], Fail> {
+    let streams = Streams::new(scenario);
+    let mut words = LinkWords::new();
+    let (from, to) = (pid(from)?, pid(to)?);
+    let mut delays = [0u32; 12];
+    if from == to || from.number() > scenario.processes() || to.number() > scenario.processes() {
+        return Ok(delays);
+    }
+    for place in 0..12usize {
+        let fate = streams.next_fate(from, to, place as u64 + 1, place as u32 + 1, &mut words);
+        if let Fate::Delay(ticks) = fate {
+            delays[place] = ticks;
+        }
+    }
+    Ok(delays)
+}
+
+/// Letters 1 to 12 of a link have these delays.
+fn delays_are<R: Abort>(
+    rt: &R,
+    scenario: &Scenario,
+    (from, to): (u16, u16),
+    wanted: [u32; 12],
+) -> Result<(), Fail> {
+    let came = delays(scenario, from, to)?;
+    assert_eq!(rt; came, wanted, "from {from} to {to}");
+    Ok(())
+}
+
+/// The places of the words in `WORDS`.
+const PLACES: [u128; 7] = [0, 1, 2, 15, 16, 17, 1000];
+
+/// Words of a link's stream under a seed: the seed, the link's ends, and the words at `PLACES`.
+const WORDS: [(u64, u16, u16, [u32; 7]); 5] = [
+    (
+        1,
+        1,
+        1,
+        [
+            0xa0e95ecf, 0x61a94a49, 0xedd5053e, 0xc8e3fad8, 0x7d5a35b4, 0x6788dd93, 0x06bca377,
+        ],
+    ),
+    (
+        1,
+        1,
+        2,
+        [
+            0x8c6fea14, 0x1a8125d4, 0xac499192, 0x2c2ddfdd, 0x6c38c98a, 0xdf48c9ef, 0xeb23cab2,
+        ],
+    ),
+    (
+        1,
+        2,
+        1,
+        [
+            0xd03b2e30, 0x95ae2983, 0x9fcec436, 0xca586cf0, 0xe201d0ab, 0x678ff9b2, 0xbf9f41bd,
+        ],
+    ),
+    (
+        258,
+        1,
+        2,
+        [
+            0x29d55c06, 0xfe70b8e5, 0xa808c2a6, 0xedf88f46, 0x34722d1d, 0x99771e02, 0xd305ea68,
+        ],
+    ),
+    (
+        9223372036854775807,
+        64,
+        63,
+        [
+            0xc5c7d6ac, 0xc4c40c80, 0x8a018642, 0x1f968f22, 0x0ca62962, 0x87d10b86, 0x5c835e1a,
+        ],
+    ),
+];
+
+/// The words of a link's stream at `PLACES`.
+fn words_at(seed: u64, from: Pid, to: Pid) -> [u32; 7] {
+    let mut kept = LinkWords::new();
+    let mut words = [0u32; 7];
+    for index in 0..7usize {
+        let place = PLACES[index];
+        if place <= 1000 {
+            words[index] = kept.pair_at(seed, from, to, place).0;
+        }
+    }
+    words
+}
+
+#[test]
+fn words_of_five_streams(rt: HostRuntime) -> Result<(), Fail> {
+    for (seed, from, to, words) in WORDS {
+        assert_eq!(rt;
+            words_at(seed, pid(from)?, pid(to)?),
+            words,
+            "seed {seed}, from {from} to {to}"
+        );
+    }
+    Ok(())
+}
+
+#[test]
+fn fates_of_four_links(rt: HostRuntime) -> Result<(), Fail> {
+    let scenario = scenario(rt.alloc(), 5, 1, LINKS_OF_FIVE)?;
+    delays_are(&rt, &scenario, (1, 2), [6, 3, 8, 6, 9, 3, 0, 7, 9, 8, 0, 6])?;
+    delays_are(&rt, &scenario, (2, 1), [5, 3, 3, 4, 0, 7, 5, 2, 4, 6, 0, 0])?;
+    delays_are(&rt, &scenario, (3, 4), [9, 5, 3, 4, 0, 3, 3, 3, 0, 9, 0, 6])?;
+    delays_are(&rt, &scenario, (5, 1), [5, 5, 0, 0, 2, 6, 5, 0, 7, 7, 0, 0])?;
+    Ok(())
+}
+
+/// The words of a link's stream, read one after the other from place 0.
+#[test]
+fn any_order_gives_the_same(rt: HostRuntime) -> Result<(), Fail> {
+    let scenario = scenario(rt.alloc(), 5, 258, LINKS_OF_FIVE)?;
+    let streams = Streams::new(&scenario);
+    let mut key = [0u8; 32];
+    key[0] = 2;
+    key[1] = 1;
+    let mut generator = ChaCha8Rng::from_seed(key);
+    generator.set_stream(2 * 65536 + 3);
+    let mut words = Vec::new(rt.alloc());
+    for _ in 0..200u32 {
+        words.push(generator.next_u32())?;
+    }
+    assert_eq!(rt; scenario.processes(), 5);
+    let (from, to) = (pid(3)?, pid(4)?);
+    assert_eq!(rt; (from.number(), to.number()), (3, 4));
+    let mut kept = LinkWords::new();
+    for number in (1..=100u64).rev() {
+        let at = 2 * (number as usize - 1);
+        assert!(rt; at + 1 < words.len());
+        let (a, b) = (words[at], words[at + 1]);
+        let fate = if a % 1000 < 300 {
+            Fate::Lost
+        } else {
+            Fate::Delay(2 + b % 8)
+        };
+        for sent_at in [0, 199, u32::MAX] {
+            let one = streams.fate(from, to, number, sent_at);
+            let next = streams.next_fate(from, to, number, sent_at, &mut kept);
+            assert_eq!(rt; (one, next), (fate, fate));
+        }
+    }
+    Ok(())
+}
+
+#[test]
+fn other_links_keep_their_fates(rt: HostRuntime) -> Result<(), Fail> {
+    let alloc = rt.alloc();
+    let changed = format!(in alloc;
+        "{LINKS_OF_FIVE}\n[[links]]\nfrom = 3\nto = 4\nmin = 2\nmax = 9\nloss = 0\n"
+    )?;
+    let before = scenario(alloc, 5, 1, LINKS_OF_FIVE)?;
+    let after = scenario(alloc, 5, 1, changed.as_str())?;
+    assert_eq!(rt; delays(&after, 1, 2)?, delays(&before, 1, 2)?);
+    Ok(())
+}
+
+#[test]
+fn sure_links(rt: HostRuntime) -> Result<(), Fail> {
+    let scenario = scenario(rt.alloc(), 5, 1, "[link]\nmin = 5\nmax = 5\n")?;
+    delays_are(&rt, &scenario, (1, 2), [5; 12])?;
+    delays_are(&rt, &scenario, (5, 4), [5; 12])?;
+    Ok(())
+}
+
+/// Outages of two links: letters 3 to 6 from process 1 to 2 are sent in one or in both of two that overlap.
+const OUTAGES: &str = "[link]\nmin = 2\nmax = 9\nloss = 300\n\
+    [[outage]]\nfrom = 1\nto = 2\nbegin = 3\nuntil = 6\n\
+    [[outage]]\nfrom = 1\nto = 2\nbegin = 4\nuntil = 7\n\
+    [[outage]]\nfrom = 5\nto = 1\nbegin = 1\nuntil = 2\n";
+
+/// What is sent in an outage is lost, and the other letters keep their fates.
+#[test]
+fn letters_lost_in_outages(rt: HostRuntime) -> Result<(), Fail> {
+    let scenario = scenario(rt.alloc(), 5, 1, OUTAGES)?;
+    delays_are(&rt, &scenario, (1, 2), [6, 3, 0, 0, 0, 0, 0, 7, 9, 8, 0, 6])?;
+    delays_are(&rt, &scenario, (2, 1), [5, 3, 3, 4, 0, 7, 5, 2, 4, 6, 0, 0])?;
+    delays_are(&rt, &scenario, (5, 1), [0, 5, 0, 0, 2, 6, 5, 0, 7, 7, 0, 0])?;
+    Ok(())
+}
+
+/// A link that loses nothing and has one delay draws no words, but it has outages like any other.
+#[test]
+fn sure_links_cut(rt: HostRuntime) -> Result<(), Fail> {
+    let links = "[link]\nmin = 5\nmax = 5\n[[outage]]\nfrom = 5\nto = 4\nbegin = 0\nuntil = 12\n";
+    let scenario = scenario(rt.alloc(), 5, 1, links)?;
+    delays_are(&rt, &scenario, (5, 4), [0, 0, 0, 0, 0, 0, 0, 0, 0, 0, 0, 5])?;
+    delays_are(&rt, &scenario, (4, 5), [5; 12])?;
+    Ok(())
+}

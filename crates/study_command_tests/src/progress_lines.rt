@@ -1,0 +1,122 @@
+//! The line of progress, by a clock that the test sets, on a terminal in memory.
+
+use crate::runs::same;
+use std::cell::Cell;
+use std::io::{self, Write};
+use std::test::Fail;
+use std::time::{Clock, Duration};
+use study_commands::progress_line::ProgressLine;
+use sweep::{Standing, Watcher};
+
+/// A clock that shows the milliseconds which the test sets, and where none are set fails.
+#[derive(Drop)]
+struct Hand(Cell<Option<u64>>);
+
+impl Clock for Hand {
+    fn monotonic(&self) -> io::Result<Duration> {
+        match self.0.get() {
+            Some(millis) => Ok(Duration::from_millis(millis)),
+            None => Err(io::Error::from(io::ErrorKind::Other)),
+        }
+    }
+
+    fn since_1970(&self) -> io::Result<Duration> {
+        self.monotonic()
+    }
+}
+
+/// A terminal that can't be written to.
+#[derive(Drop)]
+struct Broken;
+
+impl Write for Broken {
+    fn write(&mut self, _piece: &[u8]) -> io::Result<usize> {
+        Err(io::Error::from(io::ErrorKind::Other))
+    }
+
+    fn flush(&mut self) -> io::Result<()> {
+        Ok(())
+    }
+}
+
+/// So many of the runs of four points with 100 runs each are in.
+fn standing(done: u64) -> Standing {
+    Standing {
+        points: 4,
+        runs: 100,
+        done,
+    }
+}
+
+/// What the clock shows, and how many runs are in.
+const TIMES: [(Option<u64>, u64); 8] = [
+    (Some(5_000), 0),
+    (Some(5_100), 64),
+    (Some(15_000), 100),
+    (Some(15_199), 110),
+    (None, 200),
+    (Some(165_000), 250),
+    (Some(36_005_000), 300),
+    (Some(36_105_000), 399),
+];
+
+/// Four points with 100 runs each. After 10 seconds a quarter of the runs is in, so 30 seconds are left; after 160
+/// seconds 250 runs are, so 96 seconds; after 10 hours 300, so 12,000 seconds; 100 seconds later one is left, so 90.
+/// What comes less than 200 milliseconds after a line isn't drawn. A shorter line is filled up with blanks.
+#[test]
+fn lines(rt: HostRuntime) -> Result<(), Fail> {
+    let alloc = rt.alloc();
+    let clock = Hand(Cell::new(None));
+    let mut screen = Vec::new(alloc);
+    let mut line = ProgressLine::new(&clock, alloc, Some(&mut screen), false);
+    for (millis, done) in &TIMES {
+        clock.0.set(*millis);
+        line.make_way();
+        line.hear(standing(*done));
+    }
+    line.hide();
+    line.hide();
+    drop(line);
+    let want = "\r0 of 4 points\
+        \r1 of 4 points, 30 s left\
+        \r2 of 4 points, 1 min left\
+        \r3 of 4 points, 3 h 20 min left\
+        \r3 of 4 points, 1 min left     \
+        \r                              \r";
+    same(&rt, &std::str::from_utf8(&screen)?, &want);
+    Ok(())
+}
+
+/// Where rows go to a terminal too, the line makes way for them, and is put back at once.
+#[test]
+fn makes_way(rt: HostRuntime) -> Result<(), Fail> {
+    let alloc = rt.alloc();
+    let clock = Hand(Cell::new(Some(0)));
+    let mut screen = Vec::new(alloc);
+    let mut line = ProgressLine::new(&clock, alloc, Some(&mut screen), true);
+    line.hear(standing(0));
+    line.make_way();
+    clock.0.set(Some(100));
+    line.hear(standing(100));
+    clock.0.set(Some(200));
+    line.hear(standing(200));
+    drop(line);
+    let want = "\r0 of 4 points\r             \r\r1 of 4 points, 0 s left";
+    same(&rt, &std::str::from_utf8(&screen)?, &want);
+    Ok(())
+}
+
+/// With no terminal nothing is shown, and one that can't be written to stops nobody.
+#[test]
+fn no_line(rt: HostRuntime) -> Result<(), Fail> {
+    let alloc = rt.alloc();
+    let clock = Hand(Cell::new(Some(0)));
+    let mut none: ProgressLine<'_, Hand, Vec<u8>> = ProgressLine::new(&clock, alloc, None, false);
+    none.hear(standing(0));
+    none.make_way();
+    none.hide();
+    let mut broken = ProgressLine::new(&clock, alloc, Some(Broken), true);
+    broken.hear(standing(0));
+    broken.hide();
+    Ok(())
+}

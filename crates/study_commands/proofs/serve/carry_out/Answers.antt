@@ -1,0 +1,16 @@
+use Rattle.study_commands.proofs.serve.carry_out.Goals as goal
+
+pub returns-in-Check-clause-stops : goal.returns-in-Check-clause-stops
+returns-in-Check-clause-stops g c = rw c.in-Check.is c.serve_check.ensures.stops
+
+pub returns-in-Show-clause-stops : goal.returns-in-Show-clause-stops
+returns-in-Show-clause-stops g c = rw c.in-Show.is c.serve_show.ensures.stops
+
+pub returns-in-Sweep-clause-stops : goal.returns-in-Sweep-clause-stops
+returns-in-Sweep-clause-stops g c = rw c.in-Sweep.is c.serve_sweep.ensures.stops
+
+pub returns-in-Letters-clause-stops : goal.returns-in-Letters-clause-stops
+returns-in-Letters-clause-stops g c = rw c.in-Letters.is c.serve_letters.ensures.stops
+
+pub returns-in-Draw-clause-stops : goal.returns-in-Draw-clause-stops
+returns-in-Draw-clause-stops g c = rw c.in-Draw.is c.serve_draw.ensures.stops

@@ -1,0 +1,24 @@
+-- The file that a path names.
+use Rattle.std.specs.Prelude.{◌≡◌, ◌≤◌, ℕ, List, length, Option, Some}
+use Rattle.toml.specs.Data.{Members}
+use Rattle.scenario_record.specs.Record.{Record}
+use Rattle.scenario.specs.Refusals.{Accepts, IsDocumentOf}
+use Rattle.sources.specs.Input.{AreAllOf, input_path, most_bytes}
+
+module _ (input : Option (List ℕ)) (path : List ℕ) where
+  -- the bytes are the file's, and not too many. Of a path other than `-` they aren't known
+  pub record AreBytes (bytes : List ℕ) : Type 0 where
+    pub is_short : length bytes ≤ most_bytes
+    pub is_input : path ≡ input_path → AreAllOf input bytes
+
+  -- the table is the file's
+  pub record IsTable (file : Members) : Type 0 where
+    pub bytes : List ℕ
+    pub are_bytes : AreBytes bytes
+    pub is_document : IsDocumentOf bytes (Some file)
+
+  -- the scenario is the one that the file stands for
+  pub record IsScenario (s : Record) : Type 0 where
+    pub bytes : List ℕ
+    pub are_bytes : AreBytes bytes
+    pub accepted : Accepts bytes s

@@ -1,0 +1,31 @@
+-- Runs of the file's scenario that are refused.
+use Rattle.std.specs.Prelude.{◌<◌, ℕ, List, length, Option}
+use Rattle.trace_laws.specs.ScenarioSetting.{setting_of}
+use Rattle.trace_laws.specs.World.{IsTrace}
+use Rattle.event_list.specs.declared.error.RunError.{RunError}
+use Rattle.event_list.specs.declared.error.RunError.TheVariants as error
+use Rattle.study_commands.specs.File.{IsScenario}
+use Rattle.study_commands.specs.declared.fault.Fault.{Fault}
+use Rattle.study_commands.specs.declared.fault.Fault.TheVariants.{Limit, Memory}
+use Rattle.process_api.specs.EntryRecord.{EntryRecord}
+use Rattle.scenario_record.specs.Record.{Record}
+
+-- a run by the event list is refused for its limit or for want of memory
+abbrev pub fault_of_run : RunError → Fault
+fault_of_run error.Limit = Limit
+fault_of_run _ = Memory
+
+-- the scenario's trace has more entries than its limit
+abbrev pub IsTooLong : Record → Type 0
+IsTooLong s = (trace : List EntryRecord) → IsTrace (setting_of s) trace → s.limit < length trace
+
+-- the fault is that of a run of the scenario: for the limit only where the trace is longer
+abbrev pub IsOfRun : Record → Fault → Type 0
+IsOfRun s Limit = IsTooLong s
+IsOfRun s Memory = Unit {0}
+IsOfRun s _ = ⊥
+
+-- the limit stops no command but over a file whose scenario has a longer trace
+abbrev pub StopsAtLimit : Option (List ℕ) → (path : List ℕ) → Fault → Type 0
+StopsAtLimit input path Limit = (s : Record) × IsScenario input path s × IsTooLong s
+StopsAtLimit input path _ = Unit {0}

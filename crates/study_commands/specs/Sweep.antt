@@ -1,0 +1,48 @@
+-- What `sweep` answers.
+use Rattle.std.specs.Prelude.{◌≡◌, ◌<◌, ℕ, List, length, take, Option}
+use Rattle.toml.specs.Data.{Members}
+use Rattle.study_commands.specs.Fault.{IsRefusal}
+use Rattle.study_commands.specs.File.{IsTable}
+use Rattle.study_commands.specs.Study.{IsGrid, IsShardOf}
+use Rattle.study_commands.specs.declared.fault.Fault.{Fault}
+use Rattle.study_commands.specs.declared.fault.Fault.TheVariants.{Memory, Write}
+use Rattle.study.specs.Grid.{GridRecord, points, runs}
+use Rattle.study.specs.Shard.{ShardRecord}
+use Rattle.study.specs.Words.{Word}
+use Rattle.study_line.specs.declared.order.GridTexts.{GridTexts}
+use Rattle.sweep.specs.StudyText.{IsStudyText, IsTextOf, numbers_of}
+use Rattle.sweep.specs.declared.error.SweepError.{SweepError}
+use Rattle.sweep.specs.declared.error.SweepError.TheVariants as error
+
+module _ (input : Option (List ℕ)) (path : List ℕ) (words : GridTexts) (word : Option Word) where
+  -- the piece is the text of the study: of its shard's points, where a shard is named
+  pub record IsSweepAnswer (piece : List ℕ) : Type 0 where
+    pub file : Members
+    pub is_file : IsTable input path file
+    pub grid : GridRecord
+    pub is_grid : IsGrid words grid
+    pub shard : ShardRecord
+    pub is_shard : IsShardOf word shard
+    pub text : IsStudyText file grid shard piece
+
+  -- the piece has the rows of the first of these points, and no others
+  pub record IsSweepFront (piece : List ℕ) : Type 0 where
+    pub file : Members
+    pub is_file : IsTable input path file
+    pub grid : GridRecord
+    pub is_grid : IsGrid words grid
+    pub shard : ShardRecord
+    pub is_shard : IsShardOf word shard
+    pub count : ℕ
+    pub text : IsTextOf file grid shard (take count (numbers_of grid shard)) piece
+
+-- the fault of a sweep that breaks off: of a run that is refused its line isn't said
+abbrev pub IsFaultOf : SweepError → Fault → Type 0
+IsFaultOf (error.Refused point run reason) f = IsRefusal f
+IsFaultOf error.Memory f = f ≡ Memory
+IsFaultOf error.Write f = f ≡ Write
+
+-- an error that tells of a run tells of one of the study
+abbrev pub IsOfRun : GridRecord → SweepError → Type 0
+IsOfRun g (error.Refused point run reason) = (point < length (points g)) × (run < length (runs g))
+IsOfRun g _ = Unit {0}

@@ -1,0 +1,102 @@
+-- Why an order isn't carried out: which of its words, its file or its runs are refused.
+use Rattle.std.specs.Prelude.{◌≡◌, ◌⊎◌, ℕ, List, length, false, Option, Result, String, option_map}
+use Rattle.std.specs.declared.alloc.Global.{Global}
+use Rattle.study_commands.specs.Draw.{StopsPicture}
+use Rattle.study_commands.specs.File.{IsTable}
+use Rattle.study_commands.specs.Refusal.{IsNoTable, IsOfFile}
+use Rattle.study_commands.specs.Runs.{StopsAtLimit}
+use Rattle.study_commands.specs.Show.{IsPlace}
+use Rattle.study_commands.specs.Study.{IsGrid, IsShardOf}
+use Rattle.study_commands.specs.WordRefusals.{IsOutside, SaysNoGrid, SaysNoShard}
+use Rattle.study_commands.specs.declared.fault.Fault.{Fault}
+use Rattle.study_commands.specs.declared.fault.Fault.TheVariants.{Memory, Refused, Words, WordsMemory, Write}
+use Rattle.study.specs.Grid.{GridRecord, points, runs}
+use Rattle.study.specs.Placed.{table_of_run}
+use Rattle.study.specs.Runs.{HasNoText, is_text_memory}
+use Rattle.study.specs.Shard.{ShardRecord}
+use Rattle.study.specs.Words.{Word}
+use Rattle.study.specs.declared.error.PlaceError.{PlaceError}
+use Rattle.study.specs.declared.error.ReadError.{ReadError}
+use Rattle.study.specs.declared.error.TextError.{TextError}
+use Rattle.study_line.specs.declared.order.GridTexts.{GridTexts}
+use Rattle.study_line.specs.declared.order.Order.{Order}
+use Rattle.study_line.specs.declared.order.Order.TheVariants as order
+use Rattle.sweep.specs.Outcome.{IsFirstRefused, run_at}
+use Rattle.sweep.specs.StudyText.{point_at}
+use Rattle.toml.specs.Data.{Members}
+
+-- a command over a study stops for its words, for its file or a run of it, for want of memory or at a failed write
+abbrev pub IsOfStudy : (OfWords : Type 0) (OfFile : Option (String Global) → Type 0) → Fault → Type 0
+IsOfStudy OfWords OfFile (Words line) = OfWords
+IsOfStudy OfWords OfFile WordsMemory = Unit {0}
+IsOfStudy OfWords OfFile (Refused line) = OfFile line
+IsOfStudy OfWords OfFile Memory = Unit {0}
+IsOfStudy OfWords OfFile Write = Unit {0}
+IsOfStudy OfWords OfFile _ = ⊥
+
+-- the run has no text, for a reason other than memory
+pub record HasNone (table : Result Members PlaceError) : Type 0 where
+  pub reason : TextError
+  pub other : is_text_memory reason ≡ false
+  pub has_none : HasNoText table reason
+
+-- the fault is that a run has no text, or that memory was refused
+abbrev pub IsOfText : Result Members PlaceError → Fault → Type 0
+IsOfText table (Refused line) = HasNone table
+IsOfText table Memory = Unit {0}
+IsOfText table _ = ⊥
+
+module _ (input : Option (List ℕ)) (path : List ℕ) where
+  -- `check` stops for its file, for want of memory or at a failed write
+  abbrev pub StopsCheck : Fault → Type 0
+  StopsCheck Write = Unit {0}
+  StopsCheck fault = IsOfFile input path fault
+
+  module _ (words : GridTexts) where
+    module _ (point run : ℕ) where
+      -- the words say no grid, or one that has no such point or run
+      abbrev pub NamesNoRun : Type 0
+      NamesNoRun = SaysNoGrid words
+          ⊎ ((g : GridRecord) × IsGrid words g
+          × (IsOutside point (length (points g)) ⊎ IsOutside run (length (runs g))))
+
+      -- the run has no text
+      pub record IsUnshown : Type 0 where
+        pub file : Members
+        pub is_file : IsTable input path file
+        pub grid : GridRecord
+        pub is_grid : IsGrid words grid
+        pub point_place : ℕ
+        pub is_point : IsPlace point (length (points grid)) point_place
+        pub run_place : ℕ
+        pub is_run : IsPlace run (length (runs grid)) run_place
+        pub has_none : HasNone (table_of_run (point_at grid point_place) (run_at grid run_place) file)
+
+      abbrev pub StopsShow : Fault → Type 0
+      StopsShow = IsOfStudy NamesNoRun (λ line. IsNoTable input path line ⊎ IsUnshown)
+
+    module _ (word : Option Word) where
+      -- a run of the study is refused, of the shard's where one is named, and none before it
+      pub record HasRefusedRun : Type 0 where
+        pub file : Members
+        pub is_file : IsTable input path file
+        pub grid : GridRecord
+        pub is_grid : IsGrid words grid
+        pub shard : ShardRecord
+        pub is_shard : IsShardOf word shard
+        pub point : ℕ
+        pub run : ℕ
+        pub reason : ReadError
+        pub first : IsFirstRefused file grid shard point run reason
+
+      abbrev pub StopsSweep : Fault → Type 0
+      StopsSweep = IsOfStudy (SaysNoGrid words ⊎ SaysNoShard word) (λ line. IsNoTable input path line ⊎ HasRefusedRun)
+
+-- an order isn't carried out for this fault. Of a run's letters and of pictures a refused file isn't told here
+abbrev pub StopsFor : Option (List ℕ) → Order → Fault → Type 0
+StopsFor input (order.Check path) fault = StopsCheck input path.now fault
+StopsFor input (order.Letters path) fault = StopsAtLimit input path.now fault
+StopsFor input (order.Draw path named from until) fault = StopsPicture input path.now named from until fault
+StopsFor input (order.Show path grid point run) fault = StopsShow input path.now grid point run fault
+StopsFor input (order.Sweep path grid shard threads) fault =
+    StopsSweep input path.now grid (option_map (λ w. w.now) shard) fault

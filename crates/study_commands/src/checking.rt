@@ -1,0 +1,68 @@
+//! The command `check`: what a scenario file has, or where it breaks a rule and why.
+ghost use Rattle.std.specs.Prelude.{◌≡◌, ◌≢◌, ◌^◌, ◌-◌, ◌+◌, ◌<◌, OnOk, IfOk, IfErr, string_bytes};
+ghost use Rattle.diagnosis.specs.Diagnosis.{AcceptsAs};
+ghost use Rattle.study_commands.specs.Check.{IsCheckAnswer, accepted_text};
+ghost use Rattle.study_commands.specs.Refusal.{IsOfBytes};
+ghost use Rattle.study_commands.specs.Stop.{Stops, Went};
+ghost use Rattle.study_commands.specs.Why.{StopsCheck};
+ghost use Rattle.sources.specs.Input.{TakesAtMost, input_path, most_bytes};
+
+use crate::fault::Fault;
+use crate::file::{bytes_of, fault_of};
+use crate::writing::put_text;
+use diagnosis::{Accepted, Diagnosis, diagnose};
+use reporting::Outlet;
+use std::alloc::Global;
+use std::io::Read;
+use std::rt::Files;
+
+/// The line of an accepted file.
+fn line_of(alloc: Global, accepted: &Accepted) -> Result<String, Fault>
+    ensures line { IfOk result (λ s. string_bytes s ≡ accepted_text accepted.now.processes accepted.now.horizon
+        accepted.now.estimate.entries accepted.now.estimate.seconds) }
+    ensures refused { IfErr result (λ fault. fault ≡ Fault.Memory) }
+{
+    let (processes, horizon) = (accepted.processes, accepted.horizon);
+    let (entries, seconds) = (accepted.estimate.entries, accepted.estimate.seconds);
+    match format!(in alloc;
+        "ok: {processes} processes, horizon {horizon}, about {entries} entries in {seconds} s\n"
+    ) {
+        Ok(line) => Ok(line),
+        Err(_) => Err(Fault::Memory),
+    }
+}
+
+/// What an accepted file has.
+fn accepted_in(alloc: Global, path: &str, bytes: &[u8]) -> Result<Accepted, Fault>
+    ensures accepted { IfOk result (AcceptsAs bytes.now) }
+    ensures refused { IfErr result (IsOfBytes path.now bytes.now) }
+{
+    match diagnose(alloc, bytes) {
+        Ok(Diagnosis::Accepted(accepted)) => Ok(accepted),
+        Ok(Diagnosis::Refused(refused)) => Err(fault_of(alloc, path, &refused)),
+        Err(_) => Err(Fault::Memory),
+    }
+}
+
+/// Answers `check`: how many processes an accepted file has, its horizon, and about how much a run of it is.
+pub(crate) fn serve_check<R: Files, I: Read, O: Outlet>(
+    rt: &R,
+    alloc: Global,
+    path: &str,
+    input: &mut I,
+    outlet: &mut O,
+) -> Result<(), Fault>
+    requires { O.failed outlet.old < 2 ^ 64 - 1 }
+    ensures done { let wanted = IsCheckAnswer (I.remaining input.old) path.now in
+        OnOk result (Went O.told O.failed outlet.old outlet.new wanted) }
+    ensures stops { let wanted = IsCheckAnswer (I.remaining input.old) path.now in
+        IfErr result (Stops O.told O.failed outlet.old outlet.new wanted (λ _. ⊥)) }
+    ensures why { IfErr result (StopsCheck (I.remaining input.old) path.now) }
+    ensures taken { TakesAtMost (most_bytes + 1) (I.remaining input.old) (I.remaining input.new) }
+    ensures untouched { path.now ≢ input_path → input.new ≡ input.old }
+{
+    let bytes = bytes_of(rt, alloc, path, input)?;
+    let accepted = accepted_in(alloc, path, &bytes)?;
+    let line = line_of(alloc, &accepted)?;
+    put_text(line.as_str(), outlet)
+}

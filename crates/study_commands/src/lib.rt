@@ -1,0 +1,29 @@
+//! The commands of `fdstudy`: from the words of a command line to what goes out and the exit status.
+//!
+//! The one contract is that of [`serve::serve`]: with status 0 the outlet grows by what the words ask for, which for
+//! `sweep` is the study's text, for `show` the run's, for `check` the line of an accepted file, for `letters` the text
+//! of the letters of its run and for `draw` a picture of it; with status 4 by a front part of it; with another status
+//! by nothing, but that a `sweep` of status 3 may leave the rows of the first points. Each command has a module and a
+//! file of definitions: `specs/Sweep.antt`, `specs/Show.antt`, `specs/Check.antt`, `specs/Letters.antt` and
+//! `specs/Draw.antt`. The study's text is defined by `sweep`, its grid and its words by `study`, letters by `letters`,
+//! pictures by `drawing`, and the command line by `study_line`. The process ends with the status, by the contract of
+//! [`serve::finish`].
+//!
+//! For example, the words `fdstudy sweep - --seeds 1..=20 --vary detector.timeout=5,10` print the line of the columns'
+//! names and two rows, each over 20 runs.
+#![tactic(auto)]
+
+mod checking;
+pub mod fault;
+mod file;
+mod lettering;
+mod picturing;
+pub mod progress_line;
+mod refused_run;
+mod run_name;
+mod running;
+pub mod serve;
+mod showing;
+mod study_words;
+mod sweeping;
+mod writing;

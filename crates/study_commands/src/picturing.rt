@@ -1,0 +1,137 @@
+//! The command `draw`: pictures of a scenario's run.
+ghost use Rattle.std.specs.Prelude.{◌≡◌, ◌≢◌, ◌^◌, ◌-◌, ◌+◌, ◌<◌, OnOk, IfErr, IfOk, None};
+ghost use Rattle.drawing.specs.Refusals.{refusal};
+ghost use Rattle.study_commands.specs.Draw.{IsDrawAnswer, IsOfPicture, Shows, ShowsLetters, ShowsSuspicions};
+ghost use Rattle.study_commands.specs.Draw.{StopsPicture, TellsOf, end_of_ticks, first_tick};
+ghost use Rattle.study_commands.specs.Stop.{Stops, Went};
+ghost use Rattle.sources.specs.Input.{TakesAtMost, input_path, most_bytes};
+
+use crate::fault::Fault;
+use crate::file::scenario_at;
+use crate::running::{letters_of, trace_of};
+use crate::writing::put_bytes;
+use drawing::{DrawError, check_ticks, draw_letters, draw_suspicions};
+use reporting::Outlet;
+use scenario::Scenario;
+use std::alloc::Global;
+use std::io::Read;
+use std::rt::Files;
+use study_line::Picture;
+
+/// The ticks that are drawn.
+#[derive(Clone, Copy, Debug)]
+struct Span {
+    /// The first of them.
+    from: u32,
+    /// The tick before which they end.
+    until: u32,
+}
+
+/// The ticks that are asked for: where nothing is said, from tick 0 to the horizon.
+fn span_of(scenario: &Scenario, from: Option<u32>, until: Option<u32>) -> Span
+    ensures from { result.from ≡ first_tick from }
+    ensures until { result.until ≡ end_of_ticks scenario.now until }
+{
+    Span {
+        from: from.unwrap_or(0),
+        until: until.unwrap_or(scenario.horizon()),
+    }
+}
+
+/// The fault of a picture that is refused, with its name and its reason.
+fn fault_of(alloc: Global, path: &str, error: DrawError) -> Fault
+    ensures { TellsOf error result }
+{
+    let name = match &error {
+        DrawError::TooManyProcesses => "TooManyProcesses",
+        DrawError::Ticks => "Ticks",
+        DrawError::TooManyLetters => "TooManyLetters",
+        DrawError::Memory(_) => return Fault::Memory,
+    };
+    let line = format!(in alloc; "{path}: {name}: {error}\n").ok();
+    Fault::NotDrawn(error, line)
+}
+
+/// The picture of who suspects whom at these ticks of the scenario's run.
+fn suspicions_of(
+    alloc: Global,
+    path: &str,
+    scenario: &Scenario,
+    span: Span,
+) -> Result<Vec<u8>, Fault>
+    requires { refusal scenario.now span.from span.until ≡ None }
+    ensures shows { IfOk result (λ text. ShowsSuspicions scenario.now span.from span.until text.items) }
+    ensures refused { IfErr result (IsOfPicture Picture.Suspicions scenario.now span.from span.until) }
+{
+    let trace = trace_of(alloc, scenario)?;
+    match draw_suspicions(alloc, scenario, &trace, span.from, span.until) {
+        Ok(text) => Ok(text),
+        Err(error) => Err(fault_of(alloc, path, error)),
+    }
+}
+
+/// The picture of what went from whom to whom at these ticks of the scenario's run.
+fn letters_picture_of(
+    alloc: Global,
+    path: &str,
+    scenario: &Scenario,
+    span: Span,
+) -> Result<Vec<u8>, Fault>
+    requires { refusal scenario.now span.from span.until ≡ None }
+    ensures shows { IfOk result (λ text. ShowsLetters scenario.now span.from span.until text.items) }
+    ensures refused { IfErr result (IsOfPicture Picture.Letters scenario.now span.from span.until) }
+{
+    let trace = trace_of(alloc, scenario)?;
+    let letters = letters_of(alloc, scenario)?;
+    match draw_letters(alloc, scenario, &trace, &letters, span.from, span.until) {
+        Ok(text) => Ok(text),
+        Err(error) => Err(fault_of(alloc, path, error)),
+    }
+}
+
+/// A picture of these ticks of the scenario's run. What its processes and these ticks refuse is told before the run is
+/// made.
+fn picture_of(
+    alloc: Global,
+    path: &str,
+    picture: Picture,
+    scenario: &Scenario,
+    span: Span,
+) -> Result<Vec<u8>, Fault>
+    ensures shows { IfOk result (λ text. Shows picture scenario.now span.from span.until text.items) }
+    ensures refused { IfErr result (IsOfPicture picture scenario.now span.from span.until) }
+{
+    if let Err(error) = check_ticks(scenario, span.from, span.until) {
+        return Err(fault_of(alloc, path, error));
+    }
+    match picture {
+        Picture::Suspicions => suspicions_of(alloc, path, scenario, span),
+        Picture::Letters => letters_picture_of(alloc, path, scenario, span),
+    }
+}
+
+/// Answers `draw`: a picture of the run of the file's scenario, as SVG.
+pub(crate) fn serve_draw<R: Files, I: Read, O: Outlet>(
+    rt: &R,
+    alloc: Global,
+    path: &str,
+    picture: Picture,
+    from: Option<u32>,
+    until: Option<u32>,
+    input: &mut I,
+    outlet: &mut O,
+) -> Result<(), Fault>
+    requires { O.failed outlet.old < 2 ^ 64 - 1 }
+    ensures done { let wanted = IsDrawAnswer (I.remaining input.old) path.now picture from until in
+        OnOk result (Went O.told O.failed outlet.old outlet.new wanted) }
+    ensures stops { let wanted = IsDrawAnswer (I.remaining input.old) path.now picture from until in
+        IfErr result (Stops O.told O.failed outlet.old outlet.new wanted (λ _. ⊥)) }
+    ensures refused { IfErr result (StopsPicture (I.remaining input.old) path.now picture from until) }
+    ensures taken { TakesAtMost (most_bytes + 1) (I.remaining input.old) (I.remaining input.new) }
+    ensures untouched { path.now ≢ input_path → input.new ≡ input.old }
+{
+    let scenario = scenario_at(rt, alloc, path, input)?;
+    let span = span_of(&scenario, from, until);
+    let text = picture_of(alloc, path, picture, &scenario, span)?;
+    put_bytes(&text, outlet)
+}

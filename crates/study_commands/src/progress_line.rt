@@ -1,0 +1,151 @@
+//! The line on a terminal that tells how far a sweep has come.
+ghost use Rattle.std.specs.Prelude.{◌≡◌, ◌≤◌, ◌==◌, not};
+
+use std::alloc::{AllocError, Global};
+use std::io::Write;
+use std::time::{Clock, Duration, Instant};
+use sweep::{Standing, Watcher};
+
+/// The line is drawn anew no sooner than after so many milliseconds.
+const PAUSE: u128 = 200;
+
+/// What the line is taken away with. It has no more columns: its numbers have at most 20, 20 and 16 digits.
+const BLANKS: &[u8] = &[b' '; 100];
+
+/// How many seconds are left, where so much time went by for the first `done` of all runs, and as much for each that is
+/// left.
+fn seconds_left(gone: Duration, done: u64, all: u64) -> u64
+    requires { 1 ≤ done }
+{
+    let millis = u128::from(gone.as_millis().min(u128::from(u64::MAX)) as u64);
+    let left = millis * u128::from(all.saturating_sub(done)) / u128::from(done);
+    (left / 1000).min(u128::from(u64::MAX)) as u64
+}
+
+/// The time in words: seconds below a minute, then minutes, and hours with minutes.
+fn time_of(alloc: Global, seconds: u64) -> Result<String, AllocError> {
+    let minutes = seconds / 60;
+    let hours = minutes / 60;
+    if minutes == 0 {
+        Ok(format!(in alloc; "{seconds} s")?)
+    } else if hours == 0 {
+        Ok(format!(in alloc; "{minutes} min")?)
+    } else {
+        Ok(format!(in alloc; "{hours} h {} min", minutes % 60)?)
+    }
+}
+
+/// The line's text: how many points are done, of how many, and the time left once a run is in.
+fn text_of(alloc: Global, standing: &Standing, gone: Duration) -> Result<String, AllocError> {
+    let points = standing.points;
+    if standing.done == 0 {
+        return Ok(format!(in alloc; "0 of {points} points")?);
+    }
+    let done = standing.done / standing.runs.max(1);
+    let all = points.saturating_mul(standing.runs);
+    let left = time_of(alloc, seconds_left(gone, standing.done, all))?;
+    Ok(format!(in alloc; "{done} of {points} points, {left} left")?)
+}
+
+/// Shows on a terminal, in one line, how far a sweep has come. Where the clock can't be read, memory is refused or
+/// writing fails, nothing new is shown. Where the rows go to a terminal too, which may be the same, the line is taken
+/// away before they do, and put back after.
+#[derive(Drop)]
+pub struct ProgressLine<'a, C: Clock, W: Write + Drop> {
+    clock: &'a C,
+    alloc: Global,
+    terminal: Option<W>,
+    is_shared: bool,
+    began: Option<Instant>,
+    drawn: Option<Instant>,
+    columns: usize,
+}
+
+impl<'a, C: Clock, W: Write + Drop> ProgressLine<'a, C, W> {
+    /// A line of which nothing is shown yet, on a terminal that the rows may share. With no terminal nothing ever is.
+    pub fn new(
+        clock: &'a C,
+        alloc: Global,
+        terminal: Option<W>,
+        is_shared: bool,
+    ) -> ProgressLine<'a, C, W>
+        ensures { result.columns ≡ 0 }
+    {
+        ProgressLine {
+            clock,
+            alloc,
+            terminal,
+            is_shared,
+            began: None,
+            drawn: None,
+            columns: 0,
+        }
+    }
+
+    /// Whether the line stands there, drawn so short a time ago that it stays as it is.
+    fn is_fresh(&self, now: Instant) -> bool {
+        match self.drawn {
+            Some(drawn) => self.columns > 0 && now.duration_since(drawn).as_millis() < PAUSE,
+            None => false,
+        }
+    }
+
+    /// Draws a text, over the one that stands there.
+    fn draw(&mut self, text: &str) {
+        let columns = self.columns.max(text.len());
+        let Ok(line) = format!(in self.alloc; "\r{text:<columns$}") else {
+            return;
+        };
+        if let Some(terminal) = &mut self.terminal {
+            let _answer = terminal.write_all(line.as_bytes());
+            self.columns = columns;
+        }
+    }
+}
+
+impl<C: Clock, W: Write + Drop> Watcher for ProgressLine<'_, C, W> {
+    ghost heard = { λ _ _ _. Unit {0} };
+
+    ghost shows = { λ l. not (l.columns == 0) };
+
+    /// Draws the line, unless it was drawn a short time ago. The time begins to run as no run is in.
+    fn hear(&mut self, standing: Standing) {
+        if self.terminal.is_none() {
+            return;
+        }
+        let Ok(now) = Instant::now(self.clock) else {
+            return;
+        };
+        let began = match self.began {
+            Some(began) if standing.done > 0 => began,
+            _ => now,
+        };
+        self.began = Some(began);
+        if self.is_fresh(now) {
+            return;
+        }
+        self.drawn = Some(now);
+        if let Ok(text) = text_of(self.alloc, &standing, now.duration_since(began)) {
+            self.draw(text.as_str());
+        }
+    }
+
+    fn make_way(&mut self) {
+        if self.is_shared {
+            self.hide();
+        }
+    }
+
+    fn hide(&mut self) {
+        if self.columns == 0 {
+            return;
+        }
+        let blanks = &BLANKS[..self.columns.min(BLANKS.len())];
+        if let Some(terminal) = &mut self.terminal {
+            let _answer = terminal.write_all(b"\r");
+            let _answer = terminal.write_all(blanks);
+            let _answer = terminal.write_all(b"\r");
+        }
+        self.columns = 0;
+    }
+}

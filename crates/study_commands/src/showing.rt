@@ -1,0 +1,94 @@
+//! The command `show`: the scenario file of one run of a study.
+ghost use Rattle.std.specs.Prelude.{◌≡◌, ◌≢◌, ◌^◌, ◌-◌, ◌+◌, ◌<◌, OnOk, IfOk, IfErr, length, string_bytes};
+ghost use Rattle.toml.specs.View.{table_view};
+ghost use Rattle.study_commands.specs.Fault.{IsOfWordsFor};
+ghost use Rattle.study_commands.specs.Show.{IsPlace, IsShowAnswer};
+ghost use Rattle.study_commands.specs.Stop.{Stops, Went};
+ghost use Rattle.study_commands.specs.Why.{IsOfText, StopsShow};
+ghost use Rattle.study_commands.specs.WordRefusals.{IsOutside};
+ghost use Rattle.sources.specs.Input.{TakesAtMost, input_path, most_bytes};
+ghost use Rattle.study.specs.Grid.{points, runs};
+ghost use Rattle.study.specs.Placed.{table_of_run};
+ghost use Rattle.study.specs.Runs.{IsRunText};
+ghost use Rattle.sweep.specs.Outcome.{run_at};
+ghost use Rattle.sweep.specs.StudyText.{point_at};
+
+use crate::fault::Fault;
+use crate::file::table_of;
+use crate::refused_run::line_of_run;
+use crate::study_words::grid_of;
+use crate::writing::put_text;
+use reporting::Outlet;
+use std::alloc::Global;
+use std::io::Read;
+use std::rt::Files;
+use study::{Grid, PlaceError, TextError, scenario_text};
+use study_line::GridTexts;
+use toml::Table;
+
+/// The place, from 0, of what counts from 1 among so many.
+fn place_of(alloc: Global, name: &str, number: u64, count: u64) -> Result<u64, Fault>
+    ensures place { IfOk result (IsPlace number count) }
+    ensures refused { IfErr result (IsOfWordsFor (IsOutside number count)) }
+{
+    match number.checked_sub(1) {
+        Some(place) if place < count => Ok(place),
+        _ => Err(Fault::of_words(format!(in alloc;
+            "fdstudy: words: {name}: {number} of {count}\n"
+        ))),
+    }
+}
+
+/// The text of a run of a point, both from 0.
+fn text_of_run(
+    alloc: Global,
+    path: &str,
+    file: &Table,
+    grid: &Grid,
+    point: u64,
+    run: u64,
+) -> Result<String, Fault>
+    requires point { point < length (points grid.now) }
+    requires run { run < length (runs grid.now) }
+    ensures text { IfOk result (λ s. IsRunText
+        (table_of_run (point_at grid.now point) (run_at grid.now run) (table_view file.now)) (string_bytes s)) }
+    ensures refused { IfErr result (IsOfText
+        (table_of_run (point_at grid.now point) (run_at grid.now run) (table_view file.now))) }
+{
+    let (Ok(settings), Ok(its)) = (grid.point(alloc, point), grid.run(alloc, run)) else {
+        return Err(Fault::Memory);
+    };
+    match scenario_text(alloc, file, &settings, &its) {
+        Ok(text) => Ok(text),
+        Err(TextError::Place(PlaceError::Memory(_))) => Err(Fault::Memory),
+        Err(_) => Err(Fault::Refused(line_of_run(alloc, path, file, grid, point, run).ok())),
+    }
+}
+
+/// Answers `show`: the scenario file of a run of a point, both from 1.
+pub(crate) fn serve_show<R: Files, I: Read, O: Outlet>(
+    rt: &R,
+    alloc: Global,
+    path: &str,
+    words: &GridTexts<'_>,
+    point: u64,
+    run: u64,
+    input: &mut I,
+    outlet: &mut O,
+) -> Result<(), Fault>
+    requires { O.failed outlet.old < 2 ^ 64 - 1 }
+    ensures done { let wanted = IsShowAnswer (I.remaining input.old) path.now words.now point run in
+        OnOk result (Went O.told O.failed outlet.old outlet.new wanted) }
+    ensures stops { let wanted = IsShowAnswer (I.remaining input.old) path.now words.now point run in
+        IfErr result (Stops O.told O.failed outlet.old outlet.new wanted (λ _. ⊥)) }
+    ensures why { IfErr result (StopsShow (I.remaining input.old) path.now words.now point run) }
+    ensures taken { TakesAtMost (most_bytes + 1) (I.remaining input.old) (I.remaining input.new) }
+    ensures untouched { path.now ≢ input_path → input.new ≡ input.old }
+{
+    let grid = grid_of(alloc, words)?;
+    let point_place = place_of(alloc, "NoPoint", point, grid.points())?;
+    let run_place = place_of(alloc, "NoRun", run, grid.runs())?;
+    let file = table_of(rt, alloc, path, input)?;
+    let text = text_of_run(alloc, path, &file, &grid, point_place, run_place)?;
+    put_text(text.as_str(), outlet)
+}

@@ -1,0 +1,86 @@
+//! Studies, as words of a command line.
+ghost use Rattle.std.specs.Prelude.{◌≡◌, false, Some, IfOk, IfErr, map, option_map};
+ghost use Rattle.std.specs.List.{AllZip};
+ghost use Rattle.study_commands.specs.Fault.{IsOfWords, IsOfWordsFor};
+ghost use Rattle.study_commands.specs.Study.{IsGrid, IsShardOf};
+ghost use Rattle.study_commands.specs.WordRefusals.{HasNoAxis, SaysNoGrid, SaysNoSeeds, SaysNoShard};
+ghost use Rattle.study.specs.AxisWords.{SaysAxis, is_memory};
+ghost use Rattle.study.specs.SeedWords.{seeds_said};
+
+use crate::fault::Fault;
+use std::alloc::Global;
+use study::{Axis, AxisError, Grid, GridError, KeyError, Seeds, Shard};
+use study_line::GridTexts;
+
+/// Why a word says no axis.
+fn axis_fault(alloc: Global, word: &str, error: &AxisError) -> Fault
+    ensures { IsOfWordsFor (is_memory error.now ≡ false) result }
+{
+    match error {
+        AxisError::Memory(_) | AxisError::Key(KeyError::Memory(_)) => Fault::WordsMemory,
+        AxisError::Key(error) => {
+            Fault::of_words(format!(in alloc; "fdstudy: words: {error:?}: {word}\n"))
+        }
+        _ => Fault::of_words(format!(in alloc; "fdstudy: words: {error:?}: {word}\n")),
+    }
+}
+
+/// The axes that words say, one after the other.
+fn axes_of(alloc: Global, words: &[&str]) -> Result<Vec<Axis>, Fault>
+    ensures axes { IfOk result (λ v. AllZip SaysAxis (map (λ w. w.now) words.now) v.items) }
+    ensures refused { IfErr result (IsOfWordsFor (HasNoAxis (map (λ w. w.now) words.now))) }
+{
+    let mut axes = Vec::new(alloc);
+    for word in words {
+        let axis = match Axis::parse(alloc, word) {
+            Ok(axis) => axis,
+            Err(error) => return Err(axis_fault(alloc, word, &error)),
+        };
+        axes.push(axis).map_err(|_| Fault::WordsMemory)?;
+    }
+    Ok(axes)
+}
+
+/// The seeds that a word says.
+fn seeds_of(alloc: Global, word: &str) -> Result<Seeds, Fault>
+    ensures seeds { IfOk result (λ s. seeds_said word.now ≡ Some (s.first, s.last)) }
+    ensures refused { IfErr result (IsOfWordsFor (SaysNoSeeds word.now)) }
+{
+    match Seeds::parse(word) {
+        Ok(seeds) => Ok(seeds),
+        Err(error) => {
+            Err(Fault::of_words(format!(in alloc; "fdstudy: words: {error:?}: {word}\n")))
+        }
+    }
+}
+
+/// The grid that the words of a study say.
+pub(crate) fn grid_of(alloc: Global, words: &GridTexts<'_>) -> Result<Grid, Fault>
+    ensures grid { IfOk result (λ g. IsGrid words.now g) }
+    ensures refused { IfErr result (IsOfWordsFor (SaysNoGrid words.now)) }
+{
+    let vary = axes_of(alloc, &words.vary)?;
+    let over = axes_of(alloc, &words.over)?;
+    let seeds = seeds_of(alloc, words.seeds)?;
+    match Grid::new(alloc, vary, over, seeds.first, seeds.last) {
+        Ok(grid) => Ok(grid),
+        Err(GridError::Memory(_)) => Err(Fault::WordsMemory),
+        Err(error) => Err(Fault::of_words(format!(in alloc; "fdstudy: words: {error:?}\n"))),
+    }
+}
+
+/// The shard that a word says, and all points where there is no word.
+pub(crate) fn shard_of(alloc: Global, word: Option<&str>) -> Result<Shard, Fault>
+    ensures shard { IfOk result (IsShardOf (option_map (λ w. w.now) word.entry)) }
+    ensures refused { IfErr result (IsOfWordsFor (SaysNoShard (option_map (λ w. w.now) word.entry))) }
+{
+    let Some(word) = word else {
+        return Ok(Shard::whole());
+    };
+    match Shard::parse(word) {
+        Ok(shard) => Ok(shard),
+        Err(error) => {
+            Err(Fault::of_words(format!(in alloc; "fdstudy: words: {error:?}: {word}\n")))
+        }
+    }
+}

@@ -1,0 +1,15 @@
+pub mod Alike
+pub mod Causes
+pub mod Closed
+pub mod Effects
+pub mod Pairs
+pub mod Rising
+pub mod Runs
+pub mod Sets
+pub mod Simulate
+pub mod Sound
+pub mod Steady
+pub mod Steps
+pub mod Watching
+pub mod Worked
+pub mod Worlds

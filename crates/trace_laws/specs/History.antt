@@ -1,0 +1,80 @@
+-- Closed histories: what a run leaves behind, said without an event list.
+use Rattle.std.specs.Prelude.{◌≡◌, ◌⊎◌, ◌↔◌, ℕ, ◌<◌, List, [], ◌∷◌, filter, nat_eq, IsTrue}
+use Rattle.process_api.specs.EntryRecord.{EntryRecord}
+use Rattle.process_api.specs.Order.{is_rising}
+use Rattle.process_api.specs.declared.key.Key.{Key}
+use Rattle.process_api.specs.declared.message.StepInput.{StepInput}
+use Rattle.process_api.specs.declared.message.StepInput.TheVariants.{Start}
+use Rattle.trace_laws.specs.Setting.{Setting, IsProcess}
+use Rattle.trace_laws.specs.Step.{Process, step}
+use Rattle.trace_laws.specs.World.{World, Has, entries, start_of, opening_process}
+pub use Rattle.trace_laws.specs.World.{Pair}
+
+-- x is one of xs
+abbrev pub IsIn : {X : Type 0} → X → List X → Type 0
+IsIn x [] = ⊥
+IsIn x (y ∷ ys) = (x ≡ y) ⊎ IsIn x ys
+
+-- just one
+abbrev pub IsOnly : {X : Type 0} → (X → Type 0) → X → Type 0
+IsOnly {X} P x = P x × ((y : X) → P y → y ≡ x)
+
+-- the pairs of process p, in order
+abbrev pub pairs_of : ℕ → List Pair → List Pair
+pairs_of p history = filter (λ s. nat_eq s.0.key.receiver p) history
+
+-- an event is taken in a history
+abbrev pub IsTaken : Key → StepInput → List Pair → Type 0
+IsTaken key input history = (entry : EntryRecord) × (entry.key ≡ key) × IsIn (entry, input) history
+
+module _ {Mind : Type 0} (S : Setting Mind) where
+  -- the pairs are what the steps of a process make of their keys and inputs, one after the other
+  abbrev pub AreSteps : Process Mind → List Pair → Type 0
+  AreSteps before [] = Unit {0}
+  AreSteps before (s ∷ rest) =
+      (s.0 ≡ (step S before s.0.key s.1).entry) × AreSteps (step S before s.0.key s.1).process rest
+
+  -- an event is added by one of these steps
+  abbrev pub IsAdded : Key → StepInput → Process Mind → List Pair → Type 0
+  IsAdded key input before [] = ⊥
+  IsAdded key input before (s ∷ rest) =
+      IsIn (key, input) (step S before s.0.key s.1).added ⊎ IsAdded key input (step S before s.0.key s.1).process rest
+
+  -- an event is added by a step of some process
+  abbrev pub IsAddedBySome : (ℕ → Process Mind) → Key → StepInput → List Pair → Type 0
+  IsAddedBySome process key input history = (p : ℕ) × IsProcess S p × IsAdded key input (process p) (pairs_of p history)
+
+  -- A closed history from processes and the events that are given at first, up to tick end: its keys rise strictly,
+  -- the pairs of each process are that process's steps, and just the events below end that are given, or that these
+  -- steps add, are taken
+  pub record IsClosedFrom (process : ℕ → Process Mind) (IsGiven : Key → StepInput → Type 0) (end : ℕ)
+      (history : List Pair) : Type 0 where
+    pub rising : IsTrue (is_rising (entries history))
+    pub steps : (p : ℕ) → IsProcess S p → AreSteps (process p) (pairs_of p history)
+    pub exact : (key : Key) (input : StepInput)
+        → IsTaken key input history ↔ ((key.tick < end) × (IsGiven key input ⊎ IsAddedBySome process key input history))
+
+  -- the start of a process
+  abbrev pub IsStart : Key → StepInput → Type 0
+  IsStart key input = IsProcess S key.receiver × (key ≡ start_of key.receiver) × (input ≡ Start)
+
+  -- a closed history of the whole scenario: of the starts, up to the horizon
+  abbrev pub IsClosed : List Pair → Type 0
+  IsClosed history = IsClosedFrom (opening_process S) IsStart S.horizon history
+
+  -- a closed history between a world and a tick
+  abbrev pub IsClosedBetween : World Mind → ℕ → List Pair → Type 0
+  IsClosedBetween w end history = IsClosedFrom w.process (Has w.pending) end history
+
+  -- the step of pair c is the one that adds an event
+  abbrev pub Adds : Process Mind → (c : Pair) → Key → StepInput → List Pair → Type 0
+  Adds before c key input [] = ⊥
+  Adds before c key input (s ∷ rest) =
+      ((c ≡ s) × IsIn (key, input) (step S before s.0.key s.1).added)
+      ⊎ Adds (step S before s.0.key s.1).process c key input rest
+
+  -- c is the cause of an event in a history from the opening: its step adds it
+  abbrev pub IsCauseOf : List Pair → (c : Pair) → Key → StepInput → Type 0
+  IsCauseOf history c key input =
+      IsProcess S c.0.key.receiver
+      × Adds (opening_process S c.0.key.receiver) c key input (pairs_of c.0.key.receiver history)

@@ -1,0 +1,10 @@
+pub mod Unions
+pub mod Family
+pub mod Reached
+pub mod Order
+pub mod Whole
+pub mod Solo
+pub mod Exists
+pub mod Together
+pub mod Berths
+pub mod Outcome
