@@ -23,8 +23,6 @@ mod laws;
 mod letters;
 mod machine;
 mod row;
-#[cfg(test)]
-mod tests;
 mod vectors;
 
 pub use laws::law_settled;

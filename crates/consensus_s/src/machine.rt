@@ -11,7 +11,7 @@ use std::alloc::{AllocError, Global};
 /// Consensus with a detector of class S at one process (Chandra and Toueg, Journal of the ACM 43(2), 1996).
 #[derive(Debug, Drop)]
 pub struct SConsensus {
-    pub(crate) opening: Opening,
+    opening: Opening,
     exchange: Exchange,
     failed: bool,
     ghost orderly: { failed ≡ false → IsOrderly opening.own (exchange_of exchange) } by { Prim.hlevel props },

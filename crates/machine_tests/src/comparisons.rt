@@ -6,8 +6,3 @@ use std::process::Abort;
 pub fn same<R: Abort, T: PartialEq + Debug>(rt: &R, came: &T, wanted: &T) {
     assert_eq!(rt; came, wanted);
 }
-
-/// The text that came at this place of a row of texts is the one that was wanted.
-pub fn same_text<R: Abort>(rt: &R, came: &str, wanted: &str, place: u32) {
-    assert_eq!(rt; came, wanted, "at {place}");
-}

@@ -1,22 +1,35 @@
-//! What a detector is given, and what it does, as text.
+//! What a part of a process is given.
 ghost use Rattle.std.specs.Prelude.{◌≡◌, IfOk};
 
-use process_api::{Action, Detector, Note, Payload, Pid, ProcSet, StepInput, Tag};
-use std::alloc::{AllocError, Global};
+use process_api::{Cells, Payload, Pid, ProcSet, StepInput, Tag};
+use std::alloc::Global;
 use std::test::Fail;
 
-/// One input, with the sender of a letter by its number, and the number of a heartbeat.
+/// One input. Of a letter its sender's number comes first.
 #[derive(Clone, Copy)]
-pub enum Given {
+pub enum Given<'a> {
     Start,
     Beat,
     Check,
     Share,
-    AliveFrom(u16),
-    HeartbeatFrom(u16, u64),
+    Alive(u16),
+    /// Its number.
+    Heartbeat(u16, u64),
+    /// Whom the sender suspects.
+    Suspects(u16, &'a [u16]),
+    /// Round and cells.
+    Vector(u16, u64, &'a [Option<u32>]),
+    /// The cells.
+    Last(u16, &'a [Option<u32>]),
+    /// Round, value and stamp.
+    Estimate(u16, u64, u32, u64),
+    /// Round and value.
+    Proposal(u16, u64, u32),
+    /// The round, and whether it is an ack.
+    Reply(u16, u64, bool),
+    /// Round and value.
+    Decide(u16, u64, u32),
 }
-
-use Given::{AliveFrom, Beat, Check, HeartbeatFrom, Share, Start};
 
 /// The process of this number.
 pub fn numbered(number: u16) -> Result<Pid, Fail>
@@ -25,104 +38,45 @@ pub fn numbered(number: u16) -> Result<Pid, Fail>
     Ok(Pid::new(number).ok_or("no process")?)
 }
 
-fn input_of(given: Given) -> Result<StepInput, Fail> {
-    Ok(match given {
-        Start => StepInput::Start,
-        Beat => StepInput::Wake(Tag::Beat),
-        Check => StepInput::Wake(Tag::Check),
-        Share => StepInput::Wake(Tag::Share),
-        AliveFrom(number) => StepInput::Letter {
-            sender: numbered(number)?,
-            payload: Payload::Alive,
-        },
-        HeartbeatFrom(sender, number) => StepInput::Letter {
-            sender: numbered(sender)?,
-            payload: Payload::Heartbeat { number },
-        },
-    })
-}
-
-/// The members of a set as text.
-pub fn members_of(alloc: Global, set: &ProcSet) -> Result<String, AllocError> {
-    let mut text = String::new(alloc);
-    for member in set {
-        let number = member.number();
-        text.push_str(format!(in alloc; "{number};")?.as_str())?;
+/// The set of these processes.
+pub fn set_of(numbers: &[u16]) -> Result<ProcSet, Fail> {
+    let mut set = ProcSet::new();
+    for number in numbers {
+        set.insert(numbered(*number)?);
     }
-    Ok(text)
+    Ok(set)
 }
 
-/// A letter as text: by its receiver and what it says.
-fn letter_text(alloc: Global, to: u16, payload: &Payload) -> Result<String, AllocError> {
-    match payload {
-        Payload::Alive => format!(in alloc; "alive:{to}"),
-        Payload::Heartbeat { number } => format!(in alloc; "heartbeat:{to}:{number}"),
-        Payload::Suspects(shared) => {
-            let shared = members_of(alloc, shared)?;
-            format!(in alloc; "suspects:{to}:{shared}")
+/// The input that is given.
+pub fn input_of(alloc: Global, given: Given) -> Result<StepInput, Fail> {
+    let (from, payload) = match given {
+        Given::Start => return Ok(StepInput::Start),
+        Given::Beat => return Ok(StepInput::Wake(Tag::Beat)),
+        Given::Check => return Ok(StepInput::Wake(Tag::Check)),
+        Given::Share => return Ok(StepInput::Wake(Tag::Share)),
+        Given::Alive(from) => (from, Payload::Alive),
+        Given::Heartbeat(from, number) => (from, Payload::Heartbeat { number }),
+        Given::Suspects(from, numbers) => (from, Payload::Suspects(set_of(numbers)?)),
+        Given::Vector(from, round, cells) => {
+            let cells = Cells::new(Vec::from_slice(alloc, cells)?);
+            (from, Payload::Vector { round, cells })
         }
-        _ => format!(in alloc; "other"),
-    }
-}
-
-/// A wake as text: by its tag and its pause.
-fn wake_text(alloc: Global, pause: u32, tag: &Tag) -> Result<String, AllocError> {
-    match tag {
-        Tag::Beat => format!(in alloc; "beat+{pause}"),
-        Tag::Check => format!(in alloc; "check+{pause}"),
-        Tag::Share => format!(in alloc; "share+{pause}"),
-    }
-}
-
-/// A note as text, as a trace prints it.
-fn note_text(alloc: Global, note: &Note) -> Result<String, AllocError> {
-    match note {
-        Note::Suspect { layer, who } => {
-            let who = who.number();
-            format!(in alloc; "suspect:{layer}:{who}")
+        Given::Last(from, cells) => {
+            let cells = Cells::new(Vec::from_slice(alloc, cells)?);
+            (from, Payload::Last { cells })
         }
-        Note::Trust { layer, who } => {
-            let who = who.number();
-            format!(in alloc; "trust:{layer}:{who}")
-        }
-        _ => format!(in alloc; "other"),
-    }
-}
-
-fn action_text(alloc: Global, action: &Action) -> Result<String, AllocError> {
-    match action {
-        Action::Send { to, payload } => letter_text(alloc, to.number(), payload),
-        Action::Wake { pause, tag } => wake_text(alloc, *pause, tag),
-        Action::Note(note) => note_text(alloc, note),
-    }
-}
-
-/// What a detector does at an input, one action after the other.
-pub fn answer<D: Detector>(
-    alloc: Global,
-    machine: &mut D,
-    tick: u32,
-    input: &StepInput,
-) -> Result<String, AllocError> {
-    let mut out = Vec::new(alloc);
-    machine.take(tick, input, &mut out)?;
-    let mut text = String::new(alloc);
-    for action in out.iter() {
-        if !text.is_empty() {
-            text.push_str(" ")?;
-        }
-        text.push_str(action_text(alloc, action)?.as_str())?;
-    }
-    Ok(text)
-}
-
-/// What a detector does at what it is given.
-pub fn answer_to<D: Detector>(
-    alloc: Global,
-    machine: &mut D,
-    tick: u32,
-    given: Given,
-) -> Result<String, Fail> {
-    let input = input_of(given)?;
-    Ok(answer(alloc, machine, tick, &input)?)
+        Given::Estimate(from, round, value, stamp) => (
+            from,
+            Payload::Estimate {
+                round,
+                value,
+                stamp,
+            },
+        ),
+        Given::Proposal(from, round, value) => (from, Payload::Proposal { round, value }),
+        Given::Reply(from, round, ack) => (from, Payload::Reply { round, ack }),
+        Given::Decide(from, round, value) => (from, Payload::Decide { round, value }),
+    };
+    let sender = numbered(from)?;
+    Ok(StepInput::Letter { sender, payload })
 }

@@ -1,16 +1,26 @@
 //! Tests of what a process is made of.
 //!
-//! These are the tests of `process_api`, `timeout_detector`, `freshness_detector`, `reduction`, `consensus_es` and
-//! `machines`, a module for each: processes, sets, keys and actions, detectors and coordinators input by input, and the
-//! machines of a scenario at their start. They stand apart from these crates, since a crate with tests is proved twice,
-//! without them and with them, and this crate has nothing else. What they share is in modules of its own: comparisons,
-//! and the inputs and actions of a detector.
+//! These are the tests of `process_api`, `timeout_detector`, `freshness_detector`, `reduction`, `consensus_s`,
+//! `consensus_es`, `stack` and `machines`, a module for each: processes, sets, keys and actions, detectors and
+//! algorithms input by input, parts that are joined, and the machines of a scenario at their start. They stand apart
+//! from these crates, since a crate with tests is proved twice, without them and with them, and this crate has nothing
+//! else.
+//!
+//! What they share is in modules of its own: what a part is given (`inputs`), what it does as text (`answers`), parts
+//! that are driven by rows of the two (`driving`), a detector for what stands above one (`suspects_three`), and
+//! comparisons.
 #![tactic(auto)]
 
+#[cfg(test)]
+mod answers;
 #[cfg(test)]
 mod comparisons;
 #[cfg(test)]
 mod coordinator_tests;
+#[cfg(test)]
+mod driving;
+#[cfg(test)]
+mod exchange_tests;
 #[cfg(test)]
 mod freshness_tests;
 #[cfg(test)]
@@ -21,5 +31,9 @@ mod making_tests;
 mod process_tests;
 #[cfg(test)]
 mod reduction_tests;
+#[cfg(test)]
+mod stack_tests;
+#[cfg(test)]
+mod suspects_three;
 #[cfg(test)]
 mod timeout_tests;

@@ -3,8 +3,10 @@ ghost use Rattle.std.specs.Prelude.{◌≡◌, IfOk};
 ghost use Rattle.scenario_record.specs.Opening.{mind_of};
 
 use crate::comparisons::same;
+use crate::driving::drive_process;
+use crate::inputs::Given::Start;
 use machines::{AnyDetector, eventually_strong, idle, make_all, strong};
-use process_api::{Action, Process, StepInput};
+use process_api::Process;
 use scenario::AlgorithmKind::{EventuallyStrong, Idle, Strong};
 use scenario::{Opening, Scenario, ScenarioError, read_scenario};
 use std::alloc::{AllocError, Global};
@@ -16,6 +18,9 @@ const TIMEOUTS: &str = "period = 4\ncheck = 3\ntimeout = 5\n";
 
 /// What one with freshness points says there.
 const FRESHNESS: &str = "kind = \"freshness\"\neta = 3\ndelta = 2\n";
+
+/// What a reduction over it says in its table.
+const SHARE: &str = "[share]\nperiod = 8\n";
 
 /// Two processes with an algorithm, a detector, and what else a file says.
 fn scenario_of(
@@ -51,72 +56,76 @@ fn machines_of(alloc: Global, scenario: &Scenario) -> Result<Vec<Box<dyn Process
     )
 }
 
-/// How many letters, wakes and notes there are among actions.
-fn counts_of(actions: &[Action]) -> (usize, usize, usize) {
-    let sends = actions
-        .iter()
-        .filter(|it| matches!(it, Action::Send { .. }))
-        .count();
-    let wakes = actions
-        .iter()
-        .filter(|it| matches!(it, Action::Wake { .. }))
-        .count();
-    let notes = actions
-        .iter()
-        .filter(|it| matches!(it, Action::Note(_)))
-        .count();
-    (sends, wakes, notes)
-}
+/// Algorithm, detector and what else the file says, and what the two machines do: a letter to the other process, a Beat
+/// wake and a Check wake; with freshness points no letter. With a reduction a Share wake besides. With an algorithm its
+/// first round, and in it a vector to both processes, or an estimate to the coordinator.
+const MACHINES: &[(&str, &str, &str, &str, &str)] = &[
+    (
+        "\"none\"",
+        TIMEOUTS,
+        "",
+        "alive>2 Beat+4 Check+3",
+        "alive>1 Beat+4 Check+3",
+    ),
+    (
+        "\"none\"",
+        FRESHNESS,
+        "",
+        "Beat+3 Check+5",
+        "Beat+3 Check+5",
+    ),
+    (
+        "\"none\"",
+        TIMEOUTS,
+        SHARE,
+        "alive>2 Beat+4 Check+3 Share+8",
+        "alive>1 Beat+4 Check+3 Share+8",
+    ),
+    (
+        "\"none\"",
+        FRESHNESS,
+        SHARE,
+        "Beat+3 Check+5 Share+8",
+        "Beat+3 Check+5 Share+8",
+    ),
+    (
+        "\"s\"\nproposals = [1, 2]",
+        TIMEOUTS,
+        "",
+        "alive>2 Beat+4 Check+3 round:1 vector:1[1 -]>1 vector:1[1 -]>2",
+        "alive>1 Beat+4 Check+3 round:1 vector:1[- 2]>1 vector:1[- 2]>2",
+    ),
+    (
+        "\"es\"\nproposals = [1, 2]",
+        TIMEOUTS,
+        "",
+        "alive>2 Beat+4 Check+3 round:1 estimate:1:1:0>2",
+        "alive>1 Beat+4 Check+3 round:1 estimate:1:2:0>2",
+    ),
+];
 
-/// Both processes of a scenario start with so many letters, wakes and notes.
-fn both_start<R: Abort>(
-    rt: &R,
+/// Both machines start, and do what is wanted.
+fn start(
+    rt: &impl Abort,
     alloc: Global,
-    scenario: &Scenario,
-    want: (usize, usize, usize),
+    machines: &mut [Box<dyn Process>],
+    first: &str,
+    second: &str,
 ) -> Result<(), Fail> {
-    let mut machines = machines_of(alloc, scenario)?;
     same(rt, &machines.len(), &2);
-    for (number, machine) in (1u16..).zip(&mut machines) {
-        let mut actions = Vec::new(alloc);
-        machine.on_input(0, &StepInput::Start, &mut actions)?;
-        let came = (
-            machine.pid().number(),
-            counts_of(&actions),
-            machine.failed(),
-        );
-        same(rt, &came, &(number, want, false));
+    for (machine, (number, wanted)) in machines.iter_mut().zip([(1, first), (2, second)]) {
+        same(rt, &machine.pid().number(), &number);
+        drive_process(rt, alloc, machine, &[(0, Start, wanted)])?;
     }
     Ok(())
 }
 
-/// A letter to the other process, a Beat wake and a Check wake; with freshness points no letter.
 #[test]
-fn base_detectors(rt: HostRuntime) -> Result<(), Fail> {
+fn both_start(rt: HostRuntime) -> Result<(), Fail> {
     let alloc = rt.alloc();
-    let timeouts = scenario_of(alloc, "\"none\"", TIMEOUTS, "")?;
-    both_start(&rt, alloc, &timeouts, (1, 2, 0))?;
-    let freshness = scenario_of(alloc, "\"none\"", FRESHNESS, "")?;
-    both_start(&rt, alloc, &freshness, (0, 2, 0))
-}
-
-/// A Share wake besides.
-#[test]
-fn reductions(rt: HostRuntime) -> Result<(), Fail> {
-    let alloc = rt.alloc();
-    let share = "[share]\nperiod = 8\n";
-    let timeouts = scenario_of(alloc, "\"none\"", TIMEOUTS, share)?;
-    both_start(&rt, alloc, &timeouts, (1, 3, 0))?;
-    let freshness = scenario_of(alloc, "\"none\"", FRESHNESS, share)?;
-    both_start(&rt, alloc, &freshness, (0, 3, 0))
-}
-
-/// Besides, in its first round, a vector to both processes, or an estimate to the coordinator.
-#[test]
-fn algorithms(rt: HostRuntime) -> Result<(), Fail> {
-    let alloc = rt.alloc();
-    let strong = scenario_of(alloc, "\"s\"\nproposals = [1, 2]", TIMEOUTS, "")?;
-    both_start(&rt, alloc, &strong, (3, 2, 1))?;
-    let coordinators = scenario_of(alloc, "\"es\"\nproposals = [1, 2]", TIMEOUTS, "")?;
-    both_start(&rt, alloc, &coordinators, (2, 2, 1))
+    for &(algorithm, detector, rest, first, second) in MACHINES {
+        let mut machines = machines_of(alloc, &scenario_of(alloc, algorithm, detector, rest)?)?;
+        start(&rt, alloc, &mut machines, first, second)?;
+    }
+    Ok(())
 }

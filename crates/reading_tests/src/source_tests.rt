@@ -23,52 +23,31 @@ impl Read for Hashes {
     }
 }
 
-#[test]
-fn whole(rt: HostRuntime) -> Result<(), Fail> {
-    let alloc = rt.alloc();
-    for text in ["", "ab", "version = 1\n"] {
-        let mut input = text.as_bytes();
-        let bytes = read_all(alloc, &mut input)?;
-        assert!(rt; bytes.as_slice() == text.as_bytes());
-        same(&rt, &input.len(), &0);
-    }
-    Ok(())
-}
-
-/// The most bytes are read; of one byte more it is seen that they are too many, and of more bytes no more is taken.
+/// The most bytes are read; of one byte more it is seen that they are too many, and of more bytes no more is taken. A
+/// read that fails is the last.
 #[test]
 fn most_bytes(rt: HostRuntime) -> Result<(), Fail> {
     let alloc = rt.alloc();
-    for (length, want, left) in [
-        (65_537, Ok(65_537), 0),
-        (8_388_608, Ok(8_388_608), 0),
-        (8_388_609, Err(InputError::TooLong), 0),
-        (9_000_000, Err(InputError::TooLong), 611_391),
+    for (length, is_torn, want, left) in [
+        (65_537, false, Ok(65_537), 0),
+        (8_388_608, false, Ok(8_388_608), 0),
+        (8_388_609, false, Err(InputError::TooLong), 0),
+        (9_000_000, false, Err(InputError::TooLong), 611_391),
+        (0, true, Err(InputError::Unreadable), 0),
+        (1, true, Err(InputError::Unreadable), 0),
+        (65_536, true, Err(InputError::Unreadable), 0),
     ] {
         let mut input = Hashes {
             left: length,
-            is_torn: false,
+            is_torn,
         };
         let read = read_all(alloc, &mut input).map(|bytes| bytes.len());
-        same(&rt, &(read, input.left), &(want, left));
+        same(&rt, &(read, input.left, length), &(want, left, length));
     }
     Ok(())
 }
 
-#[test]
-fn failed_reads(rt: HostRuntime) -> Result<(), Fail> {
-    let alloc = rt.alloc();
-    for left in [0, 1, 65_536] {
-        let mut input = Hashes {
-            left,
-            is_torn: true,
-        };
-        assert!(rt; read_all(alloc, &mut input) == Err(InputError::Unreadable));
-    }
-    Ok(())
-}
-
-/// The path `-` is the input, and of any other path nothing of it is taken.
+/// The path `-` is the input, which is read whole, and of any other path nothing of it is taken.
 #[test]
 fn paths(rt: HostRuntime) -> Result<(), Fail> {
     let mut input = b"ab".as_slice();
@@ -81,8 +60,13 @@ fn paths(rt: HostRuntime) -> Result<(), Fail> {
         same(&rt, &(read, path), &(want, path));
     }
     same(&rt, &input.len(), &2);
-    let bytes = bytes_at(&rt, rt.alloc(), "-", &mut input)?;
-    assert!(rt; bytes.as_slice() == b"ab".as_slice());
-    same(&rt, &input.len(), &0);
+    for text in ["", "ab", "version = 1\n"] {
+        let (mut whole, mut input) = (text.as_bytes(), text.as_bytes());
+        let bytes = read_all(rt.alloc(), &mut whole)?;
+        assert!(rt; bytes.as_slice() == text.as_bytes());
+        let bytes = bytes_at(&rt, rt.alloc(), "-", &mut input)?;
+        assert!(rt; bytes.as_slice() == text.as_bytes());
+        same(&rt, &(whole.len(), input.len()), &(0, 0));
+    }
     Ok(())
 }

@@ -5,9 +5,6 @@ ghost use Rattle.process_api.specs.Mind.{stands_at};
 use process_api::{Action, Algorithm, Detector, Pid, Process, StepInput};
 use std::alloc::AllocError;
 
-#[cfg(test)]
-mod tests;
-
 /// One process of the simulated system: a detector, and an algorithm above it.
 #[derive(Debug, Drop)]
 pub struct Stack<D: Detector, A: Algorithm> {

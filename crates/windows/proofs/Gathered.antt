@@ -375,11 +375,11 @@ module _ {M : Type 0} (mind : M → Mind) (s : Record) (end : ℕ) (mailboxes : 
 -- ---- for the code
 
 module _ {X : Type 0} (P : X → Type 0) where
-  all_front : (xs ys : List X) → All P (xs ++ ys) → All P xs
+  pub all_front : (xs ys : List X) → All P (xs ++ ys) → All P xs
   all_front [] ys h = All-nil P
   all_front (x ∷ xs) ys h = All-cons P x xs (All-head P x (xs ++ ys) h) (all_front xs ys (All-tail P x (xs ++ ys) h))
 
-  all_back : (xs ys : List X) → All P (xs ++ ys) → All P ys
+  pub all_back : (xs ys : List X) → All P (xs ++ ys) → All P ys
   all_back [] ys h = h
   all_back (x ∷ xs) ys h = all_back xs ys (All-tail P x (xs ++ ys) h)
 

@@ -42,6 +42,13 @@ others_more p x es = go (not (nat_eq x.0.receiver p))
     go true = refl
     go false = refl
 
+-- what joined an empty list
+pub from_none : (old new made : List Event) → new ≡ old ++ made → old ≡ [] → new ≡ made
+from_none old new made e none = e ∙ ap (λ es. es ++ made) none
+
+pub joined_same : (p : ℕ) (old new : Events) (es es' : List Event) → new ≡ joined old (for_self p es) → es ≡ es' → new ≡ joined old (for_self p es')
+joined_same p old new es es' e same = e ∙ ap (λ z. joined old (for_self p z)) same
+
 -- letters posted after others
 pub with_more : (slip : SlipView) (xs ys : List Letter) → with_letters (with_letters slip xs) ys ≡ with_letters slip (xs ++ ys)
 with_more slip [] ys = refl
@@ -113,3 +120,7 @@ module _ (s : Record) (before : Process Mind) (key : Key) (x : StepInput) (low :
       go : (b : Bool) → (dead_or b).process.mind.lower.place.own ≡ key.receiver
       go true = own_is before.mind is
       go false = own_is (react before.mind key.tick x).state (react_keeps (place_in s key.receiver) before.mind key.tick x low is)
+
+  -- also after it
+  pub own_kept : (p : ℕ) (after : Process Mind) → after ≡ (step S before key x).process → key.receiver ≡ p → after.mind.lower.place.own ≡ p
+  own_kept p after e to_p = ap (λ (q : Process Mind). q.mind.lower.place.own) e ∙ (step_own ∙ to_p)

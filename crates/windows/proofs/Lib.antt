@@ -1,13 +1,16 @@
 pub mod Members
 pub mod Letters
+pub mod Refused
 pub mod Places
 pub mod Opening
 pub mod Closing
 pub mod Work
 pub mod Gathered
+pub mod Joined
 pub mod Ranked
 pub mod Settled
 pub mod Taken
+pub mod Turns
 pub mod Handed
 pub mod Starts
 pub mod Agendas

@@ -36,6 +36,12 @@ place_in [] i x at = absurd (not_None x at)
 place_in (y ∷ ys) zero x at = inl (sym (same_Some y x at))
 place_in (y ∷ ys) (suc i) x at = inr (place_in ys i x at)
 
+same_place : {X : Type 0} (xs : List X) (i : ℕ) (x y : X) → slice_get xs i ≡ Some x → slice_get xs i ≡ Some y → x ≡ y
+same_place xs i x y a b = same_Some x y (sym a ∙ b)
+
+in_letters : {M : Type 0} (x : Letter) (letters : List Letter) (a b : Stay M) → letters ≡ a.letters → a ≡ b → IsIn x b.letters → IsIn x letters
+in_letters x letters a b is same i = subst (IsIn x) (sym (is ∙ ap (λ (z : Stay _). z.letters) same)) i
+
 module _ {X : Type 0} (key : X → ℕ) where
   above_from : (k j : ℕ) (xs : List X) → k < j → ((i : ℕ) (x : X) → slice_get xs i ≡ Some x → key x ≡ j + i) → AllAbove key k xs
   above_from k j [] less each = tt
@@ -158,8 +164,8 @@ module _ {M : Type 0} (mind : M → Mind) (old : Stage M) (ranges : IsInRange ol
               let own_q : IsProcess S (1 + t.0) = (omega arith, omega (arith, slice_get_within o.stays t.0 sent.0 t.1, stays_many)) in
               let u = letters.1 (1 + t.0) own_q in
               let here : slice_get o.stays ((1 + t.0) - 1) ≡ Some sent.0 = subst (λ n. slice_get o.stays n ≡ Some sent.0) (omega arith) t.1 in
-              let same : u.0 ≡ sent.0 = same_Some u.0 sent.0 (sym u.1 ∙ here) in
-              let in_q : IsIn x (letters.0 (1 + t.0)) = subst (IsIn x) (sym (u.2 ∙ ap (λ (z : Stay M). z.letters) same)) sent.2 in
+              let same : u.0 ≡ sent.0 = same_place o.stays ((1 + t.0) - 1) u.0 sent.0 u.1 here in
+              let in_q : IsIn x (letters.0 (1 + t.0)) = in_letters x (letters.0 (1 + t.0)) u.0 sent.0 u.2 same sent.2 in
               let low : 1 ≤ x.key.receiver = received (1 + t.0) own_q x in_q in
               (1 + t.0, own_q, in_q, omega (arith, low, own.0, sent.3))
 

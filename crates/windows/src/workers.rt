@@ -1,8 +1,9 @@
 //! The workers of a window: each takes berths, its own and then others', until none is left, runs them, and gives them
 //! back when it is joined.
-ghost use Rattle.std.specs.Prelude.{◌≡◌, ◌≤◌, IfOk, IfErr, IsErrOf, Ok, vec_len};
+ghost use Rattle.std.specs.Prelude.{◌≡◌, ◌≤◌, ◌⊎◌, ◌++◌, [], ◌∷◌, IfOk, IfErr, IsErrOf, Ok, vec_len};
 ghost use Rattle.std.specs.List.{All};
 ghost use Rattle.std.specs.Thread.{IsSync};
+ghost use Rattle.event_list.specs.declared.error.RunError.TheVariants.{Memory, Spawn};
 ghost use Rattle.windows.specs.Plan.{most_workers};
 ghost use Rattle.windows.specs.Refusals.{rank_of, IsFirstRefusal, IsRefusalOfOne};
 ghost use Rattle.windows.specs.Shared.{IsStart, IsWorkIn, IsAnswerTo, IsOneTooLong, AreAnswers};
@@ -17,7 +18,7 @@ use process_api::Process;
 use std::alloc::AllocError;
 use std::snapshot::Snapshot;
 use std::sync::Wait;
-use std::thread::{Promise, Scope, Threads};
+use std::thread::{Promise, PromisedHandle, Scope, Threads};
 
 /// What a worker begins with: its hand, by which it takes berths, and its slip.
 #[derive(Drop)]
@@ -136,6 +137,59 @@ pub fn both<A: Drop, B: Drop>(
     }
 }
 
+/// The work of all: that of those who were started before, and that of one more. Where there is none, the first of
+/// their refusals.
+///
+/// # Errors
+///
+/// That refusal, and `Memory` where memory was refused.
+fn all_works<M: Drop>(
+    before: Result<Vec<Work<M>>, RunError>,
+    mine: Result<Work<M>, RunError>,
+) -> Result<Vec<Work<M>>, RunError>
+    ensures ok { IfOk result (λ works. (b : _) × (w : _)
+        × (before ≡ Ok b) × (mine ≡ Ok w) × (works.items ≡ b.items ++ w ∷ [])) }
+    ensures err { IfErr result (λ e. (e ≡ Memory) ⊎ (IsErrOf before e ⊎ IsErrOf mine e)) }
+{
+    let (mut works, work) = both(before, mine)?;
+    works.push(work)?;
+    Ok(works)
+}
+
+/// Starts a worker in a thread of its own.
+///
+/// # Errors
+///
+/// `Spawn` where the thread was refused.
+fn start_worker<'s, E, M: Process + 's, G: Gate, R: Threads + Wait + Sync>(
+    scope: &'s Scope<'s, E>,
+    rt: &'s R,
+    shared: &'s Shared<'s, M, G>,
+    worker: u16,
+    start: Start<M>,
+) -> Result<PromisedHandle<Result<Work<M>, RunError>, WorkAt<'s, M, G>>, RunError>
+    requires { IsStart M.mind shared.now start }
+    ensures shared { IfOk result (λ child. child.promise.shared.value ≡ shared.now) }
+    ensures start { IfOk result (λ child. child.promise.start.value ≡ start) }
+    ensures err { IfErr result (λ e. e ≡ Spawn) }
+{
+    let promise = WorkAt {
+        start: Snapshot::of(&start),
+        shared: Snapshot::of(shared),
+    };
+    let started = scope.spawn_with(
+        promise,
+        move || -> Result<Work<M>, RunError>
+            requires { IsSync R.row × IsSync G.row × IsStart M.mind shared.now start }
+            ensures { IsAnswerTo M.mind shared.entry.now start result }
+        { run_berths(rt, shared, worker, start) },
+    );
+    let Ok(child) = started else {
+        return Err(RunError::from(RefusedStart));
+    };
+    Ok(child)
+}
+
 /// Starts a worker for each beginning, and joins them. The workers have the numbers from 1 to that of the beginnings.
 /// Where a thread is refused, those that were started are joined first.
 ///
@@ -157,23 +211,8 @@ pub(crate) fn start_workers<'s, E, M: Process + 's, G: Gate, R: Threads + Wait +
         return Ok(Vec::new(shared.alloc));
     };
     let worker = starts.len() as u16 + 1;
-    let promise = WorkAt {
-        start: Snapshot::of(&start),
-        shared: Snapshot::of(shared),
-    };
-    let started = scope.spawn_with(
-        promise,
-        move || -> Result<Work<M>, RunError>
-            requires { IsSync R.row × IsSync G.row × IsStart M.mind shared.now start }
-            ensures { IsAnswerTo M.mind shared.entry.now start result }
-        { run_berths(rt, shared, worker, start) },
-    );
-    let Ok(child) = started else {
-        return Err(RunError::from(RefusedStart));
-    };
+    let child = start_worker(scope, rt, shared, worker, start)?;
     let rest = start_workers(scope, rt, shared, starts);
     let mine = child.join(rt);
-    let (mut works, work) = both(rest, mine)?;
-    works.push(work)?;
-    Ok(works)
+    all_works(rest, mine)
 }

@@ -12,10 +12,10 @@ ghost use Rattle.consensus_es.specs.Kept.{by_sender};
 ghost use Rattle.consensus_es.specs.Orderly.{IsOrderly};
 ghost use Rattle.consensus_es.specs.State.{state_of, Does};
 
+use crate::comparisons::same;
 use consensus_es::{Letters, Membership, Progress, best, law_settled};
 use process_api::{Action, Estimate, Pid, ProcSet, StepInput, Tag};
 use std::alloc::{AllocError, Global};
-use std::process::Abort;
 use std::test::Fail;
 
 /// A process opens and takes one input: no wait is over then, it has made few actions, and it is in one of the first
@@ -98,15 +98,14 @@ fn best_of_two(
 #[test]
 fn waits_settle(rt: HostRuntime) -> Result<(), Fail> {
     let alloc = rt.alloc();
-    let own = Pid::new(1).ok_or("no process")?;
-    let membership = Membership::new(own, 3);
+    let membership = Membership::new(Pid::after(0), 3);
     let mut suspects = ProcSet::new();
     let mut out = Vec::new(alloc);
     let mut progress = open_and_take(alloc, &membership, &StepInput::Start, &suspects, &mut out)?;
-    assert_eq!(rt; out.len(), 2);
-    suspects.insert(Pid::new(2).ok_or("no process")?);
+    same(&rt, &out.len(), &2);
+    suspects.insert(Pid::after(1));
     wake_waiting(&mut progress, &membership, &suspects, &mut out)?;
-    assert_eq!(rt; out.len(), 5);
+    same(&rt, &out.len(), &5);
     take_and_wake(
         &mut progress,
         &membership,
@@ -114,29 +113,25 @@ fn waits_settle(rt: HostRuntime) -> Result<(), Fail> {
         &suspects,
         &mut out,
     )?;
-    assert_eq!(rt; out.len(), 5);
+    same(&rt, &out.len(), &5);
     Ok(())
 }
 
 /// Two processes' estimates, of one stamp and of two.
 #[test]
 fn largest_stamp_then_least_sender(rt: HostRuntime) -> Result<(), Fail> {
-    let first = Pid::new(1).ok_or("no process")?;
-    let second = Pid::new(2).ok_or("no process")?;
+    let first = Pid::after(0);
     let membership = Membership::new(first, 2);
     let mut estimates = Letters::new(rt.alloc());
-    for (round, stamp, want) in [(1, 0, 10), (2, 1, 20)] {
-        estimates.keep(
-            round,
-            first,
-            Estimate {
-                value: 10,
-                stamp: 0,
-            },
-        )?;
-        estimates.keep(round, second, Estimate { value: 20, stamp })?;
-        let chosen = best_of_two(&estimates, &membership, round).ok_or("none is chosen")?;
-        assert_eq!(rt; chosen.value, want);
+    for (round, stamp, wanted) in [(1, 0, 10), (2, 1, 20)] {
+        let early = Estimate {
+            value: 10,
+            stamp: 0,
+        };
+        estimates.keep(round, first, early)?;
+        estimates.keep(round, Pid::after(1), Estimate { value: 20, stamp })?;
+        let chosen = best_of_two(&estimates, &membership, round).map(|it| it.value);
+        same(&rt, &(round, chosen), &(round, Some(wanted)));
     }
     Ok(())
 }

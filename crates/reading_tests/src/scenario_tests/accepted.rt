@@ -1,7 +1,9 @@
 //! The scenarios that files stand for.
-use super::{link_of, pid, told_of};
-use crate::comparisons::{same, same_text};
-use scenario::{Scenario, read_scenario};
+use crate::changes::{CRASH_FILE, changed};
+use crate::comparisons::same;
+use process_api::Pid;
+use scenario::{Link, Outage, Scenario, read_scenario};
+use std::alloc::Global;
 use std::test::Fail;
 
 /// A file with the fewest keys.
@@ -97,14 +99,80 @@ const EVERY_IS: &str =
     [], [], [Outage { begin: 9, until: 10000000 }, Outage { begin: 0, until: 1 }], \
     [Outage { begin: 2, until: 5 }], [], []] } }";
 
+/// The keys of the crash file's detector, and those of freshness points.
+const TIMEOUT: &str = "period = 4\ncheck = 3\ntimeout = 5\ngrow = 1\n";
+
+const FRESHNESS: &str = "kind = \"freshness\"\neta = 3\ndelta = 2\n";
+
+/// What these stand for.
+const TIMEOUT_IS: &str =
+    "Timeout(TimeoutNumbers { period: 4, check: 3, timeout: 5, grow: 1, watch: All })";
+
+const FRESHNESS_IS: &str = "Freshness(FreshnessNumbers { eta: 3, delta: 2, watch: All })";
+
+/// The crash table of the crash file.
+const CRASH: &str = "\n[[crash]]\nprocess = 2\nat = 3\n";
+
+/// The record of a text, as text.
+fn told_of(alloc: Global, text: &str) -> Result<String, Fail> {
+    Ok(format!(in alloc; "{:?}", read_scenario(alloc, text.as_bytes())?)?)
+}
+
+/// Files, with their records as text, or with a part of them: the files with the fewest and with all keys, the crash
+/// file in version 2 and with freshness points, and the crash file without its last byte and without its crash.
 #[test]
-fn fewest_and_every_key(rt: HostRuntime) -> Result<(), Fail> {
-    for (file, record) in [(FEWEST, FEWEST_IS), (EVERY, EVERY_IS)] {
-        let told = told_of(rt.alloc(), file)?;
-        same_text(&rt, &told, record, file);
+fn what_it_stands_for(rt: HostRuntime) -> Result<(), Fail> {
+    let alloc = rt.alloc();
+    let second = changed(alloc, CRASH_FILE, "version = 1", "version = 2")?;
+    let fresh = changed(alloc, &second, TIMEOUT, FRESHNESS)?;
+    let cut = changed(alloc, CRASH_FILE, "at = 3\n", "at = 3")?;
+    let without = changed(alloc, CRASH_FILE, CRASH, "")?;
+    let whole = told_of(alloc, CRASH_FILE)?;
+    for (file, record, is_all) in [
+        (FEWEST, FEWEST_IS, true),
+        (EVERY, EVERY_IS, true),
+        (second.as_str(), TIMEOUT_IS, false),
+        (fresh.as_str(), FRESHNESS_IS, false),
+        (cut.as_str(), whole.as_str(), true),
+        (cut.as_str(), "crashes: [None, Some(3)]", false),
+        (without.as_str(), "crashes: [None, None]", false),
+    ] {
+        let told = told_of(alloc, file)?;
+        assert!(rt; told.contains(record), "{file}: {told}");
+        same(&rt, &(told.as_str() == record, file), &(is_all, file));
     }
     Ok(())
 }
+
+/// The process of this number.
+fn pid(number: u16) -> Result<Pid, Fail> {
+    Ok(Pid::new(number).ok_or("it is no process")?)
+}
+
+/// The link from one process of a scenario to another, and its outages.
+fn link_of(scenario: &Scenario, from: u16, to: u16) -> Result<(Link, &[Outage]), Fail> {
+    let processes = scenario.processes();
+    let (from, to) = (pid(from)?, pid(to)?);
+    if from == to || processes < from.number() || processes < to.number() {
+        return Err(Fail::from("the scenario has no such link"));
+    }
+    Ok((scenario.link(from, to), scenario.outages(from, to)))
+}
+
+/// Two outages of the link from 2 to 1.
+const OUTAGES: &str = "
+[[outage]]
+from = 2
+to = 1
+begin = 3
+until = 7
+
+[[outage]]
+from = 2
+to = 1
+begin = 0
+until = 7
+";
 
 /// What a process of a scenario proposes as it opens.
 fn opening_proposal(scenario: &Scenario, number: u16) -> Result<Option<u32>, Fail> {
@@ -123,5 +191,23 @@ fn every_process(rt: HostRuntime) -> Result<(), Fail> {
     let of_four = scenario.proposal(pid(4)?);
     same(&rt, &(scenario.processes(), link.max), &(3, 11));
     same(&rt, &(of_three, of_four), &(Some(4_294_967_295), None));
+    Ok(())
+}
+
+/// The file of one crash with these outages.
+fn with_outages(alloc: Global) -> Result<String, Fail> {
+    let second = changed(alloc, CRASH_FILE, "version = 1", "version = 2")?;
+    Ok(format!(in alloc; "{second}{OUTAGES}")?)
+}
+
+/// Outages of one link may overlap; each link has its own, and the way back has none of them.
+#[test]
+fn outages_of_links(rt: HostRuntime) -> Result<(), Fail> {
+    let text = with_outages(rt.alloc())?;
+    let scenario = read_scenario(rt.alloc(), text.as_bytes())?;
+    let (_, there) = link_of(&scenario, 2, 1)?;
+    let (_, back) = link_of(&scenario, 1, 2)?;
+    let wanted = [Outage { begin: 3, until: 7 }, Outage { begin: 0, until: 7 }];
+    same(&rt, &(there, back.len()), &(wanted.as_slice(), 0));
     Ok(())
 }

@@ -1,5 +1,5 @@
 //! The crash file, cut after every byte.
-use super::{answer, told_of, with_many};
+use super::answer;
 use crate::changes::CRASH_FILE;
 use crate::comparisons::same;
 use std::alloc::Global;
@@ -75,54 +75,5 @@ fn cut_after_every_byte(rt: HostRuntime) -> Result<(), Fail> {
     same(&rt, &answer(rt.alloc(), &[]), &"MissingKey");
     let length = compare_lines(&rt, rt.alloc(), &LINES)?;
     same(&rt, &length, &CRASH_FILE.len());
-    Ok(())
-}
-
-/// The crash file without its last byte, and without its last three lines.
-const ENDS: [(&str, &str); 2] = [
-    ("at = 3", "crashes: [None, Some(3)]"),
-    ("max = 2\n", "crashes: [None, None]"),
-];
-
-/// The record of the crash file cut off after a part, as text.
-fn told_up_to(alloc: Global, last: &str) -> Result<String, Fail> {
-    let (front, _) = CRASH_FILE
-        .split_once(last)
-        .ok_or("the file has no such end")?;
-    let text = format!(in alloc; "{front}{last}")?;
-    told_of(alloc, &text)
-}
-
-/// Compares the record of the crash file cut off after a part with that of the whole file, and with its crashes.
-fn compare_end<R: Abort>(
-    rt: &R,
-    alloc: Global,
-    whole: &str,
-    (last, crashes): (&str, &str),
-) -> Result<(), Fail> {
-    let told = told_up_to(alloc, last)?;
-    assert!(rt; told.contains(crashes), "{told}");
-    same(rt, &(told.as_str() == whole), &(last == "at = 3"));
-    Ok(())
-}
-
-#[test]
-fn same_record(rt: HostRuntime) -> Result<(), Fail> {
-    let whole = told_of(rt.alloc(), CRASH_FILE)?;
-    for end in ENDS {
-        compare_end(&rt, rt.alloc(), &whole, end)?;
-    }
-    Ok(())
-}
-
-/// As many crash tables of one process as a file of 64 processes may have tables of links.
-#[test]
-fn four_thousand_crashes(rt: HostRuntime) -> Result<(), Fail> {
-    let (front, _) = CRASH_FILE
-        .split_once("[[crash]]")
-        .ok_or("the file has no crash")?;
-    let crash = "[[crash]]\nprocess = 1\nat = 1\n";
-    let text = with_many(rt.alloc(), front, crash, 4_096)?;
-    same(&rt, &answer(rt.alloc(), text.as_bytes()), &"CrashLine");
     Ok(())
 }

@@ -1,8 +1,7 @@
 //! Several faults in one file: the first rule that applies answers.
 use super::answer;
-use crate::changes::{CRASH_FILE, changed};
-use crate::comparisons::{same, same_text};
-use scenario::{Scenario, ScenarioError, read_scenario};
+use crate::changes::changed;
+use crate::comparisons::same_text;
 use std::alloc::Global;
 use std::process::Abort;
 use std::test::Fail;
@@ -95,46 +94,4 @@ fn compare_faults<R: Abort>(rt: &R, alloc: Global, faults: &[Fault]) -> Result<(
 #[test]
 fn two_faults(rt: HostRuntime) -> Result<(), Fail> {
     compare_faults(&rt, rt.alloc(), &FAULTS)
-}
-
-/// Three processes, of which a few pairs have links of their own; the lookahead is 2.
-const LINKS: &str = "[[links]]
-from = 3
-to = 1
-min = 1
-max = 2
-
-[[links]]
-from = 2
-to = 3
-min = 1
-max = 2
-
-[[links]]
-from = 1
-to = 2
-min = 2
-max = 2
-";
-
-/// The pair that an answer names, if it names one.
-fn pair_of(answer: &Result<Scenario, ScenarioError>) -> Option<(u16, u16)> {
-    match answer {
-        Err(ScenarioError::BelowLookahead { from, to }) => Some((from.number(), to.number())),
-        _ => None,
-    }
-}
-
-/// The crash file with three processes and those links.
-fn three_processes(alloc: Global) -> Result<String, Fail> {
-    let three = changed(alloc, CRASH_FILE, "processes = 2", "processes = 3")?;
-    Ok(format!(in alloc; "{three}{LINKS}")?)
-}
-
-#[test]
-fn least_pair(rt: HostRuntime) -> Result<(), Fail> {
-    let text = three_processes(rt.alloc())?;
-    let pair = pair_of(&read_scenario(rt.alloc(), text.as_bytes()));
-    same(&rt, &pair, &Some((2, 3)));
-    Ok(())
 }

@@ -8,6 +8,7 @@ use Rattle.windows.specs.Agenda.{event_of}
 use Rattle.windows.specs.Berth.{with_letters, IsOwnOrLetter}
 use Rattle.window_laws.specs.Machine.{for_self, for_others}
 use Rattle.windows.proofs.Letters.{self_more, others_more, with_more}
+use Rattle.windows.proofs.Refused.{holds_of_none}
 use Rattle.windows.proofs.berth.hand_on_all.Goals as goal
 
 pub loop-place-preserved : goal.loop-place-preserved
@@ -41,3 +42,6 @@ loop-place-preserved g c =
         done.letters.2 ∙ (ap (λ s. with_letters s more) i.letters.2 ∙ with_more c.args.slip.now before more),
       );
     }
+
+pub returns-in_err-hand_on : goal.returns-in_err-hand_on
+returns-in_err-hand_on g c = let no = holds_of_none c.from_residual.result c.from_residual.ensures.0 in record { slip = c.hand_on.ensures.slip; pending = no _; letters = no _ }

@@ -1,18 +1,14 @@
-use Rattle.std.proofs.Common.{◌≡◌, ◌∷◌, [], ◌++◌, ◌+◌, ◌*◌, List, map, ap, sym, subst, ◌∙◌, refl, arith, vec_len, length, length-append}
-use Rattle.std.specs.FinMap as events
-use Rattle.std.proofs.lemmas.List.{map-append}
+use Rattle.std.proofs.Common.{◌≡◌, ◌<◌, [], ◌++◌, ◌+◌, ◌*◌, map, ap, sym, subst, ◌∙◌, refl, arith, vec_len, length}
 use Rattle.process_api.specs.Bounds.{most_step_actions}
-use Rattle.process_api.specs.declared.message.Letter.{Letter}
 use Rattle.trace_laws.specs.ScenarioSetting.{setting_of}
 use Rattle.event_list.specs.Seat.{process_of, own_of, IsSeated}
-use Rattle.trace_laws.specs.Step.{step}
-use Rattle.trace_laws.specs.World.{Has, joined}
+use Rattle.trace_laws.specs.World.{Has}
 use Rattle.windows.specs.Agenda.{event_of}
-use Rattle.windows.specs.Berth.{with_letters}
-use Rattle.window_laws.specs.Machine.{for_self, for_others}
+use Rattle.windows.specs.Berth.{made_in, with_letters}
 use Rattle.window_laws.specs.Window.{BerthRun}
-use Rattle.window_laws.proofs.Berths.{BerthStands, berth_opens, berth_next, berth_ends}
+use Rattle.window_laws.proofs.Berths.{BerthStands, berth_opens, berth_longer, berth_ends}
 use Rattle.windows.proofs.Letters.{with_more}
+use Rattle.windows.proofs.Turns.{one_longer, stands_next}
 use Rattle.windows.proofs.Taken.{below_of, removed_of, none_below_of, kept_of}
 use Rattle.windows.proofs.berth.run_berth.Goals as goal
 
@@ -47,42 +43,59 @@ take-requires-clause-seated g c κs within =
 pub loop-key-preserved : goal.loop-key-preserved
 loop-key-preserved g c =
     let mind = g.M.Process.mind in
-    let s = c.args.streams.now in
-    let S = setting_of s in
     let b = c.args.berth.now in
-    let p = own_of mind b.seat in
-    let start = process_of mind b.seat in
     let i = c.loop-key.invariant in
     let old = c.loop-key.berth in
     let new = c.take.new.self in
-    let before = process_of mind old.seat in
-    let key = c.in-Some.key in
-    let x = c.in-Some.input in
-    let taken = below_of c.args.end c.loop-key.berth.pending c.in_ok-key.field-0 (c.in-Some.key, c.in-Some.input) c.in-Some.is c.in_ok-key.ensures.least in
-    let least = taken.0 in
-    let due = taken.1 in
-    let made = step S before key x in
+    let taken = below_of c.args.end old.pending c.in_ok-key.field-0 (c.in-Some.key, c.in-Some.input) c.in-Some.is c.in_ok-key.ensures.least in
+    let removed = removed_of old.pending c.take_below.new.self c.in_ok-key.field-0 (c.in-Some.key, c.in-Some.input) c.in-Some.is c.in_ok-key.ensures.removed in
     let done = c.in_ok-take.ensures in
-    let to_p : key.receiver ≡ p = i.stands.2.own key x least.there in
-    let sent : List Letter = i.stands.0 in
-    let more : List Letter = done.letters.0 in
-    let left : new.pending ≡ joined (events.remove old.pending key) (for_self p made.added) = done.pending ∙ (λ k. joined ((removed_of c.loop-key.berth.pending c.take_below.new.self c.in_ok-key.field-0 (c.in-Some.key, c.in-Some.input) c.in-Some.is c.in_ok-key.ensures.removed) k) (for_self (to_p k) made.added)) in
-    let letters : map event_of (sent ++ more) ≡ map event_of sent ++ for_others p made.added = map-append event_of sent more ∙ (λ k. map event_of sent ++ (done.letters.1 ∙ ap (λ q. for_others q made.added) to_p) k) in
-    let longer : vec_len new.part ≡ vec_len old.part + 1 = omega (arith, new.part.ok.0, old.part.ok.0, ap length done.part, length-append old.part.items (made.entry ∷ [])) in
+    let longer : length new.part.items ≡ length old.part.items + 1 = one_longer old.part.items new.part.items _ done.part in
     record {
       slip = done.slip;
       own = done.own ∙ i.own;
       stands = (
-        sent ++ more,
-        done.letters.2 ∙ (ap (λ z. with_letters z more) i.stands.1 ∙ with_more c.args.slip.now sent more),
-        subst (λ ls. BerthStands S p c.args.end start b.pending (process_of mind new.seat) new.pending new.part.items ls) (sym letters)
-            (subst (λ es. BerthStands S p c.args.end start b.pending (process_of mind new.seat) new.pending es (map event_of sent ++ for_others p made.added)) (sym done.part)
-            (berth_next S p c.args.end start b.pending before old.pending old.part.items (map event_of sent) i.stands.2 key x least due (process_of mind new.seat) new.pending made.entry done.process left refl)),
+        i.stands.0 ++ done.letters.0,
+        done.letters.2 ∙ (ap (λ z. with_letters z done.letters.0) i.stands.1 ∙ with_more c.args.slip.now i.stands.0 done.letters.0),
+        stands_next (setting_of c.args.streams.now) (own_of mind b.seat) c.args.end (process_of mind b.seat) b.pending (process_of mind old.seat) old.pending old.part.items i.stands.0 i.stands.2
+            c.in-Some.key c.in-Some.input taken.0 taken.1 (process_of mind new.seat) c.take_below.new.self new.pending new.part.items done.letters.0 done.process removed done.pending done.part done.letters.1,
       );
-      seated = λ most h. let same : (most + most_step_actions * vec_len old.part) + most_step_actions ≡ most + most_step_actions * vec_len new.part = omega (arith, longer) in
-          subst (λ n. IsSeated mind s n new.seat) same (done.seated (most + most_step_actions * vec_len old.part) (i.seated most h));
-      within = omega (arith, longer, c.if-len-left.false, c.len.ensures);
+      seated = λ most h. let same : (most + most_step_actions * vec_len old.part) + most_step_actions ≡ most + most_step_actions * vec_len new.part = omega (arith, longer, new.part.ok.0, old.part.ok.0) in
+          subst (λ n. IsSeated mind c.args.streams.now n new.seat) same (done.seated (most + most_step_actions * vec_len old.part) (i.seated most h));
+      within = omega (arith, longer, new.part.ok.0, old.part.ok.0, c.if-len-left.false, c.len.ensures);
     }
+
+pub take-requires-clause-own : goal.take-requires-clause-own
+take-requires-clause-own g c κs within =
+    let i = c.loop-key.invariant in
+    let taken = below_of c.args.end c.loop-key.berth.pending c.in_ok-key.field-0 (c.in-Some.key, c.in-Some.input) c.in-Some.is c.in_ok-key.ensures.least in
+    i.stands.2.own c.in-Some.key c.in-Some.input taken.0.there ∙ sym i.own
+
+pub loop-key-smaller : goal.loop-key-smaller
+loop-key-smaller g c =
+    let old = c.loop-key.berth.part in
+    let new = c.take.new.self.part in
+    let made = (made_in g.M.Process.mind c.args.streams.now c.loop-key.berth.seat c.in-Some.key c.in-Some.input).entry in
+    let longer : length new.items ≡ length old.items + 1 = one_longer c.loop-key.berth.part.items c.take.new.self.part.items made c.in_ok-take.ensures.part in
+    omega (arith, longer, new.ok.0, old.ok.0, c.if-len-left.false, c.len.ensures)
+
+pub returns-then-len-left-clause-limit : goal.returns-then-len-left-clause-limit
+returns-then-len-left-clause-limit g c is history after rest letters run =
+    let mind = g.M.Process.mind in
+    let b = c.args.berth.now in
+    let i = c.loop-key.invariant in
+    let old = c.loop-key.berth in
+    let taken = below_of c.args.end old.pending c.in_ok-key.field-0 (c.in-Some.key, c.in-Some.input) c.in-Some.is c.in_ok-key.ensures.least in
+    let longer : length old.part.items < length history =
+    berth_longer (setting_of c.args.streams.now) (own_of mind b.seat) c.args.end (process_of mind b.seat) b.pending (process_of mind old.seat) old.pending old.part.items (map event_of i.stands.0) i.stands.2
+    c.in-Some.key c.in-Some.input taken.0 taken.1 history after rest letters run in
+    omega (arith, longer, c.if-len-left.true, c.len.ensures, old.part.ok.0)
+
+pub returns-clause-slip : goal.returns-clause-slip
+returns-clause-slip g c = c.loop-key.invariant.slip
+
+pub returns-clause-within : goal.returns-clause-within
+returns-clause-within g c = c.loop-key.invariant.within
 
 pub returns-clause-ran : goal.returns-clause-ran
 returns-clause-ran g c =

@@ -5,7 +5,8 @@ use Rattle.std.proofs.lemmas.List.Elements.{All-contains}
 use Rattle.std.proofs.lemmas.List.Sorted.{IsPermutation-refl, IsPermutation-trans, IsPermutation-append_left}
 use Rattle.deques.specs.Deques.{RestView, all_put}
 use Rattle.windows.specs.Workers.{IsReady}
-use Rattle.windows.proofs.Work.{run_begins, run_more, same_run}
+use Rattle.windows.proofs.Work.{pushed, run_begins, run_more, same_run}
+use Rattle.windows.proofs.Refused.{holds_of_none}
 use Rattle.windows.proofs.gather.run_rest.Goals as goal
 use Rattle.windows.proofs.gather.run_rest.Goals.{in-None, in-Some+in_ok-reserve+in_default}
 
@@ -28,6 +29,9 @@ run_berth-requires-clause-part g c κs within =
     (All-contains (IsReady g.M.Process.mind c.args.shared.now.window.now.streams c.args.shared.now.window.now.left) (all_put c.args.rest.now.own) c.in-Some-take_last.berth c.requires.ready
     (subst (λ l. Contains (all_put l) c.in-Some-take_last.berth) c.loop.invariant.2 c.in-Some-take_last.ensures.3)).1
 
+pub run_berth-requires-clause-boxes : goal.run_berth-requires-clause-boxes
+run_berth-requires-clause-boxes g c κs within = c.args.shared.now.boxes
+
 pub returns-in_err-run_berth-clause-limit : goal.returns-in_err-run_berth-clause-limit
 returns-in_err-run_berth-clause-limit g c is = (
   c.in-Some-take_last.berth,
@@ -44,7 +48,7 @@ loop-preserved g c =
     let old = c.args.rest.now.taken in (
       inv.0 ++ b ∷ [],
       run_more g.M.Process.mind c.args.shared.now.window.now.streams c.args.shared.now.window.now.end c.args.shared.now.mailboxes.now inv.0 (inv.0 ++ b ∷ []) c.loop.slip c.run_berth.new.slip
-          c.loop.done.items c.push_reserved.new.self.items b c.run_berth.new.berth ran.0 inv.1 (ran.1, c.in_ok-run_berth.ensures.berth) (IsPermutation-refl (inv.0 ++ b ∷ [])) c.run_berth.ensures.slip ran.2 (search rules),
+          c.loop.done.items c.push_reserved.new.self.items b c.run_berth.new.berth ran.0 inv.1 (ran.1, c.in_ok-run_berth.ensures.berth) (IsPermutation-refl (inv.0 ++ b ∷ [])) c.run_berth.ensures.slip ran.2 (pushed c.loop.done.items c.reserve.new.self.items c.push_reserved.new.self.items c.run_berth.new.berth c.push_reserved.ensures.items c.in_ok-reserve.ensures.items),
       ap (λ (r : RestView _). r.own) took.1 ∙ inv.2,
       ap (λ (r : RestView _). r.out) took.1,
       subst (IsPermutation (old ++ (inv.0 ++ b ∷ []))) (sym (ap (λ (r : RestView _). r.taken) took.1))
@@ -66,3 +70,9 @@ returns-clause-rest g c =
                 (subst (λ (r : RestView _). IsPermutation (all_put c.loop.rest.own) r.taken) (sym last) w.in_default.ensures.1);
           }
     ]
+
+pub returns-in_err-reserve : goal.returns-in_err-reserve
+returns-in_err-reserve g c = let no = holds_of_none c.from_residual.result c.from_residual.ensures.0 in record { rest = no _; errors = search rules; limit = search rules }
+
+pub returns-in_err-run_berth-clause-rest : goal.returns-in_err-run_berth-clause-rest
+returns-in_err-run_berth-clause-rest g c = holds_of_none c.from_residual-in_err-run_berth.result c.from_residual-in_err-run_berth.ensures.0 _

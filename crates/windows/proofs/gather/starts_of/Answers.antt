@@ -1,13 +1,21 @@
-use Rattle.std.proofs.Common.{◌≡◌, ◌≤◌, ◌+◌, ◌∷◌, ◌++◌, [], length, map, refl, ap, sym, ◌∙◌, subst, vec_len, arith}
+use Rattle.std.proofs.Common.{ℕ, List, ◌≡◌, ◌+◌, ◌∷◌, ◌++◌, [], length, map, refl, ap, sym, ◌∙◌, subst, vec_len, vec_capacity, arith}
 use Rattle.std.specs.List.{All}
 use Rattle.std.specs.Vec.Iter.{into_iter_items}
 use Rattle.std.proofs.lemmas.List.Elements.{All-nil, All-push, All-same, All-head, All-tail}
+use Rattle.mailboxes.specs.Mailbox.{MailboxId}
 use Rattle.mailboxes.specs.Mailboxes.{MailboxesView, mailboxes_of, unused}
 use Rattle.deques.specs.Deques.{HandView, deques_of, all_put, IsDealt}
 use Rattle.windows.specs.Workers.{IsFresh}
 use Rattle.windows.specs.declared.workers.Start.{Start}
 use Rattle.deques.proofs.Deals.{map_turn}
+use Rattle.windows.proofs.Work.{still_fits}
+use Rattle.windows.proofs.Refused.{holds_of_none}
 use Rattle.windows.proofs.gather.starts_of.Goals as goal
+
+slip_more : (old new : MailboxesView) (ids : List MailboxId) (before n n' : ℕ) → new ≡ mailboxes_of old.mailboxes (old.slips + 1) → old ≡ mailboxes_of ids (before + n) → n' ≡ n + 1 → new ≡ mailboxes_of ids (before + n')
+slip_more old new ids before n n' e is more =
+    let many : (before + n) + 1 ≡ before + n' = omega (arith, more) in
+    e ∙ (λ i. mailboxes_of ((is i).mailboxes) ((is i).slips + 1)) ∙ ap (mailboxes_of ids) many
 
 pub loop-hand-init : goal.loop-hand-init
 loop-hand-init g c =
@@ -17,9 +25,9 @@ loop-hand-init g c =
     let none = c.in_ok-starts.ensures.items in
     let all : into_iter_items c.into_iter-hand-iterator.result ≡ hands.items = c.into_iter-hand-iterator.ensures.into_iter_gives.0 in
     let many : length (into_iter_items c.into_iter-hand-iterator.result) ≡ vec_len hands = ap length all ∙ sym hands.ok.0 in
-    let Fresh : Start _ → Type 0 = λ b. IsFresh (deques_of dealer) m.mailboxes b.hand b.slip in
-    let Knows : Start _ → Type 0 = λ b. b.hand.known ≡ all_put dealer in
     let zero : m.slips ≡ m.slips + vec_len c.in_ok-starts.starts = omega (arith, c.in_ok-starts.ensures.len) in
+    let Fresh : Start g.row.M.Denot → Type 0 = λ b. IsFresh (deques_of dealer) m.mailboxes b.hand b.slip in
+    let Knows : Start g.row.M.Denot → Type 0 = λ b. b.hand.known ≡ all_put dealer in
     record {
       own = (λ i. map (λ (b : Start _). b.hand.own) (none i) ++ map (λ (h : HandView _). h.own) (all i)) ∙ c.in_ok-hands.ensures.own;
       slips = ap (mailboxes_of m.mailboxes) zero;
@@ -45,9 +53,18 @@ loop-hand-preserved g c =
     let same : c.loop-hand.mailboxes.mailboxes ≡ m.mailboxes = ap (λ (v : MailboxesView). v.mailboxes) inv.slips in
     record {
       own = map_turn (λ (b : Start _). b.hand.own) (λ (v : HandView _). v.own) starts _ (record { hand = h; slip = c.in_ok-slip.slip }) _ left h all more e refl inv.own;
-      slips = c.in_ok-slip.ensures.mailboxes ∙ (λ i. mailboxes_of ((inv.slips i).mailboxes) ((inv.slips i).slips + 1)) ∙ ap (mailboxes_of m.mailboxes) (omega (arith, c.push_reserved.ensures.len));
+      slips = slip_more c.loop-hand.mailboxes c.slip.new.self m.mailboxes m.slips (vec_len c.loop-hand.starts) (vec_len c.push_reserved.new.self) c.in_ok-slip.ensures.mailboxes inv.slips c.push_reserved.ensures.len;
       fresh = All-same Fresh _ _ more (All-push Fresh starts _ inv.fresh (record { of_deques = is.0; none_taken = is.2; none_posted = c.in_ok-slip.ensures.slip ∙ ap unused same }));
       known = All-same Knows _ _ more (All-push Knows starts _ inv.known is.1);
       left = All-tail (IsDealt all) h left (subst (All (IsDealt all)) e inv.left);
-      room = subst (λ n. vec_len c.push_reserved.new.self + length left ≤ n) (sym c.push_reserved.ensures.capacity) (omega (arith, inv.room, ap length e, c.push_reserved.ensures.len));
+      room = still_fits (vec_len c.push_reserved.new.self + length left) (vec_capacity c.loop-hand.starts) (vec_capacity c.push_reserved.new.self) c.push_reserved.ensures.capacity (omega (arith, inv.room, ap length e, c.push_reserved.ensures.len));
     }
+
+pub returns-in_err-hands : goal.returns-in_err-hands
+returns-in_err-hands g c = let no = holds_of_none c.from_residual.result c.from_residual.ensures.0 in record { own = no _; mailboxes = no _; fresh = no _; known = no _ }
+
+pub returns-in_err-starts : goal.returns-in_err-starts
+returns-in_err-starts g c = let no = holds_of_none c.from_residual-in_err-starts.result c.from_residual-in_err-starts.ensures.0 in record { own = no _; mailboxes = no _; fresh = no _; known = no _ }
+
+pub returns-in_err-slip : goal.returns-in_err-slip
+returns-in_err-slip g c = let no = holds_of_none c.from_residual-in_err-slip.result c.from_residual-in_err-slip.ensures.0 in record { own = no _; mailboxes = no _; fresh = no _; known = no _ }

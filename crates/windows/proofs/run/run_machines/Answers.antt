@@ -1,12 +1,12 @@
 use Rattle.std.proofs.Common.{rules, ◌≡◌, ◌<◌, ◌≤◌, [], ◌++◌, ◌∷◌, List, inl, inr, refl, length, subst, sym, ap, ◌∙◌, true, arith, append-nil}
-use Rattle.std.proofs.lemmas.Bool.{eqb-true}
 use Rattle.process_api.specs.EntryRecord.{EntryRecord}
 use Rattle.trace_laws.specs.ScenarioSetting.{setting_of}
 use Rattle.trace_laws.specs.World.{IsTrace}
 use Rattle.windows.specs.Stage.{IsStageAfter}
 use Rattle.window_laws.specs.Theorems.{end_to_end}
 use Rattle.windows.proofs.Closing.{stage_trace, stage_front}
-use Rattle.windows.proofs.Handed.{took_more, end_to_end_more, on_err, trace_within}
+use Rattle.windows.proofs.Handed.{took_more, end_to_end_more, on_err, found_equal, trace_within}
+use Rattle.windows.proofs.Refused.{holds_of_none}
 use Rattle.windows.proofs.run.run_machines.Goals as goal
 
 pub returns-in_err-stage-clause-front : goal.returns-in_err-stage-clause-front
@@ -70,7 +70,7 @@ returns-clause-trace g c =
     let stage = c.loop-alloc.stage in
     let was = c.loop-alloc.invariant in
     let over : c.finished.result ≡ true = search rules in
-    let at : stage.start ≡ stage.scenario.now.horizon = eqb-true _ _ (sym c.finished.ensures ∙ over) in
+    let at : stage.start ≡ stage.scenario.now.horizon = found_equal c.finished.result stage.start stage.scenario.now.horizon c.finished.ensures over in
     record {
       parts = was.parts.0;
       took_all = was.parts.1;
@@ -82,7 +82,25 @@ returns-clause-within g c =
     let stage = c.loop-alloc.stage in
     let was = c.loop-alloc.invariant in
     let over : c.finished.result ≡ true = search rules in
-    let at : stage.start ≡ stage.scenario.now.horizon = eqb-true _ _ (sym c.finished.ensures ∙ over) in
+    let at : stage.start ≡ stage.scenario.now.horizon = found_equal c.finished.result stage.start stage.scenario.now.horizon c.finished.ensures over in
     let is : IsTrace (setting_of c.args.scenario.now) (end_to_end was.parts.0) = subst (λ s. IsTrace (setting_of s) (end_to_end was.parts.0)) was.scenario (stage_trace g.M.Process.mind stage (end_to_end was.parts.0) was.parts.2 at) in
     let few : length (end_to_end was.parts.0) ≤ c.args.scenario.now.limit = subst (λ s. length (end_to_end was.parts.0) ≤ s.limit) was.scenario (omega (arith, was.parts.2.within, was.parts.2.so_far)) in
     trace_within c.args.scenario.now (end_to_end was.parts.0) c.args.scenario.now.limit is few
+
+pub returns-in_err-stage-clause-trace : goal.returns-in_err-stage-clause-trace
+returns-in_err-stage-clause-trace g c = holds_of_none c.from_residual.result c.from_residual.ensures.0 _
+
+pub returns-in_err-stage-clause-within : goal.returns-in_err-stage-clause-within
+returns-in_err-stage-clause-within g c = holds_of_none c.from_residual.result c.from_residual.ensures.0 _
+
+pub returns-in_err-part-clause-trace : goal.returns-in_err-part-clause-trace
+returns-in_err-part-clause-trace g c = holds_of_none c.from_residual-in_err-part.result c.from_residual-in_err-part.ensures.0 _
+
+pub returns-in_err-part-clause-within : goal.returns-in_err-part-clause-within
+returns-in_err-part-clause-within g c = holds_of_none c.from_residual-in_err-part.result c.from_residual-in_err-part.ensures.0 _
+
+pub returns-in_err-part-2-clause-trace : goal.returns-in_err-part-2-clause-trace
+returns-in_err-part-2-clause-trace g c = holds_of_none c.from_residual-in_err-part-2.result c.from_residual-in_err-part-2.ensures.0 _
+
+pub returns-in_err-part-2-clause-within : goal.returns-in_err-part-2-clause-within
+returns-in_err-part-2-clause-within g c = holds_of_none c.from_residual-in_err-part-2.result c.from_residual-in_err-part-2.ensures.0 _

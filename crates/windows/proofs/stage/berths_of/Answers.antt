@@ -9,6 +9,7 @@ use Rattle.trace_laws.specs.Step.{Process}
 use Rattle.trace_laws.specs.World.{opened}
 use Rattle.windows.specs.Stage.{start_event, IsOpened}
 use Rattle.windows.specs.declared.berth.Berth.{Berth}
+use Rattle.windows.proofs.Refused.{holds_of_none}
 use Rattle.windows.proofs.stage.berths_of.Goals as goal
 
 pub loop-machine-preserved : goal.loop-machine-preserved
@@ -36,3 +37,12 @@ loop-machine-preserved g c =
       berths = subst (All (IsOpened mind s)) (sym more) (All-push (IsOpened mind s) old b c.loop-machine.invariant.berths is);
       left = All-rest (λ m. IsMindIn s (mind m)) c.in-Some.machine left rest e c.loop-machine.invariant.left;
     }
+
+pub returns-in_err-pending : goal.returns-in_err-pending
+returns-in_err-pending g c = let no = holds_of_none c.from_residual.result c.from_residual.ensures.0 in record { processes = no _; berths = no _ }
+
+pub returns-in_err-new : goal.returns-in_err-new
+returns-in_err-new g c = let no = holds_of_none c.from_residual-in_err-new.result c.from_residual-in_err-new.ensures.0 in record { processes = no _; berths = no _ }
+
+pub returns-in_err-push : goal.returns-in_err-push
+returns-in_err-push g c = let no = holds_of_none c.from_residual-in_err-push.result c.from_residual-in_err-push.ensures.0 in record { processes = no _; berths = no _ }

@@ -6,6 +6,7 @@ use Rattle.std.proofs.lemmas.List.Elements.{All-push}
 use Rattle.std.specs.Global.{Vec}
 use Rattle.process_api.specs.declared.entry.Entry.{Entry}
 use Rattle.windows.specs.declared.berth.Berth.{Berth}
+use Rattle.windows.proofs.Refused.{holds_of_none}
 use Rattle.windows.proofs.stage.take_parts.Goals as goal
 
 pub loop-berth-preserved : goal.loop-berth-preserved
@@ -43,3 +44,18 @@ loop-berth-preserved g c =
           ∙ (ap (λ x. map items_of parts ++ (x ∷ map part_of left)) taken.entries
           ∙ (ap (λ xs. map items_of parts ++ map part_of xs) (sym e) ∙ i.parts))));
     }
+
+pub returns-in_err-done : goal.returns-in_err-done
+returns-in_err-done g c = let no = holds_of_none c.from_residual.result c.from_residual.ensures.0 in record { seats = no _; pending = no _; empty = no _; parts = no _ }
+
+pub returns-in_err-parts : goal.returns-in_err-parts
+returns-in_err-parts g c = let no = holds_of_none c.from_residual-in_err-parts.result c.from_residual-in_err-parts.ensures.0 in record { seats = no _; pending = no _; empty = no _; parts = no _ }
+
+pub returns-in_err-take_part : goal.returns-in_err-take_part
+returns-in_err-take_part g c = let no = holds_of_none c.from_residual-in_err-take_part.result c.from_residual-in_err-take_part.ensures.0 in record { seats = no _; pending = no _; empty = no _; parts = no _ }
+
+pub returns-in_err-push : goal.returns-in_err-push
+returns-in_err-push g c = let no = holds_of_none c.from_residual-in_err-push.result c.from_residual-in_err-push.ensures.0 in record { seats = no _; pending = no _; empty = no _; parts = no _ }
+
+pub returns-in_err-push-2 : goal.returns-in_err-push-2
+returns-in_err-push-2 g c = let no = holds_of_none c.from_residual-in_err-push-2.result c.from_residual-in_err-push-2.ensures.0 in record { seats = no _; pending = no _; empty = no _; parts = no _ }

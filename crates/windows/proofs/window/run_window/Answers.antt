@@ -10,6 +10,7 @@ use Rattle.windows.specs.Workers.{RiseBy}
 use Rattle.windows.specs.declared.berth.Berth.{Berth}
 use Rattle.windows.proofs.Posted.{outcome_by, many_by, rising_by, disjoint_by, limit_by, next_by}
 use Rattle.windows.proofs.Settled.{sum_of, if_ok, long_at, ready_at, stage_ready, stage_rises, long_limit}
+use Rattle.windows.proofs.Refused.{holds_of_none}
 use Rattle.windows.proofs.window.run_window.Goals as goal
 
 pub run_all-requires-clause-ready : goal.run_all-requires-clause-ready
@@ -102,3 +103,15 @@ one_refused (Err e) (inr memory) = inr (inl memory)
 
 pub returns-clause-errors : goal.returns-clause-errors
 returns-clause-errors g c = one_refused c.close.result c.close.ensures.errors
+
+pub returns-in_err-mailboxes : goal.returns-in_err-mailboxes
+returns-in_err-mailboxes g c = let no = holds_of_none c.from_residual.result c.from_residual.ensures.0 in record { scenario = no _; stage = no _; run = no _; errors = search rules; limit = search rules }
+
+pub returns-in_err-ran-clause-scenario : goal.returns-in_err-ran-clause-scenario
+returns-in_err-ran-clause-scenario g c = holds_of_none c.from_residual-in_err-ran.result c.from_residual-in_err-ran.ensures.0 _
+
+pub returns-in_err-ran-clause-stage : goal.returns-in_err-ran-clause-stage
+returns-in_err-ran-clause-stage g c = holds_of_none c.from_residual-in_err-ran.result c.from_residual-in_err-ran.ensures.0 _
+
+pub returns-in_err-ran-clause-run : goal.returns-in_err-ran-clause-run
+returns-in_err-ran-clause-run g c = holds_of_none c.from_residual-in_err-ran.result c.from_residual-in_err-ran.ensures.0 _

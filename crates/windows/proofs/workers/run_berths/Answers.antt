@@ -5,7 +5,8 @@ use Rattle.std.proofs.lemmas.List.Elements.{All-contains}
 use Rattle.deques.specs.Deques.{HandView}
 use Rattle.windows.specs.Workers.{IsReady}
 use Rattle.windows.specs.declared.berth.Berth.{Berth}
-use Rattle.windows.proofs.Work.{work_begins, work_more, same_work}
+use Rattle.windows.proofs.Work.{pushed, took_known, took_own, work_begins, work_more, same_work}
+use Rattle.windows.proofs.Refused.{holds_of_none}
 use Rattle.windows.proofs.workers.run_berths.Goals as goal
 use Rattle.windows.proofs.workers.run_berths.Goals.{in-None, in-Some+in_ok-reserve+in_default}
 
@@ -22,6 +23,9 @@ run_berth-requires-clause-part g c κs within =
     (All-contains (IsReady g.M.Process.mind c.args.shared.now.window.now.streams c.args.shared.now.window.now.left) c.args.start.hand.known c.in-Some-take.berth c.requires.1
     (subst (λ l. Contains l c.in-Some-take.berth) c.loop.invariant.1 c.in-Some-take.ensures.3)).1
 
+pub run_berth-requires-clause-boxes : goal.run_berth-requires-clause-boxes
+run_berth-requires-clause-boxes g c κs within = c.args.shared.now.boxes
+
 pub run_berth-requires-clause-slip : goal.run_berth-requires-clause-slip
 run_berth-requires-clause-slip g c κs within = c.loop.invariant.0.run.of_mailboxes
 
@@ -37,9 +41,9 @@ loop-preserved g c =
     let ran = c.in_ok-run_berth.ensures.ran _ refl in (
       work_more g.M.Process.mind c.args.shared.now.window.now.streams c.args.shared.now.window.now.end c.args.shared.now.mailboxes.now c.args.shared.now.fronts.now.items c.loop.hand c.take.new.self c.loop.slip c.run_berth.new.slip
           c.loop.done.items c.push_reserved.new.self.items c.in-Some-take.berth c.run_berth.new.berth ran.0 c.loop.invariant.0 (ran.1, c.in_ok-run_berth.ensures.berth)
-          c.in-Some-take.ensures c.run_berth.ensures.slip ran.2 (search rules),
-      ap (λ (h : HandView (Berth _)). h.known) c.in-Some-take.ensures.1 ∙ c.loop.invariant.1,
-      ap (λ (h : HandView (Berth _)). h.own) c.in-Some-take.ensures.1 ∙ c.loop.invariant.2,
+          c.in-Some-take.ensures c.run_berth.ensures.slip ran.2 (pushed c.loop.done.items c.reserve.new.self.items c.push_reserved.new.self.items c.run_berth.new.berth c.push_reserved.ensures.items c.in_ok-reserve.ensures.items),
+      took_known c.loop.hand c.take.new.self c.in-Some-take.berth c.in-Some-take.ensures c.args.start.hand.known c.loop.invariant.1,
+      took_own c.loop.hand c.take.new.self c.in-Some-take.berth c.in-Some-take.ensures c.args.start.hand c.loop.invariant.2,
     )
 
 pub returns-clause-work : goal.returns-clause-work
@@ -57,3 +61,12 @@ returns-clause-own g c =
       | in-None w ↦ ap (λ (h : HandView (Berth _)). h.own) w.hand-is ∙ c.loop.invariant.2
       | in-Some+in_ok-reserve+in_default w ↦ let same : c.match-next.hand ≡ c.loop.hand = search rules in ap (λ (h : HandView (Berth _)). h.own) same ∙ c.loop.invariant.2
     ]
+
+pub returns-in_err-reserve : goal.returns-in_err-reserve
+returns-in_err-reserve g c = let no = holds_of_none c.from_residual.result c.from_residual.ensures.0 in record { own = no _; work = no _; errors = search rules; limit = search rules }
+
+pub returns-in_err-run_berth-clause-own : goal.returns-in_err-run_berth-clause-own
+returns-in_err-run_berth-clause-own g c = holds_of_none c.from_residual-in_err-run_berth.result c.from_residual-in_err-run_berth.ensures.0 _
+
+pub returns-in_err-run_berth-clause-work : goal.returns-in_err-run_berth-clause-work
+returns-in_err-run_berth-clause-work g c = holds_of_none c.from_residual-in_err-run_berth.result c.from_residual-in_err-run_berth.ensures.0 _

@@ -9,6 +9,7 @@ use Rattle.windows.specs.Closing.{AreLettersOf}
 use Rattle.windows.specs.Stage.{delivered}
 use Rattle.windows.specs.declared.berth.Berth.{Berth}
 use Rattle.windows.proofs.Places.{all_at, all_place, same_at}
+use Rattle.windows.proofs.Refused.{holds_of_none}
 use Rattle.windows.proofs.stage.Stage.close.Goals as goal
 
 pub empty_and_merge-requires-clause-rising : goal.empty_and_merge-requires-clause-rising
@@ -49,3 +50,12 @@ returns-clause-closed g c =
         start = search rules;
       },
     )
+
+pub returns-in_err-berths : goal.returns-in_err-berths
+returns-in_err-berths g c = let no = holds_of_none c.from_residual.result c.from_residual.ensures.0 in record { scenario = search rules; closed = no _; errors = search rules; limit = search rules }
+
+pub returns-in_err-merged : goal.returns-in_err-merged
+returns-in_err-merged g c = let no = holds_of_none c.from_residual-in_err-merged.result c.from_residual-in_err-merged.ensures.0 in record { scenario = search rules; closed = no _; errors = search rules; limit = search rules }
+
+pub returns-in_err-berths-2 : goal.returns-in_err-berths-2
+returns-in_err-berths-2 g c = let no = holds_of_none c.from_residual-in_err-berths-2.result c.from_residual-in_err-berths-2.ensures.0 in record { scenario = search rules; closed = no _; errors = search rules; limit = search rules }

@@ -1,0 +1,30 @@
+//! Tests of `bench_commands` and `study_commands`: runs of `fdbench` and `fdstudy` over memory, from the words to the
+//! status.
+//!
+//! What a run prints is compared by the crate `transcripts`. Here stands what no printed text shows: inputs and outlets
+//! that fail, calls of the library, threads that must overlap, runs with many seeds, sums over many reports, and the line
+//! of progress.
+#![tactic(auto)]
+
+#[cfg(test)]
+mod agreement;
+#[cfg(test)]
+mod files;
+#[cfg(test)]
+mod judged;
+#[cfg(test)]
+mod outlets;
+#[cfg(test)]
+mod overlap;
+#[cfg(test)]
+mod progress_lines;
+#[cfg(test)]
+mod refusals;
+#[cfg(test)]
+mod reports;
+#[cfg(test)]
+mod runs;
+#[cfg(test)]
+mod studies;
+#[cfg(test)]
+mod traces;

@@ -1,0 +1,236 @@
+//! Two workers that must be at work at the same time, or the run fails.
+ghost use Rattle.std.specs.Prelude.{◌≡◌, IfOk, map};
+ghost use Rattle.process_api.specs.Numbers.{numbers_to};
+ghost use Rattle.scenario_record.specs.Opening.{mind_of};
+ghost use Rattle.scenario_record.specs.Record.{opening_mind};
+ghost use Rattle.windows.specs.Plan.{IsPlanFor};
+
+use crate::files::ONE_CRASH;
+use crate::runs::{changed, printed, same};
+use machines::make_all;
+use process_api::{Action, DetectorNumbers, Pid, Process, StepInput};
+use qos_report::{MemoryOutlet, Outlet, PrintChoice, bench_windows, write_trace};
+use scenario::{AlgorithmKind, Opening, Scenario, read_scenario};
+use stack::{NoAlgorithm, Stack};
+use std::alloc::{AllocError, Global};
+use std::marker::Sync;
+use std::sync::atomic::{AtomicU64, AtomicUsize, Ordering};
+use std::sync::{Arc, Wait};
+use std::test::Fail;
+use std::thread::{self, Threads};
+use timeout_detector::TimeoutDetector;
+use windows::{Gate, Plan, run_windows};
+
+/// How many inputs each of the two processes has taken before each of the five windows: they take 1, 2, 1, 2 and 2.
+const BEFORE: [u64; 5] = [0, 1, 3, 4, 6];
+
+/// How many inputs each process takes in all.
+const IN_ALL: u64 = 8;
+
+/// How often a call that is held looks at the other process before it gives up.
+const TURNS: u32 = 100_000_000;
+
+/// A machine that counts its inputs.
+#[derive(Drop)]
+struct Counted {
+    stack: Stack<TimeoutDetector, NoAlgorithm>,
+    taken: Arc<AtomicU64, Global>,
+}
+
+impl Process for Counted {
+    ghost mind = { λ c. ⟦<Stack<TimeoutDetector, NoAlgorithm> as Process>⟧.mind c.stack };
+
+    ghost has_failed = { λ c. ⟦<Stack<TimeoutDetector, NoAlgorithm> as Process>⟧.has_failed c.stack };
+
+    fn pid(&self) -> Pid {
+        self.stack.pid()
+    }
+
+    fn on_input(
+        &mut self,
+        now: u32,
+        input: &StepInput,
+        out: &mut Vec<Action>,
+    ) -> Result<(), AllocError> {
+        self.taken.fetch_add(1, Ordering::SeqCst);
+        self.stack.on_input(now, input, out)
+    }
+
+    fn failed(&self) -> bool {
+        self.stack.failed()
+    }
+}
+
+/// A gate for two processes and two workers. Of the two calls in each window it holds the first, until the machine of
+/// the other process has taken an input of this window.
+#[derive(Drop)]
+struct Holding {
+    calls: AtomicUsize,
+    // calls at which the process that was taken had taken no input of the window
+    kept: AtomicU64,
+    // the sum of the workers' numbers
+    workers: AtomicU64,
+    // how many inputs each process has taken
+    first: Arc<AtomicU64, Global>,
+    second: Arc<AtomicU64, Global>,
+}
+
+impl Holding {
+    fn new(alloc: Global) -> Result<Holding, AllocError> {
+        Ok(Holding {
+            calls: AtomicUsize::new(0),
+            kept: AtomicU64::new(0),
+            workers: AtomicU64::new(0),
+            first: Arc::new(alloc, AtomicU64::new(0))?,
+            second: Arc::new(alloc, AtomicU64::new(0))?,
+        })
+    }
+
+    /// How many calls there were, how many of them found their process as it was, and the sum of the workers' numbers.
+    /// Then how many inputs each process has taken.
+    fn counts(&self) -> (usize, u64, u64, (u64, u64)) {
+        (
+            self.calls.load(Ordering::SeqCst),
+            self.kept.load(Ordering::SeqCst),
+            self.workers.load(Ordering::SeqCst),
+            (
+                self.first.load(Ordering::SeqCst),
+                self.second.load(Ordering::SeqCst),
+            ),
+        )
+    }
+
+    /// The inputs that process 1 has taken, or process 2.
+    fn taken(&self, by_first: bool) -> &Arc<AtomicU64, Global> {
+        if by_first { &self.first } else { &self.second }
+    }
+}
+
+/// Waits until a process has taken more inputs than so many. Answers whether it has.
+fn rises_above(taken: &AtomicU64, before: u64) -> bool {
+    for _ in 0..TURNS {
+        if taken.load(Ordering::SeqCst) > before {
+            return true;
+        }
+        thread::yield_now();
+    }
+    false
+}
+
+impl Gate for Holding {
+    fn entered<R: Wait>(&self, _rt: &R, worker: u16, pid: Pid) {
+        let call = self.calls.fetch_add(1, Ordering::SeqCst);
+        self.workers.fetch_add(u64::from(worker), Ordering::SeqCst);
+        let Some(before) = BEFORE.get(call / 2) else {
+            return;
+        };
+        let is_first = pid.number() == 1;
+        let goes_on = call % 2 == 1 || rises_above(self.taken(!is_first), *before);
+        let own = self.taken(is_first).load(Ordering::SeqCst);
+        if goes_on && own == *before {
+            self.kept.fetch_add(1, Ordering::SeqCst);
+        }
+    }
+}
+
+/// How a run is started.
+#[derive(Clone, Copy)]
+enum Start {
+    Trace,
+    Texts,
+}
+
+/// The text of the trace that a run of these machines answers.
+fn text_of_trace<R: Threads + Wait + Sync>(
+    rt: &R,
+    alloc: Global,
+    scenario: &Scenario,
+    machines: Vec<Box<dyn Process>>,
+    plan: &Plan,
+    gate: &Holding,
+) -> Result<MemoryOutlet, Fail>
+    requires machines { map mind machines.items ≡ map (opening_mind scenario.now) (numbers_to scenario.now.processes) }
+    requires plan { IsPlanFor scenario.now plan.now }
+{
+    let trace = run_windows(rt, alloc, scenario, machines, plan, gate)?;
+    let mut outlet = MemoryOutlet::new(alloc);
+    write_trace(alloc, &trace, &mut outlet)?;
+    Ok(outlet)
+}
+
+/// The text that a run of these machines writes.
+fn text_written<R: Threads + Wait + Sync>(
+    rt: &R,
+    alloc: Global,
+    scenario: &Scenario,
+    machines: Vec<Box<dyn Process>>,
+    plan: &Plan,
+    gate: &Holding,
+) -> Result<MemoryOutlet, Fail>
+    requires machines { map mind machines.items ≡ map (opening_mind scenario.now) (numbers_to scenario.now.processes) }
+    requires plan { IsPlanFor scenario.now plan.now }
+{
+    let print = PrintChoice::Trace;
+    let mut outlet = MemoryOutlet::new(alloc);
+    bench_windows(
+        rt,
+        alloc,
+        scenario,
+        machines,
+        plan,
+        gate,
+        print,
+        &mut outlet,
+    )?;
+    Ok(outlet)
+}
+
+/// The trace's text of a run of machines that the gate counts, by two workers and windows of 2 ticks.
+fn text_of<R: Threads + Wait + Sync>(
+    rt: &R,
+    alloc: Global,
+    scenario: &Scenario,
+    gate: &Holding,
+    start: Start,
+) -> Result<MemoryOutlet, Fail> {
+    let plan = Plan::new(scenario, 2, 2)?;
+    let machines = make_all(
+        alloc,
+        scenario,
+        |opening: Opening| -> Result<Box<dyn Process>, AllocError>
+            ensures { IfOk result (λ made. mind made ≡ mind_of opening) }
+        {
+            match (opening.detector, opening.share, opening.algorithm) {
+                (DetectorNumbers::Timeout(_), None, AlgorithmKind::Idle) => {
+                    let detector = TimeoutDetector::open(alloc, &opening)?;
+                    let stack = Stack::new(opening.own, detector, NoAlgorithm);
+                    let taken = Arc::try_clone(gate.taken(opening.own.number() == 1))?;
+                    Ok(Box::new(alloc, Counted { stack, taken })?)
+                }
+                _ => Err(AllocError),
+            }
+        },
+    )?;
+    match start {
+        Start::Trace => text_of_trace(rt, alloc, scenario, machines, &plan, gate),
+        Start::Texts => text_written(rt, alloc, scenario, machines, &plan, gate),
+    }
+}
+
+/// Where the crash is at the horizon, each of the ten calls finds its process as it was before the window, and five of
+/// them wait for the other process. In each window worker 1 makes one call, and worker 2 the other. The text is the one
+/// that the list gives.
+#[test]
+fn overlaps(rt: HostRuntime) -> Result<(), Fail> {
+    let alloc = rt.alloc();
+    let file = changed(alloc, ONE_CRASH, "at = 3", "at = 10")?;
+    let listed = printed(&rt, alloc, "fdbench list - --print trace", &file)?;
+    let scenario = read_scenario(alloc, file.as_bytes())?;
+    for start in [Start::Trace, Start::Texts] {
+        let gate = Holding::new(alloc)?;
+        let outlet = text_of(&rt, alloc, &scenario, &gate, start)?;
+        same(&rt, &gate.counts(), &(10, 10, 15, (IN_ALL, IN_ALL)));
+        same(&rt, &outlet.bytes(), &listed.as_bytes());
+    }
+    Ok(())
+}

@@ -1,0 +1,231 @@
+//! The rows of a study beside reports of its runs.
+
+use crate::runs::{printed, same};
+use std::alloc::{AllocError, Global};
+use std::process::Abort;
+use std::test::Fail;
+
+/// How a column comes from the numbers that a measure has in the reports of a point's five runs.
+#[derive(Clone, Copy)]
+enum How {
+    /// It is the same for all points.
+    Fixed(u64),
+    /// It is their sum.
+    Sum,
+    /// It is how many there are.
+    Count,
+    /// It is the one at the nearest rank for so many hundredths.
+    Rank(usize),
+    /// It is the count of reports in which they differ.
+    Differ,
+}
+
+/// The columns after those of the varied keys and of the layer, each with its measure and how it comes from it. None of
+/// the runs passes its limit. In each of them two pairs are watched for all 60 ticks, and the four with the process
+/// that crashes for 3.
+const COLUMNS: [(&str, &str, How); 32] = [
+    ("runs", "", How::Fixed(5)),
+    ("limited", "", How::Fixed(0)),
+    ("entries", "entries", How::Sum),
+    ("sent", "sent", How::Sum),
+    ("lost", "lost", How::Sum),
+    ("pair_ticks", "", How::Fixed(660)),
+    ("mistakes", "mistakes", How::Sum),
+    ("mistake_ticks", "mistake_ticks", How::Sum),
+    ("recurrence_sum", "recurrence_sum", How::Sum),
+    ("recurrence_count", "recurrence_count", How::Sum),
+    ("duration_sum", "duration_sum", How::Sum),
+    ("duration_count", "duration_count", How::Sum),
+    ("good_sum", "good_sum", How::Sum),
+    ("good_count", "good_count", How::Sum),
+    ("detections", "detection", How::Count),
+    ("undetected", "undetected", How::Count),
+    ("detection_sum", "detection", How::Sum),
+    ("detection_p50", "detection", How::Rank(50)),
+    ("detection_p90", "detection", How::Rank(90)),
+    ("detection_p99", "detection", How::Rank(99)),
+    ("detection_max", "detection", How::Rank(100)),
+    ("strong_completeness", "strong_completeness", How::Count),
+    ("weak_completeness", "weak_completeness", How::Count),
+    ("strong_accuracy", "strong_accuracy", How::Count),
+    ("weak_accuracy", "weak_accuracy", How::Count),
+    (
+        "eventual_strong_accuracy",
+        "eventual_strong_accuracy",
+        How::Count,
+    ),
+    (
+        "eventual_weak_accuracy",
+        "eventual_weak_accuracy",
+        How::Count,
+    ),
+    ("decided", "tick", How::Count),
+    ("decision_tick_sum", "tick", How::Sum),
+    ("decision_tick_max", "tick", How::Rank(100)),
+    ("rounds_max", "rounds", How::Rank(100)),
+    ("disagreements", "value", How::Differ),
+];
+
+/// Three processes of which the second crashes at tick 3, with a reduction and proposals.
+const SHARED: &str = "version = 1
+processes = 3
+horizon = 60
+lookahead = 2
+seed = 1
+algorithm = \"s\"
+proposals = [10, 20, 30]
+
+[detector]
+period = 4
+check = 3
+timeout = 5
+
+[share]
+period = 4
+
+[link]
+min = 2
+max = 4
+
+[[crash]]
+process = 2
+at = 3
+";
+
+/// Twelve points of five seeds each, with both algorithms.
+const GRID: &str =
+    "--seeds 1..=5 --vary algorithm=s,es --vary detector.timeout=4,9 --vary link.loss=0,150,300";
+
+/// The layer of a report's row, its measure and its value.
+fn parts_of(row: &str) -> (&str, &str, &str) {
+    let mut fields = row.split(',').skip(1);
+    let layer = fields.next().unwrap_or("");
+    let measure = fields.nth(2).unwrap_or("");
+    (layer, measure, fields.next().unwrap_or(""))
+}
+
+/// The number that a row has of a measure: a verdict that holds is a 1, and so is, of `undetected`, a detection that
+/// didn't come.
+fn number_in(row: &str, layer: &str, measure: &str) -> Option<u64> {
+    let (its_layer, its_measure, value) = parts_of(row);
+    if its_layer != "0" && its_layer != layer {
+        return None;
+    }
+    if its_measure == measure {
+        return if value == "yes" {
+            Some(1)
+        } else {
+            value.parse::<u64>().ok()
+        };
+    }
+    let is_open = measure == "undetected" && its_measure == "detection" && value == "none";
+    is_open.then_some(1)
+}
+
+/// The numbers that a measure has in a report, in the rows of the whole run and in those of a layer, in rising order. Of
+/// the ticks those count at which a process decided a value: the row of the tick follows that of the value.
+fn numbers_of(
+    alloc: Global,
+    report: &str,
+    layer: &str,
+    measure: &str,
+) -> Result<Vec<u64>, AllocError> {
+    let mut numbers = Vec::new(alloc);
+    let mut is_decided = measure != "tick";
+    for row in report.lines() {
+        if let Some(number) = number_in(row, layer, measure)
+            && is_decided
+        {
+            numbers.push(number)?;
+        }
+        if measure == "tick" && row.contains(",value,") {
+            is_decided = number_in(row, layer, "value").is_some();
+        }
+    }
+    numbers.sort()?;
+    Ok(numbers)
+}
+
+/// What the reports of a point's runs add up to in a column of a layer's row, where that is a number.
+fn number_of(
+    alloc: Global,
+    reports: &[String],
+    layer: &str,
+    measure: &str,
+    how: How,
+) -> Result<Option<u64>, AllocError> {
+    let mut numbers = Vec::new(alloc);
+    let (mut sum, mut differing) = (0u64, 0u64);
+    for report in reports {
+        let own = numbers_of(alloc, report.as_str(), layer, measure)?;
+        if own.first() != own.last() {
+            differing = differing.saturating_add(1);
+        }
+        for number in &own {
+            sum = sum.saturating_add(*number);
+            numbers.push(*number)?;
+        }
+    }
+    numbers.sort()?;
+    let number = match how {
+        How::Fixed(number) => Some(number),
+        How::Sum => Some(sum),
+        How::Count => Some(numbers.len() as u64),
+        How::Rank(hundredths) => {
+            let rank = hundredths.saturating_mul(numbers.len()).div_ceil(100);
+            numbers.get(rank.saturating_sub(1)).copied()
+        }
+        How::Differ => Some(differing),
+    };
+    Ok(number)
+}
+
+/// A row is that of a layer, and each column after it, by the name in the header, is what these reports add up to.
+fn is_sum<R: Abort>(
+    rt: &R,
+    alloc: Global,
+    header: &str,
+    row: &str,
+    layer: &str,
+    reports: &[String],
+) -> Result<(), Fail> {
+    let mut names = header.split(',').skip(3);
+    let mut fields = row.split(',').skip(3);
+    let came = (row, names.next(), fields.next());
+    same(rt, &came, &(row, Some("layer"), Some(layer)));
+    for (column, measure, how) in &COLUMNS {
+        let text = match number_of(alloc, reports, layer, measure, *how)? {
+            Some(number) => format!(in alloc; "{number}")?,
+            None => String::new(alloc),
+        };
+        let came = (row, names.next(), fields.next());
+        same(rt, &came, &(row, Some(*column), Some(text.as_str())));
+    }
+    same(rt, &(row, names.next(), fields.next()), &(row, None, None));
+    Ok(())
+}
+
+/// Twelve points of five seeds each, with both algorithms and two layers: a row is what the reports add up to, in all
+/// columns, that `fdbench list` prints of the files of its runs.
+#[test]
+fn rows_are_reports_added_up(rt: HostRuntime) -> Result<(), Fail> {
+    let alloc = rt.alloc();
+    let line = format!(in alloc; "fdstudy sweep - {GRID}")?;
+    let table = printed(&rt, alloc, &line, SHARED)?;
+    let mut rows = table.lines();
+    let header = rows.next().unwrap_or("");
+    for point in 1..=12u8 {
+        let mut reports = Vec::new(alloc);
+        for run in 1..=5u8 {
+            let line = format!(in alloc; "fdstudy show - {GRID} --point {point} --run {run}")?;
+            let shown = printed(&rt, alloc, &line, SHARED)?;
+            reports.push(printed(&rt, alloc, "fdbench list -", &shown)?)?;
+        }
+        for layer in ["1", "2"] {
+            let row = rows.next().unwrap_or("");
+            is_sum(&rt, alloc, header, row, layer, &reports)?;
+        }
+    }
+    assert!(rt; rows.next().is_none());
+    Ok(())
+}

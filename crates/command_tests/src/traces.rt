@@ -1,0 +1,135 @@
+//! Traces and reports, beside what the library tells of them.
+ghost use Rattle.std.specs.Prelude.{◌≡◌, IfOk};
+ghost use Rattle.scenario_record.specs.Opening.{mind_of};
+
+use crate::files::{COORDINATORS, FIVE, ONE_CRASH, ONE_PROCESS};
+use crate::judged::{ALL_DECIDE, NOTHING, are_outcomes};
+use crate::runs::{printed, same, seeded};
+use bench_commands::bench::{Mode, bench};
+use bench_commands::compare::same_bytes;
+use event_list::run_list;
+use machines::{idle, make_all};
+use process_api::{DetectorNumbers, Process, Trace};
+use qos_report::{MemoryOutlet, Outlet, PrintChoice, write_report, write_trace};
+use scenario::{AlgorithmKind, Opening, Scenario, read_scenario};
+use std::alloc::{AllocError, Global};
+use std::process::Abort;
+use std::test::Fail;
+use timeout_detector::TimeoutDetector;
+
+/// What `list` tells of a run, over an outlet that takes all: how many entries and letters there are and how many of
+/// these are lost, and what each process decided.
+#[test]
+fn summaries(rt: HostRuntime) -> Result<(), Fail> {
+    let alloc = rt.alloc();
+    let (nobody, all) = ([NOTHING, NOTHING], ALL_DECIDE);
+    for (file, print, counts, outcomes) in [
+        (ONE_CRASH, PrintChoice::Trace, (12, 4, 0), nobody.as_slice()),
+        (
+            COORDINATORS,
+            PrintChoice::Report,
+            (34, 31, 0),
+            all.as_slice(),
+        ),
+    ] {
+        let scenario = read_scenario(alloc, file.as_bytes())?;
+        let mut outlet = MemoryOutlet::new(alloc);
+        let summary = bench(&rt, alloc, &scenario, Mode::List, print, &mut outlet)?;
+        let came = (summary.entries, summary.sent, summary.lost);
+        same(&rt, &(came, outlet.failures()), &(counts, 0));
+        are_outcomes(&rt, summary.outcomes.as_slice(), outcomes);
+    }
+    Ok(())
+}
+
+/// The texts of one process, which takes its start alone.
+const ALONE_TRACE: &[u8] =
+    b"tick,receiver,sender,number,kind,sent,lost,notes\n0,1,1,0,start,0,0,\n";
+
+const ALONE_REPORT: &[u8] = b"section,layer,observer,subject,measure,value
+run,0,0,0,entries,1
+run,0,0,0,sent,0
+run,0,0,0,lost,0
+verdict,1,0,0,strong_completeness,0
+verdict,1,0,0,weak_completeness,0
+verdict,1,0,0,strong_accuracy,yes
+verdict,1,0,0,weak_accuracy,yes
+verdict,1,0,0,eventual_strong_accuracy,0
+verdict,1,0,0,eventual_weak_accuracy,0
+";
+
+/// The run of one process over a machine of one's own.
+fn own_trace(alloc: Global, scenario: &Scenario) -> Result<Trace, Fail> {
+    let machines = make_all(
+        alloc,
+        scenario,
+        |opening: Opening| -> Result<Box<dyn Process>, AllocError>
+            ensures { IfOk result (λ made. mind made ≡ mind_of opening) }
+        {
+            match (opening.detector, opening.share, opening.algorithm) {
+                (DetectorNumbers::Timeout(_), None, AlgorithmKind::Idle) => {
+                    let detector = TimeoutDetector::open(alloc, &opening)?;
+                    Ok(Box::new(alloc, idle(&opening, detector))?)
+                }
+                _ => Err(AllocError),
+            }
+        },
+    )?;
+    Ok(run_list(alloc, scenario, machines)?)
+}
+
+/// The texts of a trace are those of one process that takes its start alone.
+fn has_texts<R: Abort>(
+    rt: &R,
+    alloc: Global,
+    scenario: &Scenario,
+    trace: &Trace,
+) -> Result<(), Fail> {
+    let mut rows = MemoryOutlet::new(alloc);
+    write_trace(alloc, trace, &mut rows)?;
+    same(rt, &(rows.bytes(), rows.failures()), &(ALONE_TRACE, 0));
+    let mut report = MemoryOutlet::new(alloc);
+    write_report(alloc, scenario, trace, &mut report)?;
+    same(rt, &(report.bytes(), report.failures()), &(ALONE_REPORT, 0));
+    Ok(())
+}
+
+/// A machine of one's own, its run, and the texts of its trace.
+#[test]
+fn own_machine(rt: HostRuntime) -> Result<(), Fail> {
+    let alloc = rt.alloc();
+    let scenario = read_scenario(alloc, ONE_PROCESS.as_bytes())?;
+    let trace = own_trace(alloc, &scenario)?;
+    has_texts(&rt, alloc, &scenario, &trace)
+}
+
+/// With each of ten seeds a run is the same each time.
+#[test]
+fn ten_seeds(rt: HostRuntime) -> Result<(), Fail> {
+    let alloc = rt.alloc();
+    for seed in 1..11u32 {
+        let file = seeded(alloc, FIVE, seed)?;
+        let first = printed(&rt, alloc, "fdbench list - --print trace", &file)?;
+        let second = printed(&rt, alloc, "fdbench list - --print trace", &file)?;
+        same(&rt, &second.as_str(), &first.as_str());
+    }
+    Ok(())
+}
+
+/// Texts, and whether their bytes are the same.
+const COMPARED_BYTES: [(&str, &str, bool); 6] = [
+    ("ab", "ac", false),
+    ("ab", "a", false),
+    ("a", "ab", false),
+    ("", "a", false),
+    ("ab", "ab", true),
+    ("", "", true),
+];
+
+#[test]
+fn bytes_compared(rt: HostRuntime) {
+    for (left, right, are_same) in &COMPARED_BYTES {
+        let found = same_bytes(left.as_bytes(), right.as_bytes());
+        same(&rt, &(*left, *right, found), &(*left, *right, *are_same));
+    }
+}

@@ -1,0 +1,75 @@
+//! Runs of the two programs over memory.
+
+use crate::changes::push_line;
+use crate::fault::Fault;
+use reporting::{MemoryOutlet, Outlet};
+use sha2::{Digest, Sha256};
+use std::alloc::Global;
+use std::marker::Sync;
+use std::rt::Files;
+use std::sync::Wait;
+use std::thread::Threads;
+use sweep::Unwatched;
+
+/// What a run answered and wrote.
+#[derive(Drop)]
+pub struct Ran {
+    status: u8,
+    out: MemoryOutlet,
+    faults: MemoryOutlet,
+}
+
+impl Ran {
+    /// A run of the program that the first word names, over this input.
+    pub fn new<R: Files + Threads + Wait + Sync>(
+        rt: &R,
+        alloc: Global,
+        line: &str,
+        mut input: &[u8],
+    ) -> Result<Ran, Fault> {
+        let words: Vec<&str> = line.split(' ').collect(alloc)?;
+        let (mut out, mut faults) = (MemoryOutlet::new(alloc), MemoryOutlet::new(alloc));
+        let status = match words.first() {
+            Some(&"fdbench") => {
+                bench_commands::serve::serve(rt, alloc, &words, &mut input, &mut out, &mut faults)
+            }
+            Some(&"fdstudy") => study_commands::serve::serve(
+                rt,
+                alloc,
+                &words,
+                &mut input,
+                &mut out,
+                &mut faults,
+                &mut Unwatched,
+            ),
+            _ => return Err(Fault::NoCommand),
+        };
+        Ok(Ran {
+            status,
+            out,
+            faults,
+        })
+    }
+
+    /// What it printed: standard output, then the lines of standard error after `! `, then a status that isn't 0.
+    pub fn printed(&self, alloc: Global) -> Result<String, Fault> {
+        let mut printed = String::from_str(alloc, std::str::from_utf8(self.out.bytes())?)?;
+        for line in std::str::from_utf8(self.faults.bytes())?.lines() {
+            printed.push_str("! ")?;
+            push_line(&mut printed, line)?;
+        }
+        if self.status != 0 {
+            push_line(&mut printed, &format!(in alloc; "status {}", self.status)?)?;
+        }
+        Ok(printed)
+    }
+
+    /// The digest of what it wrote to standard output, as hexadecimal digits.
+    pub fn digest(&self, alloc: Global) -> Result<String, Fault> {
+        let mut digits = String::new(alloc);
+        for byte in Sha256::digest(self.out.bytes()).as_slice() {
+            digits.push_str(&format!(in alloc; "{byte:02x}")?)?;
+        }
+        Ok(digits)
+    }
+}

@@ -1,0 +1,82 @@
+-- What workers answer together, one worker more.
+use Rattle.std.proofs.Common.{◌≡◌, ◌⊎◌, inl, inr, sym, ap, ◌∙◌, subst, List, [], ◌∷◌, ◌++◌, length, length-append, map, vec_len, arith, Option, Some, option_to_list, Result, Ok, Err, IfOk, IfErr, IsErrOf}
+use Rattle.std.specs.Global.{Vec}
+use Rattle.std.specs.List.{All}
+use Rattle.std.proofs.lemmas.List.Elements.{All-head, All-push, All-same}
+use Rattle.process_api.specs.Mind.{Mind}
+use Rattle.event_list.specs.declared.error.RunError.{RunError}
+use Rattle.event_list.specs.declared.error.RunError.TheVariants.{Limit, Memory}
+use Rattle.deques.proofs.Deals.{map_push}
+use Rattle.windows.specs.Refusals.{IsRefusal, IsRefusalOfOne}
+use Rattle.windows.specs.Shared.{IsWorkIn, IsAnswerTo, IsOneTooLong, KnowOneTooLong, AreAnswers}
+use Rattle.windows.specs.declared.shared.Shared.{Shared}
+use Rattle.windows.specs.declared.workers.Start.{Start}
+use Rattle.windows.specs.declared.workers.Work.{Work}
+use Rattle.windows.proofs.Gathered.{all_front, all_back}
+
+pub popped : {X : Type 0} (xs ys : List X) (o : Option X) (x : X) → xs ≡ ys ++ option_to_list o → o ≡ Some x → xs ≡ ys ++ x ∷ []
+popped xs ys o x e is = e ∙ ap (λ r. ys ++ option_to_list r) is
+
+pub answer_at : {M G : Type 0} (mind : M → Mind) (w w' : Shared M G) (start start' : Start M) (r : Result (Work M) RunError) → w ≡ w' → start ≡ start' → IsAnswerTo mind w start r → IsAnswerTo mind w' start' r
+answer_at mind w w' start start' r e is answer = subst (λ v. IsAnswerTo mind v start' r) e (subst (λ s. IsAnswerTo mind w s r) is answer)
+
+same_err : {A : Type 0} (e d : RunError) → ◌≡◌ {A = Result A RunError} (Err e) (Err d) → e ≡ d
+same_err e d is = cc
+
+not_err : {A : Type 0} (x : A) (d : RunError) → ◌≡◌ {A = Result A RunError} (Ok x) (Err d) → ⊥
+not_err x d is = cc
+
+not_limit : (e : RunError) → e ≡ Memory → e ≡ Limit → ⊥
+not_limit e memory limit = cc
+
+by_three : {A B C D : Type 0} → (A → D) → (B → D) → (C → D) → A ⊎ (B ⊎ C) → D
+by_three f g h (inl a) = f a
+by_three f g h (inr (inl b)) = g b
+by_three f g h (inr (inr c)) = h c
+
+of_one : (e : RunError) → IsRefusalOfOne e → IsRefusal e
+of_one e (inl limit) = inl limit
+of_one e (inr memory) = inr (inl memory)
+
+module _ {M G : Type 0} (mind : M → Mind) (w : Shared M G) (starts starts' : List (Start M)) (start : Start M) (first : starts ≡ starts' ++ start ∷ [])
+    (rest : Result (Vec (Work M)) RunError) (mine : Result (Work M) RunError) (are : AreAnswers mind w starts' rest) (answer : IsAnswerTo mind w start mine) where
+  module _ (works before : Vec (Work M)) (work : Work M) (rest_is : rest ≡ Ok before) (mine_is : mine ≡ Ok work) (more : works.items ≡ before.items ++ work ∷ []) where
+    all_worked : AreAnswers mind w starts (Ok works)
+    all_worked =
+        let few : vec_len before ≡ length starts' = subst (λ r. IfOk r (λ v. vec_len v ≡ length starts')) rest_is are.count in
+        let theirs : map (λ (x : Work M). x.hand.own) before.items ≡ map (λ (b : Start M). b.hand.own) starts' = subst (λ r. IfOk r (λ v. map (λ (x : Work M). x.hand.own) v.items ≡ map (λ (b : Start M). b.hand.own) starts')) rest_is are.own in
+        let ours : work.hand.own ≡ start.hand.own = subst (λ r. IfOk r (λ (x : Work M). x.hand.own ≡ start.hand.own)) mine_is answer.own in
+        let worked : All (IsWorkIn mind w) before.items = subst (λ r. IfOk r (λ v. All (IsWorkIn mind w) v.items)) rest_is are.works in
+        record {
+          count = omega (arith, few, works.ok.0, before.ok.0, ap length more, ap length first, length-append before.items (work ∷ []), length-append starts' (start ∷ []));
+          own = map_push (λ (x : Work M). x.hand.own) before.items works.items work more ∙ (λ i. theirs i ++ ours i ∷ []) ∙ sym (map_push (λ (b : Start M). b.hand.own) starts' starts start first);
+          works = All-same (IsWorkIn mind w) works.items (before.items ++ work ∷ []) more (All-push (IsWorkIn mind w) before.items work worked (subst (λ r. IfOk r (IsWorkIn mind w)) mine_is answer.work));
+          errors = tt;
+          limit = λ is. absurd (not_err works Limit is);
+        }
+
+  their_limit : rest ≡ Err Limit → KnowOneTooLong mind w starts
+  their_limit is known all = are.limit is known (all_front (λ (b : Start M). b.hand.known ≡ known) starts' (start ∷ []) (subst (All (λ (b : Start M). b.hand.known ≡ known)) first all))
+
+  our_limit : mine ≡ Err Limit → KnowOneTooLong mind w starts
+  our_limit is known all =
+      let last = all_back (λ (b : Start M). b.hand.known ≡ known) starts' (start ∷ []) (subst (All (λ (b : Start M). b.hand.known ≡ known)) first all) in
+      subst (IsOneTooLong mind w.window.now) (All-head (λ (b : Start M). b.hand.known ≡ known) start [] last) (answer.limit is)
+
+  all_refused : (e : RunError) → (e ≡ Memory) ⊎ (IsErrOf rest e ⊎ IsErrOf mine e) → AreAnswers mind w starts (Err e)
+  all_refused e why = record {
+    count = tt;
+    own = tt;
+    works = tt;
+    errors = by_three (λ (memory : e ≡ Memory). inr (inl memory)) (λ (theirs : rest ≡ Err e). subst (λ r. IfErr r IsRefusal) theirs are.errors)
+        (λ (ours : mine ≡ Err e). of_one e (subst (λ r. IfErr r IsRefusalOfOne) ours answer.errors)) why;
+    limit = λ is.
+        let same : e ≡ Limit = same_err e Limit is in
+        by_three (λ (memory : e ≡ Memory). absurd (not_limit e memory same)) (λ (theirs : rest ≡ Err e). their_limit (theirs ∙ ap Err same)) (λ (ours : mine ≡ Err e). our_limit (ours ∙ ap Err same)) why;
+  }
+
+  -- where one worker more answers, after those that began before it
+  pub answers_more : (r : Result (Vec (Work M)) RunError) → IfOk r (λ works. (before : Vec (Work M)) × (work : Work M) × (rest ≡ Ok before) × (mine ≡ Ok work) × (works.items ≡ before.items ++ work ∷ []))
+      → IfErr r (λ e. (e ≡ Memory) ⊎ (IsErrOf rest e ⊎ IsErrOf mine e)) → AreAnswers mind w starts r
+  answers_more (Ok works) ok err = all_worked works ok.0 ok.1 ok.2 ok.3 ok.4
+  answers_more (Err e) ok err = all_refused e err
