@@ -5,8 +5,8 @@ use Rattle.trace_laws.proofs.Closed.{has_trace, one_trace}
 use Rattle.trace_laws.specs.ScenarioSetting.{setting_of}
 use Rattle.trace_laws.specs.Setting.{IsSound}
 use Rattle.trace_laws.specs.World.{IsTrace}
-use Rattle.event_list.specs.declared.error.RunError.{RunError}
-use Rattle.event_list.specs.declared.error.RunError.TheVariants as run
+use Rattle.run_error.specs.declared.error.RunError.{RunError}
+use Rattle.run_error.specs.declared.error.RunError.TheVariants as run
 use Rattle.bench_commands.specs.Fault.{IsFirstFault, status_of}
 use Rattle.bench_commands.specs.Scenario.{IsScenarioAt, IsTooLong}
 use Rattle.bench_commands.specs.Mode.{RefusesBy}

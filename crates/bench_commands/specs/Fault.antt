@@ -1,6 +1,6 @@
 -- The exit status of a fault, and which fault of a plan comes.
 use Rattle.std.specs.Prelude.{ℕ}
-use Rattle.event_list.specs.declared.error.RunError.TheVariants as run
+use Rattle.run_error.specs.declared.error.RunError.TheVariants as run
 use Rattle.bench_commands.specs.declared.fault.Fault.{Fault}
 use Rattle.bench_commands.specs.declared.fault.Fault.TheVariants.{Different, Form, Plan, Run, Scenario, TooLong, Unreadable, WordsMemory}
 use Rattle.windows.specs.Plan.{IsFirst}

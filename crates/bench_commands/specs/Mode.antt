@@ -1,6 +1,6 @@
 -- How a run takes its events.
 use Rattle.std.specs.Prelude.{ℕ, List, Option}
-use Rattle.event_list.specs.declared.error.RunError.{RunError}
+use Rattle.run_error.specs.declared.error.RunError.{RunError}
 use Rattle.bench_commands.specs.declared.bench.Mode.{Mode}
 use Rattle.bench_commands.specs.declared.bench.Mode.TheVariants as mode
 use Rattle.print_choice.specs.declared.PrintChoice.{PrintChoice}

@@ -1,6 +1,6 @@
 -- What went out of an outlet, and what stands where a run stops with a fault.
 use Rattle.std.specs.Prelude.{◌≡◌, ◌≢◌, ◌⊎◌, ℕ, List, Option}
-use Rattle.event_list.specs.declared.error.RunError.TheVariants.{Limit}
+use Rattle.run_error.specs.declared.error.RunError.TheVariants.{Limit}
 use Rattle.bench_commands.specs.Fault.{status_of}
 use Rattle.bench_commands.specs.Scenario.{IsScenarioAt, IsTooLong}
 use Rattle.bench_commands.specs.declared.fault.Fault.{Fault}

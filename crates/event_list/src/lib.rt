@@ -25,7 +25,6 @@
 //! 2 at tick 2 is `dead`.
 #![tactic(auto)]
 
-mod error;
 mod joins;
 mod laws;
 mod links;
@@ -35,7 +34,6 @@ mod nobody;
 mod recorder;
 mod seat;
 
-pub use error::RunError;
 pub use joins::Joins;
 pub use laws::law_only_history;
 pub use list::{run_list, run_list_heard, run_list_into};
@@ -43,4 +41,5 @@ pub use listener::Listener;
 pub use nobody::Nobody;
 pub use pending_events::Pending;
 pub use recorder::Recorder;
+pub use run_error::RunError;
 pub use seat::{Seat, kind_of_letter};

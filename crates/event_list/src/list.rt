@@ -16,13 +16,13 @@ ghost use Rattle.event_list.specs.Standing.{Stands, IsStepped};
 ghost use Rattle.trace_laws.specs.Step.{Process, step};
 ghost use Rattle.trace_laws.specs.World.{starts, opened, IsTrace};
 
-use crate::error::RunError;
 use crate::listener::Listener;
 use crate::nobody::Nobody;
 use crate::recorder::Recorder;
 use crate::seat::Seat;
 use pending_events::Pending;
 use process_api::{Action, Entry, Key, Pid, Process, StepInput, Trace};
+use run_error::RunError;
 use scenario_record::Scenario;
 use std::alloc::{AllocError, Global};
 use streams::Streams;

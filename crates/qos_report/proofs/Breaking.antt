@@ -4,8 +4,8 @@ use Rattle.std.specs.Prelude.{IsTrue}
 use Rattle.std.specs.Global.{Vec}
 use Rattle.trace_laws.specs.ScenarioSetting.{setting_of}
 use Rattle.trace_laws.specs.World.{IsTrace}
-use Rattle.event_list.specs.declared.error.RunError.{RunError}
-use Rattle.event_list.specs.declared.error.RunError.TheVariants.{Limit, Memory, Spawn, Write}
+use Rattle.run_error.specs.declared.error.RunError.{RunError}
+use Rattle.run_error.specs.declared.error.RunError.TheVariants.{Limit, Memory, Spawn, Write}
 use Rattle.process_api.specs.EntryRecord.{EntryRecord}
 use Rattle.scenario_record.specs.Record.{Record}
 use Rattle.windows.specs.Sink.{writes_of}

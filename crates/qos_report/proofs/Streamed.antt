@@ -3,7 +3,7 @@ use Rattle.std.proofs.Common.{◌≡◌, ◌⊎◌, ◌≤◌, ℕ, inl, inr, re
 use Rattle.trace_laws.specs.ScenarioSetting.{setting_of}
 use Rattle.trace_laws.specs.Setting.{IsSound}
 use Rattle.trace_laws.specs.World.{IsTrace}
-use Rattle.event_list.specs.declared.error.RunError.{RunError}
+use Rattle.run_error.specs.declared.error.RunError.{RunError}
 use Rattle.trace_laws.proofs.Closed.{trace_rises}
 use Rattle.judges.proofs.Order.{rising_front}
 use Rattle.process_api.specs.EntryRecord.{EntryRecord}

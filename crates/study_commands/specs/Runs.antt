@@ -2,8 +2,8 @@
 use Rattle.std.specs.Prelude.{◌<◌, ℕ, List, length, Option}
 use Rattle.trace_laws.specs.ScenarioSetting.{setting_of}
 use Rattle.trace_laws.specs.World.{IsTrace}
-use Rattle.event_list.specs.declared.error.RunError.{RunError}
-use Rattle.event_list.specs.declared.error.RunError.TheVariants as error
+use Rattle.run_error.specs.declared.error.RunError.{RunError}
+use Rattle.run_error.specs.declared.error.RunError.TheVariants as error
 use Rattle.study_commands.specs.File.{IsScenario}
 use Rattle.study_commands.specs.declared.fault.Fault.{Fault}
 use Rattle.study_commands.specs.declared.fault.Fault.TheVariants.{Limit, Memory}

@@ -3,8 +3,8 @@ ghost use Rattle.std.specs.Prelude.{◌≡◌, ◌≤◌, ◌<◌, ◌++◌, [],
 ghost use Rattle.trace_merge.specs.Parts.{all_of};
 ghost use Rattle.trace_merge.specs.Ticks.{BeginsBy, SomeBegins};
 
-use event_list::RunError;
 use process_api::Entry;
+use run_error::RunError;
 use std::alloc::Global;
 use std::collections::VecDeque;
 

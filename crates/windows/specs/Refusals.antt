@@ -1,7 +1,7 @@
 -- Why a window is refused, and which of several refusals is answered.
 use Rattle.std.specs.Prelude.{◌≡◌, ◌⊎◌, ◌≤◌, ℕ, Result, IsErrOf}
-use Rattle.event_list.specs.declared.error.RunError.{RunError}
-use Rattle.event_list.specs.declared.error.RunError.TheVariants.{Limit, Memory, Spawn, Write}
+use Rattle.run_error.specs.declared.error.RunError.{RunError}
+use Rattle.run_error.specs.declared.error.RunError.TheVariants.{Limit, Memory, Spawn, Write}
 
 -- one process is refused for want of a place in the trace, or of memory
 abbrev pub IsRefusalOfOne : RunError → Type 0

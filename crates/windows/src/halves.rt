@@ -3,7 +3,7 @@
 ghost use Rattle.std.specs.Prelude.{◌≡◌, length, map, IsTrue, IfOk, IfErr, vec_len, IsPermutation};
 ghost use Rattle.std.specs.List.{All};
 ghost use Rattle.process_api.specs.Order.{is_rising};
-ghost use Rattle.event_list.specs.declared.error.RunError.TheVariants.{Memory};
+ghost use Rattle.run_error.specs.declared.error.RunError.TheVariants.{Memory};
 ghost use Rattle.mailboxes.specs.Mailboxes.{IsSlipOf, letters_in};
 ghost use Rattle.trace_merge.specs.Parts.{all_of, AreDisjoint};
 ghost use Rattle.windows.specs.Closing.{AreLettersOf};

@@ -3,7 +3,7 @@
 ghost use Rattle.std.specs.Prelude.{◌≡◌, ◌≤◌, ◌⊎◌, ◌++◌, [], ◌∷◌, IfOk, IfErr, IsErrOf, Ok, vec_len};
 ghost use Rattle.std.specs.List.{All};
 ghost use Rattle.std.specs.Thread.{IsSync};
-ghost use Rattle.event_list.specs.declared.error.RunError.TheVariants.{Memory, Spawn};
+ghost use Rattle.run_error.specs.declared.error.RunError.TheVariants.{Memory, Spawn};
 ghost use Rattle.windows.specs.Plan.{most_workers};
 ghost use Rattle.windows.specs.Refusals.{rank_of, IsFirstRefusal, IsRefusalOfOne};
 ghost use Rattle.windows.specs.Shared.{IsStart, IsWorkIn, IsAnswerTo, IsOneTooLong, AreAnswers};
@@ -99,7 +99,7 @@ impl<'s, M: Process, G: Gate> Promise<Result<Work<M>, RunError>> for WorkAt<'s, 
 struct RefusedStart;
 
 impl From<RefusedStart> for RunError {
-    ghost use Rattle.event_list.specs.declared.error.RunError.TheVariants.{Spawn};
+    ghost use Rattle.run_error.specs.declared.error.RunError.TheVariants.{Spawn};
 
     ghost from_gives = { λ _ e. e ≡ Spawn };
 

@@ -1,5 +1,5 @@
 use Rattle.std.proofs.Common.{rules, ◌≡◌, ℕ, List, Option, Some}
-use Rattle.event_list.specs.declared.error.RunError.TheVariants.{Limit}
+use Rattle.run_error.specs.declared.error.RunError.TheVariants.{Limit}
 use Rattle.bench_commands.proofs.Stopping.{refused_long}
 use Rattle.print_choice.specs.declared.PrintChoice.TheVariants.{Both}
 use Rattle.reporting.specs.Outlet.{Held}

@@ -1,5 +1,5 @@
 use Rattle.std.proofs.Common.{rules, ◌≡◌, ◌+◌, ◌-◌, min, sym, ap, ◌∙◌, subst, inl, inr, Result, Ok, Err, IfErr}
-use Rattle.event_list.specs.declared.error.RunError.{RunError}
+use Rattle.run_error.specs.declared.error.RunError.{RunError}
 use Rattle.windows.specs.Refusals.{IsRefusal, IsRefusalOfOne}
 use Rattle.std.specs.Global.{Vec}
 use Rattle.scenario_record.specs.Record.{Record}

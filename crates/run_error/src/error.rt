@@ -22,7 +22,7 @@ pub enum RunError {
 }
 
 impl From<AllocError> for RunError {
-    ghost use Rattle.event_list.specs.declared.error.RunError.TheVariants.{Memory};
+    ghost use Rattle.run_error.specs.declared.error.RunError.TheVariants.{Memory};
 
     ghost from_gives = { λ _ e. e ≡ Memory };
 
@@ -32,7 +32,7 @@ impl From<AllocError> for RunError {
 }
 
 impl<T: Drop> From<AllocFailed<T>> for RunError {
-    ghost use Rattle.event_list.specs.declared.error.RunError.TheVariants.{Memory};
+    ghost use Rattle.run_error.specs.declared.error.RunError.TheVariants.{Memory};
 
     ghost from_gives = { λ _ e. e ≡ Memory };
 
