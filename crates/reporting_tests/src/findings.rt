@@ -29,11 +29,6 @@ pub fn quiet<R: Abort>(
     }
 }
 
-/// At this place stands this row.
-pub fn is_row<R: Abort>(rt: &R, rows: &[PairMeasures], place: usize, wanted: PairMeasures) {
-    same(rt, &rows.get(place).copied(), &Some(wanted));
-}
-
 /// Of a pair, given by its place, its layer, its observer and its subject, nothing is counted but this detection.
 pub type Quiet = (usize, u8, u16, u16, Detection);
 
@@ -41,7 +36,7 @@ pub type Quiet = (usize, u8, u16, u16, Detection);
 pub fn are_quiet<R: Abort>(rt: &R, rows: &[PairMeasures], pairs: &[Quiet]) {
     for (place, layer, observer, subject, detection) in pairs {
         let wanted = quiet(rt, *layer, *observer, *subject, *detection);
-        is_row(rt, rows, *place, wanted);
+        same(rt, &rows.get(*place).copied(), &Some(wanted));
     }
 }
 

@@ -1,6 +1,5 @@
 //! Pictures, and their texts written by hand.
 use std::alloc::Global;
-use std::process::Abort;
 use std::test::Fail;
 use svg::{Anchor, Caption, Class, Picture, Point, Shape, style, svg_text};
 
@@ -8,8 +7,9 @@ const FROM: Point = Point { x: 1, y: 20 };
 
 const TO: Point = Point { x: 300, y: 4000 };
 
-/// A line of each kind.
-fn lines_of(alloc: Global) -> Result<Vec<Shape>, Fail> {
+/// A shape of each kind.
+fn shapes_of(alloc: Global) -> Result<Vec<Shape>, Fail> {
+    let (class, center) = (Class::Crash, FROM);
     Ok(vec![in alloc;
         Shape::Line {
             class: Class::Axis,
@@ -26,18 +26,6 @@ fn lines_of(alloc: Global) -> Result<Vec<Shape>, Fail> {
             from: FROM,
             to: TO
         },
-    ]?)
-}
-
-const LINES: &str = "<line class=\"axis\" x1=\"1\" y1=\"20\" x2=\"300\" y2=\"4000\"/>
-<line marker-end=\"url(#head)\" class=\"detector\" x1=\"300\" y1=\"4000\" x2=\"1\" y2=\"20\"/>
-<line marker-end=\"url(#stop)\" class=\"lost\" x1=\"1\" y1=\"20\" x2=\"300\" y2=\"4000\"/>
-</svg>
-";
-
-/// A shape of each other kind.
-fn others_of(alloc: Global) -> Result<Vec<Shape>, Fail> {
-    Ok(vec![in alloc;
         Shape::Rect {
             class: Class::First,
             corner: FROM,
@@ -49,10 +37,7 @@ fn others_of(alloc: Global) -> Result<Vec<Shape>, Fail> {
             center: TO,
             radius: 4_294_967_295
         },
-        Shape::Cross {
-            class: Class::Crash,
-            center: FROM
-        },
+        Shape::Cross { class, center },
         Shape::Text {
             class: Class::Label,
             at: TO,
@@ -61,6 +46,11 @@ fn others_of(alloc: Global) -> Result<Vec<Shape>, Fail> {
         },
     ]?)
 }
+
+const LINES: &str = "<line class=\"axis\" x1=\"1\" y1=\"20\" x2=\"300\" y2=\"4000\"/>
+<line marker-end=\"url(#head)\" class=\"detector\" x1=\"300\" y1=\"4000\" x2=\"1\" y2=\"20\"/>
+<line marker-end=\"url(#stop)\" class=\"lost\" x1=\"1\" y1=\"20\" x2=\"300\" y2=\"4000\"/>
+";
 
 const OTHERS: &str = "<rect class=\"first\" x=\"1\" y=\"20\" width=\"7\" height=\"8\"/>
 <circle class=\"decision\" cx=\"300\" cy=\"4000\" r=\"4294967295\"/>
@@ -76,23 +66,19 @@ width=\"640\" height=\"480\">
 ";
 
 /// A picture's text is its head, the style sheet, and a line for each shape.
-fn has_lines<R: Abort>(rt: &R, alloc: Global, shapes: Vec<Shape>, lines: &str) -> Result<(), Fail> {
+#[test]
+fn shapes(rt: HostRuntime) -> Result<(), Fail> {
+    let alloc = rt.alloc();
     let picture = Picture {
         width: 640,
         height: 480,
-        shapes,
+        shapes: shapes_of(alloc)?,
     };
     let text = svg_text(alloc, &picture)?;
     let mut whole = Vec::from_slice(alloc, HEAD.as_bytes())?;
     whole.extend_from_slice(style())?;
-    whole.extend_from_slice(lines.as_bytes())?;
+    whole.extend_from_slice(LINES.as_bytes())?;
+    whole.extend_from_slice(OTHERS.as_bytes())?;
     assert!(rt; text.as_slice() == whole.as_slice());
     Ok(())
-}
-
-#[test]
-fn shapes(rt: HostRuntime) -> Result<(), Fail> {
-    let alloc = rt.alloc();
-    has_lines(&rt, alloc, lines_of(alloc)?, LINES)?;
-    has_lines(&rt, alloc, others_of(alloc)?, OTHERS)
 }

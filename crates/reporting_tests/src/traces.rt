@@ -97,40 +97,25 @@ pub fn small_number_of<R: Abort>(rt: &R, part: Option<&str>) -> u32 {
     word_of(rt, part).parse::<u32>().expect(rt, "not a number")
 }
 
-fn layer_of<R: Abort>(rt: &R, part: Option<&str>) -> u8 {
-    word_of(rt, part).parse::<u8>().expect(rt, "not a number")
-}
-
 fn note_of<R: Abort>(rt: &R, text: &str) -> Note {
     let mut parts = text.split(':');
     let word = word_of(rt, parts.next());
     let first = parts.next();
-    let second = parts.next();
     match word {
-        "suspect" => Note::Suspect {
-            layer: layer_of(rt, first),
-            who: pid_of(rt, second),
-        },
-        "trust" => Note::Trust {
-            layer: layer_of(rt, first),
-            who: pid_of(rt, second),
-        },
         "round" => Note::Round(number_of(rt, first)),
         "decided" => Note::Decided(small_number_of(rt, first)),
         "novalue" => Note::NoValue,
-        _ => panic!(rt; "no such note"),
-    }
-}
-
-/// The notes of an entry, as they are printed.
-fn notes_of<R: Abort>(rt: &R, alloc: Global, texts: &str) -> Vec<Note> {
-    let mut notes = Vec::new(alloc);
-    for text in texts.split(' ') {
-        if !text.is_empty() {
-            notes.push(note_of(rt, text)).expect(rt, "no memory");
+        _ => {
+            let layer = word_of(rt, first).parse::<u8>();
+            let layer = layer.expect(rt, "not a number");
+            let who = pid_of(rt, parts.next());
+            match word {
+                "suspect" => Note::Suspect { layer, who },
+                "trust" => Note::Trust { layer, who },
+                _ => panic!(rt; "no such note"),
+            }
         }
     }
-    notes
 }
 
 /// An entry of the form `tick,receiver,sender,number,kind,sent,lost,notes`. Its kind and its counts, which no judge,
@@ -143,12 +128,18 @@ fn entry_of<R: Abort>(rt: &R, alloc: Global, row: &str) -> Entry {
         sender: pid_of(rt, parts.next()),
         number: number_of(rt, parts.next()),
     };
+    let mut notes = Vec::new(alloc);
+    for text in parts.nth(3).unwrap_or("").split(' ') {
+        if !text.is_empty() {
+            notes.push(note_of(rt, text)).expect(rt, "no memory");
+        }
+    }
     Entry {
         key,
         kind: Kind::Start,
         sent: 0,
         lost: 0,
-        notes: notes_of(rt, alloc, parts.nth(3).unwrap_or("")),
+        notes,
     }
 }
 

@@ -2,9 +2,6 @@
 use crate::comparisons::same;
 use crate::traces::{pid, trace_of};
 use drawing::{Bar, bars_of};
-use process_api::Trace;
-use std::alloc::Global;
-use std::process::Abort;
 
 /// Process 1 suspects process 2 at ticks 3 and 4, from tick 7 to 11, through a trust that it takes back at tick 9, and
 /// not at tick 14, where it takes a suspicion back at once. On layer 2 it suspects it from tick 15 on. Process 2
@@ -21,37 +18,38 @@ const NOTED: &str = "0,1,1,0,start,1,0,
 16,2,2,1,check,0,0,suspect:1:1
 ";
 
-fn bar(begin: u32, end: u32) -> Bar {
-    Bar { begin, end }
-}
+/// A layer, an observer and a subject; from and until when its bars are asked for; and their begins and ends.
+type Case = ((u8, u16, u16), (u32, u32), &'static [Bar]);
 
-/// What one process suspects of another on a layer between these ticks are these bars.
-fn are_bars<R: Abort>(
-    rt: &R,
-    alloc: Global,
-    trace: &Trace,
-    (layer, observer, subject): (u8, u16, u16),
-    (from, until): (u32, u32),
-    wanted: &[Bar],
-) {
-    let (observer, subject) = (pid(rt, observer), pid(rt, subject));
-    let bars = bars_of(alloc, trace, layer, observer, subject, from, until);
-    let bars = bars.expect(rt, "no memory");
-    same(rt, &bars.as_slice(), &wanted);
-}
+const CASES: [Case; 10] = [
+    (
+        (1, 1, 2),
+        (0, 20),
+        &[Bar { begin: 3, end: 5 }, Bar { begin: 7, end: 12 }],
+    ),
+    (
+        (1, 1, 2),
+        (4, 8),
+        &[Bar { begin: 4, end: 5 }, Bar { begin: 7, end: 8 }],
+    ),
+    ((1, 1, 2), (8, 10), &[Bar { begin: 8, end: 10 }]),
+    ((1, 1, 2), (11, 20), &[Bar { begin: 11, end: 12 }]),
+    ((1, 1, 2), (5, 7), &[]),
+    ((1, 1, 2), (6, 6), &[]),
+    ((1, 1, 2), (8, 7), &[]),
+    ((1, 1, 2), (12, 20), &[]),
+    ((2, 1, 2), (0, 20), &[Bar { begin: 15, end: 20 }]),
+    ((1, 2, 1), (0, 20), &[Bar { begin: 16, end: 20 }]),
+];
 
 #[test]
 fn stretches(rt: HostRuntime) {
     let alloc = rt.alloc();
     let trace = trace_of(&rt, alloc, NOTED);
-    let pair = (1, 1, 2);
-    are_bars(&rt, alloc, &trace, pair, (0, 20), &[bar(3, 5), bar(7, 12)]);
-    are_bars(&rt, alloc, &trace, pair, (4, 8), &[bar(4, 5), bar(7, 8)]);
-    are_bars(&rt, alloc, &trace, pair, (8, 10), &[bar(8, 10)]);
-    are_bars(&rt, alloc, &trace, pair, (11, 20), &[bar(11, 12)]);
-    for ticks in [(5, 7), (6, 6), (8, 7), (12, 20)] {
-        are_bars(&rt, alloc, &trace, pair, ticks, &[]);
+    for ((layer, observer, subject), (from, until), wanted) in &CASES {
+        let (observer, subject) = (pid(&rt, *observer), pid(&rt, *subject));
+        let bars = bars_of(alloc, &trace, *layer, observer, subject, *from, *until);
+        let bars = bars.expect(&rt, "no memory");
+        same(&rt, &bars.as_slice(), wanted);
     }
-    are_bars(&rt, alloc, &trace, (2, 1, 2), (0, 20), &[bar(15, 20)]);
-    are_bars(&rt, alloc, &trace, (1, 2, 1), (0, 20), &[bar(16, 20)]);
 }

@@ -30,23 +30,26 @@ fn fate_of<R: Abort>(rt: &R, word: &str) -> LetterFate {
     }
 }
 
-fn due_of<R: Abort>(rt: &R, text: &str) -> Option<u64> {
-    if text.is_empty() {
-        return None;
-    }
-    Some(number_of(rt, Some(text)))
-}
-
 /// A letter of the form in which the letters of a run are printed.
 fn letter_of<R: Abort>(rt: &R, row: &str) -> Letter {
     let mut parts = row.split(',');
+    let sent = small_number_of(rt, parts.next());
+    let sender = pid_of(rt, parts.next());
+    let receiver = pid_of(rt, parts.next());
+    let number = number_of(rt, parts.next());
+    let kind = kind_of(rt, word_of(rt, parts.next()));
+    let due = word_of(rt, parts.next());
     Letter {
-        sent: small_number_of(rt, parts.next()),
-        sender: pid_of(rt, parts.next()),
-        receiver: pid_of(rt, parts.next()),
-        number: number_of(rt, parts.next()),
-        kind: kind_of(rt, word_of(rt, parts.next())),
-        due: due_of(rt, word_of(rt, parts.next())),
+        sent,
+        sender,
+        receiver,
+        number,
+        kind,
+        due: if due.is_empty() {
+            None
+        } else {
+            Some(number_of(rt, Some(due)))
+        },
         fate: fate_of(rt, word_of(rt, parts.next())),
     }
 }
@@ -94,25 +97,6 @@ impl Drawn {
             until,
         )
     }
-
-    /// What is answered to who asks for that is this.
-    fn answers<R: Abort>(&self, rt: &R, alloc: Global, (from, until): (u32, u32), wanted: &str) {
-        same(rt, &answer_of(self.draw(alloc, from, until)), &wanted);
-    }
-
-    /// It ends with these shapes.
-    fn ends_with<R: Abort>(&self, rt: &R, alloc: Global, (from, until): (u32, u32), shapes: &str) {
-        let text = self.draw(alloc, from, until).expect(rt, "no picture");
-        assert!(rt; text.as_slice().ends_with(shapes.as_bytes()), "{from}");
-    }
-
-    /// With so many more letters, all sent at tick 5.
-    fn send_more<R: Abort>(&mut self, rt: &R, count: usize) {
-        for _ in 0..count {
-            let letter = letter_of(rt, "5,1,2,1,alive,7,taken");
-            self.letters.push(letter).expect(rt, "no memory");
-        }
-    }
 }
 
 /// Letters take 2 ticks, and each process sends one every 4 ticks.
@@ -147,14 +131,6 @@ const TICK_4: &str = "<text class=\"title\" x=\"78\" y=\"110\" text-anchor=\"end
 </svg>
 ";
 
-#[test]
-fn one_crash(rt: HostRuntime) {
-    let alloc = rt.alloc();
-    let run = Drawn::new(&rt, alloc, (2, CRASH_AT_3), ONE_CRASH, LETTERS);
-    run.ends_with(&rt, alloc, (0, 10), SHAPES);
-    run.ends_with(&rt, alloc, (4, 5), TICK_4);
-}
-
 /// Process 1 suspects process 3 at ticks 5 and 6, and on layer 2 at tick 6. Process 3 decides at tick 7.
 const NOTED: &str = "0,1,1,0,start,1,0,
 5,1,1,1,check,0,0,suspect:1:3
@@ -188,26 +164,44 @@ const MARKED: &str =
 </svg>
 ";
 
+/// The shapes with which pictures end: of two processes between two pairs of ticks, and of three.
 #[test]
-fn marks(rt: HostRuntime) {
+fn shapes(rt: HostRuntime) {
     let alloc = rt.alloc();
-    let run = Drawn::new(&rt, alloc, (3, SHARE), NOTED, SENT);
-    run.ends_with(&rt, alloc, (4, 9), MARKED);
+    let two = Drawn::new(&rt, alloc, (2, CRASH_AT_3), ONE_CRASH, LETTERS);
+    let three = Drawn::new(&rt, alloc, (3, SHARE), NOTED, SENT);
+    for (run, from, until, shapes) in [
+        (&two, 0, 10, SHAPES),
+        (&two, 4, 5, TICK_4),
+        (&three, 4, 9, MARKED),
+    ] {
+        let text = run.draw(alloc, from, until).expect(&rt, "no picture");
+        assert!(rt; text.as_slice().ends_with(shapes.as_bytes()), "{from}");
+    }
 }
+
+/// So many more letters are sent, all at tick 5; then a picture of these ticks is asked for, and this is answered.
+const ANSWERS: [(usize, u32, u32, &str); 6] = [
+    (0, 5, 5, "ticks"),
+    (0, 6, 5, "ticks"),
+    (0, 0, 11, "ticks"),
+    (MOST_LETTERS - 1, 0, 10, "drawn"),
+    (1, 0, 10, "letters"),
+    (0, 5, 10, "drawn"),
+];
 
 #[test]
 fn refusals(rt: HostRuntime) {
     let alloc = rt.alloc();
     let (start, letter) = ("0,1,1,0,start,1,0,\n", "4,1,2,1,alive,6,taken\n");
-    let mut two = Drawn::new(&rt, alloc, (2, ""), start, letter);
-    for ticks in [(5, 5), (6, 5), (0, 11)] {
-        two.answers(&rt, alloc, ticks, "ticks");
-    }
     let seventeen = Drawn::new(&rt, alloc, (17, ""), start, letter);
-    seventeen.answers(&rt, alloc, (5, 5), "processes");
-    two.send_more(&rt, MOST_LETTERS - 1);
-    two.answers(&rt, alloc, (0, 10), "drawn");
-    two.send_more(&rt, 1);
-    two.answers(&rt, alloc, (0, 10), "letters");
-    two.answers(&rt, alloc, (5, 10), "drawn");
+    same(&rt, &answer_of(seventeen.draw(alloc, 5, 5)), &"processes");
+    let mut two = Drawn::new(&rt, alloc, (2, ""), start, letter);
+    for (more, from, until, wanted) in &ANSWERS {
+        for _ in 0..*more {
+            let letter = letter_of(&rt, "5,1,2,1,alive,7,taken");
+            two.letters.push(letter).expect(&rt, "no memory");
+        }
+        same(&rt, &answer_of(two.draw(alloc, *from, *until)), wanted);
+    }
 }

@@ -2,8 +2,6 @@
 use crate::comparisons::same;
 use crate::traces::{CRASH_AT_3, scenario_of, trace_of};
 use drawing::{DrawError, draw_suspicions};
-use std::alloc::Global;
-use std::process::Abort;
 
 /// What became of a picture, in a word.
 pub fn answer_of(drawn: Result<Vec<u8>, DrawError>) -> &'static str {
@@ -48,26 +46,25 @@ fn one_crash(rt: HostRuntime) {
     assert!(rt; text.as_slice().ends_with(ROWS.as_bytes()));
 }
 
-/// What is answered to who asks for a picture of a run of so many processes over ten ticks.
-fn answers<R: Abort>(rt: &R, alloc: Global, processes: u16, ticks: &[(u32, u32)], wanted: &str) {
-    let scenario = scenario_of(rt, alloc, processes, 10, "");
-    let trace = trace_of(rt, alloc, "0,1,1,0,start,1,0,\n");
-    for (from, until) in ticks {
-        let drawn = draw_suspicions(alloc, &scenario, &trace, *from, *until);
-        same(rt, &answer_of(drawn), &wanted);
-    }
-}
+/// Processes, the ticks of a picture of ten, and what is answered to who asks for it.
+const ANSWERS: [(u16, u32, u32, &str); 8] = [
+    (16, 0, 10, "drawn"),
+    (16, 9, 10, "drawn"),
+    (16, 0, 1, "drawn"),
+    (16, 5, 5, "ticks"),
+    (16, 6, 5, "ticks"),
+    (16, 0, 11, "ticks"),
+    (16, 10, 11, "ticks"),
+    (17, 5, 5, "processes"),
+];
 
 #[test]
 fn refusals(rt: HostRuntime) {
     let alloc = rt.alloc();
-    answers(&rt, alloc, 16, &[(0, 10), (9, 10), (0, 1)], "drawn");
-    answers(
-        &rt,
-        alloc,
-        16,
-        &[(5, 5), (6, 5), (0, 11), (10, 11)],
-        "ticks",
-    );
-    answers(&rt, alloc, 17, &[(5, 5)], "processes");
+    let trace = trace_of(&rt, alloc, "0,1,1,0,start,1,0,\n");
+    for (processes, from, until, wanted) in &ANSWERS {
+        let scenario = scenario_of(&rt, alloc, *processes, 10, "");
+        let drawn = draw_suspicions(alloc, &scenario, &trace, *from, *until);
+        same(&rt, &answer_of(drawn), wanted);
+    }
 }

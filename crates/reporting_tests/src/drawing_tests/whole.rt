@@ -220,7 +220,7 @@ fn is_made_of<R: Abort>(rt: &R, text: &[u8], pieces: &[&str]) {
 }
 
 #[test]
-fn suspicions(rt: HostRuntime) {
+fn whole_pictures(rt: HostRuntime) {
     let alloc = rt.alloc();
     let scenario = scenario_of(&rt, alloc, 2, 10, TABLES);
     let trace = trace_of(&rt, alloc, NOTED);
@@ -234,13 +234,6 @@ fn suspicions(rt: HostRuntime) {
         SUSPICIONS_ROWS,
     ];
     is_made_of(&rt, &text, &pieces);
-}
-
-#[test]
-fn letters(rt: HostRuntime) {
-    let alloc = rt.alloc();
-    let scenario = scenario_of(&rt, alloc, 2, 10, TABLES);
-    let trace = trace_of(&rt, alloc, NOTED);
     let letters = letters_of(&rt, alloc, SENT);
     let text = draw_letters(alloc, &scenario, &trace, &letters, 5, 10);
     let text = text.expect(&rt, "no picture");

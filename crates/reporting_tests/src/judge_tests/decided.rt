@@ -2,28 +2,7 @@
 use crate::comparisons::same;
 use crate::findings::outcome;
 use crate::traces::{scenario_of, trace_of};
-use judges::{Answer, Outcome, decisions};
-use std::alloc::Global;
-use std::process::Abort;
-
-/// The outcomes of a run of three processes over so many ticks.
-fn outcomes_of<R: Abort>(rt: &R, alloc: Global, horizon: u32, rows: &str) -> Vec<Outcome> {
-    let scenario = scenario_of(rt, alloc, 3, horizon, "");
-    let trace = trace_of(rt, alloc, rows);
-    decisions(alloc, &scenario, &trace).expect(rt, "no memory")
-}
-
-/// The process with this number has this outcome, which stands behind those of the processes before it.
-fn is_outcome<R: Abort>(
-    rt: &R,
-    outcomes: &[Outcome],
-    number: u16,
-    wanted: (Answer, Option<u32>, u64),
-) {
-    let wanted = outcome(rt, number, wanted);
-    let place = usize::from(number.saturating_sub(1));
-    same(rt, &outcomes.get(place).copied(), &Some(wanted));
-}
+use judges::{Answer, decisions};
 
 const COORDINATOR: &str = "0,1,1,0,start,3,0,round:1
 0,2,2,0,start,3,0,round:1
@@ -61,20 +40,34 @@ const COORDINATOR: &str = "0,1,1,0,start,3,0,round:1
 10,3,1,3,decide,0,0,
 ";
 
-#[test]
-fn coordinator(rt: HostRuntime) {
-    let outcomes = outcomes_of(&rt, rt.alloc(), 20, COORDINATOR);
-    same(&rt, &outcomes.len(), &3);
-    for (number, tick) in [(1, 8), (2, 7), (3, 8)] {
-        is_outcome(&rt, &outcomes, number, (Answer::Value(10), Some(tick), 2));
-    }
-}
+/// Process 2 ends with no value, and the others note nothing.
+const NO_VALUE: &str = "1,2,2,3,vector,2,0,round:2
+3,2,1,3,last,0,0,novalue
+";
 
-/// Process 2 ends with no value, and process 3 notes nothing.
+/// The outcomes of runs of three processes.
 #[test]
-fn no_value(rt: HostRuntime) {
-    let rows = "1,2,2,3,vector,2,0,round:2\n3,2,1,3,last,0,0,novalue\n";
-    let outcomes = outcomes_of(&rt, rt.alloc(), 10, rows);
-    is_outcome(&rt, &outcomes, 2, (Answer::NoValue, Some(3), 2));
-    is_outcome(&rt, &outcomes, 3, (Answer::None, None, 0));
+fn outcomes(rt: HostRuntime) {
+    let alloc = rt.alloc();
+    let (ten, none) = (Answer::Value(10), (Answer::None, None, 0));
+    for (horizon, rows, first, second, third) in [
+        (
+            20,
+            COORDINATOR,
+            (ten, Some(8), 2),
+            (ten, Some(7), 2),
+            (ten, Some(8), 2),
+        ),
+        (10, NO_VALUE, none, (Answer::NoValue, Some(3), 2), none),
+    ] {
+        let scenario = scenario_of(&rt, alloc, 3, horizon, "");
+        let trace = trace_of(&rt, alloc, rows);
+        let outcomes = decisions(alloc, &scenario, &trace).expect(&rt, "no memory");
+        let wanted = [
+            outcome(&rt, 1, first),
+            outcome(&rt, 2, second),
+            outcome(&rt, 3, third),
+        ];
+        same(&rt, &outcomes.as_slice(), &wanted.as_slice());
+    }
 }

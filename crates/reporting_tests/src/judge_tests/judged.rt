@@ -1,94 +1,14 @@
 //! Verdicts.
 use crate::comparisons::same;
-use crate::findings::without_mistake;
 use crate::traces::{ONE_CRASH, SHARED, scenario_of, trace_of};
 use judges::{Verdicts, judge};
-use std::alloc::Global;
-use std::process::Abort;
 
-/// The verdicts as a report prints them, in its order.
-fn verdicts_of<R: Abort>(
-    rt: &R,
-    alloc: Global,
-    (processes, horizon): (u16, u32),
-    crashes: &str,
-    layer: u8,
-    rows: &str,
-) -> Verdicts {
-    let scenario = scenario_of(rt, alloc, processes, horizon, crashes);
-    let trace = trace_of(rt, alloc, rows);
-    let verdicts = if layer == 1 {
-        judge(alloc, &scenario, &trace, 1)
-    } else {
-        judge(alloc, &scenario, &trace, 2)
-    };
-    verdicts.expect(rt, "no memory")
-}
-
-/// From when on the detectors are complete: strongly, and weakly.
-fn are_complete<R: Abort>(rt: &R, verdicts: &Verdicts, strong: Option<u32>, weak: Option<u32>) {
-    let came = (verdicts.strong_completeness, verdicts.weak_completeness);
-    same(rt, &came, &(strong, weak));
-}
-
-/// Whether the detectors are accurate: strongly, and weakly.
-fn are_accurate<R: Abort>(rt: &R, verdicts: &Verdicts, strong: bool, weak: bool) {
-    let came = (verdicts.strong_accuracy, verdicts.weak_accuracy);
-    same(rt, &came, &(strong, weak));
-}
-
-/// From when on the detectors are accurate: strongly, and weakly.
-fn are_accurate_from<R: Abort>(
-    rt: &R,
-    verdicts: &Verdicts,
-    strong: Option<u32>,
-    weak: Option<u32>,
-) {
-    let came = (
-        verdicts.eventual_strong_accuracy,
-        verdicts.eventual_weak_accuracy,
-    );
-    same(rt, &came, &(strong, weak));
-}
-
-#[test]
-fn one_crash(rt: HostRuntime) {
-    let crash = "crash = [{ process = 2, at = 3 }]";
-    let verdicts = verdicts_of(&rt, rt.alloc(), (2, 10), crash, 1, ONE_CRASH);
-    same(&rt, &verdicts, &without_mistake(Some(9), Some(9)));
-}
-
-/// A process that crashes at the horizon is correct, and nobody is suspected.
-#[test]
-fn crash_at_horizon(rt: HostRuntime) {
-    let crash = "crash = [{ process = 2, at = 10 }]";
-    let rows = "0,1,1,0,start,1,0,\n";
-    let verdicts = verdicts_of(&rt, rt.alloc(), (2, 10), crash, 1, rows);
-    are_complete(&rt, &verdicts, Some(0), Some(0));
-}
-
-#[test]
-fn shared(rt: HostRuntime) {
-    let crash = "crash = [{ process = 2, at = 0 }]";
-    let base = verdicts_of(&rt, rt.alloc(), (3, 20), crash, 1, SHARED);
-    are_complete(&rt, &base, None, Some(6));
-    let reduced = verdicts_of(&rt, rt.alloc(), (3, 20), crash, 2, SHARED);
-    are_complete(&rt, &reduced, Some(10), Some(9));
-}
-
+/// One suspicion is taken back in its tick, and one lasts.
 const TAKEN_BACK: &str = "2,1,1,2,check,0,0,suspect:1:2
 2,1,2,1,alive,0,0,trust:1:2
 2,2,1,1,alive,0,0,
 4,2,2,3,check,0,0,suspect:1:1
 ";
-
-/// A suspicion that is taken back in its tick isn't counted, and one that lasts is.
-#[test]
-fn taken_back(rt: HostRuntime) {
-    let verdicts = verdicts_of(&rt, rt.alloc(), (2, 8), "", 1, TAKEN_BACK);
-    are_accurate(&rt, &verdicts, false, true);
-    are_accurate_from(&rt, &verdicts, None, Some(0));
-}
 
 const MISTAKEN: &str = "1,1,1,2,check,0,0,suspect:1:2
 1,2,2,2,check,0,0,suspect:1:1
@@ -98,35 +18,114 @@ const MISTAKEN: &str = "1,1,1,2,check,0,0,suspect:1:2
 4,2,2,7,check,0,0,suspect:1:1
 ";
 
-#[test]
-fn mistaken(rt: HostRuntime) {
-    let verdicts = verdicts_of(&rt, rt.alloc(), (2, 10), "", 1, MISTAKEN);
-    are_accurate(&rt, &verdicts, false, false);
-}
+/// From when on detectors are complete or accurate, strongly and weakly.
+type Ticks = (Option<u32>, Option<u32>);
 
-/// With crashed processes and no correct one, the other verdicts are what they are over nobody.
-#[test]
-fn nobody_correct(rt: HostRuntime) {
-    let crashes = "crash = [{ process = 1, at = 5 }, { process = 2, at = 3 }]";
-    let rows = "4,1,1,2,check,0,0,suspect:1:2\n";
-    let verdicts = verdicts_of(&rt, rt.alloc(), (2, 10), crashes, 1, rows);
-    let wanted = Verdicts {
-        strong_completeness: Some(0),
-        weak_completeness: None,
-        strong_accuracy: true,
-        weak_accuracy: false,
-        eventual_strong_accuracy: Some(0),
-        eventual_weak_accuracy: None,
-    };
-    same(&rt, &verdicts, &wanted);
-}
+/// A run, by its processes, its horizon and its crashes; the layer that is judged, and the entries; then from when on
+/// the detectors are complete, whether they are accurate, and from when on they are.
+type Case = (
+    (u16, u32, &'static str),
+    u8,
+    &'static str,
+    Ticks,
+    (bool, bool),
+    Ticks,
+);
 
-/// A process that crashes suspects a correct one before, which is a mistake, though no correct process makes one.
+/// A crash that is suspected at tick 9; a process that crashes at the horizon, which is correct; and one that is
+/// suspected by one observer alone, but for the reduction.
+///
+/// A suspicion that is taken back in its tick isn't counted, and one that lasts is; and both may be mistaken.
+///
+/// With crashed processes and no correct one, the other verdicts are what they are over nobody. A process that crashes
+/// suspects a correct one before, which is a mistake, though no correct process makes one.
+const CASES: [Case; 8] = [
+    (
+        (2, 10, "crash = [{ process = 2, at = 3 }]"),
+        1,
+        ONE_CRASH,
+        (Some(9), Some(9)),
+        (true, true),
+        (Some(0), Some(0)),
+    ),
+    (
+        (2, 10, "crash = [{ process = 2, at = 10 }]"),
+        1,
+        "0,1,1,0,start,1,0,\n",
+        (Some(0), Some(0)),
+        (true, true),
+        (Some(0), Some(0)),
+    ),
+    (
+        (3, 20, "crash = [{ process = 2, at = 0 }]"),
+        1,
+        SHARED,
+        (None, Some(6)),
+        (true, true),
+        (Some(0), Some(0)),
+    ),
+    (
+        (3, 20, "crash = [{ process = 2, at = 0 }]"),
+        2,
+        SHARED,
+        (Some(10), Some(9)),
+        (true, true),
+        (Some(0), Some(0)),
+    ),
+    (
+        (2, 8, ""),
+        1,
+        TAKEN_BACK,
+        (Some(0), Some(0)),
+        (false, true),
+        (None, Some(0)),
+    ),
+    (
+        (2, 10, ""),
+        1,
+        MISTAKEN,
+        (Some(0), Some(0)),
+        (false, false),
+        (None, None),
+    ),
+    (
+        (
+            2,
+            10,
+            "crash = [{ process = 1, at = 5 }, { process = 2, at = 3 }]",
+        ),
+        1,
+        "4,1,1,2,check,0,0,suspect:1:2\n",
+        (Some(0), None),
+        (true, false),
+        (Some(0), None),
+    ),
+    (
+        (2, 10, "crash = [{ process = 2, at = 3 }]"),
+        1,
+        "2,2,2,2,check,0,0,suspect:1:1\n",
+        (None, None),
+        (false, false),
+        (Some(0), Some(0)),
+    ),
+];
+
 #[test]
-fn mistaken_before_its_crash(rt: HostRuntime) {
-    let crash = "crash = [{ process = 2, at = 3 }]";
-    let rows = "2,2,2,2,check,0,0,suspect:1:1\n";
-    let verdicts = verdicts_of(&rt, rt.alloc(), (2, 10), crash, 1, rows);
-    are_accurate(&rt, &verdicts, false, false);
-    are_accurate_from(&rt, &verdicts, Some(0), Some(0));
+fn verdicts(rt: HostRuntime) {
+    let alloc = rt.alloc();
+    for ((processes, horizon, crashes), layer, rows, complete, accurate, accurate_from) in &CASES {
+        let scenario = scenario_of(&rt, alloc, *processes, *horizon, crashes);
+        let trace = trace_of(&rt, alloc, rows);
+        let layer = if *layer == 1 { 1 } else { 2 };
+        let verdicts = judge(alloc, &scenario, &trace, layer).expect(&rt, "no memory");
+        let wanted = Verdicts {
+            strong_completeness: complete.0,
+            weak_completeness: complete.1,
+            strong_accuracy: accurate.0,
+            weak_accuracy: accurate.1,
+            eventual_strong_accuracy: accurate_from.0,
+            eventual_weak_accuracy: accurate_from.1,
+        };
+        same(&rt, &verdicts, &wanted);
+    }
 }

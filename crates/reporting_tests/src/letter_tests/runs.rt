@@ -1,24 +1,30 @@
 //! The letters of worked runs.
-use super::{is_text, letters_of, text_of, trace_of, two_processes};
-use crate::comparisons::same;
+use super::is_text;
+use crate::boxed::all_machines;
 use crate::traces::pid;
-use event_list::RunError;
-use letters::{Letter, LetterFate};
+use event_list::{RunError, run_list};
+use letters::{Letter, LetterFate, letters, letters_text};
 use process_api::{Entry, Kind};
-use scenario::read_scenario;
+use scenario::{Scenario, read_scenario};
 use std::alloc::{AllocError, Global};
-use std::process::Abort;
 use std::test::Fail;
 
-/// Letters take 2 ticks.
-const SURE: &str = "[link]\nmin = 2\nmax = 2\n";
+/// Two processes over 10 ticks, which send each other a letter at ticks 0, 4 and 8.
+const TWO: &str = "version = 1
+processes = 2
+horizon = 10
+lookahead = 2
+seed = 1
+algorithm = \"none\"
+[detector]
+period = 4
+check = 3
+timeout = 5
+";
 
-/// Every letter is lost.
-const LOSSY: &str = "[link]\nmin = 2\nmax = 2\nloss = 1000\n";
-
-/// The letters of process 1 at ticks 0, 4 and 8 are due at ticks 2, 6 and 10. Process 2 crashes at tick 3, so it sends
+/// The letters of process 1 at ticks 0, 4 and 8 are due at ticks 2, 6 and 10. Process 2 crashes at tick 4, so it sends
 /// the one at tick 0 alone.
-const CRASH_AT_3: &str = "sent,sender,receiver,number,kind,due,fate
+const CRASH_AT_4: &str = "sent,sender,receiver,number,kind,due,fate
 0,1,2,1,alive,2,taken
 0,2,1,1,alive,2,taken
 4,1,2,2,alive,6,dead
@@ -60,55 +66,6 @@ const ALL_LOST: &str = "sent,sender,receiver,number,kind,due,fate
 8,1,2,3,alive,,lost
 ";
 
-/// The letters of a run of two processes with these tables are told by this text.
-fn are_told<R: Abort>(rt: &R, alloc: Global, tables: &str, wanted: &str) -> Result<(), Fail> {
-    let scenario = two_processes(alloc, tables)?;
-    is_text(rt, &text_of(alloc, &scenario)?, wanted)
-}
-
-/// These tables, and a crash of process 2.
-fn crash_at(alloc: Global, links: &str, tick: u32) -> Result<String, AllocError> {
-    format!(in alloc; "{links}[[crash]]\nprocess = 2\nat = {tick}\n")
-}
-
-#[test]
-fn crashes(rt: HostRuntime) -> Result<(), Fail> {
-    let alloc = rt.alloc();
-    for (tick, wanted) in [
-        (2, CRASH_AT_2),
-        (3, CRASH_AT_3),
-        (4, CRASH_AT_3),
-        (5, CRASH_AT_5),
-    ] {
-        are_told(&rt, alloc, &crash_at(alloc, SURE, tick)?, wanted)?;
-    }
-    are_told(&rt, alloc, SURE, NO_CRASH)
-}
-
-#[test]
-fn all_lost(rt: HostRuntime) -> Result<(), Fail> {
-    let alloc = rt.alloc();
-    are_told(&rt, alloc, &crash_at(alloc, LOSSY, 3)?, ALL_LOST)
-}
-
-/// The last of the letters in `ALL_LOST`.
-#[test]
-fn last_lost(rt: HostRuntime) -> Result<(), Fail> {
-    let alloc = rt.alloc();
-    let scenario = two_processes(alloc, &crash_at(alloc, LOSSY, 3)?)?;
-    let last = Letter {
-        sent: 8,
-        sender: pid(&rt, 1),
-        receiver: pid(&rt, 2),
-        number: 3,
-        kind: Kind::Alive,
-        due: None,
-        fate: LetterFate::Lost,
-    };
-    assert!(rt; letters_of(alloc, &scenario)?.last() == Some(&last));
-    Ok(())
-}
-
 /// Three processes that run the rotating coordinator, up to tick 5.
 const COORDINATORS: &str = "version = 1
 processes = 3
@@ -145,32 +102,77 @@ const ROUND_1: &str = "sent,sender,receiver,number,kind,due,fate
 4,3,2,3,reply,6,late
 ";
 
-#[test]
-fn own_letters_left_out(rt: HostRuntime) -> Result<(), Fail> {
-    let alloc = rt.alloc();
-    let scenario = read_scenario(alloc, COORDINATORS.as_bytes())?;
-    is_text(&rt, &text_of(alloc, &scenario)?, ROUND_1)
+/// Tables by which letters take 2 ticks, or all are lost, and process 2 crashes at tick 3.
+const SURE_CRASH_AT_3: &str = "[link]\nmin = 2\nmax = 2\n[[crash]]\nprocess = 2\nat = 3\n";
+
+const LOSSY_CRASH_AT_3: &str =
+    "[link]\nmin = 2\nmax = 2\nloss = 1000\n[[crash]]\nprocess = 2\nat = 3\n";
+
+/// A scenario by its file's head and tables, and the letters of its run.
+const RUNS: [(&str, &str, &str); 6] = [
+    (
+        TWO,
+        "[link]\nmin = 2\nmax = 2\n[[crash]]\nprocess = 2\nat = 2\n",
+        CRASH_AT_2,
+    ),
+    (
+        TWO,
+        "[link]\nmin = 2\nmax = 2\n[[crash]]\nprocess = 2\nat = 4\n",
+        CRASH_AT_4,
+    ),
+    (
+        TWO,
+        "[link]\nmin = 2\nmax = 2\n[[crash]]\nprocess = 2\nat = 5\n",
+        CRASH_AT_5,
+    ),
+    (TWO, "[link]\nmin = 2\nmax = 2\n", NO_CRASH),
+    (TWO, LOSSY_CRASH_AT_3, ALL_LOST),
+    (COORDINATORS, "", ROUND_1),
+];
+
+/// The scenario of a file with this head and these tables.
+fn scenario_of(alloc: Global, head: &str, tables: &str) -> Result<Scenario, Fail> {
+    let text = format!(in alloc; "{head}{tables}")?;
+    Ok(read_scenario(alloc, text.as_bytes())?)
 }
 
-/// The run of `CRASH_AT_3` has 12 entries.
+/// The letters of a scenario's run.
+fn letters_of(alloc: Global, scenario: &Scenario) -> Result<Vec<Letter>, RunError> {
+    letters(alloc, scenario, all_machines(alloc, scenario)?)
+}
+
 #[test]
-fn limits(rt: HostRuntime) -> Result<(), Fail> {
+fn worked_runs(rt: HostRuntime) -> Result<(), Fail> {
     let alloc = rt.alloc();
-    for (limit, refusal) in [(11, Some(RunError::Limit)), (12, None)] {
-        let file = format!(in alloc;
-            "version = 1\nprocesses = 2\nhorizon = 10\nlookahead = 2\nseed = 1\nlimit = {limit}\nalgorithm = \"none\"
-[detector]\nperiod = 4\ncheck = 3\ntimeout = 5\n{SURE}[[crash]]\nprocess = 2\nat = 3\n"
-        )?;
-        let scenario = read_scenario(alloc, file.as_bytes())?;
-        same(&rt, &letters_of(alloc, &scenario).err(), &refusal);
+    for (head, tables, wanted) in &RUNS {
+        let letters = letters_of(alloc, &scenario_of(alloc, head, tables)?)?;
+        is_text(&rt, &letters_text(alloc, &letters)?, wanted)?;
     }
+    Ok(())
+}
+
+/// The last of the letters in `ALL_LOST`.
+#[test]
+fn last_lost(rt: HostRuntime) -> Result<(), Fail> {
+    let alloc = rt.alloc();
+    let scenario = scenario_of(alloc, TWO, LOSSY_CRASH_AT_3)?;
+    let last = Letter {
+        sent: 8,
+        sender: pid(&rt, 1),
+        receiver: pid(&rt, 2),
+        number: 3,
+        kind: Kind::Alive,
+        due: None,
+        fate: LetterFate::Lost,
+    };
+    assert!(rt; letters_of(alloc, &scenario)?.last() == Some(&last));
     Ok(())
 }
 
 /// What an entry and the letter that it takes have in common: tick, receiver, sender, number and kind.
 type Row = (u64, u16, u16, u64, Kind);
 
-/// In the run of `CRASH_AT_3`, what has an entry that another process caused.
+/// Where process 2 crashes at tick 3, what has an entry that another process caused.
 const CAUSED_BY_OTHERS: [Row; 3] = [
     (2, 1, 2, 1, Kind::Alive),
     (2, 2, 1, 1, Kind::Alive),
@@ -214,8 +216,8 @@ fn with_entries(alloc: Global, letters: &[Letter]) -> Result<Vec<Row>, AllocErro
 #[test]
 fn entries_of_letters(rt: HostRuntime) -> Result<(), Fail> {
     let alloc = rt.alloc();
-    let scenario = two_processes(alloc, &crash_at(alloc, SURE, 3)?)?;
-    let trace = trace_of(alloc, &scenario)?;
+    let scenario = scenario_of(alloc, TWO, SURE_CRASH_AT_3)?;
+    let trace = run_list(alloc, &scenario, all_machines(alloc, &scenario)?)?;
     let caused = caused_by_others(alloc, trace.entries())?;
     assert!(rt; caused.as_slice() == CAUSED_BY_OTHERS.as_slice());
     let come = with_entries(alloc, &letters_of(alloc, &scenario)?)?;

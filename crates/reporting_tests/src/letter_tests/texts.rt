@@ -43,34 +43,26 @@ fn have_lines<R: Abort>(
     is_text(rt, &letters_text(alloc, letters)?, &wanted)
 }
 
-#[test]
-fn header_alone(rt: HostRuntime) -> Result<(), Fail> {
-    have_lines(&rt, rt.alloc(), &[], "")
-}
-
-#[test]
-fn kinds(rt: HostRuntime) -> Result<(), Fail> {
-    let alloc = rt.alloc();
-    for (kind, name) in KINDS {
-        let lost = letter(kind, None, LetterFate::Lost)?;
-        let line = format!(in alloc; "4294967295,3,256,1000000000000,{name},,lost\n")?;
-        have_lines(&rt, alloc, &[lost], &line)?;
-    }
-    Ok(())
-}
-
-/// A row of each fate that `kinds` has not.
+/// A row of each fate but that of a lost letter.
 const FATES: &str = "4294967295,3,256,1000000000000,alive,0,taken
 4294967295,3,256,1000000000000,reply,5000000000,late
 4294967295,3,256,1000000000000,last,7,dead
 ";
 
+/// The header alone, a letter of each kind, and one of each fate.
 #[test]
-fn fates(rt: HostRuntime) -> Result<(), Fail> {
+fn texts(rt: HostRuntime) -> Result<(), Fail> {
+    let alloc = rt.alloc();
+    have_lines(&rt, alloc, &[], "")?;
+    for (kind, name) in KINDS {
+        let lost = letter(kind, None, LetterFate::Lost)?;
+        let line = format!(in alloc; "4294967295,3,256,1000000000000,{name},,lost\n")?;
+        have_lines(&rt, alloc, &[lost], &line)?;
+    }
     let rows = [
         letter(Kind::Alive, Some(0), LetterFate::Taken)?,
         letter(Kind::Reply, Some(5_000_000_000), LetterFate::Late)?,
         letter(Kind::Last, Some(7), LetterFate::Dead)?,
     ];
-    have_lines(&rt, rt.alloc(), &rows, FATES)
+    have_lines(&rt, alloc, &rows, FATES)
 }

@@ -22,12 +22,13 @@ fn have_begun(begun: &AtomicU64, count: u64) -> bool {
 #[test]
 fn ten_remainders(rt: HostRuntime) {
     let alloc = rt.alloc();
+    let remainder = |number: u64| number % 7;
     for threads in [0, 1, 2, 3, 4, 10, 255] {
-        let remainders = in_parallel(&rt, alloc, 5, 10, threads, &|number| number % 7);
+        let remainders = in_parallel(&rt, alloc, 5, 10, threads, &remainder);
         let remainders = remainders.expect(&rt, "no memory");
         let wanted = [5, 6, 0, 1, 2, 3, 4, 5, 6, 0];
         same(&rt, &remainders.as_slice(), &wanted.as_slice());
-        let none = in_parallel(&rt, alloc, 5, 0, threads, &|number| number % 7);
+        let none = in_parallel(&rt, alloc, 5, 0, threads, &remainder);
         same(&rt, &none.expect(&rt, "no memory").len(), &0);
     }
 }

@@ -25,7 +25,7 @@ pub fn is_text<R: Abort>(rt: &R, alloc: Global, bytes: &[u8], words: &str, rows:
 }
 
 /// The bytes are this text.
-fn is_same<R: Abort>(rt: &R, bytes: &[u8], wanted: &str) {
+pub fn is_same<R: Abort>(rt: &R, bytes: &[u8], wanted: &str) {
     let text = std::str::from_utf8(bytes).expect(rt, "no text");
     same(rt, &text, &wanted);
 }
@@ -61,16 +61,6 @@ pub fn one_crash<R: Abort>(
     }
 }
 
-/// What the run of a scenario gives, of which this is found.
-pub fn run_of<R: Abort>(
-    rt: &R,
-    alloc: Global,
-    scenario: &Scenario,
-    found: &RunFindings,
-) -> RunNumbers {
-    RunNumbers::of_run(alloc, scenario, found).expect(rt, "no memory")
-}
-
 /// What the run of one crash gives, with this detection.
 pub fn crash_run<R: Abort>(
     rt: &R,
@@ -79,7 +69,7 @@ pub fn crash_run<R: Abort>(
     detection: Detection,
 ) -> RunNumbers {
     let found = one_crash(rt, alloc, tick, detection);
-    run_of(rt, alloc, &crash_at_3(rt, alloc), &found)
+    RunNumbers::of_run(alloc, &crash_at_3(rt, alloc), &found).expect(rt, "no memory")
 }
 
 /// A varied time-out, with one value.
@@ -97,7 +87,12 @@ pub fn timeout<R: Abort>(rt: &R, alloc: Global, value: Setting) -> Axis {
 }
 
 /// The text of the rows of a point with these settings and sums.
-fn rows_of<R: Abort>(rt: &R, alloc: Global, settings: &[Choice<'_>], sums: &PointSums) -> Vec<u8> {
+pub fn rows_of<R: Abort>(
+    rt: &R,
+    alloc: Global,
+    settings: &[Choice<'_>],
+    sums: &PointSums,
+) -> Vec<u8> {
     let mut table = Table::new(alloc);
     table
         .push_point(alloc, settings, sums)
@@ -123,9 +118,4 @@ pub fn are_rows<R: Abort>(
         value: axis.values.first().expect(rt, "an axis has no values"),
     }];
     is_same(rt, &rows_of(rt, alloc, &settings, &sums), wanted);
-}
-
-/// The rows of a point without settings and without runs are these.
-pub fn are_empty_rows<R: Abort>(rt: &R, alloc: Global, wanted: &str) {
-    is_same(rt, &rows_of(rt, alloc, &[], &PointSums::new(alloc)), wanted);
 }

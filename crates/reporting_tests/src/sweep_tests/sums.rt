@@ -1,7 +1,5 @@
 //! The rows of points whose runs are worked by hand.
-use super::rows::{
-    are_empty_rows, are_rows, crash_at_3, crash_run, is_text, one_crash, run_of, timeout,
-};
+use super::rows::{are_rows, crash_at_3, crash_run, is_same, is_text, one_crash, rows_of, timeout};
 use crate::findings::{outcome, quiet, without_mistake};
 use crate::traces::scenario_of;
 use judges::Answer;
@@ -9,11 +7,13 @@ use reporting::{Detection, PairMeasures, RunFindings};
 use std::alloc::Global;
 use std::process::Abort;
 use study::Setting;
-use sweep::{RunNumbers, Table};
+use sweep::{PointSums, RunNumbers, Table};
 
-/// One run, whose crash is detected after 6 ticks: each pair is watched for the 3 ticks before the crash.
+/// One run, whose crash is detected after 6 ticks: each pair is watched for the 3 ticks before the crash. Four runs,
+/// with detections after 6 and 4 ticks, none, and a run that passed its limit, which is counted alone. And that run
+/// alone.
 #[test]
-fn one_run(rt: HostRuntime) {
+fn one_crash_runs(rt: HostRuntime) {
     let alloc = rt.alloc();
     are_rows(
         &rt,
@@ -22,12 +22,6 @@ fn one_run(rt: HostRuntime) {
         Setting::Integer(5),
         "5,1,1,0,12,4,0,6,0,0,0,0,0,0,0,0,1,0,6,6,6,6,6,1,1,1,1,1,1,0,0,,,0\n",
     );
-}
-
-/// Four runs: detections after 6 and 4 ticks, none, and a run that passed its limit, which is counted alone.
-#[test]
-fn four_runs(rt: HostRuntime) {
-    let alloc = rt.alloc();
     let scenario = crash_at_3(&rt, alloc);
     let runs = [
         crash_run(&rt, alloc, Some(9), Detection::At(6)),
@@ -85,8 +79,9 @@ fn shared<R: Abort>(rt: &R, alloc: Global) -> RunFindings {
 fn two_layers(rt: HostRuntime) {
     let alloc = rt.alloc();
     let with = scenario_of(&rt, alloc, 2, 10, SHARED);
+    let shared = RunNumbers::of_run(alloc, &with, &shared(&rt, alloc));
     let runs = [
-        run_of(&rt, alloc, &with, &shared(&rt, alloc)),
+        shared.expect(&rt, "no memory"),
         crash_run(&rt, alloc, Some(7), Detection::At(4)),
     ];
     are_rows(
@@ -107,34 +102,24 @@ fn two_layers(rt: HostRuntime) {
     );
 }
 
-/// What the run of one crash gives where the two processes have these outcomes.
-fn deciding<R: Abort>(
-    rt: &R,
-    alloc: Global,
-    first: (Answer, Option<u32>, u64),
-    second: (Answer, Option<u32>, u64),
-) -> RunNumbers {
-    let mut found = one_crash(rt, alloc, Some(9), Detection::At(6));
-    let outcomes = [outcome(rt, 1, first), outcome(rt, 2, second)];
-    found.summary.outcomes = Vec::from_array(alloc, outcomes).expect(rt, "no memory");
-    run_of(rt, alloc, &crash_at_3(rt, alloc), &found)
-}
-
 /// Three runs: both processes decide 7, they decide 7 and 8, and one decides while the other ends with no value.
 #[test]
 fn decisions(rt: HostRuntime) {
     let alloc = rt.alloc();
+    let scenario = crash_at_3(&rt, alloc);
     let (seven, eight) = (Answer::Value(7), Answer::Value(8));
-    let runs = [
-        deciding(&rt, alloc, (seven, Some(4), 1), (seven, Some(6), 2)),
-        deciding(&rt, alloc, (seven, Some(5), 1), (eight, Some(3), 1)),
-        deciding(
-            &rt,
-            alloc,
-            (Answer::NoValue, Some(9), 5),
-            (eight, Some(2), 1),
-        ),
-    ];
+    let mut runs = Vec::new(alloc);
+    for (first, second) in [
+        ((seven, Some(4), 1), (seven, Some(6), 2)),
+        ((seven, Some(5), 1), (eight, Some(3), 1)),
+        ((Answer::NoValue, Some(9), 5), (eight, Some(2), 1)),
+    ] {
+        let mut found = one_crash(&rt, alloc, Some(9), Detection::At(6));
+        let outcomes = [outcome(&rt, 1, first), outcome(&rt, 2, second)];
+        found.summary.outcomes = Vec::from_array(alloc, outcomes).expect(&rt, "no memory");
+        let run = RunNumbers::of_run(alloc, &scenario, &found).expect(&rt, "no memory");
+        runs.push(run).expect(&rt, "no memory");
+    }
     are_rows(
         &rt,
         alloc,
@@ -144,19 +129,15 @@ fn decisions(rt: HostRuntime) {
     );
 }
 
-/// The text of a table's first line.
-fn header<R: Abort>(rt: &R, alloc: Global) -> Vec<u8> {
-    let mut table = Table::new(alloc);
-    let varied = [timeout(rt, alloc, Setting::Integer(5))];
-    table.push_header(alloc, &varied).expect(rt, "no memory");
-    table.into_text().expect(rt, "no memory")
-}
-
-/// The first line, and a setting with a comma and a quote.
+/// The first line, a setting with a comma and a quote, and the rows of a point without settings and without runs.
 #[test]
 fn lines(rt: HostRuntime) {
     let alloc = rt.alloc();
-    is_text(&rt, alloc, &header(&rt, alloc), "detector.timeout,", "");
+    let mut table = Table::new(alloc);
+    let varied = [timeout(&rt, alloc, Setting::Integer(5))];
+    table.push_header(alloc, &varied).expect(&rt, "no memory");
+    let header = table.into_text().expect(&rt, "no memory");
+    is_text(&rt, alloc, &header, "detector.timeout,", "");
     let odd = String::from_str(alloc, "a, \"b\"").expect(&rt, "no memory");
     are_rows(
         &rt,
@@ -165,9 +146,9 @@ fn lines(rt: HostRuntime) {
         Setting::Text(odd),
         "\"a, \"\"b\"\"\",1,0,0,0,0,0,0,0,0,0,0,0,0,0,0,0,0,0,,,,,0,0,0,0,0,0,0,0,,,0\n",
     );
-    are_empty_rows(
+    is_same(
         &rt,
-        alloc,
+        &rows_of(&rt, alloc, &[], &PointSums::new(alloc)),
         "1,0,0,0,0,0,0,0,0,0,0,0,0,0,0,0,0,0,,,,,0,0,0,0,0,0,0,0,,,0\n",
     );
 }

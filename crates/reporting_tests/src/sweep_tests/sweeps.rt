@@ -13,6 +13,9 @@ use sweep::{SweepError, Unwatched, sweep};
 
 /// The crash at tick 3 is detected at tick 9 with a time-out of 5. With one of 8 it would be detected at tick 12, and
 /// the run ends before.
+///
+/// With the crash at tick 3 a run has 12 entries, with the crash at 5 it has 15: of these two the second passes a limit
+/// of 12, and is counted alone.
 #[test]
 fn rows_by_hand(rt: HostRuntime) {
     let alloc = rt.alloc();
@@ -25,21 +28,26 @@ fn rows_by_hand(rt: HostRuntime) {
         "5,1,1,0,12,4,0,6,0,0,0,0,0,0,0,0,1,0,6,6,6,6,6,1,1,1,1,1,1,0,0,,,0\n\
          8,1,1,0,12,4,0,6,0,0,0,0,0,0,0,0,0,1,0,,,,,0,0,1,1,1,1,0,0,,,0\n",
     );
+    let both = study_of(&rt, alloc, &["limit=12"], &["crash[1].at=3,5"], 1);
+    let text = swept(&rt, alloc, &both, 2);
+    is_text(
+        &rt,
+        alloc,
+        text.bytes(),
+        "limit,",
+        "12,1,2,1,12,4,0,6,0,0,0,0,0,0,0,0,1,0,6,6,6,6,6,1,1,1,1,1,1,0,0,,,0\n",
+    );
 }
 
-/// How many lines a text has, with what stands behind its last line break.
-fn count_lines<R: Abort>(rt: &R, text: &[u8]) -> usize {
-    let text = std::str::from_utf8(text).expect(rt, "no text");
-    text.split('\n').count()
-}
-
-/// Seven points by one thread, by two and by four: the same bytes. More runs than one batch has are due each time.
+/// Seven points by one thread, by two and by four: the same bytes, in nine lines with what stands behind the last line
+/// break. More runs than one batch has are due each time.
 #[test]
 fn threads_change_nothing(rt: HostRuntime) {
     let alloc = rt.alloc();
     let seven = seven_points(&rt, alloc);
     let alone = swept(&rt, alloc, &seven, 1);
-    same(&rt, &count_lines(&rt, alone.bytes()), &9);
+    let text = std::str::from_utf8(alone.bytes()).expect(&rt, "no text");
+    same(&rt, &text.split('\n').count(), &9);
     for threads in [0, 2, 4] {
         let text = swept(&rt, alloc, &seven, threads);
         assert!(rt; text.bytes() == alone.bytes(), "{threads}");
@@ -54,57 +62,28 @@ fn number_at<R: Abort>(rt: &R, text: &[u8], row: usize, column: usize) -> u64 {
     word.parse::<u64>().expect(rt, "no number")
 }
 
-/// With the crash at tick 3 a run has 12 entries, with the crash at 5 it has 15: of these two the second passes a limit
-/// of 12, and is counted alone.
-#[test]
-fn one_passes_the_limit(rt: HostRuntime) {
-    let alloc = rt.alloc();
-    let both = study_of(&rt, alloc, &["limit=12"], &["crash[1].at=3,5"], 1);
-    let text = swept(&rt, alloc, &both, 2);
-    is_text(
-        &rt,
-        alloc,
-        text.bytes(),
-        "limit,",
-        "12,1,2,1,12,4,0,6,0,0,0,0,0,0,0,0,1,0,6,6,6,6,6,1,1,1,1,1,1,0,0,,,0\n",
-    );
-}
-
-/// What a row says of its runs.
-#[derive(Clone, Copy)]
-struct Counts {
-    runs: u64,
-    limited: u64,
-    entries: u64,
-    sent: u64,
-}
-
-/// What this row says, from 0, which is the header.
-fn counts_at<R: Abort>(rt: &R, text: &[u8], row: usize) -> Counts {
-    Counts {
-        runs: number_at(rt, text, row, 2),
-        limited: number_at(rt, text, row, 3),
-        entries: number_at(rt, text, row, 4),
-        sent: number_at(rt, text, row, 5),
-    }
-}
-
 /// Of 40 seeds some lose none of the three letters that arrive in time. Their runs have 12 entries, and pass a limit of
-/// 11, which no other does. Each run sends 4 letters.
+/// 11, which no other does. Each run sends 4 letters. The columns from 2 on are runs, limited ones, entries and
+/// letters.
 #[test]
 fn some_seeds_pass_the_limit(rt: HostRuntime) {
     let alloc = rt.alloc();
     let lossy = study_of(&rt, alloc, &["limit=11,12"], &["link.loss=500"], 40);
     let text = swept(&rt, alloc, &lossy, 4);
-    let short = counts_at(&rt, text.bytes(), 1);
-    let all = counts_at(&rt, text.bytes(), 2);
-    same(&rt, &(short.runs, all.runs, all.limited), &(40, 40, 0));
-    assert!(rt; 0 < short.limited && short.limited < 40);
-    let limited = u128::from(short.limited);
-    let entries = u128::from(short.entries) + 12 * limited;
-    same(&rt, &entries, &u128::from(all.entries));
-    same(&rt, &(u128::from(short.sent) + 4 * limited), &160);
-    same(&rt, &all.sent, &160);
+    for (row, column, wanted) in [(1, 2, 40), (2, 2, 40), (2, 3, 0), (2, 5, 160)] {
+        same(&rt, &number_at(&rt, text.bytes(), row, column), &wanted);
+    }
+    let limited = number_at(&rt, text.bytes(), 1, 3);
+    assert!(rt; 0 < limited && limited < 40);
+    let limited = u128::from(limited);
+    let entries = u128::from(number_at(&rt, text.bytes(), 1, 4)) + 12 * limited;
+    same(
+        &rt,
+        &entries,
+        &u128::from(number_at(&rt, text.bytes(), 2, 4)),
+    );
+    let sent = u128::from(number_at(&rt, text.bytes(), 1, 5)) + 4 * limited;
+    same(&rt, &sent, &160);
 }
 
 /// What a sweep answers, with what went out of it.
@@ -200,31 +179,19 @@ fn ends_well<R: Threads + Sync + Abort>(
     }
 }
 
-/// A sweep makes so many puts: it fails at each of them, and ends well where none fails.
-fn fails_at_each_put<R: Threads + Sync + Abort>(
-    rt: &R,
-    alloc: Global,
-    study: &Study,
-    most: usize,
-    puts: u64,
-    whole: &[u8],
-) {
-    for before in 0..puts {
-        let ended = ends_well(rt, alloc, study, (most, before), whole);
-        assert!(rt; !ended, "{before}");
-    }
-    assert!(rt; ends_well(rt, alloc, study, (most, puts), whole));
-}
-
-/// The header is one put, and so are the rows of each point; or each byte is one.
+/// A sweep fails at each of its puts, and ends well where none fails. The header is one put, and so are the rows of
+/// each point; or each byte is one.
 #[test]
 fn each_put_fails(rt: HostRuntime) {
     let alloc = rt.alloc();
-    let seven = seven_points(&rt, alloc);
-    let whole = swept(&rt, alloc, &seven, 1);
-    fails_at_each_put(&rt, alloc, &seven, usize::MAX, 8, whole.bytes());
-    let two = two_points(&rt, alloc);
-    let whole = swept(&rt, alloc, &two, 1);
-    let count = whole.bytes().len() as u64;
-    fails_at_each_put(&rt, alloc, &two, 1, count, whole.bytes());
+    let (seven, two) = (seven_points(&rt, alloc), two_points(&rt, alloc));
+    for (study, most, puts) in [(&seven, usize::MAX, Some(8)), (&two, 1, None)] {
+        let whole = swept(&rt, alloc, study, 1);
+        let puts = puts.unwrap_or(whole.bytes().len() as u64);
+        for before in 0..puts {
+            let ended = ends_well(&rt, alloc, study, (most, before), whole.bytes());
+            assert!(rt; !ended, "{before}");
+        }
+        assert!(rt; ends_well(&rt, alloc, study, (most, puts), whole.bytes()));
+    }
 }

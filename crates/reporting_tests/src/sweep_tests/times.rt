@@ -1,5 +1,5 @@
 //! Percentiles of the times after which crashes were detected.
-use super::rows::{crash_at_3, one_crash, run_of};
+use super::rows::{crash_at_3, one_crash};
 use crate::comparisons::same;
 use crate::findings::quiet;
 use reporting::Detection;
@@ -14,25 +14,7 @@ fn run_with<R: Abort>(rt: &R, alloc: Global, times: &[u32]) -> RunNumbers {
         let pair = quiet(rt, 1, 1, 2, Detection::At(*time));
         found.measures.push(pair).expect(rt, "no memory");
     }
-    run_of(rt, alloc, &crash_at_3(rt, alloc), &found)
-}
-
-/// What is told of these times, all of one run.
-fn times_of<R: Abort>(rt: &R, alloc: Global, times: &[u32]) -> DetectionTimes {
-    let mut sums = PointSums::new(alloc);
-    sums.add(&run_with(rt, alloc, times))
-        .expect(rt, "no memory");
-    sums.first().times
-}
-
-/// What is told of the times from 100 down to 1, each of a run of its own.
-fn times_of_hundred<R: Abort>(rt: &R, alloc: Global) -> DetectionTimes {
-    let mut sums = PointSums::new(alloc);
-    for time in 1..101 {
-        let run = run_with(rt, alloc, &[101 - time]);
-        sums.add(&run).expect(rt, "no memory");
-    }
-    sums.first().times
+    RunNumbers::of_run(alloc, &crash_at_3(rt, alloc), &found).expect(rt, "no memory")
 }
 
 /// So many times with this sum, the percentiles 50, 90 and 99, and the greatest.
@@ -53,26 +35,44 @@ fn are_times<R: Abort>(
     same(rt, &times, &wanted);
 }
 
-/// The textbook's five values, a hundred values, values that come often, and none.
+/// Times of one run, how many they are and their sum, and their percentiles 50, 90 and 99 and the greatest.
+type Case = (&'static [u32], (u128, u128), [Option<u64>; 4]);
+
+/// The textbook's five values, and values that come often.
+const CASES: [Case; 2] = [
+    (
+        &[40, 15, 50, 20, 35],
+        (5, 160),
+        [Some(35), Some(50), Some(50), Some(50)],
+    ),
+    (
+        &[7, 3, 3, 3, 3, 3, 3, 3, 3, 9],
+        (10, 40),
+        [Some(3), Some(7), Some(9), Some(9)],
+    ),
+];
+
+/// The times of one run; the times from 100 down to 1, each of a run of its own; and none.
 #[test]
 fn percentiles(rt: HostRuntime) {
     let alloc = rt.alloc();
-    let five = times_of(&rt, alloc, &[40, 15, 50, 20, 35]);
+    for (times, counts, wanted) in &CASES {
+        let mut sums = PointSums::new(alloc);
+        let run = run_with(&rt, alloc, times);
+        sums.add(&run).expect(&rt, "no memory");
+        are_times(&rt, sums.first().times, *counts, *wanted);
+    }
+    let mut hundred = PointSums::new(alloc);
+    for time in 1..101 {
+        let run = run_with(&rt, alloc, &[101 - time]);
+        hundred.add(&run).expect(&rt, "no memory");
+    }
     are_times(
         &rt,
-        five,
-        (5, 160),
-        [Some(35), Some(50), Some(50), Some(50)],
-    );
-    let hundred = times_of_hundred(&rt, alloc);
-    are_times(
-        &rt,
-        hundred,
+        hundred.first().times,
         (100, 5050),
         [Some(50), Some(90), Some(99), Some(100)],
     );
-    let often = times_of(&rt, alloc, &[7, 3, 3, 3, 3, 3, 3, 3, 3, 9]);
-    are_times(&rt, often, (10, 40), [Some(3), Some(7), Some(9), Some(9)]);
     let none = PointSums::new(alloc).first().times;
     are_times(&rt, none, (0, 0), [None; 4]);
 }

@@ -4,7 +4,6 @@ use crate::comparisons::same;
 use reporting::{FuseOutlet, MemoryOutlet};
 use std::alloc::Global;
 use std::marker::Sync;
-use std::process::Abort;
 use std::thread::Threads;
 use study::Shard;
 use sweep::{Standing, SweepError, Watcher, sweep};
@@ -81,35 +80,24 @@ fn heard_of<R: Threads + Sync>(
     }
 }
 
-/// What the watcher heard last is that all runs of so many points with 160 runs each are done.
-fn has_heard<R: Abort>(rt: &R, keeper: &Keeper, points: u64, done: u64) {
-    let last = Standing {
-        points,
-        runs: 160,
-        done,
-    };
-    same(rt, &keeper.last, &Some(last));
-    assert!(rt; keeper.all_rise && !keeper.shows);
-}
-
 /// Seven points with 160 runs each are 1,120 runs, of which 512 come in at a time: the watcher hears of 0, 512, 1,024
-/// and 1,120.
+/// and 1,120. The last of three shards has the points 4 to 6 of seven: of these alone is told, at 0 and at 480.
 #[test]
 fn hears_of_all_runs(rt: HostRuntime) {
     let alloc = rt.alloc();
     let seven = seven_points(&rt, alloc);
-    let keeper = heard_of(&rt, alloc, &seven, Shard::whole()).expect(&rt, "no sweep");
-    has_heard(&rt, &keeper, 7, 1_120);
-    same(&rt, &keeper.count, &4);
-}
-
-/// The last of three shards has the points 4 to 6 of seven: of these alone is told.
-#[test]
-fn shard_counts_its_own(rt: HostRuntime) {
-    let alloc = rt.alloc();
-    let seven = seven_points(&rt, alloc);
-    let keeper = heard_of(&rt, alloc, &seven, shard(&rt, 3, 3)).expect(&rt, "no sweep");
-    has_heard(&rt, &keeper, 3, 480);
+    for (number, of, points, done, count) in [(1, 1, 7, 1_120, 4), (3, 3, 3, 480, 2)] {
+        let shard = shard(&rt, number, of);
+        let keeper = heard_of(&rt, alloc, &seven, shard).expect(&rt, "no sweep");
+        let last = Standing {
+            points,
+            runs: 160,
+            done,
+        };
+        same(&rt, &keeper.last, &Some(last));
+        same(&rt, &keeper.count, &count);
+        assert!(rt; keeper.all_rise && !keeper.shows);
+    }
 }
 
 /// Of a study with a refused run nothing is heard. Where the third put fails, after the header and the first row, the
