@@ -2,7 +2,7 @@
 ghost use Rattle.std.specs.Prelude.{◌≡◌, ◌≤◌};
 ghost use Rattle.process_api.specs.Bounds.{most_processes};
 
-use process_api::Pid;
+use process_api::{Key, Pid};
 use std::fmt::Debug;
 use std::process::Abort;
 
@@ -21,4 +21,16 @@ pub fn pid(number: u16) -> Pid
     ensures { result ≡ number }
 {
     Pid::after(number - 1)
+}
+
+/// The key of an event of a process's own.
+pub fn own_key(tick: u32, pid: Pid, number: u64) -> Key
+    ensures { result ≡ record { tick = tick; receiver = pid; sender = pid; number = number } }
+{
+    Key {
+        tick,
+        receiver: pid,
+        sender: pid,
+        number,
+    }
 }

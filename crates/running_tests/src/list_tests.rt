@@ -1,55 +1,34 @@
 //! The set of pending events, once with ample memory.
-ghost use Rattle.std.specs.Prelude.{◌≤◌};
-ghost use Rattle.process_api.specs.Bounds.{most_processes};
-
-use crate::common::{NO_MEMORY, pid, same};
+use crate::common::{NO_MEMORY, own_key, pid, same};
 use event_list::Pending;
-use process_api::{Key, StepInput, Tag};
+use process_api::{StepInput, Tag};
 use std::process::Abort;
 use std::test::Fail;
 
-/// An event's key, on the link from a process to itself.
-fn key_of(tick: u32, process: u16, number: u64) -> Key
-    requires low { 1 ≤ process }
-    requires high { process ≤ most_processes }
-{
-    let own = pid(process);
-    Key {
-        tick,
-        receiver: own,
-        sender: own,
-        number,
-    }
-}
+/// Why a test stops where it wanted one event more.
+const TOO_FEW: &str = "too few events";
 
-/// Takes the least event. Answers its tick, its receiver, its number and the input.
-fn take<R: Abort>(rt: &R, pending: &mut Pending) -> (u32, u16, u64, StepInput) {
-    let taken = pending.take_least().expect(rt, NO_MEMORY);
-    let (key, input) = taken.expect(rt, "too few events");
-    (key.tick, key.receiver.number(), key.number, input)
+/// Takes the least event, if there is one. Answers its tick, its receiver, its number and the input.
+fn take<R: Abort>(rt: &R, pending: &mut Pending) -> Option<(u32, u16, u64, StepInput)> {
+    let (key, input) = pending.take_least().expect(rt, NO_MEMORY)?;
+    Some((key.tick, key.receiver.number(), key.number, input))
 }
 
 /// The least events are those of these ticks, receivers and numbers, and are taken.
 fn are_taken<R: Abort>(rt: &R, pending: &mut Pending, wanted: &[(u32, u16, u64)]) {
     for wanted in wanted {
-        let (tick, receiver, number, _) = take(rt, pending);
+        let (tick, receiver, number, _) = take(rt, pending).expect(rt, TOO_FEW);
         same(rt, &(tick, receiver, number), wanted);
     }
-}
-
-/// No event is pending.
-fn is_empty<R: Abort>(rt: &R, pending: &mut Pending) {
-    let taken = pending.take_least().expect(rt, NO_MEMORY);
-    assert!(rt; taken.is_none());
 }
 
 #[test]
 fn takes_least_first(rt: HostRuntime) -> Result<(), Fail> {
     let mut pending = Pending::new(rt.alloc());
-    pending.join(key_of(3, 1, 2), StepInput::Wake(Tag::Check))?;
+    pending.join(own_key(3, pid(1), 2), StepInput::Wake(Tag::Check))?;
     let mut added = vec![in rt.alloc();
-        (key_of(0, 2, 0), StepInput::Start),
-        (key_of(0, 1, 0), StepInput::Start),
+        (own_key(0, pid(2), 0), StepInput::Start),
+        (own_key(0, pid(1), 0), StepInput::Start),
     ]?;
     pending.join_all(&mut added)?;
     same(&rt, &pending.least_tick(), &Some(0));
@@ -67,23 +46,23 @@ fn takes_many_in_order(rt: HostRuntime) -> Result<(), Fail> {
     for place in 0..30u64 {
         // receivers in turn, with numbers that don't rise
         let receiver = place as u16 % 5 + 1;
-        let key = key_of(7, receiver, place * 7 % 30);
+        let key = own_key(7, pid(receiver), place * 7 % 30);
         pending.join(key, StepInput::Wake(Tag::Beat))?;
     }
     let mut last = (0u16, 0u64);
     for _place in 0..30 {
-        let (_, receiver, number, _) = take(&rt, &mut pending);
+        let (_, receiver, number, _) = take(&rt, &mut pending).expect(&rt, TOO_FEW);
         assert!(rt; last < (receiver, number));
         last = (receiver, number);
     }
-    is_empty(&rt, &mut pending);
+    assert!(rt; take(&rt, &mut pending).is_none());
     Ok(())
 }
 
 /// Events of process 1 with these ticks and numbers join.
 fn join_all<R: Abort>(rt: &R, pending: &mut Pending, events: &[(u32, u64)], tag: Tag) {
     for (tick, number) in events {
-        let key = key_of(*tick, 1, *number);
+        let key = own_key(*tick, pid(1), *number);
         let joined = pending.join(key, StepInput::Wake(tag));
         joined.expect(rt, NO_MEMORY);
     }
@@ -103,11 +82,11 @@ fn takes_ticks_in_order(rt: HostRuntime) -> Result<(), Fail> {
     are_taken(&rt, &mut pending, &[(3, 1, 0), (6, 1, 0), (1028, 1, 0)]);
     // 1029 has events in the map, and a third comes to the ring; of the two with one key the later counts
     join_all(&rt, &mut pending, &[(1029, 0)], Tag::Check);
-    let (tick, _, number, input) = take(&rt, &mut pending);
+    let (tick, _, number, input) = take(&rt, &mut pending).expect(&rt, TOO_FEW);
     same(&rt, &(tick, number), &(1029, 0));
     assert!(rt; matches!(input, StepInput::Wake(Tag::Check)));
     let last = [(1029, 1, 1), (2053, 1, 0), (5125, 1, 0), (u32::MAX, 1, 0)];
     are_taken(&rt, &mut pending, &last);
-    is_empty(&rt, &mut pending);
+    assert!(rt; take(&rt, &mut pending).is_none());
     Ok(())
 }

@@ -58,8 +58,9 @@ fn have_numbers<R: Abort>(rt: &R, alloc: Global, lists: &[Vec<Letter>], wanted: 
     }
 }
 
+/// The letters of two slips come to their receivers, and one that is posted twice comes twice.
 #[test]
-fn three_letters_of_two_slips(rt: HostRuntime) -> Result<(), Fail> {
+fn letters_of_slips(rt: HostRuntime) -> Result<(), Fail> {
     let alloc = rt.alloc();
     let mut mailboxes = Mailboxes::new(alloc, 3)?;
     let mut first = mailboxes.slip(alloc)?;
@@ -69,12 +70,6 @@ fn three_letters_of_two_slips(rt: HostRuntime) -> Result<(), Fail> {
     post(&rt, &mailboxes, &mut second, 2, 3);
     let lists = mailboxes.collect(&rt, alloc, vec![in alloc; first, second]?)?;
     have_numbers(&rt, alloc, &lists, &[&[], &[1, 3], &[2]]);
-    Ok(())
-}
-
-#[test]
-fn a_letter_posted_twice_comes_twice(rt: HostRuntime) -> Result<(), Fail> {
-    let alloc = rt.alloc();
     let mut mailboxes = Mailboxes::new(alloc, 3)?;
     let mut slip = mailboxes.slip(alloc)?;
     post(&rt, &mailboxes, &mut slip, 2, 1);
@@ -126,7 +121,9 @@ fn no_slip_no_letter(rt: HostRuntime) -> Result<(), Fail> {
     for n in [0, 1, 256] {
         let lists = Mailboxes::new(alloc, n)?.collect(&rt, alloc, Vec::new(alloc))?;
         same(&rt, &lists.len(), &usize::from(n));
-        assert!(rt; lists.iter().all(|list| list.is_empty()));
+        for list in &lists {
+            assert!(rt; list.is_empty());
+        }
     }
     Ok(())
 }

@@ -3,23 +3,11 @@ ghost use Rattle.std.specs.Prelude.{◌≡◌, ◌≢◌, ◌∷◌, [], IfOk, I
 ghost use Rattle.process_api.specs.Order.{is_rising};
 ghost use Rattle.trace_merge.specs.Parts.{AreDisjoint};
 
-use crate::common::{pid, same};
-use process_api::{Entry, Key, Kind, Pid};
+use crate::common::{own_key, pid, same};
+use process_api::{Entry, Key, Kind};
 use std::alloc::Global;
 use std::test::Fail;
 use trace_merge::merge;
-
-/// The key of an event of a process's own.
-fn own_key(tick: u32, pid: Pid, number: u64) -> Key
-    ensures { result ≡ record { tick = tick; receiver = pid; sender = pid; number = number } }
-{
-    Key {
-        tick,
-        receiver: pid,
-        sender: pid,
-        number,
-    }
-}
 
 /// An entry with this key, which notes nothing.
 fn entry(alloc: Global, key: Key) -> Entry

@@ -1,21 +1,22 @@
 //! Words and fates with values from outside: they were computed by a program of its own, written apart from this one
 //! and checked with the block of RFC 8439, section 2.3.2, and the 8-round vectors of
 //! draft-strombergson-chacha-test-vectors.
+use crate::common::same;
 use process_api::Pid;
 use rand_chacha::ChaCha8Rng;
 use rand_core::{Rng, SeedableRng};
 use scenario::{Scenario, read_scenario};
 use std::alloc::Global;
-use std::process::Abort;
 use std::test::Fail;
 use streams::{Fate, LinkWords, Streams};
 
-const LINKS_OF_FIVE: &str = "[link]\nmin = 2\nmax = 9\nloss = 300\n";
+/// Links that lose three letters of ten.
+const LOSSY: &str = "[link]\nmin = 2\nmax = 9\nloss = 300\n";
 
-/// A scenario of so many processes with this seed and these links.
-fn scenario(alloc: Global, processes: u16, seed: u64, links: &str) -> Result<Scenario, Fail> {
+/// A scenario of five processes with this seed and these links.
+fn scenario(alloc: Global, seed: u64, links: &str) -> Result<Scenario, Fail> {
     let text = format!(in alloc;
-        "version = 2\nprocesses = {processes}\nhorizon = 200\nlookahead = 2\nseed = {seed}\nalgorithm = \"none\"\n\
+        "version = 2\nprocesses = 5\nhorizon = 200\nlookahead = 2\nseed = {seed}\nalgorithm = \"none\"\n\
          [detector]\nperiod = 5\ncheck = 3\ntimeout = 12\ngrow = 2\n{links}"
     )?;
     Ok(read_scenario(alloc, text.as_bytes())?)
@@ -42,18 +43,6 @@ fn delays(scenario: &Scenario, from: u16, to: u16) -> Result<[u32; 12], Fail> {
         }
     }
     Ok(delays)
-}
-
-/// Letters 1 to 12 of a link have these delays.
-fn delays_are<R: Abort>(
-    rt: &R,
-    scenario: &Scenario,
-    (from, to): (u16, u16),
-    wanted: [u32; 12],
-) -> Result<(), Fail> {
-    let came = delays(scenario, from, to)?;
-    assert_eq!(rt; came, wanted, "from {from} to {to}");
-    Ok(())
 }
 
 /// The places of the words in `WORDS`.
@@ -103,45 +92,75 @@ const WORDS: [(u64, u16, u16, [u32; 7]); 5] = [
     ),
 ];
 
-/// The words of a link's stream at `PLACES`.
-fn words_at(seed: u64, from: Pid, to: Pid) -> [u32; 7] {
-    let mut kept = LinkWords::new();
-    let mut words = [0u32; 7];
-    for index in 0..7usize {
-        let place = PLACES[index];
-        if place <= 1000 {
-            words[index] = kept.pair_at(seed, from, to, place).0;
-        }
-    }
-    words
-}
-
 #[test]
 fn words_of_five_streams(rt: HostRuntime) -> Result<(), Fail> {
     for (seed, from, to, words) in WORDS {
-        assert_eq!(rt;
-            words_at(seed, pid(from)?, pid(to)?),
-            words,
-            "seed {seed}, from {from} to {to}"
-        );
+        let (sender, receiver) = (pid(from)?, pid(to)?);
+        let mut kept = LinkWords::new();
+        let mut came = [0u32; 7];
+        for index in 0..7usize {
+            let place = PLACES[index];
+            if place <= 1000 {
+                came[index] = kept.pair_at(seed, sender, receiver, place).0;
+            }
+        }
+        same(&rt, &(seed, (from, to), came), &(seed, (from, to), words));
     }
     Ok(())
 }
 
+/// Lossy links, of which one loses nothing.
+const ONE_SAFE: &str = "[link]\nmin = 2\nmax = 9\nloss = 300\n\n\
+    [[links]]\nfrom = 3\nto = 4\nmin = 2\nmax = 9\nloss = 0\n";
+
+/// Outages of two lossy links: letters 3 to 6 from process 1 to 2 are sent in one or in both of two that overlap.
+const OUTAGES: &str = "[link]\nmin = 2\nmax = 9\nloss = 300\n\
+    [[outage]]\nfrom = 1\nto = 2\nbegin = 3\nuntil = 6\n\
+    [[outage]]\nfrom = 1\nto = 2\nbegin = 4\nuntil = 7\n\
+    [[outage]]\nfrom = 5\nto = 1\nbegin = 1\nuntil = 2\n";
+
+/// Links that lose nothing and have one delay: they draw no words.
+const SURE: &str = "[link]\nmin = 5\nmax = 5\n";
+
+/// Sure links, of which one has an outage.
+const SURE_CUT: &str =
+    "[link]\nmin = 5\nmax = 5\n[[outage]]\nfrom = 5\nto = 4\nbegin = 0\nuntil = 12\n";
+
+/// Links under seed 1, the ends of one of them, and the delays of its letters. Another link's numbers don't change
+/// them; what is sent in an outage is lost, and the other letters keep their fates.
+const DELAYS: [(&str, (u16, u16), [u32; 12]); 12] = [
+    (LOSSY, (1, 2), [6, 3, 8, 6, 9, 3, 0, 7, 9, 8, 0, 6]),
+    (LOSSY, (2, 1), [5, 3, 3, 4, 0, 7, 5, 2, 4, 6, 0, 0]),
+    (LOSSY, (3, 4), [9, 5, 3, 4, 0, 3, 3, 3, 0, 9, 0, 6]),
+    (LOSSY, (5, 1), [5, 5, 0, 0, 2, 6, 5, 0, 7, 7, 0, 0]),
+    (ONE_SAFE, (1, 2), [6, 3, 8, 6, 9, 3, 0, 7, 9, 8, 0, 6]),
+    (SURE, (1, 2), [5; 12]),
+    (SURE, (5, 4), [5; 12]),
+    (OUTAGES, (1, 2), [6, 3, 0, 0, 0, 0, 0, 7, 9, 8, 0, 6]),
+    (OUTAGES, (2, 1), [5, 3, 3, 4, 0, 7, 5, 2, 4, 6, 0, 0]),
+    (OUTAGES, (5, 1), [0, 5, 0, 0, 2, 6, 5, 0, 7, 7, 0, 0]),
+    (SURE_CUT, (5, 4), [0, 0, 0, 0, 0, 0, 0, 0, 0, 0, 0, 5]),
+    (SURE_CUT, (4, 5), [5; 12]),
+];
+
 #[test]
-fn fates_of_four_links(rt: HostRuntime) -> Result<(), Fail> {
-    let scenario = scenario(rt.alloc(), 5, 1, LINKS_OF_FIVE)?;
-    delays_are(&rt, &scenario, (1, 2), [6, 3, 8, 6, 9, 3, 0, 7, 9, 8, 0, 6])?;
-    delays_are(&rt, &scenario, (2, 1), [5, 3, 3, 4, 0, 7, 5, 2, 4, 6, 0, 0])?;
-    delays_are(&rt, &scenario, (3, 4), [9, 5, 3, 4, 0, 3, 3, 3, 0, 9, 0, 6])?;
-    delays_are(&rt, &scenario, (5, 1), [5, 5, 0, 0, 2, 6, 5, 0, 7, 7, 0, 0])?;
+fn fates_of_links(rt: HostRuntime) -> Result<(), Fail> {
+    for (links, (from, to), wanted) in DELAYS {
+        let scenario = scenario(rt.alloc(), 1, links)?;
+        let came = delays(&scenario, from, to)?;
+        same(
+            &rt,
+            &(links, (from, to), came),
+            &(links, (from, to), wanted),
+        );
+    }
     Ok(())
 }
 
 /// The words of a link's stream, read one after the other from place 0.
 #[test]
 fn any_order_gives_the_same(rt: HostRuntime) -> Result<(), Fail> {
-    let scenario = scenario(rt.alloc(), 5, 258, LINKS_OF_FIVE)?;
+    let scenario = scenario(rt.alloc(), 258, LOSSY)?;
     let streams = Streams::new(&scenario);
     let mut key = [0u8; 32];
     key[0] = 2;
@@ -152,9 +171,9 @@ fn any_order_gives_the_same(rt: HostRuntime) -> Result<(), Fail> {
     for _ in 0..200u32 {
         words.push(generator.next_u32())?;
     }
-    assert_eq!(rt; scenario.processes(), 5);
+    assert!(rt; scenario.processes() == 5);
     let (from, to) = (pid(3)?, pid(4)?);
-    assert_eq!(rt; (from.number(), to.number()), (3, 4));
+    assert!(rt; from.number() == 3 && to.number() == 4);
     let mut kept = LinkWords::new();
     for number in (1..=100u64).rev() {
         let at = 2 * (number as usize - 1);
@@ -168,54 +187,8 @@ fn any_order_gives_the_same(rt: HostRuntime) -> Result<(), Fail> {
         for sent_at in [0, 199, u32::MAX] {
             let one = streams.fate(from, to, number, sent_at);
             let next = streams.next_fate(from, to, number, sent_at, &mut kept);
-            assert_eq!(rt; (one, next), (fate, fate));
+            same(&rt, &(one, next), &(fate, fate));
         }
     }
-    Ok(())
-}
-
-#[test]
-fn other_links_keep_their_fates(rt: HostRuntime) -> Result<(), Fail> {
-    let alloc = rt.alloc();
-    let changed = format!(in alloc;
-        "{LINKS_OF_FIVE}\n[[links]]\nfrom = 3\nto = 4\nmin = 2\nmax = 9\nloss = 0\n"
-    )?;
-    let before = scenario(alloc, 5, 1, LINKS_OF_FIVE)?;
-    let after = scenario(alloc, 5, 1, changed.as_str())?;
-    assert_eq!(rt; delays(&after, 1, 2)?, delays(&before, 1, 2)?);
-    Ok(())
-}
-
-#[test]
-fn sure_links(rt: HostRuntime) -> Result<(), Fail> {
-    let scenario = scenario(rt.alloc(), 5, 1, "[link]\nmin = 5\nmax = 5\n")?;
-    delays_are(&rt, &scenario, (1, 2), [5; 12])?;
-    delays_are(&rt, &scenario, (5, 4), [5; 12])?;
-    Ok(())
-}
-
-/// Outages of two links: letters 3 to 6 from process 1 to 2 are sent in one or in both of two that overlap.
-const OUTAGES: &str = "[link]\nmin = 2\nmax = 9\nloss = 300\n\
-    [[outage]]\nfrom = 1\nto = 2\nbegin = 3\nuntil = 6\n\
-    [[outage]]\nfrom = 1\nto = 2\nbegin = 4\nuntil = 7\n\
-    [[outage]]\nfrom = 5\nto = 1\nbegin = 1\nuntil = 2\n";
-
-/// What is sent in an outage is lost, and the other letters keep their fates.
-#[test]
-fn letters_lost_in_outages(rt: HostRuntime) -> Result<(), Fail> {
-    let scenario = scenario(rt.alloc(), 5, 1, OUTAGES)?;
-    delays_are(&rt, &scenario, (1, 2), [6, 3, 0, 0, 0, 0, 0, 7, 9, 8, 0, 6])?;
-    delays_are(&rt, &scenario, (2, 1), [5, 3, 3, 4, 0, 7, 5, 2, 4, 6, 0, 0])?;
-    delays_are(&rt, &scenario, (5, 1), [0, 5, 0, 0, 2, 6, 5, 0, 7, 7, 0, 0])?;
-    Ok(())
-}
-
-/// A link that loses nothing and has one delay draws no words, but it has outages like any other.
-#[test]
-fn sure_links_cut(rt: HostRuntime) -> Result<(), Fail> {
-    let links = "[link]\nmin = 5\nmax = 5\n[[outage]]\nfrom = 5\nto = 4\nbegin = 0\nuntil = 12\n";
-    let scenario = scenario(rt.alloc(), 5, 1, links)?;
-    delays_are(&rt, &scenario, (5, 4), [0, 0, 0, 0, 0, 0, 0, 0, 0, 0, 0, 5])?;
-    delays_are(&rt, &scenario, (4, 5), [5; 12])?;
     Ok(())
 }

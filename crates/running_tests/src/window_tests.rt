@@ -13,9 +13,11 @@ mod starts;
 mod steals;
 mod workers;
 
+use crate::common::same;
 use process_api::Entry;
 use scenario::{Scenario, read_scenario};
 use std::alloc::Global;
+use std::process::Abort;
 use std::test::Fail;
 
 /// Two processes and a lookahead of 2 ticks; the second process crashes at tick 3.
@@ -75,7 +77,10 @@ fn is_same(a: &Entry, b: &Entry) -> bool {
         && a.notes.as_slice() == b.notes.as_slice()
 }
 
-/// Whether two lists have the same entries, in the same order.
-fn are_same(xs: &[Entry], ys: &[Entry]) -> bool {
-    xs.len() == ys.len() && xs.iter().zip(ys).all(|(a, b)| is_same(a, b))
+/// Two lists have the same entries, in the same order.
+fn same_entries<R: Abort>(rt: &R, came: &[Entry], wanted: &[Entry]) {
+    same(rt, &came.len(), &wanted.len());
+    for (came, wanted) in came.iter().zip(wanted) {
+        assert!(rt; is_same(came, wanted));
+    }
 }

@@ -18,14 +18,18 @@ use windows::{Berth, OpenGate, Plan, Stage, run_berth, run_window};
 
 /// The place of a process in an order; after all others where it isn't there.
 fn place_in(order: &[u16], p: Pid) -> usize {
-    order
-        .iter()
-        .position(|number| *number == p.number())
-        .unwrap_or(order.len())
+    let mut place: usize = 0;
+    for number in order {
+        if *number == p.number() {
+            break;
+        }
+        place = place.saturating_add(1);
+    }
+    place
 }
 
 /// The berths in this order of their processes' numbers.
-pub fn in_given_order<M: Process>(mut berths: Vec<Berth<M>>, order: &[u16]) -> Vec<Berth<M>>
+fn in_given_order<M: Process>(mut berths: Vec<Berth<M>>, order: &[u16]) -> Vec<Berth<M>>
     ensures { IsPermutation berths.items result.items }
 {
     berths.sort_unstable_by_key(|berth| place_in(order, berth.pid()));
@@ -39,15 +43,6 @@ fn count(lists: &[Vec<Letter>]) -> usize {
         letters = letters.saturating_add(list.len());
     }
     letters
-}
-
-/// How many entries the parts of these berths have.
-pub fn count_entries<M>(berths: &[Berth<M>]) -> usize {
-    let mut entries: usize = 0;
-    for berth in berths {
-        entries = entries.saturating_add(berth.part.len());
-    }
-    entries
 }
 
 /// A stage after so many of its windows, or at the horizon.

@@ -28,25 +28,8 @@ pub fn watcher(
     }
 }
 
-/// A process that runs the rotating coordinator above its detector. Where its opening asks for something else, there is
-/// none.
-pub fn coordinator(
-    alloc: Global,
-    opening: &Opening,
-) -> Result<Stack<TimeoutDetector, EsConsensus>, AllocError>
-    ensures { IfOk result (λ made. ⟦<Stack<TimeoutDetector, EsConsensus> as Process>⟧.mind made ≡ mind_of opening.now) }
-{
-    match (opening.detector, opening.share, opening.algorithm) {
-        (DetectorNumbers::Timeout(_), None, AlgorithmKind::EventuallyStrong) => {
-            let detector = TimeoutDetector::open(alloc, opening)?;
-            let consensus = EsConsensus::open(alloc, opening)?;
-            Ok(Stack::new(opening.own, detector, consensus))
-        }
-        _ => Err(AllocError),
-    }
-}
-
-/// The machines of all processes, of process 1 first: watchers where there is no algorithm, and else coordinators.
+/// The machines of all processes, of process 1 first: watchers where there is no algorithm, and else the rotating
+/// coordinator above a detector. Where an opening asks for something else, there are none.
 pub fn all_machines(alloc: Global, scenario: &Scenario) -> Result<Vec<Box<dyn Process>>, AllocError>
     ensures { IfOk result (λ machines. map mind machines.items
         ≡ map (opening_mind scenario.now) (numbers_to scenario.now.processes)) }
@@ -57,9 +40,15 @@ pub fn all_machines(alloc: Global, scenario: &Scenario) -> Result<Vec<Box<dyn Pr
         |opening: Opening| -> Result<Box<dyn Process>, AllocError>
             ensures { IfOk result (λ made. mind made ≡ mind_of opening) }
         {
-            match opening.algorithm {
-                AlgorithmKind::Idle => Ok(Box::new(alloc, watcher(alloc, &opening)?)?),
-                _ => Ok(Box::new(alloc, coordinator(alloc, &opening)?)?),
+            match (opening.detector, opening.share, opening.algorithm) {
+                (_, _, AlgorithmKind::Idle) => Ok(Box::new(alloc, watcher(alloc, &opening)?)?),
+                (DetectorNumbers::Timeout(_), None, AlgorithmKind::EventuallyStrong) => {
+                    let detector = TimeoutDetector::open(alloc, &opening)?;
+                    let consensus = EsConsensus::open(alloc, &opening)?;
+                    let coordinator = Stack::new(opening.own, detector, consensus);
+                    Ok(Box::new(alloc, coordinator)?)
+                }
+                _ => Err(AllocError),
             }
         },
     )

@@ -4,36 +4,41 @@ use crate::common::same;
 use std::test::Fail;
 use windows::{Plan, PlanError};
 
-/// Numbers of workers and ticks of a window, and how they are refused at a lookahead of 2 ticks.
-const REFUSED: [(u64, u64, PlanError); 8] = [
-    (0, 0, PlanError::Workers),
-    (65, 0, PlanError::Workers),
-    (65, 3, PlanError::Workers),
-    (18_446_744_073_709_551_615, 1, PlanError::Workers),
-    (1, 0, PlanError::WindowZero),
-    (64, 0, PlanError::WindowZero),
-    (2, 3, PlanError::WindowTooLong),
-    (1, 18_446_744_073_709_551_615, PlanError::WindowTooLong),
+/// Numbers of workers and ticks of a window, and how they are refused at a lookahead of 2 ticks, or not.
+const PLANS: [(u64, u64, Option<PlanError>); 12] = [
+    (0, 0, Some(PlanError::Workers)),
+    (65, 0, Some(PlanError::Workers)),
+    (65, 3, Some(PlanError::Workers)),
+    (18_446_744_073_709_551_615, 1, Some(PlanError::Workers)),
+    (1, 0, Some(PlanError::WindowZero)),
+    (64, 0, Some(PlanError::WindowZero)),
+    (2, 3, Some(PlanError::WindowTooLong)),
+    (
+        1,
+        18_446_744_073_709_551_615,
+        Some(PlanError::WindowTooLong),
+    ),
+    (1, 1, None),
+    (2, 2, None),
+    (3, 1, None),
+    (64, 2, None),
 ];
 
+/// A plan that is made has the numbers that it was made of.
 #[test]
-fn refusals(rt: HostRuntime) -> Result<(), Fail> {
+fn made_or_refused(rt: HostRuntime) -> Result<(), Fail> {
     let scenario = one_crash(rt.alloc())?;
-    for (workers, window, refusal) in REFUSED {
-        assert!(rt; Plan::new(&scenario, workers, window) == Err(refusal));
-    }
-    Ok(())
-}
-
-/// Numbers of workers and ticks of a window that a plan may have at a lookahead of 2 ticks.
-const ACCEPTED: [(u16, u32); 4] = [(1, 1), (2, 2), (3, 1), (64, 2)];
-
-#[test]
-fn accepted(rt: HostRuntime) -> Result<(), Fail> {
-    let scenario = one_crash(rt.alloc())?;
-    for (workers, window) in ACCEPTED {
-        let plan = Plan::new(&scenario, workers as u64, window as u64)?;
-        same(&rt, &(plan.workers(), plan.window()), &(workers, window));
+    for (workers, window, refusal) in PLANS {
+        let plan = Plan::new(&scenario, workers, window);
+        if let Ok(plan) = &plan {
+            let came = (u64::from(plan.workers()), u64::from(plan.window()));
+            same(&rt, &came, &(workers, window));
+        }
+        same(
+            &rt,
+            &(workers, window, plan.err()),
+            &(workers, window, refusal),
+        );
     }
     Ok(())
 }

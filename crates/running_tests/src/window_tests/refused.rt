@@ -5,19 +5,17 @@ ghost use Rattle.scenario_record.specs.Opening.{mind_of};
 ghost use Rattle.scenario_record.specs.Record.{opening_mind};
 
 use super::makers::watcher;
-use super::one_crash;
-use super::runs::same_trace;
+use super::{one_crash, same_entries};
 use crate::common::same;
 use event_list::{RunError, run_list};
 use machines::make_all;
-use process_api::{Action, Pid, Process, StepInput, Trace};
+use process_api::{Action, Pid, Process, StepInput};
 use scenario::{Opening, Scenario};
 use stack::{NoAlgorithm, Stack};
 use std::alloc::{AllocError, Global};
+use std::sync::Arc;
 use std::sync::atomic::{AtomicU64, Ordering};
-use std::sync::{Arc, Wait};
 use std::test::Fail;
-use std::thread::Threads;
 use timeout_detector::TimeoutDetector;
 use windows::{OpenGate, Plan, run_windows};
 
@@ -89,42 +87,36 @@ fn machines_of(
     )
 }
 
-/// What the list makes of machines that are refused at the input after so many.
-fn listed(alloc: Global, scenario: &Scenario, limit: u64) -> Result<Result<Trace, RunError>, Fail> {
-    let machines = machines_of(alloc, scenario, limit)?;
-    Ok(run_list(alloc, scenario, machines))
-}
-
-/// What two workers make of machines that are refused at the input after so many, by windows of 2 ticks.
-fn run_by_two<R: Threads + Wait + Sync>(
-    rt: &R,
-    alloc: Global,
-    scenario: &Scenario,
-    limit: u64,
-) -> Result<Result<Trace, RunError>, Fail> {
-    let plan = Plan::new(scenario, 2, 2)?;
-    let machines = machines_of(alloc, scenario, limit)?;
-    Ok(run_windows(rt, alloc, scenario, machines, &plan, &OpenGate))
-}
-
 /// How many inputs the two processes take: of the 12 entries 3 are of a process that has crashed.
 const INPUTS: u64 = 9;
 
-/// Where any one input is refused, both runs answer `Memory`; where none is, both have the same trace.
+/// Where any one input is refused, the list and two workers by windows of 2 ticks answer `Memory`; where none is, both
+/// have the same trace.
 #[test]
 fn each_input(rt: HostRuntime) -> Result<(), Fail> {
     let alloc = rt.alloc();
     let scenario = one_crash(alloc)?;
-    for limit in 0..INPUTS {
-        let list = listed(alloc, &scenario, limit)?.err();
-        let windows = run_by_two(&rt, alloc, &scenario, limit)?.err();
-        let refused = Some(RunError::Memory);
-        same(&rt, &(limit, list, windows), &(limit, refused, refused));
+    let plan = Plan::new(&scenario, 2, 2)?;
+    for limit in 0..=INPUTS {
+        let machines = machines_of(alloc, &scenario, limit)?;
+        let list = run_list(alloc, &scenario, machines);
+        let machines = machines_of(alloc, &scenario, limit)?;
+        let windows = run_windows(&rt, alloc, &scenario, machines, &plan, &OpenGate);
+        if let (Ok(list), Ok(windows)) = (&list, &windows) {
+            same(&rt, &list.entries().len(), &12);
+            same_entries(&rt, windows.entries(), list.entries());
+        }
+        let refused = if limit < INPUTS {
+            Some(RunError::Memory)
+        } else {
+            None
+        };
+        same(
+            &rt,
+            &(limit, list.err(), windows.err()),
+            &(limit, refused, refused),
+        );
     }
-    let list = listed(alloc, &scenario, INPUTS)??;
-    let windows = run_by_two(&rt, alloc, &scenario, INPUTS)??;
-    same(&rt, &list.entries().len(), &12);
-    same_trace(&rt, &windows, &list);
     Ok(())
 }
 

@@ -1,6 +1,6 @@
 //! Windows of worked runs: how many entries and letters each has, and that the order of the calls means nothing.
 
-use super::calls::{call_window, count_entries, in_given_order};
+use super::calls::call_window;
 use super::runs::{list_of, stage_after};
 use super::{ONE_CRASH, is_same, one_crash, three_coordinators};
 use crate::common::same;
@@ -11,7 +11,7 @@ use std::alloc::Global;
 use std::sync::Wait;
 use std::test::Fail;
 use std::thread::Threads;
-use windows::{Berth, Plan, Stage};
+use windows::{Berth, Plan};
 
 /// The berths of the window after so many others, which ends at tick `end`, where they were called in this order; its
 /// start, and how many letters were posted.
@@ -42,11 +42,11 @@ fn entries_and_letters(rt: HostRuntime) -> Result<(), Fail> {
         for before in 0..WINDOWS.len() {
             let (end, _, _) = WINDOWS[before];
             let (berths, _, letters) = called(&rt, alloc, &scenario, before, end, &order)?;
-            same(
-                &rt,
-                &(end, count_entries(&berths), letters),
-                &WINDOWS[before],
-            );
+            let mut entries: usize = 0;
+            for berth in &berths {
+                entries = entries.saturating_add(berth.part.len());
+            }
+            same(&rt, &(end, entries, letters), &WINDOWS[before]);
         }
     }
     Ok(())
@@ -60,34 +60,16 @@ const LIMITS: [(&str, Option<RunError>); 3] = [
     ("limit = 4\n", None),
 ];
 
-/// The scenario of `ONE_CRASH` with one line more.
-fn with_line(alloc: Global, line: &str) -> Result<Scenario, Fail> {
-    let text = format!(in alloc; "{line}{ONE_CRASH}")?;
-    Ok(read_scenario(alloc, text.as_bytes())?)
-}
-
 #[test]
 fn no_room(rt: HostRuntime) -> Result<(), Fail> {
     let alloc = rt.alloc();
     for (limit, refusal) in LIMITS {
-        let scenario = with_line(alloc, limit)?;
+        let text = format!(in alloc; "{limit}{ONE_CRASH}")?;
+        let scenario = read_scenario(alloc, text.as_bytes())?;
         let plan = Plan::new(&scenario, 1, 2)?;
         let stage = stage_after(&rt, alloc, &scenario, &plan, 1)?;
         let called = call_window(&rt, alloc, stage, 4, &[1, 2]);
         same(&rt, &(limit, called.err()), &(limit, refusal));
-    }
-    Ok(())
-}
-
-/// Berths are put in the order that is given.
-#[test]
-fn given_order(rt: HostRuntime) -> Result<(), Fail> {
-    let alloc = rt.alloc();
-    let scenario = three_coordinators(alloc)?;
-    let plan = Plan::new(&scenario, 1, 2)?;
-    let Stage { berths, .. } = stage_after(&rt, alloc, &scenario, &plan, 0)?;
-    for (berth, number) in in_given_order(berths, &[2, 3, 1]).iter().zip([2, 3, 1]) {
-        same(&rt, &berth.pid().number(), &number);
     }
     Ok(())
 }
@@ -111,7 +93,8 @@ fn is_as_listed(berth: &Berth<Box<dyn Process>>, list: &[Entry], start: u32, end
 /// The ends of the windows of 2 ticks in which something happens.
 const ENDS: [u32; 6] = [2, 4, 6, 8, 10, 12];
 
-/// Whatever the order of the calls, each process does in each window what the list has of it there.
+/// The berths are called in the given order, and whatever it is, each process does in each window what the list has of
+/// it there.
 #[test]
 fn as_the_list(rt: HostRuntime) -> Result<(), Fail> {
     let alloc = rt.alloc();
@@ -121,7 +104,9 @@ fn as_the_list(rt: HostRuntime) -> Result<(), Fail> {
         for before in 0..ENDS.len() {
             let end = ENDS[before];
             let (berths, start, _) = called(&rt, alloc, &scenario, before, end, &order)?;
-            for berth in &berths {
+            same(&rt, &berths.len(), &order.len());
+            for (berth, number) in berths.iter().zip(order) {
+                same(&rt, &berth.pid().number(), &number);
                 assert!(rt; is_as_listed(berth, list.entries(), start, end));
             }
         }

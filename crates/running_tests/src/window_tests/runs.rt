@@ -3,14 +3,12 @@ ghost use Rattle.std.specs.Prelude.{IfOk};
 ghost use Rattle.windows.specs.Plan.{IsPlanFor};
 ghost use Rattle.windows.specs.Stage.{IsStage};
 
-use super::are_same;
 use super::calls::after_windows;
 use super::makers::all_machines;
 use event_list::run_list;
 use process_api::{Process, Trace};
 use scenario::Scenario;
 use std::alloc::Global;
-use std::process::Abort;
 use std::sync::Wait;
 use std::test::Fail;
 use std::thread::Threads;
@@ -33,11 +31,6 @@ pub fn run_by<G: Gate, R: Threads + Wait + Sync>(
     let plan = Plan::new(scenario, workers, 2)?;
     let machines = all_machines(alloc, scenario)?;
     Ok(run_windows(rt, alloc, scenario, machines, &plan, gate)?)
-}
-
-/// Two traces have the same entries, in the same order.
-pub fn same_trace<R: Abort>(rt: &R, came: &Trace, wanted: &Trace) {
-    assert!(rt; are_same(came.entries(), wanted.entries()));
 }
 
 /// The stage of a scenario after so many windows of a plan, or at the horizon.

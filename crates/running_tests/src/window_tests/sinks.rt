@@ -3,7 +3,7 @@ ghost use Rattle.std.specs.Prelude.{◌≡◌, ◌<◌, ◌-◌, ◌^◌};
 
 use super::makers::all_machines;
 use super::runs::list_of;
-use super::{are_same, one_crash};
+use super::{one_crash, same_entries};
 use crate::common::same;
 use event_list::RunError;
 use process_api::Entry;
@@ -25,20 +25,6 @@ struct Counting {
     // whether it refuses because it can't write, and not for want of memory
     writes: bool,
     failures: u64,
-}
-
-impl Counting {
-    fn new(alloc: Global, most: usize, writes: bool) -> Counting
-        ensures { result.failures ≡ 0 }
-    {
-        Counting {
-            entries: Vec::new(alloc),
-            handed: Vec::new(alloc),
-            most,
-            writes,
-            failures: 0,
-        }
-    }
 }
 
 impl Sink for Counting {
@@ -74,23 +60,9 @@ const PARTS: [usize; 5] = [2, 4, 2, 2, 2];
 /// How many entries the windows before each have, and all windows.
 const BEFORE: [usize; 6] = [0, 2, 6, 8, 10, 12];
 
-/// Two workers hand the parts of the windows of 2 ticks to a sink. Answers the refusal, if there is one.
-fn hand_to<R: Threads + Wait + Sync>(
-    rt: &R,
-    alloc: Global,
-    scenario: &Scenario,
-    sink: &mut Counting,
-) -> Result<Option<RunError>, Fail>
-    requires { sink.old.failures ≡ 0 }
-{
-    let plan = Plan::new(scenario, 2, 2)?;
-    let machines = all_machines(alloc, scenario)?;
-    let done = run_windows_into(rt, alloc, scenario, machines, &plan, &OpenGate, sink);
-    Ok(done.err())
-}
-
-/// A sink that takes so many parts, and refuses each after them, has the list's entries of these windows. It was handed
-/// the part after them too, where there is one, and then no other.
+/// Two workers hand the parts of the windows of 2 ticks to a sink that takes so many, and refuses each after them: it
+/// has the list's entries of these windows. It was handed the part after them too, where there is one, and then no
+/// other.
 fn takes_so_many<R: Abort + Threads + Wait + Sync>(
     rt: &R,
     alloc: Global,
@@ -101,20 +73,25 @@ fn takes_so_many<R: Abort + Threads + Wait + Sync>(
 ) -> Result<(), Fail>
     requires { most < 6 }
 {
-    let mut sink = Counting::new(alloc, most, refusal == RunError::Write);
-    let came = hand_to(rt, alloc, scenario, &mut sink)?;
+    let plan = Plan::new(scenario, 2, 2)?;
+    let machines = all_machines(alloc, scenario)?;
+    let mut sink = Counting {
+        entries: Vec::new(alloc),
+        handed: Vec::new(alloc),
+        most,
+        writes: refusal == RunError::Write,
+        failures: 0,
+    };
+    let done = run_windows_into(rt, alloc, scenario, machines, &plan, &OpenGate, &mut sink);
     let refusal = if most < 5 { Some(refusal) } else { None };
     let failures = u64::from(refusal == Some(RunError::Write));
-    same(
-        rt,
-        &(most, came, sink.failures()),
-        &(most, refusal, failures),
-    );
+    let came = (most, done.err(), sink.failures());
+    same(rt, &came, &(most, refusal, failures));
     let handed = most.saturating_add(1).min(5);
     assert!(rt; sink.handed.as_slice() == &PARTS[..handed]);
     let before = BEFORE[most];
     assert!(rt; before <= list.len());
-    assert!(rt; are_same(&sink.entries, &list[..before]));
+    same_entries(rt, &sink.entries, &list[..before]);
     Ok(())
 }
 

@@ -1,7 +1,7 @@
 //! Workers that are held, so that others take what is theirs.
 
-use super::runs::{list_of, run_by, same_trace};
-use super::three_coordinators;
+use super::runs::{list_of, run_by};
+use super::{same_entries, three_coordinators};
 use crate::common::same;
 use process_api::Pid;
 use std::sync::Wait;
@@ -13,9 +13,9 @@ use windows::Gate;
 /// How often a held worker looks, and yields, before it is let go.
 const TURNS: u32 = 100_000_000;
 
-/// Waits until a count has come to so many.
-fn wait_for(count: &AtomicU64, least: u64) {
-    for _ in 0..TURNS {
+/// Waits until a count has come to so many, or for so many turns.
+pub fn wait_for(count: &AtomicU64, least: u64, turns: u32) {
+    for _ in 0..turns {
         if count.load(Ordering::SeqCst) >= least {
             return;
         }
@@ -38,9 +38,9 @@ impl Gate for Holding {
     fn entered<R: Wait>(&self, _rt: &R, worker: u16, _pid: Pid) {
         if worker != 1 {
             self.by_second.fetch_add(1, Ordering::SeqCst);
-            wait_for(&self.by_first, 1);
+            wait_for(&self.by_first, 1, TURNS);
         } else if self.by_first.fetch_add(1, Ordering::SeqCst) == 0 {
-            wait_for(&self.by_second, 2);
+            wait_for(&self.by_second, 2, TURNS);
             let seen = self.by_second.load(Ordering::SeqCst);
             self.seen.store(seen, Ordering::SeqCst);
         }
@@ -61,7 +61,7 @@ fn stolen_from_a_held_worker(rt: HostRuntime) -> Result<(), Fail> {
     };
     let windows = run_by(&rt, alloc, &scenario, 2, &gate)?;
     assert!(rt; gate.seen.load(Ordering::SeqCst) >= 2);
-    same_trace(&rt, &windows, &list);
+    same_entries(&rt, windows.entries(), list.entries());
     Ok(())
 }
 
@@ -86,7 +86,7 @@ impl Gate for Meeting {
             taken.store(number, Ordering::SeqCst);
         }
         self.calls.fetch_add(1, Ordering::SeqCst);
-        wait_for(&self.calls, 2);
+        wait_for(&self.calls, 2, TURNS);
     }
 }
 

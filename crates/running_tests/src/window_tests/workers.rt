@@ -2,8 +2,8 @@
 //! refusals comes first.
 
 use super::makers::all_machines;
-use super::runs::{list_of, run_by, same_trace};
-use super::{one_crash, three_coordinators};
+use super::runs::{list_of, run_by};
+use super::{one_crash, same_entries, three_coordinators};
 use crate::common::same;
 use event_list::RunError;
 use process_api::Pid;
@@ -22,16 +22,6 @@ struct Watching {
     greatest: AtomicU64,
     // calls of the starter
     by_starter: AtomicU64,
-}
-
-impl Watching {
-    fn new() -> Watching {
-        Watching {
-            taken: AtomicU64::new(0),
-            greatest: AtomicU64::new(0),
-            by_starter: AtomicU64::new(0),
-        }
-    }
 }
 
 impl Gate for Watching {
@@ -55,7 +45,11 @@ fn taken_by_workers(rt: HostRuntime) -> Result<(), Fail> {
     let alloc = rt.alloc();
     let scenario = three_coordinators(alloc)?;
     for (workers, greatest) in [(1, 1), (64, 3)] {
-        let gate = Watching::new();
+        let gate = Watching {
+            taken: AtomicU64::new(0),
+            greatest: AtomicU64::new(0),
+            by_starter: AtomicU64::new(0),
+        };
         run_by(&rt, alloc, &scenario, workers, &gate)?;
         assert!(rt; gate.greatest.load(Ordering::SeqCst) <= greatest);
         same(&rt, &gate.by_starter.load(Ordering::SeqCst), &0);
@@ -114,7 +108,7 @@ fn sixty_four(rt: HostRuntime) -> Result<(), Fail> {
     assert!(rt; 4 * WORTH_A_THREAD <= 8_192);
     for workers in [1, 2, 4, 64] {
         let windows = run_by(&rt, alloc, &scenario, workers, &OpenGate)?;
-        same_trace(&rt, &windows, &list);
+        same_entries(&rt, windows.entries(), list.entries());
     }
     Ok(())
 }
