@@ -1,0 +1,273 @@
+#!/usr/bin/env python3
+"""Adds up the reports of a study's runs by itself, and compares the sums with the rows of `fdstudy sweep`.
+
+    bench/rows.py [--fdstudy P] [--fdbench P] [--seeds N]
+
+Three studies of twelve points each, over files of its own: a detector under losses with crashes that are dealt to the
+seeds, a coordinator whose processes crash, and detectors that watch the next process alone and share what they suspect,
+with a limit that some runs pass. Of each run it takes the file that `fdstudy show` prints and the report that `fdbench
+list` gives of it. It shares no code with the programs: crashes, pairs and ranks are worked out here anew. It prints
+what differs, and ends with status 1 where something does.
+"""
+import argparse
+import csv
+import io
+import math
+import os
+import subprocess
+import sys
+import tomllib
+
+ROOT = os.path.dirname(os.path.dirname(os.path.abspath(__file__)))
+VERDICTS = ["strong_completeness", "weak_completeness", "strong_accuracy", "weak_accuracy",
+            "eventual_strong_accuracy", "eventual_weak_accuracy"]
+SUMS = ["mistakes", "mistake_ticks", "recurrence_sum", "recurrence_count", "duration_sum", "duration_count",
+        "good_sum", "good_count"]
+
+LOSSY = """
+version = 2
+processes = 4
+horizon = 3000
+lookahead = 1
+seed = 1
+algorithm = "none"
+[detector]
+period = 50
+check = 7
+timeout = 70
+[link]
+min = 1
+max = 30
+loss = 100
+[[crash]]
+process = 2
+at = 1500
+[[crash]]
+process = 4
+at = 2990
+"""
+COORDINATOR = """
+version = 1
+processes = 5
+horizon = 400
+lookahead = 1
+seed = 1
+algorithm = "es"
+proposals = [10, 20, 30, 40, 50]
+[detector]
+period = 10
+check = 5
+timeout = 25
+[share]
+period = 15
+[link]
+min = 1
+max = 12
+loss = 50
+[[crash]]
+process = 2
+at = 3
+"""
+NEXT = """
+version = 1
+processes = 5
+horizon = 600
+lookahead = 1
+seed = 1
+limit = 2300
+algorithm = "s"
+proposals = [1, 2, 3, 4, 5]
+[detector]
+period = 20
+check = 6
+timeout = 30
+watch = "next"
+[share]
+period = 40
+[link]
+min = 1
+max = 15
+loss = 120
+[[crash]]
+process = 3
+at = 200
+"""
+STUDIES = [
+    ("lossy", LOSSY, ["--vary", "detector.timeout=60,90,140", "--vary", "link.loss=0,50,100,300",
+                      "--deal", "crash[1].at=1490..=1510:10"]),
+    ("coordinator", COORDINATOR, ["--vary", "detector.timeout=15,25,60", "--vary", "link.loss=0,50,200,400",
+                                  "--deal", "crash[1].at=0,3,40"]),
+    ("next", NEXT, ["--vary", "detector.period,detector.timeout=10:15,20:30,40:60", "--vary", "link.loss=0,50,120,300",
+                    "--over", "crash[1].at=150,600"]),
+]
+
+
+def run(words, given=""):
+    ran = subprocess.run(words, input=given, capture_output=True, text=True)
+    return ran.returncode, ran.stdout, ran.stderr
+
+
+def must(words, given=""):
+    status, out, told = run(words, given)
+    if status:
+        sys.exit(f"rows: status {status}: {' '.join(words)}: {told}")
+    return out
+
+
+class Run:
+    """What one run tells: its file, and its report, or that it passed its limit."""
+
+    def __init__(self, text, report):
+        self.file = tomllib.loads(text)
+        self.rows = None if report is None else list(csv.DictReader(io.StringIO(report)))
+        self.horizon, self.count = self.file["horizon"], self.file["processes"]
+        self.crashes = {it["process"]: it["at"] for it in self.file.get("crash", [])}
+        self.layers = [1, 2] if "share" in self.file else [1]
+
+    def is_correct(self, process):
+        return self.crashes.get(process, math.inf) >= self.horizon
+
+    def is_counted(self, layer, observer, subject):
+        """Whether the pair counts on the layer: with watch = "next" only those that are watched do on layer 1."""
+        is_next = self.file["detector"].get("watch", "all") == "next"
+        return layer == 2 or not is_next or subject == observer % self.count + 1
+
+    def pairs(self, layer):
+        everybody = range(1, self.count + 1)
+        return [(q, p) for q in everybody for p in everybody if q != p and self.is_counted(layer, q, p)]
+
+    def values(self, section, layer, observer, subject):
+        return {row["measure"]: row["value"] for row in self.rows if row["section"] == section
+                and [int(row["layer"]), int(row["observer"]), int(row["subject"])] == [layer, observer, subject]}
+
+    def outcomes(self):
+        """Of each process what it decided."""
+        return {p: self.values("decision", 0, p, 0) for p in range(1, self.count + 1)}
+
+
+def rank(percent, values, infinite):
+    """The nearest rank, with so many values that are infinite at the end."""
+    every = sorted(values) + [None] * infinite
+    return every[math.ceil(percent * len(every) / 100) - 1] if every else None
+
+
+def most(values):
+    return max(values, default=None)
+
+
+def detections(done, layer):
+    found = [run.values("pair", layer, q, p)["detection"] for run in done for q, p in run.pairs(layer)]
+    times = [int(it) for it in found if it not in ("na", "none")]
+    missed = found.count("none")
+    return {"detections": len(times), "undetected": missed, "at_once": times.count(0), "detection_sum": sum(times),
+            "detection_max": most(times), **{f"detection_p{p}": rank(p, times, missed) for p in (50, 90, 99)}}
+
+
+def decisions(done):
+    row = {name: 0 for name in ("to_decide", "decided", "decision_tick_sum", "all_decided", "disagreements")}
+    ticks, lasts, missing, greatest, rounds = [], [], 0, [], []
+    for run in (it for it in done if it.file["algorithm"] != "none"):
+        outcomes = run.outcomes()
+        decided = {p: it for p, it in outcomes.items() if it["value"] not in ("none", "novalue")}
+        correct = [p for p in outcomes if run.is_correct(p)]
+        mine = [int(decided[p]["tick"]) for p in correct if p in decided]
+        row["to_decide"] += len(correct)
+        row["decided"] += len(mine)
+        ticks += mine
+        row["disagreements"] += len({it["value"] for it in decided.values()}) > 1
+        greatest.append(max(int(it["rounds"]) for it in outcomes.values()))
+        if correct and len(mine) == len(correct):
+            row["all_decided"] += 1
+            lasts.append(max(mine))
+        elif correct:
+            missing += 1
+    rounds = [it for it in greatest if it > 0]
+    row |= {"decision_tick_sum": sum(ticks), "decision_tick_max": most(ticks), "last_decision_max": most(lasts)}
+    row |= {f"last_decision_p{p}": rank(p, lasts, missing) for p in (50, 90, 99)}
+    return row | {"rounds_p50": rank(50, rounds, 0), "rounds_p99": rank(99, rounds, 0), "rounds_max": most(rounds)}
+
+
+def first(runs, test):
+    """The number, from 1, of the first run of which it is so."""
+    return next((number for number, run in enumerate(runs, 1) if run.rows is not None and test(run)), None)
+
+
+def mistakes_of(run, layer):
+    return sum(int(run.values("pair", layer, q, p)["mistakes"]) for q, p in run.pairs(layer))
+
+
+def longest(run, layer):
+    return detections([run], layer)["detection_max"]
+
+
+def do_differ(run):
+    return len({it["value"] for it in run.outcomes().values() if it["value"] not in ("none", "novalue")}) > 1
+
+
+def row_of(runs, layer):
+    """A row's columns by name, worked out of the runs of its point."""
+    mine = [run for run in runs if layer in run.layers]
+    done = [run for run in mine if run.rows is not None]
+    row = {"layer": layer, "runs": len(mine), "limited": len(mine) - len(done)}
+    if not done:
+        return row
+    for name in ("entries", "sent", "lost"):
+        row[name] = sum(int(run.values("run", 0, 0, 0)[name]) for run in done)
+    row["pair_ticks"] = sum(min(run.crashes.get(q, math.inf), run.crashes.get(p, math.inf), run.horizon)
+                            for run in done for q, p in run.pairs(layer))
+    measured = [run.values("pair", layer, q, p) for run in done for q, p in run.pairs(layer)]
+    row |= {name: sum(int(it[name]) for it in measured) for name in SUMS}
+    each = [mistakes_of(run, layer) for run in done]
+    row["mistakes_squared_sum"], row["runs_with_mistakes"] = sum(it * it for it in each), sum(it > 0 for it in each)
+    row["mistake_recurrence"] = row["pair_ticks"] // row["mistakes"] if row["mistakes"] else None
+    row["mistaken_ppm"] = 1000000 * row["mistake_ticks"] // row["pair_ticks"] if row["pair_ticks"] else None
+    row |= detections(done, layer) | decisions(done)
+    for name in VERDICTS:
+        row[name] = sum(run.values("verdict", layer, 0, 0)[name] not in ("no", "none") for run in done)
+    row["mistake_run"] = first(runs, lambda run: layer in run.layers and mistakes_of(run, layer) > 0)
+    row["disagreement_run"] = first(runs, lambda run: layer in run.layers and do_differ(run))
+    row["detection_max_run"] = None if row["detection_max"] is None else first(
+        runs, lambda run: layer in run.layers and longest(run, layer) == row["detection_max"])
+    return row
+
+
+def compare(name, file, words, asked):
+    """Compares a study's rows with the sums of its runs. Answers how many fields were compared, and how many differ."""
+    study = ["-", "--seeds", f"1..={asked.seeds}", *words]
+    rows = list(csv.DictReader(io.StringIO(must([asked.fdstudy, "sweep", *study], file))))
+    per_point = asked.seeds * (2 if "--over" in words else 1)
+    fields = differ = limited = 0
+    for point in range(1, 13):
+        runs = []
+        for number in range(1, per_point + 1):
+            text = must([asked.fdstudy, "show", *study, "--point", str(point), "--run", str(number)], file)
+            status, report, told = run([asked.fdbench, "list", "-"], text)
+            if status not in (0, 3) or status == 3 and told != "fdbench: run: Limit\n":
+                sys.exit(f"rows: status {status} of run {number} of point {point} of {name}: {told}")
+            runs.append(Run(text, report if status == 0 else None))
+        for layer in runs[0].layers:
+            found, wanted = rows.pop(0), row_of(runs, layer)
+            limited += wanted["limited"]
+            for column in [it for it in found if "." not in it]:
+                fields += 1
+                text = "" if wanted.get(column) is None else str(wanted[column])
+                if found[column] != text:
+                    differ += 1
+                    print(f"{name}, point {point}, layer {layer}: {column} is {found[column]}, and not {text}")
+    if rows:
+        sys.exit(f"rows: {name} has {len(rows)} rows more than points and layers")
+    print(f"{name}: {fields} fields of 12 points, {limited} runs limited, {differ} fields differ")
+    return differ
+
+
+def main():
+    words = argparse.ArgumentParser(description=__doc__, formatter_class=argparse.RawDescriptionHelpFormatter)
+    words.add_argument("--fdstudy", default=os.path.join(ROOT, "crates/fdstudy/out/fdstudy"))
+    words.add_argument("--fdbench", default=os.path.join(ROOT, "crates/fdbench/out/fdbench"))
+    words.add_argument("--seeds", type=int, default=6, help="how many seeds, a multiple of 3 (6)")
+    asked = words.parse_args()
+    return 1 if sum(compare(*study, asked) for study in STUDIES) else 0
+
+
+if __name__ == "__main__":
+    sys.exit(main())
