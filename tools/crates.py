@@ -11,6 +11,8 @@ import subprocess
 
 ROOT = os.path.dirname(os.path.dirname(os.path.abspath(__file__)))
 SOURCES = ("src", "specs", "proofs")
+# seconds that the proof of a crate takes of which edits/costs.txt has no row: those are small
+OTHER_COST = 15
 
 
 class Crates:
@@ -23,6 +25,9 @@ class Crates:
         named = {head.split()[0]: re.findall(r"[\w/-]+", below) for head, _, below in rows if head.strip()}
         self.own = {name: [it for it in words if it in named] for name, words in named.items()}
         self.of_kit = {name: ["std", *(it for it in words if it not in named)] for name, words in named.items()}
+        with open(os.path.join(ROOT, "edits", "costs.txt"), encoding="utf-8") as lines:
+            costs = [line.partition("#")[0].split() for line in lines]
+        self.costs = {row[0]: int(row[1]) for row in costs if row}
 
     def home(self, name):
         return os.path.join(ROOT, "crates", name)
@@ -43,13 +48,9 @@ class Crates:
             for at, _, names in sorted(os.walk(os.path.join(self.home(name), part))):
                 yield from (os.path.join(at, it) for it in sorted(names))
 
-    def lines(self, name):
-        """How many lines its sources have: a measure of the work."""
-        count = 1
-        for path in self.files(name):
-            with open(path, "rb") as file:
-                count += file.read().count(b"\n")
-        return count
+    def seconds(self, name):
+        """How many seconds of processor time its proof takes, as far as edits/costs.txt has it: a measure of the work."""
+        return self.costs.get(name, OTHER_COST)
 
     def sums(self, names):
         """Of each crate the sum of all that it is made from: its sources, the crates below and the toolchain. Lowest first."""
