@@ -1,6 +1,7 @@
+use Rattle.std.proofs.Common.{refl}
 use Rattle.std.proofs.lemmas.Str.{IsUtf8-past_char}
 use Rattle.printable.specs.Printable.{printable_lines}
-use Rattle.printable.proofs.Characters.{begun, one_more, ended}
+use Rattle.printable.proofs.Characters.{one_more, ended}
 use Rattle.printable.proofs.write_lines.Goals as goal
 
 pub loop-c-preserved : goal.loop-c-preserved
@@ -8,7 +9,7 @@ loop-c-preserved g c =
     let held = c.loop-c.invariant in
     let parts = c.in-Some.ensures.steps.0 in (
       IsUtf8-past_char _ _ c.in-Some.c held.0 parts,
-      λ plain. one_more _ _ _ _ _ _ _ _ c.in-Some.c held.0 parts (c.in_ok-write_in_lines.ensures (held.1 plain).written.plain) (held.1 plain),
+      λ plain. one_more _ _ _ _ _ _ _ _ c.in-Some.c held.0 parts (c.in_ok-write_in_lines.ensures (held.1 plain).written.plain refl) (held.1 plain),
     )
 
 pub returns : goal.returns

@@ -1,5 +1,5 @@
 use Rattle.std.proofs.Common.{IsUtf8}
-use Rattle.core.specs.Str.Iter.{chars_rest}
+use Rattle.std.specs.Str.Iter.{chars_rest}
 use Rattle.std.specs.Fmt.{IsPlainFormatter}
 use Rattle.printable.specs.Printable.{shown_in_lines}
 use Rattle.printable.proofs.Characters.{IsUnderWay}
