@@ -31,7 +31,7 @@ none_is f o y r is at there = let bad : None ≡ Some y = sym (ap (option_map f)
 -- what is there is so in the rows, and what isn't isn't
 pub missing_is : {A B : Type 0} (f : A → B) (o : Option A) (r : Option B) (lacks : Bool)
     → option_map f o ≡ r → is_some o ≡ not lacks → lacks ≡ not (is_some r)
-missing_is f o r lacks at is = sym (twice lacks) ∙ ap not (sym is ∙ kept o ∙ ap is_some at)
+missing_is {A = A} f o r lacks at is = sym (twice lacks) ∙ ap not (sym is ∙ kept o ∙ ap is_some at)
   where
     twice : (b : Bool) → not (not b) ≡ b
     twice true = refl

@@ -22,11 +22,13 @@ seeds_rule needed = record (option_rule (codes "seeds")) { required = needed }
 abbrev pub axis_rule : Text → Rule
 axis_rule name = record (option_rule name) { action = Some Append }
 
+abbrev pub with_axes : App → App
+with_axes app =
+    with_rule (with_rule (with_rule app (axis_rule (codes "vary"))) (axis_rule (codes "over"))) (axis_rule (codes "deal"))
+
 -- the runs of a study
 abbrev pub with_grid : (needed : Bool) → App → App
-with_grid needed app =
-    with_rule (with_rule (with_rule (with_rule app (seeds_rule needed)) (axis_rule (codes "vary")))
-    (axis_rule (codes "over"))) (axis_rule (codes "deal"))
+with_grid needed app = with_axes (with_rule app (seeds_rule needed))
 
 -- points count from 1
 abbrev pub point_rule : Rule

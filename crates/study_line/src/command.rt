@@ -1,7 +1,7 @@
 //! The command line, with its help.
 ghost use Rattle.std.specs.Prelude.{◌≡◌, Some, false};
 ghost use Rattle.clap.specs.Words.{App, app_of, rule_of, with_rule, with_subcommand};
-ghost use Rattle.study_line.specs.Commands.{IsLocal, Makes, axis_rule, check_app, draw_app, each_rule, letters_app, option_rule, path_rule, picture_rule, point_rule, run_rule, seeds_rule, show_app, study_app, sweep_app, threads_rule, tick_rule, top_app, whole_app, with_grid, with_path, with_scenario, with_study, with_ticks};
+ghost use Rattle.study_line.specs.Commands.{IsLocal, Makes, axis_rule, check_app, draw_app, each_rule, letters_app, option_rule, path_rule, picture_rule, point_rule, run_rule, seeds_rule, show_app, study_app, sweep_app, threads_rule, tick_rule, top_app, whole_app, with_axes, with_grid, with_path, with_scenario, with_study, with_ticks};
 
 use clap::builder::ValueParser;
 use clap::{Arg, ArgAction, Command, value_parser};
@@ -205,14 +205,20 @@ fn axis_option<'a>(alloc: Global, name: &'a str, help: &'a str) -> Arg<'a>
     option(alloc, name, "KEY=VALUE,..", help).action(ArgAction::Append)
 }
 
+/// A command with the options for axes.
+fn with_axis_options<'a>(alloc: Global, command: Made<'a>) -> Made<'a>
+    ensures { (app : App) → Makes app command.entry → Makes (with_axes app) result }
+{
+    let command = with_argument(command, axis_option(alloc, "vary", VARY));
+    let command = with_argument(command, axis_option(alloc, "over", OVER));
+    with_argument(command, axis_option(alloc, "deal", DEAL))
+}
+
 /// A command with the options that say which runs a study has.
 fn with_grid_options<'a>(alloc: Global, command: Made<'a>, needed: bool) -> Made<'a>
     ensures { (app : App) → Makes app command.entry → Makes (with_grid needed app) result }
 {
-    let command = with_argument(command, seeds_option(alloc, needed));
-    let command = with_argument(command, axis_option(alloc, "vary", VARY));
-    let command = with_argument(command, axis_option(alloc, "over", OVER));
-    with_argument(command, axis_option(alloc, "deal", DEAL))
+    with_axis_options(alloc, with_argument(command, seeds_option(alloc, needed)))
 }
 
 /// The option for the point.
