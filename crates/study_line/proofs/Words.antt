@@ -1,7 +1,6 @@
 -- What clap's matches say.
 use Rattle.std.proofs.Common.{rules, ◌≡◌, ◌∙◌, ap, sym, subst, refl, true, false, codes, [], map, ℕ, Bool, List, Option, Some, None, Result, Ok, Err, IfOk, IfErr, is_some, not, option_map}
 use Rattle.std.specs.Borrow.{Bor}
-use Rattle.std.specs.List.{list_all}
 use Rattle.std.specs.Option.{option_map_or, unwrap_or}
 use Rattle.std.specs.Str.Parse.{ParsesUnsigned, ExplainsUnsignedError, HasUnsignedDigitsIfOk}
 use Rattle.std.specs.declared.num.ParseIntError.{ParseIntError}
@@ -11,10 +10,9 @@ use Rattle.clap.specs.declared.error.Error.{Error}
 use Rattle.clap.specs.declared.parser.matches.ArgMatches.{ArgMatches}
 use Rattle.clap.proofs.OnLiterals.{clap_on_literals}
 use Rattle.study_line.specs.Commands.{whole_app}
-use Rattle.study_line.specs.Order.{Explains, IsNumberAt, IsStudyAt, Lacks, MayBeStudyAt, MayBeUnsignedAt, States, StatesFound, StatesIn, is_missing, study_options}
+use Rattle.study_line.specs.Order.{Explains, IsNumberAt, Lacks, MayBeUnsignedAt, States, StatesFound, StatesIn}
 use Rattle.study_line.specs.declared.order.Order.{Order}
 use Rattle.study_line.specs.declared.order.Order.TheVariants as order
-use Rattle.study_line.specs.declared.order.StudyTexts.{StudyTexts}
 use Rattle.study_line.specs.declared.order.WordsError.{WordsError}
 use Rattle.study_line.specs.declared.order.WordsError.TheVariants as refusal
 
@@ -85,20 +83,6 @@ lacks_part Part Whole parts refusal.Form h = λ y whole. let part = parts y whol
 lacks_part Part Whole parts refusal.Memory h = tt
 
 module _ (rows : List Row) where
-  -- where an option of a study is there, a study is
-  pub study_is : list_all (is_missing rows) study_options ≡ false → (stated : Option StudyTexts)
-      → MayBeStudyAt rows stated → (study : StudyTexts) × IsStudyAt rows study
-  study_is there (Some study) h = (study, h)
-  study_is there None h = let bad : true ≡ false = sym h ∙ there in cc
-
-  pub check_has_study : (asked : Order) → StatesIn (codes "check") rows asked
-      → (study : Option StudyTexts) × MayBeStudyAt rows study
-  check_has_study (order.Check path study) h = (study, h.2)
-  check_has_study (order.Letters path) h = let bad : codes "check" ≡ codes "letters" = h.0 in search rules
-  check_has_study (order.Draw path named from until of) h = let bad : codes "check" ≡ codes "draw" = h.0 in search rules
-  check_has_study (order.Show path grid point run) h = let bad : codes "check" ≡ codes "show" = h.0 in search rules
-  check_has_study (order.Sweep path study columns told) h = let bad : codes "check" ≡ codes "sweep" = h.0 in search rules
-
   pub show_has_point : (asked : Order) → StatesIn (codes "show") rows asked
       → (n : ℕ) × IsNumberAt (codes "point") rows n
   show_has_point (order.Check path study) h = let bad : codes "show" ≡ codes "check" = h.0 in search rules
