@@ -2,7 +2,7 @@
 ghost use Rattle.std.specs.Prelude.{◌≡◌, Some};
 ghost use Rattle.std.specs.Fmt.{WritesOnOk};
 ghost use Rattle.printable.specs.Printable.{printable};
-ghost use Rattle.diagnosis.specs.Text.{path_text, suggestion_text, unknown_text, kind_words, found_text, unit_text, wrong_kind_text, is_of_second, outside_text, names_text, none_of_text, other_name_text, proposals_text, min_above_max_text, to_itself_text, not_before_text, below_text, twice_pair_text, twice_process_text, fault_text, not_toml_text, refused_text};
+ghost use Rattle.diagnosis.specs.Text.{path_text, suggestion_text, unknown_hint, unknown_text, kind_words, found_text, unit_text, wrong_kind_text, is_of_second, outside_hint, outside_text, names_text, none_of_text, other_name_text, proposals_text, min_above_max_text, to_itself_text, not_before_text, below_text, twice_pair_text, twice_process_text, fault_text, not_toml_text, refused_text};
 
 use crate::answer::Refused;
 use crate::fault::{
@@ -65,7 +65,7 @@ fn write_suggestion<W: fmt::Write>(
     place: Place,
     suggestion: Option<&str>,
 ) -> fmt::Result
-    ensures { WritesOnOk W.Write.write_str_gives f.old result (suggestion_text place suggestion) f.new }
+    ensures { WritesOnOk W.Write.write_str_gives f.old result (suggestion_text place suggestion.entry) f.new }
 {
     match suggestion {
         Some(key) => {
@@ -77,7 +77,22 @@ fn write_suggestion<W: fmt::Write>(
     }
 }
 
-/// Writes the key that isn't one of the table's, and that version 2 has it, or the key that is perhaps meant.
+/// Writes that version 2 has the key, or the key that is perhaps meant.
+fn write_unknown_hint<W: fmt::Write>(
+    f: &mut fmt::Formatter<W>,
+    place: Place,
+    unknown: &UnknownKey,
+) -> fmt::Result
+    ensures { WritesOnOk W.Write.write_str_gives f.old result (unknown_hint place unknown.now) f.new }
+{
+    if unknown.is_of_second {
+        f.write_str(" (version 2 allows it)")
+    } else {
+        write_suggestion(f, place, unknown.suggestion)
+    }
+}
+
+/// Writes the key that isn't one of the table's.
 fn write_unknown<W: fmt::Write>(
     f: &mut fmt::Formatter<W>,
     place: Place,
@@ -86,11 +101,7 @@ fn write_unknown<W: fmt::Write>(
     ensures { WritesOnOk W.Write.write_str_gives f.old result (unknown_text place unknown.now) f.new }
 {
     write_quoted_path(f, place, unknown.key.as_str())?;
-    if unknown.is_of_second {
-        f.write_str(" (version 2 allows it)")
-    } else {
-        write_suggestion(f, place, unknown.suggestion)
-    }
+    write_unknown_hint(f, place, unknown)
 }
 
 /// The words for a kind.
@@ -150,6 +161,17 @@ fn allows_second(outside: &Outside) -> bool
     outside.key == "processes" && lies_within(outside.value, 1, u64::from(MOST_PROCESSES))
 }
 
+/// Writes that a file of version 2 may have so many processes.
+fn write_outside_hint<W: fmt::Write>(f: &mut fmt::Formatter<W>, outside: &Outside) -> fmt::Result
+    ensures { WritesOnOk W.Write.write_str_gives f.old result (outside_hint outside.now) f.new }
+{
+    if allows_second(outside) {
+        f.write_str(" (version 2 allows it)")
+    } else {
+        Ok(())
+    }
+}
+
 /// Writes that a number lies outside its range.
 fn write_outside<W: fmt::Write>(
     f: &mut fmt::Formatter<W>,
@@ -161,11 +183,7 @@ fn write_outside<W: fmt::Write>(
     let (value, low, high) = (outside.value, outside.low, outside.high);
     write_path(f, place, outside.key)?;
     write!(f, ": {value} is not {low} to {high}")?;
-    if allows_second(outside) {
-        f.write_str(" (version 2 allows it)")
-    } else {
-        Ok(())
-    }
+    write_outside_hint(f, outside)
 }
 
 /// Writes names, each after a space.

@@ -5,7 +5,7 @@ use Rattle.std.proofs.lemmas.List.{get_or-take, get_or-drop, length-take}
 use Rattle.std.proofs.lemmas.List.FromFn.{length-range_with_len, get_or-range_with_len}
 use Rattle.diagnosis.specs.Diagnosis.{AcceptsAs}
 use Rattle.diagnosis.specs.declared.answer.Accepted.{Accepted}
-use Rattle.study_commands.specs.Check.{IsCheckAnswer, IsStudyCheck, accepted_text, study_begin}
+use Rattle.study_commands.specs.Check.{AllHaveScenarios, IsCheckAnswer, IsStudyCheck, accepted_text, study_begin}
 use Rattle.study_commands.specs.Draw.{AreNamed, IsDrawAnswer, Shows, end_of_ticks, first_tick}
 use Rattle.study_commands.specs.File.{AreBytes, IsScenario, IsTable}
 use Rattle.study_commands.specs.Letters.{IsLettersAnswer}
@@ -33,7 +33,7 @@ use Rattle.study_line.specs.declared.order.GridTexts.{GridTexts}
 use Rattle.study_line.specs.declared.order.Picture.{Picture}
 use Rattle.study_line.specs.declared.order.StudyTexts.{StudyTexts}
 use Rattle.sweep.specs.Layout.{LayoutRecord}
-use Rattle.sweep.specs.Outcome.{BreaksOff, CantBeRun, HasScenario, WroteStudy, WroteFirst}
+use Rattle.sweep.specs.Outcome.{BreaksOff, CantBeRun, WroteStudy, WroteFirst}
 use Rattle.sweep.specs.StudyText.{numbers_of, point_at, run_at}
 use Rattle.sweep.specs.declared.error.SweepError.{SweepError}
 use Rattle.sweep.specs.declared.error.SweepError.TheVariants as error
@@ -186,8 +186,7 @@ module _ (input : Option (List ℕ)) (path : List ℕ) (study : StudyTexts)
     (file : Members) (is_file : IsTable input path file) (g : GridRecord) (is_grid : IsGrid study.grid g)
     (shard : ShardRecord) (is_shard : IsShardOf (shard_word study) shard) where
   -- of a study that can be run
-  pub study_answer : (piece : List ℕ)
-      → ((point run : ℕ) → Contains (numbers_of g shard) point → run < length (runs g) → HasScenario file g point run)
+  pub study_answer : (piece : List ℕ) → AllHaveScenarios file g shard
       → (reckoned : List ℕ) × (piece ≡ study_begin (length (numbers_of g shard)) (length (runs g)) ++ reckoned)
       → IsStudyCheck input path study piece
   study_answer piece each text = record {

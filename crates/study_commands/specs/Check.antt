@@ -31,6 +31,11 @@ pub record IsCheckAnswer (input : Option (List ℕ)) (path : List ℕ) (piece : 
 abbrev pub study_begin : (points runs : ℕ) → List ℕ
 study_begin points runs = codes "ok: " ++ decimal points ++ codes " points of " ++ decimal runs ++ codes " runs each"
 
+-- all runs of the shard's points have a scenario
+abbrev pub AllHaveScenarios : Members → GridRecord → ShardRecord → Type 0
+AllHaveScenarios file grid shard = (point run : ℕ) → Contains (numbers_of grid shard) point → run < length (runs grid)
+    → HasScenario file grid point run
+
 -- all runs of the study have a scenario, of the shard's points where one is named, and the text begins with how many
 -- points and runs these are. What is reckoned of them, and of their limits, isn't said
 pub record IsStudyCheck (input : Option (List ℕ)) (path : List ℕ) (study : StudyTexts) (piece : List ℕ) : Type 0 where
@@ -40,7 +45,6 @@ pub record IsStudyCheck (input : Option (List ℕ)) (path : List ℕ) (study : S
   pub is_grid : IsGrid study.grid grid
   pub shard : ShardRecord
   pub is_shard : IsShardOf (shard_word study) shard
-  pub each : (point run : ℕ) → Contains (numbers_of grid shard) point → run < length (runs grid)
-      → HasScenario file grid point run
+  pub each : AllHaveScenarios file grid shard
   pub reckoned : List ℕ
   pub text : piece ≡ study_begin (length (numbers_of grid shard)) (length (runs grid)) ++ reckoned

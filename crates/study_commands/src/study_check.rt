@@ -1,11 +1,14 @@
 //! The command `check` with a study: how many points and runs there are, and about how much they will be.
 ghost use Rattle.std.specs.Prelude.{◌≡◌, ◌≢◌, ◌^◌, ◌-◌, ◌+◌, ◌<◌, ◌++◌, ℕ, List, false, IfOk, IfErr, OnOk, length, string_bytes};
 ghost use Rattle.study.specs.Grid.{runs};
-ghost use Rattle.study_commands.specs.Check.{IsStudyCheck, study_begin};
+ghost use Rattle.study_commands.specs.Check.{AllHaveScenarios, IsStudyCheck, study_begin};
 ghost use Rattle.study_commands.specs.Stop.{Stops, Went};
+ghost use Rattle.study_commands.specs.Sweep.{IsFaultOf};
 ghost use Rattle.study_commands.specs.Why.{StopsStudyCheck};
 ghost use Rattle.sources.specs.Input.{TakesAtMost, input_path, most_bytes};
+ghost use Rattle.sweep.specs.Outcome.{CantBeRun};
 ghost use Rattle.sweep.specs.StudyText.{numbers_of};
+ghost use Rattle.toml.specs.View.{table_view};
 
 use crate::fault::Fault;
 use crate::file::table_of;
@@ -25,7 +28,7 @@ use std::rt::Files;
 use std::thread::Threads;
 use study::{Grid, Shard};
 use study_line::StudyTexts;
-use sweep::{Watcher, check_study};
+use sweep::{SweepError, Watcher, check_study};
 use toml::Table;
 
 /// About how many entries the runs have, and how long they take by so many threads.
@@ -97,6 +100,27 @@ fn text_of<R: Threads + Sync>(
     Ok(text)
 }
 
+/// Reads the scenarios of all runs.
+fn read_runs<R: Threads + Sync, W: Watcher>(
+    rt: &R,
+    alloc: Global,
+    path: &str,
+    file: &Table,
+    grid: &Grid,
+    shard: Shard,
+    threads: u8,
+    watcher: &mut W,
+) -> Result<(), Fault>
+    ensures read { OnOk result (AllHaveScenarios (table_view file.now) grid.now shard) }
+    ensures refused { IfErr result (λ f. (e : SweepError) × CantBeRun (table_view file.now) grid.now shard e × IsFaultOf e f) }
+    ensures hidden { W.shows watcher.old ≡ false → W.shows watcher.new ≡ false }
+{
+    match check_study(rt, alloc, file, grid, shard, threads, watcher) {
+        Ok(()) => Ok(()),
+        Err(error) => Err(fault_of(alloc, path, file, grid, &error)),
+    }
+}
+
 /// Answers `check` with a study: how many points and runs there are, of the shard where one is named, about how many
 /// entries they have, how long that takes, and where a limit will stop a run. The scenario of each run is read.
 pub(crate) fn serve_study_check<R: Files + Threads + Sync, I: Read, O: Outlet, W: Watcher>(
@@ -122,9 +146,7 @@ pub(crate) fn serve_study_check<R: Files + Threads + Sync, I: Read, O: Outlet, W
     let shard = shard_of(alloc, study.shard)?;
     let file = table_of(rt, alloc, path, input)?;
     let threads = threads_for(rt, study.threads);
-    if let Err(error) = check_study(rt, alloc, &file, &grid, shard, threads, watcher) {
-        return Err(fault_of(alloc, path, &file, &grid, &error));
-    }
+    read_runs(rt, alloc, path, &file, &grid, shard, threads, watcher)?;
     match text_of(rt, alloc, &file, &grid, shard, threads) {
         Ok(text) => put_text(text.as_str(), outlet),
         Err(_) => Err(Fault::Memory),
