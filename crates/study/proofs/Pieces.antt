@@ -1,7 +1,7 @@
 -- What words say of an axis' values, one after the other.
-use Rattle.std.proofs.Common.{◌≡◌, ℕ, zero, suc, ◌+◌, ◌-◌, ◌≤◌, ◌<◌, ℤ, List, [], ◌∷◌, ◌++◌, append_assoc, map, length, length-append, get_or, drop, Bor, Bool, true, false, ◌==◌, nat_lt, Option, Some, None, Result, Ok, Err, OnOk, IfOk, IfErr, if◌then◌else◌, refl, sym, ◌∙◌, ap, subst, inl, inr, arith}
+use Rattle.std.proofs.Common.{◌≡◌, ℕ, suc, ◌+◌, ◌-◌, ◌≤◌, ◌<◌, List, [], ◌∷◌, ◌++◌, append_assoc, map, length, length-append, get_or, drop, Bor, Bool, true, false, ◌==◌, nat_lt, Option, Some, None, Result, Ok, Err, OnOk, IfOk, IfErr, if◌then◌else◌, refl, sym, ◌∙◌, ap, subst, arith}
 use Rattle.std.proofs.Math.Dec.{ltb}
-use Rattle.std.proofs.lemmas.Bool.{cases_Bool, le-ltb, lt-ltb, ltb-false, eqb-true, eq-eqb, false≢true}
+use Rattle.std.proofs.lemmas.Bool.{le-ltb, lt-ltb, ltb-false, eqb-true, eq-eqb}
 use Rattle.std.proofs.lemmas.List.{length-map, drop_more, map-append, append-nil}
 use Rattle.std.proofs.lemmas.List.Elements.{All-nil, All-cons, All-append}
 use Rattle.std.proofs.Math.ListN.{drop_of_length-le}
@@ -13,7 +13,7 @@ use Rattle.std.specs.Option.{option_or}
 use Rattle.study.specs.Settings.{Given, number, given_by, settings_in}
 use Rattle.study.specs.declared.setting.Setting.{Setting}
 use Rattle.study.specs.Words.{Word, between}
-use Rattle.study.specs.AxisWords.{RangeRecord, range_fault, steps, number_after, Piece, one, range, word, piece_said, values, piece_fault, part_fault, parts_fault, Entry, single, tied, entry_said, entries_said, rows, entry_fault, fault_within, first_fault, Adds, is_memory}
+use Rattle.study.specs.AxisWords.{RangeRecord, range_fault, steps, number_after, Piece, one, range, word, piece_said, values, part_fault, parts_fault, Entry, single, tied, entry_said, entries_said, rows, entry_fault, fault_within, first_fault, Adds, is_memory}
 use Rattle.study.specs.declared.error.AxisError.{AxisError}
 use Rattle.study.specs.declared.error.AxisError.TheVariants as error
 

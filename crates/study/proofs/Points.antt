@@ -1,5 +1,5 @@
 -- The runs of a point, counted and picked by their numbers.
-use Rattle.std.proofs.Common.{◌≡◌, ℕ, zero, suc, ◌+◌, ◌*◌, ◌/◌, ◌%◌, ◌≤◌, ◌<◌, List, [], ◌∷◌, ◌++◌, length, map, get_or, cond, ◌==◌, refl, sym, ◌∙◌, ap, inl, inr, arith}
+use Rattle.std.proofs.Common.{◌≡◌, ℕ, zero, suc, ◌+◌, ◌*◌, ◌/◌, ◌%◌, ◌≤◌, ◌<◌, List, [], ◌++◌, length, map, get_or, cond, ◌==◌, sym, ◌∙◌, ap, inl, inr, arith}
 use Rattle.std.proofs.Math.Nat.{div-lt_iff_lt-mul, mod-lt, mod-eq_of_lt, mul-add-mod_self_right, zero-add, zero-mul, suc-mul}
 use Rattle.std.proofs.lemmas.Bool.{cases_Bool, eqb-true, eq-eqb, false≢true}
 use Rattle.std.proofs.lemmas.Nat.{div-add-mod'}
@@ -7,7 +7,7 @@ use Rattle.std.proofs.lemmas.List.FromFn.{length-map-range_with_len, get_or-map-
 use Rattle.std.specs.List.{count_by, range_with_len}
 use Rattle.study.specs.Combinations.{combinations}
 use Rattle.study.specs.Settings.{Chosen}
-use Rattle.study.specs.Grid.{GridRecord, RunRecord, runs, runs_with, turn, dealt_to, HaveOwnSeeds, AreDealtEvenly}
+use Rattle.study.specs.Grid.{GridRecord, RunRecord, runs, runs_with, dealt_to, HaveOwnSeeds, AreDealtEvenly}
 use Rattle.study.proofs.Combos.{pieces_length, piece_at}
 
 abbrev run_with : GridRecord → List Chosen → ℕ → RunRecord

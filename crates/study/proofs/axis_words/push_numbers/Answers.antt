@@ -1,4 +1,4 @@
-use Rattle.std.proofs.Common.{◌∙◌, [], ◌∷◌, map, ap, w64, to_z, of_z, rules}
+use Rattle.std.proofs.Common.{◌∙◌, [], ◌∷◌, map, ap, w64, rules}
 use Rattle.std.proofs.lemmas.Int.{to_z-of_z}
 use Rattle.std.specs.Int.RustNames.{FitsSigned}
 use Rattle.study.specs.Settings.{number, settings_in}

@@ -1,4 +1,4 @@
-use Rattle.std.proofs.Common.{◌≡◌, ◌∙◌, ℕ, None, Some, true, false, sym, subst, map, length, lit<}
+use Rattle.std.proofs.Common.{◌≡◌, ◌∙◌, None, Some, true, false, sym, subst, map, length, lit<}
 use Rattle.std.proofs.lemmas.List.{length-map}
 use Rattle.std.proofs.lemmas.Str.Pattern.{split_parts, split_once_first}
 use Rattle.std.specs.List.{All, AllZip}
