@@ -2,7 +2,7 @@ use Rattle.std.proofs.Common.{◌∙◌, ap}
 use Rattle.toml.specs.View.{view, members_view}
 use Rattle.study.specs.Placed.{put}
 use Rattle.study.proofs.Placing.{inserted}
-use Rattle.study.proofs.placed.put.Goals as goal
+use Rattle.study.proofs.placed.insert.Goals as goal
 
 pub returns : goal.returns
 returns c =
