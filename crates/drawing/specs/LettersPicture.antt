@@ -199,7 +199,7 @@ module _ (S : Record) (trace : List EntryRecord) (from until : ℕ) where
     unfoldable pub letters_shapes : (of : List ℕ) → List Letter → List Shape
     letters_shapes of letters =
         letters_legend from until S.share
-        ++ (left_out_shapes (left_room + 480) (codes "letters of others, left out") (count_others of from until letters)
+        ++ (left_out_shapes (left_room + 440) (codes "letters of others, left out") (count_others of from until letters)
         ++ (axis from until (lanes_bottom S.processes)
         ++ (flat_map line_shapes (numbers_to S.processes)
         ++ (arrows S.processes from until of letters

@@ -85,7 +85,7 @@ fn shapes_of(
     let what = "letters of others, left out";
     let mut shapes = Vec::new(alloc);
     push_letters_legend(alloc, &mut shapes, &run.ticks, scenario.share())?;
-    push_left_out(alloc, &mut shapes, LEFT + 480, what, others)?;
+    push_left_out(alloc, &mut shapes, LEFT + 440, what, others)?;
     push_axis(
         alloc,
         &mut shapes,

@@ -20,11 +20,11 @@ returns c =
     let b = c.push_left_out.new.shapes.items in
     let what = codes "letters of others, left out" in
     joined_all a b c.push_axis.new.shapes.items c.push_lines.new.shapes.items c.push_arrows.new.shapes.items c.push_all_marks.new.shapes.items
-    (letters_legend from until run.scenario.now.share) (left_out_shapes (left_room + 480) what (count_others of from until letters))
+    (letters_legend from until run.scenario.now.share) (left_out_shapes (left_room + 440) what (count_others of from until letters))
     (axis from until (lanes_bottom n)) (lines_in run) (arrows n from until of letters) (all_marks_in run)
     (c.in_ok-push_letters_legend.ensures
     ∙ ap (λ xs. xs ++ letters_legend from until c.share.result) c.new-shapes.ensures.items
     ∙ ap (letters_legend from until) c.share.ensures.value)
-    (c.in_ok-push_left_out.ensures ∙ ap (λ k. a ++ left_out_shapes (left_room + 480) what k) c.count_others-others.ensures)
+    (c.in_ok-push_left_out.ensures ∙ ap (λ k. a ++ left_out_shapes (left_room + 440) what k) c.count_others-others.ensures)
     (c.in_ok-push_axis.ensures ∙ ap (λ y. b ++ axis from until y) (c.lanes_bottom.ensures.value ∙ ap lanes_bottom c.processes.ensures.value))
     c.in_ok-push_lines.ensures c.in_ok-push_arrows.ensures c.in_ok-push_all_marks.ensures
