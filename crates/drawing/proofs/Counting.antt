@@ -1,10 +1,10 @@
 -- How many pairs have a row, and where rows end, process by process.
-use Rattle.std.proofs.Common.{◌≡◌, ◌∙◌, ℕ, zero, suc, add-one, Bool, true, false, cond, not, eqb, refl, ◌+◌, ◌*◌, ◌≤◌, List, [], ◌∷◌, ◌++◌, ap, sym, arith, filter, flat_map, length, length-append, append-nil, sum_by}
+use Rattle.std.proofs.Common.{◌≡◌, ◌∙◌, ℕ, zero, suc, add-one, Bool, true, false, cond, not, eqb, refl, ◌+◌, ◌*◌, ◌≤◌, List, [], ◌∷◌, ◌++◌, ap, arith, filter, flat_map, length, length-append, append-nil, sum_by}
 use Rattle.std.proofs.lemmas.Grind.{flat_map-append}
 use Rattle.std.proofs.lemmas.List.Elements.{filter-append}
 use Rattle.std.proofs.lemmas.List.Sums.{count_by-le-length, length-filter, sum_by_push}
 use Rattle.process_api.specs.Numbers.{numbers_to, others}
-use Rattle.drawing.specs.Layout.{subjects, absent, group_height, groups_bottom, left_out}
+use Rattle.drawing.specs.Layout.{absent, group_height, groups_bottom}
 
 length-numbers_to : (n : ℕ) → length (numbers_to n) ≡ n
 length-numbers_to zero = refl

@@ -1,14 +1,21 @@
 -- The rows of a process, one after the other.
-use Rattle.std.proofs.Common.{◌≡◌, ◌∙◌, ℕ, suc, ◌+◌, ◌-◌, ◌*◌, Bool, true, false, cond, not, eqb, refl, ap, sym, arith, List, [], ◌++◌, append-nil, append_assoc, filter, flat_map, length}
-use Rattle.process_api.specs.Numbers.{others}
+use Rattle.std.proofs.Common.{◌≡◌, ◌∙◌, ℕ, suc, ◌+◌, ◌-◌, Bool, true, false, ◌||◌, cond, not, eqb, refl, ap, sym, arith, List, [], ◌++◌, append-nil, append_assoc, flat_map, length}
 use Rattle.svg.specs.declared.shape.Shape.{Shape}
-use Rattle.drawing.specs.Drawn.{own_of, own_in, pair_in, row_at, bars_in, has_row_in, groups_end, IsPairMore, ArePairsMore}
-use Rattle.drawing.specs.Layout.{subjects, absent, groups_bottom, row_top}
-use Rattle.drawing.specs.Suspicions.{own_at, pair_at}
+use Rattle.drawing.specs.Drawn.{ArePairBars, own_of, own_in, pair_in, row_at, bars_in, has_row_in, groups_end, IsPairMore, ArePairsMore}
+use Rattle.drawing.specs.Layout.{subjects, row_top}
+use Rattle.drawing.specs.Suspicions.{own_at, pair_at, has_bar, has_row}
 use Rattle.drawing.specs.declared.groups.Row.{Row}
 use Rattle.drawing.specs.declared.groups.Rows.{Rows}
 use Rattle.drawing.specs.declared.groups.Run.{Run}
+use Rattle.drawing.specs.declared.pairs.PairBars.{PairBars}
 use Rattle.drawing.proofs.Counting.{kept_itself, kept_no, length_yes, mapped_yes}
+
+-- where a pair has a bar
+pub shown_same : (run : Run) (q p : ℕ) (b : PairBars) → ArePairBars run q p b → (has_bar b.first.items || has_bar b.second.items) ≡ has_row_in run q p
+unfolding has_row_in has_row
+shown_same run q p b h =
+    ap (λ xs. has_bar xs || has_bar b.second.items) h.first
+    ∙ ap (λ xs. has_bar (bars_in run 1 q p) || has_bar xs) h.second
 
 module _ (run : Run) (q : ℕ) where
   pub own_row : (row : Row) → row.observer ≡ q → row.top ≡ groups_end run (q - 1) → own_of run row ≡ own_in run q
@@ -37,7 +44,9 @@ module _ (run : Run) (q : ℕ) where
     module _ (top : first.top ≡ groups_end run (q - 1) + 16) (other : not (eqb (suc n) q) ≡ true) (p : IsPairMore run q (suc n) old new) where
       here : old.top ≡ row_at run q (suc n)
       unfolding row_top
-      here = omega (arith, sofar.top, top)
+      here =
+          let n_before : n ≡ suc n - 1 = omega arith in
+          omega (arith, sofar.top, top, ap (λ k. length (subjects (has_row_in run) k q)) n_before)
 
       row : drawn old.top (suc n) ≡ pair_in run q (suc n)
       unfolding pair_in
@@ -50,8 +59,8 @@ module _ (run : Run) (q : ℕ) where
             ∙ ap (λ t. old.shapes.items ++ t) row ∙ ap (λ t. t ++ pair_in run q (suc n)) sofar.shapes
             ∙ append_assoc first.shapes.items (flat_map (pair_in run q) (subjects (has_row_in run) n q)) (pair_in run q (suc n))
             ∙ ap (λ t. first.shapes.items ++ t) (sym (mapped_yes has n q other (pair_in run q) e));
-        top = omega (arith, p.top, ap (λ b. cond b 16 0) e, sofar.top, length_yes has n q other e);
-        left_out = omega (arith, p.left_out, ap (λ b. cond b 0 1) e, sofar.left_out, ap length (kept_no lacks n q other (ap not e)));
+        top = omega (arith, p.top ∙ ap (λ b. old.top + cond b 16 0) e, sofar.top, length_yes has n q other e);
+        left_out = omega (arith, p.left_out ∙ ap (λ b. old.left_out + cond b 0 1) e, sofar.left_out, ap length (kept_no lacks n q other (ap not e)));
       }
 
       without_row : has (suc n) ≡ false → ArePairsMore run q (n + 1) first new
@@ -59,8 +68,8 @@ module _ (run : Run) (q : ℕ) where
         shapes =
             p.shapes ∙ ap (λ b. old.shapes.items ++ cond b (drawn old.top (suc n)) []) e ∙ append-nil old.shapes.items ∙ sofar.shapes
             ∙ ap (λ ps. first.shapes.items ++ flat_map (pair_in run q) ps) (sym (kept_no has n q other e));
-        top = omega (arith, p.top, ap (λ b. cond b 16 0) e, sofar.top, ap length (kept_no has n q other e));
-        left_out = omega (arith, p.left_out, ap (λ b. cond b 0 1) e, sofar.left_out, length_yes lacks n q other (ap not e));
+        top = omega (arith, p.top ∙ ap (λ b. old.top + cond b 16 0) e, sofar.top, ap length (kept_no has n q other e));
+        left_out = omega (arith, p.left_out ∙ ap (λ b. old.left_out + cond b 0 1) e, sofar.left_out, length_yes lacks n q other (ap not e));
       }
 
       either : (b : Bool) → has (suc n) ≡ b → ArePairsMore run q (n + 1) first new

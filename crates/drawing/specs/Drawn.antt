@@ -1,9 +1,9 @@
 -- The pieces of a picture, of a run and some ticks of it.
-use Rattle.std.specs.Prelude.{◌≡◌, ℕ, ◌+◌, ◌-◌, ◌*◌, Bool, if◌then◌else◌, List, [], ◌++◌, map, flat_map, length, sum_by}
+use Rattle.std.specs.Prelude.{◌≡◌, ℕ, ◌+◌, ◌-◌, ◌*◌, Bool, if◌then◌else◌, List, [], ◌++◌, flat_map, length, sum_by}
 use Rattle.judges.specs.Out.{suspects}
 use Rattle.process_api.specs.Numbers.{numbers_to}
 use Rattle.svg.specs.declared.shape.Shape.{Shape}
-use Rattle.drawing.specs.Layout.{subjects, absent, group_height, groups_bottom, row_top, left_out}
+use Rattle.drawing.specs.Layout.{subjects, absent, group_height, groups_bottom, row_top}
 use Rattle.drawing.specs.Sizes.{row_height}
 use Rattle.drawing.specs.Suspicions.{row_end, upper_bars, has_row, pair_at, own_at, group_shapes, suspicions}
 use Rattle.drawing.specs.Sweeping.{stretches}

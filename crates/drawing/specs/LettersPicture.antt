@@ -1,5 +1,6 @@
 -- The picture of letters: what went from whom to whom.
-use Rattle.std.specs.Prelude.{◌≡◌, ℕ, ◌+◌, ◌-◌, ◌/◌, ◌==◌, nat_lt, Bool, not, ◌&&◌, ◌||◌, if◌then◌else◌, Option, None, Some, List, [], ◌∷◌, ◌++◌, map, flat_map, filter, list_any, length, codes, decimal}
+use Rattle.std.specs.Prelude.{◌≡◌, ℕ, ◌+◌, ◌-◌, ◌/◌, ◌==◌, nat_lt, Bool, not, ◌&&◌, ◌||◌, if◌then◌else◌, Option, None, Some, List, [], ◌∷◌, ◌++◌, map, flat_map, filter, length, codes, decimal}
+use Rattle.std.specs.List.{list_any}
 use Rattle.judges.specs.Out.{suspects}
 use Rattle.judges.specs.Outcomes.{outcome}
 use Rattle.judges.specs.declared.outcomes.Answer.{Answer}

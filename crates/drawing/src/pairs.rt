@@ -1,6 +1,6 @@
 //! The row of a pair of processes: what one makes of the other.
-ghost use Rattle.std.specs.Prelude.{◌≡◌, ◌++◌, ◌≤◌, IfOk, OnOk};
-ghost use Rattle.drawing.specs.Suspicions.{first_top};
+ghost use Rattle.std.specs.Prelude.{◌≡◌, ◌++◌, ◌||◌, ◌≤◌, IfOk, OnOk};
+ghost use Rattle.drawing.specs.Suspicions.{first_top, has_bar};
 
 use crate::bars::{Bar, bars_of};
 use crate::groups::{Row, Rows, Run};
@@ -18,6 +18,15 @@ pub(crate) struct PairBars {
     pub first: Vec<Bar>,
     /// Those of the reduction, where there is one.
     pub second: Vec<Bar>,
+}
+
+impl PairBars {
+    /// Whether there is one.
+    fn is_shown(&self) -> bool
+        ensures { result ≡ (has_bar self.now.first.items || has_bar self.now.second.items) }
+    {
+        !self.first.is_empty() || !self.second.is_empty()
+    }
 }
 
 /// Where the bars of the base detector begin, below the top of their row.
@@ -110,7 +119,7 @@ impl Run<'_> {
         ensures { OnOk result (IsPairMore self.now observer subject rows.old rows.new) }
     {
         let bars = self.pair_bars(alloc, observer, subject)?;
-        if bars.first.is_empty() && bars.second.is_empty() {
+        if !bars.is_shown() {
             rows.left_out += 1;
             return Ok(());
         }

@@ -1,7 +1,5 @@
-use Rattle.std.proofs.Common.{◌≡◌, ◌∙◌, ◌≤◌, ◌+◌, [], suc, true, false, not, eqb, sym, ap, subst, arith, append-nil, add-one, length}
-use Rattle.process_api.specs.Numbers.{others}
+use Rattle.std.proofs.Common.{◌≡◌, ◌∙◌, ◌+◌, suc, true, false, not, eqb, sym, ap, subst, arith, append-nil, add-one}
 use Rattle.drawing.specs.Drawn.{ArePairsMore, IsPairMore, has_row_in}
-use Rattle.drawing.specs.Layout.{subjects, absent}
 use Rattle.drawing.specs.declared.groups.Rows.{Rows}
 use Rattle.drawing.proofs.Counting.{few}
 use Rattle.drawing.proofs.RowShapes.{itself_more, pair_more}

@@ -1,4 +1,4 @@
-use Rattle.std.proofs.Common.{◌≡◌, ◌<◌, ◌≤◌, ◌∙◌, ◌++◌, ◌-◌, suc, refl, sym, ap, subst, arith, flat_map, length, get_or}
+use Rattle.std.proofs.Common.{◌≡◌, ◌<◌, ◌∙◌, ◌++◌, ◌-◌, suc, refl, sym, ap, subst, arith, flat_map, length, get_or}
 use Rattle.judges.specs.Outcomes.{outcome, outcomes}
 use Rattle.judges.specs.declared.outcomes.Outcome.{Outcome}
 use Rattle.judges.proofs.Outcoming.{outcomes-at, length-outcomes}
@@ -31,7 +31,9 @@ push_group-requires-clause-top c =
     let items : c.deref-outcome-items.result.now ≡ outcomes trace n = c.deref-outcome-items.ensures.value ∙ c.in_ok-outcomes.ensures.outcomes in
     let within : i < n = omega (arith, c.loop-outcome-test.true, ap length items, length-outcomes trace n) in
     let is : told ≡ outcome trace (suc i) = c.outcome-item.is ∙ ap (λ xs. get_or xs i told) items ∙ outcomes-at trace n i told within in
-    c.loop-outcome.invariant.top ∙ ap (λ q. groups_end run (q - 1)) (sym (ap (λ (o : Outcome). o.pid) is))
+    let own : told.pid ≡ suc i = ap (λ (o : Outcome). o.pid) is in
+    let before : i ≡ told.pid - 1 = omega (arith, own) in
+    c.loop-outcome.invariant.top ∙ ap (groups_end run) before
 
 pub push_group-requires-clause-high : goal.push_group-requires-clause-high
 push_group-requires-clause-high c =
