@@ -5,7 +5,7 @@ use Rattle.std.proofs.lemmas.List.{get_or-take, get_or-drop, length-take}
 use Rattle.std.proofs.lemmas.List.FromFn.{length-range_with_len, get_or-range_with_len}
 use Rattle.diagnosis.specs.Diagnosis.{AcceptsAs}
 use Rattle.diagnosis.specs.declared.answer.Accepted.{Accepted}
-use Rattle.study_commands.specs.Check.{AllHaveScenarios, IsCheckAnswer, IsStudyCheck, accepted_text, study_begin}
+use Rattle.study_commands.specs.Check.{IsCheckAnswer, IsStudyCheck, accepted_text, study_begin}
 use Rattle.study_commands.specs.Draw.{AreNamed, IsDrawAnswer, Shows, end_of_ticks, first_tick}
 use Rattle.study_commands.specs.File.{AreBytes, IsScenario, IsTable}
 use Rattle.study_commands.specs.Letters.{IsLettersAnswer}
@@ -33,7 +33,7 @@ use Rattle.study_line.specs.declared.order.GridTexts.{GridTexts}
 use Rattle.study_line.specs.declared.order.Picture.{Picture}
 use Rattle.study_line.specs.declared.order.StudyTexts.{StudyTexts}
 use Rattle.sweep.specs.Layout.{LayoutRecord}
-use Rattle.sweep.specs.Outcome.{BreaksOff, CantBeRun, WroteStudy, WroteFirst}
+use Rattle.sweep.specs.Outcome.{AllHaveScenarios, BreaksOff, CantBeRun, WroteStudy, WroteFirst}
 use Rattle.sweep.specs.StudyText.{numbers_of, point_at, run_at}
 use Rattle.sweep.specs.declared.error.SweepError.{SweepError}
 use Rattle.sweep.specs.declared.error.SweepError.TheVariants as error

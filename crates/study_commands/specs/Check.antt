@@ -1,12 +1,12 @@
 -- What `check` answers.
-use Rattle.std.specs.Prelude.{◌≡◌, ◌<◌, ℕ, List, length, ◌++◌, codes, decimal, Contains, Option}
+use Rattle.std.specs.Prelude.{◌≡◌, ℕ, List, length, ◌++◌, codes, decimal, Option}
 use Rattle.toml.specs.Data.{Members}
 use Rattle.study.specs.Grid.{GridRecord, runs}
 use Rattle.study.specs.Shard.{ShardRecord}
 use Rattle.study_commands.specs.File.{AreBytes, IsTable}
 use Rattle.study_commands.specs.Study.{IsGrid, IsShardOf, shard_word}
 use Rattle.study_line.specs.declared.order.StudyTexts.{StudyTexts}
-use Rattle.sweep.specs.Outcome.{HasScenario}
+use Rattle.sweep.specs.Outcome.{AllHaveScenarios}
 use Rattle.sweep.specs.StudyText.{numbers_of}
 use Rattle.scenario_record.specs.Record.{Record}
 use Rattle.scenario.specs.Refusals.{Accepts}
@@ -30,11 +30,6 @@ pub record IsCheckAnswer (input : Option (List ℕ)) (path : List ℕ) (piece : 
 -- the begin of the text of a study whose runs are all accepted
 abbrev pub study_begin : (points runs : ℕ) → List ℕ
 study_begin points runs = codes "ok: " ++ decimal points ++ codes " points of " ++ decimal runs ++ codes " runs each"
-
--- all runs of the shard's points have a scenario
-abbrev pub AllHaveScenarios : Members → GridRecord → ShardRecord → Type 0
-AllHaveScenarios file grid shard = (point run : ℕ) → Contains (numbers_of grid shard) point → run < length (runs grid)
-    → HasScenario file grid point run
 
 -- all runs of the study have a scenario, of the shard's points where one is named, and the text begins with how many
 -- points and runs these are. What is reckoned of them, and of their limits, isn't said

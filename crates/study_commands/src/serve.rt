@@ -56,7 +56,7 @@ fn carry_out<R: Files + Threads + Sync, I: Read, O: Outlet, W: Watcher>(
         Order::Check {
             path,
             study: Some(study),
-        } => serve_study_check(rt, alloc, path, study, input, outlet, watcher),
+        } => serve_study_check(rt, alloc, path, study, input, outlet),
         Order::Letters { path } => serve_letters(rt, alloc, path, input, outlet),
         Order::Draw {
             path,

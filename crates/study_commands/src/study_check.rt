@@ -1,12 +1,12 @@
 //! The command `check` with a study: how many points and runs there are, and about how much they will be.
 ghost use Rattle.std.specs.Prelude.{◌≡◌, ◌≢◌, ◌^◌, ◌-◌, ◌+◌, ◌<◌, ◌++◌, ℕ, List, false, IfOk, IfErr, OnOk, length, string_bytes};
 ghost use Rattle.study.specs.Grid.{runs};
-ghost use Rattle.study_commands.specs.Check.{AllHaveScenarios, IsStudyCheck, study_begin};
+ghost use Rattle.study_commands.specs.Check.{IsStudyCheck, study_begin};
 ghost use Rattle.study_commands.specs.Stop.{Stops, Went};
 ghost use Rattle.study_commands.specs.Sweep.{IsFaultOf};
 ghost use Rattle.study_commands.specs.Why.{StopsStudyCheck};
 ghost use Rattle.sources.specs.Input.{TakesAtMost, input_path, most_bytes};
-ghost use Rattle.sweep.specs.Outcome.{CantBeRun};
+ghost use Rattle.sweep.specs.Outcome.{AllHaveScenarios, CantBeRun};
 ghost use Rattle.sweep.specs.StudyText.{numbers_of};
 ghost use Rattle.toml.specs.View.{table_view};
 
@@ -28,7 +28,7 @@ use std::rt::Files;
 use std::thread::Threads;
 use study::{Grid, Shard};
 use study_line::StudyTexts;
-use sweep::{SweepError, Watcher, check_study};
+use sweep::{SweepError, check_study};
 use toml::Table;
 
 /// About how many entries the runs have, and how long they take by so many threads.
@@ -101,7 +101,7 @@ fn text_of<R: Threads + Sync>(
 }
 
 /// Reads the scenarios of all runs.
-fn read_runs<R: Threads + Sync, W: Watcher>(
+fn read_runs<R: Threads + Sync>(
     rt: &R,
     alloc: Global,
     path: &str,
@@ -109,13 +109,11 @@ fn read_runs<R: Threads + Sync, W: Watcher>(
     grid: &Grid,
     shard: Shard,
     threads: u8,
-    watcher: &mut W,
 ) -> Result<(), Fault>
     ensures read { OnOk result (AllHaveScenarios (table_view file.now) grid.now shard) }
     ensures refused { IfErr result (λ f. (e : SweepError) × CantBeRun (table_view file.now) grid.now shard e × IsFaultOf e f) }
-    ensures hidden { W.shows watcher.old ≡ false → W.shows watcher.new ≡ false }
 {
-    match check_study(rt, alloc, file, grid, shard, threads, watcher) {
+    match check_study(rt, alloc, file, grid, shard, threads) {
         Ok(()) => Ok(()),
         Err(error) => Err(fault_of(alloc, path, file, grid, &error)),
     }
@@ -123,14 +121,13 @@ fn read_runs<R: Threads + Sync, W: Watcher>(
 
 /// Answers `check` with a study: how many points and runs there are, of the shard where one is named, about how many
 /// entries they have, how long that takes, and where a limit will stop a run. The scenario of each run is read.
-pub(crate) fn serve_study_check<R: Files + Threads + Sync, I: Read, O: Outlet, W: Watcher>(
+pub(crate) fn serve_study_check<R: Files + Threads + Sync, I: Read, O: Outlet>(
     rt: &R,
     alloc: Global,
     path: &str,
     study: &StudyTexts<'_>,
     input: &mut I,
     outlet: &mut O,
-    watcher: &mut W,
 ) -> Result<(), Fault>
     requires { O.failed outlet.old < 2 ^ 64 - 1 }
     ensures done { let wanted = IsStudyCheck (I.remaining input.old) path.now study.now in
@@ -140,13 +137,12 @@ pub(crate) fn serve_study_check<R: Files + Threads + Sync, I: Read, O: Outlet, W
     ensures why { IfErr result (StopsStudyCheck (I.remaining input.old) path.now study.now) }
     ensures taken { TakesAtMost (most_bytes + 1) (I.remaining input.old) (I.remaining input.new) }
     ensures untouched { path.now ≢ input_path → input.new ≡ input.old }
-    ensures hidden { W.shows watcher.old ≡ false → W.shows watcher.new ≡ false }
 {
     let grid = grid_of(alloc, &study.grid)?;
     let shard = shard_of(alloc, study.shard)?;
     let file = table_of(rt, alloc, path, input)?;
     let threads = threads_for(rt, study.threads);
-    read_runs(rt, alloc, path, &file, &grid, shard, threads, watcher)?;
+    read_runs(rt, alloc, path, &file, &grid, shard, threads)?;
     match text_of(rt, alloc, &file, &grid, shard, threads) {
         Ok(text) => put_text(text.as_str(), outlet),
         Err(_) => Err(Fault::Memory),
