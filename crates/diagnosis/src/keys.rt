@@ -21,8 +21,12 @@ fn most_edits(key: &str) -> usize
     key.len().max(3) / 3
 }
 
-/// How many edits lead from one text to the other.
-fn edits_between(alloc: Global, a: &str, b: &str) -> Result<usize, AllocError>
+/// How many edits lead from one text to the other: characters put in, taken out, changed, or two of them swapped.
+///
+/// # Errors
+///
+/// `AllocError` where memory was refused.
+pub fn edits_between(alloc: Global, a: &str, b: &str) -> Result<usize, AllocError>
     ensures { IfOk result (λ d. d ≡ edits a.now b.now) }
 {
     damerau_levenshtein(alloc, a, b)

@@ -42,4 +42,5 @@ pub use fault::{
     WrongKind,
 };
 pub use finding::{Finding, NotToml};
+pub use keys::edits_between;
 pub use place::{Place, Section, TableArray};
