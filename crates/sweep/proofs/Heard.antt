@@ -43,7 +43,7 @@ module _ {W : Type 0} (heard : W → List Standing → W → Type 0) (points run
         (joined_then heard old now new (map standing (0 ∷ was.numbers)) (standing more ∷ []) was.heard_each is);
   }
 
-sub_mul : (a b n : ℕ) → (a - b) * n ≡ a * n - b * n
+pub sub_mul : (a b n : ℕ) → (a - b) * n ≡ a * n - b * n
 sub_mul a b n = mul_comm (a - b) n ∙ mul-sub n a b ∙ ap (λ m. m - n * b) (mul_comm n a) ∙ ap (λ m. a * n - m) (mul_comm n b)
 
 -- all runs of the points from one number up to another

@@ -6,9 +6,11 @@ pub mod Single
 pub mod Parts
 mod Reading
 mod Numbered
+mod Units
 pub mod Zipped
 mod Advancing
 mod OneRow
+pub mod Places
 mod OneText
 mod Shards
 mod Ending

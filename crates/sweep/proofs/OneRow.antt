@@ -5,10 +5,9 @@ use Rattle.std.proofs.lemmas.List.Elements.{All-contains}
 use Rattle.judges.specs.declared.outcomes.Outcome.{Outcome}
 use Rattle.reporting.specs.declared.pair_measures.PairMeasures.{PairMeasures}
 use Rattle.sweep.specs.Percentile.{IsPercentile}
-use Rattle.study.specs.Settings.{Chosen}
 use Rattle.sweep.specs.Columns.{Finished, IsNoneOr, IsGreatest, AreTimes, AreTraceSums, ArePairSums, AreDecisionSums, AreVerdictCounts, AreLayerSums, AreColumns}
 use Rattle.sweep.specs.Results.{Trial}
-use Rattle.sweep.specs.RowText.{Text, layer_text, ArePointRows}
+use Rattle.sweep.specs.RowText.{Text, layer_text, AreRowsFor}
 use Rattle.sweep.specs.declared.columns.Columns.{Columns}
 use Rattle.sweep.specs.declared.columns.DecisionSums.{DecisionSums}
 use Rattle.sweep.specs.declared.columns.DetectionTimes.{DetectionTimes}
@@ -144,12 +143,12 @@ module _ (layer : ℕ) where
       let e1 = one_times _ c.times d.times a.times b.times in
       λ i. record { sums = e0 i; times = e1 i }
 
-pub one_point_rows : (settings : List Chosen) (trials : List Trial) (a b : Text) → ArePointRows settings trials a
-    → ArePointRows settings trials b → a ≡ b
-one_point_rows settings trials a b x y =
+pub one_rows_for : (picks : List ℕ) (lead : List Text) (trials : List Trial) (a b : Text) → AreRowsFor picks lead trials a
+    → AreRowsFor picks lead trials b → a ≡ b
+one_rows_for picks lead trials a b x y =
     let e = one_columns 1 trials x.first y.first x.on_first y.on_first in
     let f = one_columns 2 trials x.second y.second x.on_second y.on_second in
     x.text
-    ∙ ap (λ c. layer_text settings 1 c ++ cond (list_any (λ t. is_some t.scenario.share) trials) (layer_text settings 2 x.second) []) e
-    ∙ ap (λ c. layer_text settings 1 y.first ++ cond (list_any (λ t. is_some t.scenario.share) trials) (layer_text settings 2 c) []) f
+    ∙ ap (λ c. layer_text picks lead 1 c ++ cond (list_any (λ t. is_some t.scenario.share) trials) (layer_text picks lead 2 x.second) []) e
+    ∙ ap (λ c. layer_text picks lead 1 y.first ++ cond (list_any (λ t. is_some t.scenario.share) trials) (layer_text picks lead 2 c) []) f
     ∙ sym y.text

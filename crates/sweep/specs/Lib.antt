@@ -8,6 +8,7 @@ pub mod Times
 pub mod Sums
 pub mod Fields
 pub mod Parallel
+pub mod Layout
 pub mod StudyText
 pub mod Outcome
 pub mod Numbering

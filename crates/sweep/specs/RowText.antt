@@ -1,8 +1,7 @@
--- The text of a study: a line that names the columns, and a row for each point and layer.
-use Rattle.std.specs.Prelude.{◌≡◌, ℕ, if◌then◌else◌, is_some, Option, None, Some, List, [], ◌∷◌, ◌++◌, map, codes, decimal}
+-- The text of a study: a line that names the columns, and rows.
+use Rattle.std.specs.Prelude.{◌≡◌, ℕ, if◌then◌else◌, is_some, Option, None, Some, List, [], ◌∷◌, ◌++◌, map, get_or, codes, decimal}
 use Rattle.std.specs.List.{list_any}
 use Rattle.csv.specs.Writing.{default_writer, row_text}
-use Rattle.study.specs.Settings.{Path, key_text, given_text, Chosen}
 use Rattle.sweep.specs.Columns.{AreColumns}
 use Rattle.sweep.specs.Results.{Trial}
 use Rattle.sweep.specs.declared.columns.Columns.{Columns}
@@ -19,6 +18,10 @@ Text = List ℕ
 -- quotes, each quote in it doubled (RFC 4180); any other field stands as it is
 abbrev pub line_text : List Text → Text
 line_text fields = row_text default_writer fields
+
+-- the fields at these places, from 0
+abbrev pub picked : (places : List ℕ) → List Text → List Text
+picked places fields = map (λ place. get_or fields place []) places
 
 -- nothing where there is none
 abbrev pub number_text : Option ℕ → Text
@@ -38,9 +41,9 @@ column_names =
     ∷ codes "eventual_weak_accuracy" ∷ codes "decided" ∷ codes "decision_tick_sum" ∷ codes "decision_tick_max"
     ∷ codes "rounds_max" ∷ codes "disagreements" ∷ []
 
--- the first line: the varied keys by their paths, the layer, and the names of the columns
-unfoldable pub header_text : List Path → Text
-header_text keys = line_text (map key_text keys ++ codes "layer" ∷ column_names)
+-- the first line: those of all names that are picked
+unfoldable pub header_text : (picks : List ℕ) (names : List Text) → Text
+header_text picks names = line_text (picked picks names)
 
 -- ---- a row
 
@@ -78,16 +81,15 @@ column_fields c =
     ++ verdict_fields c.sums.verdicts
     ++ decision_fields c.sums.decisions c.sums.disagreements
 
--- the row of a point on a layer: what the varied keys are set to, the layer, and the columns
-unfoldable pub layer_text : List Chosen → (layer : ℕ) → Columns → Text
-layer_text settings layer c =
-    line_text (map (λ s. given_text s.value) settings ++ decimal layer ∷ column_fields c)
+-- a row on a layer: of its lead, which says what it tells of, the layer and the columns those that are picked
+unfoldable pub layer_text : (picks : List ℕ) (lead : List Text) (layer : ℕ) → Columns → Text
+layer_text picks lead layer c = line_text (picked picks (lead ++ decimal layer ∷ column_fields c))
 
--- the rows of a point: that of layer 1, and that of layer 2 where some run has a reduction
-pub record ArePointRows (settings : List Chosen) (trials : List Trial) (rows : Text) : Type 0 where
+-- the rows that tell of these runs: that of layer 1, and that of layer 2 where some run has a reduction
+pub record AreRowsFor (picks : List ℕ) (lead : List Text) (trials : List Trial) (rows : Text) : Type 0 where
   pub first : Columns
   pub second : Columns
   pub on_first : AreColumns 1 trials first
   pub on_second : AreColumns 2 trials second
-  pub text : rows ≡ layer_text settings 1 first
-      ++ (if list_any (λ t. is_some t.scenario.share) trials then layer_text settings 2 second else [])
+  pub text : rows ≡ layer_text picks lead 1 first
+      ++ (if list_any (λ t. is_some t.scenario.share) trials then layer_text picks lead 2 second else [])

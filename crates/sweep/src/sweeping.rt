@@ -2,12 +2,14 @@
 ghost use Rattle.std.specs.Prelude.{◌≡◌, ℕ, ◌^◌, ◌-◌, ◌*◌, ◌<◌, ◌≤◌, false, length, OnOk, IfErr};
 ghost use Rattle.toml.specs.View.{table_view};
 ghost use Rattle.study.specs.Grid.{points, runs};
+ghost use Rattle.sweep.specs.Numbering.{unit_count};
 ghost use Rattle.sweep.specs.Outcome.{WroteStudy, BreaksOff};
 ghost use Rattle.sweep.specs.Progress.{WroteUpTo, StopsBelow};
 ghost use Rattle.sweep.specs.Watching.{HeardUpTo, HeardAll, HeardSome};
 
 use crate::checking::check_runs;
 use crate::error::SweepError;
+use crate::layout::Layout;
 use crate::measuring::measure_run;
 use crate::numbering::batch;
 use crate::parallel::in_parallel;
@@ -21,13 +23,14 @@ use std::thread::Threads;
 use study::{Grid, Shard};
 use toml::Table;
 
-/// Runs all runs of the points from one number up to another, and writes the rows of each point when its last run is
+/// Runs all runs of the points from one number up to another, and writes the rows of each unit when its last run is
 /// in. The watcher hears of the beginning, and whenever more runs are in.
 fn write_points<R: Threads + Sync, O: Outlet, W: Watcher>(
     rt: &R,
     alloc: Global,
     file: &Table,
     grid: &Grid,
+    layout: &Layout,
     begin: u64,
     end: u64,
     threads: u8,
@@ -40,9 +43,11 @@ fn write_points<R: Threads + Sync, O: Outlet, W: Watcher>(
     requires within { end ≤ length (points grid.now) }
     requires room { length (points grid.now) * length (runs grid.now) < 2 ^ 64 }
     ensures done { OnOk result
-        (WroteUpTo (table_view file.now) grid.now O.told O.failed outlet.old outlet.new begin end) }
+        (WroteUpTo (table_view file.now) grid.now layout.now O.told O.failed outlet.old outlet.new
+        (unit_count layout.now.rows grid.now begin) (unit_count layout.now.rows grid.now end)) }
     ensures stops { IfErr result
-        (StopsBelow (table_view file.now) grid.now O.told O.failed outlet.old outlet.new begin end) }
+        (StopsBelow (table_view file.now) grid.now layout.now O.told O.failed outlet.old outlet.new
+        (unit_count layout.now.rows grid.now begin) (unit_count layout.now.rows grid.now end)) }
     ensures heard { OnOk result (HeardUpTo W.heard watcher.old watcher.new (end - begin) (length (runs grid.now))
         ((end - begin) * length (runs grid.now))) }
     ensures heard_some { IfErr result (λ _. (done : ℕ) × (done ≤ (end - begin) * length (runs grid.now))
@@ -50,7 +55,7 @@ fn write_points<R: Threads + Sync, O: Outlet, W: Watcher>(
 {
     let runs = grid.runs();
     let points = end - begin;
-    let mut progress = Progress::at(alloc, begin);
+    let mut progress = Progress::at(alloc, layout.unit_count(grid, begin));
     let mut next = begin * runs;
     watcher.hear(Standing {
         points,
@@ -68,7 +73,7 @@ fn write_points<R: Threads + Sync, O: Outlet, W: Watcher>(
             &|number| measure_run(alloc, file, grid, number),
         )?;
         watcher.make_way();
-        progress.take_all(alloc, grid, &answers, outlet)?;
+        progress.take_all(alloc, grid, layout, &answers, outlet)?;
         next += count;
         watcher.hear(Standing {
             points,
@@ -79,21 +84,21 @@ fn write_points<R: Threads + Sync, O: Outlet, W: Watcher>(
     Ok(())
 }
 
-/// Sweeps the points of a shard of a study: runs all their runs by so many threads, and writes a row for each point and
-/// layer, with sums over its runs. The first shard begins with the header. The threads and the watcher change nothing
-/// of the text.
+/// Sweeps the points of a shard of a study: runs all their runs by so many threads, and writes rows with the layout's
+/// columns, one for each layer of a point, with sums over its runs, or of each run. The first shard begins with the
+/// header. The threads and the watcher change nothing of the text.
 ///
 /// The watcher hears how many of the shard's runs are in: that none is, as the first begins, and then ever more, up to
 /// all of them. It is told when rows are to go out, and what it shows is taken away as the sweep ends.
 ///
-/// Every run's scenario is read before the first run starts. A point's rows go out when its last run is in. Memory
+/// Every run's scenario is read before the first run starts. Rows go out when the last run that they tell of is in. Memory
 /// grows with neither the runs nor their horizon: what is held is what some hundreds of runs for each thread give, and
 /// the sums of a point.
 ///
 /// # Errors
 ///
 /// `Refused` where a run of the shard has no scenario, for the first such run; then nothing went out. `Memory` where
-/// memory was refused: then nothing went out, or the header and the rows of the first points. `Write` where a put
+/// memory was refused: then nothing went out, or the header and the first points' or runs' rows. `Write` where a put
 /// failed: then a front part of these.
 pub fn sweep<R: Threads + Sync, O: Outlet, W: Watcher>(
     rt: &R,
@@ -101,14 +106,16 @@ pub fn sweep<R: Threads + Sync, O: Outlet, W: Watcher>(
     file: &Table,
     grid: &Grid,
     shard: Shard,
+    layout: &Layout,
     threads: u8,
     outlet: &mut O,
     watcher: &mut W,
 ) -> Result<(), SweepError>
     requires failures { O.failed outlet.old < 2 ^ 64 - 1 }
-    ensures done { OnOk result (WroteStudy (table_view file.now) grid.now shard O.told O.failed outlet.old outlet.new) }
+    ensures done { OnOk result
+        (WroteStudy (table_view file.now) grid.now shard layout.now O.told O.failed outlet.old outlet.new) }
     ensures breaks_off { IfErr result
-        (BreaksOff (table_view file.now) grid.now shard O.told O.failed outlet.old outlet.new) }
+        (BreaksOff (table_view file.now) grid.now shard layout.now O.told O.failed outlet.old outlet.new) }
     ensures heard { OnOk result (HeardAll W.heard watcher.old watcher.new grid.now shard) }
     ensures heard_some { IfErr result (λ _. HeardSome W.heard watcher.old watcher.new grid.now shard) }
     ensures hidden { W.shows watcher.old ≡ false → W.shows watcher.new ≡ false }
@@ -118,8 +125,10 @@ pub fn sweep<R: Threads + Sync, O: Outlet, W: Watcher>(
     let begin = u64::from(points.start);
     let end = u64::from(points.end);
     check_runs(rt, alloc, file, grid, begin * runs, end * runs, threads)?;
-    write_header(alloc, grid, shard, outlet)?;
-    let answer = write_points(rt, alloc, file, grid, begin, end, threads, outlet, watcher);
+    write_header(alloc, grid, shard, layout, outlet)?;
+    let answer = write_points(
+        rt, alloc, file, grid, layout, begin, end, threads, outlet, watcher,
+    );
     watcher.hide();
     answer
 }

@@ -1,6 +1,5 @@
-use Rattle.std.proofs.Common.{rules, ◌+◌, ◌*◌, ◌<◌, length, Ok, arith}
-use Rattle.study.specs.Grid.{runs}
-use Rattle.sweep.specs.Numbering.{AreNumbersAt}
+use Rattle.std.proofs.Common.{rules, ◌+◌, ◌*◌, ◌<◌, Ok, arith}
+use Rattle.sweep.specs.Numbering.{runs_each, AreNumbersAt}
 use Rattle.sweep.proofs.Reading.{if_err}
 use Rattle.sweep.proofs.Numbered.{point_below}
 use Rattle.sweep.proofs.Advancing.{trial_here, stops_below}
@@ -10,24 +9,26 @@ pub returns-in_err-take-in-Ok-clause-stops : goal.returns-in_err-take-in-Ok-clau
 returns-in_err-take-in-Ok-clause-stops g c =
     if_err c.from_residual.result _ c.in_err-take-in-Ok.field-0.0 (search rules) (λ file start begin end few answers way.
     let grid = c.args.grid.now in
-    let first = c.args.self.now.point * length (runs grid) + c.args.self.now.run in
+    let layout = c.args.layout.now in
+    let first = c.args.self.now.unit * runs_each layout.rows grid + c.args.self.now.run in
     let i = c.loop-answer.answer-index in
     let at : AreNumbersAt file grid (first + i) c.in-Ok.numbers =
     let h = answers i (Ok c.in-Ok.numbers) c.loop-answer-test.true in search rules in
-    let t = trial_here file grid c.loop-answer.self.point c.loop-answer.self.run (first + i) c.in-Ok.numbers c.loop-answer.invariant.run_low c.loop-answer.invariant.number at in
-    let below : c.loop-answer.self.point < end =
-    point_below c.loop-answer.self.point c.loop-answer.self.run (length (runs grid)) (first + i) c.loop-answer.invariant.run_low c.loop-answer.invariant.number end (omega (arith, few, c.loop-answer-test.true)) in
-    stops_below file grid g.O.Outlet.told g.O.Outlet.failed start c.take.new.outlet begin (c.loop-answer.self.point + 1) end c.in_err-take-in-Ok.field-0.0 (omega (arith, below))
+    let t = trial_here file grid layout c.loop-answer.self.unit c.loop-answer.self.run (first + i) c.in-Ok.numbers c.loop-answer.invariant.run_low c.loop-answer.invariant.number at in
+    let below : c.loop-answer.self.unit < end =
+    point_below c.loop-answer.self.unit c.loop-answer.self.run (runs_each layout.rows grid) (first + i) c.loop-answer.invariant.run_low c.loop-answer.invariant.number end (omega (arith, few, c.loop-answer-test.true)) in
+    stops_below file grid layout g.O.Outlet.told g.O.Outlet.failed start c.take.new.outlet begin (c.loop-answer.self.unit + 1) end c.in_err-take-in-Ok.field-0.0 (omega (arith, below))
     (c.in_err-take-in-Ok.ensures.stops file start begin t.0 t.1 t.2 (c.loop-answer.invariant.way file start begin answers way)))
 
 pub returns-in-Err-clause-stops : goal.returns-in-Err-clause-stops
 returns-in-Err-clause-stops g c = λ file start begin end few answers way.
     let grid = c.args.grid.now in
-    let first = c.args.self.now.point * length (runs grid) + c.args.self.now.run in
+    let layout = c.args.layout.now in
+    let first = c.args.self.now.unit * runs_each layout.rows grid + c.args.self.now.run in
     let i = c.loop-answer.answer-index in
-    let below : c.loop-answer.self.point < end =
-    point_below c.loop-answer.self.point c.loop-answer.self.run (length (runs grid)) (first + i) c.loop-answer.invariant.run_low c.loop-answer.invariant.number end (omega (arith, few, c.loop-answer-test.true)) in (
-      c.loop-answer.self.point,
+    let below : c.loop-answer.self.unit < end =
+    point_below c.loop-answer.self.unit c.loop-answer.self.run (runs_each layout.rows grid) (first + i) c.loop-answer.invariant.run_low c.loop-answer.invariant.number end (omega (arith, few, c.loop-answer-test.true)) in (
+      c.loop-answer.self.unit,
       omega (arith, below),
       (c.loop-answer.invariant.way file start begin answers way).out,
     )
@@ -39,10 +40,11 @@ loop-answer-preserved g c = record {
   number = search rules;
   way = λ file start begin answers way.
       let grid = c.args.grid.now in
-      let first = c.args.self.now.point * length (runs grid) + c.args.self.now.run in
+      let layout = c.args.layout.now in
+      let first = c.args.self.now.unit * runs_each layout.rows grid + c.args.self.now.run in
       let i = c.loop-answer.answer-index in
       let at : AreNumbersAt file grid (first + i) c.in-Ok.numbers =
       let h = answers i (Ok c.in-Ok.numbers) c.loop-answer-test.true in search rules in
-      let t = trial_here file grid c.loop-answer.self.point c.loop-answer.self.run (first + i) c.in-Ok.numbers c.loop-answer.invariant.run_low c.loop-answer.invariant.number at in
+      let t = trial_here file grid layout c.loop-answer.self.unit c.loop-answer.self.run (first + i) c.in-Ok.numbers c.loop-answer.invariant.run_low c.loop-answer.invariant.number at in
       c.in_ok-take-in-Ok.ensures.done file start begin t.0 t.1 t.2 (c.loop-answer.invariant.way file start begin answers way);
 }

@@ -1,12 +1,12 @@
-use Rattle.std.proofs.Common.{◌++◌, [], cond, map, ap, sym, ◌∙◌, append_assoc, append-nil}
-use Rattle.study.specs.Settings.{chosen}
+use Rattle.std.proofs.Common.{◌++◌, [], cond, ap, sym, ◌∙◌, append_assoc, append-nil}
+use Rattle.sweep.specs.StudyText.{lead_of}
 use Rattle.sweep.specs.RowText.{layer_text}
-use Rattle.sweep.proofs.table.Table.push_point.Goals as goal
+use Rattle.sweep.proofs.table.Table.push_unit.Goals as goal
 
 pub returns-in_ok-push_layer-2-clause-text : goal.returns-in_ok-push_layer-2-clause-text
 returns-in_ok-push_layer-2-clause-text c trials sums =
-    let first = layer_text (map chosen c.args.settings.now) 1 c.first-first.result in
-    let second = layer_text (map chosen c.args.settings.now) 2 c.second-second.result in (
+    let first = layer_text c.args.layout.now.picks (lead_of c.args.layout.now.rows c.args.grid.now c.args.unit) 1 c.first-first.result in
+    let second = layer_text c.args.layout.now.picks (lead_of c.args.layout.now.rows c.args.grid.now c.args.unit) 2 c.second-second.result in (
       first ++ second,
       record {
         first = c.first-first.result;
@@ -20,8 +20,8 @@ returns-in_ok-push_layer-2-clause-text c trials sums =
 
 pub returns-else-has_second-clause-text : goal.returns-else-has_second-clause-text
 returns-else-has_second-clause-text c trials sums =
-    let first = layer_text (map chosen c.args.settings.now) 1 c.first-first.result in
-    let second = layer_text (map chosen c.args.settings.now) 2 c.second-second.result in (
+    let first = layer_text c.args.layout.now.picks (lead_of c.args.layout.now.rows c.args.grid.now c.args.unit) 1 c.first-first.result in
+    let second = layer_text c.args.layout.now.picks (lead_of c.args.layout.now.rows c.args.grid.now c.args.unit) 2 c.second-second.result in (
       first,
       record {
         first = c.first-first.result;
