@@ -39,6 +39,7 @@ mod texts;
 mod time_counts;
 mod watcher;
 
+pub use checking::check_study;
 pub use columns::{
     Columns, DecisionSums, DetectionTimes, LayerSums, PairSums, TraceSums, VerdictCounts,
 };
