@@ -39,7 +39,6 @@ mod texts;
 mod time_counts;
 mod watcher;
 
-pub use checking::check_study;
 pub use columns::{
     Columns, DecisionSums, DetectionTimes, LayerSums, PairSums, TraceSums, VerdictCounts,
 };
