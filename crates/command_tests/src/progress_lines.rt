@@ -6,7 +6,7 @@ use std::io::{self, Write};
 use std::test::Fail;
 use std::time::{Clock, Duration};
 use study_commands::progress_line::ProgressLine;
-use sweep::{Standing, Watcher};
+use sweep::{Pass, Standing, Watcher};
 
 /// A clock that shows the milliseconds which the test sets, and where none are set fails.
 #[derive(Drop)]
@@ -42,6 +42,7 @@ impl Write for Broken {
 /// So many of the runs of four points with 100 runs each are in.
 fn standing(done: u64) -> Standing {
     Standing {
+        pass: Pass::Running,
         points: 4,
         runs: 100,
         done,
@@ -83,6 +84,34 @@ fn lines(rt: HostRuntime) -> Result<(), Fail> {
         \r3 of 4 points, 3 h 20 min left\
         \r3 of 4 points, 1 min left     \
         \r                              \r";
+    same(&rt, &std::str::from_utf8(&screen)?, &want);
+    Ok(())
+}
+
+/// Before its runs a sweep reads their scenarios: of 400 in 10 seconds 100, so 30 seconds are left. The time of the runs
+/// begins anew.
+#[test]
+fn reading(rt: HostRuntime) -> Result<(), Fail> {
+    let alloc = rt.alloc();
+    let clock = Hand(Cell::new(Some(1_000)));
+    let mut screen = Vec::new(alloc);
+    let mut line = ProgressLine::new(&clock, alloc, &mut screen, true, false);
+    for done in [0, 100] {
+        clock.0.set(Some(1_000 + 100 * done));
+        line.hear(Standing {
+            pass: Pass::Reading,
+            ..standing(done)
+        });
+    }
+    clock.0.set(Some(50_000));
+    line.hear(standing(0));
+    clock.0.set(Some(60_000));
+    line.hear(standing(200));
+    drop(line);
+    let want = "\r0 of 400 runs read\
+        \r100 of 400 runs read, 30 s left\
+        \r0 of 4 points                  \
+        \r2 of 4 points, 10 s left       ";
     same(&rt, &std::str::from_utf8(&screen)?, &want);
     Ok(())
 }

@@ -33,7 +33,7 @@ use Rattle.study_line.specs.declared.order.GridTexts.{GridTexts}
 use Rattle.study_line.specs.declared.order.Picture.{Picture}
 use Rattle.study_line.specs.declared.order.StudyTexts.{StudyTexts}
 use Rattle.sweep.specs.Layout.{LayoutRecord}
-use Rattle.sweep.specs.Outcome.{AllHaveScenarios, BreaksOff, CantBeRun, WroteStudy, WroteFirst}
+use Rattle.sweep.specs.Outcome.{BreaksOff, CantBeRun, HaveScenarios, WroteStudy, WroteFirst}
 use Rattle.sweep.specs.StudyText.{numbers_of, point_at, run_at}
 use Rattle.sweep.specs.declared.error.SweepError.{SweepError}
 use Rattle.sweep.specs.declared.error.SweepError.TheVariants as error
@@ -186,7 +186,7 @@ module _ (input : Option (List ℕ)) (path : List ℕ) (study : StudyTexts)
     (file : Members) (is_file : IsTable input path file) (g : GridRecord) (is_grid : IsGrid study.grid g)
     (shard : ShardRecord) (is_shard : IsShardOf (shard_word study) shard) where
   -- of a study that can be run
-  pub study_answer : (piece : List ℕ) → AllHaveScenarios file g shard
+  pub study_answer : (piece : List ℕ) → HaveScenarios file g shard
       → (reckoned : List ℕ) × (piece ≡ study_begin (length (numbers_of g shard)) (length (runs g)) ++ reckoned)
       → IsStudyCheck input path study piece
   study_answer piece each text = record {

@@ -6,7 +6,7 @@ use Rattle.study.specs.Shard.{ShardRecord}
 use Rattle.study_commands.specs.File.{AreBytes, IsTable}
 use Rattle.study_commands.specs.Study.{IsGrid, IsShardOf, shard_word}
 use Rattle.study_line.specs.declared.order.StudyTexts.{StudyTexts}
-use Rattle.sweep.specs.Outcome.{AllHaveScenarios}
+use Rattle.sweep.specs.Outcome.{HaveScenarios}
 use Rattle.sweep.specs.StudyText.{numbers_of}
 use Rattle.scenario_record.specs.Record.{Record}
 use Rattle.scenario.specs.Refusals.{Accepts}
@@ -40,6 +40,6 @@ pub record IsStudyCheck (input : Option (List ℕ)) (path : List ℕ) (study : S
   pub is_grid : IsGrid study.grid grid
   pub shard : ShardRecord
   pub is_shard : IsShardOf (shard_word study) shard
-  pub each : AllHaveScenarios file grid shard
+  pub each : HaveScenarios file grid shard
   pub reckoned : List ℕ
   pub text : piece ≡ study_begin (length (numbers_of grid shard)) (length (runs grid)) ++ reckoned

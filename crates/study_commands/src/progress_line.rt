@@ -7,7 +7,7 @@ use std::alloc::{AllocError, Global};
 use std::io::Write;
 use std::time::{Clock, Duration, Instant};
 use study::Grid;
-use sweep::{Standing, Watcher};
+use sweep::{Pass, Standing, Watcher};
 use toml::Table;
 
 /// The line is drawn anew no sooner than after so many milliseconds.
@@ -39,16 +39,29 @@ pub(crate) fn time_of(alloc: Global, seconds: u64) -> Result<String, AllocError>
     }
 }
 
-/// The line's text: how many points are done, of how many, and the time left once a run is in.
-fn text_of(alloc: Global, standing: &Standing, gone: Duration) -> Result<String, AllocError> {
-    let points = standing.points;
-    if standing.done == 0 {
-        return Ok(format!(in alloc; "0 of {points} points")?);
+/// How much is done, of how much: scenarios of runs that are read, and then points whose runs are in.
+fn share_of(alloc: Global, standing: &Standing) -> Result<String, AllocError> {
+    match standing.pass {
+        Pass::Reading => {
+            let (done, all) = (standing.done, standing.points.saturating_mul(standing.runs));
+            format!(in alloc; "{done} of {all} runs read")
+        }
+        Pass::Running => {
+            let (done, all) = (standing.done / standing.runs.max(1), standing.points);
+            format!(in alloc; "{done} of {all} points")
+        }
     }
-    let done = standing.done / standing.runs.max(1);
-    let all = points.saturating_mul(standing.runs);
+}
+
+/// The line's text: how much is done, and the time left once something is.
+fn text_of(alloc: Global, standing: &Standing, gone: Duration) -> Result<String, AllocError> {
+    let share = share_of(alloc, standing)?;
+    if standing.done == 0 {
+        return Ok(share);
+    }
+    let all = standing.points.saturating_mul(standing.runs);
     let left = time_of(alloc, seconds_left(gone, standing.done, all))?;
-    Ok(format!(in alloc; "{done} of {points} points, {left} left")?)
+    Ok(format!(in alloc; "{share}, {left} left")?)
 }
 
 /// Tells of a point of which runs passed their limit, in a line of its own; and where standard error is a terminal,
@@ -115,7 +128,7 @@ impl<C: Clock, W: Write + Drop> Watcher for ProgressLine<'_, C, W> {
 
     ghost shows = { λ l. not (l.columns == 0) };
 
-    /// Draws the line, unless it was drawn a short time ago. The time begins to run as no run is in.
+    /// Draws the line, unless it was drawn a short time ago. The time begins to run as a pass over the runs begins.
     fn hear(&mut self, standing: Standing) {
         if !self.is_terminal {
             return;

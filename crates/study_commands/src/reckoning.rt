@@ -1,5 +1,5 @@
 //! About how much a study will be, by the estimates of its runs. No proof says how near this comes.
-ghost use Rattle.std.specs.Prelude.{◌≡◌, ◌<◌, ◌≤◌};
+ghost use Rattle.std.specs.Prelude.{◌-◌, ◌<◌, ◌^◌};
 
 use diagnosis::estimate_of;
 use scenario::Scenario;

@@ -28,11 +28,12 @@ use std::marker::Sync;
 use std::process::ExitCode;
 use std::rt::Files;
 use std::thread::Threads;
+use std::time::Clock;
 use study_line::{Order, WordsError, read_words};
 use sweep::Watcher;
 
 /// Does what an order asks for.
-fn carry_out<R: Files + Threads + Sync, I: Read, O: Outlet, W: Watcher>(
+fn carry_out<R: Files + Threads + Sync + Clock, I: Read, O: Outlet, W: Watcher>(
     rt: &R,
     alloc: Global,
     order: &Order<'_>,
@@ -56,7 +57,7 @@ fn carry_out<R: Files + Threads + Sync, I: Read, O: Outlet, W: Watcher>(
         Order::Check {
             path,
             study: Some(study),
-        } => serve_study_check(rt, alloc, path, study, input, outlet),
+        } => serve_study_check(rt, alloc, path, study, input, outlet, watcher),
         Order::Letters { path } => serve_letters(rt, alloc, path, input, outlet),
         Order::Draw {
             path,
@@ -163,7 +164,13 @@ fn tell<O: Outlet, F: Outlet>(
 /// points may have gone out. With 4 a front part of the text went out.
 ///
 /// The watcher hears how far a `sweep` has come. What it shows is taken away before a fault is told.
-pub fn serve<R: Files + Threads + Sync, I: Read, O: Outlet, F: Outlet, W: Watcher>(
+pub fn serve<
+    R: Files + Threads + Sync + Clock,
+    I: Read,
+    O: Outlet,
+    F: Outlet,
+    W: Watcher,
+>(
     rt: &R,
     alloc: Global,
     words: &[&str],

@@ -6,7 +6,7 @@ ghost use Rattle.study_commands.specs.Stop.{Stops, Went};
 ghost use Rattle.study_commands.specs.Sweep.{IsFaultOf};
 ghost use Rattle.study_commands.specs.Why.{StopsStudyCheck};
 ghost use Rattle.sources.specs.Input.{TakesAtMost, input_path, most_bytes};
-ghost use Rattle.sweep.specs.Outcome.{AllHaveScenarios, CantBeRun};
+ghost use Rattle.sweep.specs.Outcome.{CantBeRun, HaveScenarios};
 ghost use Rattle.sweep.specs.StudyText.{numbers_of};
 ghost use Rattle.toml.specs.View.{table_view};
 
@@ -26,9 +26,10 @@ use std::io::Read;
 use std::marker::Sync;
 use std::rt::Files;
 use std::thread::Threads;
+use std::time::Clock;
 use study::{Grid, Shard};
 use study_line::StudyTexts;
-use sweep::{SweepError, check_study};
+use sweep::{SweepError, Watcher, check_study};
 use toml::Table;
 
 /// About how many entries the runs have, and how long they take by so many threads.
@@ -101,7 +102,7 @@ fn text_of<R: Threads + Sync>(
 }
 
 /// Reads the scenarios of all runs.
-fn read_runs<R: Threads + Sync>(
+fn read_runs<R: Threads + Sync + Clock, W: Watcher>(
     rt: &R,
     alloc: Global,
     path: &str,
@@ -109,11 +110,13 @@ fn read_runs<R: Threads + Sync>(
     grid: &Grid,
     shard: Shard,
     threads: u8,
+    watcher: &mut W,
 ) -> Result<(), Fault>
-    ensures read { OnOk result (AllHaveScenarios (table_view file.now) grid.now shard) }
+    ensures read { OnOk result (HaveScenarios (table_view file.now) grid.now shard) }
     ensures refused { IfErr result (λ f. (e : SweepError) × CantBeRun (table_view file.now) grid.now shard e × IsFaultOf e f) }
+    ensures hidden { W.shows watcher.new ≡ false }
 {
-    match check_study(rt, alloc, file, grid, shard, threads) {
+    match check_study(rt, alloc, file, grid, shard, threads, watcher) {
         Ok(()) => Ok(()),
         Err(error) => Err(fault_of(alloc, path, file, grid, &error)),
     }
@@ -121,13 +124,19 @@ fn read_runs<R: Threads + Sync>(
 
 /// Answers `check` with a study: how many points and runs there are, of the shard where one is named, about how many
 /// entries they have, how long that takes, and where a limit will stop a run. The scenario of each run is read.
-pub(crate) fn serve_study_check<R: Files + Threads + Sync, I: Read, O: Outlet>(
+pub(crate) fn serve_study_check<
+    R: Files + Threads + Sync + Clock,
+    I: Read,
+    O: Outlet,
+    W: Watcher,
+>(
     rt: &R,
     alloc: Global,
     path: &str,
     study: &StudyTexts<'_>,
     input: &mut I,
     outlet: &mut O,
+    watcher: &mut W,
 ) -> Result<(), Fault>
     requires { O.failed outlet.old < 2 ^ 64 - 1 }
     ensures done { let wanted = IsStudyCheck (I.remaining input.old) path.now study.now in
@@ -137,12 +146,15 @@ pub(crate) fn serve_study_check<R: Files + Threads + Sync, I: Read, O: Outlet>(
     ensures why { IfErr result (StopsStudyCheck (I.remaining input.old) path.now study.now) }
     ensures taken { TakesAtMost (most_bytes + 1) (I.remaining input.old) (I.remaining input.new) }
     ensures untouched { path.now ≢ input_path → input.new ≡ input.old }
+    ensures hidden { W.shows watcher.old ≡ false → W.shows watcher.new ≡ false }
 {
     let grid = grid_of(alloc, &study.grid)?;
     let shard = shard_of(alloc, study.shard)?;
     let file = table_of(rt, alloc, path, input)?;
     let threads = threads_for(rt, study.threads);
-    read_runs(rt, alloc, path, &file, &grid, shard, threads)?;
+    read_runs(
+        rt, alloc, path, &file, &grid, shard, threads, watcher,
+    )?;
     match text_of(rt, alloc, &file, &grid, shard, threads) {
         Ok(text) => put_text(text.as_str(), outlet),
         Err(_) => Err(Fault::Memory),

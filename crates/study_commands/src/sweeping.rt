@@ -19,6 +19,7 @@ use std::io::Read;
 use std::marker::Sync;
 use std::rt::Files;
 use std::thread::{Threads, available_parallelism};
+use std::time::Clock;
 use study::Grid;
 use study_line::{Each, StudyTexts};
 use sweep::{Layout, LayoutError, Rows, SweepError, Watcher, sweep};
@@ -96,7 +97,7 @@ fn layout_of(alloc: Global, grid: &Grid, each: Each, columns: Option<&str>) -> R
 }
 
 /// Answers `sweep`: the rows of the study's points, or of their runs; of the shard's where one is named.
-pub(crate) fn serve_sweep<R: Files + Threads + Sync, I: Read, O: Outlet, W: Watcher>(
+pub(crate) fn serve_sweep<R: Files + Threads + Sync + Clock, I: Read, O: Outlet, W: Watcher>(
     rt: &R,
     alloc: Global,
     path: &str,
