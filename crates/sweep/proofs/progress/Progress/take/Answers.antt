@@ -20,7 +20,7 @@ returns-then-self-runs-clause-done g c = λ file start begin t is nums way.
       added = record {
         trials = way.added.trials ++ t ∷ [];
         each = more_trials file grid point run way.added.trials t way.added.each c.requires.run is;
-        summed = c.in_ok-add.ensures way.added.trials t few way.added.summed nums;
+        summed = c.in_ok-add.ensures 1 way.added.trials t few way.added.summed nums;
         run_low = search rules;
       };
     }
@@ -34,7 +34,7 @@ returns-in_err-write_text-clause-stops g c =
     let few : length way.added.trials < 1000000000000 =
     omega (arith, trials_length file grid point run way.added.trials way.added.each c.requires.run, c.requires.run, c.runs-runs.ensures.value, c.runs-runs.ensures.high) in
     let trials = way.added.trials ++ t ∷ [] in
-    let summed = c.in_ok-add.ensures way.added.trials t few way.added.summed nums in
+    let summed = c.in_ok-add.ensures 1 way.added.trials t few way.added.summed nums in
     let last : run + 1 ≡ length (runs grid) = omega (arith, c.requires.run, c.if-self-runs.false, c.runs-runs.ensures.value) in
     let rows : AreRowsOf file grid point c.in_ok-text.text.items =
     all_trials file grid point (run + 1) trials c.in_ok-text.text.items (more_trials file grid point run way.added.trials t way.added.each c.requires.run is) last
@@ -52,7 +52,7 @@ returns-clause-done g c = λ file start begin t is nums way.
     let few : length way.added.trials < 1000000000000 =
     omega (arith, trials_length file grid point run way.added.trials way.added.each c.requires.run, c.requires.run, c.runs-runs.ensures.value, c.runs-runs.ensures.high) in
     let trials = way.added.trials ++ t ∷ [] in
-    let summed = c.in_ok-add.ensures way.added.trials t few way.added.summed nums in
+    let summed = c.in_ok-add.ensures 1 way.added.trials t few way.added.summed nums in
     let last : run + 1 ≡ length (runs grid) = omega (arith, c.requires.run, c.if-self-runs.false, c.runs-runs.ensures.value) in
     let rows : AreRowsOf file grid point c.in_ok-text.text.items =
     all_trials file grid point (run + 1) trials c.in_ok-text.text.items (more_trials file grid point run way.added.trials t way.added.each c.requires.run is) last
