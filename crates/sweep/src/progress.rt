@@ -15,10 +15,10 @@ use std::alloc::{AllocError, Global};
 use study::Grid;
 
 /// The number in its point, from 1, of the first run of a unit.
-fn first_run(grid: &Grid, rows: Rows, unit: u64) -> u64
-    ensures { result ≡ unit_first rows grid.now unit }
+fn first_run(grid: &Grid, layout: &Layout, unit: u64) -> u64
+    ensures { result ≡ unit_first layout.now.rows grid.now unit }
 {
-    match rows {
+    match layout.rows() {
         Rows::Points => 1,
         Rows::Runs => unit % grid.runs() + 1,
     }
@@ -39,15 +39,16 @@ impl Progress {
     ghost use Rattle.sweep.specs.Progress.{IsUnderWay, StopsBelow};
 
     /// No run of the unit is in.
-    pub fn at(alloc: Global, grid: &Grid, rows: Rows, unit: u64) -> Progress
+    pub fn at(alloc: Global, grid: &Grid, layout: &Layout, unit: u64) -> Progress
         ensures unit { result.unit ≡ unit }
         ensures run { result.run ≡ 0 }
-        ensures sums { AreSums (unit_first rows grid.now unit) [] result.sums }
+        ensures sums { AreSums (unit_first layout.now.rows grid.now unit) [] result.sums }
     {
+        let first = first_run(grid, layout, unit);
         Progress {
             unit,
             run: 0,
-            sums: PointSums::new(alloc, first_run(grid, rows, unit)),
+            sums: PointSums::new(alloc, first),
         }
     }
 
@@ -90,7 +91,7 @@ impl Progress {
         }
         let text = rows_of(alloc, grid, layout, self.unit, &self.sums)?;
         write_text(&text, outlet)?;
-        *self = Progress::at(alloc, grid, layout.rows(), self.unit + 1);
+        *self = Progress::at(alloc, grid, layout, self.unit + 1);
         Ok(())
     }
 
