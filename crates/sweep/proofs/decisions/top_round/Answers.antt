@@ -1,7 +1,6 @@
 use Rattle.std.proofs.Common.{[], take, sym, ap, ◌∙◌}
 use Rattle.std.specs.List.{cons_option, filter_map}
-use Rattle.judges.specs.declared.outcomes.Outcome.{Outcome}
-use Rattle.sweep.specs.OneRun.{noted_round, top_round}
+use Rattle.sweep.specs.OneRun.{noted_round}
 use Rattle.sweep.specs.Percentile.{greater, greatest}
 use Rattle.sweep.proofs.Greatest.{greatest_both, greatest_one}
 use Rattle.sweep.proofs.Single.{gathered_more}

@@ -1,4 +1,4 @@
-use Rattle.std.proofs.Common.{◌≡◌, ℕ, Bool, true, false, cond, not, ◌&&◌, nat_lt, refl, ap, sym, ◌∙◌, arith, rules}
+use Rattle.std.proofs.Common.{◌≡◌, ℕ, true, false, cond, not, ◌&&◌, nat_lt, refl, ap, sym, ◌∙◌, arith, rules}
 use Rattle.std.specs.List.{list_all}
 use Rattle.std.proofs.lemmas.Bool.{lt-ltb, le-ltb}
 use Rattle.sweep.specs.OneRun.{deciding_of, do_disagree, has_decided}
@@ -33,7 +33,7 @@ returns c layer trace pairs has found is decisions within =
           w.from-is ∙ sym (ap (λ b. b && c.do_all_decide-are_all.result) some)
       | else-decisions-gt0 w ↦
           let none : nat_lt 0 d ≡ false = le-ltb 0 d (omega arith) in
-          w.from-is ∙ sym (ap (λ b. b && c.do_all_decide-are_all.result) none)
+          w.from-is ∙ none ∙ sym (ap (λ b. b && c.do_all_decide-are_all.result) none)
     ] in
     let counted_all : c.from-3.result ≡ cond c.if-decisions-gt0.from 1 0 = search rules in
     let counted_not : c.from-4.result ≡ cond (not c.do_all_decide-are_all.result) 1 0 = search rules in

@@ -1,4 +1,4 @@
-use Rattle.std.proofs.Common.{◌≡◌, ◌+◌, ◌∷◌, ◌++◌, [], length, ap, sym, ◌∙◌, subst, arith}
+use Rattle.std.proofs.Common.{◌≡◌, ◌∷◌, ◌++◌, [], ap, sym, ◌∙◌, subst, arith}
 use Rattle.sweep.specs.Adding.{first_with, is_above}
 use Rattle.sweep.specs.Columns.{AreFirstRuns, all_detections}
 use Rattle.sweep.specs.Percentile.{greatest}

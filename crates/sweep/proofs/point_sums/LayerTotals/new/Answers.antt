@@ -1,4 +1,4 @@
-use Rattle.std.proofs.Common.{rules, [], refl}
+use Rattle.std.proofs.Common.{rules, refl}
 use Rattle.sweep.proofs.point_sums.LayerTotals.new.Goals as goal
 
 pub returns : goal.returns

@@ -1,5 +1,4 @@
 use Rattle.std.proofs.Common.{◌≡◌, ◌+◌, ◌^◌, ◌<◌, ◌∷◌, ◌++◌, [], length, ap, sym, ◌∙◌, subst, arith}
-use Rattle.std.specs.List.{cons_option}
 use Rattle.sweep.specs.Columns.{all_detections, last_decisions, top_rounds}
 use Rattle.sweep.specs.Counted.{AreCounted}
 use Rattle.sweep.proofs.Layered.{detections_both, decisions_both, rounds_both, few_decisions, few_rounds}

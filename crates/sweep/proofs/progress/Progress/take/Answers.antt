@@ -4,7 +4,7 @@ use Rattle.sweep.specs.Numbering.{runs_each}
 use Rattle.sweep.specs.StudyText.{AreRowsOf, IsTrialOf, point_at, unit_first, unit_point, unit_runs}
 use Rattle.sweep.specs.Progress.{WroteUpTo}
 use Rattle.sweep.specs.Sums.{AreSums}
-use Rattle.sweep.specs.declared.error.SweepError.TheVariants.{Write}
+use Rattle.sweep.specs.declared.error.SweepError.TheVariants.{Memory, Write}
 use Rattle.sweep.proofs.Numbered.{unit_below}
 use Rattle.sweep.proofs.Reading.{if_err}
 use Rattle.sweep.proofs.Advancing.{more_trials, trials_length, all_trials, wrote_more, wrote_front}
@@ -31,6 +31,14 @@ returns-then-self-runs-clause-done g c = λ file start begin t is nums way.
         run_low = search rules;
       };
     }
+
+pub returns-in_err-add-clause-stops : goal.returns-in_err-add-clause-stops
+returns-in_err-add-clause-stops g c =
+    if_err c.from_residual.result _ Memory (search rules) (λ file start begin t is nums way. (c.args.self.now.unit, omega arith, way.out))
+
+pub returns-in_err-text-clause-stops : goal.returns-in_err-text-clause-stops
+returns-in_err-text-clause-stops g c =
+    if_err c.from_residual-in_err-text.result _ Memory (search rules) (λ file start begin t is nums way. (c.args.self.now.unit, omega arith, way.out))
 
 pub returns-in_err-write_text-clause-stops : goal.returns-in_err-write_text-clause-stops
 returns-in_err-write_text-clause-stops g c =
