@@ -68,7 +68,7 @@ fn lines(rt: HostRuntime) -> Result<(), Fail> {
     let alloc = rt.alloc();
     let clock = Hand(Cell::new(None));
     let mut screen = Vec::new(alloc);
-    let mut line = ProgressLine::new(&clock, alloc, Some(&mut screen), false);
+    let mut line = ProgressLine::new(&clock, alloc, &mut screen, true, false);
     for (millis, done) in &TIMES {
         clock.0.set(*millis);
         line.make_way();
@@ -93,7 +93,7 @@ fn makes_way(rt: HostRuntime) -> Result<(), Fail> {
     let alloc = rt.alloc();
     let clock = Hand(Cell::new(Some(0)));
     let mut screen = Vec::new(alloc);
-    let mut line = ProgressLine::new(&clock, alloc, Some(&mut screen), true);
+    let mut line = ProgressLine::new(&clock, alloc, &mut screen, true, true);
     line.hear(standing(0));
     line.make_way();
     clock.0.set(Some(100));
@@ -111,11 +111,14 @@ fn makes_way(rt: HostRuntime) -> Result<(), Fail> {
 fn no_line(rt: HostRuntime) -> Result<(), Fail> {
     let alloc = rt.alloc();
     let clock = Hand(Cell::new(Some(0)));
-    let mut none: ProgressLine<'_, Hand, Vec<u8>> = ProgressLine::new(&clock, alloc, None, false);
+    let mut file = Vec::new(alloc);
+    let mut none = ProgressLine::new(&clock, alloc, &mut file, false, true);
     none.hear(standing(0));
     none.make_way();
     none.hide();
-    let mut broken = ProgressLine::new(&clock, alloc, Some(Broken), true);
+    drop(none);
+    assert!(rt; file.is_empty());
+    let mut broken = ProgressLine::new(&clock, alloc, Broken, true, true);
     broken.hear(standing(0));
     broken.hide();
     Ok(())

@@ -13,7 +13,7 @@ use Rattle.study.specs.Shard.{ShardRecord}
 use Rattle.study.specs.declared.error.ReadError.{ReadError}
 use Rattle.sweep.specs.Layout.{LayoutRecord}
 use Rattle.sweep.specs.Numbering.{unit_count, HasScenarioAt, IsFirstRefusal}
-use Rattle.sweep.specs.Outcome.{IsBefore, HasScenario, IsFirstRefused, WroteStudy, BreaksOff}
+use Rattle.sweep.specs.Outcome.{AllHaveScenarios, CantBeRun, IsBefore, HasScenario, IsFirstRefused, WroteStudy, BreaksOff}
 use Rattle.sweep.specs.Progress.{WroteUpTo, StopsBelow, HeaderFails}
 use Rattle.sweep.specs.RowText.{Text}
 use Rattle.sweep.specs.StudyText.{header_of, numbers_of, units_in, units_of, HasRowsOf}
@@ -86,6 +86,30 @@ module _ (file : Members) (g : GridRecord) (shard : ShardRecord) (begin end : �
             let S : ℕ → Type 0 = λ k. HasScenario file g p k in
             subst S (run_is p r w (p * w + r) small refl) (subst R (point_is p r w (p * w + r) small refl) here);
       }
+
+  -- ---- all scenarios
+
+  scenario_of : (p r : ℕ) → r < length (runs g) → HasScenarioAt file g (p * length (runs g) + r) → HasScenario file g p r
+  scenario_of p r small here =
+      let w : ℕ = length (runs g) in
+      let R : ℕ → Type 0 = λ k. HasScenario file g k ((p * w + r) % w) in
+      let S : ℕ → Type 0 = λ k. HasScenario file g p k in
+      subst S (run_is p r w (p * w + r) small refl) (subst R (point_is p r w (p * w + r) small refl) here)
+
+  pub all_have : ((n : ℕ) → begin * length (runs g) ≤ n → n < end * length (runs g) → HasScenarioAt file g n)
+      → AllHaveScenarios file g shard
+  all_have each p r inside small =
+      let w : ℕ = length (runs g) in
+      let in_range = within p inside in
+      let from : begin * w ≤ p * w = mul-le-mul_right {m = begin} {n = p} w in_range.0 in
+      let up : (p + 1) * w ≤ end * w = mul-le-mul_right {m = p + 1} {n = end} w (omega (arith, in_range.1)) in
+      scenario_of p r small (each (p * w + r) (omega (arith, from)) (omega (arith, up, small)))
+
+  pub cant_be_run : (e : SweepError) → 1 ≤ length (runs g)
+      → IsFirstRefusal file g (begin * length (runs g)) (end * length (runs g)) e → CantBeRun file g shard e
+  cant_be_run (error.Refused point run reason) some refusal = first_refused point run reason some refusal
+  cant_be_run error.Memory some refusal = tt
+  cant_be_run error.Write some refusal = absurd refusal
 
   module _ (layout : LayoutRecord) {O : Type 0} (told : O → Option Text) (failed : O → ℕ) where
     pub breaks_at_check : (old : O) (e : SweepError) → 1 ≤ length (runs g)

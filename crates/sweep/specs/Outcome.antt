@@ -37,6 +37,17 @@ module _ (file : Members) (g : GridRecord) where
       pub before : (p r : ℕ) → Contains (numbers_of g shard) p → r < length (runs g) → IsBefore p r point run
           → HasScenario p r
 
+    -- all runs of the shard have a scenario
+    abbrev pub AllHaveScenarios : Type 0
+    AllHaveScenarios = (point run : ℕ) → Contains (numbers_of g shard) point → run < length (runs g)
+        → HasScenario point run
+
+    -- not all have one, or memory was refused
+    abbrev pub CantBeRun : SweepError → Type 0
+    CantBeRun (error.Refused point run reason) = IsFirstRefused point run reason
+    CantBeRun error.Memory = Unit {0}
+    CantBeRun error.Write = ⊥
+
     module _ (layout : LayoutRecord) {O : Type 0} (told : O → Option Text) (failed : O → ℕ) (old new : O) where
       -- the shard's text went out, and nothing else
       pub record WroteStudy : Type 0 where

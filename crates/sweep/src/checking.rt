@@ -4,6 +4,7 @@ ghost use Rattle.toml.specs.View.{table_view};
 ghost use Rattle.study.specs.Grid.{points, runs};
 ghost use Rattle.study.specs.Runs.{is_memory};
 ghost use Rattle.sweep.specs.Numbering.{point_of, HasScenarioAt, IsRefusalAt, IsFirstRefusal};
+ghost use Rattle.sweep.specs.Outcome.{AllHaveScenarios, CantBeRun};
 
 use crate::error::SweepError;
 use crate::numbering::{batch, scenario_of};
@@ -12,8 +13,31 @@ use scenario::ScenarioError;
 use std::alloc::{AllocError, Global};
 use std::marker::Sync;
 use std::thread::Threads;
-use study::{Grid, PlaceError, ReadError};
+use study::{Grid, PlaceError, ReadError, Shard};
 use toml::Table;
+
+/// Reads the scenarios of all runs of a shard's points, by so many threads.
+///
+/// # Errors
+///
+/// `Refused` for the first run that has none, or `Memory`.
+pub fn check_study<R: Threads + Sync>(
+    rt: &R,
+    alloc: Global,
+    file: &Table,
+    grid: &Grid,
+    shard: Shard,
+    threads: u8,
+) -> Result<(), SweepError>
+    ensures ok { OnOk result (AllHaveScenarios (table_view file.now) grid.now shard) }
+    ensures err { IfErr result (CantBeRun (table_view file.now) grid.now shard) }
+{
+    let runs = grid.runs();
+    let points = shard.points(grid.points() as u32);
+    let begin = u64::from(points.start);
+    let end = u64::from(points.end);
+    check_runs(rt, alloc, file, grid, begin * runs, end * runs, threads)
+}
 
 /// Whether memory was refused.
 fn is_want_of_memory(reason: &ReadError) -> bool

@@ -42,6 +42,7 @@ mod texts;
 mod value_counts;
 mod watcher;
 
+pub use checking::check_study;
 pub use columns::{
     Columns, DecisionSums, Distribution, FirstRuns, LayerSums, PairSums, RunCounts, TraceSums,
     VerdictCounts,
