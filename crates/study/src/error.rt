@@ -111,11 +111,12 @@ pub enum AxisError {
     /// There is nothing where a value, or a part of one, belongs.
     #[error("a value is missing")]
     NoValue,
-    /// An integer, or an end or the step of a range, is below -9,223,372,036,854,775,808 or above 9,223,372,036,854,775,807.
+    /// An integer, or an end or the step of a range, is below -9,223,372,036,854,775,808 or above
+    /// 9,223,372,036,854,775,807.
     #[error("a number is too large")]
     NumberTooLarge,
     /// A part of a value of tied keys is a range, whatever its numbers.
-    #[error("a range is a value of tied keys")]
+    #[error("a range stands in a value of tied keys")]
     TiedRange,
     /// A range's step is below 1.
     #[error("a range's step is below 1")]

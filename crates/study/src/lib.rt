@@ -5,8 +5,9 @@
 //! to which the combinations of the dealt axes' values are dealt in turn (`specs/Grid.antt`). The code finds a point or
 //! a run by its number, and lists none. A [`Shard`] is one of several consecutive blocks of the points
 //! (`specs/Shard.antt`). [`read_run`] reads a run's scenario from the file's table with the run's values in place of
-//! the file's (`specs/Placed.antt`), and [`scenario_text`] writes that table as a file. Keys, axes, [`Seeds`] and shards are read from words of a command line by their `parse`
-//! (`specs/KeyWords.antt`, `specs/AxisWords.antt`, `specs/SeedWords.antt`, `specs/ShardWords.antt`).
+//! the file's (`specs/Placed.antt`), and [`scenario_text`] writes that table as a file. Keys, axes, [`Seeds`] and
+//! shards are read from words of a command line by their `parse` (`specs/KeyWords.antt`,
+//! `specs/AxisWords.antt`, `specs/SeedWords.antt`, `specs/ShardWords.antt`).
 #![tactic(auto)]
 
 mod axis;

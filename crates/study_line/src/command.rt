@@ -9,10 +9,10 @@ use std::alloc::{AllocError, Global};
 
 const ABOUT: &str = "Runs a scenario under many settings and adds up what its detectors did.
 
-A study has points, one for each combination of the values that are varied, and each point has a run for each seed, \
-with values that are dealt to the seeds in turn. `sweep` prints a table with a row for each point and layer of \
-detectors, in which the measures of all its runs are added up, or with one for each run, and `show` prints the \
-scenario of one run.
+A study has points, one for each combination of the values that are varied. Each point has a run for each seed, with \
+values that are dealt to the seeds in turn; where values are set over all seeds, each combination of these has such \
+runs. `sweep` prints a table with a row for each point and layer of detectors, in which the measures of all its runs \
+are added up, or with one for each run, and `show` prints the scenario of one run.
 
 Of one scenario as it stands, or of every run of a study, `check` says where it breaks a rule, and why. `letters` \
 prints the letters of a scenario's run, and `draw` draws a picture of it.";

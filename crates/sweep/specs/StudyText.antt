@@ -50,6 +50,11 @@ abbrev pub unit_runs : Rows → GridRecord → (unit : ℕ) → List RunRecord
 unit_runs kind.Points g point = runs g
 unit_runs kind.Runs g run = run_at g (run % length (runs g)) ∷ []
 
+-- the number in the point of the first of these runs, from 1
+abbrev pub unit_first : Rows → GridRecord → (unit : ℕ) → ℕ
+unit_first kind.Points g point = 1
+unit_first kind.Runs g run = run % length (runs g) + 1
+
 -- one of these runs, from 0
 abbrev pub unit_run : Rows → GridRecord → (unit run : ℕ) → RunRecord
 unit_run rows g unit run = get_or (unit_runs rows g unit) run (record { settings = []; seed = 0 })
@@ -92,7 +97,7 @@ module _ (file : Members) (g : GridRecord) (layout : LayoutRecord) where
   pub record AreRowsOf (unit : ℕ) (rows : Text) : Type 0 where
     pub trials : List Trial
     pub each : AllZip (IsTrialOf file (point_at g (unit_point layout.rows g unit))) (unit_runs layout.rows g unit) trials
-    pub told : AreRowsFor layout.picks (lead_of layout.rows g unit) trials rows
+    pub told : AreRowsFor layout.picks (lead_of layout.rows g unit) (unit_first layout.rows g unit) trials rows
 
   -- the rows of these points or runs, one after the other
   pub record HasRowsOf (units : List ℕ) (text : Text) : Type 0 where

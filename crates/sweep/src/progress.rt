@@ -3,15 +3,26 @@ ghost use Rattle.std.specs.Prelude.{◌≡◌, ℕ, ◌+◌, ◌-◌, ◌*◌, �
 ghost use Rattle.toml.specs.Data.{Members};
 ghost use Rattle.study.specs.Grid.{points, runs};
 ghost use Rattle.sweep.specs.Numbering.{runs_each, AreAnswersFrom};
+ghost use Rattle.sweep.specs.StudyText.{unit_first};
 
 use crate::error::SweepError;
-use crate::layout::Layout;
+use crate::layout::{Layout, Rows};
 use crate::point_sums::PointSums;
 use crate::run_numbers::RunNumbers;
 use crate::texts::{rows_of, write_text};
 use reporting::Outlet;
 use std::alloc::{AllocError, Global};
 use study::Grid;
+
+/// The number in its point, from 1, of the first run of a unit.
+fn first_run(grid: &Grid, layout: &Layout, unit: u64) -> u64
+    ensures { result ≡ unit_first layout.now.rows grid.now unit }
+{
+    match layout.rows() {
+        Rows::Points => 1,
+        Rows::Runs => unit % grid.runs() + 1,
+    }
+}
 
 /// The sums of a unit, with those of its runs that come before `run`.
 #[derive(Drop)]
@@ -28,15 +39,16 @@ impl Progress {
     ghost use Rattle.sweep.specs.Progress.{IsUnderWay, StopsBelow};
 
     /// No run of the unit is in.
-    pub fn at(alloc: Global, unit: u64) -> Progress
+    pub fn at(alloc: Global, grid: &Grid, layout: &Layout, unit: u64) -> Progress
         ensures unit { result.unit ≡ unit }
         ensures run { result.run ≡ 0 }
-        ensures sums { AreSums [] result.sums }
+        ensures sums { AreSums (unit_first layout.now.rows grid.now unit) [] result.sums }
     {
+        let first = first_run(grid, layout, unit);
         Progress {
             unit,
             run: 0,
-            sums: PointSums::new(alloc),
+            sums: PointSums::new(alloc, first),
         }
     }
 
@@ -79,7 +91,7 @@ impl Progress {
         }
         let text = rows_of(alloc, grid, layout, self.unit, &self.sums)?;
         write_text(&text, outlet)?;
-        *self = Progress::at(alloc, self.unit + 1);
+        *self = Progress::at(alloc, grid, layout, self.unit + 1);
         Ok(())
     }
 

@@ -55,7 +55,7 @@ fn write_points<R: Threads + Sync, O: Outlet, W: Watcher>(
 {
     let runs = grid.runs();
     let points = end - begin;
-    let mut progress = Progress::at(alloc, layout.unit_count(grid, begin));
+    let mut progress = Progress::at(alloc, grid, layout, layout.unit_count(grid, begin));
     let mut next = begin * runs;
     watcher.hear(Standing {
         points,

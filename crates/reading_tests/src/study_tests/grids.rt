@@ -18,8 +18,8 @@ fn tell(text: &mut String, alloc: Global, settings: &[Choice<'_>]) -> Result<(),
     Ok(())
 }
 
-/// The settings of the second point of an algorithm's name, two time-outs with a loss tied to each, one crash's tick and
-/// the begin of all outages.
+/// The settings of the second point of an algorithm's name, two time-outs with a loss tied to each, one crash's tick
+/// and the begin of all outages.
 #[test]
 fn written(rt: HostRuntime) -> Result<(), Fail> {
     let alloc = rt.alloc();
@@ -43,7 +43,7 @@ fn written(rt: HostRuntime) -> Result<(), Fail> {
     Ok(())
 }
 
-/// What is added up and what is dealt, and how many seeds there are, from 1; then the settings and the seed of each run.
+/// What is added up and what is dealt, and how many seeds there are, from 1; then each run's settings and seed.
 const RUNS: [(&str, &str, u64, &str); 3] = [
     ("-", "h=1,2,3", 6, "h=1;1 h=2;2 h=3;3 h=1;4 h=2;5 h=3;6 "),
     ("o=8,9", "-", 2, "o=8;1 o=8;2 o=9;1 o=9;2 "),

@@ -7,7 +7,8 @@ use Rattle.study.specs.Grid.{points, runs}
 use Rattle.sweep.specs.Numbering.{runs_each, unit_count, AreAnswersFrom}
 use Rattle.sweep.specs.Progress.{WroteUpTo}
 use Rattle.sweep.specs.declared.error.SweepError.TheVariants.{Memory}
-use Rattle.sweep.specs.StudyText.{IsTrialOf, point_at, unit_point, unit_runs}
+use Rattle.sweep.specs.StudyText.{IsTrialOf, point_at, unit_first, unit_point, unit_runs}
+use Rattle.sweep.specs.Sums.{AreSums}
 use Rattle.sweep.proofs.Reading.{if_err, if_any_err}
 use Rattle.sweep.proofs.Numbered.{point_at_end, point_below, count_each, some_each}
 use Rattle.sweep.proofs.Advancing.{wrote_none}
@@ -41,7 +42,7 @@ loop-next-init g c =
         added = record {
           trials = [];
           each = subst R (sym c.at-progress.ensures.run) tt;
-          summed = c.at-progress.ensures.sums;
+          summed = subst (λ n. AreSums (unit_first layout.rows grid n) [] c.at-progress.result.sums) (sym c.at-progress.ensures.unit) c.at-progress.ensures.sums;
           run_low = omega (arith, c.at-progress.ensures.run, some);
         };
       };

@@ -1,9 +1,10 @@
 use Rattle.std.proofs.Common.{rules, ◌≡◌, ℕ, ◌+◌, ◌<◌, [], length, take, ◌∷◌, ◌++◌, arith, sym, subst}
 use Rattle.std.specs.List.{AllZip}
 use Rattle.sweep.specs.Numbering.{runs_each}
-use Rattle.sweep.specs.StudyText.{AreRowsOf, IsTrialOf, point_at, unit_point, unit_runs}
+use Rattle.sweep.specs.StudyText.{AreRowsOf, IsTrialOf, point_at, unit_first, unit_point, unit_runs}
 use Rattle.sweep.specs.Progress.{WroteUpTo}
-use Rattle.sweep.specs.declared.error.SweepError.TheVariants.{Write}
+use Rattle.sweep.specs.Sums.{AreSums}
+use Rattle.sweep.specs.declared.error.SweepError.TheVariants.{Memory, Write}
 use Rattle.sweep.proofs.Numbered.{unit_below}
 use Rattle.sweep.proofs.Reading.{if_err}
 use Rattle.sweep.proofs.Advancing.{more_trials, trials_length, all_trials, wrote_more, wrote_front}
@@ -26,10 +27,18 @@ returns-then-self-runs-clause-done g c = λ file start begin t is nums way.
       added = record {
         trials = way.added.trials ++ t ∷ [];
         each = more_trials file grid layout unit run way.added.trials t way.added.each c.requires.run is;
-        summed = c.in_ok-add.ensures way.added.trials t few way.added.summed nums;
+        summed = c.in_ok-add.ensures (unit_first layout.rows grid unit) way.added.trials t few way.added.summed nums;
         run_low = search rules;
       };
     }
+
+pub returns-in_err-add-clause-stops : goal.returns-in_err-add-clause-stops
+returns-in_err-add-clause-stops g c =
+    if_err c.from_residual.result _ Memory (search rules) (λ file start begin t is nums way. (c.args.self.now.unit, omega arith, way.out))
+
+pub returns-in_err-text-clause-stops : goal.returns-in_err-text-clause-stops
+returns-in_err-text-clause-stops g c =
+    if_err c.from_residual-in_err-text.result _ Memory (search rules) (λ file start begin t is nums way. (c.args.self.now.unit, omega arith, way.out))
 
 pub returns-in_err-write_text-clause-stops : goal.returns-in_err-write_text-clause-stops
 returns-in_err-write_text-clause-stops g c =
@@ -41,7 +50,7 @@ returns-in_err-write_text-clause-stops g c =
     let few : length way.added.trials < 1000000000000 =
     omega (arith, trials_length file grid layout unit run way.added.trials way.added.each c.requires.run, c.requires.run, c.runs_each-runs.ensures.value, c.runs_each-runs.ensures.high) in
     let trials = way.added.trials ++ t ∷ [] in
-    let summed = c.in_ok-add.ensures way.added.trials t few way.added.summed nums in
+    let summed = c.in_ok-add.ensures (unit_first layout.rows grid unit) way.added.trials t few way.added.summed nums in
     let last : run + 1 ≡ runs_each layout.rows grid = omega (arith, c.requires.run, c.if-self-runs.false, c.runs_each-runs.ensures.value) in
     let rows : AreRowsOf file grid layout unit c.in_ok-text.text.items =
     all_trials file grid layout unit (run + 1) trials c.in_ok-text.text.items (more_trials file grid layout unit run way.added.trials t way.added.each c.requires.run is) last
@@ -60,7 +69,7 @@ returns-clause-done g c = λ file start begin t is nums way.
     let few : length way.added.trials < 1000000000000 =
     omega (arith, trials_length file grid layout unit run way.added.trials way.added.each c.requires.run, c.requires.run, c.runs_each-runs.ensures.value, c.runs_each-runs.ensures.high) in
     let trials = way.added.trials ++ t ∷ [] in
-    let summed = c.in_ok-add.ensures way.added.trials t few way.added.summed nums in
+    let summed = c.in_ok-add.ensures (unit_first layout.rows grid unit) way.added.trials t few way.added.summed nums in
     let last : run + 1 ≡ runs_each layout.rows grid = omega (arith, c.requires.run, c.if-self-runs.false, c.runs_each-runs.ensures.value) in
     let rows : AreRowsOf file grid layout unit c.in_ok-text.text.items =
     all_trials file grid layout unit (run + 1) trials c.in_ok-text.text.items (more_trials file grid layout unit run way.added.trials t way.added.each c.requires.run is) last
@@ -73,7 +82,7 @@ returns-clause-done g c = λ file start begin t is nums way.
       added = record {
         trials = [];
         each = subst R (sym c.at.ensures.run) tt;
-        summed = c.at.ensures.sums;
+        summed = subst (λ n. AreSums (unit_first layout.rows grid n) [] c.at.result.sums) (sym c.at.ensures.unit) c.at.ensures.sums;
         run_low = omega (arith, c.at.ensures.run, c.requires.run);
       };
     }
