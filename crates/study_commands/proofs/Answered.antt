@@ -182,6 +182,12 @@ module _ (input : Option (List ℕ)) (path : List ℕ) (study : StudyTexts) (col
         written = broke.wrote;
       })
 
+-- a run of the shard that is refused is one of the study's
+pub cant_of_run : (file : Members) (g : GridRecord) (shard : ShardRecord) (e : SweepError) → CantBeRun file g shard e → IsOfRun g e
+cant_of_run file g shard (error.Refused point run reason) cant = (point_within g shard point cant.point_in, cant.run_in)
+cant_of_run file g shard error.Memory cant = tt
+cant_of_run file g shard error.Write cant = tt
+
 module _ (input : Option (List ℕ)) (path : List ℕ) (study : StudyTexts)
     (file : Members) (is_file : IsTable input path file) (g : GridRecord) (is_grid : IsGrid study.grid g)
     (shard : ShardRecord) (is_shard : IsShardOf (shard_word study) shard) where
@@ -202,11 +208,6 @@ module _ (input : Option (List ℕ)) (path : List ℕ) (study : StudyTexts)
   }
 
   -- of one that can't
-  pub checked_run : (e : SweepError) → CantBeRun file g shard e → IsOfRun g e
-  checked_run (error.Refused point run reason) cant = (point_within g shard point cant.point_in, cant.run_in)
-  checked_run error.Memory cant = tt
-  checked_run error.Write cant = tt
-
   pub checked_why : (e : SweepError) (f : Fault) → IsFaultOf e f → CantBeRun file g shard e → StopsStudyCheck input path study f
   checked_why (error.Refused point run reason) f is cant = study_run _ _ f is (λ line. inr (record {
     file = file;

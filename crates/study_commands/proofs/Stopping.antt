@@ -33,6 +33,17 @@ refusal_before Limit is = absurd is
 refusal_before Memory is = tt
 refusal_before Write is = absurd is
 
+-- no fault ends with status 0
+pub above_zero : (f : Fault) → status_of f ≡ 0 → ⊥
+above_zero Form is = omega (arith, is)
+above_zero WordsMemory is = omega (arith, is)
+above_zero (Words line) is = omega (arith, is)
+above_zero (Refused line) is = omega (arith, is)
+above_zero (NotDrawn error line) is = omega (arith, is)
+above_zero Limit is = omega (arith, is)
+above_zero Memory is = omega (arith, is)
+above_zero Write is = omega (arith, is)
+
 -- a refusal ends with status 1
 pub refusal_one : (f : Fault) → IsRefusal f → status_of f ≡ 1
 refusal_one Form is = absurd is

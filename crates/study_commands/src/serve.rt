@@ -89,7 +89,10 @@ fn other_word(alloc: Global, name: &str, word: &str) -> Fault
     ensures line { (line_of result ≡ other_word_line name.now word.now) ⊎ (result ≡ Fault.WordsMemory) }
 {
     let word = Printable(word);
-    Fault::of_words(format!(in alloc; "fdstudy: words: {name}: {word}\n"))
+    match format!(in alloc; "fdstudy: words: {name}: {word}\n") {
+        Ok(line) => Fault::Words(line),
+        Err(_) => Fault::WordsMemory,
+    }
 }
 
 /// Tells what `clap` says of words, and answers 2.
@@ -164,13 +167,7 @@ fn tell<O: Outlet, F: Outlet>(
 /// points may have gone out. With 4 a front part of the text went out.
 ///
 /// The watcher hears how far a `sweep` has come. What it shows is taken away before a fault is told.
-pub fn serve<
-    R: Files + Threads + Sync + Clock,
-    I: Read,
-    O: Outlet,
-    F: Outlet,
-    W: Watcher,
->(
+pub fn serve<R: Files + Threads + Sync + Clock, I: Read, O: Outlet, F: Outlet, W: Watcher>(
     rt: &R,
     alloc: Global,
     words: &[&str],

@@ -124,12 +124,7 @@ fn read_runs<R: Threads + Sync + Clock, W: Watcher>(
 
 /// Answers `check` with a study: how many points and runs there are, of the shard where one is named, about how many
 /// entries they have, how long that takes, and where a limit will stop a run. The scenario of each run is read.
-pub(crate) fn serve_study_check<
-    R: Files + Threads + Sync + Clock,
-    I: Read,
-    O: Outlet,
-    W: Watcher,
->(
+pub(crate) fn serve_study_check<R: Files + Threads + Sync + Clock, I: Read, O: Outlet, W: Watcher>(
     rt: &R,
     alloc: Global,
     path: &str,
@@ -152,9 +147,7 @@ pub(crate) fn serve_study_check<
     let shard = shard_of(alloc, study.shard)?;
     let file = table_of(rt, alloc, path, input)?;
     let threads = threads_for(rt, study.threads);
-    read_runs(
-        rt, alloc, path, &file, &grid, shard, threads, watcher,
-    )?;
+    read_runs(rt, alloc, path, &file, &grid, shard, threads, watcher)?;
     match text_of(rt, alloc, &file, &grid, shard, threads) {
         Ok(text) => put_text(text.as_str(), outlet),
         Err(_) => Err(Fault::Memory),
