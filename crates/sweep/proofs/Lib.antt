@@ -16,3 +16,4 @@ mod Shards
 mod Ending
 mod Placed
 mod Heard
+mod Limiting

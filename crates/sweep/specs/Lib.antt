@@ -14,3 +14,4 @@ pub mod Outcome
 pub mod Numbering
 pub mod Progress
 pub mod Watching
+pub mod Limits

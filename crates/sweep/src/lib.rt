@@ -19,12 +19,14 @@
 #![tactic(auto)]
 
 mod adding;
+mod batches;
 mod checking;
 mod columns;
 mod error;
 mod fields;
 mod laws;
 mod layout;
+mod limits;
 mod measuring;
 mod names;
 mod numbering;
@@ -39,6 +41,7 @@ mod texts;
 mod time_counts;
 mod watcher;
 
+pub use checking::check_study;
 pub use columns::{
     Columns, DecisionSums, DetectionTimes, LayerSums, PairSums, TraceSums, VerdictCounts,
 };
@@ -50,4 +53,4 @@ pub use point_sums::PointSums;
 pub use run_numbers::RunNumbers;
 pub use sweeping::sweep;
 pub use table::Table;
-pub use watcher::{Standing, Unwatched, Watcher};
+pub use watcher::{Pass, Standing, Unwatched, Watcher};
