@@ -1,4 +1,5 @@
 //! What tests share: runs, the settings of a point, and the text of its rows.
+use super::studies::layout_of;
 use crate::comparisons::same;
 use crate::findings::{outcome, quiet, without_mistake};
 use crate::traces::{CRASH_AT_3, scenario_of};
@@ -7,8 +8,8 @@ use reporting::{Detection, RunFindings, Summary};
 use scenario::Scenario;
 use std::alloc::Global;
 use std::process::Abort;
-use study::{Axis, Choice, Key, Setting};
-use sweep::{PointSums, RunNumbers, Table};
+use study::{Axis, Grid, Key, Setting};
+use sweep::{PointSums, Rows, RunNumbers, Table};
 
 /// The first line after the names of the varied keys.
 pub const HEADER: &str =
@@ -86,16 +87,18 @@ pub fn timeout<R: Abort>(rt: &R, alloc: Global, value: Setting) -> Axis {
     }
 }
 
-/// The text of the rows of a point with these settings and sums.
-pub fn rows_of<R: Abort>(
-    rt: &R,
-    alloc: Global,
-    settings: &[Choice<'_>],
-    sums: &PointSums,
-) -> Vec<u8> {
+/// The grid that varies these axes, with one seed.
+pub fn grid_of<R: Abort>(rt: &R, alloc: Global, vary: Vec<Axis>) -> Grid {
+    Grid::new(alloc, vary, Vec::new(alloc), 1, 1).expect(rt, "no study")
+}
+
+/// The text of the rows of a grid's first point with these sums.
+pub fn rows_of<R: Abort>(rt: &R, alloc: Global, grid: &Grid, sums: &PointSums) -> Vec<u8> {
+    let layout = layout_of(rt, alloc, grid, Rows::Points, None);
+    assert!(rt; grid.points() > 0);
     let mut table = Table::new(alloc);
     table
-        .push_point(alloc, settings, sums)
+        .push_unit(alloc, grid, &layout, 0, sums)
         .expect(rt, "no memory");
     table.into_text().expect(rt, "no memory")
 }
@@ -112,10 +115,7 @@ pub fn are_rows<R: Abort>(
     for run in runs {
         sums.add(run).expect(rt, "no memory");
     }
-    let axis = timeout(rt, alloc, value);
-    let settings = [Choice {
-        key: &axis.key,
-        value: axis.values.first().expect(rt, "an axis has no values"),
-    }];
-    is_same(rt, &rows_of(rt, alloc, &settings, &sums), wanted);
+    let axes = Vec::from_array(alloc, [timeout(rt, alloc, value)]);
+    let grid = grid_of(rt, alloc, axes.expect(rt, "no memory"));
+    is_same(rt, &rows_of(rt, alloc, &grid, &sums), wanted);
 }

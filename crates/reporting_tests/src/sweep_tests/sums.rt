@@ -1,5 +1,8 @@
 //! The rows of points whose runs are worked by hand.
-use super::rows::{are_rows, crash_at_3, crash_run, is_same, is_text, one_crash, rows_of, timeout};
+use super::rows::{
+    are_rows, crash_at_3, crash_run, grid_of, is_same, is_text, one_crash, rows_of, timeout,
+};
+use super::studies::layout_of;
 use crate::findings::{outcome, quiet, without_mistake};
 use crate::traces::scenario_of;
 use judges::Answer;
@@ -7,7 +10,7 @@ use reporting::{Detection, PairMeasures, RunFindings};
 use std::alloc::Global;
 use std::process::Abort;
 use study::Setting;
-use sweep::{PointSums, RunNumbers, Table};
+use sweep::{PointSums, Rows, RunNumbers, Table};
 
 /// One run, whose crash is detected after 6 ticks: each pair is watched for the 3 ticks before the crash. Four runs,
 /// with detections after 6 and 4 ticks, none, and a run that passed its limit, which is counted alone. And that run
@@ -134,8 +137,12 @@ fn decisions(rt: HostRuntime) {
 fn lines(rt: HostRuntime) {
     let alloc = rt.alloc();
     let mut table = Table::new(alloc);
-    let varied = [timeout(&rt, alloc, Setting::Integer(5))];
-    table.push_header(alloc, &varied).expect(&rt, "no memory");
+    let varied = Vec::from_array(alloc, [timeout(&rt, alloc, Setting::Integer(5))]);
+    let grid = grid_of(&rt, alloc, varied.expect(&rt, "no memory"));
+    let layout = layout_of(&rt, alloc, &grid, Rows::Points, None);
+    table
+        .push_header(alloc, &grid, &layout)
+        .expect(&rt, "no memory");
     let header = table.into_text().expect(&rt, "no memory");
     is_text(&rt, alloc, &header, "detector.timeout,", "");
     let odd = String::from_str(alloc, "a, \"b\"").expect(&rt, "no memory");
@@ -148,7 +155,12 @@ fn lines(rt: HostRuntime) {
     );
     is_same(
         &rt,
-        &rows_of(&rt, alloc, &[], &PointSums::new(alloc)),
+        &rows_of(
+            &rt,
+            alloc,
+            &grid_of(&rt, alloc, Vec::new(alloc)),
+            &PointSums::new(alloc),
+        ),
         "1,0,0,0,0,0,0,0,0,0,0,0,0,0,0,0,0,0,,,,,0,0,0,0,0,0,0,0,,,0\n",
     );
 }
