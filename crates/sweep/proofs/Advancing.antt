@@ -42,7 +42,7 @@ module _ (file : Members) (g : GridRecord) where
       omega (arith, same, len, low)
 
   pub all_trials : (point run : ℕ) (trials : List Trial) (rows : Text) → AreFirst point run trials → run ≡ length (runs g)
-      → ArePointRows (point_at g point) trials rows → AreRowsOf file g point rows
+      → ArePointRows 1 (point_at g point) trials rows → AreRowsOf file g point rows
   all_trials point run trials rows first all told =
       let R : RunRecord → Trial → Type 0 = IsTrialOf file (point_at g point) in
       let P : ℕ → Type 0 = λ n. AllZip R (take n (runs g)) trials in

@@ -51,8 +51,8 @@ module _ (file : Members) (g : GridRecord) where
   one_rows : (number : ℕ) (a b : Text) → AreRowsOf file g number a → AreRowsOf file g number b → a ≡ b
   one_rows number a b x y =
       let same = one_list (IsTrialOf file (point_at g number)) (one_trial file (point_at g number)) (runs g) x.trials y.trials x.each y.each in
-      let P : List Trial → Type 0 = λ l. ArePointRows (point_at g number) l b in
-      one_point_rows (point_at g number) x.trials a b x.told (subst P (sym same) y.told)
+      let P : List Trial → Type 0 = λ l. ArePointRows 1 (point_at g number) l b in
+      one_point_rows 1 (point_at g number) x.trials a b x.told (subst P (sym same) y.told)
 
   all_rows_one : (numbers : List ℕ) (a b : Text) → HasRowsOf file g numbers a → HasRowsOf file g numbers b → a ≡ b
   all_rows_one numbers a b x y =

@@ -18,7 +18,7 @@ module _ (file : Members) (g : GridRecord) where
   pub record AreAdded (p : Progress) : Type 0 where
     pub trials : List Trial
     pub each : AllZip (IsTrialOf file (point_at g p.point)) (take p.run (runs g)) trials
-    pub summed : AreSums trials p.sums
+    pub summed : AreSums 1 trials p.sums
     pub run_low : p.run < length (runs g)
 
   module _ {O : Type 0} (told : O → Option Text) (failed : O → ℕ) (old new : O) (begin : ℕ) where

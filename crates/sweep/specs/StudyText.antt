@@ -28,11 +28,11 @@ abbrev pub header_of : GridRecord → ShardRecord → Text
 header_of g shard = if shard.number == 1 then header_text (keys g) else []
 
 module _ (file : Members) (g : GridRecord) where
-  -- the rows of a point tell of all its runs
+  -- the rows of a point tell of all its runs, which are numbered from 1
   pub record AreRowsOf (number : ℕ) (rows : Text) : Type 0 where
     pub trials : List Trial
     pub each : AllZip (IsTrialOf file (point_at g number)) (runs g) trials
-    pub told : ArePointRows (point_at g number) trials rows
+    pub told : ArePointRows 1 (point_at g number) trials rows
 
   -- the rows of the points of these numbers, one point after the other
   pub record HasRowsOf (numbers : List ℕ) (text : Text) : Type 0 where

@@ -6,8 +6,8 @@
 //! (`specs/Columns.antt`), and so is how it is written (`specs/RowText.antt`). It is proved that the sums of a point,
 //! to which runs were added one by one, are those of the list of these runs, and that the text has their rows.
 //!
-//! Detection times are kept with how often each came, so memory grows with how many different times there are, and not
-//! with the runs. Sums have 128 bits, and are exact of up to 1,000,000,000,000 runs.
+//! Detection times, ticks of last decisions and rounds are kept with how often each came, so memory grows with how many
+//! different ones there are, and not with the runs. Sums have 128 bits, and are exact of up to 1,000,000,000,000 runs.
 //!
 //! [`in_parallel`] shares out calls for consecutive numbers among threads, and gives what they answer in the numbers'
 //! order (`specs/Parallel.antt`). A sweep has its runs read and done by it.
@@ -20,11 +20,14 @@
 mod adding;
 mod checking;
 mod columns;
+mod decisions;
 mod error;
 mod fields;
+mod first_runs;
 mod laws;
 mod measuring;
 mod numbering;
+mod pairs;
 mod parallel;
 mod point_sums;
 mod progress;
@@ -32,11 +35,12 @@ mod run_numbers;
 mod sweeping;
 mod table;
 mod texts;
-mod time_counts;
+mod value_counts;
 mod watcher;
 
 pub use columns::{
-    Columns, DecisionSums, DetectionTimes, LayerSums, PairSums, TraceSums, VerdictCounts,
+    Columns, DecisionSums, Distribution, FirstRuns, LayerSums, PairSums, RunCounts, TraceSums,
+    VerdictCounts,
 };
 pub use error::SweepError;
 pub use laws::{law_one_text, law_shard_texts};

@@ -31,12 +31,12 @@ impl Progress {
     pub fn at(alloc: Global, point: u64) -> Progress
         ensures point { result.point ≡ point }
         ensures run { result.run ≡ 0 }
-        ensures sums { AreSums [] result.sums }
+        ensures sums { AreSums 1 [] result.sums }
     {
         Progress {
             point,
             run: 0,
-            sums: PointSums::new(alloc),
+            sums: PointSums::new(alloc, 1),
         }
     }
 

@@ -33,8 +33,8 @@ pub(crate) fn rows_of(
     sums: &PointSums,
 ) -> Result<Vec<u8>, AllocError>
     requires { number < length (points grid.now) }
-    ensures { IfOk result (λ t. (trials : List Trial) → AreSums trials sums.now
-        → ArePointRows (point_at grid.now number) trials t.items) }
+    ensures { IfOk result (λ t. (trials : List Trial) → AreSums 1 trials sums.now
+        → ArePointRows 1 (point_at grid.now number) trials t.items) }
 {
     let settings = grid.point(alloc, number)?;
     let mut table = Table::new(alloc);

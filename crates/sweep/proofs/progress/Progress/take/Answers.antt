@@ -3,7 +3,7 @@ use Rattle.std.specs.List.{AllZip}
 use Rattle.study.specs.Grid.{runs}
 use Rattle.sweep.specs.StudyText.{AreRowsOf, IsTrialOf, point_at}
 use Rattle.sweep.specs.Progress.{WroteUpTo}
-use Rattle.sweep.specs.declared.error.SweepError.TheVariants.{Write}
+use Rattle.sweep.specs.declared.error.SweepError.TheVariants.{Memory, Write}
 use Rattle.sweep.proofs.Reading.{if_err}
 use Rattle.sweep.proofs.Advancing.{more_trials, trials_length, all_trials, wrote_more, wrote_front}
 use Rattle.sweep.proofs.progress.Progress.take.Goals as goal
@@ -20,10 +20,18 @@ returns-then-self-runs-clause-done g c = λ file start begin t is nums way.
       added = record {
         trials = way.added.trials ++ t ∷ [];
         each = more_trials file grid point run way.added.trials t way.added.each c.requires.run is;
-        summed = c.in_ok-add.ensures way.added.trials t few way.added.summed nums;
+        summed = c.in_ok-add.ensures 1 way.added.trials t few way.added.summed nums;
         run_low = search rules;
       };
     }
+
+pub returns-in_err-add-clause-stops : goal.returns-in_err-add-clause-stops
+returns-in_err-add-clause-stops g c =
+    if_err c.from_residual.result _ Memory (search rules) (λ file start begin t is nums way. (c.args.self.now.point, omega arith, way.out))
+
+pub returns-in_err-text-clause-stops : goal.returns-in_err-text-clause-stops
+returns-in_err-text-clause-stops g c =
+    if_err c.from_residual-in_err-text.result _ Memory (search rules) (λ file start begin t is nums way. (c.args.self.now.point, omega arith, way.out))
 
 pub returns-in_err-write_text-clause-stops : goal.returns-in_err-write_text-clause-stops
 returns-in_err-write_text-clause-stops g c =
@@ -34,7 +42,7 @@ returns-in_err-write_text-clause-stops g c =
     let few : length way.added.trials < 1000000000000 =
     omega (arith, trials_length file grid point run way.added.trials way.added.each c.requires.run, c.requires.run, c.runs-runs.ensures.value, c.runs-runs.ensures.high) in
     let trials = way.added.trials ++ t ∷ [] in
-    let summed = c.in_ok-add.ensures way.added.trials t few way.added.summed nums in
+    let summed = c.in_ok-add.ensures 1 way.added.trials t few way.added.summed nums in
     let last : run + 1 ≡ length (runs grid) = omega (arith, c.requires.run, c.if-self-runs.false, c.runs-runs.ensures.value) in
     let rows : AreRowsOf file grid point c.in_ok-text.text.items =
     all_trials file grid point (run + 1) trials c.in_ok-text.text.items (more_trials file grid point run way.added.trials t way.added.each c.requires.run is) last
@@ -52,7 +60,7 @@ returns-clause-done g c = λ file start begin t is nums way.
     let few : length way.added.trials < 1000000000000 =
     omega (arith, trials_length file grid point run way.added.trials way.added.each c.requires.run, c.requires.run, c.runs-runs.ensures.value, c.runs-runs.ensures.high) in
     let trials = way.added.trials ++ t ∷ [] in
-    let summed = c.in_ok-add.ensures way.added.trials t few way.added.summed nums in
+    let summed = c.in_ok-add.ensures 1 way.added.trials t few way.added.summed nums in
     let last : run + 1 ≡ length (runs grid) = omega (arith, c.requires.run, c.if-self-runs.false, c.runs-runs.ensures.value) in
     let rows : AreRowsOf file grid point c.in_ok-text.text.items =
     all_trials file grid point (run + 1) trials c.in_ok-text.text.items (more_trials file grid point run way.added.trials t way.added.each c.requires.run is) last
