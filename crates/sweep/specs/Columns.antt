@@ -149,7 +149,8 @@ module _ (layer : ℕ) where
   -- of the runs from the first on that have a detection after so many ticks, the number of the first
   abbrev pub first_after : (first : ℕ) → List Trial → Option ℕ → Option ℕ
   first_after first trials None = None
-  first_after first trials (Some v) = first_number (does (λ r. list_any (λ t. t == v) (detections layer r))) first trials
+  first_after first trials (Some v) =
+      first_number (does (λ r. list_any (λ t. t == v) (detections layer r))) first trials
 
   module _ (first : ℕ) (trials : List Trial) where
     -- the numbers of the first runs in which something is so, where all runs are numbered from the first on

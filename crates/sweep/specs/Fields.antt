@@ -17,7 +17,10 @@ texts_of f = fields_of f.row
 -- what is told of runs that are done, before the verdicts and from them on
 abbrev pub pair_fields : Columns → List (List ℕ)
 pair_fields c =
-    trace_fields c.sums.traces ++ mistake_fields c ++ period_fields c.sums.pairs ++ detection_fields c.sums.pairs c.detections
+    trace_fields c.sums.traces
+    ++ mistake_fields c
+    ++ period_fields c.sums.pairs
+    ++ detection_fields c.sums.pairs c.detections
 
 abbrev pub outcome_fields : Columns → List (List ℕ)
 outcome_fields c =

@@ -83,9 +83,9 @@ pub struct RunCounts {
     pub disagreements: u64,
 }
 
-/// What is told of some values, after which so many infinite ones may come. The percentiles are nearest ranks: the least
-/// of the values which so many in 100 of all, the infinite ones too, are at most. There is none where the rank falls on
-/// an infinite one, or where nothing is ranked.
+/// What is told of some values, after which infinite ones may come. The percentiles are nearest ranks: the least of the
+/// values which so many in 100 of all, the infinite ones too, are at most. There is none where the rank falls on an
+/// infinite one, or where nothing is ranked.
 #[derive(Clone, Copy, Debug, PartialEq, Eq)]
 pub struct Distribution {
     /// How many values there are, without infinite ones.
@@ -145,8 +145,8 @@ pub struct Columns {
     pub mistake_recurrence: Option<u128>,
     /// How many of a million of these ticks a process was suspected by mistake for, rounded down; none without a tick.
     pub mistaken_ppm: Option<u128>,
-    /// The times from the crash of a process to the suspicion by another that lasts to the horizon, in ticks. Those that
-    /// didn't come are infinite.
+    /// The times from the crash of a process to the suspicion by another that lasts to the horizon, in ticks. A
+    /// suspicion that didn't come has an infinite one.
     pub detections: Distribution,
     /// The tick of the last decision of each run in which some process is to decide. It is infinite where one of them
     /// didn't.

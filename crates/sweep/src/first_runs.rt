@@ -22,7 +22,8 @@ impl FirstRuns {
         disagreement: None,
     };
 
-    /// With one more run of this number, alone counted so, whose longest detection is longer than those before, or isn't.
+    /// With one more run of this number, which alone counts so. Its longest detection is longer than those before, or
+    /// it isn't.
     pub(crate) fn with(self, number: u128, counts: RunCounts, is_longest: bool) -> FirstRuns
         ensures { result ≡ first_with self number counts is_longest }
     {

@@ -37,8 +37,8 @@ fn of_verdicts(verdicts: &Verdicts) -> VerdictCounts
     }
 }
 
-/// The sums of a run that is done, alone: of its summary, and on a layer of its verdicts, the measures of the pairs that
-/// count, and the decisions of the processes that are to decide.
+/// The sums of a run that is done, alone: of its summary, and on a layer of its verdicts, of the measures of the pairs
+/// that count, and of the decisions of the processes that are to decide.
 fn sums_of_run(
     scenario: &Scenario,
     summary: &Summary,

@@ -126,7 +126,7 @@ at = 3
 
 /// Three runs of them. In the first all decide 7, the one that crashes at tick 2. In the second one correct process
 /// never decides, and the one that crashes decided another value. In the third one correct process ends with no value.
-/// So two of the three last decisions never come, and half of the runs aren't decided at any tick.
+/// So two of the three last decisions never come, and no percentile of them is a tick.
 #[test]
 fn decisions(rt: HostRuntime) {
     let alloc = rt.alloc();

@@ -39,8 +39,8 @@ fn are_times<R: Abort>(
 /// greatest.
 type Case = (&'static [Detection], (u128, u128), [Option<u128>; 4]);
 
-/// The textbook's five values; values that come often; four crashes, of which one was suspected already and one is never
-/// detected, so 90 in 100 of them aren't; and a crash that nobody detects.
+/// The textbook's five values; values that come often; four crashes, of which one was suspected already and one is
+/// never detected, so 90 in 100 of them aren't; and a crash that nobody detects.
 const CASES: [Case; 4] = [
     (
         &[At(40), At(15), At(50), At(20), At(35)],
@@ -71,8 +71,8 @@ const CASES: [Case; 4] = [
     (&[NoTick], (0, 0), [None; 4]),
 ];
 
-/// The detections of one run; the times from 50 up to 100 and then from 1 to 49, each of a run of its own; and none. The
-/// longest is that of run 51.
+/// The detections of one run; the times from 50 up to 100 and then from 1 to 49, each of a run of its own; and none.
+/// The longest is that of run 51.
 #[test]
 fn percentiles(rt: HostRuntime) {
     let alloc = rt.alloc();
