@@ -12,7 +12,7 @@ use Rattle.sweep.specs.Layout.{LayoutRecord}
 use Rattle.sweep.specs.Numbering.{runs_each, AreNumbersAt}
 use Rattle.sweep.specs.Results.{Trial}
 use Rattle.sweep.specs.RowText.{Text, AreRowsFor}
-use Rattle.sweep.specs.StudyText.{point_at, run_at, unit_point, unit_run, unit_runs, lead_of, IsTrialOf, AreRowsOf, HasRowsOf}
+use Rattle.sweep.specs.StudyText.{point_at, run_at, unit_point, unit_run, unit_runs, unit_first, lead_of, IsTrialOf, AreRowsOf, HasRowsOf}
 use Rattle.sweep.specs.Progress.{WroteUpTo, WroteFrontUpTo, StopsBelow}
 use Rattle.sweep.specs.Sums.{AreNumbers}
 use Rattle.sweep.specs.declared.error.SweepError.{SweepError}
@@ -50,7 +50,7 @@ module _ (file : Members) (g : GridRecord) (layout : LayoutRecord) where
       omega (arith, same, len, each, low)
 
   pub all_trials : (unit run : ℕ) (trials : List Trial) (rows : Text) → AreFirst unit run trials → run ≡ runs_each layout.rows g
-      → AreRowsFor layout.picks (lead_of layout.rows g unit) trials rows → AreRowsOf file g layout unit rows
+      → AreRowsFor layout.picks (lead_of layout.rows g unit) (unit_first layout.rows g unit) trials rows → AreRowsOf file g layout unit rows
   all_trials unit run trials rows first is told =
       let all : List RunRecord = unit_runs layout.rows g unit in
       let R : RunRecord → Trial → Type 0 = IsTrialOf file (point_at g (unit_point layout.rows g unit)) in

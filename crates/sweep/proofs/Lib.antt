@@ -1,6 +1,8 @@
+pub mod Greatest
 pub mod Added
 pub mod Counting
 pub mod Layered
+pub mod FirstNumbers
 pub mod Lines
 pub mod Single
 pub mod Parts

@@ -1,10 +1,11 @@
 pub mod Percentile
 pub mod Results
+pub mod OneRun
 pub mod Columns
 pub mod RowText
 pub mod Adding
 pub mod Fitting
-pub mod Times
+pub mod Counted
 pub mod Sums
 pub mod Fields
 pub mod Parallel

@@ -19,6 +19,7 @@ module _ (file : Members) (g : GridRecord) where
   module _ {W : Type 0} (heard : W → List News → W → Type 0) (old new : W) (points done begin : ℕ) where
     -- and of all points from the first up to this one it was told
     pub record AreUnderWay (l : Limits) : Type 0 where
-      pub told : HeardRunning heard old new file g points (length (runs g)) done (range_with_len begin (l.point - begin))
+      pub told : HeardRunning heard old new file g points (length (runs g)) done
+          (range_with_len begin (l.point - begin))
       pub order : begin ≤ l.point
       pub counting : AreCounted l

@@ -1,5 +1,6 @@
 //! The fields of a row, as they are formed.
 ghost use Rattle.std.specs.Prelude.{◌≡◌, ◌++◌, ◌∷◌, [], map, decimal, string_bytes, OnOk};
+ghost use Rattle.std.proofs.Math.ListN.{replicate};
 ghost use Rattle.study.specs.Settings.{given_by, given_text};
 ghost use Rattle.sweep.specs.Fields.{AreWhole, texts_of};
 ghost use Rattle.sweep.specs.RowText.{number_text};
@@ -54,7 +55,7 @@ impl Fields {
     }
 
     /// Numbers, each of which may not be there.
-    pub(crate) fn push_options(&mut self, numbers: &[Option<u64>]) -> Result<(), AllocError>
+    pub(crate) fn push_options(&mut self, numbers: &[Option<u128>]) -> Result<(), AllocError>
         requires { AreWhole self.old }
         ensures whole { OnOk result (AreWhole self.new) }
         ensures fields { OnOk result (texts_of self.new ≡ texts_of self.old ++ map number_text numbers.now) }
@@ -62,8 +63,20 @@ impl Fields {
         for number in numbers {
             match number {
                 None => self.push(b"")?,
-                Some(number) => self.push_number(u128::from(*number))?,
+                Some(number) => self.push_number(*number)?,
             }
+        }
+        Ok(())
+    }
+
+    /// So many fields with nothing in them.
+    pub(crate) fn push_empty(&mut self, count: usize) -> Result<(), AllocError>
+        requires { AreWhole self.old }
+        ensures whole { OnOk result (AreWhole self.new) }
+        ensures fields { OnOk result (texts_of self.new ≡ texts_of self.old ++ replicate count []) }
+    {
+        for _ in 0..count {
+            self.push(b"")?;
         }
         Ok(())
     }

@@ -23,20 +23,20 @@ pub(crate) struct Progress {
 
 impl Progress {
     ghost use Rattle.sweep.specs.Results.{Trial};
-    ghost use Rattle.sweep.specs.StudyText.{point_at, unit_point, unit_run, IsTrialOf};
+    ghost use Rattle.sweep.specs.StudyText.{point_at, unit_point, unit_run, unit_first, IsTrialOf};
     ghost use Rattle.sweep.specs.Sums.{AreNumbers, AreSums};
     ghost use Rattle.sweep.specs.Progress.{IsUnderWay, StopsBelow};
 
     /// No run of the unit is in.
-    pub fn at(alloc: Global, unit: u64) -> Progress
+    pub fn at(alloc: Global, grid: &Grid, layout: &Layout, unit: u64) -> Progress
         ensures unit { result.unit ≡ unit }
         ensures run { result.run ≡ 0 }
-        ensures sums { AreSums [] result.sums }
+        ensures sums { AreSums (unit_first layout.now.rows grid.now result.unit) [] result.sums }
     {
         Progress {
             unit,
             run: 0,
-            sums: PointSums::new(alloc),
+            sums: PointSums::new(alloc, layout.first_run(grid, unit)),
         }
     }
 
@@ -79,7 +79,7 @@ impl Progress {
         }
         let text = rows_of(alloc, grid, layout, self.unit, &self.sums)?;
         write_text(&text, outlet)?;
-        *self = Progress::at(alloc, self.unit + 1);
+        *self = Progress::at(alloc, grid, layout, self.unit + 1);
         Ok(())
     }
 

@@ -51,8 +51,9 @@ fn write_points<R: Threads + Sync + Clock, O: Outlet, W: Watcher>(
     ensures stops { IfErr result
         (StopsBelow (table_view file.now) grid.now layout.now O.told O.failed outlet.old outlet.new
         (unit_count layout.now.rows grid.now begin) (unit_count layout.now.rows grid.now end)) }
-    ensures heard { OnOk result (HeardRunning W.heard watcher.old watcher.new (table_view file.now) grid.now (end - begin)
-        (length (runs grid.now)) ((end - begin) * length (runs grid.now)) (range_with_len begin (end - begin))) }
+    ensures heard { OnOk result (HeardRunning W.heard watcher.old watcher.new (table_view file.now) grid.now
+        (end - begin) (length (runs grid.now)) ((end - begin) * length (runs grid.now))
+        (range_with_len begin (end - begin))) }
     ensures heard_some { IfErr result (λ _. (done count : ℕ) × (done ≤ (end - begin) * length (runs grid.now))
         × (count ≤ end - begin) × HeardRunning W.heard watcher.old watcher.new (table_view file.now) grid.now
         (end - begin) (length (runs grid.now)) done (range_with_len begin count)) }
@@ -61,7 +62,7 @@ fn write_points<R: Threads + Sync + Clock, O: Outlet, W: Watcher>(
     let points = end - begin;
     let mut batches = Batches::new(threads);
     let mut limits = Limits::at(begin);
-    let mut progress = Progress::at(alloc, layout.unit_count(grid, begin));
+    let mut progress = Progress::at(alloc, grid, layout, layout.unit_count(grid, begin));
     let mut next = begin * runs;
     watcher.hear(Standing {
         pass: Pass::Running,
@@ -89,10 +90,10 @@ fn write_points<R: Threads + Sync + Clock, O: Outlet, W: Watcher>(
 /// columns, one for each layer of a point, with sums over its runs, or of each run. The first shard begins with the
 /// header. The threads and the watcher change nothing of the text.
 ///
-/// Every run's scenario is read before the first run starts. Batches of runs are read, and then run, that take about a
-/// second by the clock; rows go out soon after the last run that they tell of is in. Memory grows with neither the runs
-/// nor their horizon: what is held is what a batch gives, of some hundreds of runs for each thread at most, and the sums
-/// of a point.
+/// Every run's scenario is read before the first run starts. Runs are read, and then run, in batches that take about a
+/// second by the clock, and rows go out soon after the last run that they tell of is in. Memory grows with neither the
+/// runs nor their horizon: what is held is what a batch gives, of 256 runs for each thread at most, and the sums of a
+/// point.
 ///
 /// The watcher hears of how many of the shard's runs the scenarios are read, from none up to all of them, and then how
 /// many are run. It is told when rows are to go out, and before that of each point of whose runs some passed their

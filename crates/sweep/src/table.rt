@@ -1,18 +1,19 @@
 //! The text of a study, as its rows are formed.
-ghost use Rattle.std.specs.Prelude.{◌≡◌, ◌<◌, ◌++◌, ◌∷◌, [], List, length, map, decimal, string_bytes, IfOk, OnOk};
+ghost use Rattle.std.specs.Prelude.{◌≡◌, ℕ, ◌<◌, ◌++◌, ◌∷◌, [], List, length, map, decimal, string_bytes, IfOk, OnOk};
 ghost use Rattle.study.specs.Grid.{points};
 ghost use Rattle.study.specs.Settings.{chosen};
-ghost use Rattle.sweep.specs.Fields.{AreWhole, texts_of, first_fields, last_fields};
+ghost use Rattle.sweep.specs.Fields.{AreWhole, texts_of, pair_fields, outcome_fields};
 ghost use Rattle.sweep.specs.Results.{Trial};
-ghost use Rattle.sweep.specs.RowText.{Text, column_names, column_fields, decision_fields, detection_fields, verdict_fields, header_text, layer_text, line_text, picked, AreRowsFor};
+ghost use Rattle.sweep.specs.RowText.{Text, column_names, column_fields, trace_fields, mistake_fields, period_fields, detection_fields, verdict_fields, decision_fields, last_fields, run_fields, told_fields, header_text, layer_text, line_text, picked, AreRowsFor};
 ghost use Rattle.sweep.specs.StudyText.{names_of as names_in, unit_point, lead_of, values};
 
-use crate::columns::{Columns, DecisionSums, DetectionTimes, LayerSums, VerdictCounts};
+use crate::columns::{Columns, Distribution, LayerSums, PairSums, VerdictCounts};
 use crate::fields::Fields;
 use crate::layout::{Layout, Rows};
 use crate::names::{names_of, push_names};
 use crate::picking::push_picked;
 use crate::point_sums::PointSums;
+use crate::value_counts::wide;
 use csv::Writer;
 use std::alloc::{AllocError, Global};
 use study::{Choice, Grid};
@@ -34,6 +35,10 @@ pub(crate) fn push_column_names(alloc: Global, names: &mut Vec<String>) -> Resul
             "pair_ticks",
             "mistakes",
             "mistake_ticks",
+            "mistake_recurrence",
+            "mistaken_ppm",
+            "mistakes_squared_sum",
+            "runs_with_mistakes",
             "recurrence_sum",
             "recurrence_count",
             "duration_sum",
@@ -42,6 +47,7 @@ pub(crate) fn push_column_names(alloc: Global, names: &mut Vec<String>) -> Resul
             "good_count",
             "detections",
             "undetected",
+            "at_once",
             "detection_sum",
             "detection_p50",
             "detection_p90",
@@ -53,55 +59,74 @@ pub(crate) fn push_column_names(alloc: Global, names: &mut Vec<String>) -> Resul
             "weak_accuracy",
             "eventual_strong_accuracy",
             "eventual_weak_accuracy",
+            "to_decide",
             "decided",
             "decision_tick_sum",
             "decision_tick_max",
+            "all_decided",
+            "last_decision_p50",
+            "last_decision_p90",
+            "last_decision_p99",
+            "last_decision_max",
+            "rounds_p50",
+            "rounds_p99",
             "rounds_max",
             "disagreements",
+            "mistake_run",
+            "detection_max_run",
+            "disagreement_run",
         ],
     )
 }
 
-/// The sums up to those of detections.
-fn push_sums(fields: &mut Fields, sums: &LayerSums) -> Result<(), AllocError>
+/// The sums of traces, and what is told of mistakes.
+fn push_mistakes(fields: &mut Fields, columns: &Columns) -> Result<(), AllocError>
     requires { AreWhole fields.old }
     ensures whole { OnOk result (AreWhole fields.new) }
-    ensures fields { OnOk result (texts_of fields.new ≡ texts_of fields.old ++ first_fields sums.now) }
+    ensures fields { OnOk result (texts_of fields.new
+        ≡ texts_of fields.old ++ (trace_fields columns.now.sums.traces ++ mistake_fields columns.now)) }
 {
-    fields.push_numbers(&[
-        u128::from(sums.runs),
-        u128::from(sums.limited),
-        sums.traces.entries,
-        sums.traces.sent,
-        sums.traces.lost,
-        sums.pair_ticks,
-        sums.pairs.mistakes,
-        sums.pairs.mistake_ticks,
-        sums.pairs.recurrence_sum,
-        sums.pairs.recurrence_count,
-        sums.pairs.duration_sum,
-        sums.pairs.duration_count,
-        sums.pairs.good_sum,
-        sums.pairs.good_count,
+    let sums = &columns.sums;
+    fields.push_options(&[
+        Some(sums.traces.entries),
+        Some(sums.traces.sent),
+        Some(sums.traces.lost),
+        Some(sums.pair_ticks),
+        Some(sums.pairs.mistakes),
+        Some(sums.pairs.mistake_ticks),
+        columns.mistake_recurrence,
+        columns.mistaken_ppm,
+        Some(sums.mistakes_squared_sum),
+        Some(u128::from(sums.counts.with_mistakes)),
     ])
 }
 
-/// The detections.
+/// The times between mistakes and those of mistakes, and the detections.
 fn push_times(
     fields: &mut Fields,
-    undetected: u128,
-    times: &DetectionTimes,
+    sums: &PairSums,
+    detections: &Distribution,
 ) -> Result<(), AllocError>
     requires { AreWhole fields.old }
     ensures whole { OnOk result (AreWhole fields.new) }
-    ensures fields { OnOk result (texts_of fields.new ≡ texts_of fields.old ++ detection_fields undetected times.now) }
+    ensures fields { OnOk result (texts_of fields.new
+        ≡ texts_of fields.old ++ (period_fields sums.now ++ detection_fields sums.now detections.now)) }
 {
-    fields.push_numbers(&[times.detections, undetected, times.detection_sum])?;
     fields.push_options(&[
-        times.detection_p50,
-        times.detection_p90,
-        times.detection_p99,
-        times.detection_max,
+        Some(sums.recurrence_sum),
+        Some(sums.recurrence_count),
+        Some(sums.duration_sum),
+        Some(sums.duration_count),
+        Some(sums.good_sum),
+        Some(sums.good_count),
+        Some(detections.count),
+        Some(sums.undetected),
+        Some(sums.at_once),
+        Some(detections.sum),
+        detections.p50,
+        detections.p90,
+        detections.p99,
+        detections.greatest,
     ])
 }
 
@@ -122,32 +147,75 @@ fn push_verdicts(fields: &mut Fields, verdicts: &VerdictCounts) -> Result<(), Al
 }
 
 /// The decisions.
-fn push_decisions(
-    fields: &mut Fields,
-    decisions: &DecisionSums,
-    disagreements: u64,
-) -> Result<(), AllocError>
+fn push_decisions(fields: &mut Fields, sums: &LayerSums) -> Result<(), AllocError>
     requires { AreWhole fields.old }
     ensures whole { OnOk result (AreWhole fields.new) }
-    ensures fields { OnOk result (texts_of fields.new
-        ≡ texts_of fields.old ++ decision_fields decisions.now disagreements) }
+    ensures fields { OnOk result (texts_of fields.new ≡ texts_of fields.old ++ decision_fields sums.now) }
 {
-    fields.push_numbers(&[decisions.decided, decisions.decision_tick_sum])?;
     fields.push_options(&[
-        decisions.decision_tick_max,
-        decisions.rounds_max,
-        Some(disagreements),
+        Some(sums.decisions.to_decide),
+        Some(sums.decisions.decided),
+        Some(sums.decisions.decision_tick_sum),
+        wide(sums.decisions.decision_tick_max),
+        Some(u128::from(sums.counts.all_decided)),
     ])
 }
 
-/// The verdicts and the decisions.
-fn push_outcomes(fields: &mut Fields, sums: &LayerSums) -> Result<(), AllocError>
+/// The last decisions, the rounds, and the numbers of runs.
+fn push_runs(fields: &mut Fields, columns: &Columns) -> Result<(), AllocError>
     requires { AreWhole fields.old }
     ensures whole { OnOk result (AreWhole fields.new) }
-    ensures fields { OnOk result (texts_of fields.new ≡ texts_of fields.old ++ last_fields sums.now) }
+    ensures fields { OnOk result (texts_of fields.new
+        ≡ texts_of fields.old ++ (last_fields columns.now.last_decisions columns.now.rounds
+        ++ run_fields columns.now.sums.counts.disagreements columns.now.first_runs)) }
 {
-    push_verdicts(fields, &sums.verdicts)?;
-    push_decisions(fields, &sums.decisions, sums.disagreements)
+    fields.push_options(&[
+        columns.last_decisions.p50,
+        columns.last_decisions.p90,
+        columns.last_decisions.p99,
+        columns.last_decisions.greatest,
+        columns.rounds.p50,
+        columns.rounds.p99,
+        columns.rounds.greatest,
+        Some(u128::from(columns.sums.counts.disagreements)),
+        columns.first_runs.mistake,
+        columns.first_runs.detection_max,
+        columns.first_runs.disagreement,
+    ])
+}
+
+/// What is told of pairs.
+fn push_pairs(fields: &mut Fields, columns: &Columns) -> Result<(), AllocError>
+    requires { AreWhole fields.old }
+    ensures whole { OnOk result (AreWhole fields.new) }
+    ensures fields { OnOk result (texts_of fields.new ≡ texts_of fields.old ++ pair_fields columns.now) }
+{
+    push_mistakes(fields, columns)?;
+    push_times(fields, &columns.sums.pairs, &columns.detections)
+}
+
+/// The verdicts, and what is told of decisions and runs.
+fn push_outcomes(fields: &mut Fields, columns: &Columns) -> Result<(), AllocError>
+    requires { AreWhole fields.old }
+    ensures whole { OnOk result (AreWhole fields.new) }
+    ensures fields { OnOk result (texts_of fields.new ≡ texts_of fields.old ++ outcome_fields columns.now) }
+{
+    push_verdicts(fields, &columns.sums.verdicts)?;
+    push_decisions(fields, &columns.sums)?;
+    push_runs(fields, columns)
+}
+
+/// What is told of the runs that are done: nothing where none is.
+fn push_done(fields: &mut Fields, columns: &Columns) -> Result<(), AllocError>
+    requires { AreWhole fields.old }
+    ensures whole { OnOk result (AreWhole fields.new) }
+    ensures fields { OnOk result (texts_of fields.new ≡ texts_of fields.old ++ told_fields columns.now) }
+{
+    if columns.sums.limited == columns.sums.runs {
+        return fields.push_empty(46);
+    }
+    push_pairs(fields, columns)?;
+    push_outcomes(fields, columns)
 }
 
 /// The layer and the columns.
@@ -157,10 +225,12 @@ fn push_columns(fields: &mut Fields, layer: u8, columns: &Columns) -> Result<(),
     ensures fields { OnOk result (texts_of fields.new
         ≡ texts_of fields.old ++ decimal layer ∷ column_fields columns.now) }
 {
-    fields.push_number(u128::from(layer))?;
-    push_sums(fields, &columns.sums)?;
-    push_times(fields, columns.sums.pairs.undetected, &columns.times)?;
-    push_outcomes(fields, &columns.sums)
+    fields.push_numbers(&[
+        u128::from(layer),
+        u128::from(columns.sums.runs),
+        u128::from(columns.sums.limited),
+    ])?;
+    push_done(fields, columns)
 }
 
 /// What the keys are set to.
@@ -314,8 +384,9 @@ impl Table {
         requires between { IsBetweenLines self.old }
         requires within { unit_point layout.now.rows grid.now unit < length (points grid.now) }
         ensures between { OnOk result (IsBetweenLines self.new) }
-        ensures text { OnOk result ((trials : List Trial) → AreSums trials sums.now
-            → (rows : Text) × AreRowsFor layout.now.picks (lead_of layout.now.rows grid.now unit) trials rows
+        ensures text { OnOk result ((first : ℕ) (trials : List Trial) → AreSums first trials sums.now
+            → (rows : Text)
+            × AreRowsFor layout.now.picks (lead_of layout.now.rows grid.now unit) first trials rows
             × (text_of self.new ≡ text_of self.old ++ rows)) }
     {
         let (first, second) = (sums.first(), sums.second());

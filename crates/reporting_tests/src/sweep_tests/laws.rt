@@ -8,12 +8,13 @@ use reporting::MemoryOutlet;
 use std::alloc::Global;
 use std::marker::Sync;
 use std::thread::Threads;
+use std::time::Clock;
 use study::{Grid, Shard};
 use sweep::{Layout, SweepError, Unwatched, law_one_text, law_shard_texts, sweep};
 use toml::Table;
 
 /// The texts of so many shards, one after the other: it is a text of the whole study.
-fn sweep_shards<R: Threads + Sync>(
+fn sweep_shards<R: Threads + Sync + Clock>(
     rt: &R,
     alloc: Global,
     file: &Table,
@@ -48,7 +49,7 @@ fn sweep_shards<R: Threads + Sync>(
 }
 
 /// The shards one after the other by so many threads, and the whole by one thread: the same bytes.
-fn shards_and_whole<R: Threads + Sync>(
+fn shards_and_whole<R: Threads + Sync + Clock>(
     rt: &R,
     alloc: Global,
     file: &Table,

@@ -1,5 +1,5 @@
 //! What tests share: runs, the settings of a point, and the text of its rows.
-use super::studies::layout_of;
+use super::studies::{axes, layout_of};
 use crate::comparisons::same;
 use crate::findings::{outcome, quiet, without_mistake};
 use crate::traces::{CRASH_AT_3, scenario_of};
@@ -8,16 +8,18 @@ use reporting::{Detection, RunFindings, Summary};
 use scenario::Scenario;
 use std::alloc::Global;
 use std::process::Abort;
-use study::{Axis, Grid, Key, Setting};
+use study::Grid;
 use sweep::{PointSums, Rows, RunNumbers, Table};
 
 /// The first line after the names of the varied keys.
 pub const HEADER: &str =
-    "layer,runs,limited,entries,sent,lost,pair_ticks,mistakes,mistake_ticks,recurrence_sum,\
-     recurrence_count,duration_sum,duration_count,good_sum,good_count,detections,undetected,detection_sum,\
-     detection_p50,detection_p90,detection_p99,detection_max,strong_completeness,weak_completeness,\
-     strong_accuracy,weak_accuracy,eventual_strong_accuracy,eventual_weak_accuracy,decided,decision_tick_sum,\
-     decision_tick_max,rounds_max,disagreements\n";
+    "layer,runs,limited,entries,sent,lost,pair_ticks,mistakes,mistake_ticks,mistake_recurrence,mistaken_ppm,\
+     mistakes_squared_sum,runs_with_mistakes,recurrence_sum,recurrence_count,duration_sum,duration_count,\
+     good_sum,good_count,detections,undetected,at_once,detection_sum,detection_p50,detection_p90,\
+     detection_p99,detection_max,strong_completeness,weak_completeness,strong_accuracy,weak_accuracy,\
+     eventual_strong_accuracy,eventual_weak_accuracy,to_decide,decided,decision_tick_sum,decision_tick_max,\
+     all_decided,last_decision_p50,last_decision_p90,last_decision_p99,last_decision_max,rounds_p50,\
+     rounds_p99,rounds_max,disagreements,mistake_run,detection_max_run,disagreement_run\n";
 
 /// The bytes are the first line, which begins with these words, and these rows.
 pub fn is_text<R: Abort>(rt: &R, alloc: Global, bytes: &[u8], words: &str, rows: &str) {
@@ -73,23 +75,10 @@ pub fn crash_run<R: Abort>(
     RunNumbers::of_run(alloc, &crash_at_3(rt, alloc), &found).expect(rt, "no memory")
 }
 
-/// A varied time-out, with one value.
-pub fn timeout<R: Abort>(rt: &R, alloc: Global, value: Setting) -> Axis {
-    let mut values = Vec::new(alloc);
-    values.push(value).expect(rt, "no memory");
-    assert!(rt; !values.is_empty());
-    Axis {
-        key: Key::Inner {
-            table: String::from_str(alloc, "detector").expect(rt, "no memory"),
-            key: String::from_str(alloc, "timeout").expect(rt, "no memory"),
-        },
-        values,
-    }
-}
-
-/// The grid that varies these axes, with one seed.
-pub fn grid_of<R: Abort>(rt: &R, alloc: Global, vary: Vec<Axis>) -> Grid {
-    Grid::new(alloc, vary, Vec::new(alloc), 1, 1).expect(rt, "no study")
+/// The grid that varies the axes that these words say, with one seed.
+pub fn grid_of<R: Abort>(rt: &R, alloc: Global, vary: &[&str]) -> Grid {
+    let vary = axes(rt, alloc, vary);
+    Grid::new(alloc, vary, Vec::new(alloc), Vec::new(alloc), 1, 1).expect(rt, "no study")
 }
 
 /// The text of the rows of a grid's first point with these sums.
@@ -104,18 +93,12 @@ pub fn rows_of<R: Abort>(rt: &R, alloc: Global, grid: &Grid, sums: &PointSums) -
 }
 
 /// The rows of these runs' point, at one time-out, are these.
-pub fn are_rows<R: Abort>(
-    rt: &R,
-    alloc: Global,
-    runs: &[RunNumbers],
-    value: Setting,
-    wanted: &str,
-) {
-    let mut sums = PointSums::new(alloc);
+pub fn are_rows<R: Abort>(rt: &R, alloc: Global, runs: &[RunNumbers], timeout: &str, wanted: &str) {
+    let mut sums = PointSums::new(alloc, 1);
     for run in runs {
         sums.add(run).expect(rt, "no memory");
     }
-    let axes = Vec::from_array(alloc, [timeout(rt, alloc, value)]);
-    let grid = grid_of(rt, alloc, axes.expect(rt, "no memory"));
+    let axis = format!(in alloc; "detector.timeout={timeout}").expect(rt, "no memory");
+    let grid = grid_of(rt, alloc, &[axis.as_str()]);
     is_same(rt, &rows_of(rt, alloc, &grid, &sums), wanted);
 }

@@ -7,6 +7,7 @@ use std::alloc::Global;
 use std::marker::Sync;
 use std::process::Abort;
 use std::thread::Threads;
+use std::time::Clock;
 use study::{Axis, Grid, Shard};
 use sweep::{Layout, Rows, Unwatched, sweep};
 use toml::Table;
@@ -20,7 +21,7 @@ pub struct Study {
 }
 
 /// The axes that these words say.
-fn axes<R: Abort>(rt: &R, alloc: Global, words: &[&str]) -> Vec<Axis> {
+pub fn axes<R: Abort>(rt: &R, alloc: Global, words: &[&str]) -> Vec<Axis> {
     let mut axes = Vec::new(alloc);
     for word in words {
         let axis = Axis::parse(alloc, word).expect(rt, "no axis");
@@ -53,7 +54,7 @@ pub fn study_of<R: Abort>(
     let text = file_of(rt, alloc, 2, 10, CRASH_AT_3);
     let file = toml::table_from_str(alloc, text.as_str());
     let (vary, over) = (axes(rt, alloc, vary), axes(rt, alloc, over));
-    let grid = Grid::new(alloc, vary, over, 1, last_seed).expect(rt, "no study");
+    let grid = Grid::new(alloc, vary, over, Vec::new(alloc), 1, last_seed).expect(rt, "no study");
     let layout = layout_of(rt, alloc, &grid, Rows::Points, None);
     Study {
         file: file.expect(rt, "no TOML"),
@@ -84,7 +85,7 @@ pub fn shard<R: Abort>(rt: &R, number: u32, of: u32) -> Shard {
 }
 
 /// The text of the whole study, by so many threads.
-pub fn swept<R: Threads + Sync + Abort>(
+pub fn swept<R: Threads + Sync + Clock + Abort>(
     rt: &R,
     alloc: Global,
     study: &Study,
