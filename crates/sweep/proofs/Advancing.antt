@@ -12,7 +12,7 @@ use Rattle.sweep.specs.Layout.{LayoutRecord}
 use Rattle.sweep.specs.Numbering.{runs_each, AreNumbersAt}
 use Rattle.sweep.specs.Results.{Trial}
 use Rattle.sweep.specs.RowText.{Text, AreRowsFor}
-use Rattle.sweep.specs.StudyText.{point_at, run_at, unit_first, unit_point, unit_run, unit_runs, lead_of, IsTrialOf, AreRowsOf, HasRowsOf}
+use Rattle.sweep.specs.StudyText.{point_at, run_at, unit_point, unit_run, unit_runs, unit_first, lead_of, IsTrialOf, AreRowsOf, HasRowsOf}
 use Rattle.sweep.specs.Progress.{WroteUpTo, WroteFrontUpTo, StopsBelow}
 use Rattle.sweep.specs.Sums.{AreNumbers}
 use Rattle.sweep.specs.declared.error.SweepError.{SweepError}

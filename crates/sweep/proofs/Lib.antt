@@ -18,3 +18,4 @@ mod Shards
 mod Ending
 mod Placed
 mod Heard
+mod Limiting

@@ -14,7 +14,7 @@ use Rattle.study.specs.declared.error.PlaceError.{PlaceError}
 use Rattle.sweep.specs.Results.{RunResult, finished, limited, IsResult, Trial}
 use Rattle.sweep.specs.Layout.{LayoutRecord}
 use Rattle.sweep.specs.RowText.{Text, AreRowsFor}
-use Rattle.sweep.specs.StudyText.{point_at, unit_first, unit_point, unit_runs, lead_of, header_of, units_of, IsTrialOf, AreRowsOf, HasRowsOf, HasOneText}
+use Rattle.sweep.specs.StudyText.{point_at, unit_point, unit_runs, unit_first, lead_of, header_of, units_of, IsTrialOf, AreRowsOf, HasRowsOf, HasOneText}
 use Rattle.sweep.proofs.OneRow.{one_rows_for}
 
 -- lists in step with one list are one, where what stands in step with anything is one
@@ -52,10 +52,11 @@ module _ (file : Members) (g : GridRecord) (layout : LayoutRecord) where
   one_rows : (unit : ℕ) (a b : Text) → AreRowsOf file g layout unit a → AreRowsOf file g layout unit b → a ≡ b
   one_rows unit a b x y =
       let settings : List Chosen = point_at g (unit_point layout.rows g unit) in
+      let lead : List Text = lead_of layout.rows g unit in
       let first : ℕ = unit_first layout.rows g unit in
       let same = one_list (IsTrialOf file settings) (one_trial file settings) (unit_runs layout.rows g unit) x.trials y.trials x.each y.each in
-      let P : List Trial → Type 0 = λ l. AreRowsFor layout.picks (lead_of layout.rows g unit) first l b in
-      one_rows_for layout.picks (lead_of layout.rows g unit) first x.trials a b x.told (subst P (sym same) y.told)
+      let P : List Trial → Type 0 = λ l. AreRowsFor layout.picks lead first l b in
+      one_rows_for layout.picks lead first x.trials a b x.told (subst P (sym same) y.told)
 
   all_rows_one : (units : List ℕ) (a b : Text) → HasRowsOf file g layout units a → HasRowsOf file g layout units b → a ≡ b
   all_rows_one units a b x y =

@@ -15,3 +15,4 @@ pub mod Outcome
 pub mod Numbering
 pub mod Progress
 pub mod Watching
+pub mod Limits

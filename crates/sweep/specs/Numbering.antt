@@ -63,7 +63,7 @@ module _ (file : Members) (g : GridRecord) where
   abbrev pub IsAnswerAt : {E : Type 0} → ℕ → Result RunNumbers E → Type 0
   IsAnswerAt number r = IfOk r (AreNumbersAt number)
 
-  -- the answers of the runs whose numbers follow one another
-  abbrev pub AreAnswersFrom : {E : Type 0} → (first : ℕ) → List (Result RunNumbers E) → Type 0
-  AreAnswersFrom {E} first answers =
-      (i : ℕ) (d : Result RunNumbers E) → i < length answers → IsAnswerAt (first + i) (slice_index_or answers i d)
+  -- the numbers of the runs whose numbers follow one another
+  abbrev pub AreNumbersFrom : (first : ℕ) → List RunNumbers → Type 0
+  AreNumbersFrom first all =
+      (i : ℕ) (d : RunNumbers) → i < length all → AreNumbersAt (first + i) (slice_index_or all i d)

@@ -37,6 +37,16 @@ module _ (file : Members) (g : GridRecord) where
       pub before : (p r : ℕ) → Contains (numbers_of g shard) p → r < length (runs g) → IsBefore p r point run
           → HasScenario p r
 
+    -- each of the shard's runs has a scenario
+    abbrev pub HaveScenarios : Type 0
+    HaveScenarios = (p r : ℕ) → Contains (numbers_of g shard) p → r < length (runs g) → HasScenario p r
+
+    -- why they can't be run: one is refused, or memory was
+    abbrev pub CantBeRun : SweepError → Type 0
+    CantBeRun (error.Refused point run reason) = IsFirstRefused point run reason
+    CantBeRun error.Memory = Unit {0}
+    CantBeRun error.Write = ⊥
+
     module _ (layout : LayoutRecord) {O : Type 0} (told : O → Option Text) (failed : O → ℕ) (old new : O) where
       -- the shard's text went out, and nothing else
       pub record WroteStudy : Type 0 where

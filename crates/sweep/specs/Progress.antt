@@ -9,7 +9,7 @@ use Rattle.sweep.specs.Layout.{LayoutRecord}
 use Rattle.sweep.specs.Numbering.{runs_each}
 use Rattle.sweep.specs.Results.{Trial}
 use Rattle.sweep.specs.RowText.{Text}
-use Rattle.sweep.specs.StudyText.{point_at, unit_first, unit_point, unit_runs, header_of, IsTrialOf, HasRowsOf}
+use Rattle.sweep.specs.StudyText.{point_at, unit_point, unit_runs, unit_first, header_of, IsTrialOf, HasRowsOf}
 use Rattle.sweep.specs.Sums.{AreSums}
 use Rattle.sweep.specs.declared.error.SweepError.{SweepError}
 use Rattle.sweep.specs.declared.error.SweepError.TheVariants as error
@@ -50,8 +50,8 @@ module _ (file : Members) (g : GridRecord) (layout : LayoutRecord) where
     StopsBelow end error.Write = (unit : ℕ) × (unit ≤ end) × WroteFrontUpTo unit
 
 -- the header of a shard could not be written whole
-abbrev pub HeaderFails : GridRecord → ShardRecord → LayoutRecord → {O : Type 0} (told : O → Option Text) (failed : O → ℕ)
-    (old new : O) → SweepError → Type 0
+abbrev pub HeaderFails : GridRecord → ShardRecord → LayoutRecord → {O : Type 0} (told : O → Option Text)
+    (failed : O → ℕ) (old new : O) → SweepError → Type 0
 HeaderFails g shard layout told failed old new (error.Refused point run reason) = ⊥
 HeaderFails g shard layout told failed old new error.Memory = WroteNothing told failed old new
 HeaderFails g shard layout told failed old new error.Write = WrotePart told failed old new (header_of g shard layout)

@@ -50,7 +50,7 @@ abbrev pub unit_runs : Rows → GridRecord → (unit : ℕ) → List RunRecord
 unit_runs kind.Points g point = runs g
 unit_runs kind.Runs g run = run_at g (run % length (runs g)) ∷ []
 
--- the number in the point of the first of these runs, from 1
+-- the number of the first of these among the point's runs, from 1
 abbrev pub unit_first : Rows → GridRecord → (unit : ℕ) → ℕ
 unit_first kind.Points g point = 1
 unit_first kind.Runs g run = run % length (runs g) + 1
@@ -59,8 +59,8 @@ unit_first kind.Runs g run = run % length (runs g) + 1
 abbrev pub unit_run : Rows → GridRecord → (unit run : ℕ) → RunRecord
 unit_run rows g unit run = get_or (unit_runs rows g unit) run (record { settings = []; seed = 0 })
 
--- ---- what a row begins with: what the varied keys are set to; and before a run what its own keys are set to, its seed
--- ---- and its number, from 1
+-- ---- what a row begins with: what the varied keys are set to; and before a run what its own keys are set to, its
+-- ---- seed and its number
 
 abbrev pub values : List Chosen → List Text
 values settings = map (λ s. given_text s.value) settings
@@ -72,7 +72,7 @@ run_lead point run number =
 abbrev pub lead_of : Rows → GridRecord → (unit : ℕ) → List Text
 lead_of kind.Points g point = values (point_at g point)
 lead_of kind.Runs g run =
-    run_lead (point_at g (run / length (runs g))) (run_at g (run % length (runs g))) (run % length (runs g) + 1)
+    run_lead (point_at g (unit_point kind.Runs g run)) (run_at g (run % length (runs g))) (unit_first kind.Runs g run)
 
 -- the keys that runs set, in order: those of the first
 abbrev pub run_keys : GridRecord → List Path
@@ -96,7 +96,8 @@ module _ (file : Members) (g : GridRecord) (layout : LayoutRecord) where
   -- the rows of a point tell of all its runs, those of a run of it alone
   pub record AreRowsOf (unit : ℕ) (rows : Text) : Type 0 where
     pub trials : List Trial
-    pub each : AllZip (IsTrialOf file (point_at g (unit_point layout.rows g unit))) (unit_runs layout.rows g unit) trials
+    pub each : AllZip (IsTrialOf file (point_at g (unit_point layout.rows g unit)))
+        (unit_runs layout.rows g unit) trials
     pub told : AreRowsFor layout.picks (lead_of layout.rows g unit) (unit_first layout.rows g unit) trials rows
 
   -- the rows of these points or runs, one after the other

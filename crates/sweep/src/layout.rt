@@ -4,7 +4,7 @@ ghost use Rattle.std.specs.List.{range_with_len};
 ghost use Rattle.study.specs.Grid.{runs};
 ghost use Rattle.sweep.specs.Layout.{place_of as place_in, between_commas, ArePicks, IsNearest, TellsOf, IsRefusal, IsNoLayout};
 ghost use Rattle.sweep.specs.Numbering.{runs_each as runs_of_unit, unit_count};
-ghost use Rattle.sweep.specs.StudyText.{names_of as names_in};
+ghost use Rattle.sweep.specs.StudyText.{names_of as names_in, unit_first};
 
 use crate::error::LayoutError;
 use crate::names::names_of;
@@ -120,8 +120,8 @@ impl Layout {
     /// order, or with all columns. A name may come twice.
     ///
     /// Rows of points have the keys of the grid's varied axes, by their texts, then `layer` and the columns of
-    /// [`Columns`](crate::Columns). Rows of runs have the varied keys and the keys of the other axes, then `seed`, `run`
-    /// (its number in its point, from 1), `layer` and these columns.
+    /// [`Columns`](crate::Columns). Rows of runs have the varied keys and the keys of the other axes, then `seed`,
+    /// `run` (its number in its point, from 1), `layer` and these columns.
     ///
     /// # Errors
     ///
@@ -133,7 +133,8 @@ impl Layout {
         columns: Option<&str>,
     ) -> Result<Layout, LayoutError>
         ensures rows { IfOk result (λ l. l.rows ≡ rows) }
-        ensures picks { IfOk result (λ l. ArePicks (names_in rows grid.now) (option_map (λ w. w.now) columns.entry) l.picks) }
+        ensures picks { IfOk result
+            (λ l. ArePicks (names_in rows grid.now) (option_map (λ w. w.now) columns.entry) l.picks) }
         ensures err { IfErr result (IsNoLayout (names_in rows grid.now) (option_map (λ w. w.now) columns.entry)) }
     {
         let names = names_of(alloc, grid, rows)?;
@@ -170,6 +171,16 @@ impl Layout {
         match self.rows {
             Rows::Points => grid.runs(),
             Rows::Runs => 1,
+        }
+    }
+
+    /// The number of the first of a unit's runs among those of its point, from 1.
+    pub(crate) fn first_run(&self, grid: &Grid, unit: u64) -> u64
+        ensures { result ≡ unit_first self.now.rows grid.now unit }
+    {
+        match self.rows {
+            Rows::Points => 1,
+            Rows::Runs => unit % grid.runs() + 1,
         }
     }
 

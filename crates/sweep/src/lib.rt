@@ -1,11 +1,12 @@
 //! The rows of a study: sums over the runs of each of its points.
 //!
 //! A run is done within its limit and has a trace, or it passes the limit (`specs/Results.antt`). [`RunNumbers`] is
-//! what one run gives, [`PointSums`] what the runs of a point add up to, and [`Table`] forms the text of rows. What a row
-//! tells is defined by sums, counts and quantifiers over a list of runs (`specs/Columns.antt`), and so is how it is
-//! written (`specs/RowText.antt`). A [`Layout`] says whether rows tell of points or of runs, and which columns they have
-//! (`specs/Layout.antt`). It is proved that the sums of a point, to which runs were added one by one, are those of the
-//! list of these runs, and that the text has the rows of all points, or of all runs (`specs/StudyText.antt`).
+//! what one run gives, [`PointSums`] what the runs of a point add up to, and [`Table`] forms the text of rows. What a
+//! row tells is defined by sums, counts and quantifiers over a list of runs (`specs/Columns.antt`), and so is how it is
+//! written (`specs/RowText.antt`). A [`Layout`] says whether rows tell of points or of single runs, and which columns
+//! they have (`specs/Layout.antt`). It is proved that the sums of a point, to which runs were added one by one, are
+//! those of the list of these runs, and that the text has the rows of all points, or of all runs
+//! (`specs/StudyText.antt`).
 //!
 //! Detection times, ticks of last decisions and rounds are kept with how often each came, so memory grows with how many
 //! different ones there are, and not with the runs. Sums have 128 bits, and are exact of up to 1,000,000,000,000 runs.
@@ -19,6 +20,7 @@
 #![tactic(auto)]
 
 mod adding;
+mod batches;
 mod checking;
 mod columns;
 mod decisions;
@@ -27,6 +29,7 @@ mod fields;
 mod first_runs;
 mod laws;
 mod layout;
+mod limits;
 mod measuring;
 mod names;
 mod numbering;
@@ -42,6 +45,7 @@ mod texts;
 mod value_counts;
 mod watcher;
 
+pub use checking::check_study;
 pub use columns::{
     Columns, DecisionSums, Distribution, FirstRuns, LayerSums, PairSums, RunCounts, TraceSums,
     VerdictCounts,
@@ -54,4 +58,4 @@ pub use point_sums::PointSums;
 pub use run_numbers::RunNumbers;
 pub use sweeping::sweep;
 pub use table::Table;
-pub use watcher::{Standing, Unwatched, Watcher};
+pub use watcher::{Pass, Standing, Unwatched, Watcher};

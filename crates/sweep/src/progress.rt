@@ -2,27 +2,16 @@
 ghost use Rattle.std.specs.Prelude.{◌≡◌, ℕ, ◌+◌, ◌-◌, ◌*◌, ◌^◌, ◌<◌, ◌≤◌, [], length, OnOk, IfErr};
 ghost use Rattle.toml.specs.Data.{Members};
 ghost use Rattle.study.specs.Grid.{points, runs};
-ghost use Rattle.sweep.specs.Numbering.{runs_each, AreAnswersFrom};
-ghost use Rattle.sweep.specs.StudyText.{unit_first};
+ghost use Rattle.sweep.specs.Numbering.{runs_each, AreNumbersFrom};
 
 use crate::error::SweepError;
-use crate::layout::{Layout, Rows};
+use crate::layout::Layout;
 use crate::point_sums::PointSums;
 use crate::run_numbers::RunNumbers;
 use crate::texts::{rows_of, write_text};
 use reporting::Outlet;
-use std::alloc::{AllocError, Global};
+use std::alloc::Global;
 use study::Grid;
-
-/// The number in its point, from 1, of the first run of a unit.
-fn first_run(grid: &Grid, layout: &Layout, unit: u64) -> u64
-    ensures { result ≡ unit_first layout.now.rows grid.now unit }
-{
-    match layout.rows() {
-        Rows::Points => 1,
-        Rows::Runs => unit % grid.runs() + 1,
-    }
-}
 
 /// The sums of a unit, with those of its runs that come before `run`.
 #[derive(Drop)]
@@ -34,7 +23,7 @@ pub(crate) struct Progress {
 
 impl Progress {
     ghost use Rattle.sweep.specs.Results.{Trial};
-    ghost use Rattle.sweep.specs.StudyText.{point_at, unit_point, unit_run, IsTrialOf};
+    ghost use Rattle.sweep.specs.StudyText.{point_at, unit_point, unit_run, unit_first, IsTrialOf};
     ghost use Rattle.sweep.specs.Sums.{AreNumbers, AreSums};
     ghost use Rattle.sweep.specs.Progress.{IsUnderWay, StopsBelow};
 
@@ -42,13 +31,12 @@ impl Progress {
     pub fn at(alloc: Global, grid: &Grid, layout: &Layout, unit: u64) -> Progress
         ensures unit { result.unit ≡ unit }
         ensures run { result.run ≡ 0 }
-        ensures sums { AreSums (unit_first layout.now.rows grid.now unit) [] result.sums }
+        ensures sums { AreSums (unit_first layout.now.rows grid.now result.unit) [] result.sums }
     {
-        let first = first_run(grid, layout, unit);
         Progress {
             unit,
             run: 0,
-            sums: PointSums::new(alloc, first),
+            sums: PointSums::new(alloc, layout.first_run(grid, unit)),
         }
     }
 
@@ -101,36 +89,33 @@ impl Progress {
         alloc: Global,
         grid: &Grid,
         layout: &Layout,
-        answers: &[Result<RunNumbers, AllocError>],
+        numbers: &[RunNumbers],
         outlet: &mut O,
     ) -> Result<(), SweepError>
         requires failures { O.failed outlet.old < 2 ^ 64 - 1 }
         requires room { length (points grid.now) * length (runs grid.now) < 2 ^ 64 }
         requires run { self.old.run < runs_each layout.now.rows grid.now }
-        requires within { self.old.unit * runs_each layout.now.rows grid.now + self.old.run + length answers.now
+        requires within { self.old.unit * runs_each layout.now.rows grid.now + self.old.run + length numbers.now
             ≤ length (points grid.now) * length (runs grid.now) }
         ensures done { OnOk result ((file : Members) (start : O) (begin : ℕ)
-            → AreAnswersFrom file grid.now
-            (self.old.unit * runs_each layout.now.rows grid.now + self.old.run) answers.now
+            → AreNumbersFrom file grid.now
+            (self.old.unit * runs_each layout.now.rows grid.now + self.old.run) numbers.now
             → IsUnderWay file grid.now layout.now O.told O.failed start outlet.old begin self.old
             → IsUnderWay file grid.now layout.now O.told O.failed start outlet.new begin self.new) }
         ensures number { OnOk result (self.new.unit * runs_each layout.now.rows grid.now + self.new.run
-            ≡ self.old.unit * runs_each layout.now.rows grid.now + self.old.run + length answers.now) }
+            ≡ self.old.unit * runs_each layout.now.rows grid.now + self.old.run + length numbers.now) }
         ensures run { OnOk result (self.new.run < runs_each layout.now.rows grid.now) }
         ensures failures { OnOk result (O.failed outlet.new ≡ O.failed outlet.old) }
         ensures stops { IfErr result (λ e. (file : Members) (start : O) (begin end : ℕ)
-            → self.old.unit * runs_each layout.now.rows grid.now + self.old.run + length answers.now
+            → self.old.unit * runs_each layout.now.rows grid.now + self.old.run + length numbers.now
             ≤ end * runs_each layout.now.rows grid.now
-            → AreAnswersFrom file grid.now
-            (self.old.unit * runs_each layout.now.rows grid.now + self.old.run) answers.now
+            → AreNumbersFrom file grid.now
+            (self.old.unit * runs_each layout.now.rows grid.now + self.old.run) numbers.now
             → IsUnderWay file grid.now layout.now O.told O.failed start outlet.old begin self.old
             → StopsBelow file grid.now layout.now O.told O.failed start outlet.new begin end e) }
     {
-        for answer in answers {
-            match answer {
-                Ok(numbers) => self.take(alloc, grid, layout, numbers, outlet)?,
-                Err(_) => return Err(SweepError::Memory),
-            }
+        for each in numbers {
+            self.take(alloc, grid, layout, each, outlet)?;
         }
         Ok(())
     }

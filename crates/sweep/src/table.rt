@@ -385,7 +385,8 @@ impl Table {
         requires within { unit_point layout.now.rows grid.now unit < length (points grid.now) }
         ensures between { OnOk result (IsBetweenLines self.new) }
         ensures text { OnOk result ((first : ℕ) (trials : List Trial) → AreSums first trials sums.now
-            → (rows : Text) × AreRowsFor layout.now.picks (lead_of layout.now.rows grid.now unit) first trials rows
+            → (rows : Text)
+            × AreRowsFor layout.now.picks (lead_of layout.now.rows grid.now unit) first trials rows
             × (text_of self.new ≡ text_of self.old ++ rows)) }
     {
         let (first, second) = (sums.first(), sums.second());

@@ -1,11 +1,11 @@
 //! The texts that go out.
-ghost use Rattle.std.specs.Prelude.{◌≡◌, ◌^◌, ◌-◌, ◌<◌, List, length, Err, IfOk, IfErr, OnOk};
+ghost use Rattle.std.specs.Prelude.{◌≡◌, ℕ, ◌^◌, ◌-◌, ◌<◌, List, length, Err, IfOk, IfErr, OnOk};
 ghost use Rattle.reporting.specs.Writing.{Wrote, WrotePart};
-ghost use Rattle.study.specs.Grid.{points, runs};
+ghost use Rattle.study.specs.Grid.{points};
 ghost use Rattle.sweep.specs.Results.{Trial};
 ghost use Rattle.sweep.specs.RowText.{header_text, AreRowsFor};
 ghost use Rattle.sweep.specs.Progress.{HeaderFails};
-ghost use Rattle.sweep.specs.StudyText.{names_of, unit_first, unit_point, lead_of, header_of as shard_header};
+ghost use Rattle.sweep.specs.StudyText.{names_of, unit_point, lead_of, header_of as shard_header};
 ghost use Rattle.sweep.specs.Sums.{AreSums};
 
 use crate::error::SweepError;
@@ -35,9 +35,8 @@ pub(crate) fn rows_of(
     sums: &PointSums,
 ) -> Result<Vec<u8>, AllocError>
     requires { unit_point layout.now.rows grid.now unit < length (points grid.now) }
-    ensures { IfOk result (λ t. (trials : List Trial) → AreSums (unit_first layout.now.rows grid.now unit) trials sums.now
-        → AreRowsFor layout.now.picks (lead_of layout.now.rows grid.now unit) (unit_first layout.now.rows grid.now unit)
-        trials t.items) }
+    ensures { IfOk result (λ t. (first : ℕ) (trials : List Trial) → AreSums first trials sums.now
+        → AreRowsFor layout.now.picks (lead_of layout.now.rows grid.now unit) first trials t.items) }
 {
     let mut table = Table::new(alloc);
     table.push_unit(alloc, grid, layout, unit, sums)?;

@@ -1,5 +1,6 @@
 //! The rows of points whose runs are worked by hand.
-use super::rows::{are_rows, crash_at_3, crash_run, is_same, is_text, one_crash, rows_of, timeout};
+use super::rows::{are_rows, crash_at_3, crash_run, grid_of, is_same, is_text, one_crash, rows_of};
+use super::studies::layout_of;
 use crate::comparisons::same;
 use crate::findings::{outcome, quiet, without_mistake};
 use crate::traces::scenario_of;
@@ -8,8 +9,7 @@ use reporting::{Detection, PairMeasures, RunFindings};
 use scenario::read_scenario;
 use std::alloc::Global;
 use std::process::Abort;
-use study::Setting;
-use sweep::{FirstRuns, PointSums, RunNumbers, Table};
+use sweep::{FirstRuns, PointSums, Rows, RunNumbers, Table};
 
 /// One run, whose crash is detected after 6 ticks: each pair is watched for the 3 ticks before the crash. Four runs,
 /// with detections after 6 and 4 ticks, none, and a run that passed its limit, which is counted alone: of the three
@@ -21,7 +21,7 @@ fn one_crash_runs(rt: HostRuntime) {
         &rt,
         alloc,
         &[crash_run(&rt, alloc, Some(9), Detection::At(6))],
-        Setting::Integer(5),
+        "5",
         "5,1,1,0,12,4,0,6,0,0,,0,0,0,0,0,0,0,0,0,1,0,0,6,6,6,6,6,1,1,1,1,1,1,0,0,0,,0,,,,,,,,0,,1,\n",
     );
     let scenario = crash_at_3(&rt, alloc);
@@ -35,14 +35,14 @@ fn one_crash_runs(rt: HostRuntime) {
         &rt,
         alloc,
         &runs,
-        Setting::Integer(-8),
+        "-8",
         "-8,1,4,1,36,12,0,18,0,0,,0,0,0,0,0,0,0,0,0,2,1,0,10,6,,,6,2,2,3,3,3,3,0,0,0,,0,,,,,,,,0,,1,\n",
     );
     are_rows(
         &rt,
         alloc,
         &[RunNumbers::of_limited(alloc, &scenario)],
-        Setting::Integer(5),
+        "5",
         "5,1,1,1,,,,,,,,,,,,,,,,,,,,,,,,,,,,,,,,,,,,,,,,,,,,,,\n",
     );
 }
@@ -90,7 +90,7 @@ fn two_layers(rt: HostRuntime) {
         &rt,
         alloc,
         &runs,
-        Setting::Integer(5),
+        "5",
         "5,1,2,0,24,8,0,12,1,2,12,166666,1,1,0,0,2,1,0,0,2,0,0,10,4,6,6,6,2,2,2,2,2,2,0,0,0,,0,,,,,,,,0,1,1,\n\
          5,2,1,0,12,4,0,6,0,0,,0,0,0,0,0,0,0,0,0,0,1,0,0,,,,,0,0,1,1,1,1,0,0,0,,0,,,,,,,,0,,,\n",
     );
@@ -98,7 +98,7 @@ fn two_layers(rt: HostRuntime) {
         &rt,
         alloc,
         &[RunNumbers::of_limited(alloc, &with)],
-        Setting::Integer(5),
+        "5",
         "5,1,1,1,,,,,,,,,,,,,,,,,,,,,,,,,,,,,,,,,,,,,,,,,,,,,,\n\
          5,2,1,1,,,,,,,,,,,,,,,,,,,,,,,,,,,,,,,,,,,,,,,,,,,,,,\n",
     );
@@ -157,7 +157,7 @@ fn decisions(rt: HostRuntime) {
         &rt,
         alloc,
         &runs,
-        Setting::Integer(5),
+        "5",
         "5,1,3,0,36,12,0,60,0,0,,0,0,0,0,0,0,0,0,0,0,0,0,0,,,,,3,3,3,3,3,3,6,4,17,6,1,,,,6,3,5,5,1,,,2\n",
     );
 }
@@ -224,7 +224,7 @@ fn watched_pairs(rt: HostRuntime) {
         &rt,
         alloc,
         &runs,
-        Setting::Integer(5),
+        "5",
         "5,1,2,1,12,4,0,16,1,2,16,125000,1,1,0,0,2,1,0,0,1,0,1,0,0,0,0,0,1,1,1,1,1,1,0,0,0,,0,,,,,,,,0,2,2,\n",
     );
     let mut sums = PointSums::new(alloc, 7);
@@ -239,26 +239,33 @@ fn watched_pairs(rt: HostRuntime) {
     same(&rt, &sums.first().first_runs, &wanted);
 }
 
-/// The first line, a setting with a comma and a quote, and the rows of a point without settings and without runs.
+/// The first line, a setting with a quote, and the rows of a point without settings and without runs.
 #[test]
 fn lines(rt: HostRuntime) {
     let alloc = rt.alloc();
     let mut table = Table::new(alloc);
-    let varied = [timeout(&rt, alloc, Setting::Integer(5))];
-    table.push_header(alloc, &varied).expect(&rt, "no memory");
+    let grid = grid_of(&rt, alloc, &["detector.timeout=5"]);
+    let layout = layout_of(&rt, alloc, &grid, Rows::Points, None);
+    table
+        .push_header(alloc, &grid, &layout)
+        .expect(&rt, "no memory");
     let header = table.into_text().expect(&rt, "no memory");
     is_text(&rt, alloc, &header, "detector.timeout,", "");
-    let odd = String::from_str(alloc, "a, \"b\"").expect(&rt, "no memory");
     are_rows(
         &rt,
         alloc,
         &[],
-        Setting::Text(odd),
-        "\"a, \"\"b\"\"\",1,0,0,,,,,,,,,,,,,,,,,,,,,,,,,,,,,,,,,,,,,,,,,,,,,,\n",
+        "a \"b\"",
+        "\"a \"\"b\"\"\",1,0,0,,,,,,,,,,,,,,,,,,,,,,,,,,,,,,,,,,,,,,,,,,,,,,\n",
     );
     is_same(
         &rt,
-        &rows_of(&rt, alloc, &[], &PointSums::new(alloc, 1)),
+        &rows_of(
+            &rt,
+            alloc,
+            &grid_of(&rt, alloc, &[]),
+            &PointSums::new(alloc, 1),
+        ),
         "1,0,0,,,,,,,,,,,,,,,,,,,,,,,,,,,,,,,,,,,,,,,,,,,,,,\n",
     );
 }

@@ -1,9 +1,8 @@
 use Rattle.std.proofs.Common.{rules, ◌≡◌, ℕ, ◌+◌, ◌<◌, [], length, take, ◌∷◌, ◌++◌, arith, sym, subst}
 use Rattle.std.specs.List.{AllZip}
 use Rattle.sweep.specs.Numbering.{runs_each}
-use Rattle.sweep.specs.StudyText.{AreRowsOf, IsTrialOf, point_at, unit_first, unit_point, unit_runs}
+use Rattle.sweep.specs.StudyText.{AreRowsOf, IsTrialOf, point_at, unit_point, unit_runs, unit_first}
 use Rattle.sweep.specs.Progress.{WroteUpTo}
-use Rattle.sweep.specs.Sums.{AreSums}
 use Rattle.sweep.specs.declared.error.SweepError.TheVariants.{Memory, Write}
 use Rattle.sweep.proofs.Numbered.{unit_below}
 use Rattle.sweep.proofs.Reading.{if_err}
@@ -20,6 +19,7 @@ returns-then-self-runs-clause-done g c = λ file start begin t is nums way.
     let layout = c.args.layout.now in
     let unit = c.args.self.now.unit in
     let run = c.args.self.now.run in
+    let first = unit_first layout.rows grid unit in
     let few : length way.added.trials < 1000000000000 =
     omega (arith, trials_length file grid layout unit run way.added.trials way.added.each c.requires.run, c.requires.run, c.runs_each-runs.ensures.value, c.runs_each-runs.ensures.high) in
     record {
@@ -27,7 +27,7 @@ returns-then-self-runs-clause-done g c = λ file start begin t is nums way.
       added = record {
         trials = way.added.trials ++ t ∷ [];
         each = more_trials file grid layout unit run way.added.trials t way.added.each c.requires.run is;
-        summed = c.in_ok-add.ensures (unit_first layout.rows grid unit) way.added.trials t few way.added.summed nums;
+        summed = c.in_ok-add.ensures first way.added.trials t few way.added.summed nums;
         run_low = search rules;
       };
     }
@@ -47,14 +47,15 @@ returns-in_err-write_text-clause-stops g c =
     let layout = c.args.layout.now in
     let unit = c.args.self.now.unit in
     let run = c.args.self.now.run in
+    let first = unit_first layout.rows grid unit in
     let few : length way.added.trials < 1000000000000 =
     omega (arith, trials_length file grid layout unit run way.added.trials way.added.each c.requires.run, c.requires.run, c.runs_each-runs.ensures.value, c.runs_each-runs.ensures.high) in
     let trials = way.added.trials ++ t ∷ [] in
-    let summed = c.in_ok-add.ensures (unit_first layout.rows grid unit) way.added.trials t few way.added.summed nums in
+    let summed = c.in_ok-add.ensures first way.added.trials t few way.added.summed nums in
     let last : run + 1 ≡ runs_each layout.rows grid = omega (arith, c.requires.run, c.if-self-runs.false, c.runs_each-runs.ensures.value) in
     let rows : AreRowsOf file grid layout unit c.in_ok-text.text.items =
     all_trials file grid layout unit (run + 1) trials c.in_ok-text.text.items (more_trials file grid layout unit run way.added.trials t way.added.each c.requires.run is) last
-    (c.in_ok-text.ensures trials summed) in (
+    (c.in_ok-text.ensures first trials summed) in (
       unit + 1,
       omega arith,
       wrote_front file grid layout g.O.Outlet.told g.O.Outlet.failed start c.args.outlet.now c.write_text.new.outlet begin unit c.in_ok-text.text.items way.out rows (search rules),
@@ -66,14 +67,15 @@ returns-clause-done g c = λ file start begin t is nums way.
     let layout = c.args.layout.now in
     let unit = c.args.self.now.unit in
     let run = c.args.self.now.run in
+    let first = unit_first layout.rows grid unit in
     let few : length way.added.trials < 1000000000000 =
     omega (arith, trials_length file grid layout unit run way.added.trials way.added.each c.requires.run, c.requires.run, c.runs_each-runs.ensures.value, c.runs_each-runs.ensures.high) in
     let trials = way.added.trials ++ t ∷ [] in
-    let summed = c.in_ok-add.ensures (unit_first layout.rows grid unit) way.added.trials t few way.added.summed nums in
+    let summed = c.in_ok-add.ensures first way.added.trials t few way.added.summed nums in
     let last : run + 1 ≡ runs_each layout.rows grid = omega (arith, c.requires.run, c.if-self-runs.false, c.runs_each-runs.ensures.value) in
     let rows : AreRowsOf file grid layout unit c.in_ok-text.text.items =
     all_trials file grid layout unit (run + 1) trials c.in_ok-text.text.items (more_trials file grid layout unit run way.added.trials t way.added.each c.requires.run is) last
-    (c.in_ok-text.ensures trials summed) in
+    (c.in_ok-text.ensures first trials summed) in
     let P : ℕ → Type 0 = λ n. WroteUpTo file grid layout g.O.Outlet.told g.O.Outlet.failed start c.write_text.new.outlet begin n in
     let R : ℕ → Type 0 = λ n. AllZip (IsTrialOf file (point_at grid (unit_point layout.rows grid c.at.result.unit))) (take n (unit_runs layout.rows grid c.at.result.unit)) [] in
     record {
@@ -82,7 +84,7 @@ returns-clause-done g c = λ file start begin t is nums way.
       added = record {
         trials = [];
         each = subst R (sym c.at.ensures.run) tt;
-        summed = subst (λ n. AreSums (unit_first layout.rows grid n) [] c.at.result.sums) (sym c.at.ensures.unit) c.at.ensures.sums;
+        summed = c.at.ensures.sums;
         run_low = omega (arith, c.at.ensures.run, c.requires.run);
       };
     }
