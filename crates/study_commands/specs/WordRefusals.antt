@@ -11,7 +11,7 @@ use Rattle.study.specs.declared.error.AxisError.{AxisError}
 use Rattle.study.specs.declared.error.GridError.{GridError}
 use Rattle.study.specs.declared.error.SeedsError.{SeedsError}
 use Rattle.study.specs.declared.error.ShardError.{ShardError}
-use Rattle.study_commands.specs.Study.{IsGrid, rows_for}
+use Rattle.study_commands.specs.Study.{rows_for}
 use Rattle.study_line.specs.declared.order.Each.{Each}
 use Rattle.study_line.specs.declared.order.GridTexts.{GridTexts}
 use Rattle.sweep.specs.Layout.{IsNoLayout}

@@ -1,4 +1,4 @@
-use Rattle.std.proofs.Common.{◌≤◌, ◌-◌, ◌<◌, ◌^◌}
+use Rattle.std.proofs.Common.{◌-◌, ◌<◌, ◌^◌}
 use Rattle.study_commands.proofs.reckoning.reckon.Given as goal
 
 abbrev pub invariant-loop-next : goal.invariant-loop-next

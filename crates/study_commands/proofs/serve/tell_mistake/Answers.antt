@@ -1,4 +1,4 @@
-use Rattle.std.proofs.Common.{◌∙◌, sym, inl, inr}
+use Rattle.std.proofs.Common.{◌∙◌, inl, inr}
 use Rattle.study_commands.proofs.Stopping.{tells_as}
 use Rattle.study_commands.proofs.serve.tell_mistake.Goals as goal
 

@@ -3,8 +3,8 @@ use Rattle.toml.specs.View.{table_view}
 use Rattle.study.specs.Grid.{runs}
 use Rattle.sweep.specs.StudyText.{numbers_of}
 use Rattle.study_commands.specs.Check.{study_begin}
-use Rattle.study_commands.proofs.Answered.{checked_before, checked_why, study_answer}
-use Rattle.study_commands.proofs.Stopping.{put_done, put_stops, stops_before}
+use Rattle.study_commands.proofs.Answered.{checked_why, study_answer}
+use Rattle.study_commands.proofs.Stopping.{put_done, put_stops}
 use Rattle.study_commands.proofs.study_check.serve_study_check.Goals as goal
 
 pub returns-in_err-read_runs-clause-why : goal.returns-in_err-read_runs-clause-why
