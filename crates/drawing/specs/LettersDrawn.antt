@@ -45,6 +45,6 @@ marks_in run q = mark_shapes run.scenario.now run.trace.now run.ticks.from run.t
 abbrev pub all_marks_in : Run → List Shape
 all_marks_in run = flat_map (marks_in run) (numbers_to run.scenario.now.processes)
 
-unfoldable pub letters_in : Run → List Letter → List Shape
-letters_in run letters =
-    letters_shapes run.scenario.now run.trace.now run.ticks.from run.ticks.until (turn_bars run) letters
+unfoldable pub letters_in : Run → (of : List ℕ) → List Letter → List Shape
+letters_in run of letters =
+    letters_shapes run.scenario.now run.trace.now run.ticks.from run.ticks.until (turn_bars run) of letters

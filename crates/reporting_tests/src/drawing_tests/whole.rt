@@ -79,9 +79,9 @@ text{fill:#e6edf3}
 </defs>
 ";
 
-/// Two groups of 42 units, between 80 above and 28 below.
+/// Groups of 42 and 26 units, between 80 above and 28 below.
 const SUSPICIONS_HEAD: &str = "\
-<svg xmlns=\"http://www.w3.org/2000/svg\" role=\"img\" viewBox=\"0 0 928 192\" width=\"928\" height=\"192\">
+<svg xmlns=\"http://www.w3.org/2000/svg\" role=\"img\" viewBox=\"0 0 928 176\" width=\"928\" height=\"176\">
 ";
 
 /// The title, and what bars and marks mean.
@@ -95,33 +95,34 @@ const SUSPICIONS_LEGEND: &str = "\
 <text class=\"label\" x=\"410\" y=\"42\" text-anchor=\"start\">decision</text>
 <rect class=\"second\" x=\"488\" y=\"34\" width=\"24\" height=\"6\"/>
 <text class=\"label\" x=\"518\" y=\"42\" text-anchor=\"start\">suspected by the reduction</text>
+<text class=\"label\" x=\"88\" y=\"54\" text-anchor=\"start\">pairs without a bar, left out: 1</text>
 ";
 
-/// Six labels, at the ends of five ticks. The rows end at 164.
+/// Six labels, at the ends of five ticks. The rows end at 148.
 const SUSPICIONS_AXIS: &str = "\
 <line class=\"axis\" x1=\"88\" y1=\"72\" x2=\"888\" y2=\"72\"/>
-<line class=\"axis\" x1=\"88\" y1=\"164\" x2=\"888\" y2=\"164\"/>
-<line class=\"grid\" x1=\"88\" y1=\"72\" x2=\"88\" y2=\"164\"/>
+<line class=\"axis\" x1=\"88\" y1=\"148\" x2=\"888\" y2=\"148\"/>
+<line class=\"grid\" x1=\"88\" y1=\"72\" x2=\"88\" y2=\"148\"/>
 <text class=\"label\" x=\"88\" y=\"68\" text-anchor=\"middle\">5</text>
-<text class=\"label\" x=\"88\" y=\"178\" text-anchor=\"middle\">5</text>
-<line class=\"grid\" x1=\"248\" y1=\"72\" x2=\"248\" y2=\"164\"/>
+<text class=\"label\" x=\"88\" y=\"162\" text-anchor=\"middle\">5</text>
+<line class=\"grid\" x1=\"248\" y1=\"72\" x2=\"248\" y2=\"148\"/>
 <text class=\"label\" x=\"248\" y=\"68\" text-anchor=\"middle\">6</text>
-<text class=\"label\" x=\"248\" y=\"178\" text-anchor=\"middle\">6</text>
-<line class=\"grid\" x1=\"408\" y1=\"72\" x2=\"408\" y2=\"164\"/>
+<text class=\"label\" x=\"248\" y=\"162\" text-anchor=\"middle\">6</text>
+<line class=\"grid\" x1=\"408\" y1=\"72\" x2=\"408\" y2=\"148\"/>
 <text class=\"label\" x=\"408\" y=\"68\" text-anchor=\"middle\">7</text>
-<text class=\"label\" x=\"408\" y=\"178\" text-anchor=\"middle\">7</text>
-<line class=\"grid\" x1=\"568\" y1=\"72\" x2=\"568\" y2=\"164\"/>
+<text class=\"label\" x=\"408\" y=\"162\" text-anchor=\"middle\">7</text>
+<line class=\"grid\" x1=\"568\" y1=\"72\" x2=\"568\" y2=\"148\"/>
 <text class=\"label\" x=\"568\" y=\"68\" text-anchor=\"middle\">8</text>
-<text class=\"label\" x=\"568\" y=\"178\" text-anchor=\"middle\">8</text>
-<line class=\"grid\" x1=\"728\" y1=\"72\" x2=\"728\" y2=\"164\"/>
+<text class=\"label\" x=\"568\" y=\"162\" text-anchor=\"middle\">8</text>
+<line class=\"grid\" x1=\"728\" y1=\"72\" x2=\"728\" y2=\"148\"/>
 <text class=\"label\" x=\"728\" y=\"68\" text-anchor=\"middle\">9</text>
-<text class=\"label\" x=\"728\" y=\"178\" text-anchor=\"middle\">9</text>
-<line class=\"grid\" x1=\"888\" y1=\"72\" x2=\"888\" y2=\"164\"/>
+<text class=\"label\" x=\"728\" y=\"162\" text-anchor=\"middle\">9</text>
+<line class=\"grid\" x1=\"888\" y1=\"72\" x2=\"888\" y2=\"148\"/>
 <text class=\"label\" x=\"888\" y=\"68\" text-anchor=\"middle\">10</text>
-<text class=\"label\" x=\"888\" y=\"178\" text-anchor=\"middle\">10</text>
+<text class=\"label\" x=\"888\" y=\"162\" text-anchor=\"middle\">10</text>
 ";
 
-/// The rows begin at 80, 96, 122 and 138.
+/// The rows begin at 80, 96 and 122. Process 2 suspects nobody.
 const SUSPICIONS_ROWS: &str = "\
 <text class=\"title\" x=\"78\" y=\"92\" text-anchor=\"end\">process 1</text>
 <line class=\"life\" x1=\"88\" y1=\"88\" x2=\"888\" y2=\"88\"/>
@@ -134,8 +135,6 @@ const SUSPICIONS_ROWS: &str = "\
 <text class=\"title\" x=\"78\" y=\"134\" text-anchor=\"end\">process 2</text>
 <line class=\"life\" x1=\"88\" y1=\"130\" x2=\"248\" y2=\"130\"/>
 <use href=\"#cross\" class=\"crash\" x=\"248\" y=\"130\"/>
-<text class=\"label\" x=\"78\" y=\"150\" text-anchor=\"end\">2: 1</text>
-<line class=\"grid\" x1=\"88\" y1=\"153\" x2=\"248\" y2=\"153\"/>
 </svg>
 ";
 
@@ -235,7 +234,7 @@ fn whole_pictures(rt: HostRuntime) {
     ];
     is_made_of(&rt, &text, &pieces);
     let letters = letters_of(&rt, alloc, SENT);
-    let text = draw_letters(alloc, &scenario, &trace, &letters, 5, 10);
+    let text = draw_letters(alloc, &scenario, &trace, &letters, &[], 5, 10);
     let text = text.expect(&rt, "no picture");
     let pieces = [
         LETTERS_HEAD,

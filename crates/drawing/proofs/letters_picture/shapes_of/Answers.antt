@@ -1,8 +1,9 @@
-use Rattle.std.proofs.Common.{◌∙◌, ◌++◌, ap}
+use Rattle.std.proofs.Common.{◌∙◌, ◌++◌, ◌+◌, ap, codes}
 use Rattle.drawing.specs.Lanes.{lanes_bottom}
 use Rattle.drawing.specs.LettersDrawn.{letters_in, line_in, lines_in, marks_in, all_marks_in}
-use Rattle.drawing.specs.LettersPicture.{letters_shapes, letters_legend, arrows}
-use Rattle.drawing.specs.Suspicions.{axis}
+use Rattle.drawing.specs.LettersPicture.{letters_shapes, letters_legend, arrows, count_others}
+use Rattle.drawing.specs.Sizes.{left_room}
+use Rattle.drawing.specs.Suspicions.{axis, left_out_shapes}
 use Rattle.drawing.proofs.Joining.{joined_all}
 use Rattle.drawing.proofs.letters_picture.shapes_of.Goals as goal
 
@@ -13,11 +14,17 @@ returns c =
     let from = run.ticks.from in
     let until = run.ticks.until in
     let n = run.scenario.now.processes in
+    let of = c.args.of.now in
+    let letters = c.args.letters.now in
     let a = c.push_letters_legend.new.shapes.items in
-    joined_all a c.push_axis.new.shapes.items c.push_lines.new.shapes.items c.push_arrows.new.shapes.items c.push_all_marks.new.shapes.items
-    (letters_legend from until run.scenario.now.share) (axis from until (lanes_bottom n)) (lines_in run) (arrows n from until c.args.letters.now) (all_marks_in run)
+    let b = c.push_left_out.new.shapes.items in
+    let what = codes "letters of others, left out" in
+    joined_all a b c.push_axis.new.shapes.items c.push_lines.new.shapes.items c.push_arrows.new.shapes.items c.push_all_marks.new.shapes.items
+    (letters_legend from until run.scenario.now.share) (left_out_shapes (left_room + 440) what (count_others of from until letters))
+    (axis from until (lanes_bottom n)) (lines_in run) (arrows n from until of letters) (all_marks_in run)
     (c.in_ok-push_letters_legend.ensures
     ∙ ap (λ xs. xs ++ letters_legend from until c.share.result) c.new-shapes.ensures.items
     ∙ ap (letters_legend from until) c.share.ensures.value)
-    (c.in_ok-push_axis.ensures ∙ ap (λ y. a ++ axis from until y) (c.lanes_bottom.ensures.value ∙ ap lanes_bottom c.processes.ensures.value))
+    (c.in_ok-push_left_out.ensures ∙ ap (λ k. a ++ left_out_shapes (left_room + 440) what k) c.count_others-others.ensures)
+    (c.in_ok-push_axis.ensures ∙ ap (λ y. b ++ axis from until y) (c.lanes_bottom.ensures.value ∙ ap lanes_bottom c.processes.ensures.value))
     c.in_ok-push_lines.ensures c.in_ok-push_arrows.ensures c.in_ok-push_all_marks.ensures
