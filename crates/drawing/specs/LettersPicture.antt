@@ -208,8 +208,8 @@ module _ (S : Record) (trace : List EntryRecord) (from until : ℕ) where
     unfoldable pub letters_shapes : (of : List ℕ) → List Letter → List Shape
     letters_shapes of letters =
         letters_legend from until S.share
-        ++ (left_out_shapes (left_room + 440) (codes "letters of others, left out") (count_others of from until letters)
-        ++ (outage_legend (left_room + 660) 54 all_line_bands
+        ++ (left_out_shapes (codes "letters of others, left out") (count_others of from until letters)
+        ++ (outage_legend (left_room + 440) 54 all_line_bands
         ++ (all_line_bands
         ++ (axis from until (lanes_bottom S.processes)
         ++ (flat_map line_shapes (numbers_to S.processes)

@@ -54,10 +54,12 @@ second_legend None = []
 second_legend (Some period) =
     sample class.Second (left_room + 400) ∷ word (left_room + 430) 42 (codes "suspected by the reduction") ∷ []
 
--- how many are left out, where there are any
-abbrev pub left_out_shapes : (x : ℕ) (words : List ℕ) (count : ℕ) → List Shape
-left_out_shapes x words count =
-    if count == 0 then [] else word x 54 (words ++ (codes ": " ++ decimal count)) ∷ []
+-- how many are left out, where there are any: at the right end of the title's line
+abbrev pub left_out_shapes : (words : List ℕ) (count : ℕ) → List Shape
+left_out_shapes words count =
+    if count == 0 then []
+    else shape.Text class.Label (point (left_room + axis_width) 20) anchor.End
+    (words ++ (codes ": " ++ decimal count)) ∷ []
 
 -- the title of a picture of some ticks
 unfoldable pub title : (words : List ℕ) (from until : ℕ) → Shape
@@ -186,7 +188,7 @@ module _ (S : Record) (trace : List EntryRecord) (from until : ℕ) where
     suspicions =
         legend from until S.share
         ++ (outage_legend (left_room + 620) 42 all_bands
-        ++ (left_out_shapes left_room (codes "pairs without a bar, left out") (left_out (has_row S bars) S.processes)
+        ++ (left_out_shapes (codes "pairs without a bar, left out") (left_out (has_row S bars) S.processes)
         ++ (all_bands ++ (axis from until bottom ++ flat_map group_shapes (numbers_to S.processes)))))
 
   -- the text is that of a picture in which the bars of each pair are exactly its maximal stretches of suspicion from

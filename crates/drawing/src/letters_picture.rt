@@ -87,8 +87,8 @@ fn shapes_of(
     let what = "letters of others, left out";
     let mut shapes = Vec::new(alloc);
     push_letters_legend(alloc, &mut shapes, &run.ticks, scenario.share())?;
-    push_left_out(alloc, &mut shapes, LEFT + 440, what, others)?;
-    push_outage_legend(alloc, &mut shapes, LEFT + 660, 54, &bands)?;
+    push_left_out(alloc, &mut shapes, what, others)?;
+    push_outage_legend(alloc, &mut shapes, LEFT + 440, 54, &bands)?;
     append(&mut shapes, bands)?;
     push_axis(
         alloc,

@@ -24,7 +24,7 @@ fn shapes_of(alloc: Global, run: &Run<'_>, rows: Rows) -> Result<Vec<Shape>, All
     let what = "pairs without a bar, left out";
     push_legend(alloc, &mut shapes, &run.ticks, run.scenario.share())?;
     push_outage_legend(alloc, &mut shapes, LEFT + 620, 42, &rows.bands)?;
-    push_left_out(alloc, &mut shapes, LEFT, what, rows.left_out)?;
+    push_left_out(alloc, &mut shapes, what, rows.left_out)?;
     append(&mut shapes, rows.bands)?;
     push_axis(alloc, &mut shapes, &run.ticks, rows.top)?;
     append(&mut shapes, rows.shapes)?;

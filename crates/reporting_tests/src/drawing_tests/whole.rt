@@ -119,7 +119,7 @@ const SUSPICIONS_LEGEND: &str = "\
 <text class=\"label\" x=\"518\" y=\"42\" text-anchor=\"start\">suspected by the reduction</text>
 <rect class=\"outage\" x=\"708\" y=\"34\" width=\"24\" height=\"6\"/>
 <text class=\"label\" x=\"738\" y=\"42\" text-anchor=\"start\">outage</text>
-<text class=\"label\" x=\"88\" y=\"54\" text-anchor=\"start\">pairs without a bar, left out: 1</text>
+<text class=\"label\" x=\"888\" y=\"20\" text-anchor=\"end\">pairs without a bar, left out: 1</text>
 <rect class=\"outage\" x=\"248\" y=\"96\" width=\"320\" height=\"16\"/>
 ";
 
@@ -189,8 +189,8 @@ const LETTERS_LEGEND: &str = "\
 <text class=\"label\" x=\"170\" y=\"54\" text-anchor=\"start\">decision</text>
 <circle class=\"second\" cx=\"238\" cy=\"50\" r=\"3\"/>
 <text class=\"label\" x=\"250\" y=\"54\" text-anchor=\"start\">+2: suspects process 2, -2: trusts it again</text>
-<rect class=\"outage\" x=\"748\" y=\"46\" width=\"24\" height=\"6\"/>
-<text class=\"label\" x=\"778\" y=\"54\" text-anchor=\"start\">outage</text>
+<rect class=\"outage\" x=\"528\" y=\"46\" width=\"24\" height=\"6\"/>
+<text class=\"label\" x=\"558\" y=\"54\" text-anchor=\"start\">outage</text>
 <rect class=\"outage\" x=\"248\" y=\"152\" width=\"320\" height=\"16\"/>
 ";
 

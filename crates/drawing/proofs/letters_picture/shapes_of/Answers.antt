@@ -24,14 +24,14 @@ returns c =
     let what = codes "letters of others, left out" in
     let drawn = all_line_bands_in run in
     joined_eight a b d e c.push_axis.new.shapes.items c.push_lines.new.shapes.items c.push_arrows.new.shapes.items c.push_all_marks.new.shapes.items
-    (letters_legend from until run.scenario.now.share) (left_out_shapes (left_room + 440) what (count_others of from until letters))
-    (outage_legend (left_room + 660) 54 drawn) drawn
+    (letters_legend from until run.scenario.now.share) (left_out_shapes what (count_others of from until letters))
+    (outage_legend (left_room + 440) 54 drawn) drawn
     (axis from until (lanes_bottom n)) (lines_in run) (arrows n from until of letters) (all_marks_in run)
     (c.in_ok-push_letters_legend.ensures
     ∙ ap (λ xs. xs ++ letters_legend from until c.share.result) c.new-shapes.ensures.items
     ∙ ap (letters_legend from until) c.share.ensures.value)
-    (c.in_ok-push_left_out.ensures ∙ ap (λ k. a ++ left_out_shapes (left_room + 440) what k) c.count_others-others.ensures)
-    (c.in_ok-push_outage_legend.ensures ∙ ap (λ xs. b ++ outage_legend (left_room + 660) 54 xs) (c.deref.ensures.value ∙ c.in_ok-bands.ensures))
+    (c.in_ok-push_left_out.ensures ∙ ap (λ k. a ++ left_out_shapes what k) c.count_others-others.ensures)
+    (c.in_ok-push_outage_legend.ensures ∙ ap (λ xs. b ++ outage_legend (left_room + 440) 54 xs) (c.deref.ensures.value ∙ c.in_ok-bands.ensures))
     (c.in_ok-append.ensures ∙ ap (λ xs. d ++ xs) c.in_ok-bands.ensures)
     (c.in_ok-push_axis.ensures ∙ ap (λ y. e ++ axis from until y) (c.lanes_bottom.ensures.value ∙ ap lanes_bottom c.processes.ensures.value))
     c.in_ok-push_lines.ensures c.in_ok-push_arrows.ensures c.in_ok-push_all_marks.ensures

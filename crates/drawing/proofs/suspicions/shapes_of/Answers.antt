@@ -30,12 +30,12 @@ returns c =
     let what = codes "pairs without a bar, left out" in
     let drawn = flat_map (group_bands_of run) (numbers_to n) in
     joined_six a b d e f c.append-2.new.shapes.items (legend from until run.scenario.now.share) (outage_legend (left_room + 620) 42 drawn)
-    (left_out_shapes left_room what (left_out (has_row_in run) n)) drawn (axis from until (groups_end run n)) (flat_map (group_of run) (numbers_to n))
+    (left_out_shapes what (left_out (has_row_in run) n)) drawn (axis from until (groups_end run n)) (flat_map (group_of run) (numbers_to n))
     (c.in_ok-push_legend.ensures
     ∙ ap (λ xs. xs ++ legend from until c.share.result) c.new-shapes.ensures.items
     ∙ ap (legend from until) c.share.ensures.value)
     (c.in_ok-push_outage_legend.ensures ∙ ap (λ xs. a ++ outage_legend (left_room + 620) 42 xs) (c.deref.ensures.value ∙ c.requires.bands))
-    (c.in_ok-push_left_out.ensures ∙ ap (λ k. b ++ left_out_shapes left_room what k) c.requires.left_out)
+    (c.in_ok-push_left_out.ensures ∙ ap (λ k. b ++ left_out_shapes what k) c.requires.left_out)
     (c.in_ok-append.ensures ∙ ap (λ xs. d ++ xs) c.requires.bands)
     (c.in_ok-push_axis.ensures ∙ ap (λ y. e ++ axis from until y) c.requires.top)
     (c.in_ok-append-2.ensures ∙ ap (λ xs. f ++ xs) c.requires.shapes)
