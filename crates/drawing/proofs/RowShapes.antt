@@ -1,11 +1,10 @@
 -- The rows of a process, one after the other.
-use Rattle.std.proofs.Common.{◌≡◌, ◌∙◌, ℕ, suc, ◌+◌, ◌-◌, ◌*◌, Bool, true, false, ◌||◌, cond, not, eqb, refl, ap, sym, arith, List, [], ◌++◌, append-nil, append_assoc, filter, flat_map, length}
-use Rattle.process_api.specs.Numbers.{others}
+use Rattle.std.proofs.Common.{◌≡◌, ◌∙◌, ℕ, suc, ◌+◌, ◌-◌, Bool, true, false, ◌||◌, cond, not, eqb, refl, ap, sym, arith, List, ◌++◌, flat_map, length}
 use Rattle.scenario_record.specs.Record.{outages_on}
 use Rattle.svg.specs.declared.shape.Shape.{Shape}
 use Rattle.drawing.specs.Bands.{bands}
 use Rattle.drawing.specs.Drawn.{ArePairBars, own_of, own_in, pair_in, bands_in, row_at, bars_in, has_row_in, groups_end, IsPairMore, ArePairsMore}
-use Rattle.drawing.specs.Layout.{subjects, absent, groups_bottom, row_top}
+use Rattle.drawing.specs.Layout.{subjects, row_top}
 use Rattle.drawing.specs.Suspicions.{own_at, pair_at, has_bar, has_row, row_bands}
 use Rattle.drawing.specs.declared.groups.Row.{Row}
 use Rattle.drawing.specs.declared.groups.Rows.{Rows}

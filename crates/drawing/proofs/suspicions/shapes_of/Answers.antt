@@ -1,7 +1,7 @@
 use Rattle.std.proofs.Common.{◌∙◌, ◌++◌, ◌+◌, ap, arith, codes, flat_map}
 use Rattle.process_api.specs.Numbers.{numbers_to}
 use Rattle.drawing.specs.Bands.{outage_legend}
-use Rattle.drawing.specs.Drawn.{bars_in, has_row_in, group_of, group_bands_of, groups_end, suspicions_of}
+use Rattle.drawing.specs.Drawn.{has_row_in, group_of, group_bands_of, groups_end, suspicions_of}
 use Rattle.drawing.specs.Layout.{left_out}
 use Rattle.drawing.specs.Sizes.{left_room}
 use Rattle.drawing.specs.Suspicions.{legend, left_out_shapes, axis, suspicions}
