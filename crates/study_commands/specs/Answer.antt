@@ -7,11 +7,16 @@ use Rattle.study_commands.specs.Show.{IsShowAnswer}
 use Rattle.study_commands.specs.Sweep.{IsSweepAnswer, IsSweepFront}
 use Rattle.study_line.specs.declared.order.Order.{Order}
 use Rattle.study_line.specs.declared.order.Order.TheVariants as order
+use Rattle.study_line.specs.declared.order.StudyTexts.{StudyTexts}
+
+-- the piece is what a check says, of the file or of a study over it
+abbrev pub IsChecked : Option (List ℕ) → (path : List ℕ) → Option StudyTexts → List ℕ → Type 0
+IsChecked input path None piece = IsCheckAnswer input path piece
+IsChecked input path (Some study) piece = IsStudyCheck input path study piece
 
 -- the piece is what the order asks for
 abbrev pub Answers : Option (List ℕ) → Order → List ℕ → Type 0
-Answers input (order.Check path None) piece = IsCheckAnswer input path.now piece
-Answers input (order.Check path (Some study)) piece = IsStudyCheck input path.now study piece
+Answers input (order.Check path study) piece = IsChecked input path.now study piece
 Answers input (order.Letters path) piece = IsLettersAnswer input path.now piece
 Answers input (order.Draw path named from until of) piece =
     IsDrawAnswer input path.now named from until (option_map (λ w. w.now) of) piece
@@ -21,8 +26,7 @@ Answers input (order.Sweep path study columns each) piece =
 
 -- the piece is what is written for the order, as far as it comes: of a sweep the rows of the first points
 abbrev pub Writes : Option (List ℕ) → Order → List ℕ → Type 0
-Writes input (order.Check path None) piece = IsCheckAnswer input path.now piece
-Writes input (order.Check path (Some study)) piece = IsStudyCheck input path.now study piece
+Writes input (order.Check path study) piece = IsChecked input path.now study piece
 Writes input (order.Letters path) piece = IsLettersAnswer input path.now piece
 Writes input (order.Draw path named from until of) piece =
     IsDrawAnswer input path.now named from until (option_map (λ w. w.now) of) piece

@@ -108,10 +108,14 @@ module _ (input : Option (List ℕ)) (path : List ℕ) where
       abbrev pub StopsSweep : Fault → Type 0
       StopsSweep = StopsRuns SaysNoSweep
 
+-- a check stops for this fault, of the file or of a study over it
+abbrev pub StopsChecked : Option (List ℕ) → (path : List ℕ) → Option StudyTexts → Fault → Type 0
+StopsChecked input path None fault = StopsCheck input path fault
+StopsChecked input path (Some study) fault = StopsStudyCheck input path study fault
+
 -- an order isn't carried out for this fault. Of a run's letters and of pictures a refused file isn't told here
 abbrev pub StopsFor : Option (List ℕ) → Order → Fault → Type 0
-StopsFor input (order.Check path None) fault = StopsCheck input path.now fault
-StopsFor input (order.Check path (Some study)) fault = StopsStudyCheck input path.now study fault
+StopsFor input (order.Check path study) fault = StopsChecked input path.now study fault
 StopsFor input (order.Letters path) fault = StopsAtLimit input path.now fault
 StopsFor input (order.Draw path named from until of) fault =
     StopsPicture input path.now named from until (option_map (λ w. w.now) of) fault

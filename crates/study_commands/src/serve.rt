@@ -2,13 +2,13 @@
 ghost use Rattle.std.specs.Prelude.{◌≡◌, ◌≢◌, ◌⊎◌, ◌^◌, ◌-◌, ◌+◌, ◌<◌, ◌≤◌, false, IfErr, OnOk, map};
 ghost use Rattle.std.specs.Io.KnownBytes.{Keeps};
 ghost use Rattle.std.specs.Process.{exit_status};
-ghost use Rattle.study_commands.specs.Answer.{Answers, Leaves, Writes, path_of};
+ghost use Rattle.study_commands.specs.Answer.{Answers, IsChecked, Leaves, Writes, path_of};
 ghost use Rattle.study_commands.specs.Fault.{line_of, IsOfWords};
 ghost use Rattle.study_commands.specs.Serve.{IsAsked, IsHelp, IsWhy, LeftOf, NamesNoInput, Serves, ServesFor};
 ghost use Rattle.study_commands.specs.Serve.{TellsOf, other_word_line};
 ghost use Rattle.printable.specs.Printable.{printable_lines};
 ghost use Rattle.study_commands.specs.Stop.{Stops, Tells, Went, WentPart};
-ghost use Rattle.study_commands.specs.Why.{StopsFor};
+ghost use Rattle.study_commands.specs.Why.{StopsChecked, StopsFor};
 ghost use Rattle.reporting.specs.Writing.{WroteNothing};
 ghost use Rattle.sources.specs.Input.{TakesAtMost, input_path, most_bytes};
 
@@ -29,8 +29,34 @@ use std::process::ExitCode;
 use std::rt::Files;
 use std::thread::Threads;
 use std::time::Clock;
-use study_line::{Order, WordsError, read_words};
+use study_line::{Order, StudyTexts, WordsError, read_words};
 use sweep::Watcher;
+
+/// Answers `check`, of the file or of a study over it.
+fn check<R: Files + Threads + Sync + Clock, I: Read, O: Outlet, W: Watcher>(
+    rt: &R,
+    alloc: Global,
+    path: &str,
+    study: &Option<StudyTexts<'_>>,
+    input: &mut I,
+    outlet: &mut O,
+    watcher: &mut W,
+) -> Result<(), Fault>
+    requires { O.failed outlet.old < 2 ^ 64 - 1 }
+    ensures done { let wanted = IsChecked (I.remaining input.old) path.now study.now in
+        OnOk result (Went O.told O.failed outlet.old outlet.new wanted) }
+    ensures stops { let wanted = IsChecked (I.remaining input.old) path.now study.now in
+        IfErr result (Stops O.told O.failed outlet.old outlet.new wanted (λ _. ⊥)) }
+    ensures why { IfErr result (StopsChecked (I.remaining input.old) path.now study.now) }
+    ensures taken { TakesAtMost (most_bytes + 1) (I.remaining input.old) (I.remaining input.new) }
+    ensures untouched { path.now ≢ input_path → input.new ≡ input.old }
+    ensures hidden { W.shows watcher.old ≡ false → W.shows watcher.new ≡ false }
+{
+    match study {
+        None => serve_check(rt, alloc, path, input, outlet),
+        Some(study) => serve_study_check(rt, alloc, path, study, input, outlet, watcher),
+    }
+}
 
 /// Does what an order asks for.
 fn carry_out<R: Files + Threads + Sync + Clock, I: Read, O: Outlet, W: Watcher>(
@@ -53,11 +79,7 @@ fn carry_out<R: Files + Threads + Sync + Clock, I: Read, O: Outlet, W: Watcher>(
     ensures hidden { W.shows watcher.old ≡ false → W.shows watcher.new ≡ false }
 {
     match order {
-        Order::Check { path, study: None } => serve_check(rt, alloc, path, input, outlet),
-        Order::Check {
-            path,
-            study: Some(study),
-        } => serve_study_check(rt, alloc, path, study, input, outlet, watcher),
+        Order::Check { path, study } => check(rt, alloc, path, study, input, outlet, watcher),
         Order::Letters { path } => serve_letters(rt, alloc, path, input, outlet),
         Order::Draw {
             path,

@@ -8,4 +8,4 @@ nothing = record { ref_ptr = (0, 0); now = [] }
 
 pub loop-piece-preserved : goal.loop-piece-preserved
 loop-piece-preserved c =
-    one_said c.args.pieces.now c.loop-piece.piece-index nothing _ _ _ c.loop-piece-test.true (search rules) (search rules) c.loop-piece.invariant
+    one_said c.args.pieces.now c.loop-piece.piece-index nothing _ _ c.in-Some.process c.loop-piece-test.true (search rules) (search rules) c.loop-piece.invariant

@@ -1,10 +1,10 @@
 use Rattle.study_commands.proofs.serve.carry_out.Goals as goal
 
-pub returns-in-Check-default-None-clause-stops : goal.returns-in-Check-default-None-clause-stops
-returns-in-Check-default-None-clause-stops g c = rw c.in-Check-default-None.is c.serve_check.ensures.stops
+pub returns-in-Check-clause-stops : goal.returns-in-Check-clause-stops
+returns-in-Check-clause-stops g c = rw c.in-Check.is c.check.ensures.stops
 
-pub returns-in-Check-default-Some-clause-stops : goal.returns-in-Check-default-Some-clause-stops
-returns-in-Check-default-Some-clause-stops g c = rw c.in-Check-default-Some.is c.serve_study_check.ensures.stops
+pub returns-in-Check-clause-why : goal.returns-in-Check-clause-why
+returns-in-Check-clause-why g c = rw c.in-Check.is c.check.ensures.why
 
 pub returns-in-Show-clause-stops : goal.returns-in-Show-clause-stops
 returns-in-Show-clause-stops g c = rw c.in-Show.is c.serve_show.ensures.stops
