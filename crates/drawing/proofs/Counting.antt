@@ -1,5 +1,5 @@
 -- How many pairs have a row, and where rows end, process by process.
-use Rattle.std.proofs.Common.{◌≡◌, ◌∙◌, ℕ, zero, suc, add-one, Bool, true, false, cond, not, eqb, refl, ◌+◌, ◌*◌, ◌≤◌, List, [], ◌∷◌, ◌++◌, ap, arith, filter, flat_map, length, length-append, append-nil, sum_by}
+use Rattle.std.proofs.Common.{◌≡◌, ◌∙◌, ℕ, zero, suc, add-one, Bool, true, false, cond, not, eqb, refl, ◌+◌, ◌*◌, ◌≤◌, List, [], ◌∷◌, ◌++◌, ap, sym, arith, filter, flat_map, length, length-append, append-nil, append_assoc, sum_by}
 use Rattle.std.proofs.lemmas.Grind.{flat_map-append}
 use Rattle.std.proofs.lemmas.List.Elements.{filter-append}
 use Rattle.std.proofs.lemmas.List.Sums.{count_by-le-length, length-filter, sum_by_push}
@@ -60,6 +60,22 @@ module _ (test : ℕ → Bool) (n q : ℕ) where
         ap (flat_map f) (kept_yes e)
         ∙ flat_map-append f (filter test (others n q)) (suc n ∷ [])
         ∙ ap (λ t. flat_map f (filter test (others n q)) ++ t) (append-nil (f (suc n)))
+
+    -- a list that grew by the shapes of each that was kept, one process more
+    pub grown_yes : {X : Type 0} (f : ℕ → List X) (first old new here : List X) → test (suc n) ≡ true
+        → new ≡ old ++ cond (test (suc n)) here [] → here ≡ f (suc n) → old ≡ first ++ flat_map f (filter test (others n q))
+        → new ≡ first ++ flat_map f (filter test (others (n + 1) q))
+    grown_yes f first old new here e more same sofar =
+        more ∙ ap (λ b. old ++ cond b here []) e ∙ ap (λ t. old ++ t) same ∙ ap (λ t. t ++ f (suc n)) sofar
+        ∙ append_assoc first (flat_map f (filter test (others n q))) (f (suc n))
+        ∙ ap (λ t. first ++ t) (sym (mapped_yes f e))
+
+    pub grown_no : {X : Type 0} (f : ℕ → List X) (first old new here : List X) → test (suc n) ≡ false
+        → new ≡ old ++ cond (test (suc n)) here [] → old ≡ first ++ flat_map f (filter test (others n q))
+        → new ≡ first ++ flat_map f (filter test (others (n + 1) q))
+    grown_no f first old new here e more sofar =
+        more ∙ ap (λ b. old ++ cond b here []) e ∙ append-nil old ∙ sofar
+        ∙ ap (λ ps. first ++ flat_map f ps) (sym (kept_no e))
 
 -- a sum over the processes, one more
 pub sum_more : (f : ℕ → ℕ) (k : ℕ) → sum_by f (numbers_to (k + 1)) ≡ sum_by f (numbers_to k) + f (suc k)

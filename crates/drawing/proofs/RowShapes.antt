@@ -1,14 +1,16 @@
 -- The rows of a process, one after the other.
-use Rattle.std.proofs.Common.{◌≡◌, ◌∙◌, ℕ, suc, ◌+◌, ◌-◌, Bool, true, false, ◌||◌, cond, not, eqb, refl, ap, sym, arith, List, [], ◌++◌, append-nil, append_assoc, flat_map, length}
+use Rattle.std.proofs.Common.{◌≡◌, ◌∙◌, ℕ, suc, ◌+◌, ◌-◌, Bool, true, false, ◌||◌, cond, not, eqb, refl, ap, sym, arith, List, ◌++◌, flat_map, length}
+use Rattle.scenario_record.specs.Record.{outages_on}
 use Rattle.svg.specs.declared.shape.Shape.{Shape}
-use Rattle.drawing.specs.Drawn.{ArePairBars, own_of, own_in, pair_in, row_at, bars_in, has_row_in, groups_end, IsPairMore, ArePairsMore}
+use Rattle.drawing.specs.Bands.{bands}
+use Rattle.drawing.specs.Drawn.{ArePairBars, own_of, own_in, pair_in, bands_in, row_at, bars_in, has_row_in, groups_end, IsPairMore, ArePairsMore}
 use Rattle.drawing.specs.Layout.{subjects, row_top}
-use Rattle.drawing.specs.Suspicions.{own_at, pair_at, has_bar, has_row}
+use Rattle.drawing.specs.Suspicions.{own_at, pair_at, has_bar, has_row, row_bands}
 use Rattle.drawing.specs.declared.groups.Row.{Row}
 use Rattle.drawing.specs.declared.groups.Rows.{Rows}
 use Rattle.drawing.specs.declared.groups.Run.{Run}
 use Rattle.drawing.specs.declared.pairs.PairBars.{PairBars}
-use Rattle.drawing.proofs.Counting.{kept_itself, kept_no, length_yes, mapped_yes}
+use Rattle.drawing.proofs.Counting.{kept_itself, kept_no, length_yes, grown_yes, grown_no}
 
 -- where a pair has a bar
 pub shown_same : (run : Run) (q p : ℕ) (b : PairBars) → ArePairBars run q p b → (has_bar b.first.items || has_bar b.second.items) ≡ has_row_in run q p
@@ -27,6 +29,9 @@ module _ (run : Run) (q : ℕ) where
   abbrev drawn : (top p : ℕ) → List Shape
   drawn top p = pair_at run.scenario.now run.ticks.from run.ticks.until (bars_in run) top q p
 
+  abbrev cut : (top p : ℕ) → List Shape
+  cut top p = bands run.ticks.from run.ticks.until top (outages_on run.scenario.now p q)
+
   abbrev has : ℕ → Bool
   has = has_row_in run q
 
@@ -37,6 +42,7 @@ module _ (run : Run) (q : ℕ) where
     pub itself_more : not (eqb (suc n) q) ≡ false → ArePairsMore run q (n + 1) first old
     itself_more e = record {
       shapes = sofar.shapes ∙ ap (λ ps. first.shapes.items ++ flat_map (pair_in run q) ps) (sym (kept_itself has n q e));
+      bands = sofar.bands ∙ ap (λ ps. first.bands.items ++ flat_map (bands_in run q) ps) (sym (kept_itself has n q e));
       top = omega (arith, sofar.top, ap length (kept_itself has n q e));
       left_out = omega (arith, sofar.left_out, ap length (kept_itself lacks n q e));
     }
@@ -52,22 +58,22 @@ module _ (run : Run) (q : ℕ) where
       unfolding pair_in
       row = ap (λ t. pair_at run.scenario.now run.ticks.from run.ticks.until (bars_in run) t q (suc n)) here
 
+      below : cut old.top (suc n) ≡ bands_in run q (suc n)
+      unfolding bands_in row_bands has_row_in
+      below = ap (λ t. bands run.ticks.from run.ticks.until t (outages_on run.scenario.now (suc n) q)) here
+
       with_row : has (suc n) ≡ true → ArePairsMore run q (n + 1) first new
       with_row e = record {
-        shapes =
-            p.shapes ∙ ap (λ b. old.shapes.items ++ cond b (drawn old.top (suc n)) []) e
-            ∙ ap (λ t. old.shapes.items ++ t) row ∙ ap (λ t. t ++ pair_in run q (suc n)) sofar.shapes
-            ∙ append_assoc first.shapes.items (flat_map (pair_in run q) (subjects (has_row_in run) n q)) (pair_in run q (suc n))
-            ∙ ap (λ t. first.shapes.items ++ t) (sym (mapped_yes has n q other (pair_in run q) e));
+        shapes = grown_yes has n q other (pair_in run q) first.shapes.items old.shapes.items new.shapes.items (drawn old.top (suc n)) e p.shapes row sofar.shapes;
+        bands = grown_yes has n q other (bands_in run q) first.bands.items old.bands.items new.bands.items (cut old.top (suc n)) e p.bands below sofar.bands;
         top = omega (arith, p.top ∙ ap (λ b. old.top + cond b 16 0) e, sofar.top, length_yes has n q other e);
         left_out = omega (arith, p.left_out ∙ ap (λ b. old.left_out + cond b 0 1) e, sofar.left_out, ap length (kept_no lacks n q other (ap not e)));
       }
 
       without_row : has (suc n) ≡ false → ArePairsMore run q (n + 1) first new
       without_row e = record {
-        shapes =
-            p.shapes ∙ ap (λ b. old.shapes.items ++ cond b (drawn old.top (suc n)) []) e ∙ append-nil old.shapes.items ∙ sofar.shapes
-            ∙ ap (λ ps. first.shapes.items ++ flat_map (pair_in run q) ps) (sym (kept_no has n q other e));
+        shapes = grown_no has n q other (pair_in run q) first.shapes.items old.shapes.items new.shapes.items (drawn old.top (suc n)) e p.shapes sofar.shapes;
+        bands = grown_no has n q other (bands_in run q) first.bands.items old.bands.items new.bands.items (cut old.top (suc n)) e p.bands sofar.bands;
         top = omega (arith, p.top ∙ ap (λ b. old.top + cond b 16 0) e, sofar.top, ap length (kept_no has n q other e));
         left_out = omega (arith, p.left_out ∙ ap (λ b. old.left_out + cond b 0 1) e, sofar.left_out, length_yes lacks n q other (ap not e));
       }

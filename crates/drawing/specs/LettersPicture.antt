@@ -12,7 +12,7 @@ use Rattle.process_api.specs.EntryRecord.{EntryRecord}
 use Rattle.process_api.specs.Numbers.{numbers_to, others}
 use Rattle.process_api.specs.declared.entry.Kind.{Kind}
 use Rattle.process_api.specs.declared.entry.Kind.TheVariants as kind
-use Rattle.scenario_record.specs.Record.{Record}
+use Rattle.scenario_record.specs.Record.{Record, outages_on}
 use Rattle.svg.specs.Document.{svg_text}
 use Rattle.svg.specs.declared.class.Class.{Class}
 use Rattle.svg.specs.declared.class.Class.TheVariants as class
@@ -21,6 +21,7 @@ use Rattle.svg.specs.declared.shape.Anchor.TheVariants as anchor
 use Rattle.svg.specs.declared.shape.Point.{Point}
 use Rattle.svg.specs.declared.shape.Shape.{Shape}
 use Rattle.svg.specs.declared.shape.Shape.TheVariants as shape
+use Rattle.drawing.specs.Bands.{bands, outage_legend}
 use Rattle.drawing.specs.Bars.{AreBars}
 use Rattle.drawing.specs.Lanes.{lanes_bottom, line_of, own_top, remark_of, on_way}
 use Rattle.drawing.specs.Layout.{point, x_of, is_among, shown}
@@ -181,6 +182,13 @@ module _ (S : Record) (trace : List EntryRecord) (from until : ℕ) where
   unfoldable pub line_shapes : (q : ℕ) → List Shape
   line_shapes q = own_at S trace from until (own_top S.processes q) q
 
+  -- the bands of process q: where a link from it is in an outage
+  unfoldable pub line_bands : (q : ℕ) → List Shape
+  line_bands q = flat_map (λ p. bands from until (own_top S.processes q) (outages_on S q p)) (others S.processes q)
+
+  abbrev pub all_line_bands : List Shape
+  all_line_bands = flat_map line_bands (numbers_to S.processes)
+
   module _ (bars : (q p : ℕ) → List Bar) where
     -- where q begins to suspect p, and where it trusts it again
     unfoldable pub turns_of : (q p : ℕ) → List Shape
@@ -200,11 +208,13 @@ module _ (S : Record) (trace : List EntryRecord) (from until : ℕ) where
     unfoldable pub letters_shapes : (of : List ℕ) → List Letter → List Shape
     letters_shapes of letters =
         letters_legend from until S.share
-        ++ (left_out_shapes (left_room + 440) (codes "letters of others, left out") (count_others of from until letters)
+        ++ (left_out_shapes (codes "letters of others, left out") (count_others of from until letters)
+        ++ (outage_legend (left_room + 440) 54 all_line_bands
+        ++ (all_line_bands
         ++ (axis from until (lanes_bottom S.processes)
         ++ (flat_map line_shapes (numbers_to S.processes)
         ++ (arrows S.processes from until of letters
-        ++ flat_map mark_shapes (numbers_to S.processes)))))
+        ++ flat_map mark_shapes (numbers_to S.processes)))))))
 
 module _ (S : Record) (trace : List EntryRecord) (letters : List Letter) (of : List ℕ) (from until : ℕ) where
   -- the text is that of a picture of these letters, of them those of some processes, in which the marks are where the

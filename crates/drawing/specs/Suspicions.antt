@@ -8,13 +8,14 @@ use Rattle.judges.specs.declared.outcomes.Answer.TheVariants as answer
 use Rattle.judges.specs.declared.outcomes.Outcome.{Outcome}
 use Rattle.process_api.specs.EntryRecord.{EntryRecord}
 use Rattle.process_api.specs.Numbers.{numbers_to}
-use Rattle.scenario_record.specs.Record.{Record, crash}
+use Rattle.scenario_record.specs.Record.{Record, crash, outages_on}
 use Rattle.svg.specs.Document.{svg_text}
 use Rattle.svg.specs.declared.class.Class.{Class}
 use Rattle.svg.specs.declared.class.Class.TheVariants as class
 use Rattle.svg.specs.declared.shape.Anchor.TheVariants as anchor
 use Rattle.svg.specs.declared.shape.Shape.{Shape}
 use Rattle.svg.specs.declared.shape.Shape.TheVariants as shape
+use Rattle.drawing.specs.Bands.{bands, outage_legend}
 use Rattle.drawing.specs.Bars.{AreBars}
 use Rattle.drawing.specs.Layout.{point, x_of, labelled, shown, subjects, groups_bottom, row_top, left_out}
 use Rattle.drawing.specs.declared.bars.Bar.{Bar}
@@ -53,10 +54,12 @@ second_legend None = []
 second_legend (Some period) =
     sample class.Second (left_room + 400) ∷ word (left_room + 430) 42 (codes "suspected by the reduction") ∷ []
 
--- how many are left out, where there are any
-abbrev pub left_out_shapes : (x : ℕ) (words : List ℕ) (count : ℕ) → List Shape
-left_out_shapes x words count =
-    if count == 0 then [] else word x 54 (words ++ (codes ": " ++ decimal count)) ∷ []
+-- how many are left out, where there are any: at the right end of the title's line
+abbrev pub left_out_shapes : (words : List ℕ) (count : ℕ) → List Shape
+left_out_shapes words count =
+    if count == 0 then []
+    else shape.Text class.Label (point (left_room + axis_width) 20) anchor.End
+    (words ++ (codes ": " ++ decimal count)) ∷ []
 
 -- the title of a picture of some ticks
 unfoldable pub title : (words : List ℕ) (from until : ℕ) → Shape
@@ -166,6 +169,17 @@ module _ (S : Record) (trace : List EntryRecord) (from until : ℕ) where
         ++ flat_map (λ p. pair_at S from until bars (row_top (has_row S bars) S.processes q p) q p)
         (subjects (has_row S bars) S.processes q)
 
+    -- the bands of the row of q and p: where the link from p to q is in an outage
+    unfoldable pub row_bands : (q p : ℕ) → List Shape
+    row_bands q p = bands from until (row_top (has_row S bars) S.processes q p) (outages_on S p q)
+
+    -- those of the rows of process q
+    unfoldable pub group_bands : (q : ℕ) → List Shape
+    group_bands q = flat_map (row_bands q) (subjects (has_row S bars) S.processes q)
+
+    abbrev pub all_bands : List Shape
+    all_bands = flat_map group_bands (numbers_to S.processes)
+
     -- where all rows end
     abbrev pub bottom : ℕ
     bottom = groups_bottom (has_row S bars) S.processes S.processes
@@ -173,8 +187,9 @@ module _ (S : Record) (trace : List EntryRecord) (from until : ℕ) where
     unfoldable pub suspicions : List Shape
     suspicions =
         legend from until S.share
-        ++ (left_out_shapes left_room (codes "pairs without a bar, left out") (left_out (has_row S bars) S.processes)
-        ++ (axis from until bottom ++ flat_map group_shapes (numbers_to S.processes)))
+        ++ (outage_legend (left_room + 620) 42 all_bands
+        ++ (left_out_shapes (codes "pairs without a bar, left out") (left_out (has_row S bars) S.processes)
+        ++ (all_bands ++ (axis from until bottom ++ flat_map group_shapes (numbers_to S.processes)))))
 
   -- the text is that of a picture in which the bars of each pair are exactly its maximal stretches of suspicion from
   -- `from` to the end of its row, each once, in their order

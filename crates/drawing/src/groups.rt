@@ -34,6 +34,8 @@ pub(crate) struct Row {
 #[derive(Drop)]
 pub(crate) struct Rows {
     pub shapes: Vec<Shape>,
+    /// The bands that lie below them.
+    pub bands: Vec<Shape>,
     /// Where they end and the next one begins, from the top.
     pub top: u32,
     /// How many pairs of processes had no bar, and have no row.
@@ -77,6 +79,7 @@ impl Run<'_> {
         requires top { rows.old.top ≡ groups_end self.now (observer - 1) + 16 }
         requires high { rows.old.top ≤ 20000 }
         requires few { rows.old.left_out ≤ 1000 }
+        requires observer { observer ≤ self.now.scenario.now.processes }
         ensures { OnOk result
             (ArePairsMore self.now observer self.now.scenario.now.processes rows.old rows.new) }
     {
@@ -101,6 +104,7 @@ impl Run<'_> {
         requires top { rows.old.top ≡ groups_end self.now (observer - 1) }
         requires high { rows.old.top ≤ 10000 }
         requires few { rows.old.left_out ≤ 1000 }
+        requires observer { observer ≤ self.now.scenario.now.processes }
         ensures { OnOk result (IsGroupMore self.now observer rows.old rows.new) }
     {
         let own = Row {
@@ -123,6 +127,7 @@ impl Run<'_> {
         let outcomes = decisions(alloc, self.scenario, self.trace)?;
         let mut rows = Rows {
             shapes: Vec::new(alloc),
+            bands: Vec::new(alloc),
             top: TOP,
             left_out: 0,
         };

@@ -3,7 +3,7 @@ ghost use Rattle.std.specs.Prelude.{◌≡◌, ◌++◌, ◌∷◌, ◌≤◌, [
 ghost use Rattle.drawing.specs.Suspicions.{first_legend, left_out_shapes, legend, marks_legend, sample, second_legend};
 
 use crate::labels::{text, title, word};
-use crate::layout::{LEFT, Ticks};
+use crate::layout::{LEFT, Ticks, WIDTH};
 use std::alloc::{AllocError, Global};
 use svg::{Anchor, Class, Point, Shape};
 
@@ -74,17 +74,16 @@ fn push_second(alloc: Global, shapes: &mut Vec<Shape>, share: Option<u32>) -> Re
 pub(crate) fn push_left_out(
     alloc: Global,
     shapes: &mut Vec<Shape>,
-    x: u32,
     words: &str,
     count: usize,
 ) -> Result<(), AllocError>
-    ensures { OnOk result (shapes.new.items ≡ shapes.old.items ++ left_out_shapes x words.now count) }
+    ensures { OnOk result (shapes.new.items ≡ shapes.old.items ++ left_out_shapes words.now count) }
 {
     if count == 0 {
         return Ok(());
     }
     let line = format!(in alloc; "{words}: {count}")?;
-    shapes.push(text(Class::Label, x, 54, Anchor::Start, line))?;
+    shapes.push(text(Class::Label, LEFT + WIDTH, 20, Anchor::End, line))?;
     Ok(())
 }
 

@@ -7,6 +7,7 @@ ghost use Rattle.drawing.specs.Refusals.{IsMemory, letters_refusal};
 
 use crate::arrows::{count_others, count_sent};
 use crate::axis::push_axis;
+use crate::bands::{append, push_outage_legend};
 use crate::error::DrawError;
 use crate::groups::{Row, Run};
 use crate::lanes::{lanes_bottom, own_top};
@@ -82,10 +83,13 @@ fn shapes_of(
     let scenario = run.scenario;
     let told = decisions(alloc, scenario, run.trace)?;
     let others = count_others(&run.ticks, of, letters);
+    let bands = run.line_bands(alloc)?;
     let what = "letters of others, left out";
     let mut shapes = Vec::new(alloc);
     push_letters_legend(alloc, &mut shapes, &run.ticks, scenario.share())?;
-    push_left_out(alloc, &mut shapes, LEFT + 440, what, others)?;
+    push_left_out(alloc, &mut shapes, what, others)?;
+    push_outage_legend(alloc, &mut shapes, LEFT + 440, 54, &bands)?;
+    append(&mut shapes, bands)?;
     push_axis(
         alloc,
         &mut shapes,

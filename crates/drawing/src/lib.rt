@@ -15,6 +15,7 @@
 
 mod arrows;
 mod axis;
+mod bands;
 mod bars;
 mod error;
 mod groups;

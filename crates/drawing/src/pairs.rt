@@ -1,7 +1,8 @@
 //! The row of a pair of processes: what one makes of the other.
-ghost use Rattle.std.specs.Prelude.{◌≡◌, ◌++◌, ◌||◌, ◌≤◌, IfOk, OnOk};
+ghost use Rattle.std.specs.Prelude.{◌≡◌, ◌≢◌, ◌++◌, ◌||◌, ◌≤◌, IfOk, OnOk};
 ghost use Rattle.drawing.specs.Suspicions.{first_top, has_bar};
 
+use crate::bands::push_bands;
 use crate::bars::{Bar, bars_of};
 use crate::groups::{Row, Rows, Run};
 use crate::labels::pair_name;
@@ -116,6 +117,9 @@ impl Run<'_> {
     ) -> Result<(), AllocError>
         requires high { rows.old.top ≤ 30000 }
         requires few { rows.old.left_out ≤ 2000 }
+        requires different { subject ≢ observer }
+        requires observer { observer ≤ self.now.scenario.now.processes }
+        requires subject { subject ≤ self.now.scenario.now.processes }
         ensures { OnOk result (IsPairMore self.now observer subject rows.old rows.new) }
     {
         let bars = self.pair_bars(alloc, observer, subject)?;
@@ -129,6 +133,8 @@ impl Run<'_> {
             top: rows.top,
         };
         self.push_row(alloc, &mut rows.shapes, &row, &bars)?;
+        let outages = self.scenario.outages(subject, observer);
+        push_bands(&mut rows.bands, &self.ticks, rows.top, outages)?;
         rows.top += ROW;
         Ok(())
     }

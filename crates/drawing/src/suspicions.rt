@@ -5,6 +5,7 @@ ghost use Rattle.drawing.specs.Suspicions.{DrawsSuspicions};
 ghost use Rattle.drawing.specs.Drawn.{AreRows, suspicions_of};
 
 use crate::axis::push_axis;
+use crate::bands::{append, push_outage_legend};
 use crate::error::DrawError;
 use crate::groups::{Rows, Run};
 use crate::layout::{BOTTOM, LEFT, MOST_DRAWN, RIGHT, Ticks, WIDTH};
@@ -14,16 +15,6 @@ use scenario_record::Scenario;
 use std::alloc::{AllocError, Global};
 use svg::{Picture, Shape, svg_text};
 
-/// Appends shapes.
-fn append(shapes: &mut Vec<Shape>, more: Vec<Shape>) -> Result<(), AllocError>
-    ensures { OnOk result (shapes.new.items ≡ shapes.old.items ++ more.items) }
-{
-    for shape in more {
-        shapes.push(shape)?;
-    }
-    Ok(())
-}
-
 /// All shapes of a picture with these rows.
 fn shapes_of(alloc: Global, run: &Run<'_>, rows: Rows) -> Result<Vec<Shape>, AllocError>
     requires { AreRows run.now run.now.scenario.now.processes rows }
@@ -32,7 +23,9 @@ fn shapes_of(alloc: Global, run: &Run<'_>, rows: Rows) -> Result<Vec<Shape>, All
     let mut shapes = Vec::new(alloc);
     let what = "pairs without a bar, left out";
     push_legend(alloc, &mut shapes, &run.ticks, run.scenario.share())?;
-    push_left_out(alloc, &mut shapes, LEFT, what, rows.left_out)?;
+    push_outage_legend(alloc, &mut shapes, LEFT + 620, 42, &rows.bands)?;
+    push_left_out(alloc, &mut shapes, what, rows.left_out)?;
+    append(&mut shapes, rows.bands)?;
     push_axis(alloc, &mut shapes, &run.ticks, rows.top)?;
     append(&mut shapes, rows.shapes)?;
     Ok(shapes)

@@ -9,6 +9,7 @@ use Rattle.drawing.proofs.groups.Run.push_pairs.Goals.{then-ne+in_ok-push_pair, 
 pub loop-before-init : goal.loop-before-init
 loop-before-init c = record {
   shapes = sym (append-nil c.args.rows.now.shapes.items);
+  bands = sym (append-nil c.args.rows.now.bands.items);
   top = omega arith;
   left_out = omega arith;
 }

@@ -1,6 +1,6 @@
 use Rattle.std.proofs.Common.{◌≡◌, ◌++◌}
 use Rattle.std.specs.Vec.Iter.{into_iter_items}
-use Rattle.drawing.proofs.suspicions.append.Given as goal
+use Rattle.drawing.proofs.bands.append.Given as goal
 
 -- those that were appended and those that are left
 abbrev pub invariant-loop-shape : goal.invariant-loop-shape
