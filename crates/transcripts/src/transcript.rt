@@ -102,7 +102,11 @@ impl<'a> Transcript<'a> {
     }
 
     /// Runs a case, and says so where it comes out otherwise.
-    fn run<R: Files + Threads + Wait + Sync + Clock>(&mut self, rt: &R, case: &Case) -> Result<(), Fault> {
+    fn run<R: Files + Threads + Wait + Sync + Clock>(
+        &mut self,
+        rt: &R,
+        case: &Case,
+    ) -> Result<(), Fault> {
         self.cases = self.cases.saturating_add(1);
         let failure = match self.difference(rt, case) {
             Ok(failure) => failure,
