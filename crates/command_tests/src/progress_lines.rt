@@ -6,7 +6,7 @@ use std::io::{self, Write};
 use std::test::Fail;
 use std::time::{Clock, Duration};
 use study_commands::progress_line::ProgressLine;
-use sweep::{Standing, Watcher};
+use sweep::{Pass, Standing, Watcher};
 
 /// A clock that shows the milliseconds which the test sets, and where none are set fails.
 #[derive(Drop)]
@@ -42,6 +42,7 @@ impl Write for Broken {
 /// So many of the runs of four points with 100 runs each are in.
 fn standing(done: u64) -> Standing {
     Standing {
+        pass: Pass::Running,
         points: 4,
         runs: 100,
         done,
@@ -68,7 +69,7 @@ fn lines(rt: HostRuntime) -> Result<(), Fail> {
     let alloc = rt.alloc();
     let clock = Hand(Cell::new(None));
     let mut screen = Vec::new(alloc);
-    let mut line = ProgressLine::new(&clock, alloc, Some(&mut screen), false);
+    let mut line = ProgressLine::new(&clock, alloc, &mut screen, true, false);
     for (millis, done) in &TIMES {
         clock.0.set(*millis);
         line.make_way();
@@ -87,13 +88,41 @@ fn lines(rt: HostRuntime) -> Result<(), Fail> {
     Ok(())
 }
 
+/// Before its runs a sweep reads their scenarios: of 400 in 10 seconds 100, so 30 seconds are left. The time of the runs
+/// begins anew.
+#[test]
+fn reading(rt: HostRuntime) -> Result<(), Fail> {
+    let alloc = rt.alloc();
+    let clock = Hand(Cell::new(Some(1_000)));
+    let mut screen = Vec::new(alloc);
+    let mut line = ProgressLine::new(&clock, alloc, &mut screen, true, false);
+    for done in [0, 100] {
+        clock.0.set(Some(1_000 + 100 * done));
+        line.hear(Standing {
+            pass: Pass::Reading,
+            ..standing(done)
+        });
+    }
+    clock.0.set(Some(50_000));
+    line.hear(standing(0));
+    clock.0.set(Some(60_000));
+    line.hear(standing(200));
+    drop(line);
+    let want = "\r0 of 400 runs read\
+        \r100 of 400 runs read, 30 s left\
+        \r0 of 4 points                  \
+        \r2 of 4 points, 10 s left       ";
+    same(&rt, &std::str::from_utf8(&screen)?, &want);
+    Ok(())
+}
+
 /// Where rows go to a terminal too, the line makes way for them, and is put back at once.
 #[test]
 fn makes_way(rt: HostRuntime) -> Result<(), Fail> {
     let alloc = rt.alloc();
     let clock = Hand(Cell::new(Some(0)));
     let mut screen = Vec::new(alloc);
-    let mut line = ProgressLine::new(&clock, alloc, Some(&mut screen), true);
+    let mut line = ProgressLine::new(&clock, alloc, &mut screen, true, true);
     line.hear(standing(0));
     line.make_way();
     clock.0.set(Some(100));
@@ -111,11 +140,14 @@ fn makes_way(rt: HostRuntime) -> Result<(), Fail> {
 fn no_line(rt: HostRuntime) -> Result<(), Fail> {
     let alloc = rt.alloc();
     let clock = Hand(Cell::new(Some(0)));
-    let mut none: ProgressLine<'_, Hand, Vec<u8>> = ProgressLine::new(&clock, alloc, None, false);
+    let mut file = Vec::new(alloc);
+    let mut none = ProgressLine::new(&clock, alloc, &mut file, false, true);
     none.hear(standing(0));
     none.make_way();
     none.hide();
-    let mut broken = ProgressLine::new(&clock, alloc, Some(Broken), true);
+    drop(none);
+    assert!(rt; file.is_empty());
+    let mut broken = ProgressLine::new(&clock, alloc, Broken, true, true);
     broken.hear(standing(0));
     broken.hide();
     Ok(())

@@ -11,6 +11,7 @@ use std::rt::Files;
 use std::sync::Wait;
 use std::test::Fail;
 use std::thread::Threads;
+use std::time::Clock;
 
 /// What is said of an input that is too long.
 const TOO_LONG: &[u8] = b"fdbench: input: too long\n";
@@ -19,7 +20,7 @@ const TOO_LONG: &[u8] = b"fdbench: input: too long\n";
 const UNREADABLE: &[u8] = b"fdbench: input: unreadable\n";
 
 /// `check` of an input answers this status, and writes this and this of faults.
-fn checks<R: Files + Threads + Wait + Sync + Abort, I: Read>(
+fn checks<R: Files + Threads + Wait + Sync + Clock + Abort, I: Read>(
     rt: &R,
     alloc: Global,
     input: &mut I,

@@ -14,16 +14,26 @@ enum How {
     Sum,
     /// It is how many there are.
     Count,
-    /// It is the one at the nearest rank for so many hundredths.
+    /// It is how many of them are 0.
+    Zeros,
+    /// It is the one at the nearest rank for so many hundredths; those that are open come last.
     Rank(usize),
+    /// It is the greatest.
+    Greatest,
+    /// It is the sum over the reports of the square of what they add up to in one.
+    Squares,
+    /// It is the count of reports in which they add up to more than 0.
+    Reports,
+    /// It is the number of the first such report, from 1.
+    First,
     /// It is the count of reports in which they differ.
     Differ,
 }
 
-/// The columns after those of the varied keys and of the layer, each with its measure and how it comes from it. None of
-/// the runs passes its limit. In each of them two pairs are watched for all 60 ticks, and the four with the process
-/// that crashes for 3.
-const COLUMNS: [(&str, &str, How); 32] = [
+/// The columns that are asked for, each with its measure and how it comes from it. None of the runs passes its limit. In
+/// each of them two pairs are watched for all 60 ticks, and the four with the process that crashes for 3; and two
+/// processes are correct.
+const COLUMNS: [(&str, &str, How); 37] = [
     ("runs", "", How::Fixed(5)),
     ("limited", "", How::Fixed(0)),
     ("entries", "entries", How::Sum),
@@ -32,6 +42,8 @@ const COLUMNS: [(&str, &str, How); 32] = [
     ("pair_ticks", "", How::Fixed(660)),
     ("mistakes", "mistakes", How::Sum),
     ("mistake_ticks", "mistake_ticks", How::Sum),
+    ("mistakes_squared_sum", "mistakes", How::Squares),
+    ("runs_with_mistakes", "mistakes", How::Reports),
     ("recurrence_sum", "recurrence_sum", How::Sum),
     ("recurrence_count", "recurrence_count", How::Sum),
     ("duration_sum", "duration_sum", How::Sum),
@@ -40,11 +52,12 @@ const COLUMNS: [(&str, &str, How); 32] = [
     ("good_count", "good_count", How::Sum),
     ("detections", "detection", How::Count),
     ("undetected", "undetected", How::Count),
+    ("at_once", "detection", How::Zeros),
     ("detection_sum", "detection", How::Sum),
     ("detection_p50", "detection", How::Rank(50)),
     ("detection_p90", "detection", How::Rank(90)),
     ("detection_p99", "detection", How::Rank(99)),
-    ("detection_max", "detection", How::Rank(100)),
+    ("detection_max", "detection", How::Greatest),
     ("strong_completeness", "strong_completeness", How::Count),
     ("weak_completeness", "weak_completeness", How::Count),
     ("strong_accuracy", "strong_accuracy", How::Count),
@@ -59,11 +72,13 @@ const COLUMNS: [(&str, &str, How); 32] = [
         "eventual_weak_accuracy",
         How::Count,
     ),
+    ("to_decide", "", How::Fixed(10)),
     ("decided", "tick", How::Count),
     ("decision_tick_sum", "tick", How::Sum),
-    ("decision_tick_max", "tick", How::Rank(100)),
-    ("rounds_max", "rounds", How::Rank(100)),
+    ("decision_tick_max", "tick", How::Greatest),
+    ("rounds_max", "rounds", How::Greatest),
     ("disagreements", "value", How::Differ),
+    ("mistake_run", "mistakes", How::First),
 ];
 
 /// Three processes of which the second crashes at tick 3, with a reduction and proposals.
@@ -146,38 +161,114 @@ fn numbers_of(
     Ok(numbers)
 }
 
-/// What the reports of a point's runs add up to in a column of a layer's row, where that is a number.
-fn number_of(
-    alloc: Global,
-    reports: &[String],
-    layer: &str,
-    measure: &str,
-    how: How,
-) -> Result<Option<u64>, AllocError> {
-    let mut numbers = Vec::new(alloc);
-    let (mut sum, mut differing) = (0u64, 0u64);
-    for report in reports {
-        let own = numbers_of(alloc, report.as_str(), layer, measure)?;
-        if own.first() != own.last() {
-            differing = differing.saturating_add(1);
+/// What the reports of a point's runs have of a measure together.
+#[derive(Drop)]
+struct Totals {
+    /// All numbers, in rising order.
+    numbers: Vec<u64>,
+    /// What they add up to in each report.
+    sums: Vec<u64>,
+    /// In how many reports they differ.
+    differing: u64,
+    /// How many are open: detections that didn't come.
+    open: usize,
+}
+
+impl Totals {
+    /// Those of the rows of a layer.
+    fn new(
+        alloc: Global,
+        reports: &[String],
+        layer: &str,
+        measure: &str,
+    ) -> Result<Totals, AllocError> {
+        let (mut numbers, mut sums) = (Vec::new(alloc), Vec::new(alloc));
+        let (mut differing, mut open) = (0u64, 0usize);
+        for report in reports {
+            let own = numbers_of(alloc, report.as_str(), layer, measure)?;
+            if own.first() != own.last() {
+                differing = differing.saturating_add(1);
+            }
+            if measure == "detection" {
+                let none = numbers_of(alloc, report.as_str(), layer, "undetected")?;
+                open = open.saturating_add(none.len());
+            }
+            sums.push(added_up(&own))?;
+            numbers.extend_from_slice(&own)?;
         }
-        for number in &own {
-            sum = sum.saturating_add(*number);
-            numbers.push(*number)?;
+        numbers.sort()?;
+        Ok(Totals {
+            numbers,
+            sums,
+            differing,
+            open,
+        })
+    }
+
+    /// The number at the nearest rank for so many hundredths, where one stands there.
+    fn at_rank(&self, hundredths: usize) -> Option<u64> {
+        let count = self.numbers.len().saturating_add(self.open);
+        let rank = hundredths.saturating_mul(count).div_ceil(100);
+        self.numbers.get(rank.saturating_sub(1)).copied()
+    }
+
+    /// The square of each sum, added up.
+    fn squares(&self) -> u64 {
+        let mut all = 0u64;
+        for sum in &self.sums {
+            all = all.saturating_add(sum.saturating_mul(*sum));
+        }
+        all
+    }
+
+    /// The place of the first sum above 0, from 1.
+    fn first(&self) -> Option<u64> {
+        for (place, sum) in self.sums.iter().enumerate() {
+            if *sum > 0 {
+                return Some((place as u64).saturating_add(1));
+            }
+        }
+        None
+    }
+
+    /// How many of some numbers are 0.
+    fn zeros(numbers: &[u64]) -> u64 {
+        let mut count = 0u64;
+        for number in numbers {
+            if *number == 0 {
+                count = count.saturating_add(1);
+            }
+        }
+        count
+    }
+
+    /// What stands in a column, where that is a number.
+    fn column(&self, how: How) -> Option<u64> {
+        match how {
+            How::Fixed(number) => Some(number),
+            How::Sum => Some(added_up(&self.numbers)),
+            How::Count => Some(self.numbers.len() as u64),
+            How::Zeros => Some(Totals::zeros(&self.numbers)),
+            How::Rank(hundredths) => self.at_rank(hundredths),
+            How::Greatest => self.numbers.last().copied(),
+            How::Squares => Some(self.squares()),
+            How::Reports => {
+                let none = Totals::zeros(&self.sums);
+                Some((self.sums.len() as u64).saturating_sub(none))
+            }
+            How::First => self.first(),
+            How::Differ => Some(self.differing),
         }
     }
-    numbers.sort()?;
-    let number = match how {
-        How::Fixed(number) => Some(number),
-        How::Sum => Some(sum),
-        How::Count => Some(numbers.len() as u64),
-        How::Rank(hundredths) => {
-            let rank = hundredths.saturating_mul(numbers.len()).div_ceil(100);
-            numbers.get(rank.saturating_sub(1)).copied()
-        }
-        How::Differ => Some(differing),
-    };
-    Ok(number)
+}
+
+/// The sum of numbers.
+fn added_up(numbers: &[u64]) -> u64 {
+    let mut sum = 0u64;
+    for number in numbers {
+        sum = sum.saturating_add(*number);
+    }
+    sum
 }
 
 /// A row is that of a layer, and each column after it, by the name in the header, is what these reports add up to.
@@ -194,7 +285,8 @@ fn is_sum<R: Abort>(
     let came = (row, names.next(), fields.next());
     same(rt, &came, &(row, Some("layer"), Some(layer)));
     for (column, measure, how) in &COLUMNS {
-        let text = match number_of(alloc, reports, layer, measure, *how)? {
+        let totals = Totals::new(alloc, reports, layer, measure)?;
+        let text = match totals.column(*how) {
             Some(number) => format!(in alloc; "{number}")?,
             None => String::new(alloc),
         };
@@ -205,12 +297,23 @@ fn is_sum<R: Abort>(
     Ok(())
 }
 
-/// Twelve points of five seeds each, with both algorithms and two layers: a row is what the reports add up to, in all
-/// columns, that `fdbench list` prints of the files of its runs.
+/// The names of the columns that are asked for.
+fn names(alloc: Global) -> Result<String, AllocError> {
+    let mut names = String::from_str(alloc, "algorithm,detector.timeout,link.loss,layer")?;
+    for (column, _, _) in &COLUMNS {
+        names.push(',')?;
+        names.push_str(column)?;
+    }
+    Ok(names)
+}
+
+/// Twelve points of five seeds each, with both algorithms and two layers: a row is what the reports add up to that
+/// `fdbench list` prints of the files of its runs.
 #[test]
 fn rows_are_reports_added_up(rt: HostRuntime) -> Result<(), Fail> {
     let alloc = rt.alloc();
-    let line = format!(in alloc; "fdstudy sweep - {GRID}")?;
+    let columns = names(alloc)?;
+    let line = format!(in alloc; "fdstudy sweep - {GRID} --columns {columns}")?;
     let table = printed(&rt, alloc, &line, SHARED)?;
     let mut rows = table.lines();
     let header = rows.next().unwrap_or("");

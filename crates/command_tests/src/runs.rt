@@ -11,6 +11,7 @@ use std::rt::Files;
 use std::sync::Wait;
 use std::test::Fail;
 use std::thread::Threads;
+use std::time::Clock;
 use sweep::Unwatched;
 
 /// What came is what was wanted.
@@ -19,7 +20,7 @@ pub fn same<R: Abort, T: PartialEq + Debug>(rt: &R, came: &T, wanted: &T) {
 }
 
 /// The status of a run of `fdbench` or `fdstudy`, by the words of a line, apart by one space each.
-pub fn served<R: Files + Threads + Wait + Sync, I: Read, O: Outlet, F: Outlet>(
+pub fn served<R: Files + Threads + Wait + Sync + Clock, I: Read, O: Outlet, F: Outlet>(
     rt: &R,
     alloc: Global,
     line: &str,
@@ -41,7 +42,7 @@ pub fn served<R: Files + Threads + Wait + Sync, I: Read, O: Outlet, F: Outlet>(
 }
 
 /// What a run prints that is done, by the words of a line, over this file.
-pub fn printed<R: Files + Threads + Wait + Sync + Abort>(
+pub fn printed<R: Files + Threads + Wait + Sync + Clock + Abort>(
     rt: &R,
     alloc: Global,
     line: &str,

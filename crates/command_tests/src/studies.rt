@@ -9,6 +9,7 @@ use std::rt::Files;
 use std::sync::Wait;
 use std::test::Fail;
 use std::thread::Threads;
+use std::time::Clock;
 
 /// Three shards of seven points, one after the other, are the whole.
 #[test]
@@ -43,7 +44,7 @@ fn sum_of(tables: &[String], place: usize) -> u64 {
 }
 
 /// What a study of these seeds prints. Letters go lost by chance, so that the traces of some seeds alone pass the limit.
-fn table_of<R: Files + Threads + Wait + Sync + Abort>(
+fn table_of<R: Files + Threads + Wait + Sync + Clock + Abort>(
     rt: &R,
     alloc: Global,
     seeds: &str,

@@ -9,7 +9,7 @@ use Rattle.scenario.specs.Text.{processes_of}
 use Rattle.scenario.specs.Rules.{is_within}
 use Rattle.scenario.specs.declared.error.ScenarioError.{ScenarioError}
 use Rattle.scenario.specs.declared.error.ScenarioError.TheVariants as error
-use Rattle.diagnosis.specs.Place.{fields_at, array_key, numbered}
+use Rattle.diagnosis.specs.Place.{fields_at, fields_in, array_key, numbered}
 use Rattle.diagnosis.specs.Likeness.{IsMeant}
 use Rattle.diagnosis.specs.Ranges.{Range, ranges, Names, names}
 use Rattle.diagnosis.specs.declared.place.Place.{Place}
@@ -44,11 +44,13 @@ has_integer key value table = option_map_or (λ z. int_eq z value) (integer_in k
 
 -- ---- keys
 
--- the table has the key, which isn't listed; what is suggested is one of the nearest of those that are
-pub record IsUnknown (fields : List Field) (table : Members) (u : UnknownKey) : Type 0 where
+-- the table has the key, which isn't listed; what is suggested is one of the nearest of those that are, and it is said
+-- whether the key is one of those of version 2
+pub record IsUnknown (fields in_second : List Field) (table : Members) (u : UnknownKey) : Type 0 where
   pub there : Contains (keys_of table) (string_bytes u.key)
   pub unlisted : is_listed fields (string_bytes u.key) ≡ false
   pub suggested : IsMeant fields (string_bytes u.key) u.suggestion
+  pub second : u.is_of_second ≡ is_listed in_second (string_bytes u.key)
 
 -- the key is listed and needed, and the table lacks it
 pub record IsMissing (fields : List Field) (table : Members) (key : List ℕ) : Type 0 where
@@ -213,7 +215,8 @@ has_ends _ _ = false
 
 -- the fault is one of a table at a place of a file, and breaks the rule of the refusal
 abbrev pub IsFault : ScenarioError → (file : Members) → Place → (table : Members) → Fault → Type 0
-IsFault e file at table (fault.UnknownKey u) = (e ≡ error.UnknownKey) × IsUnknown (fields_at at file table) table u
+IsFault e file at table (fault.UnknownKey u) =
+    (e ≡ error.UnknownKey) × IsUnknown (fields_at at file table) (fields_in true at table) table u
 IsFault e file at table (fault.MissingKey key) =
     (e ≡ error.MissingKey) × IsMissing (fields_at at file table) table key.now
 IsFault e file at table (fault.WrongKind w) = (e ≡ error.WrongKind) × IsWrongKind (fields_at at file table) table w

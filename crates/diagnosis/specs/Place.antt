@@ -1,5 +1,5 @@
 -- The tables of a scenario's file, by their places.
-use Rattle.std.specs.Prelude.{ℕ, zero, suc, List, [], ◌++◌, slice_get, Option, Some, None, codes, decimal}
+use Rattle.std.specs.Prelude.{ℕ, zero, suc, List, [], ◌++◌, Bool, slice_get, Option, Some, None, codes, decimal}
 use Rattle.toml.specs.Data.{Members}
 use Rattle.scenario.specs.Table.{Field, table_at, tables_at}
 use Rattle.scenario.specs.Keys.{top_fields, detector_fields, share_fields, link_fields, pair_fields, crash_fields, outage_fields}
@@ -39,18 +39,21 @@ table_of place.Top file = Some file
 table_of (place.Section s) file = table_at (section_key s) file
 table_of (place.Element a number) file = numbered number (tables_at (array_key a) file)
 
--- the keys that it may have
-abbrev pub fields_of_section : Section → (file table : Members) → List Field
-fields_of_section section.Detector file table = detector_fields (is_second file) table
-fields_of_section section.Share file table = share_fields
-fields_of_section section.Link file table = link_fields
+-- the keys that it may have, in a file of version 2 or of version 1
+abbrev pub fields_of_section : Section → (is_second : Bool) → (table : Members) → List Field
+fields_of_section section.Detector second table = detector_fields second table
+fields_of_section section.Share second table = share_fields
+fields_of_section section.Link second table = link_fields
 
 abbrev pub fields_of_array : TableArray → List Field
 fields_of_array array.Links = pair_fields
 fields_of_array array.Crash = crash_fields
 fields_of_array array.Outage = outage_fields
 
+abbrev pub fields_in : (is_second : Bool) → Place → (table : Members) → List Field
+fields_in second place.Top table = top_fields second
+fields_in second (place.Section s) table = fields_of_section s second table
+fields_in second (place.Element a number) table = fields_of_array a
+
 abbrev pub fields_at : Place → (file table : Members) → List Field
-fields_at place.Top file table = top_fields (is_second file)
-fields_at (place.Section s) file table = fields_of_section s file table
-fields_at (place.Element a number) file table = fields_of_array a
+fields_at at file table = fields_in (is_second file) at table

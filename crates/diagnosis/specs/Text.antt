@@ -1,9 +1,12 @@
--- What is said of a refused file, in words: the refusal's name, the place, and what is wrong with what is there.
-use Rattle.std.specs.Prelude.{ℕ, ℤ, List, [], ◌++◌, Option, Some, None, if◌then◌else◌, codes, decimal, string_bytes}
+-- What is said of a refused file, in words: the refusal's name, the place, and what is wrong with what is there. What is
+-- quoted from the file is printed on one line, without control characters.
+use Rattle.std.specs.Prelude.{ℕ, ℤ, List, [], ◌++◌, Bool, true, ◌&&◌, Option, Some, None, if◌then◌else◌, codes, decimal, string_bytes}
 use Rattle.std.specs.Borrow.{Bor}
 use Rattle.std.specs.List.{flat_map}
 use Rattle.std.specs.Fmt.{signed_decimal}
+use Rattle.printable.specs.Printable.{printable}
 use Rattle.scenario.specs.Names.{name_of}
+use Rattle.scenario.specs.Rules.{is_within, most_in}
 use Rattle.scenario.specs.Table.{same_text}
 use Rattle.scenario.specs.declared.field.Kind.{Kind}
 use Rattle.scenario.specs.declared.field.Kind.TheVariants as kind
@@ -41,8 +44,15 @@ abbrev pub suggestion_text : Place → Option (Bor (List ℕ)) → List ℕ
 suggestion_text at None = []
 suggestion_text at (Some key) = codes " (did you mean " <> path_text at key.now <> codes "?)"
 
+-- what a file of version 1 lacks for it
+abbrev pub second_text : List ℕ
+second_text = codes " (version 2 allows it)"
+
+abbrev pub unknown_hint : Place → UnknownKey → List ℕ
+unknown_hint at u = if u.is_of_second then second_text else suggestion_text at u.suggestion
+
 abbrev pub unknown_text : Place → UnknownKey → List ℕ
-unknown_text at u = path_text at (string_bytes u.key) <> suggestion_text at u.suggestion
+unknown_text at u = path_text at (printable (string_bytes u.key)) <> unknown_hint at u
 
 abbrev pub kind_words : Kind → List ℕ
 kind_words kind.Number = codes "an integer"
@@ -54,14 +64,26 @@ kind_words kind.Tables = codes "an array of tables"
 abbrev pub found_text : List ℕ → List ℕ
 found_text word = if same_text word (codes "array") then codes "another array" else codes "of TOML's kind " <> word
 
+-- a loss is easily taken for a share
+abbrev pub unit_text : List ℕ → List ℕ
+unit_text key = if same_text key (codes "loss") then codes " (loss is in thousandths)" else []
+
 abbrev pub wrong_kind_text : Place → WrongKind → List ℕ
 wrong_kind_text at w =
     path_text at w.key.now <> codes ": not " <> kind_words w.wanted <> codes ", but " <> found_text w.found.now
+    <> unit_text w.key.now
+
+-- so many processes may be in a file of version 2
+abbrev pub is_of_second : Outside → Bool
+is_of_second o = same_text o.key.now (codes "processes") && is_within 1 (most_in true) o.value
+
+abbrev pub outside_hint : Outside → List ℕ
+outside_hint o = if is_of_second o then second_text else []
 
 abbrev pub outside_text : Place → Outside → List ℕ
 outside_text at o =
     path_text at o.key.now <> codes ": " <> signed_decimal o.value <> codes " is not " <> decimal o.low
-    <> codes " to " <> decimal o.high
+    <> codes " to " <> decimal o.high <> outside_hint o
 
 abbrev pub names_text : List (Bor (List ℕ)) → List ℕ
 names_text = flat_map (λ name. codes " " <> name.now)
@@ -70,7 +92,7 @@ abbrev pub none_of_text : List ℕ → List (Bor (List ℕ)) → List ℕ
 none_of_text value names = codes ": \"" <> value <> codes "\" is none of" <> names_text names
 
 abbrev pub other_name_text : Place → OtherName → List ℕ
-other_name_text at o = path_text at o.key.now <> none_of_text (string_bytes o.value) o.allowed.now
+other_name_text at o = path_text at o.key.now <> none_of_text (printable (string_bytes o.value)) o.allowed.now
 
 abbrev pub proposals_text : ProposalsFault → List ℕ
 proposals_text proposals.Unasked = codes "proposals: there are some, and no algorithm"
@@ -127,7 +149,8 @@ fault_text at (fault.TwiceProcess process earlier) = twice_process_text at proce
 
 abbrev pub not_toml_text : NotToml → List ℕ
 not_toml_text n =
-    codes "line " <> decimal n.line <> codes ", column " <> decimal n.column <> codes ": " <> string_bytes n.message
+    codes "line " <> decimal n.line <> codes ", column " <> decimal n.column <> codes ": "
+    <> printable (string_bytes n.message)
 
 -- nothing, or what is wrong, and where
 abbrev pub finding_text : Finding → List ℕ

@@ -5,7 +5,10 @@ use process_api::{DetectorNumbers, Watch};
 use scenario::Scenario;
 
 /// How many entries a second a run is reckoned with.
-const ENTRIES_A_SECOND: u64 = 5_000_000;
+pub const ENTRIES_A_SECOND: u64 = 5_000_000;
+
+/// The highest limit that a file can have.
+pub const HIGHEST_LIMIT: u64 = 100_000_000;
 
 /// About how much a run will be. No proof says how near this comes, and no answer rests on it.
 #[derive(Clone, Copy, Debug)]
@@ -14,6 +17,15 @@ pub struct Estimate {
     pub entries: u64,
     /// Seconds that the run takes, rounded up, at 5,000,000 entries a second.
     pub seconds: u64,
+}
+
+impl Estimate {
+    /// A limit that would do for the run: a quarter above its entries, as some letters are left out, and at most the
+    /// highest limit that a file can have.
+    pub fn limit(&self) -> u64 {
+        let roomy = self.entries.saturating_add(self.entries / 4);
+        roomy.max(1).min(HIGHEST_LIMIT)
+    }
 }
 
 /// How often something with a period of some ticks happens below the horizon, from tick 0 on.
@@ -51,7 +63,7 @@ fn detector_entries(horizon: u64, processes: u64, detector: DetectorNumbers) -> 
 /// process has its start, and beats, checks and shares by their periods up to the horizon; of each beat one letter
 /// comes to each process that watches the sender, and of each share one to all. The few letters of an algorithm are
 /// left out.
-pub(crate) fn estimate_of(scenario: &Scenario) -> Estimate {
+pub fn estimate_of(scenario: &Scenario) -> Estimate {
     let horizon = u64::from(scenario.horizon());
     let processes = u64::from(scenario.processes());
     let shares = match scenario.share() {

@@ -10,6 +10,8 @@ pub struct UnknownKey {
     pub key: String,
     /// One of the nearest of the keys that the table may have, if one is near enough, also where the table has it.
     pub suggestion: Option<&'static str>,
+    /// Whether the table may have the key in a file of version 2.
+    pub is_of_second: bool,
 }
 
 /// A value of another kind than its key's.

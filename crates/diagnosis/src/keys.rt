@@ -21,8 +21,12 @@ fn most_edits(key: &str) -> usize
     key.len().max(3) / 3
 }
 
-/// How many edits lead from one text to the other.
-fn edits_between(alloc: Global, a: &str, b: &str) -> Result<usize, AllocError>
+/// How many edits lead from one text to the other: characters put in, taken out, changed, or two of them swapped.
+///
+/// # Errors
+///
+/// `AllocError` where memory was refused.
+pub fn edits_between(alloc: Global, a: &str, b: &str) -> Result<usize, AllocError>
     ensures { IfOk result (λ d. d ≡ edits a.now b.now) }
 {
     damerau_levenshtein(alloc, a, b)
@@ -48,19 +52,27 @@ fn most_alike(
     Ok(best)
 }
 
-/// The first key of a table that isn't one of these, with the one that is perhaps meant.
+/// The first key of a table that isn't one of these, with the one that is perhaps meant, and whether it is one of those
+/// of version 2.
 pub(crate) fn unknown_key(
     alloc: Global,
     fields: &[Field],
+    in_second: &[Field],
     table: &Table,
 ) -> Result<Option<UnknownKey>, AllocError>
-    ensures { IfOk result (λ found. IfSome found (IsUnknown (fields_of fields.now) (table_view table.now))) }
+    ensures { IfOk result (λ found. IfSome found
+        (IsUnknown (fields_of fields.now) (fields_of in_second.now) (table_view table.now))) }
 {
     for key in table.keys() {
         if !is_listed_key(fields, key.as_str()) {
             let suggestion = most_alike(alloc, fields, key.as_str())?;
+            let is_of_second = is_listed_key(in_second, key.as_str());
             let key = String::from_str(alloc, key.as_str())?;
-            return Ok(Some(UnknownKey { key, suggestion }));
+            return Ok(Some(UnknownKey {
+                key,
+                suggestion,
+                is_of_second,
+            }));
         }
     }
     Ok(None)

@@ -36,10 +36,11 @@ mod twice;
 mod values;
 
 pub use answer::{Accepted, Diagnosis, Refused, diagnose, diagnose_table};
-pub use estimate::Estimate;
+pub use estimate::{ENTRIES_A_SECOND, Estimate, HIGHEST_LIMIT, estimate_of};
 pub use fault::{
     BelowLookahead, Fault, MinAboveMax, NotBefore, OtherName, Outside, ProposalsFault, UnknownKey,
     WrongKind,
 };
 pub use finding::{Finding, NotToml};
+pub use keys::edits_between;
 pub use place::{Place, Section, TableArray};

@@ -3,7 +3,7 @@ ghost use Rattle.std.specs.Prelude.{◌≡◌, ◌<◌, length, map, IfOk, IfSom
 ghost use Rattle.toml.specs.View.{table_view};
 ghost use Rattle.scenario.specs.Parts.{fields_of, table_in, tables_in, AreTables};
 ghost use Rattle.scenario.specs.Table.{table_at, tables_at};
-ghost use Rattle.diagnosis.specs.Place.{section_key, array_key, table_of, fields_at};
+ghost use Rattle.diagnosis.specs.Place.{section_key, array_key, table_of, fields_in};
 ghost use Rattle.diagnosis.specs.Faults.{IsFault};
 ghost use Rattle.diagnosis.specs.Diagnosis.{Breaks};
 
@@ -33,14 +33,14 @@ const ALGORITHM: Names = Names {
     allowed: &["none", "s", "es"],
 };
 
-/// The keys that the table at a place of a file may have.
-fn keys_at(top: &Table, place: Place, table: &Table) -> &'static [Field]
-    ensures { fields_of result.now ≡ fields_at place (table_view top.now) (table_view table.now) }
+/// The keys that the table at a place of a file may have, of version 2 or of version 1.
+fn keys_in(second: bool, place: Place, table: &Table) -> &'static [Field]
+    ensures { fields_of result.now ≡ fields_in second place (table_view table.now) }
 {
     match place {
-        Place::Top => top_keys(is_second(top)),
+        Place::Top => top_keys(second),
         Place::Section(section) => match section {
-            Section::Detector => detector_keys(is_second(top), table),
+            Section::Detector => detector_keys(second, table),
             Section::Share => share_keys(),
             Section::Link => link_keys(),
         },
@@ -63,12 +63,14 @@ fn key_fault(
     ensures { IfOk result (λ found. IfSome found
         (IsFault refusal.now (table_view top.now) place (table_view table.now))) }
 {
-    let fields = keys_at(top, place, table);
+    let fields = keys_in(is_second(top), place, table);
     match refusal {
-        ScenarioError::UnknownKey => match unknown_key(alloc, fields, table)? {
-            Some(found) => Ok(Some(Fault::UnknownKey(found))),
-            None => Ok(None),
-        },
+        ScenarioError::UnknownKey => {
+            match unknown_key(alloc, fields, keys_in(true, place, table), table)? {
+                Some(found) => Ok(Some(Fault::UnknownKey(found))),
+                None => Ok(None),
+            }
+        }
         ScenarioError::MissingKey => match missing_key(fields, table) {
             Some(key) => Ok(Some(Fault::MissingKey { key })),
             None => Ok(None),

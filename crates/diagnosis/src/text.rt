@@ -1,7 +1,8 @@
 //! Diagnoses in words.
 ghost use Rattle.std.specs.Prelude.{◌≡◌, Some};
 ghost use Rattle.std.specs.Fmt.{WritesOnOk};
-ghost use Rattle.diagnosis.specs.Text.{path_text, unknown_text, kind_words, found_text, wrong_kind_text, outside_text, names_text, none_of_text, other_name_text, proposals_text, min_above_max_text, to_itself_text, not_before_text, below_text, twice_pair_text, twice_process_text, fault_text, not_toml_text, refused_text};
+ghost use Rattle.printable.specs.Printable.{printable};
+ghost use Rattle.diagnosis.specs.Text.{path_text, suggestion_text, unknown_hint, unknown_text, kind_words, found_text, unit_text, wrong_kind_text, is_of_second, outside_hint, outside_text, names_text, none_of_text, other_name_text, proposals_text, min_above_max_text, to_itself_text, not_before_text, below_text, twice_pair_text, twice_process_text, fault_text, not_toml_text, refused_text};
 
 use crate::answer::Refused;
 use crate::fault::{
@@ -9,6 +10,9 @@ use crate::fault::{
 };
 use crate::finding::{Finding, NotToml};
 use crate::place::Place;
+use crate::ranges::lies_within;
+use printable::Printable;
+use process_api::MOST_PROCESSES;
 use scenario::Kind;
 use std::fmt;
 
@@ -40,16 +44,30 @@ fn write_path<W: fmt::Write>(f: &mut fmt::Formatter<W>, place: Place, key: &str)
     }
 }
 
-/// Writes the key that isn't one of the table's, and the one that is perhaps meant.
-fn write_unknown<W: fmt::Write>(
+/// Writes the path of a key that is quoted from a file.
+fn write_quoted_path<W: fmt::Write>(
     f: &mut fmt::Formatter<W>,
     place: Place,
-    unknown: &UnknownKey,
+    key: &str,
 ) -> fmt::Result
-    ensures { WritesOnOk W.Write.write_str_gives f.old result (unknown_text place unknown.now) f.new }
+    ensures { WritesOnOk W.Write.write_str_gives f.old result (path_text place (printable key.now)) f.new }
 {
-    write_path(f, place, unknown.key.as_str())?;
-    match unknown.suggestion {
+    let key = Printable(key);
+    match place {
+        Place::Top => write!(f, "{key}"),
+        _ => write!(f, "{place}.{key}"),
+    }
+}
+
+/// Writes the key that is perhaps meant.
+fn write_suggestion<W: fmt::Write>(
+    f: &mut fmt::Formatter<W>,
+    place: Place,
+    suggestion: Option<&str>,
+) -> fmt::Result
+    ensures { WritesOnOk W.Write.write_str_gives f.old result (suggestion_text place suggestion.entry) f.new }
+{
+    match suggestion {
         Some(key) => {
             f.write_str(" (did you mean ")?;
             write_path(f, place, key)?;
@@ -57,6 +75,33 @@ fn write_unknown<W: fmt::Write>(
         }
         None => Ok(()),
     }
+}
+
+/// Writes that version 2 has the key, or the key that is perhaps meant.
+fn write_unknown_hint<W: fmt::Write>(
+    f: &mut fmt::Formatter<W>,
+    place: Place,
+    unknown: &UnknownKey,
+) -> fmt::Result
+    ensures { WritesOnOk W.Write.write_str_gives f.old result (unknown_hint place unknown.now) f.new }
+{
+    if unknown.is_of_second {
+        f.write_str(" (version 2 allows it)")
+    } else {
+        write_suggestion(f, place, unknown.suggestion)
+    }
+}
+
+/// Writes the key that isn't one of the table's.
+fn write_unknown<W: fmt::Write>(
+    f: &mut fmt::Formatter<W>,
+    place: Place,
+    unknown: &UnknownKey,
+) -> fmt::Result
+    ensures { WritesOnOk W.Write.write_str_gives f.old result (unknown_text place unknown.now) f.new }
+{
+    write_quoted_path(f, place, unknown.key.as_str())?;
+    write_unknown_hint(f, place, unknown)
 }
 
 /// The words for a kind.
@@ -83,6 +128,17 @@ fn write_found<W: fmt::Write>(f: &mut fmt::Formatter<W>, found: &str) -> fmt::Re
     }
 }
 
+/// Writes in which unit a key's number is, where it is easily mistaken.
+fn write_unit<W: fmt::Write>(f: &mut fmt::Formatter<W>, key: &str) -> fmt::Result
+    ensures { WritesOnOk W.Write.write_str_gives f.old result (unit_text key.now) f.new }
+{
+    if key == "loss" {
+        f.write_str(" (loss is in thousandths)")
+    } else {
+        Ok(())
+    }
+}
+
 /// Writes that a value is of another kind than its key's.
 fn write_wrong_kind<W: fmt::Write>(
     f: &mut fmt::Formatter<W>,
@@ -94,7 +150,26 @@ fn write_wrong_kind<W: fmt::Write>(
     write_path(f, place, wrong.key)?;
     let wanted = words_of(wrong.wanted);
     write!(f, ": not {wanted}, but ")?;
-    write_found(f, wrong.found)
+    write_found(f, wrong.found)?;
+    write_unit(f, wrong.key)
+}
+
+/// Whether a file of version 2 may have so many processes.
+fn allows_second(outside: &Outside) -> bool
+    ensures { result ≡ is_of_second outside.now }
+{
+    outside.key == "processes" && lies_within(outside.value, 1, u64::from(MOST_PROCESSES))
+}
+
+/// Writes that a file of version 2 may have so many processes.
+fn write_outside_hint<W: fmt::Write>(f: &mut fmt::Formatter<W>, outside: &Outside) -> fmt::Result
+    ensures { WritesOnOk W.Write.write_str_gives f.old result (outside_hint outside.now) f.new }
+{
+    if allows_second(outside) {
+        f.write_str(" (version 2 allows it)")
+    } else {
+        Ok(())
+    }
 }
 
 /// Writes that a number lies outside its range.
@@ -107,7 +182,8 @@ fn write_outside<W: fmt::Write>(
 {
     let (value, low, high) = (outside.value, outside.low, outside.high);
     write_path(f, place, outside.key)?;
-    write!(f, ": {value} is not {low} to {high}")
+    write!(f, ": {value} is not {low} to {high}")?;
+    write_outside_hint(f, outside)
 }
 
 /// Writes names, each after a space.
@@ -126,8 +202,9 @@ fn write_none_of<W: fmt::Write>(
     value: &str,
     names: &[&str],
 ) -> fmt::Result
-    ensures { WritesOnOk W.Write.write_str_gives f.old result (none_of_text value.now names.now) f.new }
+    ensures { WritesOnOk W.Write.write_str_gives f.old result (none_of_text (printable value.now) names.now) f.new }
 {
+    let value = Printable(value);
     write!(f, ": \"{value}\" is none of")?;
     write_names(f, names)
 }
@@ -256,7 +333,7 @@ fn write_not_toml<W: fmt::Write>(f: &mut fmt::Formatter<W>, fault: &NotToml) -> 
     ensures { WritesOnOk W.Write.write_str_gives f.old result (not_toml_text fault.now) f.new }
 {
     let (line, column) = (fault.line, fault.column);
-    let message = fault.message.as_str();
+    let message = Printable(fault.message.as_str());
     write!(f, "line {line}, column {column}: {message}")
 }
 

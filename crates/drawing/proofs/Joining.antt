@@ -63,6 +63,11 @@ module _ {X : Type 0} where
       → last ≡ old ++ ((x ∷ p) ++ (q ++ (r ++ s)))
   joined_letters_legend old a b c d last x p q r s e f g h i = rw (i, h, g, f, e) (simp append_assoc)
 
-  pub joined_all : (a b c d last : List X) (p q r s t : List X) → a ≡ p → b ≡ a ++ q → c ≡ b ++ r → d ≡ c ++ s → last ≡ d ++ t
-      → last ≡ p ++ (q ++ (r ++ (s ++ t)))
-  joined_all a b c d last p q r s t e f g h i = rw (i, h, g, f, e) (simp append_assoc)
+  -- the pieces of a whole picture
+  pub joined_six : (a b c d e last : List X) (p q r s t u : List X) → a ≡ p → b ≡ a ++ q → c ≡ b ++ r → d ≡ c ++ s → e ≡ d ++ t → last ≡ e ++ u
+      → last ≡ p ++ (q ++ (r ++ (s ++ (t ++ u))))
+  joined_six a b c d e last p q r s t u f g h i j k = rw (k, j, i, h, g, f) (simp append_assoc)
+
+  pub joined_eight : (a b c d e f g last : List X) (p q r s t u v w : List X) → a ≡ p → b ≡ a ++ q → c ≡ b ++ r → d ≡ c ++ s → e ≡ d ++ t → f ≡ e ++ u → g ≡ f ++ v
+      → last ≡ g ++ w → last ≡ p ++ (q ++ (r ++ (s ++ (t ++ (u ++ (v ++ w))))))
+  joined_eight a b c d e f g last p q r s t u v w h i j k l m n o = rw (o, n, m, l, k, j, i, h) (simp append_assoc)

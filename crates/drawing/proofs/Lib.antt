@@ -2,5 +2,6 @@ pub mod Stretching
 pub mod Sweeping
 pub mod Entries
 pub mod Joining
+pub mod Counting
 pub mod RowShapes
 pub mod LineShapes

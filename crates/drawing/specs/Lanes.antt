@@ -1,6 +1,5 @@
 -- Where things stand in a picture of letters, in whole user units.
-use Rattle.std.specs.Prelude.{ℕ, ◌+◌, ◌-◌, ◌*◌, ◌/◌, nat_le, if◌then◌else◌}
-use Rattle.drawing.specs.Layout.{rows_above}
+use Rattle.std.specs.Prelude.{ℕ, ◌+◌, ◌-◌, ◌*◌, ◌/◌, ◌==◌, nat_lt, nat_le, if◌then◌else◌}
 use Rattle.drawing.specs.Sizes.{head_room, remark_height, lane_room}
 
 -- each process has a room: above its line there is place for a text of each other process
@@ -20,6 +19,10 @@ own_top processes q = lane_top processes q + processes * remark_height
 
 abbrev pub line_of : (processes q : ℕ) → ℕ
 line_of processes q = own_top processes q + 8
+
+-- how many places for texts of process q stand above that for process p; its own is the first
+abbrev pub rows_above : (q p : ℕ) → ℕ
+rows_above q p = if p == q then 0 else if nat_lt p q then p else p - 1
 
 -- the base line of what process q makes of process p: no two subjects have the same
 unfoldable pub remark_of : (processes q p : ℕ) → ℕ

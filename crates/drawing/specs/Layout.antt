@@ -1,7 +1,8 @@
 -- Where things stand in a picture, in whole user units.
-use Rattle.std.specs.Prelude.{ℕ, Bool, ◌+◌, ◌-◌, ◌*◌, ◌/◌, min, nat_lt, nat_le, ◌&&◌, ◌==◌, if◌then◌else◌, Option, None, Some, unwrap_or, List, map, find}
+use Rattle.std.specs.Prelude.{ℕ, Bool, not, ◌+◌, ◌-◌, ◌*◌, ◌/◌, min, nat_lt, nat_le, ◌&&◌, if◌then◌else◌, Option, None, Some, unwrap_or, List, map, filter, find, length, sum_by}
 use Rattle.std.specs.Int.{div_ceil}
 use Rattle.std.specs.List.{range_with_len}
+use Rattle.process_api.specs.Numbers.{numbers_to, others}
 use Rattle.svg.specs.declared.shape.Point.{Point}
 use Rattle.drawing.specs.Sizes.{left_room, axis_width, head_room, row_height, group_gap, steps, greatest_step}
 
@@ -33,20 +34,30 @@ abbrev pub shown : (from end : ℕ) → Option ℕ → Option ℕ
 shown from end None = None
 shown from end (Some tick) = if nat_le from tick && nat_lt tick end then Some tick else None
 
--- each process has a row for itself and one for each other process, and some room below them
-abbrev pub group_height : (processes : ℕ) → ℕ
-group_height processes = processes * row_height + group_gap
+-- ---- rows
 
-abbrev pub group_top : (processes q : ℕ) → ℕ
-group_top processes q = head_room + (q - 1) * group_height processes
+-- each process q has a row for itself and, below it, one for each other process p of which a test tells
+module _ (has_row : (q p : ℕ) → Bool) where
+  -- of the first n processes those that have a row of process q
+  abbrev pub subjects : (n q : ℕ) → List ℕ
+  subjects n q = filter (has_row q) (others n q)
 
--- how many rows of q stand above that of p; its own is the first
-abbrev pub rows_above : (q p : ℕ) → ℕ
-rows_above q p = if p == q then 0 else if nat_lt p q then p else p - 1
+  -- how many of them have none
+  abbrev pub absent : (n q : ℕ) → ℕ
+  absent n q = length (filter (λ p. not (has_row q p)) (others n q))
 
-unfoldable pub row_top : (processes q p : ℕ) → ℕ
-row_top processes q p = group_top processes q + rows_above q p * row_height
+  -- the rows of a process, and some room below them
+  abbrev pub group_height : (processes q : ℕ) → ℕ
+  group_height processes q = (1 + length (subjects processes q)) * row_height + group_gap
 
--- where the rows end
-unfoldable pub bottom_of : (processes : ℕ) → ℕ
-bottom_of processes = head_room + processes * group_height processes
+  -- where the rows of the first k processes end, and those of the next one begin
+  unfoldable pub groups_bottom : (processes k : ℕ) → ℕ
+  groups_bottom processes k = head_room + sum_by (group_height processes) (numbers_to k)
+
+  -- where the row of processes q and p begins
+  unfoldable pub row_top : (processes q p : ℕ) → ℕ
+  row_top processes q p = groups_bottom processes (q - 1) + (1 + length (subjects (p - 1) q)) * row_height
+
+  -- how many pairs of processes have no row
+  unfoldable pub left_out : (processes : ℕ) → ℕ
+  left_out processes = sum_by (absent processes) (numbers_to processes)

@@ -4,8 +4,10 @@ use Rattle.judges.specs.Out.{suspects}
 use Rattle.letters.specs.declared.letter.Letter.{Letter}
 use Rattle.process_api.specs.Numbers.{numbers_to, others}
 use Rattle.svg.specs.declared.shape.Shape.{Shape}
-use Rattle.drawing.specs.Lanes.{line_of, remark_of}
-use Rattle.drawing.specs.LettersPicture.{upper_layer, turn_class, line_shapes, turns_of, mark_shapes, letters_shapes}
+use Rattle.scenario_record.specs.Record.{outages_on}
+use Rattle.drawing.specs.Bands.{bands}
+use Rattle.drawing.specs.Lanes.{line_of, own_top, remark_of}
+use Rattle.drawing.specs.LettersPicture.{upper_layer, turn_class, line_shapes, line_bands, turns_of, mark_shapes, letters_shapes}
 use Rattle.drawing.specs.Suspicions.{row_end}
 use Rattle.drawing.specs.Sweeping.{stretches}
 use Rattle.drawing.specs.declared.bars.Bar.{Bar}
@@ -33,6 +35,17 @@ line_in run q = line_shapes run.scenario.now run.trace.now run.ticks.from run.ti
 abbrev pub lines_in : Run → List Shape
 lines_in run = flat_map (line_in run) (numbers_to run.scenario.now.processes)
 
+-- the bands of a link from process q
+unfoldable pub link_bands_in : Run → (q p : ℕ) → List Shape
+link_bands_in run q p =
+    bands run.ticks.from run.ticks.until (own_top run.scenario.now.processes q) (outages_on run.scenario.now q p)
+
+unfoldable pub line_bands_in : Run → (q : ℕ) → List Shape
+line_bands_in run q = line_bands run.scenario.now run.trace.now run.ticks.from run.ticks.until q
+
+abbrev pub all_line_bands_in : Run → List Shape
+all_line_bands_in run = flat_map (line_bands_in run) (numbers_to run.scenario.now.processes)
+
 unfoldable pub turns_in : Run → (q p : ℕ) → List Shape
 turns_in run q p = turns_of run.scenario.now run.trace.now run.ticks.from run.ticks.until (turn_bars run) q p
 
@@ -45,6 +58,6 @@ marks_in run q = mark_shapes run.scenario.now run.trace.now run.ticks.from run.t
 abbrev pub all_marks_in : Run → List Shape
 all_marks_in run = flat_map (marks_in run) (numbers_to run.scenario.now.processes)
 
-unfoldable pub letters_in : Run → List Letter → List Shape
-letters_in run letters =
-    letters_shapes run.scenario.now run.trace.now run.ticks.from run.ticks.until (turn_bars run) letters
+unfoldable pub letters_in : Run → (of : List ℕ) → List Letter → List Shape
+letters_in run of letters =
+    letters_shapes run.scenario.now run.trace.now run.ticks.from run.ticks.until (turn_bars run) of letters

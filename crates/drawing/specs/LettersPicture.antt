@@ -1,5 +1,6 @@
 -- The picture of letters: what went from whom to whom.
-use Rattle.std.specs.Prelude.{◌≡◌, ℕ, ◌+◌, ◌-◌, ◌/◌, nat_lt, if◌then◌else◌, Option, None, Some, List, [], ◌∷◌, ◌++◌, map, flat_map, filter, codes, decimal}
+use Rattle.std.specs.Prelude.{◌≡◌, ℕ, ◌+◌, ◌-◌, ◌/◌, ◌==◌, nat_lt, Bool, not, ◌&&◌, ◌||◌, if◌then◌else◌, Option, None, Some, List, [], ◌∷◌, ◌++◌, map, flat_map, filter, length, codes, decimal}
+use Rattle.std.specs.List.{list_any}
 use Rattle.judges.specs.Out.{suspects}
 use Rattle.judges.specs.Outcomes.{outcome}
 use Rattle.judges.specs.declared.outcomes.Answer.{Answer}
@@ -11,7 +12,7 @@ use Rattle.process_api.specs.EntryRecord.{EntryRecord}
 use Rattle.process_api.specs.Numbers.{numbers_to, others}
 use Rattle.process_api.specs.declared.entry.Kind.{Kind}
 use Rattle.process_api.specs.declared.entry.Kind.TheVariants as kind
-use Rattle.scenario_record.specs.Record.{Record}
+use Rattle.scenario_record.specs.Record.{Record, outages_on}
 use Rattle.svg.specs.Document.{svg_text}
 use Rattle.svg.specs.declared.class.Class.{Class}
 use Rattle.svg.specs.declared.class.Class.TheVariants as class
@@ -20,18 +21,27 @@ use Rattle.svg.specs.declared.shape.Anchor.TheVariants as anchor
 use Rattle.svg.specs.declared.shape.Point.{Point}
 use Rattle.svg.specs.declared.shape.Shape.{Shape}
 use Rattle.svg.specs.declared.shape.Shape.TheVariants as shape
+use Rattle.drawing.specs.Bands.{bands, outage_legend}
 use Rattle.drawing.specs.Bars.{AreBars}
 use Rattle.drawing.specs.Lanes.{lanes_bottom, line_of, own_top, remark_of, on_way}
 use Rattle.drawing.specs.Layout.{point, x_of, is_among, shown}
-use Rattle.drawing.specs.Suspicions.{word, title, marks_legend, axis, row_end, own_at}
+use Rattle.drawing.specs.Suspicions.{word, title, marks_legend, left_out_shapes, axis, row_end, own_at}
 use Rattle.drawing.specs.declared.bars.Bar.{Bar}
 use Rattle.drawing.specs.Sizes.{left_room, axis_width, right_room, foot_room}
 
 -- ---- letters
 
--- the letters that are sent at the ticks from `from` to until - 1, in their order
-abbrev pub sent_among : (from until : ℕ) → List Letter → List Letter
-sent_among from until letters = filter (λ l. is_among from until l.sent) letters
+-- a letter is of some processes where its sender or its receiver is one of them; where none is named, all letters are
+abbrev pub is_of : (of : List ℕ) → Letter → Bool
+is_of of l = length of == 0 || (list_any (λ p. p == l.sender) of || list_any (λ p. p == l.receiver) of)
+
+-- the letters of these processes that are sent at the ticks from `from` to until - 1, in their order
+abbrev pub sent_among : (of : List ℕ) (from until : ℕ) → List Letter → List Letter
+sent_among of from until letters = filter (λ l. is_among from until l.sent && is_of of l) letters
+
+-- how many letters of others are sent at these ticks
+abbrev pub count_others : (of : List ℕ) (from until : ℕ) → List Letter → ℕ
+count_others of from until letters = length (filter (λ l. is_among from until l.sent && not (is_of of l)) letters)
 
 -- whose letter it is
 abbrev pub class_of : Kind → Class
@@ -85,9 +95,9 @@ module _ (processes from until : ℕ) where
   abbrev pub arrow : Letter → Shape
   arrow l = ending l l.due
 
-  -- one shape for each letter that is sent at these ticks, in the order of the letters
-  abbrev pub arrows : List Letter → List Shape
-  arrows letters = map arrow (sent_among from until letters)
+  -- one shape for each letter of these processes that is sent at these ticks, in the order of the letters
+  abbrev pub arrows : (of : List ℕ) → List Letter → List Shape
+  arrows of letters = map arrow (sent_among of from until letters)
 
 -- ---- marks on the lines
 
@@ -172,6 +182,13 @@ module _ (S : Record) (trace : List EntryRecord) (from until : ℕ) where
   unfoldable pub line_shapes : (q : ℕ) → List Shape
   line_shapes q = own_at S trace from until (own_top S.processes q) q
 
+  -- the bands of process q: where a link from it is in an outage
+  unfoldable pub line_bands : (q : ℕ) → List Shape
+  line_bands q = flat_map (λ p. bands from until (own_top S.processes q) (outages_on S q p)) (others S.processes q)
+
+  abbrev pub all_line_bands : List Shape
+  all_line_bands = flat_map line_bands (numbers_to S.processes)
+
   module _ (bars : (q p : ℕ) → List Bar) where
     -- where q begins to suspect p, and where it trusts it again
     unfoldable pub turns_of : (q p : ℕ) → List Shape
@@ -186,20 +203,26 @@ module _ (S : Record) (trace : List EntryRecord) (from until : ℕ) where
         (shown from until (outcome trace q).tick)
         ++ flat_map (turns_of q) (others S.processes q)
 
-    -- the frame, a line for each process, an arrow for each letter that is sent at these ticks, and marks
-    unfoldable pub letters_shapes : List Letter → List Shape
-    letters_shapes letters =
-        letters_legend from until S.share ++ (axis from until (lanes_bottom S.processes)
+    -- the frame, a line for each process, an arrow for each letter of these processes that is sent at these ticks, and
+    -- marks
+    unfoldable pub letters_shapes : (of : List ℕ) → List Letter → List Shape
+    letters_shapes of letters =
+        letters_legend from until S.share
+        ++ (left_out_shapes (codes "letters of others, left out") (count_others of from until letters)
+        ++ (outage_legend (left_room + 440) 54 all_line_bands
+        ++ (all_line_bands
+        ++ (axis from until (lanes_bottom S.processes)
         ++ (flat_map line_shapes (numbers_to S.processes)
-        ++ (arrows S.processes from until letters
-        ++ flat_map mark_shapes (numbers_to S.processes))))
+        ++ (arrows S.processes from until of letters
+        ++ flat_map mark_shapes (numbers_to S.processes)))))))
 
-module _ (S : Record) (trace : List EntryRecord) (letters : List Letter) (from until : ℕ) where
-  -- the text is that of a picture of these letters, in which the marks are where the stretches of suspicion begin and
-  -- end: the maximal ones from tick 0 to the end of the observer's line, on the upper layer
+module _ (S : Record) (trace : List EntryRecord) (letters : List Letter) (of : List ℕ) (from until : ℕ) where
+  -- the text is that of a picture of these letters, of them those of some processes, in which the marks are where the
+  -- stretches of suspicion begin and end: the maximal ones from tick 0 to the end of the observer's line, on the upper
+  -- layer
   pub record DrawsLetters (text : List ℕ) : Type 0 where
     pub bars : (q p : ℕ) → List Bar
     pub are_bars : (q p : ℕ) → AreBars (suspects (upper_layer S.share) trace q p) 0 (row_end S until q) (bars q p)
     pub text_is :
         text ≡ svg_text (left_room + axis_width + right_room) (lanes_bottom S.processes + foot_room)
-        (letters_shapes S trace from until bars letters)
+        (letters_shapes S trace from until bars of letters)

@@ -2,6 +2,7 @@ pub mod Sizes
 pub mod Bars
 pub mod Sweeping
 pub mod Layout
+pub mod Bands
 pub mod Suspicions
 pub mod Lanes
 pub mod LettersPicture

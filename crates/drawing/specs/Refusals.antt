@@ -14,12 +14,12 @@ refusal S from until =
     else if nat_lt from until && nat_le until S.horizon then None
     else Some Ticks
 
--- where there is none of these, there is one where too many letters are sent at these ticks
-abbrev pub letters_refusal : Record → List Letter → (from until : ℕ) → Option DrawError
-letters_refusal S letters from until =
+-- where there is none of these, there is one where too many letters of these processes are sent at these ticks
+abbrev pub letters_refusal : Record → List Letter → (of : List ℕ) (from until : ℕ) → Option DrawError
+letters_refusal S letters of from until =
     elim (refusal S from until) [
       | Some first ↦ Some first
-      | None ↦ if nat_lt most_letters (length (sent_among from until letters)) then Some TooManyLetters else None
+      | None ↦ if nat_lt most_letters (length (sent_among of from until letters)) then Some TooManyLetters else None
     ]
 
 abbrev pub IsMemory : DrawError → Type 0

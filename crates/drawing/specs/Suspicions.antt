@@ -1,5 +1,5 @@
 -- The picture of who suspects whom.
-use Rattle.std.specs.Prelude.{◌≡◌, ℕ, ◌+◌, ◌-◌, max, min, Option, None, Some, List, [], ◌∷◌, ◌++◌, map, flat_map, codes, decimal}
+use Rattle.std.specs.Prelude.{◌≡◌, ℕ, ◌+◌, ◌-◌, ◌==◌, max, min, Bool, not, ◌||◌, if◌then◌else◌, Option, None, Some, List, [], ◌∷◌, ◌++◌, map, flat_map, length, codes, decimal}
 use Rattle.judges.specs.Ends.{end_tick}
 use Rattle.judges.specs.Out.{suspects}
 use Rattle.judges.specs.Outcomes.{outcome}
@@ -7,16 +7,17 @@ use Rattle.judges.specs.declared.outcomes.Answer.{Answer}
 use Rattle.judges.specs.declared.outcomes.Answer.TheVariants as answer
 use Rattle.judges.specs.declared.outcomes.Outcome.{Outcome}
 use Rattle.process_api.specs.EntryRecord.{EntryRecord}
-use Rattle.process_api.specs.Numbers.{numbers_to, others}
-use Rattle.scenario_record.specs.Record.{Record, crash}
+use Rattle.process_api.specs.Numbers.{numbers_to}
+use Rattle.scenario_record.specs.Record.{Record, crash, outages_on}
 use Rattle.svg.specs.Document.{svg_text}
 use Rattle.svg.specs.declared.class.Class.{Class}
 use Rattle.svg.specs.declared.class.Class.TheVariants as class
 use Rattle.svg.specs.declared.shape.Anchor.TheVariants as anchor
 use Rattle.svg.specs.declared.shape.Shape.{Shape}
 use Rattle.svg.specs.declared.shape.Shape.TheVariants as shape
+use Rattle.drawing.specs.Bands.{bands, outage_legend}
 use Rattle.drawing.specs.Bars.{AreBars}
-use Rattle.drawing.specs.Layout.{point, x_of, labelled, shown, row_top, bottom_of}
+use Rattle.drawing.specs.Layout.{point, x_of, labelled, shown, subjects, groups_bottom, row_top, left_out}
 use Rattle.drawing.specs.declared.bars.Bar.{Bar}
 use Rattle.drawing.specs.Sizes.{left_room, axis_width, right_room, head_room, foot_room}
 
@@ -52,6 +53,13 @@ abbrev pub second_legend : Option ℕ → List Shape
 second_legend None = []
 second_legend (Some period) =
     sample class.Second (left_room + 400) ∷ word (left_room + 430) 42 (codes "suspected by the reduction") ∷ []
+
+-- how many are left out, where there are any: at the right end of the title's line
+abbrev pub left_out_shapes : (words : List ℕ) (count : ℕ) → List Shape
+left_out_shapes words count =
+    if count == 0 then []
+    else shape.Text class.Label (point (left_room + axis_width) 20) anchor.End
+    (words ++ (codes ": " ++ decimal count)) ∷ []
 
 -- the title of a picture of some ticks
 unfoldable pub title : (words : List ℕ) (from until : ℕ) → Shape
@@ -119,9 +127,17 @@ first_top None = 4
 first_top (Some period) = 1
 
 -- the bars of a reduction, where there is one
-abbrev pub second_bars : (from until : ℕ) (bars : (layer q p : ℕ) → List Bar) (top q p : ℕ) → Option ℕ → List Shape
-second_bars from until bars top q p None = []
-second_bars from until bars top q p (Some period) = map (bar_shape from until class.Second (top + 8)) (bars 2 q p)
+abbrev pub upper_bars : (share : Option ℕ) → List Bar → List Bar
+upper_bars None bars = []
+upper_bars (Some period) bars = bars
+
+-- whether there is a bar
+abbrev pub has_bar : List Bar → Bool
+has_bar bars = not (length bars == 0)
+
+-- a pair of processes has a row where it has a bar, of either layer
+unfoldable pub has_row : Record → (bars : (layer q p : ℕ) → List Bar) → (q p : ℕ) → Bool
+has_row S bars q p = has_bar (bars 1 q p) || has_bar (upper_bars S.share (bars 2 q p))
 
 -- a process that crashes suspects nobody from then on: its rows end there
 abbrev pub row_end : Record → (until q : ℕ) → ℕ
@@ -133,7 +149,7 @@ pair_at S from until bars top q p =
     pair_name top q p
     ∷ life_line from until class.Grid (top + 15) (row_end S until q)
     ∷ map (bar_shape from until class.First (top + first_top S.share)) (bars 1 q p)
-    ++ (second_bars from until bars top q p S.share
+    ++ (map (bar_shape from until class.Second (top + 8)) (upper_bars S.share (bars 2 q p))
     ++ crash_shapes from until top (shown from (row_end S until q) (crash S p)))
 
 -- the row of process q itself: its name, a line through which it is up, its decision and its crash
@@ -149,13 +165,31 @@ module _ (S : Record) (trace : List EntryRecord) (from until : ℕ) where
     -- the rows of process q
     unfoldable pub group_shapes : (q : ℕ) → List Shape
     group_shapes q =
-        own_at S trace from until (row_top S.processes q q) q
-        ++ flat_map (λ p. pair_at S from until bars (row_top S.processes q p) q p) (others S.processes q)
+        own_at S trace from until (groups_bottom (has_row S bars) S.processes (q - 1)) q
+        ++ flat_map (λ p. pair_at S from until bars (row_top (has_row S bars) S.processes q p) q p)
+        (subjects (has_row S bars) S.processes q)
+
+    -- the bands of the row of q and p: where the link from p to q is in an outage
+    unfoldable pub row_bands : (q p : ℕ) → List Shape
+    row_bands q p = bands from until (row_top (has_row S bars) S.processes q p) (outages_on S p q)
+
+    -- those of the rows of process q
+    unfoldable pub group_bands : (q : ℕ) → List Shape
+    group_bands q = flat_map (row_bands q) (subjects (has_row S bars) S.processes q)
+
+    abbrev pub all_bands : List Shape
+    all_bands = flat_map group_bands (numbers_to S.processes)
+
+    -- where all rows end
+    abbrev pub bottom : ℕ
+    bottom = groups_bottom (has_row S bars) S.processes S.processes
 
     unfoldable pub suspicions : List Shape
     suspicions =
         legend from until S.share
-        ++ (axis from until (bottom_of S.processes) ++ flat_map group_shapes (numbers_to S.processes))
+        ++ (outage_legend (left_room + 620) 42 all_bands
+        ++ (left_out_shapes (codes "pairs without a bar, left out") (left_out (has_row S bars) S.processes)
+        ++ (all_bands ++ (axis from until bottom ++ flat_map group_shapes (numbers_to S.processes)))))
 
   -- the text is that of a picture in which the bars of each pair are exactly its maximal stretches of suspicion from
   -- `from` to the end of its row, each once, in their order
@@ -163,4 +197,4 @@ module _ (S : Record) (trace : List EntryRecord) (from until : ℕ) where
     pub bars : (layer q p : ℕ) → List Bar
     pub are_bars : (layer q p : ℕ) → AreBars (suspects layer trace q p) from (row_end S until q) (bars layer q p)
     pub text_is :
-        text ≡ svg_text (left_room + axis_width + right_room) (bottom_of S.processes + foot_room) (suspicions bars)
+        text ≡ svg_text (left_room + axis_width + right_room) (bottom bars + foot_room) (suspicions bars)

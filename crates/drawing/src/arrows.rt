@@ -1,7 +1,7 @@
 //! The arrows of letters.
 ghost use Rattle.std.specs.Prelude.{◌≡◌, ◌++◌, ◌≤◌, ◌<◌, ◌*◌, ◌/◌, length, OnOk};
 ghost use Rattle.drawing.specs.Lanes.{on_way};
-ghost use Rattle.drawing.specs.LettersPicture.{class_of, sent_among};
+ghost use Rattle.drawing.specs.LettersPicture.{class_of, count_others, is_of, sent_among};
 
 use crate::groups::Run;
 use crate::lanes::line_of;
@@ -11,13 +11,30 @@ use process_api::{Kind, Pid};
 use std::alloc::AllocError;
 use svg::{Class, Point, Shape};
 
-/// How many letters are sent at some ticks.
-pub(crate) fn count_sent(ticks: &Ticks, letters: &[Letter]) -> usize
-    ensures { result ≡ length (sent_among ticks.now.from ticks.now.until letters.now) }
+/// Whether a letter is one from or to these processes; where none is named, it is.
+fn is_of(of: &[Pid], letter: &Letter) -> bool
+    ensures { result ≡ is_of of.now letter.now }
+{
+    of.is_empty() || of.contains(&letter.sender) || of.contains(&letter.receiver)
+}
+
+/// How many letters of these processes are sent at some ticks.
+pub(crate) fn count_sent(ticks: &Ticks, of: &[Pid], letters: &[Letter]) -> usize
+    ensures { result ≡ length (sent_among of.now ticks.now.from ticks.now.until letters.now) }
 {
     letters
         .iter()
-        .filter(|letter| ticks.has(letter.sent))
+        .filter(|letter| ticks.has(letter.sent) && is_of(of, letter))
+        .count()
+}
+
+/// How many letters of others are sent at these ticks.
+pub(crate) fn count_others(ticks: &Ticks, of: &[Pid], letters: &[Letter]) -> usize
+    ensures { result ≡ count_others of.now ticks.now.from ticks.now.until letters.now }
+{
+    letters
+        .iter()
+        .filter(|letter| ticks.has(letter.sent) && !is_of(of, letter))
         .count()
 }
 
@@ -168,13 +185,18 @@ impl Run<'_> {
         }
     }
 
-    /// Appends the shapes of the letters that are sent at these ticks.
-    pub fn push_arrows(&self, shapes: &mut Vec<Shape>, letters: &[Letter]) -> Result<(), AllocError>
+    /// Appends the shapes of the letters of these processes that are sent at these ticks.
+    pub fn push_arrows(
+        &self,
+        shapes: &mut Vec<Shape>,
+        of: &[Pid],
+        letters: &[Letter],
+    ) -> Result<(), AllocError>
         ensures { OnOk result (shapes.new.items ≡ shapes.old.items
-            ++ arrows self.now.scenario.now.processes self.now.ticks.from self.now.ticks.until letters.now) }
+            ++ arrows self.now.scenario.now.processes self.now.ticks.from self.now.ticks.until of.now letters.now) }
     {
         for letter in letters {
-            if self.ticks.has(letter.sent) {
+            if self.ticks.has(letter.sent) && is_of(of, letter) {
                 shapes.push(self.arrow(letter))?;
             }
         }

@@ -1,13 +1,11 @@
-//! The rows of a process: one for itself, and one for each other process.
-ghost use Rattle.std.specs.Prelude.{◌≡◌, ◌++◌, ◌≤◌, map, OnOk};
-ghost use Rattle.judges.specs.Outcomes.{outcome};
-ghost use Rattle.drawing.specs.Suspicions.{bar_shape, first_top};
+//! The rows of processes: one for each itself, and one for each other process of which it has a bar.
+ghost use Rattle.std.specs.Prelude.{◌≡◌, ◌++◌, ◌+◌, ◌-◌, ◌≤◌, OnOk, IfOk};
+ghost use Rattle.judges.specs.Outcomes.{outcome, outcomes};
 
-use crate::bars::bars_of;
-use crate::labels::{own_name, pair_name};
-use crate::layout::Ticks;
-use crate::rows::{decided, life_line, push_bars, push_crash, push_decision, row_top};
-use judges::{Outcome, end_tick};
+use crate::labels::own_name;
+use crate::layout::{GAP, ROW, TOP, Ticks};
+use crate::rows::{decided, life_line, push_crash, push_decision};
+use judges::{Outcome, decisions, end_tick};
 use process_api::{Pid, Trace};
 use scenario_record::Scenario;
 use std::alloc::{AllocError, Global};
@@ -19,6 +17,7 @@ pub(crate) struct Run<'a> {
     pub scenario: &'a Scenario,
     pub trace: &'a Trace,
     pub ticks: Ticks,
+    ghost few: { scenario.now.processes ≤ 16 },
 }
 
 /// The row of an observer and a subject.
@@ -31,19 +30,20 @@ pub(crate) struct Row {
     ghost high: { top ≤ 1100000 },
 }
 
-/// Where the bars of the base detector begin, below the top of their row.
-fn first_top(share: Option<u32>) -> u32
-    ensures value { result ≡ first_top share }
-    ensures high { result ≤ 4 }
-{
-    match share {
-        None => 4,
-        Some(_) => 1,
-    }
+/// The rows that are drawn so far.
+#[derive(Drop)]
+pub(crate) struct Rows {
+    pub shapes: Vec<Shape>,
+    /// The bands that lie below them.
+    pub bands: Vec<Shape>,
+    /// Where they end and the next one begins, from the top.
+    pub top: u32,
+    /// How many pairs of processes had no bar, and have no row.
+    pub left_out: usize,
 }
 
 impl Run<'_> {
-    ghost use Rattle.drawing.specs.Drawn.{first_bars, group_of, own_of, pair_of, row_at, second_bars_of};
+    ghost use Rattle.drawing.specs.Drawn.{AreRows, ArePairsMore, IsGroupMore, groups_end, own_of};
     ghost use Rattle.drawing.specs.Suspicions.{row_end};
 
     /// The tick at which the rows of a process end.
@@ -51,55 +51,6 @@ impl Run<'_> {
         ensures { result ≡ row_end self.now.scenario.now self.now.ticks.until observer }
     {
         end_tick(self.scenario, observer).min(self.ticks.until)
-    }
-
-    /// Appends the bars of the base detector.
-    fn push_first(
-        &self,
-        alloc: Global,
-        shapes: &mut Vec<Shape>,
-        row: &Row,
-    ) -> Result<(), AllocError>
-        ensures { OnOk result (shapes.new.items ≡ shapes.old.items ++ first_bars self.now row.now) }
-    {
-        let top = row.top + first_top(self.scenario.share());
-        let end = self.row_end(row.observer);
-        let from = self.ticks.from;
-        let bars = bars_of(alloc, self.trace, 1, row.observer, row.subject, from, end)?;
-        push_bars(shapes, &self.ticks, Class::First, top, &bars)
-    }
-
-    /// Appends the bars of the reduction, where there is one.
-    fn push_second(
-        &self,
-        alloc: Global,
-        shapes: &mut Vec<Shape>,
-        row: &Row,
-    ) -> Result<(), AllocError>
-        ensures { OnOk result (shapes.new.items ≡ shapes.old.items ++ second_bars_of self.now row.now) }
-    {
-        match self.scenario.share() {
-            None => Ok(()),
-            Some(_) => {
-                let end = self.row_end(row.observer);
-                let from = self.ticks.from;
-                let bars = bars_of(alloc, self.trace, 2, row.observer, row.subject, from, end)?;
-                push_bars(shapes, &self.ticks, Class::Second, row.top + 8, &bars)
-            }
-        }
-    }
-
-    /// Appends the row of an observer and another process.
-    fn push_pair(&self, alloc: Global, shapes: &mut Vec<Shape>, row: &Row) -> Result<(), AllocError>
-        ensures { OnOk result (shapes.new.items ≡ shapes.old.items ++ pair_of self.now row.now) }
-    {
-        let end = self.row_end(row.observer);
-        shapes.push(pair_name(alloc, row.top, row.observer, row.subject)?)?;
-        shapes.push(life_line(&self.ticks, Class::Grid, row.top + 15, end))?;
-        self.push_first(alloc, shapes, row)?;
-        self.push_second(alloc, shapes, row)?;
-        let crash = self.ticks.shown(end, self.scenario.crash(row.subject));
-        push_crash(shapes, &self.ticks, row.top, crash)
     }
 
     /// Appends the row of a process itself.
@@ -123,38 +74,66 @@ impl Run<'_> {
         push_crash(shapes, ticks, row.top, crash)
     }
 
-    /// The row of an observer and a subject.
-    fn row(&self, observer: Pid, subject: Pid) -> Row
-        ensures observer { result.observer ≡ observer }
-        ensures subject { result.subject ≡ subject }
-        ensures top { result.top ≡ row_at self.now observer subject }
+    /// Appends the rows of an observer and all others.
+    fn push_pairs(&self, alloc: Global, rows: &mut Rows, observer: Pid) -> Result<(), AllocError>
+        requires top { rows.old.top ≡ groups_end self.now (observer - 1) + 16 }
+        requires high { rows.old.top ≤ 20000 }
+        requires few { rows.old.left_out ≤ 1000 }
+        requires observer { observer ≤ self.now.scenario.now.processes }
+        ensures { OnOk result
+            (ArePairsMore self.now observer self.now.scenario.now.processes rows.old rows.new) }
     {
-        let top = row_top(self.scenario.processes(), observer, subject);
-        Row {
-            observer,
-            subject,
-            top,
-        }
-    }
-
-    /// Appends the rows of a process.
-    pub fn push_group(
-        &self,
-        alloc: Global,
-        shapes: &mut Vec<Shape>,
-        observer: Pid,
-        told: &Outcome,
-    ) -> Result<(), AllocError>
-        requires { told.now ≡ outcome self.now.trace.now observer }
-        ensures { OnOk result (shapes.new.items ≡ shapes.old.items ++ group_of self.now observer) }
-    {
-        self.push_own(alloc, shapes, &self.row(observer, observer), told)?;
         for before in 0..self.scenario.processes() {
             let subject = Pid::after(before);
             if subject != observer {
-                self.push_pair(alloc, shapes, &self.row(observer, subject))?;
+                self.push_pair(alloc, rows, observer, subject)?;
             }
         }
         Ok(())
+    }
+
+    /// Appends the rows of a process.
+    fn push_group(
+        &self,
+        alloc: Global,
+        rows: &mut Rows,
+        observer: Pid,
+        told: &Outcome,
+    ) -> Result<(), AllocError>
+        requires told { told.now ≡ outcome self.now.trace.now observer }
+        requires top { rows.old.top ≡ groups_end self.now (observer - 1) }
+        requires high { rows.old.top ≤ 10000 }
+        requires few { rows.old.left_out ≤ 1000 }
+        requires observer { observer ≤ self.now.scenario.now.processes }
+        ensures { OnOk result (IsGroupMore self.now observer rows.old rows.new) }
+    {
+        let own = Row {
+            observer,
+            subject: observer,
+            top: rows.top,
+        };
+        self.push_own(alloc, &mut rows.shapes, &own, told)?;
+        rows.top += ROW;
+        self.push_pairs(alloc, rows, observer)?;
+        rows.top += GAP;
+        Ok(())
+    }
+
+    /// The rows of all processes.
+    pub fn rows(&self, alloc: Global) -> Result<Rows, AllocError>
+        ensures all { IfOk result (AreRows self.now self.now.scenario.now.processes) }
+        ensures high { IfOk result (λ rows. rows.top ≤ 10000) }
+    {
+        let outcomes = decisions(alloc, self.scenario, self.trace)?;
+        let mut rows = Rows {
+            shapes: Vec::new(alloc),
+            bands: Vec::new(alloc),
+            top: TOP,
+            left_out: 0,
+        };
+        for outcome in &outcomes {
+            self.push_group(alloc, &mut rows, outcome.pid, outcome)?;
+        }
+        Ok(rows)
     }
 }

@@ -1,9 +1,8 @@
 //! Where things stand in a picture of letters.
 ghost use Rattle.std.specs.Prelude.{◌≡◌, ◌≤◌};
-ghost use Rattle.drawing.specs.Lanes.{lane_height, lane_top, lanes_bottom, line_of, own_top, remark_of};
+ghost use Rattle.drawing.specs.Lanes.{lane_height, lane_top, lanes_bottom, line_of, own_top, remark_of, rows_above};
 
 use crate::layout::{LANE, REMARK, TOP};
-use crate::rows::rows_above;
 use process_api::Pid;
 
 /// How high the room of a process is.
@@ -52,6 +51,20 @@ pub(crate) fn line_of(processes: u16, process: Pid) -> u32
     ensures high { result ≤ 700008 }
 {
     own_top(processes, process) + 8
+}
+
+/// How many places for texts of an observer stand above that for a subject.
+fn rows_above(observer: Pid, subject: Pid) -> u32
+    ensures value { result ≡ rows_above observer subject }
+    ensures few { result ≤ 256 }
+{
+    if subject == observer {
+        0
+    } else if subject < observer {
+        u32::from(subject.number())
+    } else {
+        u32::from(subject.number() - 1)
+    }
 }
 
 /// Where the texts of what a process makes of another stand, from the top.

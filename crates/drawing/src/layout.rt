@@ -1,7 +1,6 @@
 //! Where things stand in a picture, in whole user units.
 ghost use Rattle.std.specs.Prelude.{◌≡◌, ◌≤◌, ◌<◌, nat_le, IfSome};
 ghost use Rattle.std.specs.List.{find};
-ghost use Rattle.drawing.specs.Layout.{group_height};
 ghost use Rattle.drawing.specs.Sizes.{steps};
 
 /// The most processes that are drawn.
@@ -103,13 +102,4 @@ impl Ticks {
             None => None,
         }
     }
-}
-
-/// How high the rows of a process are, and the room below them.
-pub(crate) fn group_height(processes: u16) -> u32
-    requires { processes ≤ 256 }
-    ensures value { result ≡ group_height processes }
-    ensures small { result ≤ 4106 }
-{
-    u32::from(processes) * ROW + GAP
 }

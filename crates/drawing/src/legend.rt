@@ -1,11 +1,11 @@
 //! The title of a picture, and what its marks mean.
 ghost use Rattle.std.specs.Prelude.{◌≡◌, ◌++◌, ◌∷◌, ◌≤◌, [], OnOk};
-ghost use Rattle.drawing.specs.Suspicions.{first_legend, legend, marks_legend, sample, second_legend};
+ghost use Rattle.drawing.specs.Suspicions.{first_legend, left_out_shapes, legend, marks_legend, sample, second_legend};
 
-use crate::labels::{title, word};
-use crate::layout::{LEFT, Ticks};
+use crate::labels::{text, title, word};
+use crate::layout::{LEFT, Ticks, WIDTH};
 use std::alloc::{AllocError, Global};
-use svg::{Class, Point, Shape};
+use svg::{Anchor, Class, Point, Shape};
 
 /// How the bars of a layer are shown.
 fn sample(class: Class, x: u32) -> Shape
@@ -68,6 +68,23 @@ fn push_second(alloc: Global, shapes: &mut Vec<Shape>, share: Option<u32>) -> Re
             Ok(())
         }
     }
+}
+
+/// Appends how many are left out, where there are any.
+pub(crate) fn push_left_out(
+    alloc: Global,
+    shapes: &mut Vec<Shape>,
+    words: &str,
+    count: usize,
+) -> Result<(), AllocError>
+    ensures { OnOk result (shapes.new.items ≡ shapes.old.items ++ left_out_shapes words.now count) }
+{
+    if count == 0 {
+        return Ok(());
+    }
+    let line = format!(in alloc; "{words}: {count}")?;
+    shapes.push(text(Class::Label, LEFT + WIDTH, 20, Anchor::End, line))?;
+    Ok(())
 }
 
 /// Appends the title, and what the marks mean.

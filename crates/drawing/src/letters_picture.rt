@@ -5,12 +5,14 @@ ghost use Rattle.drawing.specs.LettersPicture.{DrawsLetters};
 ghost use Rattle.drawing.specs.LettersDrawn.{letters_in};
 ghost use Rattle.drawing.specs.Refusals.{IsMemory, letters_refusal};
 
-use crate::arrows::count_sent;
+use crate::arrows::{count_others, count_sent};
 use crate::axis::push_axis;
+use crate::bands::{append, push_outage_legend};
 use crate::error::DrawError;
 use crate::groups::{Row, Run};
 use crate::lanes::{lanes_bottom, own_top};
 use crate::layout::{BOTTOM, LEFT, MOST_LETTERS, RIGHT, WIDTH};
+use crate::legend::push_left_out;
 use crate::letters_legend::push_letters_legend;
 use crate::suspicions::ticks_of;
 use judges::{Outcome, decisions};
@@ -70,13 +72,24 @@ impl Run<'_> {
 }
 
 /// All shapes of a picture.
-fn shapes_of(alloc: Global, run: &Run<'_>, letters: &[Letter]) -> Result<Vec<Shape>, AllocError>
-    ensures { IfOk result (λ v. v.items ≡ letters_in run.now letters.now) }
+fn shapes_of(
+    alloc: Global,
+    run: &Run<'_>,
+    letters: &[Letter],
+    of: &[Pid],
+) -> Result<Vec<Shape>, AllocError>
+    ensures { IfOk result (λ v. v.items ≡ letters_in run.now of.now letters.now) }
 {
     let scenario = run.scenario;
     let told = decisions(alloc, scenario, run.trace)?;
+    let others = count_others(&run.ticks, of, letters);
+    let bands = run.line_bands(alloc)?;
+    let what = "letters of others, left out";
     let mut shapes = Vec::new(alloc);
     push_letters_legend(alloc, &mut shapes, &run.ticks, scenario.share())?;
+    push_left_out(alloc, &mut shapes, what, others)?;
+    push_outage_legend(alloc, &mut shapes, LEFT + 440, 54, &bands)?;
+    append(&mut shapes, bands)?;
     push_axis(
         alloc,
         &mut shapes,
@@ -84,56 +97,63 @@ fn shapes_of(alloc: Global, run: &Run<'_>, letters: &[Letter]) -> Result<Vec<Sha
         lanes_bottom(scenario.processes()),
     )?;
     run.push_lines(alloc, &mut shapes, &told)?;
-    run.push_arrows(&mut shapes, letters)?;
+    run.push_arrows(&mut shapes, of, letters)?;
     run.push_all_marks(alloc, &mut shapes, &told)?;
     Ok(shapes)
 }
 
 /// The picture of a run's letters.
-fn text_of(alloc: Global, run: &Run<'_>, letters: &[Letter]) -> Result<Vec<u8>, AllocError>
-    ensures { IfOk result (λ text. DrawsLetters run.now.scenario.now run.now.trace.now letters.now run.now.ticks.from
-        run.now.ticks.until text.items) }
+fn text_of(
+    alloc: Global,
+    run: &Run<'_>,
+    letters: &[Letter],
+    of: &[Pid],
+) -> Result<Vec<u8>, AllocError>
+    ensures { IfOk result (λ text. DrawsLetters run.now.scenario.now run.now.trace.now letters.now of.now
+        run.now.ticks.from run.now.ticks.until text.items) }
 {
     let picture = Picture {
         width: LEFT + WIDTH + RIGHT,
         height: lanes_bottom(run.scenario.processes()) + BOTTOM,
-        shapes: shapes_of(alloc, run, letters)?,
+        shapes: shapes_of(alloc, run, letters, of)?,
     };
     svg_text(alloc, &picture)
 }
 
 /// The picture of what went from whom to whom at the ticks from `from` to `until - 1` of a run, as an SVG document.
 ///
-/// Each process has a line up to its crash, process 1 at the top. Each letter that is sent at one of these ticks is one
-/// shape: an arrow to the receiver's line at the tick when it is due where it is taken, a dashed line to there where
-/// the receiver had crashed, a dotted line to the right edge where it is due at `until` or after, and a short piece of
-/// a line that ends in a cross where it is lost. A letter that was sent before `from` isn't drawn, also where it comes
-/// at one of these ticks. Marks say what a process decides, and whom it begins to suspect or to trust again, on the
-/// upper layer of detectors that the scenario has.
+/// Each process has a line up to its crash, process 1 at the top. Each letter that is sent at one of these ticks, and
+/// whose sender or receiver is one of the processes `of`, is one shape: an arrow to the receiver's line at the tick when
+/// it is due where it is taken, a dashed line to there where the receiver had crashed, a dotted line to the right edge
+/// where it is due at `until` or after, and a short piece of a line that ends in a cross where it is lost. Where `of` is
+/// empty, the letters of all processes are drawn; where letters of others are left out, a line of text says how many. A
+/// letter that was sent before `from` isn't drawn, also where it comes at one of these ticks. Marks say what a process
+/// decides, and whom it begins to suspect or to trust again, on the upper layer of detectors that the scenario has.
 ///
 /// The letters and the trace should be those of the scenario's run; what is drawn is defined for all others too.
 ///
 /// # Errors
 ///
 /// `TooManyProcesses` where there are more than [`MOST_DRAWN`](crate::MOST_DRAWN); else `Ticks` where `from` isn't
-/// below `until`, or `until` is above the horizon; else `TooManyLetters` where more than [`MOST_LETTERS`] letters are
-/// sent at these ticks. `Memory` where memory was refused.
+/// below `until`, or `until` is above the horizon; else `TooManyLetters` where more than [`MOST_LETTERS`] letters of
+/// these processes are sent at these ticks. `Memory` where memory was refused.
 pub fn draw_letters(
     alloc: Global,
     scenario: &Scenario,
     trace: &Trace,
     letters: &[Letter],
+    of: &[Pid],
     from: u32,
     until: u32,
 ) -> Result<Vec<u8>, DrawError>
-    ensures draws { IfOk result (λ text. DrawsLetters scenario.now trace.now letters.now from until text.items) }
-    ensures refused { MatchOption (letters_refusal scenario.now letters.now from until)
+    ensures draws { IfOk result (λ text. DrawsLetters scenario.now trace.now letters.now of.now from until text.items) }
+    ensures refused { MatchOption (letters_refusal scenario.now letters.now of.now from until)
         (IfErr result IsMemory) (λ e. result ≡ Err e) }
 {
     match ticks_of(scenario, from, until) {
         Err(error) => Err(error),
         Ok(ticks) => {
-            if count_sent(&ticks, letters) > MOST_LETTERS {
+            if count_sent(&ticks, of, letters) > MOST_LETTERS {
                 return Err(DrawError::TooManyLetters);
             }
             let run = Run {
@@ -141,7 +161,7 @@ pub fn draw_letters(
                 trace,
                 ticks,
             };
-            match text_of(alloc, &run, letters) {
+            match text_of(alloc, &run, letters, of) {
                 Err(error) => Err(DrawError::Memory(error)),
                 Ok(text) => Ok(text),
             }

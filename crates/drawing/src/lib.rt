@@ -1,8 +1,8 @@
 //! Pictures of a run, as SVG text.
 //!
 //! [`draw_suspicions`] draws who suspects whom. Each process has a group of rows: one line for itself, with its crash
-//! and its decision, and one for each other process, with a bar for each stretch of ticks through which it is
-//! suspected. A stretch is as long as can be within the ticks asked for (`specs/Bars.antt`); the bars of a pair are all
+//! and its decision, and one for each other process that it suspects, with a bar for each stretch of ticks through which
+//! it does. A stretch is as long as can be within the ticks asked for (`specs/Bars.antt`); the bars of a pair are all
 //! its stretches, each once, in the order of their ticks. Where each shape stands is defined in `specs/Suspicions.antt`
 //! and `specs/Layout.antt`, and the text is that of these shapes.
 //!
@@ -15,6 +15,7 @@
 
 mod arrows;
 mod axis;
+mod bands;
 mod bars;
 mod error;
 mod groups;
@@ -25,6 +26,7 @@ mod legend;
 mod letters_legend;
 mod letters_picture;
 mod marks;
+mod pairs;
 mod rows;
 mod suspicions;
 mod sweep;

@@ -1,12 +1,10 @@
 //! What stands in rows.
 ghost use Rattle.std.specs.Prelude.{◌≡◌, ◌++◌, ◌≤◌, map, OnOk};
-ghost use Rattle.drawing.specs.Layout.{row_top, rows_above};
 ghost use Rattle.drawing.specs.Suspicions.{bar_shape, crash_shapes, decision_shapes, decided, life_line};
 
 use crate::bars::Bar;
-use crate::layout::{LEFT, ROW, TOP, Ticks, group_height};
+use crate::layout::{LEFT, Ticks};
 use judges::{Answer, Outcome};
-use process_api::Pid;
 use std::alloc::AllocError;
 use svg::{Class, Point, Shape};
 
@@ -115,29 +113,4 @@ pub(crate) fn decided(outcome: &Outcome) -> Option<u32>
         Answer::Value(_) => outcome.tick,
         Answer::None | Answer::NoValue => None,
     }
-}
-
-/// How many rows of an observer stand above that of a subject.
-pub(crate) fn rows_above(observer: Pid, subject: Pid) -> u32
-    ensures value { result ≡ rows_above observer subject }
-    ensures few { result ≤ 256 }
-{
-    if subject == observer {
-        0
-    } else if subject < observer {
-        u32::from(subject.number())
-    } else {
-        u32::from(subject.number() - 1)
-    }
-}
-
-/// Where the row of an observer and a subject begins, from the top. That of an observer and itself is its first.
-#[tactic(auto, unfolding(crate::specs::Layout::row_top))]
-pub(crate) fn row_top(processes: u16, observer: Pid, subject: Pid) -> u32
-    requires { processes ≤ 256 }
-    ensures value { result ≡ row_top processes observer subject }
-    ensures high { result ≤ 1100000 }
-{
-    let groups = u32::from(observer.number() - 1);
-    TOP + groups * group_height(processes) + rows_above(observer, subject) * ROW
 }

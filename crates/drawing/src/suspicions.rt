@@ -1,43 +1,33 @@
 //! The picture of who suspects whom.
-ghost use Rattle.std.specs.Prelude.{◌≡◌, ◌++◌, ◌≤◌, ◌<◌, Err, IfOk, IfErr, IsOk, MatchOption};
+ghost use Rattle.std.specs.Prelude.{◌≡◌, ◌++◌, ◌≤◌, ◌<◌, Err, IfOk, IfErr, IsOk, MatchOption, OnOk};
 ghost use Rattle.drawing.specs.Refusals.{IsMemory, refusal};
 ghost use Rattle.drawing.specs.Suspicions.{DrawsSuspicions};
-ghost use Rattle.drawing.specs.Layout.{bottom_of};
-ghost use Rattle.drawing.specs.Drawn.{suspicions_of};
+ghost use Rattle.drawing.specs.Drawn.{AreRows, suspicions_of};
 
 use crate::axis::push_axis;
+use crate::bands::{append, push_outage_legend};
 use crate::error::DrawError;
-use crate::groups::Run;
-use crate::layout::{BOTTOM, LEFT, MOST_DRAWN, RIGHT, TOP, Ticks, WIDTH, group_height};
-use crate::legend::push_legend;
-use judges::decisions;
+use crate::groups::{Rows, Run};
+use crate::layout::{BOTTOM, LEFT, MOST_DRAWN, RIGHT, Ticks, WIDTH};
+use crate::legend::{push_left_out, push_legend};
 use process_api::{Pid, Trace};
 use scenario_record::Scenario;
 use std::alloc::{AllocError, Global};
 use svg::{Picture, Shape, svg_text};
 
-/// Where the rows end, from the top.
-#[tactic(auto, unfolding(crate::specs::Layout::bottom_of))]
-fn bottom(processes: u16) -> u32
-    requires { processes ≤ 256 }
-    ensures value { result ≡ bottom_of processes }
-    ensures high { result ≤ 1100000 }
-{
-    TOP + u32::from(processes) * group_height(processes)
-}
-
-/// All shapes of a picture.
-fn shapes_of(alloc: Global, run: &Run<'_>) -> Result<Vec<Shape>, AllocError>
+/// All shapes of a picture with these rows.
+fn shapes_of(alloc: Global, run: &Run<'_>, rows: Rows) -> Result<Vec<Shape>, AllocError>
+    requires { AreRows run.now run.now.scenario.now.processes rows }
     ensures { IfOk result (λ v. v.items ≡ suspicions_of run.now) }
 {
-    let scenario = run.scenario;
-    let outcomes = decisions(alloc, scenario, run.trace)?;
     let mut shapes = Vec::new(alloc);
-    push_legend(alloc, &mut shapes, &run.ticks, scenario.share())?;
-    push_axis(alloc, &mut shapes, &run.ticks, bottom(scenario.processes()))?;
-    for outcome in &outcomes {
-        run.push_group(alloc, &mut shapes, outcome.pid, outcome)?;
-    }
+    let what = "pairs without a bar, left out";
+    push_legend(alloc, &mut shapes, &run.ticks, run.scenario.share())?;
+    push_outage_legend(alloc, &mut shapes, LEFT + 620, 42, &rows.bands)?;
+    push_left_out(alloc, &mut shapes, what, rows.left_out)?;
+    append(&mut shapes, rows.bands)?;
+    push_axis(alloc, &mut shapes, &run.ticks, rows.top)?;
+    append(&mut shapes, rows.shapes)?;
     Ok(shapes)
 }
 
@@ -46,11 +36,11 @@ fn text_of(alloc: Global, run: &Run<'_>) -> Result<Vec<u8>, AllocError>
     ensures { IfOk result (λ text. DrawsSuspicions run.now.scenario.now run.now.trace.now run.now.ticks.from
         run.now.ticks.until text.items) }
 {
-    let processes = run.scenario.processes();
+    let rows = run.rows(alloc)?;
     let picture = Picture {
         width: LEFT + WIDTH + RIGHT,
-        height: bottom(processes) + BOTTOM,
-        shapes: shapes_of(alloc, run)?,
+        height: rows.top + BOTTOM,
+        shapes: shapes_of(alloc, run, rows)?,
     };
     svg_text(alloc, &picture)
 }
@@ -58,6 +48,7 @@ fn text_of(alloc: Global, run: &Run<'_>) -> Result<Vec<u8>, AllocError>
 /// The ticks from `from` to `until - 1`, where they are ticks of a run that can be drawn.
 pub(crate) fn ticks_of(scenario: &Scenario, from: u32, until: u32) -> Result<Ticks, DrawError>
     ensures ok { IfOk result (λ t. (t.from ≡ from) × (t.until ≡ until)) }
+    ensures few { IfOk result (λ _. scenario.now.processes ≤ 16) }
     ensures refused { MatchOption (refusal scenario.now from until) (IsOk result) (λ e. result ≡ Err e) }
 {
     if scenario.processes() > MOST_DRAWN {
@@ -87,10 +78,11 @@ pub fn check_ticks(scenario: &Scenario, from: u32, until: u32) -> Result<(), Dra
 
 /// The picture of who suspects whom at the ticks from `from` to `until - 1` of a run, as an SVG document.
 ///
-/// Each process has a row for itself, with its crash and its decision, and one for each other process, with a bar for
-/// each stretch of ticks through which it suspects it: on layer 1, and below that on layer 2 where the scenario has a
-/// reduction. A stretch is as long as can be within these ticks. A process that crashes suspects nobody from then on,
-/// so its rows end there.
+/// Each process has a row for itself, with its crash and its decision, and one for each other process that it suspects
+/// at one of these ticks, with a bar for each stretch of ticks through which it does: on layer 1, and below that on
+/// layer 2 where the scenario has a reduction. A stretch is as long as can be within these ticks. A process that crashes
+/// suspects nobody from then on, so its rows end there. Where pairs of processes have no bar, and so no row, a line of
+/// text says how many.
 ///
 /// # Errors
 ///

@@ -39,11 +39,16 @@ fn lent<'a>(alloc: Global, words: &'a [String]) -> io::Result<Vec<&'a str>> {
     Ok(texts)
 }
 
+/// The fault of words of which one is no text. Which one isn't known.
+fn no_text(alloc: Global) -> Fault {
+    Fault::of_words(format!(in alloc; "fdstudy: words: NoText: a word is not UTF-8\n"))
+}
+
 fn main(rt: HostRuntime) -> ExitCode {
     let mut outlet = StreamOutlet::new(rt.stdout());
     let mut faults = StreamOutlet::new(rt.stderr());
-    let terminal = rt.stderr().is_terminal().then_some(rt.stderr());
-    let mut line = ProgressLine::new(&rt, rt.alloc(), terminal, rt.stdout().is_terminal());
+    let (is_terminal, is_shared) = (rt.stderr().is_terminal(), rt.stdout().is_terminal());
+    let mut line = ProgressLine::new(&rt, rt.alloc(), rt.stderr(), is_terminal, is_shared);
     let status = match words_of(&rt) {
         Ok(words) => match lent(rt.alloc(), &words) {
             Ok(texts) => serve::serve(
@@ -59,7 +64,7 @@ fn main(rt: HostRuntime) -> ExitCode {
         },
         Err(error) => match error.kind() {
             ErrorKind::OutOfMemory => Fault::WordsMemory.report(&mut faults),
-            _ => Fault::Form.report(&mut faults),
+            _ => no_text(rt.alloc()).report(&mut faults),
         },
     };
     serve::finish(status, &mut outlet, &mut faults)

@@ -6,9 +6,15 @@ mod words;
 
 use std::alloc::Global;
 use std::test::Fail;
-use study::Key;
+use study::Axis;
 
-/// A key of the top table.
-fn top(alloc: Global, key: &str) -> Result<Key, Fail> {
-    Ok(Key::Top(String::from_str(alloc, key)?))
+/// The axes that words say, apart by one space each; `-` stands for none.
+fn axes(alloc: Global, words: &str) -> Result<Vec<Axis>, Fail> {
+    let mut axes = Vec::new(alloc);
+    if words != "-" {
+        for word in words.split(' ') {
+            axes.push(Axis::parse(alloc, word)?)?;
+        }
+    }
+    Ok(axes)
 }

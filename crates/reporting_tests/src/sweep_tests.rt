@@ -1,5 +1,6 @@
 //! Sums and rows by hand, and sweeps of small studies.
 mod laws;
+mod layouts;
 mod parallel;
 mod rows;
 mod studies;

@@ -1,5 +1,5 @@
 -- Keys as words.
-use Rattle.std.proofs.Common.{◌≡◌, ◌≢◌, ℕ, zero, suc, ◌^◌, ◌≤◌, ◌<◌, List, [], ◌∷◌, ◌++◌, append_assoc, length, length-append, get_or, Bool, true, false, not, ◌==◌, codes, decimal, Option, Some, None, Result, Ok, Err, Bor, MatchOption, IfErr, IsErrAnd, refl, sym, ◌∙◌, ap, subst, inl, inr, arith, lit<}
+use Rattle.std.proofs.Common.{◌≡◌, ◌≢◌, ◌⊎◌, ℕ, zero, suc, ◌^◌, ◌≤◌, ◌<◌, List, [], ◌∷◌, ◌++◌, append_assoc, length, length-append, get_or, Bool, true, false, not, ◌==◌, codes, decimal, Option, Some, None, Result, Ok, Err, Bor, MatchOption, IfErr, IsErrAnd, refl, sym, ◌∙◌, ap, subst, inl, inr, arith, lit<}
 use Rattle.std.proofs.lemmas.Bool.{cases_Bool, and_parts, and_from, eqb-true, eq-eqb, false≢true}
 use Rattle.std.proofs.lemmas.Fmt.{decimal-digits_value, digits_decimal, digits_value-decimal, decimal_nonempty, first_decimal, decimal_digit}
 use Rattle.std.proofs.lemmas.List.{append_cancel_right}
@@ -7,9 +7,9 @@ use Rattle.std.proofs.lemmas.List.Folds.{list_all-append}
 use Rattle.std.proofs.lemmas.Str.Pattern.{IsSplitOnceResult, split_after, split_parts}
 use Rattle.std.specs.Char.{is_ascii_digit}
 use Rattle.std.specs.List.{list_all}
-use Rattle.study.specs.Settings.{Path, top, inner, element, key_text}
+use Rattle.study.specs.Settings.{Path, top, inner, element, every, key_text}
 use Rattle.study.specs.Words.{Word, is_natural, natural}
-use Rattle.study.specs.KeyWords.{is_name_byte, is_name, is_place, IsOwner, of_table, of_element, HasNames, SaysNoKey, is_memory}
+use Rattle.study.specs.KeyWords.{is_name_byte, is_name, is_place, IsOwner, of_table, of_element, of_every, HasNames, SaysNoKey, is_memory}
 use Rattle.study.specs.declared.error.KeyError.{KeyError}
 use Rattle.study.specs.declared.error.KeyError.TheVariants as error
 use Rattle.study.proofs.Numerals.{own, natural_digits, natural_some}
@@ -107,6 +107,12 @@ place_large word digits is large place low small e =
 element_split : (a d k : Word) → a ++ codes "[" ++ d ++ codes "]." ++ k ≡ (a ++ (91 ∷ (d ++ codes "]"))) ++ (46 ∷ k)
 element_split a d k = simp append_assoc
 
+every_split : (a k : Word) → a ++ codes "[*]." ++ k ≡ (a ++ (91 ∷ codes "*]")) ++ (46 ∷ k)
+every_split a k = simp append_assoc
+
+every_no_dot : (a : Word) → is_name a ≡ true → Lacks 46 (a ++ (91 ∷ codes "*]"))
+every_no_dot a is = lacks_joined 46 a (91 ∷ codes "*]") (name_no_dot a is) refl
+
 owner_no_dot : (a : Word) (n : ℕ) → is_name a ≡ true → n < 2 ^ 64 → Lacks 46 (a ++ (91 ∷ (decimal n ++ codes "]")))
 owner_no_dot a n is small = lacks_joined 46 a (91 ∷ (decimal n ++ codes "]")) (name_no_dot a is) (lacks_joined 46 (decimal n) (codes "]") (decimal_no_dot n small) refl)
 
@@ -128,19 +134,36 @@ split_named w (element a i k) r split names e =
     given : (r : Option (Bor (List ℕ) × Bor (List ℕ))) → MatchOption r ⊥ (λ x. (x.0.now ≡ a ++ (91 ∷ (decimal i ++ codes "]"))) × (x.1.now ≡ k)) → MatchOption r (is_name w ≡ true) (λ x. IsOwner x.0.now × (is_name x.1.now ≡ true))
     given None h = absurd h
     given (Some x) h = (of_element a i names.0 names.1 names.2 h.0, ap is_name h.1 ∙ names.3)
+split_named w (every a k) r split names e =
+    given r (split_after 46 w (a ++ (91 ∷ codes "*]")) k r split (lit< tt) (e ∙ every_split a k) (lacks_at 46 (a ++ (91 ∷ codes "*]")) (every_no_dot a names.0)))
+  where
+    given : (r : Option (Bor (List ℕ) × Bor (List ℕ))) → MatchOption r ⊥ (λ x. (x.0.now ≡ a ++ (91 ∷ codes "*]")) × (x.1.now ≡ k)) → MatchOption r (is_name w ≡ true) (λ x. IsOwner x.0.now × (is_name x.1.now ≡ true))
+    given None h = absurd h
+    given (Some x) h = (of_every a names.0 h.0, ap is_name h.1 ∙ names.1)
+
+-- what may stand after an array's bracket
+abbrev IsPlace : Word → Type 0
+IsPlace w = ((place : ℕ) × (1 ≤ place) × (place < 2 ^ 64) × (w ≡ decimal place ++ (93 ∷ []))) ⊎ (w ≡ codes "*]")
 
 -- what stands before a key's dot, split at its first bracket
 pub split_owner : (w : Word) (r : Option (Bor (List ℕ) × Bor (List ℕ))) → IsSplitOnceResult 91 w r → IsOwner w
-    → MatchOption r (is_name w ≡ true) (λ x. (is_name x.0.now ≡ true) × ((place : ℕ) × (1 ≤ place) × (place < 2 ^ 64) × (x.1.now ≡ decimal place ++ (93 ∷ []))))
+    → MatchOption r (is_name w ≡ true) (λ x. (is_name x.0.now ≡ true) × IsPlace x.1.now)
 split_owner w None split (of_table name) = name
 split_owner w (Some x) split (of_table name) = absurd (found 91 w x.0.now x.1.now (name_no_bracket w name) (split_parts 91 w (Some x) split (lit< tt)).0)
 split_owner w r split (of_element a i name low small e) =
     given r (split_after 91 w a (decimal i ++ codes "]") r split (lit< tt) e (lacks_at 91 a (name_no_bracket a name)))
   where
     given : (r : Option (Bor (List ℕ) × Bor (List ℕ))) → MatchOption r ⊥ (λ x. (x.0.now ≡ a) × (x.1.now ≡ decimal i ++ codes "]"))
-        → MatchOption r (is_name w ≡ true) (λ x. (is_name x.0.now ≡ true) × ((place : ℕ) × (1 ≤ place) × (place < 2 ^ 64) × (x.1.now ≡ decimal place ++ (93 ∷ []))))
+        → MatchOption r (is_name w ≡ true) (λ x. (is_name x.0.now ≡ true) × IsPlace x.1.now)
     given None h = absurd h
-    given (Some x) h = (ap is_name h.0 ∙ name, (i, low, small, h.1))
+    given (Some x) h = (ap is_name h.0 ∙ name, inl (i, low, small, h.1))
+split_owner w r split (of_every a name e) =
+    given r (split_after 91 w a (codes "*]") r split (lit< tt) e (lacks_at 91 a (name_no_bracket a name)))
+  where
+    given : (r : Option (Bor (List ℕ) × Bor (List ℕ))) → MatchOption r ⊥ (λ x. (x.0.now ≡ a) × (x.1.now ≡ codes "*]"))
+        → MatchOption r (is_name w ≡ true) (λ x. (is_name x.0.now ≡ true) × IsPlace x.1.now)
+    given None h = absurd h
+    given (Some x) h = (ap is_name h.0 ∙ name, inr h.1)
 
 -- ---- answers
 
@@ -164,10 +187,11 @@ pub no_array : (w : Word) (array place : Bor (List ℕ)) → IsSplitOnceResult 9
 no_array w array place split owner none = false≢true (sym none ∙ (split_owner w (Some (array, place)) split owner).0)
 
 pub no_place : (w : Word) (array place : Bor (List ℕ)) → IsSplitOnceResult 91 w (Some (array, place)) → IsOwner w
-    → ((n : ℕ) → 1 ≤ n → n < 2 ^ 64 → place.now ≢ decimal n ++ (93 ∷ [])) → ⊥
-no_place w array place split owner none =
-    let (n, low, small, e) = (split_owner w (Some (array, place)) split owner).1 in
-    none n low small e
+    → place.now ≢ codes "*]" → ((n : ℕ) → 1 ≤ n → n < 2 ^ 64 → place.now ≢ decimal n ++ (93 ∷ [])) → ⊥
+no_place w array place split owner other none = elim (split_owner w (Some (array, place)) split owner).1 [
+  | inl at ↦ none at.0 at.1 at.2 at.3
+  | inr all ↦ other all
+]
 
 pub top_refused : (w : Word) (e : KeyError) → IsSplitOnceResult 46 w None → (is_memory e ≡ false → (e ≡ error.NoKey) × (is_name w ≡ false)) → SaysNoKey w e
 top_refused w (error.Memory m) split refused = tt
@@ -184,6 +208,12 @@ pub owned_refused : {A : Type 0} (w : Word) (owner key : Bor (List ℕ)) (r : Re
     → IfErr r (λ e. is_memory e ≡ false → (e ≡ error.NoKey) × (IsOwner owner.now → is_name key.now ≡ false)) → IfErr r (SaysNoKey w)
 owned_refused w owner key (Ok k) split refused = tt
 owned_refused w owner key (Err e) split refused = owned_error w owner key e split refused
+
+pub every_written : (owner key array place a k : Word) → owner ≡ array ++ (91 ∷ place) → place ≡ codes "*]" → a ≡ array → k ≡ key
+    → owner ++ (46 ∷ key) ≡ a ++ codes "[*]." ++ k
+every_written owner key array place a k e star same_array same_key =
+    ap (λ o. o ++ (46 ∷ key)) (e ∙ ap (λ p. array ++ (91 ∷ p)) star)
+    ∙ (sym (every_split array key) ∙ (ap (λ b. b ++ codes "[*]." ++ key) (sym same_array) ∙ ap (λ l. a ++ codes "[*]." ++ l) (sym same_key)))
 
 pub element_written : (owner key array place : Word) (n : ℕ) (a k : Word) → owner ≡ array ++ (91 ∷ place) → place ≡ decimal n ++ (93 ∷ []) → a ≡ array → k ≡ key
     → owner ++ (46 ∷ key) ≡ a ++ codes "[" ++ decimal n ++ codes "]." ++ k

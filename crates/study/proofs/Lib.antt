@@ -1,10 +1,12 @@
 pub mod Blocks
 pub mod Combos
 pub mod Points
+pub mod Refusing
 pub mod Placing
 pub mod Texts
 pub mod Numerals
 pub mod KeyNames
+pub mod KeyRows
 pub mod Parts
 pub mod Pieces
 pub mod Ranges

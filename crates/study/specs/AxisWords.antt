@@ -1,10 +1,10 @@
 -- Which words say which axes.
 use Rattle.std.specs.Prelude.{◌≡◌, ℕ, ◌+◌, ◌-◌, ◌*◌, ◌/◌, nat_lt, ℤ, pos, unsigned_abs, int_lt, ◌+ℤ◌, ◌-ℤ◌, List, [], ◌∷◌, ◌++◌, map, length, Bool, true, false, not, ◌&&◌, ◌==◌, codes, Option, Some, None, if◌then◌else◌}
-use Rattle.std.specs.List.{flat_map, range_with_len, slice_split}
+use Rattle.std.specs.List.{flat_map, range_with_len, AllZip}
 use Rattle.std.specs.Option.{option_and_then, option_or}
-use Rattle.study.specs.KeyWords.{SaysKey, SaysNoKey, is_memory as is_key_memory}
-use Rattle.study.specs.Settings.{Path, Given, number, text, path_of, given_by}
-use Rattle.study.specs.Words.{Word, has, before, after, is_integer, integer, fits, bounds}
+use Rattle.study.specs.KeyWords.{SaysKey, SayNoKeys, is_memory as is_key_memory}
+use Rattle.study.specs.Settings.{Path, Given, number, text, path_of, settings_in}
+use Rattle.study.specs.Words.{Word, has, before, after, between, is_integer, integer, fits, bounds}
 use Rattle.study.specs.declared.axis.Axis.{Axis}
 use Rattle.study.specs.declared.range.Range.{Range as RangeNumbers}
 use Rattle.study.specs.declared.range.RangeWords.{RangeWords}
@@ -52,7 +52,7 @@ range_by r = record { low = integer r.low.now; high = integer r.high.now; step =
 abbrev pub range_of : RangeNumbers → RangeRecord
 range_of r = record { low = r.low; high = r.high; step = r.step }
 
--- ---- the pieces of an axis' values
+-- ---- pieces: what a value says of one key
 
 pub data Piece : Type 0 where
   one : ℤ → Piece
@@ -89,45 +89,79 @@ piece_fault (range r) = range_fault r
 piece_fault (word []) = Some error.NoValue
 piece_fault (word (c ∷ cs)) = None
 
+-- why it's refused as a part of a value of tied keys, which is one value
+abbrev pub part_fault : Piece → Option AxisError
+part_fault (one z) = piece_fault (one z)
+part_fault (range r) = Some error.TiedRange
+part_fault (word w) = piece_fault (word w)
+
+-- why the first of some parts that is refused is
+abbrev pub parts_fault : List Piece → Option AxisError
+parts_fault [] = None
+parts_fault (p ∷ ps) = option_or (part_fault p) (parts_fault ps)
+
+-- ---- entries: what a value says of all keys of an axis
+
+pub data Entry : Type 0 where
+  single : Piece → Entry
+  -- the parts for so many keys, set together
+  tied : (keys : ℕ) → List Piece → Entry
+
+-- of one key the piece; of several the pieces between colons
+abbrev pub entry_said : (keys : ℕ) → Word → Entry
+entry_said keys w = if keys == 1 then single (piece_said w) else tied keys (map piece_said (between 58 w))
+
+-- what an entry stands for: one setting for each key, once or, of a range, many times
+abbrev pub rows : Entry → List (List Given)
+rows (single p) = map (λ v. v ∷ []) (values p)
+rows (tied keys ps) = flat_map values ps ∷ []
+
+-- why an entry is refused
+abbrev pub entry_fault : Entry → Option AxisError
+entry_fault (single p) = piece_fault p
+entry_fault (tied keys ps) = if length ps == keys then parts_fault ps else Some error.PartsPerKey
+
 -- why it's refused where there's room for so many values
-abbrev pub fault_within : (room : ℕ) → Piece → Option AxisError
-fault_within room p =
-    option_or (piece_fault p) (if nat_lt room (length (values p)) then Some error.TooManyValues else None)
+abbrev pub fault_within : (room : ℕ) → Entry → Option AxisError
+fault_within room e =
+    option_or (entry_fault e) (if nat_lt room (length (rows e)) then Some error.TooManyValues else None)
 
--- why the first of some pieces that is refused is
-unfoldable pub first_fault : (room : ℕ) → List Piece → Option AxisError
+-- why the first of some entries that is refused is
+unfoldable pub first_fault : (room : ℕ) → List Entry → Option AxisError
 first_fault room [] = None
-first_fault room (p ∷ ps) = option_or (fault_within room p) (first_fault (room - length (values p)) ps)
+first_fault room (e ∷ es) = option_or (fault_within room e) (first_fault (room - length (rows e)) es)
 
--- one more piece, whose values stand after those that are there
-pub record Adds (old new : List Given) (p : Piece) : Type 0 where
-  pub no_fault : fault_within (1000000 - length old) p ≡ None
-  pub values : new ≡ old ++ values p
+-- one more entry, whose values stand after those that are there
+pub record Adds (old new : List (List Given)) (e : Entry) : Type 0 where
+  pub no_fault : fault_within (1000000 - length old) e ≡ None
+  pub rows : new ≡ old ++ rows e
 
 -- ---- axes
 
--- the pieces of some words
-abbrev pub pieces_said : List Word → List Piece
-pieces_said = map piece_said
+-- the entries of some words
+abbrev pub entries_said : (keys : ℕ) → List Word → List Entry
+entries_said keys = map (entry_said keys)
 
--- the values between commas
-abbrev pub pieces : Word → List Piece
-pieces w = pieces_said (slice_split (λ b. b == 44) w)
+-- the entries between commas
+abbrev pub entries : (keys : ℕ) → Word → List Entry
+entries keys w = entries_said keys (between 44 w)
 
--- the words say the axis: its key before the first `=`, and its values after it
+-- the words say the axis: its keys between commas before the first `=`, and its values after it
 pub record SaysAxis (words : Word) (a : Axis) : Type 0 where
   pub equals : has 61 words ≡ true
-  pub key : SaysKey (before 61 words) (path_of a.key)
-  pub no_fault : first_fault 1000000 (pieces (after 61 words)) ≡ None
-  pub values : map given_by a.values.items ≡ flat_map values (pieces (after 61 words))
+  pub keys : AllZip SaysKey (between 44 (before 61 words)) (map path_of a.keys.items)
+  pub no_fault : first_fault 1000000 (entries (length a.keys.items) (after 61 words)) ≡ None
+  pub values : map settings_in a.values.items ≡ flat_map rows (entries (length a.keys.items) (after 61 words))
 
--- why words say no axis: there is no `=`; what stands before it is no key; or else why the first of the values that is
--- refused is
+-- why words say no axis: there is no `=`; why the first word before it that says no key doesn't; or else why the first
+-- of the values that is refused is
 pub data SaysNoAxis (words : Word) : AxisError → Type 0 where
   no_equals : has 61 words ≡ false → SaysNoAxis words error.NoEquals
-  no_key : {e : KeyError} → has 61 words ≡ true → SaysNoKey (before 61 words) e → SaysNoAxis words (error.Key e)
-  no_values : {e : AxisError} {path : Path} → has 61 words ≡ true → SaysKey (before 61 words) path
-      → first_fault 1000000 (pieces (after 61 words)) ≡ Some e → SaysNoAxis words e
+  no_key : {e : KeyError} → has 61 words ≡ true → SayNoKeys (between 44 (before 61 words)) e
+      → SaysNoAxis words (error.Key e)
+  no_values : {e : AxisError} (paths : List Path) → has 61 words ≡ true
+      → AllZip SaysKey (between 44 (before 61 words)) paths
+      → first_fault 1000000 (entries (length paths) (after 61 words)) ≡ Some e → SaysNoAxis words e
 
 abbrev pub is_memory : AxisError → Bool
 is_memory (error.Key e) = is_key_memory e

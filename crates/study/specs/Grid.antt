@@ -1,24 +1,27 @@
 -- A grid of settings: its points, and the runs of a point.
-use Rattle.std.specs.Prelude.{◌≡◌, ℕ, ◌+◌, ◌-◌, ◌*◌, ◌<◌, ◌≤◌, ◌^◌, ◌==◌, List, [], ◌∷◌, ◌++◌, map, length, get_or, Bool, true, false, ◌&&◌, ◌||◌}
-use Rattle.std.specs.List.{flat_map, range_with_len, list_any}
+use Rattle.std.specs.Prelude.{◌≡◌, ℕ, ◌+◌, ◌-◌, ◌*◌, ◌%◌, ◌<◌, ◌^◌, ◌==◌, min, nat_lt, nat_le, List, [], ◌∷◌, ◌++◌, map, length, get_or, Bool, true, false, ◌&&◌, Option, Some, None, option_map, if◌then◌else◌, string_bytes}
+use Rattle.std.specs.List.{flat_map, range_with_len, list_any, count_by}
+use Rattle.std.specs.Option.{option_or}
 use Rattle.scenario.specs.Table.{same_text}
 use Rattle.study.specs.Combinations.{combinations}
-use Rattle.study.specs.Settings.{Path, top, inner, element, path_of, Chosen, choices, chosen}
+use Rattle.study.specs.Settings.{Path, top, inner, element, every, path_of, key_text, Chosen, choices, chosen}
 use Rattle.study.specs.declared.axis.Axis.{Axis}
 use Rattle.study.specs.declared.run.Run.{Run}
 use Rattle.study.specs.declared.error.GridError.{GridError}
 use Rattle.study.specs.declared.error.GridError.TheVariants as error
 
 pub record GridRecord : Type 0 where
-  -- for each varied key its choices
-  pub vary : List (List Chosen)
-  -- for each key whose values are added up its choices
-  pub over : List (List Chosen)
+  -- for each varied axis its choices
+  pub vary : List (List (List Chosen))
+  -- for each axis whose values are added up its choices
+  pub over : List (List (List Chosen))
+  -- for each axis whose values are dealt to the seeds its choices
+  pub deal : List (List (List Chosen))
   pub first_seed : ℕ
   -- how many seeds there are
   pub seeds : ℕ
 
--- the settings of each point: all combinations of the varied keys' choices, the last key's changing fastest
+-- the settings of each point: all combinations of the varied axes' choices, the last axis' changing fastest
 abbrev pub points : GridRecord → List (List Chosen)
 points g = combinations g.vary
 
@@ -31,11 +34,19 @@ pub record RunRecord : Type 0 where
   pub settings : List Chosen
   pub seed : ℕ
 
-abbrev pub runs_with : GridRecord → List Chosen → List RunRecord
-runs_with g settings = map (λ seed. record { settings = settings; seed = seed }) (range_with_len g.first_seed g.seeds)
+-- which of the dealt combinations the k-th seed gets, from 0: they are dealt in turn
+abbrev pub turn : GridRecord → ℕ → ℕ
+turn g k = k % length (combinations g.deal)
 
--- the runs of each point: all combinations of the choices of the keys that are added up, in their order, and for each
--- of these all seeds
+abbrev pub dealt_to : GridRecord → ℕ → List Chosen
+dealt_to g k = get_or (combinations g.deal) (turn g k) []
+
+-- the runs with some settings: all seeds, each with these settings and those that are dealt to it
+abbrev pub runs_with : GridRecord → List Chosen → List RunRecord
+runs_with g settings =
+    map (λ k. record { settings = settings ++ dealt_to g k; seed = g.first_seed + k }) (range_with_len 0 g.seeds)
+
+-- the runs of each point: for all combinations of the choices that are added up, in their order, all seeds
 abbrev pub runs : GridRecord → List RunRecord
 runs g = flat_map (runs_with g) (combinations g.over)
 
@@ -43,60 +54,107 @@ runs g = flat_map (runs_with g) (combinations g.over)
 abbrev pub run_of : Run → RunRecord
 run_of r = record { settings = map chosen r.settings.items; seed = r.seed }
 
+-- ---- what dealing gives
+
+-- no two runs have one seed
+abbrev pub HaveOwnSeeds : List RunRecord → Type 0
+HaveOwnSeeds rs = (i j : ℕ) (a b : RunRecord) → i < length rs → j < length rs
+    → (get_or rs i a).seed ≡ (get_or rs j b).seed → i ≡ j
+
+-- each of the dealt combinations is dealt to equally many seeds
+abbrev pub AreDealtEvenly : GridRecord → Type 0
+AreDealtEvenly g = (c : ℕ) → c < length (combinations g.deal)
+    → count_by (λ t. t == c) (map (turn g) (range_with_len 0 g.seeds)) * length (combinations g.deal) ≡ g.seeds
+
 -- ---- refusals
 
--- the paths are one
-abbrev pub same_path : Path → Path → Bool
-same_path (top k) (top l) = same_text k l
-same_path (inner t k) (inner u l) = same_text t u && same_text k l
-same_path (element a i k) (element b j l) = same_text a b && ((i == j) && same_text k l)
-same_path _ _ = false
+-- both set one key of one table
+abbrev pub meets : Path → Path → Bool
+meets (top k) (top l) = same_text k l
+meets (inner t k) (inner u l) = same_text t u && same_text k l
+meets (element a i k) (element b j l) = same_text a b && ((i == j) && same_text k l)
+meets (element a i k) (every b l) = same_text a b && same_text k l
+meets (every a k) (element b j l) = same_text a b && same_text k l
+meets (every a k) (every b l) = same_text a b && same_text k l
+meets _ _ = false
 
--- some path is there twice
-abbrev pub has_twice : List Path → Bool
-has_twice [] = false
-has_twice (p ∷ ps) = list_any (same_path p) ps || has_twice ps
+-- the first path that meets one before it
+abbrev pub first_again : (before : List Path) → List Path → Option Path
+first_again before [] = None
+first_again before (p ∷ ps) = if list_any (meets p) before then Some p else first_again (before ++ (p ∷ [])) ps
 
+-- the keys of some axes, in order
 abbrev pub paths_of : List Axis → List Path
-paths_of axes = map (λ a. path_of a.key) axes
+paths_of axes = flat_map (λ a. map path_of a.keys.items) axes
 
--- the reason is one against this grid
-abbrev pub Applies : (vary over : List Axis) (first last : ℕ) → GridError → Type 0
-Applies vary over first last error.NoSeed = last < first
-Applies vary over first last error.SeedTooHigh = 2 ^ 63 ≤ last
-Applies vary over first last error.KeyTwice = has_twice (paths_of vary ++ paths_of over) ≡ true
-Applies vary over first last error.TooManyPoints = 1000000 < length (combinations (map choices vary))
-Applies vary over first last error.TooManyRuns =
-    1000000000000 < length (combinations (map choices over)) * (last + 1 - first)
-Applies vary over first last (error.Memory m) = Unit {0}
+-- a count as it is told: the greatest number of 64 bits stands for all above it
+abbrev pub told : ℕ → ℕ
+told n = min n (2 ^ 64 - 1)
 
-abbrev pub number_of : GridError → ℕ
-number_of error.NoSeed = 1
-number_of error.SeedTooHigh = 2
-number_of error.KeyTwice = 3
-number_of error.TooManyPoints = 4
-number_of error.TooManyRuns = 5
-number_of (error.Memory m) = 6
+-- a reason against a grid
+pub data Refusal : Type 0 where
+  no_seed : Refusal
+  seed_too_high : Refusal
+  key_twice : (key : List ℕ) → Refusal
+  too_many_points : (points : ℕ) → Refusal
+  uneven : (seeds dealt : ℕ) → Refusal
+  too_many_runs : (runs : ℕ) → Refusal
+
+abbrev pub seeds_refusal : (first last : ℕ) → Option Refusal
+seeds_refusal first last =
+    if nat_lt last first then Some no_seed
+    else if nat_le (2 ^ 63) last then Some seed_too_high
+    else None
+
+abbrev pub keys_refusal : List Path → Option Refusal
+keys_refusal paths = option_map (λ p. key_twice (key_text p)) (first_again [] paths)
+
+abbrev pub points_refusal : (points : ℕ) → Option Refusal
+points_refusal points = if nat_lt 1000000 points then Some (too_many_points (told points)) else None
+
+abbrev pub deal_refusal : (seeds dealt : ℕ) → Option Refusal
+deal_refusal seeds dealt = if seeds % dealt == 0 then None else Some (uneven seeds (told dealt))
+
+abbrev pub runs_refusal : (runs : ℕ) → Option Refusal
+runs_refusal runs = if nat_lt 1000000000000 runs then Some (too_many_runs (told runs)) else None
+
+-- the first reason against the grid of some axes and seeds
+abbrev pub refusal : (vary over deal : List Axis) (first last : ℕ) → Option Refusal
+refusal vary over deal first last =
+    option_or (seeds_refusal first last)
+    (option_or (keys_refusal (paths_of vary ++ (paths_of over ++ paths_of deal)))
+    (option_or (points_refusal (length (combinations (map choices vary))))
+    (option_or (deal_refusal (last + 1 - first) (length (combinations (map choices deal))))
+    (runs_refusal (length (combinations (map choices over)) * (last + 1 - first))))))
+
+-- the reason that an error tells
+abbrev pub reason_of : GridError → Option Refusal
+reason_of error.NoSeed = Some no_seed
+reason_of error.SeedTooHigh = Some seed_too_high
+reason_of (error.KeyTwice key) = Some (key_twice (string_bytes key))
+reason_of (error.TooManyPoints points) = Some (too_many_points points)
+reason_of (error.Uneven seeds dealt) = Some (uneven seeds dealt)
+reason_of (error.TooManyRuns runs) = Some (too_many_runs runs)
+reason_of (error.Memory m) = None
 
 abbrev pub is_memory : GridError → Bool
 is_memory (error.Memory m) = true
 is_memory _ = false
 
 -- no reason but want of memory is one against this grid
-abbrev pub NoneApplies : (vary over : List Axis) (first last : ℕ) → Type 0
-NoneApplies vary over first last = (e : GridError) → is_memory e ≡ false → ¬ (Applies vary over first last e)
+abbrev pub NoneApplies : (vary over deal : List Axis) (first last : ℕ) → Type 0
+NoneApplies vary over deal first last = refusal vary over deal first last ≡ None
 
--- the reason is the first against this grid, or memory
-abbrev pub IsFirst : (vary over : List Axis) (first last : ℕ) → GridError → Type 0
-IsFirst vary over first last e = is_memory e ≡ false
-    → Applies vary over first last e
-    × ((f : GridError) → number_of f < number_of e → ¬ (Applies vary over first last f))
+-- the error tells the first reason against this grid, or is memory
+abbrev pub IsFirst : (vary over deal : List Axis) (first last : ℕ) → GridError → Type 0
+IsFirst vary over deal first last e = is_memory e ≡ false → refusal vary over deal first last ≡ reason_of e
 
 -- what a grid of these axes and seeds stands for
-abbrev pub grid_of : (vary over : List Axis) (first last : ℕ) → GridRecord
-grid_of vary over first last = record {
+abbrev pub grid_of : (vary over deal : List Axis) (first last : ℕ) → GridRecord
+grid_of vary over deal first last = record {
   vary = map choices vary;
   over = map choices over;
+  deal = map choices deal;
   first_seed = first;
   seeds = last + 1 - first;
 }

@@ -3,7 +3,7 @@ use Rattle.std.specs.Prelude.{ℕ, ◌-◌, zero, suc, List, [], ◌∷◌, Opti
 use Rattle.std.specs.Ordering.{nat_cmp, match_ordering}
 use Rattle.std.specs.Cmp.Lexicographic.{slice_cmp}
 use Rattle.toml.specs.Data.{Data, integer, string, array, table, Items, no_items, item, Members, no_members, member, get_member, get_item}
-use Rattle.study.specs.Settings.{Path, top, inner, element, Given, number, text, Chosen}
+use Rattle.study.specs.Settings.{Path, top, inner, element, every, Given, number, text, Chosen}
 use Rattle.study.specs.Grid.{RunRecord}
 use Rattle.study.specs.declared.error.PlaceError.{PlaceError}
 use Rattle.study.specs.declared.error.PlaceError.TheVariants as error
@@ -54,6 +54,17 @@ abbrev pub then : {A B : Type 0} → Result A PlaceError → (A → Result B Pla
 then (Ok a) f = f a
 then (Err e) f = Err e
 
+-- the items, each of them a table, with a value at a key of each
+abbrev pub put_in_each : List ℕ → Data → Items → Result Items PlaceError
+put_in_each k d no_items = Ok no_items
+put_in_each k d (item e ds) =
+    then (table_of e) (λ ms. then (put_in_each k d ds) (λ es. Ok (item (table (put k d ms)) es)))
+
+-- the same of at least one
+abbrev pub put_in_all : List ℕ → Data → Items → Result Items PlaceError
+put_in_all k d no_items = Err error.NoElement
+put_in_all k d (item e ds) = put_in_each k d (item e ds)
+
 -- the file's table with a value at a path, or why it can't be there
 abbrev pub set_at : Path → Data → Members → Result Members PlaceError
 set_at (top k) d t = Ok (put k d t)
@@ -61,6 +72,8 @@ set_at (inner name k) d t = then (table_or_new (get_member name t)) (λ ms. Ok (
 set_at (element name place k) d t =
     then (items_of (get_member name t)) (λ ds. then (element_of place ds)
     (λ ms. Ok (put name (array (put_item (place - 1) (table (put k d ms)) ds)) t)))
+set_at (every name k) d t =
+    then (items_of (get_member name t)) (λ ds. then (put_in_all k d ds) (λ es. Ok (put name (array es) t)))
 
 -- with all of these settings, one after the other
 abbrev pub set_all : List Chosen → Members → Result Members PlaceError

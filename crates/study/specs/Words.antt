@@ -1,7 +1,7 @@
 -- Numbers as words of a command line, and a word's bounds.
 use Rattle.std.specs.Prelude.{ℕ, ◌^◌, nat_lt, ◌==◌, ℤ, pos, negsuc, neg_ℤ, List, length, drop, Bool, not, ◌&&◌, cond, codes, Option, Some, None, if◌then◌else◌}
 use Rattle.std.specs.Char.{is_ascii_digit}
-use Rattle.std.specs.List.{list_any, list_all, starts_with, before_first, after_first}
+use Rattle.std.specs.List.{list_any, list_all, starts_with, before_first, after_first, slice_split}
 use Rattle.std.specs.Str.Parse.{digits_value, starts_with_minus}
 
 abbrev pub Word : Type 0
@@ -18,6 +18,10 @@ before c w = before_first (λ b. b == c) w
 
 abbrev pub after : ℕ → Word → Word
 after c w = after_first (λ b. b == c) w
+
+-- what stands between such bytes
+abbrev pub between : ℕ → Word → List Word
+between c w = slice_split (λ b. b == c) w
 
 -- ---- numbers
 

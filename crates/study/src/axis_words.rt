@@ -1,28 +1,29 @@
 //! Axes, as words of a command line.
-ghost use Rattle.std.specs.Prelude.{◌≡◌, ◌==◌, ◌<◌, ◌≤◌, ◌-◌, ◌++◌, ◌∷◌, [], true, false, None, Some, IfOk, OnOk, IfErr, map, length};
-ghost use Rattle.std.specs.List.{flat_map, slice_split};
-ghost use Rattle.study.specs.Settings.{given_by};
-ghost use Rattle.study.specs.Words.{is_integer, integer};
-ghost use Rattle.study.specs.AxisWords.{range_by, range_of, steps as steps_between, one, range as as_range, word as as_word, piece_said, values as values_of, fault_within, first_fault, Adds, pieces, pieces_said, SaysAxis, SaysNoAxis, is_memory};
+ghost use Rattle.std.specs.Prelude.{◌≡◌, ◌<◌, ◌≤◌, ◌-◌, ◌++◌, ◌∷◌, [], false, None, Some, IfOk, OnOk, IfErr, map, length};
+ghost use Rattle.std.specs.List.{flat_map, AllZip};
+ghost use Rattle.study.specs.Settings.{given_by, settings_in, path_of};
+ghost use Rattle.study.specs.Words.{between};
+ghost use Rattle.study.specs.KeyWords.{SaysKey, SayNoKeys, is_memory as is_key_memory};
+ghost use Rattle.study.specs.AxisWords.{range_by, range_of, steps as steps_between, range as as_range, piece_said, values as values_of, parts_fault, single, tied, entry_said, rows, fault_within, first_fault, Adds, entries, entries_said, SaysAxis, SaysNoAxis, is_memory};
 
 use crate::axis::Axis;
-use crate::error::AxisError;
+use crate::error::{AxisError, KeyError};
 use crate::key::Key;
 use crate::range::{Range, RangeWords};
-use crate::range_words::{range_words, read_range};
+use crate::range_words::read_range;
 use crate::setting::Setting;
-use crate::words::{integer_in, is_integer_word};
+use crate::setting_words::{range_in, read_setting};
 use std::alloc::{AllocError, Global};
 
 /// How many values an axis may have that words say.
 const MOST_VALUES: usize = 1_000_000;
 
 /// Adds a value, if there is room for it.
-fn push_value(values: &mut Vec<Setting>, value: Setting) -> Result<(), AxisError>
-    ensures ok { OnOk result ((length (map given_by values.old.items) < 1000000)
-        × (map given_by values.new.items ≡ map given_by values.old.items ++ (given_by value ∷ []))) }
+fn push_value(values: &mut Vec<Vec<Setting>>, value: Vec<Setting>) -> Result<(), AxisError>
+    ensures ok { OnOk result ((length (map settings_in values.old.items) < 1000000)
+        × (map settings_in values.new.items ≡ map settings_in values.old.items ++ (settings_in value ∷ []))) }
     ensures err { IfErr result (λ e. is_memory e ≡ false
-        → (e ≡ AxisError.TooManyValues) × (1000000 ≤ length (map given_by values.old.items))) }
+        → (e ≡ AxisError.TooManyValues) × (1000000 ≤ length (map settings_in values.old.items))) }
 {
     if values.len() >= MOST_VALUES {
         return Err(AxisError::TooManyValues);
@@ -32,39 +33,43 @@ fn push_value(values: &mut Vec<Setting>, value: Setting) -> Result<(), AxisError
         .map_err(|_| AxisError::Memory(AllocError))
 }
 
-/// Adds an integer, if there is room for it.
-fn push_integer(values: &mut Vec<Setting>, word: &str) -> Result<(), AxisError>
-    requires { is_integer word.now ≡ true }
-    ensures ok { OnOk result (Adds (map given_by values.old.items) (map given_by values.new.items)
-        (one (integer word.now))) }
-    ensures err { IfErr result (λ e. is_memory e ≡ false
-        → fault_within (1000000 - length (map given_by values.old.items)) (one (integer word.now)) ≡ Some e) }
+/// A value of one key.
+fn value_of(alloc: Global, setting: Setting) -> Result<Vec<Setting>, AllocError>
+    ensures { IfOk result (λ v. settings_in v ≡ given_by setting ∷ []) }
 {
-    match integer_in(word) {
-        Some(number) => push_value(values, Setting::Integer(number)),
-        None => Err(AxisError::NumberTooLarge),
-    }
+    let mut value = Vec::new(alloc);
+    value.push(setting)?;
+    Ok(value)
 }
 
 /// Adds the numbers of a range.
-fn push_numbers(values: &mut Vec<Setting>, range: Range) -> Result<(), AllocError>
+fn push_numbers(
+    alloc: Global,
+    values: &mut Vec<Vec<Setting>>,
+    range: Range,
+) -> Result<(), AllocError>
     requires { steps_between (range_of range) < 1000000 }
-    ensures { OnOk result (map given_by values.new.items
-        ≡ map given_by values.old.items ++ values_of (as_range (range_of range))) }
+    ensures { OnOk result (map settings_in values.new.items
+        ≡ map settings_in values.old.items ++ rows (single (as_range (range_of range)))) }
 {
     for step in 0..range.steps() + 1 {
-        values.push(Setting::Integer(range.number(step)))?;
+        let value = value_of(alloc, Setting::Integer(range.number(step)))?;
+        values.push(value)?;
     }
     Ok(())
 }
 
 /// Adds the numbers of a range, if there is room for them.
-fn push_range(values: &mut Vec<Setting>, words: RangeWords<'_>) -> Result<(), AxisError>
+fn push_range(
+    alloc: Global,
+    values: &mut Vec<Vec<Setting>>,
+    words: RangeWords<'_>,
+) -> Result<(), AxisError>
     requires { length values.old.items ≤ 1000000 }
-    ensures ok { OnOk result (Adds (map given_by values.old.items) (map given_by values.new.items)
-        (as_range (range_by words.entry))) }
+    ensures ok { OnOk result (Adds (map settings_in values.old.items) (map settings_in values.new.items)
+        (single (as_range (range_by words.entry)))) }
     ensures err { IfErr result (λ e. is_memory e ≡ false
-        → fault_within (1000000 - length (map given_by values.old.items)) (as_range (range_by words.entry))
+        → fault_within (1000000 - length (map settings_in values.old.items)) (single (as_range (range_by words.entry)))
         ≡ Some e) }
 {
     let range = match read_range(words) {
@@ -74,77 +79,150 @@ fn push_range(values: &mut Vec<Setting>, words: RangeWords<'_>) -> Result<(), Ax
     if range.steps() >= (MOST_VALUES - values.len()) as u64 {
         return Err(AxisError::TooManyValues);
     }
-    match push_numbers(values, range) {
+    match push_numbers(alloc, values, range) {
         Ok(()) => Ok(()),
         Err(error) => Err(AxisError::Memory(error)),
     }
 }
 
-/// Adds a text, if there is room for it.
-fn push_text(alloc: Global, values: &mut Vec<Setting>, word: &str) -> Result<(), AxisError>
-    ensures ok { OnOk result (Adds (map given_by values.old.items) (map given_by values.new.items)
-        (as_word word.now)) }
+/// Adds the values of one key that a word says, if there is room for them.
+fn push_single(alloc: Global, values: &mut Vec<Vec<Setting>>, word: &str) -> Result<(), AxisError>
+    requires { length values.old.items ≤ 1000000 }
+    ensures ok { OnOk result (Adds (map settings_in values.old.items) (map settings_in values.new.items)
+        (single (piece_said word.now))) }
     ensures err { IfErr result (λ e. is_memory e ≡ false
-        → fault_within (1000000 - length (map given_by values.old.items)) (as_word word.now) ≡ Some e) }
+        → fault_within (1000000 - length (map settings_in values.old.items)) (single (piece_said word.now))
+        ≡ Some e) }
 {
-    if word.is_empty() {
-        return Err(AxisError::NoValue);
+    if let Some(words) = range_in(word) {
+        return push_range(alloc, values, words);
     }
-    match String::from_str(alloc, word) {
-        Ok(text) => push_value(values, Setting::Text(text)),
+    let setting = read_setting(alloc, word)?;
+    match value_of(alloc, setting) {
+        Ok(value) => push_value(values, value),
         Err(error) => Err(AxisError::Memory(error)),
     }
 }
 
-/// Adds the values of one more piece, if there is room for them.
-fn push_piece(alloc: Global, values: &mut Vec<Setting>, word: &str) -> Result<(), AxisError>
-    requires { length values.old.items ≤ 1000000 }
-    ensures ok { OnOk result (Adds (map given_by values.old.items) (map given_by values.new.items)
-        (piece_said word.now)) }
+/// The words between all places at which this character stands, which is one of ASCII.
+fn words_between(alloc: Global, words: &str, mark: char) -> Result<Vec<&str>, AllocError>
+    requires { mark < 128 }
+    ensures { IfOk result (λ v. map (λ x. x.now) v.items ≡ between mark words.now) }
+{
+    words.split(mark).collect(alloc)
+}
+
+/// The settings of the parts of a value.
+fn read_parts(alloc: Global, words: &[&str]) -> Result<Vec<Setting>, AxisError>
+    ensures ok { IfOk result (λ v. (parts_fault (map piece_said (map (λ x. x.now) words.now)) ≡ None)
+        × (settings_in v ≡ flat_map values_of (map piece_said (map (λ x. x.now) words.now)))) }
     ensures err { IfErr result (λ e. is_memory e ≡ false
-        → fault_within (1000000 - length (map given_by values.old.items)) (piece_said word.now) ≡ Some e) }
+        → parts_fault (map piece_said (map (λ x. x.now) words.now)) ≡ Some e) }
 {
-    if is_integer_word(word) {
-        return push_integer(values, word);
+    let mut settings = Vec::new(alloc);
+    for word in words {
+        let part = read_setting(alloc, word)?;
+        settings
+            .push(part)
+            .map_err(|_| AxisError::Memory(AllocError))?;
     }
-    match range_words(word) {
-        Some(words) => push_range(values, words),
-        None => push_text(alloc, values, word),
+    Ok(settings)
+}
+
+/// Adds a value of tied keys, if there is room for it.
+fn push_tied(
+    alloc: Global,
+    values: &mut Vec<Vec<Setting>>,
+    keys: usize,
+    word: &str,
+) -> Result<(), AxisError>
+    ensures ok { OnOk result (Adds (map settings_in values.old.items) (map settings_in values.new.items)
+        (tied keys (map piece_said (between 58 word.now)))) }
+    ensures err { IfErr result (λ e. is_memory e ≡ false
+        → fault_within (1000000 - length (map settings_in values.old.items))
+        (tied keys (map piece_said (between 58 word.now))) ≡ Some e) }
+{
+    let words = match words_between(alloc, word, ':') {
+        Ok(words) => words,
+        Err(error) => return Err(AxisError::Memory(error)),
+    };
+    if words.len() != keys {
+        return Err(AxisError::PartsPerKey);
+    }
+    let value = read_parts(alloc, &words)?;
+    push_value(values, value)
+}
+
+/// Adds the values of so many keys that a word says, if there is room for them.
+fn push_entry(
+    alloc: Global,
+    values: &mut Vec<Vec<Setting>>,
+    keys: usize,
+    word: &str,
+) -> Result<(), AxisError>
+    requires { length values.old.items ≤ 1000000 }
+    ensures ok { OnOk result (Adds (map settings_in values.old.items) (map settings_in values.new.items)
+        (entry_said keys word.now)) }
+    ensures err { IfErr result (λ e. is_memory e ≡ false
+        → fault_within (1000000 - length (map settings_in values.old.items)) (entry_said keys word.now) ≡ Some e) }
+{
+    if keys == 1 {
+        push_single(alloc, values, word)
+    } else {
+        push_tied(alloc, values, keys, word)
     }
 }
 
-/// The words between commas.
-fn words_between(alloc: Global, words: &str) -> Result<Vec<&str>, AllocError>
-    ensures { IfOk result (λ v. map (λ x. x.now) v.items ≡ slice_split (λ b. b == 44) words.now) }
-{
-    words.split(',').collect(alloc)
-}
-
-/// The values of some pieces.
-fn read_pieces(alloc: Global, words: &[&str]) -> Result<Vec<Setting>, AxisError>
-    ensures ok { IfOk result (λ v. (first_fault 1000000 (pieces_said (map (λ x. x.now) words.now)) ≡ None)
-        × (map given_by v.items ≡ flat_map values_of (pieces_said (map (λ x. x.now) words.now)))) }
+/// The values of so many keys that some words say.
+fn read_entries(alloc: Global, keys: usize, words: &[&str]) -> Result<Vec<Vec<Setting>>, AxisError>
+    ensures ok { IfOk result (λ v. (first_fault 1000000 (entries_said keys (map (λ x. x.now) words.now)) ≡ None)
+        × (map settings_in v.items ≡ flat_map rows (entries_said keys (map (λ x. x.now) words.now)))) }
     ensures some { IfOk result (λ v. length words.now ≤ length v.items) }
     ensures err { IfErr result (λ e. is_memory e ≡ false
-        → first_fault 1000000 (pieces_said (map (λ x. x.now) words.now)) ≡ Some e) }
+        → first_fault 1000000 (entries_said keys (map (λ x. x.now) words.now)) ≡ Some e) }
 {
     let mut values = Vec::new(alloc);
     for word in words {
-        push_piece(alloc, &mut values, word)?;
+        push_entry(alloc, &mut values, keys, word)?;
     }
     Ok(values)
 }
 
-/// The values between commas, at least one.
-fn read_values(alloc: Global, words: &str) -> Result<Vec<Setting>, AxisError>
-    ensures ok { IfOk result (λ v. (first_fault 1000000 (pieces words.now) ≡ None)
-        × (map given_by v.items ≡ flat_map values_of (pieces words.now))) }
+/// The values of so many keys between commas, at least one.
+fn read_values(alloc: Global, keys: usize, words: &str) -> Result<Vec<Vec<Setting>>, AxisError>
+    ensures ok { IfOk result (λ v. (first_fault 1000000 (entries keys words.now) ≡ None)
+        × (map settings_in v.items ≡ flat_map rows (entries keys words.now))) }
     ensures some { IfOk result (λ v. 1 ≤ length v.items) }
-    ensures err { IfErr result (λ e. is_memory e ≡ false → first_fault 1000000 (pieces words.now) ≡ Some e) }
+    ensures err { IfErr result (λ e. is_memory e ≡ false → first_fault 1000000 (entries keys words.now) ≡ Some e) }
 {
-    match words_between(alloc, words) {
-        Ok(words) => read_pieces(alloc, &words),
+    match words_between(alloc, words, ',') {
+        Ok(words) => read_entries(alloc, keys, &words),
         Err(error) => Err(AxisError::Memory(error)),
+    }
+}
+
+/// The keys that some words say.
+fn read_key_words(alloc: Global, words: &[&str]) -> Result<Vec<Key>, KeyError>
+    ensures ok { IfOk result (λ v. AllZip SaysKey (map (λ x. x.now) words.now) (map path_of v.items)) }
+    ensures err { IfErr result (λ e. is_key_memory e ≡ false → SayNoKeys (map (λ x. x.now) words.now) e) }
+{
+    let mut keys = Vec::new(alloc);
+    for word in words {
+        let key = Key::parse(alloc, word)?;
+        keys.push(key).map_err(|_| KeyError::Memory(AllocError))?;
+    }
+    Ok(keys)
+}
+
+/// The keys between commas, at least one.
+fn read_keys(alloc: Global, words: &str) -> Result<Vec<Key>, KeyError>
+    ensures ok { IfOk result (λ v. AllZip SaysKey (between 44 words.now) (map path_of v.items)) }
+    ensures some { IfOk result (λ v. 1 ≤ length v.items) }
+    ensures err { IfErr result (λ e. is_key_memory e ≡ false → SayNoKeys (between 44 words.now) e) }
+{
+    match words_between(alloc, words, ',') {
+        Ok(words) => read_key_words(alloc, &words),
+        Err(error) => Err(KeyError::Memory(error)),
     }
 }
 
@@ -153,22 +231,26 @@ impl Axis {
     /// an integer; a range of integers, `A..=B` or `A..=B:STEP`, which is A, A + STEP, .. up to B; or else a text. A
     /// number is decimal, after a minus sign or none, and fits 64 bits with a sign. There are at most 1,000,000 values.
     ///
+    /// `KEY,KEY,..=V:V:..,V:V:..,..` ties keys: each value has a part for each of them, in their order, which is an
+    /// integer or else a text.
+    ///
     /// # Errors
     ///
-    /// `NoEquals`; then why the key is none; then why the first V that is refused is. `Memory` at any point.
+    /// `NoEquals`; then why the first key that is none is; then why the first value that is refused is. `Memory` at any
+    /// point.
     pub fn parse(alloc: Global, words: &str) -> Result<Axis, AxisError>
         ensures ok { IfOk result (SaysAxis words.now) }
         ensures err { IfErr result (λ e. is_memory e ≡ false → SaysNoAxis words.now e) }
     {
-        let (key, values) = match words.split_once('=') {
+        let (keys, values) = match words.split_once('=') {
             Some(parts) => parts,
             None => return Err(AxisError::NoEquals),
         };
-        let key = match Key::parse(alloc, key) {
-            Ok(key) => key,
+        let keys = match read_keys(alloc, keys) {
+            Ok(keys) => keys,
             Err(error) => return Err(AxisError::Key(error)),
         };
-        let values = read_values(alloc, values)?;
-        Ok(Axis { key, values })
+        let values = read_values(alloc, keys.len(), values)?;
+        Ok(Axis { keys, values })
     }
 }

@@ -1,36 +1,54 @@
 //! Combinations of choices, counted and picked by their numbers.
-ghost use Rattle.std.specs.Prelude.{◌≡◌, ◌≤◌, ◌<◌, [], length, map, get_or, MatchOption, IfOk};
+ghost use Rattle.std.specs.Prelude.{◌≡◌, ◌≤◌, ◌<◌, ◌++◌, [], length, map, get_or, OnOk};
 ghost use Rattle.study.specs.Combinations.{combinations};
-ghost use Rattle.study.specs.Settings.{choices, chosen};
+ghost use Rattle.study.specs.Settings.{choices, chosen, path_of, given_by, set_to};
+ghost use Rattle.study.specs.Grid.{told};
 
 use crate::axis::{Axis, Choice};
-use std::alloc::{AllocError, Global};
+use crate::key::Key;
+use crate::setting::Setting;
+use std::alloc::AllocError;
 
-/// How many combinations of the axes' values there are, if they aren't more than this.
-pub(crate) fn count_combinations(axes: &[Axis], most: u64) -> Option<u64>
-    ensures { MatchOption result (most < length (combinations (map choices axes.now)))
-        (λ n. (n ≡ length (combinations (map choices axes.now))) × (1 ≤ n) × (n ≤ most)) }
+/// How many combinations of the axes' values there are; the greatest number stands for more than that too.
+pub(crate) fn count_combinations(axes: &[Axis]) -> u64
+    ensures value { result ≡ told (length (combinations (map choices axes.now))) }
+    ensures some { 1 ≤ result }
 {
     let mut count = 1_u64;
     for axis in axes {
-        count = count.checked_mul(axis.values.len() as u64)?;
+        count = count.saturating_mul(axis.values.len() as u64);
     }
-    if count <= most { Some(count) } else { None }
+    count
 }
 
-/// The combination of this number, from 0, of so many: its values are found by division, from the first axis to the
-/// last.
+/// Adds what some keys are set to, in their order.
+fn push_choices<'a>(
+    picked: &mut Vec<Choice<'a>>,
+    keys: &'a [Key],
+    settings: &'a [Setting],
+) -> Result<(), AllocError>
+    ensures { OnOk result (map chosen picked.new.items
+        ≡ map chosen picked.old.items ++ set_to (map path_of keys.now) (map given_by settings.now)) }
+{
+    for (key, value) in keys.iter().zip(settings) {
+        picked.push(Choice { key, value })?;
+    }
+    Ok(())
+}
+
+/// Adds the combination of this number, from 0, of so many: its values are found by division, from the first axis to
+/// the last.
 pub(crate) fn pick_combination<'a>(
-    alloc: Global,
+    picked: &mut Vec<Choice<'a>>,
     axes: &'a [Axis],
     count: u64,
     number: u64,
-) -> Result<Vec<Choice<'a>>, AllocError>
+) -> Result<(), AllocError>
     requires count { count ≡ length (combinations (map choices axes.now)) }
     requires within { number < count }
-    ensures { IfOk result (λ v. map chosen v.items ≡ get_or (combinations (map choices axes.now)) number []) }
+    ensures { OnOk result (map chosen picked.new.items
+        ≡ map chosen picked.old.items ++ get_or (combinations (map choices axes.now)) number []) }
 {
-    let mut picked = Vec::new(alloc);
     // how many combinations begin with what was picked so far, and which of them it is
     let mut alike = count;
     let mut left = number;
@@ -38,10 +56,7 @@ pub(crate) fn pick_combination<'a>(
         alike /= axis.values.len() as u64;
         let value = &axis.values[(left / alike) as usize];
         left %= alike;
-        picked.push(Choice {
-            key: &axis.key,
-            value,
-        })?;
+        push_choices(picked, &axis.keys, value)?;
     }
-    Ok(picked)
+    Ok(())
 }

@@ -14,15 +14,30 @@ pub enum GridError {
     /// A seed is above 9,223,372,036,854,775,807.
     #[error("a seed is too high")]
     SeedTooHigh,
-    /// A key is set twice.
+    /// A key is set twice: the text of the first key that meets one before it, the varied keys being first, then those
+    /// whose values are added up, then the dealt ones.
     #[error("a key is there twice")]
-    KeyTwice,
+    KeyTwice(String),
     /// There are more than 1,000,000 points.
     #[error("there are too many points")]
-    TooManyPoints,
+    TooManyPoints {
+        /// How many there are; 18,446,744,073,709,551,615 stands for more than that too.
+        points: u64,
+    },
+    /// The dealt combinations can't be dealt to equally many seeds.
+    #[error("the seeds can't be dealt evenly")]
+    Uneven {
+        /// How many seeds there are.
+        seeds: u64,
+        /// How many dealt combinations there are; 18,446,744,073,709,551,615 stands for more than that too.
+        dealt: u64,
+    },
     /// A point has more than 1,000,000,000,000 runs.
     #[error("there are too many runs")]
-    TooManyRuns,
+    TooManyRuns {
+        /// How many it has; 18,446,744,073,709,551,615 stands for more than that too.
+        runs: u64,
+    },
     /// Memory was refused.
     #[error("out of memory")]
     Memory(#[from(alloc)] AllocError),
@@ -34,7 +49,7 @@ pub enum PlaceError {
     /// The key's path goes through something that is no table, or no array of tables.
     #[error("the key's path goes through what is no table")]
     NotATable,
-    /// The key's path goes through a table that its array doesn't have.
+    /// The key's path goes through a table that its array doesn't have, or through every table of an array without any.
     #[error("the key's path goes through a table that isn't there")]
     NoElement,
     /// Memory was refused.
@@ -70,7 +85,8 @@ pub enum KeyError {
     /// The word is `seed`: a study's seeds are said by themselves.
     #[error("seed is no key of a study")]
     Seed,
-    /// The word is no key: names of letters, digits, `_` and `-`, as `horizon`, `detector.timeout` or `crash[1].at`.
+    /// The word is no key: names of letters, digits, `_` and `-`, as `horizon`, `detector.timeout`, `crash[1].at` or
+    /// `crash[*].at`.
     #[error("no key")]
     NoKey,
     /// Memory was refused.
@@ -78,22 +94,30 @@ pub enum KeyError {
     Memory(#[from(alloc)] AllocError),
 }
 
-/// Why words say no axis, in the order in which the reasons are looked for: first in the whole, and then in each value,
-/// from the first to the last. `Memory` may come at any point.
+/// Why words say no axis, in the order in which the reasons are looked for: first in the whole, then in each key, from
+/// the first to the last, and then in each value. A value of tied keys is looked at as a whole, then in each part, and
+/// then whether there is room for it. `Memory` may come at any point.
 #[derive(Debug, Drop, Error)]
 pub enum AxisError {
     /// There is no `=`.
     #[error("there is no =")]
     NoEquals,
-    /// What stands before the first `=` is no key.
+    /// What stands before the first `=`, or a part of it between commas, is no key.
     #[error("no key stands before the =")]
     Key(KeyError),
-    /// There is nothing where a value belongs.
+    /// A value of tied keys hasn't one part for each of them.
+    #[error("a value hasn't one part for each key")]
+    PartsPerKey,
+    /// There is nothing where a value, or a part of one, belongs.
     #[error("a value is missing")]
     NoValue,
-    /// An integer, or a range's end or step, is below -9,223,372,036,854,775,808 or above 9,223,372,036,854,775,807.
+    /// An integer, or an end or the step of a range, is below -9,223,372,036,854,775,808 or above
+    /// 9,223,372,036,854,775,807.
     #[error("a number is too large")]
     NumberTooLarge,
+    /// A part of a value of tied keys is a range, whatever its numbers.
+    #[error("a range stands in a value of tied keys")]
+    TiedRange,
     /// A range's step is below 1.
     #[error("a range's step is below 1")]
     StepTooLow,

@@ -76,6 +76,9 @@ fn owned_key(alloc: Global, owner: &str, key: &str) -> Result<Key, KeyError>
         }
         Some((array, place)) => {
             let array = name_in(alloc, array)?;
+            if place == "*]" {
+                return Ok(Key::Every { array, key });
+            }
             match place_in(place) {
                 Some(place) => Ok(Key::Element { array, place, key }),
                 None => Err(KeyError::NoKey),
@@ -85,8 +88,8 @@ fn owned_key(alloc: Global, owner: &str, key: &str) -> Result<Key, KeyError>
 }
 
 impl Key {
-    /// The key that a word says: `horizon`, `detector.timeout`, or `crash[1].at`, where the first table is 1. Its names
-    /// have letters, digits, `_` and `-`.
+    /// The key that a word says: `horizon`, `detector.timeout`, `crash[1].at`, where the first table is 1, or
+    /// `crash[*].at`, of every table. Its names have letters, digits, `_` and `-`.
     ///
     /// # Errors
     ///

@@ -1,12 +1,13 @@
 //! Studies: many runs of one scenario under a grid of settings, and what is said of all of them together.
 //!
 //! This crate says which runs a study has and what each run's scenario is. A [`Grid`] has points, all combinations of
-//! the values of its varied axes, and each point has runs, all combinations of the values of its other axes with each
-//! seed (`specs/Grid.antt`). The code finds a point or a run by its number, and lists none. A [`Shard`] is one of
-//! several consecutive blocks of the points (`specs/Shard.antt`). [`read_run`] reads a run's scenario from the file's
-//! table with the run's values in place of the file's (`specs/Placed.antt`), and [`scenario_text`] writes that table as
-//! a file. Keys, axes, [`Seeds`] and shards are read from words of a command line by their `parse`
-//! (`specs/KeyWords.antt`, `specs/AxisWords.antt`, `specs/SeedWords.antt`, `specs/ShardWords.antt`).
+//! the values of its varied axes. Each point has runs: all combinations of the values that are added up with each seed,
+//! to which the combinations of the dealt axes' values are dealt in turn (`specs/Grid.antt`). The code finds a point or
+//! a run by its number, and lists none. A [`Shard`] is one of several consecutive blocks of the points
+//! (`specs/Shard.antt`). [`read_run`] reads a run's scenario from the file's table with the run's values in place of
+//! the file's (`specs/Placed.antt`), and [`scenario_text`] writes that table as a file. Keys, axes, [`Seeds`] and
+//! shards are read from words of a command line by their `parse` (`specs/KeyWords.antt`,
+//! `specs/AxisWords.antt`, `specs/SeedWords.antt`, `specs/ShardWords.antt`).
 #![tactic(auto)]
 
 mod axis;
@@ -14,6 +15,7 @@ mod axis_words;
 mod combination;
 mod error;
 mod grid;
+mod grid_checks;
 mod key;
 mod key_words;
 mod placed;
@@ -23,6 +25,7 @@ mod read;
 mod run;
 mod seeds;
 mod setting;
+mod setting_words;
 mod shard;
 mod shard_words;
 mod text;

@@ -1,9 +1,9 @@
 //! A scenario's file with values at keys, in place of those that are there.
-ghost use Rattle.std.specs.Prelude.{◌≡◌, ◌<◌, ◌^◌, false, true, IfOk, OnOk, IfErr, Ok, Err, pos, codes, map, length, option_map, ◌≤◌};
+ghost use Rattle.std.specs.Prelude.{◌≡◌, ◌<◌, ◌≤◌, false, true, IfOk, OnOk, IfErr, Ok, Err, map, length, option_map};
 ghost use Rattle.toml.specs.Data.{get_member, table};
 ghost use Rattle.toml.specs.View.{view, table_view, array_view, items_view};
-ghost use Rattle.study.specs.Settings.{path_of, given_by, chosen, inner, element};
-ghost use Rattle.study.specs.Placed.{data_of, put as put_member, put_item, set_at, set_all, table_of, table_or_new, items_of, element_of, is_memory};
+ghost use Rattle.study.specs.Settings.{path_of, given_by, chosen, inner, element, every};
+ghost use Rattle.study.specs.Placed.{data_of, put as put_member, put_item, put_in_each, set_at, set_all, table_of, table_or_new, items_of, element_of, is_memory};
 
 use crate::axis::Choice;
 use crate::error::PlaceError;
@@ -29,18 +29,43 @@ fn value_at<'a>(table: &'a Table, key: &str) -> Option<&'a Value>
     table.get(key)
 }
 
+/// Inserts a value at a key of a table.
+fn insert(alloc: Global, table: &mut Table, key: &str, value: Value) -> Result<(), AllocError>
+    ensures { OnOk result (table_view table.new ≡ put_member key.now (view value) (table_view table.old)) }
+{
+    let name = String::from_str(alloc, key)?;
+    table.insert(name, value)?;
+    Ok(())
+}
+
 /// Puts a value at a key of a table.
 pub(crate) fn put(
     alloc: Global,
     table: &mut Table,
     key: &str,
     value: Value,
-) -> Result<(), AllocError>
-    ensures { OnOk result (table_view table.new ≡ put_member key.now (view value) (table_view table.old)) }
+) -> Result<(), PlaceError>
+    ensures ok { OnOk result (table_view table.new ≡ put_member key.now (view value) (table_view table.old)) }
+    ensures err { IfErr result (λ e. is_memory e ≡ true) }
 {
-    let name = String::from_str(alloc, key)?;
-    table.insert(name, value)?;
-    Ok(())
+    insert(alloc, table, key, value).map_err(PlaceError::Memory)
+}
+
+/// Sets a key of a table.
+fn set_here(
+    alloc: Global,
+    table: &mut Table,
+    key: &str,
+    setting: &Setting,
+) -> Result<(), PlaceError>
+    ensures ok { OnOk result (table_view table.new
+        ≡ put_member key.now (data_of (given_by setting.now)) (table_view table.old)) }
+    ensures err { IfErr result (λ e. is_memory e ≡ true) }
+{
+    match value_of(alloc, setting) {
+        Ok(value) => put(alloc, table, key, value),
+        Err(error) => Err(PlaceError::Memory(error)),
+    }
 }
 
 /// A copy of a value that is a table.
@@ -103,53 +128,87 @@ fn write_table(items: &mut Vec<Value>, index: usize, inner: Table)
     items[index] = Value::Table(inner);
 }
 
-/// Puts a value at a key of a table of an array of tables.
-fn put_in_element(
+/// Sets a key of a table of an array of tables.
+fn set_in_element(
     alloc: Global,
     table: &mut Table,
     array: &str,
     place: u64,
     key: &str,
-    value: Value,
+    setting: &Setting,
 ) -> Result<(), PlaceError>
-    ensures ok { OnOk result (set_at (element array.now place key.now) (view value) (table_view table.old)
-        ≡ Ok (table_view table.new)) }
+    ensures ok { OnOk result (set_at (element array.now place key.now) (data_of (given_by setting.now))
+        (table_view table.old) ≡ Ok (table_view table.new)) }
     ensures err { IfErr result (λ e. is_memory e ≡ false
-        → set_at (element array.now place key.now) (view value) (table_view table.old) ≡ Err e) }
+        → set_at (element array.now place key.now) (data_of (given_by setting.now)) (table_view table.old) ≡ Err e) }
 {
     let mut items = copy_of_items(table, array)?;
     let mut inner = copy_of_element(&items, place)?;
-    if let Err(error) = put(alloc, &mut inner, key, value) {
-        return Err(PlaceError::Memory(error));
-    }
+    set_here(alloc, &mut inner, key, setting)?;
     write_table(&mut items, place as usize - 1, inner);
-    match put(alloc, table, array, Value::Array(items)) {
-        Ok(()) => Ok(()),
-        Err(error) => Err(PlaceError::Memory(error)),
-    }
+    put(alloc, table, array, Value::Array(items))
 }
 
-/// Puts a value at a key of a table of a table.
-fn put_in_inner(
+/// Copies of items, each of them a table, with a key of each set.
+fn changed_items(
+    alloc: Global,
+    items: &[Value],
+    key: &str,
+    setting: &Setting,
+) -> Result<Vec<Value>, PlaceError>
+    ensures ok { IfOk result (λ v. put_in_each key.now (data_of (given_by setting.now)) (items_view items.now)
+        ≡ Ok (array_view v)) }
+    ensures err { IfErr result (λ e. is_memory e ≡ false
+        → put_in_each key.now (data_of (given_by setting.now)) (items_view items.now) ≡ Err e) }
+{
+    let mut changed = Vec::new(alloc);
+    for item in items {
+        let mut copy = copy_of_table(item)?;
+        set_here(alloc, &mut copy, key, setting)?;
+        changed
+            .push(Value::Table(copy))
+            .map_err(|_| PlaceError::Memory(AllocError))?;
+    }
+    Ok(changed)
+}
+
+/// Sets a key of every table of an array of tables.
+fn set_in_every(
+    alloc: Global,
+    table: &mut Table,
+    array: &str,
+    key: &str,
+    setting: &Setting,
+) -> Result<(), PlaceError>
+    ensures ok { OnOk result (set_at (every array.now key.now) (data_of (given_by setting.now)) (table_view table.old)
+        ≡ Ok (table_view table.new)) }
+    ensures err { IfErr result (λ e. is_memory e ≡ false
+        → set_at (every array.now key.now) (data_of (given_by setting.now)) (table_view table.old) ≡ Err e) }
+{
+    let items = copy_of_items(table, array)?;
+    if items.is_empty() {
+        return Err(PlaceError::NoElement);
+    }
+    let changed = changed_items(alloc, &items, key, setting)?;
+    put(alloc, table, array, Value::Array(changed))
+}
+
+/// Sets a key of a table of a table.
+fn set_in_inner(
     alloc: Global,
     table: &mut Table,
     name: &str,
     key: &str,
-    value: Value,
+    setting: &Setting,
 ) -> Result<(), PlaceError>
-    ensures ok { OnOk result (set_at (inner name.now key.now) (view value) (table_view table.old)
+    ensures ok { OnOk result (set_at (inner name.now key.now) (data_of (given_by setting.now)) (table_view table.old)
         ≡ Ok (table_view table.new)) }
     ensures err { IfErr result (λ e. is_memory e ≡ false
-        → set_at (inner name.now key.now) (view value) (table_view table.old) ≡ Err e) }
+        → set_at (inner name.now key.now) (data_of (given_by setting.now)) (table_view table.old) ≡ Err e) }
 {
     let mut changed = copy_of_inner(alloc, table, name)?;
-    if let Err(error) = put(alloc, &mut changed, key, value) {
-        return Err(PlaceError::Memory(error));
-    }
-    match put(alloc, table, name, Value::Table(changed)) {
-        Ok(()) => Ok(()),
-        Err(error) => Err(PlaceError::Memory(error)),
-    }
+    set_here(alloc, &mut changed, key, setting)?;
+    put(alloc, table, name, Value::Table(changed))
 }
 
 /// Sets a key of a file's table.
@@ -164,20 +223,16 @@ pub(crate) fn set(
     ensures err { IfErr result (λ e. is_memory e ≡ false
         → set_at (path_of key.now) (data_of (given_by setting.now)) (table_view table.old) ≡ Err e) }
 {
-    let value = match value_of(alloc, setting) {
-        Ok(value) => value,
-        Err(error) => return Err(PlaceError::Memory(error)),
-    };
     match key {
-        Key::Top(key) => match put(alloc, table, key.as_str(), value) {
-            Ok(()) => Ok(()),
-            Err(error) => Err(PlaceError::Memory(error)),
-        },
+        Key::Top(key) => set_here(alloc, table, key.as_str(), setting),
         Key::Inner { table: name, key } => {
-            put_in_inner(alloc, table, name.as_str(), key.as_str(), value)
+            set_in_inner(alloc, table, name.as_str(), key.as_str(), setting)
         }
         Key::Element { array, place, key } => {
-            put_in_element(alloc, table, array.as_str(), *place, key.as_str(), value)
+            set_in_element(alloc, table, array.as_str(), *place, key.as_str(), setting)
+        }
+        Key::Every { array, key } => {
+            set_in_every(alloc, table, array.as_str(), key.as_str(), setting)
         }
     }
 }

@@ -43,10 +43,8 @@ pub fn run_table(
     };
     set_choices(alloc, &mut table, point)?;
     set_choices(alloc, &mut table, &run.settings)?;
-    match put(alloc, &mut table, "seed", Value::Integer(run.seed as i64)) {
-        Ok(()) => Ok(table),
-        Err(error) => Err(PlaceError::Memory(error)),
-    }
+    put(alloc, &mut table, "seed", Value::Integer(run.seed as i64))?;
+    Ok(table)
 }
 
 /// The scenario of a run.

@@ -1,22 +1,23 @@
 -- What the commands answer.
-use Rattle.std.proofs.Common.{◌≡◌, ◌∙◌, sym, subst, ℕ, ◌+◌, ◌-◌, ◌<◌, ◌⊎◌, inl, inr, List, length, take, drop, get_or, length-drop, Option, ap, arith}
+use Rattle.std.proofs.Common.{◌≡◌, ◌∙◌, sym, subst, ℕ, ◌+◌, ◌-◌, ◌<◌, ◌⊎◌, inl, inr, List, ◌++◌, length, take, drop, get_or, length-drop, Option, ap, arith}
 use Rattle.std.specs.List.{range_with_len, Contains}
 use Rattle.std.proofs.lemmas.List.{get_or-take, get_or-drop, length-take}
 use Rattle.std.proofs.lemmas.List.FromFn.{length-range_with_len, get_or-range_with_len}
 use Rattle.diagnosis.specs.Diagnosis.{AcceptsAs}
 use Rattle.diagnosis.specs.declared.answer.Accepted.{Accepted}
-use Rattle.study_commands.specs.Check.{IsCheckAnswer, accepted_text}
-use Rattle.study_commands.specs.Draw.{IsDrawAnswer, Shows, end_of_ticks, first_tick}
+use Rattle.study_commands.specs.Check.{IsCheckAnswer, IsStudyCheck, accepted_text, study_begin}
+use Rattle.study_commands.specs.Draw.{AreNamed, IsDrawAnswer, Shows, end_of_ticks, first_tick}
 use Rattle.study_commands.specs.File.{AreBytes, IsScenario, IsTable}
 use Rattle.study_commands.specs.Letters.{IsLettersAnswer}
 use Rattle.study_commands.specs.Show.{IsPlace, IsShowAnswer}
 use Rattle.study_commands.specs.Stop.{Stops, Went}
-use Rattle.study_commands.specs.Study.{IsGrid, IsShardOf}
-use Rattle.study_commands.specs.Sweep.{IsFaultOf, IsOfRun, IsSweepAnswer, IsSweepFront}
+use Rattle.study_commands.specs.Fault.{IsBefore}
+use Rattle.study_commands.specs.Study.{IsGrid, IsShardOf, shard_word}
+use Rattle.study_commands.specs.Sweep.{IsFaultOf, IsOfRun, IsSaid, IsSweepAnswer, IsSweepFront}
 use Rattle.study_commands.specs.declared.fault.Fault.{Fault}
-use Rattle.study_commands.specs.Why.{IsOfText, StopsShow, StopsSweep}
+use Rattle.study_commands.specs.Why.{IsOfText, StopsShow, StopsStudyCheck, StopsSweep}
 use Rattle.study_commands.proofs.Reasons.{study_run, study_text}
-use Rattle.study_commands.proofs.Stopping.{refusal_one, stops_one}
+use Rattle.study_commands.proofs.Stopping.{refusal_before, refusal_one, stops_one}
 use Rattle.letters.specs.Letters.{AreLetters}
 use Rattle.letters.specs.LettersText.{letters_text}
 use Rattle.letters.specs.declared.letter.Letter.{Letter}
@@ -27,10 +28,13 @@ use Rattle.study.specs.Placed.{table_of_run}
 use Rattle.study.specs.Runs.{IsRunText}
 use Rattle.study.specs.Shard.{ShardRecord}
 use Rattle.study.specs.Words.{Word}
+use Rattle.study_line.specs.declared.order.Each.{Each}
 use Rattle.study_line.specs.declared.order.GridTexts.{GridTexts}
 use Rattle.study_line.specs.declared.order.Picture.{Picture}
-use Rattle.sweep.specs.Outcome.{BreaksOff, WroteStudy, WroteFirst, run_at}
-use Rattle.sweep.specs.StudyText.{numbers_of, point_at}
+use Rattle.study_line.specs.declared.order.StudyTexts.{StudyTexts}
+use Rattle.sweep.specs.Layout.{LayoutRecord}
+use Rattle.sweep.specs.Outcome.{BreaksOff, CantBeRun, HaveScenarios, WroteStudy, WroteFirst}
+use Rattle.sweep.specs.StudyText.{numbers_of, point_at, run_at}
 use Rattle.sweep.specs.declared.error.SweepError.{SweepError}
 use Rattle.sweep.specs.declared.error.SweepError.TheVariants as error
 use Rattle.toml.specs.Data.{Members}
@@ -58,12 +62,14 @@ letters_answer input path s letters text is_scenario are is =
     record { scenario = s; is_scenario = is_scenario; letters = letters; are_letters = are; text = is }
 
 -- a picture of an accepted file's run
-pub draw_answer : (input : Option (List ℕ)) (path : List ℕ) (named : Picture) (from until : Option ℕ) (s : Record)
-    (first end : ℕ) (text : List ℕ) → IsScenario input path s → first ≡ first_tick from → end ≡ end_of_ticks s until
-    → Shows named s first end text → IsDrawAnswer input path named from until text
-draw_answer input path named from until s first end text is_scenario is_first is_end shows =
-    let Shown : ℕ → ℕ → Type 0 = λ f e. Shows named s f e text in
+pub draw_answer : (input : Option (List ℕ)) (path : List ℕ) (named : Picture) (from until : Option ℕ) (word : Option Word) (s : Record)
+    (of : List ℕ) (first end : ℕ) (text : List ℕ) → IsScenario input path s → AreNamed named word of → first ≡ first_tick from
+    → end ≡ end_of_ticks s until → Shows named s of first end text → IsDrawAnswer input path named from until word text
+draw_answer input path named from until word s of first end text is_scenario are is_first is_end shows =
+    let Shown : ℕ → ℕ → Type 0 = λ f e. Shows named s of f e text in
     record {
+      of = of;
+      are_named = are;
       scenario = s;
       is_scenario = is_scenario;
       shows = subst (λ f. Shown f (end_of_ticks s until)) is_first (subst (Shown first) is_end shows);
@@ -117,18 +123,93 @@ show_answer input path words point run file g p r text is_file is_grid is_point 
   text = is_text;
 }
 
-module _ (input : Option (List ℕ)) (path : List ℕ) (words : GridTexts) (word : Option Word)
-    (file : Members) (is_file : IsTable input path file) (g : GridRecord) (is_grid : IsGrid words g)
-    (shard : ShardRecord) (is_shard : IsShardOf word shard)
+module _ (input : Option (List ℕ)) (path : List ℕ) (study : StudyTexts) (columns : Option Word) (kind : Each)
+    (file : Members) (g : GridRecord) (shard : ShardRecord) (layout : LayoutRecord)
+    (said : IsSaid input path study columns kind file g shard layout)
     {O : Type 0} (told : O → Option (List ℕ)) (failed : O → ℕ) (old new : O) where
-  pub of_run : (e : SweepError) → BreaksOff file g shard told failed old new e → IsOfRun g e
+  pub of_run : (e : SweepError) → BreaksOff file g shard layout told failed old new e → IsOfRun g e
   of_run (error.Refused point run reason) broke = (point_within g shard point broke.0.point_in, broke.0.run_in)
   of_run error.Memory broke = tt
   of_run error.Write broke = tt
 
-  pub sweep_why : (e : SweepError) (f : Fault) → IsFaultOf e f → BreaksOff file g shard told failed old new e
-      → StopsSweep input path words word f
+  pub sweep_why : (e : SweepError) (f : Fault) → IsFaultOf e f → BreaksOff file g shard layout told failed old new e
+      → StopsSweep input path study columns kind f
   sweep_why (error.Refused point run reason) f is broke = study_run _ _ f is (λ line. inr (record {
+    file = file;
+    is_file = said.is_file;
+    grid = g;
+    is_grid = said.is_grid;
+    shard = shard;
+    is_shard = said.is_shard;
+    point = point;
+    run = run;
+    reason = reason;
+    first = broke.0;
+  }))
+  sweep_why error.Memory f is broke = let P : Fault → Type 0 = λ x. StopsSweep input path study columns kind x in subst P (sym is) tt
+  sweep_why error.Write f is broke = let P : Fault → Type 0 = λ x. StopsSweep input path study columns kind x in subst P (sym is) tt
+
+  pub swept : WroteStudy file g shard layout told failed old new → Went told failed old new (IsSweepAnswer input path study columns kind)
+  swept wrote = record {
+    piece = wrote.text;
+    is_wanted = record { file = file; grid = g; shard = shard; layout = layout; said = said; text = wrote.is_text };
+    written = wrote.wrote;
+  }
+
+  front : WroteFirst file g shard layout told failed old new → Went told failed old new (IsSweepFront input path study columns kind)
+  front first = record {
+    piece = first.text;
+    is_wanted = record { file = file; grid = g; shard = shard; layout = layout; said = said; count = first.count; text = first.is_text };
+    written = first.wrote;
+  }
+
+  left : WroteNothing told failed old new ⊎ WroteFirst file g shard layout told failed old new
+      → WroteNothing told failed old new ⊎ Went told failed old new (IsSweepFront input path study columns kind)
+  left (inl nothing) = inl nothing
+  left (inr first) = inr (front first)
+
+  pub sweep_stops : (e : SweepError) (f : Fault) → IsFaultOf e f → BreaksOff file g shard layout told failed old new e
+      → Stops told failed old new (IsSweepFront input path study columns kind) (IsSweepFront input path study columns kind) f
+  sweep_stops (error.Refused point run reason) f is broke = stops_one told failed old new _ _ f (refusal_one f is) broke.1
+  sweep_stops error.Memory f is broke =
+      let P : Fault → Type 0 = λ x. Stops told failed old new (IsSweepFront input path study columns kind) (IsSweepFront input path study columns kind) x in
+      subst P (sym is) (left broke)
+  sweep_stops error.Write f is broke =
+      let P : Fault → Type 0 = λ x. Stops told failed old new (IsSweepFront input path study columns kind) (IsSweepFront input path study columns kind) x in
+      subst P (sym is) (record {
+        piece = broke.text;
+        is_wanted = record { file = file; grid = g; shard = shard; layout = layout; said = said; count = broke.count; text = broke.is_text };
+        written = broke.wrote;
+      })
+
+-- a run of the shard that is refused is one of the study's
+pub cant_of_run : (file : Members) (g : GridRecord) (shard : ShardRecord) (e : SweepError) → CantBeRun file g shard e → IsOfRun g e
+cant_of_run file g shard (error.Refused point run reason) cant = (point_within g shard point cant.point_in, cant.run_in)
+cant_of_run file g shard error.Memory cant = tt
+cant_of_run file g shard error.Write cant = tt
+
+module _ (input : Option (List ℕ)) (path : List ℕ) (study : StudyTexts)
+    (file : Members) (is_file : IsTable input path file) (g : GridRecord) (is_grid : IsGrid study.grid g)
+    (shard : ShardRecord) (is_shard : IsShardOf (shard_word study) shard) where
+  -- of a study that can be run
+  pub study_answer : (piece : List ℕ) → HaveScenarios file g shard
+      → (reckoned : List ℕ) × (piece ≡ study_begin (length (numbers_of g shard)) (length (runs g)) ++ reckoned)
+      → IsStudyCheck input path study piece
+  study_answer piece each text = record {
+    file = file;
+    is_file = is_file;
+    grid = g;
+    is_grid = is_grid;
+    shard = shard;
+    is_shard = is_shard;
+    each = each;
+    reckoned = text.0;
+    text = text.1;
+  }
+
+  -- of one that can't
+  pub checked_why : (e : SweepError) (f : Fault) → IsFaultOf e f → CantBeRun file g shard e → StopsStudyCheck input path study f
+  checked_why (error.Refused point run reason) f is cant = study_run _ _ f is (λ line. inr (record {
     file = file;
     is_file = is_file;
     grid = g;
@@ -138,40 +219,12 @@ module _ (input : Option (List ℕ)) (path : List ℕ) (words : GridTexts) (word
     point = point;
     run = run;
     reason = reason;
-    first = broke.0;
+    first = cant;
   }))
-  sweep_why error.Memory f is broke = let P : Fault → Type 0 = λ x. StopsSweep input path words word x in subst P (sym is) tt
-  sweep_why error.Write f is broke = let P : Fault → Type 0 = λ x. StopsSweep input path words word x in subst P (sym is) tt
+  checked_why error.Memory f is cant = let P : Fault → Type 0 = λ x. StopsStudyCheck input path study x in subst P (sym is) tt
+  checked_why error.Write f is cant = absurd cant
 
-  pub swept : WroteStudy file g shard told failed old new → Went told failed old new (IsSweepAnswer input path words word)
-  swept wrote = record {
-    piece = wrote.text;
-    is_wanted = record { file = file; is_file = is_file; grid = g; is_grid = is_grid; shard = shard; is_shard = is_shard; text = wrote.is_text };
-    written = wrote.wrote;
-  }
-
-  front : WroteFirst file g shard told failed old new → Went told failed old new (IsSweepFront input path words word)
-  front first = record {
-    piece = first.text;
-    is_wanted = record { file = file; is_file = is_file; grid = g; is_grid = is_grid; shard = shard; is_shard = is_shard; count = first.count; text = first.is_text };
-    written = first.wrote;
-  }
-
-  left : WroteNothing told failed old new ⊎ WroteFirst file g shard told failed old new
-      → WroteNothing told failed old new ⊎ Went told failed old new (IsSweepFront input path words word)
-  left (inl nothing) = inl nothing
-  left (inr first) = inr (front first)
-
-  pub sweep_stops : (e : SweepError) (f : Fault) → IsFaultOf e f → BreaksOff file g shard told failed old new e
-      → Stops told failed old new (IsSweepFront input path words word) (IsSweepFront input path words word) f
-  sweep_stops (error.Refused point run reason) f is broke = stops_one told failed old new _ _ f (refusal_one f is) broke.1
-  sweep_stops error.Memory f is broke =
-      let P : Fault → Type 0 = λ x. Stops told failed old new (IsSweepFront input path words word) (IsSweepFront input path words word) x in
-      subst P (sym is) (left broke)
-  sweep_stops error.Write f is broke =
-      let P : Fault → Type 0 = λ x. Stops told failed old new (IsSweepFront input path words word) (IsSweepFront input path words word) x in
-      subst P (sym is) (record {
-        piece = broke.text;
-        is_wanted = record { file = file; is_file = is_file; grid = g; is_grid = is_grid; shard = shard; is_shard = is_shard; count = broke.count; text = broke.is_text };
-        written = broke.wrote;
-      })
+  pub checked_before : (e : SweepError) (f : Fault) → IsFaultOf e f → CantBeRun file g shard e → IsBefore f
+  checked_before (error.Refused point run reason) f is cant = refusal_before f is
+  checked_before error.Memory f is cant = subst IsBefore (sym is) tt
+  checked_before error.Write f is cant = absurd cant

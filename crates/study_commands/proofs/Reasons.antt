@@ -1,6 +1,7 @@
 -- Why commands stop, for each of their faults.
 use Rattle.std.proofs.Common.{◌≡◌, ◌++◌, codes, append_assoc, ℕ, List, None, Option, Result, String}
 use Rattle.std.specs.declared.alloc.Global.{Global}
+use Rattle.printable.specs.Printable.{printable}
 use Rattle.study_commands.specs.Fault.{IsBefore, IsOfWords, IsOfWordsFor, IsRefusal}
 use Rattle.study_commands.specs.File.{AreBytes}
 use Rattle.study_commands.specs.Refusal.{IsBeforeReading, IsNoTable, IsOfBytes, IsOfFile, IsOfTable, IsRight, IsRightOfTable, IsToldWith, IsUnread, refusal_text, FileRefusal, absent, unreadable, too_long, broken, line_with}
@@ -59,7 +60,7 @@ of_text_before table Write is = absurd is
 -- ---- files
 
 -- a line of three parts, however they are grouped
-pub told_line : (line path text : List ℕ) → line ≡ path ++ (codes ": " ++ (text ++ codes "\n")) → line ≡ line_with path text
+pub told_line : (line path text : List ℕ) → line ≡ printable path ++ (codes ": " ++ (text ++ codes "\n")) → line ≡ line_with path text
 told_line line path text is = simp append_assoc is
 
 module _ (input : Option (List ℕ)) (path : List ℕ) where

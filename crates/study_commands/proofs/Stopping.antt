@@ -22,6 +22,28 @@ of_words_before Holds Limit is = absurd is
 of_words_before Holds Memory is = absurd is
 of_words_before Holds Write is = absurd is
 
+-- a refusal comes before anything is written
+pub refusal_before : (f : Fault) → IsRefusal f → IsBefore f
+refusal_before Form is = tt
+refusal_before WordsMemory is = tt
+refusal_before (Words line) is = tt
+refusal_before (Refused line) is = tt
+refusal_before (NotDrawn error line) is = absurd is
+refusal_before Limit is = absurd is
+refusal_before Memory is = tt
+refusal_before Write is = absurd is
+
+-- no fault ends with status 0
+pub above_zero : (f : Fault) → status_of f ≡ 0 → ⊥
+above_zero Form is = omega (arith, is)
+above_zero WordsMemory is = omega (arith, is)
+above_zero (Words line) is = omega (arith, is)
+above_zero (Refused line) is = omega (arith, is)
+above_zero (NotDrawn error line) is = omega (arith, is)
+above_zero Limit is = omega (arith, is)
+above_zero Memory is = omega (arith, is)
+above_zero Write is = omega (arith, is)
+
 -- a refusal ends with status 1
 pub refusal_one : (f : Fault) → IsRefusal f → status_of f ≡ 1
 refusal_one Form is = absurd is
@@ -58,16 +80,16 @@ module _ {O : Type 0} (told : O → Option (List ℕ)) (failed : O → ℕ) (old
     stops_of_run s Write is nothing = absurd is
 
     -- a command whose picture is refused, or its run, before anything is written
-    pub stops_of_picture : (named : Picture) (s : Record) (from until : ℕ) (f : Fault) → IsOfPicture named s from until f → WroteNothing told failed old new
+    pub stops_of_picture : (named : Picture) (s : Record) (of : List ℕ) (from until : ℕ) (f : Fault) → IsOfPicture named s of from until f → WroteNothing told failed old new
         → Stops told failed old new IsWritten IsLeft f
-    stops_of_picture named s from until Form is nothing = absurd is
-    stops_of_picture named s from until WordsMemory is nothing = absurd is
-    stops_of_picture named s from until (Words line) is nothing = absurd is
-    stops_of_picture named s from until (Refused line) is nothing = absurd is
-    stops_of_picture named s from until (NotDrawn error line) is nothing = nothing
-    stops_of_picture named s from until Limit is nothing = nothing
-    stops_of_picture named s from until Memory is nothing = inl nothing
-    stops_of_picture named s from until Write is nothing = absurd is
+    stops_of_picture named s of from until Form is nothing = absurd is
+    stops_of_picture named s of from until WordsMemory is nothing = absurd is
+    stops_of_picture named s of from until (Words line) is nothing = absurd is
+    stops_of_picture named s of from until (Refused line) is nothing = absurd is
+    stops_of_picture named s of from until (NotDrawn error line) is nothing = nothing
+    stops_of_picture named s of from until Limit is nothing = nothing
+    stops_of_picture named s of from until Memory is nothing = inl nothing
+    stops_of_picture named s of from until Write is nothing = absurd is
 
     -- a command that stops with status 1
     pub stops_one : (f : Fault) → status_of f ≡ 1 → WroteNothing told failed old new → Stops told failed old new IsWritten IsLeft f

@@ -1,41 +1,49 @@
 -- What an order is answered with.
-use Rattle.std.specs.Prelude.{ℕ, List, Option, option_map}
-use Rattle.study_commands.specs.Check.{IsCheckAnswer}
+use Rattle.std.specs.Prelude.{ℕ, List, Option, None, Some, option_map}
+use Rattle.study_commands.specs.Check.{IsCheckAnswer, IsStudyCheck}
 use Rattle.study_commands.specs.Draw.{IsDrawAnswer}
 use Rattle.study_commands.specs.Letters.{IsLettersAnswer}
 use Rattle.study_commands.specs.Show.{IsShowAnswer}
 use Rattle.study_commands.specs.Sweep.{IsSweepAnswer, IsSweepFront}
 use Rattle.study_line.specs.declared.order.Order.{Order}
 use Rattle.study_line.specs.declared.order.Order.TheVariants as order
+use Rattle.study_line.specs.declared.order.StudyTexts.{StudyTexts}
+
+-- the piece is what a check says, of the file or of a study over it
+abbrev pub IsChecked : Option (List ℕ) → (path : List ℕ) → Option StudyTexts → List ℕ → Type 0
+IsChecked input path None piece = IsCheckAnswer input path piece
+IsChecked input path (Some study) piece = IsStudyCheck input path study piece
 
 -- the piece is what the order asks for
 abbrev pub Answers : Option (List ℕ) → Order → List ℕ → Type 0
-Answers input (order.Check path) piece = IsCheckAnswer input path.now piece
+Answers input (order.Check path study) piece = IsChecked input path.now study piece
 Answers input (order.Letters path) piece = IsLettersAnswer input path.now piece
-Answers input (order.Draw path named from until) piece = IsDrawAnswer input path.now named from until piece
+Answers input (order.Draw path named from until of) piece =
+    IsDrawAnswer input path.now named from until (option_map (λ w. w.now) of) piece
 Answers input (order.Show path grid point run) piece = IsShowAnswer input path.now grid point run piece
-Answers input (order.Sweep path grid shard threads) piece =
-    IsSweepAnswer input path.now grid (option_map (λ w. w.now) shard) piece
+Answers input (order.Sweep path study columns each) piece =
+    IsSweepAnswer input path.now study (option_map (λ w. w.now) columns) each piece
 
 -- the piece is what is written for the order, as far as it comes: of a sweep the rows of the first points
 abbrev pub Writes : Option (List ℕ) → Order → List ℕ → Type 0
-Writes input (order.Check path) piece = IsCheckAnswer input path.now piece
+Writes input (order.Check path study) piece = IsChecked input path.now study piece
 Writes input (order.Letters path) piece = IsLettersAnswer input path.now piece
-Writes input (order.Draw path named from until) piece = IsDrawAnswer input path.now named from until piece
+Writes input (order.Draw path named from until of) piece =
+    IsDrawAnswer input path.now named from until (option_map (λ w. w.now) of) piece
 Writes input (order.Show path grid point run) piece = IsShowAnswer input path.now grid point run piece
-Writes input (order.Sweep path grid shard threads) piece =
-    IsSweepFront input path.now grid (option_map (λ w. w.now) shard) piece
+Writes input (order.Sweep path study columns each) piece =
+    IsSweepFront input path.now study (option_map (λ w. w.now) columns) each piece
 
 -- the piece is what the order has left where memory ended it: only a sweep leaves anything
 abbrev pub Leaves : Option (List ℕ) → Order → List ℕ → Type 0
-Leaves input (order.Sweep path grid shard threads) piece =
-    IsSweepFront input path.now grid (option_map (λ w. w.now) shard) piece
+Leaves input (order.Sweep path study columns each) piece =
+    IsSweepFront input path.now study (option_map (λ w. w.now) columns) each piece
 Leaves input _ piece = ⊥
 
 -- the path that an order names
 abbrev pub path_of : Order → List ℕ
-path_of (order.Check path) = path.now
+path_of (order.Check path study) = path.now
 path_of (order.Letters path) = path.now
-path_of (order.Draw path named from until) = path.now
+path_of (order.Draw path named from until of) = path.now
 path_of (order.Show path grid point run) = path.now
-path_of (order.Sweep path grid shard threads) = path.now
+path_of (order.Sweep path study columns each) = path.now

@@ -1,5 +1,7 @@
 -- What `draw` answers.
-use Rattle.std.specs.Prelude.{◌≡◌, ◌⊎◌, ℕ, List, Option, None, Some, unwrap_or}
+use Rattle.std.specs.Prelude.{◌≡◌, ◌⊎◌, ℕ, List, [], map, nat_le, ◌&&◌, Contains, Option, None, Some, if◌then◌else◌, unwrap_or}
+use Rattle.process_api.specs.Bounds.{most_processes}
+use Rattle.study.specs.Words.{Word, between, is_natural, natural}
 use Rattle.drawing.specs.LettersPicture.{DrawsLetters}
 use Rattle.drawing.specs.Refusals.{IsMemory, letters_refusal, refusal}
 use Rattle.drawing.specs.Suspicions.{DrawsSuspicions}
@@ -9,7 +11,7 @@ use Rattle.trace_laws.specs.World.{IsTrace}
 use Rattle.study_commands.specs.File.{IsScenario}
 use Rattle.study_commands.specs.Runs.{IsTooLong}
 use Rattle.study_commands.specs.declared.fault.Fault.{Fault}
-use Rattle.study_commands.specs.declared.fault.Fault.TheVariants.{Limit, Memory, NotDrawn}
+use Rattle.study_commands.specs.declared.fault.Fault.TheVariants.{Limit, Memory, NotDrawn, Words}
 use Rattle.letters.specs.Letters.{AreLetters}
 use Rattle.letters.specs.declared.letter.Letter.{Letter}
 use Rattle.process_api.specs.EntryRecord.{EntryRecord}
@@ -24,20 +26,41 @@ pub record ShowsSuspicions (s : Record) (from until : ℕ) (text : List ℕ) : T
   pub allowed : refusal s from until ≡ None
   pub draws : DrawsSuspicions s trace from until text
 
--- the text is the picture of what went from whom to whom at these ticks of the scenario's run, and nothing speaks
--- against it
-pub record ShowsLetters (s : Record) (from until : ℕ) (text : List ℕ) : Type 0 where
+-- the text is the picture of what went from whom to whom at these ticks of the scenario's run, of the letters of these
+-- processes where some are named, and nothing speaks against it
+pub record ShowsLetters (s : Record) (of : List ℕ) (from until : ℕ) (text : List ℕ) : Type 0 where
   pub trace : List EntryRecord
   pub is_trace : IsTrace (setting_of s) trace
   pub letters : List Letter
   pub are_letters : AreLetters s letters
-  pub allowed : letters_refusal s letters from until ≡ None
-  pub draws : DrawsLetters s trace letters from until text
+  pub allowed : letters_refusal s letters of from until ≡ None
+  pub draws : DrawsLetters s trace letters of from until text
 
 -- the text is that picture of the scenario's run
-abbrev pub Shows : Picture → Record → (from until : ℕ) → List ℕ → Type 0
-Shows picture.Suspicions s from until text = ShowsSuspicions s from until text
-Shows picture.Letters s from until text = ShowsLetters s from until text
+abbrev pub Shows : Picture → Record → (of : List ℕ) (from until : ℕ) → List ℕ → Type 0
+Shows picture.Suspicions s of from until text = ShowsSuspicions s from until text
+Shows picture.Letters s of from until text = ShowsLetters s of from until text
+
+-- the process of this number, in digits
+abbrev pub process_said : Word → Option ℕ
+process_said w =
+    if is_natural w && (nat_le 1 (natural w) && nat_le (natural w) most_processes) then Some (natural w) else None
+
+-- the processes that a word names between commas, of a picture of letters; none where there is no word
+abbrev pub AreNamed : Picture → Option Word → List ℕ → Type 0
+AreNamed named None of = of ≡ []
+AreNamed picture.Letters (Some word) of = map process_said (between 44 word) ≡ map Some of
+AreNamed picture.Suspicions (Some word) of = ⊥
+
+-- one of the pieces is no process
+abbrev pub HasNoProcess : List Word → Type 0
+HasNoProcess pieces = (piece : Word) × Contains pieces piece × (process_said piece ≡ None)
+
+-- the word names something that is no process, or it stands beside a picture of suspicions
+abbrev pub NamesNone : Picture → Option Word → Type 0
+NamesNone named None = ⊥
+NamesNone picture.Letters (Some word) = HasNoProcess (between 44 word)
+NamesNone picture.Suspicions (Some word) = Unit {0}
 
 -- where nothing is said, a picture begins at tick 0 and ends at the horizon
 abbrev pub first_tick : Option ℕ → ℕ
@@ -48,20 +71,22 @@ end_of_ticks s until = unwrap_or until s.horizon
 
 -- the piece is the picture of the run of the file's scenario
 pub record IsDrawAnswer (input : Option (List ℕ)) (path : List ℕ) (named : Picture) (from until : Option ℕ)
-    (piece : List ℕ) : Type 0 where
+    (word : Option Word) (piece : List ℕ) : Type 0 where
+  pub of : List ℕ
+  pub are_named : AreNamed named word of
   pub scenario : Record
   pub is_scenario : IsScenario input path scenario
-  pub shows : Shows named scenario (first_tick from) (end_of_ticks scenario until) piece
+  pub shows : Shows named scenario of (first_tick from) (end_of_ticks scenario until) piece
 
 -- ---- refusals
 
 -- the picture of the scenario's run is refused for this: of the processes and the ticks asked for, or of the letters
 -- that the run sends
-abbrev pub IsRefused : Picture → Record → (from until : ℕ) → DrawError → Type 0
-IsRefused picture.Suspicions s from until error = refusal s from until ≡ Some error
-IsRefused picture.Letters s from until error =
+abbrev pub IsRefused : Picture → Record → (of : List ℕ) (from until : ℕ) → DrawError → Type 0
+IsRefused picture.Suspicions s of from until error = refusal s from until ≡ Some error
+IsRefused picture.Letters s of from until error =
     (refusal s from until ≡ Some error)
-    ⊎ ((letters : List Letter) × AreLetters s letters × (letters_refusal s letters from until ≡ Some error))
+    ⊎ ((letters : List Letter) × AreLetters s letters × (letters_refusal s letters of from until ≡ Some error))
 
 -- the fault tells of this; in which words isn't said
 abbrev pub TellsOf : DrawError → Fault → Type 0
@@ -71,16 +96,27 @@ TellsOf error _ = ⊥
 
 -- the fault is that of the picture of the scenario's run, or of the run. The run isn't made where its processes or the
 -- ticks asked for are refused
-abbrev pub IsOfPicture : Picture → Record → (from until : ℕ) → Fault → Type 0
-IsOfPicture named s from until (NotDrawn error line) = IsRefused named s from until error
-IsOfPicture named s from until Limit = IsTooLong s × (refusal s from until ≡ None)
-IsOfPicture named s from until Memory = Unit {0}
-IsOfPicture named s from until _ = ⊥
+abbrev pub IsOfPicture : Picture → Record → (of : List ℕ) (from until : ℕ) → Fault → Type 0
+IsOfPicture named s of from until (NotDrawn error line) = IsRefused named s of from until error
+IsOfPicture named s of from until Limit = IsTooLong s × (refusal s from until ≡ None)
+IsOfPicture named s of from until Memory = Unit {0}
+IsOfPicture named s of from until _ = ⊥
 
--- a picture or its run stops the command only as the rules say, of the file's scenario
-abbrev pub StopsPicture : Option (List ℕ) → (path : List ℕ) → Picture → (from until : Option ℕ) → Fault → Type 0
-StopsPicture input path named from until (NotDrawn error line) =
-    (s : Record) × IsScenario input path s × IsRefused named s (first_tick from) (end_of_ticks s until) error
-StopsPicture input path named from until Limit =
+-- the picture of the file's scenario with the processes that a word names is refused for this
+pub record IsRefusedPicture (input : Option (List ℕ)) (path : List ℕ) (named : Picture) (from until : Option ℕ)
+    (word : Option Word) (error : DrawError) : Type 0 where
+  pub of : List ℕ
+  pub are_named : AreNamed named word of
+  pub scenario : Record
+  pub is_scenario : IsScenario input path scenario
+  pub refused : IsRefused named scenario of (first_tick from) (end_of_ticks scenario until) error
+
+-- words, a picture or its run stop the command only as the rules say, of the file's scenario
+abbrev pub StopsPicture : Option (List ℕ) → (path : List ℕ) → Picture → (from until : Option ℕ) → Option Word → Fault
+    → Type 0
+StopsPicture input path named from until word (Words line) = NamesNone named word
+StopsPicture input path named from until word (NotDrawn error line) =
+    IsRefusedPicture input path named from until word error
+StopsPicture input path named from until word Limit =
     (s : Record) × IsScenario input path s × IsTooLong s × (refusal s (first_tick from) (end_of_ticks s until) ≡ None)
-StopsPicture input path named from until _ = Unit {0}
+StopsPicture input path named from until word _ = Unit {0}

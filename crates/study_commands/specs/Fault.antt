@@ -16,7 +16,7 @@ status_of Write = 4
 
 -- the line that is told of it: what a refusal has to say stands in it
 abbrev pub line_of : Fault → List ℕ
-line_of Form = codes "fdstudy: words: Form\n"
+line_of Form = codes "fdstudy: words: Form: the options of a study need --seeds\n"
 line_of WordsMemory = codes "fdstudy: words: Memory\n"
 line_of (Words line) = string_bytes line
 line_of (Refused (Some line)) = string_bytes line

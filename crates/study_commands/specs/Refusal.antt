@@ -4,6 +4,7 @@ use Rattle.std.specs.declared.alloc.Global.{Global}
 use Rattle.diagnosis.specs.Diagnosis.{RefusesFor}
 use Rattle.diagnosis.specs.Text.{refused_text}
 use Rattle.diagnosis.specs.declared.answer.Refused.{Refused as Diagnosed}
+use Rattle.printable.specs.Printable.{printable}
 use Rattle.study_commands.specs.File.{AreBytes}
 use Rattle.study_commands.specs.declared.fault.Fault.{Fault}
 use Rattle.study_commands.specs.declared.fault.Fault.TheVariants.{Memory, Refused}
@@ -36,7 +37,7 @@ refusal_text (broken r) = refused_text r
 module _ (path : List ℕ) where
   -- what is told of a file, behind its path
   abbrev pub line_with : List ℕ → List ℕ
-  line_with text = path ++ codes ": " ++ text ++ codes "\n"
+  line_with text = printable path ++ codes ": " ++ text ++ codes "\n"
 
   -- the fault is that the file is refused, and its line says so
   abbrev pub IsToldWith : List ℕ → Fault → Type 0

@@ -5,6 +5,7 @@ use Rattle.study_commands.specs.Fault.{line_of, status_of}
 use Rattle.study_commands.specs.Why.{StopsFor}
 use Rattle.study_commands.specs.declared.fault.Fault.{Fault}
 use Rattle.study_commands.specs.declared.fault.Fault.TheVariants.{Form, WordsMemory, Write}
+use Rattle.printable.specs.Printable.{printable, printable_lines}
 use Rattle.sources.specs.Input.{input_path}
 use Rattle.study_line.specs.Order.{AsksHelp, Explains, States}
 use Rattle.study_line.specs.declared.order.Order.{Order}
@@ -23,16 +24,21 @@ ServesFor input words piece = ((asked : Order) × States words asked × Writes i
 abbrev pub LeftOf : Option (List ℕ) → List (List ℕ) → List ℕ → Type 0
 LeftOf input words piece = (asked : Order) × States words asked × Leaves input asked piece
 
--- what is told of a word that names no picture
-abbrev pub no_picture_line : List ℕ → List ℕ
-no_picture_line word = codes "fdstudy: words: NoPicture: " ++ word ++ codes "\n"
+-- what is told of a word that isn't one of those for its option
+abbrev pub other_word_line : (name word : List ℕ) → List ℕ
+other_word_line name word = codes "fdstudy: words: " ++ name ++ codes ": " ++ printable word ++ codes "\n"
+
+-- that is told, or that there was no memory for it
+abbrev pub TellsWord : (name word line : List ℕ) → Type 0
+TellsWord name word line = (line ≡ other_word_line name word) ⊎ (line ≡ line_of WordsMemory)
 
 -- what is told of words that state no order, and the status
 abbrev pub TellsOf : WordsError → (status : ℕ) → (line : List ℕ) → Type 0
 TellsOf (refusal.Help text) status line = (status ≡ 4) × (line ≡ line_of Write)
-TellsOf (refusal.Mistake text) status line = (status ≡ 2) × (line ≡ string_bytes text)
-TellsOf (refusal.NoPicture word) status line =
-    (status ≡ 2) × ((line ≡ no_picture_line (string_bytes word)) ⊎ (line ≡ line_of WordsMemory))
+TellsOf (refusal.Mistake text) status line =
+    (status ≡ 2) × ((line ≡ printable_lines (string_bytes text)) ⊎ (line ≡ line_of WordsMemory))
+TellsOf (refusal.NoPicture word) status line = (status ≡ 2) × TellsWord (codes "NoPicture") (string_bytes word) line
+TellsOf (refusal.NoEach word) status line = (status ≡ 2) × TellsWord (codes "NoEach") (string_bytes word) line
 TellsOf refusal.Form status line = (status ≡ 2) × (line ≡ line_of Form)
 TellsOf refusal.Memory status line = (status ≡ 2) × (line ≡ line_of WordsMemory)
 

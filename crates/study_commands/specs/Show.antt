@@ -7,8 +7,7 @@ use Rattle.study.specs.Grid.{GridRecord, points, runs}
 use Rattle.study.specs.Placed.{table_of_run}
 use Rattle.study.specs.Runs.{IsRunText}
 use Rattle.study_line.specs.declared.order.GridTexts.{GridTexts}
-use Rattle.sweep.specs.Outcome.{run_at}
-use Rattle.sweep.specs.StudyText.{point_at}
+use Rattle.sweep.specs.StudyText.{point_at, run_at}
 
 -- what counts from 1 has this place, counted from 0, among so many
 pub record IsPlace (number count place : ℕ) : Type 0 where

@@ -3,38 +3,45 @@ use Rattle.std.specs.Prelude.{◌≡◌, ◌<◌, ℕ, List, length, take, Optio
 use Rattle.toml.specs.Data.{Members}
 use Rattle.study_commands.specs.Fault.{IsRefusal}
 use Rattle.study_commands.specs.File.{IsTable}
-use Rattle.study_commands.specs.Study.{IsGrid, IsShardOf}
+use Rattle.study_commands.specs.Study.{IsGrid, IsLayout, IsShardOf, shard_word}
 use Rattle.study_commands.specs.declared.fault.Fault.{Fault}
 use Rattle.study_commands.specs.declared.fault.Fault.TheVariants.{Memory, Write}
 use Rattle.study.specs.Grid.{GridRecord, points, runs}
 use Rattle.study.specs.Shard.{ShardRecord}
 use Rattle.study.specs.Words.{Word}
-use Rattle.study_line.specs.declared.order.GridTexts.{GridTexts}
-use Rattle.sweep.specs.StudyText.{IsStudyText, IsTextOf, numbers_of}
+use Rattle.study_line.specs.declared.order.Each.{Each}
+use Rattle.study_line.specs.declared.order.StudyTexts.{StudyTexts}
+use Rattle.sweep.specs.Layout.{LayoutRecord}
+use Rattle.sweep.specs.StudyText.{IsStudyText, IsTextOf, units_of}
 use Rattle.sweep.specs.declared.error.SweepError.{SweepError}
 use Rattle.sweep.specs.declared.error.SweepError.TheVariants as error
 
-module _ (input : Option (List ℕ)) (path : List ℕ) (words : GridTexts) (word : Option Word) where
+-- the study that words say of the file, and the layout of its rows
+module _ (input : Option (List ℕ)) (path : List ℕ) (study : StudyTexts) (columns : Option Word) (kind : Each) where
+  pub record IsSaid (file : Members) (grid : GridRecord) (shard : ShardRecord) (layout : LayoutRecord) : Type 0 where
+    pub is_file : IsTable input path file
+    pub is_grid : IsGrid study.grid grid
+    pub is_shard : IsShardOf (shard_word study) shard
+    pub is_layout : IsLayout kind columns grid layout
+
   -- the piece is the text of the study: of its shard's points, where a shard is named
   pub record IsSweepAnswer (piece : List ℕ) : Type 0 where
     pub file : Members
-    pub is_file : IsTable input path file
     pub grid : GridRecord
-    pub is_grid : IsGrid words grid
     pub shard : ShardRecord
-    pub is_shard : IsShardOf word shard
-    pub text : IsStudyText file grid shard piece
+    pub layout : LayoutRecord
+    pub said : IsSaid file grid shard layout
+    pub text : IsStudyText file grid shard layout piece
 
-  -- the piece has the rows of the first of these points, and no others
+  -- the piece has the rows of the first of these points, or of their runs, and no others
   pub record IsSweepFront (piece : List ℕ) : Type 0 where
     pub file : Members
-    pub is_file : IsTable input path file
     pub grid : GridRecord
-    pub is_grid : IsGrid words grid
     pub shard : ShardRecord
-    pub is_shard : IsShardOf word shard
+    pub layout : LayoutRecord
+    pub said : IsSaid file grid shard layout
     pub count : ℕ
-    pub text : IsTextOf file grid shard (take count (numbers_of grid shard)) piece
+    pub text : IsTextOf file grid shard layout (take count (units_of layout.rows grid shard)) piece
 
 -- the fault of a sweep that breaks off: of a run that is refused its line isn't said
 abbrev pub IsFaultOf : SweepError → Fault → Type 0

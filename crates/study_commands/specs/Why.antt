@@ -1,13 +1,13 @@
 -- Why an order isn't carried out: which of its words, its file or its runs are refused.
-use Rattle.std.specs.Prelude.{◌≡◌, ◌⊎◌, ℕ, List, length, false, Option, Result, String, option_map}
+use Rattle.std.specs.Prelude.{◌≡◌, ◌⊎◌, ℕ, List, length, false, Option, None, Some, Result, String, option_map}
 use Rattle.std.specs.declared.alloc.Global.{Global}
 use Rattle.study_commands.specs.Draw.{StopsPicture}
 use Rattle.study_commands.specs.File.{IsTable}
 use Rattle.study_commands.specs.Refusal.{IsNoTable, IsOfFile}
 use Rattle.study_commands.specs.Runs.{StopsAtLimit}
 use Rattle.study_commands.specs.Show.{IsPlace}
-use Rattle.study_commands.specs.Study.{IsGrid, IsShardOf}
-use Rattle.study_commands.specs.WordRefusals.{IsOutside, SaysNoGrid, SaysNoShard}
+use Rattle.study_commands.specs.Study.{IsGrid, IsShardOf, shard_word}
+use Rattle.study_commands.specs.WordRefusals.{IsOutside, LacksColumn, SaysNoGrid, SaysNoShard}
 use Rattle.study_commands.specs.declared.fault.Fault.{Fault}
 use Rattle.study_commands.specs.declared.fault.Fault.TheVariants.{Memory, Refused, Words, WordsMemory, Write}
 use Rattle.study.specs.Grid.{GridRecord, points, runs}
@@ -18,11 +18,13 @@ use Rattle.study.specs.Words.{Word}
 use Rattle.study.specs.declared.error.PlaceError.{PlaceError}
 use Rattle.study.specs.declared.error.ReadError.{ReadError}
 use Rattle.study.specs.declared.error.TextError.{TextError}
+use Rattle.study_line.specs.declared.order.Each.{Each}
 use Rattle.study_line.specs.declared.order.GridTexts.{GridTexts}
+use Rattle.study_line.specs.declared.order.StudyTexts.{StudyTexts}
 use Rattle.study_line.specs.declared.order.Order.{Order}
 use Rattle.study_line.specs.declared.order.Order.TheVariants as order
-use Rattle.sweep.specs.Outcome.{IsFirstRefused, run_at}
-use Rattle.sweep.specs.StudyText.{point_at}
+use Rattle.sweep.specs.Outcome.{IsFirstRefused}
+use Rattle.sweep.specs.StudyText.{point_at, run_at}
 use Rattle.toml.specs.Data.{Members}
 
 -- a command over a study stops for its words, for its file or a run of it, for want of memory or at a failed write
@@ -75,28 +77,48 @@ module _ (input : Option (List ℕ)) (path : List ℕ) where
       abbrev pub StopsShow : Fault → Type 0
       StopsShow = IsOfStudy NamesNoRun (λ line. IsNoTable input path line ⊎ IsUnshown)
 
-    module _ (word : Option Word) where
-      -- a run of the study is refused, of the shard's where one is named, and none before it
-      pub record HasRefusedRun : Type 0 where
-        pub file : Members
-        pub is_file : IsTable input path file
-        pub grid : GridRecord
-        pub is_grid : IsGrid words grid
-        pub shard : ShardRecord
-        pub is_shard : IsShardOf word shard
-        pub point : ℕ
-        pub run : ℕ
-        pub reason : ReadError
-        pub first : IsFirstRefused file grid shard point run reason
+  module _ (study : StudyTexts) where
+    -- a run of the study is refused, of the shard's where one is named, and none before it
+    pub record HasRefusedRun : Type 0 where
+      pub file : Members
+      pub is_file : IsTable input path file
+      pub grid : GridRecord
+      pub is_grid : IsGrid study.grid grid
+      pub shard : ShardRecord
+      pub is_shard : IsShardOf (shard_word study) shard
+      pub point : ℕ
+      pub run : ℕ
+      pub reason : ReadError
+      pub first : IsFirstRefused file grid shard point run reason
+
+    -- a command over a study and its file stops for words, for the file or for a run
+    abbrev pub StopsRuns : (OfWords : Type 0) → Fault → Type 0
+    StopsRuns OfWords = IsOfStudy OfWords (λ line. IsNoTable input path line ⊎ HasRefusedRun)
+
+    abbrev pub StopsStudyCheck : Fault → Type 0
+    StopsStudyCheck = StopsRuns (SaysNoGrid study.grid ⊎ SaysNoShard (shard_word study))
+
+    module _ (columns : Option Word) (kind : Each) where
+      -- the words say no grid, no shard, or columns that its rows don't have
+      abbrev pub SaysNoSweep : Type 0
+      SaysNoSweep = SaysNoGrid study.grid
+          ⊎ (SaysNoShard (shard_word study)
+          ⊎ ((g : GridRecord) × IsGrid study.grid g × LacksColumn kind columns g))
 
       abbrev pub StopsSweep : Fault → Type 0
-      StopsSweep = IsOfStudy (SaysNoGrid words ⊎ SaysNoShard word) (λ line. IsNoTable input path line ⊎ HasRefusedRun)
+      StopsSweep = StopsRuns SaysNoSweep
+
+-- a check stops for this fault, of the file or of a study over it
+abbrev pub StopsChecked : Option (List ℕ) → (path : List ℕ) → Option StudyTexts → Fault → Type 0
+StopsChecked input path None fault = StopsCheck input path fault
+StopsChecked input path (Some study) fault = StopsStudyCheck input path study fault
 
 -- an order isn't carried out for this fault. Of a run's letters and of pictures a refused file isn't told here
 abbrev pub StopsFor : Option (List ℕ) → Order → Fault → Type 0
-StopsFor input (order.Check path) fault = StopsCheck input path.now fault
+StopsFor input (order.Check path study) fault = StopsChecked input path.now study fault
 StopsFor input (order.Letters path) fault = StopsAtLimit input path.now fault
-StopsFor input (order.Draw path named from until) fault = StopsPicture input path.now named from until fault
+StopsFor input (order.Draw path named from until of) fault =
+    StopsPicture input path.now named from until (option_map (λ w. w.now) of) fault
 StopsFor input (order.Show path grid point run) fault = StopsShow input path.now grid point run fault
-StopsFor input (order.Sweep path grid shard threads) fault =
-    StopsSweep input path.now grid (option_map (λ w. w.now) shard) fault
+StopsFor input (order.Sweep path study columns each) fault =
+    StopsSweep input path.now study (option_map (λ w. w.now) columns) each fault

@@ -1,8 +1,8 @@
 -- Why words of a study are refused.
-use Rattle.std.specs.Prelude.{◌≡◌, ◌⊎◌, ◌<◌, ℕ, List, map, false, Option, Some}
+use Rattle.std.specs.Prelude.{◌≡◌, ◌⊎◌, ◌<◌, ℕ, List, map, Bool, true, false, Option, Some}
 use Rattle.std.specs.List.{AllZip, Contains}
 use Rattle.study.specs.AxisWords.{SaysAxis, SaysNoAxis, is_memory as is_axis_memory}
-use Rattle.study.specs.Grid.{IsFirst, is_memory as is_grid_memory}
+use Rattle.study.specs.Grid.{GridRecord, IsFirst, is_memory as is_grid_memory}
 use Rattle.study.specs.SeedWords.{seeds_fault, seeds_said}
 use Rattle.study.specs.ShardWords.{shard_fault, shard_said}
 use Rattle.study.specs.Words.{Word}
@@ -11,7 +11,17 @@ use Rattle.study.specs.declared.error.AxisError.{AxisError}
 use Rattle.study.specs.declared.error.GridError.{GridError}
 use Rattle.study.specs.declared.error.SeedsError.{SeedsError}
 use Rattle.study.specs.declared.error.ShardError.{ShardError}
+use Rattle.study_commands.specs.Study.{rows_for}
+use Rattle.study_line.specs.declared.order.Each.{Each}
 use Rattle.study_line.specs.declared.order.GridTexts.{GridTexts}
+use Rattle.sweep.specs.Layout.{IsNoLayout}
+use Rattle.sweep.specs.StudyText.{names_of}
+use Rattle.sweep.specs.declared.error.LayoutError.{LayoutError}
+use Rattle.sweep.specs.declared.error.LayoutError.TheVariants as layout
+
+abbrev pub is_layout_memory : LayoutError → Bool
+is_layout_memory layout.Memory = true
+is_layout_memory _ = false
 
 -- one of the words says no axis, for a reason other than memory
 pub record HasNoAxis (words : List Word) : Type 0 where
@@ -30,19 +40,21 @@ pub record SaysNoSeeds (word : Word) : Type 0 where
 pub record MakeNoGrid (words : GridTexts) : Type 0 where
   pub vary : List Axis
   pub over : List Axis
+  pub deal : List Axis
   pub seeds : ℕ × ℕ
   pub says_vary : AllZip SaysAxis (map (λ w. w.now) words.vary.items) vary
   pub says_over : AllZip SaysAxis (map (λ w. w.now) words.over.items) over
+  pub says_deal : AllZip SaysAxis (map (λ w. w.now) words.deal.items) deal
   pub says_seeds : seeds_said words.seeds.now ≡ Some seeds
   pub reason : GridError
   pub other : is_grid_memory reason ≡ false
-  pub first : IsFirst vary over seeds.0 seeds.1 reason
+  pub first : IsFirst vary over deal seeds.0 seeds.1 reason
 
 -- the words say no grid
 abbrev pub SaysNoGrid : GridTexts → Type 0
 SaysNoGrid words =
     HasNoAxis (map (λ w. w.now) words.vary.items) ⊎ (HasNoAxis (map (λ w. w.now) words.over.items)
-    ⊎ (SaysNoSeeds words.seeds.now ⊎ MakeNoGrid words))
+    ⊎ (HasNoAxis (map (λ w. w.now) words.deal.items) ⊎ (SaysNoSeeds words.seeds.now ⊎ MakeNoGrid words)))
 
 -- there is a word, and it says no shard
 pub record SaysNoShard (word : Option Word) : Type 0 where
@@ -50,6 +62,12 @@ pub record SaysNoShard (word : Option Word) : Type 0 where
   pub there : word ≡ Some text
   pub reason : ShardError
   pub is : shard_fault (shard_said text) ≡ Some reason
+
+-- there is a word that names a column which rows of this kind don't have
+pub record LacksColumn (kind : Each) (columns : Option Word) (grid : GridRecord) : Type 0 where
+  pub reason : LayoutError
+  pub other : is_layout_memory reason ≡ false
+  pub is : IsNoLayout (names_of (rows_for kind) grid) columns reason
 
 -- what counts from 1 isn't among so many
 abbrev pub IsOutside : (number count : ℕ) → Type 0

@@ -11,7 +11,7 @@ use std::alloc::AllocError;
 /// Why the program did not do what it was asked.
 #[derive(Debug, Drop)]
 pub enum Fault {
-    /// A part of the order is missing.
+    /// A part of the order is missing: of a study that is to be checked, its seeds.
     Form,
     /// Memory was refused while words were read.
     WordsMemory,
@@ -60,7 +60,7 @@ impl Fault {
         ensures { result.now ≡ line_of self.now }
     {
         match self {
-            Fault::Form => "fdstudy: words: Form\n",
+            Fault::Form => "fdstudy: words: Form: the options of a study need --seeds\n",
             Fault::WordsMemory => "fdstudy: words: Memory\n",
             Fault::Words(line) | Fault::Refused(Some(line)) | Fault::NotDrawn(_, Some(line)) => {
                 line.as_str()

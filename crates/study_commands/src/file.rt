@@ -9,6 +9,7 @@ ghost use Rattle.sources.specs.Input.{TakesAtMost, input_path, most_bytes};
 
 use crate::fault::Fault;
 use diagnosis::{Diagnosis, Refused, diagnose};
+use printable::Printable;
 use scenario::{Scenario, read_scenario};
 use sources::{InputError, bytes_at};
 use std::alloc::Global;
@@ -20,6 +21,7 @@ use toml::Table;
 fn told_with(alloc: Global, path: &str, text: &str) -> Fault
     ensures { IsToldWith path.now text.now result }
 {
+    let path = Printable(path);
     match format!(in alloc; "{path}: {text}\n") {
         Ok(line) => Fault::Refused(Some(line)),
         Err(_) => Fault::Refused(None),
@@ -52,6 +54,7 @@ pub(crate) fn bytes_of<R: Files, I: Read>(
 pub(crate) fn fault_of(alloc: Global, path: &str, refused: &Refused) -> Fault
     ensures { (bytes : List ℕ) → RefusesFor bytes refused.now → IsOfBytes path.now bytes result }
 {
+    let path = Printable(path);
     match format!(in alloc; "{path}: {refused}\n") {
         Ok(line) => Fault::Refused(Some(line)),
         Err(_) => Fault::Refused(None),

@@ -1,16 +1,21 @@
 //! The command `draw`: pictures of a scenario's run.
-ghost use Rattle.std.specs.Prelude.{◌≡◌, ◌≢◌, ◌^◌, ◌-◌, ◌+◌, ◌<◌, OnOk, IfErr, IfOk, None};
+ghost use Rattle.std.specs.Prelude.{◌≡◌, ◌≢◌, ◌^◌, ◌-◌, ◌+◌, ◌<◌, ℕ, List, OnOk, IfErr, IfOk, None, Some, map, option_map};
 ghost use Rattle.drawing.specs.Refusals.{refusal};
 ghost use Rattle.study_commands.specs.Draw.{IsDrawAnswer, IsOfPicture, Shows, ShowsLetters, ShowsSuspicions};
 ghost use Rattle.study_commands.specs.Draw.{StopsPicture, TellsOf, end_of_ticks, first_tick};
+ghost use Rattle.study_commands.specs.Draw.{AreNamed, HasNoProcess, NamesNone, process_said};
+ghost use Rattle.study_commands.specs.Fault.{IsOfWords, IsOfWordsFor};
 ghost use Rattle.study_commands.specs.Stop.{Stops, Went};
 ghost use Rattle.sources.specs.Input.{TakesAtMost, input_path, most_bytes};
 
 use crate::fault::Fault;
 use crate::file::scenario_at;
+use crate::processes::{pieces_of, process_of};
 use crate::running::{letters_of, trace_of};
 use crate::writing::put_bytes;
 use drawing::{DrawError, check_ticks, draw_letters, draw_suspicions};
+use printable::Printable;
+use process_api::Pid;
 use reporting::Outlet;
 use scenario::Scenario;
 use std::alloc::Global;
@@ -38,6 +43,56 @@ fn span_of(scenario: &Scenario, from: Option<u32>, until: Option<u32>) -> Span
     }
 }
 
+/// The processes that pieces of a word name.
+fn named_by(alloc: Global, pieces: &[&str]) -> Result<Vec<Pid>, Fault>
+    ensures named { IfOk result (λ v. map process_said (map (λ w. w.now) pieces.now) ≡ map Some v.items) }
+    ensures refused { IfErr result (IsOfWordsFor (HasNoProcess (map (λ w. w.now) pieces.now))) }
+{
+    let mut named = Vec::new(alloc);
+    for piece in pieces {
+        let Some(process) = process_of(piece) else {
+            return Err(no_process(alloc, piece));
+        };
+        named.push(process).map_err(|_| Fault::WordsMemory)?;
+    }
+    Ok(named)
+}
+
+/// The fault of a piece of a word that names no process.
+fn no_process(alloc: Global, piece: &str) -> Fault
+    ensures { IsOfWords result }
+{
+    let piece = Printable(piece);
+    Fault::of_words(format!(in alloc; "fdstudy: words: NoProcess: {piece}\n"))
+}
+
+/// The processes that a word names.
+fn named_in(alloc: Global, word: &str) -> Result<Vec<Pid>, Fault>
+    ensures named { IfOk result (λ v. AreNamed Picture.Letters (Some word.now) v.items) }
+    ensures refused { IfErr result (IsOfWordsFor (NamesNone Picture.Letters (Some word.now))) }
+{
+    match pieces_of(alloc, word) {
+        Ok(pieces) => named_by(alloc, &pieces),
+        Err(_) => Err(Fault::WordsMemory),
+    }
+}
+
+/// The processes whose letters alone are drawn: those that a word names, or else none, which stands for all.
+fn processes_named(alloc: Global, picture: Picture, word: Option<&str>) -> Result<Vec<Pid>, Fault>
+    ensures named { IfOk result (λ v. AreNamed picture (option_map (λ w. w.now) word.entry) v.items) }
+    ensures refused { IfErr result (IsOfWordsFor (NamesNone picture (option_map (λ w. w.now) word.entry))) }
+{
+    let Some(word) = word else {
+        return Ok(Vec::new(alloc));
+    };
+    match picture {
+        Picture::Letters => named_in(alloc, word),
+        Picture::Suspicions => Err(Fault::of_words(format!(in alloc;
+            "fdstudy: words: OfSuspicions: --of is for pictures of letters\n"
+        ))),
+    }
+}
+
 /// The fault of a picture that is refused, with its name and its reason.
 fn fault_of(alloc: Global, path: &str, error: DrawError) -> Fault
     ensures { TellsOf error result }
@@ -48,6 +103,7 @@ fn fault_of(alloc: Global, path: &str, error: DrawError) -> Fault
         DrawError::TooManyLetters => "TooManyLetters",
         DrawError::Memory(_) => return Fault::Memory,
     };
+    let path = Printable(path);
     let line = format!(in alloc; "{path}: {name}: {error}\n").ok();
     Fault::NotDrawn(error, line)
 }
@@ -61,7 +117,7 @@ fn suspicions_of(
 ) -> Result<Vec<u8>, Fault>
     requires { refusal scenario.now span.from span.until ≡ None }
     ensures shows { IfOk result (λ text. ShowsSuspicions scenario.now span.from span.until text.items) }
-    ensures refused { IfErr result (IsOfPicture Picture.Suspicions scenario.now span.from span.until) }
+    ensures refused { (of : List ℕ) → IfErr result (IsOfPicture Picture.Suspicions scenario.now of span.from span.until) }
 {
     let trace = trace_of(alloc, scenario)?;
     match draw_suspicions(alloc, scenario, &trace, span.from, span.until) {
@@ -75,15 +131,16 @@ fn letters_picture_of(
     alloc: Global,
     path: &str,
     scenario: &Scenario,
+    of: &[Pid],
     span: Span,
 ) -> Result<Vec<u8>, Fault>
     requires { refusal scenario.now span.from span.until ≡ None }
-    ensures shows { IfOk result (λ text. ShowsLetters scenario.now span.from span.until text.items) }
-    ensures refused { IfErr result (IsOfPicture Picture.Letters scenario.now span.from span.until) }
+    ensures shows { IfOk result (λ text. ShowsLetters scenario.now of.now span.from span.until text.items) }
+    ensures refused { IfErr result (IsOfPicture Picture.Letters scenario.now of.now span.from span.until) }
 {
     let trace = trace_of(alloc, scenario)?;
     let letters = letters_of(alloc, scenario)?;
-    match draw_letters(alloc, scenario, &trace, &letters, span.from, span.until) {
+    match draw_letters(alloc, scenario, &trace, &letters, of, span.from, span.until) {
         Ok(text) => Ok(text),
         Err(error) => Err(fault_of(alloc, path, error)),
     }
@@ -96,17 +153,18 @@ fn picture_of(
     path: &str,
     picture: Picture,
     scenario: &Scenario,
+    of: &[Pid],
     span: Span,
 ) -> Result<Vec<u8>, Fault>
-    ensures shows { IfOk result (λ text. Shows picture scenario.now span.from span.until text.items) }
-    ensures refused { IfErr result (IsOfPicture picture scenario.now span.from span.until) }
+    ensures shows { IfOk result (λ text. Shows picture scenario.now of.now span.from span.until text.items) }
+    ensures refused { IfErr result (IsOfPicture picture scenario.now of.now span.from span.until) }
 {
     if let Err(error) = check_ticks(scenario, span.from, span.until) {
         return Err(fault_of(alloc, path, error));
     }
     match picture {
         Picture::Suspicions => suspicions_of(alloc, path, scenario, span),
-        Picture::Letters => letters_picture_of(alloc, path, scenario, span),
+        Picture::Letters => letters_picture_of(alloc, path, scenario, of, span),
     }
 }
 
@@ -118,20 +176,25 @@ pub(crate) fn serve_draw<R: Files, I: Read, O: Outlet>(
     picture: Picture,
     from: Option<u32>,
     until: Option<u32>,
+    of: Option<&str>,
     input: &mut I,
     outlet: &mut O,
 ) -> Result<(), Fault>
     requires { O.failed outlet.old < 2 ^ 64 - 1 }
-    ensures done { let wanted = IsDrawAnswer (I.remaining input.old) path.now picture from until in
+    ensures done { let wanted = IsDrawAnswer (I.remaining input.old) path.now picture from until
+        (option_map (λ w. w.now) of.entry) in
         OnOk result (Went O.told O.failed outlet.old outlet.new wanted) }
-    ensures stops { let wanted = IsDrawAnswer (I.remaining input.old) path.now picture from until in
+    ensures stops { let wanted = IsDrawAnswer (I.remaining input.old) path.now picture from until
+        (option_map (λ w. w.now) of.entry) in
         IfErr result (Stops O.told O.failed outlet.old outlet.new wanted (λ _. ⊥)) }
-    ensures refused { IfErr result (StopsPicture (I.remaining input.old) path.now picture from until) }
+    ensures refused { IfErr result (StopsPicture (I.remaining input.old) path.now picture from until
+        (option_map (λ w. w.now) of.entry)) }
     ensures taken { TakesAtMost (most_bytes + 1) (I.remaining input.old) (I.remaining input.new) }
     ensures untouched { path.now ≢ input_path → input.new ≡ input.old }
 {
+    let of = processes_named(alloc, picture, of)?;
     let scenario = scenario_at(rt, alloc, path, input)?;
     let span = span_of(&scenario, from, until);
-    let text = picture_of(alloc, path, picture, &scenario, span)?;
+    let text = picture_of(alloc, path, picture, &scenario, &of, span)?;
     put_bytes(&text, outlet)
 }

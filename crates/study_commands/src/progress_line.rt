@@ -1,10 +1,14 @@
-//! The line on a terminal that tells how far a sweep has come.
+//! What standard error tells of a sweep: on a terminal, in one line, how far it has come; and of points of which runs
+//! passed their limit.
 ghost use Rattle.std.specs.Prelude.{◌≡◌, ◌≤◌, ◌==◌, not};
 
+use crate::limited_point::line_of_limited;
 use std::alloc::{AllocError, Global};
 use std::io::Write;
 use std::time::{Clock, Duration, Instant};
-use sweep::{Standing, Watcher};
+use study::Grid;
+use sweep::{Pass, Standing, Watcher};
+use toml::Table;
 
 /// The line is drawn anew no sooner than after so many milliseconds.
 const PAUSE: u128 = 200;
@@ -23,7 +27,7 @@ fn seconds_left(gone: Duration, done: u64, all: u64) -> u64
 }
 
 /// The time in words: seconds below a minute, then minutes, and hours with minutes.
-fn time_of(alloc: Global, seconds: u64) -> Result<String, AllocError> {
+pub(crate) fn time_of(alloc: Global, seconds: u64) -> Result<String, AllocError> {
     let minutes = seconds / 60;
     let hours = minutes / 60;
     if minutes == 0 {
@@ -35,26 +39,41 @@ fn time_of(alloc: Global, seconds: u64) -> Result<String, AllocError> {
     }
 }
 
-/// The line's text: how many points are done, of how many, and the time left once a run is in.
-fn text_of(alloc: Global, standing: &Standing, gone: Duration) -> Result<String, AllocError> {
-    let points = standing.points;
-    if standing.done == 0 {
-        return Ok(format!(in alloc; "0 of {points} points")?);
+/// How much is done, of how much: scenarios of runs that are read, and then points whose runs are in.
+fn share_of(alloc: Global, standing: &Standing) -> Result<String, AllocError> {
+    match standing.pass {
+        Pass::Reading => {
+            let (done, all) = (standing.done, standing.points.saturating_mul(standing.runs));
+            format!(in alloc; "{done} of {all} runs read")
+        }
+        Pass::Running => {
+            let (done, all) = (standing.done / standing.runs.max(1), standing.points);
+            format!(in alloc; "{done} of {all} points")
+        }
     }
-    let done = standing.done / standing.runs.max(1);
-    let all = points.saturating_mul(standing.runs);
-    let left = time_of(alloc, seconds_left(gone, standing.done, all))?;
-    Ok(format!(in alloc; "{done} of {points} points, {left} left")?)
 }
 
-/// Shows on a terminal, in one line, how far a sweep has come. Where the clock can't be read, memory is refused or
-/// writing fails, nothing new is shown. Where the rows go to a terminal too, which may be the same, the line is taken
-/// away before they do, and put back after.
+/// The line's text: how much is done, and the time left once something is.
+fn text_of(alloc: Global, standing: &Standing, gone: Duration) -> Result<String, AllocError> {
+    let share = share_of(alloc, standing)?;
+    if standing.done == 0 {
+        return Ok(share);
+    }
+    let all = standing.points.saturating_mul(standing.runs);
+    let left = time_of(alloc, seconds_left(gone, standing.done, all))?;
+    Ok(format!(in alloc; "{share}, {left} left")?)
+}
+
+/// Tells of a point of which runs passed their limit, in a line of its own; and where standard error is a terminal,
+/// shows there, in one line, how far a sweep has come. Where the clock can't be read, memory is refused or writing
+/// fails, nothing new is shown. Where the rows go to a terminal too, which may be the same, the line is taken away
+/// before they do, and put back after.
 #[derive(Drop)]
 pub struct ProgressLine<'a, C: Clock, W: Write + Drop> {
     clock: &'a C,
     alloc: Global,
-    terminal: Option<W>,
+    faults: W,
+    is_terminal: bool,
     is_shared: bool,
     began: Option<Instant>,
     drawn: Option<Instant>,
@@ -62,11 +81,13 @@ pub struct ProgressLine<'a, C: Clock, W: Write + Drop> {
 }
 
 impl<'a, C: Clock, W: Write + Drop> ProgressLine<'a, C, W> {
-    /// A line of which nothing is shown yet, on a terminal that the rows may share. With no terminal nothing ever is.
+    /// A line of which nothing is shown yet, on standard error: on a terminal that the rows may share, or on none, where
+    /// it never is.
     pub fn new(
         clock: &'a C,
         alloc: Global,
-        terminal: Option<W>,
+        faults: W,
+        is_terminal: bool,
         is_shared: bool,
     ) -> ProgressLine<'a, C, W>
         ensures { result.columns ≡ 0 }
@@ -74,7 +95,8 @@ impl<'a, C: Clock, W: Write + Drop> ProgressLine<'a, C, W> {
         ProgressLine {
             clock,
             alloc,
-            terminal,
+            faults,
+            is_terminal,
             is_shared,
             began: None,
             drawn: None,
@@ -96,10 +118,8 @@ impl<'a, C: Clock, W: Write + Drop> ProgressLine<'a, C, W> {
         let Ok(line) = format!(in self.alloc; "\r{text:<columns$}") else {
             return;
         };
-        if let Some(terminal) = &mut self.terminal {
-            let _answer = terminal.write_all(line.as_bytes());
-            self.columns = columns;
-        }
+        let _answer = self.faults.write_all(line.as_bytes());
+        self.columns = columns;
     }
 }
 
@@ -108,9 +128,9 @@ impl<C: Clock, W: Write + Drop> Watcher for ProgressLine<'_, C, W> {
 
     ghost shows = { λ l. not (l.columns == 0) };
 
-    /// Draws the line, unless it was drawn a short time ago. The time begins to run as no run is in.
+    /// Draws the line, unless it was drawn a short time ago. The time begins to run as a pass over the runs begins.
     fn hear(&mut self, standing: Standing) {
-        if self.terminal.is_none() {
+        if !self.is_terminal {
             return;
         }
         let Ok(now) = Instant::now(self.clock) else {
@@ -141,11 +161,17 @@ impl<C: Clock, W: Write + Drop> Watcher for ProgressLine<'_, C, W> {
             return;
         }
         let blanks = &BLANKS[..self.columns.min(BLANKS.len())];
-        if let Some(terminal) = &mut self.terminal {
-            let _answer = terminal.write_all(b"\r");
-            let _answer = terminal.write_all(blanks);
-            let _answer = terminal.write_all(b"\r");
-        }
+        let _answer = self.faults.write_all(b"\r");
+        let _answer = self.faults.write_all(blanks);
+        let _answer = self.faults.write_all(b"\r");
         self.columns = 0;
+    }
+
+    /// Writes the line of the point. What is shown is taken away before.
+    fn limited(&mut self, file: &Table, grid: &Grid, point: u64, count: u64) {
+        self.hide();
+        if let Ok(line) = line_of_limited(self.alloc, file, grid, point, count) {
+            let _answer = self.faults.write_all(line.as_bytes());
+        }
     }
 }

@@ -4,6 +4,7 @@ ghost use Rattle.study.specs.Grid.{points, runs};
 
 use crate::run_name::RunName;
 use diagnosis::{Diagnosis, diagnose_table};
+use printable::Printable;
 use std::alloc::{AllocError, Global};
 use study::{Choice, Grid, PlaceError, Run, run_table};
 use toml::Table;
@@ -47,5 +48,7 @@ pub(crate) fn line_of_run(
         number: run.saturating_add(1),
         run: its,
     };
-    format!(in alloc; "{path}: {name}: {why}\n")
+    let text = format!(in alloc; "{path}: {name}: {why}")?;
+    let text = Printable(text.as_str());
+    format!(in alloc; "{text}\n")
 }

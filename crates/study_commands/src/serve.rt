@@ -2,12 +2,13 @@
 ghost use Rattle.std.specs.Prelude.{◌≡◌, ◌≢◌, ◌⊎◌, ◌^◌, ◌-◌, ◌+◌, ◌<◌, ◌≤◌, false, IfErr, OnOk, map};
 ghost use Rattle.std.specs.Io.KnownBytes.{Keeps};
 ghost use Rattle.std.specs.Process.{exit_status};
-ghost use Rattle.study_commands.specs.Answer.{Answers, Leaves, Writes, path_of};
+ghost use Rattle.study_commands.specs.Answer.{Answers, IsChecked, Leaves, Writes, path_of};
 ghost use Rattle.study_commands.specs.Fault.{line_of, IsOfWords};
 ghost use Rattle.study_commands.specs.Serve.{IsAsked, IsHelp, IsWhy, LeftOf, NamesNoInput, Serves, ServesFor};
-ghost use Rattle.study_commands.specs.Serve.{TellsOf, no_picture_line};
+ghost use Rattle.study_commands.specs.Serve.{TellsOf, other_word_line};
+ghost use Rattle.printable.specs.Printable.{printable_lines};
 ghost use Rattle.study_commands.specs.Stop.{Stops, Tells, Went, WentPart};
-ghost use Rattle.study_commands.specs.Why.{StopsFor};
+ghost use Rattle.study_commands.specs.Why.{StopsChecked, StopsFor};
 ghost use Rattle.reporting.specs.Writing.{WroteNothing};
 ghost use Rattle.sources.specs.Input.{TakesAtMost, input_path, most_bytes};
 
@@ -16,8 +17,10 @@ use crate::fault::Fault;
 use crate::lettering::serve_letters;
 use crate::picturing::serve_draw;
 use crate::showing::serve_show;
+use crate::study_check::serve_study_check;
 use crate::sweeping::serve_sweep;
 use crate::writing::tell_text;
+use printable::{Printable, PrintableLines};
 use reporting::{Outlet, StreamOutlet, put_all};
 use std::alloc::Global;
 use std::io::{Read, Write};
@@ -25,11 +28,38 @@ use std::marker::Sync;
 use std::process::ExitCode;
 use std::rt::Files;
 use std::thread::Threads;
-use study_line::{Order, WordsError, read_words};
+use std::time::Clock;
+use study_line::{Order, StudyTexts, WordsError, read_words};
 use sweep::Watcher;
 
+/// Answers `check`, of the file or of a study over it.
+fn check<R: Files + Threads + Sync + Clock, I: Read, O: Outlet, W: Watcher>(
+    rt: &R,
+    alloc: Global,
+    path: &str,
+    study: &Option<StudyTexts<'_>>,
+    input: &mut I,
+    outlet: &mut O,
+    watcher: &mut W,
+) -> Result<(), Fault>
+    requires { O.failed outlet.old < 2 ^ 64 - 1 }
+    ensures done { let wanted = IsChecked (I.remaining input.old) path.now study.now in
+        OnOk result (Went O.told O.failed outlet.old outlet.new wanted) }
+    ensures stops { let wanted = IsChecked (I.remaining input.old) path.now study.now in
+        IfErr result (Stops O.told O.failed outlet.old outlet.new wanted (λ _. ⊥)) }
+    ensures why { IfErr result (StopsChecked (I.remaining input.old) path.now study.now) }
+    ensures taken { TakesAtMost (most_bytes + 1) (I.remaining input.old) (I.remaining input.new) }
+    ensures untouched { path.now ≢ input_path → input.new ≡ input.old }
+    ensures hidden { W.shows watcher.old ≡ false → W.shows watcher.new ≡ false }
+{
+    match study {
+        None => serve_check(rt, alloc, path, input, outlet),
+        Some(study) => serve_study_check(rt, alloc, path, study, input, outlet, watcher),
+    }
+}
+
 /// Does what an order asks for.
-fn carry_out<R: Files + Threads + Sync, I: Read, O: Outlet, W: Watcher>(
+fn carry_out<R: Files + Threads + Sync + Clock, I: Read, O: Outlet, W: Watcher>(
     rt: &R,
     alloc: Global,
     order: &Order<'_>,
@@ -49,14 +79,15 @@ fn carry_out<R: Files + Threads + Sync, I: Read, O: Outlet, W: Watcher>(
     ensures hidden { W.shows watcher.old ≡ false → W.shows watcher.new ≡ false }
 {
     match order {
-        Order::Check { path } => serve_check(rt, alloc, path, input, outlet),
+        Order::Check { path, study } => check(rt, alloc, path, study, input, outlet, watcher),
         Order::Letters { path } => serve_letters(rt, alloc, path, input, outlet),
         Order::Draw {
             path,
             picture,
             from,
             until,
-        } => serve_draw(rt, alloc, path, *picture, *from, *until, input, outlet),
+            of,
+        } => serve_draw(rt, alloc, path, *picture, *from, *until, *of, input, outlet),
         Order::Show {
             path,
             grid,
@@ -65,21 +96,43 @@ fn carry_out<R: Files + Threads + Sync, I: Read, O: Outlet, W: Watcher>(
         } => serve_show(rt, alloc, path, grid, *point, *run, input, outlet),
         Order::Sweep {
             path,
-            grid,
-            shard,
-            threads,
+            study,
+            columns,
+            each,
         } => serve_sweep(
-            rt, alloc, path, grid, *shard, *threads, input, outlet, watcher,
+            rt, alloc, path, study, *columns, *each, input, outlet, watcher,
         ),
     }
 }
 
-/// The fault of a word that names no picture.
-fn no_picture(alloc: Global, word: &str) -> Fault
+/// The fault of a word that isn't one of those for its option, under this name.
+fn other_word(alloc: Global, name: &str, word: &str) -> Fault
     ensures words { IsOfWords result }
-    ensures line { (line_of result ≡ no_picture_line word.now) ⊎ (result ≡ Fault.WordsMemory) }
+    ensures line { (line_of result ≡ other_word_line name.now word.now) ⊎ (result ≡ Fault.WordsMemory) }
 {
-    Fault::of_words(format!(in alloc; "fdstudy: words: NoPicture: {word}\n"))
+    let word = Printable(word);
+    match format!(in alloc; "fdstudy: words: {name}: {word}\n") {
+        Ok(line) => Fault::Words(line),
+        Err(_) => Fault::WordsMemory,
+    }
+}
+
+/// Tells what `clap` says of words, and answers 2.
+fn tell_mistake<F: Outlet>(alloc: Global, text: &str, faults: &mut F) -> u8
+    requires { F.failed faults.old < 2 ^ 64 - 1 }
+    ensures status { result ≡ 2 }
+    ensures told { F.failed faults.new ≤ F.failed faults.old + 1 }
+    ensures why { Tells F.told F.failed faults.old faults.new
+        (λ line. (line ≡ printable_lines text.now) ⊎ (line ≡ line_of Fault.WordsMemory)) }
+{
+    let lines = PrintableLines(text);
+    match format!(in alloc; "{lines}") {
+        Ok(line) => {
+            tell_text(line.as_str(), faults);
+            2
+        }
+        Err(_) => Fault::WordsMemory.report(faults),
+    }
 }
 
 /// Tells of words that state no order: help goes to the outlet, all else to the faults.
@@ -107,11 +160,11 @@ fn tell<O: Outlet, F: Outlet>(
                 Fault::Write.report(faults)
             }
         }
-        WordsError::Mistake(text) => {
-            tell_text(text.as_str(), faults);
-            2
+        WordsError::Mistake(text) => tell_mistake(alloc, text.as_str(), faults),
+        WordsError::NoPicture(word) => {
+            other_word(alloc, "NoPicture", word.as_str()).report(faults)
         }
-        WordsError::NoPicture(word) => no_picture(alloc, word).report(faults),
+        WordsError::NoEach(word) => other_word(alloc, "NoEach", word.as_str()).report(faults),
         WordsError::Form => Fault::Form.report(faults),
         WordsError::Memory => Fault::WordsMemory.report(faults),
     }
@@ -136,7 +189,7 @@ fn tell<O: Outlet, F: Outlet>(
 /// points may have gone out. With 4 a front part of the text went out.
 ///
 /// The watcher hears how far a `sweep` has come. What it shows is taken away before a fault is told.
-pub fn serve<R: Files + Threads + Sync, I: Read, O: Outlet, F: Outlet, W: Watcher>(
+pub fn serve<R: Files + Threads + Sync + Clock, I: Read, O: Outlet, F: Outlet, W: Watcher>(
     rt: &R,
     alloc: Global,
     words: &[&str],

@@ -10,8 +10,7 @@ ghost use Rattle.sources.specs.Input.{TakesAtMost, input_path, most_bytes};
 ghost use Rattle.study.specs.Grid.{points, runs};
 ghost use Rattle.study.specs.Placed.{table_of_run};
 ghost use Rattle.study.specs.Runs.{IsRunText};
-ghost use Rattle.sweep.specs.Outcome.{run_at};
-ghost use Rattle.sweep.specs.StudyText.{point_at};
+ghost use Rattle.sweep.specs.StudyText.{point_at, run_at};
 
 use crate::fault::Fault;
 use crate::file::table_of;

@@ -8,9 +8,19 @@ ghost use Rattle.study.specs.AxisWords.{SaysAxis, is_memory};
 ghost use Rattle.study.specs.SeedWords.{seeds_said};
 
 use crate::fault::Fault;
-use std::alloc::Global;
-use study::{Axis, AxisError, Grid, GridError, KeyError, Seeds, Shard};
+use printable::Printable;
+use std::alloc::{AllocError, Global};
+use std::fmt::Debug;
+use study::{Axis, AxisError, Grid, GridError, KeyError, Seeds, SeedsError, Shard};
 use study_line::GridTexts;
+
+/// The fault of a word that is refused for this reason.
+fn refused_word<E: Debug>(alloc: Global, word: &str, error: &E) -> Fault
+    ensures { IsOfWords result }
+{
+    let word = Printable(word);
+    Fault::of_words(format!(in alloc; "fdstudy: words: {error:?}: {word}\n"))
+}
 
 /// Why a word says no axis.
 fn axis_fault(alloc: Global, word: &str, error: &AxisError) -> Fault
@@ -18,10 +28,8 @@ fn axis_fault(alloc: Global, word: &str, error: &AxisError) -> Fault
 {
     match error {
         AxisError::Memory(_) | AxisError::Key(KeyError::Memory(_)) => Fault::WordsMemory,
-        AxisError::Key(error) => {
-            Fault::of_words(format!(in alloc; "fdstudy: words: {error:?}: {word}\n"))
-        }
-        _ => Fault::of_words(format!(in alloc; "fdstudy: words: {error:?}: {word}\n")),
+        AxisError::Key(error) => refused_word(alloc, word, error),
+        _ => refused_word(alloc, word, error),
     }
 }
 
@@ -41,6 +49,19 @@ fn axes_of(alloc: Global, words: &[&str]) -> Result<Vec<Axis>, Fault>
     Ok(axes)
 }
 
+/// The fault of a word that says no seeds, with what would.
+fn seeds_fault(alloc: Global, word: &str, error: SeedsError) -> Fault
+    ensures { IsOfWords result }
+{
+    let word = Printable(word);
+    let hint = match error {
+        SeedsError::NoSeeds => "seeds are A..=B or A",
+        SeedsError::SeedTooHigh => "a seed is at most 9223372036854775807",
+        SeedsError::EmptyRange => "seeds are A..=B with A at most B",
+    };
+    Fault::of_words(format!(in alloc; "fdstudy: words: {error:?}: {word} ({hint})\n"))
+}
+
 /// The seeds that a word says.
 fn seeds_of(alloc: Global, word: &str) -> Result<Seeds, Fault>
     ensures seeds { IfOk result (λ s. seeds_said word.now ≡ Some (s.first, s.last)) }
@@ -48,10 +69,33 @@ fn seeds_of(alloc: Global, word: &str) -> Result<Seeds, Fault>
 {
     match Seeds::parse(word) {
         Ok(seeds) => Ok(seeds),
-        Err(error) => {
-            Err(Fault::of_words(format!(in alloc; "fdstudy: words: {error:?}: {word}\n")))
-        }
+        Err(error) => Err(seeds_fault(alloc, word, error)),
     }
+}
+
+/// The fault of axes and seeds that make no grid, with the key or the numbers for which they don't.
+fn grid_fault(alloc: Global, error: &GridError) -> Fault
+    ensures { IsOfWords result }
+{
+    let line = match error {
+        GridError::NoSeed => format!(in alloc; "fdstudy: words: NoSeed\n"),
+        GridError::SeedTooHigh => format!(in alloc; "fdstudy: words: SeedTooHigh\n"),
+        GridError::KeyTwice(key) => {
+            let key = Printable(key.as_str());
+            format!(in alloc; "fdstudy: words: KeyTwice: {key}\n")
+        }
+        GridError::TooManyPoints { points } => {
+            format!(in alloc; "fdstudy: words: TooManyPoints: {points} of at most 1000000\n")
+        }
+        GridError::Uneven { seeds, dealt } => format!(in alloc;
+            "fdstudy: words: Uneven: {seeds} seeds can't be dealt to {dealt} settings alike\n"
+        ),
+        GridError::TooManyRuns { runs } => {
+            format!(in alloc; "fdstudy: words: TooManyRuns: {runs} of at most 1000000000000\n")
+        }
+        GridError::Memory(_) => Err(AllocError),
+    };
+    Fault::of_words(line)
 }
 
 /// The grid that the words of a study say.
@@ -61,11 +105,12 @@ pub(crate) fn grid_of(alloc: Global, words: &GridTexts<'_>) -> Result<Grid, Faul
 {
     let vary = axes_of(alloc, &words.vary)?;
     let over = axes_of(alloc, &words.over)?;
+    let deal = axes_of(alloc, &words.deal)?;
     let seeds = seeds_of(alloc, words.seeds)?;
-    match Grid::new(alloc, vary, over, seeds.first, seeds.last) {
+    match Grid::new(alloc, vary, over, deal, seeds.first, seeds.last) {
         Ok(grid) => Ok(grid),
         Err(GridError::Memory(_)) => Err(Fault::WordsMemory),
-        Err(error) => Err(Fault::of_words(format!(in alloc; "fdstudy: words: {error:?}\n"))),
+        Err(error) => Err(grid_fault(alloc, &error)),
     }
 }
 
@@ -79,8 +124,6 @@ pub(crate) fn shard_of(alloc: Global, word: Option<&str>) -> Result<Shard, Fault
     };
     match Shard::parse(word) {
         Ok(shard) => Ok(shard),
-        Err(error) => {
-            Err(Fault::of_words(format!(in alloc; "fdstudy: words: {error:?}: {word}\n")))
-        }
+        Err(error) => Err(refused_word(alloc, word, &error)),
     }
 }

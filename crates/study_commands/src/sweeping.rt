@@ -1,27 +1,32 @@
 //! The command `sweep`: the table of a study.
-ghost use Rattle.std.specs.Prelude.{◌≡◌, ◌≢◌, ◌^◌, ◌-◌, ◌+◌, ◌<◌, ◌≤◌, false, OnOk, IfErr, option_map};
+ghost use Rattle.std.specs.Prelude.{◌≡◌, ◌≢◌, ◌^◌, ◌-◌, ◌+◌, ◌<◌, ◌≤◌, false, IfOk, IfErr, OnOk, option_map};
+ghost use Rattle.study_commands.specs.Fault.{IsOfWords, IsOfWordsFor};
 ghost use Rattle.study_commands.specs.Stop.{Stops, Went};
+ghost use Rattle.study_commands.specs.Study.{IsLayout, rows_for};
 ghost use Rattle.study_commands.specs.Sweep.{IsFaultOf, IsOfRun, IsSweepAnswer, IsSweepFront};
 ghost use Rattle.study_commands.specs.Why.{StopsSweep};
+ghost use Rattle.study_commands.specs.WordRefusals.{LacksColumn, is_layout_memory};
 ghost use Rattle.sources.specs.Input.{TakesAtMost, input_path, most_bytes};
 
 use crate::fault::Fault;
 use crate::file::table_of;
 use crate::refused_run::line_of_run;
 use crate::study_words::{grid_of, shard_of};
+use printable::Printable;
 use reporting::Outlet;
 use std::alloc::Global;
 use std::io::Read;
 use std::marker::Sync;
 use std::rt::Files;
 use std::thread::{Threads, available_parallelism};
+use std::time::Clock;
 use study::Grid;
-use study_line::GridTexts;
-use sweep::{SweepError, Watcher, sweep};
+use study_line::{Each, StudyTexts};
+use sweep::{Layout, LayoutError, Rows, SweepError, Watcher, sweep};
 use toml::Table;
 
 /// How many threads share the runs: as many as were asked for, or else one for each processor; at most 64.
-fn threads_for<R: Threads>(rt: &R, asked: Option<u64>) -> u8
+pub(crate) fn threads_for<R: Threads>(rt: &R, asked: Option<u64>) -> u8
     ensures { result ≤ 64 }
 {
     let count = match asked {
@@ -34,8 +39,14 @@ fn threads_for<R: Threads>(rt: &R, asked: Option<u64>) -> u8
     count.min(64) as u8
 }
 
-/// The fault of a sweep that breaks off.
-fn fault_of(alloc: Global, path: &str, file: &Table, grid: &Grid, error: &SweepError) -> Fault
+/// The fault of runs of a study that break off.
+pub(crate) fn fault_of(
+    alloc: Global,
+    path: &str,
+    file: &Table,
+    grid: &Grid,
+    error: &SweepError,
+) -> Fault
     requires { IsOfRun grid.now error.now }
     ensures { IsFaultOf error.now result }
 {
@@ -49,36 +60,75 @@ fn fault_of(alloc: Global, path: &str, file: &Table, grid: &Grid, error: &SweepE
     }
 }
 
-/// Answers `sweep`: the rows of the study's points, of the shard's where one is named.
-pub(crate) fn serve_sweep<R: Files + Threads + Sync, I: Read, O: Outlet, W: Watcher>(
+/// Which rows a word asks for.
+fn rows_of(each: Each) -> Rows
+    ensures { result ≡ rows_for each }
+{
+    match each {
+        Each::Point => Rows::Points,
+        Each::Run => Rows::Runs,
+    }
+}
+
+/// The fault of a word that names a column which there isn't, with one that is perhaps meant.
+fn layout_fault(alloc: Global, error: &LayoutError) -> Fault
+    ensures { IsOfWordsFor (is_layout_memory error.now ≡ false) result }
+{
+    match error {
+        LayoutError::Unknown { name, nearest } => {
+            let (name, nearest) = (Printable(name.as_str()), Printable(nearest.as_str()));
+            Fault::of_words(format!(in alloc;
+                "fdstudy: words: NoColumn: {name} (did you mean {nearest}?)\n"
+            ))
+        }
+        LayoutError::Memory => Fault::WordsMemory,
+    }
+}
+
+/// The layout of the rows that words ask for.
+fn layout_of(alloc: Global, grid: &Grid, each: Each, columns: Option<&str>) -> Result<Layout, Fault>
+    ensures layout { IfOk result (IsLayout each (option_map (λ w. w.now) columns.entry) grid.now) }
+    ensures refused { IfErr result (IsOfWordsFor (LacksColumn each (option_map (λ w. w.now) columns.entry) grid.now)) }
+{
+    match Layout::new(alloc, grid, rows_of(each), columns) {
+        Ok(layout) => Ok(layout),
+        Err(error) => Err(layout_fault(alloc, &error)),
+    }
+}
+
+/// Answers `sweep`: the rows of the study's points, or of their runs; of the shard's where one is named.
+pub(crate) fn serve_sweep<R: Files + Threads + Sync + Clock, I: Read, O: Outlet, W: Watcher>(
     rt: &R,
     alloc: Global,
     path: &str,
-    words: &GridTexts<'_>,
-    shard: Option<&str>,
-    threads: Option<u64>,
+    study: &StudyTexts<'_>,
+    columns: Option<&str>,
+    each: Each,
     input: &mut I,
     outlet: &mut O,
     watcher: &mut W,
 ) -> Result<(), Fault>
     requires { O.failed outlet.old < 2 ^ 64 - 1 }
-    ensures done { let wanted = IsSweepAnswer (I.remaining input.old) path.now words.now
-        (option_map (λ w. w.now) shard.entry) in
+    ensures done { let wanted = IsSweepAnswer (I.remaining input.old) path.now study.now
+        (option_map (λ w. w.now) columns.entry) each in
         OnOk result (Went O.told O.failed outlet.old outlet.new wanted) }
-    ensures stops { let front = IsSweepFront (I.remaining input.old) path.now words.now
-        (option_map (λ w. w.now) shard.entry) in
+    ensures stops { let front = IsSweepFront (I.remaining input.old) path.now study.now
+        (option_map (λ w. w.now) columns.entry) each in
         IfErr result (Stops O.told O.failed outlet.old outlet.new front front) }
-    ensures why { IfErr result (StopsSweep (I.remaining input.old) path.now words.now
-        (option_map (λ w. w.now) shard.entry)) }
+    ensures why { IfErr result (StopsSweep (I.remaining input.old) path.now study.now
+        (option_map (λ w. w.now) columns.entry) each) }
     ensures taken { TakesAtMost (most_bytes + 1) (I.remaining input.old) (I.remaining input.new) }
     ensures untouched { path.now ≢ input_path → input.new ≡ input.old }
     ensures hidden { W.shows watcher.old ≡ false → W.shows watcher.new ≡ false }
 {
-    let grid = grid_of(alloc, words)?;
-    let shard = shard_of(alloc, shard)?;
+    let grid = grid_of(alloc, &study.grid)?;
+    let shard = shard_of(alloc, study.shard)?;
+    let layout = layout_of(alloc, &grid, each, columns)?;
     let file = table_of(rt, alloc, path, input)?;
-    let threads = threads_for(rt, threads);
-    match sweep(rt, alloc, &file, &grid, shard, threads, outlet, watcher) {
+    let threads = threads_for(rt, study.threads);
+    match sweep(
+        rt, alloc, &file, &grid, shard, &layout, threads, outlet, watcher,
+    ) {
         Ok(()) => Ok(()),
         Err(error) => Err(fault_of(alloc, path, &file, &grid, &error)),
     }

@@ -1,5 +1,5 @@
 -- What clap's matches say.
-use Rattle.std.proofs.Common.{rules, ◌≡◌, ◌∙◌, ap, sym, subst, refl, true, codes, [], map, ℕ, List, Option, Some, None, Result, Ok, Err, IfOk, IfErr, option_map}
+use Rattle.std.proofs.Common.{rules, ◌≡◌, ◌∙◌, ap, sym, subst, refl, true, false, codes, [], map, ℕ, Bool, List, Option, Some, None, Result, Ok, Err, IfOk, IfErr, is_some, not, option_map}
 use Rattle.std.specs.Borrow.{Bor}
 use Rattle.std.specs.Option.{option_map_or, unwrap_or}
 use Rattle.std.specs.Str.Parse.{ParsesUnsigned, ExplainsUnsignedError, HasUnsignedDigitsIfOk}
@@ -25,6 +25,19 @@ some_is f o x r is at = sym at ∙ ap (option_map f) is
 pub none_is : {A B : Type 0} (f : A → B) (o : Option A) (y : B) (r : Option B)
     → o ≡ None → option_map f o ≡ r → r ≡ Some y → ⊥
 none_is f o y r is at there = let bad : None ≡ Some y = sym (ap (option_map f) is) ∙ at ∙ there in cc
+
+-- what is there is so in the rows, and what isn't isn't
+pub missing_is : {A B : Type 0} (f : A → B) (o : Option A) (r : Option B) (lacks : Bool)
+    → option_map f o ≡ r → is_some o ≡ not lacks → lacks ≡ not (is_some r)
+missing_is {A = A} f o r lacks at is = sym (twice lacks) ∙ ap not (sym is ∙ kept o ∙ ap is_some at)
+  where
+    twice : (b : Bool) → not (not b) ≡ b
+    twice true = refl
+    twice false = refl
+
+    kept : (o : Option A) → is_some o ≡ is_some (option_map f o)
+    kept None = refl
+    kept (Some x) = refl
 
 some_injective : {A : Type 0} {x y : A} → Some x ≡ Some y → x ≡ y
 some_injective {x = x} e = ap (λ o. unwrap_or o x) e
@@ -65,25 +78,26 @@ pub lacks_part : {X Y : Type 0} (Part : X → Type 0) (Whole : Y → Type 0)
 lacks_part Part Whole parts (refusal.Help text) h = h
 lacks_part Part Whole parts (refusal.Mistake text) h = h
 lacks_part Part Whole parts (refusal.NoPicture word) h = λ y whole. let part = parts y whole in h part.0 part.1
+lacks_part Part Whole parts (refusal.NoEach word) h = λ y whole. let part = parts y whole in h part.0 part.1
 lacks_part Part Whole parts refusal.Form h = λ y whole. let part = parts y whole in h part.0 part.1
 lacks_part Part Whole parts refusal.Memory h = tt
 
 module _ (rows : List Row) where
   pub show_has_point : (asked : Order) → StatesIn (codes "show") rows asked
       → (n : ℕ) × IsNumberAt (codes "point") rows n
-  show_has_point (order.Check path) h = let bad : codes "show" ≡ codes "check" = h.0 in search rules
+  show_has_point (order.Check path study) h = let bad : codes "show" ≡ codes "check" = h.0 in search rules
   show_has_point (order.Letters path) h = let bad : codes "show" ≡ codes "letters" = h.0 in search rules
-  show_has_point (order.Draw path named from until) h = let bad : codes "show" ≡ codes "draw" = h.0 in search rules
+  show_has_point (order.Draw path named from until of) h = let bad : codes "show" ≡ codes "draw" = h.0 in search rules
   show_has_point (order.Show path grid point run) h = (point, h.3)
-  show_has_point (order.Sweep path grid shard threads) h = let bad : codes "show" ≡ codes "sweep" = h.0 in search rules
+  show_has_point (order.Sweep path study columns told) h = let bad : codes "show" ≡ codes "sweep" = h.0 in search rules
 
   pub show_has_run : (asked : Order) → StatesIn (codes "show") rows asked
       → (n : ℕ) × IsNumberAt (codes "run") rows n
-  show_has_run (order.Check path) h = let bad : codes "show" ≡ codes "check" = h.0 in search rules
+  show_has_run (order.Check path study) h = let bad : codes "show" ≡ codes "check" = h.0 in search rules
   show_has_run (order.Letters path) h = let bad : codes "show" ≡ codes "letters" = h.0 in search rules
-  show_has_run (order.Draw path named from until) h = let bad : codes "show" ≡ codes "draw" = h.0 in search rules
+  show_has_run (order.Draw path named from until of) h = let bad : codes "show" ≡ codes "draw" = h.0 in search rules
   show_has_run (order.Show path grid point run) h = (run, h.4)
-  show_has_run (order.Sweep path grid shard threads) h = let bad : codes "show" ≡ codes "sweep" = h.0 in search rules
+  show_has_run (order.Sweep path study columns told) h = let bad : codes "show" ≡ codes "sweep" = h.0 in search rules
 
 simple : is_simple whole_app ≡ true
 unfolding clap_on_literals
@@ -113,6 +127,10 @@ module _ (c : Command) (words : List Text) (is : app_of c ≡ whole_app) where
   nothing_by_words m has taken (Err (refusal.Help text)) h = absurd h
   nothing_by_words m has taken (Err (refusal.Mistake text)) h = absurd h
   nothing_by_words m has taken (Err (refusal.NoPicture word)) h = record {
+    taken = sym (ap (λ (a : App). fault_of a words) is) ∙ taken free_here;
+    nothing = λ asked stated. h asked (subst (λ met. StatesFound met asked) (sym (met_here m has)) stated);
+  }
+  nothing_by_words m has taken (Err (refusal.NoEach word)) h = record {
     taken = sym (ap (λ (a : App). fault_of a words) is) ∙ taken free_here;
     nothing = λ asked stated. h asked (subst (λ met. StatesFound met asked) (sym (met_here m has)) stated);
   }

@@ -1,5 +1,5 @@
 -- The command line, as clap sees it.
-use Rattle.std.specs.Prelude.{◌≡◌, [], ◌∷◌, IfOk, Result, Some, codes, false, true}
+use Rattle.std.specs.Prelude.{◌≡◌, [], ◌∷◌, Bool, IfOk, Result, Some, codes, false, true}
 use Rattle.clap.specs.Words.{App, Rule, Text, app_of, new_app, new_rule, with_rule, with_subcommand}
 use Rattle.clap.specs.declared.builder.action.ArgAction.TheVariants.{Append}
 use Rattle.clap.specs.declared.builder.command.Command.TheViews.{out-Command}
@@ -14,17 +14,21 @@ path_rule = record (new_rule (codes "path")) { value_names = 1; required = true 
 abbrev pub option_rule : Text → Rule
 option_rule name = record (new_rule name) { long = Some name; value_names = 1 }
 
-abbrev pub seeds_rule : Rule
-seeds_rule = record (option_rule (codes "seeds")) { required = true }
+-- some commands are nothing without seeds
+abbrev pub seeds_rule : (needed : Bool) → Rule
+seeds_rule needed = record (option_rule (codes "seeds")) { required = needed }
 
 -- an option that may be there several times, each time with a value
 abbrev pub axis_rule : Text → Rule
 axis_rule name = record (option_rule name) { action = Some Append }
 
+abbrev pub with_axes : App → App
+with_axes app =
+    with_rule (with_rule (with_rule app (axis_rule (codes "vary"))) (axis_rule (codes "over"))) (axis_rule (codes "deal"))
+
 -- the runs of a study
-abbrev pub with_grid : App → App
-with_grid app =
-    with_rule (with_rule (with_rule app seeds_rule) (axis_rule (codes "vary"))) (axis_rule (codes "over"))
+abbrev pub with_grid : (needed : Bool) → App → App
+with_grid needed app = with_axes (with_rule app (seeds_rule needed))
 
 -- points count from 1
 abbrev pub point_rule : Rule
@@ -40,11 +44,12 @@ run_rule = record (option_rule (codes "run")) {
   defaults = codes "1" ∷ [];
 }
 
-abbrev pub shard_rule : Rule
-shard_rule = option_rule (codes "shard")
-
 abbrev pub threads_rule : Rule
 threads_rule = record (option_rule (codes "threads")) { parser = Some (parser.Unsigned 1 64) }
+
+-- where nothing is said a row tells of a point
+abbrev pub each_rule : Rule
+each_rule = record (option_rule (codes "each")) { defaults = codes "point" ∷ [] }
 
 abbrev pub picture_rule : Rule
 picture_rule = record (option_rule (codes "as")) { required = true }
@@ -61,26 +66,31 @@ with_ticks app = with_rule (with_rule app (tick_rule (codes "from"))) (tick_rule
 abbrev pub with_path : Text → App
 with_path name = with_rule (new_app name) path_rule
 
+-- a command that takes a path and a study
+abbrev pub study_app : (needed : Bool) → Text → App
+study_app needed name =
+    with_rule (with_rule (with_grid needed (with_path name)) (option_rule (codes "shard"))) threads_rule
+
 abbrev pub check_app : App
-check_app = with_path (codes "check")
+check_app = study_app false (codes "check")
 
 abbrev pub letters_app : App
 letters_app = with_path (codes "letters")
 
 abbrev pub draw_app : App
-draw_app = with_ticks (with_rule (with_path (codes "draw")) picture_rule)
+draw_app = with_rule (with_ticks (with_rule (with_path (codes "draw")) picture_rule)) (option_rule (codes "of"))
 
 abbrev pub show_app : App
-show_app = with_rule (with_rule (with_grid (with_path (codes "show"))) point_rule) run_rule
+show_app = with_rule (with_rule (with_grid true (with_path (codes "show"))) point_rule) run_rule
 
 abbrev pub sweep_app : App
-sweep_app = with_rule (with_rule (with_grid (with_path (codes "sweep"))) shard_rule) threads_rule
+sweep_app = with_rule (with_rule (study_app true (codes "sweep")) (option_rule (codes "columns"))) each_rule
 
 -- the program's command, which is nothing without one of these
 abbrev pub top_app : App
 top_app = let app = new_app (codes "fdstudy") in record app { top = record app.top { subcommand_required = true } }
 
--- the commands about one scenario as it stands
+-- the commands about one scenario
 abbrev pub with_scenario : App → App
 with_scenario app =
     with_subcommand (with_subcommand (with_subcommand app check_app.top) letters_app.top) draw_app.top

@@ -1,5 +1,8 @@
 -- What the words of a command line state.
-use Rattle.std.specs.Prelude.{◌≡◌, ◌≢◌, [], ℕ, List, Ok, Option, Some, None, codes, map, option_map}
+use Rattle.std.specs.Prelude.{◌≡◌, ◌≢◌, [], ◌∷◌, ℕ, Bool, List, Ok, Option, Some, None, true}
+use Rattle.std.specs.Prelude.{codes, is_some, map, not, option_map}
+use Rattle.std.specs.Borrow.{Bor}
+use Rattle.std.specs.List.{list_all}
 use Rattle.std.specs.Option.{option_map_or}
 use Rattle.std.specs.Str.Parse.{ParsesUnsigned}
 use Rattle.std.specs.declared.num.ParseIntError.{ParseIntError}
@@ -7,11 +10,14 @@ use Rattle.clap.specs.Words.{Row, Text, subcommand_of, all_of, first_of, one_of,
 use Rattle.clap.specs.declared.error.kind.ErrorKind.{ErrorKind}
 use Rattle.clap.specs.declared.error.kind.ErrorKind.TheVariants.{DisplayHelp}
 use Rattle.study_line.specs.Commands.{whole_app}
+use Rattle.study_line.specs.declared.order.Each.{Each}
+use Rattle.study_line.specs.declared.order.Each.TheVariants as each
 use Rattle.study_line.specs.declared.order.GridTexts.{GridTexts}
 use Rattle.study_line.specs.declared.order.Order.{Order}
 use Rattle.study_line.specs.declared.order.Order.TheVariants as order
 use Rattle.study_line.specs.declared.order.Picture.{Picture}
 use Rattle.study_line.specs.declared.order.Picture.TheVariants as picture
+use Rattle.study_line.specs.declared.order.StudyTexts.{StudyTexts}
 use Rattle.study_line.specs.declared.order.WordsError.{WordsError}
 use Rattle.study_line.specs.declared.order.WordsError.TheVariants as refusal
 
@@ -19,6 +25,13 @@ use Rattle.study_line.specs.declared.order.WordsError.TheVariants as refusal
 
 abbrev pub IsTextAt : Text → List Row → Text → Type 0
 IsTextAt id rows text = first_of id rows ≡ Some text
+
+-- the same of an argument that may be missing
+abbrev pub MayBeTextAt : Text → List Row → Option (Bor Text) → Type 0
+MayBeTextAt id rows text = option_map (λ t. t.now) text ≡ first_of id rows
+
+abbrev pub is_missing : List Row → Text → Bool
+is_missing rows id = not (is_some (first_of id rows))
 
 -- the texts of all uses of an argument, in their order
 abbrev pub texts_at : Text → List Row → List Text
@@ -53,28 +66,55 @@ picture_text picture.Letters = codes "letters"
 abbrev pub IsPictureAt : Text → List Row → Picture → Type 0
 IsPictureAt id rows named = IsTextAt id rows (picture_text named)
 
+-- the words for what a row tells of
+abbrev pub each_text : Each → Text
+each_text each.Point = codes "point"
+each_text each.Run = codes "run"
+
+-- what a row tells of, as an argument's text names it
+abbrev pub IsEachAt : Text → List Row → Each → Type 0
+IsEachAt id rows told = IsTextAt id rows (each_text told)
+
 -- which runs a study has
 pub record IsGridAt (rows : List Row) (grid : GridTexts) : Type 0 where
   pub seeds : IsTextAt (codes "seeds") rows grid.seeds.now
   pub vary : map (λ t. t.now) grid.vary.items ≡ texts_at (codes "vary") rows
   pub over : map (λ t. t.now) grid.over.items ≡ texts_at (codes "over") rows
+  pub deal : map (λ t. t.now) grid.deal.items ≡ texts_at (codes "deal") rows
+
+-- a study: its runs, which part of them is done, and by how many threads
+pub record IsStudyAt (rows : List Row) (study : StudyTexts) : Type 0 where
+  pub grid : IsGridAt rows study.grid
+  pub shard : MayBeTextAt (codes "shard") rows study.shard
+  pub threads : MayBeNumberAt (codes "threads") rows study.threads
+
+-- the options that say a study
+abbrev pub study_options : List Text
+study_options =
+    codes "seeds" ∷ codes "vary" ∷ codes "over" ∷ codes "deal" ∷ codes "shard" ∷ codes "threads" ∷ []
+
+-- a study, or none where none of its options is there
+abbrev pub MayBeStudyAt : List Row → Option StudyTexts → Type 0
+MayBeStudyAt rows (Some study) = IsStudyAt rows study
+MayBeStudyAt rows None = list_all (is_missing rows) study_options ≡ true
 
 -- ---- orders
 
 -- the order is what the subcommand of this name says by its own arguments
 abbrev pub StatesIn : Text → List Row → Order → Type 0
-StatesIn name rows (order.Check path) = (name ≡ codes "check") × IsTextAt (codes "path") rows path.now
+StatesIn name rows (order.Check path study) = (name ≡ codes "check")
+    × IsTextAt (codes "path") rows path.now × MayBeStudyAt rows study
 StatesIn name rows (order.Letters path) = (name ≡ codes "letters") × IsTextAt (codes "path") rows path.now
-StatesIn name rows (order.Draw path named from until) = (name ≡ codes "draw")
+StatesIn name rows (order.Draw path named from until of) = (name ≡ codes "draw")
     × IsTextAt (codes "path") rows path.now × IsPictureAt (codes "as") rows named
     × MayBeTickAt (codes "from") rows from × MayBeTickAt (codes "until") rows until
+    × MayBeTextAt (codes "of") rows of
 StatesIn name rows (order.Show path grid point run) = (name ≡ codes "show")
     × IsTextAt (codes "path") rows path.now × IsGridAt rows grid
     × IsNumberAt (codes "point") rows point × IsNumberAt (codes "run") rows run
-StatesIn name rows (order.Sweep path grid shard threads) = (name ≡ codes "sweep")
-    × IsTextAt (codes "path") rows path.now × IsGridAt rows grid
-    × (option_map (λ t. t.now) shard ≡ first_of (codes "shard") rows)
-    × MayBeNumberAt (codes "threads") rows threads
+StatesIn name rows (order.Sweep path study columns told) = (name ≡ codes "sweep")
+    × IsTextAt (codes "path") rows path.now × IsStudyAt rows study
+    × MayBeTextAt (codes "columns") rows columns × IsEachAt (codes "each") rows told
 
 -- the order is what the subcommand that was found says
 abbrev pub StatesFound : Option (Text × List Row) → Order → Type 0
@@ -101,12 +141,14 @@ Explains words (refusal.Help text) = AsksHelp words
 Explains words (refusal.Mistake text) =
     (kind : ErrorKind) × (kind ≢ DisplayHelp) × IsAmong kind (fault_of whole_app words)
 Explains words (refusal.NoPicture word) = StatesNothing words
+Explains words (refusal.NoEach word) = StatesNothing words
 Explains words refusal.Form = StatesNothing words
 Explains words refusal.Memory = Unit {0}
 
 -- why none was read of what may be stated: there is none, or memory was refused
 abbrev pub Lacks : {X : Type 0} → (X → Type 0) → WordsError → Type 0
 Lacks {X} IsStated (refusal.NoPicture word) = (stated : X) → IsStated stated → ⊥
+Lacks {X} IsStated (refusal.NoEach word) = (stated : X) → IsStated stated → ⊥
 Lacks {X} IsStated refusal.Form = (stated : X) → IsStated stated → ⊥
 Lacks IsStated refusal.Memory = Unit {0}
 Lacks IsStated _ = ⊥

@@ -1,7 +1,7 @@
 //! The command line, with its help.
 ghost use Rattle.std.specs.Prelude.{◌≡◌, Some, false};
 ghost use Rattle.clap.specs.Words.{App, app_of, rule_of, with_rule, with_subcommand};
-ghost use Rattle.study_line.specs.Commands.{IsLocal, Makes, axis_rule, check_app, draw_app, letters_app, option_rule, path_rule, picture_rule, point_rule, run_rule, seeds_rule, shard_rule, show_app, sweep_app, threads_rule, tick_rule, top_app, whole_app, with_grid, with_path, with_scenario, with_study, with_ticks};
+ghost use Rattle.study_line.specs.Commands.{IsLocal, Makes, axis_rule, check_app, draw_app, each_rule, letters_app, option_rule, path_rule, picture_rule, point_rule, run_rule, seeds_rule, show_app, study_app, sweep_app, threads_rule, tick_rule, top_app, whole_app, with_axes, with_grid, with_path, with_scenario, with_study, with_ticks};
 
 use clap::builder::ValueParser;
 use clap::{Arg, ArgAction, Command, value_parser};
@@ -9,30 +9,36 @@ use std::alloc::{AllocError, Global};
 
 const ABOUT: &str = "Runs a scenario under many settings and adds up what its detectors did.
 
-A study has points, one for each combination of the values that are varied, and each point has runs, one for each \
-seed and each combination of the other values that are set. `sweep` prints a table with a row for each point and \
-layer of detectors, in which the measures of all its runs are added up, and `show` prints the scenario of one run.
+A study has points, one for each combination of the values that are varied. Each point has a run for each seed, with \
+values that are dealt to the seeds in turn; where values are set over all seeds, each combination of these has such \
+runs. `sweep` prints a table with a row for each point and layer of detectors, in which the measures of all its runs \
+are added up, or with one for each run, and `show` prints the scenario of one run.
 
-Of one scenario as it stands, `check` says where it breaks a rule, and why; `letters` prints the letters of its run; \
-and `draw` draws a picture of its run.";
+Of one scenario as it stands, or of every run of a study, `check` says where it breaks a rule, and why. `letters` \
+prints the letters of a scenario's run, and `draw` draws a picture of it.";
 
 const EXAMPLE: &str = "Example:
   fdstudy check examples/cluster_5.toml
   fdstudy letters examples/one_crash.toml
   fdstudy draw examples/one_crash.toml --as suspicions > one_crash.svg
-  fdstudy sweep examples/cluster_5.toml --seeds 1..=20 --vary detector.timeout=150,300,600
-  fdstudy show examples/cluster_5.toml --seeds 1..=20 --vary detector.timeout=150,300,600 --point 2 --run 7
+  fdstudy sweep examples/cluster_5.toml --seeds 1..=20 --vary detector.timeout=150,300,600 \\
+      --deal 'crash[1].at=30000..=30075:25' --columns runs,mistakes,undetected,detection_p50,detection_max
+  fdstudy show examples/cluster_5.toml --seeds 1..=20 --vary detector.timeout=150,300,600 \\
+      --deal 'crash[1].at=30000..=30075:25' --point 2 --run 7
 
 Exit status: 0 done, 1 file, picture or the scenario of a run refused, 2 command line refused, 3 run failed, 4 writing \
 failed.";
 
-const CHECK: &str = "Reads a scenario file and prints its size, or where it breaks a rule and why";
+const CHECK: &str =
+    "Reads a scenario file, or all scenarios of a study, and prints its size, or where it breaks a rule and why";
 
 const CHECK_EXAMPLE: &str = "Example:
   fdstudy check - < examples/cluster_5.toml
+  fdstudy check examples/cluster_5.toml --seeds 1..=20 --deal 'crash[1].at=30000..=30075:25'
 
 Of an accepted file the processes, the horizon and an estimate of a run are printed. A refused file ends with status \
-1 and one line on standard error.";
+1 and one line on standard error. With the options of a study, which are those of `sweep`, the scenario of each of its \
+runs is looked at, and none is run; without --seeds there can be none of the others.";
 
 const LETTERS: &str = "Prints the letters of a scenario's run, one row for each";
 
@@ -48,7 +54,7 @@ const DRAW: &str = "Draws a picture of a scenario's run, as SVG on standard outp
 const DRAW_EXAMPLE: &str = "Example:
   fdstudy draw examples/one_crash.toml --as suspicions > one_crash.svg
   fdstudy draw examples/cluster_5.toml --as suspicions --from 30000 --until 31000 > crash.svg
-  fdstudy draw examples/cluster_5.toml --as letters --from 30000 --until 30030 > letters.svg
+  fdstudy draw examples/cluster_5.toml --as letters --from 30000 --until 30030 --of 2,3 > letters.svg
 
 In the picture of suspicions each process has a row for itself, with its crash and its decision, and one for each \
 other process, with a bar for each stretch of ticks through which it suspects it. In that of letters each process \
@@ -59,19 +65,26 @@ entries than the scenario's limit ends with status 3. Nothing is printed then.";
 const SHOW: &str = "Prints the scenario file of one run of a study";
 
 const SHOW_EXAMPLE: &str = "Example:
-  fdstudy show examples/cluster_5.toml --seeds 1..=20 --vary detector.timeout=150,300 --point 2 | fdbench list -
+  fdstudy show examples/cluster_5.toml --seeds 1..=20 --deal 'crash[1].at=30000..=30075:25' --point 1 --run 7 \\
+      | fdbench list -
 
 The options that make the study are those of `sweep`. Comments of the file aren't printed.";
 
 const SWEEP: &str =
-    "Runs a study and prints its table, a row for each point and layer of detectors";
+    "Runs a study and prints its table, a row for each point or run and layer of detectors";
 
 const SWEEP_EXAMPLE: &str = "Example:
-  fdstudy sweep examples/cluster_5.toml --seeds 1..=20 --vary detector.timeout=150,300,600 --vary link.loss=0,10
+  fdstudy sweep examples/cluster_5.toml --seeds 1..=20 --vary detector.timeout=150,300,600 --vary link.loss=0,10 \\
+      --deal 'crash[1].at=30000..=30075:25' --columns runs,mistakes,undetected,detection_p50,detection_max
 
 A KEY is a key of the scenario file by its path: `horizon`, `detector.timeout`, `link.loss`, `crash[1].at` for the \
-first table of an array; not `seed`. A VALUE is an integer, a text, or a range of integers A..=B or A..=B:STEP. The \
-values of a key that the file has give way to these; a key that it lacks is added.
+first table of an array, `crash[*].at` for all of them; not `seed`. A VALUE is an integer, a text, or a range of \
+integers A..=B or A..=B:STEP. Keys that change together are written KEY,KEY=VALUE:VALUE,.. with a value for each in \
+turn. The values of a key that the file has give way to these; a key that it lacks is added.
+
+The combinations of the values of --deal are dealt to the seeds in turn, so that each run has a seed of its own; how \
+many seeds there are must be a multiple of how many combinations there are. The values of --over copy each seed's \
+letters: runs that share a seed share the fates of all letters, so they are no independent evidence.
 
 What is printed depends neither on the threads nor on the shards: the outputs of all shards, one after the other, are \
 that of the whole study.";
@@ -84,7 +97,12 @@ const VARY: &str =
     "A key with the values that make the points: all combinations, the last key varying fastest";
 
 const OVER: &str =
-    "A key with values that make runs, as the seeds do: the runs of a point are added up";
+    "A key with values that copy each seed's letters: with each of them all seeds are run, and runs \
+that share a seed share the fates of all letters, so they are no independent evidence";
+
+const DEAL: &str =
+    "A key with values that are dealt to the seeds in turn, so that each run has a seed of its own; \
+several such keys by their combinations, as points";
 
 const POINT: &str = "Which point, from 1, in the order of the table's rows";
 
@@ -94,6 +112,11 @@ const RUN: &str =
 const SHARD: &str =
     "Only the K-th of N consecutive blocks of the points, K from 1 [default: all points]";
 
+const COLUMNS: &str =
+    "The columns that are printed, by their names, in the order that is wanted [default: all]";
+
+const EACH: &str = "What has a row: each `point`, with its runs added up, or each `run`";
+
 const PICTURE: &str =
     "Which picture: `suspicions`, who suspects whom, or `letters`, what went from whom to whom";
 
@@ -101,6 +124,9 @@ const FROM: &str = "The first tick that is drawn [default: 0]";
 
 const UNTIL: &str =
     "The tick before which the picture ends, at most the scenario's horizon [default: the horizon]";
+
+const OF: &str =
+    "Processes whose letters alone are drawn, those sent and those received [default: all letters]";
 
 const THREADS: &str =
     "How many threads share the runs, 1 to 64 [default: as many as there are processors]";
@@ -164,11 +190,11 @@ fn parsed_option<'a>(
 }
 
 /// The option for the seeds.
-fn seeds_option<'a>(alloc: Global) -> Arg<'a>
-    ensures rule { rule_of result ≡ seeds_rule }
+fn seeds_option<'a>(alloc: Global, needed: bool) -> Arg<'a>
+    ensures rule { rule_of result ≡ seeds_rule needed }
     ensures local { result.global ≡ false }
 {
-    option(alloc, "seeds", "A..=B", SEEDS).required(true)
+    option(alloc, "seeds", "A..=B", SEEDS).required(needed)
 }
 
 /// An option for axes, which may be there several times.
@@ -179,13 +205,20 @@ fn axis_option<'a>(alloc: Global, name: &'a str, help: &'a str) -> Arg<'a>
     option(alloc, name, "KEY=VALUE,..", help).action(ArgAction::Append)
 }
 
-/// A command with the options that say which runs a study has.
-fn with_grid_options<'a>(alloc: Global, command: Made<'a>) -> Made<'a>
-    ensures { (app : App) → Makes app command.entry → Makes (with_grid app) result }
+/// A command with the options for axes.
+fn with_axis_options<'a>(alloc: Global, command: Made<'a>) -> Made<'a>
+    ensures { (app : App) → Makes app command.entry → Makes (with_axes app) result }
 {
-    let command = with_argument(command, seeds_option(alloc));
     let command = with_argument(command, axis_option(alloc, "vary", VARY));
-    with_argument(command, axis_option(alloc, "over", OVER))
+    let command = with_argument(command, axis_option(alloc, "over", OVER));
+    with_argument(command, axis_option(alloc, "deal", DEAL))
+}
+
+/// A command with the options that say which runs a study has.
+fn with_grid_options<'a>(alloc: Global, command: Made<'a>, needed: bool) -> Made<'a>
+    ensures { (app : App) → Makes app command.entry → Makes (with_grid needed app) result }
+{
+    with_axis_options(alloc, with_argument(command, seeds_option(alloc, needed)))
 }
 
 /// The option for the point.
@@ -206,14 +239,6 @@ fn run_option<'a>(alloc: Global) -> Arg<'a>
     parsed_option(alloc, "run", "J", RUN, values).default_value("1")
 }
 
-/// The option for the shard.
-fn shard_option<'a>(alloc: Global) -> Arg<'a>
-    ensures rule { rule_of result ≡ shard_rule }
-    ensures local { result.global ≡ false }
-{
-    option(alloc, "shard", "K/N", SHARD)
-}
-
 /// The option for the number of threads.
 fn threads_option<'a>(alloc: Global) -> Arg<'a>
     ensures rule { rule_of result ≡ threads_rule }
@@ -221,6 +246,14 @@ fn threads_option<'a>(alloc: Global) -> Arg<'a>
 {
     let values = value_parser!(u64).range(1..=64);
     parsed_option(alloc, "threads", "N", THREADS, values)
+}
+
+/// The option for what has a row.
+fn each_option<'a>(alloc: Global) -> Arg<'a>
+    ensures rule { rule_of result ≡ each_rule }
+    ensures local { result.global ≡ false }
+{
+    option(alloc, "each", "WHAT", EACH).default_value("point")
 }
 
 /// The option for the picture.
@@ -257,17 +290,38 @@ fn path_command<'a>(alloc: Global, name: &'a str, about: &'a str, example: &'a s
 }
 
 /// A command that takes a scenario file and the options that say which runs a study has.
-fn study_command<'a>(alloc: Global, name: &'a str, about: &'a str, example: &'a str) -> Made<'a>
-    ensures { Makes (with_grid (with_path name.now)) result }
+fn grid_command<'a>(
+    alloc: Global,
+    name: &'a str,
+    about: &'a str,
+    example: &'a str,
+    needed: bool,
+) -> Made<'a>
+    ensures { Makes (with_grid needed (with_path name.now)) result }
 {
-    with_grid_options(alloc, path_command(alloc, name, about, example))
+    with_grid_options(alloc, path_command(alloc, name, about, example), needed)
 }
 
-/// `check SCENARIO`
+/// A command that takes a scenario file and the options that say a study.
+fn study_command<'a>(
+    alloc: Global,
+    name: &'a str,
+    about: &'a str,
+    example: &'a str,
+    needed: bool,
+) -> Made<'a>
+    ensures { Makes (study_app needed name.now) result }
+{
+    let command = grid_command(alloc, name, about, example, needed);
+    let command = with_argument(command, option(alloc, "shard", "K/N", SHARD));
+    with_argument(command, threads_option(alloc))
+}
+
+/// `check SCENARIO [--seeds A..=B] ..`, with the options of a study
 fn check_command<'a>(alloc: Global) -> Made<'a>
     ensures { Makes check_app result }
 {
-    path_command(alloc, "check", CHECK, CHECK_EXAMPLE)
+    study_command(alloc, "check", CHECK, CHECK_EXAMPLE, false)
 }
 
 /// `letters SCENARIO`
@@ -277,31 +331,32 @@ fn letters_command<'a>(alloc: Global) -> Made<'a>
     path_command(alloc, "letters", LETTERS, LETTERS_EXAMPLE)
 }
 
-/// `draw SCENARIO --as PICTURE [--from T] [--until T]`
+/// `draw SCENARIO --as PICTURE [--from T] [--until T] [--of P,Q]`
 fn draw_command<'a>(alloc: Global) -> Made<'a>
     ensures { Makes draw_app result }
 {
     let command = path_command(alloc, "draw", DRAW, DRAW_EXAMPLE);
     let command = with_argument(command, picture_option(alloc));
-    with_tick_options(alloc, command)
+    let command = with_tick_options(alloc, command);
+    with_argument(command, option(alloc, "of", "P,Q", OF))
 }
 
-/// `show SCENARIO --seeds A..=B [--vary KEY=VALUE,..]... [--over KEY=VALUE,..]... --point K [--run J]`
+/// `show SCENARIO --seeds A..=B .. --point K [--run J]`, with the options that say which runs a study has
 fn show_command<'a>(alloc: Global) -> Made<'a>
     ensures { Makes show_app result }
 {
-    let command = study_command(alloc, "show", SHOW, SHOW_EXAMPLE);
+    let command = grid_command(alloc, "show", SHOW, SHOW_EXAMPLE, true);
     let command = with_argument(command, point_option(alloc));
     with_argument(command, run_option(alloc))
 }
 
-/// `sweep SCENARIO --seeds A..=B [--vary KEY=VALUE,..]... [--over KEY=VALUE,..]... [--shard K/N] [--threads N]`
+/// `sweep SCENARIO --seeds A..=B .. [--columns NAME,..] [--each WHAT]`, with the options of a study
 fn sweep_command<'a>(alloc: Global) -> Made<'a>
     ensures { Makes sweep_app result }
 {
-    let command = study_command(alloc, "sweep", SWEEP, SWEEP_EXAMPLE);
-    let command = with_argument(command, shard_option(alloc));
-    with_argument(command, threads_option(alloc))
+    let command = study_command(alloc, "sweep", SWEEP, SWEEP_EXAMPLE, true);
+    let command = with_argument(command, option(alloc, "columns", "NAME,..", COLUMNS));
+    with_argument(command, each_option(alloc))
 }
 
 /// The command line with no command yet.
@@ -315,7 +370,7 @@ fn top_command<'a>(alloc: Global) -> Command<'a>
         .subcommand_required(true)
 }
 
-/// A command with those that are about one scenario as it stands.
+/// A command with those that are about one scenario.
 fn with_scenario_commands<'a>(alloc: Global, command: Made<'a>) -> Made<'a>
     ensures { (app : App) → Makes app command.entry → Makes (with_scenario app) result }
 {

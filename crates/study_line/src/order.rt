@@ -1,8 +1,9 @@
 //! What a command line asks for.
 ghost use Rattle.std.specs.Prelude.{◌≡◌, List, IfOk, IfErr, map, codes};
+ghost use Rattle.std.specs.List.{list_all};
 ghost use Rattle.clap.specs.Words.{Text, rows_of, found_of, subcommand_rows_of, fault_of, HasKind};
 ghost use Rattle.study_line.specs.Commands.{whole_app};
-ghost use Rattle.study_line.specs.Order.{Explains, IsGridAt, IsNumberAt, IsPictureAt, IsTextAt, Lacks, MayBeNumberAt, MayBeTickAt, States, StatesFound, StatesIn, texts_at};
+ghost use Rattle.study_line.specs.Order.{Explains, IsEachAt, IsGridAt, IsNumberAt, IsPictureAt, IsStudyAt, IsTextAt, Lacks, MayBeNumberAt, MayBeStudyAt, MayBeTextAt, MayBeTickAt, States, StatesFound, StatesIn, is_missing, study_options, texts_at};
 
 use crate::command::command;
 use clap::ArgMatches;
@@ -16,8 +17,30 @@ pub struct GridTexts<'a> {
     pub seeds: &'a str,
     /// The axes that make the points, as `link.loss=0,10`, in order.
     pub vary: Vec<&'a str>,
-    /// The axes that make runs of each point, in order.
+    /// The axes that make runs of each point, in order: all seeds for each combination of their values.
     pub over: Vec<&'a str>,
+    /// The axes whose values are dealt to the seeds in turn, in order.
+    pub deal: Vec<&'a str>,
+}
+
+/// A study, by texts that are still to be read.
+#[derive(Debug, Drop)]
+pub struct StudyTexts<'a> {
+    /// Which runs it has.
+    pub grid: GridTexts<'a>,
+    /// Which block of the points is done, as `2/3`; all of them where nothing is said.
+    pub shard: Option<&'a str>,
+    /// How many threads share the runs, 1 to 64, where it is said.
+    pub threads: Option<u64>,
+}
+
+/// What a row of a study's table tells of.
+#[derive(Clone, Copy, Debug, PartialEq, Eq)]
+pub enum Each {
+    /// All runs of a point, added up.
+    Point,
+    /// One run.
+    Run,
 }
 
 /// Which picture of a run is drawn.
@@ -32,10 +55,13 @@ pub enum Picture {
 /// What a command line asks for. The path `-` is standard input.
 #[derive(Debug, Drop)]
 pub enum Order<'a> {
-    /// To say whether the scenario file is accepted, and where and why it isn't.
+    /// To say whether the scenario file, or the scenario of each run of a study, is accepted, and where and why it
+    /// isn't.
     Check {
         /// Where the scenario file is.
         path: &'a str,
+        /// Which study, where one is said.
+        study: Option<StudyTexts<'a>>,
     },
     /// To print the letters of the scenario's run.
     Letters {
@@ -52,6 +78,8 @@ pub enum Order<'a> {
         from: Option<u32>,
         /// The tick before which the picture ends, where it is said.
         until: Option<u32>,
+        /// The processes whose letters alone are drawn, as `1,3`, where it is said.
+        of: Option<&'a str>,
     },
     /// To print the scenario file of one run.
     Show {
@@ -68,12 +96,12 @@ pub enum Order<'a> {
     Sweep {
         /// Where the scenario file is.
         path: &'a str,
-        /// Which runs the study has.
-        grid: GridTexts<'a>,
-        /// Which block of the points is done, as `2/3`; all of them where nothing is said.
-        shard: Option<&'a str>,
-        /// How many threads share the runs, 1 to 64, where it is said.
-        threads: Option<u64>,
+        /// Which study.
+        study: StudyTexts<'a>,
+        /// The columns that are printed, as `mistakes,runs`; all of them where nothing is said.
+        columns: Option<&'a str>,
+        /// What a row tells of.
+        each: Each,
     },
 }
 
@@ -86,10 +114,19 @@ pub enum WordsError {
     Mistake(String),
     /// `clap` takes them, but no picture is named so.
     NoPicture(String),
-    /// `clap` takes them, but a part of the order is missing.
+    /// `clap` takes them, but a row can't tell of what is named so.
+    NoEach(String),
+    /// `clap` takes them, but a part of the order is missing, as the seeds of a study whose other options are there.
     Form,
     /// Memory was refused.
     Memory,
+}
+
+/// The text of an argument, if it is there.
+fn text_if_at<'a>(found: &ArgMatches<'a>, id: &str) -> Option<&'a str>
+    ensures { MayBeTextAt id.now (rows_of (found_of found.now)) result }
+{
+    found.get_str(id)
 }
 
 /// The text of an argument.
@@ -97,10 +134,17 @@ fn text_at<'a>(found: &ArgMatches<'a>, id: &str) -> Result<&'a str, WordsError>
     ensures stated { IfOk result (λ t. IsTextAt id.now (rows_of (found_of found.now)) t.now) }
     ensures refused { IfErr result (Lacks (IsTextAt id.now (rows_of (found_of found.now)))) }
 {
-    match found.get_str(id) {
+    match text_if_at(found, id) {
         Some(text) => Ok(text),
         None => Err(WordsError::Form),
     }
+}
+
+/// Whether an argument is missing.
+fn lacks(found: &ArgMatches<'_>, id: &str) -> bool
+    ensures { result ≡ is_missing (rows_of (found_of found.now)) id.now }
+{
+    text_if_at(found, id).is_none()
 }
 
 /// The texts of all uses of an argument.
@@ -143,6 +187,13 @@ fn tick_if_at(found: &ArgMatches<'_>, id: &str) -> Option<u32>
     found.get_one::<u32>(id)
 }
 
+/// A copy of a word that is told of.
+fn copy_of(alloc: Global, word: &str) -> Result<String, WordsError>
+    ensures { IfErr result (λ e. e ≡ WordsError.Memory) }
+{
+    String::from_str(alloc, word).map_err(|_| WordsError::Memory)
+}
+
 /// The picture that an argument names.
 fn picture_at(alloc: Global, found: &ArgMatches<'_>, id: &str) -> Result<Picture, WordsError>
     ensures stated { IfOk result (IsPictureAt id.now (rows_of (found_of found.now))) }
@@ -155,10 +206,22 @@ fn picture_at(alloc: Global, found: &ArgMatches<'_>, id: &str) -> Result<Picture
     if word == "letters" {
         return Ok(Picture::Letters);
     }
-    match String::from_str(alloc, word) {
-        Ok(word) => Err(WordsError::NoPicture(word)),
-        Err(_) => Err(WordsError::Memory),
+    Err(WordsError::NoPicture(copy_of(alloc, word)?))
+}
+
+/// What a row tells of, as an argument names it.
+fn each_at(alloc: Global, found: &ArgMatches<'_>, id: &str) -> Result<Each, WordsError>
+    ensures stated { IfOk result (IsEachAt id.now (rows_of (found_of found.now))) }
+    ensures refused { IfErr result (Lacks (IsEachAt id.now (rows_of (found_of found.now)))) }
+{
+    let word = text_at(found, id)?;
+    if word == "point" {
+        return Ok(Each::Point);
     }
+    if word == "run" {
+        return Ok(Each::Run);
+    }
+    Err(WordsError::NoEach(copy_of(alloc, word)?))
 }
 
 /// Which runs a study has.
@@ -170,16 +233,56 @@ fn read_grid<'a>(alloc: Global, found: &ArgMatches<'a>) -> Result<GridTexts<'a>,
         seeds: text_at(found, "seeds")?,
         vary: texts_of(alloc, found, "vary")?,
         over: texts_of(alloc, found, "over")?,
+        deal: texts_of(alloc, found, "deal")?,
     })
 }
 
+/// A study.
+fn read_study<'a>(alloc: Global, found: &ArgMatches<'a>) -> Result<StudyTexts<'a>, WordsError>
+    ensures stated { IfOk result (IsStudyAt (rows_of (found_of found.now))) }
+    ensures refused { IfErr result (Lacks (IsStudyAt (rows_of (found_of found.now)))) }
+{
+    Ok(StudyTexts {
+        grid: read_grid(alloc, found)?,
+        shard: text_if_at(found, "shard"),
+        threads: number_if_at(found, "threads"),
+    })
+}
+
+/// Whether no option of a study is there.
+fn lacks_study(found: &ArgMatches<'_>) -> bool
+    ensures { result ≡ list_all (is_missing (rows_of (found_of found.now))) study_options }
+{
+    lacks(found, "seeds")
+        && lacks(found, "vary")
+        && lacks(found, "over")
+        && lacks(found, "deal")
+        && lacks(found, "shard")
+        && lacks(found, "threads")
+}
+
+/// A study, if any of its options is there.
+fn study_if_at<'a>(
+    alloc: Global,
+    found: &ArgMatches<'a>,
+) -> Result<Option<StudyTexts<'a>>, WordsError>
+    ensures stated { IfOk result (MayBeStudyAt (rows_of (found_of found.now))) }
+    ensures refused { IfErr result (Lacks (MayBeStudyAt (rows_of (found_of found.now)))) }
+{
+    if lacks_study(found) {
+        return Ok(None);
+    }
+    Ok(Some(read_study(alloc, found)?))
+}
+
 /// What `check` asks for.
-fn read_check<'a>(found: &ArgMatches<'a>) -> Result<Order<'a>, WordsError>
+fn read_check<'a>(alloc: Global, found: &ArgMatches<'a>) -> Result<Order<'a>, WordsError>
     ensures stated { IfOk result (StatesIn (codes "check") (rows_of (found_of found.now))) }
     ensures refused { IfErr result (Lacks (StatesIn (codes "check") (rows_of (found_of found.now)))) }
 {
     let path = text_at(found, "path")?;
-    Ok(Order::Check { path })
+    let study = study_if_at(alloc, found)?;
+    Ok(Order::Check { path, study })
 }
 
 /// What `letters` asks for.
@@ -200,11 +303,13 @@ fn read_draw<'a>(alloc: Global, found: &ArgMatches<'a>) -> Result<Order<'a>, Wor
     let picture = picture_at(alloc, found, "as")?;
     let from = tick_if_at(found, "from");
     let until = tick_if_at(found, "until");
+    let of = text_if_at(found, "of");
     Ok(Order::Draw {
         path,
         picture,
         from,
         until,
+        of,
     })
 }
 
@@ -231,14 +336,14 @@ fn read_sweep<'a>(alloc: Global, found: &ArgMatches<'a>) -> Result<Order<'a>, Wo
     ensures refused { IfErr result (Lacks (StatesIn (codes "sweep") (rows_of (found_of found.now)))) }
 {
     let path = text_at(found, "path")?;
-    let grid = read_grid(alloc, found)?;
-    let shard = found.get_str("shard");
-    let threads = number_if_at(found, "threads");
+    let each = each_at(alloc, found, "each")?;
+    let study = read_study(alloc, found)?;
+    let columns = text_if_at(found, "columns");
     Ok(Order::Sweep {
         path,
-        grid,
-        shard,
-        threads,
+        study,
+        columns,
+        each,
     })
 }
 
@@ -252,7 +357,7 @@ fn read_found<'a>(
     ensures refused { IfErr result (Lacks (StatesIn name.now (rows_of (found_of found.now)))) }
 {
     if name == "check" {
-        read_check(found)
+        read_check(alloc, found)
     } else if name == "letters" {
         read_letters(found)
     } else if name == "draw" {
@@ -296,9 +401,10 @@ fn told_of(alloc: Global, error: &clap::Error) -> WordsError
 ///
 /// # Errors
 ///
-/// `Help` where they ask for help, `Mistake` where `clap` refuses them, `NoPicture` where it takes them but no picture
-/// is named so, `Form` where it takes them but a part of the order is missing, and `Memory`. As `clap` knows which
-/// parts must be there, a missing one is a `Mistake`.
+/// `Help` where they ask for help, `Mistake` where `clap` refuses them, `NoPicture` and `NoEach` where it takes them
+/// but no picture, or nothing that a row tells of, is named so, `Form` where it takes them but a part of the order is
+/// missing, and `Memory`. As `clap` knows which parts must always be there, a missing one of these is a `Mistake`; the
+/// seeds of `check` must be there only with other options of a study.
 pub fn read_words<'a>(alloc: Global, words: &'a [&'a str]) -> Result<Order<'a>, WordsError>
     ensures stated { IfOk result (States (map (λ w. w.now) words.entry.now)) }
     ensures refused { IfErr result (Explains (map (λ w. w.now) words.entry.now)) }

@@ -14,11 +14,12 @@ common_rules =
     ∷ codes ".grid{stroke:#57606a;stroke-opacity:0.25}"
     ∷ []
 
--- bars, crashes and decisions
+-- bars, outages, crashes and decisions
 abbrev pub mark_rules : List (List ℕ)
 mark_rules =
     codes ".first{fill:#0072b2}"
     ∷ codes ".second{fill:#e69f00}"
+    ∷ codes ".outage{fill:#d8dee4}"
     ∷ codes ".crash{stroke:#d55e00;stroke-width:2}"
     ∷ codes ".decision{fill:#009e73}"
     ∷ []
@@ -46,6 +47,7 @@ dark_rules =
     ∷ codes ".remark{stroke:#0d1117}"
     ∷ codes ".axis,.life,.grid{stroke:#9da7b1}"
     ∷ codes ".first{fill:#56b4e9}"
+    ∷ codes ".outage{fill:#30363d}"
     ∷ codes ".detector{stroke:#56b4e9}"
     ∷ codes ".head{fill:#56b4e9}"
     ∷ codes "}"

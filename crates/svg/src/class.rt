@@ -21,6 +21,8 @@ pub enum Class {
     First,
     /// A suspicion of the detector above it.
     Second,
+    /// A time through which a link loses all letters.
+    Outage,
     /// A crash.
     Crash,
     /// A decision.
@@ -53,6 +55,7 @@ impl Class {
             Class::Life => "life",
             Class::First => "first",
             Class::Second => "second",
+            Class::Outage => "outage",
             Class::Crash => "crash",
             Class::Decision => "decision",
             Class::Detector => "detector",

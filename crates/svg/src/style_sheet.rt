@@ -14,6 +14,7 @@ line,use{fill:none;stroke-width:1}
 .grid{stroke:#57606a;stroke-opacity:0.25}
 .first{fill:#0072b2}
 .second{fill:#e69f00}
+.outage{fill:#d8dee4}
 .crash{stroke:#d55e00;stroke-width:2}
 .decision{fill:#009e73}
 .detector{stroke:#0072b2}
@@ -31,6 +32,7 @@ text{fill:#e6edf3}
 .remark{stroke:#0d1117}
 .axis,.life,.grid{stroke:#9da7b1}
 .first{fill:#56b4e9}
+.outage{fill:#30363d}
 .detector{stroke:#56b4e9}
 .head{fill:#56b4e9}
 }

@@ -1,16 +1,19 @@
 -- Sums over two lists, one after the other.
-use Rattle.std.proofs.Common.{◌≡◌, ℕ, ◌+◌, ◌^◌, ◌<◌, ◌≤◌, max, Bool, cond, Option, None, Some, List, ◌++◌, length, sum, sym, ap, ◌∙◌, subst, arith, append-nil, inl, inr, ◌⊎◌, le_trans}
-use Rattle.std.specs.List.{count_by, filter_map, sum_by, All}
-use Rattle.std.proofs.lemmas.List.Elements.{All-append, Contains-append_left, Contains-append_right, filter_map-append}
+use Rattle.std.proofs.Common.{◌≡◌, ℕ, ◌+◌, ◌^◌, ◌<◌, ◌≤◌, Bool, cond, List, ◌++◌, length, length-append, sum, sym, ap, ◌∙◌, arith}
+use Rattle.std.specs.List.{count_by, filter_map, sum_by}
+use Rattle.std.proofs.lemmas.List.Elements.{filter_map-append}
 use Rattle.std.proofs.lemmas.List.Sums.{sum_by-append, count_by-le-length}
 use Rattle.judges.specs.declared.outcomes.Outcome.{Outcome}
 use Rattle.reporting.specs.declared.pair_measures.PairMeasures.{PairMeasures}
-use Rattle.sweep.specs.Adding.{plus, plus_few, greater, pairs_plus, decisions_plus, traces_plus}
-use Rattle.sweep.specs.Columns.{IsNoneOr, IsGreatest, Finished, ArePairSums, AreDecisionSums, AreTraceSums, is_undetected, has_decided, decision_tick, noted_round}
+use Rattle.sweep.specs.Adding.{plus, plus_few, pairs_plus, decisions_plus, traces_plus}
+use Rattle.sweep.specs.Columns.{ArePairSums, AreDecisionSums, AreTraceSums}
 use Rattle.sweep.specs.Fitting.{ArePairsWithin, AreDecisionsWithin, AreTracesWithin}
+use Rattle.sweep.specs.OneRun.{Finished, is_undetected, is_at_once, has_decided, decision_tick}
+use Rattle.sweep.specs.Percentile.{greater, greatest}
 use Rattle.sweep.specs.declared.columns.DecisionSums.{DecisionSums}
 use Rattle.sweep.specs.declared.columns.PairSums.{PairSums}
 use Rattle.sweep.specs.declared.columns.TraceSums.{TraceSums}
+use Rattle.sweep.proofs.Greatest.{greatest_both}
 
 pub added : {X : Type 0} (f : X → ℕ) (xs ys : List X) (a b A B : ℕ) → A + B < 2 ^ 128 → a ≡ sum_by f xs → b ≡ sum_by f ys → a ≤ A → b ≤ B → plus a b ≡ sum_by f (xs ++ ys)
 added f xs ys a b A B room p q low high = omega (arith, sum_by-append f xs ys)
@@ -21,27 +24,6 @@ within a b A B low high = omega arith
 -- counts of runs
 pub counted : {X : Type 0} (p : X → Bool) (xs ys : List X) (a b : ℕ) → length xs + length ys < 2 ^ 64 → a ≡ count_by p xs → b ≡ count_by p ys → plus_few a b ≡ count_by p (xs ++ ys)
 counted p xs ys a b room e f = omega (arith, sum_by-append (λ x. cond (p x) 1 0) xs ys, count_by-le-length p xs, count_by-le-length p ys)
-
-module _ (xs ys : List ℕ) where
-  left : (v : ℕ) (a : ℕ) → IsGreatest xs a → a ≤ v → All (λ w. w ≤ v) xs
-  left v a h le = λ k d lt. le_trans (h.greatest k d lt) le
-
-  right : (v : ℕ) (b : ℕ) → IsGreatest ys b → b ≤ v → All (λ w. w ≤ v) ys
-  right v b h le = λ k d lt. le_trans (h.greatest k d lt) le
-
-  higher : (a b : ℕ) → IsGreatest xs a → IsGreatest ys b → (a ≤ b) ⊎ (b ≤ a) → IsGreatest (xs ++ ys) (max a b)
-  higher a b h g (inl le) = subst (IsGreatest (xs ++ ys)) (omega arith) (record { value = Contains-append_right xs ys b g.value; greatest = All-append (λ w. w ≤ b) xs ys (left b a h le) g.greatest })
-  higher a b h g (inr le) = subst (IsGreatest (xs ++ ys)) (omega arith) (record { value = Contains-append_left xs ys a h.value; greatest = All-append (λ w. w ≤ a) xs ys h.greatest (right a b g le) })
-
-  total : (a b : ℕ) → (a ≤ b) ⊎ (b ≤ a)
-  total a b = grind arith
-
-  -- the greatest of both
-  pub greatest_of : (a b : Option ℕ) → IsNoneOr IsGreatest xs a → IsNoneOr IsGreatest ys b → IsNoneOr IsGreatest (xs ++ ys) (greater a b)
-  greatest_of None None p q = rw p q
-  greatest_of None (Some b) p q = rw p q
-  greatest_of (Some a) None p q = rw (q, append-nil xs) p
-  greatest_of (Some a) (Some b) p q = higher a b p q (total a b)
 
 module _ (xs ys : List Finished) (a b : TraceSums) (A B : ℕ) (room : A + B < 2 ^ 128) (p : AreTracesWithin A a) (q : AreTracesWithin B b) where
   pub traces_within : AreTracesWithin (A + B) (traces_plus a b)
@@ -70,6 +52,7 @@ module _ (xs ys : List PairMeasures) (a b : PairSums) (A B : ℕ) (room : A + B 
     good_sum = within a.good_sum b.good_sum A B p.good_sum q.good_sum;
     good_count = within a.good_count b.good_count A B p.good_count q.good_count;
     undetected = within a.undetected b.undetected A B p.undetected q.undetected;
+    at_once = within a.at_once b.at_once A B p.at_once q.at_once;
   }
 
   pub pairs_added : ArePairSums xs a → ArePairSums ys b → ArePairSums (xs ++ ys) (pairs_plus a b)
@@ -83,22 +66,25 @@ module _ (xs ys : List PairMeasures) (a b : PairSums) (A B : ℕ) (room : A + B 
     good_sum = added (λ m. m.good_sum) xs ys a.good_sum b.good_sum A B room s.good_sum t.good_sum p.good_sum q.good_sum;
     good_count = added (λ m. m.good_count) xs ys a.good_count b.good_count A B room s.good_count t.good_count p.good_count q.good_count;
     undetected = added (λ m. cond (is_undetected m.detection) 1 0) xs ys a.undetected b.undetected A B room s.undetected t.undetected p.undetected q.undetected;
+    at_once = added (λ m. cond (is_at_once m.detection) 1 0) xs ys a.at_once b.at_once A B room s.at_once t.at_once p.at_once q.at_once;
   }
 
 module _ (xs ys : List Outcome) (a b : DecisionSums) (A B : ℕ) (room : A + B < 2 ^ 128) (p : AreDecisionsWithin A a) (q : AreDecisionsWithin B b) where
   pub decisions_within : AreDecisionsWithin (A + B) (decisions_plus a b)
   decisions_within = record {
+    to_decide = within a.to_decide b.to_decide A B p.to_decide q.to_decide;
     decided = within a.decided b.decided A B p.decided q.decided;
     decision_tick_sum = within a.decision_tick_sum b.decision_tick_sum A B p.decision_tick_sum q.decision_tick_sum;
   }
 
   pub decisions_added : AreDecisionSums xs a → AreDecisionSums ys b → AreDecisionSums (xs ++ ys) (decisions_plus a b)
   decisions_added s t = record {
+    to_decide = omega (arith, room, s.to_decide, t.to_decide, p.to_decide, q.to_decide, length-append xs ys);
     decided = added (λ o. cond (has_decided o) 1 0) xs ys a.decided b.decided A B room s.decided t.decided p.decided q.decided;
     decision_tick_sum = added (λ n. n) (filter_map decision_tick xs) (filter_map decision_tick ys) a.decision_tick_sum b.decision_tick_sum A B room s.decision_tick_sum t.decision_tick_sum p.decision_tick_sum q.decision_tick_sum
         ∙ ap sum (sym (filter_map-append decision_tick xs ys));
-    decision_tick_max = subst (λ vs. IsNoneOr IsGreatest vs (greater a.decision_tick_max b.decision_tick_max)) (sym (filter_map-append decision_tick xs ys))
-        (greatest_of (filter_map decision_tick xs) (filter_map decision_tick ys) a.decision_tick_max b.decision_tick_max s.decision_tick_max t.decision_tick_max);
-    rounds_max = subst (λ vs. IsNoneOr IsGreatest vs (greater a.rounds_max b.rounds_max)) (sym (filter_map-append noted_round xs ys))
-        (greatest_of (filter_map noted_round xs) (filter_map noted_round ys) a.rounds_max b.rounds_max s.rounds_max t.rounds_max);
+    decision_tick_max = ap (λ o. greater o b.decision_tick_max) s.decision_tick_max
+        ∙ ap (greater (greatest (filter_map decision_tick xs))) t.decision_tick_max
+        ∙ sym (greatest_both (filter_map decision_tick xs) (filter_map decision_tick ys))
+        ∙ ap greatest (sym (filter_map-append decision_tick xs ys));
   }

@@ -1,5 +1,5 @@
 -- Values that a map counts, and their percentiles.
-use Rattle.std.proofs.Common.{◌≡◌, ℕ, ◌+◌, ◌*◌, ◌<◌, ◌≤◌, Bool, true, false, cond, Some, List, [], ◌∷◌, ◌++◌, length, sym, ap, ◌∙◌, refl, subst, arith, suc, min, ◌-◌, ◌^◌, unwrap_or, nat_le, le-leb, ◌==◌}
+use Rattle.std.proofs.Common.{◌≡◌, ℕ, ◌+◌, ◌*◌, ◌<◌, ◌≤◌, Bool, true, false, cond, Some, None, List, [], ◌∷◌, ◌++◌, length, sym, ap, ◌∙◌, refl, subst, arith, suc, min, ◌-◌, ◌^◌, unwrap_or, nat_le, le-leb, ◌==◌}
 use Rattle.std.specs.BTreeMap.{insert_entry, is_at}
 use Rattle.std.specs.List.{count_by, sum_by, AllByRecursion, Contains}
 use Rattle.std.specs.List.Sorted.{IsStrictlySortedBy}
@@ -9,13 +9,13 @@ use Rattle.std.specs.declared.cmp.Ordering.{Ordering}
 use Rattle.std.specs.declared.cmp.Ordering.TheVariants.{Less, Equal, Greater}
 use Rattle.std.proofs.lemmas.Bool.{lt-leb, leb-true, leb-false, eq-eqb, eqb-true}
 use Rattle.std.proofs.lemmas.Cmp.{nat_cmp_total, ranked}
-use Rattle.std.proofs.lemmas.List.Sums.{sum_by-cons, sum_by-append}
+use Rattle.std.proofs.lemmas.List.Sums.{sum_by-cons, sum_by-append, count_by-le-length}
 use Rattle.std.proofs.Math.Nat.{mul-le-mul_right}
 use Rattle.std.proofs.lemmas.Map.{lookup-none}
 use Rattle.std.proofs.lemmas.Map.Entries.{none_below_head}
 use Rattle.std.proofs.lemmas.Map.Keys.{sorted_head, sorted_tail}
-use Rattle.sweep.specs.Percentile.{IsPercentile, at_most}
-use Rattle.sweep.specs.Times.{passing}
+use Rattle.sweep.specs.Counted.{passing}
+use Rattle.sweep.specs.Percentile.{IsRanked, IsPercentile, at_most}
 
 -- ---- one more of a value
 
@@ -129,40 +129,47 @@ pub total_of : (values : List ℕ) (es : List (ℕ × ℕ)) → ((test : ℕ →
 total_of values es is = sym (is (λ _. true)) ∙ every values
 
 -- the first value with which enough were counted is the percentile
-pub ranked_first : (p : ℕ) (values : List ℕ) (front : List (ℕ × ℕ)) (e : ℕ × ℕ) (back : List (ℕ × ℕ))
+pub ranked_first : (p : ℕ) (values : List ℕ) (infinite : ℕ) (front : List (ℕ × ℕ)) (e : ℕ × ℕ) (back : List (ℕ × ℕ))
     → IsStrictlySortedBy nat_cmp (keys_of (front ++ e ∷ back)) → ((test : ℕ → Bool) → count_by test values ≡ passing test (front ++ e ∷ back))
-    → 100 * counted front < p * length values → p * length values ≤ 100 * (counted front + e.1) → IsPercentile p values e.0
-ranked_first p values front e back s is short enough = record {
+    → 100 * counted front < p * (length values + infinite) → p * (length values + infinite) ≤ 100 * (counted front + e.1) → IsRanked p values infinite e.0
+ranked_first p values infinite front e back s is short enough = record {
   value = there e.0 values (omega (arith, short, enough, is (λ x. x == e.0), here e back front));
   covers = omega (arith, enough, is (λ x. nat_le x e.0), up_to e back front s);
   least = λ w in_list covers. not_below w covers;
 }
   where
-    not_below : (w : ℕ) → p * length values ≤ 100 * at_most w values → e.0 ≤ w
+    not_below : (w : ℕ) → p * (length values + infinite) ≤ 100 * at_most w values → e.0 ≤ w
     not_below w covers = by (nat_le e.0 w) refl
       where
         by : (b : Bool) → nat_le e.0 w ≡ b → e.0 ≤ w
         by true q = leb-true e.0 w q
         by false q = absurd (omega (arith, short, covers, is (λ x. nat_le x w), below e back w (leb-false e.0 w q) front s))
 
-module _ (p total seen wanted : ℕ) (values : List ℕ) (es front rest : List (ℕ × ℕ))
+-- nothing is ranked
+pub none_ranked : (p : ℕ) (values : List ℕ) (infinite : ℕ) → 1 ≤ p → p * (length values + infinite) ≡ 0 → IsPercentile p values infinite None
+none_ranked p values infinite low none w (k, lt, is) covers =
+    let some : 1 * (length values + infinite) ≤ p * (length values + infinite) = mul-le-mul_right (length values + infinite) low in
+    absurd (omega (arith, some, none, lt))
+
+module _ (p seen wanted : ℕ) (values : List ℕ) (infinite : ℕ) (es front rest : List (ℕ × ℕ))
     (split : es ≡ front ++ rest) (is : (test : ℕ → Bool) → count_by test values ≡ passing test es)
-    (all : total ≡ length values) (high : total < 2 ^ 64) (wants : wanted ≡ p * total)
+    (high : length values < 2 ^ 64) (wants : wanted ≡ p * (length values + infinite))
     (so_far : seen ≡ min (counted front) (2 ^ 64 - 1)) (short : 100 * seen < wanted) where
-  counted_front : counted front + counted rest ≡ total
+  counted_front : counted front + counted rest ≡ length values
   counted_front = omega (arith, sum_by-append (λ (x : ℕ × ℕ). x.1) front rest, ap counted split, total_of values es is)
 
   pub percentile_found : (e : ℕ × ℕ) (back : List (ℕ × ℕ)) (now : ℕ) → rest ≡ e ∷ back → IsStrictlySortedBy nat_cmp (keys_of es)
-      → now ≡ min (seen + e.1) (2 ^ 64 - 1) → wanted ≤ 100 * now → IsPercentile p values e.0
+      → now ≡ min (seen + e.1) (2 ^ 64 - 1) → wanted ≤ 100 * now → IsRanked p values infinite e.0
   percentile_found e back now next s goes enough =
       let parts : es ≡ front ++ e ∷ back = split ∙ ap (λ r. front ++ r) next in
-      let same : p * total ≡ p * length values = ap (λ n. p * n) all in
-      ranked_first p values front e back (subst (λ x. IsStrictlySortedBy nat_cmp (keys_of x)) parts s) (λ test. is test ∙ ap (passing test) parts)
-      (omega (arith, counted_front, same, short, so_far, wants, high))
-      (omega (arith, counted_front, same, enough, goes, so_far, wants, high))
+      let more : counted rest ≡ e.1 + counted back = ap counted next ∙ counted-cons e back in
+      ranked_first p values infinite front e back (subst (λ x. IsStrictlySortedBy nat_cmp (keys_of x)) parts s) (λ test. is test ∙ ap (passing test) parts)
+      (omega (arith, counted_front, short, so_far, wants, high))
+      (omega (arith, counted_front, more, enough, goes, so_far, wants, high))
 
-  pub none_missed : p ≤ 100 → rest ≡ [] → values ≡ []
-  none_missed most none =
+  -- all were counted, and they are too few: the rank falls on an infinite one
+  pub none_found : rest ≡ [] → IsPercentile p values infinite None
+  none_found none w in_list covers =
       let no_more : counted rest ≡ 0 = ap counted none in
-      let few : p * total ≤ 100 * total = mul-le-mul_right total most in
-      absurd (omega (arith, counted_front, no_more, few, short, so_far, wants, high))
+      let few : at_most w values ≤ length values = count_by-le-length (λ x. nat_le x w) values in
+      absurd (omega (arith, counted_front, no_more, covers, few, short, so_far, wants, high))

@@ -11,15 +11,37 @@ use Rattle.reporting.proofs.Written.{wrote_both, wrote_then_part}
 use Rattle.study.specs.Grid.{GridRecord, runs}
 use Rattle.study.specs.Shard.{ShardRecord}
 use Rattle.study.specs.declared.error.ReadError.{ReadError}
-use Rattle.sweep.specs.Numbering.{HasScenarioAt, IsFirstRefusal}
-use Rattle.sweep.specs.Outcome.{IsBefore, HasScenario, IsFirstRefused, WroteStudy, BreaksOff}
+use Rattle.sweep.specs.Layout.{LayoutRecord}
+use Rattle.sweep.specs.Numbering.{unit_count, HasScenarioAt, IsFirstRefusal}
+use Rattle.sweep.specs.Outcome.{IsBefore, HasScenario, IsFirstRefused, HaveScenarios, CantBeRun, WroteStudy, BreaksOff}
 use Rattle.sweep.specs.Progress.{WroteUpTo, StopsBelow, HeaderFails}
 use Rattle.sweep.specs.RowText.{Text}
-use Rattle.sweep.specs.StudyText.{header_of, numbers_of, HasRowsOf}
+use Rattle.sweep.specs.StudyText.{header_of, numbers_of, units_in, units_of, HasRowsOf}
 use Rattle.sweep.specs.declared.error.SweepError.{SweepError}
 use Rattle.sweep.specs.declared.error.SweepError.TheVariants as error
 use Rattle.sweep.proofs.Numbered.{point_is, run_is, number_below}
+use Rattle.sweep.proofs.Units.{unit_range, unit_count-sub}
 use Rattle.sweep.proofs.Zipped.{range_taken}
+
+module _ (file : Members) (g : GridRecord) (shard : ShardRecord) (layout : LayoutRecord)
+    {O : Type 0} (told : O → Option Text) (failed : O → ℕ) where
+  pub breaks_at_check : (old : O) (e : SweepError) → CantBeRun file g shard e → BreaksOff file g shard layout told failed old old e
+  breaks_at_check old (error.Refused point run reason) refusal = (refusal, record { bytes = refl; failures = refl })
+  breaks_at_check old error.Memory refusal = inl (record { bytes = refl; failures = refl })
+  breaks_at_check old error.Write refusal = absurd refusal
+
+  pub breaks_at_header : (old new : O) (e : SweepError) → HeaderFails g shard layout told failed old new e
+      → BreaksOff file g shard layout told failed old new e
+  breaks_at_header old new (error.Refused point run reason) fails = absurd fails
+  breaks_at_header old new error.Memory fails = inl fails
+  breaks_at_header old new error.Write fails =
+      let P : Text → Type 0 = λ t. WrotePart told failed old new t in
+      record {
+        count = 0;
+        text = header_of g shard layout ++ [];
+        is_text = record { rows = []; has = record { parts = []; each = tt; text_is = refl }; text_is = refl };
+        wrote = subst P (sym (append-nil (header_of g shard layout))) fails;
+      }
 
 module _ (file : Members) (g : GridRecord) (shard : ShardRecord) (begin end : ℕ)
     (is : numbers_of g shard ≡ range_with_len begin (end - begin)) where
@@ -60,6 +82,14 @@ module _ (file : Members) (g : GridRecord) (shard : ShardRecord) (begin end : �
       omega (arith, split, rows, same.1))
       before
 
+  -- the run of a point and its place there, by its number
+  run_at_number : (p r : ℕ) → r < length (runs g) → HasScenarioAt file g (p * length (runs g) + r) → HasScenario file g p r
+  run_at_number p r small here =
+      let w : ℕ = length (runs g) in
+      let R : ℕ → Type 0 = λ k. HasScenario file g k ((p * w + r) % w) in
+      let S : ℕ → Type 0 = λ k. HasScenario file g p k in
+      subst S (run_is p r w (p * w + r) small refl) (subst R (point_is p r w (p * w + r) small refl) here)
+
   first_refused : (point run : ℕ) (reason : ReadError) → 1 ≤ length (runs g)
       → IsFirstRefusal file g (begin * length (runs g)) (end * length (runs g)) (error.Refused point run reason)
       → IsFirstRefused file g shard point run reason
@@ -79,64 +109,68 @@ module _ (file : Members) (g : GridRecord) (shard : ShardRecord) (begin end : �
             let Q : ℕ → Type 0 = λ k. IsBefore p r (n / w) k in
             let lt : p * w + r < n = earlier n p r some small (subst Q refused.1 (subst P refused.0 earlier_is)) in
             let from : begin * w ≤ p * w = mul-le-mul_right {m = begin} {n = p} w in_range.0 in
-            let here : HasScenarioAt file g (p * w + r) = before (p * w + r) (omega (arith, from)) lt in
-            let R : ℕ → Type 0 = λ k. HasScenario file g k ((p * w + r) % w) in
-            let S : ℕ → Type 0 = λ k. HasScenario file g p k in
-            subst S (run_is p r w (p * w + r) small refl) (subst R (point_is p r w (p * w + r) small refl) here);
+            run_at_number p r small (before (p * w + r) (omega (arith, from)) lt);
       }
 
-  module _ {O : Type 0} (told : O → Option Text) (failed : O → ℕ) where
-    pub breaks_at_check : (old : O) (e : SweepError) → 1 ≤ length (runs g)
-        → IsFirstRefusal file g (begin * length (runs g)) (end * length (runs g)) e
-        → BreaksOff file g shard told failed old old e
-    breaks_at_check old (error.Refused point run reason) some refusal =
-        (first_refused point run reason some refusal, record { bytes = refl; failures = refl })
-    breaks_at_check old error.Memory some refusal = inl (record { bytes = refl; failures = refl })
-    breaks_at_check old error.Write some refusal = absurd refusal
+  pub cant_be_run : (e : SweepError) → 1 ≤ length (runs g)
+      → IsFirstRefusal file g (begin * length (runs g)) (end * length (runs g)) e → CantBeRun file g shard e
+  cant_be_run (error.Refused point run reason) some refusal = first_refused point run reason some refusal
+  cant_be_run error.Memory some refusal = tt
+  cant_be_run error.Write some refusal = refusal
 
-    pub breaks_at_header : (old new : O) (e : SweepError) → HeaderFails g shard told failed old new e
-        → BreaksOff file g shard told failed old new e
-    breaks_at_header old new (error.Refused point run reason) fails = absurd fails
-    breaks_at_header old new error.Memory fails = inl fails
-    breaks_at_header old new error.Write fails =
-        let P : Text → Type 0 = λ t. WrotePart told failed old new t in
-        record {
-          count = 0;
-          text = header_of g shard ++ [];
-          is_text = record { rows = []; has = record { parts = []; each = tt; text_is = refl }; text_is = refl };
-          wrote = subst P (sym (append-nil (header_of g shard))) fails;
-        }
+  pub have_scenarios : ((n : ℕ) → begin * length (runs g) ≤ n → n < end * length (runs g) → HasScenarioAt file g n)
+      → HaveScenarios file g shard
+  have_scenarios all p r inside small =
+      let w : ℕ = length (runs g) in
+      let in_range = within p inside in
+      let from : begin * w ≤ p * w = mul-le-mul_right {m = begin} {n = p} w in_range.0 in
+      let to : (p + 1) * w ≤ end * w = mul-le-mul_right {m = p + 1} {n = end} w (omega (arith, in_range.1)) in
+      run_at_number p r small (all (p * w + r) (omega (arith, from)) (omega (arith, to, small)))
 
-    module _ (old mid new : O) (header : Wrote told failed old mid (header_of g shard)) where
-      pub wrote_study : WroteUpTo file g told failed mid new begin end → WroteStudy file g shard told failed old new
+  module _ (layout : LayoutRecord) {O : Type 0} (told : O → Option Text) (failed : O → ℕ) where
+    -- the first unit, and the one after the last
+    abbrev first : ℕ
+    first = unit_count layout.rows g begin
+
+    abbrev last : ℕ
+    last = unit_count layout.rows g end
+
+    units_are : units_of layout.rows g shard ≡ range_with_len first (last - first)
+    units_are =
+        ap (λ l. units_in layout.rows g l) is
+        ∙ unit_range layout.rows g begin (end - begin)
+        ∙ ap (λ n. range_with_len first n) (unit_count-sub layout.rows g begin end)
+
+    module _ (old mid new : O) (header : Wrote told failed old mid (header_of g shard layout)) where
+      pub wrote_study : WroteUpTo file g layout told failed mid new first last → WroteStudy file g shard layout told failed old new
       wrote_study up =
-          let P : List ℕ → Type 0 = λ l. HasRowsOf file g l up.text in
+          let P : List ℕ → Type 0 = λ l. HasRowsOf file g layout l up.text in
           record {
-            text = header_of g shard ++ up.text;
-            is_text = record { rows = up.text; has = subst P (sym is) up.has; text_is = refl };
-            wrote = wrote_both told failed old mid new (header_of g shard) up.text header up.wrote;
+            text = header_of g shard layout ++ up.text;
+            is_text = record { rows = up.text; has = subst P (sym units_are) up.has; text_is = refl };
+            wrote = wrote_both told failed old mid new (header_of g shard layout) up.text header up.wrote;
           }
 
-      first_numbers : (point : ℕ) → point ≤ end → take (point - begin) (numbers_of g shard) ≡ range_with_len begin (point - begin)
-      first_numbers point le =
-          ap (λ l. take (point - begin) l) is ∙ range_taken begin (end - begin) (point - begin) (omega (arith, le))
+      first_units : (unit : ℕ) → unit ≤ last → take (unit - first) (units_of layout.rows g shard) ≡ range_with_len first (unit - first)
+      first_units unit le =
+          ap (λ l. take (unit - first) l) units_are ∙ range_taken first (last - first) (unit - first) (omega (arith, le))
 
-      pub breaks_at_points : (e : SweepError) → StopsBelow file g told failed mid new begin end e
-          → BreaksOff file g shard told failed old new e
+      pub breaks_at_points : (e : SweepError) → StopsBelow file g layout told failed mid new first last e
+          → BreaksOff file g shard layout told failed old new e
       breaks_at_points (error.Refused point run reason) stops = absurd stops
-      breaks_at_points error.Memory (point, le, up) =
-          let P : List ℕ → Type 0 = λ l. HasRowsOf file g l up.text in
+      breaks_at_points error.Memory (unit, le, up) =
+          let P : List ℕ → Type 0 = λ l. HasRowsOf file g layout l up.text in
           inr (record {
-            count = point - begin;
-            text = header_of g shard ++ up.text;
-            is_text = record { rows = up.text; has = subst P (sym (first_numbers point le)) up.has; text_is = refl };
-            wrote = wrote_both told failed old mid new (header_of g shard) up.text header up.wrote;
+            count = unit - first;
+            text = header_of g shard layout ++ up.text;
+            is_text = record { rows = up.text; has = subst P (sym (first_units unit le)) up.has; text_is = refl };
+            wrote = wrote_both told failed old mid new (header_of g shard layout) up.text header up.wrote;
           })
-      breaks_at_points error.Write (point, le, up) =
-          let P : List ℕ → Type 0 = λ l. HasRowsOf file g l up.text in
+      breaks_at_points error.Write (unit, le, up) =
+          let P : List ℕ → Type 0 = λ l. HasRowsOf file g layout l up.text in
           record {
-            count = point - begin;
-            text = header_of g shard ++ up.text;
-            is_text = record { rows = up.text; has = subst P (sym (first_numbers point le)) up.has; text_is = refl };
-            wrote = wrote_then_part told failed old mid new (header_of g shard) up.text header up.wrote;
+            count = unit - first;
+            text = header_of g shard layout ++ up.text;
+            is_text = record { rows = up.text; has = subst P (sym (first_units unit le)) up.has; text_is = refl };
+            wrote = wrote_then_part told failed old mid new (header_of g shard layout) up.text header up.wrote;
           }

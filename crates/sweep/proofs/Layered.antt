@@ -1,19 +1,18 @@
 -- The runs that have a layer, and what is added up of them.
-use Rattle.std.proofs.Common.{◌≡◌, ℕ, ◌+◌, ◌^◌, ◌<◌, ◌≤◌, Bool, true, false, cond, is_some, Option, Some, None, List, [], ◌∷◌, ◌++◌, length, sym, ap, ◌∙◌, refl, subst, arith, nat_lt, ◌||◌, ◌==◌, length-append}
+use Rattle.std.proofs.Common.{◌≡◌, ℕ, ◌+◌, ◌*◌, ◌^◌, ◌<◌, ◌≤◌, Bool, true, false, cond, is_some, Option, Some, None, List, [], ◌∷◌, ◌++◌, length, sym, ap, ◌∙◌, refl, subst, arith, nat_lt, ◌||◌, ◌==◌, length-append}
 use Rattle.std.specs.List.{cons_option, count_by, filter_map, flat_map, list_any}
 use Rattle.std.proofs.lemmas.Bool.{lt-ltb}
 use Rattle.std.proofs.lemmas.Grind.{flat_map-append}
 use Rattle.std.proofs.lemmas.List.Elements.{filter-append, filter_map-append}
 use Rattle.std.proofs.lemmas.List.Sums.{count_by-le-length, length-filter}
 use Rattle.judges.specs.Verdicts.{verdicts}
-use Rattle.reporting.specs.Measures.{layer_measures}
-use Rattle.reporting.specs.Watched.{watched_ticks}
 use Rattle.scenario_record.specs.Record.{Record}
 use Rattle.sweep.specs.Adding.{layer_plus}
-use Rattle.sweep.specs.Columns.{has_layer, on_layer, finished_of, finish_of, Finished, done_on, all_pairs, times_of, detection_time, is_limited, run_outcomes, do_disagree, AreDoneSums, AreVerdictCounts, ArePairSums, AreDecisionSums}
+use Rattle.sweep.specs.Columns.{has_layer, on_layer, finished_of, finish_of, done_on, all_pairs, all_detections, last_decisions, top_rounds, is_limited, AreDoneSums, AreRunCounts, AreVerdictCounts, ArePairSums, AreDecisionSums}
 use Rattle.sweep.specs.Fitting.{most_runs, most_of, IsLayerWithin}
+use Rattle.sweep.specs.OneRun.{Finished, counted_pairs, pair_ticks, mistakes, has_mistake, detections, run_outcomes, deciding, do_disagree, do_all_decide, is_undecided, last_decision, top_round}
 use Rattle.sweep.specs.Results.{Trial}
-use Rattle.sweep.specs.Sums.{AreFitting, layer_times}
+use Rattle.sweep.specs.Sums.{AreFitting}
 use Rattle.sweep.specs.declared.columns.LayerSums.{LayerSums}
 use Rattle.sweep.proofs.Added.{added, within, counted, traces_added, traces_within, pairs_added, pairs_within, decisions_added, decisions_within}
 
@@ -53,18 +52,25 @@ module _ (layer : ℕ) (xs ys : List Trial) where
   done_both = ap finished_of on_both ∙ filter_map-append (λ t. finish_of t.scenario t.result) (on_layer layer xs) (on_layer layer ys)
 
   pub pairs_both : (rs qs : List Finished) → all_pairs layer (rs ++ qs) ≡ all_pairs layer rs ++ all_pairs layer qs
-  pairs_both rs qs = flat_map-append (λ r. layer_measures r.scenario r.trace layer) rs qs
+  pairs_both rs qs = flat_map-append (counted_pairs layer) rs qs
 
-  pub times_both : layer_times layer (xs ++ ys) ≡ layer_times layer xs ++ layer_times layer ys
-  times_both =
-      ap (λ rs. times_of (all_pairs layer rs)) done_both
-      ∙ ap times_of (pairs_both (done_on layer xs) (done_on layer ys))
-      ∙ filter_map-append (λ m. detection_time m.detection) (all_pairs layer (done_on layer xs)) (all_pairs layer (done_on layer ys))
+  pub detections_both : all_detections layer (xs ++ ys) ≡ all_detections layer xs ++ all_detections layer ys
+  detections_both = ap (flat_map (detections layer)) done_both ∙ flat_map-append (detections layer) (done_on layer xs) (done_on layer ys)
+
+  pub decisions_both : last_decisions layer (xs ++ ys) ≡ last_decisions layer xs ++ last_decisions layer ys
+  decisions_both =
+      ap (filter_map (λ r. last_decision (deciding r))) done_both
+      ∙ filter_map-append (λ r. last_decision (deciding r)) (done_on layer xs) (done_on layer ys)
+
+  pub rounds_both : top_rounds layer (xs ++ ys) ≡ top_rounds layer xs ++ top_rounds layer ys
+  rounds_both =
+      ap (filter_map (λ r. top_round (run_outcomes r))) done_both
+      ∙ filter_map-append (λ r. top_round (run_outcomes r)) (done_on layer xs) (done_on layer ys)
 
 pub few_on : (layer : ℕ) (xs : List Trial) → length (on_layer layer xs) ≤ length xs
 few_on layer xs = omega (arith, length-filter (λ t. has_layer layer t.scenario) xs, count_by-le-length (λ t. has_layer layer t.scenario) xs)
 
-few_mapped : {X Y : Type 0} (h : X → Option Y) (xs : List X) → length (filter_map h xs) ≤ length xs
+pub few_mapped : {X Y : Type 0} (h : X → Option Y) (xs : List X) → length (filter_map h xs) ≤ length xs
 few_mapped h [] = omega arith
 few_mapped {X} {Y} h (x ∷ xs) = by (h x) (few_mapped h xs)
   where
@@ -75,12 +81,16 @@ few_mapped {X} {Y} h (x ∷ xs) = by (h x) (few_mapped h xs)
 pub few_done : (layer : ℕ) (xs : List Trial) → length (done_on layer xs) ≤ length xs
 few_done layer xs = omega (arith, few_mapped (λ t. finish_of t.scenario t.result) (on_layer layer xs), few_on layer xs)
 
-pub few_times : {X Y : Type 0} (h : X → Option Y) (xs : List X) → length (filter_map h xs) ≤ length xs
-few_times h xs = few_mapped h xs
+-- the runs have at most one last decision and one greatest round each
+pub few_decisions : (layer : ℕ) (xs : List Trial) → length (last_decisions layer xs) ≤ length xs
+few_decisions layer xs = omega (arith, few_mapped (λ r. last_decision (deciding r)) (done_on layer xs), few_done layer xs)
+
+pub few_rounds : (layer : ℕ) (xs : List Trial) → length (top_rounds layer xs) ≤ length xs
+few_rounds layer xs = omega (arith, few_mapped (λ r. top_round (run_outcomes r)) (done_on layer xs), few_done layer xs)
 
 module _ (layer : ℕ) (xs ys : List Trial) (a b : LayerSums) (few : length xs + length ys ≤ most_runs) (p : AreFitting layer xs a) (q : AreFitting layer ys b) where
-  few_runs : length (done_on layer xs) + length (done_on layer ys) < 2 ^ 64
-  few_runs = omega (arith, few_done layer xs, few_done layer ys)
+  few_finished : length (done_on layer xs) + length (done_on layer ys) < 2 ^ 64
+  few_finished = omega (arith, few_done layer xs, few_done layer ys)
 
   few_of_layer : length (on_layer layer xs) + length (on_layer layer ys) < 2 ^ 64
   few_of_layer = omega (arith, few_on layer xs, few_on layer ys)
@@ -92,12 +102,25 @@ module _ (layer : ℕ) (xs ys : List Trial) (a b : LayerSums) (few : length xs +
       let u = p.sums.done.verdicts in
       let v = q.sums.done.verdicts in
       record {
-        strong_completeness = counted (λ r. is_some (verdicts r.scenario r.trace layer).strong_completeness) rs qs _ _ few_runs u.strong_completeness v.strong_completeness;
-        weak_completeness = counted (λ r. is_some (verdicts r.scenario r.trace layer).weak_completeness) rs qs _ _ few_runs u.weak_completeness v.weak_completeness;
-        strong_accuracy = counted (λ r. (verdicts r.scenario r.trace layer).strong_accuracy) rs qs _ _ few_runs u.strong_accuracy v.strong_accuracy;
-        weak_accuracy = counted (λ r. (verdicts r.scenario r.trace layer).weak_accuracy) rs qs _ _ few_runs u.weak_accuracy v.weak_accuracy;
-        eventual_strong_accuracy = counted (λ r. is_some (verdicts r.scenario r.trace layer).eventual_strong_accuracy) rs qs _ _ few_runs u.eventual_strong_accuracy v.eventual_strong_accuracy;
-        eventual_weak_accuracy = counted (λ r. is_some (verdicts r.scenario r.trace layer).eventual_weak_accuracy) rs qs _ _ few_runs u.eventual_weak_accuracy v.eventual_weak_accuracy;
+        strong_completeness = counted (λ r. is_some (verdicts r.scenario r.trace layer).strong_completeness) rs qs _ _ few_finished u.strong_completeness v.strong_completeness;
+        weak_completeness = counted (λ r. is_some (verdicts r.scenario r.trace layer).weak_completeness) rs qs _ _ few_finished u.weak_completeness v.weak_completeness;
+        strong_accuracy = counted (λ r. (verdicts r.scenario r.trace layer).strong_accuracy) rs qs _ _ few_finished u.strong_accuracy v.strong_accuracy;
+        weak_accuracy = counted (λ r. (verdicts r.scenario r.trace layer).weak_accuracy) rs qs _ _ few_finished u.weak_accuracy v.weak_accuracy;
+        eventual_strong_accuracy = counted (λ r. is_some (verdicts r.scenario r.trace layer).eventual_strong_accuracy) rs qs _ _ few_finished u.eventual_strong_accuracy v.eventual_strong_accuracy;
+        eventual_weak_accuracy = counted (λ r. is_some (verdicts r.scenario r.trace layer).eventual_weak_accuracy) rs qs _ _ few_finished u.eventual_weak_accuracy v.eventual_weak_accuracy;
+      }
+
+  counts_added : AreRunCounts layer (done_on layer xs ++ done_on layer ys) (layer_plus a b).counts
+  counts_added =
+      let rs = done_on layer xs in
+      let qs = done_on layer ys in
+      let u = p.sums.done.counts in
+      let v = q.sums.done.counts in
+      record {
+        with_mistakes = counted (has_mistake layer) rs qs _ _ few_finished u.with_mistakes v.with_mistakes;
+        all_decided = counted (λ r. do_all_decide (deciding r)) rs qs _ _ few_finished u.all_decided v.all_decided;
+        undecided = counted (λ r. is_undecided (deciding r)) rs qs _ _ few_finished u.undecided v.undecided;
+        disagreements = counted (λ r. do_disagree (run_outcomes r)) rs qs _ _ few_finished u.disagreements v.disagreements;
       }
 
   done_added : AreDoneSums layer (done_on layer xs ++ done_on layer ys) (layer_plus a b)
@@ -108,13 +131,14 @@ module _ (layer : ℕ) (xs ys : List Trial) (a b : LayerSums) (few : length xs +
       let e = q.sums.done in
       record {
         traces = traces_added rs qs a.traces b.traces (most_of (length xs)) (most_of (length ys)) (omega arith) p.within.traces q.within.traces d.traces e.traces;
-        pair_ticks = added (λ r. watched_ticks r.scenario) rs qs a.pair_ticks b.pair_ticks (most_of (length xs)) (most_of (length ys)) (omega arith) d.pair_ticks e.pair_ticks p.within.pair_ticks q.within.pair_ticks;
+        pair_ticks = added (pair_ticks layer) rs qs a.pair_ticks b.pair_ticks (most_of (length xs)) (most_of (length ys)) (omega arith) d.pair_ticks e.pair_ticks p.within.pair_ticks q.within.pair_ticks;
         pairs = subst (λ ms. ArePairSums ms (layer_plus a b).pairs) (sym (pairs_both layer xs ys rs qs))
             (pairs_added (all_pairs layer rs) (all_pairs layer qs) a.pairs b.pairs (most_of (length xs)) (most_of (length ys)) (omega arith) p.within.pairs q.within.pairs d.pairs e.pairs);
+        mistakes_squared_sum = added (λ r. mistakes layer r * mistakes layer r) rs qs a.mistakes_squared_sum b.mistakes_squared_sum (most_of (length xs)) (most_of (length ys)) (omega arith) d.mistakes_squared_sum e.mistakes_squared_sum p.within.mistakes_squared_sum q.within.mistakes_squared_sum;
         verdicts = verdicts_added;
-        decisions = subst (λ os. AreDecisionSums os (layer_plus a b).decisions) (sym (flat_map-append run_outcomes rs qs))
-            (decisions_added (flat_map run_outcomes rs) (flat_map run_outcomes qs) a.decisions b.decisions (most_of (length xs)) (most_of (length ys)) (omega arith) p.within.decisions q.within.decisions d.decisions e.decisions);
-        disagreements = counted (λ r. do_disagree (run_outcomes r)) rs qs a.disagreements b.disagreements few_runs d.disagreements e.disagreements;
+        decisions = subst (λ os. AreDecisionSums os (layer_plus a b).decisions) (sym (flat_map-append deciding rs qs))
+            (decisions_added (flat_map deciding rs) (flat_map deciding qs) a.decisions b.decisions (most_of (length xs)) (most_of (length ys)) (omega arith) p.within.decisions q.within.decisions d.decisions e.decisions);
+        counts = counts_added;
       }
 
   within_both : IsLayerWithin (most_of (length xs) + most_of (length ys)) (layer_plus a b)
@@ -122,17 +146,23 @@ module _ (layer : ℕ) (xs ys : List Trial) (a b : LayerSums) (few : length xs +
     traces = traces_within (done_on layer xs) (done_on layer ys) a.traces b.traces (most_of (length xs)) (most_of (length ys)) (omega arith) p.within.traces q.within.traces;
     pair_ticks = within a.pair_ticks b.pair_ticks (most_of (length xs)) (most_of (length ys)) p.within.pair_ticks q.within.pair_ticks;
     pairs = pairs_within (all_pairs layer (done_on layer xs)) (all_pairs layer (done_on layer ys)) a.pairs b.pairs (most_of (length xs)) (most_of (length ys)) (omega arith) p.within.pairs q.within.pairs;
-    decisions = decisions_within (flat_map run_outcomes (done_on layer xs)) (flat_map run_outcomes (done_on layer ys)) a.decisions b.decisions (most_of (length xs)) (most_of (length ys)) (omega arith) p.within.decisions q.within.decisions;
+    mistakes_squared_sum = within a.mistakes_squared_sum b.mistakes_squared_sum (most_of (length xs)) (most_of (length ys)) p.within.mistakes_squared_sum q.within.mistakes_squared_sum;
+    decisions = decisions_within (flat_map deciding (done_on layer xs)) (flat_map deciding (done_on layer ys)) a.decisions b.decisions (most_of (length xs)) (most_of (length ys)) (omega arith) p.within.decisions q.within.decisions;
   }
 
   pub layer_added : AreFitting layer (xs ++ ys) (layer_plus a b)
-  layer_added = record {
-    sums = record {
-      runs = omega (arith, p.sums.runs, q.sums.runs, few_of_layer, ap length (on_both layer xs ys), length-append (on_layer layer xs) (on_layer layer ys));
-      limited = counted (λ t. is_limited t.result) (on_layer layer xs) (on_layer layer ys) a.limited b.limited few_of_layer p.sums.limited q.sums.limited
-          ∙ ap (count_by (λ t. is_limited t.result)) (sym (on_both layer xs ys));
-      done = subst (λ rs. AreDoneSums layer rs (layer_plus a b)) (sym (done_both layer xs ys)) done_added;
-    };
-    within = subst (λ m. IsLayerWithin m (layer_plus a b)) (omega (arith, length-append xs ys)) within_both;
-    few = omega (arith, p.few, q.few, ap length (times_both layer xs ys), length-append (layer_times layer xs) (layer_times layer ys), length-append xs ys);
-  }
+  layer_added =
+      let long : length (xs ++ ys) ≡ length xs + length ys = length-append xs ys in
+      record {
+        sums = record {
+          runs = omega (arith, p.sums.runs, q.sums.runs, few_of_layer, ap length (on_both layer xs ys), length-append (on_layer layer xs) (on_layer layer ys));
+          limited = counted (λ t. is_limited t.result) (on_layer layer xs) (on_layer layer ys) a.limited b.limited few_of_layer p.sums.limited q.sums.limited
+              ∙ ap (count_by (λ t. is_limited t.result)) (sym (on_both layer xs ys));
+          done = subst (λ rs. AreDoneSums layer rs (layer_plus a b)) (sym (done_both layer xs ys)) done_added;
+        };
+        few_runs = omega (arith, long, few);
+        within = subst (λ m. IsLayerWithin m (layer_plus a b)) (omega (arith, long)) within_both;
+        few_detected = omega (arith, p.few_detected, q.few_detected, ap length (detections_both layer xs ys), length-append (all_detections layer xs) (all_detections layer ys), long);
+        few_undetected = omega (arith, p.few_undetected, q.few_undetected, long);
+        few_ticks = omega (arith, p.few_ticks, q.few_ticks, long);
+      }

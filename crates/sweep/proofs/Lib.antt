@@ -1,16 +1,21 @@
+pub mod Greatest
 pub mod Added
 pub mod Counting
 pub mod Layered
+pub mod FirstNumbers
 pub mod Lines
 pub mod Single
 pub mod Parts
 mod Reading
 mod Numbered
+mod Units
 pub mod Zipped
 mod Advancing
 mod OneRow
+pub mod Places
 mod OneText
 mod Shards
 mod Ending
 mod Placed
 mod Heard
+mod Limiting

@@ -1,7 +1,12 @@
--- A run's number, its point and its place there.
-use Rattle.std.proofs.Common.{◌≡◌, ℕ, ◌+◌, ◌*◌, ◌/◌, ◌%◌, ◌<◌, arith, subst}
+-- A run's number, its point and its place there, and its unit.
+use Rattle.std.proofs.Common.{◌≡◌, ℕ, zero, suc, ◌+◌, ◌*◌, ◌/◌, ◌%◌, ◌<◌, ◌≤◌, arith, refl, subst, length}
 use Rattle.std.proofs.Math.Nat.{lt_of_mul-lt-mul_right}
 use Rattle.std.proofs.lemmas.Nat.{mod-mul-add, div-add-mod'}
+use Rattle.study.specs.Grid.{GridRecord, runs}
+use Rattle.sweep.specs.Numbering.{runs_each, unit_count}
+use Rattle.sweep.specs.StudyText.{unit_point, unit_runs}
+use Rattle.sweep.specs.declared.layout.Rows.{Rows}
+use Rattle.sweep.specs.declared.layout.Rows.TheVariants as kind
 
 -- two numbers with one remainder
 quotients : (a b r w : ℕ) → 0 < w → a * w + r ≡ b * w + r → a ≡ b
@@ -33,3 +38,41 @@ pub number_below : (runs number points : ℕ) → 0 < runs → number < points *
 number_below runs number points pos lt =
     let split : number / runs * runs + number % runs ≡ number = div-add-mod' number runs in
     lt_of_mul-lt-mul_right runs {m = number / runs} {n = points} (omega (arith, split, lt))
+
+-- ---- units
+
+positive : (a b c : ℕ) → a < b * c → 0 < c
+positive a b zero lt = absurd (omega (arith, lt))
+positive a b (suc c) lt = omega arith
+
+module _ (rows : Rows) (g : GridRecord) where
+  pub runs_length : (unit : ℕ) → length (unit_runs rows g unit) ≡ runs_each rows g
+  runs_length unit = by rows
+    where
+      by : (k : Rows) → length (unit_runs k g unit) ≡ runs_each k g
+      by kind.Points = refl
+      by kind.Runs = refl
+
+  pub some_each : 1 ≤ length (runs g) → 1 ≤ runs_each rows g
+  some_each some = by rows
+    where
+      by : (k : Rows) → 1 ≤ runs_each k g
+      by kind.Points = some
+      by kind.Runs = omega arith
+
+  -- so many points' runs
+  pub count_each : (n : ℕ) → unit_count rows g n * runs_each rows g ≡ n * length (runs g)
+  count_each n = by rows
+    where
+      by : (k : Rows) → unit_count k g n * runs_each k g ≡ n * length (runs g)
+      by kind.Points = refl
+      by kind.Runs = omega arith
+
+  -- a run's number is below that of the end of all points, and so are its unit's point, and its unit
+  pub unit_below : (unit run points : ℕ) → run < runs_each rows g → unit * runs_each rows g + run < points * length (runs g)
+      → unit_point rows g unit < points
+  unit_below unit run points = by rows
+    where
+      by : (k : Rows) → run < runs_each k g → unit * runs_each k g + run < points * length (runs g) → unit_point k g unit < points
+      by kind.Points low lt = lt_of_mul-lt-mul_right (length (runs g)) {m = unit} {n = points} (omega (arith, lt))
+      by kind.Runs low lt = number_below (length (runs g)) unit points (positive unit points (length (runs g)) (omega (arith, lt))) (omega (arith, lt))

@@ -6,15 +6,16 @@ use Rattle.trace_laws.specs.ScenarioSetting.{setting_of}
 use Rattle.trace_laws.proofs.Closed.{one_trace}
 use Rattle.scenario_record.specs.Record.{Record}
 use Rattle.study.specs.Settings.{Chosen}
-use Rattle.study.specs.Grid.{GridRecord, RunRecord, runs}
+use Rattle.study.specs.Grid.{GridRecord, RunRecord}
 use Rattle.study.specs.Placed.{table_of_run}
 use Rattle.study.specs.Runs.{IsScenarioOf}
 use Rattle.study.specs.Shard.{ShardRecord}
 use Rattle.study.specs.declared.error.PlaceError.{PlaceError}
 use Rattle.sweep.specs.Results.{RunResult, finished, limited, IsResult, Trial}
-use Rattle.sweep.specs.RowText.{Text, ArePointRows}
-use Rattle.sweep.specs.StudyText.{point_at, header_of, numbers_of, IsTrialOf, AreRowsOf, HasRowsOf, HasOneText}
-use Rattle.sweep.proofs.OneRow.{one_point_rows}
+use Rattle.sweep.specs.Layout.{LayoutRecord}
+use Rattle.sweep.specs.RowText.{Text, AreRowsFor}
+use Rattle.sweep.specs.StudyText.{point_at, unit_point, unit_runs, unit_first, lead_of, header_of, units_of, IsTrialOf, AreRowsOf, HasRowsOf, HasOneText}
+use Rattle.sweep.proofs.OneRow.{one_rows_for}
 
 -- lists in step with one list are one, where what stands in step with anything is one
 one_list : {A B : Type 0} (R : A → B → Type 0) → ((x : A) (y z : B) → R x y → R x z → y ≡ z)
@@ -47,19 +48,22 @@ one_trial file settings run t u a b =
     let result = one_result t.scenario t.result u.result a.result (subst P (sym same) b.result) in
     λ i. record { scenario = same i; result = result i }
 
-module _ (file : Members) (g : GridRecord) where
-  one_rows : (number : ℕ) (a b : Text) → AreRowsOf file g number a → AreRowsOf file g number b → a ≡ b
-  one_rows number a b x y =
-      let same = one_list (IsTrialOf file (point_at g number)) (one_trial file (point_at g number)) (runs g) x.trials y.trials x.each y.each in
-      let P : List Trial → Type 0 = λ l. ArePointRows (point_at g number) l b in
-      one_point_rows (point_at g number) x.trials a b x.told (subst P (sym same) y.told)
+module _ (file : Members) (g : GridRecord) (layout : LayoutRecord) where
+  one_rows : (unit : ℕ) (a b : Text) → AreRowsOf file g layout unit a → AreRowsOf file g layout unit b → a ≡ b
+  one_rows unit a b x y =
+      let settings : List Chosen = point_at g (unit_point layout.rows g unit) in
+      let lead : List Text = lead_of layout.rows g unit in
+      let first : ℕ = unit_first layout.rows g unit in
+      let same = one_list (IsTrialOf file settings) (one_trial file settings) (unit_runs layout.rows g unit) x.trials y.trials x.each y.each in
+      let P : List Trial → Type 0 = λ l. AreRowsFor layout.picks lead first l b in
+      one_rows_for layout.picks lead first x.trials a b x.told (subst P (sym same) y.told)
 
-  all_rows_one : (numbers : List ℕ) (a b : Text) → HasRowsOf file g numbers a → HasRowsOf file g numbers b → a ≡ b
-  all_rows_one numbers a b x y =
+  all_rows_one : (units : List ℕ) (a b : Text) → HasRowsOf file g layout units a → HasRowsOf file g layout units b → a ≡ b
+  all_rows_one units a b x y =
       x.text_is
-      ∙ ap (λ l. flat_map (λ r. r) l) (one_list (AreRowsOf file g) one_rows numbers x.parts y.parts x.each y.each)
+      ∙ ap (λ l. flat_map (λ r. r) l) (one_list (AreRowsOf file g layout) one_rows units x.parts y.parts x.each y.each)
       ∙ sym y.text_is
 
-  pub one_text : (shard : ShardRecord) → HasOneText file g shard
+  pub one_text : (shard : ShardRecord) → HasOneText file g shard layout
   one_text shard a b x y =
-      x.text_is ∙ ap (λ t. header_of g shard ++ t) (all_rows_one (numbers_of g shard) x.rows y.rows x.has y.has) ∙ sym y.text_is
+      x.text_is ∙ ap (λ t. header_of g shard layout ++ t) (all_rows_one (units_of layout.rows g shard) x.rows y.rows x.has y.has) ∙ sym y.text_is

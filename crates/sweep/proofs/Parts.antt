@@ -1,18 +1,23 @@
 -- What one run gives, layer by layer.
-use Rattle.std.proofs.Common.{◌≡◌, ℕ, ◌*◌, ◌/◌, ◌^◌, ◌≤◌, Bool, true, false, cond, is_some, None, Some, List, [], ◌∷◌, ◌++◌, length, sym, ap, ◌∙◌, refl, subst, arith, append-nil, length-append, map, unwrap_or, true≢false, le_trans, zero-add}
-use Rattle.std.specs.List.{All, count_by, sum_by}
+use Rattle.std.proofs.Common.{◌≡◌, ℕ, zero, suc, ◌+◌, ◌-◌, ◌*◌, ◌/◌, ◌^◌, ◌≤◌, Bool, true, false, not, ◌&&◌, cond, is_some, None, Some, List, [], ◌∷◌, ◌++◌, length, get_or, min, sym, ap, ◌∙◌, refl, subst, arith, append-nil, length-append, map, unwrap_or, true≢false, le_trans, zero-add, nat_lt}
+use Rattle.std.specs.List.{All, cons_option, count_by, filter_map, flat_map, list_all, sum_by}
 use Rattle.std.proofs.Math.Nat.{mul-le-mul_right}
 use Rattle.std.proofs.lemmas.List.{length-map}
 use Rattle.std.proofs.lemmas.List.Concat.{length-flat_map}
-use Rattle.std.proofs.lemmas.List.Sums.{sum_by-le}
+use Rattle.std.proofs.lemmas.List.Elements.{All-append, All-map, All-filter}
+use Rattle.std.proofs.lemmas.List.Sums.{sum_by-le, length-filter, count_by-le-length}
+use Rattle.judges.specs.Crashes.{end_of}
+use Rattle.judges.specs.Out.{suspects}
 use Rattle.judges.specs.Outcomes.{outcome, outcomes}
 use Rattle.judges.specs.Verdicts.{verdicts}
+use Rattle.judges.specs.declared.outcomes.Outcome.{Outcome}
 use Rattle.judges.specs.declared.verdicts.Verdicts.{Verdicts}
 use Rattle.process_api.specs.EntryRecord.{EntryRecord}
 use Rattle.process_api.specs.Numbers.{numbers_to, others}
 use Rattle.process_api.proofs.Numbering.{length-numbers_to, length-filter_to}
+use Rattle.reporting.specs.Distances.{count_below}
 use Rattle.reporting.specs.Measured.{AreFindings}
-use Rattle.reporting.specs.Measures.{layer_measures, pair_measures}
+use Rattle.reporting.specs.Measures.{layer_measures, pair_measures, starts}
 use Rattle.reporting.specs.declared.findings.RunFindings.{RunFindings}
 use Rattle.reporting.proofs.Layers.{one_layer, two_layers}
 use Rattle.scenario_record.specs.Record.{Record}
@@ -20,13 +25,16 @@ use Rattle.scenario_record.specs.Ranges.{IsInRange}
 use Rattle.reporting.specs.declared.pair_measures.PairMeasures.{PairMeasures}
 use Rattle.reporting.specs.declared.summary.Summary.{Summary}
 use Rattle.sweep.specs.Adding.{of_verdicts}
-use Rattle.sweep.specs.Columns.{has_layer, on_layer, finished_of, Finished, done_on, all_pairs, times_of, detection_time, is_limited, do_disagree, AreDoneSums, AreVerdictCounts, AreTraceSums, ArePairSums, AreDecisionSums}
-use Rattle.sweep.specs.Fitting.{most_of, IsLayerWithin, AreTracesWithin, ArePairsWithin, AreDecisionsWithin}
+use Rattle.sweep.specs.Columns.{has_layer, on_layer, finished_of, done_on, all_detections, last_decisions, top_rounds, is_limited, AreDoneSums, AreRunCounts, AreVerdictCounts, AreTraceSums, ArePairSums, AreDecisionSums}
+use Rattle.sweep.specs.Fitting.{most_of, most_mistakes, IsLayerWithin, AreTracesWithin, ArePairsWithin, AreDecisionsWithin}
+use Rattle.sweep.specs.OneRun.{Finished, counts_on, counted_of, counted_pairs, pair_ticks, mistakes, has_mistake, detections, detection_time, is_undetected, has_decided, do_disagree, is_to_decide, deciding_of, do_all_decide, is_undecided, last_decision, top_round, run_outcomes, deciding}
 use Rattle.sweep.specs.Results.{Trial, finished}
-use Rattle.sweep.specs.Sums.{AreFitting, AreLayerFindings, layer_times}
+use Rattle.sweep.specs.Sums.{AreFitting, AreLayerFindings}
+use Rattle.sweep.specs.declared.columns.DecisionSums.{DecisionSums}
 use Rattle.sweep.specs.declared.columns.LayerSums.{LayerSums}
 use Rattle.sweep.specs.declared.columns.PairSums.{PairSums}
-use Rattle.sweep.proofs.Layered.{few_times}
+use Rattle.sweep.specs.declared.columns.RunCounts.{RunCounts}
+use Rattle.sweep.proofs.Layered.{few_mapped}
 
 module _ (S : Record) (trace : List EntryRecord) where
   -- how many pairs a layer has
@@ -86,6 +94,72 @@ module _ (S : Record) (trace : List EntryRecord) where
         by true p = (layer_measures S trace 2, are.measures ∙ sym (two_layers S trace p), λ v some. refl)
         by false p = ([], are.measures ∙ sym (one_layer S trace p) ∙ sym (append-nil (layer_measures S trace 1)), λ v some. absurd (true≢false (sym (shared v some).0 ∙ p)))
 
+-- ---- mistakes
+
+below_end : (test : ℕ → Bool) (end : ℕ) → count_below test end ≤ end
+below_end test zero = omega arith
+below_end test (suc t) = by (test t) (below_end test t)
+  where
+    by : (b : Bool) → count_below test t ≤ t → count_below test t + cond b 1 0 ≤ suc t
+    by true le = omega arith
+    by false le = omega arith
+
+all_flat : {A X : Type 0} (P : X → Type 0) (f : A → List X) (items : List A) → ((a : A) → All P (f a)) → All P (flat_map f items)
+all_flat P f [] each = λ k d lt. absurd (omega (arith, lt))
+all_flat P f (a ∷ items) each = All-append P (f a) (flat_map f items) (each a) (all_flat P f items each)
+
+module _ (S : Record) (trace : List EntryRecord) (ranges : IsInRange S) (layer : ℕ) where
+  pair_mistakes : (q p : ℕ) → (pair_measures S trace layer q p).mistakes ≤ 10000000
+  unfolding pair_measures
+  pair_mistakes q p =
+      let le : (pair_measures S trace layer q p).mistakes ≤ end_of S q p = below_end (starts (suspects layer trace q p)) (end_of S q p) in
+      omega (arith, le, ranges.horizon_high)
+
+  pair_mistake_ticks : (q p : ℕ) → (pair_measures S trace layer q p).mistake_ticks ≤ 10000000
+  unfolding pair_measures
+  pair_mistake_ticks q p =
+      let le : (pair_measures S trace layer q p).mistake_ticks ≤ end_of S q p = below_end (suspects layer trace q p) (end_of S q p) in
+      omega (arith, le, ranges.horizon_high)
+
+  -- a pair has a mistake at most at each tick
+  few_mistakes : All (λ m. m.mistakes ≤ 10000000) (layer_measures S trace layer)
+  unfolding layer_measures
+  few_mistakes =
+      all_flat (λ m. m.mistakes ≤ 10000000) (λ q. map (pair_measures S trace layer q) (others S.processes q)) (numbers_to S.processes)
+      (λ q. All-map (λ m. m.mistakes ≤ 10000000) (pair_measures S trace layer q) (others S.processes q) (λ k d lt. pair_mistakes q (get_or (others S.processes q) k d)))
+
+  few_ticks : All (λ m. m.mistake_ticks ≤ 10000000) (layer_measures S trace layer)
+  unfolding layer_measures
+  few_ticks =
+      all_flat (λ m. m.mistake_ticks ≤ 10000000) (λ q. map (pair_measures S trace layer q) (others S.processes q)) (numbers_to S.processes)
+      (λ q. All-map (λ m. m.mistake_ticks ≤ 10000000) (pair_measures S trace layer q) (others S.processes q) (λ k d lt. pair_mistake_ticks q (get_or (others S.processes q) k d)))
+
+  abbrev pub counts : PairMeasures → Bool
+  counts m = counts_on layer S m.observer m.subject
+
+  few_counted : length (counted_of layer S (layer_measures S trace layer)) ≤ 2 ^ 17
+  few_counted =
+      omega (arith, length-filter counts (layer_measures S trace layer), count_by-le-length counts (layer_measures S trace layer), few_pairs S trace ranges layer)
+
+  run_mistakes : sum_by (λ m. m.mistakes) (counted_of layer S (layer_measures S trace layer)) ≤ most_mistakes 1
+  run_mistakes =
+      let all = layer_measures S trace layer in
+      let sum : sum_by (λ m. m.mistakes) (counted_of layer S all) ≤ length (counted_of layer S all) * 10000000 =
+      sum_by-le (λ m. m.mistakes) 10000000 (counted_of layer S all) (All-filter counts (λ m. m.mistakes ≤ 10000000) all few_mistakes) in
+      omega (arith, sum, few_counted)
+
+  run_ticks : sum_by (λ m. m.mistake_ticks) (counted_of layer S (layer_measures S trace layer)) ≤ most_mistakes 1
+  run_ticks =
+      let all = layer_measures S trace layer in
+      let sum : sum_by (λ m. m.mistake_ticks) (counted_of layer S all) ≤ length (counted_of layer S all) * 10000000 =
+      sum_by-le (λ m. m.mistake_ticks) 10000000 (counted_of layer S all) (All-filter counts (λ m. m.mistake_ticks ≤ 10000000) all few_ticks) in
+      omega (arith, sum, few_counted)
+
+square_high : (m : ℕ) → m ≤ 2 ^ 41 → m * m ≤ 2 ^ 82
+square_high m le =
+    let once : m * m ≤ 2 ^ 41 * m = mul-le-mul_right m le in
+    omega (arith, once, le)
+
 -- ---- a run that is done, alone
 
 pub pairs_raised : (A B : ℕ) (s : PairSums) → A ≤ B → ArePairsWithin A s → ArePairsWithin B s
@@ -99,13 +173,37 @@ pairs_raised A B s le w = record {
   good_sum = le_trans w.good_sum le;
   good_count = le_trans w.good_count le;
   undetected = le_trans w.undetected le;
+  at_once = le_trans w.at_once le;
 }
 
+-- the counts of a run of which these were the pairs that count, these the outcomes of all processes, and these those of
+-- the processes that are to decide
+pub record AreOwnCounts (pairs : PairSums) (decisions : DecisionSums) (all deciding : List Outcome) (c : RunCounts) : Type 0 where
+  pub with_mistakes : c.with_mistakes ≡ cond (nat_lt 0 pairs.mistakes) 1 0
+  pub all_decided : c.all_decided ≡ cond (nat_lt 0 decisions.to_decide && list_all has_decided deciding) 1 0
+  pub undecided : c.undecided ≡ cond (not (list_all has_decided deciding)) 1 0
+  pub disagreements : c.disagreements ≡ cond (do_disagree all) 1 0
+
+-- what is added up of such a run
+pub record AreOwnSums (S : Record) (summary : Summary) (found : Verdicts) (counted : List PairMeasures) (sums : LayerSums) : Type 0 where
+  pub runs : sums.runs ≡ 1
+  pub limited : sums.limited ≡ 0
+  pub traces : sums.traces ≡ record { entries = summary.entries; sent = summary.sent; lost = summary.lost }
+  pub pair_ticks : sums.pair_ticks ≡ sum_by (λ m. end_of S m.observer m.subject) counted
+  pub pair_ticks_high : sums.pair_ticks ≤ length counted * 2 ^ 32
+  pub pairs : ArePairSums counted sums.pairs
+  pub pairs_high : ArePairsWithin (length counted * 2 ^ 64) sums.pairs
+  pub squared : sums.mistakes_squared_sum ≡ min (sums.pairs.mistakes * sums.pairs.mistakes) (2 ^ 128 - 1)
+  pub verdicts : sums.verdicts ≡ of_verdicts found
+  pub decisions : AreDecisionSums (deciding_of S summary.outcomes.items) sums.decisions
+  pub decisions_high : AreDecisionsWithin (length (deciding_of S summary.outcomes.items) * 2 ^ 64) sums.decisions
+  pub counts : AreOwnCounts sums.pairs sums.decisions summary.outcomes.items (deciding_of S summary.outcomes.items) sums.counts
+
 module _ (layer : ℕ) (S : Record) (trace : List EntryRecord) (has : has_layer layer S ≡ true) where
-  abbrev one : Finished
+  abbrev pub one : Finished
   one = record { scenario = S; trace = trace }
 
-  abbrev trial : Trial
+  abbrev pub trial : Trial
   trial = record { scenario = S; result = finished trace }
 
   on_one : on_layer layer (trial ∷ []) ≡ trial ∷ []
@@ -114,23 +212,32 @@ module _ (layer : ℕ) (S : Record) (trace : List EntryRecord) (has : has_layer 
   done_one : done_on layer (trial ∷ []) ≡ one ∷ []
   done_one = ap finished_of on_one
 
-  times_one : (pairs : List PairMeasures) → pairs ≡ layer_measures S trace layer → layer_times layer (trial ∷ []) ≡ times_of pairs
-  times_one pairs is = ap (λ rs. times_of (all_pairs layer rs)) done_one ∙ ap times_of (append-nil (layer_measures S trace layer) ∙ sym is)
+  pub detections_one : all_detections layer (trial ∷ []) ≡ detections layer one
+  detections_one = ap (flat_map (detections layer)) done_one ∙ append-nil (detections layer one)
 
-  module _ (sums : LayerSums) (ticks : ℕ) (summary : Summary) (v : Verdicts) (pairs : List PairMeasures) (found : AreLayerFindings layer S trace ticks summary v pairs)
-      (traces : sums.traces ≡ record { entries = summary.entries; sent = summary.sent; lost = summary.lost })
-      (watched : sums.pair_ticks ≡ ticks)
-      (judged : sums.verdicts ≡ of_verdicts v)
-      (differ : sums.disagreements ≡ cond (do_disagree summary.outcomes.items) 1 0) where
+  pub decisions_one : last_decisions layer (trial ∷ []) ≡ cons_option (last_decision (deciding one)) []
+  decisions_one = ap (filter_map (λ r. last_decision (deciding r))) done_one
+
+  pub rounds_one : top_rounds layer (trial ∷ []) ≡ cons_option (top_round (run_outcomes one)) []
+  rounds_one = ap (filter_map (λ r. top_round (run_outcomes r))) done_one
+
+  module _ (summary : Summary) (v : Verdicts) (pairs counted : List PairMeasures) (sums : LayerSums)
+      (found : AreLayerFindings layer S trace summary v pairs) (is : counted ≡ counted_of layer S pairs) (own : AreOwnSums S summary v counted sums) where
+    counted_is : counted ≡ counted_pairs layer one
+    counted_is = is ∙ ap (counted_of layer S) found.measured
+
+    deciding_is : deciding_of S summary.outcomes.items ≡ deciding one
+    deciding_is = ap (deciding_of S) found.summed.decided
+
     traces_one : AreTraceSums (one ∷ []) sums.traces
-    traces_one = subst (AreTraceSums (one ∷ [])) (sym traces) (record {
+    traces_one = subst (AreTraceSums (one ∷ [])) (sym own.traces) (record {
       entries = omega (arith, found.summed.entries);
       sent = omega (arith, found.summed.sent);
       lost = omega (arith, found.summed.lost);
     })
 
     verdicts_one : AreVerdictCounts layer (one ∷ []) sums.verdicts
-    verdicts_one = subst (AreVerdictCounts layer (one ∷ [])) (sym (judged ∙ ap of_verdicts found.judged)) (record {
+    verdicts_one = subst (AreVerdictCounts layer (one ∷ [])) (sym (own.verdicts ∙ ap of_verdicts found.judged)) (record {
       strong_completeness = omega arith;
       weak_completeness = omega arith;
       strong_accuracy = omega arith;
@@ -139,47 +246,80 @@ module _ (layer : ℕ) (S : Record) (trace : List EntryRecord) (has : has_layer 
       eventual_weak_accuracy = omega arith;
     })
 
-    done_alone : ArePairSums pairs sums.pairs → AreDecisionSums summary.outcomes.items sums.decisions → AreDoneSums layer (one ∷ []) sums
-    done_alone p d = record {
+    mistakes_is : sums.pairs.mistakes ≡ mistakes layer one
+    mistakes_is = own.pairs.mistakes ∙ ap (sum_by (λ m. m.mistakes)) counted_is
+
+    mistakes_high : sums.pairs.mistakes ≤ 2 ^ 41
+    mistakes_high = omega (arith, mistakes_is, run_mistakes S trace found.ranges layer)
+
+    squared_is : sums.mistakes_squared_sum ≡ sums.pairs.mistakes * sums.pairs.mistakes
+    squared_is = omega (arith, own.squared, square_high sums.pairs.mistakes mistakes_high)
+
+    counts_one : AreRunCounts layer (one ∷ []) sums.counts
+    counts_one =
+        let c = own.counts in
+        record {
+          with_mistakes = c.with_mistakes ∙ ap (λ n. cond (nat_lt 0 n) 1 0) mistakes_is ∙ sym (zero-add (cond (has_mistake layer one) 1 0));
+          all_decided = c.all_decided ∙ ap (λ n. cond (nat_lt 0 n && list_all has_decided (deciding_of S summary.outcomes.items)) 1 0) own.decisions.to_decide
+              ∙ ap (λ os. cond (do_all_decide os) 1 0) deciding_is ∙ sym (zero-add (cond (do_all_decide (deciding one)) 1 0));
+          undecided = c.undecided ∙ ap (λ os. cond (is_undecided os) 1 0) deciding_is ∙ sym (zero-add (cond (is_undecided (deciding one)) 1 0));
+          disagreements = c.disagreements ∙ ap (λ os. cond (do_disagree os) 1 0) found.summed.decided ∙ sym (zero-add (cond (do_disagree (run_outcomes one)) 1 0));
+        }
+
+    done_alone : AreDoneSums layer (one ∷ []) sums
+    done_alone = record {
       traces = traces_one;
-      pair_ticks = omega (arith, watched, found.watched);
-      pairs = subst (λ ms. ArePairSums ms sums.pairs) (found.measured ∙ sym (append-nil (layer_measures S trace layer))) p;
+      pair_ticks = own.pair_ticks ∙ ap (sum_by (λ m. end_of S m.observer m.subject)) counted_is ∙ sym (zero-add (pair_ticks layer one));
+      pairs = subst (λ ms. ArePairSums ms sums.pairs) (counted_is ∙ sym (append-nil (counted_pairs layer one))) own.pairs;
+      mistakes_squared_sum = squared_is ∙ ap (λ m. m * m) mistakes_is ∙ sym (zero-add (mistakes layer one * mistakes layer one));
       verdicts = verdicts_one;
-      decisions = subst (λ os. AreDecisionSums os sums.decisions) (found.summed.decided ∙ sym (append-nil (outcomes trace S.processes))) d;
-      disagreements = differ ∙ ap (λ os. cond (do_disagree os) 1 0) found.summed.decided ∙ sym (zero-add (cond (do_disagree (outcomes trace S.processes)) 1 0));
+      decisions = subst (λ os. AreDecisionSums os sums.decisions) (deciding_is ∙ sym (append-nil (deciding one))) own.decisions;
+      counts = counts_one;
     }
 
-    within_one : ArePairsWithin (length pairs * 2 ^ 64) sums.pairs → AreDecisionsWithin (length summary.outcomes.items * 2 ^ 64) sums.decisions → IsLayerWithin (most_of 1) sums
-    within_one p d =
-        let few : length pairs ≤ 2 ^ 17 = subst (λ ms. length ms ≤ 2 ^ 17) (sym found.measured) (few_pairs S trace found.ranges layer) in
-        let fewer : length summary.outcomes.items ≤ 256 = subst (λ os. length os ≤ 256) (sym found.summed.decided) (few_outcomes S trace found.ranges) in
+    few : length counted ≤ 2 ^ 17
+    few = subst (λ ms. length ms ≤ 2 ^ 17) (sym counted_is) (few_counted S trace found.ranges layer)
+
+    fewer : length (deciding_of S summary.outcomes.items) ≤ 256
+    fewer =
+        omega (
+          arith,
+          length-filter (λ o. is_to_decide S o.pid) summary.outcomes.items,
+          count_by-le-length (λ o. is_to_decide S o.pid) summary.outcomes.items,
+          ap length found.summed.decided,
+          few_outcomes S trace found.ranges,
+        )
+
+    within_one : IsLayerWithin (most_of 1) sums
+    within_one =
         let short : length trace ≤ 100000000 = le_trans found.within found.ranges.limit_high in
+        let d = own.decisions_high in
         record {
-          traces = subst (AreTracesWithin (most_of 1)) (sym traces) (record {
+          traces = subst (AreTracesWithin (most_of 1)) (sym own.traces) (record {
             entries = omega (arith, found.summed.entries, short);
             sent = omega (arith, found.sent_high, short);
             lost = omega (arith, found.lost_high, short);
           });
-          pair_ticks = omega (arith, watched, found.ticks_high);
-          pairs = pairs_raised (length pairs * 2 ^ 64) (most_of 1) sums.pairs (omega (arith, few)) p;
-          decisions = record { decided = omega (arith, d.decided, fewer); decision_tick_sum = omega (arith, d.decision_tick_sum, fewer) };
-        }
-
-    pub fitting_one : sums.runs ≡ 1 → sums.limited ≡ 0
-        → ArePairSums pairs sums.pairs → ArePairsWithin (length pairs * 2 ^ 64) sums.pairs
-        → AreDecisionSums summary.outcomes.items sums.decisions → AreDecisionsWithin (length summary.outcomes.items * 2 ^ 64) sums.decisions
-        → AreFitting layer (trial ∷ []) sums
-    fitting_one runs none p w d u =
-        let few : length pairs ≤ 2 ^ 17 = subst (λ ms. length ms ≤ 2 ^ 17) (sym found.measured) (few_pairs S trace found.ranges layer) in
-        record {
-          sums = record {
-            runs = runs ∙ ap length (sym on_one);
-            limited = none ∙ ap (count_by (λ (t : Trial). is_limited t.result)) (sym on_one);
-            done = subst (λ rs. AreDoneSums layer rs sums) (sym done_one) (done_alone p d);
+          pair_ticks = omega (arith, own.pair_ticks_high, few);
+          pairs = pairs_raised (length counted * 2 ^ 64) (most_of 1) sums.pairs (omega (arith, few)) own.pairs_high;
+          mistakes_squared_sum = omega (arith, squared_is, square_high sums.pairs.mistakes mistakes_high);
+          decisions = record {
+            to_decide = omega (arith, d.to_decide, fewer);
+            decided = omega (arith, d.decided, fewer);
+            decision_tick_sum = omega (arith, d.decision_tick_sum, fewer);
           };
-          within = within_one w u;
-          few = omega (arith, ap length (times_one pairs found.measured), few_times (λ (m : PairMeasures). detection_time m.detection) pairs, few);
         }
 
-    pub times_alone : (times : List ℕ) → times ≡ times_of pairs → times ≡ layer_times layer (trial ∷ [])
-    times_alone times is = is ∙ sym (times_one pairs found.measured)
+    pub fitting_one : AreFitting layer (trial ∷ []) sums
+    fitting_one = record {
+      sums = record {
+        runs = own.runs ∙ ap length (sym on_one);
+        limited = own.limited ∙ ap (count_by (λ (t : Trial). is_limited t.result)) (sym on_one);
+        done = subst (λ rs. AreDoneSums layer rs sums) (sym done_one) done_alone;
+      };
+      few_runs = omega arith;
+      within = within_one;
+      few_detected = omega (arith, ap length detections_one, few_mapped (λ (m : PairMeasures). detection_time m.detection) (counted_pairs layer one), ap length counted_is, few);
+      few_undetected = omega (arith, own.pairs.undetected, count_by-le-length (λ (m : PairMeasures). is_undetected m.detection) counted, few);
+      few_ticks = omega (arith, own.pairs.mistake_ticks, ap (sum_by (λ (m : PairMeasures). m.mistake_ticks)) counted_is, run_ticks S trace found.ranges layer);
+    }

@@ -4,11 +4,13 @@ use Rattle.std.proofs.lemmas.Bool.Decides.{eqb_tells}
 use Rattle.std.specs.List.{AllZip, flat_map, range_with_len}
 use Rattle.std.proofs.lemmas.Grind.{flat_map-append}
 use Rattle.toml.specs.Data.{Members}
-use Rattle.study.specs.Grid.{GridRecord, points, keys}
+use Rattle.study.specs.Grid.{GridRecord, points}
 use Rattle.study.specs.Shard.{ShardRecord}
 use Rattle.study.proofs.Blocks.{all_blocks}
+use Rattle.sweep.specs.Layout.{LayoutRecord}
 use Rattle.sweep.specs.RowText.{Text, header_text}
-use Rattle.sweep.specs.StudyText.{header_of, numbers_of, AreRowsOf, HasRowsOf, IsStudyText, ShardsMakeWhole}
+use Rattle.sweep.specs.StudyText.{header_of, names_of, numbers_of, units_in, units_of, AreRowsOf, HasRowsOf, IsStudyText, ShardsMakeWhole}
+use Rattle.sweep.proofs.Units.{units_joined}
 
 zip_append : {A B : Type 0} (R : A → B → Type 0) (xs : List A) (ys : List B) (us : List A) (vs : List B)
     → AllZip R xs ys → AllZip R us vs → AllZip R (xs ++ us) (ys ++ vs)
@@ -17,14 +19,14 @@ zip_append R [] (y ∷ ys) us vs a b = absurd a
 zip_append R (x ∷ xs) [] us vs a b = absurd a
 zip_append R (x ∷ xs) (y ∷ ys) us vs a b = (a.0, zip_append R xs ys us vs a.1 b)
 
-module _ (file : Members) (g : GridRecord) where
-  no_rows : HasRowsOf file g [] []
+module _ (file : Members) (g : GridRecord) (layout : LayoutRecord) where
+  no_rows : HasRowsOf file g layout [] []
   no_rows = record { parts = []; each = tt; text_is = refl }
 
-  both_rows : (xs ys : List ℕ) (a b : Text) → HasRowsOf file g xs a → HasRowsOf file g ys b → HasRowsOf file g (xs ++ ys) (a ++ b)
+  both_rows : (xs ys : List ℕ) (a b : Text) → HasRowsOf file g layout xs a → HasRowsOf file g layout ys b → HasRowsOf file g layout (xs ++ ys) (a ++ b)
   both_rows xs ys a b x y = record {
     parts = x.parts ++ y.parts;
-    each = zip_append (AreRowsOf file g) xs x.parts ys y.parts x.each y.each;
+    each = zip_append (AreRowsOf file g layout) xs x.parts ys y.parts x.each y.each;
     text_is = ap (λ t. t ++ b) x.text_is ∙ ap (λ t. flat_map (λ r. r) x.parts ++ t) y.text_is
         ∙ sym (flat_map-append (λ r. r) x.parts y.parts);
   }
@@ -33,44 +35,46 @@ module _ (file : Members) (g : GridRecord) where
     abbrev shard : ℕ → ShardRecord
     shard number = record { number = number; of = of }
 
-    no_header : (number : ℕ) → 2 ≤ number → header_of g (shard number) ≡ []
+    no_header : (number : ℕ) → 2 ≤ number → header_of g (shard number) layout ≡ []
     no_header number high =
-        let P : Bool → Type 0 = λ b. cond b (header_text (keys g)) [] ≡ [] in
+        let P : Bool → Type 0 = λ b. cond b (header_text layout.picks (names_of layout.rows g)) [] ≡ [] in
         ⊎_elim
         (λ (y : (eqb number 1 ≡ true) × (number ≡ 1)). absurd (omega (arith, y.1, high)))
         (λ (n : (eqb number 1 ≡ false) × (number ≢ 1)). subst P (sym n.0) refl)
         (eqb_tells number 1)
 
     -- the texts of shards that aren't the first have rows alone
-    later : (a n : ℕ) (texts : List Text) → 2 ≤ a → AllZip (λ number text. IsStudyText file g (shard number) text) (range_with_len a n) texts
-        → HasRowsOf file g (flat_map (λ number. numbers_of g (shard number)) (range_with_len a n)) (flat_map (λ t. t) texts)
+    later : (a n : ℕ) (texts : List Text) → 2 ≤ a → AllZip (λ number text. IsStudyText file g (shard number) layout text) (range_with_len a n) texts
+        → HasRowsOf file g layout (flat_map (λ number. units_of layout.rows g (shard number)) (range_with_len a n)) (flat_map (λ t. t) texts)
     later a zero [] high z = no_rows
     later a zero (t ∷ texts) high z = absurd z
     later a (suc n) [] high z = absurd z
     later a (suc n) (t ∷ texts) high z =
-        let P : Text → Type 0 = λ r. HasRowsOf file g (numbers_of g (shard a)) r in
+        let P : Text → Type 0 = λ r. HasRowsOf file g layout (units_of layout.rows g (shard a)) r in
         let here : z.0.rows ≡ t = sym (z.0.text_is ∙ ap (λ h. h ++ z.0.rows) (no_header a high)) in
-        both_rows (numbers_of g (shard a)) (flat_map (λ number. numbers_of g (shard number)) (range_with_len (a + 1) n)) t (flat_map (λ u. u) texts)
+        both_rows (units_of layout.rows g (shard a)) (flat_map (λ number. units_of layout.rows g (shard number)) (range_with_len (a + 1) n)) t (flat_map (λ u. u) texts)
         (subst P here z.0.has) (later (a + 1) n texts (omega (arith, high)) z.1)
 
-    pub shards_make_whole : 1 ≤ of → ShardsMakeWhole file g of
+    pub shards_make_whole : 1 ≤ of → ShardsMakeWhole file g layout of
     shards_make_whole low = go of refl
       where
         go : (n : ℕ) → of ≡ n → (texts : List Text)
-            → AllZip (λ number text. IsStudyText file g (shard number) text) (range_with_len 1 n) texts
-            → IsStudyText file g (record { number = 1; of = 1 }) (flat_map (λ t. t) texts)
+            → AllZip (λ number text. IsStudyText file g (shard number) layout text) (range_with_len 1 n) texts
+            → IsStudyText file g (record { number = 1; of = 1 }) layout (flat_map (λ t. t) texts)
         go zero is texts z = absurd (omega (arith, low, is))
         go (suc n) is [] z = absurd z
         go (suc n) is (t ∷ texts) z =
             let all = range_with_len 0 (length (points g)) in
             let rest = later 2 n texts (omega arith) z.1 in
-            let rows : HasRowsOf file g (flat_map (λ number. numbers_of g (shard number)) (range_with_len 1 (suc n))) (z.0.rows ++ flat_map (λ u. u) texts) =
-            both_rows (numbers_of g (shard 1)) (flat_map (λ number. numbers_of g (shard number)) (range_with_len 2 n)) z.0.rows (flat_map (λ u. u) texts) z.0.has rest in
-            let P : ℕ → Type 0 = λ k. HasRowsOf file g (flat_map (λ number. numbers_of g (shard number)) (range_with_len 1 k)) (z.0.rows ++ flat_map (λ u. u) texts) in
-            let Q : List ℕ → Type 0 = λ l. HasRowsOf file g l (z.0.rows ++ flat_map (λ u. u) texts) in
+            let rows : HasRowsOf file g layout (flat_map (λ number. units_of layout.rows g (shard number)) (range_with_len 1 (suc n))) (z.0.rows ++ flat_map (λ u. u) texts) =
+            both_rows (units_of layout.rows g (shard 1)) (flat_map (λ number. units_of layout.rows g (shard number)) (range_with_len 2 n)) z.0.rows (flat_map (λ u. u) texts) z.0.has rest in
+            let P : ℕ → Type 0 = λ k. HasRowsOf file g layout (flat_map (λ number. units_of layout.rows g (shard number)) (range_with_len 1 k)) (z.0.rows ++ flat_map (λ u. u) texts) in
+            let Q : List ℕ → Type 0 = λ l. HasRowsOf file g layout l (z.0.rows ++ flat_map (λ u. u) texts) in
             let one : numbers_of g (record { number = 1; of = 1 }) ≡ all = sym (append-nil _) ∙ all_blocks 1 (omega arith) all in
+            let parts : flat_map (λ number. numbers_of g (shard number)) (range_with_len 1 of) ≡ numbers_of g (record { number = 1; of = 1 }) = all_blocks of low all ∙ sym one in
+            let units = units_joined layout.rows g (λ (number : ℕ). numbers_of g (shard number)) (range_with_len 1 of) ∙ ap (λ l. units_in layout.rows g l) parts in
             record {
               rows = z.0.rows ++ flat_map (λ u. u) texts;
-              has = subst Q (all_blocks of low all ∙ sym one) (subst P (sym is) rows);
-              text_is = ap (λ u. u ++ flat_map (λ v. v) texts) z.0.text_is ∙ append_assoc (header_of g (shard 1)) z.0.rows (flat_map (λ v. v) texts);
+              has = subst Q units (subst P (sym is) rows);
+              text_is = ap (λ u. u ++ flat_map (λ v. v) texts) z.0.text_is ∙ append_assoc (header_of g (shard 1) layout) z.0.rows (flat_map (λ v. v) texts);
             }

@@ -1,31 +1,29 @@
 -- What one element of a list adds.
-use Rattle.std.proofs.Common.{◌≡◌, ℕ, zero, suc, ◌+◌, ◌*◌, ◌^◌, ◌<◌, ◌≤◌, Bool, true, false, not, ◌==◌, ◌||◌, Option, None, Some, List, [], ◌∷◌, ◌++◌, length, take, get_or, sum, sym, ap, ◌∙◌, refl, subst, arith, append-nil, true≢false}
-use Rattle.std.specs.List.{All, cons_option, filter_map, list_any}
-use Rattle.std.proofs.lemmas.Bool.{eqb-true, eq-eqb}
+use Rattle.std.proofs.Common.{◌≡◌, ℕ, suc, ◌+◌, ◌*◌, ◌^◌, ◌<◌, ◌≤◌, Bool, true, false, cond, not, ◌&&◌, ◌==◌, ◌||◌, Option, None, Some, List, [], ◌∷◌, ◌++◌, length, take, get_or, sum, sym, ap, ◌∙◌, refl, subst, arith, append-nil, true≢false}
+use Rattle.std.specs.List.{cons_option, count_by, filter, filter_map, list_all, list_any}
+use Rattle.std.proofs.lemmas.Bool.{eqb-true, eq-eqb, ne_eqb}
+use Rattle.std.proofs.lemmas.Bool.Decides.{nat_tests}
 use Rattle.std.proofs.lemmas.List.{take_more}
-use Rattle.std.proofs.lemmas.List.Elements.{filter_map-append}
+use Rattle.std.proofs.lemmas.List.Elements.{filter_map-append, filter_more}
 use Rattle.std.proofs.lemmas.List.Folds.{list_any_none, list_any_at, list_any-append}
+use Rattle.std.proofs.lemmas.List.Sums.{sum_by-cons, count_by-le-length}
 use Rattle.judges.specs.declared.outcomes.Outcome.{Outcome}
 use Rattle.sweep.specs.Adding.{decisions_plus, of_outcome, tick_or_zero, with_value}
-use Rattle.sweep.specs.Columns.{IsNoneOr, IsGreatest, AreDecisionSums, decision_tick, noted_round, do_differ}
+use Rattle.sweep.specs.Columns.{AreDecisionSums}
 use Rattle.sweep.specs.Fitting.{AreDecisionsWithin}
+use Rattle.sweep.specs.OneRun.{decision_tick, do_differ}
 use Rattle.sweep.specs.declared.columns.DecisionSums.{DecisionSums}
-use Rattle.sweep.specs.declared.run_numbers.Values.{Values}
+use Rattle.sweep.specs.declared.decisions.Values.{Values}
 use Rattle.sweep.proofs.Added.{decisions_added, decisions_within}
+use Rattle.sweep.proofs.Greatest.{greatest_one}
 
 -- of the first elements, with one more
 pub gathered_more : {X Y : Type 0} (h : X → Option Y) (xs : List X) (i : ℕ) (x : X) → i < length xs → x ≡ get_or xs i x → filter_map h (take (i + 1) xs) ≡ filter_map h (take i xs) ++ cons_option (h x) []
 gathered_more h xs i x lt is =
     ap (filter_map h) (take_more xs i x lt) ∙ filter_map-append h (take i xs) (get_or xs i x ∷ []) ∙ ap (λ y. filter_map h (take i xs) ++ cons_option (h y) []) (sym is)
 
--- the greatest of one value, if there is one
-pub one_greatest : (o : Option ℕ) → IsNoneOr IsGreatest (cons_option o []) o
-one_greatest None = refl
-one_greatest (Some v) = record { value = (0, omega arith, refl); greatest = only }
-  where
-    only : All (λ w. w ≤ v) (v ∷ [])
-    only zero d lt = omega arith
-    only (suc k) d lt = absurd (omega (arith, lt))
+pub filtered_more : {X : Type 0} (p : X → Bool) (xs : List X) (i : ℕ) (x : X) → i < length xs → x ≡ get_or xs i x → filter p (take (i + 1) xs) ≡ filter p (take i xs) ++ cond (p x) (x ∷ []) []
+filtered_more p xs i x lt is = filter_more p xs i x lt ∙ ap (λ y. filter p (take i xs) ++ cond (p y) (y ∷ []) []) (sym is)
 
 one_tick : (o : Option ℕ) → tick_or_zero o ≡ sum (cons_option o [])
 one_tick None = refl
@@ -33,10 +31,10 @@ one_tick (Some v) = omega arith
 
 one_outcome : (o : Outcome) → AreDecisionSums (o ∷ []) (of_outcome o)
 one_outcome o = record {
+  to_decide = refl;
   decided = omega arith;
   decision_tick_sum = one_tick (decision_tick o);
-  decision_tick_max = one_greatest (decision_tick o);
-  rounds_max = one_greatest (noted_round o);
+  decision_tick_max = sym (greatest_one (decision_tick o));
 }
 
 module _ (os : List Outcome) (i : ℕ) (o : Outcome) (s : DecisionSums) (lt : i < length os) (short : length os < 2 ^ 63) (is : o ≡ get_or os i o) (w : AreDecisionsWithin (i * 2 ^ 64) s) (v : AreDecisionsWithin (2 ^ 64) (of_outcome o)) where
@@ -47,6 +45,20 @@ module _ (os : List Outcome) (i : ℕ) (o : Outcome) (s : DecisionSums) (lt : i 
 
   pub outcome_within : AreDecisionsWithin ((i + 1) * 2 ^ 64) (decisions_plus s (of_outcome o))
   outcome_within = subst (λ m. AreDecisionsWithin m (decisions_plus s (of_outcome o))) (omega arith) (decisions_within (take i os) (o ∷ []) s (of_outcome o) (i * 2 ^ 64) (2 ^ 64) (omega arith) w v)
+
+-- each passes just where as many pass as there are
+pub all_counted : {X : Type 0} (p : X → Bool) (xs : List X) → (count_by p xs == length xs) ≡ list_all p xs
+all_counted p [] = refl
+all_counted {X} p (x ∷ xs) = ap (λ n. n == length (x ∷ xs)) (sum_by-cons (λ y. cond (p y) 1 0) x xs) ∙ by (p x) (all_counted p xs)
+  where
+    next : (m n : ℕ) → (1 + m == suc n) ≡ (m == n)
+    next m n = grind (arith, nat_tests)
+
+    by : (b : Bool) → (count_by p xs == length xs) ≡ list_all p xs → (cond b 1 0 + count_by p xs == length (x ∷ xs)) ≡ (b && list_all p xs)
+    by true later = next (count_by p xs) (length xs) ∙ later
+    by false later =
+        let few : count_by p xs ≤ length xs = count_by-le-length p xs in
+        ne_eqb (0 + count_by p xs) (length (x ∷ xs)) (λ e. omega (arith, few, e))
 
 -- ---- values that differ
 

@@ -1,15 +1,18 @@
 -- Sums of sums. They stay at the greatest number of their types, should they reach it.
-use Rattle.std.specs.Prelude.{ℕ, ◌+◌, ◌-◌, ◌^◌, min, max, ◌==◌, ◌||◌, not, Option, None, Some, if◌then◌else◌, is_some}
+use Rattle.std.specs.Prelude.{ℕ, ◌+◌, ◌-◌, ◌^◌, min, ◌==◌, ◌||◌, Bool, true, false, not, nat_lt, Option, None, Some, if◌then◌else◌, is_some}
 use Rattle.judges.specs.declared.outcomes.Outcome.{Outcome}
 use Rattle.judges.specs.declared.verdicts.Verdicts.{Verdicts}
 use Rattle.reporting.specs.declared.pair_measures.PairMeasures.{PairMeasures}
-use Rattle.sweep.specs.Columns.{is_undetected, has_decided, decision_tick, noted_round}
+use Rattle.sweep.specs.OneRun.{is_undetected, is_at_once, has_decided, decision_tick}
+use Rattle.sweep.specs.Percentile.{greater}
 use Rattle.sweep.specs.declared.columns.DecisionSums.{DecisionSums}
+use Rattle.sweep.specs.declared.columns.FirstRuns.{FirstRuns}
 use Rattle.sweep.specs.declared.columns.LayerSums.{LayerSums}
 use Rattle.sweep.specs.declared.columns.PairSums.{PairSums}
+use Rattle.sweep.specs.declared.columns.RunCounts.{RunCounts}
 use Rattle.sweep.specs.declared.columns.TraceSums.{TraceSums}
 use Rattle.sweep.specs.declared.columns.VerdictCounts.{VerdictCounts}
-use Rattle.sweep.specs.declared.run_numbers.Values.{Values}
+use Rattle.sweep.specs.declared.decisions.Values.{Values}
 
 -- of 128 bits, and of 64
 abbrev pub plus : ℕ → ℕ → ℕ
@@ -17,12 +20,6 @@ plus a b = min (a + b) (2 ^ 128 - 1)
 
 abbrev pub plus_few : ℕ → ℕ → ℕ
 plus_few a b = min (a + b) (2 ^ 64 - 1)
-
--- the greater of two, if there is one
-abbrev pub greater : Option ℕ → Option ℕ → Option ℕ
-greater None b = b
-greater (Some a) None = Some a
-greater (Some a) (Some b) = Some (max a b)
 
 abbrev pub traces_plus : TraceSums → TraceSums → TraceSums
 traces_plus a b = record {
@@ -42,6 +39,7 @@ pairs_plus a b = record {
   good_sum = plus a.good_sum b.good_sum;
   good_count = plus a.good_count b.good_count;
   undetected = plus a.undetected b.undetected;
+  at_once = plus a.at_once b.at_once;
 }
 
 abbrev pub verdicts_plus : VerdictCounts → VerdictCounts → VerdictCounts
@@ -56,10 +54,18 @@ verdicts_plus a b = record {
 
 abbrev pub decisions_plus : DecisionSums → DecisionSums → DecisionSums
 decisions_plus a b = record {
+  to_decide = plus a.to_decide b.to_decide;
   decided = plus a.decided b.decided;
   decision_tick_sum = plus a.decision_tick_sum b.decision_tick_sum;
   decision_tick_max = greater a.decision_tick_max b.decision_tick_max;
-  rounds_max = greater a.rounds_max b.rounds_max;
+}
+
+abbrev pub counts_plus : RunCounts → RunCounts → RunCounts
+counts_plus a b = record {
+  with_mistakes = plus_few a.with_mistakes b.with_mistakes;
+  all_decided = plus_few a.all_decided b.all_decided;
+  undecided = plus_few a.undecided b.undecided;
+  disagreements = plus_few a.disagreements b.disagreements;
 }
 
 abbrev pub layer_plus : LayerSums → LayerSums → LayerSums
@@ -69,9 +75,10 @@ layer_plus a b = record {
   traces = traces_plus a.traces b.traces;
   pair_ticks = plus a.pair_ticks b.pair_ticks;
   pairs = pairs_plus a.pairs b.pairs;
+  mistakes_squared_sum = plus a.mistakes_squared_sum b.mistakes_squared_sum;
   verdicts = verdicts_plus a.verdicts b.verdicts;
   decisions = decisions_plus a.decisions b.decisions;
-  disagreements = plus_few a.disagreements b.disagreements;
+  counts = counts_plus a.counts b.counts;
 }
 
 -- ---- what one thing adds
@@ -87,6 +94,7 @@ of_pair m = record {
   good_sum = m.good_sum;
   good_count = m.good_count;
   undetected = if is_undetected m.detection then 1 else 0;
+  at_once = if is_at_once m.detection then 1 else 0;
 }
 
 abbrev pub of_verdicts : Verdicts → VerdictCounts
@@ -105,10 +113,10 @@ tick_or_zero (Some t) = t
 
 abbrev pub of_outcome : Outcome → DecisionSums
 of_outcome o = record {
+  to_decide = 1;
   decided = if has_decided o then 1 else 0;
   decision_tick_sum = tick_or_zero (decision_tick o);
   decision_tick_max = decision_tick o;
-  rounds_max = noted_round o;
 }
 
 -- the first of some values with one more, and whether one differs from it
@@ -118,3 +126,24 @@ with_value values (Some v) = elim values.first [
   | None ↦ record { first = Some v; differ = values.differ }
   | Some w ↦ record { first = Some w; differ = values.differ || not (w == v) }
 ]
+
+-- ---- the first run
+
+-- the number that was found before, or else this one, where it is found
+abbrev pub first_of : Option ℕ → Bool → (number : ℕ) → Option ℕ
+first_of (Some before) found number = Some before
+first_of None found number = if found then Some number else None
+
+-- whether a value is greater than another, where none is less than any
+abbrev pub is_above : Option ℕ → Option ℕ → Bool
+is_above None b = false
+is_above (Some a) None = true
+is_above (Some a) (Some b) = nat_lt b a
+
+-- with one more run of this number, alone counted so
+abbrev pub first_with : FirstRuns → (number : ℕ) → RunCounts → (is_longest : Bool) → FirstRuns
+first_with f number counts is_longest = record {
+  mistake = first_of f.mistake (nat_lt 0 counts.with_mistakes) number;
+  detection_max = if is_longest then Some number else f.detection_max;
+  disagreement = first_of f.disagreement (nat_lt 0 counts.disagreements) number;
+}

@@ -1,26 +1,22 @@
 -- What a row tells of a point's runs on a layer: sums, counts, percentiles and maxima over all of them.
-use Rattle.std.specs.Prelude.{◌≡◌, ℕ, ◌≤◌, ◌==◌, Bool, true, false, not, if◌then◌else◌, is_some, Option, None, Some, MatchOption, List, [], length, All, Contains}
+use Rattle.std.specs.Prelude.{◌≡◌, ℕ, ◌+◌, ◌*◌, ◌/◌, ◌==◌, Bool, true, false, if◌then◌else◌, is_some, Option, None, Some, List, [], ◌∷◌, length}
 use Rattle.std.specs.List.{count_by, filter, filter_map, flat_map, list_any, sum, sum_by}
-use Rattle.judges.specs.Outcomes.{outcomes}
 use Rattle.judges.specs.Verdicts.{verdicts}
-use Rattle.judges.specs.declared.outcomes.Answer.{Answer}
-use Rattle.judges.specs.declared.outcomes.Answer.TheVariants as answer
 use Rattle.judges.specs.declared.outcomes.Outcome.{Outcome}
 use Rattle.judges.specs.declared.verdicts.Verdicts.{Verdicts}
-use Rattle.process_api.specs.EntryRecord.{EntryRecord}
-use Rattle.reporting.specs.Measures.{layers, layer_measures}
-use Rattle.reporting.specs.Watched.{watched_ticks}
-use Rattle.reporting.specs.declared.pair_measures.Detection.{Detection}
-use Rattle.reporting.specs.declared.pair_measures.Detection.TheVariants.{Na, NoTick, At}
+use Rattle.reporting.specs.Measures.{layers}
 use Rattle.reporting.specs.declared.pair_measures.PairMeasures.{PairMeasures}
 use Rattle.scenario_record.specs.Record.{Record}
-use Rattle.sweep.specs.Percentile.{IsPercentile}
+use Rattle.sweep.specs.OneRun.{Finished, is_undetected, is_at_once, counted_pairs, pair_ticks, mistakes, has_mistake, detections, has_decided, decision_tick, run_outcomes, deciding, do_disagree, do_all_decide, is_undecided, last_decision, top_round}
+use Rattle.sweep.specs.Percentile.{greatest, IsPercentile}
 use Rattle.sweep.specs.Results.{RunResult, finished, limited, Trial}
 use Rattle.sweep.specs.declared.columns.Columns.{Columns}
 use Rattle.sweep.specs.declared.columns.DecisionSums.{DecisionSums}
-use Rattle.sweep.specs.declared.columns.DetectionTimes.{DetectionTimes}
+use Rattle.sweep.specs.declared.columns.Distribution.{Distribution}
+use Rattle.sweep.specs.declared.columns.FirstRuns.{FirstRuns}
 use Rattle.sweep.specs.declared.columns.LayerSums.{LayerSums}
 use Rattle.sweep.specs.declared.columns.PairSums.{PairSums}
+use Rattle.sweep.specs.declared.columns.RunCounts.{RunCounts}
 use Rattle.sweep.specs.declared.columns.TraceSums.{TraceSums}
 use Rattle.sweep.specs.declared.columns.VerdictCounts.{VerdictCounts}
 
@@ -38,11 +34,6 @@ abbrev pub is_limited : RunResult → Bool
 is_limited (finished trace) = false
 is_limited limited = true
 
--- a run that is done
-pub record Finished : Type 0 where
-  pub scenario : Record
-  pub trace : List EntryRecord
-
 abbrev pub finish_of : Record → RunResult → Option Finished
 finish_of S (finished trace) = Some (record { scenario = S; trace = trace })
 finish_of S limited = None
@@ -51,61 +42,31 @@ finish_of S limited = None
 abbrev pub finished_of : List Trial → List Finished
 finished_of trials = filter_map (λ t. finish_of t.scenario t.result) trials
 
--- ---- what one run tells
+-- those of the runs that have the layer and are done
+abbrev pub done_on : (layer : ℕ) → List Trial → List Finished
+done_on layer trials = finished_of (on_layer layer trials)
 
-abbrev pub detection_time : Detection → Option ℕ
-detection_time Na = None
-detection_time NoTick = None
-detection_time (At ticks) = Some ticks
+-- ---- what is told of values
 
-abbrev pub is_undetected : Detection → Bool
-is_undetected Na = false
-is_undetected NoTick = true
-is_undetected (At ticks) = false
+-- how many they are, their sum, the percentiles and the greatest, where so many infinite ones come after them
+pub record IsDistribution (values : List ℕ) (infinite : ℕ) (d : Distribution) : Type 0 where
+  pub many : d.count ≡ length values
+  pub total : d.sum ≡ sum values
+  pub p50 : IsPercentile 50 values infinite d.p50
+  pub p90 : IsPercentile 90 values infinite d.p90
+  pub p99 : IsPercentile 99 values infinite d.p99
+  pub highest : d.greatest ≡ greatest values
 
-abbrev pub decided_value : Answer → Option ℕ
-decided_value answer.None = None
-decided_value answer.NoValue = None
-decided_value (answer.Value value) = Some value
+-- a quotient, rounded down; nothing where there is nothing to divide by
+abbrev pub over : ℕ → ℕ → Option ℕ
+over a b = if b == 0 then None else Some (a / b)
 
-abbrev pub has_decided : Outcome → Bool
-has_decided o = is_some (decided_value o.value)
-
--- the tick at which a process decided a value
-abbrev pub decision_tick : Outcome → Option ℕ
-decision_tick o = if has_decided o then o.tick else None
-
--- the greatest round that a process noted
-abbrev pub noted_round : Outcome → Option ℕ
-noted_round o = if o.rounds == 0 then None else Some o.rounds
-
--- whether two of the values differ
-abbrev pub do_differ : List ℕ → Bool
-do_differ values = list_any (λ v. list_any (λ w. not (v == w)) values) values
-
--- whether two processes decided different values
-abbrev pub do_disagree : List Outcome → Bool
-do_disagree all = do_differ (filter_map (λ o. decided_value o.value) all)
+-- the number of the first that passes a test, where the first of all has this number
+abbrev pub first_number : {X : Type 0} → (X → Bool) → (number : ℕ) → List X → Option ℕ
+first_number passes number [] = None
+first_number passes number (x ∷ xs) = if passes x then Some number else first_number passes (number + 1) xs
 
 -- ---- what all of them tell
-
--- the greatest of the values
-pub record IsGreatest (values : List ℕ) (v : ℕ) : Type 0 where
-  pub value : Contains values v
-  pub greatest : All (λ w. w ≤ v) values
-
--- nothing where there are no values
-abbrev pub IsNoneOr : (List ℕ → ℕ → Type 0) → List ℕ → Option ℕ → Type 0
-IsNoneOr Is values o = MatchOption o (values ≡ []) (Is values)
-
--- the values whose percentiles a row tells
-pub record AreTimes (values : List ℕ) (s : DetectionTimes) : Type 0 where
-  pub detections : s.detections ≡ length values
-  pub detection_sum : s.detection_sum ≡ sum values
-  pub detection_p50 : IsNoneOr (IsPercentile 50) values s.detection_p50
-  pub detection_p90 : IsNoneOr (IsPercentile 90) values s.detection_p90
-  pub detection_p99 : IsNoneOr (IsPercentile 99) values s.detection_p99
-  pub detection_max : IsNoneOr IsGreatest values s.detection_max
 
 pub record AreTraceSums (runs : List Finished) (s : TraceSums) : Type 0 where
   pub entries : s.entries ≡ sum_by (λ r. length r.trace) runs
@@ -122,26 +83,16 @@ pub record ArePairSums (pairs : List PairMeasures) (s : PairSums) : Type 0 where
   pub good_sum : s.good_sum ≡ sum_by (λ m. m.good_sum) pairs
   pub good_count : s.good_count ≡ sum_by (λ m. m.good_count) pairs
   pub undetected : s.undetected ≡ count_by (λ m. is_undetected m.detection) pairs
+  pub at_once : s.at_once ≡ count_by (λ m. is_at_once m.detection) pairs
 
--- the times of the detections
-abbrev pub times_of : List PairMeasures → List ℕ
-times_of pairs = filter_map (λ m. detection_time m.detection) pairs
-
-pub record AreDecisionSums (outcomes : List Outcome) (s : DecisionSums) : Type 0 where
-  pub decided : s.decided ≡ count_by has_decided outcomes
-  pub decision_tick_sum : s.decision_tick_sum ≡ sum (filter_map decision_tick outcomes)
-  pub decision_tick_max : IsNoneOr IsGreatest (filter_map decision_tick outcomes) s.decision_tick_max
-  pub rounds_max : IsNoneOr IsGreatest (filter_map noted_round outcomes) s.rounds_max
-
--- the outcomes of all processes of a run
-abbrev pub run_outcomes : Finished → List Outcome
-run_outcomes r = outcomes r.trace r.scenario.processes
+-- of the outcomes of the processes that are to decide
+pub record AreDecisionSums (all : List Outcome) (s : DecisionSums) : Type 0 where
+  pub to_decide : s.to_decide ≡ length all
+  pub decided : s.decided ≡ count_by has_decided all
+  pub decision_tick_sum : s.decision_tick_sum ≡ sum (filter_map decision_tick all)
+  pub decision_tick_max : s.decision_tick_max ≡ greatest (filter_map decision_tick all)
 
 module _ (layer : ℕ) where
-  -- the measures of all pairs of all runs
-  abbrev pub all_pairs : List Finished → List PairMeasures
-  all_pairs runs = flat_map (λ r. layer_measures r.scenario r.trace layer) runs
-
   -- in how many runs a verdict holds
   abbrev pub count_verdicts : (Verdicts → Bool) → List Finished → ℕ
   count_verdicts holds runs = count_by (λ r. holds (verdicts r.scenario r.trace layer)) runs
@@ -155,25 +106,65 @@ module _ (layer : ℕ) where
         ≡ count_verdicts (λ v. is_some v.eventual_strong_accuracy) runs
     pub eventual_weak_accuracy : s.eventual_weak_accuracy ≡ count_verdicts (λ v. is_some v.eventual_weak_accuracy) runs
 
+  -- in how many runs something is so
+  pub record AreRunCounts (runs : List Finished) (s : RunCounts) : Type 0 where
+    pub with_mistakes : s.with_mistakes ≡ count_by (has_mistake layer) runs
+    pub all_decided : s.all_decided ≡ count_by (λ r. do_all_decide (deciding r)) runs
+    pub undecided : s.undecided ≡ count_by (λ r. is_undecided (deciding r)) runs
+    pub disagreements : s.disagreements ≡ count_by (λ r. do_disagree (run_outcomes r)) runs
+
+  -- the measures of all pairs of the runs that count
+  abbrev pub all_pairs : List Finished → List PairMeasures
+  all_pairs runs = flat_map (counted_pairs layer) runs
+
   -- what the runs that are done add up to
   pub record AreDoneSums (runs : List Finished) (s : LayerSums) : Type 0 where
     pub traces : AreTraceSums runs s.traces
-    pub pair_ticks : s.pair_ticks ≡ sum_by (λ r. watched_ticks r.scenario) runs
+    pub pair_ticks : s.pair_ticks ≡ sum_by (pair_ticks layer) runs
     pub pairs : ArePairSums (all_pairs runs) s.pairs
+    pub mistakes_squared_sum : s.mistakes_squared_sum ≡ sum_by (λ r. mistakes layer r * mistakes layer r) runs
     pub verdicts : AreVerdictCounts runs s.verdicts
-    pub decisions : AreDecisionSums (flat_map run_outcomes runs) s.decisions
-    pub disagreements : s.disagreements ≡ count_by (λ r. do_disagree (run_outcomes r)) runs
-
-  -- those of the runs that have the layer and are done
-  abbrev pub done_on : List Trial → List Finished
-  done_on trials = finished_of (on_layer layer trials)
+    pub decisions : AreDecisionSums (flat_map deciding runs) s.decisions
+    pub counts : AreRunCounts runs s.counts
 
   pub record AreLayerSums (trials : List Trial) (s : LayerSums) : Type 0 where
     pub runs : s.runs ≡ length (on_layer layer trials)
     pub limited : s.limited ≡ count_by (λ t. is_limited t.result) (on_layer layer trials)
-    pub done : AreDoneSums (done_on trials) s
+    pub done : AreDoneSums (done_on layer trials) s
 
-  -- what the layer's row tells of the runs
-  pub record AreColumns (trials : List Trial) (c : Columns) : Type 0 where
-    pub sums : AreLayerSums trials c.sums
-    pub times : AreTimes (times_of (all_pairs (done_on trials))) c.times
+  -- the times of all detections, the ticks of the last decisions, and the greatest rounds
+  abbrev pub all_detections : List Trial → List ℕ
+  all_detections trials = flat_map (detections layer) (done_on layer trials)
+
+  abbrev pub last_decisions : List Trial → List ℕ
+  last_decisions trials = filter_map (λ r. last_decision (deciding r)) (done_on layer trials)
+
+  abbrev pub top_rounds : List Trial → List ℕ
+  top_rounds trials = filter_map (λ r. top_round (run_outcomes r)) (done_on layer trials)
+
+  -- whether a run has the layer, is done, and passes a test
+  abbrev pub does : (Finished → Bool) → Trial → Bool
+  does passes t = list_any passes (done_on layer (t ∷ []))
+
+  -- of the runs from the first on that have a detection after so many ticks, the number of the first
+  abbrev pub first_after : (first : ℕ) → List Trial → Option ℕ → Option ℕ
+  first_after first trials None = None
+  first_after first trials (Some v) =
+      first_number (does (λ r. list_any (λ t. t == v) (detections layer r))) first trials
+
+  module _ (first : ℕ) (trials : List Trial) where
+    -- the numbers of the first runs in which something is so, where all runs are numbered from the first on
+    pub record AreFirstRuns (f : FirstRuns) : Type 0 where
+      pub mistake : f.mistake ≡ first_number (does (has_mistake layer)) first trials
+      pub detection_max : f.detection_max ≡ first_after first trials (greatest (all_detections trials))
+      pub disagreement : f.disagreement ≡ first_number (does (λ r. do_disagree (run_outcomes r))) first trials
+
+    -- what the layer's row tells of the runs
+    pub record AreColumns (c : Columns) : Type 0 where
+      pub sums : AreLayerSums trials c.sums
+      pub mistake_recurrence : c.mistake_recurrence ≡ over c.sums.pair_ticks c.sums.pairs.mistakes
+      pub mistaken_ppm : c.mistaken_ppm ≡ over (1000000 * c.sums.pairs.mistake_ticks) c.sums.pair_ticks
+      pub detections : IsDistribution (all_detections trials) c.sums.pairs.undetected c.detections
+      pub last_decisions : IsDistribution (last_decisions trials) c.sums.counts.undecided c.last_decisions
+      pub rounds : IsDistribution (top_rounds trials) 0 c.rounds
+      pub first_runs : AreFirstRuns c.first_runs

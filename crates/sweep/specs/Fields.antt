@@ -1,9 +1,9 @@
 -- The fields of a line, and lines, as they are formed.
-use Rattle.std.specs.Prelude.{◌≡◌, ℕ, List, [], ◌∷◌, ◌++◌, decimal, false}
+use Rattle.std.specs.Prelude.{◌≡◌, ℕ, List, [], ◌++◌, false}
 use Rattle.csv.specs.Records.{fields_of, partial_of}
 use Rattle.csv.specs.Writing.{default_writer, writer_setup, fields_written, has_written, writer_under, writer_pending}
-use Rattle.sweep.specs.RowText.{trace_fields, mistake_fields, verdict_fields, decision_fields}
-use Rattle.sweep.specs.declared.columns.LayerSums.{LayerSums}
+use Rattle.sweep.specs.RowText.{trace_fields, mistake_fields, period_fields, detection_fields, verdict_fields, decision_fields, last_fields, run_fields}
+use Rattle.sweep.specs.declared.columns.Columns.{Columns}
 use Rattle.sweep.specs.declared.fields.Fields.{Fields}
 use Rattle.sweep.specs.declared.table.Table.{Table}
 
@@ -14,13 +14,20 @@ AreWhole f = partial_of f.row ≡ []
 abbrev pub texts_of : Fields → List (List ℕ)
 texts_of f = fields_of f.row
 
--- the columns before those of the detections, and those after them
-abbrev pub first_fields : LayerSums → List (List ℕ)
-first_fields s =
-    decimal s.runs ∷ decimal s.limited ∷ [] ++ trace_fields s.traces ++ mistake_fields s.pair_ticks s.pairs
+-- what is told of runs that are done, before the verdicts and from them on
+abbrev pub pair_fields : Columns → List (List ℕ)
+pair_fields c =
+    trace_fields c.sums.traces
+    ++ mistake_fields c
+    ++ period_fields c.sums.pairs
+    ++ detection_fields c.sums.pairs c.detections
 
-abbrev pub last_fields : LayerSums → List (List ℕ)
-last_fields s = verdict_fields s.verdicts ++ decision_fields s.decisions s.disagreements
+abbrev pub outcome_fields : Columns → List (List ℕ)
+outcome_fields c =
+    verdict_fields c.sums.verdicts
+    ++ decision_fields c.sums
+    ++ last_fields c.last_decisions c.rounds
+    ++ run_fields c.sums.counts.disagreements c.first_runs
 
 -- no line is half written
 pub record IsBetweenLines (t : Table) : Type 0 where

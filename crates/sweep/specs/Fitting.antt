@@ -9,9 +9,18 @@ use Rattle.sweep.specs.declared.columns.TraceSums.{TraceSums}
 abbrev pub most_runs : ℕ
 most_runs = 1000000000000
 
--- what is added up of so many runs is at most this: each has at most 130,560 measures, each below 2^64
+-- what is added up of so many runs is at most this: each has fewer than 2^17 measures on a layer, each below 2^64, and
+-- the square of its mistakes is below 2^88
 abbrev pub most_of : (runs : ℕ) → ℕ
 most_of runs = runs * 2 ^ 88
+
+-- so many runs have fewer pairs on a layer than this
+abbrev pub most_pairs : (runs : ℕ) → ℕ
+most_pairs runs = runs * 2 ^ 17
+
+-- and fewer mistakes, and ticks of them: a pair has at most one for each tick, and a run fewer than 2^24 ticks
+abbrev pub most_mistakes : (runs : ℕ) → ℕ
+most_mistakes runs = runs * 2 ^ 41
 
 module _ (most : ℕ) where
   pub record AreTracesWithin (s : TraceSums) : Type 0 where
@@ -29,8 +38,10 @@ module _ (most : ℕ) where
     pub good_sum : s.good_sum ≤ most
     pub good_count : s.good_count ≤ most
     pub undetected : s.undetected ≤ most
+    pub at_once : s.at_once ≤ most
 
   pub record AreDecisionsWithin (s : DecisionSums) : Type 0 where
+    pub to_decide : s.to_decide ≤ most
     pub decided : s.decided ≤ most
     pub decision_tick_sum : s.decision_tick_sum ≤ most
 
@@ -38,4 +49,5 @@ module _ (most : ℕ) where
     pub traces : AreTracesWithin s.traces
     pub pair_ticks : s.pair_ticks ≤ most
     pub pairs : ArePairsWithin s.pairs
+    pub mistakes_squared_sum : s.mistakes_squared_sum ≤ most
     pub decisions : AreDecisionsWithin s.decisions

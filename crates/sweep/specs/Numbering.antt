@@ -1,15 +1,17 @@
 -- The runs of a study by numbers: those of its points, one point after the other.
-use Rattle.std.specs.Prelude.{◌≡◌, ℕ, ◌+◌, ◌/◌, ◌%◌, ◌≤◌, ◌<◌, List, length, slice_index_or, Result, IfOk}
+use Rattle.std.specs.Prelude.{◌≡◌, ℕ, ◌+◌, ◌*◌, ◌/◌, ◌%◌, ◌≤◌, ◌<◌, List, length, slice_index_or, Result, IfOk}
 use Rattle.toml.specs.Data.{Members}
 use Rattle.study.specs.Grid.{GridRecord, runs}
 use Rattle.study.specs.Placed.{table_of_run}
 use Rattle.study.specs.declared.error.PlaceError.{PlaceError}
-use Rattle.sweep.specs.Outcome.{run_at, HasScenario, IsRefused}
+use Rattle.sweep.specs.Outcome.{HasScenario, IsRefused}
 use Rattle.sweep.specs.Results.{Trial}
-use Rattle.sweep.specs.StudyText.{point_at, IsTrialOf}
+use Rattle.sweep.specs.StudyText.{point_at, run_at, IsTrialOf}
 use Rattle.sweep.specs.Sums.{AreNumbers}
 use Rattle.sweep.specs.declared.error.SweepError.{SweepError}
 use Rattle.sweep.specs.declared.error.SweepError.TheVariants as error
+use Rattle.sweep.specs.declared.layout.Rows.{Rows}
+use Rattle.sweep.specs.declared.layout.Rows.TheVariants as kind
 use Rattle.sweep.specs.declared.run_numbers.RunNumbers.{RunNumbers}
 
 -- the point of a run's number, and the run of the point
@@ -22,6 +24,15 @@ run_of_point g number = number % length (runs g)
 -- the table of a run's number
 abbrev pub table_at : Members → GridRecord → ℕ → Result Members PlaceError
 table_at file g number = table_of_run (point_at g (point_of g number)) (run_at g (run_of_point g number)) file
+
+-- how many runs a unit has, and how many units so many points have
+abbrev pub runs_each : Rows → GridRecord → ℕ
+runs_each kind.Points g = length (runs g)
+runs_each kind.Runs g = 1
+
+abbrev pub unit_count : Rows → GridRecord → (points : ℕ) → ℕ
+unit_count kind.Points g points = points
+unit_count kind.Runs g points = points * length (runs g)
 
 module _ (file : Members) (g : GridRecord) where
   abbrev pub HasScenarioAt : ℕ → Type 0
@@ -52,7 +63,7 @@ module _ (file : Members) (g : GridRecord) where
   abbrev pub IsAnswerAt : {E : Type 0} → ℕ → Result RunNumbers E → Type 0
   IsAnswerAt number r = IfOk r (AreNumbersAt number)
 
-  -- the answers of the runs whose numbers follow one another
-  abbrev pub AreAnswersFrom : {E : Type 0} → (first : ℕ) → List (Result RunNumbers E) → Type 0
-  AreAnswersFrom {E} first answers =
-      (i : ℕ) (d : Result RunNumbers E) → i < length answers → IsAnswerAt (first + i) (slice_index_or answers i d)
+  -- the numbers of the runs whose numbers follow one another
+  abbrev pub AreNumbersFrom : (first : ℕ) → List RunNumbers → Type 0
+  AreNumbersFrom first all =
+      (i : ℕ) (d : RunNumbers) → i < length all → AreNumbersAt (first + i) (slice_index_or all i d)

@@ -1,54 +1,57 @@
 -- How far a sweep has come.
-use Rattle.std.specs.Prelude.{ℕ, ◌-◌, ◌≤◌, ◌<◌, List, length, take, Option}
+use Rattle.std.specs.Prelude.{ℕ, ◌-◌, ◌≤◌, ◌<◌, List, take, Option}
 use Rattle.std.specs.List.{AllZip, range_with_len}
 use Rattle.toml.specs.Data.{Members}
 use Rattle.reporting.specs.Writing.{Wrote, WrotePart, WroteNothing}
-use Rattle.study.specs.Grid.{GridRecord, runs}
+use Rattle.study.specs.Grid.{GridRecord}
 use Rattle.study.specs.Shard.{ShardRecord}
+use Rattle.sweep.specs.Layout.{LayoutRecord}
+use Rattle.sweep.specs.Numbering.{runs_each}
 use Rattle.sweep.specs.Results.{Trial}
 use Rattle.sweep.specs.RowText.{Text}
-use Rattle.sweep.specs.StudyText.{point_at, header_of, IsTrialOf, HasRowsOf}
+use Rattle.sweep.specs.StudyText.{point_at, unit_point, unit_runs, unit_first, header_of, IsTrialOf, HasRowsOf}
 use Rattle.sweep.specs.Sums.{AreSums}
 use Rattle.sweep.specs.declared.error.SweepError.{SweepError}
 use Rattle.sweep.specs.declared.error.SweepError.TheVariants as error
 use Rattle.sweep.specs.declared.progress.Progress.{Progress}
 
-module _ (file : Members) (g : GridRecord) where
-  -- the first runs of a point are added up
+module _ (file : Members) (g : GridRecord) (layout : LayoutRecord) where
+  -- the first runs of a unit are added up
   pub record AreAdded (p : Progress) : Type 0 where
     pub trials : List Trial
-    pub each : AllZip (IsTrialOf file (point_at g p.point)) (take p.run (runs g)) trials
-    pub summed : AreSums trials p.sums
-    pub run_low : p.run < length (runs g)
+    pub each : AllZip (IsTrialOf file (point_at g (unit_point layout.rows g p.unit)))
+        (take p.run (unit_runs layout.rows g p.unit)) trials
+    pub summed : AreSums (unit_first layout.rows g p.unit) trials p.sums
+    pub run_low : p.run < runs_each layout.rows g
 
   module _ {O : Type 0} (told : O → Option Text) (failed : O → ℕ) (old new : O) (begin : ℕ) where
-    -- the rows of all points from the first up to this one went out
-    pub record WroteUpTo (point : ℕ) : Type 0 where
+    -- the rows of all units from the first up to this one went out
+    pub record WroteUpTo (unit : ℕ) : Type 0 where
       pub text : Text
-      pub has : HasRowsOf file g (range_with_len begin (point - begin)) text
+      pub has : HasRowsOf file g layout (range_with_len begin (unit - begin)) text
       pub wrote : Wrote told failed old new text
-      pub order : begin ≤ point
+      pub order : begin ≤ unit
 
     -- a front part of these went out
-    pub record WroteFrontUpTo (point : ℕ) : Type 0 where
+    pub record WroteFrontUpTo (unit : ℕ) : Type 0 where
       pub text : Text
-      pub has : HasRowsOf file g (range_with_len begin (point - begin)) text
+      pub has : HasRowsOf file g layout (range_with_len begin (unit - begin)) text
       pub wrote : WrotePart told failed old new text
-      pub order : begin ≤ point
+      pub order : begin ≤ unit
 
     pub record IsUnderWay (p : Progress) : Type 0 where
-      pub out : WroteUpTo p.point
+      pub out : WroteUpTo p.unit
       pub added : AreAdded p
 
-    -- it came to no end, at a point below this one
+    -- it came to no end, at a unit below this one
     abbrev pub StopsBelow : (end : ℕ) → SweepError → Type 0
     StopsBelow end (error.Refused point run reason) = ⊥
-    StopsBelow end error.Memory = (point : ℕ) × (point ≤ end) × WroteUpTo point
-    StopsBelow end error.Write = (point : ℕ) × (point ≤ end) × WroteFrontUpTo point
+    StopsBelow end error.Memory = (unit : ℕ) × (unit ≤ end) × WroteUpTo unit
+    StopsBelow end error.Write = (unit : ℕ) × (unit ≤ end) × WroteFrontUpTo unit
 
 -- the header of a shard could not be written whole
-abbrev pub HeaderFails : GridRecord → ShardRecord → {O : Type 0} (told : O → Option Text) (failed : O → ℕ) (old new : O)
-    → SweepError → Type 0
-HeaderFails g shard told failed old new (error.Refused point run reason) = ⊥
-HeaderFails g shard told failed old new error.Memory = WroteNothing told failed old new
-HeaderFails g shard told failed old new error.Write = WrotePart told failed old new (header_of g shard)
+abbrev pub HeaderFails : GridRecord → ShardRecord → LayoutRecord → {O : Type 0} (told : O → Option Text)
+    (failed : O → ℕ) (old new : O) → SweepError → Type 0
+HeaderFails g shard layout told failed old new (error.Refused point run reason) = ⊥
+HeaderFails g shard layout told failed old new error.Memory = WroteNothing told failed old new
+HeaderFails g shard layout told failed old new error.Write = WrotePart told failed old new (header_of g shard layout)

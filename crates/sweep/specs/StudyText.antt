@@ -1,14 +1,17 @@
--- The text of a study: the rows of its points, which tell what became of all runs.
-use Rattle.std.specs.Prelude.{◌≡◌, ◌==◌, ℕ, if◌then◌else◌, List, [], ◌++◌, length, get_or}
+-- The text of a study: rows that tell what became of all runs, of those of a point together or of each alone.
+use Rattle.std.specs.Prelude.{◌≡◌, ◌==◌, ℕ, ◌+◌, ◌*◌, ◌/◌, ◌%◌, if◌then◌else◌, List, [], ◌∷◌, ◌++◌, length, map, get_or, codes, decimal}
 use Rattle.std.specs.List.{AllZip, flat_map, range_with_len}
 use Rattle.toml.specs.Data.{Members}
-use Rattle.study.specs.Settings.{Chosen}
+use Rattle.study.specs.Settings.{Path, Chosen, key_text, given_text}
 use Rattle.study.specs.Grid.{GridRecord, RunRecord, points, keys, runs}
 use Rattle.study.specs.Placed.{table_of_run}
 use Rattle.study.specs.Runs.{IsScenarioOf}
 use Rattle.study.specs.Shard.{ShardRecord, block}
+use Rattle.sweep.specs.Layout.{LayoutRecord}
 use Rattle.sweep.specs.Results.{Trial, IsTrial}
-use Rattle.sweep.specs.RowText.{Text, header_text, ArePointRows}
+use Rattle.sweep.specs.RowText.{Text, column_names, header_text, AreRowsFor}
+use Rattle.sweep.specs.declared.layout.Rows.{Rows}
+use Rattle.sweep.specs.declared.layout.Rows.TheVariants as kind
 
 -- what became of a run of a point: its scenario is that of the file's table with the settings of both
 pub record IsTrialOf (file : Members) (settings : List Chosen) (run : RunRecord) (t : Trial) : Type 0 where
@@ -19,45 +22,110 @@ pub record IsTrialOf (file : Members) (settings : List Chosen) (run : RunRecord)
 abbrev pub point_at : GridRecord → ℕ → List Chosen
 point_at g number = get_or (points g) number []
 
+-- the run of this number, from 0; what stands for a number that is too high is never asked for
+abbrev pub run_at : GridRecord → ℕ → RunRecord
+run_at g number = get_or (runs g) number (record { settings = []; seed = 0 })
+
 -- the numbers of a shard's points
 abbrev pub numbers_of : GridRecord → ShardRecord → List ℕ
 numbers_of g shard = block (range_with_len 0 (length (points g))) shard
 
+-- ---- units, of which rows tell: the points; or the runs, those of all points one point after the other. Both have
+-- ---- numbers from 0
+
+-- the units of points
+abbrev pub units_in : Rows → GridRecord → (points : List ℕ) → List ℕ
+units_in kind.Points g points = points
+units_in kind.Runs g points = flat_map (λ point. range_with_len (point * length (runs g)) (length (runs g))) points
+
+abbrev pub units_of : Rows → GridRecord → ShardRecord → List ℕ
+units_of rows g shard = units_in rows g (numbers_of g shard)
+
+-- a unit's point, and the runs of the point that its rows tell of
+abbrev pub unit_point : Rows → GridRecord → (unit : ℕ) → ℕ
+unit_point kind.Points g point = point
+unit_point kind.Runs g run = run / length (runs g)
+
+abbrev pub unit_runs : Rows → GridRecord → (unit : ℕ) → List RunRecord
+unit_runs kind.Points g point = runs g
+unit_runs kind.Runs g run = run_at g (run % length (runs g)) ∷ []
+
+-- the number of the first of these among the point's runs, from 1
+abbrev pub unit_first : Rows → GridRecord → (unit : ℕ) → ℕ
+unit_first kind.Points g point = 1
+unit_first kind.Runs g run = run % length (runs g) + 1
+
+-- one of these runs, from 0
+abbrev pub unit_run : Rows → GridRecord → (unit run : ℕ) → RunRecord
+unit_run rows g unit run = get_or (unit_runs rows g unit) run (record { settings = []; seed = 0 })
+
+-- ---- what a row begins with: what the varied keys are set to; and before a run what its own keys are set to, its
+-- ---- seed and its number
+
+abbrev pub values : List Chosen → List Text
+values settings = map (λ s. given_text s.value) settings
+
+abbrev pub run_lead : (point : List Chosen) → RunRecord → (number : ℕ) → List Text
+run_lead point run number =
+    values point ++ values run.settings ++ decimal run.seed ∷ decimal number ∷ []
+
+abbrev pub lead_of : Rows → GridRecord → (unit : ℕ) → List Text
+lead_of kind.Points g point = values (point_at g point)
+lead_of kind.Runs g run =
+    run_lead (point_at g (unit_point kind.Runs g run)) (run_at g (run % length (runs g))) (unit_first kind.Runs g run)
+
+-- the keys that runs set, in order: those of the first
+abbrev pub run_keys : GridRecord → List Path
+run_keys g = map (λ c. c.path) (run_at g 0).settings
+
+-- the names of all columns
+abbrev pub lead_names : Rows → GridRecord → List Text
+lead_names kind.Points g = map key_text (keys g)
+lead_names kind.Runs g = map key_text (keys g) ++ map key_text (run_keys g) ++ codes "seed" ∷ codes "run" ∷ []
+
+abbrev pub names_of : Rows → GridRecord → List Text
+names_of rows g = lead_names rows g ++ codes "layer" ∷ column_names
+
+-- ---- the text
+
 -- the first shard begins with the header
-abbrev pub header_of : GridRecord → ShardRecord → Text
-header_of g shard = if shard.number == 1 then header_text (keys g) else []
+abbrev pub header_of : GridRecord → ShardRecord → LayoutRecord → Text
+header_of g shard layout = if shard.number == 1 then header_text layout.picks (names_of layout.rows g) else []
 
-module _ (file : Members) (g : GridRecord) where
-  -- the rows of a point tell of all its runs
-  pub record AreRowsOf (number : ℕ) (rows : Text) : Type 0 where
+module _ (file : Members) (g : GridRecord) (layout : LayoutRecord) where
+  -- the rows of a point tell of all its runs, those of a run of it alone
+  pub record AreRowsOf (unit : ℕ) (rows : Text) : Type 0 where
     pub trials : List Trial
-    pub each : AllZip (IsTrialOf file (point_at g number)) (runs g) trials
-    pub told : ArePointRows (point_at g number) trials rows
+    pub each : AllZip (IsTrialOf file (point_at g (unit_point layout.rows g unit)))
+        (unit_runs layout.rows g unit) trials
+    pub told : AreRowsFor layout.picks (lead_of layout.rows g unit) (unit_first layout.rows g unit) trials rows
 
-  -- the rows of the points of these numbers, one point after the other
-  pub record HasRowsOf (numbers : List ℕ) (text : Text) : Type 0 where
+  -- the rows of these points or runs, one after the other
+  pub record HasRowsOf (units : List ℕ) (text : Text) : Type 0 where
     pub parts : List Text
-    pub each : AllZip AreRowsOf numbers parts
+    pub each : AllZip AreRowsOf units parts
     pub text_is : text ≡ flat_map (λ rows. rows) parts
 
-  -- a shard's text with the rows of these points
-  pub record IsTextOf (shard : ShardRecord) (numbers : List ℕ) (text : Text) : Type 0 where
+module _ (file : Members) (g : GridRecord) (shard : ShardRecord) (layout : LayoutRecord) where
+  -- a shard's text with the rows of these
+  pub record IsTextOf (units : List ℕ) (text : Text) : Type 0 where
     pub rows : Text
-    pub has : HasRowsOf numbers rows
-    pub text_is : text ≡ header_of g shard ++ rows
+    pub has : HasRowsOf file g layout units rows
+    pub text_is : text ≡ header_of g shard layout ++ rows
 
-  -- the text of a shard has the rows of all its points
-  abbrev pub IsStudyText : ShardRecord → Text → Type 0
-  IsStudyText shard text = IsTextOf shard (numbers_of g shard) text
+  -- the text of a shard has the rows of all its points, or of all their runs
+  abbrev pub IsStudyText : Text → Type 0
+  IsStudyText text = IsTextOf (units_of layout.rows g shard) text
 
   -- ---- laws
 
   -- there is at most one text, however the work was shared out among threads
-  abbrev pub HasOneText : ShardRecord → Type 0
-  HasOneText shard = (a b : Text) → IsStudyText shard a → IsStudyText shard b → a ≡ b
+  abbrev pub HasOneText : Type 0
+  HasOneText = (a b : Text) → IsStudyText a → IsStudyText b → a ≡ b
 
-  -- the texts of so many shards, one after the other, are the text of the whole
-  abbrev pub ShardsMakeWhole : ℕ → Type 0
-  ShardsMakeWhole of = (texts : List Text)
-      → AllZip (λ number text. IsStudyText (record { number = number; of = of }) text) (range_with_len 1 of) texts
-      → IsStudyText (record { number = 1; of = 1 }) (flat_map (λ text. text) texts)
+-- the texts of so many shards, one after the other, are the text of the whole
+abbrev pub ShardsMakeWhole : Members → GridRecord → LayoutRecord → ℕ → Type 0
+ShardsMakeWhole file g layout of = (texts : List Text)
+    → AllZip (λ number text. IsStudyText file g (record { number = number; of = of }) layout text)
+    (range_with_len 1 of) texts
+    → IsStudyText file g (record { number = 1; of = 1 }) layout (flat_map (λ text. text) texts)

@@ -1,33 +1,31 @@
 -- What it is that runs were added up.
-use Rattle.std.specs.Prelude.{◌≡◌, ℕ, ◌*◌, ◌^◌, ◌<◌, ◌≤◌, List, [], ◌∷◌, length}
+use Rattle.std.specs.Prelude.{◌≡◌, ℕ, ◌+◌, ◌*◌, ◌^◌, ◌<◌, ◌≤◌, List, [], ◌∷◌, length}
+use Rattle.std.specs.List.{cons_option}
 use Rattle.judges.specs.Verdicts.{verdicts}
 use Rattle.judges.specs.declared.verdicts.Verdicts.{Verdicts}
 use Rattle.process_api.specs.EntryRecord.{EntryRecord}
 use Rattle.reporting.specs.Measures.{layer_measures}
 use Rattle.reporting.specs.Summary.{IsSummary}
-use Rattle.reporting.specs.Watched.{watched_ticks}
 use Rattle.reporting.specs.declared.pair_measures.PairMeasures.{PairMeasures}
 use Rattle.reporting.specs.declared.summary.Summary.{Summary}
 use Rattle.scenario_record.specs.Ranges.{IsInRange}
 use Rattle.scenario_record.specs.Record.{Record}
-use Rattle.sweep.specs.Columns.{AreLayerSums, all_pairs, done_on, times_of}
-use Rattle.sweep.specs.Fitting.{IsLayerWithin, most_of}
+use Rattle.sweep.specs.Columns.{AreLayerSums, AreFirstRuns, all_detections, last_decisions, top_rounds}
+use Rattle.sweep.specs.Counted.{AreCounted}
+use Rattle.sweep.specs.Fitting.{IsLayerWithin, most_runs, most_of, most_pairs, most_mistakes}
 use Rattle.sweep.specs.Results.{Trial}
-use Rattle.sweep.specs.Times.{AreCounted}
 use Rattle.sweep.specs.declared.columns.LayerSums.{LayerSums}
 use Rattle.sweep.specs.declared.point_sums.LayerTotals.{LayerTotals}
+use Rattle.sweep.specs.declared.point_sums.LayerValues.{LayerValues}
 use Rattle.sweep.specs.declared.point_sums.PointSums.{PointSums}
 use Rattle.sweep.specs.declared.run_numbers.LayerNumbers.{LayerNumbers}
 use Rattle.sweep.specs.declared.run_numbers.RunNumbers.{RunNumbers}
 
--- of a run that is done: the ticks for which its pairs are watched, its summary, and its verdicts and measures on a
--- layer, each in its range
+-- of a run that is done: its summary, and its verdicts and measures on a layer, each in its range
 pub record AreLayerFindings (layer : ℕ) (S : Record) (trace : List EntryRecord)
-    (ticks : ℕ) (summary : Summary) (found : Verdicts) (pairs : List PairMeasures) : Type 0 where
+    (summary : Summary) (found : Verdicts) (pairs : List PairMeasures) : Type 0 where
   pub ranges : IsInRange S
   pub within : length trace ≤ S.limit
-  pub watched : ticks ≡ watched_ticks S
-  pub ticks_high : ticks < 2 ^ 64
   pub summed : IsSummary S trace summary
   pub sent_high : summary.sent ≤ length trace * 2 ^ 32
   pub lost_high : summary.lost ≤ length trace * 2 ^ 32
@@ -35,31 +33,41 @@ pub record AreLayerFindings (layer : ℕ) (S : Record) (trace : List EntryRecord
   pub measured : pairs ≡ layer_measures S trace layer
 
 module _ (layer : ℕ) (trials : List Trial) where
-  -- the detection times on the layer; of each run there are fewer than 2^17
-  abbrev pub layer_times : List ℕ
-  layer_times = times_of (all_pairs layer (done_on layer trials))
-
   pub record AreFitting (s : LayerSums) : Type 0 where
     pub sums : AreLayerSums layer trials s
+    pub few_runs : length trials ≤ most_runs
     pub within : IsLayerWithin (most_of (length trials)) s
-    pub few : length layer_times ≤ length trials * 2 ^ 17
+    pub few_detected : length (all_detections layer trials) ≤ most_pairs (length trials)
+    pub few_undetected : s.pairs.undetected ≤ most_pairs (length trials)
+    pub few_ticks : s.pairs.mistake_ticks ≤ most_mistakes (length trials)
 
   -- what the runs give
   pub record AreLayerNumbers (n : LayerNumbers) : Type 0 where
     pub fitting : AreFitting n.sums
-    pub times : n.times.items ≡ layer_times
+    pub detections : n.detections.items ≡ all_detections layer trials
+    pub last_decision : cons_option n.last_decision [] ≡ last_decisions layer trials
+    pub top_round : cons_option n.top_round [] ≡ top_rounds layer trials
 
-  -- what was added up of them
-  pub record AreLayerTotals (t : LayerTotals) : Type 0 where
+  -- what was counted of them
+  pub record AreLayerValues (v : LayerValues) : Type 0 where
+    pub detected : AreCounted (all_detections layer trials) v.detections
+    pub decided : AreCounted (last_decisions layer trials) v.last_decisions
+    pub rounds : AreCounted (top_rounds layer trials) v.rounds
+
+  -- what was added up of them, numbered from the first on
+  pub record AreLayerTotals (first : ℕ) (t : LayerTotals) : Type 0 where
     pub fitting : AreFitting t.sums
-    pub times : AreCounted layer_times t.times
+    pub values : AreLayerValues t.values
+    pub first_runs : AreFirstRuns layer first trials t.first_runs
 
 -- the numbers are those of this run, on each layer that it has
 pub record AreNumbers (trial : Trial) (n : RunNumbers) : Type 0 where
   pub first : AreLayerNumbers 1 (trial ∷ []) n.first
   pub second : AreLayerNumbers 2 (trial ∷ []) n.second
 
--- the sums are those of these runs
-pub record AreSums (trials : List Trial) (s : PointSums) : Type 0 where
-  pub first : AreLayerTotals 1 trials s.first
-  pub second : AreLayerTotals 2 trials s.second
+-- the sums are those of these runs, numbered from the first on
+pub record AreSums (first : ℕ) (trials : List Trial) (s : PointSums) : Type 0 where
+  pub on_first : AreLayerTotals 1 trials first s.first
+  pub on_second : AreLayerTotals 2 trials first s.second
+  pub first_high : first < 2 ^ 64
+  pub next : s.next ≡ first + length trials

@@ -1,32 +1,97 @@
 -- What a watcher hears of a sweep.
-use Rattle.std.specs.Prelude.{◌≡◌, ◌⊎◌, ◌<◌, ◌≤◌, ◌*◌, ℕ, List, [], ◌∷◌, length, map}
+use Rattle.std.specs.Prelude.{◌≡◌, ◌⊎◌, ◌<◌, ◌≤◌, ◌*◌, ◌==◌, ℕ, if◌then◌else◌, not, Option, None, Some, List, [], ◌∷◌, length, map, take}
+use Rattle.std.specs.List.{AllZip, count_by, filter, filter_map}
 use Rattle.event_list.specs.Joins.{HaveJoined}
+use Rattle.toml.specs.Data.{Members}
 use Rattle.study.specs.Grid.{GridRecord, runs}
 use Rattle.study.specs.Shard.{ShardRecord}
-use Rattle.sweep.specs.StudyText.{numbers_of}
+use Rattle.sweep.specs.Columns.{is_limited}
+use Rattle.sweep.specs.Results.{Trial}
+use Rattle.sweep.specs.StudyText.{point_at, numbers_of, IsTrialOf}
+use Rattle.sweep.specs.declared.watcher.Pass.TheVariants.{Reading, Running}
 use Rattle.sweep.specs.declared.watcher.Standing.{Standing}
+
+-- what is heard, one after the other
+pub data News : Type 0 where
+  -- how far the sweep has come
+  stands : Standing → News
+  -- of a point, from 0, so many runs passed their limit
+  limits : (point count : ℕ) → News
+
+abbrev pub standing_in : News → Option Standing
+standing_in (stands standing) = Some standing
+standing_in (limits point count) = None
+
+abbrev pub limit_in : News → Option (ℕ × ℕ)
+limit_in (stands standing) = None
+limit_in (limits point count) = Some (point, count)
+
+-- what is said of a point: nothing where none of its runs passed the limit
+abbrev pub said_of : (point count : ℕ) → List News
+said_of point count = if count == 0 then [] else limits point count ∷ []
 
 -- numbers that rise from one to another, without the first of them
 abbrev pub Rise : (first last : ℕ) → List ℕ → Type 0
 Rise first last [] = first ≡ last
 Rise first last (n ∷ ns) = (first < n) × Rise n last ns
 
-module _ {W : Type 0} (heard : W → List Standing → W → Type 0) (old new : W) where
-  -- that no run is in, and then of ever more, up to so many
-  pub record HeardUpTo (points runs done : ℕ) : Type 0 where
+-- so many of a point's runs passed their limit
+pub record AreLimited (file : Members) (g : GridRecord) (point : ℕ) (count : ℕ) : Type 0 where
+  pub trials : List Trial
+  pub each : AllZip (IsTrialOf file (point_at g point)) (runs g) trials
+  pub counted : count ≡ count_by (λ t. is_limited t.result) trials
+
+module _ {W : Type 0} (heard : W → List News → W → Type 0) (old new : W) where
+  -- that with none of the runs it is done, and then with ever more, up to so many; and nothing else
+  pub record HeardReading (points runs done : ℕ) : Type 0 where
     pub numbers : List ℕ
     pub rise : Rise 0 done numbers
     pub heard_each : HaveJoined heard old new
-        (map (λ n. record { points = points; runs = runs; done = n }) (0 ∷ numbers))
+        (map (λ n. stands (record { pass = Reading; points = points; runs = runs; done = n })) (0 ∷ numbers))
 
-  module _ (g : GridRecord) (shard : ShardRecord) where
-    -- up to all runs of the shard's points
-    abbrev pub HeardAll : Type 0
-    HeardAll = HeardUpTo (length (numbers_of g shard)) (length (runs g))
-        (length (numbers_of g shard) * length (runs g))
+  -- the same of the runs that are run; and of each of these points of which runs passed their limit how many did, in
+  -- the order of the points
+  pub record HeardRunning (file : Members) (g : GridRecord) (points runs done : ℕ) (complete : List ℕ) : Type 0 where
+    pub news : List News
+    pub heard_all : HaveJoined heard old new news
+    pub numbers : List ℕ
+    pub rise : Rise 0 done numbers
+    pub standings : filter_map standing_in news
+        ≡ map (λ n. record { pass = Running; points = points; runs = runs; done = n }) (0 ∷ numbers)
+    pub counts : List (ℕ × ℕ)
+    pub counted : AllZip (λ point entry. (entry.0 ≡ point) × AreLimited file g point entry.1) complete counts
+    pub limited : filter_map limit_in news ≡ filter (λ entry. not (entry.1 == 0)) counts
 
-    -- up to some of them, or of nothing yet
-    abbrev pub HeardSome : Type 0
-    HeardSome = HaveJoined heard old new []
-        ⊎ ((done : ℕ) × (done ≤ length (numbers_of g shard) * length (runs g))
-        × HeardUpTo (length (numbers_of g shard)) (length (runs g)) done)
+module _ {W : Type 0} (heard : W → List News → W → Type 0) (old new : W) where
+  -- of some of the shard's runs that they are read
+  abbrev pub HeardOfReading : GridRecord → ShardRecord → Type 0
+  HeardOfReading g shard = (done : ℕ) × (done ≤ length (numbers_of g shard) * length (runs g))
+      × HeardReading heard old new (length (numbers_of g shard)) (length (runs g)) done
+
+  -- of all that they are read
+  abbrev pub HeardOfAllReading : GridRecord → ShardRecord → Type 0
+  HeardOfAllReading g shard = HeardReading heard old new (length (numbers_of g shard)) (length (runs g))
+      (length (numbers_of g shard) * length (runs g))
+
+module _ {W : Type 0} (heard : W → List News → W → Type 0) (old new : W) (file : Members) (g : GridRecord)
+    (shard : ShardRecord) where
+  -- of all runs that they are read, and then that they are run
+  pub record HeardAll : Type 0 where
+    pub between : W
+    pub reading : HeardOfAllReading heard old between g shard
+    pub running : HeardRunning heard between new file g (length (numbers_of g shard)) (length (runs g))
+        (length (numbers_of g shard) * length (runs g)) (numbers_of g shard)
+
+  -- of all that they are read, and then of some that they are run
+  pub record HeardOfRunning : Type 0 where
+    pub between : W
+    pub reading : HeardOfAllReading heard old between g shard
+    pub done : ℕ
+    pub done_low : done ≤ length (numbers_of g shard) * length (runs g)
+    pub complete : ℕ
+    pub running : HeardRunning heard between new file g (length (numbers_of g shard)) (length (runs g)) done
+        (take complete (numbers_of g shard))
+
+  -- of some
+  abbrev pub HeardSome : Type 0
+  HeardSome = HeardOfReading heard old new g shard ⊎ HeardOfRunning

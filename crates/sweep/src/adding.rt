@@ -1,9 +1,9 @@
 //! Sums of sums. They stay at the greatest number of their types, should they reach it.
 ghost use Rattle.std.specs.Prelude.{◌≡◌};
-ghost use Rattle.sweep.specs.Adding.{traces_plus, pairs_plus, verdicts_plus, decisions_plus, layer_plus};
+ghost use Rattle.sweep.specs.Adding.{traces_plus, pairs_plus, verdicts_plus, decisions_plus, counts_plus, layer_plus};
 
-use crate::columns::{DecisionSums, LayerSums, PairSums, TraceSums, VerdictCounts};
-use crate::time_counts::greater;
+use crate::columns::{DecisionSums, LayerSums, PairSums, RunCounts, TraceSums, VerdictCounts};
+use crate::value_counts::greater;
 
 impl TraceSums {
     /// Nothing is added up.
@@ -36,6 +36,7 @@ impl PairSums {
         good_sum: 0,
         good_count: 0,
         undetected: 0,
+        at_once: 0,
     };
 
     pub(crate) fn plus(self, more: PairSums) -> PairSums
@@ -51,6 +52,7 @@ impl PairSums {
             good_sum: self.good_sum.saturating_add(more.good_sum),
             good_count: self.good_count.saturating_add(more.good_count),
             undetected: self.undetected.saturating_add(more.undetected),
+            at_once: self.at_once.saturating_add(more.at_once),
         }
     }
 }
@@ -91,22 +93,43 @@ impl VerdictCounts {
 impl DecisionSums {
     /// Nothing is added up.
     pub(crate) const NONE: DecisionSums = DecisionSums {
+        to_decide: 0,
         decided: 0,
         decision_tick_sum: 0,
         decision_tick_max: None,
-        rounds_max: None,
     };
 
     pub(crate) fn plus(self, more: DecisionSums) -> DecisionSums
         ensures { result ≡ decisions_plus self more }
     {
         DecisionSums {
+            to_decide: self.to_decide.saturating_add(more.to_decide),
             decided: self.decided.saturating_add(more.decided),
             decision_tick_sum: self
                 .decision_tick_sum
                 .saturating_add(more.decision_tick_sum),
             decision_tick_max: greater(self.decision_tick_max, more.decision_tick_max),
-            rounds_max: greater(self.rounds_max, more.rounds_max),
+        }
+    }
+}
+
+impl RunCounts {
+    /// No run is counted.
+    pub(crate) const NONE: RunCounts = RunCounts {
+        with_mistakes: 0,
+        all_decided: 0,
+        undecided: 0,
+        disagreements: 0,
+    };
+
+    fn plus(self, more: RunCounts) -> RunCounts
+        ensures { result ≡ counts_plus self more }
+    {
+        RunCounts {
+            with_mistakes: self.with_mistakes.saturating_add(more.with_mistakes),
+            all_decided: self.all_decided.saturating_add(more.all_decided),
+            undecided: self.undecided.saturating_add(more.undecided),
+            disagreements: self.disagreements.saturating_add(more.disagreements),
         }
     }
 }
@@ -119,9 +142,10 @@ impl LayerSums {
         traces: TraceSums::NONE,
         pair_ticks: 0,
         pairs: PairSums::NONE,
+        mistakes_squared_sum: 0,
         verdicts: VerdictCounts::NONE,
         decisions: DecisionSums::NONE,
-        disagreements: 0,
+        counts: RunCounts::NONE,
     };
 
     pub(crate) fn plus(self, more: LayerSums) -> LayerSums
@@ -133,9 +157,12 @@ impl LayerSums {
             traces: self.traces.plus(more.traces),
             pair_ticks: self.pair_ticks.saturating_add(more.pair_ticks),
             pairs: self.pairs.plus(more.pairs),
+            mistakes_squared_sum: self
+                .mistakes_squared_sum
+                .saturating_add(more.mistakes_squared_sum),
             verdicts: self.verdicts.plus(more.verdicts),
             decisions: self.decisions.plus(more.decisions),
-            disagreements: self.disagreements.saturating_add(more.disagreements),
+            counts: self.counts.plus(more.counts),
         }
     }
 }

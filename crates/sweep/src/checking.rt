@@ -1,18 +1,22 @@
 //! Reads every run's scenario, before the first run starts.
-ghost use Rattle.std.specs.Prelude.{◌≡◌, ℕ, ◌*◌, ◌<◌, ◌≤◌, true, length, slice_index_or, OnOk, IfErr, IfNone, IfSome};
+ghost use Rattle.std.specs.Prelude.{◌≡◌, ℕ, ◌-◌, ◌*◌, ◌^◌, ◌<◌, ◌≤◌, true, false, length, slice_index_or, OnOk, IfErr, IfNone, IfSome};
 ghost use Rattle.toml.specs.View.{table_view};
 ghost use Rattle.study.specs.Grid.{points, runs};
 ghost use Rattle.study.specs.Runs.{is_memory};
 ghost use Rattle.sweep.specs.Numbering.{point_of, HasScenarioAt, IsRefusalAt, IsFirstRefusal};
+ghost use Rattle.sweep.specs.Outcome.{HaveScenarios, CantBeRun};
+ghost use Rattle.sweep.specs.Watching.{HeardReading, HeardOfReading, HeardOfAllReading};
 
+use crate::batches::Batches;
 use crate::error::SweepError;
-use crate::numbering::{batch, scenario_of};
-use crate::parallel::in_parallel;
+use crate::numbering::{points_of, scenario_of};
+use crate::watcher::{Pass, Standing, Watcher};
 use scenario::ScenarioError;
 use std::alloc::{AllocError, Global};
 use std::marker::Sync;
 use std::thread::Threads;
-use study::{Grid, PlaceError, ReadError};
+use std::time::Clock;
+use study::{Grid, PlaceError, ReadError, Shard};
 use toml::Table;
 
 /// Whether memory was refused.
@@ -72,41 +76,91 @@ fn first_false(all: &[bool]) -> Option<usize>
     None
 }
 
-/// Reads the scenarios of the runs from one number up to another, by so many threads.
+/// Reads the scenarios of all runs of the points from one number up to another, by so many threads. The watcher hears
+/// of the beginning, and whenever more are read.
 ///
 /// # Errors
 ///
 /// `Refused` for the first run that has none, or `Memory`.
-pub(crate) fn check_runs<R: Threads + Sync>(
+fn check_runs<R: Threads + Sync + Clock, W: Watcher>(
     rt: &R,
     alloc: Global,
     file: &Table,
     grid: &Grid,
-    first: u64,
+    begin: u64,
     end: u64,
     threads: u8,
+    watcher: &mut W,
 ) -> Result<(), SweepError>
     requires some { 1 ≤ length (runs grid.now) }
-    requires order { first ≤ end }
-    requires within { end ≤ length (points grid.now) * length (runs grid.now) }
-    ensures ok { OnOk result ((n : ℕ) → first ≤ n → n < end → HasScenarioAt (table_view file.now) grid.now n) }
-    ensures err { IfErr result (IsFirstRefusal (table_view file.now) grid.now first end) }
+    requires order { begin ≤ end }
+    requires within { end ≤ length (points grid.now) }
+    requires room { length (points grid.now) * length (runs grid.now) < 2 ^ 64 }
+    ensures ok { OnOk result ((n : ℕ) → begin * length (runs grid.now) ≤ n → n < end * length (runs grid.now)
+        → HasScenarioAt (table_view file.now) grid.now n) }
+    ensures err { IfErr result (IsFirstRefusal (table_view file.now) grid.now
+        (begin * length (runs grid.now)) (end * length (runs grid.now))) }
+    ensures heard { OnOk result (HeardReading W.heard watcher.old watcher.new (end - begin) (length (runs grid.now))
+        ((end - begin) * length (runs grid.now))) }
+    ensures heard_some { IfErr result (λ _. (done : ℕ) × (done ≤ (end - begin) * length (runs grid.now))
+        × HeardReading W.heard watcher.old watcher.new (end - begin) (length (runs grid.now)) done) }
 {
-    let mut next = first;
-    while next < end {
-        let count = batch(threads).min(end - next);
-        let are_read = in_parallel(
+    let runs = grid.runs();
+    let points = end - begin;
+    let mut batches = Batches::new(threads);
+    let mut next = begin * runs;
+    watcher.hear(Standing {
+        pass: Pass::Reading,
+        points,
+        runs,
+        done: 0,
+    });
+    while next < end * runs {
+        let are_read = batches.run(
             rt,
             alloc,
             next,
-            count,
-            threads,
+            end * runs,
             &|number| is_read(alloc, file, grid, number),
         )?;
         if let Some(place) = first_false(&are_read) {
             return Err(refusal(alloc, file, grid, next + place as u64));
         }
-        next += count;
+        next += are_read.len() as u64;
+        watcher.hear(Standing {
+            pass: Pass::Reading,
+            points,
+            runs,
+            done: next - begin * runs,
+        });
     }
     Ok(())
+}
+
+/// Reads the scenarios of all runs of a shard's points, by so many threads. The watcher hears how many are read: that
+/// none is, and then ever more, up to all of them. What it shows is taken away at the end.
+///
+/// # Errors
+///
+/// `Refused` for the first run that has no scenario, or `Memory`.
+pub fn check_study<R: Threads + Sync + Clock, W: Watcher>(
+    rt: &R,
+    alloc: Global,
+    file: &Table,
+    grid: &Grid,
+    shard: Shard,
+    threads: u8,
+    watcher: &mut W,
+) -> Result<(), SweepError>
+    ensures ok { OnOk result (HaveScenarios (table_view file.now) grid.now shard) }
+    ensures err { IfErr result (CantBeRun (table_view file.now) grid.now shard) }
+    ensures heard { OnOk result (HeardOfAllReading W.heard watcher.old watcher.new grid.now shard) }
+    ensures heard_some { IfErr result (λ _. HeardOfReading W.heard watcher.old watcher.new grid.now shard) }
+    ensures hidden { W.shows watcher.new ≡ false }
+{
+    let _runs = grid.runs();
+    let (begin, end) = points_of(grid, shard);
+    let answer = check_runs(rt, alloc, file, grid, begin, end, threads, watcher);
+    watcher.hide();
+    answer
 }

@@ -11,9 +11,11 @@ pub struct TraceSums {
     pub lost: u128,
 }
 
-/// Sums over all ordered pairs of different processes of runs, after Chen, Toueg and Aguilera (IEEE Transactions on
-/// Computers 51(5), 2002), as [`PairMeasures`](reporting::PairMeasures) has them for one pair. Sums of times are in
-/// ticks.
+/// Sums over the pairs of processes of runs that count, after Chen, Toueg and Aguilera (IEEE Transactions on Computers
+/// 51(5), 2002), as [`PairMeasures`](reporting::PairMeasures) has them for one pair. Sums of times are in ticks.
+///
+/// On layer 1 a pair counts where the detector of its observer watches its subject; on layer 2 each ordered pair of
+/// different processes does.
 #[derive(Clone, Copy, Debug, PartialEq, Eq)]
 pub struct PairSums {
     /// How many suspicions started that were mistakes.
@@ -34,6 +36,8 @@ pub struct PairSums {
     pub good_count: u128,
     /// How many crashes weren't detected by a process that didn't crash.
     pub undetected: u128,
+    /// How many crashes were suspected for good by the tick of the crash.
+    pub at_once: u128,
 }
 
 /// In how many runs each verdict holds. One that gives a tick holds where there is a tick.
@@ -53,38 +57,63 @@ pub struct VerdictCounts {
     pub eventual_weak_accuracy: u64,
 }
 
-/// Sums over what the processes of runs decided.
+/// Sums over the processes of runs that are to decide: the correct ones of the runs with an algorithm.
 #[derive(Clone, Copy, Debug, PartialEq, Eq)]
 pub struct DecisionSums {
-    /// How many processes decided a value.
+    /// How many such processes there are.
+    pub to_decide: u128,
+    /// How many of them decided a value.
     pub decided: u128,
     /// The ticks at which they did.
     pub decision_tick_sum: u128,
     /// The greatest of these ticks, if there is one.
     pub decision_tick_max: Option<u64>,
-    /// The greatest round that a process noted, if one did.
-    pub rounds_max: Option<u64>,
 }
 
-/// The times from the crash of a process to the suspicion by another that lasts to the horizon, over all pairs of
-/// different processes of runs, in ticks.
+/// In how many runs something is so.
 #[derive(Clone, Copy, Debug, PartialEq, Eq)]
-pub struct DetectionTimes {
-    /// How many such times there are.
-    pub detections: u128,
-    /// Their sum.
-    pub detection_sum: u128,
-    /// The least of them which half of them are at most; none where there are none, as in the others.
-    pub detection_p50: Option<u64>,
-    /// The least of them which 90 in 100 of them are at most.
-    pub detection_p90: Option<u64>,
-    /// The least of them which 99 in 100 of them are at most.
-    pub detection_p99: Option<u64>,
-    /// The greatest of them.
-    pub detection_max: Option<u64>,
+pub struct RunCounts {
+    /// A process was suspected by mistake.
+    pub with_mistakes: u64,
+    /// Some process is to decide, and each of those that are decided a value.
+    pub all_decided: u64,
+    /// One of those that are to decide didn't.
+    pub undecided: u64,
+    /// Two processes decided different values.
+    pub disagreements: u64,
 }
 
-/// What is added up of runs on a layer, besides the times of detections.
+/// What is told of some values, after which infinite ones may come. The percentiles are nearest ranks: the least of the
+/// values which so many in 100 of all, the infinite ones too, are at most. There is none where the rank falls on an
+/// infinite one, or where nothing is ranked.
+#[derive(Clone, Copy, Debug, PartialEq, Eq)]
+pub struct Distribution {
+    /// How many values there are, without infinite ones.
+    pub count: u128,
+    /// Their sum.
+    pub sum: u128,
+    /// The least of them which half of all are at most.
+    pub p50: Option<u128>,
+    /// The least of them which 90 in 100 of all are at most.
+    pub p90: Option<u128>,
+    /// The least of them which 99 in 100 of all are at most.
+    pub p99: Option<u128>,
+    /// The greatest of them.
+    pub greatest: Option<u128>,
+}
+
+/// The numbers of runs, among all runs of a point in their order; none where there is no such run.
+#[derive(Clone, Copy, Debug, PartialEq, Eq)]
+pub struct FirstRuns {
+    /// Of the first in which a process was suspected by mistake.
+    pub mistake: Option<u128>,
+    /// Of the first that has a detection as long as the longest of all.
+    pub detection_max: Option<u128>,
+    /// Of the first in which two processes decided different values.
+    pub disagreement: Option<u128>,
+}
+
+/// What is added up of runs on a layer.
 #[derive(Clone, Copy, Debug, PartialEq, Eq)]
 pub struct LayerSums {
     /// How many runs there are.
@@ -95,14 +124,16 @@ pub struct LayerSums {
     pub traces: TraceSums,
     /// For how many ticks pairs were watched: each up to the first crash of the two, or the horizon.
     pub pair_ticks: u128,
-    /// Of all pairs of processes.
+    /// Of the pairs of processes.
     pub pairs: PairSums,
+    /// The squares of the runs' mistakes.
+    pub mistakes_squared_sum: u128,
     /// Of the verdicts.
     pub verdicts: VerdictCounts,
     /// Of what was decided.
     pub decisions: DecisionSums,
-    /// In how many runs two processes decided different values.
-    pub disagreements: u64,
+    /// In how many runs something is so.
+    pub counts: RunCounts,
 }
 
 /// What a row tells.
@@ -110,6 +141,18 @@ pub struct LayerSums {
 pub struct Columns {
     /// The sums.
     pub sums: LayerSums,
-    /// The times of the detections.
-    pub times: DetectionTimes,
+    /// For how many ticks pairs were watched for each mistake, rounded down; none without a mistake.
+    pub mistake_recurrence: Option<u128>,
+    /// How many of a million of these ticks a process was suspected by mistake for, rounded down; none without a tick.
+    pub mistaken_ppm: Option<u128>,
+    /// The times from the crash of a process to the suspicion by another that lasts to the horizon, in ticks. A
+    /// suspicion that didn't come has an infinite one.
+    pub detections: Distribution,
+    /// The tick of the last decision of each run in which some process is to decide. It is infinite where one of them
+    /// didn't.
+    pub last_decisions: Distribution,
+    /// The greatest round of each run in which a process noted one.
+    pub rounds: Distribution,
+    /// The numbers of runs.
+    pub first_runs: FirstRuns,
 }

@@ -1,4 +1,4 @@
-//! Why a sweep ends early.
+//! Why a sweep ends early, and why there is no layout.
 ghost use Rattle.std.specs.Prelude.{◌≡◌};
 
 use std::alloc::AllocError;
@@ -33,5 +33,31 @@ impl From<AllocError> for SweepError {
 
     fn from(_: AllocError) -> SweepError {
         SweepError::Memory
+    }
+}
+
+/// Why there is no layout.
+#[derive(Debug, Drop, Error)]
+pub enum LayoutError {
+    /// A word is no column's name.
+    #[error("no column {name}; the nearest is {nearest}")]
+    Unknown {
+        /// The word, the first that is none.
+        name: String,
+        /// One of the nearest names.
+        nearest: String,
+    },
+    /// Memory was refused.
+    #[error("out of memory")]
+    Memory,
+}
+
+impl From<AllocError> for LayoutError {
+    ghost use Rattle.sweep.specs.declared.error.LayoutError.TheVariants.{Memory};
+
+    ghost from_gives = { λ _ e. e ≡ Memory };
+
+    fn from(_: AllocError) -> LayoutError {
+        LayoutError::Memory
     }
 }

@@ -1,13 +1,14 @@
 //! The fields of a row, as they are formed.
-ghost use Rattle.std.specs.Prelude.{◌≡◌, ◌++◌, ◌∷◌, [], map, decimal, OnOk};
-ghost use Rattle.study.specs.Settings.{path_of, given_by, key_text, given_text};
+ghost use Rattle.std.specs.Prelude.{◌≡◌, ◌++◌, ◌∷◌, [], map, decimal, string_bytes, OnOk};
+ghost use Rattle.std.proofs.Math.ListN.{replicate};
+ghost use Rattle.study.specs.Settings.{given_by, given_text};
 ghost use Rattle.sweep.specs.Fields.{AreWhole, texts_of};
 ghost use Rattle.sweep.specs.RowText.{number_text};
 
 use csv::ByteRecord;
 use itoa::Buffer;
 use std::alloc::{AllocError, Global};
-use study::{Key, Setting};
+use study::Setting;
 
 /// The fields of a row, as they are formed.
 #[derive(Drop)]
@@ -54,7 +55,7 @@ impl Fields {
     }
 
     /// Numbers, each of which may not be there.
-    pub(crate) fn push_options(&mut self, numbers: &[Option<u64>]) -> Result<(), AllocError>
+    pub(crate) fn push_options(&mut self, numbers: &[Option<u128>]) -> Result<(), AllocError>
         requires { AreWhole self.old }
         ensures whole { OnOk result (AreWhole self.new) }
         ensures fields { OnOk result (texts_of self.new ≡ texts_of self.old ++ map number_text numbers.now) }
@@ -62,32 +63,34 @@ impl Fields {
         for number in numbers {
             match number {
                 None => self.push(b"")?,
-                Some(number) => self.push_number(u128::from(*number))?,
+                Some(number) => self.push_number(*number)?,
             }
         }
         Ok(())
     }
 
-    /// Names.
-    pub(crate) fn push_names(&mut self, names: &[&str]) -> Result<(), AllocError>
+    /// So many fields with nothing in them.
+    pub(crate) fn push_empty(&mut self, count: usize) -> Result<(), AllocError>
         requires { AreWhole self.old }
         ensures whole { OnOk result (AreWhole self.new) }
-        ensures fields { OnOk result (texts_of self.new ≡ texts_of self.old ++ map (λ n. n.now) names.now) }
+        ensures fields { OnOk result (texts_of self.new ≡ texts_of self.old ++ replicate count []) }
+    {
+        for _ in 0..count {
+            self.push(b"")?;
+        }
+        Ok(())
+    }
+
+    /// Names.
+    pub(crate) fn push_names(&mut self, names: &[String]) -> Result<(), AllocError>
+        requires { AreWhole self.old }
+        ensures whole { OnOk result (AreWhole self.new) }
+        ensures fields { OnOk result (texts_of self.new ≡ texts_of self.old ++ map string_bytes names.now) }
     {
         for name in names {
             self.push(name.as_bytes())?;
         }
         Ok(())
-    }
-
-    /// A key, by its path.
-    pub(crate) fn push_path(&mut self, alloc: Global, key: &Key) -> Result<(), AllocError>
-        requires { AreWhole self.old }
-        ensures whole { OnOk result (AreWhole self.new) }
-        ensures fields { OnOk result (texts_of self.new ≡ texts_of self.old ++ key_text (path_of key.now) ∷ []) }
-    {
-        let path = key.text(alloc)?;
-        self.push(path.as_bytes())
     }
 
     /// What a key is set to.

@@ -1,13 +1,15 @@
 //! The rows of a study: sums over the runs of each of its points.
 //!
 //! A run is done within its limit and has a trace, or it passes the limit (`specs/Results.antt`). [`RunNumbers`] is
-//! what one run gives, [`PointSums`] what the runs of a point add up to, and [`Table`] forms the text of the points'
-//! rows. What a row tells is defined by sums, counts and quantifiers over the list of a point's runs
-//! (`specs/Columns.antt`), and so is how it is written (`specs/RowText.antt`). It is proved that the sums of a point,
-//! to which runs were added one by one, are those of the list of these runs, and that the text has their rows.
+//! what one run gives, [`PointSums`] what the runs of a point add up to, and [`Table`] forms the text of rows. What a
+//! row tells is defined by sums, counts and quantifiers over a list of runs (`specs/Columns.antt`), and so is how it is
+//! written (`specs/RowText.antt`). A [`Layout`] says whether rows tell of points or of single runs, and which columns
+//! they have (`specs/Layout.antt`). It is proved that the sums of a point, to which runs were added one by one, are
+//! those of the list of these runs, and that the text has the rows of all points, or of all runs
+//! (`specs/StudyText.antt`).
 //!
-//! Detection times are kept with how often each came, so memory grows with how many different times there are, and not
-//! with the runs. Sums have 128 bits, and are exact of up to 1,000,000,000,000 runs.
+//! Detection times, ticks of last decisions and rounds are kept with how often each came, so memory grows with how many
+//! different ones there are, and not with the runs. Sums have 128 bits, and are exact of up to 1,000,000,000,000 runs.
 //!
 //! [`in_parallel`] shares out calls for consecutive numbers among threads, and gives what they answer in the numbers'
 //! order (`specs/Parallel.antt`). A sweep has its runs read and done by it.
@@ -18,31 +20,42 @@
 #![tactic(auto)]
 
 mod adding;
+mod batches;
 mod checking;
 mod columns;
+mod decisions;
 mod error;
 mod fields;
+mod first_runs;
 mod laws;
+mod layout;
+mod limits;
 mod measuring;
+mod names;
 mod numbering;
+mod pairs;
 mod parallel;
+mod picking;
 mod point_sums;
 mod progress;
 mod run_numbers;
 mod sweeping;
 mod table;
 mod texts;
-mod time_counts;
+mod value_counts;
 mod watcher;
 
+pub use checking::check_study;
 pub use columns::{
-    Columns, DecisionSums, DetectionTimes, LayerSums, PairSums, TraceSums, VerdictCounts,
+    Columns, DecisionSums, Distribution, FirstRuns, LayerSums, PairSums, RunCounts, TraceSums,
+    VerdictCounts,
 };
-pub use error::SweepError;
+pub use error::{LayoutError, SweepError};
 pub use laws::{law_one_text, law_shard_texts};
+pub use layout::{Layout, Rows};
 pub use parallel::in_parallel;
 pub use point_sums::PointSums;
 pub use run_numbers::RunNumbers;
 pub use sweeping::sweep;
 pub use table::Table;
-pub use watcher::{Standing, Unwatched, Watcher};
+pub use watcher::{Pass, Standing, Unwatched, Watcher};

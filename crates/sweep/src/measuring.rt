@@ -1,13 +1,15 @@
-//! Runs one scenario and measures it.
-ghost use Rattle.std.specs.Prelude.{◌≡◌, ◌<◌, ◌≤◌, length, IfOk};
+//! Runs scenarios and measures them.
+ghost use Rattle.std.specs.Prelude.{◌≡◌, ◌+◌, ◌*◌, ◌^◌, ◌<◌, ◌≤◌, length, IfOk};
 ghost use Rattle.scenario_record.specs.Opening.{mind_of};
 ghost use Rattle.toml.specs.View.{table_view};
 ghost use Rattle.study.specs.Grid.{points, runs};
-ghost use Rattle.sweep.specs.Numbering.{point_of, IsAnswerAt};
+ghost use Rattle.sweep.specs.Numbering.{point_of, IsAnswerAt, AreNumbersFrom};
 ghost use Rattle.sweep.specs.Results.{RunResult, IsResult};
 ghost use Rattle.sweep.specs.Sums.{AreNumbers};
 
+use crate::batches::Batches;
 use crate::numbering::scenario_of;
+use crate::parallel::all_of;
 use crate::run_numbers::RunNumbers;
 use event_list::RunError;
 use machines::{AnyDetector, eventually_strong, idle, make_all, strong};
@@ -16,6 +18,9 @@ use reporting::measure_list;
 use scenario::AlgorithmKind::{EventuallyStrong, Idle, Strong};
 use scenario::{Opening, Scenario};
 use std::alloc::{AllocError, Global};
+use std::marker::Sync;
+use std::thread::Threads;
+use std::time::Clock;
 use study::Grid;
 use toml::Table;
 
@@ -52,7 +57,7 @@ fn measure_scenario(alloc: Global, scenario: &Scenario) -> Result<RunNumbers, Al
 }
 
 /// What the run of this number gives. Its scenario was read before: what refuses it now is want of memory.
-pub(crate) fn measure_run(
+fn measure_run(
     alloc: Global,
     file: &Table,
     grid: &Grid,
@@ -66,4 +71,36 @@ pub(crate) fn measure_run(
         return Err(AllocError);
     };
     measure_scenario(alloc, &scenario)
+}
+
+/// What the runs of a batch give: of the first of those from one number up to another, one at least.
+///
+/// # Errors
+///
+/// `AllocError` where memory was refused.
+pub(crate) fn measure_batch<R: Threads + Sync + Clock>(
+    rt: &R,
+    alloc: Global,
+    file: &Table,
+    grid: &Grid,
+    first: u64,
+    end: u64,
+    batches: &mut Batches,
+) -> Result<Vec<RunNumbers>, AllocError>
+    requires some { 1 ≤ length (runs grid.now) }
+    requires order { first < end }
+    requires within { end ≤ length (points grid.now) * length (runs grid.now) }
+    requires room { length (points grid.now) * length (runs grid.now) < 2 ^ 64 }
+    ensures some { IfOk result (λ v. 1 ≤ length v.items) }
+    ensures within { IfOk result (λ v. first + length v.items ≤ end) }
+    ensures numbers { IfOk result (λ v. AreNumbersFrom (table_view file.now) grid.now first v.items) }
+{
+    let answers = batches.run(
+        rt,
+        alloc,
+        first,
+        end,
+        &|number| measure_run(alloc, file, grid, number),
+    )?;
+    all_of(alloc, answers)
 }

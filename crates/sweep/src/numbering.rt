@@ -1,13 +1,15 @@
 //! Runs by numbers: those of all points, one point after the other.
-ghost use Rattle.std.specs.Prelude.{◌≡◌, ◌<◌, ◌≤◌, false, true, length, IfOk, IfErr};
+ghost use Rattle.std.specs.Prelude.{◌≡◌, ◌-◌, ◌<◌, ◌≤◌, false, true, length, IfOk, IfErr};
+ghost use Rattle.std.specs.List.{range_with_len};
 ghost use Rattle.toml.specs.View.{table_view};
 ghost use Rattle.study.specs.Grid.{points, runs};
 ghost use Rattle.study.specs.Runs.{IsScenarioOf, IsRefusedFor, is_memory};
 ghost use Rattle.sweep.specs.Numbering.{point_of, table_at};
+ghost use Rattle.sweep.specs.StudyText.{numbers_of};
 
 use scenario::Scenario;
 use std::alloc::{AllocError, Global};
-use study::{Grid, PlaceError, ReadError, read_run};
+use study::{Grid, PlaceError, ReadError, Shard, read_run};
 use toml::Table;
 
 fn want_of_memory(error: AllocError) -> ReadError
@@ -45,9 +47,13 @@ pub(crate) fn scenario_of(
     read_run(alloc, file, &point, &run)
 }
 
-/// How many runs are handed out at a time, so that each thread has some hundreds of them.
-pub(crate) fn batch(threads: u8) -> u64
-    ensures { 1 ≤ result }
+/// The shard's first point, from 0, and the one after its last.
+pub(crate) fn points_of(grid: &Grid, shard: Shard) -> (u64, u64)
+    ensures order { result.0 ≤ result.1 }
+    ensures within { result.1 ≤ length (points grid.now) }
+    ensures numbers { numbers_of grid.now shard ≡ range_with_len result.0 (result.1 - result.0) }
+    ensures few { length (points grid.now) ≤ 1000000 }
 {
-    256 * u64::from(threads.max(1))
+    let points = shard.points(grid.points() as u32);
+    (u64::from(points.start), u64::from(points.end))
 }

@@ -32,16 +32,16 @@ fn answer_some<T: Drop, F: Fn(u64) -> T>(
     Ok(answers)
 }
 
-/// All of the columns, where none is missing.
-fn all_of<T: Drop>(
+/// All of the answers, where none is missing.
+pub(crate) fn all_of<T: Drop>(
     alloc: Global,
-    columns: Vec<Result<Vec<T>, AllocError>>,
-) -> Result<Vec<Vec<T>>, AllocError>
-    ensures { IfOk result (λ v. map Ok v.items ≡ columns.items) }
+    answers: Vec<Result<T, AllocError>>,
+) -> Result<Vec<T>, AllocError>
+    ensures { IfOk result (λ v. map Ok v.items ≡ answers.items) }
 {
-    let mut all = Vec::with_capacity(alloc, columns.len())?;
-    for column in columns {
-        all.push(column?)?;
+    let mut all = Vec::with_capacity(alloc, answers.len())?;
+    for answer in answers {
+        all.push(answer?)?;
     }
     Ok(all)
 }

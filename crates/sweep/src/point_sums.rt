@@ -1,20 +1,68 @@
 //! The sums of a point.
 ghost use Rattle.std.specs.Prelude.{◌≡◌, ◌<◌, ◌≤◌, ◌+◌, ◌++◌, ◌∷◌, [], ℕ, List, is_some, length, OnOk};
 ghost use Rattle.std.specs.List.{list_any};
-ghost use Rattle.sweep.specs.Columns.{AreColumns};
+ghost use Rattle.sweep.specs.Columns.{AreColumns, over};
 ghost use Rattle.sweep.specs.Fitting.{most_runs};
 ghost use Rattle.sweep.specs.Results.{Trial};
 
-use crate::columns::{Columns, LayerSums};
+use crate::columns::{Columns, FirstRuns, LayerSums};
 use crate::run_numbers::{LayerNumbers, RunNumbers};
-use crate::time_counts::TimeCounts;
+use crate::value_counts::{ValueCounts, is_above};
 use std::alloc::{AllocError, Global};
+
+/// The quotient of two numbers, rounded down; none where there is nothing to divide by.
+fn over(number: u128, by: u128) -> Option<u128>
+    ensures { result ≡ over number by }
+{
+    if by == 0 { None } else { Some(number / by) }
+}
+
+/// What is counted value by value of runs on a layer.
+#[derive(Drop)]
+pub(crate) struct LayerValues {
+    /// The times of detections, in ticks.
+    pub detections: ValueCounts,
+    /// The ticks of the runs' last decisions.
+    pub last_decisions: ValueCounts,
+    /// The runs' greatest rounds.
+    pub rounds: ValueCounts,
+}
+
+impl LayerValues {
+    ghost use Rattle.sweep.specs.Columns.{all_detections};
+    ghost use Rattle.sweep.specs.Fitting.{most_pairs};
+    ghost use Rattle.sweep.specs.Sums.{AreLayerNumbers, AreLayerValues};
+
+    /// No run is counted.
+    fn new(alloc: Global) -> LayerValues
+        ensures { (layer : ℕ) → AreLayerValues layer [] result }
+    {
+        LayerValues {
+            detections: ValueCounts::new(alloc),
+            last_decisions: ValueCounts::new(alloc),
+            rounds: ValueCounts::new(alloc),
+        }
+    }
+
+    /// One more run.
+    fn add(&mut self, run: &LayerNumbers) -> Result<(), AllocError>
+        ensures { OnOk result ((layer : ℕ) (trials : List Trial) (trial : Trial) → length trials < most_runs
+            → length (all_detections layer trials) ≤ most_pairs (length trials)
+            → AreLayerValues layer trials self.old → AreLayerNumbers layer (trial ∷ []) run.now
+            → AreLayerValues layer (trials ++ trial ∷ []) self.new) }
+    {
+        self.detections.add_all(&run.detections)?;
+        self.last_decisions.add_if_any(run.last_decision)?;
+        self.rounds.add_if_any(run.top_round)
+    }
+}
 
 /// What was added up of runs on a layer.
 #[derive(Drop)]
 pub(crate) struct LayerTotals {
     pub sums: LayerSums,
-    pub times: TimeCounts,
+    pub values: LayerValues,
+    pub first_runs: FirstRuns,
 }
 
 impl LayerTotals {
@@ -22,53 +70,72 @@ impl LayerTotals {
 
     /// No run is added up.
     fn new(alloc: Global) -> LayerTotals
-        ensures { (layer : ℕ) → AreLayerTotals layer [] result }
+        ensures { (layer first : ℕ) → AreLayerTotals layer [] first result }
     {
         LayerTotals {
             sums: LayerSums::NONE,
-            times: TimeCounts::new(alloc),
+            values: LayerValues::new(alloc),
+            first_runs: FirstRuns::NONE,
         }
     }
 
-    fn add(&mut self, numbers: &LayerNumbers) -> Result<(), AllocError>
-        ensures { OnOk result ((layer : ℕ) (trials more : List Trial) → length trials + length more ≤ most_runs
-            → AreLayerTotals layer trials self.old → AreLayerNumbers layer more numbers.now
-            → AreLayerTotals layer (trials ++ more) self.new) }
+    /// One more run, of this number.
+    fn add(&mut self, number: u128, run: &LayerNumbers) -> Result<(), AllocError>
+        ensures { OnOk result ((layer first : ℕ) (trials : List Trial) (trial : Trial) → length trials < most_runs
+            → number ≡ first + length trials → AreLayerTotals layer trials first self.old
+            → AreLayerNumbers layer (trial ∷ []) run.now
+            → AreLayerTotals layer (trials ++ trial ∷ []) first self.new) }
     {
-        self.times.add_all(&numbers.times)?;
-        self.sums = self.sums.plus(numbers.sums);
+        let longest = self.values.detections.greatest;
+        self.values.add(run)?;
+        let is_longest = is_above(self.values.detections.greatest, longest);
+        self.first_runs = self.first_runs.with(number, run.sums.counts, is_longest);
+        self.sums = self.sums.plus(run.sums);
         Ok(())
     }
 
     fn columns(&self) -> Columns
-        ensures { (layer : ℕ) (trials : List Trial) → AreLayerTotals layer trials self.now
-            → AreColumns layer trials result }
+        ensures { (layer first : ℕ) (trials : List Trial) → AreLayerTotals layer trials first self.now
+            → AreColumns layer first trials result }
     {
+        let sums = self.sums;
+        let undecided = u128::from(sums.counts.undecided);
         Columns {
-            sums: self.sums,
-            times: self.times.times(),
+            sums,
+            mistake_recurrence: over(sums.pair_ticks, sums.pairs.mistakes),
+            mistaken_ppm: over(
+                sums.pairs.mistake_ticks.saturating_mul(1_000_000),
+                sums.pair_ticks,
+            ),
+            detections: self.values.detections.distribution(sums.pairs.undetected),
+            last_decisions: self.values.last_decisions.distribution(undecided),
+            rounds: self.values.rounds.distribution(0),
+            first_runs: self.first_runs,
         }
     }
 }
 
-/// The sums of a point, over the runs that were added. Memory grows with how many different detection times there are,
-/// and not with the runs.
+/// The sums of a point, over the runs that were added. Memory grows with how many different detection times, ticks of
+/// last decisions and rounds there are, and not with the runs.
 #[derive(Drop)]
 pub struct PointSums {
     first: LayerTotals,
     second: LayerTotals,
+    /// The number of the next run.
+    next: u128,
 }
 
 impl PointSums {
     ghost use Rattle.sweep.specs.Sums.{AreNumbers, AreSums};
 
-    /// No run was added.
-    pub fn new(alloc: Global) -> PointSums
-        ensures { AreSums [] result }
+    /// No run was added. The first run that is has this number.
+    pub fn new(alloc: Global, first: u64) -> PointSums
+        ensures { AreSums first [] result }
     {
         PointSums {
             first: LayerTotals::new(alloc),
             second: LayerTotals::new(alloc),
+            next: u128::from(first),
         }
     }
 
@@ -78,30 +145,35 @@ impl PointSums {
     ///
     /// `AllocError` where memory was refused. Then the sums are to be dropped: a part of the run may be added.
     pub fn add(&mut self, numbers: &RunNumbers) -> Result<(), AllocError>
-        ensures { OnOk result ((trials : List Trial) (trial : Trial) → length trials < most_runs
-            → AreSums trials self.old → AreNumbers trial numbers.now → AreSums (trials ++ trial ∷ []) self.new) }
+        ensures { OnOk result ((first : ℕ) (trials : List Trial) (trial : Trial) → length trials < most_runs
+            → AreSums first trials self.old → AreNumbers trial numbers.now
+            → AreSums first (trials ++ trial ∷ []) self.new) }
     {
-        self.first.add(&numbers.first)?;
-        self.second.add(&numbers.second)
+        let number = self.next;
+        self.next = number.saturating_add(1);
+        self.first.add(number, &numbers.first)?;
+        self.second.add(number, &numbers.second)
     }
 
     /// What the row of layer 1 tells.
     pub fn first(&self) -> Columns
-        ensures { (trials : List Trial) → AreSums trials self.now → AreColumns 1 trials result }
+        ensures { (first : ℕ) (trials : List Trial) → AreSums first trials self.now
+            → AreColumns 1 first trials result }
     {
         self.first.columns()
     }
 
     /// What the row of layer 2 tells, where some run has a reduction.
     pub fn second(&self) -> Columns
-        ensures { (trials : List Trial) → AreSums trials self.now → AreColumns 2 trials result }
+        ensures { (first : ℕ) (trials : List Trial) → AreSums first trials self.now
+            → AreColumns 2 first trials result }
     {
         self.second.columns()
     }
 
     /// Whether some run has a reduction, whose output is layer 2.
     pub fn has_second(&self) -> bool
-        ensures { (trials : List Trial) → AreSums trials self.now
+        ensures { (first : ℕ) (trials : List Trial) → AreSums first trials self.now
             → result ≡ list_any (λ t. is_some t.scenario.share) trials }
     {
         self.second.sums.runs > 0

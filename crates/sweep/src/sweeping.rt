@@ -1,33 +1,39 @@
 //! Sweeps: all runs of a study's points, and the rows that tell of them.
 ghost use Rattle.std.specs.Prelude.{◌≡◌, ℕ, ◌^◌, ◌-◌, ◌*◌, ◌<◌, ◌≤◌, false, length, OnOk, IfErr};
+ghost use Rattle.std.specs.List.{range_with_len};
 ghost use Rattle.toml.specs.View.{table_view};
 ghost use Rattle.study.specs.Grid.{points, runs};
+ghost use Rattle.sweep.specs.Numbering.{unit_count};
 ghost use Rattle.sweep.specs.Outcome.{WroteStudy, BreaksOff};
 ghost use Rattle.sweep.specs.Progress.{WroteUpTo, StopsBelow};
-ghost use Rattle.sweep.specs.Watching.{HeardUpTo, HeardAll, HeardSome};
+ghost use Rattle.sweep.specs.Watching.{HeardRunning, HeardAll, HeardSome};
 
-use crate::checking::check_runs;
+use crate::batches::Batches;
+use crate::checking::check_study;
 use crate::error::SweepError;
-use crate::measuring::measure_run;
-use crate::numbering::batch;
-use crate::parallel::in_parallel;
+use crate::layout::Layout;
+use crate::limits::Limits;
+use crate::measuring::measure_batch;
+use crate::numbering::points_of;
 use crate::progress::Progress;
 use crate::texts::write_header;
-use crate::watcher::{Standing, Watcher};
+use crate::watcher::{Pass, Standing, Watcher};
 use reporting::Outlet;
 use std::alloc::Global;
 use std::marker::Sync;
 use std::thread::Threads;
+use std::time::Clock;
 use study::{Grid, Shard};
 use toml::Table;
 
-/// Runs all runs of the points from one number up to another, and writes the rows of each point when its last run is
+/// Runs all runs of the points from one number up to another, and writes the rows of each unit when its last run is
 /// in. The watcher hears of the beginning, and whenever more runs are in.
-fn write_points<R: Threads + Sync, O: Outlet, W: Watcher>(
+fn write_points<R: Threads + Sync + Clock, O: Outlet, W: Watcher>(
     rt: &R,
     alloc: Global,
     file: &Table,
     grid: &Grid,
+    layout: &Layout,
     begin: u64,
     end: u64,
     threads: u8,
@@ -40,37 +46,38 @@ fn write_points<R: Threads + Sync, O: Outlet, W: Watcher>(
     requires within { end ≤ length (points grid.now) }
     requires room { length (points grid.now) * length (runs grid.now) < 2 ^ 64 }
     ensures done { OnOk result
-        (WroteUpTo (table_view file.now) grid.now O.told O.failed outlet.old outlet.new begin end) }
+        (WroteUpTo (table_view file.now) grid.now layout.now O.told O.failed outlet.old outlet.new
+        (unit_count layout.now.rows grid.now begin) (unit_count layout.now.rows grid.now end)) }
     ensures stops { IfErr result
-        (StopsBelow (table_view file.now) grid.now O.told O.failed outlet.old outlet.new begin end) }
-    ensures heard { OnOk result (HeardUpTo W.heard watcher.old watcher.new (end - begin) (length (runs grid.now))
-        ((end - begin) * length (runs grid.now))) }
-    ensures heard_some { IfErr result (λ _. (done : ℕ) × (done ≤ (end - begin) * length (runs grid.now))
-        × HeardUpTo W.heard watcher.old watcher.new (end - begin) (length (runs grid.now)) done) }
+        (StopsBelow (table_view file.now) grid.now layout.now O.told O.failed outlet.old outlet.new
+        (unit_count layout.now.rows grid.now begin) (unit_count layout.now.rows grid.now end)) }
+    ensures heard { OnOk result (HeardRunning W.heard watcher.old watcher.new (table_view file.now) grid.now
+        (end - begin) (length (runs grid.now)) ((end - begin) * length (runs grid.now))
+        (range_with_len begin (end - begin))) }
+    ensures heard_some { IfErr result (λ _. (done count : ℕ) × (done ≤ (end - begin) * length (runs grid.now))
+        × (count ≤ end - begin) × HeardRunning W.heard watcher.old watcher.new (table_view file.now) grid.now
+        (end - begin) (length (runs grid.now)) done (range_with_len begin count)) }
 {
     let runs = grid.runs();
     let points = end - begin;
-    let mut progress = Progress::at(alloc, begin);
+    let mut batches = Batches::new(threads);
+    let mut limits = Limits::at(begin);
+    let mut progress = Progress::at(alloc, grid, layout, layout.unit_count(grid, begin));
     let mut next = begin * runs;
     watcher.hear(Standing {
+        pass: Pass::Running,
         points,
         runs,
         done: 0,
     });
     while next < end * runs {
-        let count = batch(threads).min(end * runs - next);
-        let answers = in_parallel(
-            rt,
-            alloc,
-            next,
-            count,
-            threads,
-            &|number| measure_run(alloc, file, grid, number),
-        )?;
+        let numbers = measure_batch(rt, alloc, file, grid, next, end * runs, &mut batches)?;
         watcher.make_way();
-        progress.take_all(alloc, grid, &answers, outlet)?;
-        next += count;
+        limits.add_all(file, grid, &numbers, watcher);
+        progress.take_all(alloc, grid, layout, &numbers, outlet)?;
+        next += numbers.len() as u64;
         watcher.hear(Standing {
+            pass: Pass::Running,
             points,
             runs,
             done: next - begin * runs,
@@ -79,47 +86,52 @@ fn write_points<R: Threads + Sync, O: Outlet, W: Watcher>(
     Ok(())
 }
 
-/// Sweeps the points of a shard of a study: runs all their runs by so many threads, and writes a row for each point and
-/// layer, with sums over its runs. The first shard begins with the header. The threads and the watcher change nothing
-/// of the text.
+/// Sweeps the points of a shard of a study: runs all their runs by so many threads, and writes rows with the layout's
+/// columns, one for each layer of a point, with sums over its runs, or of each run. The first shard begins with the
+/// header. The threads and the watcher change nothing of the text.
 ///
-/// The watcher hears how many of the shard's runs are in: that none is, as the first begins, and then ever more, up to
-/// all of them. It is told when rows are to go out, and what it shows is taken away as the sweep ends.
+/// Every run's scenario is read before the first run starts. Runs are read, and then run, in batches that take about a
+/// second by the clock, and rows go out soon after the last run that they tell of is in. Memory grows with neither the
+/// runs nor their horizon: what is held is what a batch gives, of 256 runs for each thread at most, and the sums of a
+/// point.
 ///
-/// Every run's scenario is read before the first run starts. A point's rows go out when its last run is in. Memory
-/// grows with neither the runs nor their horizon: what is held is what some hundreds of runs for each thread give, and
-/// the sums of a point.
+/// The watcher hears of how many of the shard's runs the scenarios are read, from none up to all of them, and then how
+/// many are run. It is told when rows are to go out, and before that of each point of whose runs some passed their
+/// limit. What it shows is taken away as the sweep ends.
 ///
 /// # Errors
 ///
 /// `Refused` where a run of the shard has no scenario, for the first such run; then nothing went out. `Memory` where
-/// memory was refused: then nothing went out, or the header and the rows of the first points. `Write` where a put
+/// memory was refused: then nothing went out, or the header and the first points' or runs' rows. `Write` where a put
 /// failed: then a front part of these.
-pub fn sweep<R: Threads + Sync, O: Outlet, W: Watcher>(
+pub fn sweep<R: Threads + Sync + Clock, O: Outlet, W: Watcher>(
     rt: &R,
     alloc: Global,
     file: &Table,
     grid: &Grid,
     shard: Shard,
+    layout: &Layout,
     threads: u8,
     outlet: &mut O,
     watcher: &mut W,
 ) -> Result<(), SweepError>
     requires failures { O.failed outlet.old < 2 ^ 64 - 1 }
-    ensures done { OnOk result (WroteStudy (table_view file.now) grid.now shard O.told O.failed outlet.old outlet.new) }
+    ensures done { OnOk result
+        (WroteStudy (table_view file.now) grid.now shard layout.now O.told O.failed outlet.old outlet.new) }
     ensures breaks_off { IfErr result
-        (BreaksOff (table_view file.now) grid.now shard O.told O.failed outlet.old outlet.new) }
-    ensures heard { OnOk result (HeardAll W.heard watcher.old watcher.new grid.now shard) }
-    ensures heard_some { IfErr result (λ _. HeardSome W.heard watcher.old watcher.new grid.now shard) }
-    ensures hidden { W.shows watcher.old ≡ false → W.shows watcher.new ≡ false }
+        (BreaksOff (table_view file.now) grid.now shard layout.now O.told O.failed outlet.old outlet.new) }
+    ensures heard { OnOk result (HeardAll W.heard watcher.old watcher.new (table_view file.now) grid.now shard) }
+    ensures heard_some { IfErr result
+        (λ _. HeardSome W.heard watcher.old watcher.new (table_view file.now) grid.now shard) }
+    ensures hidden { W.shows watcher.new ≡ false }
 {
-    let runs = grid.runs();
-    let points = shard.points(grid.points() as u32);
-    let begin = u64::from(points.start);
-    let end = u64::from(points.end);
-    check_runs(rt, alloc, file, grid, begin * runs, end * runs, threads)?;
-    write_header(alloc, grid, shard, outlet)?;
-    let answer = write_points(rt, alloc, file, grid, begin, end, threads, outlet, watcher);
+    check_study(rt, alloc, file, grid, shard, threads, watcher)?;
+    write_header(alloc, grid, shard, layout, outlet)?;
+    let _runs = grid.runs();
+    let (begin, end) = points_of(grid, shard);
+    let answer = write_points(
+        rt, alloc, file, grid, layout, begin, end, threads, outlet, watcher,
+    );
     watcher.hide();
     answer
 }

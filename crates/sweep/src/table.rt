@@ -1,101 +1,132 @@
 //! The text of a study, as its rows are formed.
-ghost use Rattle.std.specs.Prelude.{◌≡◌, ◌++◌, ◌∷◌, [], List, map, decimal, IfOk, OnOk};
-ghost use Rattle.study.specs.Grid.{paths_of};
-ghost use Rattle.study.specs.Settings.{chosen, key_text, given_text};
-ghost use Rattle.sweep.specs.Fields.{AreWhole, texts_of, first_fields, last_fields};
+ghost use Rattle.std.specs.Prelude.{◌≡◌, ℕ, ◌<◌, ◌++◌, ◌∷◌, [], List, length, map, decimal, string_bytes, IfOk, OnOk};
+ghost use Rattle.study.specs.Grid.{points};
+ghost use Rattle.study.specs.Settings.{chosen};
+ghost use Rattle.sweep.specs.Fields.{AreWhole, texts_of, pair_fields, outcome_fields};
 ghost use Rattle.sweep.specs.Results.{Trial};
-ghost use Rattle.sweep.specs.RowText.{Text, column_names, column_fields, decision_fields, detection_fields, verdict_fields, header_text, layer_text, line_text, ArePointRows};
+ghost use Rattle.sweep.specs.RowText.{Text, column_names, column_fields, trace_fields, mistake_fields, period_fields, detection_fields, verdict_fields, decision_fields, last_fields, run_fields, told_fields, header_text, layer_text, line_text, picked, AreRowsFor};
+ghost use Rattle.sweep.specs.StudyText.{names_of as names_in, unit_point, lead_of, values};
 
-use crate::columns::{Columns, DecisionSums, DetectionTimes, LayerSums, VerdictCounts};
+use crate::columns::{Columns, Distribution, LayerSums, PairSums, VerdictCounts};
 use crate::fields::Fields;
+use crate::layout::{Layout, Rows};
+use crate::names::{names_of, push_names};
+use crate::picking::push_picked;
 use crate::point_sums::PointSums;
+use crate::value_counts::wide;
 use csv::Writer;
 use std::alloc::{AllocError, Global};
-use study::{Axis, Choice};
+use study::{Choice, Grid};
 
 /// The names of the columns, in order.
 #[tactic(auto, unfolding(crate::specs::RowText::column_names))]
-fn push_column_names(fields: &mut Fields) -> Result<(), AllocError>
+pub(crate) fn push_column_names(alloc: Global, names: &mut Vec<String>) -> Result<(), AllocError>
+    ensures { OnOk result (map string_bytes names.new.items ≡ map string_bytes names.old.items ++ column_names) }
+{
+    push_names(
+        alloc,
+        names,
+        &[
+            "runs",
+            "limited",
+            "entries",
+            "sent",
+            "lost",
+            "pair_ticks",
+            "mistakes",
+            "mistake_ticks",
+            "mistake_recurrence",
+            "mistaken_ppm",
+            "mistakes_squared_sum",
+            "runs_with_mistakes",
+            "recurrence_sum",
+            "recurrence_count",
+            "duration_sum",
+            "duration_count",
+            "good_sum",
+            "good_count",
+            "detections",
+            "undetected",
+            "at_once",
+            "detection_sum",
+            "detection_p50",
+            "detection_p90",
+            "detection_p99",
+            "detection_max",
+            "strong_completeness",
+            "weak_completeness",
+            "strong_accuracy",
+            "weak_accuracy",
+            "eventual_strong_accuracy",
+            "eventual_weak_accuracy",
+            "to_decide",
+            "decided",
+            "decision_tick_sum",
+            "decision_tick_max",
+            "all_decided",
+            "last_decision_p50",
+            "last_decision_p90",
+            "last_decision_p99",
+            "last_decision_max",
+            "rounds_p50",
+            "rounds_p99",
+            "rounds_max",
+            "disagreements",
+            "mistake_run",
+            "detection_max_run",
+            "disagreement_run",
+        ],
+    )
+}
+
+/// The sums of traces, and what is told of mistakes.
+fn push_mistakes(fields: &mut Fields, columns: &Columns) -> Result<(), AllocError>
     requires { AreWhole fields.old }
     ensures whole { OnOk result (AreWhole fields.new) }
-    ensures fields { OnOk result (texts_of fields.new ≡ texts_of fields.old ++ column_names) }
+    ensures fields { OnOk result (texts_of fields.new
+        ≡ texts_of fields.old ++ (trace_fields columns.now.sums.traces ++ mistake_fields columns.now)) }
 {
-    fields.push_names(&[
-        "runs",
-        "limited",
-        "entries",
-        "sent",
-        "lost",
-        "pair_ticks",
-        "mistakes",
-        "mistake_ticks",
-        "recurrence_sum",
-        "recurrence_count",
-        "duration_sum",
-        "duration_count",
-        "good_sum",
-        "good_count",
-        "detections",
-        "undetected",
-        "detection_sum",
-        "detection_p50",
-        "detection_p90",
-        "detection_p99",
-        "detection_max",
-        "strong_completeness",
-        "weak_completeness",
-        "strong_accuracy",
-        "weak_accuracy",
-        "eventual_strong_accuracy",
-        "eventual_weak_accuracy",
-        "decided",
-        "decision_tick_sum",
-        "decision_tick_max",
-        "rounds_max",
-        "disagreements",
+    let sums = &columns.sums;
+    fields.push_options(&[
+        Some(sums.traces.entries),
+        Some(sums.traces.sent),
+        Some(sums.traces.lost),
+        Some(sums.pair_ticks),
+        Some(sums.pairs.mistakes),
+        Some(sums.pairs.mistake_ticks),
+        columns.mistake_recurrence,
+        columns.mistaken_ppm,
+        Some(sums.mistakes_squared_sum),
+        Some(u128::from(sums.counts.with_mistakes)),
     ])
 }
 
-/// The sums up to those of detections.
-fn push_sums(fields: &mut Fields, sums: &LayerSums) -> Result<(), AllocError>
-    requires { AreWhole fields.old }
-    ensures whole { OnOk result (AreWhole fields.new) }
-    ensures fields { OnOk result (texts_of fields.new ≡ texts_of fields.old ++ first_fields sums.now) }
-{
-    fields.push_numbers(&[
-        u128::from(sums.runs),
-        u128::from(sums.limited),
-        sums.traces.entries,
-        sums.traces.sent,
-        sums.traces.lost,
-        sums.pair_ticks,
-        sums.pairs.mistakes,
-        sums.pairs.mistake_ticks,
-        sums.pairs.recurrence_sum,
-        sums.pairs.recurrence_count,
-        sums.pairs.duration_sum,
-        sums.pairs.duration_count,
-        sums.pairs.good_sum,
-        sums.pairs.good_count,
-    ])
-}
-
-/// The detections.
+/// The times between mistakes and those of mistakes, and the detections.
 fn push_times(
     fields: &mut Fields,
-    undetected: u128,
-    times: &DetectionTimes,
+    sums: &PairSums,
+    detections: &Distribution,
 ) -> Result<(), AllocError>
     requires { AreWhole fields.old }
     ensures whole { OnOk result (AreWhole fields.new) }
-    ensures fields { OnOk result (texts_of fields.new ≡ texts_of fields.old ++ detection_fields undetected times.now) }
+    ensures fields { OnOk result (texts_of fields.new
+        ≡ texts_of fields.old ++ (period_fields sums.now ++ detection_fields sums.now detections.now)) }
 {
-    fields.push_numbers(&[times.detections, undetected, times.detection_sum])?;
     fields.push_options(&[
-        times.detection_p50,
-        times.detection_p90,
-        times.detection_p99,
-        times.detection_max,
+        Some(sums.recurrence_sum),
+        Some(sums.recurrence_count),
+        Some(sums.duration_sum),
+        Some(sums.duration_count),
+        Some(sums.good_sum),
+        Some(sums.good_count),
+        Some(detections.count),
+        Some(sums.undetected),
+        Some(sums.at_once),
+        Some(detections.sum),
+        detections.p50,
+        detections.p90,
+        detections.p99,
+        detections.greatest,
     ])
 }
 
@@ -116,32 +147,75 @@ fn push_verdicts(fields: &mut Fields, verdicts: &VerdictCounts) -> Result<(), Al
 }
 
 /// The decisions.
-fn push_decisions(
-    fields: &mut Fields,
-    decisions: &DecisionSums,
-    disagreements: u64,
-) -> Result<(), AllocError>
+fn push_decisions(fields: &mut Fields, sums: &LayerSums) -> Result<(), AllocError>
     requires { AreWhole fields.old }
     ensures whole { OnOk result (AreWhole fields.new) }
-    ensures fields { OnOk result (texts_of fields.new
-        ≡ texts_of fields.old ++ decision_fields decisions.now disagreements) }
+    ensures fields { OnOk result (texts_of fields.new ≡ texts_of fields.old ++ decision_fields sums.now) }
 {
-    fields.push_numbers(&[decisions.decided, decisions.decision_tick_sum])?;
     fields.push_options(&[
-        decisions.decision_tick_max,
-        decisions.rounds_max,
-        Some(disagreements),
+        Some(sums.decisions.to_decide),
+        Some(sums.decisions.decided),
+        Some(sums.decisions.decision_tick_sum),
+        wide(sums.decisions.decision_tick_max),
+        Some(u128::from(sums.counts.all_decided)),
     ])
 }
 
-/// The verdicts and the decisions.
-fn push_outcomes(fields: &mut Fields, sums: &LayerSums) -> Result<(), AllocError>
+/// The last decisions, the rounds, and the numbers of runs.
+fn push_runs(fields: &mut Fields, columns: &Columns) -> Result<(), AllocError>
     requires { AreWhole fields.old }
     ensures whole { OnOk result (AreWhole fields.new) }
-    ensures fields { OnOk result (texts_of fields.new ≡ texts_of fields.old ++ last_fields sums.now) }
+    ensures fields { OnOk result (texts_of fields.new
+        ≡ texts_of fields.old ++ (last_fields columns.now.last_decisions columns.now.rounds
+        ++ run_fields columns.now.sums.counts.disagreements columns.now.first_runs)) }
 {
-    push_verdicts(fields, &sums.verdicts)?;
-    push_decisions(fields, &sums.decisions, sums.disagreements)
+    fields.push_options(&[
+        columns.last_decisions.p50,
+        columns.last_decisions.p90,
+        columns.last_decisions.p99,
+        columns.last_decisions.greatest,
+        columns.rounds.p50,
+        columns.rounds.p99,
+        columns.rounds.greatest,
+        Some(u128::from(columns.sums.counts.disagreements)),
+        columns.first_runs.mistake,
+        columns.first_runs.detection_max,
+        columns.first_runs.disagreement,
+    ])
+}
+
+/// What is told of pairs.
+fn push_pairs(fields: &mut Fields, columns: &Columns) -> Result<(), AllocError>
+    requires { AreWhole fields.old }
+    ensures whole { OnOk result (AreWhole fields.new) }
+    ensures fields { OnOk result (texts_of fields.new ≡ texts_of fields.old ++ pair_fields columns.now) }
+{
+    push_mistakes(fields, columns)?;
+    push_times(fields, &columns.sums.pairs, &columns.detections)
+}
+
+/// The verdicts, and what is told of decisions and runs.
+fn push_outcomes(fields: &mut Fields, columns: &Columns) -> Result<(), AllocError>
+    requires { AreWhole fields.old }
+    ensures whole { OnOk result (AreWhole fields.new) }
+    ensures fields { OnOk result (texts_of fields.new ≡ texts_of fields.old ++ outcome_fields columns.now) }
+{
+    push_verdicts(fields, &columns.sums.verdicts)?;
+    push_decisions(fields, &columns.sums)?;
+    push_runs(fields, columns)
+}
+
+/// What is told of the runs that are done: nothing where none is.
+fn push_done(fields: &mut Fields, columns: &Columns) -> Result<(), AllocError>
+    requires { AreWhole fields.old }
+    ensures whole { OnOk result (AreWhole fields.new) }
+    ensures fields { OnOk result (texts_of fields.new ≡ texts_of fields.old ++ told_fields columns.now) }
+{
+    if columns.sums.limited == columns.sums.runs {
+        return fields.push_empty(46);
+    }
+    push_pairs(fields, columns)?;
+    push_outcomes(fields, columns)
 }
 
 /// The layer and the columns.
@@ -151,18 +225,19 @@ fn push_columns(fields: &mut Fields, layer: u8, columns: &Columns) -> Result<(),
     ensures fields { OnOk result (texts_of fields.new
         ≡ texts_of fields.old ++ decimal layer ∷ column_fields columns.now) }
 {
-    fields.push_number(u128::from(layer))?;
-    push_sums(fields, &columns.sums)?;
-    push_times(fields, columns.sums.pairs.undetected, &columns.times)?;
-    push_outcomes(fields, &columns.sums)
+    fields.push_numbers(&[
+        u128::from(layer),
+        u128::from(columns.sums.runs),
+        u128::from(columns.sums.limited),
+    ])?;
+    push_done(fields, columns)
 }
 
 /// What the keys are set to.
 fn push_settings(fields: &mut Fields, settings: &[Choice<'_>]) -> Result<(), AllocError>
     requires { AreWhole fields.old }
     ensures whole { OnOk result (AreWhole fields.new) }
-    ensures fields { OnOk result (texts_of fields.new
-        ≡ texts_of fields.old ++ map (λ s. given_text s.value) (map chosen settings.now)) }
+    ensures fields { OnOk result (texts_of fields.new ≡ texts_of fields.old ++ values (map chosen settings.now)) }
 {
     for choice in settings {
         fields.push_setting(choice.value)?;
@@ -170,16 +245,33 @@ fn push_settings(fields: &mut Fields, settings: &[Choice<'_>]) -> Result<(), All
     Ok(())
 }
 
-/// The keys of axes.
-fn push_keys(alloc: Global, fields: &mut Fields, axes: &[Axis]) -> Result<(), AllocError>
-    requires { AreWhole fields.old }
+/// What a unit's rows begin with.
+fn push_lead(
+    alloc: Global,
+    fields: &mut Fields,
+    grid: &Grid,
+    rows: Rows,
+    unit: u64,
+) -> Result<(), AllocError>
+    requires whole { AreWhole fields.old }
+    requires within { unit_point rows grid.now unit < length (points grid.now) }
     ensures whole { OnOk result (AreWhole fields.new) }
-    ensures fields { OnOk result (texts_of fields.new ≡ texts_of fields.old ++ map key_text (paths_of axes.now)) }
+    ensures fields { OnOk result (texts_of fields.new ≡ texts_of fields.old ++ lead_of rows grid.now unit) }
 {
-    for axis in axes {
-        fields.push_path(alloc, &axis.key)?;
+    match rows {
+        Rows::Points => {
+            let point = grid.point(alloc, unit)?;
+            push_settings(fields, &point)
+        }
+        Rows::Runs => {
+            let runs = grid.runs();
+            let point = grid.point(alloc, unit / runs)?;
+            let run = grid.run(alloc, unit % runs)?;
+            push_settings(fields, &point)?;
+            push_settings(fields, &run.settings)?;
+            fields.push_numbers(&[u128::from(run.seed), u128::from(unit % runs + 1)])
+        }
     }
-    Ok(())
 }
 
 /// The text of a study, as its rows are formed. Its lines have the same number of fields.
@@ -213,65 +305,94 @@ impl Table {
         }
     }
 
-    /// Adds the first line, which names the columns: the keys of the varied axes, the layer, and the others.
+    /// Adds a line with those of these fields that the layout picks.
+    fn push_fields(
+        &mut self,
+        alloc: Global,
+        layout: &Layout,
+        all: &Fields,
+    ) -> Result<(), AllocError>
+        requires { IsBetweenLines self.old }
+        ensures between { OnOk result (IsBetweenLines self.new) }
+        ensures text { OnOk result (text_of self.new
+            ≡ text_of self.old ++ line_text (picked layout.now.picks (texts_of all.now))) }
+    {
+        let mut fields = Fields::new(alloc);
+        push_picked(&mut fields, all, layout.picks())?;
+        self.push_line(&fields)
+    }
+
+    /// Adds the first line, which names the columns.
     ///
     /// # Errors
     ///
     /// `AllocError` where memory was refused.
     #[tactic(auto, unfolding(crate::specs::RowText::header_text))]
-    pub fn push_header(&mut self, alloc: Global, varied: &[Axis]) -> Result<(), AllocError>
+    pub fn push_header(
+        &mut self,
+        alloc: Global,
+        grid: &Grid,
+        layout: &Layout,
+    ) -> Result<(), AllocError>
         requires { IsBetweenLines self.old }
         ensures between { OnOk result (IsBetweenLines self.new) }
-        ensures text { OnOk result (text_of self.new ≡ text_of self.old ++ header_text (paths_of varied.now)) }
+        ensures text { OnOk result (text_of self.new
+            ≡ text_of self.old ++ header_text layout.now.picks (names_in layout.now.rows grid.now)) }
     {
-        let mut fields = Fields::new(alloc);
-        push_keys(alloc, &mut fields, varied)?;
-        fields.push(b"layer")?;
-        push_column_names(&mut fields)?;
-        self.push_line(&fields)
+        let names = names_of(alloc, grid, layout.rows())?;
+        let mut all = Fields::new(alloc);
+        all.push_names(&names)?;
+        self.push_fields(alloc, layout, &all)
     }
 
     #[tactic(auto, unfolding(crate::specs::RowText::layer_text))]
     fn push_layer(
         &mut self,
         alloc: Global,
-        settings: &[Choice<'_>],
+        grid: &Grid,
+        layout: &Layout,
+        unit: u64,
         layer: u8,
         columns: &Columns,
     ) -> Result<(), AllocError>
-        requires { IsBetweenLines self.old }
+        requires between { IsBetweenLines self.old }
+        requires within { unit_point layout.now.rows grid.now unit < length (points grid.now) }
         ensures between { OnOk result (IsBetweenLines self.new) }
-        ensures text { OnOk result (text_of self.new
-            ≡ text_of self.old ++ layer_text (map chosen settings.now) layer columns.now) }
+        ensures text { OnOk result (text_of self.new ≡ text_of self.old
+            ++ layer_text layout.now.picks (lead_of layout.now.rows grid.now unit) layer columns.now) }
     {
-        let mut fields = Fields::new(alloc);
-        push_settings(&mut fields, settings)?;
-        push_columns(&mut fields, layer, columns)?;
-        self.push_line(&fields)
+        let mut all = Fields::new(alloc);
+        push_lead(alloc, &mut all, grid, layout.rows(), unit)?;
+        push_columns(&mut all, layer, columns)?;
+        self.push_fields(alloc, layout, &all)
     }
 
-    /// Adds the rows of a point with these settings: that of layer 1, and that of layer 2 where some run has a
-    /// reduction.
+    /// Adds the rows of a point, from 0, whose runs were added up: that of layer 1, and that of layer 2 where some run
+    /// has a reduction. Where rows tell of runs, it is the run of this number, from 0, of all points' runs.
     ///
     /// # Errors
     ///
     /// `AllocError` where memory was refused, or where the lines before have another number of fields.
-    pub fn push_point(
+    pub fn push_unit(
         &mut self,
         alloc: Global,
-        settings: &[Choice<'_>],
+        grid: &Grid,
+        layout: &Layout,
+        unit: u64,
         sums: &PointSums,
     ) -> Result<(), AllocError>
-        requires { IsBetweenLines self.old }
+        requires between { IsBetweenLines self.old }
+        requires within { unit_point layout.now.rows grid.now unit < length (points grid.now) }
         ensures between { OnOk result (IsBetweenLines self.new) }
-        ensures text { OnOk result ((trials : List Trial) → AreSums trials sums.now
-            → (rows : Text) × ArePointRows (map chosen settings.now) trials rows
+        ensures text { OnOk result ((first : ℕ) (trials : List Trial) → AreSums first trials sums.now
+            → (rows : Text)
+            × AreRowsFor layout.now.picks (lead_of layout.now.rows grid.now unit) first trials rows
             × (text_of self.new ≡ text_of self.old ++ rows)) }
     {
         let (first, second) = (sums.first(), sums.second());
-        self.push_layer(alloc, settings, 1, &first)?;
+        self.push_layer(alloc, grid, layout, unit, 1, &first)?;
         if sums.has_second() {
-            self.push_layer(alloc, settings, 2, &second)?;
+            self.push_layer(alloc, grid, layout, unit, 2, &second)?;
         }
         Ok(())
     }

@@ -1,14 +1,15 @@
 //! The texts that go out.
-ghost use Rattle.std.specs.Prelude.{◌≡◌, ◌^◌, ◌-◌, ◌<◌, List, length, Err, IfOk, IfErr, OnOk};
+ghost use Rattle.std.specs.Prelude.{◌≡◌, ℕ, ◌^◌, ◌-◌, ◌<◌, List, length, Err, IfOk, IfErr, OnOk};
 ghost use Rattle.reporting.specs.Writing.{Wrote, WrotePart};
-ghost use Rattle.study.specs.Grid.{points, keys};
+ghost use Rattle.study.specs.Grid.{points};
 ghost use Rattle.sweep.specs.Results.{Trial};
-ghost use Rattle.sweep.specs.RowText.{header_text, ArePointRows};
+ghost use Rattle.sweep.specs.RowText.{header_text, AreRowsFor};
 ghost use Rattle.sweep.specs.Progress.{HeaderFails};
-ghost use Rattle.sweep.specs.StudyText.{point_at, header_of as shard_header};
+ghost use Rattle.sweep.specs.StudyText.{names_of, unit_point, lead_of, header_of as shard_header};
 ghost use Rattle.sweep.specs.Sums.{AreSums};
 
 use crate::error::SweepError;
+use crate::layout::Layout;
 use crate::point_sums::PointSums;
 use crate::table::Table;
 use reporting::{Outlet, put_all};
@@ -16,29 +17,29 @@ use std::alloc::{AllocError, Global};
 use study::{Grid, Shard};
 
 /// The header of a study.
-pub(crate) fn header_of(alloc: Global, grid: &Grid) -> Result<Vec<u8>, AllocError>
-    ensures { IfOk result (λ t. t.items ≡ header_text (keys grid.now)) }
+pub(crate) fn header_of(alloc: Global, grid: &Grid, layout: &Layout) -> Result<Vec<u8>, AllocError>
+    ensures { IfOk result (λ t. t.items ≡ header_text layout.now.picks (names_of layout.now.rows grid.now)) }
 {
     let mut table = Table::new(alloc);
-    table.push_header(alloc, grid.varied())?;
+    table.push_header(alloc, grid, layout)?;
     let text = table.into_text()?;
     Ok(text)
 }
 
-/// The rows of a point, from 0, whose runs were added up.
+/// The rows of a unit, whose runs were added up.
 pub(crate) fn rows_of(
     alloc: Global,
     grid: &Grid,
-    number: u64,
+    layout: &Layout,
+    unit: u64,
     sums: &PointSums,
 ) -> Result<Vec<u8>, AllocError>
-    requires { number < length (points grid.now) }
-    ensures { IfOk result (λ t. (trials : List Trial) → AreSums trials sums.now
-        → ArePointRows (point_at grid.now number) trials t.items) }
+    requires { unit_point layout.now.rows grid.now unit < length (points grid.now) }
+    ensures { IfOk result (λ t. (first : ℕ) (trials : List Trial) → AreSums first trials sums.now
+        → AreRowsFor layout.now.picks (lead_of layout.now.rows grid.now unit) first trials t.items) }
 {
-    let settings = grid.point(alloc, number)?;
     let mut table = Table::new(alloc);
-    table.push_point(alloc, &settings, sums)?;
+    table.push_unit(alloc, grid, layout, unit, sums)?;
     let text = table.into_text()?;
     Ok(text)
 }
@@ -62,15 +63,16 @@ pub(crate) fn write_header<O: Outlet>(
     alloc: Global,
     grid: &Grid,
     shard: Shard,
+    layout: &Layout,
     outlet: &mut O,
 ) -> Result<(), SweepError>
     requires { O.failed outlet.old < 2 ^ 64 - 1 }
-    ensures whole { OnOk result (Wrote O.told O.failed outlet.old outlet.new (shard_header grid.now shard)) }
-    ensures part { IfErr result (HeaderFails grid.now shard O.told O.failed outlet.old outlet.new) }
+    ensures whole { OnOk result (Wrote O.told O.failed outlet.old outlet.new (shard_header grid.now shard layout.now)) }
+    ensures part { IfErr result (HeaderFails grid.now shard layout.now O.told O.failed outlet.old outlet.new) }
 {
     if !shard.is_first() {
         return Ok(());
     }
-    let header = header_of(alloc, grid)?;
+    let header = header_of(alloc, grid, layout)?;
     write_text(&header, outlet)
 }

@@ -1,31 +1,51 @@
 //! Who is told how far a sweep has come.
-ghost use Rattle.std.specs.Prelude.{◌≡◌, ◌∷◌, [], false, Bool, List};
+ghost use Rattle.std.specs.Prelude.{◌≡◌, ◌<◌, ◌∷◌, [], false, Bool, List, length};
 ghost use Rattle.event_list.specs.Joins.{HaveJoined};
+ghost use Rattle.study.specs.Grid.{points};
+
+use study::Grid;
+use toml::Table;
+
+/// What is done with the runs of a sweep, one after the other.
+#[derive(Clone, Copy, Debug, PartialEq, Eq)]
+pub enum Pass {
+    /// Their scenarios are read.
+    Reading,
+    /// They are run.
+    Running,
+}
 
 /// How far a sweep has come.
 #[derive(Clone, Copy, Debug, PartialEq, Eq)]
 pub struct Standing {
+    /// What is done with the runs.
+    pub pass: Pass,
     /// How many points are swept: of a shard its own.
     pub points: u64,
     /// How many runs each of them has.
     pub runs: u64,
-    /// How many of all these runs are in.
+    /// With how many of all these runs it is done.
     pub done: u64,
 }
 
 /// Is told how far a sweep has come, and may show it. Whatever it does, the sweep answers and writes the same.
 pub trait Watcher {
-    ghost use Rattle.sweep.specs.declared.watcher.Standing.{Standing};
+    ghost use Rattle.sweep.specs.Watching.{News, stands, limits};
 
     /// The first, after it heard of these in this order, is the second.
-    ghost heard: { Self → List Standing → Self → Type 0 };
+    ghost heard: { Self → List News → Self → Type 0 };
 
     /// Whether something that it has shown still stands there.
     ghost shows: { Self → Bool };
 
     /// The sweep has come so far.
     fn hear(&mut self, standing: Standing)
-        ensures { HaveJoined heard self.old self.new (standing ∷ []) };
+        ensures { HaveJoined heard self.old self.new (stands standing ∷ []) };
+
+    /// The last run of a point of this study, from 0, is in, and so many of the point's runs passed their limit.
+    fn limited(&mut self, file: &Table, grid: &Grid, point: u64, count: u64)
+        requires { point < length (points grid.now) }
+        ensures { HaveJoined heard self.old self.new (limits point count ∷ []) };
 
     /// Rows are to go out now, maybe where it shows something.
     fn make_way(&mut self)
@@ -47,6 +67,8 @@ impl Watcher for Unwatched {
     ghost shows = { λ _. false };
 
     fn hear(&mut self, _standing: Standing) {}
+
+    fn limited(&mut self, _file: &Table, _grid: &Grid, _point: u64, _count: u64) {}
 
     fn make_way(&mut self) {}
 

@@ -41,9 +41,10 @@ use std::marker::Sync;
 use std::rt::Files;
 use std::sync::Wait;
 use std::thread::Threads;
+use std::time::Clock;
 
 /// What comes of a transcript: the cases that failed, and how many there were.
-fn go_through<R: Files + Threads + Wait + Sync>(
+fn go_through<R: Files + Threads + Wait + Sync + Clock>(
     rt: &R,
     alloc: Global,
     text: &str,
@@ -56,7 +57,7 @@ fn go_through<R: Files + Threads + Wait + Sync>(
 }
 
 /// What comes of the transcript that an input holds.
-fn report<R: Files + Threads + Wait + Sync, I: Read>(
+fn report<R: Files + Threads + Wait + Sync + Clock, I: Read>(
     rt: &R,
     alloc: Global,
     input: &mut I,

@@ -9,7 +9,17 @@ use std::marker::Sync;
 use std::rt::Files;
 use std::sync::Wait;
 use std::thread::Threads;
-use sweep::Unwatched;
+use std::time::Clock;
+use study_commands::progress_line::ProgressLine;
+
+/// Puts lines of standard error at the end of a text.
+fn push_faults(printed: &mut String, faults: &[u8]) -> Result<(), Fault> {
+    for line in std::str::from_utf8(faults)?.lines() {
+        printed.push_str("! ")?;
+        push_line(printed, line)?;
+    }
+    Ok(())
+}
 
 /// What a run answered and wrote.
 #[derive(Drop)]
@@ -17,11 +27,12 @@ pub struct Ran {
     status: u8,
     out: MemoryOutlet,
     faults: MemoryOutlet,
+    notes: Vec<u8>,
 }
 
 impl Ran {
     /// A run of the program that the first word names, over this input.
-    pub fn new<R: Files + Threads + Wait + Sync>(
+    pub fn new<R: Files + Threads + Wait + Sync + Clock>(
         rt: &R,
         alloc: Global,
         line: &str,
@@ -29,6 +40,7 @@ impl Ran {
     ) -> Result<Ran, Fault> {
         let words: Vec<&str> = line.split(' ').collect(alloc)?;
         let (mut out, mut faults) = (MemoryOutlet::new(alloc), MemoryOutlet::new(alloc));
+        let mut notes = Vec::new(alloc);
         let status = match words.first() {
             Some(&"fdbench") => {
                 bench_commands::serve::serve(rt, alloc, &words, &mut input, &mut out, &mut faults)
@@ -40,7 +52,7 @@ impl Ran {
                 &mut input,
                 &mut out,
                 &mut faults,
-                &mut Unwatched,
+                &mut ProgressLine::new(rt, alloc, &mut notes, false, false),
             ),
             _ => return Err(Fault::NoCommand),
         };
@@ -48,16 +60,15 @@ impl Ran {
             status,
             out,
             faults,
+            notes,
         })
     }
 
     /// What it printed: standard output, then the lines of standard error after `! `, then a status that isn't 0.
     pub fn printed(&self, alloc: Global) -> Result<String, Fault> {
         let mut printed = String::from_str(alloc, std::str::from_utf8(self.out.bytes())?)?;
-        for line in std::str::from_utf8(self.faults.bytes())?.lines() {
-            printed.push_str("! ")?;
-            push_line(&mut printed, line)?;
-        }
+        push_faults(&mut printed, &self.notes)?;
+        push_faults(&mut printed, self.faults.bytes())?;
         if self.status != 0 {
             push_line(&mut printed, &format!(in alloc; "status {}", self.status)?)?;
         }

@@ -10,6 +10,7 @@ use std::marker::Sync;
 use std::rt::Files;
 use std::sync::Wait;
 use std::thread::Threads;
+use std::time::Clock;
 
 /// A file that the transcript has named.
 #[derive(Drop)]
@@ -46,7 +47,7 @@ impl<'a> Transcript<'a> {
     }
 
     /// Takes a block.
-    pub fn take<R: Files + Threads + Wait + Sync>(
+    pub fn take<R: Files + Threads + Wait + Sync + Clock>(
         &mut self,
         rt: &R,
         block: &'a str,
@@ -83,7 +84,7 @@ impl<'a> Transcript<'a> {
     }
 
     /// Runs the cases of a block.
-    fn run_all<R: Files + Threads + Wait + Sync>(
+    fn run_all<R: Files + Threads + Wait + Sync + Clock>(
         &mut self,
         rt: &R,
         head: &str,
@@ -101,7 +102,11 @@ impl<'a> Transcript<'a> {
     }
 
     /// Runs a case, and says so where it comes out otherwise.
-    fn run<R: Files + Threads + Wait + Sync>(&mut self, rt: &R, case: &Case) -> Result<(), Fault> {
+    fn run<R: Files + Threads + Wait + Sync + Clock>(
+        &mut self,
+        rt: &R,
+        case: &Case,
+    ) -> Result<(), Fault> {
         self.cases = self.cases.saturating_add(1);
         let failure = match self.difference(rt, case) {
             Ok(failure) => failure,
@@ -119,7 +124,7 @@ impl<'a> Transcript<'a> {
     }
 
     /// What comes of a case, where that is not what is wanted.
-    fn difference<R: Files + Threads + Wait + Sync>(
+    fn difference<R: Files + Threads + Wait + Sync + Clock>(
         &self,
         rt: &R,
         case: &Case,
@@ -140,7 +145,7 @@ impl<'a> Transcript<'a> {
     }
 
     /// What a command prints, with these changes of its input; or the digest of what it writes.
-    fn printed<R: Files + Threads + Wait + Sync>(
+    fn printed<R: Files + Threads + Wait + Sync + Clock>(
         &self,
         rt: &R,
         command: &str,

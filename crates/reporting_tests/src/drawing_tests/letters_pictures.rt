@@ -2,11 +2,11 @@
 use super::pictures::{ONE_CRASH, answer_of};
 use crate::comparisons::same;
 use crate::traces::{
-    CRASH_AT_3, number_of, pid_of, scenario_of, small_number_of, trace_of, word_of,
+    CRASH_AT_3, number_of, pid, pid_of, scenario_of, small_number_of, trace_of, word_of,
 };
 use drawing::{DrawError, MOST_LETTERS, draw_letters};
 use letters::{Letter, LetterFate};
-use process_api::{Kind, Trace};
+use process_api::{Kind, Pid, Trace};
 use scenario::Scenario;
 use std::alloc::Global;
 use std::process::Abort;
@@ -86,13 +86,20 @@ impl Drawn {
         }
     }
 
-    /// Its picture between these ticks.
-    fn draw(&self, alloc: Global, from: u32, until: u32) -> Result<Vec<u8>, DrawError> {
+    /// Its picture between these ticks, with the letters of these processes.
+    fn draw(
+        &self,
+        alloc: Global,
+        of: &[Pid],
+        from: u32,
+        until: u32,
+    ) -> Result<Vec<u8>, DrawError> {
         draw_letters(
             alloc,
             &self.scenario,
             &self.trace,
             &self.letters,
+            of,
             from,
             until,
         )
@@ -164,18 +171,35 @@ const MARKED: &str =
 </svg>
 ";
 
+/// The same with the letters of process 2 alone: the lost ones are of others.
+const OF_2: &str = "<text class=\"title\" x=\"78\" y=\"245\" text-anchor=\"end\">process 3</text>
+<line class=\"life\" x1=\"88\" y1=\"241\" x2=\"888\" y2=\"241\"/>
+<circle class=\"decision\" cx=\"568\" cy=\"241\" r=\"4\"/>
+<line marker-end=\"url(#head)\" class=\"reduction\" x1=\"408\" y1=\"115\" x2=\"568\" y2=\"178\"/>
+<line class=\"late\" x1=\"408\" y1=\"178\" x2=\"888\" y2=\"241\"/>
+<circle class=\"second\" cx=\"408\" cy=\"115\" r=\"3\"/>
+<text class=\"remark\" x=\"408\" y=\"109\" text-anchor=\"middle\">+3</text>
+<circle class=\"second\" cx=\"568\" cy=\"115\" r=\"3\"/>
+<text class=\"remark\" x=\"568\" y=\"109\" text-anchor=\"middle\">-3</text>
+<text class=\"remark\" x=\"568\" y=\"257\" text-anchor=\"end\">decides 7</text>
+</svg>
+";
+
 /// The shapes with which pictures end: of two processes between two pairs of ticks, and of three.
 #[test]
 fn shapes(rt: HostRuntime) {
     let alloc = rt.alloc();
     let two = Drawn::new(&rt, alloc, (2, CRASH_AT_3), ONE_CRASH, LETTERS);
     let three = Drawn::new(&rt, alloc, (3, SHARE), NOTED, SENT);
-    for (run, from, until, shapes) in [
-        (&two, 0, 10, SHAPES),
-        (&two, 4, 5, TICK_4),
-        (&three, 4, 9, MARKED),
+    let second = [pid(&rt, 2)];
+    let (all, second) = (&second[..0], &second[..]);
+    for (run, of, (from, until), shapes) in [
+        (&two, all, (0, 10), SHAPES),
+        (&two, second, (4, 5), TICK_4),
+        (&three, all, (4, 9), MARKED),
+        (&three, second, (4, 9), OF_2),
     ] {
-        let text = run.draw(alloc, from, until).expect(&rt, "no picture");
+        let text = run.draw(alloc, of, from, until).expect(&rt, "no picture");
         assert!(rt; text.as_slice().ends_with(shapes.as_bytes()), "{from}");
     }
 }
@@ -195,13 +219,15 @@ fn refusals(rt: HostRuntime) {
     let alloc = rt.alloc();
     let (start, letter) = ("0,1,1,0,start,1,0,\n", "4,1,2,1,alive,6,taken\n");
     let seventeen = Drawn::new(&rt, alloc, (17, ""), start, letter);
-    same(&rt, &answer_of(seventeen.draw(alloc, 5, 5)), &"processes");
+    same(&rt, &answer_of(seventeen.draw(alloc, &[], 5, 5)), &"processes");
     let mut two = Drawn::new(&rt, alloc, (2, ""), start, letter);
     for (more, from, until, wanted) in &ANSWERS {
         for _ in 0..*more {
             let letter = letter_of(&rt, "5,1,2,1,alive,7,taken");
             two.letters.push(letter).expect(&rt, "no memory");
         }
-        same(&rt, &answer_of(two.draw(alloc, *from, *until)), wanted);
+        same(&rt, &answer_of(two.draw(alloc, &[], *from, *until)), wanted);
     }
+    let third = [pid(&rt, 3)];
+    same(&rt, &answer_of(two.draw(alloc, &third, 0, 10)), &"drawn");
 }

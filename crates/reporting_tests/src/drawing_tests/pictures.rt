@@ -22,7 +22,7 @@ pub const ONE_CRASH: &str = "0,1,1,0,start,1,0,
 ";
 
 /// What the picture of ten ticks shows below its legend and its axis: a tick is 80 units wide, the rows of process 1
-/// begin at 80 and 96, those of process 2 at 122 and 138.
+/// begin at 80 and 96, that of process 2 at 122. Process 2 suspects nobody.
 const ROWS: &str = "<text class=\"title\" x=\"78\" y=\"92\" text-anchor=\"end\">process 1</text>
 <line class=\"life\" x1=\"88\" y1=\"88\" x2=\"888\" y2=\"88\"/>
 <text class=\"label\" x=\"78\" y=\"108\" text-anchor=\"end\">1: 2</text>
@@ -32,8 +32,6 @@ const ROWS: &str = "<text class=\"title\" x=\"78\" y=\"92\" text-anchor=\"end\">
 <text class=\"title\" x=\"78\" y=\"134\" text-anchor=\"end\">process 2</text>
 <line class=\"life\" x1=\"88\" y1=\"130\" x2=\"328\" y2=\"130\"/>
 <use href=\"#cross\" class=\"crash\" x=\"328\" y=\"130\"/>
-<text class=\"label\" x=\"78\" y=\"150\" text-anchor=\"end\">2: 1</text>
-<line class=\"grid\" x1=\"88\" y1=\"153\" x2=\"328\" y2=\"153\"/>
 </svg>
 ";
 

@@ -1,15 +1,35 @@
 //! Two whole pictures, worked out by hand: of ticks 5 to 9, each 160 units wide.
 use super::letters_pictures::letters_of;
-use crate::traces::{scenario_of, trace_of};
+use crate::traces::trace_of;
 use drawing::{draw_letters, draw_suspicions};
+use scenario::read_scenario;
 use std::process::Abort;
 
-/// Process 2 of two crashes at tick 6, and there is a reduction.
-const TABLES: &str = "[share]
+/// Process 2 of two crashes at tick 6, there is a reduction, and the link from process 2 to process 1 is cut at ticks 6
+/// and 7.
+const FILE: &str = "version = 2
+processes = 2
+horizon = 10
+lookahead = 2
+seed = 1
+algorithm = \"none\"
+[share]
 period = 2
 [[crash]]
 process = 2
 at = 6
+[[outage]]
+from = 2
+to = 1
+begin = 6
+until = 8
+[detector]
+period = 4
+check = 3
+timeout = 5
+[link]
+min = 2
+max = 2
 ";
 
 /// Process 1 suspects process 2 from tick 7 on, and by the reduction from tick 8 on. It decides 7 at tick 9.
@@ -41,6 +61,7 @@ line,use{fill:none;stroke-width:1}
 .grid{stroke:#57606a;stroke-opacity:0.25}
 .first{fill:#0072b2}
 .second{fill:#e69f00}
+.outage{fill:#d8dee4}
 .crash{stroke:#d55e00;stroke-width:2}
 .decision{fill:#009e73}
 .detector{stroke:#0072b2}
@@ -58,6 +79,7 @@ text{fill:#e6edf3}
 .remark{stroke:#0d1117}
 .axis,.life,.grid{stroke:#9da7b1}
 .first{fill:#56b4e9}
+.outage{fill:#30363d}
 .detector{stroke:#56b4e9}
 .head{fill:#56b4e9}
 }
@@ -79,12 +101,12 @@ text{fill:#e6edf3}
 </defs>
 ";
 
-/// Two groups of 42 units, between 80 above and 28 below.
+/// Groups of 42 and 26 units, between 80 above and 28 below.
 const SUSPICIONS_HEAD: &str = "\
-<svg xmlns=\"http://www.w3.org/2000/svg\" role=\"img\" viewBox=\"0 0 928 192\" width=\"928\" height=\"192\">
+<svg xmlns=\"http://www.w3.org/2000/svg\" role=\"img\" viewBox=\"0 0 928 176\" width=\"928\" height=\"176\">
 ";
 
-/// The title, and what bars and marks mean.
+/// The title, and what bars, marks and bands mean; then the band of the one row that has one.
 const SUSPICIONS_LEGEND: &str = "\
 <text class=\"title\" x=\"88\" y=\"20\" text-anchor=\"start\">Who suspects whom, ticks 5 to 9</text>
 <rect class=\"first\" x=\"88\" y=\"34\" width=\"24\" height=\"6\"/>
@@ -95,33 +117,37 @@ const SUSPICIONS_LEGEND: &str = "\
 <text class=\"label\" x=\"410\" y=\"42\" text-anchor=\"start\">decision</text>
 <rect class=\"second\" x=\"488\" y=\"34\" width=\"24\" height=\"6\"/>
 <text class=\"label\" x=\"518\" y=\"42\" text-anchor=\"start\">suspected by the reduction</text>
+<rect class=\"outage\" x=\"708\" y=\"34\" width=\"24\" height=\"6\"/>
+<text class=\"label\" x=\"738\" y=\"42\" text-anchor=\"start\">outage</text>
+<text class=\"label\" x=\"888\" y=\"20\" text-anchor=\"end\">pairs without a bar, left out: 1</text>
+<rect class=\"outage\" x=\"248\" y=\"96\" width=\"320\" height=\"16\"/>
 ";
 
-/// Six labels, at the ends of five ticks. The rows end at 164.
+/// Six labels, at the ends of five ticks. The rows end at 148.
 const SUSPICIONS_AXIS: &str = "\
 <line class=\"axis\" x1=\"88\" y1=\"72\" x2=\"888\" y2=\"72\"/>
-<line class=\"axis\" x1=\"88\" y1=\"164\" x2=\"888\" y2=\"164\"/>
-<line class=\"grid\" x1=\"88\" y1=\"72\" x2=\"88\" y2=\"164\"/>
+<line class=\"axis\" x1=\"88\" y1=\"148\" x2=\"888\" y2=\"148\"/>
+<line class=\"grid\" x1=\"88\" y1=\"72\" x2=\"88\" y2=\"148\"/>
 <text class=\"label\" x=\"88\" y=\"68\" text-anchor=\"middle\">5</text>
-<text class=\"label\" x=\"88\" y=\"178\" text-anchor=\"middle\">5</text>
-<line class=\"grid\" x1=\"248\" y1=\"72\" x2=\"248\" y2=\"164\"/>
+<text class=\"label\" x=\"88\" y=\"162\" text-anchor=\"middle\">5</text>
+<line class=\"grid\" x1=\"248\" y1=\"72\" x2=\"248\" y2=\"148\"/>
 <text class=\"label\" x=\"248\" y=\"68\" text-anchor=\"middle\">6</text>
-<text class=\"label\" x=\"248\" y=\"178\" text-anchor=\"middle\">6</text>
-<line class=\"grid\" x1=\"408\" y1=\"72\" x2=\"408\" y2=\"164\"/>
+<text class=\"label\" x=\"248\" y=\"162\" text-anchor=\"middle\">6</text>
+<line class=\"grid\" x1=\"408\" y1=\"72\" x2=\"408\" y2=\"148\"/>
 <text class=\"label\" x=\"408\" y=\"68\" text-anchor=\"middle\">7</text>
-<text class=\"label\" x=\"408\" y=\"178\" text-anchor=\"middle\">7</text>
-<line class=\"grid\" x1=\"568\" y1=\"72\" x2=\"568\" y2=\"164\"/>
+<text class=\"label\" x=\"408\" y=\"162\" text-anchor=\"middle\">7</text>
+<line class=\"grid\" x1=\"568\" y1=\"72\" x2=\"568\" y2=\"148\"/>
 <text class=\"label\" x=\"568\" y=\"68\" text-anchor=\"middle\">8</text>
-<text class=\"label\" x=\"568\" y=\"178\" text-anchor=\"middle\">8</text>
-<line class=\"grid\" x1=\"728\" y1=\"72\" x2=\"728\" y2=\"164\"/>
+<text class=\"label\" x=\"568\" y=\"162\" text-anchor=\"middle\">8</text>
+<line class=\"grid\" x1=\"728\" y1=\"72\" x2=\"728\" y2=\"148\"/>
 <text class=\"label\" x=\"728\" y=\"68\" text-anchor=\"middle\">9</text>
-<text class=\"label\" x=\"728\" y=\"178\" text-anchor=\"middle\">9</text>
-<line class=\"grid\" x1=\"888\" y1=\"72\" x2=\"888\" y2=\"164\"/>
+<text class=\"label\" x=\"728\" y=\"162\" text-anchor=\"middle\">9</text>
+<line class=\"grid\" x1=\"888\" y1=\"72\" x2=\"888\" y2=\"148\"/>
 <text class=\"label\" x=\"888\" y=\"68\" text-anchor=\"middle\">10</text>
-<text class=\"label\" x=\"888\" y=\"178\" text-anchor=\"middle\">10</text>
+<text class=\"label\" x=\"888\" y=\"162\" text-anchor=\"middle\">10</text>
 ";
 
-/// The rows begin at 80, 96, 122 and 138.
+/// The rows begin at 80, 96 and 122. Process 2 suspects nobody.
 const SUSPICIONS_ROWS: &str = "\
 <text class=\"title\" x=\"78\" y=\"92\" text-anchor=\"end\">process 1</text>
 <line class=\"life\" x1=\"88\" y1=\"88\" x2=\"888\" y2=\"88\"/>
@@ -134,8 +160,6 @@ const SUSPICIONS_ROWS: &str = "\
 <text class=\"title\" x=\"78\" y=\"134\" text-anchor=\"end\">process 2</text>
 <line class=\"life\" x1=\"88\" y1=\"130\" x2=\"248\" y2=\"130\"/>
 <use href=\"#cross\" class=\"crash\" x=\"248\" y=\"130\"/>
-<text class=\"label\" x=\"78\" y=\"150\" text-anchor=\"end\">2: 1</text>
-<line class=\"grid\" x1=\"88\" y1=\"153\" x2=\"248\" y2=\"153\"/>
 </svg>
 ";
 
@@ -144,7 +168,7 @@ const LETTERS_HEAD: &str = "\
 <svg xmlns=\"http://www.w3.org/2000/svg\" role=\"img\" viewBox=\"0 0 928 216\" width=\"928\" height=\"216\">
 ";
 
-/// The title, and what arrows and marks mean.
+/// The title, and what arrows, marks and bands mean; then the band of process 2.
 const LETTERS_LEGEND: &str = "\
 <text class=\"title\" x=\"88\" y=\"20\" text-anchor=\"start\">What went from whom to whom, ticks 5 to 9</text>
 <line marker-end=\"url(#head)\" class=\"detector\" x1=\"88\" y1=\"34\" x2=\"112\" y2=\"34\"/>
@@ -165,6 +189,9 @@ const LETTERS_LEGEND: &str = "\
 <text class=\"label\" x=\"170\" y=\"54\" text-anchor=\"start\">decision</text>
 <circle class=\"second\" cx=\"238\" cy=\"50\" r=\"3\"/>
 <text class=\"label\" x=\"250\" y=\"54\" text-anchor=\"start\">+2: suspects process 2, -2: trusts it again</text>
+<rect class=\"outage\" x=\"528\" y=\"46\" width=\"24\" height=\"6\"/>
+<text class=\"label\" x=\"558\" y=\"54\" text-anchor=\"start\">outage</text>
+<rect class=\"outage\" x=\"248\" y=\"152\" width=\"320\" height=\"16\"/>
 ";
 
 /// The same labels. The rooms end at 188.
@@ -222,7 +249,8 @@ fn is_made_of<R: Abort>(rt: &R, text: &[u8], pieces: &[&str]) {
 #[test]
 fn whole_pictures(rt: HostRuntime) {
     let alloc = rt.alloc();
-    let scenario = scenario_of(&rt, alloc, 2, 10, TABLES);
+    let scenario = read_scenario(alloc, FILE.as_bytes());
+    let scenario = scenario.expect(&rt, "not a scenario");
     let trace = trace_of(&rt, alloc, NOTED);
     let text = draw_suspicions(alloc, &scenario, &trace, 5, 10);
     let text = text.expect(&rt, "no picture");
@@ -235,7 +263,7 @@ fn whole_pictures(rt: HostRuntime) {
     ];
     is_made_of(&rt, &text, &pieces);
     let letters = letters_of(&rt, alloc, SENT);
-    let text = draw_letters(alloc, &scenario, &trace, &letters, 5, 10);
+    let text = draw_letters(alloc, &scenario, &trace, &letters, &[], 5, 10);
     let text = text.expect(&rt, "no picture");
     let pieces = [
         LETTERS_HEAD,

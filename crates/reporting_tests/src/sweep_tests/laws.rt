@@ -8,22 +8,24 @@ use reporting::MemoryOutlet;
 use std::alloc::Global;
 use std::marker::Sync;
 use std::thread::Threads;
+use std::time::Clock;
 use study::{Grid, Shard};
-use sweep::{SweepError, Unwatched, law_one_text, law_shard_texts, sweep};
+use sweep::{Layout, SweepError, Unwatched, law_one_text, law_shard_texts, sweep};
 use toml::Table;
 
 /// The texts of so many shards, one after the other: it is a text of the whole study.
-fn sweep_shards<R: Threads + Sync>(
+fn sweep_shards<R: Threads + Sync + Clock>(
     rt: &R,
     alloc: Global,
     file: &Table,
     grid: &Grid,
+    layout: &Layout,
     shards: u32,
     threads: u8,
 ) -> Result<MemoryOutlet, SweepError>
     requires some { 1 ≤ shards }
     ensures whole { IfOk result
-        (λ o. IsStudyText (table_view file.now) grid.now (record { number = 1; of = 1 }) o.bytes) }
+        (λ o. IsStudyText (table_view file.now) grid.now (record { number = 1; of = 1 }) layout.now o.bytes) }
 {
     let mut outlet = MemoryOutlet::new(alloc);
     for before in 0..shards {
@@ -36,28 +38,30 @@ fn sweep_shards<R: Threads + Sync>(
             file,
             grid,
             shard,
+            layout,
             threads,
             &mut outlet,
             &mut Unwatched,
         )?;
     }
-    law_shard_texts(file, grid, shards);
+    law_shard_texts(file, grid, layout, shards);
     Ok(outlet)
 }
 
 /// The shards one after the other by so many threads, and the whole by one thread: the same bytes.
-fn shards_and_whole<R: Threads + Sync>(
+fn shards_and_whole<R: Threads + Sync + Clock>(
     rt: &R,
     alloc: Global,
     file: &Table,
     grid: &Grid,
+    layout: &Layout,
     shards: u32,
     threads: u8,
 ) -> Result<(MemoryOutlet, MemoryOutlet), SweepError>
     requires some { 1 ≤ shards }
     ensures same { IfOk result (λ both. both.0.bytes ≡ both.1.bytes) }
 {
-    let parts = sweep_shards(rt, alloc, file, grid, shards, threads)?;
+    let parts = sweep_shards(rt, alloc, file, grid, layout, shards, threads)?;
     let mut whole = MemoryOutlet::new(alloc);
     sweep(
         rt,
@@ -65,11 +69,12 @@ fn shards_and_whole<R: Threads + Sync>(
         file,
         grid,
         Shard::whole(),
+        layout,
         1,
         &mut whole,
         &mut Unwatched,
     )?;
-    law_one_text(file, grid, Shard::whole());
+    law_one_text(file, grid, Shard::whole(), layout);
     Ok((parts, whole))
 }
 
@@ -79,7 +84,15 @@ fn shards_make_the_whole(rt: HostRuntime) {
     let alloc = rt.alloc();
     let seven = seven_points(&rt, alloc);
     for (shards, threads) in [(1, 2), (3, 1), (3, 4), (7, 2), (9, 2)] {
-        let both = shards_and_whole(&rt, alloc, &seven.file, &seven.grid, shards, threads);
+        let both = shards_and_whole(
+            &rt,
+            alloc,
+            &seven.file,
+            &seven.grid,
+            &seven.layout,
+            shards,
+            threads,
+        );
         let (parts, whole) = both.expect(&rt, "no sweep");
         assert!(rt; !whole.bytes().is_empty());
         assert!(rt;

@@ -1,4 +1,5 @@
 //! What tests share: runs, the settings of a point, and the text of its rows.
+use super::studies::{axes, layout_of};
 use crate::comparisons::same;
 use crate::findings::{outcome, quiet, without_mistake};
 use crate::traces::{CRASH_AT_3, scenario_of};
@@ -7,16 +8,18 @@ use reporting::{Detection, RunFindings, Summary};
 use scenario::Scenario;
 use std::alloc::Global;
 use std::process::Abort;
-use study::{Axis, Choice, Key, Setting};
-use sweep::{PointSums, RunNumbers, Table};
+use study::Grid;
+use sweep::{PointSums, Rows, RunNumbers, Table};
 
 /// The first line after the names of the varied keys.
 pub const HEADER: &str =
-    "layer,runs,limited,entries,sent,lost,pair_ticks,mistakes,mistake_ticks,recurrence_sum,\
-     recurrence_count,duration_sum,duration_count,good_sum,good_count,detections,undetected,detection_sum,\
-     detection_p50,detection_p90,detection_p99,detection_max,strong_completeness,weak_completeness,\
-     strong_accuracy,weak_accuracy,eventual_strong_accuracy,eventual_weak_accuracy,decided,decision_tick_sum,\
-     decision_tick_max,rounds_max,disagreements\n";
+    "layer,runs,limited,entries,sent,lost,pair_ticks,mistakes,mistake_ticks,mistake_recurrence,mistaken_ppm,\
+     mistakes_squared_sum,runs_with_mistakes,recurrence_sum,recurrence_count,duration_sum,duration_count,\
+     good_sum,good_count,detections,undetected,at_once,detection_sum,detection_p50,detection_p90,\
+     detection_p99,detection_max,strong_completeness,weak_completeness,strong_accuracy,weak_accuracy,\
+     eventual_strong_accuracy,eventual_weak_accuracy,to_decide,decided,decision_tick_sum,decision_tick_max,\
+     all_decided,last_decision_p50,last_decision_p90,last_decision_p99,last_decision_max,rounds_p50,\
+     rounds_p99,rounds_max,disagreements,mistake_run,detection_max_run,disagreement_run\n";
 
 /// The bytes are the first line, which begins with these words, and these rows.
 pub fn is_text<R: Abort>(rt: &R, alloc: Global, bytes: &[u8], words: &str, rows: &str) {
@@ -72,50 +75,30 @@ pub fn crash_run<R: Abort>(
     RunNumbers::of_run(alloc, &crash_at_3(rt, alloc), &found).expect(rt, "no memory")
 }
 
-/// A varied time-out, with one value.
-pub fn timeout<R: Abort>(rt: &R, alloc: Global, value: Setting) -> Axis {
-    let mut values = Vec::new(alloc);
-    values.push(value).expect(rt, "no memory");
-    assert!(rt; !values.is_empty());
-    Axis {
-        key: Key::Inner {
-            table: String::from_str(alloc, "detector").expect(rt, "no memory"),
-            key: String::from_str(alloc, "timeout").expect(rt, "no memory"),
-        },
-        values,
-    }
+/// The grid that varies the axes that these words say, with one seed.
+pub fn grid_of<R: Abort>(rt: &R, alloc: Global, vary: &[&str]) -> Grid {
+    let vary = axes(rt, alloc, vary);
+    Grid::new(alloc, vary, Vec::new(alloc), Vec::new(alloc), 1, 1).expect(rt, "no study")
 }
 
-/// The text of the rows of a point with these settings and sums.
-pub fn rows_of<R: Abort>(
-    rt: &R,
-    alloc: Global,
-    settings: &[Choice<'_>],
-    sums: &PointSums,
-) -> Vec<u8> {
+/// The text of the rows of a grid's first point with these sums.
+pub fn rows_of<R: Abort>(rt: &R, alloc: Global, grid: &Grid, sums: &PointSums) -> Vec<u8> {
+    let layout = layout_of(rt, alloc, grid, Rows::Points, None);
+    assert!(rt; grid.points() > 0);
     let mut table = Table::new(alloc);
     table
-        .push_point(alloc, settings, sums)
+        .push_unit(alloc, grid, &layout, 0, sums)
         .expect(rt, "no memory");
     table.into_text().expect(rt, "no memory")
 }
 
 /// The rows of these runs' point, at one time-out, are these.
-pub fn are_rows<R: Abort>(
-    rt: &R,
-    alloc: Global,
-    runs: &[RunNumbers],
-    value: Setting,
-    wanted: &str,
-) {
-    let mut sums = PointSums::new(alloc);
+pub fn are_rows<R: Abort>(rt: &R, alloc: Global, runs: &[RunNumbers], timeout: &str, wanted: &str) {
+    let mut sums = PointSums::new(alloc, 1);
     for run in runs {
         sums.add(run).expect(rt, "no memory");
     }
-    let axis = timeout(rt, alloc, value);
-    let settings = [Choice {
-        key: &axis.key,
-        value: axis.values.first().expect(rt, "an axis has no values"),
-    }];
-    is_same(rt, &rows_of(rt, alloc, &settings, &sums), wanted);
+    let axis = format!(in alloc; "detector.timeout={timeout}").expect(rt, "no memory");
+    let grid = grid_of(rt, alloc, &[axis.as_str()]);
+    is_same(rt, &rows_of(rt, alloc, &grid, &sums), wanted);
 }

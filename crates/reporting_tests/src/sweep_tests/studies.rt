@@ -1,29 +1,46 @@
 //! What tests of sweeps share: small studies by words, and their texts.
+ghost use Rattle.std.specs.Prelude.{◌≡◌};
+
 use crate::traces::{CRASH_AT_3, file_of};
 use reporting::MemoryOutlet;
 use std::alloc::Global;
 use std::marker::Sync;
 use std::process::Abort;
 use std::thread::Threads;
+use std::time::Clock;
 use study::{Axis, Grid, Shard};
-use sweep::{Unwatched, sweep};
+use sweep::{Layout, Rows, Unwatched, sweep};
 use toml::Table;
 
-/// A study of the file in which process 2 of two crashes at tick 3.
+/// A study of the file in which process 2 of two crashes at tick 3, with rows for points and all columns.
 #[derive(Drop)]
 pub struct Study {
     pub file: Table,
     pub grid: Grid,
+    pub layout: Layout,
 }
 
 /// The axes that these words say.
-fn axes<R: Abort>(rt: &R, alloc: Global, words: &[&str]) -> Vec<Axis> {
+pub fn axes<R: Abort>(rt: &R, alloc: Global, words: &[&str]) -> Vec<Axis> {
     let mut axes = Vec::new(alloc);
     for word in words {
         let axis = Axis::parse(alloc, word).expect(rt, "no axis");
         axes.push(axis).expect(rt, "no memory");
     }
     axes
+}
+
+/// The layout of such rows with these columns.
+pub fn layout_of<R: Abort>(
+    rt: &R,
+    alloc: Global,
+    grid: &Grid,
+    rows: Rows,
+    columns: Option<&str>,
+) -> Layout
+    ensures { result.rows ≡ rows }
+{
+    Layout::new(alloc, grid, rows, columns).expect(rt, "no layout")
 }
 
 /// The study that varies some keys and adds up over others, of the seeds from 1 to the last.
@@ -37,9 +54,12 @@ pub fn study_of<R: Abort>(
     let text = file_of(rt, alloc, 2, 10, CRASH_AT_3);
     let file = toml::table_from_str(alloc, text.as_str());
     let (vary, over) = (axes(rt, alloc, vary), axes(rt, alloc, over));
+    let grid = Grid::new(alloc, vary, over, Vec::new(alloc), 1, last_seed).expect(rt, "no study");
+    let layout = layout_of(rt, alloc, &grid, Rows::Points, None);
     Study {
         file: file.expect(rt, "no TOML"),
-        grid: Grid::new(alloc, vary, over, 1, last_seed).expect(rt, "no study"),
+        grid,
+        layout,
     }
 }
 
@@ -65,7 +85,7 @@ pub fn shard<R: Abort>(rt: &R, number: u32, of: u32) -> Shard {
 }
 
 /// The text of the whole study, by so many threads.
-pub fn swept<R: Threads + Sync + Abort>(
+pub fn swept<R: Threads + Sync + Clock + Abort>(
     rt: &R,
     alloc: Global,
     study: &Study,
@@ -78,6 +98,7 @@ pub fn swept<R: Threads + Sync + Abort>(
         &study.file,
         &study.grid,
         Shard::whole(),
+        &study.layout,
         threads,
         &mut outlet,
         &mut Unwatched,

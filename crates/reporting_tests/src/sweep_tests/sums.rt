@@ -1,17 +1,19 @@
 //! The rows of points whose runs are worked by hand.
-use super::rows::{are_rows, crash_at_3, crash_run, is_same, is_text, one_crash, rows_of, timeout};
+use super::rows::{are_rows, crash_at_3, crash_run, grid_of, is_same, is_text, one_crash, rows_of};
+use super::studies::layout_of;
+use crate::comparisons::same;
 use crate::findings::{outcome, quiet, without_mistake};
 use crate::traces::scenario_of;
 use judges::Answer;
 use reporting::{Detection, PairMeasures, RunFindings};
+use scenario::read_scenario;
 use std::alloc::Global;
 use std::process::Abort;
-use study::Setting;
-use sweep::{PointSums, RunNumbers, Table};
+use sweep::{FirstRuns, PointSums, Rows, RunNumbers, Table};
 
 /// One run, whose crash is detected after 6 ticks: each pair is watched for the 3 ticks before the crash. Four runs,
-/// with detections after 6 and 4 ticks, none, and a run that passed its limit, which is counted alone. And that run
-/// alone.
+/// with detections after 6 and 4 ticks, none, and a run that passed its limit, which is counted alone: of the three
+/// crashes half are detected within 6 ticks, and 90 in 100 aren't. And the run that passed its limit alone.
 #[test]
 fn one_crash_runs(rt: HostRuntime) {
     let alloc = rt.alloc();
@@ -19,8 +21,8 @@ fn one_crash_runs(rt: HostRuntime) {
         &rt,
         alloc,
         &[crash_run(&rt, alloc, Some(9), Detection::At(6))],
-        Setting::Integer(5),
-        "5,1,1,0,12,4,0,6,0,0,0,0,0,0,0,0,1,0,6,6,6,6,6,1,1,1,1,1,1,0,0,,,0\n",
+        "5",
+        "5,1,1,0,12,4,0,6,0,0,,0,0,0,0,0,0,0,0,0,1,0,0,6,6,6,6,6,1,1,1,1,1,1,0,0,0,,0,,,,,,,,0,,1,\n",
     );
     let scenario = crash_at_3(&rt, alloc);
     let runs = [
@@ -33,15 +35,15 @@ fn one_crash_runs(rt: HostRuntime) {
         &rt,
         alloc,
         &runs,
-        Setting::Integer(-8),
-        "-8,1,4,1,36,12,0,18,0,0,0,0,0,0,0,0,2,1,10,4,6,6,6,2,2,3,3,3,3,0,0,,,0\n",
+        "-8",
+        "-8,1,4,1,36,12,0,18,0,0,,0,0,0,0,0,0,0,0,0,2,1,0,10,6,,,6,2,2,3,3,3,3,0,0,0,,0,,,,,,,,0,,1,\n",
     );
     are_rows(
         &rt,
         alloc,
         &[RunNumbers::of_limited(alloc, &scenario)],
-        Setting::Integer(5),
-        "5,1,1,1,0,0,0,0,0,0,0,0,0,0,0,0,0,0,0,,,,,0,0,0,0,0,0,0,0,,,0\n",
+        "5",
+        "5,1,1,1,,,,,,,,,,,,,,,,,,,,,,,,,,,,,,,,,,,,,,,,,,,,,,\n",
     );
 }
 
@@ -88,34 +90,65 @@ fn two_layers(rt: HostRuntime) {
         &rt,
         alloc,
         &runs,
-        Setting::Integer(5),
-        "5,1,2,0,24,8,0,12,1,2,0,0,2,1,0,0,2,0,10,4,6,6,6,2,2,2,2,2,2,0,0,,,0\n\
-         5,2,1,0,12,4,0,6,0,0,0,0,0,0,0,0,0,1,0,,,,,0,0,1,1,1,1,0,0,,,0\n",
+        "5",
+        "5,1,2,0,24,8,0,12,1,2,12,166666,1,1,0,0,2,1,0,0,2,0,0,10,4,6,6,6,2,2,2,2,2,2,0,0,0,,0,,,,,,,,0,1,1,\n\
+         5,2,1,0,12,4,0,6,0,0,,0,0,0,0,0,0,0,0,0,0,1,0,0,,,,,0,0,1,1,1,1,0,0,0,,0,,,,,,,,0,,,\n",
     );
     are_rows(
         &rt,
         alloc,
         &[RunNumbers::of_limited(alloc, &with)],
-        Setting::Integer(5),
-        "5,1,1,1,0,0,0,0,0,0,0,0,0,0,0,0,0,0,0,,,,,0,0,0,0,0,0,0,0,,,0\n\
-         5,2,1,1,0,0,0,0,0,0,0,0,0,0,0,0,0,0,0,,,,,0,0,0,0,0,0,0,0,,,0\n",
+        "5",
+        "5,1,1,1,,,,,,,,,,,,,,,,,,,,,,,,,,,,,,,,,,,,,,,,,,,,,,\n\
+         5,2,1,1,,,,,,,,,,,,,,,,,,,,,,,,,,,,,,,,,,,,,,,,,,,,,,\n",
     );
 }
 
-/// Three runs: both processes decide 7, they decide 7 and 8, and one decides while the other ends with no value.
+/// Three processes with rotating coordinators, of which the third crashes at tick 3.
+const COORDINATED: &str = "version = 1
+processes = 3
+horizon = 10
+lookahead = 2
+seed = 1
+algorithm = \"es\"
+proposals = [7, 7, 8]
+[detector]
+period = 4
+check = 3
+timeout = 5
+[link]
+min = 2
+max = 2
+[[crash]]
+process = 3
+at = 3
+";
+
+/// Three runs of them. In the first all decide 7, the one that crashes at tick 2. In the second one correct process
+/// never decides, and the one that crashes decided another value. In the third one correct process ends with no value.
+/// So two of the three last decisions never come, and no percentile of them is a tick.
 #[test]
 fn decisions(rt: HostRuntime) {
     let alloc = rt.alloc();
-    let scenario = crash_at_3(&rt, alloc);
+    let scenario = read_scenario(alloc, COORDINATED.as_bytes()).expect(&rt, "not a scenario");
     let (seven, eight) = (Answer::Value(7), Answer::Value(8));
+    let none = (Answer::None, None, 3);
     let mut runs = Vec::new(alloc);
-    for (first, second) in [
-        ((seven, Some(4), 1), (seven, Some(6), 2)),
-        ((seven, Some(5), 1), (eight, Some(3), 1)),
-        ((Answer::NoValue, Some(9), 5), (eight, Some(2), 1)),
+    for (first, second, third) in [
+        (
+            (seven, Some(4), 1),
+            (seven, Some(6), 2),
+            (seven, Some(2), 1),
+        ),
+        ((seven, Some(5), 1), none, (eight, Some(1), 1)),
+        ((Answer::NoValue, Some(9), 5), (eight, Some(2), 1), none),
     ] {
-        let mut found = one_crash(&rt, alloc, Some(9), Detection::At(6));
-        let outcomes = [outcome(&rt, 1, first), outcome(&rt, 2, second)];
+        let mut found = one_crash(&rt, alloc, Some(9), Detection::Na);
+        let outcomes = [
+            outcome(&rt, 1, first),
+            outcome(&rt, 2, second),
+            outcome(&rt, 3, third),
+        ];
         found.summary.outcomes = Vec::from_array(alloc, outcomes).expect(&rt, "no memory");
         let run = RunNumbers::of_run(alloc, &scenario, &found).expect(&rt, "no memory");
         runs.push(run).expect(&rt, "no memory");
@@ -124,31 +157,115 @@ fn decisions(rt: HostRuntime) {
         &rt,
         alloc,
         &runs,
-        Setting::Integer(5),
-        "5,1,3,0,36,12,0,18,0,0,0,0,0,0,0,0,3,0,18,6,6,6,6,3,3,3,3,3,3,5,20,6,5,1\n",
+        "5",
+        "5,1,3,0,36,12,0,60,0,0,,0,0,0,0,0,0,0,0,0,0,0,0,0,,,,,3,3,3,3,3,3,6,4,17,6,1,,,,6,3,5,5,1,,,2\n",
     );
 }
 
-/// The first line, a setting with a comma and a quote, and the rows of a point without settings and without runs.
+/// Three processes in a circle, of which each watches the next alone. The second crashes at tick 3.
+const CIRCLE: &str = "version = 1
+processes = 3
+horizon = 10
+lookahead = 2
+seed = 1
+algorithm = \"none\"
+[detector]
+period = 4
+check = 3
+timeout = 5
+watch = \"next\"
+[link]
+min = 2
+max = 2
+[[crash]]
+process = 2
+at = 3
+";
+
+/// What is found of a run of them: a mistake of 2 ticks about process 3 by process 2, which watches it, and five by
+/// process 1, which doesn't. Process 1 suspected process 2 already as that crashed, and process 3 doesn't watch it.
+fn circle<R: Abort>(rt: &R, alloc: Global) -> RunFindings {
+    let pairs = [
+        quiet(rt, 1, 1, 2, Detection::At(0)),
+        PairMeasures {
+            mistakes: 5,
+            mistake_ticks: 10,
+            ..quiet(rt, 1, 1, 3, Detection::Na)
+        },
+        quiet(rt, 1, 2, 1, Detection::Na),
+        PairMeasures {
+            mistakes: 1,
+            mistake_ticks: 2,
+            duration_sum: 2,
+            duration_count: 1,
+            ..quiet(rt, 1, 2, 3, Detection::Na)
+        },
+        quiet(rt, 1, 3, 1, Detection::Na),
+        quiet(rt, 1, 3, 2, Detection::NoTick),
+    ];
+    RunFindings {
+        measures: Vec::from_array(alloc, pairs).expect(rt, "no memory"),
+        ..one_crash(rt, alloc, Some(3), Detection::Na)
+    }
+}
+
+/// Only the pairs count that are watched: they are watched for 3, 3 and 10 ticks. A run that passed its limit comes
+/// before, so what is told of has number 2; or 8, where the first has 7.
+#[test]
+fn watched_pairs(rt: HostRuntime) {
+    let alloc = rt.alloc();
+    let scenario = read_scenario(alloc, CIRCLE.as_bytes()).expect(&rt, "not a scenario");
+    let run = RunNumbers::of_run(alloc, &scenario, &circle(&rt, alloc));
+    let runs = [
+        RunNumbers::of_limited(alloc, &scenario),
+        run.expect(&rt, "no memory"),
+    ];
+    are_rows(
+        &rt,
+        alloc,
+        &runs,
+        "5",
+        "5,1,2,1,12,4,0,16,1,2,16,125000,1,1,0,0,2,1,0,0,1,0,1,0,0,0,0,0,1,1,1,1,1,1,0,0,0,,0,,,,,,,,0,2,2,\n",
+    );
+    let mut sums = PointSums::new(alloc, 7);
+    for run in &runs {
+        sums.add(run).expect(&rt, "no memory");
+    }
+    let wanted = FirstRuns {
+        mistake: Some(8),
+        detection_max: Some(8),
+        disagreement: None,
+    };
+    same(&rt, &sums.first().first_runs, &wanted);
+}
+
+/// The first line, a setting with a quote, and the rows of a point without settings and without runs.
 #[test]
 fn lines(rt: HostRuntime) {
     let alloc = rt.alloc();
     let mut table = Table::new(alloc);
-    let varied = [timeout(&rt, alloc, Setting::Integer(5))];
-    table.push_header(alloc, &varied).expect(&rt, "no memory");
+    let grid = grid_of(&rt, alloc, &["detector.timeout=5"]);
+    let layout = layout_of(&rt, alloc, &grid, Rows::Points, None);
+    table
+        .push_header(alloc, &grid, &layout)
+        .expect(&rt, "no memory");
     let header = table.into_text().expect(&rt, "no memory");
     is_text(&rt, alloc, &header, "detector.timeout,", "");
-    let odd = String::from_str(alloc, "a, \"b\"").expect(&rt, "no memory");
     are_rows(
         &rt,
         alloc,
         &[],
-        Setting::Text(odd),
-        "\"a, \"\"b\"\"\",1,0,0,0,0,0,0,0,0,0,0,0,0,0,0,0,0,0,,,,,0,0,0,0,0,0,0,0,,,0\n",
+        "a \"b\"",
+        "\"a \"\"b\"\"\",1,0,0,,,,,,,,,,,,,,,,,,,,,,,,,,,,,,,,,,,,,,,,,,,,,,\n",
     );
     is_same(
         &rt,
-        &rows_of(&rt, alloc, &[], &PointSums::new(alloc)),
-        "1,0,0,0,0,0,0,0,0,0,0,0,0,0,0,0,0,0,,,,,0,0,0,0,0,0,0,0,,,0\n",
+        &rows_of(
+            &rt,
+            alloc,
+            &grid_of(&rt, alloc, &[]),
+            &PointSums::new(alloc, 1),
+        ),
+        "1,0,0,,,,,,,,,,,,,,,,,,,,,,,,,,,,,,,,,,,,,,,,,,,,,,\n",
     );
 }

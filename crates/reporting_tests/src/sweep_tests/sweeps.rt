@@ -8,6 +8,7 @@ use std::alloc::Global;
 use std::marker::Sync;
 use std::process::Abort;
 use std::thread::Threads;
+use std::time::Clock;
 use study::{ReadError, Shard};
 use sweep::{SweepError, Unwatched, sweep};
 
@@ -25,8 +26,8 @@ fn rows_by_hand(rt: HostRuntime) {
         alloc,
         text.bytes(),
         "detector.timeout,",
-        "5,1,1,0,12,4,0,6,0,0,0,0,0,0,0,0,1,0,6,6,6,6,6,1,1,1,1,1,1,0,0,,,0\n\
-         8,1,1,0,12,4,0,6,0,0,0,0,0,0,0,0,0,1,0,,,,,0,0,1,1,1,1,0,0,,,0\n",
+        "5,1,1,0,12,4,0,6,0,0,,0,0,0,0,0,0,0,0,0,1,0,0,6,6,6,6,6,1,1,1,1,1,1,0,0,0,,0,,,,,,,,0,,1,\n\
+         8,1,1,0,12,4,0,6,0,0,,0,0,0,0,0,0,0,0,0,0,1,0,0,,,,,0,0,1,1,1,1,0,0,0,,0,,,,,,,,0,,,\n",
     );
     let both = study_of(&rt, alloc, &["limit=12"], &["crash[1].at=3,5"], 1);
     let text = swept(&rt, alloc, &both, 2);
@@ -35,7 +36,7 @@ fn rows_by_hand(rt: HostRuntime) {
         alloc,
         text.bytes(),
         "limit,",
-        "12,1,2,1,12,4,0,6,0,0,0,0,0,0,0,0,1,0,6,6,6,6,6,1,1,1,1,1,1,0,0,,,0\n",
+        "12,1,2,1,12,4,0,6,0,0,,0,0,0,0,0,0,0,0,0,1,0,0,6,6,6,6,6,1,1,1,1,1,1,0,0,0,,0,,,,,,,,0,,1,\n",
     );
 }
 
@@ -87,7 +88,7 @@ fn some_seeds_pass_the_limit(rt: HostRuntime) {
 }
 
 /// What a sweep answers, with what went out of it.
-fn outcome<R: Threads + Sync>(
+fn outcome<R: Threads + Sync + Clock>(
     rt: &R,
     alloc: Global,
     study: &Study,
@@ -100,6 +101,7 @@ fn outcome<R: Threads + Sync>(
         &study.file,
         &study.grid,
         shard,
+        &study.layout,
         2,
         &mut outlet,
         &mut Unwatched,
@@ -108,7 +110,7 @@ fn outcome<R: Threads + Sync>(
 }
 
 /// It is answered that this run of this point is refused for its link, and nothing went out.
-fn is_refused<R: Threads + Sync + Abort>(
+fn is_refused<R: Threads + Sync + Clock + Abort>(
     rt: &R,
     alloc: Global,
     study: &Study,
@@ -146,7 +148,7 @@ fn first_refused(rt: HostRuntime) {
 
 /// Whether a sweep ends well over an outlet that takes at most `most` bytes at a put, `times` times. If not, the outlet
 /// holds a front of the whole, and nothing was tried again.
-fn ends_well<R: Threads + Sync + Abort>(
+fn ends_well<R: Threads + Sync + Clock + Abort>(
     rt: &R,
     alloc: Global,
     study: &Study,
@@ -160,6 +162,7 @@ fn ends_well<R: Threads + Sync + Abort>(
         &study.file,
         &study.grid,
         Shard::whole(),
+        &study.layout,
         2,
         &mut outlet,
         &mut Unwatched,

@@ -2,16 +2,16 @@
 use super::rows::{crash_at_3, one_crash};
 use crate::comparisons::same;
 use crate::findings::quiet;
-use reporting::Detection;
+use reporting::Detection::{self, At, NoTick};
 use std::alloc::Global;
 use std::process::Abort;
-use sweep::{DetectionTimes, PointSums, RunNumbers};
+use sweep::{Distribution, PointSums, RunNumbers};
 
-/// What a run gives in which crashes are detected after these times, one for each pair.
-fn run_with<R: Abort>(rt: &R, alloc: Global, times: &[u32]) -> RunNumbers {
+/// What a run gives in which crashes are detected like this, one for each pair.
+fn run_with<R: Abort>(rt: &R, alloc: Global, detections: &[Detection]) -> RunNumbers {
     let mut found = one_crash(rt, alloc, None, Detection::Na);
-    for time in times {
-        let pair = quiet(rt, 1, 1, 2, Detection::At(*time));
+    for detection in detections {
+        let pair = quiet(rt, 1, 1, 2, *detection);
         found.measures.push(pair).expect(rt, "no memory");
     }
     RunNumbers::of_run(alloc, &crash_at_3(rt, alloc), &found).expect(rt, "no memory")
@@ -20,59 +20,82 @@ fn run_with<R: Abort>(rt: &R, alloc: Global, times: &[u32]) -> RunNumbers {
 /// So many times with this sum, the percentiles 50, 90 and 99, and the greatest.
 fn are_times<R: Abort>(
     rt: &R,
-    times: DetectionTimes,
-    (detections, detection_sum): (u128, u128),
-    [half, most, nearly_all, greatest]: [Option<u64>; 4],
+    times: Distribution,
+    (count, sum): (u128, u128),
+    [p50, p90, p99, greatest]: [Option<u128>; 4],
 ) {
-    let wanted = DetectionTimes {
-        detections,
-        detection_sum,
-        detection_p50: half,
-        detection_p90: most,
-        detection_p99: nearly_all,
-        detection_max: greatest,
+    let wanted = Distribution {
+        count,
+        sum,
+        p50,
+        p90,
+        p99,
+        greatest,
     };
     same(rt, &times, &wanted);
 }
 
-/// Times of one run, how many they are and their sum, and their percentiles 50, 90 and 99 and the greatest.
-type Case = (&'static [u32], (u128, u128), [Option<u64>; 4]);
+/// The detections of one run, how many have a time and the sum of these, and their percentiles 50, 90 and 99 and the
+/// greatest.
+type Case = (&'static [Detection], (u128, u128), [Option<u128>; 4]);
 
-/// The textbook's five values, and values that come often.
-const CASES: [Case; 2] = [
+/// The textbook's five values; values that come often; four crashes, of which one was suspected already and one is
+/// never detected, so 90 in 100 of them aren't; and a crash that nobody detects.
+const CASES: [Case; 4] = [
     (
-        &[40, 15, 50, 20, 35],
+        &[At(40), At(15), At(50), At(20), At(35)],
         (5, 160),
         [Some(35), Some(50), Some(50), Some(50)],
     ),
     (
-        &[7, 3, 3, 3, 3, 3, 3, 3, 3, 9],
+        &[
+            At(7),
+            At(3),
+            At(3),
+            At(3),
+            At(3),
+            At(3),
+            At(3),
+            At(3),
+            At(3),
+            At(9),
+        ],
         (10, 40),
         [Some(3), Some(7), Some(9), Some(9)],
     ),
+    (
+        &[At(5), NoTick, At(0), At(8)],
+        (3, 13),
+        [Some(5), None, None, Some(8)],
+    ),
+    (&[NoTick], (0, 0), [None; 4]),
 ];
 
-/// The times of one run; the times from 100 down to 1, each of a run of its own; and none.
+/// The detections of one run; the times from 50 up to 100 and then from 1 to 49, each of a run of its own; and none.
+/// The longest is that of run 51.
 #[test]
 fn percentiles(rt: HostRuntime) {
     let alloc = rt.alloc();
-    for (times, counts, wanted) in &CASES {
-        let mut sums = PointSums::new(alloc);
-        let run = run_with(&rt, alloc, times);
+    for (detections, counts, wanted) in &CASES {
+        let mut sums = PointSums::new(alloc, 1);
+        let run = run_with(&rt, alloc, detections);
         sums.add(&run).expect(&rt, "no memory");
-        are_times(&rt, sums.first().times, *counts, *wanted);
+        are_times(&rt, sums.first().detections, *counts, *wanted);
     }
-    let mut hundred = PointSums::new(alloc);
-    for time in 1..101 {
-        let run = run_with(&rt, alloc, &[101 - time]);
+    let mut hundred = PointSums::new(alloc, 1);
+    for before in 0..100 {
+        let time = (before + 49) % 100 + 1;
+        let run = run_with(&rt, alloc, &[At(time)]);
         hundred.add(&run).expect(&rt, "no memory");
     }
+    let columns = hundred.first();
     are_times(
         &rt,
-        hundred.first().times,
+        columns.detections,
         (100, 5050),
         [Some(50), Some(90), Some(99), Some(100)],
     );
-    let none = PointSums::new(alloc).first().times;
+    same(&rt, &columns.first_runs.detection_max, &Some(51));
+    let none = PointSums::new(alloc, 1).first().detections;
     are_times(&rt, none, (0, 0), [None; 4]);
 }

@@ -5,16 +5,29 @@ use reporting::{FuseOutlet, MemoryOutlet};
 use std::alloc::Global;
 use std::marker::Sync;
 use std::thread::Threads;
-use study::Shard;
-use sweep::{Standing, SweepError, Watcher, sweep};
+use std::time::Clock;
+use study::{Grid, Shard};
+use sweep::{Pass, Standing, SweepError, Watcher, sweep};
+use toml::Table;
 
-/// Keeps the last that it heard, and whether each was one more of the same sweep.
+/// Keeps the last that it heard, whether each was one more of the same sweep, and of how many runs it heard that they
+/// passed their limit, with the last point where that was so.
 #[derive(Drop)]
 struct Keeper {
     last: Option<Standing>,
-    count: u64,
     all_rise: bool,
+    limited: Option<(u64, u64)>,
     shows: bool,
+}
+
+/// Whether a sweep that stood there can stand here next: all is read before the first run.
+fn comes_after(last: &Standing, next: &Standing) -> bool {
+    let rises = match (last.pass, next.pass) {
+        (Pass::Reading, Pass::Running) => next.done == 0,
+        (Pass::Running, Pass::Reading) => false,
+        _ => last.done < next.done,
+    };
+    rises && last.points == next.points && last.runs == next.runs
 }
 
 impl Watcher for Keeper {
@@ -23,18 +36,21 @@ impl Watcher for Keeper {
     ghost shows = { λ k. k.shows };
 
     fn hear(&mut self, standing: Standing) {
-        let rises = match self.last {
-            None => standing.done == 0,
-            Some(last) => {
-                last.points == standing.points
-                    && last.runs == standing.runs
-                    && last.done < standing.done
-            }
+        let rises = match &self.last {
+            None => standing.pass == Pass::Reading && standing.done == 0,
+            Some(last) => comes_after(last, &standing),
         };
         self.all_rise = self.all_rise && rises;
-        self.count = self.count.saturating_add(1);
         self.last = Some(standing);
         self.shows = true;
+    }
+
+    fn limited(&mut self, _file: &Table, _grid: &Grid, point: u64, count: u64) {
+        let before = match self.limited {
+            Some((_, before)) => before,
+            None => 0,
+        };
+        self.limited = Some((point, before.saturating_add(count)));
     }
 
     fn make_way(&mut self) {}
@@ -48,16 +64,15 @@ impl Keeper {
     fn new() -> Keeper {
         Keeper {
             last: None,
-            count: 0,
             all_rise: true,
+            limited: None,
             shows: false,
         }
     }
 }
 
-/// What a watcher of a shard's sweep heard, by two threads, of which each takes 256 runs at a time; nothing where the
-/// sweep breaks off.
-fn heard_of<R: Threads + Sync>(
+/// What a watcher of a shard's sweep heard, by two threads; nothing where the sweep breaks off.
+fn heard_of<R: Threads + Sync + Clock>(
     rt: &R,
     alloc: Global,
     study: &Study,
@@ -71,6 +86,7 @@ fn heard_of<R: Threads + Sync>(
         &study.file,
         &study.grid,
         shard,
+        &study.layout,
         2,
         &mut outlet,
         &mut keeper,
@@ -80,28 +96,39 @@ fn heard_of<R: Threads + Sync>(
     }
 }
 
-/// Seven points with 160 runs each are 1,120 runs, of which 512 come in at a time: the watcher hears of 0, 512, 1,024
-/// and 1,120. The last of three shards has the points 4 to 6 of seven: of these alone is told, at 0 and at 480.
+/// Seven points with 160 runs each are 1,120 runs. The last of three shards has the points 4 to 6 of seven: of these
+/// alone is told.
 #[test]
 fn hears_of_all_runs(rt: HostRuntime) {
     let alloc = rt.alloc();
     let seven = seven_points(&rt, alloc);
-    for (number, of, points, done, count) in [(1, 1, 7, 1_120, 4), (3, 3, 3, 480, 2)] {
+    for (number, of, points, done) in [(1, 1, 7, 1_120), (3, 3, 3, 480)] {
         let shard = shard(&rt, number, of);
         let keeper = heard_of(&rt, alloc, &seven, shard).expect(&rt, "no sweep");
         let last = Standing {
+            pass: Pass::Running,
             points,
             runs: 160,
             done,
         };
         same(&rt, &keeper.last, &Some(last));
-        same(&rt, &keeper.count, &count);
+        same(&rt, &keeper.limited, &None);
         assert!(rt; keeper.all_rise && !keeper.shows);
     }
 }
 
-/// Of a study with a refused run nothing is heard. Where the third put fails, after the header and the first row, the
-/// first 512 runs are not told of, and nothing is shown any more.
+/// With the crash at tick 3 a run has 12 entries, with the crash at tick 5 it has 15: of the second of three points both
+/// pass the limit, of the third one does.
+#[test]
+fn hears_of_limits(rt: HostRuntime) {
+    let alloc = rt.alloc();
+    let limits = study_of(&rt, alloc, &["limit=15,11,12"], &["crash[1].at=3,5"], 1);
+    let keeper = heard_of(&rt, alloc, &limits, Shard::whole()).expect(&rt, "no sweep");
+    same(&rt, &keeper.limited, &Some((2, 3)));
+}
+
+/// Of a study with a refused run nothing is heard of a run that was done. Where the third put fails, after the header
+/// and the first row, no more is heard, and nothing is shown any more.
 #[test]
 fn breaks_off(rt: HostRuntime) {
     let alloc = rt.alloc();
@@ -116,11 +143,12 @@ fn breaks_off(rt: HostRuntime) {
         &seven.file,
         &seven.grid,
         Shard::whole(),
+        &seven.layout,
         2,
         &mut outlet,
         &mut keeper,
     );
     assert!(rt; matches!(answer, Err(SweepError::Write)));
-    same(&rt, &keeper.count, &1);
-    assert!(rt; keeper.all_rise && !keeper.shows);
+    let done = keeper.last.map(|last| last.done).unwrap_or(1_120);
+    assert!(rt; keeper.all_rise && !keeper.shows && done < 1_120);
 }

@@ -1,55 +1,41 @@
-use Rattle.std.proofs.Common.{◌≡◌, ◌<◌, ◌∙◌, ◌++◌, suc, sym, ap, arith, append_assoc, flat_map, length, get_or}
-use Rattle.judges.specs.Outcomes.{outcome, outcomes}
-use Rattle.judges.specs.declared.outcomes.Outcome.{Outcome}
-use Rattle.judges.proofs.Outcoming.{outcomes-at, length-outcomes}
+use Rattle.std.proofs.Common.{◌∙◌, ◌++◌, ◌+◌, ap, arith, codes, flat_map}
 use Rattle.process_api.specs.Numbers.{numbers_to}
-use Rattle.drawing.specs.Drawn.{group_of, suspicions_of}
-use Rattle.drawing.specs.Layout.{bottom_of}
-use Rattle.drawing.specs.Suspicions.{legend, axis, suspicions}
-use Rattle.drawing.proofs.Joining.{numbers_more}
+use Rattle.drawing.specs.Bands.{outage_legend}
+use Rattle.drawing.specs.Drawn.{has_row_in, group_of, group_bands_of, groups_end, suspicions_of}
+use Rattle.drawing.specs.Layout.{left_out}
+use Rattle.drawing.specs.Sizes.{left_room}
+use Rattle.drawing.specs.Suspicions.{legend, left_out_shapes, axis, suspicions}
+use Rattle.drawing.proofs.Counting.{groups_low}
+use Rattle.drawing.proofs.Joining.{joined_six}
 use Rattle.drawing.proofs.suspicions.shapes_of.Goals as goal
 
-pub push_group-requires : goal.push_group-requires
-push_group-requires c =
+pub push_axis-requires : goal.push_axis-requires
+push_axis-requires c =
     let run = c.args.run.now in
-    let trace = run.trace.now in
     let n = run.scenario.now.processes in
-    let i = c.loop-outcome.outcome-index in
-    let told = c.outcome-item.result in
-    let items : c.deref-outcome-items.result.now ≡ outcomes trace n = c.deref-outcome-items.ensures.value ∙ c.in_ok-outcomes.ensures.outcomes in
-    let within : i < n = omega (arith, c.loop-outcome-test.true, ap length items, length-outcomes trace n) in
-    let is : told ≡ outcome trace (suc i) = c.outcome-item.is ∙ ap (λ xs. get_or xs i told) items ∙ outcomes-at trace n i told within in
-    is ∙ ap (outcome trace) (sym (ap (λ (o : Outcome). o.pid) is))
-
-pub loop-outcome-preserved : goal.loop-outcome-preserved
-loop-outcome-preserved c =
-    let run = c.args.run.now in
-    let trace = run.trace.now in
-    let n = run.scenario.now.processes in
-    let i = c.loop-outcome.outcome-index in
-    let told = c.outcome-item.result in
-    let items : c.deref-outcome-items.result.now ≡ outcomes trace n = c.deref-outcome-items.ensures.value ∙ c.in_ok-outcomes.ensures.outcomes in
-    let within : i < n = omega (arith, c.loop-outcome-test.true, ap length items, length-outcomes trace n) in
-    let is : told ≡ outcome trace (suc i) = c.outcome-item.is ∙ ap (λ xs. get_or xs i told) items ∙ outcomes-at trace n i told within in
-    let own : told.pid ≡ suc i = ap (λ (o : Outcome). o.pid) is in
-    let base = legend run.ticks.from run.ticks.until run.scenario.now.share ++ axis run.ticks.from run.ticks.until (bottom_of n) in
-    let before = flat_map (group_of run) (numbers_to i) in
-    c.in_ok-push_group.ensures
-    ∙ ap (λ t. t ++ group_of run told.pid) c.loop-outcome.invariant
-    ∙ append_assoc base before (group_of run told.pid)
-    ∙ ap (λ p. base ++ (before ++ group_of run p)) own
-    ∙ ap (λ t. base ++ t) (sym (numbers_more (group_of run) i))
+    omega (arith, c.requires.top, groups_low (has_row_in run) n run.few n, run.few)
 
 pub returns : goal.returns
-unfolding suspicions_of suspicions group_of
+unfolding suspicions_of suspicions group_of group_bands_of has_row_in left_out
 returns c =
     let run = c.args.run.now in
+    let from = run.ticks.from in
+    let until = run.ticks.until in
     let n = run.scenario.now.processes in
-    let i = c.loop-outcome.outcome-index in
-    let items : c.deref-outcome-items.result.now ≡ outcomes run.trace.now n = c.deref-outcome-items.ensures.value ∙ c.in_ok-outcomes.ensures.outcomes in
-    let title = legend run.ticks.from run.ticks.until run.scenario.now.share in
-    let ticks = axis run.ticks.from run.ticks.until (bottom_of n) in
-    let all : i ≡ n = omega (arith, c.loop-outcome-test.false, c.loop-outcome.auto.outcome-index-end, ap length items, length-outcomes run.trace.now n) in
-    c.loop-outcome.invariant
-    ∙ append_assoc title ticks (flat_map (group_of run) (numbers_to i))
-    ∙ ap (λ k. title ++ (ticks ++ flat_map (group_of run) (numbers_to k))) all
+    let a = c.push_legend.new.shapes.items in
+    let b = c.push_outage_legend.new.shapes.items in
+    let d = c.push_left_out.new.shapes.items in
+    let e = c.append.new.shapes.items in
+    let f = c.push_axis.new.shapes.items in
+    let what = codes "pairs without a bar, left out" in
+    let drawn = flat_map (group_bands_of run) (numbers_to n) in
+    joined_six a b d e f c.append-2.new.shapes.items (legend from until run.scenario.now.share) (outage_legend (left_room + 620) 42 drawn)
+    (left_out_shapes what (left_out (has_row_in run) n)) drawn (axis from until (groups_end run n)) (flat_map (group_of run) (numbers_to n))
+    (c.in_ok-push_legend.ensures
+    ∙ ap (λ xs. xs ++ legend from until c.share.result) c.new-shapes.ensures.items
+    ∙ ap (legend from until) c.share.ensures.value)
+    (c.in_ok-push_outage_legend.ensures ∙ ap (λ xs. a ++ outage_legend (left_room + 620) 42 xs) (c.deref.ensures.value ∙ c.requires.bands))
+    (c.in_ok-push_left_out.ensures ∙ ap (λ k. b ++ left_out_shapes what k) c.requires.left_out)
+    (c.in_ok-append.ensures ∙ ap (λ xs. d ++ xs) c.requires.bands)
+    (c.in_ok-push_axis.ensures ∙ ap (λ y. e ++ axis from until y) c.requires.top)
+    (c.in_ok-append-2.ensures ∙ ap (λ xs. f ++ xs) c.requires.shapes)

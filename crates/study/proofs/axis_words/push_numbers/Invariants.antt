@@ -1,8 +1,8 @@
 use Rattle.std.proofs.Common.{◌≡◌, ◌++◌, map}
-use Rattle.std.specs.List.{range_with_len}
-use Rattle.study.specs.Settings.{given_by, number}
-use Rattle.study.specs.AxisWords.{range_of, number_after}
+use Rattle.study.specs.Settings.{settings_in}
+use Rattle.study.specs.AxisWords.{range_of}
+use Rattle.study.proofs.Pieces.{numbered}
 use Rattle.study.proofs.axis_words.push_numbers.Given as goal
 
 abbrev pub invariant-loop-step : goal.invariant-loop-step
-invariant-loop-step l = map given_by l.values.items ≡ map given_by l.initial.values.items ++ map (λ k. number (number_after (range_of l.range) k)) (range_with_len 0 l.step)
+invariant-loop-step l = map settings_in l.values.items ≡ map settings_in l.initial.values.items ++ numbered (range_of l.range) l.step

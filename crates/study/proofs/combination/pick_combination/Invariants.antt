@@ -8,5 +8,5 @@ invariant-loop-axis l = record {
   alike : l.alike ≡ length (combinations (map choices (drop l.axis-index l.axes)));
   left : l.left < l.alike;
   same : map chosen l.picked.items ++ get_or (combinations (map choices (drop l.axis-index l.axes))) l.left []
-      ≡ get_or (combinations (map choices l.axes)) l.fn.number [];
+      ≡ map chosen l.initial.picked.items ++ get_or (combinations (map choices l.axes)) l.fn.number [];
 }

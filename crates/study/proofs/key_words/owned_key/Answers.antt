@@ -1,8 +1,8 @@
-use Rattle.std.proofs.Common.{◌≡◌, false, Some, refl, ◌∙◌, ap, string_bytes, lit<}
+use Rattle.std.proofs.Common.{◌≡◌, ◌≢◌, false, Some, refl, ◌∙◌, ap, string_bytes, codes, rules, lit<}
 use Rattle.std.proofs.lemmas.Str.Pattern.{split_parts}
 use Rattle.study.specs.KeyWords.{is_name, IsOwner, is_memory}
 use Rattle.study.specs.declared.error.KeyError.TheVariants as error
-use Rattle.study.proofs.KeyNames.{carried, no_table, no_array, no_place, element_written}
+use Rattle.study.proofs.KeyNames.{carried, no_table, no_array, no_place, element_written, every_written}
 use Rattle.study.proofs.key_words.owned_key.Goals as goal
 
 pub returns-in_err-table-in-None-clause-err : goal.returns-in_err-table-in-None-clause-err
@@ -29,4 +29,15 @@ returns-in-Some-place_in-clause-ok c =
 
 pub returns-in-None-place_in-clause-err : goal.returns-in-None-place_in-clause-err
 returns-in-None-place_in-clause-err c =
-    λ other. (refl, λ owner. absurd (no_place c.args.owner.now c.in-Some.array c.in-Some.place c.in-Some.ensures.cases owner c.in-None-place_in.ensures))
+    let no_star : c.in-Some.place.now ≢ codes "*]" = search rules in
+    λ other. (refl, λ owner. absurd (no_place c.args.owner.now c.in-Some.array c.in-Some.place c.in-Some.ensures.cases owner no_star c.in-None-place_in.ensures))
+
+pub returns-then-eq-clause-ok : goal.returns-then-eq-clause-ok
+returns-then-eq-clause-ok c =
+    let array = c.in_ok-array-in-Some.ensures.ok in
+    let key = c.in_ok-key.ensures.ok in
+    let star : c.in-Some.place.now ≡ codes "*]" = search rules in (
+      every_written c.args.owner.now c.args.key.now c.in-Some.array.now c.in-Some.place.now (string_bytes c.in_ok-array-in-Some.array) (string_bytes c.in_ok-key.key)
+          (split_parts 91 c.args.owner.now (Some (c.in-Some.array, c.in-Some.place)) c.in-Some.ensures.cases (lit< tt)).0 star array.0 key.0,
+      (ap is_name array.0 ∙ array.1, ap is_name key.0 ∙ key.1),
+    )

@@ -11,7 +11,8 @@ returns-clause-refused c =
     let span = c.args.span in
     let sent = c.deref.result.now in
     let are : AreLetters s sent = subst (AreLetters s) (sym c.deref.ensures.value) c.in_ok-letters.ensures.letters in
-    told_as picture.Letters s span.from span.until c.in-Err.error c.fault_of.result
-    (letters_why s sent span.from span.until c.in-Err.error are
-    (memory_or_refused c.draw_letters.result c.in-Err.error (letters_refusal s sent span.from span.until) c.draw_letters.ensures.refused c.in-Err.is))
+    let of = c.args.of.now in
+    told_as picture.Letters s of span.from span.until c.in-Err.error c.fault_of.result
+    (letters_why s sent of span.from span.until c.in-Err.error are
+    (memory_or_refused c.draw_letters.result c.in-Err.error (letters_refusal s sent of span.from span.until) c.draw_letters.ensures.refused c.in-Err.is))
     c.fault_of.ensures

@@ -1,5 +1,5 @@
-use Rattle.std.proofs.Common.{◌∙◌, sym, inl, inr}
-use Rattle.study_commands.proofs.Stopping.{at_four, at_three, left_as, part_as, tells_as}
+use Rattle.std.proofs.Common.{◌≡◌, ◌⊎◌, ◌∙◌, ℕ, sym, subst, inl, inr}
+use Rattle.study_commands.proofs.Stopping.{above_zero, at_four, at_three, below_three, left_as, part_as, tells_as}
 use Rattle.study_commands.proofs.serve.serve.Goals as goal
 
 pub returns-clause-broken : goal.returns-clause-broken
@@ -26,3 +26,11 @@ returns-clause-why g c = λ other.
       status_is = c.report.ensures.status;
       line_is = is;
     })) c.report.ensures.line
+
+pub returns-clause-refused : goal.returns-clause-refused
+returns-clause-refused g c low =
+    let P : ℕ → Type 0 = λ n. (n ≡ 1) ⊎ (n ≡ 2) in
+    below_three _ _ _ _ _ _ c.in-Err-carry_out.fault (subst P c.report.ensures.status low) c.in-Err-carry_out.ensures.stops
+
+pub returns-clause-silent : goal.returns-clause-silent
+returns-clause-silent g c zero = absurd (above_zero c.in-Err-carry_out.fault (sym c.report.ensures.status ∙ zero))

@@ -3,8 +3,7 @@ use Rattle.toml.specs.View.{table_view}
 use Rattle.study_commands.specs.Show.{IsPlace}
 use Rattle.study.specs.Placed.{table_of_run}
 use Rattle.study.specs.Runs.{IsRunText}
-use Rattle.sweep.specs.Outcome.{run_at}
-use Rattle.sweep.specs.StudyText.{point_at}
+use Rattle.sweep.specs.StudyText.{point_at, run_at}
 use Rattle.study_commands.proofs.Answered.{show_answer, show_why}
 use Rattle.study_commands.proofs.Stopping.{put_done, put_stops}
 use Rattle.study_commands.proofs.showing.serve_show.Goals as goal

@@ -1,28 +1,101 @@
-use Rattle.std.proofs.Common.{rules, ◌≡◌, ◌≤◌, ◌<◌, ◌+◌, ℕ, Bool, true}
+use Rattle.std.proofs.Common.{rules, ◌≡◌, ◌≤◌, ◌<◌, ◌+◌, ◌-◌, ◌*◌, ℕ, Bool, true, length, ap, arith, subst}
 use Rattle.std.specs.Prelude.{slice_index_or}
+use Rattle.std.proofs.Math.Nat.{mul-le-mul_right}
 use Rattle.toml.specs.View.{table_view}
-use Rattle.sweep.specs.Numbering.{HasScenarioAt}
-use Rattle.sweep.proofs.Reading.{read_more, first_refusal}
+use Rattle.study.specs.Grid.{runs}
+use Rattle.sweep.specs.Numbering.{HasScenarioAt, IsFirstRefusal}
+use Rattle.sweep.specs.Watching.{HeardReading}
+use Rattle.sweep.proofs.Heard.{reading_begin, reading_more, all_done, within_all}
+use Rattle.sweep.proofs.Reading.{if_any_err, read_more, first_refusal}
 use Rattle.sweep.proofs.checking.check_runs.Goals as goal
+
+pub loop-next-init : goal.loop-next-init
+loop-next-init g c = record {
+  low = omega arith;
+  high = mul-le-mul_right {m = c.args.begin} {n = c.args.end} c.runs-runs.result c.requires.order;
+  heard = subst (HeardReading g.W.Watcher.heard c.args.watcher.now c.hear.new.self (c.args.end - c.args.begin) c.runs-runs.result) (omega arith)
+      (reading_begin g.W.Watcher.heard (c.args.end - c.args.begin) c.runs-runs.result c.args.watcher.now c.hear.new.self c.hear.ensures);
+  read = λ n low high. absurd (omega (arith, low, high));
+}
 
 pub returns-in-Some-clause-err : goal.returns-in-Some-clause-err
 returns-in-Some-clause-err g c =
     let file = table_view c.args.file.now in
+    let grid = c.args.grid.now in
+    let w : ℕ = length (runs grid) in
+    let begin : ℕ = c.args.begin in
+    let end : ℕ = c.args.end in
     let each : (i : ℕ) (d : Bool) → i < c.in-Some.place → slice_index_or c.in_ok-are_read.are_read.items i d ≡ true
-    → HasScenarioAt file c.args.grid.now (c.loop-next.next + i) =
-    λ i d lt yes. let h = (c.in_ok-are_read.ensures.each i d (search rules)).met in search rules in
-    let before : (n : ℕ) → c.args.first ≤ n → n < c.loop-next.next + c.in-Some.place → HasScenarioAt file c.args.grid.now n =
-    read_more file c.args.grid.now c.args.first c.loop-next.next c.in-Some.place c.in_ok-are_read.are_read.items c.loop-next.invariant.read each (search rules) in
-    first_refusal file c.args.grid.now c.args.first c.args.end (c.loop-next.next + c.in-Some.place) c.refusal.result (search rules) (search rules) (search rules) before
+    → HasScenarioAt file grid (c.loop-next.next + i) =
+    λ i d lt yes. let h = (c.in_ok-are_read.ensures.answers.each i d (search rules)).met in search rules in
+    let before : (n : ℕ) → begin * c.runs-runs.result ≤ n → n < c.loop-next.next + c.in-Some.place → HasScenarioAt file grid n =
+    read_more file grid (begin * c.runs-runs.result) c.loop-next.next c.in-Some.place c.in_ok-are_read.are_read.items c.loop-next.invariant.read each (search rules) in
+    let P : ℕ → Type 0 = λ n. IsFirstRefusal file grid (begin * n) (end * n) c.refusal.result in
+    subst P c.runs-runs.ensures.value
+    (first_refusal file grid (begin * c.runs-runs.result) (end * c.runs-runs.result) (c.loop-next.next + c.in-Some.place) c.refusal.result (search rules) (search rules) (search rules) before)
 
 pub loop-next-preserved : goal.loop-next-preserved
 loop-next-preserved g c =
     let file = table_view c.args.file.now in
-    let each : (i : ℕ) (d : Bool) → i < c.min-count.result → slice_index_or c.in_ok-are_read.are_read.items i d ≡ true
+    let inv = c.loop-next.invariant in
+    let items = c.in_ok-are_read.are_read.items in
+    let len : c.len.result ≡ length items = search rules in
+    let each : (i : ℕ) (d : Bool) → i < c.len.result → slice_index_or items i d ≡ true
     → HasScenarioAt file c.args.grid.now (c.loop-next.next + i) =
-    λ i d lt yes. let h = (c.in_ok-are_read.ensures.each i d lt).met in search rules in
+    λ i d lt yes. let h = (c.in_ok-are_read.ensures.answers.each i d (omega (arith, lt, len))).met in search rules in
+    let all : (i : ℕ) (d : Bool) → i < c.len.result → slice_index_or items i d ≡ true =
+    λ i d lt. let within : i < length items = omega (arith, lt, len) in search rules in
     record {
       low = search rules;
       high = search rules;
-      read = read_more file c.args.grid.now c.args.first c.loop-next.next c.min-count.result c.in_ok-are_read.are_read.items c.loop-next.invariant.read each (search rules);
+      heard = reading_more g.W.Watcher.heard (c.args.end - c.args.begin) c.runs-runs.result c.args.watcher.now c.loop-next.watcher c.hear-in-loop-next.new.self _ _
+          inv.heard (search rules) c.hear-in-loop-next.ensures;
+      read = read_more file c.args.grid.now (c.args.begin * c.runs-runs.result) c.loop-next.next c.len.result items inv.read each all;
     }
+
+pub returns-clause-ok : goal.returns-clause-ok
+returns-clause-ok g c =
+    let file = table_view c.args.file.now in
+    let grid = c.args.grid.now in
+    let inv = c.loop-next.invariant in
+    let P : ℕ → Type 0 = λ w. (n : ℕ) → c.args.begin * w ≤ n → n < c.args.end * w → HasScenarioAt file grid n in
+    subst P c.runs-runs.ensures.value (λ n low high. inv.read n low (omega (arith, high, c.loop-next-test.false)))
+
+pub returns-clause-heard : goal.returns-clause-heard
+returns-clause-heard g c =
+    let inv = c.loop-next.invariant in
+    let w : ℕ = length (runs c.args.grid.now) in
+    let begin : ℕ = c.args.begin in
+    let end : ℕ = c.args.end in
+    let e : end * c.runs-runs.result ≡ end * w = ap (λ n. end * n) c.runs-runs.ensures.value in
+    let whole : c.loop-next.next ≡ end * w = omega (arith, e, inv.high, c.loop-next-test.false) in
+    let P : ℕ → Type 0 = λ n. HeardReading g.W.Watcher.heard c.args.watcher.now c.loop-next.watcher (end - begin) n (c.loop-next.next - begin * n) in
+    let Q : ℕ → Type 0 = λ n. HeardReading g.W.Watcher.heard c.args.watcher.now c.loop-next.watcher (end - begin) w n in
+    subst Q (all_done begin end w c.loop-next.next whole) (subst P c.runs-runs.ensures.value inv.heard)
+
+pub returns-in_err-are_read-clause-heard_some : goal.returns-in_err-are_read-clause-heard_some
+returns-in_err-are_read-clause-heard_some g c =
+    let inv = c.loop-next.invariant in
+    let w : ℕ = length (runs c.args.grid.now) in
+    let begin : ℕ = c.args.begin in
+    let end : ℕ = c.args.end in
+    let e : end * c.runs-runs.result ≡ end * w = ap (λ n. end * n) c.runs-runs.ensures.value in
+    let P : ℕ → Type 0 = λ n. HeardReading g.W.Watcher.heard c.args.watcher.now c.loop-next.watcher (end - begin) n (c.loop-next.next - begin * n) in
+    if_any_err c.from_residual.result _ (
+      c.loop-next.next - begin * w,
+      within_all begin end w c.loop-next.next (omega (arith, inv.high, e)),
+      subst P c.runs-runs.ensures.value inv.heard,
+    )
+
+pub returns-in-Some-clause-heard_some : goal.returns-in-Some-clause-heard_some
+returns-in-Some-clause-heard_some g c =
+    let inv = c.loop-next.invariant in
+    let w : ℕ = length (runs c.args.grid.now) in
+    let begin : ℕ = c.args.begin in
+    let end : ℕ = c.args.end in
+    let e : end * c.runs-runs.result ≡ end * w = ap (λ n. end * n) c.runs-runs.ensures.value in
+    let P : ℕ → Type 0 = λ n. HeardReading g.W.Watcher.heard c.args.watcher.now c.loop-next.watcher (end - begin) n (c.loop-next.next - begin * n) in (
+      c.loop-next.next - begin * w,
+      within_all begin end w c.loop-next.next (omega (arith, inv.high, e)),
+      subst P c.runs-runs.ensures.value inv.heard,
+    )

@@ -1,14 +1,16 @@
-use Rattle.std.proofs.Common.{◌≤◌, ◌<◌, ◌-◌, ℕ}
+use Rattle.std.proofs.Common.{◌≤◌, ◌<◌, ◌-◌, ◌*◌, ℕ}
 use Rattle.toml.specs.View.{table_view}
 use Rattle.sweep.specs.Numbering.{HasScenarioAt}
+use Rattle.sweep.specs.Watching.{HeardReading}
 use Rattle.sweep.proofs.checking.check_runs.Given as goal
 
 abbrev pub invariant-loop-next : goal.invariant-loop-next
 invariant-loop-next g l = record {
-  low : l.first ≤ l.next;
-  high : l.next ≤ l.end;
-  read : (n : ℕ) → l.first ≤ n → n < l.next → HasScenarioAt (table_view l.file) l.grid n;
+  low : l.begin * l.runs ≤ l.next;
+  high : l.next ≤ l.end * l.runs;
+  heard : HeardReading g.W.Watcher.heard l.fn.watcher l.watcher l.points l.runs (l.next - l.begin * l.runs);
+  read : (n : ℕ) → l.begin * l.runs ≤ n → n < l.next → HasScenarioAt (table_view l.file) l.grid n;
 }
 
 abbrev pub decreases-loop-next : goal.decreases-loop-next
-decreases-loop-next g l = l.end - l.next
+decreases-loop-next g l = l.end * l.runs - l.next

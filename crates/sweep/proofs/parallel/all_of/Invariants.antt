@@ -1,8 +1,8 @@
 use Rattle.std.proofs.Common.{◌≡◌, Ok, map}
 use Rattle.sweep.proofs.parallel.all_of.Given as goal
 
-abbrev pub invariant-loop-column : goal.invariant-loop-column
-invariant-loop-column g l =
-    (goal.iterator-loop-column g).can_next l.column-iterator ×
-    (goal.iterator-loop-column g).is_finite l.column-iterator ×
+abbrev pub invariant-loop-answer : goal.invariant-loop-answer
+invariant-loop-answer g l =
+    (goal.iterator-loop-answer g).can_next l.answer-iterator ×
+    (goal.iterator-loop-answer g).is_finite l.answer-iterator ×
     (map Ok l.all.items ≡ l.yielded)

@@ -1,15 +1,16 @@
-use Rattle.std.proofs.Common.{◌∷◌, [], ◌++◌, ap, ◌∙◌, decimal}
-use Rattle.sweep.specs.Fields.{first_fields, last_fields, texts_of}
-use Rattle.sweep.specs.RowText.{detection_fields}
-use Rattle.sweep.proofs.Lines.{then_both, then_more}
+use Rattle.std.proofs.Common.{◌≡◌, ◌∷◌, [], ◌++◌, ap, ◌∙◌, decimal}
+use Rattle.sweep.specs.Fields.{texts_of}
+use Rattle.sweep.specs.RowText.{told_fields}
+use Rattle.sweep.proofs.Lines.{then_more}
 use Rattle.sweep.proofs.table.push_columns.Goals as goal
 
 pub returns-clause-fields : goal.returns-clause-fields
 returns-clause-fields c =
-    let s = c.args.columns.now.sums in
-    let layer = decimal c.args.layer ∷ [] in
-    let times = detection_fields s.pairs.undetected c.args.columns.now.times in
-    let one = c.in_ok-push_number.ensures.fields ∙ ap (λ n. texts_of c.args.fields.now ++ decimal n ∷ []) c.from.ensures in
-    let two = then_both _ _ _ layer (first_fields s) one c.in_ok-push_sums.ensures.fields in
-    let three = then_both _ _ _ (layer ++ first_fields s) times two c.in_ok-push_times.ensures.fields in
-    then_more c.push_outcomes.result _ _ _ (layer ++ first_fields s ++ times) (last_fields s) three c.push_outcomes.ensures.fields
+    let now = c.args.columns.now in
+    let old = texts_of c.args.fields.now in
+    let front : texts_of c.push_numbers.new.self ≡ old ++ decimal c.args.layer ∷ decimal now.sums.runs ∷ decimal now.sums.limited ∷ [] =
+    c.in_ok-push_numbers.ensures.fields
+    ∙ ap (λ n. old ++ decimal n ∷ decimal c.from-2.result ∷ decimal c.from-3.result ∷ []) c.from.ensures
+    ∙ ap (λ n. old ++ decimal c.args.layer ∷ decimal n ∷ decimal c.from-3.result ∷ []) c.from-2.ensures
+    ∙ ap (λ n. old ++ decimal c.args.layer ∷ decimal now.sums.runs ∷ decimal n ∷ []) c.from-3.ensures in
+    then_more c.push_done.result _ _ _ (decimal c.args.layer ∷ decimal now.sums.runs ∷ decimal now.sums.limited ∷ []) (told_fields now) front c.push_done.ensures.fields

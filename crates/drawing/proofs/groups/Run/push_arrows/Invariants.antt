@@ -6,4 +6,4 @@ use Rattle.drawing.proofs.groups.Run.push_arrows.Given as goal
 abbrev pub invariant-loop-letter : goal.invariant-loop-letter
 invariant-loop-letter l =
     l.shapes.items ≡ l.initial.shapes.items
-    ++ arrows l.self.scenario.now.processes l.self.ticks.from l.self.ticks.until (take l.letter-index l.letters)
+    ++ arrows l.self.scenario.now.processes l.self.ticks.from l.self.ticks.until l.of (take l.letter-index l.letters)

@@ -1,34 +1,43 @@
-use Rattle.std.proofs.Common.{◌≡◌, ◌∙◌, ◌++◌, ◌∷◌, ◌+◌, [], ap}
-use Rattle.scenario_record.specs.Record.{crash}
-use Rattle.svg.specs.declared.class.Class.TheVariants.{Grid}
-use Rattle.drawing.specs.Drawn.{pair_of, first_bars, second_bars_of}
-use Rattle.drawing.specs.Layout.{shown}
-use Rattle.drawing.specs.Suspicions.{pair_name, pair_at, life_line, row_end, crash_shapes}
-use Rattle.drawing.proofs.Joining.{on_ok, joined_five}
+use Rattle.std.proofs.Common.{◌≡◌, ◌∙◌, ◌++◌, ◌+◌, [], true, false, cond, sym, ap, arith, append-nil}
+use Rattle.scenario_record.specs.Record.{outages_on}
+use Rattle.drawing.specs.Bands.{bands}
+use Rattle.drawing.specs.Drawn.{bars_in, has_row_in, pair_of}
+use Rattle.drawing.specs.Suspicions.{pair_at}
+use Rattle.drawing.proofs.RowShapes.{shown_same}
 use Rattle.drawing.proofs.groups.Run.push_pair.Goals as goal
 
+pub returns-then-not-is_shown : goal.returns-then-not-is_shown
+returns-then-not-is_shown c =
+    let run = c.args.self.now in
+    let q = c.args.observer in
+    let p = c.args.subject in
+    let old = c.args.rows.now in
+    let has : has_row_in run q p ≡ false = sym (shown_same run q p c.in_ok-bars.bars c.in_ok-bars.ensures) ∙ sym c.is_shown.ensures ∙ c.if-not-is_shown.true in
+    let row = pair_at run.scenario.now run.ticks.from run.ticks.until (bars_in run) old.top q p in
+    let below = bands run.ticks.from run.ticks.until old.top (outages_on run.scenario.now p q) in
+    record {
+      shapes = sym (ap (λ b. old.shapes.items ++ cond b row []) has ∙ append-nil old.shapes.items);
+      bands = sym (ap (λ b. old.bands.items ++ cond b below []) has ∙ append-nil old.bands.items);
+      top = omega (arith, ap (λ b. old.top + cond b 16 0) has);
+      left_out = omega (arith, ap (λ b. old.left_out + cond b 0 1) has);
+    }
+
 pub returns : goal.returns
-unfolding pair_of pair_at
+unfolding pair_of
 returns c =
     let run = c.args.self.now in
-    let row = c.args.row.now in
-    let from = run.ticks.from in
-    let until = run.ticks.until in
-    let end = row_end run.scenario.now until row.observer in
-    let old = c.args.shapes.now.items in
-    let a = c.push.new.self.items in
-    let b = c.push-2.new.self.items in
-    let d = c.push_first.new.shapes.items in
-    let f = c.push_second.new.shapes.items in
-    let name : a ≡ old ++ pair_name row.top row.observer row.subject ∷ []
-    = c.in_ok-push.ensures.items ∙ ap (λ s. old ++ s ∷ []) c.in_ok-pair_name.ensures in
-    let line : b ≡ a ++ life_line from until Grid (row.top + 15) end ∷ []
-    = c.in_ok-push-2.ensures.items
-    ∙ ap (λ s. a ++ s ∷ []) (c.life_line.ensures ∙ ap (life_line from until Grid (row.top + 15)) c.row_end-end.ensures) in
-    on_ok c.push_crash.result
-    (λ e. joined_five old a b d f c.push_crash.new.shapes.items (pair_name row.top row.observer row.subject) (life_line from until Grid (row.top + 15) end)
-    (first_bars run row) (second_bars_of run row) (crash_shapes from until row.top (shown from end (crash run.scenario.now row.subject)))
-    name line c.in_ok-push_first.ensures c.in_ok-push_second.ensures
-    (e ∙ ap (λ t. f ++ crash_shapes from until row.top t)
-    (c.shown-crash.ensures ∙ ap (λ t. shown from t c.crash.result) c.row_end-end.ensures ∙ ap (shown from end) c.crash.ensures.value)))
-    c.push_crash.ensures
+    let q = c.args.observer in
+    let p = c.args.subject in
+    let old = c.args.rows.now in
+    let has : has_row_in run q p ≡ true = sym (shown_same run q p c.in_ok-bars.bars c.in_ok-bars.ensures) ∙ sym c.is_shown.ensures ∙ c.if-not-is_shown.false in
+    let row = pair_at run.scenario.now run.ticks.from run.ticks.until (bars_in run) old.top q p in
+    let below = bands run.ticks.from run.ticks.until old.top (outages_on run.scenario.now p q) in
+    record {
+      shapes = c.in_ok-push_row.ensures ∙ sym (ap (λ b. old.shapes.items ++ cond b row []) has);
+      bands =
+          c.in_ok-push_bands.ensures
+          ∙ ap (λ o. old.bands.items ++ bands run.ticks.from run.ticks.until old.top o) c.outages-outages.ensures.value
+          ∙ sym (ap (λ b. old.bands.items ++ cond b below []) has);
+      top = omega (arith, ap (λ b. old.top + cond b 16 0) has);
+      left_out = omega (arith, ap (λ b. old.left_out + cond b 0 1) has);
+    }

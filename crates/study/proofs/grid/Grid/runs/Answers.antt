@@ -9,7 +9,7 @@ use Rattle.study.proofs.grid.Grid.runs.Goals as goal
 pub returns-clause-value : goal.returns-clause-value
 returns-clause-value c =
     ap (λ n. n * c.self.inside.seeds) c.self.invariant.mixes
-    ∙ (sym (runs_length (record { vary = map choices c.self.inside.vary.items; over = map choices c.self.inside.over.items; first_seed = c.self.inside.first_seed; seeds = c.self.inside.seeds }))
+    ∙ (sym (runs_length (record { vary = map choices c.self.inside.vary.items; over = map choices c.self.inside.over.items; deal = map choices c.self.inside.deal.items; first_seed = c.self.inside.first_seed; seeds = c.self.inside.seeds }))
     ∙ ap (λ (g : GridRecord). length (runs g)) c.self.view_is)
 
 pub returns-clause-low : goal.returns-clause-low

@@ -1,15 +1,22 @@
-use Rattle.std.proofs.Common.{◌≡◌, ◌+◌, ◌^◌, ◌<◌, ◌++◌, length, ap, sym, ◌∙◌, subst, arith}
-use Rattle.sweep.specs.Sums.{layer_times}
-use Rattle.sweep.specs.Times.{AreCounted}
-use Rattle.sweep.proofs.Layered.{layer_added, times_both}
+use Rattle.std.proofs.Common.{◌≡◌, ◌∷◌, ◌++◌, [], ap, sym, ◌∙◌, subst, arith}
+use Rattle.sweep.specs.Adding.{first_with, is_above}
+use Rattle.sweep.specs.Columns.{AreFirstRuns, all_detections}
+use Rattle.sweep.specs.Percentile.{greatest}
+use Rattle.sweep.proofs.FirstNumbers.{first_runs_more}
+use Rattle.sweep.proofs.Layered.{layer_added}
 use Rattle.sweep.proofs.point_sums.LayerTotals.add.Goals as goal
 
 pub returns : goal.returns
-returns c layer trials more few p q =
-    let times : c.deref.result.now ≡ layer_times layer more = c.deref.ensures.value ∙ q.times in
-    let room : length (layer_times layer trials) + length c.deref.result.now < 2 ^ 60 = omega (arith, ap length times, p.fitting.few, q.fitting.few, few) in
+returns c layer first trials trial few number p q =
+    let old = c.args.self.now in
+    let run = c.args.run.now in
+    let values = c.in_ok-add.ensures layer trials trial few p.fitting.few_detected p.values q in
+    let now = all_detections layer (trials ++ trial ∷ []) in
+    let longest : c.is_above-is_longest.result ≡ is_above (greatest now) (greatest (all_detections layer trials)) =
+    c.is_above-is_longest.ensures ∙ ap (λ o. is_above o old.values.detections.greatest) values.detected.highest ∙ ap (is_above (greatest now)) p.values.detected.highest in
     record {
-      fitting = rw c.plus-self.ensures (layer_added layer trials more c.args.self.now.sums c.args.numbers.now.sums few p.fitting q.fitting);
-      times = subst (λ ts. AreCounted ts c.add_all.new.self) (ap (λ ts. layer_times layer trials ++ ts) times ∙ sym (times_both layer trials more))
-          (c.in_ok-add_all.ensures (layer_times layer trials) room p.times);
+      fitting = rw c.plus-self.ensures (layer_added layer trials (trial ∷ []) old.sums run.sums (omega (arith, few)) p.fitting q.fitting);
+      values = values;
+      first_runs = subst (AreFirstRuns layer first (trials ++ trial ∷ [])) (sym (c.with-self.ensures ∙ ap (λ n. first_with old.first_runs n run.sums.counts c.is_above-is_longest.result) number))
+          (first_runs_more layer first trials trial old.first_runs run.sums.counts c.is_above-is_longest.result p.first_runs q.fitting.sums.done.counts longest);
     }

@@ -3,4 +3,4 @@ use Rattle.sweep.proofs.Layered.{any_shared}
 use Rattle.sweep.proofs.point_sums.PointSums.has_second.Goals as goal
 
 pub returns : goal.returns
-returns c trials sums = ap (nat_lt 0) sums.second.fitting.sums.runs ∙ any_shared trials
+returns c first trials sums = ap (nat_lt 0) sums.on_second.fitting.sums.runs ∙ any_shared trials

@@ -1,31 +1,24 @@
-use Rattle.std.proofs.Common.{◌≡◌, ℕ, ◌*◌, ◌^◌, length, ap, ◌∙◌, refl, subst, cond, rules}
-use Rattle.sweep.specs.Columns.{AreDecisionSums, do_disagree}
+use Rattle.std.proofs.Common.{◌≡◌, ◌*◌, ◌^◌, [], length, ap, sym, ◌∙◌, subst}
+use Rattle.std.specs.List.{cons_option}
+use Rattle.sweep.specs.Columns.{AreDecisionSums}
 use Rattle.sweep.specs.Fitting.{AreDecisionsWithin}
-use Rattle.sweep.specs.declared.columns.LayerSums.{LayerSums}
-use Rattle.sweep.specs.declared.columns.TraceSums.{TraceSums}
-use Rattle.sweep.proofs.Parts.{fitting_one, times_alone}
+use Rattle.sweep.specs.OneRun.{counted_of, deciding_of, last_decision, times_of, top_round}
+use Rattle.sweep.proofs.Parts.{detections_one, decisions_one, rounds_one}
 use Rattle.sweep.proofs.run_numbers.LayerNumbers.of_run.Goals as goal
 
 pub returns : goal.returns
-returns c layer S trace has found =
+returns c trace has found =
+    let S = c.args.scenario.now in
+    let layer = c.args.layer in
     let os = c.args.summary.now.outcomes.items in
-    let sums : LayerSums = record {
-      runs = 1;
-      limited = 0;
-      traces = record { entries = c.from.result; sent = c.args.summary.now.sent; lost = c.args.summary.now.lost };
-      pair_ticks = c.from-2.result;
-      pairs = c.sum_pairs.result;
-      verdicts = c.of_verdicts.result;
-      decisions = c.sum_decisions.result;
-      disagreements = c.from-3.result;
-    } in
-    let traces : sums.traces ≡ record { entries = c.args.summary.now.entries; sent = c.args.summary.now.sent; lost = c.args.summary.now.lost } = ap {B = TraceSums} (λ n. record { entries = n; sent = c.args.summary.now.sent; lost = c.args.summary.now.lost }) c.from.ensures in
-    let one_or_none : c.from-3.result ≡ cond c.do_disagree.result 1 0 = search rules in
-    let differ : c.from-3.result ≡ cond (do_disagree os) 1 0 = one_or_none ∙ ap {B = ℕ} (λ b. cond b 1 0) (c.do_disagree.ensures ∙ ap do_disagree c.deref-2.ensures.value) in
+    let counted : c.in_ok-counted.counted.items ≡ counted_of layer S c.args.pairs.now = c.in_ok-counted.ensures in
+    let deciding : c.deref-3.result.now ≡ deciding_of S os = c.deref-3.ensures.value ∙ c.in_ok-deciding.ensures ∙ ap (deciding_of S) c.deref.ensures.value in
+    let decisions : AreDecisionSums (deciding_of S os) c.sum_decisions-decisions.result = subst (λ l. AreDecisionSums l c.sum_decisions-decisions.result) deciding c.sum_decisions-decisions.ensures.sums in
+    let within : AreDecisionsWithin (length (deciding_of S os) * 2 ^ 64) c.sum_decisions-decisions.result =
+    subst (λ l. AreDecisionsWithin (length l * 2 ^ 64) c.sum_decisions-decisions.result) deciding c.sum_decisions-decisions.ensures.within in
     record {
-      fitting = fitting_one layer S trace has sums c.args.ticks c.args.summary.now c.args.verdicts.now c.args.pairs.now found traces c.from-2.ensures c.of_verdicts.ensures differ refl refl
-          c.sum_pairs.ensures.sums c.sum_pairs.ensures.within
-          (subst (λ l. AreDecisionSums l c.sum_decisions.result) c.deref.ensures.value c.sum_decisions.ensures.sums)
-          (subst (λ l. AreDecisionsWithin (length l * 2 ^ 64) c.sum_decisions.result) c.deref.ensures.value c.sum_decisions.ensures.within);
-      times = times_alone layer S trace has sums c.args.ticks c.args.summary.now c.args.verdicts.now c.args.pairs.now found traces c.from-2.ensures c.of_verdicts.ensures differ c.in_ok-times.times.items c.in_ok-times.ensures;
+      fitting = c.sums_of_run.ensures layer trace c.args.pairs.now has found (c.deref-4.ensures.value ∙ counted) decisions within;
+      detections = c.in_ok-detections.ensures ∙ ap times_of (c.deref-2.ensures.value ∙ counted ∙ ap (counted_of layer S) found.measured) ∙ sym (detections_one layer S trace has);
+      last_decision = ap (λ o. cons_option o []) (c.last_decision.ensures (deciding_of S os) decisions ∙ ap (λ l. last_decision (deciding_of S l)) found.summed.decided) ∙ sym (decisions_one layer S trace has);
+      top_round = ap (λ o. cons_option o []) (c.top_round.ensures ∙ ap top_round (c.deref-5.ensures.value ∙ found.summed.decided)) ∙ sym (rounds_one layer S trace has);
     }

@@ -1,4 +1,4 @@
-use Rattle.std.proofs.Common.{◌≡◌, ◌^◌, ◌<◌, length, take, drop, ap, ◌∙◌, arith}
+use Rattle.std.proofs.Common.{◌≡◌, length, take, drop, ap, ◌∙◌}
 use Rattle.std.proofs.Math.Seq.{take-append_seam, drop-append_seam}
 use Rattle.reporting.specs.Measures.{layer_measures}
 use Rattle.sweep.specs.Results.{finished}
@@ -17,13 +17,10 @@ returns c found =
     let all = c.deref.ensures.value ∙ both.1 in
     let front : c.split_at.result.0.now ≡ first = c.split_at.ensures.front ∙ ap (λ n. take n c.deref.result.now) place ∙ ap (take (length first)) all ∙ take-append_seam first both.0 in
     let back : c.split_at.result.1.now ≡ both.0 = c.split_at.ensures.back ∙ ap (λ n. drop n c.deref.result.now) place ∙ ap (drop (length first)) all ∙ drop-append_seam first both.0 in
-    let high : c.watched_ticks-ticks.result < 2 ^ 64 = omega arith in
     record {
-      first = c.in_ok-of_run.ensures 1 S found.trace (has_first S) (record {
+      first = c.in_ok-of_run.ensures found.trace (has_first S) (record {
         ranges = c.is_shared-shared.ensures.ranges;
         within = found.is_within.within;
-        watched = c.watched_ticks-ticks.ensures;
-        ticks_high = high;
         summed = found.measured.summary;
         sent_high = found.sent_high;
         lost_high = found.lost_high;
@@ -34,11 +31,9 @@ returns c found =
         | in-None w ↦ rw w.result-is (w.of_none.ensures 2 (record { scenario = S; result = finished found.trace }) (has_second S ∙ alone S found.trace f found.measured w.in-None.is))
         | in-Some+in_ok-of_run-in-Some w ↦
             let is = shared S found.trace f found.measured w.in-Some.verdicts w.in-Some.is in
-            rw w.result-is (w.in_ok-of_run-in-Some.ensures 2 S found.trace (has_second S ∙ is.0) (record {
+            rw w.result-is (w.in_ok-of_run-in-Some.ensures found.trace (has_second S ∙ is.0) (record {
               ranges = c.is_shared-shared.ensures.ranges;
               within = found.is_within.within;
-              watched = c.watched_ticks-ticks.ensures;
-              ticks_high = high;
               summed = found.measured.summary;
               sent_high = found.sent_high;
               lost_high = found.lost_high;

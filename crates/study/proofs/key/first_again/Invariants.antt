@@ -1,0 +1,7 @@
+use Rattle.std.proofs.Common.{◌≡◌, [], map, take, drop}
+use Rattle.study.specs.Settings.{path_of}
+use Rattle.study.specs.Grid.{first_again}
+use Rattle.study.proofs.key.first_again.Given as goal
+
+abbrev pub invariant-loop-i : goal.invariant-loop-i
+invariant-loop-i l = first_again [] (map (λ k. path_of k.now) l.keys) ≡ first_again (map (λ k. path_of k.now) (take l.i l.keys)) (map (λ k. path_of k.now) (drop l.i l.keys))

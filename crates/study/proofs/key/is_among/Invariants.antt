@@ -1,8 +1,0 @@
-use Rattle.std.proofs.Common.{◌≡◌, map, drop}
-use Rattle.std.specs.List.{list_any}
-use Rattle.study.specs.Settings.{path_of}
-use Rattle.study.specs.Grid.{same_path}
-use Rattle.study.proofs.key.is_among.Given as goal
-
-abbrev pub invariant-loop-other : goal.invariant-loop-other
-invariant-loop-other l = list_any (same_path (path_of l.key)) (map (λ k. path_of k.now) l.keys) ≡ list_any (same_path (path_of l.key)) (map (λ k. path_of k.now) (drop l.other-index l.keys))

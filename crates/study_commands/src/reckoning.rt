@@ -1,0 +1,191 @@
+//! About how much a study will be, by the estimates of its runs. No proof says how near this comes.
+ghost use Rattle.std.specs.Prelude.{◌-◌, ◌<◌, ◌^◌};
+
+use diagnosis::estimate_of;
+use scenario::Scenario;
+use std::alloc::{AllocError, Global};
+use std::marker::Sync;
+use std::ops::Range;
+use std::thread::Threads;
+use study::{Axis, Grid, read_run};
+use sweep::in_parallel;
+use toml::Table;
+
+/// How many points are reckoned at a time.
+const BATCH: u64 = 4096;
+
+/// A run that will have more entries than its limit, by the estimate.
+#[derive(Clone, Copy, Debug)]
+pub(crate) struct Above {
+    /// Its point, from 0.
+    pub point: u64,
+    /// Which run of the point, from 0.
+    pub run: u64,
+    /// About how many entries it will have.
+    pub entries: u64,
+    /// Its limit.
+    pub limit: u64,
+}
+
+/// What is reckoned of runs together.
+#[derive(Clone, Copy, Debug)]
+pub(crate) struct Reckoned {
+    /// Entries of all of them.
+    pub entries: u128,
+    /// A limit that would do for each of them, as far as one can.
+    pub limit: u64,
+    /// The highest of their limits.
+    pub highest: u64,
+    /// The first of them that is above its limit.
+    pub above: Option<Above>,
+}
+
+impl Reckoned {
+    /// Of no runs.
+    pub(crate) fn none() -> Reckoned {
+        Reckoned {
+            entries: 0,
+            limit: 1,
+            highest: 1,
+            above: None,
+        }
+    }
+
+    /// Takes in what is reckoned of further runs.
+    pub(crate) fn join(&mut self, further: &Reckoned) {
+        self.entries = self.entries.saturating_add(further.entries);
+        self.limit = self.limit.max(further.limit);
+        self.highest = self.highest.max(further.highest);
+        self.above = self.above.or(further.above);
+    }
+}
+
+/// Which runs of a point differ in more than their seeds, and for how many each of them stands.
+#[derive(Clone, Copy, Debug)]
+struct Kinds {
+    /// How many combinations of the values in `over` there are.
+    mixes: u64,
+    /// How many combinations are dealt to the seeds.
+    dealt: u64,
+    /// How many seeds there are.
+    seeds: u64,
+}
+
+/// How many combinations of the values of axes there are.
+fn combinations(axes: &[Axis]) -> u64 {
+    let mut count = 1u64;
+    for axis in axes {
+        count = count.saturating_mul(axis.values.len() as u64);
+    }
+    count
+}
+
+impl Kinds {
+    /// Those of a grid.
+    fn of(grid: &Grid) -> Kinds {
+        let mixes = combinations(grid.over()).max(1);
+        Kinds {
+            mixes,
+            dealt: combinations(grid.dealt()).max(1),
+            seeds: grid.runs() / mixes,
+        }
+    }
+
+    /// How many there are.
+    fn count(&self) -> u64 {
+        self.mixes.saturating_mul(self.dealt)
+    }
+
+    /// The first run of a kind, from 0.
+    fn first(&self, kind: u64) -> u64 {
+        let dealt = self.dealt.max(1);
+        (kind / dealt)
+            .saturating_mul(self.seeds)
+            .saturating_add(kind % dealt)
+    }
+
+    /// For how many runs each kind stands.
+    fn share(&self) -> u64 {
+        self.seeds / self.dealt.max(1)
+    }
+}
+
+/// The scenario of a run of a point, both from 0. There is none where the run is refused or memory is.
+fn scenario_of(alloc: Global, file: &Table, grid: &Grid, point: u64, run: u64) -> Option<Scenario> {
+    if point >= grid.points() || run >= grid.runs() {
+        return None;
+    }
+    let settings = grid.point(alloc, point).ok()?;
+    let its = grid.run(alloc, run).ok()?;
+    read_run(alloc, file, &settings, &its).ok()
+}
+
+/// What is reckoned of so many runs like one, of a point, both from 0.
+fn reckon_run(scenario: &Scenario, point: u64, run: u64, share: u64) -> Reckoned {
+    let estimate = estimate_of(scenario);
+    let limit = scenario.limit();
+    let entries = estimate.entries;
+    let above = Above {
+        point,
+        run,
+        entries,
+        limit,
+    };
+    Reckoned {
+        entries: u128::from(entries).saturating_mul(u128::from(share)),
+        limit: estimate.limit(),
+        highest: limit,
+        above: (limit < entries).then_some(above),
+    }
+}
+
+/// What is reckoned of the runs of a point, from 0: of so many that differ in more than their seeds, and of those like
+/// them.
+pub(crate) fn reckon_point(
+    alloc: Global,
+    file: &Table,
+    grid: &Grid,
+    point: u64,
+    most: u64,
+) -> Reckoned {
+    let kinds = Kinds::of(grid);
+    let mut all = Reckoned::none();
+    for kind in 0..kinds.count().min(most) {
+        let run = kinds.first(kind);
+        if let Some(scenario) = scenario_of(alloc, file, grid, point, run) {
+            all.join(&reckon_run(&scenario, point, run, kinds.share()));
+        }
+    }
+    all
+}
+
+/// What is reckoned of all runs of some points, from 0, by so many threads.
+pub(crate) fn reckon<R: Threads + Sync>(
+    rt: &R,
+    alloc: Global,
+    file: &Table,
+    grid: &Grid,
+    points: Range<u64>,
+    threads: u8,
+) -> Result<Reckoned, AllocError>
+    requires { points.end < 2 ^ 64 - 1 }
+{
+    let mut all = Reckoned::none();
+    let mut next = points.start;
+    while next < points.end {
+        let count = BATCH.min(points.end - next);
+        let each = in_parallel(
+            rt,
+            alloc,
+            next,
+            count,
+            threads,
+            &|point| { reckon_point(alloc, file, grid, point, u64::MAX) },
+        )?;
+        for reckoned in &each {
+            all.join(reckoned);
+        }
+        next += count;
+    }
+    Ok(all)
+}

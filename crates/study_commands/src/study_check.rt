@@ -1,0 +1,155 @@
+//! The command `check` with a study: how many points and runs there are, and about how much they will be.
+ghost use Rattle.std.specs.Prelude.{◌≡◌, ◌≢◌, ◌^◌, ◌-◌, ◌+◌, ◌<◌, ◌++◌, ℕ, List, false, IfOk, IfErr, OnOk, length, string_bytes};
+ghost use Rattle.study.specs.Grid.{runs};
+ghost use Rattle.study_commands.specs.Check.{IsStudyCheck, study_begin};
+ghost use Rattle.study_commands.specs.Stop.{Stops, Went};
+ghost use Rattle.study_commands.specs.Sweep.{IsFaultOf};
+ghost use Rattle.study_commands.specs.Why.{StopsStudyCheck};
+ghost use Rattle.sources.specs.Input.{TakesAtMost, input_path, most_bytes};
+ghost use Rattle.sweep.specs.Outcome.{CantBeRun, HaveScenarios};
+ghost use Rattle.sweep.specs.StudyText.{numbers_of};
+ghost use Rattle.toml.specs.View.{table_view};
+
+use crate::fault::Fault;
+use crate::file::table_of;
+use crate::progress_line::time_of;
+use crate::reckoning::{Above, Reckoned, reckon};
+use crate::run_name::RunName;
+use crate::study_words::{grid_of, shard_of};
+use crate::sweeping::{fault_of, threads_for};
+use crate::writing::put_text;
+use diagnosis::ENTRIES_A_SECOND;
+use printable::Printable;
+use reporting::Outlet;
+use std::alloc::{AllocError, Global};
+use std::io::Read;
+use std::marker::Sync;
+use std::rt::Files;
+use std::thread::Threads;
+use std::time::Clock;
+use study::{Grid, Shard};
+use study_line::StudyTexts;
+use sweep::{SweepError, Watcher, check_study};
+use toml::Table;
+
+/// About how many entries the runs have, and how long they take by so many threads.
+fn size_text(alloc: Global, reckoned: &Reckoned, threads: u8) -> Result<String, AllocError> {
+    let entries = reckoned.entries;
+    let rate = u128::from(ENTRIES_A_SECOND).saturating_mul(u128::from(threads.max(1)));
+    let seconds = entries.div_ceil(rate.max(1));
+    let time = time_of(alloc, seconds.min(u128::from(u64::MAX)) as u64)?;
+    format!(in alloc; ", about {entries} entries in {time} by {threads} threads\n")
+}
+
+/// That a limit will stop a run, and which limit would do for all.
+fn limit_text(alloc: Global, grid: &Grid, above: &Above, limit: u64) -> Result<String, AllocError> {
+    if above.point >= grid.points() || above.run >= grid.runs() {
+        return Ok(String::new(alloc));
+    }
+    let name = RunName {
+        point: above.point.saturating_add(1),
+        settings: grid.point(alloc, above.point)?,
+        number: above.run.saturating_add(1),
+        run: grid.run(alloc, above.run)?,
+    };
+    let name = format!(in alloc; "{name}")?;
+    let name = Printable(name.as_str());
+    let (entries, its) = (above.entries, above.limit);
+    let text = format!(in alloc;
+        "limit {its} will stop {name}, which has about {entries} entries"
+    )?;
+    if limit > its {
+        format!(in alloc; "{text}; limit={limit} would do for all\n")
+    } else {
+        format!(in alloc; "{text}; no limit is higher\n")
+    }
+}
+
+/// What is reckoned of a study's runs, in words.
+fn reckoned_text(
+    alloc: Global,
+    grid: &Grid,
+    reckoned: &Reckoned,
+    threads: u8,
+) -> Result<String, AllocError> {
+    let mut text = size_text(alloc, reckoned, threads)?;
+    if let Some(above) = &reckoned.above {
+        text.push_str(limit_text(alloc, grid, above, reckoned.limit)?.as_str())?;
+    }
+    Ok(text)
+}
+
+/// The text of a study that can be run.
+fn text_of<R: Threads + Sync>(
+    rt: &R,
+    alloc: Global,
+    file: &Table,
+    grid: &Grid,
+    shard: Shard,
+    threads: u8,
+) -> Result<String, AllocError>
+    ensures { IfOk result (λ s. (reckoned : List ℕ) × (string_bytes s
+        ≡ study_begin (length (numbers_of grid.now shard)) (length (runs grid.now)) ++ reckoned)) }
+{
+    let runs = grid.runs();
+    let its = shard.points(grid.points() as u32);
+    let range = u64::from(its.start)..u64::from(its.end);
+    let points = its.end - its.start;
+    let reckoned = reckon(rt, alloc, file, grid, range, threads)?;
+    let mut text = format!(in alloc; "ok: {points} points of {runs} runs each")?;
+    text.push_str(reckoned_text(alloc, grid, &reckoned, threads)?.as_str())?;
+    Ok(text)
+}
+
+/// Reads the scenarios of all runs.
+fn read_runs<R: Threads + Sync + Clock, W: Watcher>(
+    rt: &R,
+    alloc: Global,
+    path: &str,
+    file: &Table,
+    grid: &Grid,
+    shard: Shard,
+    threads: u8,
+    watcher: &mut W,
+) -> Result<(), Fault>
+    ensures read { OnOk result (HaveScenarios (table_view file.now) grid.now shard) }
+    ensures refused { IfErr result (λ f. (e : SweepError) × CantBeRun (table_view file.now) grid.now shard e × IsFaultOf e f) }
+    ensures hidden { W.shows watcher.new ≡ false }
+{
+    match check_study(rt, alloc, file, grid, shard, threads, watcher) {
+        Ok(()) => Ok(()),
+        Err(error) => Err(fault_of(alloc, path, file, grid, &error)),
+    }
+}
+
+/// Answers `check` with a study: how many points and runs there are, of the shard where one is named, about how many
+/// entries they have, how long that takes, and where a limit will stop a run. The scenario of each run is read.
+pub(crate) fn serve_study_check<R: Files + Threads + Sync + Clock, I: Read, O: Outlet, W: Watcher>(
+    rt: &R,
+    alloc: Global,
+    path: &str,
+    study: &StudyTexts<'_>,
+    input: &mut I,
+    outlet: &mut O,
+    watcher: &mut W,
+) -> Result<(), Fault>
+    requires { O.failed outlet.old < 2 ^ 64 - 1 }
+    ensures done { let wanted = IsStudyCheck (I.remaining input.old) path.now study.now in
+        OnOk result (Went O.told O.failed outlet.old outlet.new wanted) }
+    ensures stops { let wanted = IsStudyCheck (I.remaining input.old) path.now study.now in
+        IfErr result (Stops O.told O.failed outlet.old outlet.new wanted (λ _. ⊥)) }
+    ensures why { IfErr result (StopsStudyCheck (I.remaining input.old) path.now study.now) }
+    ensures taken { TakesAtMost (most_bytes + 1) (I.remaining input.old) (I.remaining input.new) }
+    ensures untouched { path.now ≢ input_path → input.new ≡ input.old }
+    ensures hidden { W.shows watcher.old ≡ false → W.shows watcher.new ≡ false }
+{
+    let grid = grid_of(alloc, &study.grid)?;
+    let shard = shard_of(alloc, study.shard)?;
+    let file = table_of(rt, alloc, path, input)?;
+    let threads = threads_for(rt, study.threads);
+    read_runs(rt, alloc, path, &file, &grid, shard, threads, watcher)?;
+    match text_of(rt, alloc, &file, &grid, shard, threads) {
+        Ok(text) => put_text(text.as_str(), outlet),
+        Err(_) => Err(Fault::Memory),
+    }
+}

@@ -1,0 +1,137 @@
+-- How the count of runs that passed their limit comes on.
+use Rattle.std.proofs.Common.{◌≡◌, ℕ, ◌+◌, ◌-◌, ◌*◌, ◌<◌, ◌≤◌, Bool, true, false, cond, Result, Ok, IfOk, List, [], ◌∷◌, ◌++◌, length, map, take, get_or, sym, ap, ◌∙◌, subst, arith}
+use Rattle.std.specs.List.{AllZip, count_by, range_with_len}
+use Rattle.std.specs.Prelude.{slice_index_or}
+use Rattle.std.proofs.Math.Nat.{lt_of_mul-lt-mul_right}
+use Rattle.std.proofs.Math.Seq.{take-length}
+use Rattle.std.proofs.lemmas.List.{get_or-map, length-map}
+use Rattle.std.proofs.lemmas.List.Sums.{sum_by-append}
+use Rattle.event_list.specs.Joins.{HaveJoined}
+use Rattle.toml.specs.Data.{Members}
+use Rattle.study.specs.Grid.{GridRecord, RunRecord, runs}
+use Rattle.sweep.specs.Columns.{is_limited, on_layer}
+use Rattle.sweep.specs.Layout.{LayoutRecord}
+use Rattle.sweep.specs.Limits.{AreCounted, AreUnderWay}
+use Rattle.sweep.specs.Numbering.{IsAnswerAt, AreNumbersAt, AreNumbersFrom}
+use Rattle.sweep.specs.Results.{Trial}
+use Rattle.sweep.specs.StudyText.{point_at, run_at, IsTrialOf}
+use Rattle.sweep.specs.Sums.{AreNumbers}
+use Rattle.sweep.specs.Watching.{News, stands, said_of, AreLimited, HeardRunning}
+use Rattle.sweep.specs.declared.layout.Rows.TheVariants as kind
+use Rattle.sweep.specs.declared.limits.Limits.{Limits}
+use Rattle.sweep.specs.declared.run_numbers.RunNumbers.{RunNumbers}
+use Rattle.sweep.proofs.Advancing.{more_trials}
+use Rattle.sweep.proofs.Heard.{run, running_begin, running_same, running_more, running_point}
+use Rattle.sweep.proofs.Layered.{has_first}
+use Rattle.sweep.proofs.Zipped.{range_more}
+
+-- ---- one run
+
+-- a run alone is on layer 1
+alone : (t : Trial) → on_layer 1 (t ∷ []) ≡ t ∷ []
+alone t = ap (λ b. cond b (t ∷ []) []) (has_first t.scenario)
+
+pub limited_alone : (t : Trial) (n : RunNumbers) → AreNumbers t n → n.first.sums.limited ≡ cond (is_limited t.result) 1 0
+limited_alone t n are =
+    let one : count_by (λ u. is_limited u.result) (t ∷ []) ≡ cond (is_limited t.result) 1 0 = omega arith in
+    are.first.fitting.sums.limited ∙ ap (λ l. count_by (λ u. is_limited u.result) l) (alone t) ∙ one
+
+pub at_most_one : (t : Trial) → cond (is_limited t.result) 1 0 ≤ 1
+at_most_one t = by (is_limited t.result)
+  where
+    by : (b : Bool) → cond b 1 0 ≤ 1
+    by true = omega arith
+    by false = omega arith
+
+count_more : (trials : List Trial) (t : Trial) (n m : ℕ) → n ≡ count_by (λ u. is_limited u.result) trials
+    → m ≡ cond (is_limited t.result) 1 0 → n + m ≡ count_by (λ u. is_limited u.result) (trials ++ t ∷ [])
+count_more trials t n m is one = omega (arith, sum_by-append (λ u. cond (is_limited u.result) 1 0) trials (t ∷ []), is, one)
+
+-- ---- of a point
+
+abbrev pub points_layout : LayoutRecord
+points_layout = record { rows = kind.Points; picks = [] }
+
+module _ (file : Members) (g : GridRecord) (l : Limits) (t : Trial) (one : ℕ)
+    (low : l.run < length (runs g)) (is : IsTrialOf file (point_at g l.point) (run_at g l.run) t)
+    (limited : one ≡ cond (is_limited t.result) 1 0) (was : AreCounted file g l) where
+  abbrev trials : List Trial
+  trials = was.trials ++ t ∷ []
+
+  pub more_counted : AllZip (IsTrialOf file (point_at g l.point)) (take (l.run + 1) (runs g)) trials
+  more_counted = more_trials file g points_layout l.point l.run was.trials t was.each low is
+
+  pub count_is : l.count + one ≡ count_by (λ u. is_limited u.result) trials
+  count_is = count_more was.trials t l.count one was.counted limited
+
+  pub all_counted : l.run + 1 ≡ length (runs g) → AreLimited file g l.point (l.count + one)
+  all_counted whole =
+      let R : RunRecord → Trial → Type 0 = IsTrialOf file (point_at g l.point) in
+      let P : ℕ → Type 0 = λ n. AllZip R (take n (runs g)) trials in
+      let Q : List RunRecord → Type 0 = λ rs. AllZip R rs trials in
+      record { trials = trials; each = subst Q (take-length (runs g)) (subst P whole more_counted); counted = count_is }
+
+-- the next point
+module _ {W : Type 0} (heard : W → List News → W → Type 0) (file : Members) (g : GridRecord) (start old new : W)
+    (points done begin point : ℕ) (order : begin ≤ point) where
+  pub next_told : HeardRunning heard start old file g points (length (runs g)) done (range_with_len begin (point - begin))
+      → (count : ℕ) → AreLimited file g point count → HaveJoined heard old new (said_of point count)
+      → HeardRunning heard start new file g points (length (runs g)) done (range_with_len begin (point + 1 - begin))
+  next_told told count are said =
+      let here : begin + (point - begin) ≡ point = omega (arith, order) in
+      let long : point - begin + 1 ≡ point + 1 - begin = omega (arith, order) in
+      let P : List ℕ → Type 0 = λ l. HeardRunning heard start new file g points (length (runs g)) done l in
+      let more : range_with_len begin (point - begin) ++ point ∷ [] ≡ range_with_len begin (point + 1 - begin) =
+      sym (range_more begin (point - begin) ∙ ap (λ k. range_with_len begin (point - begin) ++ k ∷ []) here) ∙ ap (λ n. range_with_len begin n) long in
+      subst P more (running_point heard points (length (runs g)) file g start old new done (range_with_len begin (point - begin)) told point count are said)
+
+-- ---- the numbers of a batch, none of which is missing
+
+pub numbers_from : {E : Type 0} (file : Members) (g : GridRecord) (first : ℕ) (answers : List (Result RunNumbers E)) (all : List RunNumbers)
+    → map (λ n. Ok n) all ≡ answers
+    → ((i : ℕ) (d : Result RunNumbers E) → i < length answers → IsAnswerAt file g (first + i) (slice_index_or answers i d))
+    → AreNumbersFrom file g first all
+numbers_from {E} file g first answers all is each i d lt =
+    let len : length answers ≡ length all = ap length (sym is) ∙ length-map all (λ n. Ok n) in
+    let at : get_or answers i (Ok d) ≡ Ok (get_or all i d) = ap (λ l. get_or l i (Ok d)) (sym is) ∙ get_or-map (λ n. Ok n) all i d (Ok d) lt in
+    let P : Result RunNumbers E → Type 0 = λ r. IfOk r (AreNumbersAt file g (first + i)) in
+    subst P at (each i (Ok d) (omega (arith, lt, len)))
+
+-- ---- a sweep's watcher
+
+module _ (file : Members) (g : GridRecord) {W : Type 0} (heard : W → List News → W → Type 0) (old now new : W) (points done begin : ℕ)
+    (l : Limits) (was : AreUnderWay file g heard old now points done begin l) where
+  pub way_same : HaveJoined heard now new [] → AreUnderWay file g heard old new points done begin l
+  way_same same = record {
+    told = running_same heard points (length (runs g)) file g old now new done (range_with_len begin (l.point - begin)) was.told same;
+    order = was.order;
+    counting = was.counting;
+  }
+
+  pub way_more : (each more : ℕ) → each ≡ length (runs g) → done < more
+      → HaveJoined heard now new (stands (run heard points each more) ∷ []) → AreUnderWay file g heard old new points more begin l
+  way_more each more is lt said = record {
+    told = running_more heard points (length (runs g)) file g old now new done (range_with_len begin (l.point - begin)) was.told more lt
+        (subst (λ n. HaveJoined heard now new (stands (run heard points n more) ∷ [])) is said);
+    order = was.order;
+    counting = was.counting;
+  }
+
+pub way_begin : (file : Members) (g : GridRecord) {W : Type 0} (heard : W → List News → W → Type 0) (old new : W) (points each begin : ℕ) (l : Limits)
+    → each ≡ length (runs g) → l.point ≡ begin → l.run ≡ 0 → l.count ≡ 0
+    → HaveJoined heard old new (stands (run heard points each 0) ∷ []) → AreUnderWay file g heard old new points 0 begin l
+way_begin file g heard old new points each begin l is at first none said =
+    let R : ℕ → Type 0 = λ n. AllZip (IsTrialOf file (point_at g l.point)) (take n (runs g)) [] in
+    let zero_len : 0 ≡ l.point - begin = omega (arith, at) in
+    let P : ℕ → Type 0 = λ n. HeardRunning heard old new file g points (length (runs g)) 0 (range_with_len begin n) in
+    record {
+      told = subst P zero_len (running_begin heard points (length (runs g)) file g old new
+          (subst (λ n. HaveJoined heard old new (stands (run heard points n 0) ∷ [])) is said));
+      order = omega (arith, at);
+      counting = record { trials = []; each = subst R (sym first) tt; counted = none };
+    }
+
+pub point_at_most : (point run each number end : ℕ) → run < each → point * each + run ≡ number → number ≤ end * each → point ≤ end
+point_at_most point run each number end low is le =
+    let up : point < end + 1 = lt_of_mul-lt-mul_right each {m = point} {n = end + 1} (omega (arith, low, is, le)) in
+    omega (arith, up)

@@ -1,0 +1,30 @@
+use Rattle.std.proofs.Common.{◌≤◌, length, arith}
+use Rattle.std.proofs.lemmas.Result.{IfOk-weaker, MatchResult-weaker}
+use Rattle.toml.specs.View.{table_view}
+use Rattle.study.specs.Grid.{runs}
+use Rattle.sweep.proofs.Ending.{cant_be_run, have_scenarios}
+use Rattle.sweep.proofs.Heard.{read_all, read_some}
+use Rattle.sweep.proofs.checking.check_study.Goals as goal
+
+pub returns-clause-ok : goal.returns-clause-ok
+returns-clause-ok g c =
+    IfOk-weaker c.check_runs-answer.result _ _
+    (λ u all. have_scenarios (table_view c.args.file.now) c.args.grid.now c.args.shard c.points_of-begin.result.0 c.points_of-begin.result.1 c.points_of-begin.ensures.numbers all)
+    c.check_runs-answer.ensures.ok
+
+pub returns-clause-err : goal.returns-clause-err
+returns-clause-err g c =
+    let some : 1 ≤ length (runs c.args.grid.now) = omega (arith, c.runs-runs.ensures.value, c.runs-runs.ensures.low) in
+    MatchResult-weaker c.check_runs-answer.result c.check_runs-answer.ensures.err (λ u h. h)
+    (λ e first. cant_be_run (table_view c.args.file.now) c.args.grid.now c.args.shard c.points_of-begin.result.0 c.points_of-begin.result.1 c.points_of-begin.ensures.numbers e some first)
+
+pub returns-clause-heard : goal.returns-clause-heard
+returns-clause-heard g c =
+    IfOk-weaker c.check_runs-answer.result _ _
+    (λ u up. read_all g.W.Watcher.heard c.args.grid.now c.args.shard c.points_of-begin.result.0 c.points_of-begin.result.1 c.points_of-begin.ensures.numbers c.args.watcher.now c.check_runs-answer.new.watcher c.hide.new.self c.hide.ensures.same up)
+    c.check_runs-answer.ensures.heard
+
+pub returns-clause-heard_some : goal.returns-clause-heard_some
+returns-clause-heard_some g c =
+    MatchResult-weaker c.check_runs-answer.result c.check_runs-answer.ensures.heard_some (λ u h. h)
+    (λ e some. read_some g.W.Watcher.heard c.args.grid.now c.args.shard c.points_of-begin.result.0 c.points_of-begin.result.1 c.points_of-begin.ensures.numbers c.args.watcher.now c.check_runs-answer.new.watcher c.hide.new.self c.hide.ensures.same some)

@@ -1,0 +1,19 @@
+use Rattle.std.proofs.Common.{[], take, sym, ap, ◌∙◌}
+use Rattle.std.specs.List.{cons_option, filter_map}
+use Rattle.sweep.specs.OneRun.{noted_round}
+use Rattle.sweep.specs.Percentile.{greater, greatest}
+use Rattle.sweep.proofs.Greatest.{greatest_both, greatest_one}
+use Rattle.sweep.proofs.Single.{gathered_more}
+use Rattle.sweep.proofs.decisions.top_round.Goals as goal
+
+pub loop-outcome-preserved : goal.loop-outcome-preserved
+loop-outcome-preserved c =
+    let os = c.args.outcomes.now in
+    let i = c.loop-outcome.outcome-index in
+    let o = c.outcome-item.result in
+    let before = filter_map noted_round (take i os) in
+    let more = gathered_more noted_round os i o c.loop-outcome-test.true c.outcome-item.is in
+    c.greater-top.ensures
+    ∙ ap (λ t. greater t c.noted_round.result) c.loop-outcome.invariant
+    ∙ ap (greater (greatest before)) (c.noted_round.ensures ∙ sym (greatest_one (noted_round o)))
+    ∙ sym (ap greatest more ∙ greatest_both before (cons_option (noted_round o) []))

@@ -1,0 +1,6 @@
+use Rattle.std.proofs.Common.{◌≡◌, take}
+use Rattle.sweep.specs.OneRun.{top_round}
+use Rattle.sweep.proofs.decisions.top_round.Given as goal
+
+abbrev pub invariant-loop-outcome : goal.invariant-loop-outcome
+invariant-loop-outcome l = l.top ≡ top_round (take l.outcome-index l.outcomes)

@@ -1,0 +1,8 @@
+use Rattle.std.proofs.Common.{◌≡◌, ◌++◌, map, take, string_bytes}
+use Rattle.study.specs.Grid.{paths_of}
+use Rattle.study.specs.Settings.{key_text}
+use Rattle.sweep.proofs.names.push_all_keys.Given as goal
+
+abbrev pub invariant-loop-axis : goal.invariant-loop-axis
+invariant-loop-axis l =
+    map string_bytes l.names.items ≡ map string_bytes l.initial.names.items ++ map key_text (paths_of (take l.axis-index l.axes))

@@ -1,0 +1,25 @@
+use Rattle.std.proofs.Common.{◌≡◌, ◌*◌, ◌^◌, ◌<◌, ap, ◌∙◌, subst, arith}
+use Rattle.std.proofs.lemmas.List.Sums.{count_by-le-length}
+use Rattle.sweep.specs.Columns.{IsDistribution, all_detections, last_decisions, top_rounds, done_on, over}
+use Rattle.sweep.specs.OneRun.{deciding, is_undecided}
+use Rattle.sweep.proofs.Layered.{few_done}
+use Rattle.sweep.proofs.point_sums.LayerTotals.columns.Goals as goal
+
+pub returns : goal.returns
+returns c layer first trials totals =
+    let s = c.args.self.now.sums in
+    let fit = totals.fitting in
+    let million : c.saturating_mul.result ≡ 1000000 * s.pairs.mistake_ticks = omega (arith, c.saturating_mul.ensures, fit.few_ticks, fit.few_runs) in
+    let few_undetected : s.pairs.undetected < 2 ^ 64 = omega (arith, fit.few_undetected, fit.few_runs) in
+    let few_undecided : c.from-undecided.result < 2 ^ 64 =
+    omega (arith, c.from-undecided.ensures, fit.sums.done.counts.undecided, count_by-le-length (λ r. is_undecided (deciding r)) (done_on layer trials), few_done layer trials, fit.few_runs) in
+    record {
+      sums = fit.sums;
+      mistake_recurrence = c.over.ensures;
+      mistaken_ppm = c.over-2.ensures ∙ ap (λ n. over n s.pair_ticks) million;
+      detections = c.distribution.ensures (all_detections layer trials) few_undetected totals.values.detected;
+      last_decisions = subst (λ n. IsDistribution (last_decisions layer trials) n c.distribution-2.result) c.from-undecided.ensures
+          (c.distribution-2.ensures (last_decisions layer trials) few_undecided totals.values.decided);
+      rounds = c.distribution-3.ensures (top_rounds layer trials) (omega arith) totals.values.rounds;
+      first_runs = totals.first_runs;
+    }

@@ -1,0 +1,28 @@
+use Rattle.std.proofs.Common.{◌≡◌, ◌+◌, ◌∷◌, [], Some, cond, ap, sym, ◌∙◌, arith, unwrap_or}
+use Rattle.std.specs.BTreeMap.{is_at}
+use Rattle.std.specs.Map.{lookup}
+use Rattle.std.specs.Ordering.{nat_cmp}
+use Rattle.std.proofs.lemmas.List.{length_push}
+use Rattle.std.proofs.lemmas.List.Sums.{sum_by_push}
+use Rattle.sweep.specs.Counted.{passing}
+use Rattle.sweep.specs.Percentile.{greater}
+use Rattle.sweep.proofs.Counting.{passing_more, lookup_le, total_of}
+use Rattle.sweep.proofs.Greatest.{greatest_both}
+use Rattle.sweep.proofs.value_counts.ValueCounts.add.Goals as goal
+
+pub returns : goal.returns
+returns c values few told =
+    let es = c.args.self.now.counts.entries in
+    let v = c.args.value in
+    let had : c.unwrap_or-had.result ≡ unwrap_or (lookup (is_at (nat_cmp v)) es) 0 = c.unwrap_or-had.ensures ∙ ap (λ o. unwrap_or o 0) (c.copied.ensures ∙ c.get.ensures.value) in
+    let low = lookup_le (is_at (nat_cmp v)) es in
+    let all = total_of values es told.counts in
+    let next : c.saturating_add.result ≡ unwrap_or (lookup (is_at (nat_cmp v)) es) 0 + 1 = omega (arith, c.saturating_add.ensures, had, low, all, few) in
+    record {
+      counts = λ test. sum_by_push (λ w. cond (test w) 1 0) values v ∙ ap (λ n. n + cond (test v) 1 0) (told.counts test)
+          ∙ sym (ap (passing test) c.in_ok-insert.ensures.entries ∙ passing_more test es v c.saturating_add.result 1 c.in_ok-insert.ensures.was_ordered next);
+      total = omega (arith, c.saturating_add-self.ensures, told.total, few, length_push values v);
+      summed = omega (arith, c.saturating_add-self-2.ensures, c.from.ensures, told.summed, told.sum_high, few, sum_by_push (λ w. w) values v);
+      sum_high = omega (arith, told.sum_high, sum_by_push (λ w. w) values v, length_push values v);
+      highest = c.greater-self.ensures ∙ ap (λ o. greater o (Some v)) told.highest ∙ sym (greatest_both values (v ∷ []));
+    }

@@ -1,0 +1,25 @@
+-- How many of a point's runs passed their limit, as they come in, and what was told of the points before it.
+use Rattle.std.specs.Prelude.{◌≡◌, ◌-◌, ◌≤◌, ℕ, List, length, take}
+use Rattle.std.specs.List.{AllZip, count_by, range_with_len}
+use Rattle.toml.specs.Data.{Members}
+use Rattle.study.specs.Grid.{GridRecord, runs}
+use Rattle.sweep.specs.Columns.{is_limited}
+use Rattle.sweep.specs.Results.{Trial}
+use Rattle.sweep.specs.StudyText.{point_at, IsTrialOf}
+use Rattle.sweep.specs.Watching.{News, HeardRunning}
+use Rattle.sweep.specs.declared.limits.Limits.{Limits}
+
+module _ (file : Members) (g : GridRecord) where
+  -- the first runs of the point are counted
+  pub record AreCounted (l : Limits) : Type 0 where
+    pub trials : List Trial
+    pub each : AllZip (IsTrialOf file (point_at g l.point)) (take l.run (runs g)) trials
+    pub counted : l.count ≡ count_by (λ t. is_limited t.result) trials
+
+  module _ {W : Type 0} (heard : W → List News → W → Type 0) (old new : W) (points done begin : ℕ) where
+    -- and of all points from the first up to this one it was told
+    pub record AreUnderWay (l : Limits) : Type 0 where
+      pub told : HeardRunning heard old new file g points (length (runs g)) done
+          (range_with_len begin (l.point - begin))
+      pub order : begin ≤ l.point
+      pub counting : AreCounted l

@@ -1,0 +1,88 @@
+//! How many runs are handed out at a time.
+ghost use Rattle.std.specs.Prelude.{◌≡◌, ℕ, ◌+◌, ◌^◌, ◌<◌, ◌≤◌, length, IfOk};
+ghost use Rattle.sweep.specs.Parallel.{AreAnswers};
+
+use crate::parallel::in_parallel;
+use std::alloc::{AllocError, Global};
+use std::io;
+use std::marker::{Send, Sync};
+use std::thread::Threads;
+use std::time::{Clock, Instant};
+
+/// The least that a batch should take, in milliseconds.
+const SHORT: u128 = 500;
+
+/// The most.
+const LONG: u128 = 2_000;
+
+/// How many runs a batch has at most for each thread.
+const MOST_EACH: u64 = 256;
+
+/// Batches of runs by so many threads. The first has one for each thread. After one that was short the next has twice
+/// as many, and after a long one half as many.
+#[derive(Drop)]
+pub(crate) struct Batches {
+    threads: u8,
+    size: u64,
+    ghost some: { 1 ≤ size },
+    ghost few: { size ≤ 65536 },
+}
+
+/// How many milliseconds went by since then, where the clock can be read.
+fn millis_since<C: Clock>(clock: &C, began: io::Result<Instant>) -> Option<u128> {
+    let began = began.ok()?;
+    let now = Instant::now(clock).ok()?;
+    Some(now.duration_since(began).as_millis())
+}
+
+impl Batches {
+    /// Batches by so many threads.
+    pub fn new(threads: u8) -> Batches {
+        let threads = threads.max(1);
+        Batches {
+            threads,
+            size: u64::from(threads),
+        }
+    }
+
+    /// Makes the next batch longer where this one took no time, and shorter where it took long.
+    fn adapt(&mut self, took: Option<u128>) {
+        let least = u64::from(self.threads).max(1);
+        match took {
+            Some(millis) if millis < SHORT => {
+                self.size = (self.size * 2).min(least * MOST_EACH);
+            }
+            Some(millis) if millis > LONG => {
+                self.size = (self.size / 2).max(least);
+            }
+            _ => {}
+        }
+    }
+
+    /// What a job gives for the first of these numbers, for one at least.
+    ///
+    /// # Errors
+    ///
+    /// `AllocError` where memory was refused.
+    pub fn run<R: Threads + Sync + Clock, T: Send + Drop, F: Fn(u64) -> T + Sync>(
+        &mut self,
+        rt: &R,
+        alloc: Global,
+        first: u64,
+        end: u64,
+        job: &F,
+    ) -> Result<Vec<T>, AllocError>
+        requires some { first < end }
+        requires room { end < 2 ^ 64 }
+        requires accepts { (number : ℕ) → first ≤ number → number < end → F.pre job.now number }
+        ensures some { IfOk result (λ v. 1 ≤ length v.items) }
+        ensures within { IfOk result (λ v. first + length v.items ≤ end) }
+        ensures answers { IfOk result (λ v. AreAnswers F.Fn job.now first (length v.items) v.items) }
+    {
+        let count = self.size.min(end - first);
+        let began = Instant::now(rt);
+        let answers = in_parallel(rt, alloc, first, count, self.threads, job)?;
+        self.adapt(millis_since(rt, began));
+        Ok(answers)
+    }
+}

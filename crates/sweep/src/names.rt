@@ -1,0 +1,105 @@
+//! The names of the columns that rows may have.
+ghost use Rattle.std.specs.Prelude.{◌≡◌, ◌++◌, ◌∷◌, [], ◌≤◌, map, length, string_bytes, codes, IfOk, OnOk};
+ghost use Rattle.study.specs.Grid.{paths_of};
+ghost use Rattle.study.specs.Settings.{chosen, path_of, key_text};
+ghost use Rattle.sweep.specs.StudyText.{lead_names, names_of as names_in};
+
+use crate::layout::Rows;
+use crate::table::push_column_names;
+use std::alloc::{AllocError, Global};
+use study::{Axis, Choice, Grid, Key};
+
+/// Adds a copy of a name.
+fn push_name(alloc: Global, names: &mut Vec<String>, name: &str) -> Result<(), AllocError>
+    ensures { OnOk result (map string_bytes names.new.items ≡ map string_bytes names.old.items ++ name.now ∷ []) }
+{
+    let name = String::from_str(alloc, name)?;
+    names.push(name)?;
+    Ok(())
+}
+
+/// Adds copies of names.
+pub(crate) fn push_names(
+    alloc: Global,
+    names: &mut Vec<String>,
+    more: &[&str],
+) -> Result<(), AllocError>
+    ensures { OnOk result (map string_bytes names.new.items
+        ≡ map string_bytes names.old.items ++ map (λ n. n.now) more.now) }
+{
+    for name in more {
+        push_name(alloc, names, name)?;
+    }
+    Ok(())
+}
+
+/// Adds keys.
+fn push_keys(alloc: Global, names: &mut Vec<String>, keys: &[Key]) -> Result<(), AllocError>
+    ensures { OnOk result (map string_bytes names.new.items
+        ≡ map string_bytes names.old.items ++ map key_text (map path_of keys.now)) }
+{
+    for key in keys {
+        names.push(key.text(alloc)?)?;
+    }
+    Ok(())
+}
+
+/// Adds the keys of axes.
+fn push_all_keys(alloc: Global, names: &mut Vec<String>, axes: &[Axis]) -> Result<(), AllocError>
+    ensures { OnOk result (map string_bytes names.new.items
+        ≡ map string_bytes names.old.items ++ map key_text (paths_of axes.now)) }
+{
+    for axis in axes {
+        push_keys(alloc, names, &axis.keys)?;
+    }
+    Ok(())
+}
+
+/// Adds the keys that are set.
+fn push_set_keys(
+    alloc: Global,
+    names: &mut Vec<String>,
+    settings: &[Choice<'_>],
+) -> Result<(), AllocError>
+    ensures { OnOk result (map string_bytes names.new.items
+        ≡ map string_bytes names.old.items ++ map key_text (map (λ c. c.path) (map chosen settings.now))) }
+{
+    for choice in settings {
+        names.push(choice.key.text(alloc)?)?;
+    }
+    Ok(())
+}
+
+/// Adds the names of what a row begins with.
+fn push_lead_names(
+    alloc: Global,
+    names: &mut Vec<String>,
+    grid: &Grid,
+    rows: Rows,
+) -> Result<(), AllocError>
+    ensures { OnOk result (map string_bytes names.new.items
+        ≡ map string_bytes names.old.items ++ lead_names rows grid.now) }
+{
+    push_all_keys(alloc, names, grid.varied())?;
+    match rows {
+        Rows::Points => Ok(()),
+        Rows::Runs => {
+            let _runs = grid.runs();
+            let run = grid.run(alloc, 0)?;
+            push_set_keys(alloc, names, &run.settings)?;
+            push_names(alloc, names, &["seed", "run"])
+        }
+    }
+}
+
+/// The names of all columns of rows that tell of points, or of runs.
+pub(crate) fn names_of(alloc: Global, grid: &Grid, rows: Rows) -> Result<Vec<String>, AllocError>
+    ensures names { IfOk result (λ v. map string_bytes v.items ≡ names_in rows grid.now) }
+    ensures some { IfOk result (λ v. 1 ≤ length v.items) }
+{
+    let mut names = Vec::new(alloc);
+    push_lead_names(alloc, &mut names, grid, rows)?;
+    push_names(alloc, &mut names, &["layer"])?;
+    push_column_names(alloc, &mut names)?;
+    Ok(names)
+}
