@@ -201,6 +201,8 @@ def longest(run, layer):
 
 
 def do_differ(run):
+    if run.file["algorithm"] == "none":
+        return False
     return len({it["value"] for it in run.outcomes().values() if it["value"] not in ("none", "novalue")}) > 1
 
 

@@ -4,8 +4,8 @@
 set -eu
 cd "$(dirname "$0")"
 mkdir -p out
-../../fdstudy sweep time_outs.toml --seeds 1..=50 --vary detector.timeout=60..=360:20 \
-    --over 'crash[1].at=90000..=90090:10' > out/time_outs.csv
-../../fdstudy sweep freshness.toml --seeds 1..=50 --vary detector.delta=20..=300:20 \
-    --over 'crash[1].at=90000..=90090:10' > out/freshness.csv
+../../fdstudy sweep time_outs.toml --seeds 1..=500 --vary detector.timeout=60..=360:20 \
+    --deal 'crash[1].at=90000..=90090:10' > out/time_outs.csv
+../../fdstudy sweep freshness.toml --seeds 1..=500 --vary detector.delta=20..=300:20 \
+    --deal 'crash[1].at=90000..=90090:10' > out/freshness.csv
 gnuplot picture.gp > freshness.svg

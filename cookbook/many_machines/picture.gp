@@ -8,6 +8,6 @@ set ylabel "mean detection time (ms)"
 set xrange [0:680]
 set grid
 set key top left
-# only the first shard has the names of the columns: 2 is detector.timeout, 18 detections, 20 detection_sum
-plot for [k = 1:8] sprintf("out/shard_%d.csv", k) using 2:($20 / $18) skip (k == 1) \
+# only the first shard has the names of the columns: 2 is detector.timeout, 3 detections, 4 detection_sum
+plot for [k = 1:8] sprintf("out/shard_%d.csv", k) using 2:($4 / $3) skip (k == 1) \
     with points linetype k pointtype k + 3 pointsize 1 title sprintf("shard %d", k)

@@ -7,8 +7,8 @@ mkdir -p out
 ../../fdbench list cluster.toml --print trace > out/trace.csv
 ../../fdbench list cluster.toml --print report > out/report.csv
 ../../fdstudy letters cluster.toml > out/letters.csv
-../../fdstudy sweep cluster.toml --seeds 1..=20 --vary detector.period=25,50,100 --vary detector.timeout=70..=370:50 \
-    --over 'crash[1].at=15000..=15080:20' > out/study.csv
+../../fdstudy sweep cluster.toml --seeds 1..=100 --vary detector.period=25,50,100 --vary detector.timeout=70..=370:50 \
+    --deal 'crash[1].at=15000..=15080:20' > out/study.csv
 rm -f out/run.db
 sqlite3 out/run.db < load.sql
 sqlite3 out/run.db < questions.sql
