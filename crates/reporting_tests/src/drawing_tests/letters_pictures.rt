@@ -87,13 +87,7 @@ impl Drawn {
     }
 
     /// Its picture between these ticks, with the letters of these processes.
-    fn draw(
-        &self,
-        alloc: Global,
-        of: &[Pid],
-        from: u32,
-        until: u32,
-    ) -> Result<Vec<u8>, DrawError> {
+    fn draw(&self, alloc: Global, of: &[Pid], from: u32, until: u32) -> Result<Vec<u8>, DrawError> {
         draw_letters(
             alloc,
             &self.scenario,
@@ -219,7 +213,11 @@ fn refusals(rt: HostRuntime) {
     let alloc = rt.alloc();
     let (start, letter) = ("0,1,1,0,start,1,0,\n", "4,1,2,1,alive,6,taken\n");
     let seventeen = Drawn::new(&rt, alloc, (17, ""), start, letter);
-    same(&rt, &answer_of(seventeen.draw(alloc, &[], 5, 5)), &"processes");
+    same(
+        &rt,
+        &answer_of(seventeen.draw(alloc, &[], 5, 5)),
+        &"processes",
+    );
     let mut two = Drawn::new(&rt, alloc, (2, ""), start, letter);
     for (more, from, until, wanted) in &ANSWERS {
         for _ in 0..*more {
