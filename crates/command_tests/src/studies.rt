@@ -60,7 +60,7 @@ fn table_of<R: Files + Threads + Wait + Sync + Clock + Abort>(
     printed(rt, alloc, &line, &file)
 }
 
-/// A limit that some seeds pass: they are counted, in the third column, and add nothing after it, so the row is the sum
+/// A limit that some seeds pass: they are counted, in the third column, and tell nothing after it, so the row is the sum
 /// of the seeds' own rows.
 #[test]
 fn limited(rt: HostRuntime) -> Result<(), Fail> {
@@ -69,7 +69,7 @@ fn limited(rt: HostRuntime) -> Result<(), Fail> {
     let mut tables = Vec::new(alloc);
     for seed in 1..=8u8 {
         let table = table_of(&rt, alloc, &format!(in alloc; "{seed}")?)?;
-        assert!(rt; column(&table, 2) == 0 || table.contains("\n1,1,1,0,0,0,0,"));
+        assert!(rt; column(&table, 2) == 0 || table.contains("\n1,1,1,,,,,"));
         tables.push(table)?;
     }
     for place in 1..7 {
