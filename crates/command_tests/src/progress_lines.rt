@@ -88,6 +88,9 @@ fn lines(rt: HostRuntime) -> Result<(), Fail> {
     Ok(())
 }
 
+/// What the clock shows, and how many runs are read.
+const READ: [(u64, u64); 2] = [(1_000, 0), (11_000, 100)];
+
 /// Before its runs a sweep reads their scenarios: of 400 in 10 seconds 100, so 30 seconds are left. The time of the runs
 /// begins anew.
 #[test]
@@ -96,11 +99,13 @@ fn reading(rt: HostRuntime) -> Result<(), Fail> {
     let clock = Hand(Cell::new(Some(1_000)));
     let mut screen = Vec::new(alloc);
     let mut line = ProgressLine::new(&clock, alloc, &mut screen, true, false);
-    for done in [0, 100] {
-        clock.0.set(Some(1_000 + 100 * done));
+    for (millis, done) in &READ {
+        clock.0.set(Some(*millis));
         line.hear(Standing {
             pass: Pass::Reading,
-            ..standing(done)
+            points: 4,
+            runs: 100,
+            done: *done,
         });
     }
     clock.0.set(Some(50_000));
