@@ -1,7 +1,4 @@
-pub mod Openings
-pub mod Reaching
+pub mod Opening
 pub mod Recording
 pub mod Posting
-pub mod Joining
-pub mod Performing
 pub mod Standing

@@ -2,11 +2,11 @@
 use Rattle.std.proofs.Common.{◌<◌, refl, sym, ap, ◌∙◌, List, [], ◌∷◌, ◌++◌, append_assoc, append-nil}
 use Rattle.process_api.specs.declared.key.Key.{Key}
 use Rattle.process_api.specs.declared.message.StepInput.{StepInput}
-use Rattle.event_list.specs.Posting.{Posted, posted_in, posted_along, ArePosted}
+use Rattle.steps.specs.Posting.{Posted, posted_in, posted_along, ArePosted}
 use Rattle.trace_laws.specs.Setting.{Setting}
 use Rattle.event_list.specs.Standing.{HasPosted}
 use Rattle.trace_laws.specs.World.{World, IsLeast, NoneBelow, opening, made, taken}
-use Rattle.event_list.proofs.Reaching.{again}
+use Rattle.trace_laws.proofs.Reaching.{again}
 use Rattle.trace_laws.proofs.Steps.{step_key}
 
 module _ {Mind : Type 0} (S : Setting Mind) where

@@ -11,12 +11,13 @@ use Rattle.scenario_record.specs.Record.{Record, place_in}
 use Rattle.trace_laws.specs.ScenarioSetting.{setting_of}
 use Rattle.pending_events.specs.Pending.{IsEmpty}
 use Rattle.trace_laws.specs.Setting.{Setting, IsSound, IsProcess}
-use Rattle.event_list.specs.Standing.{IsReached, Stands, IsStepped}
-use Rattle.event_list.specs.Posting.{Posted, posted_in, ArePosted}
+use Rattle.event_list.specs.Standing.{Stands, IsStepped}
+use Rattle.trace_laws.specs.Reached.{IsReached}
+use Rattle.steps.specs.Posting.{Posted, posted_in, ArePosted}
 use Rattle.trace_laws.specs.Step.{Events, Process, step}
 use Rattle.trace_laws.specs.World.{Has, IsLeast, NoneBelow, taken, joined, IsTrace}
 use Rattle.event_list.proofs.Posting.{posted_next, posted_end}
-use Rattle.event_list.proofs.Reaching.{reached_next, reached_end, reached_longer}
+use Rattle.trace_laws.proofs.Reaching.{reached_next, reached_end, reached_longer}
 use Rattle.trace_laws.proofs.Sets.{not_None, same_Some}
 use Rattle.trace_laws.proofs.Worlds.{taken_world}
 

@@ -4,21 +4,12 @@ use Rattle.process_api.specs.EntryRecord.{EntryRecord}
 use Rattle.process_api.specs.Mind.{Mind}
 use Rattle.process_api.specs.declared.key.Key.{Key}
 use Rattle.trace_laws.specs.Setting.{Setting, IsProcess}
-use Rattle.event_list.specs.Posting.{Posted, posted_along}
+use Rattle.steps.specs.Posting.{Posted, posted_along}
 use Rattle.trace_laws.specs.Step.{Events, Process, Made}
-use Rattle.trace_laws.specs.World.{World, Pair, Run, IsWorld, opening, joined, entries}
+use Rattle.trace_laws.specs.Reached.{IsReached}
+use Rattle.trace_laws.specs.World.{World, Pair, Run, IsWorld, opening, joined}
 
 module _ {M : Type 0} (S : Setting M) where
-  -- the list comes by this world, after these entries
-  pub record IsReached (w : World M) (trace : List EntryRecord) : Type 0 where
-    pub history : List Pair
-    pub trace_is : trace ≡ entries history
-    pub goes_on : (rest : List Pair) (last : World M)
-        → Run S S.horizon w rest last → Run S S.horizon (opening S) (history ++ rest) last
-    pub comes_by : (all : List Pair) (last : World M)
-        → Run S S.horizon (opening S) all last
-        → (rest : List Pair) × (all ≡ history ++ rest) × Run S S.horizon w rest last
-
   -- whatever the list does from this world, it sent these letters before
   abbrev pub HasPosted : (w : World M) → List Posted → Type 0
   HasPosted w letters = (rest : List Pair) (last : World M) → Run S S.horizon w rest last

@@ -15,31 +15,21 @@
 //! different processes as it is put on its link (`specs/Posting.antt`), lost ones and late ones too, of which no trace
 //! tells.
 //!
-//! One call makes the step of a process, [`Seat::turn`]: a machine with its link counts, a key and an input go in, an
-//! entry comes out, the events that join go where the caller says ([`Joins`]), and a [`Listener`] is told of the
-//! letters. The list calls it, and so may whoever runs processes apart from one another, with [`Nobody`] listening;
-//! [`Pending`] is their set of pending events. It is that of `pending_events`, and is handed on from here.
+//! What the step of a process does is that of `steps`, and the set of pending events that of `pending_events`; both are
+//! handed on from here.
 //!
 //! As an example, two processes send each other a letter at tick 0 that takes 2 ticks, and the second crashes at
 //! tick 1. The trace has a `start` of each at tick 0, process 1 takes its letter at tick 2, and the letter to process
 //! 2 at tick 2 is `dead`.
 #![tactic(auto)]
 
-mod joins;
 mod laws;
-mod links;
 mod list;
-mod listener;
-mod nobody;
 mod recorder;
-mod seat;
 
-pub use joins::Joins;
 pub use laws::law_only_history;
 pub use list::{run_list, run_list_heard, run_list_into};
-pub use listener::Listener;
-pub use nobody::Nobody;
 pub use pending_events::Pending;
 pub use recorder::Recorder;
 pub use run_error::RunError;
-pub use seat::{Seat, kind_of_letter};
+pub use steps::{Joins, Listener, Nobody, Seat, kind_of_letter};

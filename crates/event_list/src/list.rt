@@ -6,25 +6,23 @@ ghost use Rattle.process_api.specs.Mind.{Mind};
 ghost use Rattle.process_api.specs.Numbers.{numbers_to};
 ghost use Rattle.scenario_record.specs.Record.{opening_mind};
 ghost use Rattle.trace_laws.specs.Effects.{HasCauses, TakesOnce};
-ghost use Rattle.event_list.specs.Joins.{HaveJoined};
-ghost use Rattle.event_list.specs.Posting.{posted_in, WereHeard};
+ghost use Rattle.trace_laws.specs.Joins.{HaveJoined};
+ghost use Rattle.steps.specs.Posting.{posted_in, WereHeard};
 ghost use Rattle.event_list.specs.Recorder.{WereTaken, IsRecorded, IsCutShort};
 ghost use Rattle.trace_laws.specs.ScenarioSetting.{setting_of};
-ghost use Rattle.event_list.specs.Seat.{process_of, IsMindIn, IsSeated};
+ghost use Rattle.steps.specs.Seat.{process_of, IsMindIn, IsSeated};
 ghost use Rattle.trace_laws.specs.Setting.{IsProcess};
 ghost use Rattle.event_list.specs.Standing.{Stands, IsStepped};
 ghost use Rattle.trace_laws.specs.Step.{Process, step};
 ghost use Rattle.trace_laws.specs.World.{starts, opened, IsTrace};
 
-use crate::listener::Listener;
-use crate::nobody::Nobody;
 use crate::recorder::Recorder;
-use crate::seat::Seat;
 use pending_events::Pending;
 use process_api::{Action, Entry, Key, Pid, Process, StepInput, Trace};
 use run_error::RunError;
 use scenario_record::Scenario;
 use std::alloc::{AllocError, Global};
+use steps::{Listener, Nobody, Seat};
 use streams::Streams;
 
 /// A run of the list: who sits where, what is pending, and room for what one machine answers.

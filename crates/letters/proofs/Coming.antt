@@ -13,7 +13,7 @@ use Rattle.scenario_record.specs.Record.{Record}
 use Rattle.streams.specs.declared.fate.Fate.{Fate}
 use Rattle.streams.specs.declared.fate.Fate.TheVariants as link
 use Rattle.trace_laws.specs.History.{IsIn, IsTaken, Pair}
-use Rattle.event_list.specs.Posting.{Posted, posted_in, posted_along}
+use Rattle.steps.specs.Posting.{Posted, posted_in, posted_along}
 use Rattle.trace_laws.specs.ScenarioSetting.{setting_of}
 use Rattle.trace_laws.specs.Setting.{Setting, IsSound, has_crashed}
 use Rattle.trace_laws.specs.Step.{Event, kind_of, kind_of_payload}

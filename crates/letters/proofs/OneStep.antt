@@ -11,7 +11,7 @@ use Rattle.process_api.specs.declared.message.StepInput.TheVariants as input
 use Rattle.streams.specs.declared.fate.Fate.{Fate}
 use Rattle.streams.specs.declared.fate.Fate.TheVariants as link
 use Rattle.trace_laws.specs.History.{IsIn}
-use Rattle.event_list.specs.Posting.{Posted, posting, posted_by, posted_in}
+use Rattle.steps.specs.Posting.{Posted, posting, posted_by, posted_in}
 use Rattle.trace_laws.specs.Setting.{Setting, has_crashed}
 use Rattle.trace_laws.specs.Step.{Event, Process, Made, in_time, by_fate, counted, joining, added, step, made_by, dead, kind_of}
 use Rattle.trace_laws.proofs.Steps.{in_append, in_left, in_right}

@@ -1,7 +1,7 @@
 -- A scenario's run has these letters alone.
 use Rattle.std.proofs.Common.{◌≡◌, ap, sym, ◌∙◌, List, map}
 use Rattle.scenario_record.specs.Record.{Record}
-use Rattle.event_list.specs.Posting.{posted_along}
+use Rattle.steps.specs.Posting.{posted_along}
 use Rattle.trace_laws.specs.ScenarioSetting.{setting_of}
 use Rattle.trace_laws.specs.World.{opening}
 use Rattle.trace_laws.proofs.Runs.{one_run}

@@ -13,7 +13,7 @@ use Rattle.process_api.specs.declared.message.StepInput.{StepInput}
 use Rattle.scenario_record.specs.Ranges.{IsInRange}
 use Rattle.scenario_record.specs.Record.{Record}
 use Rattle.trace_laws.specs.History.{IsIn, Pair}
-use Rattle.event_list.specs.Posting.{Posted, posting, posted_by, posted_in, posted_along}
+use Rattle.steps.specs.Posting.{Posted, posting, posted_by, posted_in, posted_along}
 use Rattle.trace_laws.specs.ScenarioSetting.{setting_of}
 use Rattle.trace_laws.specs.Setting.{Setting, has_crashed}
 use Rattle.trace_laws.specs.Step.{Process, counted}

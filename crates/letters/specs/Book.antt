@@ -1,6 +1,6 @@
 -- A book of letters, as they are heard of.
 use Rattle.std.specs.Prelude.{◌≡◌, List, ◌++◌, map}
-use Rattle.event_list.specs.Posting.{Posted}
+use Rattle.steps.specs.Posting.{Posted}
 use Rattle.trace_laws.specs.ScenarioSetting.{setting_of}
 use Rattle.letters.specs.Letters.{letter_of}
 use Rattle.letters.specs.declared.book.LetterBook.{LetterBook}

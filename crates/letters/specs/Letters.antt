@@ -4,7 +4,7 @@ use Rattle.std.specs.List.{All}
 use Rattle.scenario_record.specs.Record.{Record}
 use Rattle.streams.specs.declared.fate.Fate.{Fate}
 use Rattle.streams.specs.declared.fate.Fate.TheVariants as link
-use Rattle.event_list.specs.Posting.{Posted, ArePosted}
+use Rattle.steps.specs.Posting.{Posted, ArePosted}
 use Rattle.trace_laws.specs.ScenarioSetting.{setting_of}
 use Rattle.trace_laws.specs.Setting.{Setting, has_crashed}
 use Rattle.trace_laws.specs.Step.{kind_of_payload}

@@ -11,6 +11,7 @@
 
 mod buckets;
 mod calendar;
+mod joins;
 mod lanes;
 mod pending;
 

@@ -6,8 +6,8 @@ use Rattle.std.proofs.lemmas.List.Elements.{filter-append, filter_map-append}
 use Rattle.std.specs.List.{AllZip, filter, filter_map, range_with_len}
 use Rattle.std.proofs.lemmas.Bool.Decides.{eqb_tells}
 use Rattle.std.proofs.lemmas.List.FromFn.{length-range_with_len}
-use Rattle.event_list.specs.Joins.{HaveJoined}
-use Rattle.event_list.proofs.Joining.{joined_then}
+use Rattle.trace_laws.specs.Joins.{HaveJoined}
+use Rattle.trace_laws.proofs.Joining.{joined_then}
 use Rattle.toml.specs.Data.{Members}
 use Rattle.study.specs.Grid.{GridRecord, runs}
 use Rattle.study.specs.Shard.{ShardRecord}

@@ -6,7 +6,7 @@ use Rattle.std.proofs.Math.Nat.{lt_of_mul-lt-mul_right}
 use Rattle.std.proofs.Math.Seq.{take-length}
 use Rattle.std.proofs.lemmas.List.{get_or-map, length-map}
 use Rattle.std.proofs.lemmas.List.Sums.{sum_by-append}
-use Rattle.event_list.specs.Joins.{HaveJoined}
+use Rattle.trace_laws.specs.Joins.{HaveJoined}
 use Rattle.toml.specs.Data.{Members}
 use Rattle.study.specs.Grid.{GridRecord, RunRecord, runs}
 use Rattle.sweep.specs.Columns.{is_limited, on_layer}

@@ -1,7 +1,7 @@
 -- What a watcher hears of a sweep.
 use Rattle.std.specs.Prelude.{◌≡◌, ◌⊎◌, ◌<◌, ◌≤◌, ◌*◌, ◌==◌, ℕ, if◌then◌else◌, not, Option, None, Some, List, [], ◌∷◌, length, map, take}
 use Rattle.std.specs.List.{AllZip, count_by, filter, filter_map}
-use Rattle.event_list.specs.Joins.{HaveJoined}
+use Rattle.trace_laws.specs.Joins.{HaveJoined}
 use Rattle.toml.specs.Data.{Members}
 use Rattle.study.specs.Grid.{GridRecord, runs}
 use Rattle.study.specs.Shard.{ShardRecord}

@@ -1,6 +1,6 @@
 //! How many runs of each point passed their limit, which the watcher is told.
 ghost use Rattle.std.specs.Prelude.{◌≡◌, ℕ, ◌+◌, ◌*◌, ◌^◌, ◌<◌, ◌≤◌, if◌then◌else◌, length};
-ghost use Rattle.event_list.specs.Joins.{HaveJoined};
+ghost use Rattle.trace_laws.specs.Joins.{HaveJoined};
 ghost use Rattle.toml.specs.View.{table_view};
 ghost use Rattle.study.specs.Grid.{points, runs};
 ghost use Rattle.sweep.specs.Columns.{is_limited};

@@ -1,6 +1,6 @@
 //! Who is told how far a sweep has come.
 ghost use Rattle.std.specs.Prelude.{◌≡◌, ◌<◌, ◌∷◌, [], false, Bool, List, length};
-ghost use Rattle.event_list.specs.Joins.{HaveJoined};
+ghost use Rattle.trace_laws.specs.Joins.{HaveJoined};
 ghost use Rattle.study.specs.Grid.{points};
 
 use study::Grid;

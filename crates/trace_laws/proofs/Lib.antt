@@ -2,7 +2,9 @@ pub mod Alike
 pub mod Causes
 pub mod Closed
 pub mod Effects
+pub mod Joining
 pub mod Pairs
+pub mod Reaching
 pub mod Rising
 pub mod Runs
 pub mod Sets

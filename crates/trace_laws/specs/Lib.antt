@@ -6,3 +6,5 @@ pub mod Plain
 pub mod Theorems
 pub mod ScenarioSetting
 pub mod Effects
+pub mod Joins
+pub mod Reached

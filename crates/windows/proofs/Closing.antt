@@ -19,14 +19,14 @@ use Rattle.scenario_record.specs.Record.{Record}
 use Rattle.trace_laws.specs.History.{IsIn, Pair, pairs_of}
 use Rattle.pending_events.specs.Pending.{IsLeastTick}
 use Rattle.trace_laws.specs.ScenarioSetting.{setting_of}
-use Rattle.event_list.specs.Seat.{process_of, own_of, IsSeated}
+use Rattle.steps.specs.Seat.{process_of, own_of, IsSeated}
 use Rattle.trace_laws.specs.Setting.{Setting, IsSound, IsProcess}
-use Rattle.event_list.specs.Standing.{IsReached}
+use Rattle.trace_laws.specs.Reached.{IsReached}
 use Rattle.trace_laws.specs.Step.{Event, Events, Process}
 use Rattle.trace_laws.specs.World.{World, IsWorld, Has, NoneBelow, Run, taken, joined, entries, opening_process, IsTrace}
 use Rattle.trace_laws.proofs.Closed.{closed_of_run}
 use Rattle.trace_laws.proofs.Pairs.{in_pairs}
-use Rattle.event_list.proofs.Reaching.{reached_next, reached_end}
+use Rattle.trace_laws.proofs.Reaching.{reached_next, reached_end}
 use Rattle.trace_laws.proofs.Rising.{IsRising, rising_pairs, rising_entries}
 use Rattle.trace_laws.proofs.Runs.{run_exists, one_run}
 use Rattle.trace_laws.proofs.Sets.{joined_cases, one_input, insert_at, not_None, same_Some}

@@ -12,7 +12,7 @@ use Rattle.scenario_record.specs.Record.{Record}
 use Rattle.mailboxes.specs.Mailbox.{MailboxId}
 use Rattle.mailboxes.specs.Mailboxes.{SlipView, IsSlipOf, unused, with_letter, list_of, posted_to}
 use Rattle.trace_laws.specs.History.{IsIn}
-use Rattle.event_list.specs.Seat.{own_of}
+use Rattle.steps.specs.Seat.{own_of}
 use Rattle.trace_laws.specs.World.{NoneBelow}
 use Rattle.windows.proofs.Members.{contains_in, in_contains}
 use Rattle.windows.proofs.Ranked.{rises_same, sorted_is}

@@ -16,13 +16,13 @@ use Rattle.process_api.proofs.Minds.{mind_place, same_own}
 use Rattle.scenario_record.specs.Ranges.{IsInRange}
 use Rattle.scenario_record.specs.Record.{Record, opening_mind, place_in}
 use Rattle.trace_laws.specs.ScenarioSetting.{setting_of}
-use Rattle.event_list.specs.Seat.{process_of, own_of, IsSeated}
+use Rattle.steps.specs.Seat.{process_of, own_of, IsSeated}
 use Rattle.trace_laws.specs.Setting.{Setting, IsSound, IsProcess}
 use Rattle.trace_laws.specs.Step.{Process}
 use Rattle.trace_laws.specs.World.{Has, starts, start_of, opened, opening, opening_process}
 use Rattle.trace_laws.proofs.Closed.{opening_world}
-use Rattle.event_list.proofs.Openings.{number_at, length-numbers_to}
-use Rattle.event_list.proofs.Reaching.{opening_reached}
+use Rattle.steps.proofs.Openings.{number_at, length-numbers_to}
+use Rattle.trace_laws.proofs.Reaching.{opening_reached}
 use Rattle.trace_laws.proofs.Sets.{inserted, insert_at, insert_other, not_None}
 use Rattle.trace_laws.proofs.Sound.{setting_sound, opens_with_mind}
 use Rattle.windows.specs.Berth.{IsBerth}

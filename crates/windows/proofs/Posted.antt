@@ -15,7 +15,7 @@ use Rattle.scenario_record.specs.Ranges.{IsInRange}
 use Rattle.scenario_record.specs.Record.{Record}
 use Rattle.trace_laws.specs.ScenarioSetting.{setting_of}
 use Rattle.trace_laws.specs.World.{IsTrace}
-use Rattle.event_list.proofs.Openings.{number_at, length-numbers_to}
+use Rattle.steps.proofs.Openings.{number_at, length-numbers_to}
 use Rattle.mailboxes.specs.Mailboxes.{SlipView, list_of, posted_to}
 use Rattle.trace_merge.specs.Parts.{all_of, AreDisjoint}
 use Rattle.windows.specs.Closing.{AreLettersOf, IsOutcomeBy, IsClosedBy}

@@ -13,7 +13,7 @@ use Rattle.scenario_record.specs.Ranges.{IsInRange}
 use Rattle.scenario_record.specs.Record.{Record}
 use Rattle.trace_laws.specs.History.{IsIn}
 use Rattle.trace_laws.specs.ScenarioSetting.{setting_of}
-use Rattle.event_list.specs.Seat.{process_of, own_of}
+use Rattle.steps.specs.Seat.{process_of, own_of}
 use Rattle.trace_laws.specs.Setting.{Setting, IsProcess}
 use Rattle.trace_laws.specs.World.{IsTrace}
 use Rattle.trace_laws.proofs.Sets.{not_None, same_Some}

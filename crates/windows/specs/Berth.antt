@@ -8,8 +8,8 @@ use Rattle.process_api.specs.declared.message.StepInput.{StepInput}
 use Rattle.process_api.specs.declared.message.StepInput.TheVariants as input
 use Rattle.scenario_record.specs.Record.{Record}
 use Rattle.trace_laws.specs.ScenarioSetting.{setting_of}
-use Rattle.event_list.specs.Seat.{process_of, own_of, IsSeated}
-use Rattle.event_list.specs.declared.seat.Seat.{Seat}
+use Rattle.steps.specs.Seat.{process_of, own_of, IsSeated}
+use Rattle.steps.specs.declared.seat.Seat.{Seat}
 use Rattle.trace_laws.specs.Step.{Event, Events, Process, Made, step}
 use Rattle.trace_laws.specs.World.{Pair, Has, entries}
 use Rattle.mailboxes.specs.Mailboxes.{SlipView, with_letter}

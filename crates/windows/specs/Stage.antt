@@ -13,9 +13,9 @@ use Rattle.scenario_record.specs.Record.{Record}
 use Rattle.trace_laws.specs.History.{IsIn}
 use Rattle.pending_events.specs.Pending.{IsLeastTick}
 use Rattle.trace_laws.specs.ScenarioSetting.{setting_of}
-use Rattle.event_list.specs.Seat.{process_of, own_of, IsSeated}
+use Rattle.steps.specs.Seat.{process_of, own_of, IsSeated}
 use Rattle.trace_laws.specs.Setting.{IsProcess}
-use Rattle.event_list.specs.Standing.{IsReached}
+use Rattle.trace_laws.specs.Reached.{IsReached}
 use Rattle.trace_laws.specs.Step.{Events}
 use Rattle.trace_laws.specs.World.{World, IsWorld, NoneBelow, joined, start_of, opening_process}
 use Rattle.trace_merge.specs.Parts.{all_of}

@@ -5,7 +5,7 @@ ghost use Rattle.trace_laws.specs.World.{IsLeast, NoneBelow, joined};
 ghost use Rattle.pending_events.specs.Pending.{IsEmpty, IsLeastTick};
 ghost use Rattle.windows.specs.Agenda.{event_of, earlier_of, IsSoonestOf, IsAheadOf};
 
-use event_list::Pending;
+use pending_events::Pending;
 use process_api::{Key, Letter, StepInput};
 use std::alloc::{AllocError, Global};
 use std::marker::Model;

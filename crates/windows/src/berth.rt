@@ -3,7 +3,7 @@ ghost use Rattle.std.specs.Prelude.{◌≡◌, ◌≤◌, ◌<◌, ◌+◌, ◌*
 ghost use Rattle.std.specs.List.{AllByRecursion};
 ghost use Rattle.process_api.specs.Bounds.{most_step_actions};
 ghost use Rattle.process_api.specs.declared.message.Letter.{Letter as SentLetter};
-ghost use Rattle.event_list.specs.Seat.{process_of, own_of, IsMindIn, IsSeated};
+ghost use Rattle.steps.specs.Seat.{process_of, own_of, IsMindIn, IsSeated};
 ghost use Rattle.trace_laws.specs.World.{joined, opened};
 ghost use Rattle.mailboxes.specs.Mailboxes.{IsSlipOf};
 ghost use Rattle.windows.specs.Berth.{with_letters, made_in, ArePosted, IsOwnOrLetter, IsBerth, IsLong, RanTo};
@@ -11,13 +11,15 @@ ghost use Rattle.window_laws.specs.Machine.{for_self};
 ghost use Rattle.windows.specs.Refusals.{IsRefusalOfOne};
 
 use crate::agenda::Agenda;
-use event_list::{Nobody, Pending, RunError, Seat};
 use mailboxes::{SharedMailboxes, Slip};
+use pending_events::Pending;
 use process_api::{Action, Entry, Key, Letter, Pid, Process, StepInput};
+use run_error::RunError;
 use scenario_record::Scenario;
 use std::alloc::{AllocError, Global};
 use std::mem::replace;
 use std::sync::Wait;
+use steps::{Nobody, Seat};
 use streams::Streams;
 
 /// A machine in its seat, with the events that are pending for it, and its part of the open window's trace. The

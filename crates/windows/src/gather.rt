@@ -13,9 +13,9 @@ use crate::gate::Gate;
 use crate::shared::Shared;
 use crate::workers::{Start, Work};
 use deques::{Dealer, Rest};
-use event_list::RunError;
 use mailboxes::{Mailboxes, Slip};
 use process_api::Process;
+use run_error::RunError;
 use std::alloc::{AllocError, Global};
 use std::sync::Wait;
 

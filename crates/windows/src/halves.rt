@@ -8,9 +8,9 @@ ghost use Rattle.mailboxes.specs.Mailboxes.{IsSlipOf, letters_in};
 ghost use Rattle.trace_merge.specs.Parts.{all_of, AreDisjoint};
 ghost use Rattle.windows.specs.Closing.{AreLettersOf};
 
-use event_list::RunError;
 use mailboxes::{Mailboxes, Slip};
 use process_api::{Entry, Letter};
+use run_error::RunError;
 use std::alloc::Global;
 use std::sync::Wait;
 use std::thread::{Threads, join};

@@ -2,8 +2,8 @@
 ghost use Rattle.std.specs.Prelude.{◌≡◌, ℕ};
 
 use crate::sink::Sink;
-use event_list::RunError;
 use process_api::Entry;
+use run_error::RunError;
 
 /// Keeps the entries of all parts, in one list.
 #[derive(Drop)]

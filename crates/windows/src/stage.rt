@@ -7,7 +7,7 @@ ghost use Rattle.process_api.specs.Numbers.{numbers_to};
 ghost use Rattle.process_api.specs.Order.{is_rising};
 ghost use Rattle.scenario_record.specs.Record.{opening_mind};
 ghost use Rattle.trace_laws.specs.ScenarioSetting.{setting_of};
-ghost use Rattle.event_list.specs.Seat.{process_of, own_of, IsMindIn, IsSeated};
+ghost use Rattle.steps.specs.Seat.{process_of, own_of, IsMindIn, IsSeated};
 ghost use Rattle.trace_laws.specs.World.{opened, opening};
 ghost use Rattle.mailboxes.specs.Mailboxes.{IsSlipOf, letters_in};
 ghost use Rattle.trace_merge.specs.Parts.{all_of, AreDisjoint};
@@ -18,9 +18,10 @@ ghost use Rattle.windows.specs.Stage.{stage_of, start_event, delivered, IsOpened
 
 use crate::berth::Berth;
 use crate::halves::empty_and_merge;
-use event_list::{Pending, RunError};
 use mailboxes::{Mailboxes, Slip};
+use pending_events::Pending;
 use process_api::{Entry, Key, Letter, Pid, Process, StepInput};
+use run_error::RunError;
 use scenario_record::Scenario;
 use std::alloc::{AllocError, Global};
 use std::mem::replace;

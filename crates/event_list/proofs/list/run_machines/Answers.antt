@@ -1,7 +1,7 @@
 use Rattle.trace_laws.specs.ScenarioSetting.{setting_of}
 use Rattle.trace_laws.proofs.Closed.{trace_rises}
 use Rattle.trace_laws.proofs.Effects.{trace_has_causes, trace_takes_once}
-use Rattle.event_list.proofs.Performing.{if_ok_then}
+use Rattle.steps.proofs.Performing.{if_ok_then}
 use Rattle.trace_laws.proofs.Sound.{setting_sound}
 use Rattle.event_list.proofs.list.run_machines.Goals as goal
 

@@ -1,7 +1,7 @@
 use Rattle.std.proofs.Common.{◌≡◌, ◌++◌, map}
 use Rattle.std.specs.List.{All}
 use Rattle.std.specs.Vec.Iter.{into_iter_items}
-use Rattle.event_list.specs.Seat.{process_of, IsMindIn, IsSeated}
+use Rattle.steps.specs.Seat.{process_of, IsMindIn, IsSeated}
 use Rattle.trace_laws.specs.World.{opened}
 use Rattle.event_list.proofs.list.seats_of.Given as goal
 

@@ -1,7 +1,7 @@
 use Rattle.std.proofs.Common.{◌≡◌, ◌<◌, [], ◌++◌, ◌+◌, ◌*◌, map, ap, sym, subst, ◌∙◌, refl, arith, vec_len, length}
 use Rattle.process_api.specs.Bounds.{most_step_actions}
 use Rattle.trace_laws.specs.ScenarioSetting.{setting_of}
-use Rattle.event_list.specs.Seat.{process_of, own_of, IsSeated}
+use Rattle.steps.specs.Seat.{process_of, own_of, IsSeated}
 use Rattle.trace_laws.specs.World.{Has}
 use Rattle.windows.specs.Agenda.{event_of}
 use Rattle.windows.specs.Berth.{made_in, with_letters}

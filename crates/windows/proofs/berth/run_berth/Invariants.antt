@@ -2,7 +2,7 @@ use Rattle.std.proofs.Common.{◌≡◌, ◌≤◌, ◌+◌, ◌*◌, ◌-◌, L
 use Rattle.process_api.specs.Bounds.{most_step_actions}
 use Rattle.process_api.specs.declared.message.Letter.{Letter}
 use Rattle.trace_laws.specs.ScenarioSetting.{setting_of}
-use Rattle.event_list.specs.Seat.{process_of, own_of, IsSeated}
+use Rattle.steps.specs.Seat.{process_of, own_of, IsSeated}
 use Rattle.mailboxes.specs.Mailboxes.{IsSlipOf}
 use Rattle.windows.specs.Agenda.{event_of}
 use Rattle.windows.specs.Berth.{with_letters}

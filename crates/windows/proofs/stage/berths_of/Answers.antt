@@ -4,7 +4,7 @@ use Rattle.std.specs.Vec.Iter.{into_iter_items}
 use Rattle.std.proofs.lemmas.List.{map-append}
 use Rattle.std.proofs.lemmas.List.Elements.{All-push, All-rest}
 use Rattle.process_api.specs.Mind.{Mind}
-use Rattle.event_list.specs.Seat.{process_of, own_of, IsMindIn}
+use Rattle.steps.specs.Seat.{process_of, own_of, IsMindIn}
 use Rattle.trace_laws.specs.Step.{Process}
 use Rattle.trace_laws.specs.World.{opened}
 use Rattle.windows.specs.Stage.{start_event, IsOpened}

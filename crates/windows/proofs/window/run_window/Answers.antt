@@ -4,7 +4,7 @@ use Rattle.windows.specs.Refusals.{IsRefusal, IsRefusalOfOne}
 use Rattle.std.specs.Global.{Vec}
 use Rattle.scenario_record.specs.Record.{Record}
 use Rattle.trace_laws.specs.ScenarioSetting.{setting_of}
-use Rattle.event_list.specs.Seat.{own_of}
+use Rattle.steps.specs.Seat.{own_of}
 use Rattle.window_laws.specs.Machine.{end_of}
 use Rattle.windows.specs.Workers.{RiseBy}
 use Rattle.windows.specs.declared.berth.Berth.{Berth}

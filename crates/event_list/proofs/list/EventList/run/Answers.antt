@@ -3,14 +3,14 @@ use Rattle.std.specs.List.{All}
 use Rattle.std.proofs.lemmas.List.{length-map}
 use Rattle.process_api.specs.Bounds.{most_step_actions}
 use Rattle.process_api.specs.Mind.{Mind}
-use Rattle.event_list.specs.Joins.{HaveJoined}
-use Rattle.event_list.specs.Posting.{posted_in}
+use Rattle.trace_laws.specs.Joins.{HaveJoined}
+use Rattle.steps.specs.Posting.{posted_in}
 use Rattle.trace_laws.specs.ScenarioSetting.{setting_of}
-use Rattle.event_list.specs.Seat.{process_of, IsSeated}
+use Rattle.steps.specs.Seat.{process_of, IsSeated}
 use Rattle.trace_laws.specs.Setting.{IsProcess}
 use Rattle.event_list.specs.Standing.{IsStepped}
 use Rattle.trace_laws.specs.Step.{Process, step}
-use Rattle.event_list.proofs.Joining.{none_joined, joined_then}
+use Rattle.trace_laws.proofs.Joining.{none_joined, joined_then}
 use Rattle.event_list.proofs.Recording.{Going, taken_next, longer, cut_short}
 use Rattle.trace_laws.proofs.Sound.{setting_sound}
 use Rattle.event_list.proofs.Standing.{first_longer, first_receiver, first_process, first_own, stands_next, stands_end}

@@ -1,8 +1,8 @@
 use Rattle.std.proofs.Common.{◌≡◌, ◌≤◌, ◌*◌, ◌-◌, map, vec_len}
 use Rattle.std.specs.List.{All}
-use Rattle.event_list.specs.Joins.{HaveJoined}
+use Rattle.trace_laws.specs.Joins.{HaveJoined}
 use Rattle.trace_laws.specs.ScenarioSetting.{setting_of}
-use Rattle.event_list.specs.Seat.{process_of, IsSeated}
+use Rattle.steps.specs.Seat.{process_of, IsSeated}
 use Rattle.event_list.proofs.Recording.{Going}
 use Rattle.event_list.proofs.list.EventList.run.Given as goal
 use Rattle.process_api.specs.Bounds.{most_step_actions}

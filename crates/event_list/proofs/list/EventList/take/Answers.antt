@@ -1,10 +1,10 @@
 use Rattle.std.proofs.Common.{[], refl, ◌≡◌, ◌+◌, ◌-◌, ◌<◌, length, get_or, slice_get, slice_set, map, ap, sym, subst, ◌∙◌, arith}
 use Rattle.std.proofs.lemmas.List.{map-set}
 use Rattle.std.proofs.lemmas.List.Elements.{All-set, All-weaker, All-get_or}
-use Rattle.event_list.specs.Joins.{HaveJoined}
-use Rattle.event_list.specs.Posting.{posted_in}
+use Rattle.trace_laws.specs.Joins.{HaveJoined}
+use Rattle.steps.specs.Posting.{posted_in}
 use Rattle.trace_laws.specs.ScenarioSetting.{setting_of}
-use Rattle.event_list.specs.Seat.{process_of, IsSeated}
+use Rattle.steps.specs.Seat.{process_of, IsSeated}
 use Rattle.event_list.specs.Standing.{IsStepped}
 use Rattle.trace_laws.specs.Step.{step}
 use Rattle.event_list.proofs.Standing.{place_is, image_at}

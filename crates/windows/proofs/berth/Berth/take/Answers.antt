@@ -4,7 +4,7 @@ use Rattle.std.specs.Prelude.{IsTrue}
 use Rattle.process_api.specs.Mind.{is_mind_at}
 use Rattle.scenario_record.specs.Record.{place_in}
 use Rattle.trace_laws.specs.ScenarioSetting.{setting_of}
-use Rattle.event_list.specs.Seat.{process_of, own_of}
+use Rattle.steps.specs.Seat.{process_of, own_of}
 use Rattle.trace_laws.specs.Step.{step}
 use Rattle.windows.specs.Berth.{made_in, ArePosted, IsOwnOrLetter}
 use Rattle.windows.proofs.Letters.{from_none, joined_same, own_kept, step_causes}

@@ -1,7 +1,0 @@
-use Rattle.std.proofs.Common.{ap, sym, ◌∙◌}
-use Rattle.std.specs.FinMap as events
-use Rattle.event_list.proofs.Joining.{joined_one}
-use Rattle.event_list.proofs.joins.PendingJoins.add.Goals as goal
-
-pub returns : goal.returns
-returns c = λ first before had. c.in_ok-join.ensures.ok ∙ (ap (λ m. events.insert m c.args.key c.args.input) had ∙ sym (joined_one first before (c.args.key, c.args.input)))

@@ -1,0 +1,7 @@
+use Rattle.std.proofs.Common.{ap, sym, ◌∙◌}
+use Rattle.std.specs.FinMap as events
+use Rattle.trace_laws.proofs.Joining.{joined_one}
+use Rattle.pending_events.proofs.joins.PendingJoins.add.Goals as goal
+
+pub returns : goal.returns
+returns c = λ first before had. c.in_ok-join.ensures.ok ∙ (ap (λ m. events.insert m c.args.key c.args.input) had ∙ sym (joined_one first before (c.args.key, c.args.input)))

@@ -1,0 +1,336 @@
+//! What a process puts on its links.
+ghost use Rattle.std.specs.Prelude.{◌≡◌, ◌≢◌, ◌≤◌, ◌<◌, ◌+◌, ◌^◌, ◌++◌, ℕ, IfOk, OnOk, length, replicate, vec_len};
+ghost use Rattle.std.specs.List.{AllByRecursion};
+ghost use Rattle.process_api.specs.Actions.{IsAllowed};
+ghost use Rattle.process_api.specs.Bounds.{most_step_actions};
+ghost use Rattle.streams.specs.Fate.{fate_of};
+ghost use Rattle.trace_laws.specs.Joins.{HaveJoined};
+ghost use Rattle.steps.specs.Posting.{posting, posted_by};
+ghost use Rattle.trace_laws.specs.ScenarioSetting.{setting_of};
+ghost use Rattle.steps.specs.Seat.{count_of};
+ghost use Rattle.trace_laws.specs.Step.{raised, in_time, counted, joining, sent_by, lost_by, noted_by, counts_after, added as added_by, sent as sent_by_all, lost as lost_by_all, noted, dead};
+
+use crate::listener::Listener;
+use process_api::{Action, Entry, Key, Kind, Note, Payload, Pid, StepInput, Tag};
+use std::alloc::{AllocError, Global};
+use std::mem;
+use streams::{Fate, LinkWords, Streams};
+use trace_laws::Joins;
+
+/// How much a process put on the link to each process so far: letters, lost ones too, and wakes.
+#[derive(Drop)]
+pub struct Links {
+    // events of this tick or later don't join
+    horizon: u32,
+    // by receiver; place 0 is unused
+    counts: Vec<u64>,
+    // by receiver, as the counts; where there is none, words are drawn afresh
+    words: Vec<LinkWords>,
+}
+
+/// Adds the event, so many ticks after the tick of its key, where that is below the horizon.
+#[inline(always)]
+fn join_after<J: Joins>(
+    added: &mut J,
+    horizon: u32,
+    sent: Key,
+    ticks: u32,
+    input: StepInput,
+) -> Result<(), AllocError>
+    ensures { OnOk result (HaveJoined J.grown added.old added.new
+        (in_time horizon (record sent { tick = sent.tick + ticks }) input)) }
+{
+    let tick = u64::from(sent.tick) + u64::from(ticks);
+    if tick < u64::from(horizon) {
+        let key = Key {
+            tick: tick as u32,
+            ..sent
+        };
+        added.add(key, input)?;
+    }
+    Ok(())
+}
+
+/// What the receiver of a letter takes.
+#[inline(always)]
+fn letter_from(sender: Pid, payload: Payload) -> StepInput
+    ensures { result ≡ StepInput.Letter sender payload }
+{
+    StepInput::Letter { sender, payload }
+}
+
+/// A count of 0 for each process, and one for place 0.
+fn zeros(alloc: Global, processes: u16) -> Result<Vec<u64>, AllocError>
+    ensures { IfOk result (λ v. v.items ≡ replicate (processes + 1) 0) }
+{
+    let mut counts = Vec::new(alloc);
+    for _k in 0..usize::from(processes) + 1 {
+        counts.push(0)?;
+    }
+    Ok(counts)
+}
+
+/// No words yet of the link to any process.
+fn no_words(alloc: Global, processes: u16) -> Result<Vec<LinkWords>, AllocError> {
+    let mut words = Vec::new(alloc);
+    for _k in 0..usize::from(processes) + 1 {
+        words.push(LinkWords::new())?;
+    }
+    Ok(words)
+}
+
+impl Links {
+    /// The links of a process that put nothing on any of them.
+    pub fn new(alloc: Global, horizon: u32, processes: u16) -> Result<Links, AllocError>
+        ensures horizon { IfOk result (λ l. l.horizon ≡ horizon) }
+        ensures counts { IfOk result (λ l. l.counts.items ≡ replicate (processes + 1) 0) }
+    {
+        let counts = zeros(alloc, processes)?;
+        let words = no_words(alloc, processes)?;
+        Ok(Links {
+            horizon,
+            counts,
+            words,
+        })
+    }
+
+    /// The entry of an event that comes to a crashed process: nothing is put on any link.
+    pub fn dead_entry(&self, key: Key) -> Entry
+        ensures { result ≡ dead key }
+    {
+        Entry {
+            key,
+            kind: Kind::Dead,
+            sent: 0,
+            lost: 0,
+            notes: Vec::new(*self.counts.allocator()),
+        }
+    }
+
+    /// One more on the link to a process. The new count is the number of what was put on it.
+    #[inline(always)]
+    fn raise(&mut self, to: Pid) -> u64
+        requires there { to < vec_len self.old.counts }
+        requires room { count_of self.old.counts.items to + 1 < 2 ^ 64 }
+        ensures raised { count_of self.new.counts.items ≡ raised (count_of self.old.counts.items) to }
+        ensures number { result ≡ count_of self.old.counts.items to + 1 }
+        ensures places { vec_len self.new.counts ≡ vec_len self.old.counts }
+        ensures horizon { self.new.horizon ≡ self.old.horizon }
+    {
+        let place = usize::from(to.number());
+        self.counts[place] += 1;
+        self.counts[place]
+    }
+
+    /// What becomes of the letter with this number on the link to another process, sent at this tick.
+    #[inline(always)]
+    fn fate(&mut self, streams: &Streams<'_>, own: Pid, to: Pid, number: u64, sent_at: u32) -> Fate
+        requires different { own ≢ to }
+        requires own { own ≤ streams.now.processes }
+        requires to { to ≤ streams.now.processes }
+        requires counted { 1 ≤ number }
+        ensures fate { result ≡ fate_of streams.now own to number sent_at }
+        ensures counts { self.new.counts ≡ self.old.counts }
+        ensures horizon { self.new.horizon ≡ self.old.horizon }
+    {
+        match self.words.get_mut(usize::from(to.number())) {
+            Some(words) => streams.next_fate(own, to, number, sent_at, words),
+            None => streams.fate(own, to, number, sent_at),
+        }
+    }
+
+    /// Puts a letter on its link, in the step of `key`. Answers how many letters were lost, 0 or 1.
+    #[inline(always)]
+    fn post<J: Joins, L: Listener>(
+        &mut self,
+        streams: &Streams<'_>,
+        key: Key,
+        to: Pid,
+        payload: Payload,
+        added: &mut J,
+        listener: &mut L,
+    ) -> Result<u32, AllocError>
+        requires horizon { self.old.horizon ≡ streams.now.horizon }
+        requires own { key.receiver ≤ streams.now.processes }
+        requires to { to ≤ streams.now.processes }
+        requires there { to < vec_len self.old.counts }
+        requires room { count_of self.old.counts.items to + 1 < 2 ^ 64 }
+
+        ensures counts { OnOk result (count_of self.new.counts.items ≡ raised (count_of self.old.counts.items) to) }
+        ensures places { vec_len self.new.counts ≡ vec_len self.old.counts }
+        ensures horizon { self.new.horizon ≡ self.old.horizon }
+        ensures added { OnOk result (HaveJoined J.grown added.old added.new
+            (joining (setting_of streams.now) key.receiver key.tick (count_of self.old.counts.items)
+            (Action.Send to payload))) }
+        ensures heard { OnOk result (HaveJoined L.heard listener.old listener.new
+            (posting (setting_of streams.now) key.receiver key.tick (count_of self.old.counts.items)
+            (Action.Send to payload))) }
+        ensures lost { IfOk result (λ lost. lost
+            ≡ lost_by (setting_of streams.now) key.receiver key.tick (count_of self.old.counts.items)
+            (Action.Send to payload)) }
+    {
+        let own = key.receiver;
+        let number = self.raise(to);
+        let sent = Key {
+            tick: key.tick,
+            receiver: to,
+            sender: own,
+            number,
+        };
+        if to == own {
+            let input = letter_from(own, payload);
+            join_after(added, self.horizon, sent, 1, input)?;
+            return Ok(0);
+        }
+        let fate = self.fate(streams, own, to, number, key.tick);
+        listener.hear(&sent, &payload, fate)?;
+        let input = letter_from(own, payload);
+        match fate {
+            Fate::Lost => Ok(1),
+            Fate::Delay(ticks) => {
+                join_after(added, self.horizon, sent, ticks, input)?;
+                Ok(0)
+            }
+        }
+    }
+
+    /// Sets a wake, in the step of `key`.
+    #[inline(always)]
+    fn set_wake<J: Joins>(
+        &mut self,
+        key: Key,
+        pause: u32,
+        tag: Tag,
+        added: &mut J,
+    ) -> Result<(), AllocError>
+        requires there { key.receiver < vec_len self.old.counts }
+        requires room { count_of self.old.counts.items key.receiver + 1 < 2 ^ 64 }
+
+        ensures counts { OnOk result (count_of self.new.counts.items
+            ≡ raised (count_of self.old.counts.items) key.receiver) }
+        ensures places { vec_len self.new.counts ≡ vec_len self.old.counts }
+        ensures horizon { self.new.horizon ≡ self.old.horizon }
+        ensures added { OnOk result (HaveJoined J.grown added.old added.new (in_time self.old.horizon (record {
+          tick = key.tick + pause;
+          receiver = key.receiver;
+          sender = key.receiver;
+          number = count_of self.old.counts.items key.receiver + 1;
+        }) (StepInput.Wake tag))) }
+    {
+        let own = key.receiver;
+        let number = self.raise(own);
+        let set = Key {
+            tick: key.tick,
+            receiver: own,
+            sender: own,
+            number,
+        };
+        join_after(added, self.horizon, set, pause, StepInput::Wake(tag))
+    }
+
+    /// Does what one action of the step of `key` says. Answers how many letters were put on a link, and how many of
+    /// these were lost: 0 or 1 each.
+    #[inline(always)]
+    fn act<J: Joins, L: Listener>(
+        &mut self,
+        streams: &Streams<'_>,
+        key: &Key,
+        action: Action,
+        added: &mut J,
+        listener: &mut L,
+        notes: &mut Vec<Note>,
+    ) -> Result<(u32, u32), AllocError>
+        requires horizon { self.old.horizon ≡ streams.now.horizon }
+        requires places { vec_len self.old.counts ≡ streams.now.processes + 1 }
+        requires own { key.now.receiver ≤ streams.now.processes }
+        requires room { (q : ℕ) → count_of self.old.counts.items q + 1 < 2 ^ 64 }
+        requires allowed { IsAllowed streams.now.processes action }
+
+        ensures counts { OnOk result (count_of self.new.counts.items
+            ≡ counted key.now.receiver (count_of self.old.counts.items) action) }
+        ensures places { OnOk result (vec_len self.new.counts ≡ vec_len self.old.counts) }
+        ensures horizon { OnOk result (self.new.horizon ≡ self.old.horizon) }
+        ensures added { OnOk result (HaveJoined J.grown added.old added.new
+            (joining (setting_of streams.now) key.now.receiver key.now.tick (count_of self.old.counts.items) action)) }
+        ensures heard { OnOk result (HaveJoined L.heard listener.old listener.new
+            (posting (setting_of streams.now) key.now.receiver key.now.tick (count_of self.old.counts.items) action)) }
+        ensures notes { OnOk result (notes.new.items ≡ notes.old.items ++ noted_by action) }
+        ensures sent { IfOk result (λ n. n.0 ≡ sent_by action) }
+        ensures lost { IfOk result (λ n. n.1
+            ≡ lost_by (setting_of streams.now) key.now.receiver key.now.tick (count_of self.old.counts.items) action) }
+    {
+        match action {
+            Action::Send { to, payload } => {
+                let lost = self.post(streams, *key, to, payload, added, listener)?;
+                Ok((1, lost))
+            }
+            Action::Wake { pause, tag } => {
+                self.set_wake(*key, pause, tag, added)?;
+                Ok((0, 0))
+            }
+            Action::Note(note) => {
+                notes.push(note)?;
+                Ok((0, 0))
+            }
+        }
+    }
+
+    /// Does what the actions of the step of `key` say, in their order, adds the events that join, tells the listener of
+    /// the letters to other processes, and makes the step's entry. The actions are used up: what is in their places
+    /// then means nothing.
+    pub fn perform<J: Joins, L: Listener>(
+        &mut self,
+        streams: &Streams<'_>,
+        key: Key,
+        kind: Kind,
+        actions: &mut Vec<Action>,
+        added: &mut J,
+        listener: &mut L,
+    ) -> Result<Entry, AllocError>
+        requires horizon { self.old.horizon ≡ streams.now.horizon }
+        requires places { vec_len self.old.counts ≡ streams.now.processes + 1 }
+        requires own { key.receiver ≤ streams.now.processes }
+        requires room { (q : ℕ) → count_of self.old.counts.items q + most_step_actions < 2 ^ 64 }
+        requires allowed { AllByRecursion (IsAllowed streams.now.processes) actions.old.items }
+        requires few { length actions.old.items ≤ most_step_actions }
+
+        ensures counts { OnOk result (count_of self.new.counts.items
+            ≡ counts_after key.receiver (count_of self.old.counts.items) actions.old.items) }
+        ensures places { OnOk result (vec_len self.new.counts ≡ vec_len self.old.counts) }
+        ensures horizon { OnOk result (self.new.horizon ≡ self.old.horizon) }
+        ensures room { OnOk result ((q : ℕ)
+            → count_of self.new.counts.items q ≤ count_of self.old.counts.items q + most_step_actions) }
+        ensures added { OnOk result (HaveJoined J.grown added.old added.new
+            (added_by (setting_of streams.now) key.receiver key.tick (count_of self.old.counts.items)
+            actions.old.items)) }
+        ensures heard { OnOk result (HaveJoined L.heard listener.old listener.new
+            (posted_by (setting_of streams.now) key.receiver key.tick (count_of self.old.counts.items)
+            actions.old.items)) }
+        ensures entry { IfOk result (λ e. e ≡ record {
+          key = key;
+          kind = kind;
+          sent = sent_by_all actions.old.items;
+          lost = lost_by_all (setting_of streams.now) key.receiver key.tick (count_of self.old.counts.items)
+              actions.old.items;
+          notes = noted actions.old.items;
+        }) }
+    {
+        let mut sent = 0u32;
+        let mut lost = 0u32;
+        let mut notes = Vec::new(*self.counts.allocator());
+        for place in 0..actions.len() {
+            // what is left in the place is never read
+            let action = mem::replace(&mut actions[place], Action::Note(Note::NoValue));
+            let letters = self.act(streams, &key, action, added, listener, &mut notes)?;
+            sent += letters.0;
+            lost += letters.1;
+        }
+        Ok(Entry {
+            key,
+            kind,
+            sent,
+            lost,
+            notes,
+        })
+    }
+}

@@ -1,0 +1,137 @@
+//! One step of one process.
+ghost use Rattle.std.specs.Prelude.{◌≡◌, ◌≤◌, ◌<◌, ◌+◌, ◌^◌, ℕ, IfOk, OnOk};
+ghost use Rattle.process_api.specs.Bounds.{most_step_actions};
+ghost use Rattle.trace_laws.specs.Joins.{HaveJoined};
+ghost use Rattle.steps.specs.Posting.{posted_in};
+ghost use Rattle.trace_laws.specs.ScenarioSetting.{setting_of};
+ghost use Rattle.trace_laws.specs.Setting.{has_crashed};
+ghost use Rattle.trace_laws.specs.Step.{kind_of as kind_for, kind_of_payload, step};
+
+use crate::links::Links;
+use crate::listener::Listener;
+use process_api::{Action, Entry, Key, Kind, Payload, Pid, Process, StepInput, Tag};
+use scenario_record::Scenario;
+use std::alloc::{AllocError, Global};
+use streams::Streams;
+use trace_laws::Joins;
+
+/// A machine, and how much it put on the link to each process so far.
+#[derive(Drop)]
+pub struct Seat<M> {
+    machine: M,
+    // the tick at which the process crashes, if it does
+    crash: Option<u32>,
+    links: Links,
+}
+
+/// The kind of the entry of whoever takes a letter that says this.
+pub fn kind_of_letter(payload: &Payload) -> Kind
+    ensures { result ≡ kind_of_payload payload.now }
+{
+    match payload {
+        Payload::Alive => Kind::Alive,
+        Payload::Heartbeat { .. } => Kind::Heartbeat,
+        Payload::Suspects(_) => Kind::Suspects,
+        Payload::Vector { .. } => Kind::Vector,
+        Payload::Last { .. } => Kind::Last,
+        Payload::Estimate { .. } => Kind::Estimate,
+        Payload::Proposal { .. } => Kind::Proposal,
+        Payload::Reply { .. } => Kind::Reply,
+        Payload::Decide { .. } => Kind::Decide,
+    }
+}
+
+/// The kind of the entry of an input.
+fn kind_of(input: &StepInput) -> Kind
+    ensures { result ≡ kind_for input.now }
+{
+    match input {
+        StepInput::Start => Kind::Start,
+        StepInput::Wake(Tag::Beat) => Kind::Beat,
+        StepInput::Wake(Tag::Check) => Kind::Check,
+        StepInput::Wake(Tag::Share) => Kind::Share,
+        StepInput::Letter { payload, .. } => kind_of_letter(payload),
+    }
+}
+
+/// Whether a crash has come at a tick.
+fn is_down(crash: Option<u32>, tick: u32) -> bool
+    ensures { result ≡ has_crashed crash tick }
+{
+    match crash {
+        None => false,
+        Some(at) => at <= tick,
+    }
+}
+
+impl<M: Process> Seat<M> {
+    ghost use Rattle.steps.specs.Seat.{process_of, own_of, IsMindIn, IsSeated};
+    ghost use Rattle.trace_laws.specs.World.{opened};
+
+    /// The seat of a machine that put nothing on any link.
+    ///
+    /// # Errors
+    ///
+    /// `AllocError` where memory was refused.
+    pub fn new(alloc: Global, scenario: &Scenario, machine: M) -> Result<Seat<M>, AllocError>
+        requires { IsMindIn scenario.now (M.mind machine) }
+        ensures process { IfOk result (λ s. process_of M.mind s ≡ opened (M.mind machine)) }
+        ensures seated { IfOk result (IsSeated M.mind scenario.now 0) }
+    {
+        let crash = scenario.crash(machine.pid());
+        let links = Links::new(alloc, scenario.horizon(), scenario.processes())?;
+        Ok(Seat {
+            machine,
+            crash,
+            links,
+        })
+    }
+
+    /// The process that sits here.
+    pub fn pid(&self) -> Pid
+        ensures { result ≡ own_of M.mind self.now }
+    {
+        self.machine.pid()
+    }
+
+    /// Makes the step of one event: the machine takes the input, unless the process has crashed, and what it does is
+    /// put on its links. The events that join go to `added` in their order, and the listener is told of the letters to
+    /// other processes, in theirs. `actions` is room for the machine's answer; what it held is thrown away.
+    ///
+    /// # Errors
+    ///
+    /// `AllocError` where memory was refused. The seat and the listener are good for nothing then, and `added` may hold
+    /// anything.
+    pub fn turn<J: Joins, L: Listener>(
+        &mut self,
+        streams: &Streams<'_>,
+        key: Key,
+        input: &StepInput,
+        actions: &mut Vec<Action>,
+        added: &mut J,
+        listener: &mut L,
+    ) -> Result<Entry, AllocError>
+        requires seated { (most : ℕ) × IsSeated M.mind streams.now most self.old × (most + most_step_actions < 2 ^ 64) }
+        requires own { key.receiver ≡ own_of M.mind self.old }
+
+        ensures process { OnOk result (process_of M.mind self.new
+            ≡ (step (setting_of streams.now) (process_of M.mind self.old) key input.now).process) }
+        ensures entry { IfOk result (λ e.
+            e ≡ (step (setting_of streams.now) (process_of M.mind self.old) key input.now).entry) }
+        ensures added { OnOk result (HaveJoined J.grown added.old added.new
+            (step (setting_of streams.now) (process_of M.mind self.old) key input.now).added) }
+        ensures heard { OnOk result (HaveJoined L.heard listener.old listener.new
+            (posted_in (setting_of streams.now) (process_of M.mind self.old) key input.now)) }
+        ensures seated { OnOk result ((most : ℕ)
+            → IsSeated M.mind streams.now most self.old
+            → IsSeated M.mind streams.now (most + most_step_actions) self.new) }
+    {
+        if is_down(self.crash, key.tick) {
+            return Ok(self.links.dead_entry(key));
+        }
+        actions.clear();
+        self.machine.on_input(key.tick, input, actions)?;
+        self.links
+            .perform(streams, key, kind_of(input), actions, added, listener)
+    }
+}
