@@ -1,14 +1,15 @@
 -- What is dealt to the workers, and what comes back from them.
-use Rattle.std.proofs.Common.{◌≡◌, ◌⊎◌, inl, inr, ℕ, zero, suc, ◌+◌, ◌-◌, ◌<◌, ◌≤◌, ◌%◌, if◌then◌else◌, List, [], ◌∷◌, ◌++◌, length, map, set, get_or, nat_eq, Bool, true, false, Some, None, refl, sym, ap, ◌∙◌, subst, append_assoc, append-nil, arith}
+use Rattle.std.proofs.Common.{◌≡◌, ◌⊎◌, inl, inr, ℕ, zero, suc, ◌+◌, ◌-◌, ◌<◌, ◌≤◌, ◌%◌, if◌then◌else◌, List, [], ◌∷◌, ◌++◌, length, map, take, drop, set, get_or, nat_eq, Bool, true, false, Some, None, refl, sym, ap, ◌∙◌, subst, append_assoc, append-nil, arith}
 use Rattle.std.specs.List.{All, Contains, flat_map}
 use Rattle.std.specs.List.Sorted.{IsPermutation}
 use Rattle.std.proofs.lemmas.Bool.{cases_eq, eq-eqb, ne_eqb}
 use Rattle.std.proofs.lemmas.List.{length-map, map-append}
 use Rattle.std.proofs.lemmas.List.Concat.{flat_map-append}
-use Rattle.std.proofs.lemmas.List.Elements.{All-nil, All-cons, All-head, All-tail, Contains-append_left, Contains-append_right}
+use Rattle.std.proofs.lemmas.List.Elements.{All-nil, All-cons, All-get_or, All-head, All-tail, Contains-append_left, Contains-append_right}
 use Rattle.std.proofs.lemmas.List.Sorted.{IsPermutation-refl, IsPermutation-trans, IsPermutation-append_left, IsPermutation-append_right, IsPermutation-append_comm}
 use Rattle.ledger.specs.Places.{each_with}
-use Rattle.deques.specs.Deques.{DequeId, Dealt, OwnerView, PermitView, HandView, RestView, rest_of, deques_of, dealt_of, all_put, one_out, many_out, blank, one_back, MayTell, HasTold, AreBlank, with_item, share_from, AreShares, CameBack, Popped, TookLast}
+use Rattle.ledger.proofs.Lists.{mixed_at, mixed_more, map_take_more}
+use Rattle.deques.specs.Deques.{DequeId, Dealt, OwnerView, PermitView, HandView, RestView, rest_of, deques_of, dealt_of, all_put, one_out, many_out, blank, one_back, MayTell, HasTold, AreBlank, IsDealt, with_item, share_from, AreShares, CameBack, Popped, TookLast}
 use Rattle.deques.proofs.Dealings.{flat_more, map_same_at, hand_at}
 
 any_default : {A : Type 0} (xs : List A) (i : ℕ) (d e : A) → i < length xs → get_or xs i d ≡ get_or xs i e
@@ -42,6 +43,36 @@ module _ {T : Type 0} where
   pub none_more : (os : List (OwnerView T)) → os ≡ map (many_out 0) os
   none_more [] = refl
   none_more (o ∷ os) = ap (λ l. o ∷ l) (none_more os)
+
+  -- where the owners below a place gave a permit each, the owner at it is as it was, and gives one more
+  module _ (hs now : List (OwnerView T)) (i : ℕ) (d : OwnerView T) (value : d ≡ get_or now i d) (so_far : now ≡ map one_out (take i hs) ++ drop i hs) (lt : i < length hs) where
+    as_it_was : d ≡ get_or hs i d
+    as_it_was = value ∙ (λ j. get_or (so_far j) i d) ∙ mixed_at one_out hs i d
+
+    pub may_give : All MayTell hs → MayTell d
+    may_give all = subst MayTell (sym as_it_was) (All-get_or MayTell hs i d lt all)
+
+    pub one_gave : (new : OwnerView T) → new ≡ one_out d → set now i new ≡ map one_out (take (i + 1) hs) ++ drop (i + 1) hs
+    one_gave new gave =
+        let next : suc i ≡ i + 1 = omega arith in
+        (λ j. set (so_far j) i (gave j)) ∙ (λ j. set (map one_out (take i hs) ++ drop i hs) i (one_out (as_it_was j))) ∙ mixed_more one_out hs i d lt
+        ∙ (λ j. map one_out (take (next j) hs) ++ drop (next j) hs)
+
+    pub one_given : (given given' : List (PermitView T)) (p : PermitView T) → given ≡ map blank (take i hs) → p ≡ blank d → given' ≡ given ++ p ∷ [] → given' ≡ map blank (take (i + 1) hs)
+    one_given given given' p was made more =
+        let next : suc i ≡ i + 1 = omega arith in
+        more ∙ (λ j. was j ++ made j ∷ []) ∙ (λ j. map blank (take i hs) ++ blank (as_it_was j) ∷ []) ∙ sym (map_take_more blank hs i d lt) ∙ (λ j. map blank (take (next j) hs))
+
+  pub hand_own : (o : OwnerView T) (ps : List (PermitView T)) (h : HandView T) → h ≡ hand_at o ps → h.own ≡ dealt_of o
+  hand_own o ps h is = ap (λ (v : HandView T). v.own) is
+
+  -- a hand of a deque that told, with blank permits
+  pub hand_dealt : (n : ℕ) (own : List (Dealt T)) (o : OwnerView T) (ps : List (PermitView T)) (h : HandView T) → h ≡ hand_at o ps → HasTold n own o → AreBlank n own ps → IsDealt own h
+  hand_dealt n own o ps h is told blank = (
+    ap (λ (v : HandView T). v.deques) is ∙ blank.1,
+    ap (λ (v : HandView T). v.known) is ∙ blank.2,
+    ap (λ (v : HandView T). v.taken) is ∙ (λ i. told.2 i ++ blank.3 i),
+  )
 
   one_blank : (n : ℕ) (o : OwnerView T) → blank (many_out n o) ≡ blank o
   one_blank zero o = refl
@@ -134,6 +165,11 @@ module _ {T : Type 0} where
       (IsPermutation-append_right d.1 _ _ (IsPermutation-append_comm (all_put ds) (x ∷ [])))
   with_all (d ∷ ds) (suc at) x lt =
       subst (λ l. IsPermutation l (d.1 ++ all_put (with_item ds at x))) (sym (append_assoc d.1 (all_put ds) (x ∷ []))) (IsPermutation-append_right d.1 _ _ (with_all ds at x (omega arith)))
+
+  pub with_more : (ys : List T) (ds ds' : List (Dealt T)) (at : ℕ) (x : T) → at < length ds → ds' ≡ with_item ds at x → IsPermutation ys (all_put ds) → IsPermutation (ys ++ x ∷ []) (all_put ds')
+  with_more ys ds ds' at x lt new so_far =
+      subst (λ l. IsPermutation (ys ++ x ∷ []) (all_put l)) (sym new)
+      (IsPermutation-trans (ys ++ x ∷ []) (all_put ds ++ x ∷ []) (all_put (with_item ds at x)) (IsPermutation-append_left (x ∷ []) ys (all_put ds) so_far) (with_all ds at x lt))
 
   abbrev puts : List (Dealt T) → List (List T)
   puts ds = map (λ (d : Dealt T). d.1) ds

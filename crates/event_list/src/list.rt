@@ -131,15 +131,15 @@ impl<M: Process> EventList<M> {
 
     /// Takes the least pending event again and again, until none is left, and hands on the entries and the letters.
     fn run<R: Recorder, L: Listener>(
-        mut self,
+        &mut self,
         scenario: &Scenario,
         recorder: &mut R,
         listener: &mut L,
     ) -> Result<(), RunError>
-        requires seated { All (IsSeated M.mind scenario.now 0) self.seats.items }
-        requires count { vec_len self.seats ≡ scenario.now.processes }
+        requires seated { All (IsSeated M.mind scenario.now 0) self.old.seats.items }
+        requires count { vec_len self.old.seats ≡ scenario.now.processes }
         requires opening { Stands (setting_of scenario.now)
-            (map (process_of M.mind) self.seats.items) self.pending [] [] }
+            (map (process_of M.mind) self.old.seats.items) self.old.pending [] [] }
         ensures trace { IfOk result (λ _. (t : List EntryRecord)
             × IsTrace (setting_of scenario.now) t × (length t ≤ scenario.now.limit)
             × WereTaken (R.recorded recorder.old recorder.old) (R.recorded recorder.old recorder.new) t) }
@@ -185,7 +185,8 @@ fn run_machines<M: Process, R: Recorder, L: Listener>(
         (R.recorded recorder.old recorder.old) (R.recorded recorder.old recorder.new) }
 {
     let _horizon = scenario.horizon();
-    EventList::open(alloc, scenario, machines)?.run(scenario, recorder, listener)
+    let mut list = EventList::open(alloc, scenario, machines)?;
+    list.run(scenario, recorder, listener)
 }
 
 /// Runs machines by one event list, up to the horizon, and hands each entry to the recorder as it comes: nothing of the

@@ -29,6 +29,10 @@ first_cases end m = go (has_below end m)
 held_is : (a b : ℕ) → Held a ≡ Held b → a ≡ b
 held_is a b e = cc
 
+turns_then : (p : ℕ) (mine theirs more : List Act) (rest : List ℕ) → ((acts : List Act) → turns_of (mine ++ acts) ≡ turns_of acts) → turns_of (theirs ++ more) ≡ rest
+    → turns_of ((Turn p ∷ (mine ++ theirs)) ++ more) ≡ p ∷ rest
+turns_then p mine theirs more rest silent is = ap (λ l. p ∷ l) (ap turns_of (append_assoc mine theirs more) ∙ silent (theirs ++ more) ∙ is)
+
 module _ {Mind : Type 0} (S : Setting Mind) (window last_tick : ℕ) where
   -- acts, none of them a Close, that lead from one stage to another
   abbrev pub Leads : StageRecord Mind → List Act → StageRecord Mind → Type 0
@@ -146,7 +150,7 @@ module _ {Mind : Type 0} (S : Setting Mind) (window last_tick : ℕ) where
             between = rest.between;
             none = rest.none;
             leads = (turned_stage, (p, k, x, held, least, run.1, refl), then post.acts rest.acts turned_stage post.stage rest.stage post.leads rest.leads);
-            turns = λ more e. ap (λ l. p ∷ l) (ap turns_of (append_assoc post.acts rest.acts more) ∙ post.silent (rest.acts ++ more) ∙ rest.turns more e);
+            turns = λ more e. turns_then p post.acts rest.acts more (map (λ t. t.0.key.receiver) history) post.silent (rest.turns more e);
           }
         where
           k : Key

@@ -32,15 +32,15 @@ loop-hand-preserved g c =
     let of_all : OfAll h = All-head OfAll h left (subst (All OfAll) e inv.left) in
     let many : length all ≡ n = length-map c.args.hands.items own_of ∙ sym c.args.hands.ok.0 in
     record {
-      own = map_turn dealt_of own_of owners c.push_reserved.new.self.items o _ left h all more e (ap own_of c.hand.view_is) inv.own;
-      owners = All-same (Counts n) _ (owners ++ o ∷ []) more
+      own = map_turn dealt_of own_of owners c.push_reserved.new.self.items o (into_iter_items c.loop-hand.hand-iterator) left h all more e (ap own_of c.hand.view_is) inv.own;
+      owners = All-same (Counts n) c.push_reserved.new.self.items (owners ++ o ∷ []) more
           (All-push (Counts n) owners o inv.owners (count_out_of n ps.len all o ps.items h c.hand.view_is of_all many ps.ok.0 c.hand.invariant.1, c.hand.invariant.2));
-      deques = All-same ListOfAll _ (lists ++ ps ∷ []) listed (All-push ListOfAll lists ps inv.deques (ap (λ (x : HandView _). x.deques) c.hand.view_is ∙ of_all));
+      deques = All-same ListOfAll c.push_reserved-in-loop-hand.new.self.items (lists ++ ps ∷ []) listed (All-push ListOfAll lists ps inv.deques (ap (λ (x : HandView _). x.deques) c.hand.view_is ∙ of_all));
       left = All-tail OfAll h left (subst (All OfAll) e inv.left);
       taken = apart_more (flat_map hand_taken c.args.hands.items) (flat_map taken_of owners) (flat_map taken_of c.push_reserved.new.self.items) (flat_map stolen lists) (flat_map stolen c.push_reserved-in-loop-hand.new.self.items)
           h.taken o.taken (stolen ps) (flat_map hand_taken left)
           (subst (λ l. IsPermutation (flat_map hand_taken c.args.hands.items) ((flat_map taken_of owners ++ flat_map stolen lists) ++ flat_map hand_taken l)) e inv.taken)
-          (sym (ap hand_taken c.hand.view_is)) (flat_push taken_of owners _ o more) (flat_push stolen lists _ ps listed);
+          (sym (ap hand_taken c.hand.view_is)) (flat_push taken_of owners c.push_reserved.new.self.items o more) (flat_push stolen lists c.push_reserved-in-loop-hand.new.self.items ps listed);
       made = omega (arith, inv.made, ap length e, c.push_reserved.ensures.len);
       count = omega (arith, inv.count, ap length e, c.push_reserved-in-loop-hand.ensures.len);
       room = subst (λ m. n ≤ m) (sym c.push_reserved.ensures.capacity) inv.room;

@@ -1,12 +1,12 @@
-use Rattle.std.proofs.Common.{◌≡◌, ◌<◌, ◌%◌, ◌⊎◌, inl, inr, ℕ, [], ◌∷◌, ◌++◌, length, get_or, arith, refl, sym, ap, ◌∙◌, subst}
+use Rattle.std.proofs.Common.{◌≡◌, ◌<◌, ◌%◌, ◌⊎◌, inl, inr, ℕ, [], length, get_or, arith, refl, sym, ap, ◌∙◌, subst}
 use Rattle.std.specs.List.Sorted.{IsPermutation}
-use Rattle.std.proofs.lemmas.List.Sorted.{IsPermutation-refl, IsPermutation-trans, IsPermutation-append_left}
+use Rattle.std.proofs.lemmas.List.Sorted.{IsPermutation-refl}
 use Rattle.std.proofs.lemmas.Nat.{mod_below}
 use Rattle.std.proofs.lemmas.Iterator.Adapters.{YieldsList-from_vec}
 use Rattle.std.proofs.lemmas.Iterator.Consumers.{YieldsList-turn}
 use Rattle.ledger.proofs.Lists.{length_more}
-use Rattle.deques.specs.Deques.{all_put, deques_of}
-use Rattle.deques.proofs.Deals.{shares_none, shares_more, none_put, with_length, with_deques, with_all}
+use Rattle.deques.specs.Deques.{deques_of}
+use Rattle.deques.proofs.Deals.{shares_none, shares_more, none_put, with_length, with_deques, with_more}
 use Rattle.deques.proofs.dealing.deal.Goals as goal
 
 some_deque : (count len n k : ℕ) → (0 < count) ⊎ (len ≡ 0) → k < n → len ≡ n → 0 < count
@@ -44,5 +44,5 @@ loop-item-preserved g c =
       ap length new ∙ with_length ds at x ∙ inv.3,
       inv.4 ∙ sym (with_deques ds at x) ∙ ap deques_of (sym new),
       shares_more c.args.count c.loop-item.dealt at ys ds c.put.new.self x inv.5 inv.2 refl lt new,
-      subst (IsPermutation (ys ++ x ∷ [])) (ap all_put (sym new)) (IsPermutation-trans _ _ _ (IsPermutation-append_left (x ∷ []) _ _ inv.6) (with_all ds at x lt)),
+      with_more ys ds c.put.new.self at x lt new inv.6,
     )

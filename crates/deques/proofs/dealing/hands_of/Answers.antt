@@ -1,10 +1,10 @@
-use Rattle.std.proofs.Common.{rules, ◌≡◌, ◌<◌, ◌≤◌, ◌+◌, ℕ, suc, ◌∷◌, [], ◌++◌, length, map, ap, sym, subst, ◌∙◌, append_assoc, vec_len, arith}
+use Rattle.std.proofs.Common.{rules, ◌≡◌, ◌<◌, ◌≤◌, ◌+◌, ℕ, suc, ◌∷◌, [], ◌++◌, length, map, ap, sym, subst, ◌∙◌, vec_len, arith}
 use Rattle.std.specs.List.{All, Contains}
 use Rattle.std.specs.Global.{Vec}
 use Rattle.std.specs.Vec.Iter.{into_iter_items}
-use Rattle.std.proofs.lemmas.List.{map-append}
 use Rattle.std.proofs.lemmas.List.Elements.{All-nil, All-push, All-same, All-head, All-tail}
 use Rattle.deques.specs.Deques.{OwnerView, HandView, dealt_of, HasTold, AreBlank, IsDealt}
+use Rattle.deques.proofs.Deals.{hand_dealt, hand_own, map_turn}
 use Rattle.deques.proofs.dealing.hands_of.Goals as goal
 
 low : (place rest left n len many : ℕ) → place + rest ≡ n → rest ≡ suc left → many ≡ n → len ≡ many → place < len
@@ -12,7 +12,6 @@ low place rest left n len many p r m e = omega arith
 
 pub loop-owner-init : goal.loop-owner-init
 loop-owner-init g c =
-    let own_of = λ (h : HandView _). h.own in
     let own = map dealt_of c.args.owners.items in
     let os = into_iter_items c.into_iter-owner-iterator.result in
     let none = c.in_ok-hands.ensures.items in
@@ -22,8 +21,8 @@ loop-owner-init g c =
     let all : os ≡ c.args.owners.items = c.into_iter-owner-iterator.ensures.into_iter_gives.0 in
     let lists : into_iter_items c.into_iter-lists.result ≡ c.args.lists.items = search rules in
     record {
-      own = (λ i. map own_of (none i) ++ map dealt_of (all i));
-      hands = All-same (IsDealt own) _ [] none (All-nil (IsDealt own));
+      own = (λ i. map (λ (h : HandView _). h.own) (none i) ++ map dealt_of (all i));
+      hands = All-same (IsDealt own) c.in_ok-hands.hands.items [] none (All-nil (IsDealt own));
       owners = subst (All P) (sym all) c.requires.owners;
       blank = subst (All Q) (sym lists) c.requires.lists;
       same = ap length lists ∙ sym c.args.lists.ok.0 ∙ c.requires.count ∙ c.args.owners.ok.0 ∙ sym (ap length all);
@@ -40,7 +39,7 @@ new-requires-clause-place g c =
     let ps = c.in-Some-next.permits in
     let Q : Vec _ → Type 0 = λ v. AreBlank n own v.items in
     let blank : Q ps = All-head Q ps (into_iter_items c.next-in-loop-owner.new.self) (subst (All Q) c.in-Some-next.ensures.items inv.blank) in
-    low c.loop-owner.place _ (length (into_iter_items c.next.new.self)) n ps.len (length ps.items) inv.place (ap length c.in-Some.ensures.steps.0) blank.0 ps.ok.0
+    low c.loop-owner.place (length (into_iter_items c.loop-owner.owner-iterator)) (length (into_iter_items c.next.new.self)) n ps.len (length ps.items) inv.place (ap length c.in-Some.ensures.steps.0) blank.0 ps.ok.0
 
 pub new-requires-clause-out : goal.new-requires-clause-out
 new-requires-clause-out g c =
@@ -91,14 +90,8 @@ loop-owner-preserved g c =
     let h = c.new.result in
     let more : c.push_reserved.new.self.items ≡ hands ++ h ∷ [] = c.push_reserved.ensures.items in
     record {
-      own = ap (λ xs. map own_of xs ++ map dealt_of left) more
-          ∙ (ap (λ xs. xs ++ map dealt_of left) (map-append own_of hands (h ∷ []))
-          ∙ (append_assoc (map own_of hands) (own_of h ∷ []) (map dealt_of left)
-          ∙ (ap (λ x. map own_of hands ++ (x ∷ map dealt_of left)) (ap own_of c.new.ensures)
-          ∙ (ap (λ xs. map own_of hands ++ map dealt_of xs) (sym e) ∙ inv.own))));
-      hands = All-same (IsDealt own) _ (hands ++ h ∷ []) more
-          (All-push (IsDealt own) hands h inv.hands
-          (ap (λ (v : HandView _). v.deques) c.new.ensures ∙ blank.1, ap (λ (v : HandView _). v.known) c.new.ensures ∙ blank.2, ap (λ (v : HandView _). v.taken) c.new.ensures ∙ (λ i. told.2 i ++ blank.3 i)));
+      own = map_turn own_of dealt_of hands c.push_reserved.new.self.items h (into_iter_items c.loop-owner.owner-iterator) left o own more e (hand_own o ps.items h c.new.ensures) inv.own;
+      hands = All-same (IsDealt own) c.push_reserved.new.self.items (hands ++ h ∷ []) more (All-push (IsDealt own) hands h inv.hands (hand_dealt n own o ps.items h c.new.ensures told blank));
       owners = All-tail P o left (subst (All P) e inv.owners);
       blank = All-tail Q ps lists_left (subst (All Q) f inv.blank);
       same = omega (arith, inv.same, ap length e, ap length f);

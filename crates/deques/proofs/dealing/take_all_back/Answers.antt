@@ -1,5 +1,6 @@
-use Rattle.std.proofs.Common.{◌≡◌, ℕ, ◌<◌, ◌∷◌, [], List, refl, map, length, set, get_or, sym, ap, ◌∙◌, subst, arith}
+use Rattle.std.proofs.Common.{◌≡◌, ℕ, ◌<◌, ◌∷◌, [], ◌++◌, List, refl, map, length, set, get_or, sym, ap, ◌∙◌, subst, arith}
 use Rattle.std.proofs.lemmas.List.{length-map, map-append}
+use Rattle.std.specs.List.{All}
 use Rattle.std.proofs.lemmas.List.Elements.{All-get_or}
 use Rattle.std.proofs.lemmas.Iterator.Adapters.{YieldsList-from_vec}
 use Rattle.std.proofs.lemmas.Iterator.Consumers.{YieldsList-turn}
@@ -15,6 +16,9 @@ loop-permit-init g c = (tt, tt, refl, sym (with-nil one_back _))
 below : (k at n m : ℕ) → k < n → at ≡ k → m ≡ n → at < m
 below k at n m lt e s = omega arith
 
+owners_many : {T : Type 0} (hs owners : List (OwnerView T)) (rows : List (List T)) → owners ≡ each_with one_back hs rows → length owners ≡ length hs
+owners_many hs owners rows so_far = ap length so_far ∙ with-length one_back hs rows
+
 -- which of the owners is at hand
 module _ {T : Type 0} (hs owners : List (OwnerView T)) (ys : List (PermitView T)) (at : ℕ) (d : OwnerView T) (value : d ≡ get_or owners at d) (so_far : owners ≡ each_with one_back hs (map stolen_by ys)) (many : at ≡ length ys) where
   rows_many : at ≡ length (map stolen_by ys)
@@ -26,6 +30,24 @@ module _ {T : Type 0} (hs owners : List (OwnerView T)) (ys : List (PermitView T)
   here_too : d ≡ get_or hs (length ys) d
   here_too = here ∙ ap (λ k. get_or hs k d) (length-map ys stolen_by)
 
+  at_hand : length ys < length hs → All (λ (o : OwnerView T). 0 < o.out) hs → 0 < d.out
+  at_hand lt all = subst (λ (o : OwnerView T). 0 < o.out) (sym here_too) (All-get_or (λ (o : OwnerView T). 0 < o.out) hs (length ys) d lt all)
+
+  -- a permit, the next of all
+  module _ (ts : List (PermitView T)) (t : PermitView T) (turn : (length ys < length ts) × (t ≡ get_or ts (length ys) t)) (same : map from_deque ts ≡ map deque_of hs) where
+    in_reach : length ys < length hs
+    in_reach = below_parts from_deque deque_of ts hs (length ys) same turn.0
+
+    of_deque : t.deque ≡ d.deque
+    of_deque = ap from_deque turn.1 ∙ parts_agree from_deque deque_of ts hs (length ys) t d turn.0 same ∙ sym (ap deque_of here_too)
+
+    one_more : (new : OwnerView T) → new ≡ one_back d t.taken → set owners at new ≡ each_with one_back hs (map stolen_by (ys ++ t ∷ []))
+    one_more new back =
+        (λ j. set (so_far j) (rows_many j) (back j))
+        ∙ (λ j. set (each_with one_back hs (map stolen_by ys)) (length (map stolen_by ys)) (one_back (here j) t.taken))
+        ∙ with-more one_back hs (map stolen_by ys) t.taken d (subst (λ k. k < length hs) (sym (length-map ys stolen_by)) in_reach)
+        ∙ (λ j. each_with one_back hs (sym (map-append stolen_by ys (t ∷ [])) j))
+
 pub index_mut-requires : goal.index_mut-requires
 index_mut-requires g c =
     let b = c.into_iter-permit-iterator.ensures.into_iter_gives in
@@ -35,7 +57,7 @@ index_mut-requires g c =
     let turn : (length ys < length ts) × (c.in-Some.permit ≡ get_or ts (length ys) c.in-Some.permit) =
     YieldsList-turn (YieldsList-from_vec ts b.0 (b.1 ∙ c.args.permits.ok.0)) ys c.loop-permit.permit-iterator c.loop-permit.yielded_by c.next.result c.next.new.self c.in-Some.permit c.in-Some.is c.next.ensures.steps in
     below (length ys) c.loop-permit.at (length hs) _ (below_parts from_deque deque_of ts hs (length ys) c.requires.deques turn.0) c.loop-permit.invariant.2
-    (c.loop-permit.owners.ok.0 ∙ ap length c.loop-permit.invariant.3 ∙ with-length one_back hs (map stolen_by ys))
+    (c.loop-permit.owners.ok.0 ∙ owners_many hs c.loop-permit.owners.items (map stolen_by ys) c.loop-permit.invariant.3)
 
 pub take_back-requires-clause-deque : goal.take_back-requires-clause-deque
 take_back-requires-clause-deque g c =
@@ -47,8 +69,7 @@ take_back-requires-clause-deque g c =
     let p = c.in-Some.permit in
     let turn : (length ys < length ts) × (p ≡ get_or ts (length ys) p) =
     YieldsList-turn (YieldsList-from_vec ts b.0 (b.1 ∙ c.args.permits.ok.0)) ys c.loop-permit.permit-iterator c.loop-permit.yielded_by c.next.result c.next.new.self p c.in-Some.is c.next.ensures.steps in
-    ap from_deque turn.1 ∙ parts_agree from_deque deque_of ts hs (length ys) p d turn.0 c.requires.deques
-    ∙ sym (ap deque_of (here_too hs c.loop-permit.owners.items ys c.loop-permit.at d c.index_mut.ensures.value c.loop-permit.invariant.3 c.loop-permit.invariant.2))
+    of_deque hs c.loop-permit.owners.items ys c.loop-permit.at d c.index_mut.ensures.value c.loop-permit.invariant.3 c.loop-permit.invariant.2 ts p turn c.requires.deques
 
 pub take_back-requires-clause-out : goal.take_back-requires-clause-out
 take_back-requires-clause-out g c =
@@ -60,8 +81,7 @@ take_back-requires-clause-out g c =
     let turn : (length ys < length ts) × (c.in-Some.permit ≡ get_or ts (length ys) c.in-Some.permit) =
     YieldsList-turn (YieldsList-from_vec ts b.0 (b.1 ∙ c.args.permits.ok.0)) ys c.loop-permit.permit-iterator c.loop-permit.yielded_by c.next.result c.next.new.self c.in-Some.permit c.in-Some.is c.next.ensures.steps in
     let lt : length ys < length hs = below_parts from_deque deque_of ts hs (length ys) c.requires.deques turn.0 in
-    subst (λ (o : OwnerView _). 0 < o.out) (sym (here_too hs c.loop-permit.owners.items ys c.loop-permit.at d c.index_mut.ensures.value c.loop-permit.invariant.3 c.loop-permit.invariant.2))
-    (All-get_or (λ (o : OwnerView _). 0 < o.out) hs (length ys) d lt c.requires.out)
+    at_hand hs c.loop-permit.owners.items ys c.loop-permit.at d c.index_mut.ensures.value c.loop-permit.invariant.3 c.loop-permit.invariant.2 lt c.requires.out
 
 pub loop-permit-preserved : goal.loop-permit-preserved
 loop-permit-preserved g c =
@@ -71,16 +91,7 @@ loop-permit-preserved g c =
     let hs = c.args.owners.now.items in
     let d = c.index_mut.result.now in
     let t = c.in-Some.permit in
-    let rows = map stolen_by ys in
     let turn : (length ys < length ts) × (t ≡ get_or ts (length ys) t) =
     YieldsList-turn (YieldsList-from_vec ts b.0 (b.1 ∙ c.args.permits.ok.0)) ys c.loop-permit.permit-iterator c.loop-permit.yielded_by c.next.result c.next.new.self t c.in-Some.is c.next.ensures.steps in
-    let lt : length ys < length hs = below_parts from_deque deque_of ts hs (length ys) c.requires.deques turn.0 in
-    let old = here hs c.loop-permit.owners.items ys c.loop-permit.at d c.index_mut.ensures.value c.loop-permit.invariant.3 c.loop-permit.invariant.2 in
-    let many = rows_many hs c.loop-permit.owners.items ys c.loop-permit.at d c.index_mut.ensures.value c.loop-permit.invariant.3 c.loop-permit.invariant.2 in (
-      tt,
-      tt,
-      length_more ys t c.loop-permit.at c.loop-permit.invariant.2,
-      (λ j. set (c.loop-permit.invariant.3 j) (many j) ((c.take_back.ensures ∙ ap (λ (o : OwnerView _). one_back o t.taken) old) j))
-          ∙ with-more one_back hs rows t.taken d (subst (λ k. k < length hs) (sym (length-map ys stolen_by)) lt)
-          ∙ ap (each_with one_back hs) (sym (map-append stolen_by ys (t ∷ []))),
-    )
+    let more = one_more hs c.loop-permit.owners.items ys c.loop-permit.at d c.index_mut.ensures.value c.loop-permit.invariant.3 c.loop-permit.invariant.2 ts t turn c.requires.deques c.take_back.new.self c.take_back.ensures in
+    (tt, tt, length_more ys t c.loop-permit.at c.loop-permit.invariant.2, more)

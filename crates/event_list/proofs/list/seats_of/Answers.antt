@@ -1,8 +1,8 @@
-use Rattle.std.proofs.Common.{◌≡◌, ◌∷◌, [], ◌++◌, List, map, ap, sym, subst, ◌∙◌, append_assoc}
+use Rattle.std.proofs.Common.{◌≡◌, ◌∷◌, [], ◌++◌, List, map, ap, sym, subst, ◌∙◌, append_assoc, append-nil, length, refl, arith}
 use Rattle.std.specs.List.{All}
 use Rattle.std.specs.Vec.Iter.{into_iter_items}
 use Rattle.std.proofs.lemmas.List.{map-append}
-use Rattle.std.proofs.lemmas.List.Elements.{All-push, All-rest}
+use Rattle.std.proofs.lemmas.List.Elements.{All-nil, All-push, All-rest, All-same}
 use Rattle.process_api.specs.Mind.{Mind}
 use Rattle.steps.specs.Seat.{process_of, IsMindIn, IsSeated}
 use Rattle.trace_laws.specs.Step.{Process}
@@ -30,4 +30,31 @@ loop-machine-preserved g c =
           ∙ c.loop-machine.invariant.made))));
       seated = subst (All (IsSeated mind s 0)) (sym more) (All-push (IsSeated mind s 0) old seat c.loop-machine.invariant.seated c.in_ok-new.ensures.seated);
       left = All-rest (λ m. IsMindIn s (mind m)) c.in-Some.machine left rest e c.loop-machine.invariant.left;
+    }
+
+pub loop-machine-init : goal.loop-machine-init
+loop-machine-init g c =
+    let mind = g.M.Process.mind in
+    let s = c.args.scenario.now in
+    let none : c.new-seats.result.items ≡ [] = c.new-seats.ensures.items in
+    let all : into_iter_items c.into_iter-machine-iterator.result ≡ c.args.machines.items = c.into_iter-machine-iterator.ensures.into_iter_gives.0 in
+    record {
+      made = λ i. map (process_of mind) (none i) ++ map opened (map mind (all i));
+      seated = All-same (IsSeated mind s 0) c.new-seats.result.items [] none (All-nil (IsSeated mind s 0));
+      left = subst (All (λ m. IsMindIn s (mind m))) (sym all) c.requires;
+    }
+
+none_left : {A : Type 0} (xs : List A) → length xs ≡ 0 → xs ≡ []
+none_left [] e = refl
+none_left (x ∷ xs) e = absurd (omega arith)
+
+pub returns : goal.returns
+returns g c =
+    let mind = g.M.Process.mind in
+    let made = map (process_of mind) c.loop-machine.seats.items in
+    let rest = into_iter_items c.loop-machine.machine-iterator in
+    let none : rest ≡ [] = none_left rest (sym c.loop-machine.machine-iterator.rest.ok.0 ∙ c.in-None.ensures.steps.0) in
+    record {
+      processes = sym (append-nil made) ∙ ap (λ xs. made ++ map opened (map mind xs)) (sym none) ∙ c.loop-machine.invariant.made;
+      seated = c.loop-machine.invariant.seated;
     }

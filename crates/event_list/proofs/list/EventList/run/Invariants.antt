@@ -7,8 +7,8 @@ use Rattle.event_list.proofs.Recording.{Going}
 use Rattle.event_list.proofs.list.EventList.run.Given as goal
 use Rattle.process_api.specs.Bounds.{most_step_actions}
 
-abbrev pub invariant-loop-self : goal.invariant-loop-self
-invariant-loop-self g l =
+abbrev pub invariant-loop-key : goal.invariant-loop-key
+invariant-loop-key g l =
     let mind = g.M.Process.mind in
     let recorded = g.R.Recorder.recorded in
     record {
@@ -18,5 +18,5 @@ invariant-loop-self g l =
       within : l.taken ≤ l.fn.scenario.limit;
     }
 
-abbrev pub decreases-loop-self : goal.decreases-loop-self
-decreases-loop-self g l = l.fn.scenario.limit - l.taken
+abbrev pub decreases-loop-key : goal.decreases-loop-key
+decreases-loop-key g l = l.fn.scenario.limit - l.taken

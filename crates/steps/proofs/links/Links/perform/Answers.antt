@@ -1,11 +1,14 @@
-use Rattle.std.proofs.Common.{◌≡◌, ◌+◌, ◌∷◌, ℕ, length, ap, ◌∙◌, sym, refl, arith, subst, slice_set, slice_index_or}
+use Rattle.std.proofs.Common.{◌≡◌, ◌+◌, ◌∷◌, ◌++◌, ◌∙◌, [], ap, refl, sym, arith, subst, slice_set, slice_index_or}
 use Rattle.std.specs.Prelude.{drop}
 use Rattle.process_api.specs.declared.action.Action.{Action}
+use Rattle.process_api.specs.Actions.{IsAllowed}
 use Rattle.trace_laws.specs.ScenarioSetting.{setting_of}
+use Rattle.steps.specs.Posting.{posted_by}
 use Rattle.steps.specs.Seat.{count_of}
+use Rattle.trace_laws.specs.Step.{added, lost, noted, sent}
+use Rattle.trace_laws.proofs.Joining.{joined_init, all_joined}
 use Rattle.std.proofs.lemmas.List.{length-set}
-use Rattle.trace_laws.proofs.Joining.{joined_next}
-use Rattle.steps.proofs.Performing.{one_counted, one_added, one_posted, one_lost, one_sent, one_noted, counted-le, rest_allowed, lost_by-le, sent_by-le, drop_at}
+use Rattle.steps.proofs.Performing.{one_counted, one_added, one_posted, one_lost, one_sent, one_noted, one_sent_few, one_lost_few, one_room, one_allowed, drop_at, drop_none, sent_all, noted_all, counted_all, lost_all}
 use Rattle.steps.proofs.links.Links.perform.Goals as goal
 
 pub loop-place-preserved : goal.loop-place-preserved
@@ -13,6 +16,8 @@ loop-place-preserved h c =
     let S = setting_of c.args.streams.now in
     let p = c.args.key.receiver in
     let now = c.args.key.tick in
+    let all = c.args.actions.now.items in
+    let before = count_of c.args.self.now.counts.items in
     let old = c.loop-place.actions.items in
     let place = c.loop-place.place in
     let a : Action = c.replace-action.result in
@@ -22,20 +27,67 @@ loop-place-preserved h c =
     let f = count_of c.loop-place.self.counts.items in
     let g = count_of c.act.new.self.counts.items in
     let i = c.loop-place.invariant in
+    let letters = c.in_ok-letters.letters in
     let done = c.in_ok-letters.ensures in
-    let shorter : length rest ≡ length left + 1 = omega (arith, ap length e) in
     record {
       many = length-set old place c.replace-action.new.dest ∙ i.many;
-      counts = one_counted p rest left a f g e done.counts _ i.counts;
+      counts = one_counted all rest left a e p before f g done.counts i.counts;
       places = done.places ∙ i.places;
       horizon = done.horizon ∙ i.horizon;
-      room = λ q. omega (arith, ap (λ (k : ℕ → ℕ). k q) done.counts, counted-le p f a q, i.room q, shorter);
-      added = joined_next h.J.Joins.grown _ _ _ _ _ _ _ done.added i.added (one_added S p now rest left a e f g done.counts _ _ _ refl i.added.whole);
-      heard = joined_next h.L.Listener.heard _ _ _ _ _ _ _ done.heard i.heard (one_posted S p now rest left a e f g done.counts _ _ _ refl i.heard.whole);
-      sent = one_sent rest left a e _ _ _ (ap (λ n. c.loop-place.sent + n) done.sent) i.sent;
-      lost = one_lost S p now rest left a e f g done.counts _ _ _ (ap (λ n. c.loop-place.lost + n) done.lost) i.lost;
-      notes = one_noted rest left a e _ _ _ done.notes i.notes;
-      allowed = rest_allowed _ e i.allowed;
-      sent_few = omega (arith, shorter, i.sent_few, done.sent, sent_by-le a);
-      lost_few = omega (arith, shorter, i.lost_few, done.lost, lost_by-le S p now f a);
+      room = one_room all rest left a e p before f g done.counts i.room;
+      added = one_added all rest left a e p before f g done.counts S now c.args.added.now c.loop-place.added c.act.new.added h.J.Joins.grown done.added i.added;
+      heard = one_posted all rest left a e p before f g done.counts S now c.args.listener.now c.loop-place.listener c.act.new.listener h.L.Listener.heard done.heard i.heard;
+      sent = one_sent all rest left a e c.loop-place.sent letters.0 done.sent i.sent;
+      lost = one_lost all rest left a e p before f g done.counts S now c.loop-place.lost letters.1 done.lost i.lost;
+      notes = one_noted all rest left a e c.loop-place.notes.items c.act.new.notes.items done.notes i.notes;
+      allowed = one_allowed all rest left a e (IsAllowed c.args.streams.now.processes) i.allowed;
+      sent_few = one_sent_few all rest left a e c.loop-place.sent letters.0 done.sent i.sent_few;
+      lost_few = one_lost_few all rest left a e p before f g done.counts S now c.loop-place.lost letters.1 done.lost i.lost_few;
+    }
+
+pub loop-place-init : goal.loop-place-init
+loop-place-init h c =
+    let S = setting_of c.args.streams.now in
+    let p = c.args.key.receiver in
+    let now = c.args.key.tick in
+    let all = c.args.actions.now.items in
+    let before = count_of c.args.self.now.counts.items in
+    record {
+      many = refl;
+      counts = refl;
+      places = c.requires.places;
+      horizon = c.requires.horizon;
+      room = λ q. omega arith;
+      added = joined_init h.J.Joins.grown c.args.added.now (added S p now before all);
+      heard = joined_init h.L.Listener.heard c.args.listener.now (posted_by S p now before all);
+      sent = omega arith;
+      lost = omega arith;
+      notes = ap (λ xs. xs ++ noted all) c.new-notes.ensures.items;
+      allowed = c.requires.allowed;
+      sent_few = omega arith;
+      lost_few = omega arith;
+    }
+
+pub returns : goal.returns
+returns h c =
+    let S = setting_of c.args.streams.now in
+    let p = c.args.key.receiver in
+    let now = c.args.key.tick in
+    let all = c.args.actions.now.items in
+    let before = count_of c.args.self.now.counts.items in
+    let rest = drop c.loop-place.place c.loop-place.actions.items in
+    let f = count_of c.loop-place.self.counts.items in
+    let i = c.loop-place.invariant in
+    let none : rest ≡ [] = drop_none c.loop-place.actions.items c.loop-place.place (omega (arith, c.loop-place-test.false, c.len-place-end.ensures, i.many)) in
+    let sent_is : c.loop-place.sent ≡ sent all = sent_all all rest none c.loop-place.sent i.sent in
+    let lost_is : c.loop-place.lost ≡ lost S p now before all = lost_all all rest none p before f S now c.loop-place.lost i.lost in
+    let notes_are : c.loop-place.notes.items ≡ noted all = noted_all all rest none c.loop-place.notes.items i.notes in
+    record {
+      counts = counted_all all rest none p before f i.counts;
+      places = i.places ∙ sym c.requires.places;
+      horizon = i.horizon ∙ sym c.requires.horizon;
+      room = λ q. omega (arith, i.room q, c.requires.few);
+      added = all_joined h.J.Joins.grown c.args.added.now c.loop-place.added (added S p now f rest) (added S p now before all) (ap (λ xs. added S p now f xs) none) i.added;
+      heard = all_joined h.L.Listener.heard c.args.listener.now c.loop-place.listener (posted_by S p now f rest) (posted_by S p now before all) (ap (λ xs. posted_by S p now f xs) none) i.heard;
+      entry = λ j. record { key = c.args.key; kind = c.args.kind; sent = sent_is j; lost = lost_is j; notes = notes_are j };
     }

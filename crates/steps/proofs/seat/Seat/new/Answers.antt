@@ -1,5 +1,7 @@
-use Rattle.std.proofs.Common.{◌≡◌, ◌+◌, ◌∙◌, ℕ, zero, suc, ap, refl, replicate}
+use Rattle.std.proofs.Common.{◌≡◌, ◌+◌, ◌∙◌, ℕ, zero, suc, ap, refl, replicate, length, arith}
 use Rattle.process_api.specs.Mind.{Mind}
+use Rattle.std.proofs.lemmas.List.{length-replicate}
+use Rattle.scenario_record.specs.Record.{crash}
 use Rattle.steps.specs.Seat.{count_of}
 use Rattle.trace_laws.specs.Step.{Process}
 use Rattle.trace_laws.specs.World.{opened}
@@ -18,3 +20,17 @@ returns-clause-process g c =
     let made : before ≡ zeros = ap (λ xs. record { mind = mind; counts = count_of xs }) c.in_ok-links.ensures.counts in
     let none : zeros ≡ opened mind = λ i. record { mind = mind; counts = λ q. zero_at (c.processes.result + 1) q i } in
     made ∙ none
+
+pub returns-clause-seated : goal.returns-clause-seated
+returns-clause-seated g c =
+    let n = c.processes.result + 1 in
+    let zeros : c.in_ok-links.links.counts.items ≡ replicate n 0 = c.in_ok-links.ensures.counts in
+    record {
+      low = c.requires.0;
+      high = c.requires.1;
+      is_mind = c.requires.2;
+      horizon = c.in_ok-links.ensures.horizon ∙ c.horizon.ensures.value;
+      crash = c.crash-crash.ensures.value ∙ ap (crash c.args.scenario.now) c.pid.ensures;
+      places = ap (λ xs. length xs) zeros ∙ length-replicate n 0 ∙ ap (λ k. k + 1) c.processes.ensures.value;
+      counts = λ q. omega (arith, ap (λ xs. count_of xs q) zeros, zero_at n q);
+    }
