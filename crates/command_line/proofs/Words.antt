@@ -1,6 +1,6 @@
 -- What clap's matches say of a number.
 use Rattle.std.proofs.Common.{rules, ◌≡◌, ◌≢◌, inl, inr, ◌∙◌, ap, sym, subst, codes, [], ℕ, List, Option, Some, None, Result, Ok, Err, IfSome, IsNone, refl, true, false}
-use Rattle.clap.specs.Words.{App, Row, Rule, Text, HasKind, HasMatchesOf, IsAmong, ReadsOne, app_of, fault_of, is_simple, is_simple_and_free, kind_of, subcommand_of, subcommand_rows_of, with_rule, with_subcommand}
+use Rattle.clap.specs.Words.{App, Row, Text, HasKind, HasMatchesOf, IsAmong, ReadsOne, app_of, fault_of, is_simple, is_simple_and_free, kind_of, subcommand_of, subcommand_rows_of}
 use Rattle.clap.specs.declared.builder.command.Command.{Command}
 use Rattle.clap.specs.declared.error.Error.{Error}
 use Rattle.clap.specs.declared.error.kind.ErrorKind.TheVariants.{DisplayHelp, OutOfMemory}
@@ -28,16 +28,6 @@ none_read gives o (Some n) value none t there = let bad : true ≡ false = none 
 pub some_weaker : {A : Type 0} (o : Option A) (P Q : A → Type 0) → ((x : A) → P x → Q x) → IfSome o P → IfSome o Q
 some_weaker None P Q f h = tt
 some_weaker (Some x) P Q f h = f x h
-
--- two subcommands more, each as it is known
-pub with_two : (a first second whole before one two : App) → whole ≡ with_subcommand before two.top → before ≡ with_subcommand a one.top → one ≡ first → two ≡ second
-    → whole ≡ with_subcommand (with_subcommand a first.top) second.top
-with_two a first second whole before one two is was e f =
-    is ∙ (λ i. with_subcommand (was i) (f i).top) ∙ (λ i. with_subcommand (with_subcommand a (e i).top) second.top)
-
--- one rule more, as it is known
-pub with_same : (app whole : App) (r s : Rule) → whole ≡ with_rule app r → r ≡ s → whole ≡ with_rule app s
-with_same app whole r s is e = is ∙ (λ i. with_rule app (e i))
 
 module _ (rows : List Row) where
   -- without its workers `run` or `compare` asks for nothing, nor without its window

@@ -1,11 +1,8 @@
 use Rattle.std.proofs.Common.{◌≡◌, ◌∙◌, Ok, ap, codes, rules}
 use Rattle.std.proofs.lemmas.Result.{IfOk-at_ok, IfOk-weaker}
-use Rattle.clap.specs.Words.{App, app_of, new_app}
+use Rattle.clap.specs.Words.{app_of, new_app}
 use Rattle.command_line.specs.Commands.{AddsListCommands, with_list, with_windows}
 use Rattle.command_line.proofs.command.command.Goals as goal
-
-whole : (second first : App → App) (a b c d : App) → b ≡ a → c ≡ first b → d ≡ second c → d ≡ second (first a)
-whole second first a b c d e f g = g ∙ ap second (f ∙ ap first e)
 
 pub returns : goal.returns
 returns c =
@@ -16,7 +13,7 @@ returns c =
     let same : app_of listed.before ≡ app_of c.after_help-command.result = search rules in
     record {
       prints = record { list = listed.prints; run = added.prints; takes_list = listed.takes; takes_run = added.takes };
-      app = whole (λ a. with_windows a added.prints) (λ a. with_list a listed.prints) (new_app (codes "fdbench")) (app_of listed.before) (app_of added.before) (app_of m) (same ∙ begun) listed.app added.app;
+      app = added.app ∙ ap (λ a. with_windows a added.prints) (listed.app ∙ ap (λ a. with_list a listed.prints) (same ∙ begun));
       local = added.local;
     })
     c.with_window_commands.ensures

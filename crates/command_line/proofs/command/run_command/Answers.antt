@@ -1,8 +1,7 @@
-use Rattle.std.proofs.Common.{codes}
+use Rattle.std.proofs.Common.{◌∙◌, ap, codes}
 use Rattle.std.proofs.lemmas.Result.{IfOk-weaker}
-use Rattle.clap.specs.Words.{app_of, rule_of}
-use Rattle.command_line.specs.Commands.{option_rule, with_path, with_plan}
-use Rattle.command_line.proofs.Words.{with_same}
+use Rattle.clap.specs.Words.{with_rule}
+use Rattle.command_line.specs.Commands.{with_path, with_plan}
 use Rattle.command_line.proofs.command.run_command.Goals as goal
 
 pub returns : goal.returns
@@ -13,7 +12,7 @@ returns c =
     (λ m made. record {
       prints = print.prints;
       takes = print.takes;
-      app = with_same app (app_of m) (rule_of c.print_option.result) (option_rule (codes "print") print.prints) made.0 print.rule;
+      app = made.0 ∙ ap (λ r. with_rule app r) print.rule;
       local = made.1;
     })
     (c.with_argument.ensures app c.plan_command-planned.ensures)

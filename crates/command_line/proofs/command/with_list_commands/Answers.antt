@@ -1,8 +1,7 @@
-use Rattle.std.proofs.Common.{◌≡◌}
+use Rattle.std.proofs.Common.{◌≡◌, ◌∙◌, ap}
 use Rattle.std.proofs.lemmas.Result.{IfOk-at_ok, IfOk-weaker}
-use Rattle.clap.specs.Words.{app_of}
-use Rattle.command_line.specs.Commands.{Adds, IsList, IsLocal, check_app, list_app}
-use Rattle.command_line.proofs.Words.{with_two}
+use Rattle.clap.specs.Words.{app_of, with_subcommand}
+use Rattle.command_line.specs.Commands.{Adds, IsList, IsLocal, check_app}
 use Rattle.command_line.proofs.command.with_list_commands.Goals as goal
 
 pub returns : goal.returns
@@ -18,7 +17,9 @@ returns c =
       was = first.was;
       prints = list.prints;
       takes = list.takes;
-      app = with_two (app_of first.before) check_app (list_app list.prints) (app_of m) (app_of adds.before) (app_of first.sub) (app_of adds.sub) adds.app first.app check.0 list.app;
+      app = adds.app ∙ ap (λ a. with_subcommand a (app_of adds.sub).top) first.app
+          ∙ ap (λ a. with_subcommand (with_subcommand (app_of first.before) a.top) (app_of adds.sub).top) check.0
+          ∙ ap (λ a. with_subcommand (with_subcommand (app_of first.before) check_app.top) a.top) list.app;
       local = adds.local;
     })
     c.with_command.ensures

@@ -1,8 +1,7 @@
-use Rattle.std.proofs.Common.{◌≡◌}
+use Rattle.std.proofs.Common.{◌≡◌, ◌∙◌, ap}
 use Rattle.std.proofs.lemmas.Result.{IfOk-at_ok, IfOk-weaker}
-use Rattle.clap.specs.Words.{app_of}
+use Rattle.clap.specs.Words.{app_of, with_subcommand}
 use Rattle.command_line.specs.Commands.{Adds, IsLocal, IsRun, compare_app, run_app}
-use Rattle.command_line.proofs.Words.{with_two}
 use Rattle.command_line.proofs.command.with_window_commands.Goals as goal
 
 pub returns : goal.returns
@@ -18,7 +17,9 @@ returns c =
       was = first.was;
       prints = run.prints;
       takes = run.takes;
-      app = with_two (app_of first.before) (run_app run.prints) compare_app (app_of m) (app_of adds.before) (app_of first.sub) (app_of adds.sub) adds.app first.app run.app compare.0;
+      app = adds.app ∙ ap (λ a. with_subcommand a (app_of adds.sub).top) first.app
+          ∙ ap (λ a. with_subcommand (with_subcommand (app_of first.before) a.top) (app_of adds.sub).top) run.app
+          ∙ ap (λ a. with_subcommand (with_subcommand (app_of first.before) (run_app run.prints).top) a.top) compare.0;
       local = adds.local;
     })
     c.with_command.ensures
