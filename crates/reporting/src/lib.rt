@@ -19,8 +19,6 @@
 //! - [`measure_list`] runs a scenario as `bench_list` does, forms no text, and tells all that is measured of the run:
 //!   on `Ok` the [`RunFindings`] are those of the scenario's trace, which is within the limit (`specs/Measured.antt`).
 //!   It answers `Limit` only where that trace is longer, and else only `Memory`.
-//! - [`watched_ticks`] gives the ticks for which a pair is watched, over all pairs: what a mistake rate and the query
-//!   accuracy of a scenario's runs are divided by (`specs/Watched.antt`).
 //! - [`measures`] gives a row for each pair on each layer, by definition, of any trace. In the scenario's trace each
 //!   suspicion of layer 2 has an earlier one of layer 1 for the same process, and each mistake or detection on layer 2
 //!   rests on one (`specs/Resting.antt`).
@@ -42,6 +40,7 @@
 mod asked;
 mod bench;
 mod counts;
+mod durations;
 mod findings;
 mod fuse_outlet;
 mod ledger;
@@ -65,11 +64,11 @@ mod tail;
 mod tally;
 mod trace_text;
 mod values;
-mod watched;
 mod writing;
 
 pub use asked::{prints_report, prints_trace};
 pub use bench::bench_list;
+pub use durations::{Durations, RunDurations};
 pub use findings::RunFindings;
 pub use fuse_outlet::FuseOutlet;
 pub use measured_run::measure_list;
@@ -83,5 +82,4 @@ pub use running::Running;
 pub use stream_outlet::StreamOutlet;
 pub use summary::Summary;
 pub use trace_text::{HEADER, append_entry};
-pub use watched::watched_ticks;
 pub use writing::{write_if_any, write_report, write_text, write_trace};
