@@ -51,12 +51,13 @@ fn catch_up(
     Ok(())
 }
 
-/// How long each mistake was that ended, of all pairs on one layer, as a panel of that layer counts them.
+/// How long each mistake was that ended, of all pairs on one layer.
 #[derive(Drop)]
 pub struct Durations {
-    processes: u16,
-    // by observer and then by subject, a process and itself too: in ticks, in the order of the ends
-    pairs: Vec<Vec<u32>>,
+    /// How many processes there are.
+    pub processes: u16,
+    /// By observer and then by subject, a process and itself too: in ticks, in the order of the mistakes' ends.
+    pub pairs: Vec<Vec<u32>>,
 }
 
 impl Durations {
