@@ -1,5 +1,5 @@
 -- The lengths of all pairs of a layer, as they are brought up to the panel's tallies.
-use Rattle.std.proofs.Common.{◌≡◌, ◌≢◌, ℕ, zero, suc, ◌+◌, ◌-◌, ◌*◌, ◌<◌, ◌≤◌, min, Bool, true, false, cond, ◌&&◌, inl, inr, refl, sym, ap, ◌∙◌, subst, arith, ltb, leb, eqb, List, [], ◌∷◌, ◌++◌, map, set, length, get_or}
+use Rattle.std.proofs.Common.{◌≡◌, ◌≢◌, ℕ, zero, suc, ◌+◌, ◌-◌, ◌*◌, ◌<◌, ◌≤◌, min, Bool, true, false, cond, ◌&&◌, inl, inr, refl, sym, ap, ◌∙◌, arith, ltb, leb, eqb, List, [], ◌∷◌, ◌++◌, set, length, get_or}
 use Rattle.std.specs.Global.{Vec}
 use Rattle.std.proofs.Math.Nat.{mul-le-mul_right, suc-mul}
 use Rattle.std.proofs.lemmas.Bool.{cases_eq, cases_lt, lt-ltb, le-ltb, le-leb, lt-leb, cond-true, cond-false, and_from, and_left, and_right}
@@ -9,12 +9,12 @@ use Rattle.std.proofs.lemmas.Nat.{mul-add-lt}
 use Rattle.process_api.specs.EntryRecord.{EntryRecord}
 use Rattle.scenario_record.specs.Record.{Record}
 use Rattle.judges.specs.Pair.{opened, kept_at}
-use Rattle.judges.specs.Pairs.{ArePairs, fed}
+use Rattle.judges.specs.Pairs.{ArePairs}
 use Rattle.judges.specs.Turns.{Turn, noted_turns, entry_turns}
 use Rattle.judges.specs.declared.pair.Pair.{Pair}
 use Rattle.judges.specs.declared.pairs.Pairs.{Pairs}
 use Rattle.judges.proofs.Turns.{turns_other}
-use Rattle.reporting.specs.Durations.{caught, lists_in, tally_at, pair_at, lengths_so_far, AreCaught, HasLengths, AreFollowing, AreDurations}
+use Rattle.reporting.specs.Durations.{caught, lists_in, tally_at, lengths_so_far, AreCaught, AreFollowing, AreDurations}
 use Rattle.reporting.specs.Tally.{counted, new_tally}
 use Rattle.reporting.specs.declared.durations.Durations.{Durations}
 use Rattle.reporting.specs.declared.tally.Tally.{Tally}

@@ -1,5 +1,5 @@
 -- The lengths that are kept beside a tally: as entries come, and as no entry follows.
-use Rattle.std.proofs.Common.{◌≡◌, ◌≢◌, ℕ, suc, ◌-◌, ◌<◌, ◌≤◌, min, Bool, true, false, cond, not, ◌&&◌, inl, inr, refl, sym, ap, ◌∙◌, subst, arith, ltb, eqb, Option, None, Some, List, [], ◌∷◌, ◌++◌, length, length-append}
+use Rattle.std.proofs.Common.{◌≡◌, ℕ, suc, ◌-◌, ◌<◌, ◌≤◌, min, Bool, true, false, cond, not, ◌&&◌, inl, inr, refl, sym, ap, ◌∙◌, subst, arith, ltb, eqb, Option, None, Some, List, [], ◌∷◌, ◌++◌, length, length-append}
 use mathlib.Core.Bool.{beq}
 use Rattle.std.proofs.lemmas.Bool.{cases_lt, cond_both, lt-ltb, le-ltb, cond-true, cond-false}
 use Rattle.std.proofs.lemmas.List.Sums.{fold-append}
@@ -14,7 +14,7 @@ use Rattle.judges.specs.Turns.{Turn, turn_of, turns_at, noted_turns, entry_turns
 use Rattle.judges.specs.declared.pair.Pair.{Pair}
 use Rattle.judges.proofs.Entering.{fed_more}
 use Rattle.judges.proofs.Standing.{IsKeeping, fed_known}
-use Rattle.reporting.specs.Distances.{distances, count_of_distances}
+use Rattle.reporting.specs.Distances.{distances}
 use Rattle.reporting.specs.Durations.{caught, listed, lengths_so_far, ticks_between}
 use Rattle.reporting.specs.Knows.{Knows, IsWaiting}
 use Rattle.reporting.specs.Measures.{starts, ends, pair_durations}

@@ -1,4 +1,4 @@
-use Rattle.std.proofs.Common.{◌≡◌, length, get_or, sym, ap, ◌∙◌, subst, arith}
+use Rattle.std.proofs.Common.{◌≡◌, get_or, ap, ◌∙◌, subst, arith}
 use Rattle.std.proofs.lemmas.List.{length-set}
 use Rattle.reporting.specs.Durations.{AreCaught, caught, lists_in}
 use Rattle.reporting.proofs.Caught.{caught_none, caught_next}

@@ -1,4 +1,4 @@
-use Rattle.std.proofs.Common.{◌≡◌, true, length, sym, ap, ◌∙◌, refl, subst, arith}
+use Rattle.std.proofs.Common.{◌≡◌, true, length, sym, refl, subst, arith}
 use Rattle.std.proofs.lemmas.List.{with_items_is}
 use Rattle.reporting.specs.Durations.{AreCaught, lists_in}
 use Rattle.reporting.proofs.Caught.{closes_caught, same_length}

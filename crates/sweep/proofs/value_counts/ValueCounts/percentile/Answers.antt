@@ -26,7 +26,7 @@ returns-then-wanted-reached c values few_values few told =
     let next = rest_more deref_pair c.loop-value.value-iterator c.next.new.self c.next.result (c.in-Some.value, c.in-Some.count) c.in-Some.is c.next.ensures.steps in
     let found = percentile_found p c.loop-value.seen c.saturating_mul-wanted.result values infinite c.args.self.now.counts.entries (map deref_pair c.loop-value.yielded) c.loop-value.value-iterator
     c.loop-value.invariant.walked told.counts few_values wants c.loop-value.invariant.seen c.loop-value.invariant.short
-    (deref_pair (c.in-Some.value, c.in-Some.count)) c.next.new.self c.saturating_add-seen.result next c.iter-value-items.ensures.ordered c.saturating_add-seen.ensures (omega (arith, c.saturating_mul-reached.ensures)) in
+    (deref_pair (c.in-Some.value, c.in-Some.count)) c.next.new.self c.saturating_add-seen.result next c.iter-value-items.ensures.ordered c.saturating_add-seen.ensures (omega (arith, c.saturating_mul-reached.ensures, c.if-wanted-reached.true)) in
     rw c.from-then-wanted-reached.ensures found
 
 pub returns : goal.returns
