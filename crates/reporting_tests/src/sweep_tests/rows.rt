@@ -66,12 +66,7 @@ pub fn one_crash<R: Abort>(
 
 /// How long each mistake was on a layer of so many processes, by observer and then by subject; of pairs that come after
 /// these there was none.
-pub fn durations<R: Abort>(
-    rt: &R,
-    alloc: Global,
-    processes: u16,
-    lengths: &[&[u32]],
-) -> Durations {
+pub fn durations<R: Abort>(rt: &R, alloc: Global, processes: u16, lengths: &[&[u32]]) -> Durations {
     let mut pairs = Vec::new(alloc);
     for ticks in lengths {
         let mut pair = Vec::new(alloc);

@@ -157,7 +157,8 @@ fn decisions(rt: HostRuntime) {
             outcome(&rt, 3, third),
         ];
         found.summary.outcomes = Vec::from_array(alloc, outcomes).expect(&rt, "no memory");
-        runs.push(run_of(&rt, alloc, &scenario, &found)).expect(&rt, "no memory");
+        runs.push(run_of(&rt, alloc, &scenario, &found))
+            .expect(&rt, "no memory");
     }
     are_rows(
         &rt,
