@@ -1,4 +1,4 @@
-use Rattle.std.proofs.Common.{◌≡◌, ◌+◌, ◌*◌, ◌^◌, ◌<◌, ◌∷◌, ◌++◌, [], length, length-append, ap, sym, ◌∙◌, subst, arith}
+use Rattle.std.proofs.Common.{◌≡◌, ◌+◌, ◌^◌, ◌<◌, ◌∷◌, ◌++◌, [], length, length-append, ap, sym, ◌∙◌, subst, arith}
 use Rattle.sweep.specs.Columns.{all_durations, all_detections, last_decisions, top_rounds}
 use Rattle.sweep.specs.Counted.{AreCounted}
 use Rattle.sweep.specs.Fitting.{most_values}
