@@ -5,9 +5,9 @@
 
 Three studies of twelve points each, over files of its own: a detector under losses with crashes that are dealt to the
 seeds, a coordinator whose processes crash, and detectors that watch the next process alone and share what they suspect,
-with a limit that some runs pass. Of each run it takes the file that `fdstudy show` prints and the report that `fdbench
-list` gives of it. It shares no code with the programs: crashes, pairs and ranks are worked out here anew. It prints
-what differs, and ends with status 1 where something does.
+with a limit that some runs pass. Of each run it takes the file that `fdstudy show` prints, and the report and the trace
+that `fdbench list` gives of it. It shares no code with the programs: crashes, pairs, ranks and the lengths of mistakes
+are worked out here anew. It prints what differs, and ends with status 1 where something does.
 """
 import argparse
 import csv
@@ -115,11 +115,12 @@ def must(words, given=""):
 
 
 class Run:
-    """What one run tells: its file, and its report, or that it passed its limit."""
+    """What one run tells: its file, and its trace and its report, or that it passed its limit."""
 
-    def __init__(self, text, report):
+    def __init__(self, text, trace, report):
         self.file = tomllib.loads(text)
         self.rows = None if report is None else list(csv.DictReader(io.StringIO(report)))
+        self.entries = list(csv.DictReader(io.StringIO(trace)))
         self.horizon, self.count = self.file["horizon"], self.file["processes"]
         self.crashes = {it["process"]: it["at"] for it in self.file.get("crash", [])}
         self.layers = [1, 2] if "share" in self.file else [1]
@@ -135,6 +136,23 @@ class Run:
     def pairs(self, layer):
         everybody = range(1, self.count + 1)
         return [(q, p) for q in everybody for p in everybody if q != p and self.is_counted(layer, q, p)]
+
+    def durations(self, layer, observer, subject):
+        """How long each mistake was that ended before the first crash of the two and the horizon."""
+        end = min(self.crashes.get(observer, math.inf), self.crashes.get(subject, math.inf), self.horizon)
+        states = {}  # whether there is suspicion at the end of a tick with a note
+        for entry in (it for it in self.entries if int(it["receiver"]) == observer):
+            for word, *rest in (note.split(":") for note in entry["notes"].split()):
+                if word in ("suspect", "trust") and rest == [str(layer), str(subject)]:
+                    states[int(entry["tick"])] = word == "suspect"
+        lengths, since = [], None
+        for tick, suspected in sorted(states.items()):
+            if suspected and since is None:
+                since = tick
+            elif not suspected and since is not None:
+                lengths += [tick - since] if tick < end else []
+                since = None
+        return lengths
 
     def values(self, section, layer, observer, subject):
         return {row["measure"]: row["value"] for row in self.rows if row["section"] == section
@@ -219,6 +237,8 @@ def row_of(runs, layer):
                             for run in done for q, p in run.pairs(layer))
     measured = [run.values("pair", layer, q, p) for run in done for q, p in run.pairs(layer)]
     row |= {name: sum(int(it[name]) for it in measured) for name in SUMS}
+    lengths = [it for run in done for q, p in run.pairs(layer) for it in run.durations(layer, q, p)]
+    row["duration_p99"], row["duration_max"] = rank(99, lengths, 0), most(lengths)
     each = [mistakes_of(run, layer) for run in done]
     row["mistakes_squared_sum"], row["runs_with_mistakes"] = sum(it * it for it in each), sum(it > 0 for it in each)
     row["mistake_recurrence"] = row["pair_ticks"] // row["mistakes"] if row["mistakes"] else None
@@ -246,7 +266,8 @@ def compare(name, file, words, asked):
             status, report, told = run([asked.fdbench, "list", "-"], text)
             if status not in (0, 3) or status == 3 and told != "fdbench: run: Limit\n":
                 sys.exit(f"rows: status {status} of run {number} of point {point} of {name}: {told}")
-            runs.append(Run(text, report if status == 0 else None))
+            trace = must([asked.fdbench, "list", "-", "--print", "trace"], text) if status == 0 else ""
+            runs.append(Run(text, trace, report if status == 0 else None))
         for layer in runs[0].layers:
             found, wanted = rows.pop(0), row_of(runs, layer)
             limited += wanted["limited"]

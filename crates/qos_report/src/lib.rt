@@ -21,6 +21,7 @@ mod streaming;
 pub use bench::bench_windows;
 pub use print_choice::PrintChoice;
 pub use reporting::{
-    Detection, FuseOutlet, MemoryOutlet, Meter, Outlet, PairMeasures, RunFindings, StreamOutlet,
-    Summary, bench_list, measure_list, measures, put_all, watched_ticks, write_report, write_trace,
+    Detection, Durations, FuseOutlet, MemoryOutlet, Meter, Outlet, PairMeasures, RunDurations,
+    RunFindings, StreamOutlet, Summary, bench_list, measure_list, measures, put_all, write_report,
+    write_trace,
 };

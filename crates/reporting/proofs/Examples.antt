@@ -8,8 +8,7 @@ use Rattle.process_api.specs.declared.numbers.DetectorNumbers.TheVariants as num
 use Rattle.process_api.specs.declared.numbers.Watch.TheVariants as watch
 use Rattle.scenario_record.specs.Record.{Record}
 use Rattle.scenario_record.specs.declared.algorithm.AlgorithmKind.TheVariants as algorithm
-use Rattle.reporting.specs.Measures.{pair_measures, layer_measures, all_measures}
-use Rattle.reporting.specs.Watched.{watched_ticks}
+use Rattle.reporting.specs.Measures.{pair_durations, pair_measures, layer_measures, all_measures}
 use Rattle.reporting.specs.declared.pair_measures.PairMeasures.{PairMeasures}
 use Rattle.reporting.specs.declared.pair_measures.Detection.{Detection}
 use Rattle.reporting.specs.declared.pair_measures.Detection.TheVariants.{Na, NoTick, At}
@@ -96,14 +95,6 @@ no_crash : pair_measures (scenario 2 16 None (None ∷ None ∷ [])) timeline 1 
 unfolding pair_measures
 no_crash = refl
 
--- process 2 crashes at tick 3: it and process 1 watch each other for 3 ticks
-watched_to_a_crash : watched_ticks (scenario 2 10 None (None ∷ Some 3 ∷ [])) ≡ 6
-watched_to_a_crash = refl
-
--- process 2 crashes at tick 3 and process 3 at tick 7: twice 3 ticks of 1 and 2, 7 of 1 and 3, and 3 of 2 and 3
-watched_to_two_crashes : watched_ticks (scenario 3 10 None (None ∷ Some 3 ∷ Some 7 ∷ [])) ≡ 26
-watched_to_two_crashes = refl
-
--- a crash at the horizon or later ends nothing
-watched_to_the_horizon : watched_ticks (scenario 3 10 None (Some 11 ∷ Some 10 ∷ None ∷ [])) ≡ 60
-watched_to_the_horizon = refl
+-- the two mistakes that ended lasted from tick 2 to 4 and from 7 to 10; the third goes on
+each_duration : pair_durations (scenario 2 16 None (None ∷ None ∷ [])) timeline 1 1 2 ≡ 2 ∷ 3 ∷ []
+each_duration = refl

@@ -3,11 +3,13 @@ pub mod Waits
 pub mod Passes
 pub mod Lasting
 pub mod EachProcess
-pub mod Watching
 pub mod Closing
 pub mod Fed
 pub mod Keeping
 pub mod Entering
+pub mod Lengths
+pub mod Listing
+pub mod Caught
 pub mod Layers
 mod Examples
 pub mod PlainRows

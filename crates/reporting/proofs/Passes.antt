@@ -62,7 +62,7 @@ module _ (f : ℕ → Bool) where
       s_after : (u : ℕ) → t.tick < u → u < until → starts f u ≡ false
       s_after u x y = and_not (f u) (before f u) now (same u (omega arith) y) (before_in u x y)
 
-      t_after : (u : ℕ) → t.tick < u → u < until → ends f u ≡ false
+      pub t_after : (u : ℕ) → t.tick < u → u < until → ends f u ≡ false
       t_after u x y = not_and (f u) (before f u) now (same u (omega arith) y) (before_in u x y)
 
       s_at : (was : Bool) → t.was ≡ was → starts f t.tick ≡ (now && not was)
@@ -71,7 +71,7 @@ module _ (f : ℕ → Bool) where
           let earlier : before f t.tick ≡ was = sym k.was ∙ e in
           ap (λ x. x && not (before f t.tick)) here ∙ ap (λ x. now && not x) earlier
 
-      t_at : (was : Bool) → t.was ≡ was → ends f t.tick ≡ (not now && was)
+      pub t_at : (was : Bool) → t.was ≡ was → ends f t.tick ≡ (not now && was)
       t_at was e =
           let here : f t.tick ≡ now = same t.tick (omega arith) l in
           let earlier : before f t.tick ≡ was = sym k.was ∙ e in
@@ -114,7 +114,7 @@ module _ (f : ℕ → Bool) where
     after was now = record (changed was now t end) { was = now; mistake_ticks = t.mistake_ticks + cond now (min until end - min t.tick end) 0; tick = until }
 
     -- what waits, at a known state
-    open_start : (was : Bool) → t.was ≡ was → IsWaiting (starts f) (ends f) t.tick (cond was t.started None)
+    pub open_start : (was : Bool) → t.was ≡ was → IsWaiting (starts f) (ends f) t.tick (cond was t.started None)
     open_start was e = subst (λ b. IsWaiting (starts f) (ends f) t.tick (cond b t.started None)) e k.open_start
 
     open_end : (was : Bool) → t.was ≡ was → IsWaiting (ends f) (starts f) t.tick (cond was None t.ended)

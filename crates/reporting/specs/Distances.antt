@@ -1,5 +1,5 @@
 -- Sums and counts over the ticks (or other numbers) below an end.
-use Rattle.std.specs.Prelude.{ℕ, zero, suc, ◌+◌, ◌-◌, Bool, not, ◌&&◌, ◌||◌, if◌then◌else◌, nat_lt, nat_le}
+use Rattle.std.specs.Prelude.{ℕ, zero, suc, ◌+◌, ◌-◌, Bool, not, ◌&&◌, ◌||◌, if◌then◌else◌, nat_lt, nat_le, List, [], ◌∷◌, ◌++◌}
 use Rattle.judges.specs.Ticks.{all_below}
 
 -- the sum of an amount over 0 to end - 1
@@ -28,3 +28,13 @@ sum_of_distances = over_distances (λ d. d)
 
 abbrev pub count_of_distances : (from to : ℕ → Bool) → (end : ℕ) → ℕ
 count_of_distances = over_distances (λ d. 1)
+
+-- the lists of 0 to end - 1, one after the other
+abbrev pub list_below : (ℕ → List ℕ) → (end : ℕ) → List ℕ
+list_below lists zero = []
+list_below lists (suc t) = list_below lists t ++ lists t
+
+-- these distances themselves, in the order of the ticks at which they end
+abbrev pub distances : (from to : ℕ → Bool) → (end : ℕ) → List ℕ
+distances from to end =
+    list_below (λ t. list_below (λ s. if from s && is_next to s t then (t - s) ∷ [] else []) t) end

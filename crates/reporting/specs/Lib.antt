@@ -1,12 +1,12 @@
 pub mod Distances
 pub mod Measures
-pub mod Watched
 pub mod Tally
 pub mod Knows
 pub mod Meter
 pub mod MeterFed
 pub mod Panel
 pub mod Metering
+pub mod Durations
 pub mod Outlet
 pub mod Writing
 pub mod Rows
@@ -19,5 +19,6 @@ pub mod Findings
 pub mod Running
 pub mod Printed
 pub mod Measured
+pub mod MeasuredRun
 pub mod Recording
 pub mod Resting

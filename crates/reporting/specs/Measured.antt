@@ -1,5 +1,5 @@
 -- All that is measured of a run.
-use Rattle.std.specs.Prelude.{◌≡◌, ◌≤◌, ◌*◌, ◌^◌, ℕ, List, length, if◌then◌else◌, None, Some, is_some}
+use Rattle.std.specs.Prelude.{◌≡◌, ◌≤◌, ◌*◌, ◌^◌, ℕ, List, length, if◌then◌else◌, true, None, Some, is_some}
 use Rattle.trace_laws.specs.Effects.{HasCauses, TakesOnce}
 use Rattle.trace_laws.specs.ScenarioSetting.{setting_of}
 use Rattle.judges.specs.Agreement.{Agree, DecidesOnce}
@@ -7,9 +7,11 @@ use Rattle.judges.specs.Verdicts.{verdicts}
 use Rattle.process_api.specs.EntryRecord.{EntryRecord}
 use Rattle.scenario_record.specs.Record.{Record}
 use Rattle.scenario_record.specs.declared.algorithm.AlgorithmKind.TheVariants.{EventuallyStrong}
+use Rattle.reporting.specs.Durations.{AreDurations}
 use Rattle.reporting.specs.Measures.{all_measures}
 use Rattle.reporting.specs.Printed.{IsTraceWithin}
 use Rattle.reporting.specs.Summary.{IsSummary}
+use Rattle.reporting.specs.declared.durations.RunDurations.{RunDurations}
 use Rattle.reporting.specs.declared.findings.RunFindings.{RunFindings}
 
 module _ (S : Record) where
@@ -21,11 +23,17 @@ module _ (S : Record) where
     pub second : found.second ≡ (if is_some S.share then Some (verdicts S trace 2) else None)
     pub measures : found.measures.items ≡ all_measures S trace
 
+  -- how long each mistake of a trace was that ended
+  pub record AreRunDurations (trace : List EntryRecord) (durations : RunDurations) : Type 0 where
+    pub first : AreDurations S 1 trace durations.first
+    pub second : is_some S.share ≡ true → AreDurations S 2 trace durations.second
+
   -- a run is measured: what was found is that of the scenario's trace, which is within its limit
-  pub record MeasuresRun (found : RunFindings) : Type 0 where
+  pub record MeasuresRun (found : RunFindings) (durations : RunDurations) : Type 0 where
     pub trace : List EntryRecord
     pub is_within : IsTraceWithin S trace
     pub measured : AreFindings trace found
+    pub lasted : AreRunDurations trace durations
     -- each entry has less than 2^32 letters
     pub sent_high : found.summary.sent ≤ length trace * 2 ^ 32
     pub lost_high : found.summary.lost ≤ length trace * 2 ^ 32

@@ -8,7 +8,7 @@ use Rattle.scenario_record.specs.Record.{Record}
 use Rattle.judges.specs.Crashes.{crash_tick, is_crashed, is_correct, end_of}
 use Rattle.judges.specs.Ticks.{before, least_from}
 use Rattle.judges.specs.Out.{suspects}
-use Rattle.reporting.specs.Distances.{count_below, sum_of_distances, count_of_distances}
+use Rattle.reporting.specs.Distances.{count_below, sum_of_distances, count_of_distances, distances}
 use Rattle.reporting.specs.declared.pair_measures.PairMeasures.{PairMeasures}
 use Rattle.reporting.specs.declared.pair_measures.Detection.{Detection}
 use Rattle.reporting.specs.declared.pair_measures.Detection.TheVariants.{Na, NoTick, At}
@@ -53,6 +53,10 @@ module _ (suspected : ℕ → Bool) (end : ℕ) where
   abbrev pub duration_count : ℕ
   duration_count = count_of_distances (starts suspected) (ends suspected) end
 
+  -- each of these times
+  abbrev pub durations : List ℕ
+  durations = distances (starts suspected) (ends suspected) end
+
   -- from the end of a mistake to the start of the next ('good period duration')
   abbrev pub good_sum : ℕ
   good_sum = sum_of_distances (ends suspected) (starts suspected) end
@@ -85,6 +89,10 @@ measured S layer q p suspected = record {
 -- the measures of observer q and subject p on a layer
 unfoldable pub pair_measures : Record → List EntryRecord → (layer q p : ℕ) → PairMeasures
 pair_measures S trace layer q p = measured S layer q p (suspects layer trace q p)
+
+-- how long each mistake of observer q about subject p was that ended
+abbrev pub pair_durations : Record → List EntryRecord → (layer q p : ℕ) → List ℕ
+pair_durations S trace layer q p = durations (suspects layer trace q p) (end_of S q p)
 
 -- layer 1, and layer 2 where there is a reduction
 abbrev pub layers : Record → List ℕ

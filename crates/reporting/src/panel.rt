@@ -1,10 +1,11 @@
 //! The meters of all pairs on one layer.
-ghost use Rattle.std.specs.Prelude.{◌≡◌, ℕ, ◌++◌, ◌∷◌, ◌<◌, List, [], IfOk, OnOk};
+ghost use Rattle.std.specs.Prelude.{◌≡◌, ℕ, ◌*◌, ◌++◌, ◌∷◌, ◌<◌, List, [], IfOk, OnOk};
 ghost use Rattle.reporting.specs.Panel.{closed_row, metered};
 
 use crate::ledger::Ledger;
 use crate::meter::{Meter, crash_between};
 use crate::pair_measures::PairMeasures;
+use crate::tally::Tally;
 use judges::Pairs;
 use process_api::Entry;
 use scenario_record::Scenario;
@@ -57,6 +58,7 @@ impl Panel {
     ghost use Rattle.process_api.specs.EntryRecord.{EntryRecord};
     ghost use Rattle.scenario_record.specs.Record.{Record};
     ghost use Rattle.judges.specs.Pairs.{AreUntil};
+    ghost use Rattle.reporting.specs.Durations.{tally_at};
     ghost use Rattle.reporting.specs.Measures.{layer_measures};
     ghost use Rattle.reporting.specs.Metering.{IsMetering};
 
@@ -75,6 +77,29 @@ impl Panel {
             → AreUntil trace entry.now.key.tick → IsMetering S layer (trace ++ entry.now ∷ []) self.new }
     {
         self.pairs.feed(entry);
+    }
+
+    /// How many pairs there are, by observer and then by subject, a process and itself too.
+    pub fn places(&self) -> usize
+        ensures { result ≡ self.now.pairs.processes * self.now.pairs.processes }
+    {
+        self.pairs.processes() * self.pairs.processes()
+    }
+
+    /// What is counted of the pair at a place: so far, or as no entry follows.
+    pub fn tally(&self, place: usize, closed: bool) -> Tally
+        requires { place < self.now.pairs.processes * self.now.pairs.processes }
+        ensures { result ≡ tally_at self.now.pairs closed place }
+    {
+        let pair = self.pairs.pair(
+            place / self.pairs.processes(),
+            place % self.pairs.processes(),
+        );
+        if closed {
+            pair.close(self.pairs.horizon()).tally()
+        } else {
+            pair.kept.tally()
+        }
     }
 
     /// Adds the measures of each observer and each other subject, as no entry follows.

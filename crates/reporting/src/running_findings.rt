@@ -9,7 +9,6 @@ use crate::findings::RunFindings;
 use crate::pair_measures::PairMeasures;
 use crate::panel::Panel;
 use crate::running_summary::RunningSummary;
-use event_list::Recorder;
 use judges::{RunningJudge, Verdicts};
 use process_api::Entry;
 use scenario_record::Scenario;
@@ -148,19 +147,5 @@ impl RunningFindings {
             second,
             measures,
         })
-    }
-}
-
-impl Recorder for RunningFindings {
-    ghost use Rattle.std.specs.Prelude.{true};
-    ghost use Rattle.process_api.specs.Order.{is_rising};
-    ghost use Rattle.reporting.specs.Running.{IsMeasuring};
-
-    ghost recorded = { λ first now taken. (S : Record) → IsMeasuring S [] first → is_rising taken ≡ true
-        → IsMeasuring S taken now };
-
-    fn record(&mut self, entry: Entry) -> Result<(), AllocError> {
-        self.feed(&entry);
-        Ok(())
     }
 }

@@ -1,5 +1,4 @@
-//! Measures of worked traces and of worked runs; ticks for which pairs are watched; and outlets over a writer.
+//! Measures of worked traces and of worked runs; and outlets over a writer.
 mod measured;
 mod outlets;
 mod runs;
-mod watched;

@@ -8,7 +8,7 @@ use Rattle.reporting.specs.declared.pair_measures.PairMeasures.{PairMeasures}
 use Rattle.sweep.specs.Adding.{plus, plus_few, pairs_plus, decisions_plus, traces_plus}
 use Rattle.sweep.specs.Columns.{ArePairSums, AreDecisionSums, AreTraceSums}
 use Rattle.sweep.specs.Fitting.{ArePairsWithin, AreDecisionsWithin, AreTracesWithin}
-use Rattle.sweep.specs.OneRun.{Finished, is_undetected, is_at_once, has_decided, decision_tick}
+use Rattle.sweep.specs.OneRun.{Finished, detection_ticks, is_undetected, is_at_once, has_decided, decision_tick}
 use Rattle.sweep.specs.Percentile.{greater, greatest}
 use Rattle.sweep.specs.declared.columns.DecisionSums.{DecisionSums}
 use Rattle.sweep.specs.declared.columns.PairSums.{PairSums}
@@ -53,6 +53,7 @@ module _ (xs ys : List PairMeasures) (a b : PairSums) (A B : ℕ) (room : A + B 
     good_count = within a.good_count b.good_count A B p.good_count q.good_count;
     undetected = within a.undetected b.undetected A B p.undetected q.undetected;
     at_once = within a.at_once b.at_once A B p.at_once q.at_once;
+    detection_sum = within a.detection_sum b.detection_sum A B p.detection_sum q.detection_sum;
   }
 
   pub pairs_added : ArePairSums xs a → ArePairSums ys b → ArePairSums (xs ++ ys) (pairs_plus a b)
@@ -67,6 +68,7 @@ module _ (xs ys : List PairMeasures) (a b : PairSums) (A B : ℕ) (room : A + B 
     good_count = added (λ m. m.good_count) xs ys a.good_count b.good_count A B room s.good_count t.good_count p.good_count q.good_count;
     undetected = added (λ m. cond (is_undetected m.detection) 1 0) xs ys a.undetected b.undetected A B room s.undetected t.undetected p.undetected q.undetected;
     at_once = added (λ m. cond (is_at_once m.detection) 1 0) xs ys a.at_once b.at_once A B room s.at_once t.at_once p.at_once q.at_once;
+    detection_sum = added (λ m. detection_ticks m.detection) xs ys a.detection_sum b.detection_sum A B room s.detection_sum t.detection_sum p.detection_sum q.detection_sum;
   }
 
 module _ (xs ys : List Outcome) (a b : DecisionSums) (A B : ℕ) (room : A + B < 2 ^ 128) (p : AreDecisionsWithin A a) (q : AreDecisionsWithin B b) where

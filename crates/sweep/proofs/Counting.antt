@@ -15,6 +15,7 @@ use Rattle.std.proofs.lemmas.Map.{lookup-none}
 use Rattle.std.proofs.lemmas.Map.Entries.{none_below_head}
 use Rattle.std.proofs.lemmas.Map.Keys.{sorted_head, sorted_tail}
 use Rattle.sweep.specs.Counted.{passing}
+use Rattle.sweep.specs.Fitting.{most_values}
 use Rattle.sweep.specs.Percentile.{IsRanked, IsPercentile, at_most}
 
 -- ---- one more of a value
@@ -153,13 +154,13 @@ none_ranked p values infinite low none w (k, lt, is) covers =
 
 module _ (p seen wanted : ℕ) (values : List ℕ) (infinite : ℕ) (es front rest : List (ℕ × ℕ))
     (split : es ≡ front ++ rest) (is : (test : ℕ → Bool) → count_by test values ≡ passing test es)
-    (high : length values < 2 ^ 64) (wants : wanted ≡ p * (length values + infinite))
-    (so_far : seen ≡ min (counted front) (2 ^ 64 - 1)) (short : 100 * seen < wanted) where
+    (high : length values < most_values) (wants : wanted ≡ p * (length values + infinite))
+    (so_far : seen ≡ min (counted front) (2 ^ 128 - 1)) (short : 100 * seen < wanted) where
   counted_front : counted front + counted rest ≡ length values
   counted_front = omega (arith, sum_by-append (λ (x : ℕ × ℕ). x.1) front rest, ap counted split, total_of values es is)
 
   pub percentile_found : (e : ℕ × ℕ) (back : List (ℕ × ℕ)) (now : ℕ) → rest ≡ e ∷ back → IsStrictlySortedBy nat_cmp (keys_of es)
-      → now ≡ min (seen + e.1) (2 ^ 64 - 1) → wanted ≤ 100 * now → IsRanked p values infinite e.0
+      → now ≡ min (seen + e.1) (2 ^ 128 - 1) → wanted ≤ 100 * now → IsRanked p values infinite e.0
   percentile_found e back now next s goes enough =
       let parts : es ≡ front ++ e ∷ back = split ∙ ap (λ r. front ++ r) next in
       let more : counted rest ≡ e.1 + counted back = ap counted next ∙ counted-cons e back in

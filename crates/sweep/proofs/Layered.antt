@@ -8,9 +8,9 @@ use Rattle.std.proofs.lemmas.List.Sums.{count_by-le-length, length-filter}
 use Rattle.judges.specs.Verdicts.{verdicts}
 use Rattle.scenario_record.specs.Record.{Record}
 use Rattle.sweep.specs.Adding.{layer_plus}
-use Rattle.sweep.specs.Columns.{has_layer, on_layer, finished_of, finish_of, done_on, all_pairs, all_detections, last_decisions, top_rounds, is_limited, AreDoneSums, AreRunCounts, AreVerdictCounts, ArePairSums, AreDecisionSums}
+use Rattle.sweep.specs.Columns.{has_layer, on_layer, finished_of, finish_of, done_on, all_pairs, all_durations, all_detections, last_decisions, top_rounds, is_limited, AreDoneSums, AreRunCounts, AreVerdictCounts, ArePairSums, AreDecisionSums}
 use Rattle.sweep.specs.Fitting.{most_runs, most_of, IsLayerWithin}
-use Rattle.sweep.specs.OneRun.{Finished, counted_pairs, pair_ticks, mistakes, has_mistake, detections, run_outcomes, deciding, do_disagree, do_all_decide, is_undecided, last_decision, top_round}
+use Rattle.sweep.specs.OneRun.{Finished, counted_pairs, pair_ticks, mistakes, has_mistake, durations, detections, run_outcomes, deciding, do_disagree, do_all_decide, is_undecided, last_decision, top_round}
 use Rattle.sweep.specs.Results.{Trial}
 use Rattle.sweep.specs.Sums.{AreFitting}
 use Rattle.sweep.specs.declared.columns.LayerSums.{LayerSums}
@@ -53,6 +53,9 @@ module _ (layer : ℕ) (xs ys : List Trial) where
 
   pub pairs_both : (rs qs : List Finished) → all_pairs layer (rs ++ qs) ≡ all_pairs layer rs ++ all_pairs layer qs
   pairs_both rs qs = flat_map-append (counted_pairs layer) rs qs
+
+  pub durations_both : all_durations layer (xs ++ ys) ≡ all_durations layer xs ++ all_durations layer ys
+  durations_both = ap (flat_map (durations layer)) done_both ∙ flat_map-append (durations layer) (done_on layer xs) (done_on layer ys)
 
   pub detections_both : all_detections layer (xs ++ ys) ≡ all_detections layer xs ++ all_detections layer ys
   detections_both = ap (flat_map (detections layer)) done_both ∙ flat_map-append (detections layer) (done_on layer xs) (done_on layer ys)

@@ -5,6 +5,7 @@ pub mod Layered
 pub mod FirstNumbers
 pub mod Lines
 pub mod Single
+pub mod Lasted
 pub mod Parts
 mod Reading
 mod Numbered

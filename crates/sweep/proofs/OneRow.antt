@@ -32,12 +32,11 @@ one_distribution : (values : List ℕ) (infinite : ℕ) (s t : Distribution) →
     → IsDistribution values infinite t → s ≡ t
 one_distribution values infinite s t a b =
     let e0 = a.many ∙ sym b.many in
-    let e1 = a.total ∙ sym b.total in
     let e2 = one_percentile 50 values infinite s.p50 t.p50 a.p50 b.p50 in
     let e3 = one_percentile 90 values infinite s.p90 t.p90 a.p90 b.p90 in
     let e4 = one_percentile 99 values infinite s.p99 t.p99 a.p99 b.p99 in
     let e5 = a.highest ∙ sym b.highest in
-    λ i. record { count = e0 i; sum = e1 i; p50 = e2 i; p90 = e3 i; p99 = e4 i; greatest = e5 i }
+    λ i. record { count = e0 i; p50 = e2 i; p90 = e3 i; p99 = e4 i; greatest = e5 i }
 
 one_trace_sums : (runs : List Finished) (s t : TraceSums) → AreTraceSums runs s → AreTraceSums runs t → s ≡ t
 one_trace_sums runs s t a b =
@@ -58,6 +57,7 @@ one_pair_sums pairs s t a b =
     let e8 = a.good_count ∙ sym b.good_count in
     let e9 = a.undetected ∙ sym b.undetected in
     let e10 = a.at_once ∙ sym b.at_once in
+    let e11 = a.detection_sum ∙ sym b.detection_sum in
     λ i. record {
       mistakes = e1 i;
       mistake_ticks = e2 i;
@@ -69,6 +69,7 @@ one_pair_sums pairs s t a b =
       good_count = e8 i;
       undetected = e9 i;
       at_once = e10 i;
+      detection_sum = e11 i;
     }
 
 one_decision_sums : (outcomes : List Outcome) (s t : DecisionSums) → AreDecisionSums outcomes s → AreDecisionSums outcomes t
@@ -148,11 +149,13 @@ module _ (layer : ℕ) where
         let e2 = one_distribution _ _ c.detections d.detections a.detections (subst (λ n. IsDistribution (all_detections layer trials) n d.detections) (sym undetected) b.detections) in
         let e3 = one_distribution _ _ c.last_decisions d.last_decisions a.last_decisions (subst (λ n. IsDistribution (last_decisions layer trials) n d.last_decisions) (sym undecided) b.last_decisions) in
         let e4 = one_distribution _ 0 c.rounds d.rounds a.rounds b.rounds in
+        let e6 = one_distribution _ 0 c.durations d.durations a.durations b.durations in
         let e5 = one_first_runs c.first_runs d.first_runs a.first_runs b.first_runs in
         λ i. record {
           sums = e i;
           mistake_recurrence = e0 i;
           mistaken_ppm = e1 i;
+          durations = e6 i;
           detections = e2 i;
           last_decisions = e3 i;
           rounds = e4 i;

@@ -25,9 +25,9 @@ use Rattle.scenario_record.specs.Ranges.{IsInRange}
 use Rattle.reporting.specs.declared.pair_measures.PairMeasures.{PairMeasures}
 use Rattle.reporting.specs.declared.summary.Summary.{Summary}
 use Rattle.sweep.specs.Adding.{of_verdicts}
-use Rattle.sweep.specs.Columns.{has_layer, on_layer, finished_of, done_on, all_detections, last_decisions, top_rounds, is_limited, AreDoneSums, AreRunCounts, AreVerdictCounts, AreTraceSums, ArePairSums, AreDecisionSums}
+use Rattle.sweep.specs.Columns.{has_layer, on_layer, finished_of, done_on, all_durations, all_detections, last_decisions, top_rounds, is_limited, AreDoneSums, AreRunCounts, AreVerdictCounts, AreTraceSums, ArePairSums, AreDecisionSums}
 use Rattle.sweep.specs.Fitting.{most_of, most_mistakes, IsLayerWithin, AreTracesWithin, ArePairsWithin, AreDecisionsWithin}
-use Rattle.sweep.specs.OneRun.{Finished, counts_on, counted_of, counted_pairs, pair_ticks, mistakes, has_mistake, detections, detection_time, is_undetected, has_decided, do_disagree, is_to_decide, deciding_of, do_all_decide, is_undecided, last_decision, top_round, run_outcomes, deciding}
+use Rattle.sweep.specs.OneRun.{Finished, counts_on, counted_of, counted_pairs, pair_ticks, mistakes, has_mistake, durations, detections, detection_time, is_undetected, has_decided, do_disagree, is_to_decide, deciding_of, do_all_decide, is_undecided, last_decision, top_round, run_outcomes, deciding}
 use Rattle.sweep.specs.Results.{Trial, finished}
 use Rattle.sweep.specs.Sums.{AreFitting, AreLayerFindings}
 use Rattle.sweep.specs.declared.columns.DecisionSums.{DecisionSums}
@@ -174,6 +174,7 @@ pairs_raised A B s le w = record {
   good_count = le_trans w.good_count le;
   undetected = le_trans w.undetected le;
   at_once = le_trans w.at_once le;
+  detection_sum = le_trans w.detection_sum le;
 }
 
 -- the counts of a run of which these were the pairs that count, these the outcomes of all processes, and these those of
@@ -211,6 +212,9 @@ module _ (layer : ℕ) (S : Record) (trace : List EntryRecord) (has : has_layer 
 
   done_one : done_on layer (trial ∷ []) ≡ one ∷ []
   done_one = ap finished_of on_one
+
+  pub durations_one : all_durations layer (trial ∷ []) ≡ durations layer one
+  durations_one = ap (flat_map (durations layer)) done_one ∙ append-nil (durations layer one)
 
   pub detections_one : all_detections layer (trial ∷ []) ≡ detections layer one
   detections_one = ap (flat_map (detections layer)) done_one ∙ append-nil (detections layer one)

@@ -3,7 +3,7 @@ use Rattle.std.specs.Prelude.{ℕ, ◌+◌, ◌-◌, ◌^◌, min, ◌==◌, ◌
 use Rattle.judges.specs.declared.outcomes.Outcome.{Outcome}
 use Rattle.judges.specs.declared.verdicts.Verdicts.{Verdicts}
 use Rattle.reporting.specs.declared.pair_measures.PairMeasures.{PairMeasures}
-use Rattle.sweep.specs.OneRun.{is_undetected, is_at_once, has_decided, decision_tick}
+use Rattle.sweep.specs.OneRun.{detection_ticks, is_undetected, is_at_once, has_decided, decision_tick}
 use Rattle.sweep.specs.Percentile.{greater}
 use Rattle.sweep.specs.declared.columns.DecisionSums.{DecisionSums}
 use Rattle.sweep.specs.declared.columns.FirstRuns.{FirstRuns}
@@ -40,6 +40,7 @@ pairs_plus a b = record {
   good_count = plus a.good_count b.good_count;
   undetected = plus a.undetected b.undetected;
   at_once = plus a.at_once b.at_once;
+  detection_sum = plus a.detection_sum b.detection_sum;
 }
 
 abbrev pub verdicts_plus : VerdictCounts → VerdictCounts → VerdictCounts
@@ -95,6 +96,7 @@ of_pair m = record {
   good_count = m.good_count;
   undetected = if is_undetected m.detection then 1 else 0;
   at_once = if is_at_once m.detection then 1 else 0;
+  detection_sum = detection_ticks m.detection;
 }
 
 abbrev pub of_verdicts : Verdicts → VerdictCounts

@@ -7,7 +7,7 @@ use Rattle.judges.specs.declared.verdicts.Verdicts.{Verdicts}
 use Rattle.reporting.specs.Measures.{layers}
 use Rattle.reporting.specs.declared.pair_measures.PairMeasures.{PairMeasures}
 use Rattle.scenario_record.specs.Record.{Record}
-use Rattle.sweep.specs.OneRun.{Finished, is_undetected, is_at_once, counted_pairs, pair_ticks, mistakes, has_mistake, detections, has_decided, decision_tick, run_outcomes, deciding, do_disagree, do_all_decide, is_undecided, last_decision, top_round}
+use Rattle.sweep.specs.OneRun.{Finished, detection_ticks, is_undetected, is_at_once, counted_pairs, pair_ticks, mistakes, has_mistake, durations, detections, has_decided, decision_tick, run_outcomes, deciding, do_disagree, do_all_decide, is_undecided, last_decision, top_round}
 use Rattle.sweep.specs.Percentile.{greatest, IsPercentile}
 use Rattle.sweep.specs.Results.{RunResult, finished, limited, Trial}
 use Rattle.sweep.specs.declared.columns.Columns.{Columns}
@@ -48,10 +48,9 @@ done_on layer trials = finished_of (on_layer layer trials)
 
 -- ---- what is told of values
 
--- how many they are, their sum, the percentiles and the greatest, where so many infinite ones come after them
+-- how many they are, the percentiles and the greatest, where so many infinite ones come after them
 pub record IsDistribution (values : List ℕ) (infinite : ℕ) (d : Distribution) : Type 0 where
   pub many : d.count ≡ length values
-  pub total : d.sum ≡ sum values
   pub p50 : IsPercentile 50 values infinite d.p50
   pub p90 : IsPercentile 90 values infinite d.p90
   pub p99 : IsPercentile 99 values infinite d.p99
@@ -84,6 +83,7 @@ pub record ArePairSums (pairs : List PairMeasures) (s : PairSums) : Type 0 where
   pub good_count : s.good_count ≡ sum_by (λ m. m.good_count) pairs
   pub undetected : s.undetected ≡ count_by (λ m. is_undetected m.detection) pairs
   pub at_once : s.at_once ≡ count_by (λ m. is_at_once m.detection) pairs
+  pub detection_sum : s.detection_sum ≡ sum_by (λ m. detection_ticks m.detection) pairs
 
 -- of the outcomes of the processes that are to decide
 pub record AreDecisionSums (all : List Outcome) (s : DecisionSums) : Type 0 where
@@ -132,7 +132,10 @@ module _ (layer : ℕ) where
     pub limited : s.limited ≡ count_by (λ t. is_limited t.result) (on_layer layer trials)
     pub done : AreDoneSums (done_on layer trials) s
 
-  -- the times of all detections, the ticks of the last decisions, and the greatest rounds
+  -- how long each mistake was that ended, the times of all detections, the ticks of the last decisions, and the greatest rounds
+  abbrev pub all_durations : List Trial → List ℕ
+  all_durations trials = flat_map (durations layer) (done_on layer trials)
+
   abbrev pub all_detections : List Trial → List ℕ
   all_detections trials = flat_map (detections layer) (done_on layer trials)
 
@@ -164,6 +167,7 @@ module _ (layer : ℕ) where
       pub sums : AreLayerSums trials c.sums
       pub mistake_recurrence : c.mistake_recurrence ≡ over c.sums.pair_ticks c.sums.pairs.mistakes
       pub mistaken_ppm : c.mistaken_ppm ≡ over (1000000 * c.sums.pairs.mistake_ticks) c.sums.pair_ticks
+      pub durations : IsDistribution (all_durations trials) 0 c.durations
       pub detections : IsDistribution (all_detections trials) c.sums.pairs.undetected c.detections
       pub last_decisions : IsDistribution (last_decisions trials) c.sums.counts.undecided c.last_decisions
       pub rounds : IsDistribution (top_rounds trials) 0 c.rounds

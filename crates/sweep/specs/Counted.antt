@@ -1,6 +1,6 @@
 -- What it is that values were counted.
-use Rattle.std.specs.Prelude.{◌≡◌, ℕ, ◌*◌, ◌^◌, ◌≤◌, Bool, if◌then◌else◌, List, length}
-use Rattle.std.specs.List.{count_by, sum, sum_by}
+use Rattle.std.specs.Prelude.{◌≡◌, ℕ, Bool, if◌then◌else◌, List, length}
+use Rattle.std.specs.List.{count_by, sum_by}
 use Rattle.sweep.specs.Percentile.{greatest}
 use Rattle.sweep.specs.declared.value_counts.ValueCounts.{ValueCounts}
 
@@ -12,6 +12,4 @@ passing test entries = sum_by (λ e. if test e.0 then e.1 else 0) entries
 pub record AreCounted (values : List ℕ) (c : ValueCounts) : Type 0 where
   pub counts : (test : ℕ → Bool) → count_by test values ≡ passing test c.counts.entries
   pub total : c.total ≡ length values
-  pub summed : c.sum ≡ sum values
-  pub sum_high : sum values ≤ length values * 2 ^ 64
   pub highest : c.greatest ≡ greatest values

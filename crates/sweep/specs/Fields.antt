@@ -19,7 +19,7 @@ abbrev pub pair_fields : Columns → List (List ℕ)
 pair_fields c =
     trace_fields c.sums.traces
     ++ mistake_fields c
-    ++ period_fields c.sums.pairs
+    ++ period_fields c.sums.pairs c.durations
     ++ detection_fields c.sums.pairs c.detections
 
 abbrev pub outcome_fields : Columns → List (List ℕ)

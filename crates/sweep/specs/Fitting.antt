@@ -9,6 +9,10 @@ use Rattle.sweep.specs.declared.columns.TraceSums.{TraceSums}
 abbrev pub most_runs : ℕ
 most_runs = 1000000000000
 
+-- and how many values may be counted
+abbrev pub most_values : ℕ
+most_values = 2 ^ 120
+
 -- what is added up of so many runs is at most this: each has fewer than 2^17 measures on a layer, each below 2^64, and
 -- the square of its mistakes is below 2^88
 abbrev pub most_of : (runs : ℕ) → ℕ
@@ -39,6 +43,7 @@ module _ (most : ℕ) where
     pub good_count : s.good_count ≤ most
     pub undetected : s.undetected ≤ most
     pub at_once : s.at_once ≤ most
+    pub detection_sum : s.detection_sum ≤ most
 
   pub record AreDecisionsWithin (s : DecisionSums) : Type 0 where
     pub to_decide : s.to_decide ≤ most

@@ -1,6 +1,6 @@
 -- What one run that is done tells on a layer.
 use Rattle.std.specs.Prelude.{ℕ, ◌==◌, ◌&&◌, Bool, true, false, not, if◌then◌else◌, nat_lt, is_some, Option, None, Some, List, length}
-use Rattle.std.specs.List.{filter, filter_map, list_all, list_any, sum_by}
+use Rattle.std.specs.List.{filter, filter_map, flat_map, list_all, list_any, sum_by}
 use Rattle.judges.specs.Crashes.{is_correct, end_of}
 use Rattle.judges.specs.Outcomes.{outcomes}
 use Rattle.judges.specs.declared.outcomes.Answer.{Answer}
@@ -11,7 +11,7 @@ use Rattle.process_api.specs.Watching.{is_watched}
 use Rattle.process_api.specs.declared.numbers.DetectorNumbers.{DetectorNumbers}
 use Rattle.process_api.specs.declared.numbers.DetectorNumbers.TheVariants.{Timeout, Freshness}
 use Rattle.process_api.specs.declared.numbers.Watch.{Watch}
-use Rattle.reporting.specs.Measures.{layer_measures}
+use Rattle.reporting.specs.Measures.{layer_measures, pair_durations}
 use Rattle.reporting.specs.declared.pair_measures.Detection.{Detection}
 use Rattle.reporting.specs.declared.pair_measures.Detection.TheVariants.{Na, NoTick, At}
 use Rattle.reporting.specs.declared.pair_measures.PairMeasures.{PairMeasures}
@@ -56,6 +56,12 @@ is_at_once Na = false
 is_at_once NoTick = false
 is_at_once (At ticks) = ticks == 0
 
+-- how long it took, and 0 where there is none
+abbrev pub detection_ticks : Detection → ℕ
+detection_ticks Na = 0
+detection_ticks NoTick = 0
+detection_ticks (At ticks) = ticks
+
 -- the times of the detections
 abbrev pub times_of : List PairMeasures → List ℕ
 times_of pairs = filter_map (λ m. detection_time m.detection) pairs
@@ -77,6 +83,10 @@ module _ (layer : ℕ) (r : Finished) where
 
   abbrev pub detections : List ℕ
   detections = times_of counted_pairs
+
+  -- how long each mistake was that ended
+  abbrev pub durations : List ℕ
+  durations = flat_map (λ m. pair_durations r.scenario r.trace layer m.observer m.subject) counted_pairs
 
 -- ---- what its processes decide
 

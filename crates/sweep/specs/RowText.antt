@@ -36,8 +36,8 @@ column_names =
     codes "runs" ∷ codes "limited" ∷ codes "entries" ∷ codes "sent" ∷ codes "lost" ∷ codes "pair_ticks"
     ∷ codes "mistakes" ∷ codes "mistake_ticks" ∷ codes "mistake_recurrence" ∷ codes "mistaken_ppm"
     ∷ codes "mistakes_squared_sum" ∷ codes "runs_with_mistakes" ∷ codes "recurrence_sum" ∷ codes "recurrence_count"
-    ∷ codes "duration_sum" ∷ codes "duration_count" ∷ codes "good_sum" ∷ codes "good_count" ∷ codes "detections"
-    ∷ codes "undetected" ∷ codes "at_once" ∷ codes "detection_sum" ∷ codes "detection_p50" ∷ codes "detection_p90"
+    ∷ codes "duration_sum" ∷ codes "duration_count" ∷ codes "duration_p99" ∷ codes "duration_max" ∷ codes "good_sum"
+    ∷ codes "good_count" ∷ codes "detections" ∷ codes "undetected" ∷ codes "at_once" ∷ codes "detection_sum" ∷ codes "detection_p50" ∷ codes "detection_p90"
     ∷ codes "detection_p99" ∷ codes "detection_max" ∷ codes "strong_completeness" ∷ codes "weak_completeness"
     ∷ codes "strong_accuracy" ∷ codes "weak_accuracy" ∷ codes "eventual_strong_accuracy"
     ∷ codes "eventual_weak_accuracy" ∷ codes "to_decide" ∷ codes "decided" ∷ codes "decision_tick_sum"
@@ -62,14 +62,14 @@ mistake_fields c =
     ∷ number_text c.mistake_recurrence ∷ number_text c.mistaken_ppm ∷ decimal c.sums.mistakes_squared_sum
     ∷ decimal c.sums.counts.with_mistakes ∷ []
 
-abbrev pub period_fields : PairSums → List Text
-period_fields s =
+abbrev pub period_fields : PairSums → (durations : Distribution) → List Text
+period_fields s d =
     decimal s.recurrence_sum ∷ decimal s.recurrence_count ∷ decimal s.duration_sum ∷ decimal s.duration_count
-    ∷ decimal s.good_sum ∷ decimal s.good_count ∷ []
+    ∷ number_text d.p99 ∷ number_text d.greatest ∷ decimal s.good_sum ∷ decimal s.good_count ∷ []
 
 abbrev pub detection_fields : PairSums → Distribution → List Text
 detection_fields s d =
-    decimal d.count ∷ decimal s.undetected ∷ decimal s.at_once ∷ decimal d.sum ∷ number_text d.p50 ∷ number_text d.p90
+    decimal d.count ∷ decimal s.undetected ∷ decimal s.at_once ∷ decimal s.detection_sum ∷ number_text d.p50 ∷ number_text d.p90
     ∷ number_text d.p99 ∷ number_text d.greatest ∷ []
 
 abbrev pub verdict_fields : VerdictCounts → List Text
@@ -100,7 +100,7 @@ abbrev pub done_fields : Columns → List Text
 done_fields c =
     trace_fields c.sums.traces
     ++ mistake_fields c
-    ++ period_fields c.sums.pairs
+    ++ period_fields c.sums.pairs c.durations
     ++ detection_fields c.sums.pairs c.detections
     ++ verdict_fields c.sums.verdicts
     ++ decision_fields c.sums

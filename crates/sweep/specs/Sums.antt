@@ -10,7 +10,7 @@ use Rattle.reporting.specs.declared.pair_measures.PairMeasures.{PairMeasures}
 use Rattle.reporting.specs.declared.summary.Summary.{Summary}
 use Rattle.scenario_record.specs.Ranges.{IsInRange}
 use Rattle.scenario_record.specs.Record.{Record}
-use Rattle.sweep.specs.Columns.{AreLayerSums, AreFirstRuns, all_detections, last_decisions, top_rounds}
+use Rattle.sweep.specs.Columns.{AreLayerSums, AreFirstRuns, all_durations, all_detections, last_decisions, top_rounds}
 use Rattle.sweep.specs.Counted.{AreCounted}
 use Rattle.sweep.specs.Fitting.{IsLayerWithin, most_runs, most_of, most_pairs, most_mistakes}
 use Rattle.sweep.specs.Results.{Trial}
@@ -44,12 +44,15 @@ module _ (layer : ℕ) (trials : List Trial) where
   -- what the runs give
   pub record AreLayerNumbers (n : LayerNumbers) : Type 0 where
     pub fitting : AreFitting n.sums
+    pub durations : n.durations.items ≡ all_durations layer trials
     pub detections : n.detections.items ≡ all_detections layer trials
     pub last_decision : cons_option n.last_decision [] ≡ last_decisions layer trials
     pub top_round : cons_option n.top_round [] ≡ top_rounds layer trials
 
   -- what was counted of them
   pub record AreLayerValues (v : LayerValues) : Type 0 where
+    pub lasted : AreCounted (all_durations layer trials) v.durations
+    pub few_lasted : length (all_durations layer trials) ≤ length trials * 2 ^ 64
     pub detected : AreCounted (all_detections layer trials) v.detections
     pub decided : AreCounted (last_decisions layer trials) v.last_decisions
     pub rounds : AreCounted (top_rounds layer trials) v.rounds

@@ -37,6 +37,7 @@ impl PairSums {
         good_count: 0,
         undetected: 0,
         at_once: 0,
+        detection_sum: 0,
     };
 
     pub(crate) fn plus(self, more: PairSums) -> PairSums
@@ -53,6 +54,7 @@ impl PairSums {
             good_count: self.good_count.saturating_add(more.good_count),
             undetected: self.undetected.saturating_add(more.undetected),
             at_once: self.at_once.saturating_add(more.at_once),
+            detection_sum: self.detection_sum.saturating_add(more.detection_sum),
         }
     }
 }

@@ -38,6 +38,8 @@ pub struct PairSums {
     pub undetected: u128,
     /// How many crashes were suspected for good by the tick of the crash.
     pub at_once: u128,
+    /// From the crash of a process to the suspicion that lasts to the horizon.
+    pub detection_sum: u128,
 }
 
 /// In how many runs each verdict holds. One that gives a tick holds where there is a tick.
@@ -90,8 +92,6 @@ pub struct RunCounts {
 pub struct Distribution {
     /// How many values there are, without infinite ones.
     pub count: u128,
-    /// Their sum.
-    pub sum: u128,
     /// The least of them which half of all are at most.
     pub p50: Option<u128>,
     /// The least of them which 90 in 100 of all are at most.
@@ -145,6 +145,8 @@ pub struct Columns {
     pub mistake_recurrence: Option<u128>,
     /// How many of a million of these ticks a process was suspected by mistake for, rounded down; none without a tick.
     pub mistaken_ppm: Option<u128>,
+    /// How long each mistake was that ended, in ticks.
+    pub durations: Distribution,
     /// The times from the crash of a process to the suspicion by another that lasts to the horizon, in ticks. A
     /// suspicion that didn't come has an infinite one.
     pub detections: Distribution,

@@ -47,8 +47,8 @@ fn measure_scenario(alloc: Global, scenario: &Scenario) -> Result<RunNumbers, Al
         },
     )?;
     match measure_list(alloc, scenario, machines) {
-        Ok(findings) => {
-            let numbers = RunNumbers::of_run(alloc, scenario, &findings)?;
+        Ok((findings, durations)) => {
+            let numbers = RunNumbers::of_run(alloc, scenario, &findings, &durations)?;
             Ok(numbers)
         }
         Err(RunError::Limit) => Ok(RunNumbers::of_limited(alloc, scenario)),

@@ -1,16 +1,17 @@
 //! The pairs of a run that count, and what they add up to.
 ghost use Rattle.std.specs.Prelude.{◌≡◌, ◌≤◌, ◌*◌, ◌^◌, length, IfOk};
-ghost use Rattle.std.specs.List.{sum_by};
+ghost use Rattle.std.specs.List.{flat_map, sum_by};
 ghost use Rattle.judges.specs.Crashes.{end_of};
+ghost use Rattle.reporting.specs.Durations.{lengths_of};
 ghost use Rattle.sweep.specs.Adding.{of_pair};
 ghost use Rattle.sweep.specs.Columns.{ArePairSums};
 ghost use Rattle.sweep.specs.Fitting.{ArePairsWithin};
-ghost use Rattle.sweep.specs.OneRun.{counted_of, counts_on, detection_time, is_at_once, times_of, watch_of};
+ghost use Rattle.sweep.specs.OneRun.{counted_of, counts_on, detection_ticks, detection_time, is_at_once, times_of, watch_of};
 
 use crate::columns::PairSums;
 use judges::end_tick;
 use process_api::{DetectorNumbers, Watch};
-use reporting::{Detection, PairMeasures};
+use reporting::{Detection, Durations, PairMeasures};
 use scenario::Scenario;
 use std::alloc::{AllocError, Global};
 
@@ -78,6 +79,16 @@ fn is_at_once(detection: Detection) -> bool
     }
 }
 
+/// How long the detection of a crash took, in ticks; 0 where there is none.
+fn detection_ticks(detection: Detection) -> u32
+    ensures { result ≡ detection_ticks detection }
+{
+    match detection {
+        Detection::Na | Detection::NoTick => 0,
+        Detection::At(ticks) => ticks,
+    }
+}
+
 /// What a pair adds.
 fn of_pair(pair: &PairMeasures) -> PairSums
     ensures value { result ≡ of_pair pair.now }
@@ -97,6 +108,7 @@ fn of_pair(pair: &PairMeasures) -> PairSums
             Detection::Na | Detection::At(_) => 0,
         },
         at_once: if is_at_once(pair.detection) { 1 } else { 0 },
+        detection_sum: u128::from(detection_ticks(pair.detection)),
     }
 }
 
@@ -113,17 +125,17 @@ pub(crate) fn sum_pairs(pairs: &[PairMeasures]) -> PairSums
 }
 
 /// How long the detection of a crash took, in ticks, where it was detected.
-fn detection_time(detection: Detection) -> Option<u64>
+fn detection_time(detection: Detection) -> Option<u32>
     ensures { result ≡ detection_time detection }
 {
     match detection {
         Detection::Na | Detection::NoTick => None,
-        Detection::At(ticks) => Some(u64::from(ticks)),
+        Detection::At(ticks) => Some(ticks),
     }
 }
 
 /// The times of the detections, in ticks.
-pub(crate) fn detection_times(alloc: Global, pairs: &[PairMeasures]) -> Result<Vec<u64>, AllocError>
+pub(crate) fn detection_times(alloc: Global, pairs: &[PairMeasures]) -> Result<Vec<u32>, AllocError>
     ensures { IfOk result (λ times. times.items ≡ times_of pairs.now) }
 {
     let mut times = Vec::new(alloc);
@@ -134,4 +146,20 @@ pub(crate) fn detection_times(alloc: Global, pairs: &[PairMeasures]) -> Result<V
         }
     }
     Ok(times)
+}
+
+/// How long each mistake of these pairs was that ended, in ticks.
+pub(crate) fn durations_of(
+    alloc: Global,
+    pairs: &[PairMeasures],
+    durations: &Durations,
+) -> Result<Vec<u32>, AllocError>
+    ensures { IfOk result (λ all. all.items
+        ≡ flat_map (λ m. lengths_of durations.now m.observer m.subject) pairs.now) }
+{
+    let mut all = Vec::new(alloc);
+    for pair in pairs {
+        all.extend_from_slice(durations.of(pair.observer, pair.subject))?;
+    }
+    Ok(all)
 }

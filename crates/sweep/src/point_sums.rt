@@ -20,6 +20,8 @@ fn over(number: u128, by: u128) -> Option<u128>
 /// What is counted value by value of runs on a layer.
 #[derive(Drop)]
 pub(crate) struct LayerValues {
+    /// How long mistakes were, in ticks.
+    pub durations: ValueCounts,
     /// The times of detections, in ticks.
     pub detections: ValueCounts,
     /// The ticks of the runs' last decisions.
@@ -38,6 +40,7 @@ impl LayerValues {
         ensures { (layer : ℕ) → AreLayerValues layer [] result }
     {
         LayerValues {
+            durations: ValueCounts::new(alloc),
             detections: ValueCounts::new(alloc),
             last_decisions: ValueCounts::new(alloc),
             rounds: ValueCounts::new(alloc),
@@ -51,6 +54,7 @@ impl LayerValues {
             → AreLayerValues layer trials self.old → AreLayerNumbers layer (trial ∷ []) run.now
             → AreLayerValues layer (trials ++ trial ∷ []) self.new) }
     {
+        self.durations.add_all(&run.durations)?;
         self.detections.add_all(&run.detections)?;
         self.last_decisions.add_if_any(run.last_decision)?;
         self.rounds.add_if_any(run.top_round)
@@ -107,6 +111,7 @@ impl LayerTotals {
                 sums.pairs.mistake_ticks.saturating_mul(1_000_000),
                 sums.pair_ticks,
             ),
+            durations: self.values.durations.distribution(0),
             detections: self.values.detections.distribution(sums.pairs.undetected),
             last_decisions: self.values.last_decisions.distribution(undecided),
             rounds: self.values.rounds.distribution(0),
@@ -115,8 +120,8 @@ impl LayerTotals {
     }
 }
 
-/// The sums of a point, over the runs that were added. Memory grows with how many different detection times, ticks of
-/// last decisions and rounds there are, and not with the runs.
+/// The sums of a point, over the runs that were added. Memory grows with how many different lengths of mistakes,
+/// detection times, ticks of last decisions and rounds there are, and not with the runs.
 #[derive(Drop)]
 pub struct PointSums {
     first: LayerTotals,

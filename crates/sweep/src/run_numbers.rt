@@ -1,6 +1,7 @@
 //! What one run gives to the sums of its point.
 ghost use Rattle.std.specs.Prelude.{◌≡◌, ◌≤◌, ◌*◌, ◌^◌, ◌∷◌, [], ℕ, List, length, IfOk, is_some, None, true, false};
 ghost use Rattle.process_api.specs.EntryRecord.{EntryRecord};
+ghost use Rattle.reporting.specs.Durations.{AreDurations};
 ghost use Rattle.reporting.specs.Measured.{AreFindings, MeasuresRun};
 ghost use Rattle.reporting.specs.Measures.{layer_measures};
 ghost use Rattle.reporting.specs.declared.pair_measures.PairMeasures.{PairMeasures as PairRecord};
@@ -17,9 +18,9 @@ use crate::columns::{DecisionSums, LayerSums, RunCounts, TraceSums, VerdictCount
 use crate::decisions::{
     deciding_of, do_all_decide, do_disagree, last_decision, sum_decisions, top_round,
 };
-use crate::pairs::{counted_of, detection_times, sum_ends, sum_pairs};
+use crate::pairs::{counted_of, detection_times, durations_of, sum_ends, sum_pairs};
 use judges::Verdicts;
-use reporting::{PairMeasures, RunFindings, Summary};
+use reporting::{Durations, PairMeasures, RunDurations, RunFindings, Summary};
 use scenario::Scenario;
 use std::alloc::{AllocError, Global};
 
@@ -81,8 +82,10 @@ fn sums_of_run(
 #[derive(Drop)]
 pub(crate) struct LayerNumbers {
     pub sums: LayerSums,
+    /// How long its mistakes were, in ticks.
+    pub durations: Vec<u32>,
     /// The times of its detections, in ticks.
-    pub detections: Vec<u64>,
+    pub detections: Vec<u32>,
     /// The tick of its last decision, if it has one.
     pub last_decision: Option<u64>,
     /// The greatest round that a process noted, if one did.
@@ -95,12 +98,14 @@ impl LayerNumbers {
     /// Of a run of which nothing is counted value by value.
     fn of_sums(alloc: Global, sums: LayerSums) -> LayerNumbers
         ensures sums { result.sums ≡ sums }
+        ensures durations { result.durations.items ≡ [] }
         ensures detections { result.detections.items ≡ [] }
         ensures last_decision { result.last_decision ≡ None }
         ensures top_round { result.top_round ≡ None }
     {
         LayerNumbers {
             sums,
+            durations: Vec::new(alloc),
             detections: Vec::new(alloc),
             last_decision: None,
             top_round: None,
@@ -128,7 +133,7 @@ impl LayerNumbers {
         LayerNumbers::of_sums(alloc, sums)
     }
 
-    /// Of a run that is done: its summary, and its verdicts and measures on this layer.
+    /// Of a run that is done: its summary, and its verdicts, its measures and how long its mistakes were on this layer.
     fn of_run(
         alloc: Global,
         scenario: &Scenario,
@@ -136,17 +141,21 @@ impl LayerNumbers {
         summary: &Summary,
         verdicts: &Verdicts,
         pairs: &[PairMeasures],
+        durations: &Durations,
     ) -> Result<LayerNumbers, AllocError>
         ensures { IfOk result (λ n. (trace : List EntryRecord) → has_layer layer scenario.now ≡ true
             → AreLayerFindings layer scenario.now trace summary.now verdicts.now pairs.now
+            → AreDurations scenario.now layer trace durations.now
             → AreLayerNumbers layer (record { scenario = scenario.now; result = finished trace } ∷ []) n) }
     {
         let counted = counted_of(alloc, scenario, layer, pairs)?;
         let deciding = deciding_of(alloc, scenario, &summary.outcomes)?;
+        let durations = durations_of(alloc, &counted, durations)?;
         let detections = detection_times(alloc, &counted)?;
         let decisions = sum_decisions(&deciding);
         Ok(LayerNumbers {
             sums: sums_of_run(scenario, summary, verdicts, &counted, decisions),
+            durations,
             detections,
             last_decision: last_decision(decisions),
             top_round: top_round(&summary.outcomes),
@@ -194,19 +203,29 @@ impl RunNumbers {
         alloc: Global,
         scenario: &Scenario,
         findings: &RunFindings,
+        durations: &RunDurations,
     ) -> Result<RunNumbers, AllocError>
-        ensures { IfOk result (λ n. (found : MeasuresRun scenario.now findings.now)
+        ensures { IfOk result (λ n. (found : MeasuresRun scenario.now findings.now durations.now)
             → AreNumbers (record { scenario = scenario.now; result = finished found.trace }) n) }
     {
         let _shared = is_shared(scenario);
         let summary = &findings.summary;
         let (first, second) = findings.measures.split_at(pairs_on_first(findings));
         Ok(RunNumbers {
-            first: LayerNumbers::of_run(alloc, scenario, 1, summary, &findings.first, first)?,
+            first: LayerNumbers::of_run(
+                alloc,
+                scenario,
+                1,
+                summary,
+                &findings.first,
+                first,
+                &durations.first,
+            )?,
             second: match &findings.second {
                 None => LayerNumbers::of_none(alloc),
                 Some(verdicts) => {
-                    LayerNumbers::of_run(alloc, scenario, 2, summary, verdicts, second)?
+                    let lasted = &durations.second;
+                    LayerNumbers::of_run(alloc, scenario, 2, summary, verdicts, second, lasted)?
                 }
             },
         })

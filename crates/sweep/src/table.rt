@@ -7,7 +7,7 @@ ghost use Rattle.sweep.specs.Results.{Trial};
 ghost use Rattle.sweep.specs.RowText.{Text, column_names, column_fields, trace_fields, mistake_fields, period_fields, detection_fields, verdict_fields, decision_fields, last_fields, run_fields, told_fields, header_text, layer_text, line_text, picked, AreRowsFor};
 ghost use Rattle.sweep.specs.StudyText.{names_of as names_in, unit_point, lead_of, values};
 
-use crate::columns::{Columns, Distribution, LayerSums, PairSums, VerdictCounts};
+use crate::columns::{Columns, LayerSums, VerdictCounts};
 use crate::fields::Fields;
 use crate::layout::{Layout, Rows};
 use crate::names::{names_of, push_names};
@@ -19,64 +19,65 @@ use std::alloc::{AllocError, Global};
 use study::{Choice, Grid};
 
 /// The names of the columns, in order.
+const COLUMN_NAMES: [&str; 50] = [
+    "runs",
+    "limited",
+    "entries",
+    "sent",
+    "lost",
+    "pair_ticks",
+    "mistakes",
+    "mistake_ticks",
+    "mistake_recurrence",
+    "mistaken_ppm",
+    "mistakes_squared_sum",
+    "runs_with_mistakes",
+    "recurrence_sum",
+    "recurrence_count",
+    "duration_sum",
+    "duration_count",
+    "duration_p99",
+    "duration_max",
+    "good_sum",
+    "good_count",
+    "detections",
+    "undetected",
+    "at_once",
+    "detection_sum",
+    "detection_p50",
+    "detection_p90",
+    "detection_p99",
+    "detection_max",
+    "strong_completeness",
+    "weak_completeness",
+    "strong_accuracy",
+    "weak_accuracy",
+    "eventual_strong_accuracy",
+    "eventual_weak_accuracy",
+    "to_decide",
+    "decided",
+    "decision_tick_sum",
+    "decision_tick_max",
+    "all_decided",
+    "last_decision_p50",
+    "last_decision_p90",
+    "last_decision_p99",
+    "last_decision_max",
+    "rounds_p50",
+    "rounds_p99",
+    "rounds_max",
+    "disagreements",
+    "mistake_run",
+    "detection_max_run",
+    "disagreement_run",
+];
+
+/// Adds the names of the columns.
 #[tactic(auto, unfolding(crate::specs::RowText::column_names))]
 pub(crate) fn push_column_names(alloc: Global, names: &mut Vec<String>) -> Result<(), AllocError>
     ensures { OnOk result (map string_bytes names.new.items ≡ map string_bytes names.old.items ++ column_names) }
 {
-    push_names(
-        alloc,
-        names,
-        &[
-            "runs",
-            "limited",
-            "entries",
-            "sent",
-            "lost",
-            "pair_ticks",
-            "mistakes",
-            "mistake_ticks",
-            "mistake_recurrence",
-            "mistaken_ppm",
-            "mistakes_squared_sum",
-            "runs_with_mistakes",
-            "recurrence_sum",
-            "recurrence_count",
-            "duration_sum",
-            "duration_count",
-            "good_sum",
-            "good_count",
-            "detections",
-            "undetected",
-            "at_once",
-            "detection_sum",
-            "detection_p50",
-            "detection_p90",
-            "detection_p99",
-            "detection_max",
-            "strong_completeness",
-            "weak_completeness",
-            "strong_accuracy",
-            "weak_accuracy",
-            "eventual_strong_accuracy",
-            "eventual_weak_accuracy",
-            "to_decide",
-            "decided",
-            "decision_tick_sum",
-            "decision_tick_max",
-            "all_decided",
-            "last_decision_p50",
-            "last_decision_p90",
-            "last_decision_p99",
-            "last_decision_max",
-            "rounds_p50",
-            "rounds_p99",
-            "rounds_max",
-            "disagreements",
-            "mistake_run",
-            "detection_max_run",
-            "disagreement_run",
-        ],
-    )
+    push_names(alloc, names, &COLUMN_NAMES)
 }
 
 /// The sums of traces, and what is told of mistakes.
@@ -102,27 +103,28 @@ fn push_mistakes(fields: &mut Fields, columns: &Columns) -> Result<(), AllocErro
 }
 
 /// The times between mistakes and those of mistakes, and the detections.
-fn push_times(
-    fields: &mut Fields,
-    sums: &PairSums,
-    detections: &Distribution,
-) -> Result<(), AllocError>
+fn push_times(fields: &mut Fields, columns: &Columns) -> Result<(), AllocError>
     requires { AreWhole fields.old }
     ensures whole { OnOk result (AreWhole fields.new) }
     ensures fields { OnOk result (texts_of fields.new
-        ≡ texts_of fields.old ++ (period_fields sums.now ++ detection_fields sums.now detections.now)) }
+        ≡ texts_of fields.old ++ (period_fields columns.now.sums.pairs columns.now.durations
+        ++ detection_fields columns.now.sums.pairs columns.now.detections)) }
 {
+    let sums = &columns.sums.pairs;
+    let detections = &columns.detections;
     fields.push_options(&[
         Some(sums.recurrence_sum),
         Some(sums.recurrence_count),
         Some(sums.duration_sum),
         Some(sums.duration_count),
+        columns.durations.p99,
+        columns.durations.greatest,
         Some(sums.good_sum),
         Some(sums.good_count),
         Some(detections.count),
         Some(sums.undetected),
         Some(sums.at_once),
-        Some(detections.sum),
+        Some(sums.detection_sum),
         detections.p50,
         detections.p90,
         detections.p99,
@@ -191,7 +193,7 @@ fn push_pairs(fields: &mut Fields, columns: &Columns) -> Result<(), AllocError>
     ensures fields { OnOk result (texts_of fields.new ≡ texts_of fields.old ++ pair_fields columns.now) }
 {
     push_mistakes(fields, columns)?;
-    push_times(fields, &columns.sums.pairs, &columns.detections)
+    push_times(fields, columns)
 }
 
 /// The verdicts, and what is told of decisions and runs.
@@ -212,7 +214,7 @@ fn push_done(fields: &mut Fields, columns: &Columns) -> Result<(), AllocError>
     ensures fields { OnOk result (texts_of fields.new ≡ texts_of fields.old ++ told_fields columns.now) }
 {
     if columns.sums.limited == columns.sums.runs {
-        return fields.push_empty(46);
+        return fields.push_empty(48);
     }
     push_pairs(fields, columns)?;
     push_outcomes(fields, columns)

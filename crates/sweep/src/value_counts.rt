@@ -3,6 +3,7 @@ ghost use Rattle.std.specs.Prelude.{◌≡◌, ◌<◌, ◌≤◌, ◌^◌, ◌+
 ghost use Rattle.std.specs.List.{cons_option};
 ghost use Rattle.sweep.specs.Adding.{is_above};
 ghost use Rattle.sweep.specs.Columns.{IsDistribution};
+ghost use Rattle.sweep.specs.Fitting.{most_values};
 ghost use Rattle.sweep.specs.Percentile.{IsPercentile, greater};
 
 use crate::columns::Distribution;
@@ -44,11 +45,9 @@ pub(crate) fn wide(number: Option<u64>) -> Option<u128>
 #[derive(Drop)]
 pub(crate) struct ValueCounts {
     /// How often each value came.
-    pub counts: BTreeMap<u64, u64>,
+    pub counts: BTreeMap<u64, u128>,
     /// How many values there are.
-    pub total: u64,
-    /// Their sum.
-    pub sum: u128,
+    pub total: u128,
     /// The greatest of them.
     pub greatest: Option<u64>,
 }
@@ -63,38 +62,36 @@ impl ValueCounts {
         ValueCounts {
             counts: BTreeMap::new(alloc),
             total: 0,
-            sum: 0,
             greatest: None,
         }
     }
 
     /// One more value.
     fn add(&mut self, value: u64) -> Result<(), AllocError>
-        ensures { OnOk result ((values : List ℕ) → length values < 2 ^ 60 → AreCounted values self.old
+        ensures { OnOk result ((values : List ℕ) → length values < most_values → AreCounted values self.old
             → AreCounted (values ++ value ∷ []) self.new) }
     {
         let had = self.counts.get(&value).copied().unwrap_or(0);
         self.counts.insert(value, had.saturating_add(1))?;
         self.total = self.total.saturating_add(1);
-        self.sum = self.sum.saturating_add(u128::from(value));
         self.greatest = greater(self.greatest, Some(value));
         Ok(())
     }
 
     /// More values.
-    pub(crate) fn add_all(&mut self, more: &[u64]) -> Result<(), AllocError>
-        ensures { OnOk result ((values : List ℕ) → length values + length more.now < 2 ^ 60
+    pub(crate) fn add_all(&mut self, more: &[u32]) -> Result<(), AllocError>
+        ensures { OnOk result ((values : List ℕ) → length values + length more.now < most_values
             → AreCounted values self.old → AreCounted (values ++ more.now) self.new) }
     {
         for value in more {
-            self.add(*value)?;
+            self.add(u64::from(*value))?;
         }
         Ok(())
     }
 
     /// One more value, if there is one.
     pub(crate) fn add_if_any(&mut self, value: Option<u64>) -> Result<(), AllocError>
-        ensures { OnOk result ((values : List ℕ) → length values < 2 ^ 60 → AreCounted values self.old
+        ensures { OnOk result ((values : List ℕ) → length values < most_values → AreCounted values self.old
             → AreCounted (values ++ cons_option value []) self.new) }
     {
         match value {
@@ -108,18 +105,19 @@ impl ValueCounts {
     fn percentile(&self, hundredths: u8, infinite: u128) -> Option<u128>
         requires low { 1 ≤ hundredths }
         requires high { hundredths ≤ 100 }
-        ensures { (values : List ℕ) → infinite < 2 ^ 64 → AreCounted values self.now
+        ensures { (values : List ℕ) → length values < most_values → infinite < 2 ^ 64 → AreCounted values self.now
             → IsPercentile hundredths values infinite result }
     {
-        let all = u128::from(self.total).saturating_add(infinite);
+        let all = self.total.saturating_add(infinite);
         let wanted = u128::from(hundredths).saturating_mul(all);
         if wanted == 0 {
             return None;
         }
-        let mut seen = 0u64;
+        let mut seen = 0u128;
         for (value, count) in self.counts.iter() {
             seen = seen.saturating_add(*count);
-            if wanted <= 100 * u128::from(seen) {
+            let reached = seen.saturating_mul(100);
+            if wanted <= reached {
                 return Some(u128::from(*value));
             }
         }
@@ -128,12 +126,11 @@ impl ValueCounts {
 
     /// What is told of the values, where so many infinite ones come last.
     pub(crate) fn distribution(&self, infinite: u128) -> Distribution
-        ensures { (values : List ℕ) → infinite < 2 ^ 64 → AreCounted values self.now
+        ensures { (values : List ℕ) → length values < most_values → infinite < 2 ^ 64 → AreCounted values self.now
             → IsDistribution values infinite result }
     {
         Distribution {
-            count: u128::from(self.total),
-            sum: self.sum,
+            count: self.total,
             p50: self.percentile(50, infinite),
             p90: self.percentile(90, infinite),
             p99: self.percentile(99, infinite),

@@ -2,17 +2,22 @@
 use crate::boxed::all_machines;
 use crate::comparisons::same;
 use crate::findings::{Quiet, are_quiet, outcome, without_mistake};
-use crate::traces::scenario_of;
+use crate::traces::{pid, scenario_of};
 use event_list::RunError;
 use judges::{Answer, Outcome, Verdicts};
-use reporting::{Detection, RunFindings, measure_list};
+use reporting::{Detection, RunDurations, RunFindings, measure_list};
 use scenario::{Scenario, read_scenario};
 use std::alloc::Global;
 use std::process::Abort;
 
 /// What is measured of a run.
-fn found_of(alloc: Global, scenario: &Scenario) -> Result<RunFindings, RunError> {
+fn measured(alloc: Global, scenario: &Scenario) -> Result<(RunFindings, RunDurations), RunError> {
     measure_list(alloc, scenario, all_machines(alloc, scenario)?)
+}
+
+fn found_of(alloc: Global, scenario: &Scenario) -> Result<RunFindings, RunError> {
+    let (found, _durations) = measured(alloc, scenario)?;
+    Ok(found)
 }
 
 const ONE_CRASH: &str = "version = 1
@@ -160,4 +165,39 @@ fn limits(rt: HostRuntime) {
         let entries = found_of(alloc, &scenario).map(|found| found.summary.entries);
         same(&rt, &entries, &wanted);
     }
+}
+
+const TOO_EARLY: &str = "version = 1
+processes = 2
+horizon = 20
+lookahead = 2
+seed = 1
+algorithm = \"none\"
+detector = { period = 6, check = 1, timeout = 3, grow = 1 }
+link = { min = 2, max = 2 }
+";
+
+/// How long the mistakes were of process 1 about process 2, and the other way round, in the run of this file; and none
+/// about itself.
+fn are_durations<R: Abort>(rt: &R, alloc: Global, text: &str, ticks: [&[u32]; 2]) {
+    let scenario = read_scenario(alloc, text.as_bytes()).expect(rt, "not a scenario");
+    let (_found, durations) = measured(alloc, &scenario).expect(rt, "no run");
+    let (one, two) = (pid(rt, 1), pid(rt, 2));
+    for (observer, subject, ticks) in [(one, two, ticks[0]), (two, one, ticks[1])] {
+        same(rt, &durations.first.of(observer, subject), &ticks);
+        same(rt, &durations.first.of(observer, observer).len(), &0);
+        same(rt, &durations.second.of(observer, subject).len(), &0);
+    }
+}
+
+/// Letters come at ticks 2, 8 and 14. After 3 ticks of silence each process suspects the other at tick 5, then after 4
+/// at tick 12, and after 5 at tick 19, which lasts to the horizon. Where one crashes at tick 14, the second mistake ends
+/// too late.
+#[test]
+fn two_mistakes(rt: HostRuntime) {
+    let alloc = rt.alloc();
+    are_durations(&rt, alloc, TOO_EARLY, [&[3, 2], &[3, 2]]);
+    let crash = format!(in alloc; "{TOO_EARLY}crash = [{{ process = 2, at = 14 }}]\n");
+    let crash = crash.expect(&rt, "no memory");
+    are_durations(&rt, alloc, crash.as_str(), [&[3], &[3]]);
 }

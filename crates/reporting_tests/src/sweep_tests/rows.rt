@@ -4,7 +4,7 @@ use crate::comparisons::same;
 use crate::findings::{outcome, quiet, without_mistake};
 use crate::traces::{CRASH_AT_3, scenario_of};
 use judges::Answer;
-use reporting::{Detection, RunFindings, Summary};
+use reporting::{Detection, Durations, RunDurations, RunFindings, Summary};
 use scenario::Scenario;
 use std::alloc::Global;
 use std::process::Abort;
@@ -15,7 +15,7 @@ use sweep::{PointSums, Rows, RunNumbers, Table};
 pub const HEADER: &str =
     "layer,runs,limited,entries,sent,lost,pair_ticks,mistakes,mistake_ticks,mistake_recurrence,mistaken_ppm,\
      mistakes_squared_sum,runs_with_mistakes,recurrence_sum,recurrence_count,duration_sum,duration_count,\
-     good_sum,good_count,detections,undetected,at_once,detection_sum,detection_p50,detection_p90,\
+     duration_p99,duration_max,good_sum,good_count,detections,undetected,at_once,detection_sum,detection_p50,detection_p90,\
      detection_p99,detection_max,strong_completeness,weak_completeness,strong_accuracy,weak_accuracy,\
      eventual_strong_accuracy,eventual_weak_accuracy,to_decide,decided,decision_tick_sum,decision_tick_max,\
      all_decided,last_decision_p50,last_decision_p90,last_decision_p99,last_decision_max,rounds_p50,\
@@ -64,6 +64,32 @@ pub fn one_crash<R: Abort>(
     }
 }
 
+/// How long each mistake was on a layer of so many processes, by observer and then by subject; of pairs that come after
+/// these there was none.
+pub fn durations<R: Abort>(rt: &R, alloc: Global, processes: u16, lengths: &[&[u32]]) -> Durations {
+    let mut pairs = Vec::new(alloc);
+    for ticks in lengths {
+        let mut pair = Vec::new(alloc);
+        pair.extend_from_slice(ticks).expect(rt, "no memory");
+        pairs.push(pair).expect(rt, "no memory");
+    }
+    Durations { processes, pairs }
+}
+
+/// What a run without a mistake that ended gives.
+pub fn run_of<R: Abort>(
+    rt: &R,
+    alloc: Global,
+    scenario: &Scenario,
+    found: &RunFindings,
+) -> RunNumbers {
+    let none = RunDurations {
+        first: durations(rt, alloc, 2, &[]),
+        second: durations(rt, alloc, 2, &[]),
+    };
+    RunNumbers::of_run(alloc, scenario, found, &none).expect(rt, "no memory")
+}
+
 /// What the run of one crash gives, with this detection.
 pub fn crash_run<R: Abort>(
     rt: &R,
@@ -72,7 +98,7 @@ pub fn crash_run<R: Abort>(
     detection: Detection,
 ) -> RunNumbers {
     let found = one_crash(rt, alloc, tick, detection);
-    RunNumbers::of_run(alloc, &crash_at_3(rt, alloc), &found).expect(rt, "no memory")
+    run_of(rt, alloc, &crash_at_3(rt, alloc), &found)
 }
 
 /// The grid that varies the axes that these words say, with one seed.

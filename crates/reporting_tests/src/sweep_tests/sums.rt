@@ -1,11 +1,14 @@
 //! The rows of points whose runs are worked by hand.
-use super::rows::{are_rows, crash_at_3, crash_run, grid_of, is_same, is_text, one_crash, rows_of};
+use super::rows::{
+    are_rows, crash_at_3, crash_run, durations, grid_of, is_same, is_text, one_crash, rows_of,
+    run_of,
+};
 use super::studies::layout_of;
 use crate::comparisons::same;
 use crate::findings::{outcome, quiet, without_mistake};
 use crate::traces::scenario_of;
 use judges::Answer;
-use reporting::{Detection, PairMeasures, RunFindings};
+use reporting::{Detection, PairMeasures, RunDurations, RunFindings};
 use scenario::read_scenario;
 use std::alloc::Global;
 use std::process::Abort;
@@ -22,7 +25,7 @@ fn one_crash_runs(rt: HostRuntime) {
         alloc,
         &[crash_run(&rt, alloc, Some(9), Detection::At(6))],
         "5",
-        "5,1,1,0,12,4,0,6,0,0,,0,0,0,0,0,0,0,0,0,1,0,0,6,6,6,6,6,1,1,1,1,1,1,0,0,0,,0,,,,,,,,0,,1,\n",
+        "5,1,1,0,12,4,0,6,0,0,,0,0,0,0,0,0,0,,,0,0,1,0,0,6,6,6,6,6,1,1,1,1,1,1,0,0,0,,0,,,,,,,,0,,1,\n",
     );
     let scenario = crash_at_3(&rt, alloc);
     let runs = [
@@ -36,14 +39,14 @@ fn one_crash_runs(rt: HostRuntime) {
         alloc,
         &runs,
         "-8",
-        "-8,1,4,1,36,12,0,18,0,0,,0,0,0,0,0,0,0,0,0,2,1,0,10,6,,,6,2,2,3,3,3,3,0,0,0,,0,,,,,,,,0,,1,\n",
+        "-8,1,4,1,36,12,0,18,0,0,,0,0,0,0,0,0,0,,,0,0,2,1,0,10,6,,,6,2,2,3,3,3,3,0,0,0,,0,,,,,,,,0,,1,\n",
     );
     are_rows(
         &rt,
         alloc,
         &[RunNumbers::of_limited(alloc, &scenario)],
         "5",
-        "5,1,1,1,,,,,,,,,,,,,,,,,,,,,,,,,,,,,,,,,,,,,,,,,,,,,,\n",
+        "5,1,1,1,,,,,,,,,,,,,,,,,,,,,,,,,,,,,,,,,,,,,,,,,,,,,,,,\n",
     );
 }
 
@@ -81,7 +84,11 @@ fn shared<R: Abort>(rt: &R, alloc: Global) -> RunFindings {
 fn two_layers(rt: HostRuntime) {
     let alloc = rt.alloc();
     let with = scenario_of(&rt, alloc, 2, 10, SHARED);
-    let shared = RunNumbers::of_run(alloc, &with, &shared(&rt, alloc));
+    let lasted = RunDurations {
+        first: durations(&rt, alloc, 2, &[&[], &[2]]),
+        second: durations(&rt, alloc, 2, &[&[9], &[]]),
+    };
+    let shared = RunNumbers::of_run(alloc, &with, &shared(&rt, alloc), &lasted);
     let runs = [
         shared.expect(&rt, "no memory"),
         crash_run(&rt, alloc, Some(7), Detection::At(4)),
@@ -91,16 +98,16 @@ fn two_layers(rt: HostRuntime) {
         alloc,
         &runs,
         "5",
-        "5,1,2,0,24,8,0,12,1,2,12,166666,1,1,0,0,2,1,0,0,2,0,0,10,4,6,6,6,2,2,2,2,2,2,0,0,0,,0,,,,,,,,0,1,1,\n\
-         5,2,1,0,12,4,0,6,0,0,,0,0,0,0,0,0,0,0,0,0,1,0,0,,,,,0,0,1,1,1,1,0,0,0,,0,,,,,,,,0,,,\n",
+        "5,1,2,0,24,8,0,12,1,2,12,166666,1,1,0,0,2,1,2,2,0,0,2,0,0,10,4,6,6,6,2,2,2,2,2,2,0,0,0,,0,,,,,,,,0,1,1,\n\
+         5,2,1,0,12,4,0,6,0,0,,0,0,0,0,0,0,0,,,0,0,0,1,0,0,,,,,0,0,1,1,1,1,0,0,0,,0,,,,,,,,0,,,\n",
     );
     are_rows(
         &rt,
         alloc,
         &[RunNumbers::of_limited(alloc, &with)],
         "5",
-        "5,1,1,1,,,,,,,,,,,,,,,,,,,,,,,,,,,,,,,,,,,,,,,,,,,,,,\n\
-         5,2,1,1,,,,,,,,,,,,,,,,,,,,,,,,,,,,,,,,,,,,,,,,,,,,,,\n",
+        "5,1,1,1,,,,,,,,,,,,,,,,,,,,,,,,,,,,,,,,,,,,,,,,,,,,,,,,\n\
+         5,2,1,1,,,,,,,,,,,,,,,,,,,,,,,,,,,,,,,,,,,,,,,,,,,,,,,,\n",
     );
 }
 
@@ -150,15 +157,15 @@ fn decisions(rt: HostRuntime) {
             outcome(&rt, 3, third),
         ];
         found.summary.outcomes = Vec::from_array(alloc, outcomes).expect(&rt, "no memory");
-        let run = RunNumbers::of_run(alloc, &scenario, &found).expect(&rt, "no memory");
-        runs.push(run).expect(&rt, "no memory");
+        runs.push(run_of(&rt, alloc, &scenario, &found))
+            .expect(&rt, "no memory");
     }
     are_rows(
         &rt,
         alloc,
         &runs,
         "5",
-        "5,1,3,0,36,12,0,60,0,0,,0,0,0,0,0,0,0,0,0,0,0,0,0,,,,,3,3,3,3,3,3,6,4,17,6,1,,,,6,3,5,5,1,,,2\n",
+        "5,1,3,0,36,12,0,60,0,0,,0,0,0,0,0,0,0,,,0,0,0,0,0,0,,,,,3,3,3,3,3,3,6,4,17,6,1,,,,6,3,5,5,1,,,2\n",
     );
 }
 
@@ -215,7 +222,11 @@ fn circle<R: Abort>(rt: &R, alloc: Global) -> RunFindings {
 fn watched_pairs(rt: HostRuntime) {
     let alloc = rt.alloc();
     let scenario = read_scenario(alloc, CIRCLE.as_bytes()).expect(&rt, "not a scenario");
-    let run = RunNumbers::of_run(alloc, &scenario, &circle(&rt, alloc));
+    let lasted = RunDurations {
+        first: durations(&rt, alloc, 3, &[&[], &[], &[3, 4], &[], &[], &[2]]),
+        second: durations(&rt, alloc, 3, &[]),
+    };
+    let run = RunNumbers::of_run(alloc, &scenario, &circle(&rt, alloc), &lasted);
     let runs = [
         RunNumbers::of_limited(alloc, &scenario),
         run.expect(&rt, "no memory"),
@@ -225,7 +236,7 @@ fn watched_pairs(rt: HostRuntime) {
         alloc,
         &runs,
         "5",
-        "5,1,2,1,12,4,0,16,1,2,16,125000,1,1,0,0,2,1,0,0,1,0,1,0,0,0,0,0,1,1,1,1,1,1,0,0,0,,0,,,,,,,,0,2,2,\n",
+        "5,1,2,1,12,4,0,16,1,2,16,125000,1,1,0,0,2,1,2,2,0,0,1,0,1,0,0,0,0,0,1,1,1,1,1,1,0,0,0,,0,,,,,,,,0,2,2,\n",
     );
     let mut sums = PointSums::new(alloc, 7);
     for run in &runs {
@@ -256,7 +267,7 @@ fn lines(rt: HostRuntime) {
         alloc,
         &[],
         "a \"b\"",
-        "\"a \"\"b\"\"\",1,0,0,,,,,,,,,,,,,,,,,,,,,,,,,,,,,,,,,,,,,,,,,,,,,,\n",
+        "\"a \"\"b\"\"\",1,0,0,,,,,,,,,,,,,,,,,,,,,,,,,,,,,,,,,,,,,,,,,,,,,,,,\n",
     );
     is_same(
         &rt,
@@ -266,6 +277,6 @@ fn lines(rt: HostRuntime) {
             &grid_of(&rt, alloc, &[]),
             &PointSums::new(alloc, 1),
         ),
-        "1,0,0,,,,,,,,,,,,,,,,,,,,,,,,,,,,,,,,,,,,,,,,,,,,,,\n",
+        "1,0,0,,,,,,,,,,,,,,,,,,,,,,,,,,,,,,,,,,,,,,,,,,,,,,,,\n",
     );
 }

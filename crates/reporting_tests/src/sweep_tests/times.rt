@@ -1,11 +1,11 @@
 //! Percentiles of the times after which crashes were detected.
-use super::rows::{crash_at_3, one_crash};
+use super::rows::{crash_at_3, one_crash, run_of};
 use crate::comparisons::same;
 use crate::findings::quiet;
 use reporting::Detection::{self, At, NoTick};
 use std::alloc::Global;
 use std::process::Abort;
-use sweep::{Distribution, PointSums, RunNumbers};
+use sweep::{Columns, Distribution, PointSums, RunNumbers};
 
 /// What a run gives in which crashes are detected like this, one for each pair.
 fn run_with<R: Abort>(rt: &R, alloc: Global, detections: &[Detection]) -> RunNumbers {
@@ -14,25 +14,25 @@ fn run_with<R: Abort>(rt: &R, alloc: Global, detections: &[Detection]) -> RunNum
         let pair = quiet(rt, 1, 1, 2, *detection);
         found.measures.push(pair).expect(rt, "no memory");
     }
-    RunNumbers::of_run(alloc, &crash_at_3(rt, alloc), &found).expect(rt, "no memory")
+    run_of(rt, alloc, &crash_at_3(rt, alloc), &found)
 }
 
 /// So many times with this sum, the percentiles 50, 90 and 99, and the greatest.
 fn are_times<R: Abort>(
     rt: &R,
-    times: Distribution,
+    columns: &Columns,
     (count, sum): (u128, u128),
     [p50, p90, p99, greatest]: [Option<u128>; 4],
 ) {
     let wanted = Distribution {
         count,
-        sum,
         p50,
         p90,
         p99,
         greatest,
     };
-    same(rt, &times, &wanted);
+    same(rt, &columns.detections, &wanted);
+    same(rt, &columns.sums.pairs.detection_sum, &sum);
 }
 
 /// The detections of one run, how many have a time and the sum of these, and their percentiles 50, 90 and 99 and the
@@ -80,7 +80,7 @@ fn percentiles(rt: HostRuntime) {
         let mut sums = PointSums::new(alloc, 1);
         let run = run_with(&rt, alloc, detections);
         sums.add(&run).expect(&rt, "no memory");
-        are_times(&rt, sums.first().detections, *counts, *wanted);
+        are_times(&rt, &sums.first(), *counts, *wanted);
     }
     let mut hundred = PointSums::new(alloc, 1);
     for before in 0..100 {
@@ -91,11 +91,11 @@ fn percentiles(rt: HostRuntime) {
     let columns = hundred.first();
     are_times(
         &rt,
-        columns.detections,
+        &columns,
         (100, 5050),
         [Some(50), Some(90), Some(99), Some(100)],
     );
     same(&rt, &columns.first_runs.detection_max, &Some(51));
-    let none = PointSums::new(alloc, 1).first().detections;
-    are_times(&rt, none, (0, 0), [None; 4]);
+    let none = PointSums::new(alloc, 1).first();
+    are_times(&rt, &none, (0, 0), [None; 4]);
 }

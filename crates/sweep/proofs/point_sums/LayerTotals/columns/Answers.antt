@@ -1,8 +1,8 @@
 use Rattle.std.proofs.Common.{◌≡◌, ◌*◌, ◌^◌, ◌<◌, ap, ◌∙◌, subst, arith}
 use Rattle.std.proofs.lemmas.List.Sums.{count_by-le-length}
-use Rattle.sweep.specs.Columns.{IsDistribution, all_detections, last_decisions, top_rounds, done_on, over}
+use Rattle.sweep.specs.Columns.{IsDistribution, all_durations, all_detections, last_decisions, top_rounds, done_on, over}
 use Rattle.sweep.specs.OneRun.{deciding, is_undecided}
-use Rattle.sweep.proofs.Layered.{few_done}
+use Rattle.sweep.proofs.Layered.{few_done, few_decisions, few_rounds}
 use Rattle.sweep.proofs.point_sums.LayerTotals.columns.Goals as goal
 
 pub returns : goal.returns
@@ -17,9 +17,10 @@ returns c layer first trials totals =
       sums = fit.sums;
       mistake_recurrence = c.over.ensures;
       mistaken_ppm = c.over-2.ensures ∙ ap (λ n. over n s.pair_ticks) million;
-      detections = c.distribution.ensures (all_detections layer trials) few_undetected totals.values.detected;
-      last_decisions = subst (λ n. IsDistribution (last_decisions layer trials) n c.distribution-2.result) c.from-undecided.ensures
-          (c.distribution-2.ensures (last_decisions layer trials) few_undecided totals.values.decided);
-      rounds = c.distribution-3.ensures (top_rounds layer trials) (omega arith) totals.values.rounds;
+      durations = c.distribution.ensures (all_durations layer trials) (omega (arith, totals.values.few_lasted, fit.few_runs)) (omega arith) totals.values.lasted;
+      detections = c.distribution-2.ensures (all_detections layer trials) (omega (arith, fit.few_detected, fit.few_runs)) few_undetected totals.values.detected;
+      last_decisions = subst (λ n. IsDistribution (last_decisions layer trials) n c.distribution-3.result) c.from-undecided.ensures
+          (c.distribution-3.ensures (last_decisions layer trials) (omega (arith, few_decisions layer trials, fit.few_runs)) few_undecided totals.values.decided);
+      rounds = c.distribution-4.ensures (top_rounds layer trials) (omega (arith, few_rounds layer trials, fit.few_runs)) (omega arith) totals.values.rounds;
       first_runs = totals.first_runs;
     }

@@ -26,7 +26,7 @@ returns c found =
         lost_high = found.lost_high;
         judged = found.measured.first;
         measured = front;
-      });
+      }) found.lasted.first;
       second = elim c.match-findings.branch [
         | in-None w ↦ rw w.result-is (w.of_none.ensures 2 (record { scenario = S; result = finished found.trace }) (has_second S ∙ alone S found.trace f found.measured w.in-None.is))
         | in-Some+in_ok-of_run-in-Some w ↦
@@ -39,6 +39,6 @@ returns c found =
               lost_high = found.lost_high;
               judged = is.1;
               measured = back ∙ both.2 w.in-Some.verdicts w.in-Some.is;
-            }))
+            }) (found.lasted.second is.0))
       ];
     }

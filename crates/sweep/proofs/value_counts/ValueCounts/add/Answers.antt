@@ -22,7 +22,5 @@ returns c values few told =
       counts = λ test. sum_by_push (λ w. cond (test w) 1 0) values v ∙ ap (λ n. n + cond (test v) 1 0) (told.counts test)
           ∙ sym (ap (passing test) c.in_ok-insert.ensures.entries ∙ passing_more test es v c.saturating_add.result 1 c.in_ok-insert.ensures.was_ordered next);
       total = omega (arith, c.saturating_add-self.ensures, told.total, few, length_push values v);
-      summed = omega (arith, c.saturating_add-self-2.ensures, c.from.ensures, told.summed, told.sum_high, few, sum_by_push (λ w. w) values v);
-      sum_high = omega (arith, told.sum_high, sum_by_push (λ w. w) values v, length_push values v);
       highest = c.greater-self.ensures ∙ ap (λ o. greater o (Some v)) told.highest ∙ sym (greatest_both values (v ∷ []));
     }

@@ -1,7 +1,8 @@
-use Rattle.std.proofs.Common.{ℕ, ◌+◌, ◌^◌, ◌<◌, ◌++◌, List, length, take}
+use Rattle.std.proofs.Common.{ℕ, ◌+◌, ◌<◌, ◌++◌, List, length, take}
 use Rattle.sweep.specs.Counted.{AreCounted}
+use Rattle.sweep.specs.Fitting.{most_values}
 use Rattle.sweep.proofs.value_counts.ValueCounts.add_all.Given as goal
 
 abbrev pub invariant-loop-value : goal.invariant-loop-value
-invariant-loop-value l = (values : List ℕ) → length values + length l.more < 2 ^ 60 → AreCounted values l.initial.self
+invariant-loop-value l = (values : List ℕ) → length values + length l.more < most_values → AreCounted values l.initial.self
     → AreCounted (values ++ take l.value-index l.more) l.self

@@ -8,6 +8,6 @@ invariant-loop-value l = record {
   can : (goal.iterator-loop-value).can_next l.value-iterator;
   finite : (goal.iterator-loop-value).is_finite l.value-iterator;
   walked : l.self.counts.entries ≡ map deref_pair l.yielded ++ l.value-iterator;
-  seen : l.seen ≡ min (counted (map deref_pair l.yielded)) (2 ^ 64 - 1);
+  seen : l.seen ≡ min (counted (map deref_pair l.yielded)) (2 ^ 128 - 1);
   short : 100 * l.seen < l.wanted;
 }

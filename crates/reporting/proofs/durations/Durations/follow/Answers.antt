@@ -1,0 +1,44 @@
+use Rattle.std.proofs.Common.{◌≡◌, ◌+◌, ◌-◌, ◌*◌, false, vec_len, sym, ap, ◌∙◌, refl, subst, arith}
+use Rattle.std.proofs.lemmas.Bool.{eqb-true}
+use Rattle.std.proofs.lemmas.List.{nil_from_length, with_items_is}
+use Rattle.process_api.specs.EntryRecord.{EntryRecord}
+use Rattle.reporting.specs.Durations.{AreCaught, lists_in}
+use Rattle.reporting.proofs.Caught.{follows_quiet, follows_above, follows_caught, same_length}
+use Rattle.reporting.proofs.durations.Durations.follow.Goals as goal
+
+pub returns-then-is_empty : goal.returns-then-is_empty
+returns-then-is_empty c = λ S layer trace h metering.
+    let empty : vec_len c.entry.inside.notes ≡ 0 = eqb-true _ _ (sym c.is_empty.ensures ∙ c.if-is_empty.true) in
+    follows_quiet S layer trace c.args.self.now h c.args.entry.now
+    (sym (ap (λ (e : EntryRecord). e.notes) c.entry.view_is) ∙ nil_from_length c.entry.inside.notes.items (omega (arith, empty, c.entry.inside.notes.ok.0)))
+
+pub returns-in_ok-catch_up : goal.returns-in_ok-catch_up
+returns-in_ok-catch_up c = λ S layer trace h metering.
+    let d = c.args.self.now in
+    let e = c.args.entry.now in
+    let pairs = c.args.panel.now.pairs in
+    let receiver : c.number.result ≡ e.key.receiver = c.number.ensures.value ∙ ap (λ (x : EntryRecord). x.key.receiver) c.entry.view_is in
+    let number : c.from.result ≡ e.key.receiver = c.from.ensures ∙ receiver in
+    let first : (c.from.result - 1) * c.from-processes.result ≡ (e.key.receiver - 1) * d.processes = (λ i. (number i - 1) * c.from-processes.ensures i) in
+    let old = lists_in d.pairs.items in
+    let new = c.catch_up.new.pairs in
+    let given = c.in_ok-catch_up.ensures in
+    let from_own : AreCaught pairs false ((c.from.result - 1) * c.from-processes.result) ((c.from.result - 1) * c.from-processes.result + c.from-processes.result) old (lists_in new) =
+    subst (λ xs. AreCaught pairs false ((c.from.result - 1) * c.from-processes.result) ((c.from.result - 1) * c.from-processes.result + c.from-processes.result) (lists_in xs) (lists_in new)) c.deref_mut.ensures.value given in
+    let at : AreCaught pairs false ((e.key.receiver - 1) * d.processes) ((e.key.receiver - 1) * d.processes + d.processes) old (lists_in new) =
+    subst (λ n. AreCaught pairs false n (n + d.processes) old (lists_in new)) first
+    (subst (λ n. AreCaught pairs false ((c.from.result - 1) * c.from-processes.result) ((c.from.result - 1) * c.from-processes.result + n) old (lists_in new)) c.from-processes.ensures from_own) in
+    follows_caught S layer trace d h e pairs metering _ refl
+    (subst (λ xs. AreCaught pairs false ((e.key.receiver - 1) * d.processes) ((e.key.receiver - 1) * d.processes + d.processes) old (lists_in xs)) (sym (with_items_is d.pairs new (same_length d.pairs new at.count))) at)
+    (omega (arith, c.number.ensures.low, c.number.ensures.value, receiver))
+
+pub returns-else-end-min : goal.returns-else-end-min
+returns-else-end-min c = λ S layer trace h metering.
+    let d = c.args.self.now in
+    let e = c.args.entry.now in
+    let pairs = c.args.panel.now.pairs in
+    let receiver : c.number.result ≡ e.key.receiver = c.number.ensures.value ∙ ap (λ (x : EntryRecord). x.key.receiver) c.entry.view_is in
+    let number : c.from.result ≡ e.key.receiver = c.from.ensures ∙ receiver in
+    let first : (c.from.result - 1) * c.from-processes.result ≡ (e.key.receiver - 1) * d.processes = (λ i. (number i - 1) * c.from-processes.ensures i) in
+    follows_above S layer trace d h e pairs metering
+    (omega (arith, c.if-end-min.false, c.min.ensures, c.len.ensures, c.places.ensures, first, c.from-processes.ensures, d.pairs.ok.0))

@@ -1,0 +1,9 @@
+use Rattle.std.proofs.Common.{◌≡◌, ℕ, [], get_or, vec_len}
+use Rattle.reporting.specs.Durations.{lists_in}
+use Rattle.reporting.proofs.durations.Durations.open.Given as goal
+
+abbrev pub invariant-loop : goal.invariant-loop
+invariant-loop l = record {
+  count : vec_len l.pairs ≡ l.counter;
+  each : (k : ℕ) → get_or (lists_in l.pairs.items) k [] ≡ [];
+}

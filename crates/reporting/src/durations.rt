@@ -1,0 +1,128 @@
+//! How long each mistake was that ended.
+ghost use Rattle.std.specs.Prelude.{◌≡◌, ℕ, ◌*◌, ◌≤◌, ◌<◌, ◌^◌, ◌++◌, ◌∷◌, [], List, length, vec_len, IfOk, OnOk};
+ghost use Rattle.process_api.specs.EntryRecord.{EntryRecord};
+ghost use Rattle.scenario_record.specs.Record.{Record};
+ghost use Rattle.judges.specs.Judging.{AreUntil};
+ghost use Rattle.reporting.specs.Durations.{AreCaught, caught, lists_in, ticks_between};
+ghost use Rattle.reporting.specs.Metering.{IsMetering};
+
+use crate::panel::Panel;
+use crate::tally::Tally;
+use process_api::{Entry, Pid};
+use std::alloc::{AllocError, Global};
+
+/// The ticks from a start to an end, if there are both.
+fn ticks_between(started: Option<u32>, ended: Option<u32>) -> u32
+    ensures { result ≡ ticks_between started ended }
+{
+    match (started, ended) {
+        (None, _) | (_, None) => 0,
+        (Some(started), Some(ended)) => ended.saturating_sub(started),
+    }
+}
+
+/// One more length, where the tally has counted one more mistake that ended.
+fn catch(lengths: &mut Vec<u32>, tally: &Tally) -> Result<(), AllocError>
+    ensures { OnOk result (lengths.new.items ≡ caught tally.now lengths.old.items) }
+{
+    if (lengths.len() as u64) < tally.duration.count {
+        lengths.push(ticks_between(tally.started, tally.ended))?;
+    }
+    Ok(())
+}
+
+/// Brings the lengths of the pairs at these places up to the panel's tallies; once no entry follows, these are closed.
+fn catch_up(
+    pairs: &mut [Vec<u32>],
+    panel: &Panel,
+    from: usize,
+    end: usize,
+    closed: bool,
+) -> Result<(), AllocError>
+    requires order { from ≤ end }
+    requires places { end ≤ length pairs.old }
+    requires pairs { end ≤ panel.now.pairs.processes * panel.now.pairs.processes }
+    ensures { OnOk result
+        (AreCaught panel.now.pairs closed from end (lists_in pairs.old) (lists_in pairs.new)) }
+{
+    for place in from..end {
+        catch(&mut pairs[place], &panel.tally(place, closed))?;
+    }
+    Ok(())
+}
+
+/// How long each mistake was that ended, of all pairs on one layer.
+#[derive(Drop)]
+pub struct Durations {
+    /// How many processes there are.
+    pub processes: u16,
+    /// By observer and then by subject, a process and itself too: in ticks, in the order of the mistakes' ends.
+    pub pairs: Vec<Vec<u32>>,
+}
+
+impl Durations {
+    ghost use Rattle.reporting.specs.Durations.{AreDurations, AreFollowing, lengths_of};
+
+    /// Of so many processes, whose panel was fed with nothing.
+    pub(crate) fn open(alloc: Global, processes: u16) -> Result<Durations, AllocError>
+        ensures { IfOk result (λ d. (S : Record) (layer : ℕ) → processes ≡ S.processes → AreFollowing S layer [] d) }
+    {
+        let count = usize::from(processes) * usize::from(processes);
+        let mut pairs = Vec::with_capacity(alloc, count)?;
+        for _ in 0..count {
+            pairs.push(Vec::new(alloc))?;
+        }
+        Ok(Durations { processes, pairs })
+    }
+
+    /// The panel was fed with one more entry.
+    pub(crate) fn follow(&mut self, panel: &Panel, entry: &Entry) -> Result<(), AllocError>
+        ensures { OnOk result ((S : Record) (layer : ℕ) (trace : List EntryRecord) → AreFollowing S layer trace self.old
+            → IsMetering S layer (trace ++ entry.now ∷ []) panel.now
+            → AreFollowing S layer (trace ++ entry.now ∷ []) self.new) }
+    {
+        if entry.notes.is_empty() {
+            return Ok(());
+        }
+        let processes = usize::from(self.processes);
+        let first = (usize::from(entry.key.receiver.number()) - 1) * processes;
+        let end = first + processes;
+        if end <= self.pairs.len().min(panel.places()) {
+            catch_up(&mut self.pairs, panel, first, end, false)?;
+        }
+        Ok(())
+    }
+
+    /// No entry follows.
+    pub(crate) fn close(&mut self, panel: &Panel) -> Result<(), AllocError>
+        ensures { OnOk result ((S : Record) (layer : ℕ) (trace : List EntryRecord) → AreFollowing S layer trace self.old
+            → IsMetering S layer trace panel.now → AreDurations S layer trace self.new) }
+    {
+        let end = self.pairs.len();
+        if end <= panel.places() {
+            catch_up(&mut self.pairs, panel, 0, end, true)?;
+        }
+        Ok(())
+    }
+
+    /// How long each mistake of an observer about a subject was, in ticks, in the order of their ends.
+    pub fn of(&self, observer: Pid, subject: Pid) -> &[u32]
+        ensures { result.now ≡ lengths_of self.now observer subject }
+    {
+        let row = usize::from(observer.number()) - 1;
+        let column = usize::from(subject.number()) - 1;
+        match self.pairs.get(row * usize::from(self.processes) + column) {
+            None => &[],
+            Some(lengths) => lengths.as_slice(),
+        }
+    }
+}
+
+/// How long each mistake of a run was that ended.
+#[derive(Drop)]
+pub struct RunDurations {
+    /// On layer 1.
+    pub first: Durations,
+    /// On layer 2, where there is a reduction.
+    pub second: Durations,
+}
