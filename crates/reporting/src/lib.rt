@@ -16,10 +16,10 @@
 //!   value (`Finishes` of `specs/Printed.antt`). `Write` is answered only where a put failed, and then a front part of
 //!   these texts went out; `Limit` comes only of a trace that is longer than the limit. After any other refusal nothing
 //!   was written (`Refuses`, there too). It starts no thread, and never answers `Spawn`.
-//! - [`measure_list`] runs a scenario as `bench_list` does, forms no text, and tells all that is measured of the run, and
-//!   how long each mistake was that ended: on `Ok` the [`RunFindings`] and the [`RunDurations`] are those of the
-//!   scenario's trace, which is within the limit (`specs/Measured.antt`, `specs/Durations.antt`). It answers `Limit` only
-//!   where that trace is longer, and else only `Memory`.
+//! - [`measure_list`] runs a scenario as `bench_list` does, forms no text, and tells all that is measured of the run,
+//!   and how long each mistake was that ended: on `Ok` the [`RunFindings`] and the [`RunDurations`] are those of the
+//!   scenario's trace, which is within the limit (`specs/Measured.antt`, `specs/Durations.antt`). It answers `Limit`
+//!   only where that trace is longer, and else only `Memory`.
 //! - [`measures`] gives a row for each pair on each layer, by definition, of any trace. In the scenario's trace each
 //!   suspicion of layer 2 has an earlier one of layer 1 for the same process, and each mistake or detection on layer 2
 //!   rests on one (`specs/Resting.antt`).
@@ -31,8 +31,8 @@
 //! Nothing is ever tried again. Each text is formed whole before the first of its bytes is written. A trace's text is
 //! formed row by row into one buffer, numbers by their digits; a report's rows are written by `csv`. All that is
 //! measured of a run takes one pass over its entries ([`Running`]): an entry without notes is counted, and no more.
-//! That pass is the run itself, so no entry is held; of a run whose report alone is asked for nothing is held that grows
-//! with it, and of one that is only measured the length of each mistake.
+//! That pass is the run itself, so no entry is held; of a run whose report alone is asked for nothing is held that
+//! grows with it, and of one that is only measured the length of each mistake.
 //!
 //! As an example, let process 2 of two crash at tick 3 of 10, and process 1 note at tick 9 that it suspects it. The
 //! report says so in the row `pair,1,1,2,detection,6`: on layer 1, observer 1 and subject 2, 6 ticks.

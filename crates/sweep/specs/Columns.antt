@@ -132,7 +132,8 @@ module _ (layer : ℕ) where
     pub limited : s.limited ≡ count_by (λ t. is_limited t.result) (on_layer layer trials)
     pub done : AreDoneSums (done_on layer trials) s
 
-  -- how long each mistake was that ended, the times of all detections, the ticks of the last decisions, and the greatest rounds
+  -- how long each mistake was that ended, the times of all detections, the ticks of the last decisions, and the
+  -- greatest rounds
   abbrev pub all_durations : List Trial → List ℕ
   all_durations trials = flat_map (durations layer) (done_on layer trials)
 

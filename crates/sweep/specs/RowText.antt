@@ -37,13 +37,13 @@ column_names =
     ∷ codes "mistakes" ∷ codes "mistake_ticks" ∷ codes "mistake_recurrence" ∷ codes "mistaken_ppm"
     ∷ codes "mistakes_squared_sum" ∷ codes "runs_with_mistakes" ∷ codes "recurrence_sum" ∷ codes "recurrence_count"
     ∷ codes "duration_sum" ∷ codes "duration_count" ∷ codes "duration_p99" ∷ codes "duration_max" ∷ codes "good_sum"
-    ∷ codes "good_count" ∷ codes "detections" ∷ codes "undetected" ∷ codes "at_once" ∷ codes "detection_sum" ∷ codes "detection_p50" ∷ codes "detection_p90"
-    ∷ codes "detection_p99" ∷ codes "detection_max" ∷ codes "strong_completeness" ∷ codes "weak_completeness"
-    ∷ codes "strong_accuracy" ∷ codes "weak_accuracy" ∷ codes "eventual_strong_accuracy"
-    ∷ codes "eventual_weak_accuracy" ∷ codes "to_decide" ∷ codes "decided" ∷ codes "decision_tick_sum"
-    ∷ codes "decision_tick_max" ∷ codes "all_decided" ∷ codes "last_decision_p50" ∷ codes "last_decision_p90"
-    ∷ codes "last_decision_p99" ∷ codes "last_decision_max" ∷ codes "rounds_p50" ∷ codes "rounds_p99"
-    ∷ codes "rounds_max" ∷ codes "disagreements" ∷ codes "mistake_run" ∷ codes "detection_max_run"
+    ∷ codes "good_count" ∷ codes "detections" ∷ codes "undetected" ∷ codes "at_once" ∷ codes "detection_sum"
+    ∷ codes "detection_p50" ∷ codes "detection_p90" ∷ codes "detection_p99" ∷ codes "detection_max"
+    ∷ codes "strong_completeness" ∷ codes "weak_completeness" ∷ codes "strong_accuracy" ∷ codes "weak_accuracy"
+    ∷ codes "eventual_strong_accuracy" ∷ codes "eventual_weak_accuracy" ∷ codes "to_decide" ∷ codes "decided"
+    ∷ codes "decision_tick_sum" ∷ codes "decision_tick_max" ∷ codes "all_decided" ∷ codes "last_decision_p50"
+    ∷ codes "last_decision_p90" ∷ codes "last_decision_p99" ∷ codes "last_decision_max" ∷ codes "rounds_p50"
+    ∷ codes "rounds_p99" ∷ codes "rounds_max" ∷ codes "disagreements" ∷ codes "mistake_run" ∷ codes "detection_max_run"
     ∷ codes "disagreement_run" ∷ []
 
 -- the first line: those of all names that are picked
@@ -69,8 +69,8 @@ period_fields s d =
 
 abbrev pub detection_fields : PairSums → Distribution → List Text
 detection_fields s d =
-    decimal d.count ∷ decimal s.undetected ∷ decimal s.at_once ∷ decimal s.detection_sum ∷ number_text d.p50 ∷ number_text d.p90
-    ∷ number_text d.p99 ∷ number_text d.greatest ∷ []
+    decimal d.count ∷ decimal s.undetected ∷ decimal s.at_once ∷ decimal s.detection_sum ∷ number_text d.p50
+    ∷ number_text d.p90 ∷ number_text d.p99 ∷ number_text d.greatest ∷ []
 
 abbrev pub verdict_fields : VerdictCounts → List Text
 verdict_fields s =

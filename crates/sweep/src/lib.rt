@@ -8,8 +8,9 @@
 //! those of the list of these runs, and that the text has the rows of all points, or of all runs
 //! (`specs/StudyText.antt`).
 //!
-//! Lengths of mistakes, detection times, ticks of last decisions and rounds are kept with how often each came, so memory
-//! grows with how many different ones there are, and not with the runs. Sums have 128 bits, and are exact of up to 1,000,000,000,000 runs.
+//! Lengths of mistakes, detection times, ticks of last decisions and rounds are kept with how often each came, so
+//! memory grows with how many different ones there are, and not with the runs. Sums have 128 bits, and are exact of up
+//! to 1,000,000,000,000 runs.
 //!
 //! [`in_parallel`] shares out calls for consecutive numbers among threads, and gives what they answer in the numbers'
 //! order (`specs/Parallel.antt`). A sweep has its runs read and done by it.

@@ -92,8 +92,8 @@ fn write_points<R: Threads + Sync + Clock, O: Outlet, W: Watcher>(
 ///
 /// Every run's scenario is read before the first run starts. Runs are read, and then run, in batches that take about a
 /// second by the clock, and rows go out soon after the last run that they tell of is in. Memory doesn't grow with
-/// the runs: what is held is what a batch gives, of 256 runs for each thread at most, with the length of each mistake of
-/// its runs, and the sums of a point.
+/// the runs: what is held is what a batch gives, of 256 runs for each thread at most, with the length of each mistake
+/// in them, and the sums of a point.
 ///
 /// The watcher hears of how many of the shard's runs the scenarios are read, from none up to all of them, and then how
 /// many are run. It is told when rows are to go out, and before that of each point of whose runs some passed their

@@ -191,8 +191,8 @@ fn are_durations<R: Abort>(rt: &R, alloc: Global, text: &str, ticks: [&[u32]; 2]
 }
 
 /// Letters come at ticks 2, 8 and 14. After 3 ticks of silence each process suspects the other at tick 5, then after 4
-/// at tick 12, and after 5 at tick 19, which lasts to the horizon. Where one crashes at tick 14, the second mistake ends
-/// too late.
+/// at tick 12, and after 5 at tick 19, which lasts to the horizon. Where one crashes at tick 14, the second mistake
+/// ends too late.
 #[test]
 fn two_mistakes(rt: HostRuntime) {
     let alloc = rt.alloc();
