@@ -19,7 +19,7 @@ use std::thread::Threads;
 use windows::{OpenGate, Plan};
 
 /// How a run takes its events.
-#[derive(Clone, Copy, Debug)]
+#[derive(Clone, Copy)]
 pub enum Mode {
     /// By one global event list. Nobody waits.
     List,

@@ -10,7 +10,7 @@ use scenario::ScenarioError;
 use windows::PlanError;
 
 /// Why the program did not do what it was asked.
-#[derive(Debug, Drop)]
+#[derive(Drop)]
 pub enum Fault {
     /// The command, the path, `--workers` or `--window` is missing.
     Form,

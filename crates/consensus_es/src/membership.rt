@@ -6,7 +6,7 @@ ghost use Rattle.process_api.specs.Rounds.{coordinator as coordinator_of, is_own
 use process_api::Pid;
 
 /// A process's own number, and how many processes there are: what says who coordinates a round.
-#[derive(Clone, Copy, Debug)]
+#[derive(Clone, Copy)]
 pub struct Membership {
     /// The process's own number, from 1.
     pub own: Pid,

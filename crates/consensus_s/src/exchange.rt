@@ -14,7 +14,7 @@ use scenario_record::Opening;
 use std::alloc::{AllocError, Global};
 
 /// What a process knows, and how far it is.
-#[derive(Debug, Drop)]
+#[derive(Drop)]
 pub(crate) struct Exchange {
     alloc: Global,
     // 0 before the start, n + 1 after the decision

@@ -14,7 +14,7 @@ use std::collections::BTreeMap;
 
 /// The first letters of the rounds that are not yet left, by round and sender: a row for each round of which one came.
 /// The last vectors are those of round n.
-#[derive(Debug, Drop)]
+#[derive(Drop)]
 pub(crate) struct Letters {
     alloc: Global,
     rows: BTreeMap<u64, Row>,

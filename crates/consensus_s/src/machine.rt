@@ -9,7 +9,7 @@ use scenario_record::Opening;
 use std::alloc::{AllocError, Global};
 
 /// Consensus with a detector of class S at one process (Chandra and Toueg, Journal of the ACM 43(2), 1996).
-#[derive(Debug, Drop)]
+#[derive(Drop)]
 pub struct SConsensus {
     opening: Opening,
     exchange: Exchange,

@@ -8,7 +8,7 @@ use process_api::{Cells, Pid, ProcSet};
 use std::alloc::{AllocError, Global};
 
 /// The first vectors of one round, by sender: a row of cells, and whose cells are filled.
-#[derive(Debug, Drop)]
+#[derive(Drop)]
 pub(crate) struct Row {
     // process q has place q - 1
     vectors: Vec<Option<Cells>>,

@@ -15,7 +15,7 @@ use std::alloc::{AllocError, Global};
 use toml::Table;
 
 /// What an accepted file has.
-#[derive(Clone, Copy, Debug)]
+#[derive(Clone, Copy)]
 pub struct Accepted {
     /// How many processes there are.
     pub processes: u16,
@@ -26,7 +26,7 @@ pub struct Accepted {
 }
 
 /// Why a file is refused.
-#[derive(Debug, Drop)]
+#[derive(Drop)]
 pub struct Refused {
     /// The refusal.
     pub refusal: ScenarioError,
@@ -35,7 +35,7 @@ pub struct Refused {
 }
 
 /// What is said of a scenario's file.
-#[derive(Debug, Drop)]
+#[derive(Drop)]
 pub enum Diagnosis {
     /// The file is accepted.
     Accepted(Accepted),

@@ -11,7 +11,7 @@ pub const ENTRIES_A_SECOND: u64 = 5_000_000;
 pub const HIGHEST_LIMIT: u64 = 100_000_000;
 
 /// About how much a run will be. No proof says how near this comes, and no answer rests on it.
-#[derive(Clone, Copy, Debug)]
+#[derive(Clone, Copy)]
 pub struct Estimate {
     /// Entries of the trace.
     pub entries: u64,

@@ -4,7 +4,7 @@ use process_api::Pid;
 use scenario::Kind;
 
 /// A key that isn't one of its table's.
-#[derive(Debug, Drop)]
+#[derive(Drop)]
 pub struct UnknownKey {
     /// The key.
     pub key: String,
@@ -15,7 +15,7 @@ pub struct UnknownKey {
 }
 
 /// A value of another kind than its key's.
-#[derive(Clone, Copy, Debug)]
+#[derive(Clone, Copy)]
 pub struct WrongKind {
     /// The key.
     pub key: &'static str,
@@ -26,7 +26,7 @@ pub struct WrongKind {
 }
 
 /// A number that lies outside its range.
-#[derive(Clone, Copy, Debug)]
+#[derive(Clone, Copy)]
 pub struct Outside {
     /// The key.
     pub key: &'static str,
@@ -39,7 +39,7 @@ pub struct Outside {
 }
 
 /// A text that is none of the names for its key.
-#[derive(Debug, Drop)]
+#[derive(Drop)]
 pub struct OtherName {
     /// The key.
     pub key: &'static str,
@@ -50,7 +50,7 @@ pub struct OtherName {
 }
 
 /// Why proposals don't fit.
-#[derive(Clone, Copy, Debug)]
+#[derive(Clone, Copy)]
 pub enum ProposalsFault {
     /// There are some, and no algorithm.
     Unasked,
@@ -76,7 +76,7 @@ pub enum ProposalsFault {
 }
 
 /// A `min` above its `max`.
-#[derive(Clone, Copy, Debug)]
+#[derive(Clone, Copy)]
 pub struct MinAboveMax {
     /// The `min`.
     pub min: i64,
@@ -85,7 +85,7 @@ pub struct MinAboveMax {
 }
 
 /// A `begin` that isn't below its `until`.
-#[derive(Clone, Copy, Debug)]
+#[derive(Clone, Copy)]
 pub struct NotBefore {
     /// The `begin`.
     pub begin: i64,
@@ -94,7 +94,7 @@ pub struct NotBefore {
 }
 
 /// A `min` below the lookahead, which holds of some pair of processes.
-#[derive(Clone, Copy, Debug)]
+#[derive(Clone, Copy)]
 pub struct BelowLookahead {
     /// The sender of the least such pair, by sender and then by receiver.
     pub from: Pid,
@@ -107,7 +107,7 @@ pub struct BelowLookahead {
 }
 
 /// What a table has, or lacks, for which its file is refused.
-#[derive(Debug, Drop)]
+#[derive(Drop)]
 pub enum Fault {
     /// A key that isn't one of the table's.
     UnknownKey(UnknownKey),

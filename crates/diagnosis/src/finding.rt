@@ -4,7 +4,7 @@ use crate::fault::Fault;
 use crate::place::Place;
 
 /// Where a text stops being TOML.
-#[derive(Debug, Drop)]
+#[derive(Drop)]
 pub struct NotToml {
     /// The line, from 1.
     pub line: usize,
@@ -15,7 +15,7 @@ pub struct NotToml {
 }
 
 /// What is wrong with a refused file, and where.
-#[derive(Debug, Drop)]
+#[derive(Drop)]
 pub enum Finding {
     /// The bytes are no TOML.
     NotToml(NotToml),

@@ -3,7 +3,7 @@ ghost use Rattle.std.specs.Prelude.{◌≡◌};
 ghost use Rattle.diagnosis.specs.Place.{section_key, array_key};
 
 /// A table of the top table.
-#[derive(Clone, Copy, Debug)]
+#[derive(Clone, Copy)]
 pub enum Section {
     /// `detector`.
     Detector,
@@ -14,7 +14,7 @@ pub enum Section {
 }
 
 /// An array of tables of the top table.
-#[derive(Clone, Copy, Debug)]
+#[derive(Clone, Copy)]
 pub enum TableArray {
     /// `links`.
     Links,
@@ -25,7 +25,7 @@ pub enum TableArray {
 }
 
 /// A table of a scenario's file.
-#[derive(Clone, Copy, Debug)]
+#[derive(Clone, Copy)]
 pub enum Place {
     /// The top table.
     Top,

@@ -22,7 +22,7 @@ use std::alloc::{AllocError, Global};
 ///
 /// It counts the heartbeats that it sent and the points that it reached. For each other process it keeps the greatest
 /// number of its heartbeats that came, and whether it is suspected.
-#[derive(Debug, Drop)]
+#[derive(Drop)]
 pub struct FreshnessDetector {
     opening: Opening,
     numbers: FreshnessNumbers,

@@ -16,7 +16,7 @@ pub trait Gauge: Copy {
 }
 
 /// Whether an observer suspects a subject now, and what is kept of the ticks before.
-#[derive(Clone, Copy, Debug)]
+#[derive(Clone, Copy)]
 pub struct Pair<K> {
     /// Below this tick a suspicion is a mistake: neither process has crashed yet.
     pub end: u32,

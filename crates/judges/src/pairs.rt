@@ -84,7 +84,7 @@ fn note_all<K: Gauge>(pairs: &mut [Pair<K>], n: usize, layer: u8, key: &Key, not
 /// What is kept of all pairs on one layer, fed with the entries of a trace as they come, in the order of their keys.
 ///
 /// All its room is made as it opens. It moves only at notes.
-#[derive(Debug, Drop)]
+#[derive(Drop)]
 pub struct Pairs<K> {
     layer: u8,
     processes: usize,

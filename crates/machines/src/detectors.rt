@@ -11,7 +11,7 @@ use std::alloc::{AllocError, Global};
 use timeout_detector::TimeoutDetector;
 
 /// A base detector.
-#[derive(Debug, Drop)]
+#[derive(Drop)]
 pub enum BaseDetector {
     /// The time-out detector.
     Timeout(TimeoutDetector),
@@ -75,7 +75,7 @@ impl Detector for BaseDetector {
 }
 
 /// A detector: the base detector, or a reduction over it.
-#[derive(Debug, Drop)]
+#[derive(Drop)]
 pub enum AnyDetector {
     /// The base detector alone.
     Base(BaseDetector),

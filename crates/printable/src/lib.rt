@@ -13,11 +13,11 @@ ghost use Rattle.printable.specs.Printable.{printable as printable_text, printab
 use std::fmt;
 
 /// A text that is printed on one line.
-#[derive(Clone, Copy, Debug)]
+#[derive(Clone, Copy)]
 pub struct Printable<'a>(pub &'a str);
 
 /// A text that is printed in its lines.
-#[derive(Clone, Copy, Debug)]
+#[derive(Clone, Copy)]
 pub struct PrintableLines<'a>(pub &'a str);
 
 /// Writes a character, or its number where it is a control character.

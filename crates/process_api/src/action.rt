@@ -6,7 +6,7 @@ use crate::pid::Pid;
 use std::alloc::AllocError;
 
 /// What a step leaves for the reader of a trace.
-#[derive(Clone, Copy, Debug, PartialEq, Eq)]
+#[derive(Clone, Copy, PartialEq, Eq)]
 pub enum Note {
     /// The process began to suspect another, on layer 1 (the base detector) or 2 (the reduction's output).
     Suspect { layer: u8, who: Pid },
@@ -21,7 +21,7 @@ pub enum Note {
 }
 
 /// What a process does in one step.
-#[derive(Debug, Drop)]
+#[derive(Drop)]
 pub enum Action {
     /// Sends a letter, to itself too.
     Send { to: Pid, payload: Payload },

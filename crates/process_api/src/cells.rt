@@ -7,7 +7,7 @@ use std::alloc::AllocError;
 use std::marker::Model;
 
 /// For each process what is known of its proposal. Contracts see the list of cells: process k has cell k, from 1.
-#[derive(Debug, Drop)]
+#[derive(Drop)]
 pub struct Cells {
     cells: Vec<Option<u32>>,
 }

@@ -38,7 +38,7 @@ pub enum Kind {
 }
 
 /// One step of a trace.
-#[derive(Debug, Drop)]
+#[derive(Drop)]
 pub struct Entry {
     /// The key of the event that was taken.
     pub key: Key,

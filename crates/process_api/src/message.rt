@@ -17,7 +17,7 @@ pub enum Tag {
 }
 
 /// What a letter says. Rounds are 1 to 1,000,000,000,000, and values 0 to 4,294,967,295.
-#[derive(Debug, Drop)]
+#[derive(Drop)]
 pub enum Payload {
     /// The time-out detector: the sender is alive.
     Alive,
@@ -41,7 +41,7 @@ pub enum Payload {
 }
 
 /// What a process takes in one step.
-#[derive(Debug, Drop)]
+#[derive(Drop)]
 pub enum StepInput {
     /// The process starts. Each process gets one start, at tick 0.
     Start,
@@ -52,7 +52,7 @@ pub enum StepInput {
 }
 
 /// A letter on its way: the key of the event that it becomes, and what it says.
-#[derive(Debug, Drop)]
+#[derive(Drop)]
 pub struct Letter {
     /// When, by whom and from whom it is taken, and its number on its link.
     pub key: Key,

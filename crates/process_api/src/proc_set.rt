@@ -129,7 +129,7 @@ impl IntoIterator for &ProcSet {
 }
 
 /// The members of a set, in rising order. Contracts see the list of those that are left.
-#[derive(Debug, Drop)]
+#[derive(Drop)]
 pub struct Members {
     // of those that are left, process q is bit q - 1
     words: [u64; WORDS],

@@ -6,7 +6,7 @@ use crate::entry::Entry;
 use std::marker::Model;
 
 /// The entries of a run, with strictly rising keys. Contracts see their list.
-#[derive(Debug, Drop)]
+#[derive(Drop)]
 pub struct Trace {
     entries: Vec<Entry>,
 }

@@ -60,7 +60,7 @@ fn note_trusts(
 }
 
 /// One process's part of the reduction.
-#[derive(Debug, Drop)]
+#[derive(Drop)]
 pub struct Gathering {
     /// The process's own number.
     pub own: Pid,

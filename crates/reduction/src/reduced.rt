@@ -11,7 +11,7 @@ use std::alloc::AllocError;
 
 /// The reduction over a detector of layer 1: a detector of layer 2, which suspects whom other processes suspect
 /// (Chandra and Toueg, Journal of the ACM 43(2), 1996).
-#[derive(Debug, Drop)]
+#[derive(Drop)]
 pub struct Reduced<D: Detector> {
     detector: D,
     gathering: Gathering,

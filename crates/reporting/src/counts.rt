@@ -5,7 +5,7 @@ ghost use Rattle.process_api.specs.EntryRecord.{EntryRecord};
 use process_api::Entry;
 
 /// The counts of a run, fed with its entries as they come. They stay at the greatest number, should they reach it.
-#[derive(Clone, Copy, Debug)]
+#[derive(Clone, Copy)]
 pub(crate) struct Counts {
     /// How many entries there were.
     pub entries: u64,

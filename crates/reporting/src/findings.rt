@@ -5,7 +5,7 @@ use crate::summary::Summary;
 use judges::Verdicts;
 
 /// All that is measured of a run.
-#[derive(Debug, Drop)]
+#[derive(Drop)]
 pub struct RunFindings {
     /// The entries, the letters and the outcomes.
     pub summary: Summary,

@@ -13,7 +13,7 @@ use std::marker::Model;
 /// given number of times, and every later put fails. A put fails too where memory is refused, and where it takes no
 /// byte of a piece that isn't empty; no other put fails. Contracts see its bytes, the most that a put takes, how many
 /// puts are left, and how many failed.
-#[derive(Debug, Drop)]
+#[derive(Drop)]
 pub struct FuseOutlet {
     bytes: Vec<u8>,
     most: usize,

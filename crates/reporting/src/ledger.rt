@@ -7,7 +7,7 @@ use judges::Gauge;
 use std::marker::Model;
 
 /// What is counted of a pair; contracts see its tally.
-#[derive(Clone, Copy, Debug)]
+#[derive(Clone, Copy)]
 pub(crate) struct Ledger {
     tally: Tally,
 }

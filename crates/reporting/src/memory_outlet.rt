@@ -11,7 +11,7 @@ use std::marker::Model;
 
 /// An outlet that keeps its bytes in memory. A put takes its piece whole, and fails only where memory is refused.
 /// Contracts see its bytes and how many puts failed.
-#[derive(Debug, Drop)]
+#[derive(Drop)]
 pub struct MemoryOutlet {
     bytes: Vec<u8>,
     failures: u64,

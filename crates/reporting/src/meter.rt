@@ -15,7 +15,7 @@ use scenario_record::Scenario;
 
 /// Measures what an observer makes of a subject on a layer, fed with the entries of a trace as they come, in the order
 /// of their keys. It takes no memory, and holds nothing of the entries; contracts see what it counts.
-#[derive(Clone, Copy, Debug)]
+#[derive(Clone, Copy)]
 pub struct Meter {
     pub(crate) layer: u8,
     pub(crate) observer: Pid,

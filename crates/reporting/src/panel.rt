@@ -49,7 +49,7 @@ fn close_row(
 
 /// What is counted of all pairs on one layer, fed with the entries of a trace in the order of their keys. All its room
 /// is made as it opens.
-#[derive(Debug, Drop)]
+#[derive(Drop)]
 pub(crate) struct Panel {
     pairs: Pairs<Ledger>,
 }

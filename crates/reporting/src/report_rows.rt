@@ -13,7 +13,7 @@ use judges::{Outcome, Verdicts};
 use std::alloc::AllocError;
 
 /// What rows are about. The layer, the observer and the subject are 0 where they have none.
-#[derive(Clone, Copy, Debug)]
+#[derive(Clone, Copy)]
 struct About {
     section: &'static str,
     layer: u8,

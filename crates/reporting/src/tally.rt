@@ -4,7 +4,7 @@ ghost use Rattle.std.specs.Option.{ForSome};
 ghost use Rattle.reporting.specs.Tally.{HasRoom, InRange, begun, finished, grown, moved};
 
 /// Some distances between ticks: their sum, and how many they are.
-#[derive(Clone, Copy, Debug)]
+#[derive(Clone, Copy)]
 pub(crate) struct Distances {
     /// In ticks.
     pub sum: u64,
@@ -33,7 +33,7 @@ impl Distances {
 
 /// The counts over all ticks before `tick`. Of what starts, ends or lasts there, only what is below an end is
 /// counted.
-#[derive(Clone, Copy, Debug)]
+#[derive(Clone, Copy)]
 pub(crate) struct Tally {
     /// All ticks below this one are behind.
     pub tick: u32,

@@ -8,7 +8,7 @@ use itoa::Buffer;
 use judges::Answer;
 
 /// What a row of a report tells.
-#[derive(Clone, Copy, Debug, PartialEq, Eq)]
+#[derive(Clone, Copy, PartialEq, Eq)]
 pub(crate) enum Value {
     /// A number, as a plain decimal.
     Number(u128),

@@ -160,7 +160,8 @@ fn two_threads_post_to_one_receiver(rt: HostRuntime) -> Result<(), Fail> {
         || post_many(&rt, shared, first, two, 1),
         || post_many(&rt, shared, second, two, 1001),
     );
-    let slips = vec![in alloc; first?, second?]?;
+    let refused = "a post was refused";
+    let slips = vec![in alloc; first.ok().ok_or(refused)?, second.ok().ok_or(refused)?]?;
     let lists = mailboxes.collect(&rt, alloc, slips)?;
     let numbers = numbers(alloc, lists.get(1).ok_or("no list")?)?;
     assert!(rt; numbers.iter().copied().eq(1..=2000));

@@ -1,7 +1,7 @@
 //! The keys that a table may have.
 
 /// The kind of a key's value.
-#[derive(Clone, Copy, Debug)]
+#[derive(Clone, Copy)]
 pub enum Kind {
     /// An integer.
     Number,
@@ -16,7 +16,7 @@ pub enum Kind {
 }
 
 /// A key that a table may have.
-#[derive(Clone, Copy, Debug)]
+#[derive(Clone, Copy)]
 pub struct Field {
     /// The key.
     pub key: &'static str,

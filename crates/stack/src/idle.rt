@@ -6,7 +6,7 @@ use process_api::{Action, Algorithm, ProcSet, StepInput};
 use std::alloc::AllocError;
 
 /// The algorithm of a process that runs a detector alone: it ignores every input and does nothing.
-#[derive(Clone, Copy, Debug, Drop)]
+#[derive(Clone, Copy, Drop)]
 pub struct NoAlgorithm;
 
 impl Algorithm for NoAlgorithm {

@@ -6,7 +6,7 @@ use process_api::{Action, Algorithm, Detector, Pid, Process, StepInput};
 use std::alloc::AllocError;
 
 /// One process of the simulated system: a detector, and an algorithm above it.
-#[derive(Debug, Drop)]
+#[derive(Drop)]
 pub struct Stack<D: Detector, A: Algorithm> {
     pid: Pid,
     detector: D,

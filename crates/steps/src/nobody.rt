@@ -7,7 +7,7 @@ use std::alloc::AllocError;
 use streams::Fate;
 
 /// Takes the entries or hears of the letters of a run, and keeps nothing of them.
-#[derive(Clone, Copy, Debug)]
+#[derive(Clone, Copy)]
 pub struct Nobody;
 
 impl Listener for Nobody {

@@ -6,7 +6,7 @@ use crate::setting::Setting;
 
 /// A key with the values that it is set to, one after the other; or several keys that are tied: each value sets all of
 /// them.
-#[derive(Debug, Drop)]
+#[derive(Drop)]
 pub struct Axis {
     /// The keys, at least one.
     pub keys: Vec<Key>,

@@ -12,7 +12,7 @@ use std::alloc::{AllocError, Global};
 use std::marker::Model;
 
 /// Which runs a study has: its points, and the runs of each point.
-#[derive(Debug, Drop)]
+#[derive(Drop)]
 pub struct Grid {
     vary: Vec<Axis>,
     over: Vec<Axis>,

@@ -8,7 +8,7 @@ use std::alloc::{AllocError, Global};
 use std::fmt;
 
 /// A key of a scenario's file, by its path.
-#[derive(Debug, Drop)]
+#[derive(Drop)]
 pub enum Key {
     /// A key of the top table, as `horizon`.
     Top(String),

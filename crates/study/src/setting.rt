@@ -5,7 +5,7 @@ ghost use Rattle.study.specs.Settings.{given_by, given_text};
 use itoa::Buffer;
 
 /// What a key is set to.
-#[derive(Debug, Drop)]
+#[derive(Drop)]
 pub enum Setting {
     /// An integer.
     Integer(i64),

@@ -9,7 +9,7 @@ use reporting::Outlet;
 use std::alloc::AllocError;
 
 /// Why the program did not do what it was asked.
-#[derive(Debug, Drop)]
+#[derive(Drop)]
 pub enum Fault {
     /// A part of the order is missing: of a study that is to be checked, its seeds.
     Form,

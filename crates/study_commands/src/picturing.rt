@@ -24,7 +24,7 @@ use std::rt::Files;
 use study_line::Picture;
 
 /// The ticks that are drawn.
-#[derive(Clone, Copy, Debug)]
+#[derive(Clone, Copy)]
 struct Span {
     /// The first of them.
     from: u32,

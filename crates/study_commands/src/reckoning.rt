@@ -15,7 +15,7 @@ use toml::Table;
 const BATCH: u64 = 4096;
 
 /// A run that will have more entries than its limit, by the estimate.
-#[derive(Clone, Copy, Debug)]
+#[derive(Clone, Copy)]
 pub(crate) struct Above {
     /// Its point, from 0.
     pub point: u64,
@@ -28,7 +28,7 @@ pub(crate) struct Above {
 }
 
 /// What is reckoned of runs together.
-#[derive(Clone, Copy, Debug)]
+#[derive(Clone, Copy)]
 pub(crate) struct Reckoned {
     /// Entries of all of them.
     pub entries: u128,
@@ -61,7 +61,7 @@ impl Reckoned {
 }
 
 /// Which runs of a point differ in more than their seeds, and for how many each of them stands.
-#[derive(Clone, Copy, Debug)]
+#[derive(Clone, Copy)]
 struct Kinds {
     /// How many combinations of the values in `over` there are.
     mixes: u64,

@@ -14,7 +14,7 @@ use std::marker::Model;
 use study::Grid;
 
 /// What a row tells of.
-#[derive(Clone, Copy, Debug, PartialEq, Eq)]
+#[derive(Clone, Copy, PartialEq, Eq)]
 pub enum Rows {
     /// Of a point: of all its runs.
     Points,
@@ -23,7 +23,7 @@ pub enum Rows {
 }
 
 /// What the rows of a text tell of, and which columns they have.
-#[derive(Debug, Drop)]
+#[derive(Drop)]
 pub struct Layout {
     rows: Rows,
     picks: Vec<usize>,

@@ -58,7 +58,7 @@ pub trait Watcher {
 }
 
 /// Hears of everything and shows nothing.
-#[derive(Clone, Copy, Debug)]
+#[derive(Clone, Copy)]
 pub struct Unwatched;
 
 impl Watcher for Unwatched {

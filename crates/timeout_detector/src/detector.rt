@@ -18,7 +18,7 @@ use std::alloc::{AllocError, Global};
 ///
 /// For each other process it keeps the tick at which that was heard of last (0 at the opening), with how many ticks
 /// of silence it becomes suspected (its bound; `timeout` at the opening), and whether it is suspected.
-#[derive(Debug, Drop)]
+#[derive(Drop)]
 pub struct TimeoutDetector {
     opening: Opening,
     numbers: TimeoutNumbers,
