@@ -47,8 +47,7 @@ pub enum ScenarioError {
     /// 0 to 4,294,967,295.
     #[error("the proposals don't fit the algorithm")]
     Proposals,
-    /// The detector's `kind` isn't `timeout` or `freshness`, one of its numbers isn't 1 to 1,000,000, or its `watch` isn't
-    /// `all` or `next`.
+    /// A number of the detector isn't 1 to 1,000,000, or `watch` isn't `all` or `next`.
     #[error("the detector's numbers are out of range")]
     DetectorNumbers,
     /// The period of the shares isn't 1 to 1,000,000.
