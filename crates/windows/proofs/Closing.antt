@@ -6,6 +6,7 @@ use Rattle.std.proofs.lemmas.Bool.{cases_lt}
 use Rattle.std.specs.FinMap as finmap
 use Rattle.std.specs.List.{All}
 use Rattle.std.proofs.lemmas.List.{length-map, map-append}
+use Rattle.std.proofs.lemmas.List.Elements.{All-append, All-weaker}
 use Rattle.std.proofs.lemmas.List.Sorted.{length_permutation, Contains-permutation, IsPermutation-sym}
 use Rattle.process_api.specs.Bounds.{most_step_actions}
 use Rattle.process_api.specs.EntryRecord.{EntryRecord}
@@ -46,6 +47,7 @@ use Rattle.window_laws.proofs.Unions.{joined_kept}
 use Rattle.window_laws.proofs.Whole.{run_on, one_merge}
 use Rattle.window_laws.proofs.Together.{berths_run}
 use Rattle.window_laws.proofs.Order.{any_order}
+use Rattle.windows.proofs.Cut.{run_before}
 use Rattle.windows.proofs.Members.{contains_in, in_contains}
 
 -- ---- lists by process
@@ -503,9 +505,18 @@ module _ {M : Type 0} (mind : M → Mind) (old : Stage M) (ranges : IsInRange ol
                       },
                     )
 
+        before_new : All (λ (e : EntryRecord). e.key.tick < new.start) (trace_so_far ++ merged)
+        before_new =
+            let Before : EntryRecord → Type 0 = λ e. e.key.tick < new.start in
+            All-append Before trace_so_far merged
+            (All-weaker (λ (e : EntryRecord). e.key.tick < old.start) Before (λ e less. omega (arith, less, from_end, is.to_horizon)) trace_so_far is.before)
+            (All-weaker (λ (e : EntryRecord). e.key.tick < end) Before (λ e less. omega (arith, less, from_end)) merged
+            (subst (All (λ (e : EntryRecord). e.key.tick < end)) (sym merged_is) (run_before S end list is.world after all.2.run)))
+
         stage_new : IsStageAfter mind (trace_so_far ++ merged) new
         stage_new = record {
           so_far = omega (arith, closed.longer, is.so_far, length-append trace_so_far merged);
+          before = before_new;
           count = omega (arith, new.berths.ok.0, count_new, ap (λ (r : Record). r.processes) same_scenario);
           home = subst (λ r. AreHome mind r (new.so_far) new.berths.items) (sym same_scenario) home_new;
           within = omega (arith, closed.longer, closed.few, sum, ap (λ (r : Record). r.limit) same_scenario);

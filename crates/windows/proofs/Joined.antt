@@ -7,12 +7,13 @@ use Rattle.process_api.specs.Mind.{Mind}
 use Rattle.run_error.specs.declared.error.RunError.{RunError}
 use Rattle.run_error.specs.declared.error.RunError.TheVariants.{Limit, Memory}
 use Rattle.deques.proofs.Deals.{map_push}
-use Rattle.windows.specs.Refusals.{IsRefusal, IsRefusalOfOne}
+use Rattle.windows.specs.Refusals.{AreThere, IsFirstRefusal, IsRefusal, IsRefusalOfOne}
 use Rattle.windows.specs.Shared.{IsWorkIn, IsAnswerTo, IsOneTooLong, KnowOneTooLong, AreAnswers}
 use Rattle.windows.specs.declared.shared.Shared.{Shared}
 use Rattle.windows.specs.declared.workers.Start.{Start}
 use Rattle.windows.specs.declared.workers.Work.{Work}
 use Rattle.windows.proofs.Gathered.{all_front, all_back}
+use Rattle.windows.proofs.Refused.{not_err}
 
 pub popped : {X : Type 0} (xs ys : List X) (o : Option X) (x : X) → xs ≡ ys ++ option_to_list o → o ≡ Some x → xs ≡ ys ++ x ∷ []
 popped xs ys o x e is = e ∙ ap (λ r. ys ++ option_to_list r) is
@@ -22,9 +23,6 @@ answer_at mind w w' start start' r e is answer = subst (λ v. IsAnswerTo mind v 
 
 same_err : {A : Type 0} (e d : RunError) → ◌≡◌ {A = Result A RunError} (Err e) (Err d) → e ≡ d
 same_err e d is = cc
-
-not_err : {A : Type 0} (x : A) (d : RunError) → ◌≡◌ {A = Result A RunError} (Ok x) (Err d) → ⊥
-not_err x d is = cc
 
 not_limit : (e : RunError) → e ≡ Memory → e ≡ Limit → ⊥
 not_limit e memory limit = cc
@@ -75,8 +73,13 @@ module _ {M G : Type 0} (mind : M → Mind) (w : Shared M G) (starts starts' : L
         by_three (λ (memory : e ≡ Memory). absurd (not_limit e memory same)) (λ (theirs : rest ≡ Err e). their_limit (theirs ∙ ap Err same)) (λ (ours : mine ≡ Err e). our_limit (ours ∙ ap Err same)) why;
   }
 
+  -- the refusal is one of theirs or ours, or that of memory
+  one_of : (e : RunError) → IsFirstRefusal rest mine e ⊎ ((e ≡ Memory) × AreThere rest mine) → (e ≡ Memory) ⊎ (IsErrOf rest e ⊎ IsErrOf mine e)
+  one_of e (inl first) = inr first.one
+  one_of e (inr last) = inl last.0
+
   -- where one worker more answers, after those that began before it
   pub answers_more : (r : Result (Vec (Work M)) RunError) → IfOk r (λ works. (before : Vec (Work M)) × (work : Work M) × (rest ≡ Ok before) × (mine ≡ Ok work) × (works.items ≡ before.items ++ work ∷ []))
-      → IfErr r (λ e. (e ≡ Memory) ⊎ (IsErrOf rest e ⊎ IsErrOf mine e)) → AreAnswers mind w starts r
+      → IfErr r (λ e. IsFirstRefusal rest mine e ⊎ ((e ≡ Memory) × AreThere rest mine)) → AreAnswers mind w starts r
   answers_more (Ok works) ok err = all_worked works ok.0 ok.1 ok.2 ok.3 ok.4
-  answers_more (Err e) ok err = all_refused e err
+  answers_more (Err e) ok err = all_refused e (one_of e err)

@@ -15,3 +15,4 @@ pub mod Handed
 pub mod Starts
 pub mod Agendas
 pub mod Posted
+pub mod Cut

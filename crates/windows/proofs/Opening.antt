@@ -4,6 +4,7 @@ use Rattle.std.specs.FinMap as finmap
 use Rattle.std.specs.List.{All}
 use Rattle.std.proofs.lemmas.Bool.{cases_lt}
 use Rattle.std.proofs.lemmas.List.{length-map}
+use Rattle.std.proofs.lemmas.List.Elements.{All-nil}
 use Rattle.process_api.specs.Bounds.{most_step_actions}
 use Rattle.process_api.specs.Mind.{Mind}
 use Rattle.process_api.specs.Numbers.{numbers_to}
@@ -157,6 +158,7 @@ module _ {M : Type 0} (mind : M → Mind) (stage : Stage M) (ranges : IsInRange 
   opening_stage = record {
     count = omega (arith, stage.berths.ok.0, count);
     so_far = no_entries;
+    before = All-nil (λ e. e.key.tick < stage.start);
     home = home;
     within = omega (arith, no_entries);
     to_horizon = omega (arith, at_start);

@@ -1,7 +1,35 @@
 -- What a call promises of its answer says nothing where it is refused.
-use Rattle.std.proofs.Common.{Result, IfOk}
+use Rattle.std.proofs.Common.{◌≡◌, ◌⊎◌, inl, inr, Result, Ok, Err, IfOk, IfErr, OnOk}
 use Rattle.std.specs.Result.{IsErr}
 use Rattle.std.proofs.lemmas.Result.{IfOk-from_err}
+use Rattle.run_error.specs.declared.error.RunError.{RunError}
+use Rattle.run_error.specs.declared.error.RunError.TheVariants.{Memory}
+use Rattle.windows.specs.Refusals.{AreThere, IsFirstRefusal, IsRefusal, IsRefusalOfOne}
 
 pub holds_of_none : {A E : Type 0} (r : Result A E) → IsErr r → (P : A → Type 0) → IfOk r P
 holds_of_none r is P = IfOk-from_err r P is
+
+-- two facts that hold where there is an answer make a third
+pub both_make : {A E : Type 0} (r : Result A E) (P Q T : Type 0) → (P → Q → T) → OnOk r P → OnOk r Q → OnOk r T
+both_make (Ok x) P Q T f p q = f p q
+both_make (Err e) P Q T f p q = tt
+
+-- an answer is no refusal
+pub not_err : {A E : Type 0} (x : A) (d : E) → ◌≡◌ {A = Result A E} (Ok x) (Err d) → ⊥
+not_err x d is = cc
+
+-- a refusal of one process is one of a window
+pub one_refused : {X : Type 0} (r : Result X RunError) → IfErr r IsRefusalOfOne → IfErr r IsRefusal
+one_refused (Ok x) h = h
+one_refused (Err e) (inl limit) = inl limit
+one_refused (Err e) (inr memory) = inr (inl memory)
+
+-- why two answers aren't put together: the first of their refusals, or want of memory where both are there
+module _ {X A B : Type 0} (left : Result A RunError) (right : Result B RunError) where
+  pub first_of : (r : Result X RunError) → IfErr r (IsFirstRefusal left right) → IfErr r (λ e. IsFirstRefusal left right e ⊎ ((e ≡ Memory) × AreThere left right))
+  first_of (Ok x) h = tt
+  first_of (Err e) h = inl h
+
+  pub last_of : AreThere left right → (r : Result X RunError) → IfErr r (λ e. e ≡ Memory) → IfErr r (λ e. IsFirstRefusal left right e ⊎ ((e ≡ Memory) × AreThere left right))
+  last_of there (Ok x) h = tt
+  last_of there (Err e) h = inr (h, there)

@@ -22,6 +22,7 @@ use Rattle.trace_merge.specs.Parts.{all_of, AreDisjoint}
 use Rattle.windows.specs.Agenda.{event_of}
 use Rattle.windows.specs.Berth.{RanTo, IsBerth}
 use Rattle.window_laws.specs.Machine.{end_of}
+use Rattle.windows.specs.Shared.{IsCountOfWorkers}
 use Rattle.windows.specs.Stage.{IsStageAfter, IsClosed, IsWindowRun}
 use Rattle.window_laws.specs.Window.{BerthRun}
 use Rattle.windows.specs.Workers.{Stay, IsReady, IsStay, HasLong, IsOutcome, AllAbove, RiseBy}
@@ -195,6 +196,11 @@ sum_of limit most n a le = omega arith
 pub if_ok : {A E : Type 0} (r : Result A E) (P Q : A → Type 0) → ((x : A) → P x → Q x) → IfOk r P → IfOk r Q
 if_ok (Ok x) P Q f h = f x h
 if_ok (Err x) P Q f h = h
+
+-- how many workers are started
+pub count_at : {M : Type 0} (e e' w w' : ℕ) (bs bs' : List (Berth M)) (n n' : ℕ) → e ≡ e' → w ≡ w' → bs ≡ bs' → n ≡ n' → IsCountOfWorkers e w bs n → IsCountOfWorkers e' w' bs' n'
+count_at e e' w w' bs bs' n n' p q r t is =
+    subst (λ z. IsCountOfWorkers z w' bs' n') p (subst (λ z. IsCountOfWorkers e z bs' n') q (subst (λ z. IsCountOfWorkers e w z n') r (subst (IsCountOfWorkers e w bs) t is)))
 
 module _ {M : Type 0} (mind : M → Mind) where
   pub outcome_at : (s s' : Record) (e e' : ℕ) (bs bs' news : List (Berth M)) (lists : List (List Letter)) → s ≡ s' → e ≡ e' → bs ≡ bs' → IsOutcome mind s e bs news lists → IsOutcome mind s' e' bs' news lists

@@ -1,5 +1,5 @@
 -- Why a window is refused, and which of several refusals is answered.
-use Rattle.std.specs.Prelude.{◌≡◌, ◌⊎◌, ◌≤◌, ℕ, Result, IsErrOf}
+use Rattle.std.specs.Prelude.{◌≡◌, ◌⊎◌, ◌≤◌, ℕ, Result, Ok, IsErrOf}
 use Rattle.run_error.specs.declared.error.RunError.{RunError}
 use Rattle.run_error.specs.declared.error.RunError.TheVariants.{Limit, Memory, Spawn, Write}
 
@@ -23,3 +23,7 @@ pub record IsFirstRefusal {A B : Type 0} (left : Result A RunError) (right : Res
     (e : RunError) : Type 0 where
   pub one : IsErrOf left e ⊎ IsErrOf right e
   pub first : (other : RunError) → IsErrOf left other ⊎ IsErrOf right other → rank_of e ≤ rank_of other
+
+-- neither answer is a refusal
+abbrev pub AreThere : {A B : Type 0} → Result A RunError → Result B RunError → Type 0
+AreThere {A} {B} left right = (a : A) × (b : B) × (left ≡ Ok a) × (right ≡ Ok b)

@@ -9,7 +9,7 @@ use Rattle.run_error.specs.declared.error.RunError.{RunError}
 use Rattle.run_error.specs.declared.error.RunError.TheVariants.{Limit}
 use Rattle.mailboxes.specs.Mailbox.{MailboxId}
 use Rattle.mailboxes.specs.Mailboxes.{SlipView}
-use Rattle.deques.specs.Deques.{RestView}
+use Rattle.deques.specs.Deques.{HandView, RestView}
 use Rattle.windows.specs.Refusals.{IsRefusal}
 use Rattle.windows.specs.Workers.{IsFresh, IsReady, IsWork, IsAnswer, IsRest, AreRun, HasLong, HaveLong}
 use Rattle.windows.specs.declared.berth.Berth.{Berth}
@@ -36,10 +36,14 @@ module _ {M : Type 0} (mind : M → Mind) where
     abbrev pub IsStart : Start M → Type 0
     IsStart s = IsFreshIn w s × AreReady w.window.now s.hand.known
 
+    -- by this hand and this slip a worker did this work in this window
+    abbrev pub IsWorkBy : HandView (Berth M) → SlipView → List (Berth M) → Type 0
+    IsWorkBy hand slip done =
+        IsWork mind w.window.now.streams w.window.now.end w.fronts.now.items w.mailboxes.now hand slip done
+
     -- a worker's work in this window
     abbrev pub IsWorkIn : Work M → Type 0
-    IsWorkIn x =
-        IsWork mind w.window.now.streams w.window.now.end w.fronts.now.items w.mailboxes.now x.hand x.slip x.done.items
+    IsWorkIn x = IsWorkBy x.hand x.slip x.done.items
 
     -- what a worker may answer
     abbrev pub IsAnswerTo : Start M → Result (Work M) RunError → Type 0

@@ -1,5 +1,6 @@
 -- What is handed on to a sink.
-use Rattle.std.specs.Prelude.{◌≡◌, ◌⊎◌, ℕ, List, [], ◌∷◌, ◌++◌, Result, Ok, Err}
+use Rattle.std.specs.Prelude.{◌≡◌, ◌⊎◌, ℕ, ◌<◌, ◌≤◌, List, [], ◌∷◌, ◌++◌, Result, Ok, Err}
+use Rattle.std.specs.List.{All}
 use Rattle.process_api.specs.EntryRecord.{EntryRecord}
 use Rattle.trace_laws.specs.Setting.{Setting}
 use Rattle.trace_laws.specs.World.{IsTrace}
@@ -42,3 +43,13 @@ module _ {K : Type 0} (took : K → List EntryRecord → K → Type 0) {Mind : T
     pub ended : ((last ≡ []) × (new ≡ mid)) ⊎ took_front mid last new
     pub front : (whole : List EntryRecord) → IsTrace S whole
         → (rest : List EntryRecord) × (whole ≡ (end_to_end parts ++ last) ++ rest)
+
+  -- The sink took whole parts and was handed nothing more. They have just the entries that every trace has below some
+  -- tick: those of the windows that were closed
+  pub record TookClosed (old new : K) : Type 0 where
+    pub parts : List (List EntryRecord)
+    pub took_all : TookAll took old parts new
+    pub tick : ℕ
+    pub before : All (λ e. e.key.tick < tick) (end_to_end parts)
+    pub after : (whole : List EntryRecord) → IsTrace S whole
+        → (rest : List EntryRecord) × (whole ≡ end_to_end parts ++ rest) × All (λ e. tick ≤ e.key.tick) rest

@@ -1,5 +1,5 @@
 -- What a stage of the program stands for.
-use Rattle.std.specs.Prelude.{◌≡◌, ◌⊎◌, ℕ, zero, suc, ◌+◌, ◌-◌, ◌*◌, ◌≤◌, List, [], ◌∷◌, length, map, IsTrue, slice_get, slice_index_or, Some, vec_len}
+use Rattle.std.specs.Prelude.{◌≡◌, ◌⊎◌, ℕ, zero, suc, ◌+◌, ◌-◌, ◌*◌, ◌<◌, ◌≤◌, List, [], ◌∷◌, length, map, IsTrue, slice_get, slice_index_or, Some, vec_len}
 use Rattle.std.specs.FinMap as events
 use Rattle.std.specs.List.{All}
 use Rattle.std.specs.List.Sorted.{IsPermutation}
@@ -79,6 +79,7 @@ module _ {M : Type 0} (mind : M → Mind) where
   pub record IsStageAfter (trace : List EntryRecord) (stage : Stage M) : Type 0 where
     pub count : vec_len stage.berths ≡ stage.scenario.now.processes
     pub so_far : stage.so_far ≡ length trace
+    pub before : All (λ e. e.key.tick < stage.start) trace
     pub home : AreHome stage.scenario.now stage.so_far stage.berths.items
     pub within : stage.so_far ≤ stage.scenario.now.limit
     pub to_horizon : stage.start ≤ stage.scenario.now.horizon

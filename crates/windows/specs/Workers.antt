@@ -138,6 +138,10 @@ module _ {M : Type 0} where
   abbrev pub dealt_to : List (Start M) → List (Berth M)
   dealt_to starts = all_put (map (λ b. b.hand.own) starts)
 
+  -- all that had been dealt to these workers once they are joined
+  abbrev pub given_to : List (Work M) → List (Berth M)
+  given_to works = all_put (map (λ w. w.hand.own) works)
+
   -- whatever these workers did, it is brought together
   abbrev pub BringsTogether : (M → Mind) → List DequeId → List (Work M) → (taken done : List (Berth M))
       → List SlipView → Type 0

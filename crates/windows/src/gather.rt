@@ -8,10 +8,10 @@ ghost use Rattle.windows.specs.Refusals.{IsRefusalOfOne};
 ghost use Rattle.windows.specs.Shared.{AreReady, IsOneTooLong, IsRestIn};
 ghost use Rattle.windows.specs.Workers.{IsFresh, BringsTogether};
 
-use crate::berth::{Berth, run_berth};
+use crate::berth::Berth;
 use crate::gate::Gate;
 use crate::shared::Shared;
-use crate::workers::{Start, Work};
+use crate::workers::{Start, Work, run_taken};
 use deques::{Dealer, Rest};
 use mailboxes::{Mailboxes, Slip};
 use process_api::Process;
@@ -119,23 +119,13 @@ pub(crate) fn run_rest<M: Process, G: Gate, R: Wait>(
     ensures limit { IsErrOf result RunError.Limit
         → IsOneTooLong M.mind shared.now.window.now (all_put rest.old.own) }
 {
-    let window = shared.window;
     let mut done = Vec::new(shared.alloc);
     for _ in rt.forever() {
         done.reserve(1)?;
         let Some(mut berth) = rest.take_last() else {
             break;
         };
-        shared.gate.entered(rt, 0, berth.pid());
-        run_berth(
-            rt,
-            &mut berth,
-            window.end,
-            &window.streams,
-            shared.mailboxes,
-            &mut slip,
-            window.left,
-        )?;
+        run_taken(rt, shared, 0, &mut berth, &mut slip)?;
         done.push_reserved(berth);
     }
     Ok((done, slip))

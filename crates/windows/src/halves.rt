@@ -1,6 +1,6 @@
 //! The two halves of a window's close, of which neither needs the other: the mailboxes are emptied, and the parts of
 //! the trace are merged.
-ghost use Rattle.std.specs.Prelude.{◌≡◌, length, map, IsTrue, IfOk, IfErr, vec_len, IsPermutation};
+ghost use Rattle.std.specs.Prelude.{◌≡◌, ◌≤◌, ◌<◌, length, map, IsTrue, IfOk, IfErr, vec_len, IsPermutation};
 ghost use Rattle.std.specs.List.{All};
 ghost use Rattle.process_api.specs.Order.{is_rising};
 ghost use Rattle.run_error.specs.declared.error.RunError.TheVariants.{Memory};
@@ -23,17 +23,20 @@ pub(crate) type Emptied = (Mailboxes, Vec<Vec<Letter>>);
 /// to merge so many entries, or to take so many letters out of their mailboxes.
 pub const WORTH_A_THREAD: usize = 2048;
 
-/// How many threads close a window with these parts: one for each 2,048 entries, but no more than there are workers.
-/// Where that is none or one, the caller does all.
-fn threads_for(workers: u16, parts: &[Vec<Entry>]) -> usize {
+/// How many threads close a window with these parts, the caller's among them: one for each 2,048 entries, but no more
+/// than there were workers. Where that is none or one, the caller does all.
+pub(crate) fn threads_for(workers: usize, parts: &[Vec<Entry>]) -> usize
+    ensures { result ≤ workers }
+{
     let mut entries = 0usize;
     for part in parts {
         entries = entries.saturating_add(part.len());
     }
-    usize::from(workers).min(entries / WORTH_A_THREAD)
+    workers.min(entries / WORTH_A_THREAD)
 }
 
-/// Empties the mailboxes, by so many threads at most. The slips are all that were made.
+/// Empties the mailboxes, by so many threads at most, the caller's among them. The slips are all that were made, and
+/// there are fewer threads than slips.
 fn empty_all<R: Threads + Wait + Sync>(
     rt: &R,
     alloc: Global,
@@ -41,6 +44,7 @@ fn empty_all<R: Threads + Wait + Sync>(
     mailboxes: Mailboxes,
     slips: Vec<Slip>,
 ) -> Result<Emptied, RunError>
+    requires few { threads < vec_len slips }
     requires all { vec_len slips ≡ mailboxes.slips }
     requires slips { All (IsSlipOf mailboxes.mailboxes) slips.items }
     ensures count { IfOk result (λ r. vec_len r.1 ≡ length mailboxes.mailboxes) }
@@ -52,8 +56,9 @@ fn empty_all<R: Threads + Wait + Sync>(
     mailboxes.empty_by(rt, alloc, threads, lists, slips)
 }
 
-/// Merges the parts, and empties the mailboxes: at once, where there is more than one worker and the parts are worth
-/// more than one thread, and else one after the other. Of these threads one merges and the others empty.
+/// Merges the parts, and empties the mailboxes: at once, by so many threads, the caller's among them, of which one
+/// merges and the others empty; for 0 and 1 one after the other. There are fewer threads than slips: no more than there
+/// were workers.
 ///
 /// # Errors
 ///
@@ -61,11 +66,12 @@ fn empty_all<R: Threads + Wait + Sync>(
 pub(crate) fn empty_and_merge<R: Threads + Wait + Sync>(
     rt: &R,
     alloc: Global,
-    workers: u16,
+    threads: usize,
     parts: Vec<Vec<Entry>>,
     mailboxes: Mailboxes,
     slips: Vec<Slip>,
 ) -> Result<(Vec<Entry>, Emptied), RunError>
+    requires few { threads < vec_len slips }
     requires rising { All (λ v. IsTrue (is_rising v.items)) parts.items }
     requires disjoint { AreDisjoint (map (λ v. v.items) parts.items) }
     requires all { vec_len slips ≡ mailboxes.slips }
@@ -78,10 +84,9 @@ pub(crate) fn empty_and_merge<R: Threads + Wait + Sync>(
         AreLettersOf slips.items (length mailboxes.mailboxes) (letters_in r.1.1.items)) }
     ensures errors { IfErr result (λ e. e ≡ Memory) }
 {
-    let threads = threads_for(workers, &parts);
     if threads < 2 {
         let merged = merge(alloc, parts)?;
-        return Ok((merged, empty_all(rt, alloc, 1, mailboxes, slips)?));
+        return Ok((merged, empty_all(rt, alloc, threads, mailboxes, slips)?));
     }
     let others = threads - 1;
     let (merged, emptied) = join(
@@ -94,7 +99,8 @@ pub(crate) fn empty_and_merge<R: Threads + Wait + Sync>(
             ensures errors { IfErr result (λ e. e ≡ Memory) }
         { merge(alloc, parts) },
         || -> Result<Emptied, RunError>
-            requires { (vec_len slips ≡ mailboxes.slips) × All (IsSlipOf mailboxes.mailboxes) slips.items }
+            requires { (others < vec_len slips) × (vec_len slips ≡ mailboxes.slips)
+                × All (IsSlipOf mailboxes.mailboxes) slips.items }
             ensures count { IfOk result (λ r. vec_len r.1 ≡ length mailboxes.mailboxes) }
             ensures letters { IfOk result (λ r.
                 AreLettersOf slips.items (length mailboxes.mailboxes) (letters_in r.1.items)) }

@@ -1,5 +1,5 @@
 //! A run by windows.
-ghost use Rattle.std.specs.Prelude.{◌≡◌, ◌≤◌, ◌<◌, ◌+◌, ◌-◌, ◌^◌, List, length, map, IfErr, IfOk, OnOk, OnErr, IsErrOf};
+ghost use Rattle.std.specs.Prelude.{◌≡◌, ◌≤◌, ◌<◌, ◌+◌, ◌-◌, ◌^◌, ◌⊎◌, List, length, map, IfErr, IfOk, OnOk, OnErr, IsErrOf};
 ghost use Rattle.process_api.specs.EntryRecord.{EntryRecord};
 ghost use Rattle.process_api.specs.Numbers.{numbers_to};
 ghost use Rattle.scenario_record.specs.Record.{opening_mind};
@@ -7,7 +7,7 @@ ghost use Rattle.trace_laws.specs.ScenarioSetting.{setting_of};
 ghost use Rattle.trace_laws.specs.World.{IsTrace};
 ghost use Rattle.windows.specs.Plan.{IsPlanFor};
 ghost use Rattle.windows.specs.Refusals.{IsRefusal};
-ghost use Rattle.windows.specs.Sink.{TookTrace, TookFront, writes_of};
+ghost use Rattle.windows.specs.Sink.{TookTrace, TookFront, TookClosed, writes_of};
 
 use crate::gate::Gate;
 use crate::kept::Kept;
@@ -18,21 +18,10 @@ use crate::window::run_window;
 use process_api::{Process, Trace};
 use run_error::RunError;
 use scenario_record::Scenario;
-use std::alloc::{AllocError, Global};
+use std::alloc::Global;
 use std::marker::Sync;
 use std::sync::Wait;
 use std::thread::Threads;
-
-// How many bytes of free memory the allocator keeps at least.
-const KEPT: usize = 16 << 20;
-
-/// Takes one large block and gives it back. By the size of such a block the C library's allocator decides how much free
-/// memory it keeps. Without it the pages of a window go back to the system at its end, and the next window's first use
-/// of each brings it in again. Nothing else hangs on it, and it is well where the block is refused.
-fn keep_pages(alloc: Global) {
-    let block: Result<Vec<u8>, AllocError> = Vec::with_capacity(alloc, KEPT);
-    drop(block);
-}
 
 /// Runs machines window by window up to the horizon. Each window's part of the trace is handed on once it is closed.
 fn run_machines<M: Process, G: Gate, K: Sink, R: Threads + Wait + Sync>(
@@ -52,6 +41,8 @@ fn run_machines<M: Process, G: Gate, K: Sink, R: Threads + Wait + Sync>(
     ensures within { OnOk result ((whole : List EntryRecord)
         → IsTrace (setting_of scenario.now) whole → length whole ≤ scenario.now.limit) }
     ensures front { OnErr result (TookFront K.took (setting_of scenario.now) K.took_front sink.old sink.new) }
+    ensures closed { IsErrOf result RunError.Limit ⊎ IsErrOf result RunError.Spawn
+        → TookClosed K.took (setting_of scenario.now) sink.old sink.new }
     ensures count { K.failed sink.new ≡ K.failed sink.old + writes_of result }
     ensures limit { IsErrOf result RunError.Limit → (whole : List EntryRecord)
         → IsTrace (setting_of scenario.now) whole → scenario.now.limit < length whole }
@@ -59,7 +50,6 @@ fn run_machines<M: Process, G: Gate, K: Sink, R: Threads + Wait + Sync>(
     // Readers say that a window has a tick at least, and that the scenario's fields are in their ranges.
     let _window = plan.window();
     let _horizon = scenario.horizon();
-    keep_pages(alloc);
     let mut stage = Stage::open(alloc, scenario, machines)?;
     while !stage.finished() {
         let part = run_window(rt, alloc, &mut stage, plan, gate)?;
@@ -77,7 +67,8 @@ fn run_machines<M: Process, G: Gate, K: Sink, R: Threads + Wait + Sync>(
 ///
 /// `Spawn` where a thread was refused, `Memory` where memory was, and `Limit` only where the whole trace has more
 /// entries than the scenario's limit; after each window, `Memory` or `Write` where the sink refused its part. The
-/// machines are gone then, and the sink has a front of the trace.
+/// machines are gone then, and the sink has a front of the trace: after `Limit` and `Spawn` just the entries of the
+/// windows that were closed.
 pub fn run_windows_into<G: Gate, K: Sink, R: Threads + Wait + Sync>(
     rt: &R,
     alloc: Global,
@@ -95,6 +86,8 @@ pub fn run_windows_into<G: Gate, K: Sink, R: Threads + Wait + Sync>(
     ensures within { OnOk result ((whole : List EntryRecord)
         → IsTrace (setting_of scenario.now) whole → length whole ≤ scenario.now.limit) }
     ensures front { OnErr result (TookFront K.took (setting_of scenario.now) K.took_front sink.old sink.new) }
+    ensures closed { IsErrOf result RunError.Limit ⊎ IsErrOf result RunError.Spawn
+        → TookClosed K.took (setting_of scenario.now) sink.old sink.new }
     ensures count { K.failed sink.new ≡ K.failed sink.old + writes_of result }
     ensures limit { IsErrOf result RunError.Limit → (whole : List EntryRecord)
         → IsTrace (setting_of scenario.now) whole → scenario.now.limit < length whole }

@@ -17,7 +17,7 @@ ghost use Rattle.windows.specs.Refusals.{IsRefusalOfOne};
 ghost use Rattle.windows.specs.Stage.{stage_of, start_event, delivered, IsOpened, IsNextStart, IsStageAfter};
 
 use crate::berth::Berth;
-use crate::halves::empty_and_merge;
+use crate::halves::{empty_and_merge, threads_for};
 use mailboxes::{Mailboxes, Slip};
 use pending_events::Pending;
 use process_api::{Entry, Key, Letter, Pid, Process, StepInput};
@@ -39,6 +39,8 @@ pub struct Stage<'s, M> {
     pub(crate) start: u32,
     /// How many entries the windows so far have.
     pub so_far: u64,
+    /// How many workers ran the window before, and 0 where there was none.
+    pub(crate) workers: usize,
     // those of the window before, if there was one, to be used again
     pub(crate) mailboxes: Option<Mailboxes>,
 }
@@ -181,6 +183,7 @@ impl<'s, M: Process> Stage<'s, M> {
             berths,
             start: 0,
             so_far: 0,
+            workers: 0,
             mailboxes: None,
         })
     }
@@ -199,9 +202,10 @@ impl<'s, M: Process> Stage<'s, M> {
         self.start == self.scenario.horizon()
     }
 
-    /// Closes a window: the mailboxes are emptied, and the parts that the berths have of it are merged; by more than
-    /// one worker, and where it is worth it, at once. Then each berth takes the letters of its mailbox. The next window
-    /// starts at the least pending tick. Answers the merged part, which has at most `left` entries.
+    /// Closes a window: the mailboxes are emptied, and the parts that the berths have of it are merged; where it is
+    /// worth it, at once, by no more threads than there were workers. Each of these had a slip, and so had the starter.
+    /// Then each berth takes the letters of its mailbox. The next window starts at the least pending tick. Answers the
+    /// merged part, which has at most `left` entries.
     ///
     /// # Errors
     ///
@@ -211,10 +215,10 @@ impl<'s, M: Process> Stage<'s, M> {
         &mut self,
         rt: &R,
         alloc: Global,
-        workers: u16,
         ran: Ran<M>,
         left: u64,
     ) -> Result<Vec<Entry>, RunError>
+        requires starter { 0 < vec_len ran.slips }
         requires all { vec_len ran.slips ≡ ran.mailboxes.slips }
         requires slips { All (IsSlipOf ran.mailboxes.mailboxes) ran.slips.items }
         requires boxes { length ran.mailboxes.mailboxes ≡ vec_len ran.berths }
@@ -225,6 +229,7 @@ impl<'s, M: Process> Stage<'s, M> {
         ensures scenario { self.new.scenario.now ≡ self.old.scenario.now }
         ensures closed { IfOk result (λ merged. IsClosedBy M.mind left self.old.so_far ran.berths.items
             ran.slips.items merged.items self.new) }
+        ensures workers { IfOk result (λ _. self.new.workers + 1 ≡ vec_len ran.slips) }
         ensures errors { IfErr result IsRefusalOfOne }
         ensures limit { IsErrOf result RunError.Limit
             → left < length (all_of (map (λ b. b.part.items) ran.berths.items)) }
@@ -234,8 +239,10 @@ impl<'s, M: Process> Stage<'s, M> {
             mailboxes,
             slips,
         } = ran;
+        let workers = slips.len() - 1;
         let (berths, parts) = take_parts(alloc, berths)?;
-        let (merged, emptied) = empty_and_merge(rt, alloc, workers, parts, mailboxes, slips)?;
+        let threads = threads_for(workers, &parts);
+        let (merged, emptied) = empty_and_merge(rt, alloc, threads, parts, mailboxes, slips)?;
         let (mailboxes, letters) = emptied;
         let berths = deliver_all(alloc, berths, letters)?;
         let made = merged.len() as u64;
@@ -243,6 +250,7 @@ impl<'s, M: Process> Stage<'s, M> {
             return Err(RunError::Limit);
         }
         self.so_far += made;
+        self.workers = workers;
         self.start = next_start(&berths, self.scenario.horizon());
         self.berths = berths;
         self.mailboxes = Some(mailboxes);

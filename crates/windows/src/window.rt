@@ -11,10 +11,12 @@ ghost use Rattle.mailboxes.specs.Mailboxes.{IsSlipOf, unused};
 ghost use Rattle.windows.specs.Closing.{IsOutcomeBy};
 ghost use Rattle.deques.specs.Deques.{deques_of};
 ghost use Rattle.windows.specs.Plan.{IsPlanFor, most_workers};
-ghost use Rattle.windows.specs.Refusals.{IsRefusal};
-ghost use Rattle.windows.specs.Shared.{AreReady, IsOneTooLong, IsFreshIn, IsStart, AreAnswers, HadWindow, IsCountOfWorkers};
+ghost use Rattle.window_laws.specs.Machine.{end_of};
+ghost use Rattle.windows.specs.Refusals.{IsRefusal, IsRefusalOfOne};
+ghost use Rattle.windows.specs.Shared.{AreReady, IsOneTooLong, IsFreshIn, IsStart, IsWorkIn, AreAnswers};
+ghost use Rattle.windows.specs.Shared.{HadWindow, IsCountOfWorkers};
 ghost use Rattle.windows.specs.Stage.{IsStage, IsStageAfter, IsWindowRun};
-ghost use Rattle.windows.specs.Workers.{RiseBy, dealt_to};
+ghost use Rattle.windows.specs.Workers.{RiseBy, dealt_to, given_to};
 
 use crate::berth::Berth;
 use crate::gate::Gate;
@@ -55,6 +57,33 @@ fn in_threads<M: Process, G: Gate, R: Threads + Wait + Sync>(
     )
 }
 
+/// What the workers did, with what no worker took, which the starter runs by a slip of its own. Answers the berths that
+/// were run, and all slips. Once the workers are joined no thread is refused.
+fn bring_together<M: Process, G: Gate, R: Wait>(
+    rt: &R,
+    shared: &Shared<'_, M, G>,
+    works: Vec<Work<M>>,
+    slip: Slip,
+) -> Result<(Vec<Berth<M>>, Vec<Slip>), RunError>
+    requires deques { shared.now.fronts.now.items ≡ deques_of (map (λ w. w.hand.own) works.items) }
+    requires slip { slip ≡ unused shared.now.mailboxes.now }
+    requires ready { AreReady M.mind shared.now.window.now (given_to works.items) }
+    requires works { All (IsWorkIn M.mind shared.now) works.items }
+
+    ensures slips { IfOk result (λ r. vec_len r.1 ≡ vec_len works + 1) }
+    ensures run { IfOk result (λ r.
+        HadWindow M.mind shared.now.window.now shared.now.mailboxes.now (given_to works.items) r.0.items r.1.items) }
+    ensures errors { IfErr result IsRefusalOfOne }
+    ensures limit { IsErrOf result RunError.Limit
+        → IsOneTooLong M.mind shared.now.window.now (given_to works.items) }
+{
+    let (mut rest, mut done, mut slips) = gather(shared.alloc, works)?;
+    let (mut last, slip) = run_rest(rt, shared, &mut rest, slip)?;
+    done.append(&mut last)?;
+    slips.push(slip)?;
+    Ok((done, slips))
+}
+
 /// The workers that begin so take the berths that were dealt, and the starter, by a slip of its own, what is left.
 /// Answers the berths that were run, and all slips.
 fn run_dealt<M: Process, G: Gate, R: Threads + Wait + Sync>(
@@ -78,11 +107,7 @@ fn run_dealt<M: Process, G: Gate, R: Threads + Wait + Sync>(
         → IsOneTooLong M.mind shared.now.window.now (dealt_to starts.items) }
 {
     let works = in_threads(rt, shared, starts)?;
-    let (mut rest, mut done, mut slips) = gather(shared.alloc, works)?;
-    let (mut last, slip) = run_rest(rt, shared, &mut rest, slip)?;
-    done.append(&mut last)?;
-    slips.push(slip)?;
-    Ok((done, slips))
+    bring_together(rt, shared, works, slip)
 }
 
 /// Runs the processes with an event below the window's end, by at most so many workers. Answers all berths, in some
@@ -172,6 +197,8 @@ fn run_all<M: Process, G: Gate, R: Threads + Wait + Sync>(
 
     ensures boxes { IfOk result (λ r. length r.mailboxes.mailboxes ≡ window.now.streams.processes) }
     ensures all { IfOk result (λ r. vec_len r.slips ≡ r.mailboxes.slips) }
+    ensures workers { IfOk result (λ r. (started : ℕ)
+        × IsCountOfWorkers window.now.end workers berths.items started × (vec_len r.slips ≡ started + 1)) }
     ensures slips { IfOk result (λ r. All (IsSlipOf r.mailboxes.mailboxes) r.slips.items) }
     ensures outcome { IfOk result (λ r.
         IsOutcomeBy M.mind window.now.streams window.now.end berths.items r.berths.items r.slips.items) }
@@ -196,9 +223,9 @@ pub(crate) fn cut_at(end: u32, horizon: u32) -> u32
 /// Runs the next window of a stage. The smaller of the plan's workers and the number of processes with an event below
 /// the window's end are started, each a thread. These processes are dealt to them in turn; a worker takes its own, one
 /// after the other, then those of others that are left, and runs them; and the workers are joined. Then the mailboxes
-/// are emptied and the parts of the trace merged, at once where that is worth a thread, and the letters are delivered.
-/// Answers the merged part. The next window starts at the least pending tick, so that none is opened in which nothing
-/// happens.
+/// are emptied and the parts of the trace merged, at once where that is worth a thread, by no more threads than there
+/// were workers, and the letters are delivered. Answers the merged part. The next window starts at the least pending
+/// tick, so that none is opened in which nothing happens.
 ///
 /// # Errors
 ///
@@ -220,6 +247,9 @@ pub fn run_window<M: Process, G: Gate, R: Threads + Wait + Sync>(
     ensures stage { IfOk result (λ part. (trace : List EntryRecord)
         → IsStageAfter M.mind trace stage.old → IsStageAfter M.mind (trace ++ part.items) stage.new) }
     ensures run { IfOk result (λ part. IsWindowRun M.mind plan.now.window stage.old stage.new part.items) }
+    ensures workers { IfOk result (λ _. IsCountOfWorkers
+        (end_of (setting_of stage.old.scenario.now) plan.now.window stage.old.start) plan.now.workers
+        stage.old.berths.items stage.new.workers) }
     ensures errors { IfErr result IsRefusal }
     ensures limit { IsErrOf result RunError.Limit → (whole : List EntryRecord)
         → IsTrace (setting_of stage.old.scenario.now) whole → stage.old.scenario.now.limit < length whole }
@@ -234,5 +264,5 @@ pub fn run_window<M: Process, G: Gate, R: Threads + Wait + Sync>(
     let berths = replace(&mut stage.berths, Vec::new(alloc));
     let workers = plan.workers();
     let ran = run_all(rt, alloc, gate, workers, mailboxes, &window, berths)?;
-    stage.close(rt, alloc, workers, ran, left)
+    stage.close(rt, alloc, ran, left)
 }

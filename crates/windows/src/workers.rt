@@ -1,12 +1,16 @@
 //! The workers of a window: each takes berths, its own and then others', until none is left, runs them, and gives them
 //! back when it is joined.
-ghost use Rattle.std.specs.Prelude.{◌≡◌, ◌≤◌, ◌⊎◌, ◌++◌, [], ◌∷◌, IfOk, IfErr, IsErrOf, Ok, vec_len};
+ghost use Rattle.std.specs.Prelude.{◌≡◌, ◌≤◌, ◌⊎◌, ◌++◌, [], ◌∷◌, List, IfOk, IfErr, OnOk, IsErrOf, Ok, vec_len};
 ghost use Rattle.std.specs.List.{All};
 ghost use Rattle.std.specs.Thread.{IsSync};
+ghost use Rattle.process_api.specs.declared.message.Letter.{Letter as SentLetter};
+ghost use Rattle.mailboxes.specs.Mailboxes.{IsSlipOf};
 ghost use Rattle.run_error.specs.declared.error.RunError.TheVariants.{Memory, Spawn};
+ghost use Rattle.windows.specs.Berth.{IsLong, with_letters};
 ghost use Rattle.windows.specs.Plan.{most_workers};
-ghost use Rattle.windows.specs.Refusals.{rank_of, IsFirstRefusal, IsRefusalOfOne};
-ghost use Rattle.windows.specs.Shared.{IsStart, IsWorkIn, IsAnswerTo, IsOneTooLong, AreAnswers};
+ghost use Rattle.windows.specs.Refusals.{rank_of, AreThere, IsFirstRefusal, IsRefusalOfOne};
+ghost use Rattle.windows.specs.Shared.{AreReady, IsStart, IsWorkBy, IsAnswerTo, IsOneTooLong, AreAnswers};
+ghost use Rattle.windows.specs.Workers.{IsFresh, IsReady, IsStay, stay};
 
 use crate::berth::{Berth, run_berth};
 use crate::gate::Gate;
@@ -35,12 +39,67 @@ pub(crate) struct Work<M> {
     pub done: Vec<Berth<M>>,
 }
 
-/// The work of one worker: it takes berths until every deque was found empty, tells the gate of each, and runs it. It
-/// holds no lock. `worker` is its number in this window.
+/// Tells the gate of a berth that worker `worker` has taken, and runs it.
+///
+/// # Errors
+///
+/// `Limit` only where the process has more events below the window's end than entries fit, and `Memory` where memory
+/// was refused.
+pub(crate) fn run_taken<M: Process, G: Gate, R: Wait>(
+    rt: &R,
+    shared: &Shared<'_, M, G>,
+    worker: u16,
+    berth: &mut Berth<M>,
+    slip: &mut Slip,
+) -> Result<(), RunError>
+    requires ready { IsReady M.mind shared.now.window.now.streams shared.now.window.now.left berth.old }
+    requires slip { IsSlipOf shared.now.mailboxes.now slip.old }
+    ensures slip { IsSlipOf shared.now.mailboxes.now slip.new }
+    ensures ran { OnOk result ((letters : List SentLetter) × IsStay M.mind shared.now.window.now.streams
+        shared.now.window.now.end (stay berth.old berth.new letters) × (slip.new ≡ with_letters slip.old letters)) }
+    ensures errors { IfErr result IsRefusalOfOne }
+    ensures limit { IsErrOf result RunError.Limit → IsLong M.mind shared.now.window.now.streams
+        shared.now.window.now.end shared.now.window.now.left berth.old }
+{
+    shared.gate.entered(rt, worker, berth.pid());
+    let window = shared.window;
+    let streams = &window.streams;
+    let mailboxes = shared.mailboxes;
+    run_berth(rt, berth, window.end, streams, mailboxes, slip, window.left)
+}
+
+/// Takes berths until every deque was found empty, and runs each. It holds no lock. Answers them.
 ///
 /// Nothing is put into a deque once the workers have begun, so one that was found empty stays empty. That a worker goes
 /// on until then stands in no clause, since an empty deque leaves no record: a test shows that the starter finds
 /// nothing left.
+fn run_all_taken<M: Process, G: Gate, R: Wait>(
+    rt: &R,
+    shared: &Shared<'_, M, G>,
+    worker: u16,
+    hand: &mut Hand<Berth<M>>,
+    slip: &mut Slip,
+) -> Result<Vec<Berth<M>>, RunError>
+    requires fresh { IsFresh shared.now.fronts.now.items shared.now.mailboxes.now hand.old slip.old }
+    requires ready { AreReady M.mind shared.now.window.now hand.old.known }
+    ensures own { IfOk result (λ _. hand.new.own ≡ hand.old.own) }
+    ensures work { IfOk result (λ done. IsWorkBy M.mind shared.now hand.new slip.new done.items) }
+    ensures errors { IfErr result IsRefusalOfOne }
+    ensures limit { IsErrOf result RunError.Limit → IsOneTooLong M.mind shared.now.window.now hand.old.known }
+{
+    let mut done = Vec::new(shared.alloc);
+    for _ in rt.forever() {
+        done.reserve(1)?;
+        let Some(mut berth) = hand.take(rt, shared.fronts) else {
+            break;
+        };
+        run_taken(rt, shared, worker, &mut berth, slip)?;
+        done.push_reserved(berth);
+    }
+    Ok(done)
+}
+
+/// The work of one worker, which has the number `worker` in this window.
 ///
 /// # Errors
 ///
@@ -53,31 +112,10 @@ pub(crate) fn run_berths<M: Process, G: Gate, R: Wait>(
     start: Start<M>,
 ) -> Result<Work<M>, RunError>
     requires { IsStart M.mind shared.now start }
-    ensures own { IfOk result (λ w. w.hand.own ≡ start.hand.own) }
-    ensures work { IfOk result (IsWorkIn M.mind shared.now) }
-    ensures errors { IfErr result IsRefusalOfOne }
-    ensures limit { IsErrOf result RunError.Limit → IsOneTooLong M.mind shared.now.window.now start.hand.known }
+    ensures { IsAnswerTo M.mind shared.now start result }
 {
-    let window = shared.window;
     let Start { mut hand, mut slip } = start;
-    let mut done = Vec::new(shared.alloc);
-    for _ in rt.forever() {
-        done.reserve(1)?;
-        let Some(mut berth) = hand.take(rt, shared.fronts) else {
-            break;
-        };
-        shared.gate.entered(rt, worker, berth.pid());
-        run_berth(
-            rt,
-            &mut berth,
-            window.end,
-            &window.streams,
-            shared.mailboxes,
-            &mut slip,
-            window.left,
-        )?;
-        done.push_reserved(berth);
-    }
+    let done = run_all_taken(rt, shared, worker, &mut hand, &mut slip)?;
     Ok(Work { hand, slip, done })
 }
 
@@ -137,19 +175,18 @@ pub fn both<A: Drop, B: Drop>(
     }
 }
 
-/// The work of all: that of those who were started before, and that of one more. Where there is none, the first of
-/// their refusals.
+/// The work of all: that of those who were started before, and that of one more.
 ///
 /// # Errors
 ///
-/// That refusal, and `Memory` where memory was refused.
+/// The first of their refusals. Where there is none, `Memory`: memory was refused.
 fn all_works<M: Drop>(
     before: Result<Vec<Work<M>>, RunError>,
     mine: Result<Work<M>, RunError>,
 ) -> Result<Vec<Work<M>>, RunError>
     ensures ok { IfOk result (λ works. (b : _) × (w : _)
         × (before ≡ Ok b) × (mine ≡ Ok w) × (works.items ≡ b.items ++ w ∷ [])) }
-    ensures err { IfErr result (λ e. (e ≡ Memory) ⊎ (IsErrOf before e ⊎ IsErrOf mine e)) }
+    ensures err { IfErr result (λ e. IsFirstRefusal before mine e ⊎ ((e ≡ Memory) × AreThere before mine)) }
 {
     let (mut works, work) = both(before, mine)?;
     works.push(work)?;

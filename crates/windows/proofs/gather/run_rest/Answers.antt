@@ -19,36 +19,31 @@ loop-init g c = (
   subst (λ l. IsPermutation l c.args.rest.now.taken) (sym (append-nil c.args.rest.now.taken)) (IsPermutation-refl c.args.rest.now.taken),
 )
 
-pub run_berth-requires-clause-berth : goal.run_berth-requires-clause-berth
-run_berth-requires-clause-berth g c κs within =
-    (All-contains (IsReady g.M.Process.mind c.args.shared.now.window.now.streams c.args.shared.now.window.now.left) (all_put c.args.rest.now.own) c.in-Some-take_last.berth c.requires.ready
-    (subst (λ l. Contains (all_put l) c.in-Some-take_last.berth) c.loop.invariant.2 c.in-Some-take_last.ensures.3)).0
+pub run_taken-requires-clause-ready : goal.run_taken-requires-clause-ready
+run_taken-requires-clause-ready g c κs within =
+    All-contains (IsReady g.M.Process.mind c.args.shared.now.window.now.streams c.args.shared.now.window.now.left) (all_put c.args.rest.now.own) c.in-Some-take_last.berth c.requires.ready
+    (subst (λ l. Contains (all_put l) c.in-Some-take_last.berth) c.loop.invariant.2 c.in-Some-take_last.ensures.3)
 
-pub run_berth-requires-clause-part : goal.run_berth-requires-clause-part
-run_berth-requires-clause-part g c κs within =
-    (All-contains (IsReady g.M.Process.mind c.args.shared.now.window.now.streams c.args.shared.now.window.now.left) (all_put c.args.rest.now.own) c.in-Some-take_last.berth c.requires.ready
-    (subst (λ l. Contains (all_put l) c.in-Some-take_last.berth) c.loop.invariant.2 c.in-Some-take_last.ensures.3)).1
+pub run_taken-requires-clause-slip : goal.run_taken-requires-clause-slip
+run_taken-requires-clause-slip g c κs within = c.loop.invariant.1.of_mailboxes
 
-pub run_berth-requires-clause-boxes : goal.run_berth-requires-clause-boxes
-run_berth-requires-clause-boxes g c κs within = c.args.shared.now.boxes
-
-pub returns-in_err-run_berth-clause-limit : goal.returns-in_err-run_berth-clause-limit
-returns-in_err-run_berth-clause-limit g c is = (
+pub returns-in_err-run_taken-clause-limit : goal.returns-in_err-run_taken-clause-limit
+returns-in_err-run_taken-clause-limit g c is = (
   c.in-Some-take_last.berth,
   subst (λ l. Contains (all_put l) c.in-Some-take_last.berth) c.loop.invariant.2 c.in-Some-take_last.ensures.3,
-  λ history after rest letters run. c.run_berth.ensures.limit (search rules) history after rest letters run,
+  λ history after rest letters run. c.run_taken.ensures.limit (search rules) history after rest letters run,
 )
 
 pub loop-preserved : goal.loop-preserved
 loop-preserved g c =
-    let ran = c.in_ok-run_berth.ensures.ran _ refl in
+    let ran = c.in_ok-run_taken.ensures.ran in
     let inv = c.loop.invariant in
     let took = c.in-Some-take_last.ensures in
     let b = c.in-Some-take_last.berth in
     let old = c.args.rest.now.taken in (
       inv.0 ++ b ∷ [],
-      run_more g.M.Process.mind c.args.shared.now.window.now.streams c.args.shared.now.window.now.end c.args.shared.now.mailboxes.now inv.0 (inv.0 ++ b ∷ []) c.loop.slip c.run_berth.new.slip
-          c.loop.done.items c.push_reserved.new.self.items b c.run_berth.new.berth ran.0 inv.1 (ran.1, c.in_ok-run_berth.ensures.berth) (IsPermutation-refl (inv.0 ++ b ∷ [])) c.run_berth.ensures.slip ran.2 (pushed c.loop.done.items c.reserve.new.self.items c.push_reserved.new.self.items c.run_berth.new.berth c.push_reserved.ensures.items c.in_ok-reserve.ensures.items),
+      run_more g.M.Process.mind c.args.shared.now.window.now.streams c.args.shared.now.window.now.end c.args.shared.now.mailboxes.now inv.0 (inv.0 ++ b ∷ []) c.loop.slip c.run_taken.new.slip
+          c.loop.done.items c.push_reserved.new.self.items b c.run_taken.new.berth ran.0 inv.1 ran.1 (IsPermutation-refl (inv.0 ++ b ∷ [])) c.run_taken.ensures.slip ran.2 (pushed c.loop.done.items c.reserve.new.self.items c.push_reserved.new.self.items c.run_taken.new.berth c.push_reserved.ensures.items c.in_ok-reserve.ensures.items),
       ap (λ (r : RestView _). r.own) took.1 ∙ inv.2,
       ap (λ (r : RestView _). r.out) took.1,
       subst (IsPermutation (old ++ (inv.0 ++ b ∷ []))) (sym (ap (λ (r : RestView _). r.taken) took.1))
@@ -74,5 +69,5 @@ returns-clause-rest g c =
 pub returns-in_err-reserve : goal.returns-in_err-reserve
 returns-in_err-reserve g c = let no = holds_of_none c.from_residual.result c.from_residual.ensures.0 in record { rest = no _; errors = search rules; limit = search rules }
 
-pub returns-in_err-run_berth-clause-rest : goal.returns-in_err-run_berth-clause-rest
-returns-in_err-run_berth-clause-rest g c = holds_of_none c.from_residual-in_err-run_berth.result c.from_residual-in_err-run_berth.ensures.0 _
+pub returns-in_err-run_taken-clause-rest : goal.returns-in_err-run_taken-clause-rest
+returns-in_err-run_taken-clause-rest g c = holds_of_none c.from_residual-in_err-run_taken.result c.from_residual-in_err-run_taken.ensures.0 _

@@ -1,4 +1,5 @@
-use Rattle.std.proofs.Common.{rules, ◌≡◌, ◌<◌, ◌≤◌, [], ◌++◌, ◌∷◌, List, inl, inr, refl, length, subst, sym, ap, ◌∙◌, true, arith, append-nil}
+use Rattle.std.proofs.Common.{rules, ◌≡◌, ◌<◌, ◌≤◌, [], ◌++◌, ◌∷◌, List, inl, inr, refl, length, subst, sym, ap, ◌∙◌, true, arith, append-nil, ⊎_elim}
+use Rattle.std.proofs.lemmas.List.Elements.{All-nil}
 use Rattle.process_api.specs.EntryRecord.{EntryRecord}
 use Rattle.trace_laws.specs.ScenarioSetting.{setting_of}
 use Rattle.trace_laws.specs.World.{IsTrace}
@@ -6,7 +7,8 @@ use Rattle.windows.specs.Stage.{IsStageAfter}
 use Rattle.window_laws.specs.Theorems.{end_to_end}
 use Rattle.windows.proofs.Closing.{stage_trace, stage_front}
 use Rattle.windows.proofs.Handed.{took_more, end_to_end_more, on_err, found_equal, trace_within}
-use Rattle.windows.proofs.Refused.{holds_of_none}
+use Rattle.windows.proofs.Cut.{all_from_zero, stage_cut, not_of_sink}
+use Rattle.windows.proofs.Refused.{holds_of_none, not_err}
 use Rattle.windows.proofs.run.run_machines.Goals as goal
 
 pub returns-in_err-stage-clause-front : goal.returns-in_err-stage-clause-front
@@ -27,6 +29,27 @@ returns-in_err-part-clause-front g c =
           let r = stage_front mind c.loop-alloc.stage (end_to_end parts.0) parts.2 whole (subst (λ s. IsTrace (setting_of s) whole) (sym c.loop-alloc.invariant.scenario) t) in
           (r.0, r.1 ∙ ap (λ es. es ++ r.0) (sym (append-nil (end_to_end parts.0))));
     })
+
+pub returns-clause-closed : goal.returns-clause-closed
+returns-clause-closed g c = λ is. ⊎_elim (λ e. absurd (not_err _ _ e)) (λ e. absurd (not_err _ _ e)) is
+
+pub returns-in_err-stage-clause-closed : goal.returns-in_err-stage-clause-closed
+returns-in_err-stage-clause-closed g c = λ is. record { parts = []; took_all = refl; tick = 0; before = All-nil (λ e. e.key.tick < 0); after = λ whole t. (whole, refl, all_from_zero whole) }
+
+pub returns-in_err-part-clause-closed : goal.returns-in_err-part-clause-closed
+returns-in_err-part-clause-closed g c = λ is.
+    let was = c.loop-alloc.invariant in
+    let parts = was.parts in
+    record {
+      parts = parts.0;
+      took_all = parts.1;
+      tick = c.loop-alloc.stage.start;
+      before = parts.2.before;
+      after = stage_cut g.M.Process.mind c.loop-alloc.stage (end_to_end parts.0) parts.2 c.args.scenario.now was.scenario c.horizon-horizon.ensures.ranges;
+    }
+
+pub returns-in_err-part-2-clause-closed : goal.returns-in_err-part-2-clause-closed
+returns-in_err-part-2-clause-closed g c = λ is. absurd (not_of_sink c.from_residual-in_err-part-2.result (search rules) is)
 
 pub returns-in_err-part-clause-limit : goal.returns-in_err-part-clause-limit
 returns-in_err-part-clause-limit g c is =

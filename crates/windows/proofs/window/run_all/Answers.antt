@@ -17,3 +17,6 @@ pub returns-clause-outcome : goal.returns-clause-outcome
 returns-clause-outcome g c lists are =
     outcome g.M.Process.mind c.args.window.now.streams c.args.window.now.end _ c.args.window.now.left c.args.berths.items c.in_ok-done.done.items _ c.in_ok-done.slips.items lists c.in_ok-done.ensures.run
     c.requires.ready c.requires.rising c.in_order.ensures.same c.in_order.ensures.rising are.count are.each
+
+pub returns-clause-workers : goal.returns-clause-workers
+returns-clause-workers g c = c.in_ok-done.ensures.workers

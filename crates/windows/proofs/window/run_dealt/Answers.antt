@@ -1,12 +1,11 @@
-use Rattle.std.proofs.Common.{rules, ◌≡◌, map, sym, ap, ◌∙◌, subst}
-use Rattle.std.proofs.lemmas.List.Elements.{All-weaker}
+use Rattle.std.proofs.Common.{rules, ◌≡◌, sym, ap, ◌∙◌, subst}
 use Rattle.deques.specs.Deques.{deques_of, all_put}
-use Rattle.windows.specs.Shared.{AreReady, IsOneTooLong, IsFreshIn, IsStart, IsWorkIn}
-use Rattle.windows.specs.Workers.{dealt_to, BringsTogether}
+use Rattle.windows.specs.Shared.{AreReady, IsOneTooLong, IsFreshIn, IsStart, HadWindow}
+use Rattle.windows.specs.Workers.{dealt_to}
 use Rattle.windows.specs.declared.workers.Start.{Start}
-use Rattle.windows.specs.declared.workers.Work.{Work}
-use Rattle.windows.proofs.Gathered.{all_both, run_of_parts}
-use Rattle.windows.proofs.Refused.{holds_of_none}
+use Rattle.windows.proofs.Gathered.{all_both}
+use Rattle.windows.proofs.Refused.{holds_of_none, one_refused}
+use Rattle.windows.proofs.Settled.{if_ok}
 use Rattle.windows.proofs.window.run_dealt.Goals as goal
 
 pub in_threads-requires-clause-starts : goal.in_threads-requires-clause-starts
@@ -16,54 +15,33 @@ in_threads-requires-clause-starts g c κs within =
     all_both (IsFreshIn w) Knows (IsStart g.M.Process.mind w) (λ s f k. (f, subst (AreReady g.M.Process.mind w.window.now) (sym k) c.requires.ready))
     c.args.starts.items c.requires.fresh c.requires.known
 
-pub returns-in_err-works-clause-limit : goal.returns-in_err-works-clause-limit
-returns-in_err-works-clause-limit g c is = c.in_threads.ensures.limit (search rules) (dealt_to c.args.starts.items) c.requires.known
+pub bring_together-requires-clause-deques : goal.bring_together-requires-clause-deques
+bring_together-requires-clause-deques g c κs within = c.requires.deques ∙ ap deques_of (sym c.in_ok-works.ensures.own)
 
-pub gather-requires : goal.gather-requires
-gather-requires g c =
-    let w = c.args.shared.now in
-    let OfAll : Work _ → Type 0 = λ x. x.hand.deques ≡ deques_of (map (λ (y : Work _). y.hand.own) c.in_ok-works.works.items) in
-    let same : w.fronts.now.items ≡ deques_of (map (λ (y : Work _). y.hand.own) c.in_ok-works.works.items) = c.requires.deques ∙ ap deques_of (sym c.in_ok-works.ensures.own) in
-    (search rules, All-weaker (IsWorkIn g.M.Process.mind w) OfAll (λ x is. is.of_deques ∙ same) c.in_ok-works.works.items c.in_ok-works.ensures.works)
+pub bring_together-requires-clause-ready : goal.bring_together-requires-clause-ready
+bring_together-requires-clause-ready g c κs within =
+    subst (λ l. AreReady g.M.Process.mind c.args.shared.now.window.now (all_put l)) (sym c.in_ok-works.ensures.own) c.requires.ready
 
-pub run_rest-requires-clause-ready : goal.run_rest-requires-clause-ready
-run_rest-requires-clause-ready g c κs within =
-    let put : all_put c.in_ok-rest.rest.own ≡ dealt_to c.args.starts.items = ap all_put (c.in_ok-rest.ensures.own ∙ c.in_ok-works.ensures.own) in
-    subst (AreReady g.M.Process.mind c.args.shared.now.window.now) (sym put) c.requires.ready
-
-pub returns-in_err-last-clause-limit : goal.returns-in_err-last-clause-limit
-returns-in_err-last-clause-limit g c is =
-    let put : all_put c.in_ok-rest.rest.own ≡ dealt_to c.args.starts.items = ap all_put (c.in_ok-rest.ensures.own ∙ c.in_ok-works.ensures.own) in
-    subst (IsOneTooLong g.M.Process.mind c.args.shared.now.window.now) put (c.run_rest.ensures.limit (search rules))
+pub bring_together-requires-clause-works : goal.bring_together-requires-clause-works
+bring_together-requires-clause-works g c κs within = c.in_ok-works.ensures.works
 
 pub returns-clause-run : goal.returns-clause-run
 returns-clause-run g c =
     let w = c.args.shared.now in
-    let put : all_put c.in_ok-rest.rest.own ≡ dealt_to c.args.starts.items = ap all_put (c.in_ok-rest.ensures.own ∙ c.in_ok-works.ensures.own) in
-    let same : w.fronts.now.items ≡ deques_of (map (λ (y : Work _). y.hand.own) c.in_ok-works.works.items) = c.requires.deques ∙ ap deques_of (sym c.in_ok-works.ensures.own) in
-    let brings = subst (λ d. BringsTogether g.M.Process.mind d c.in_ok-works.works.items c.in_ok-rest.rest.taken c.in_ok-rest.done.items c.in_ok-rest.slips.items) (sym same) c.in_ok-rest.ensures.works in
-    let are = brings _ _ _ c.in_ok-works.ensures.works in
-    run_of_parts g.M.Process.mind w.window.now.streams w.window.now.end w.mailboxes.now _ _ c.in_ok-rest.rest c.run_rest.new.rest (dealt_to c.args.starts.items)
-    c.in_ok-rest.done.items c.in_ok-last.last.items c.append.new.self.items c.in_ok-rest.slips.items c.push.new.self.items c.in_ok-last.slip
-    are c.in_ok-last.ensures.rest (search rules) (search rules) put c.in_ok-append.ensures.items c.in_ok-push.ensures.items w.boxes
+    if_ok c.bring_together.result _ _ (λ r run. subst (λ l. HadWindow g.M.Process.mind w.window.now w.mailboxes.now (all_put l) r.0.items r.1.items) c.in_ok-works.ensures.own run) c.bring_together.ensures.run
+
+pub returns-clause-errors : goal.returns-clause-errors
+returns-clause-errors g c = one_refused c.bring_together.result c.bring_together.ensures.errors
+
+pub returns-clause-limit : goal.returns-clause-limit
+returns-clause-limit g c is =
+    subst (λ l. IsOneTooLong g.M.Process.mind c.args.shared.now.window.now (all_put l)) c.in_ok-works.ensures.own (c.bring_together.ensures.limit is)
+
+pub returns-in_err-works-clause-limit : goal.returns-in_err-works-clause-limit
+returns-in_err-works-clause-limit g c is = c.in_threads.ensures.limit (search rules) (dealt_to c.args.starts.items) c.requires.known
 
 pub returns-in_err-works-clause-slips : goal.returns-in_err-works-clause-slips
 returns-in_err-works-clause-slips g c = holds_of_none c.from_residual.result c.from_residual.ensures.0 _
 
 pub returns-in_err-works-clause-run : goal.returns-in_err-works-clause-run
 returns-in_err-works-clause-run g c = holds_of_none c.from_residual.result c.from_residual.ensures.0 _
-
-pub returns-in_err-rest : goal.returns-in_err-rest
-returns-in_err-rest g c = let no = holds_of_none c.from_residual-in_err-rest.result c.from_residual-in_err-rest.ensures.0 in record { slips = no _; run = no _; errors = search rules; limit = search rules }
-
-pub returns-in_err-last-clause-slips : goal.returns-in_err-last-clause-slips
-returns-in_err-last-clause-slips g c = holds_of_none c.from_residual-in_err-last.result c.from_residual-in_err-last.ensures.0 _
-
-pub returns-in_err-last-clause-run : goal.returns-in_err-last-clause-run
-returns-in_err-last-clause-run g c = holds_of_none c.from_residual-in_err-last.result c.from_residual-in_err-last.ensures.0 _
-
-pub returns-in_err-append : goal.returns-in_err-append
-returns-in_err-append g c = let no = holds_of_none c.from_residual-in_err-append.result c.from_residual-in_err-append.ensures.0 in record { slips = no _; run = no _; errors = search rules; limit = search rules }
-
-pub returns-in_err-push : goal.returns-in_err-push
-returns-in_err-push g c = let no = holds_of_none c.from_residual-in_err-push.result c.from_residual-in_err-push.ensures.0 in record { slips = no _; run = no _; errors = search rules; limit = search rules }

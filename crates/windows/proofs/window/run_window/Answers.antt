@@ -1,6 +1,4 @@
-use Rattle.std.proofs.Common.{rules, ◌≡◌, ◌+◌, ◌-◌, min, sym, ap, ◌∙◌, subst, inl, inr, Result, Ok, Err, IfErr}
-use Rattle.run_error.specs.declared.error.RunError.{RunError}
-use Rattle.windows.specs.Refusals.{IsRefusal, IsRefusalOfOne}
+use Rattle.std.proofs.Common.{rules, ◌≡◌, ◌+◌, ◌-◌, min, sym, ap, ◌∙◌, subst, arith}
 use Rattle.std.specs.Global.{Vec}
 use Rattle.scenario_record.specs.Record.{Record}
 use Rattle.trace_laws.specs.ScenarioSetting.{setting_of}
@@ -9,8 +7,8 @@ use Rattle.window_laws.specs.Machine.{end_of}
 use Rattle.windows.specs.Workers.{RiseBy}
 use Rattle.windows.specs.declared.berth.Berth.{Berth}
 use Rattle.windows.proofs.Posted.{outcome_by, many_by, rising_by, disjoint_by, limit_by, next_by}
-use Rattle.windows.proofs.Settled.{sum_of, if_ok, long_at, ready_at, stage_ready, stage_rises, long_limit}
-use Rattle.windows.proofs.Refused.{holds_of_none}
+use Rattle.windows.proofs.Settled.{sum_of, if_ok, count_at, long_at, ready_at, stage_ready, stage_rises, long_limit}
+use Rattle.windows.proofs.Refused.{holds_of_none, one_refused}
 use Rattle.windows.proofs.window.run_window.Goals as goal
 
 pub run_all-requires-clause-ready : goal.run_all-requires-clause-ready
@@ -96,16 +94,23 @@ returns-clause-run g c =
     (λ part closed. (next_by mind old c.processes-processes.ensures.ranges c.requires.stage.0 c.requires.stage.1 c.args.plan.now.window c.requires.plan _ _ by c.close.new.self c.close.ensures.scenario left sum part.items closed).1)
     c.close.ensures.closed
 
-one_refused : {X : Type 0} (r : Result X RunError) → IfErr r IsRefusalOfOne → IfErr r IsRefusal
-one_refused (Ok x) h = h
-one_refused (Err e) (inl limit) = inl limit
-one_refused (Err e) (inr memory) = inr (inl memory)
+pub returns-clause-workers : goal.returns-clause-workers
+returns-clause-workers g c =
+    let old = c.args.stage.now in
+    let end : c.cut_at-end.result ≡ end_of (setting_of old.scenario.now) c.args.plan.now.window old.start = c.cut_at-end.ensures ∙ (λ i. min (old.start + c.window.ensures.value i) (c.horizon.ensures.value i)) in
+    let ran = c.in_ok-ran.ensures.workers in
+    if_ok c.close.result _ _
+    (λ part closed. count_at _ _ _ _ _ _ _ _ end c.workers-workers.ensures.value (ap (λ (v : Vec _). v.items) c.replace-berths.ensures.value) (omega (arith, closed, ran.2)) ran.1)
+    c.close.ensures.workers
+
+pub close-requires-clause-starter : goal.close-requires-clause-starter
+close-requires-clause-starter g c κs within = omega (arith, c.in_ok-ran.ensures.workers.2)
 
 pub returns-clause-errors : goal.returns-clause-errors
 returns-clause-errors g c = one_refused c.close.result c.close.ensures.errors
 
 pub returns-in_err-mailboxes : goal.returns-in_err-mailboxes
-returns-in_err-mailboxes g c = let no = holds_of_none c.from_residual.result c.from_residual.ensures.0 in record { scenario = no _; stage = no _; run = no _; errors = search rules; limit = search rules }
+returns-in_err-mailboxes g c = let no = holds_of_none c.from_residual.result c.from_residual.ensures.0 in record { scenario = no _; stage = no _; run = no _; workers = no _; errors = search rules; limit = search rules }
 
 pub returns-in_err-ran-clause-scenario : goal.returns-in_err-ran-clause-scenario
 returns-in_err-ran-clause-scenario g c = holds_of_none c.from_residual-in_err-ran.result c.from_residual-in_err-ran.ensures.0 _
@@ -115,3 +120,6 @@ returns-in_err-ran-clause-stage g c = holds_of_none c.from_residual-in_err-ran.r
 
 pub returns-in_err-ran-clause-run : goal.returns-in_err-ran-clause-run
 returns-in_err-ran-clause-run g c = holds_of_none c.from_residual-in_err-ran.result c.from_residual-in_err-ran.ensures.0 _
+
+pub returns-in_err-ran-clause-workers : goal.returns-in_err-ran-clause-workers
+returns-in_err-ran-clause-workers g c = holds_of_none c.from_residual-in_err-ran.result c.from_residual-in_err-ran.ensures.0 _

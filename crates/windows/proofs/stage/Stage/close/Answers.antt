@@ -52,10 +52,10 @@ returns-clause-closed g c =
     )
 
 pub returns-in_err-berths : goal.returns-in_err-berths
-returns-in_err-berths g c = let no = holds_of_none c.from_residual.result c.from_residual.ensures.0 in record { scenario = search rules; closed = no _; errors = search rules; limit = search rules }
+returns-in_err-berths g c = let no = holds_of_none c.from_residual.result c.from_residual.ensures.0 in record { scenario = search rules; closed = no _; workers = no _; errors = search rules; limit = search rules }
 
 pub returns-in_err-merged : goal.returns-in_err-merged
-returns-in_err-merged g c = let no = holds_of_none c.from_residual-in_err-merged.result c.from_residual-in_err-merged.ensures.0 in record { scenario = search rules; closed = no _; errors = search rules; limit = search rules }
+returns-in_err-merged g c = let no = holds_of_none c.from_residual-in_err-merged.result c.from_residual-in_err-merged.ensures.0 in record { scenario = search rules; closed = no _; workers = no _; errors = search rules; limit = search rules }
 
 pub returns-in_err-berths-2 : goal.returns-in_err-berths-2
-returns-in_err-berths-2 g c = let no = holds_of_none c.from_residual-in_err-berths-2.result c.from_residual-in_err-berths-2.ensures.0 in record { scenario = search rules; closed = no _; errors = search rules; limit = search rules }
+returns-in_err-berths-2 g c = let no = holds_of_none c.from_residual-in_err-berths-2.result c.from_residual-in_err-berths-2.ensures.0 in record { scenario = search rules; closed = no _; workers = no _; errors = search rules; limit = search rules }

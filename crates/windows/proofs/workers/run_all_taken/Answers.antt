@@ -1,0 +1,65 @@
+use Rattle.std.proofs.Common.{rules, ◌≡◌, refl, ap, ◌∙◌, subst}
+use Rattle.std.specs.List.{Contains}
+use Rattle.std.proofs.lemmas.List.Elements.{All-contains}
+use Rattle.deques.specs.Deques.{HandView}
+use Rattle.windows.specs.Workers.{IsReady}
+use Rattle.windows.specs.declared.berth.Berth.{Berth}
+use Rattle.windows.proofs.Work.{pushed, took_known, took_own, work_begins, work_more, same_work}
+use Rattle.windows.proofs.Refused.{holds_of_none}
+use Rattle.windows.proofs.workers.run_all_taken.Goals as goal
+use Rattle.windows.proofs.workers.run_all_taken.Goals.{in-None, in-Some+in_ok-reserve+in_default}
+
+pub loop-init : goal.loop-init
+loop-init g c = (work_begins g.M.Process.mind c.args.shared.now.window.now.streams c.args.shared.now.window.now.end c.args.shared.now.mailboxes.now c.args.shared.now.fronts.now.items _ _ _ c.requires.fresh c.new-done.ensures.items, refl, refl)
+
+pub run_taken-requires-clause-ready : goal.run_taken-requires-clause-ready
+run_taken-requires-clause-ready g c κs within =
+    All-contains (IsReady g.M.Process.mind c.args.shared.now.window.now.streams c.args.shared.now.window.now.left) c.args.hand.now.known c.in-Some-take.berth c.requires.ready
+    (subst (λ l. Contains l c.in-Some-take.berth) c.loop.invariant.1 c.in-Some-take.ensures.3)
+
+pub run_taken-requires-clause-slip : goal.run_taken-requires-clause-slip
+run_taken-requires-clause-slip g c κs within = c.loop.invariant.0.run.of_mailboxes
+
+pub loop-preserved : goal.loop-preserved
+loop-preserved g c =
+    let ran = c.in_ok-run_taken.ensures.ran in
+    let inv = c.loop.invariant in
+    let took = c.in-Some-take.ensures in
+    let b = c.in-Some-take.berth in (
+      work_more g.M.Process.mind c.args.shared.now.window.now.streams c.args.shared.now.window.now.end c.args.shared.now.mailboxes.now c.args.shared.now.fronts.now.items c.loop.hand c.take.new.self c.loop.slip c.run_taken.new.slip
+          c.loop.done.items c.push_reserved.new.self.items b c.run_taken.new.berth ran.0 inv.0 ran.1
+          took c.run_taken.ensures.slip ran.2 (pushed c.loop.done.items c.reserve.new.self.items c.push_reserved.new.self.items c.run_taken.new.berth c.push_reserved.ensures.items c.in_ok-reserve.ensures.items),
+      took_known c.loop.hand c.take.new.self b took c.args.hand.now.known inv.1,
+      took_own c.loop.hand c.take.new.self b took c.args.hand.now inv.2,
+    )
+
+pub returns-in_err-run_taken-clause-limit : goal.returns-in_err-run_taken-clause-limit
+returns-in_err-run_taken-clause-limit g c is = (
+  c.in-Some-take.berth,
+  subst (λ l. Contains l c.in-Some-take.berth) c.loop.invariant.1 c.in-Some-take.ensures.3,
+  λ history after rest letters run. c.run_taken.ensures.limit (search rules) history after rest letters run,
+)
+
+pub returns-clause-work : goal.returns-clause-work
+returns-clause-work g c =
+    elim c.match-next.branch [
+      | in-None w ↦ absurd (search rules)
+      | in-Some+in_ok-reserve+in_default w ↦ same_work g.M.Process.mind c.args.shared.now.window.now.streams c.args.shared.now.window.now.end c.args.shared.now.mailboxes.now c.args.shared.now.fronts.now.items c.loop.hand c.match-next.hand c.loop.slip c.loop.done.items c.match-next.done.items c.loop.invariant.0
+          (search rules) (search rules)
+    ]
+
+pub returns-clause-own : goal.returns-clause-own
+returns-clause-own g c =
+    elim c.match-next.branch [
+      | in-None w ↦ absurd (search rules)
+      | in-Some+in_ok-reserve+in_default w ↦ let same : c.match-next.hand ≡ c.loop.hand = search rules in ap (λ (h : HandView (Berth _)). h.own) same ∙ c.loop.invariant.2
+    ]
+
+pub returns-in_err-reserve : goal.returns-in_err-reserve
+returns-in_err-reserve g c = let no = holds_of_none c.from_residual.result c.from_residual.ensures.0 in record { own = no _; work = no _; errors = search rules; limit = search rules }
+
+pub returns-in_err-run_taken-clause-own : goal.returns-in_err-run_taken-clause-own
+returns-in_err-run_taken-clause-own g c = holds_of_none c.from_residual-in_err-run_taken.result c.from_residual-in_err-run_taken.ensures.0 _
+
+pub returns-in_err-run_taken-clause-work : goal.returns-in_err-run_taken-clause-work
+returns-in_err-run_taken-clause-work g c = holds_of_none c.from_residual-in_err-run_taken.result c.from_residual-in_err-run_taken.ensures.0 _

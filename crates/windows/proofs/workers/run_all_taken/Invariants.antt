@@ -1,0 +1,8 @@
+use Rattle.std.proofs.Common.{◌≡◌}
+use Rattle.windows.specs.Shared.{IsWorkBy}
+use Rattle.windows.proofs.workers.run_all_taken.Given as goal
+
+abbrev pub invariant-loop : goal.invariant-loop
+invariant-loop g l =
+    IsWorkBy g.M.Process.mind l.shared l.hand l.slip l.done.items
+    × (l.hand.known ≡ l.initial.hand.known) × (l.hand.own ≡ l.initial.hand.own)
