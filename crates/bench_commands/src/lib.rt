@@ -11,6 +11,8 @@
 #![tactic(auto)]
 
 pub mod bench;
+mod commands;
 pub mod compare;
 pub mod fault;
+mod file;
 pub mod serve;

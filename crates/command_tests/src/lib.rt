@@ -17,6 +17,10 @@ mod outlets;
 #[cfg(test)]
 mod overlap;
 #[cfg(test)]
+mod paths;
+#[cfg(test)]
+mod plans;
+#[cfg(test)]
 mod progress_lines;
 #[cfg(test)]
 mod refusals;
