@@ -1,9 +1,15 @@
--- The exit status of a fault, and which fault of a plan comes.
-use Rattle.std.specs.Prelude.{ℕ}
+-- The exit status of a fault, its line, and which fault of a plan comes.
+use Rattle.std.specs.Prelude.{ℕ, List, [], ◌++◌, codes, decimal}
+use Rattle.run_error.specs.declared.error.RunError.{RunError}
 use Rattle.run_error.specs.declared.error.RunError.TheVariants as run
 use Rattle.bench_commands.specs.declared.fault.Fault.{Fault}
 use Rattle.bench_commands.specs.declared.fault.Fault.TheVariants.{Different, Form, Plan, Run, Scenario, TooLong, Unreadable, WordsMemory}
+use Rattle.scenario.specs.Names.{name_of}
+use Rattle.scenario.specs.declared.error.ScenarioError.{ScenarioError}
+use Rattle.scenario.specs.declared.error.ScenarioError.TheVariants as scenario
 use Rattle.windows.specs.Plan.{IsFirst}
+use Rattle.windows.specs.declared.error.PlanError.{PlanError}
+use Rattle.windows.specs.declared.error.PlanError.TheVariants as plan
 
 -- 1: the scenario or its file is refused, 2: the words are, 3: the plan or the run is, or two runs differ, 4: writing
 -- failed
@@ -19,6 +25,35 @@ status_of (Run run.Limit) = 3
 status_of (Run run.Memory) = 3
 status_of (Run run.Spawn) = 3
 status_of (Run run.Write) = 4
+
+-- what follows the name of a scenario's refusal: the pair of a link that is below the lookahead
+abbrev pub after_name : ScenarioError → List ℕ
+after_name (scenario.BelowLookahead from to) =
+    codes " " ++ (decimal from ++ (codes " " ++ (decimal to ++ codes "\n")))
+after_name _ = codes "\n"
+
+-- the lines of a plan's refusals, and of a run's
+abbrev pub plan_line : PlanError → List ℕ
+plan_line plan.Workers = codes "fdbench: plan: Workers\n"
+plan_line plan.WindowZero = codes "fdbench: plan: WindowZero\n"
+plan_line plan.WindowTooLong = codes "fdbench: plan: WindowTooLong\n"
+
+abbrev pub run_line : RunError → List ℕ
+run_line run.Limit = codes "fdbench: run: Limit\n"
+run_line run.Memory = codes "fdbench: run: Memory\n"
+run_line run.Spawn = codes "fdbench: run: Spawn\n"
+run_line run.Write = codes "fdbench: run: Write\n"
+
+-- the line that is told of a fault: it names the refusal. Of two runs that differ nothing is told
+abbrev pub line_of : Fault → List ℕ
+line_of Form = codes "fdbench: words: Form\n"
+line_of WordsMemory = codes "fdbench: words: Memory\n"
+line_of Unreadable = codes "fdbench: input: unreadable\n"
+line_of TooLong = codes "fdbench: input: too long\n"
+line_of (Scenario refusal) = codes "fdbench: scenario: " ++ (name_of refusal ++ after_name refusal)
+line_of (Plan refusal) = plan_line refusal
+line_of Different = []
+line_of (Run refusal) = run_line refusal
 
 -- the fault is a plan's, and the first that applies to these numbers
 abbrev pub IsFirstFault : (lookahead workers window : ℕ) → Fault → Type 0

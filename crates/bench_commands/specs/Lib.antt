@@ -3,5 +3,6 @@ pub mod Mode
 pub mod Fault
 pub mod Scenario
 pub mod Answer
+pub mod Why
 pub mod Stop
 pub mod Serve

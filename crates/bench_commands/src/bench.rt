@@ -16,7 +16,7 @@ use std::alloc::{AllocError, Global};
 use std::marker::Sync;
 use std::sync::Wait;
 use std::thread::Threads;
-use windows::{OpenGate, Plan};
+use windows::{Gate, Plan};
 
 /// How a run takes its events.
 #[derive(Clone, Copy)]
@@ -29,12 +29,13 @@ pub enum Mode {
 
 /// Runs machines in a mode, and writes what is asked for. There is one for each process, of process 1 first, and each
 /// opens as the scenario says.
-fn bench_machines<R: Threads + Wait + Sync, O: Outlet>(
+fn bench_machines<R: Threads + Wait + Sync, G: Gate, O: Outlet>(
     rt: &R,
     alloc: Global,
     scenario: &Scenario,
     machines: Vec<Box<dyn Process>>,
     mode: Mode,
+    gate: &G,
     print: PrintChoice,
     outlet: &mut O,
 ) -> Result<Summary, RunError>
@@ -49,18 +50,20 @@ fn bench_machines<R: Threads + Wait + Sync, O: Outlet>(
     match mode {
         Mode::List => bench_list(alloc, scenario, machines, print, outlet),
         Mode::Windows(plan) => bench_windows(
-            rt, alloc, scenario, machines, &plan, &OpenGate, print, outlet,
+            rt, alloc, scenario, machines, &plan, gate, print, outlet,
         ),
     }
 }
 
 /// Runs a scenario in a mode, over machines that are made here, and writes what is asked for. What goes out doesn't
-/// depend on the mode. By the event list no thread is started, so none is refused.
-pub fn bench<R: Threads + Wait + Sync, O: Outlet>(
+/// depend on the mode. By the event list no thread is started, so none is refused; by windows a worker tells the gate of
+/// each process that it takes.
+pub fn bench<R: Threads + Wait + Sync, G: Gate, O: Outlet>(
     rt: &R,
     alloc: Global,
     scenario: &Scenario,
     mode: Mode,
+    gate: &G,
     print: PrintChoice,
     outlet: &mut O,
 ) -> Result<Summary, RunError>
@@ -88,5 +91,5 @@ pub fn bench<R: Threads + Wait + Sync, O: Outlet>(
             }
         },
     )?;
-    bench_machines(rt, alloc, scenario, machines, mode, print, outlet)
+    bench_machines(rt, alloc, scenario, machines, mode, gate, print, outlet)
 }

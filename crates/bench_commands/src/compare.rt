@@ -13,7 +13,7 @@ use std::alloc::Global;
 use std::marker::Sync;
 use std::sync::Wait;
 use std::thread::Threads;
-use windows::Plan;
+use windows::{Gate, Plan};
 
 /// Whether two texts are the same, byte by byte.
 pub fn same_bytes(left: &[u8], right: &[u8]) -> bool
@@ -24,11 +24,12 @@ pub fn same_bytes(left: &[u8], right: &[u8]) -> bool
 }
 
 /// Both texts of a run in a mode, in memory. A growth that the outlet is refused is want of memory.
-fn written_by<R: Threads + Wait + Sync>(
+fn written_by<R: Threads + Wait + Sync, G: Gate>(
     rt: &R,
     alloc: Global,
     scenario: &Scenario,
     mode: Mode,
+    gate: &G,
 ) -> Result<MemoryOutlet, RunError>
     requires { IsModeFor scenario.now mode }
     ensures written { IfOk result (λ outlet. IsWritten scenario.now outlet.bytes) }
@@ -36,7 +37,15 @@ fn written_by<R: Threads + Wait + Sync>(
     ensures long { IsErrOf result RunError.Limit → IsTooLong scenario.now }
 {
     let mut outlet = MemoryOutlet::new(alloc);
-    match bench(rt, alloc, scenario, mode, PrintChoice::Both, &mut outlet) {
+    match bench(
+        rt,
+        alloc,
+        scenario,
+        mode,
+        gate,
+        PrintChoice::Both,
+        &mut outlet,
+    ) {
         Ok(_) => Ok(outlet),
         Err(RunError::Write) => Err(RunError::Memory),
         Err(error) => Err(error),
@@ -45,18 +54,19 @@ fn written_by<R: Threads + Wait + Sync>(
 
 /// Runs a scenario by the single event list and by windows, and says whether the texts are the same, trace and report.
 /// They always are.
-pub fn compare<R: Threads + Wait + Sync>(
+pub fn compare<R: Threads + Wait + Sync, G: Gate>(
     rt: &R,
     alloc: Global,
     scenario: &Scenario,
     plan: Plan,
+    gate: &G,
 ) -> Result<bool, RunError>
     requires { IsPlanFor scenario.now plan }
     ensures same { IfOk result (λ same. (same ≡ true) × ((bytes : List ℕ) × IsWritten scenario.now bytes)) }
     ensures other { IfErr result (λ error. error ≢ RunError.Write) }
     ensures long { IsErrOf result RunError.Limit → IsTooLong scenario.now }
 {
-    let listed = written_by(rt, alloc, scenario, Mode::List)?;
-    let windowed = written_by(rt, alloc, scenario, Mode::Windows(plan))?;
+    let listed = written_by(rt, alloc, scenario, Mode::List, gate)?;
+    let windowed = written_by(rt, alloc, scenario, Mode::Windows(plan), gate)?;
     Ok(same_bytes(listed.bytes(), windowed.bytes()))
 }

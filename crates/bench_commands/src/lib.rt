@@ -3,14 +3,20 @@
 //! The one contract is that of [`serve::serve`]: with status 0 the outlet grows by what the words ask for, which for
 //! `list` and `run` is the texts of the scenario's one trace, and for `compare` is `same`; with status 4 by a front
 //! part of it; with another status by nothing, but that a `run` of status 3 may leave the trace's first line and rows.
-//! The texts are defined by `reporting`, in its `specs/TraceText.antt` and `specs/ReportText.antt`, the trace by the
-//! definitions of `trace_laws`, and the words by `command_line`. The process ends with the status, by the contract of
-//! [`serve::finish`].
+//! What is told with a status other than 0 is the line of its fault, which comes for a reason that holds
+//! (`specs/Why.antt`). The texts are defined by `reporting`, in its `specs/TraceText.antt` and `specs/ReportText.antt`,
+//! the trace by the definitions of `trace_laws`, and the words by `command_line`. The process ends with the status, by
+//! the contract of [`serve::finish`].
+//!
+//! That a run goes by the plan that is asked for no text shows. [`serve::carry_out`] is lent a gate, which a worker tells
+//! of each process that it takes.
 //!
 //! For example, the words `fdbench compare - --workers 2 --window 1` over a file with two processes print `same`.
 #![tactic(auto)]
 
 pub mod bench;
+mod commands;
 pub mod compare;
 pub mod fault;
+mod file;
 pub mod serve;

@@ -1,226 +1,68 @@
 //! One run of the program.
-ghost use Rattle.std.specs.Prelude.{◌≡◌, ◌≢◌, ◌⊎◌, ◌^◌, ◌-◌, ◌+◌, ◌<◌, ◌≤◌, IfOk, IfErr, OnOk, true, map};
+ghost use Rattle.std.specs.Prelude.{◌≡◌, ◌≢◌, ◌⊎◌, ◌^◌, ◌-◌, ◌+◌, ◌<◌, ◌≤◌, IfErr, OnOk, map};
 ghost use Rattle.std.specs.Io.KnownBytes.{Keeps};
 ghost use Rattle.std.specs.Process.{exit_status};
 ghost use Rattle.command_line.specs.Told.{IsHelp};
 ghost use Rattle.reporting.specs.Writing.{WroteNothing};
-ghost use Rattle.bench_commands.specs.Answer.{Answers, AsksRun, IsCheckAnswer, IsCompareAnswer, IsListAnswer, IsRunAnswer, IsRunFront, IsRunText, IsSameLine, Leaves, Writes, path_of};
-ghost use Rattle.bench_commands.specs.Fault.{IsFirstFault, status_of};
-ghost use Rattle.bench_commands.specs.Scenario.{IsScenarioAt};
-ghost use Rattle.bench_commands.specs.Serve.{IsAsked, IsRunAsked, LeftOf, NamesNoInput, Serves, ServesFor};
-ghost use Rattle.bench_commands.specs.Stop.{Stops, Went, WentPart};
+ghost use Rattle.bench_commands.specs.Answer.{Answers, Leaves, Writes, path_of};
+ghost use Rattle.bench_commands.specs.Serve.{IsAsked, IsRunAsked, IsWhy, LeftOf, NamesNoInput, Serves, ServesFor, TellsOf};
+ghost use Rattle.bench_commands.specs.Stop.{Stops, Tells, Went, WentPart};
+ghost use Rattle.bench_commands.specs.Why.{StopsFor};
 ghost use Rattle.sources.specs.Input.{TakesAtMost, input_path, most_bytes};
-ghost use Rattle.windows.specs.Plan.{IsPlanFor, NoneApplies};
 
-use crate::bench::{Mode, bench};
-use crate::compare::compare;
+use crate::commands::answer;
 use crate::fault::Fault;
+use crate::file::scenario_at;
 use command_line::{Order, Told, read_words, told_of};
 use event_list::RunError;
-use qos_report::{Outlet, PrintChoice, StreamOutlet, put_all};
-use scenario::{Scenario, ScenarioError, read_scenario};
-use sources::{InputError, bytes_at};
-use std::alloc::{AllocError, Global};
+use qos_report::{Outlet, StreamOutlet, put_all};
+use std::alloc::Global;
 use std::io::{Read, Write};
 use std::marker::Sync;
 use std::process::ExitCode;
 use std::rt::Files;
 use std::sync::Wait;
 use std::thread::Threads;
-use windows::Plan;
+use windows::{Gate, OpenGate};
 
-/// The scenario at a path; `-` is the input.
-fn scenario_at<R: Files, I: Read>(
-    rt: &R,
-    alloc: Global,
-    path: &str,
-    input: &mut I,
-) -> Result<Scenario, Fault>
-    ensures stands { IfOk result (IsScenarioAt (I.remaining input.old) path.now) }
-    ensures refused { IfErr result (λ fault. status_of fault ≡ 1) }
-    ensures taken { TakesAtMost (most_bytes + 1) (I.remaining input.old) (I.remaining input.new) }
-    ensures untouched { path.now ≢ input_path → input.new ≡ input.old }
-{
-    let bytes = match bytes_at(rt, alloc, path, input) {
-        Ok(bytes) => bytes,
-        Err(InputError::NoSuchFile | InputError::Unreadable) => return Err(Fault::Unreadable),
-        Err(InputError::TooLong) => return Err(Fault::TooLong),
-        Err(InputError::Memory) => return Err(Fault::Scenario(ScenarioError::Memory(AllocError))),
-    };
-    match read_scenario(alloc, &bytes) {
-        Ok(scenario) => Ok(scenario),
-        Err(error) => Err(Fault::Scenario(error)),
-    }
-}
-
-/// Answers `check`: `ok` and a line feed.
-fn serve_check<R: Files, I: Read, O: Outlet>(
-    rt: &R,
-    alloc: Global,
-    path: &str,
-    input: &mut I,
-    outlet: &mut O,
-) -> Result<(), Fault>
-    requires { O.failed outlet.old < 2 ^ 64 - 1 }
-    ensures done { let wanted = IsCheckAnswer (I.remaining input.old) path.now in
-        OnOk result (Went O.told O.failed outlet.old outlet.new wanted) }
-    ensures stops { let wanted = IsCheckAnswer (I.remaining input.old) path.now in
-        IfErr result (Stops O.told O.failed outlet.old outlet.new wanted (λ _. ⊥) (I.remaining input.old) path.now) }
-    ensures no_run { IfErr result (λ fault. status_of fault ≢ 3) }
-    ensures taken { TakesAtMost (most_bytes + 1) (I.remaining input.old) (I.remaining input.new) }
-    ensures untouched { path.now ≢ input_path → input.new ≡ input.old }
-{
-    scenario_at(rt, alloc, path, input)?;
-    if put_all(outlet, b"ok\n") {
-        Ok(())
-    } else {
-        Err(Fault::Run(RunError::Write))
-    }
-}
-
-/// Answers `list`: the texts of the run.
-fn serve_list<R: Files + Threads + Wait + Sync, I: Read, O: Outlet>(
-    rt: &R,
-    alloc: Global,
-    path: &str,
-    print: PrintChoice,
-    input: &mut I,
-    outlet: &mut O,
-) -> Result<(), Fault>
-    requires { O.failed outlet.old < 2 ^ 64 - 1 }
-    ensures done { let wanted = IsListAnswer (I.remaining input.old) path.now print in
-        OnOk result (Went O.told O.failed outlet.old outlet.new wanted) }
-    ensures stops { let wanted = IsListAnswer (I.remaining input.old) path.now print in
-        IfErr result (Stops O.told O.failed outlet.old outlet.new wanted (λ _. ⊥) (I.remaining input.old) path.now) }
-    ensures taken { TakesAtMost (most_bytes + 1) (I.remaining input.old) (I.remaining input.new) }
-    ensures untouched { path.now ≢ input_path → input.new ≡ input.old }
-{
-    let scenario = scenario_at(rt, alloc, path, input)?;
-    match bench(rt, alloc, &scenario, Mode::List, print, outlet) {
-        Ok(_) => Ok(()),
-        Err(error) => Err(Fault::Run(error)),
-    }
-}
-
-/// The plan of a run by windows.
-fn plan_for(scenario: &Scenario, workers: u64, window: u64) -> Result<Plan, Fault>
-    ensures plan { IfOk result (λ p. IsPlanFor scenario.now p × NoneApplies scenario.now.lookahead workers window) }
-    ensures refused { IfErr result (IsFirstFault scenario.now.lookahead workers window) }
-{
-    match Plan::new(scenario, workers, window) {
-        Ok(plan) => Ok(plan),
-        Err(error) => Err(Fault::Plan(error)),
-    }
-}
-
-/// Answers `run`: the texts of the run, which are those that `list` writes. Rows of the trace go out as windows close.
-fn serve_run<R: Files + Threads + Wait + Sync, I: Read, O: Outlet>(
-    rt: &R,
-    alloc: Global,
-    path: &str,
-    workers: u64,
-    window: u64,
-    print: PrintChoice,
-    input: &mut I,
-    outlet: &mut O,
-) -> Result<(), Fault>
-    requires { O.failed outlet.old < 2 ^ 64 - 1 }
-    ensures done { let wanted = IsRunAnswer (I.remaining input.old) path.now workers window print in
-        OnOk result (Went O.told O.failed outlet.old outlet.new wanted) }
-    ensures stops { let written = IsRunText (I.remaining input.old) path.now workers window print in
-        let left = IsRunFront (I.remaining input.old) path.now workers window print in
-        IfErr result (Stops O.told O.failed outlet.old outlet.new written left (I.remaining input.old) path.now) }
-    ensures taken { TakesAtMost (most_bytes + 1) (I.remaining input.old) (I.remaining input.new) }
-    ensures untouched { path.now ≢ input_path → input.new ≡ input.old }
-{
-    let scenario = scenario_at(rt, alloc, path, input)?;
-    let plan = plan_for(&scenario, workers, window)?;
-    match bench(rt, alloc, &scenario, Mode::Windows(plan), print, outlet) {
-        Ok(_) => Ok(()),
-        Err(error) => Err(Fault::Run(error)),
-    }
-}
-
-/// Says whether both runs wrote the same: `same` or `different`, and a line feed.
-fn put_verdict<O: Outlet>(same: bool, outlet: &mut O) -> Result<(), Fault>
-    requires { O.failed outlet.old < 2 ^ 64 - 1 }
-    ensures done { OnOk result (Went O.told O.failed outlet.old outlet.new IsSameLine) }
-    ensures broken { same ≡ true → IfErr result (λ _. WentPart O.told O.failed outlet.old outlet.new IsSameLine) }
-    ensures status { same ≡ true → IfErr result (λ fault. status_of fault ≡ 4) }
-{
-    if same {
-        if put_all(outlet, b"same\n") {
-            Ok(())
-        } else {
-            Err(Fault::Run(RunError::Write))
-        }
-    } else if put_all(outlet, b"different\n") {
-        Err(Fault::Different)
-    } else {
-        Err(Fault::Run(RunError::Write))
-    }
-}
-
-/// Answers `compare`: `same`, as both runs always write the same.
-fn serve_compare<R: Files + Threads + Wait + Sync, I: Read, O: Outlet>(
-    rt: &R,
-    alloc: Global,
-    path: &str,
-    workers: u64,
-    window: u64,
-    input: &mut I,
-    outlet: &mut O,
-) -> Result<(), Fault>
-    requires { O.failed outlet.old < 2 ^ 64 - 1 }
-    ensures done { let wanted = IsCompareAnswer (I.remaining input.old) path.now workers window in
-        OnOk result (Went O.told O.failed outlet.old outlet.new wanted) }
-    ensures stops { let wanted = IsCompareAnswer (I.remaining input.old) path.now workers window in
-        IfErr result (Stops O.told O.failed outlet.old outlet.new wanted (λ _. ⊥) (I.remaining input.old) path.now) }
-    ensures taken { TakesAtMost (most_bytes + 1) (I.remaining input.old) (I.remaining input.new) }
-    ensures untouched { path.now ≢ input_path → input.new ≡ input.old }
-{
-    let scenario = scenario_at(rt, alloc, path, input)?;
-    let plan = plan_for(&scenario, workers, window)?;
-    match compare(rt, alloc, &scenario, plan) {
-        Ok(same) => put_verdict(same, outlet),
-        Err(error) => Err(Fault::Run(error)),
-    }
-}
-
-/// Does what an order asks for.
-fn carry_out<R: Files + Threads + Wait + Sync, I: Read, O: Outlet>(
-    rt: &R,
-    alloc: Global,
-    order: Order<'_>,
-    input: &mut I,
-    outlet: &mut O,
-) -> Result<(), Fault>
-    requires { O.failed outlet.old < 2 ^ 64 - 1 }
-    ensures done { let wanted = Answers (I.remaining input.old) order.entry in
-        OnOk result (Went O.told O.failed outlet.old outlet.new wanted) }
-    ensures stops { let written = Writes (I.remaining input.old) order.entry in
-        let left = Leaves (I.remaining input.old) order.entry in
-        let path = path_of order.entry in
-        IfErr result (Stops O.told O.failed outlet.old outlet.new written left (I.remaining input.old) path) }
-    ensures no_run { IfErr result (λ fault. status_of fault ≡ 3 → AsksRun order.entry) }
-    ensures taken { TakesAtMost (most_bytes + 1) (I.remaining input.old) (I.remaining input.new) }
-    ensures untouched { path_of order.entry ≢ input_path → input.new ≡ input.old }
+/// Where the scenario file of an order is.
+fn path_in<'a>(order: &Order<'a>) -> &'a str
+    ensures { result.now ≡ path_of order.now }
 {
     match order {
-        Order::Check { path } => serve_check(rt, alloc, path, input, outlet),
-        Order::List { path, print } => serve_list(rt, alloc, path, print, input, outlet),
-        Order::Run {
-            path,
-            workers,
-            window,
-            print,
-        } => serve_run(rt, alloc, path, workers, window, print, input, outlet),
-        Order::Compare {
-            path,
-            workers,
-            window,
-        } => serve_compare(rt, alloc, path, workers, window, input, outlet),
+        Order::Check { path }
+        | Order::List { path, .. }
+        | Order::Run { path, .. }
+        | Order::Compare { path, .. } => *path,
     }
+}
+
+/// Does what an order asks for, over the input, the outlet and the files of the runtime. A run goes by the plan that is
+/// asked for: a worker tells the gate of each process that it takes. By the event list no gate is told.
+///
+/// # Errors
+///
+/// The first fault, in the order file, scenario, plan, machines, run. What went out then `specs/Stop.antt` says.
+pub fn carry_out<R: Files + Threads + Wait + Sync, G: Gate, I: Read, O: Outlet>(
+    rt: &R,
+    alloc: Global,
+    order: &Order<'_>,
+    gate: &G,
+    input: &mut I,
+    outlet: &mut O,
+) -> Result<(), Fault>
+    requires { O.failed outlet.old < 2 ^ 64 - 1 }
+    ensures done { let wanted = Answers (I.remaining input.old) order.now in
+        OnOk result (Went O.told O.failed outlet.old outlet.new wanted) }
+    ensures stops { let written = Writes (I.remaining input.old) order.now in
+        let left = Leaves (I.remaining input.old) order.now in
+        IfErr result (Stops O.told O.failed outlet.old outlet.new written left) }
+    ensures why { IfErr result (StopsFor (I.remaining input.old) order.now) }
+    ensures taken { TakesAtMost (most_bytes + 1) (I.remaining input.old) (I.remaining input.new) }
+    ensures untouched { path_of order.now ≢ input_path → input.new ≡ input.old }
+{
+    let scenario = scenario_at(rt, alloc, path_in(order), input)?;
+    answer(rt, alloc, order, &scenario, gate, outlet)
 }
 
 /// Tells of words that state no order: help goes to the outlet, all else to the faults.
@@ -233,6 +75,7 @@ fn tell<O: Outlet, F: Outlet>(told: &Told, outlet: &mut O, faults: &mut F) -> u8
     ensures refused { result ≡ 2 → WroteNothing O.told O.failed outlet.old outlet.new }
     ensures silent { result ≡ 0 → WroteNothing F.told F.failed faults.old faults.new }
     ensures told { F.failed faults.new ≤ F.failed faults.old + 1 }
+    ensures why { result ≢ 0 → Tells F.told F.failed faults.old faults.new (TellsOf told.now result) }
 {
     match told {
         Told::Help(text) => {
@@ -292,6 +135,8 @@ pub fn serve<R: Files + Threads + Wait + Sync, I: Read, O: Outlet, F: Outlet>(
     ensures accepted { result ≡ 3 → IsRunAsked (I.remaining input.old) (map (λ w. w.now) words.now) }
     ensures silent { result ≡ 0 → WroteNothing F.told F.failed faults.old faults.new }
     ensures told { F.failed faults.new ≤ F.failed faults.old + 1 }
+    ensures why { let why = IsWhy (I.remaining input.old) (map (λ w. w.now) words.now) result in
+        result ≢ 0 → Tells F.told F.failed faults.old faults.new why }
     ensures taken { TakesAtMost (most_bytes + 1) (I.remaining input.old) (I.remaining input.new) }
     ensures untouched { NamesNoInput (map (λ w. w.now) words.now) → input.new ≡ input.old }
 {
@@ -299,7 +144,7 @@ pub fn serve<R: Files + Threads + Wait + Sync, I: Read, O: Outlet, F: Outlet>(
         Ok(order) => order,
         Err(error) => return tell(&told_of(alloc, &error), outlet, faults),
     };
-    match carry_out(rt, alloc, order, input, outlet) {
+    match carry_out(rt, alloc, &order, &OpenGate, input, outlet) {
         Ok(()) => 0,
         Err(fault) => fault.report(faults),
     }

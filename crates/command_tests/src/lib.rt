@@ -2,8 +2,8 @@
 //! status.
 //!
 //! What a run prints is compared by the crate `transcripts`. Here stands what no printed text shows: inputs and outlets
-//! that fail, calls of the library, threads that must overlap, runs with many seeds, sums over many reports, and the line
-//! of progress.
+//! that fail, files by their paths, calls of the library, threads that must overlap, plans and windows as a gate sees
+//! them, runs with many seeds, sums over many reports, and the line of progress.
 #![tactic(auto)]
 
 #[cfg(test)]
@@ -16,6 +16,10 @@ mod judged;
 mod outlets;
 #[cfg(test)]
 mod overlap;
+#[cfg(test)]
+mod paths;
+#[cfg(test)]
+mod plans;
 #[cfg(test)]
 mod progress_lines;
 #[cfg(test)]

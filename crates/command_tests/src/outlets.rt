@@ -1,22 +1,18 @@
 //! Outlets that fail.
-ghost use Rattle.std.specs.Prelude.{IfOk};
-ghost use Rattle.bench_commands.specs.Mode.{IsModeFor};
 
 use crate::files::{ONE_CRASH, ONE_PROCESS};
 use crate::runs::{printed, same, served};
-use bench_commands::bench::{Mode, bench};
 use bench_commands::serve;
-use event_list::RunError;
-use qos_report::{FuseOutlet, MemoryOutlet, Outlet, PrintChoice, StreamOutlet, put_all};
-use scenario::{Scenario, read_scenario};
+use qos_report::{FuseOutlet, MemoryOutlet, Outlet, StreamOutlet, put_all};
 use std::alloc::Global;
 use std::io::{self, Write};
 use std::marker::Sync;
 use std::process::{Abort, ExitCode};
+use std::rt::Files;
 use std::sync::Wait;
 use std::test::Fail;
 use std::thread::Threads;
-use windows::Plan;
+use std::time::Clock;
 
 /// A writer that takes everything and cannot send it on.
 #[derive(Drop)]
@@ -72,119 +68,82 @@ fn ten_bytes(rt: HostRuntime) -> Result<(), Fail> {
     Ok(())
 }
 
-/// Whether a run of a scenario is refused for one put that failed, as there is no more room.
-fn overfills<R: Threads + Wait + Sync>(
-    rt: &R,
-    alloc: Global,
-    scenario: &Scenario,
-    room: &mut [u8],
-) -> bool {
-    let mut outlet = StreamOutlet::new(room);
-    let print = PrintChoice::Trace;
-    let ran = bench(rt, alloc, scenario, Mode::List, print, &mut outlet);
-    matches!(ran, Err(RunError::Write)) && outlet.failures() == 1
-}
-
 /// A writer that is full ends a run in the same way.
 #[test]
 fn full_writer(rt: HostRuntime) -> Result<(), Fail> {
     let alloc = rt.alloc();
-    let scenario = read_scenario(alloc, ONE_PROCESS.as_bytes())?;
     let mut room = [0u8; 10];
-    assert!(rt; overfills(&rt, alloc, &scenario, room.as_mut_slice()));
+    let mut outlet = StreamOutlet::new(room.as_mut_slice());
+    let mut faults = MemoryOutlet::new(alloc);
+    let (line, mut input) = ("fdbench list - --print trace", ONE_PROCESS.as_bytes());
+    let status = served(&rt, alloc, line, &mut input, &mut outlet, &mut faults)?;
+    same(&rt, &(status, outlet.failures()), &(4, 1));
     same(&rt, &room.as_slice(), &b"tick,recei".as_slice());
     Ok(())
 }
 
-/// By the list, or by two workers and windows of 2 ticks.
-fn mode_of(scenario: &Scenario, by_windows: bool) -> Result<Mode, Fail>
-    ensures { IfOk result (λ mode. IsModeFor scenario.now mode) }
-{
-    if by_windows {
-        Ok(Mode::Windows(Plan::new(scenario, 2, 2)?))
-    } else {
-        Ok(Mode::List)
-    }
-}
+/// Lines, and in how many puts each writes what it prints of one crash. By the list a text is one piece; by windows of 2
+/// ticks the first line is, the rows of each of five windows, and the report. Then whether an outlet that takes a byte at
+/// a time is to fail at each put, and not after the last alone.
+const LINES: [(&str, u64, bool); 7] = [
+    ("fdbench list - --print both", 1, true),
+    ("fdbench list - --print report", 1, false),
+    ("fdbench list - --print trace", 1, false),
+    ("fdbench run - --workers 2 --window 2 --print both", 7, true),
+    (
+        "fdbench run - --workers 2 --window 2 --print report",
+        1,
+        false,
+    ),
+    (
+        "fdbench run - --workers 2 --window 2 --print trace",
+        6,
+        false,
+    ),
+    ("fdbench compare - --workers 2 --window 2", 1, true),
+];
 
-/// An outlet that takes one byte at a time gets every byte of what is asked for.
-fn takes_every_byte<R: Threads + Wait + Sync + Abort>(
+/// A line ends well over an outlet that takes at most `most` bytes at a put, `times` times, or with one put that failed.
+/// Then the outlet holds what went out before, and nothing was tried again.
+fn ends<R: Files + Threads + Wait + Sync + Clock + Abort>(
     rt: &R,
     alloc: Global,
-    by_windows: bool,
-    print: PrintChoice,
-    wanted: &str,
-) -> Result<(), Fail> {
-    let scenario = read_scenario(alloc, ONE_CRASH.as_bytes())?;
-    let mode = mode_of(&scenario, by_windows)?;
-    let mut outlet = FuseOutlet::new(alloc, 1, u64::MAX);
-    let summary = bench(rt, alloc, &scenario, mode, print, &mut outlet)?;
-    let came = (outlet.bytes(), outlet.failures(), summary.entries);
-    same(rt, &came, &(wanted.as_bytes(), 0, 12));
-    Ok(())
-}
-
-/// So it is by the list and by windows, whatever is printed.
-#[test]
-fn byte_by_byte(rt: HostRuntime) -> Result<(), Fail> {
-    let alloc = rt.alloc();
-    for (print, line) in [
-        (PrintChoice::Trace, "fdbench list - --print trace"),
-        (PrintChoice::Report, "fdbench list - --print report"),
-        (PrintChoice::Both, "fdbench list - --print both"),
-    ] {
-        let want = printed(&rt, alloc, line, ONE_CRASH)?;
-        takes_every_byte(&rt, alloc, false, print, &want)?;
-        takes_every_byte(&rt, alloc, true, print, &want)?;
-    }
-    Ok(())
-}
-
-/// Whether a run of both texts ends well over an outlet that takes at most `most` bytes at a put, `times` times. If
-/// not, the outlet holds what went out before, and nothing was tried again.
-fn ends_well<R: Threads + Wait + Sync + Abort>(
-    rt: &R,
-    alloc: Global,
-    scenario: &Scenario,
-    by_windows: bool,
+    line: &str,
     most: usize,
     times: u64,
     whole: &[u8],
-) -> Result<bool, Fail> {
-    let mode = mode_of(scenario, by_windows)?;
+    is_done: bool,
+) -> Result<(), Fail> {
     let mut outlet = FuseOutlet::new(alloc, most, times);
-    let is_done = match bench(rt, alloc, scenario, mode, PrintChoice::Both, &mut outlet) {
-        Ok(_) => true,
-        Err(error) => {
-            assert!(rt; matches!(error, RunError::Write));
-            false
-        }
-    };
-    same(rt, &outlet.failures(), &u64::from(!is_done));
+    let mut faults = MemoryOutlet::new(alloc);
+    let mut input = ONE_CRASH.as_bytes();
+    let status = served(rt, alloc, line, &mut input, &mut outlet, &mut faults)?;
     let bytes = outlet.bytes();
-    assert!(rt; whole.starts_with(bytes) && (bytes.len() == whole.len() || !is_done));
-    Ok(is_done)
+    let is_front = whole.starts_with(bytes) && (bytes.len() == whole.len() || !is_done);
+    let came = (line, status, outlet.failures(), faults.bytes(), is_front);
+    let want = if is_done {
+        (line, 0, 0, b"".as_slice(), true)
+    } else {
+        (line, 4, 1, write_failed(line), true)
+    };
+    same(rt, &came, &want);
+    Ok(())
 }
 
-/// An outlet that fails at a put, be it the first or a later one. Where it takes at most so many bytes at a put, a run
-/// makes so many puts: it fails at each of them, and ends well where none fails. By the list the whole text is one
-/// piece; by windows of 2 ticks the first line, the rows of each of five windows, and the report.
+/// An outlet that fails at a put, be it the first or a later one: a run fails at each of the puts that it makes, and ends
+/// well where none fails. One that takes a byte at a time gets every byte.
 #[test]
 fn each_write_fails(rt: HostRuntime) -> Result<(), Fail> {
     let alloc = rt.alloc();
-    let scenario = read_scenario(alloc, ONE_CRASH.as_bytes())?;
-    let want = printed(&rt, alloc, "fdbench list - --print both", ONE_CRASH)?;
-    let whole = want.as_bytes();
-    let count = whole.len() as u64;
-    for (by_windows, most, puts) in [
-        (false, usize::MAX, 1),
-        (false, 1, count),
-        (true, usize::MAX, 7),
-        (true, 1, count),
-    ] {
-        for before in 0..=puts {
-            let ended = ends_well(&rt, alloc, &scenario, by_windows, most, before, whole)?;
-            same(&rt, &ended, &(before == puts));
+    for (line, puts, each) in &LINES {
+        let want = printed(&rt, alloc, line, ONE_CRASH)?;
+        let whole = want.as_bytes();
+        let count = whole.len() as u64;
+        let first = if *each { 0 } else { count };
+        for (most, first, puts) in [(usize::MAX, 0, *puts), (1, first, count)] {
+            for before in first..=puts {
+                ends(&rt, alloc, line, most, before, whole, before == puts)?;
+            }
         }
     }
     Ok(())

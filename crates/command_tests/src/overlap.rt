@@ -28,7 +28,7 @@ const BEFORE: [u64; 5] = [0, 1, 3, 4, 6];
 const IN_ALL: u64 = 8;
 
 /// How often a call that is held looks at the other process before it gives up.
-const TURNS: u32 = 100_000_000;
+const TURNS: u32 = 2_000_000;
 
 /// A machine that counts its inputs.
 #[derive(Drop)]

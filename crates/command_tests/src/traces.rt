@@ -16,6 +16,7 @@ use std::alloc::{AllocError, Global};
 use std::process::Abort;
 use std::test::Fail;
 use timeout_detector::TimeoutDetector;
+use windows::OpenGate;
 
 /// What `list` tells of a run, over an outlet that takes all: how many entries and letters there are and how many of
 /// these are lost, and what each process decided.
@@ -34,7 +35,15 @@ fn summaries(rt: HostRuntime) -> Result<(), Fail> {
     ] {
         let scenario = read_scenario(alloc, file.as_bytes())?;
         let mut outlet = MemoryOutlet::new(alloc);
-        let summary = bench(&rt, alloc, &scenario, Mode::List, print, &mut outlet)?;
+        let summary = bench(
+            &rt,
+            alloc,
+            &scenario,
+            Mode::List,
+            &OpenGate,
+            print,
+            &mut outlet,
+        )?;
         let came = (summary.entries, summary.sent, summary.lost);
         same(&rt, &(came, outlet.failures()), &(counts, 0));
         are_outcomes(&rt, summary.outcomes.as_slice(), outcomes);

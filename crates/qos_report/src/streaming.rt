@@ -1,5 +1,5 @@
 //! What takes the entries of a run by windows.
-ghost use Rattle.std.specs.Prelude.{◌≡◌, ◌<◌, ◌^◌, ◌-◌, ◌+◌, ◌++◌, ◌∷◌, [], List, map, true, OnOk, OnErr, IfErr, IfOk, IsErrOf, IsTrue};
+ghost use Rattle.std.specs.Prelude.{◌≡◌, ◌<◌, ◌^◌, ◌-◌, ◌+◌, ◌++◌, ◌∷◌, [], List, map, length, true, OnOk, OnErr, IfErr, IfOk, IsErrOf, IsTrue};
 ghost use Rattle.process_api.specs.EntryRecord.{EntryRecord};
 ghost use Rattle.process_api.specs.Numbers.{numbers_to};
 ghost use Rattle.scenario_record.specs.Record.{opening_mind};
@@ -23,7 +23,7 @@ use windows::{Gate, Plan, Sink, run_windows_into};
 /// How long rows may get before they are handed on, though more are to come.
 const MOST_BYTES: usize = 65_536;
 
-/// Forms one row more in the buffer, and hands all of them on where they got long.
+/// Forms one row more in the buffer, and hands all of them on where they got long: less than 65,536 bytes are kept.
 fn write_row<O: Outlet>(entry: &Entry, buffer: &mut Vec<u8>, outlet: &mut O) -> Result<(), RunError>
     requires { O.failed outlet.old < 2 ^ 64 - 1 }
     ensures whole { OnOk result ((first : O) (entries : List EntryRecord)
@@ -32,6 +32,7 @@ fn write_row<O: Outlet>(entry: &Entry, buffer: &mut Vec<u8>, outlet: &mut O) -> 
     ensures front { OnErr result ((first : O) (entries : List EntryRecord)
         → AreUnderWay O.told O.failed first outlet.old entries buffer.old.items
         → WroteFront O.told O.failed first outlet.new true (entries ++ entry.now ∷ [])) }
+    ensures short { OnOk result (length buffer.new.items < 65536) }
     ensures errors { IfErr result IsRefusalOfSink }
     ensures count { O.failed outlet.new ≡ O.failed outlet.old + writes_of result }
 {

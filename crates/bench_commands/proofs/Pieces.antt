@@ -1,0 +1,51 @@
+-- A text in pieces.
+use Rattle.std.proofs.Common.{◌≡◌, ◌∙◌, ◌<◌, ap, sym, refl, ℕ, suc, List, ◌++◌, length, take, drop, get_or, flat_map, codes, decimal}
+use Rattle.std.proofs.lemmas.Grind.{flat_map-append}
+use Rattle.std.proofs.lemmas.List.{take-append-drop}
+use Rattle.std.proofs.Math.Seq.{drop-cons}
+use Rattle.bench_commands.specs.Fault.{after_name}
+use Rattle.scenario.specs.Names.{name_of}
+use Rattle.scenario.specs.declared.error.ScenarioError.{ScenarioError}
+use Rattle.scenario.specs.declared.error.ScenarioError.TheVariants as error
+
+-- the whole text, about one piece
+pub text_about : {X : Type 0} (f : X → List ℕ) (ps : List X) (i : ℕ) (none : X) → i < length ps
+    → flat_map f ps ≡ flat_map f (take i ps) ++ (f (get_or ps i none) ++ flat_map f (drop (suc i) ps))
+text_about f ps i none in_range =
+    sym (ap (flat_map f) (take-append-drop i ps))
+    ∙ (flat_map-append f (take i ps) (drop i ps)
+    ∙ ap (λ t. flat_map f (take i ps) ++ t) (ap (flat_map f) (drop-cons ps i none in_range)))
+
+-- ---- the line of a scenario's refusal
+
+-- of a link that is below the lookahead the pair is told
+pub pair_line : (begin name from to : List ℕ) (e : ScenarioError) (p q : ℕ) → e ≡ error.BelowLookahead p q → name ≡ name_of e → from ≡ decimal p
+    → to ≡ decimal q → begin ++ (name ++ (codes " " ++ (from ++ (codes " " ++ (to ++ codes "\n"))))) ≡ begin ++ (name_of e ++ after_name e)
+pair_line begin name from to e p q is named first second =
+    let after : after_name e ≡ codes " " ++ (decimal p ++ (codes " " ++ (decimal q ++ codes "\n"))) = ap after_name is in cc
+
+-- and of no other refusal
+after_other : (e : ScenarioError) → ((p q : ℕ) → e ≡ error.BelowLookahead p q → ⊥) → after_name e ≡ codes "\n"
+after_other error.NotToml other = refl
+after_other error.UnknownKey other = refl
+after_other error.MissingKey other = refl
+after_other error.WrongKind other = refl
+after_other error.Version other = refl
+after_other error.Processes other = refl
+after_other error.Horizon other = refl
+after_other error.Lookahead other = refl
+after_other error.Limit other = refl
+after_other error.Seed other = refl
+after_other error.AlgorithmName other = refl
+after_other error.Proposals other = refl
+after_other error.DetectorNumbers other = refl
+after_other error.Share other = refl
+after_other error.LinkNumbers other = refl
+after_other (error.BelowLookahead p q) other = absurd (other p q refl)
+after_other error.CrashLine other = refl
+after_other error.OutageLine other = refl
+after_other (error.Memory m) other = refl
+
+pub name_line : (begin name : List ℕ) (e : ScenarioError) → ((p q : ℕ) → e ≡ error.BelowLookahead p q → ⊥) → name ≡ name_of e
+    → begin ++ (name ++ codes "\n") ≡ begin ++ (name_of e ++ after_name e)
+name_line begin name e other named = let after : after_name e ≡ codes "\n" = after_other e other in cc

@@ -1,0 +1,176 @@
+//! What an order asks for, over its scenario.
+ghost use Rattle.std.specs.Prelude.{◌≡◌, ◌^◌, ◌-◌, ◌<◌, codes, IfOk, IfErr, OnOk, true};
+ghost use Rattle.bench_commands.specs.Answer.{AnswersOver, IsCompareAnswer, IsListAnswer, IsRunFront, IsRunText, LeavesOver, WritesOver};
+ghost use Rattle.bench_commands.specs.Fault.{IsFirstFault};
+ghost use Rattle.bench_commands.specs.Stop.{Stops, Went};
+ghost use Rattle.bench_commands.specs.Why.{StopsList, StopsOver, StopsWindows};
+ghost use Rattle.reporting.specs.Writing.{Wrote, WrotePart};
+ghost use Rattle.windows.specs.Plan.{IsPlanFor, NoneApplies, plan_of};
+
+use crate::bench::{Mode, bench};
+use crate::compare::compare;
+use crate::fault::Fault;
+use command_line::Order;
+use event_list::RunError;
+use qos_report::{Outlet, PrintChoice, put_all};
+use scenario::Scenario;
+use std::alloc::Global;
+use std::marker::Sync;
+use std::sync::Wait;
+use std::thread::Threads;
+use windows::{Gate, Plan};
+
+/// Writes a line that is an answer.
+fn put_line<O: Outlet>(line: &[u8], outlet: &mut O) -> Result<(), Fault>
+    requires { O.failed outlet.old < 2 ^ 64 - 1 }
+    ensures whole { OnOk result (Wrote O.told O.failed outlet.old outlet.new line.now) }
+    ensures part { IfErr result (λ fault. (fault ≡ Fault.Run RunError.Write)
+        × WrotePart O.told O.failed outlet.old outlet.new line.now) }
+{
+    if put_all(outlet, line) {
+        Ok(())
+    } else {
+        Err(Fault::Run(RunError::Write))
+    }
+}
+
+/// Answers `list`: the texts of the run.
+fn list<R: Threads + Wait + Sync, G: Gate, O: Outlet>(
+    rt: &R,
+    alloc: Global,
+    scenario: &Scenario,
+    print: PrintChoice,
+    gate: &G,
+    outlet: &mut O,
+) -> Result<(), Fault>
+    requires { O.failed outlet.old < 2 ^ 64 - 1 }
+    ensures done { OnOk result (Went O.told O.failed outlet.old outlet.new (IsListAnswer scenario.now print)) }
+    ensures stops { let wanted = IsListAnswer scenario.now print in
+        IfErr result (Stops O.told O.failed outlet.old outlet.new wanted (λ _. ⊥)) }
+    ensures why { IfErr result (StopsList scenario.now) }
+{
+    match bench(rt, alloc, scenario, Mode::List, gate, print, outlet) {
+        Ok(_) => Ok(()),
+        Err(error) => Err(Fault::Run(error)),
+    }
+}
+
+/// The plan of a run by windows.
+fn plan_for(scenario: &Scenario, workers: u64, window: u64) -> Result<Plan, Fault>
+    ensures plan { IfOk result (λ p. p ≡ plan_of workers window) }
+    ensures fits { IfOk result (IsPlanFor scenario.now) }
+    ensures ok { OnOk result (NoneApplies scenario.now.lookahead workers window) }
+    ensures refused { IfErr result (IsFirstFault scenario.now.lookahead workers window) }
+{
+    match Plan::new(scenario, workers, window) {
+        Ok(plan) => Ok(plan),
+        Err(error) => Err(Fault::Plan(error)),
+    }
+}
+
+/// Answers `run`: the texts of the run, which are those that `list` writes. Rows of the trace go out as windows close.
+fn run<R: Threads + Wait + Sync, G: Gate, O: Outlet>(
+    rt: &R,
+    alloc: Global,
+    scenario: &Scenario,
+    plan: Plan,
+    print: PrintChoice,
+    gate: &G,
+    outlet: &mut O,
+) -> Result<(), Fault>
+    requires failures { O.failed outlet.old < 2 ^ 64 - 1 }
+    requires plan { IsPlanFor scenario.now plan }
+    ensures done { OnOk result (Went O.told O.failed outlet.old outlet.new (IsListAnswer scenario.now print)) }
+    ensures stops { let written = IsRunText scenario.now print in let left = IsRunFront scenario.now print in
+        IfErr result (Stops O.told O.failed outlet.old outlet.new written left) }
+    ensures why { IfErr result (StopsWindows scenario.now) }
+{
+    match bench(
+        rt,
+        alloc,
+        scenario,
+        Mode::Windows(plan),
+        gate,
+        print,
+        outlet,
+    ) {
+        Ok(_) => Ok(()),
+        Err(error) => Err(Fault::Run(error)),
+    }
+}
+
+/// Says whether both runs wrote the same: `same` or `different`, and a line feed.
+fn put_verdict<O: Outlet>(same: bool, outlet: &mut O) -> Result<(), Fault>
+    requires { O.failed outlet.old < 2 ^ 64 - 1 }
+    ensures whole { OnOk result (Wrote O.told O.failed outlet.old outlet.new (codes "same\n")) }
+    ensures part { same ≡ true → IfErr result (λ fault. (fault ≡ Fault.Run RunError.Write)
+        × WrotePart O.told O.failed outlet.old outlet.new (codes "same\n")) }
+{
+    if same {
+        put_line(b"same\n", outlet)
+    } else {
+        put_line(b"different\n", outlet)?;
+        Err(Fault::Different)
+    }
+}
+
+/// Answers `compare`: `same`, as both runs always write the same.
+fn compare_runs<R: Threads + Wait + Sync, G: Gate, O: Outlet>(
+    rt: &R,
+    alloc: Global,
+    scenario: &Scenario,
+    plan: Plan,
+    gate: &G,
+    outlet: &mut O,
+) -> Result<(), Fault>
+    requires failures { O.failed outlet.old < 2 ^ 64 - 1 }
+    requires plan { IsPlanFor scenario.now plan }
+    ensures done { OnOk result (Went O.told O.failed outlet.old outlet.new (IsCompareAnswer scenario.now)) }
+    ensures stops { let wanted = IsCompareAnswer scenario.now in
+        IfErr result (Stops O.told O.failed outlet.old outlet.new wanted (λ _. ⊥)) }
+    ensures why { IfErr result (StopsWindows scenario.now) }
+{
+    match compare(rt, alloc, scenario, plan, gate) {
+        Ok(same) => put_verdict(same, outlet),
+        Err(error) => Err(Fault::Run(error)),
+    }
+}
+
+/// Does what an order asks for, over its scenario.
+pub(crate) fn answer<R: Threads + Wait + Sync, G: Gate, O: Outlet>(
+    rt: &R,
+    alloc: Global,
+    order: &Order<'_>,
+    scenario: &Scenario,
+    gate: &G,
+    outlet: &mut O,
+) -> Result<(), Fault>
+    requires { O.failed outlet.old < 2 ^ 64 - 1 }
+    ensures done { let wanted = AnswersOver scenario.now order.now in
+        OnOk result (Went O.told O.failed outlet.old outlet.new wanted) }
+    ensures stops { let written = WritesOver scenario.now order.now in let left = LeavesOver scenario.now order.now in
+        IfErr result (Stops O.told O.failed outlet.old outlet.new written left) }
+    ensures why { IfErr result (StopsOver scenario.now order.now) }
+{
+    match order {
+        Order::Check { .. } => put_line(b"ok\n", outlet),
+        Order::List { print, .. } => list(rt, alloc, scenario, *print, gate, outlet),
+        Order::Run {
+            workers,
+            window,
+            print,
+            ..
+        } => {
+            let plan = plan_for(scenario, *workers, *window)?;
+            run(rt, alloc, scenario, plan, *print, gate, outlet)
+        }
+        Order::Compare {
+            workers,
+            window,
+            ..
+        } => {
+            let plan = plan_for(scenario, *workers, *window)?;
+            compare_runs(rt, alloc, scenario, plan, gate, outlet)
+        }
+    }
+}
