@@ -1,4 +1,4 @@
-use Rattle.std.proofs.Common.{◌≡◌, ◌∙◌, ap, sym, refl, rules, true, false, [], ◌∷◌, Some, None, is_some, codes}
+use Rattle.std.proofs.Common.{◌≡◌, ◌∙◌, ap, sym, refl, rules, true, false, [], ◌∷◌, Some, is_some, codes}
 use Rattle.toml.specs.View.{table_view}
 use Rattle.scenario.specs.Rules.{algorithm_refused, proposals_refused, detector_refused, share_refused, links_refused, below_refused, crashes_refused, outages_refused, pair_below}
 use Rattle.scenario.specs.Text.{algorithm_in, record_of, delays_of, processes_of}
@@ -100,3 +100,11 @@ returns-clause-ok c =
     let crashes = crashes_tested (table_view c.args.tables.now.top.now) c.args.numbers.now.processes (tables_in c.deref-3.result.now) false c.requires.numbers.processes (ap tables_in c.deref-3.ensures.value ∙ c.requires.tables.crashes) c.in_ok-crashes.ensures.ok in
     let outages = outages_tested (table_view c.args.tables.now.top.now) c.args.numbers.now.processes (tables_in c.deref-4.result.now) false c.requires.numbers.processes (ap tables_in c.deref-4.ensures.value ∙ c.requires.tables.outages) c.in_ok-outages.ensures.ok in
     (algorithm, (proposals, (detector, (share, (links, (below, (crashes, (outages, tt))))))))
+
+pub returns-in_err-proposals-clause-err : goal.returns-in_err-proposals-clause-err
+returns-in_err-proposals-clause-err c = carried (StopsFirst part_rules (Some (table_view c.args.tables.now.top.now))) c.from_residual.result c.in_err-proposals.field-0.0 c.from_residual.ensures.1 (λ other.
+    let kind : Some c.in-Some.algorithm ≡ algorithm_in (table_view c.args.tables.now.top.now) = search rules in
+    let algorithm = algorithm_tested (table_view c.args.tables.now.top.now) c.in-Some.algorithm kind in
+    let why = c.in_err-proposals.ensures.err other in
+    let here = proposals_tested (table_view c.args.tables.now.top.now) c.in-Some.algorithm c.args.numbers.now.processes true kind c.requires.numbers.processes why.1 in
+    first_named (rule 11 algorithm_refused ∷ []) (rule 12 proposals_refused) (rule 13 detector_refused ∷ rule 14 share_refused ∷ rule 15 links_refused ∷ rule 16 below_refused ∷ rule 17 crashes_refused ∷ rule 19 outages_refused ∷ []) (Some (table_view c.args.tables.now.top.now)) c.in_err-proposals.field-0.0 error.Proposals (algorithm, tt) why.0 refl here tt)

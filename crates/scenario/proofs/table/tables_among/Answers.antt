@@ -1,4 +1,4 @@
-use Rattle.std.proofs.Common.{◌≡◌, ◌∙◌, ◌++◌, ◌+◌, ap, map, drop}
+use Rattle.std.proofs.Common.{◌∙◌, ◌++◌, ◌+◌, ap, map, drop}
 use Rattle.std.proofs.lemmas.List.{at_drop_all}
 use Rattle.toml.specs.View.{items_view, table_view}
 use Rattle.scenario.specs.Table.{the_tables}
