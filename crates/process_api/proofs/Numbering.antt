@@ -34,6 +34,20 @@ appended-passes old f p n h =
 pub appended-fails : {X : Type 0} (old : List X) (f : ℕ → X) (p : ℕ → Bool) (n : ℕ) → p (n + 1) ≡ false → old ++ map f (filter p (numbers_to n)) ≡ old ++ map f (filter p (numbers_to (n + 1)))
 appended-fails old f p n h = ap (λ xs. old ++ map f xs) (sym (filter-last_fails p n h))
 
+numbers-last : (n : ℕ) → numbers_to (n + 1) ≡ numbers_to n ++ (n + 1) ∷ []
+numbers-last n =
+    let e : n + 1 ≡ suc n = omega arith in
+    ap numbers_to e ∙ ap (λ k. numbers_to n ++ k ∷ []) (sym e)
+
+-- a list that goes through 1 to n, with no test
+pub appended : {X : Type 0} (old : List X) (f : ℕ → X) (n p : ℕ) (out more : List X) → out ≡ old ++ map f (numbers_to n) → p ≡ n + 1 → more ≡ out ++ f p ∷ []
+    → more ≡ old ++ map f (numbers_to (n + 1))
+appended old f n p out more before is made =
+    made ∙ (ap (λ xs. xs ++ f p ∷ []) before
+    ∙ (ap (λ k. (old ++ map f (numbers_to n)) ++ f k ∷ []) is
+    ∙ (append_assoc old (map f (numbers_to n)) (f (n + 1) ∷ [])
+    ∙ (ap (λ xs. old ++ xs) (sym (map-append f (numbers_to n) ((n + 1) ∷ []))) ∙ ap (λ xs. old ++ map f xs) (sym (numbers-last n))))))
+
 -- tests that agree from 1 to n
 pub filter-same : (f g : ℕ → Bool) (n : ℕ) → ((q : ℕ) → 1 ≤ q → q ≤ n → f q ≡ g q) → filter f (numbers_to n) ≡ filter g (numbers_to n)
 filter-same f g zero agree = refl

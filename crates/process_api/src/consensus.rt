@@ -2,7 +2,7 @@
 
 /// What a process would decide, and since which round: Chandra and Toueg's estimate with its time stamp
 /// (Journal of the ACM 43(2), 1996).
-#[derive(Clone, Copy, PartialEq, Eq)]
+#[derive(Clone, Copy)]
 pub struct Estimate {
     /// The value.
     pub value: u32,
@@ -11,7 +11,7 @@ pub struct Estimate {
 }
 
 /// What a process that runs the rotating coordinator waits for.
-#[derive(Clone, Copy, PartialEq, Eq)]
+#[derive(Clone, Copy)]
 pub enum Phase {
     /// For its start.
     Opening,

@@ -1,3 +1,4 @@
+pub mod Among
 pub mod FieldFacts
 pub mod NumberFacts
 pub mod ProposalFacts
@@ -10,5 +11,6 @@ pub mod Within
 pub mod Cuts
 pub mod Places
 pub mod BelowFacts
+pub mod PartFacts
 pub mod RangeFacts
 pub mod Reading

@@ -1,8 +1,8 @@
 -- The crash tables and the link tables, taken one after the other.
-use Rattle.std.proofs.Common.{◌≡◌, ℕ, ◌+◌, ◌-◌, ◌*◌, ◌<◌, ◌≤◌, List, map, length, take, set, get_or, Bool, true, false, Option, Some, None, is_some, ap, sym, ◌∙◌, arith, subst}
+use Rattle.std.proofs.Common.{◌≡◌, ℕ, ◌+◌, ◌-◌, ◌*◌, ◌<◌, ◌≤◌, List, [], map, length, take, set, get_or, replicate, Bool, true, false, Option, Some, None, is_some, ap, sym, ◌∙◌, arith, subst}
 use Rattle.std.specs.Option.{unwrap_or}
 use Rattle.std.specs.List.{range_with_len, list_any}
-use Rattle.std.proofs.lemmas.List.{ext_get_or, length-map, length-set, get_or-map}
+use Rattle.std.proofs.lemmas.List.{ext_get_or, length-map, length-set, get_or-map, get_or-replicate, length-replicate}
 use Rattle.std.proofs.lemmas.List.FromFn.{get_or-map-range_with_len, length-map-range_with_len}
 use Rattle.toml.specs.Data.{Members}
 use Rattle.scenario.specs.Text.{crash_process, crash_tick, crash_among, crashes_among, delays_of, pair_of, same_pair, link_among, links_among}
@@ -87,6 +87,23 @@ module _ {X : Type 0} (view : X → Members) (n : ℕ) (tables : List X) (i : �
         held = rw (tables_more same_pair pair_of (is_bad_pair n) view tables i x lt is, e, f)
             (put same_pair (AreProcesses n) (pair_place n) pair_of delays_of pair_alike pair_itself (pair_apart n) links (map view (take i tables)) (view x) hold.held also within none);
       }
+
+-- ---- before the first table
+
+pub no_crashes : (n : ℕ) (ticks : List (Option ℕ)) → ticks ≡ replicate n None → HoldCrashes n ticks []
+no_crashes n ticks none = record {
+  full = ap length none ∙ length-replicate n None;
+  held = λ p good.
+      let low : 1 ≤ p = good.low in
+      let high : p ≤ n = good.high in
+      ap (λ ts. get_or ts (p - 1) None) none ∙ get_or-replicate n (p - 1) None None (omega arith);
+}
+
+pub no_pairs : (n : ℕ) (links : List (Option Link)) → links ≡ replicate (n * n) None → HoldLinks n links []
+no_pairs n links none = record {
+  full = ap length none ∙ length-replicate (n * n) None;
+  held = λ pair good. ap (λ ls. get_or ls (pair_place n pair) None) none ∙ get_or-replicate (n * n) (pair_place n pair) None None (pair_within n pair good);
+}
 
 -- ---- at the end
 

@@ -1,9 +1,9 @@
-use Rattle.std.proofs.Common.{◌≡◌, ◌∙◌, ◌-◌, ◌≤◌, sym, refl, map, length, take, get_or, is_some, None, rules, arith, true, false}
+use Rattle.std.proofs.Common.{◌≡◌, ◌∙◌, ◌-◌, ◌≤◌, sym, refl, map, length, take, get_or, replicate, is_some, None, rules, arith, true, false}
 use Rattle.std.proofs.lemmas.List.{take_all}
 use Rattle.toml.specs.View.{table_view}
 use Rattle.scenario.specs.Rules.{is_bad_crash}
 use Rattle.scenario.proofs.Slots.{at_place}
-use Rattle.scenario.proofs.Taking.{bad_crash, crash_again, crash_clean, crash_put, crashes_whole}
+use Rattle.scenario.proofs.Taking.{bad_crash, crash_again, no_crashes, crash_clean, crash_put, crashes_whole}
 use Rattle.scenario.proofs.crashes.read_crashes.Goals as goal
 
 pub returns-in_default-clause-err : goal.returns-in_default-clause-err
@@ -35,3 +35,13 @@ pub returns-clause-value : goal.returns-clause-value
 returns-clause-value c =
     let all : take c.loop-table.table-index c.args.tables.now ≡ c.args.tables.now = take_all c.loop-table.table-index c.args.tables.now (omega arith) in
     crashes_whole c.args.n c.loop-table.ticks.items (map (λ m. table_view m.now) c.args.tables.now) (rw all at c.loop-table.invariant.hold)
+
+pub loop-table-init : goal.loop-table-init
+loop-table-init c =
+    let made : c.in-Ok.ticks.items ≡ replicate c.args.n None = search rules in
+    record { clean = refl; hold = no_crashes c.args.n c.in-Ok.ticks.items made }
+
+pub returns-clause-ok : goal.returns-clause-ok
+returns-clause-ok c =
+    let all : take c.loop-table.table-index c.args.tables.now ≡ c.args.tables.now = take_all c.loop-table.table-index c.args.tables.now (omega arith) in
+    rw all at c.loop-table.invariant.clean

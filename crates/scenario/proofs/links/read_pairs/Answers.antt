@@ -1,11 +1,12 @@
-use Rattle.std.proofs.Common.{◌≡◌, ◌∙◌, ◌<◌, ℕ, ap, sym, refl, length, get_or, is_some, None, rules, true, false, subst}
+use Rattle.std.proofs.Common.{◌≡◌, ◌∙◌, ◌<◌, ◌*◌, ℕ, ap, sym, refl, length, get_or, take, replicate, is_some, None, rules, arith, true, false, subst}
+use Rattle.std.proofs.lemmas.List.{take_all}
 use Rattle.toml.specs.View.{table_view}
 use Rattle.scenario.specs.Text.{pair_of}
 use Rattle.scenario.specs.Rules.{is_bad_pair}
 use Rattle.scenario.specs.Parts.{AreProcesses}
 use Rattle.scenario.proofs.Slots.{at_place}
 use Rattle.scenario.proofs.KeyFacts.{pair_place}
-use Rattle.scenario.proofs.Taking.{bad_pair, pair_again, pair_clean, pair_put}
+use Rattle.scenario.proofs.Taking.{bad_pair, pair_again, no_pairs, pair_clean, pair_put}
 use Rattle.scenario.proofs.links.read_pairs.Goals as goal
 
 pub returns-in_default-clause-err : goal.returns-in_default-clause-err
@@ -34,3 +35,18 @@ loop-table-preserved c =
       clean = pair_clean (λ m. table_view m.now) c.args.n c.args.tables.now c.loop-table.table-index c.table-item.result c.loop-table-test.true c.table-item.is c.loop-table.links.items pair c.loop-table.invariant.hold its good free c.loop-table.invariant.clean fine;
       hold = rw c.place_of-place.ensures.value (pair_put (λ m. table_view m.now) c.args.n c.args.tables.now c.loop-table.table-index c.table-item.result c.loop-table-test.true c.table-item.is c.loop-table.links.items pair c.in-Some.pair.link c.loop-table.invariant.hold its c.in-Some.ensures.link good free);
     }
+
+pub loop-table-init : goal.loop-table-init
+loop-table-init c =
+    let made : c.in-Ok.links.items ≡ replicate (c.args.n * c.args.n) None = search rules in
+    record { clean = refl; hold = no_pairs c.args.n c.in-Ok.links.items made }
+
+pub returns-clause-ok : goal.returns-clause-ok
+returns-clause-ok c =
+    let all : take c.loop-table.table-index c.args.tables.now ≡ c.args.tables.now = take_all c.loop-table.table-index c.args.tables.now (omega arith) in
+    rw all at c.loop-table.invariant.clean
+
+pub returns-clause-value : goal.returns-clause-value
+returns-clause-value c =
+    let all : take c.loop-table.table-index c.args.tables.now ≡ c.args.tables.now = take_all c.loop-table.table-index c.args.tables.now (omega arith) in
+    rw all at c.loop-table.invariant.hold

@@ -1,4 +1,4 @@
-use Rattle.std.proofs.Common.{◌≡◌, ◌∙◌, ◌≤◌, ℕ, ap, sym, refl, map, length, take, rules, arith, true, false}
+use Rattle.std.proofs.Common.{◌≡◌, ◌∙◌, ◌≤◌, ◌*◌, ℕ, ap, sym, refl, map, length, take, rules, arith, true, false}
 use Rattle.std.proofs.lemmas.List.{take_all, length-map}
 use Rattle.toml.specs.View.{table_view}
 use Rattle.scenario.specs.Text.{pair_of}
@@ -36,3 +36,13 @@ returns-clause-value c =
     let all : take c.loop-table.table-index c.args.tables.now ≡ c.args.tables.now = take_all c.loop-table.table-index c.args.tables.now (omega arith) in
     let some : 1 ≤ length c.args.tables.now = search rules in
     outages_whole c.args.n (outages_in c.loop-table.outages.items) (map (λ m. table_view m.now) c.args.tables.now) (simp length-map some) (rw all at c.loop-table.invariant.hold)
+
+pub add-requires : goal.add-requires
+add-requires c =
+    let full : length c.loop-table.outages.items ≡ c.args.n * c.args.n = sym (length-map c.loop-table.outages.items (λ v. v.items)) ∙ c.loop-table.invariant.hold.full in
+    omega (arith, full, c.place_of-place.ensures.within, c.loop-table.outages.ok.0)
+
+pub returns-clause-ok : goal.returns-clause-ok
+returns-clause-ok c =
+    let all : take c.loop-table.table-index c.args.tables.now ≡ c.args.tables.now = take_all c.loop-table.table-index c.args.tables.now (omega arith) in
+    rw all at c.loop-table.invariant.clean

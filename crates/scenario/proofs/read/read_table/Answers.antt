@@ -14,20 +14,20 @@ returns-in_err-check_keys-clause-err c = carried (StopsFirst table_rules (Some (
 
 pub returns-in_err-numbers-clause-err : goal.returns-in_err-numbers-clause-err
 returns-in_err-numbers-clause-err c = carried (StopsFirst table_rules (Some (table_view c.args.table.now))) c.from_residual-in_err-numbers.result c.in_err-numbers.field-0.0 c.from_residual-in_err-numbers.ensures.1 (λ other.
-    let keys : Passes key_rules (Some (table_view c.args.table.now)) = search rules in
+    let keys = subst (λ t. Passes key_rules (Some t)) c.in-Ok.ensures.0 c.in_ok-check_keys.ensures.ok in
     first_in key_rules number_rules part_rules (Some (table_view c.args.table.now)) c.in_err-numbers.field-0.0 keys (subst (λ t. StopsAt number_rules (Some t) c.in_err-numbers.field-0.0) c.in-Ok.ensures.0 c.in_err-numbers.ensures.err) other)
 
 pub returns-in_err-parts-clause-err : goal.returns-in_err-parts-clause-err
 returns-in_err-parts-clause-err c = carried (StopsFirst table_rules (Some (table_view c.args.table.now))) c.from_residual-in_err-parts.result c.in_err-parts.field-0.0 c.from_residual-in_err-parts.ensures.1 (λ other.
-    let keys : Passes key_rules (Some (table_view c.args.table.now)) = search rules in
-    let numbers : Passes number_rules (Some (table_view c.args.table.now)) = search rules in
+    let keys = subst (λ t. Passes key_rules (Some t)) c.in-Ok.ensures.0 c.in_ok-check_keys.ensures.ok in
+    let numbers = subst (λ t. Passes number_rules (Some t)) c.in-Ok.ensures.0 c.in_ok-numbers.ensures.ok in
     first_after (key_rules ++ number_rules) part_rules (Some (table_view c.args.table.now)) c.in_err-parts.field-0.0 (passes_joined key_rules number_rules (Some (table_view c.args.table.now)) keys numbers) ((subst (λ t. StopsFirst part_rules (Some t) c.in_err-parts.field-0.0) c.in-Ok.ensures.0 c.in_err-parts.ensures.err) other))
 
 pub of-requires : goal.of-requires
 of-requires c =
-    let keys : Passes key_rules (Some (table_view c.args.table.now)) = search rules in
-    let numbers : Passes number_rules (Some (table_view c.args.table.now)) = search rules in
-    let parts : Passes part_rules (Some (table_view c.args.table.now)) = search rules in
+    let keys = subst (λ t. Passes key_rules (Some t)) c.in-Ok.ensures.0 c.in_ok-check_keys.ensures.ok in
+    let numbers = subst (λ t. Passes number_rules (Some t)) c.in-Ok.ensures.0 c.in_ok-numbers.ensures.ok in
+    let parts = subst (λ t. Passes part_rules (Some t)) c.in-Ok.ensures.0 c.in_ok-parts.ensures.ok in
     let all : Passes table_rules (Some (table_view c.args.table.now)) = passes_joined key_rules (number_rules ++ part_rules) (Some (table_view c.args.table.now)) keys (passes_joined number_rules part_rules (Some (table_view c.args.table.now)) numbers parts) in
     let same : record {
       processes = c.in_ok-numbers.numbers.processes;
@@ -48,7 +48,7 @@ of-requires c =
 
 pub returns-clause-ok : goal.returns-clause-ok
 returns-clause-ok c =
-    let keys : Passes key_rules (Some (table_view c.args.table.now)) = search rules in
-    let numbers : Passes number_rules (Some (table_view c.args.table.now)) = search rules in
-    let parts : Passes part_rules (Some (table_view c.args.table.now)) = search rules in
+    let keys = subst (λ t. Passes key_rules (Some t)) c.in-Ok.ensures.0 c.in_ok-check_keys.ensures.ok in
+    let numbers = subst (λ t. Passes number_rules (Some t)) c.in-Ok.ensures.0 c.in_ok-numbers.ensures.ok in
+    let parts = subst (λ t. Passes part_rules (Some t)) c.in-Ok.ensures.0 c.in_ok-parts.ensures.ok in
     passes_joined key_rules (number_rules ++ part_rules) (Some (table_view c.args.table.now)) keys (passes_joined number_rules part_rules (Some (table_view c.args.table.now)) numbers parts)
