@@ -7,7 +7,7 @@ ghost use Rattle.scenario_record.specs.Record.{opening_mind};
 ghost use Rattle.trace_laws.specs.ScenarioSetting.{setting_of};
 ghost use Rattle.trace_laws.specs.World.{IsTrace};
 ghost use Rattle.letters.specs.Letters.{AreInOrder, AreLetters};
-ghost use Rattle.letters.specs.Traces.{AreInTrace};
+ghost use Rattle.letters.specs.Traces.{AreInTrace, AreLostAs, AreNumbered};
 
 use crate::book::LetterBook;
 use crate::letter::Letter;
@@ -19,7 +19,8 @@ use std::alloc::Global;
 /// Runs machines by the single event list, up to the horizon, and gives the letters that they send to one another:
 /// those of each step of the run, each once, in the order of the steps, which is that of the tick of sending and then
 /// of the sender, and of one step in the order in which it sent them. There is one machine for each process, of process
-/// 1 first, and each opens as the scenario says. Letters to oneself are left out.
+/// 1 first, and each opens as the scenario says. Letters to oneself are left out. On each link letters are numbered from
+/// 1 without a gap, and as many are lost as the entries of the trace count.
 ///
 /// # Errors
 ///
@@ -38,6 +39,9 @@ pub fn letters(
     ensures order { IfOk result (λ letters. AreInOrder letters.items) }
     ensures trace { IfOk result (λ letters. (trace : List EntryRecord)
         → IsTrace (setting_of scenario.now) trace → AreInTrace trace letters.items) }
+    ensures numbers { IfOk result (λ letters. AreNumbered letters.items) }
+    ensures lost { IfOk result (λ letters. (trace : List EntryRecord)
+        → IsTrace (setting_of scenario.now) trace → AreLostAs trace letters.items) }
     ensures errors { IfErr result (λ e. (e ≡ RunError.Limit) ⊎ (e ≡ RunError.Memory)) }
     ensures limit { IsErrOf result RunError.Limit → (whole : List EntryRecord)
         → IsTrace (setting_of scenario.now) whole → scenario.now.limit < length whole }

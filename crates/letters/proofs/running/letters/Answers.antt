@@ -3,6 +3,8 @@ use Rattle.trace_laws.specs.ScenarioSetting.{setting_of}
 use Rattle.letters.specs.Book.{HasHeard}
 use Rattle.letters.specs.Letters.{letter_of}
 use Rattle.letters.proofs.Coming.{letters_in_trace}
+use Rattle.letters.proofs.Losing.{letters_lost}
+use Rattle.letters.proofs.Numbered.{letters_are_numbered}
 use Rattle.letters.proofs.Only.{only_letters}
 use Rattle.letters.proofs.Ordered.{letters_in_order}
 use Rattle.letters.proofs.running.letters.Goals as goal
@@ -26,3 +28,9 @@ returns-clause-trace g c = letters_in_trace c.args.scenario.now c.horizon-horizo
 
 pub returns-clause-only : goal.returns-clause-only
 returns-clause-only g c = λ others is. only_letters c.args.scenario.now _ others (returns-clause-letters g c) is
+
+pub returns-clause-numbers : goal.returns-clause-numbers
+returns-clause-numbers g c = letters_are_numbered c.args.scenario.now _ (returns-clause-letters g c)
+
+pub returns-clause-lost : goal.returns-clause-lost
+returns-clause-lost g c = λ trace is. letters_lost c.args.scenario.now _ trace (returns-clause-letters g c) is
