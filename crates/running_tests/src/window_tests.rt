@@ -68,6 +68,23 @@ fn three_coordinators(alloc: Global) -> Result<Scenario, Fail> {
     Ok(read_scenario(alloc, COORDINATORS.as_bytes())?)
 }
 
+/// Six processes that do nothing but start.
+const SIX: &str = "version = 1
+processes = 6
+horizon = 2
+lookahead = 2
+seed = 1
+algorithm = \"none\"
+[detector]
+period = 100
+check = 100
+timeout = 100
+grow = 1
+[link]
+min = 2
+max = 2
+";
+
 /// Whether two entries are the same.
 fn is_same(a: &Entry, b: &Entry) -> bool {
     a.key == b.key

@@ -91,13 +91,14 @@ fn call_berths<M: Process, R: Wait>(
     Ok(done)
 }
 
-/// Calls the berths of a stage in a given order up to tick `end`, each with room for as many entries as the limit has.
-/// Answers the berths, and how many letters were posted.
+/// Calls the berths of a stage in a given order up to tick `end`, each with room for so many entries, and no more than
+/// the limit has. Answers the berths, and how many letters were posted.
 pub fn call_window<M: Process, R: Wait>(
     rt: &R,
     alloc: Global,
     stage: Stage<'_, M>,
     end: u32,
+    room: u64,
     order: &[u16],
 ) -> Result<(Vec<Berth<M>>, usize), RunError>
     requires { IsStage M.mind stage }
@@ -108,7 +109,7 @@ pub fn call_window<M: Process, R: Wait>(
         so_far,
         ..
     } = stage;
-    let left = scenario.limit() - so_far;
+    let left = room.min(scenario.limit() - so_far);
     let mut mailboxes = Mailboxes::new(alloc, scenario.processes())?;
     let mut slip = mailboxes.slip(alloc)?;
     let streams = Streams::new(scenario);

@@ -54,11 +54,13 @@ fn held_back(rt: HostRuntime) -> Result<(), Fail> {
         let windows = run_by(&rt, alloc, &scenario, 3, &gate)?;
         same_entries(&rt, windows.entries(), list.entries());
         // six windows have an event, and process 1 has none in one of them
+        let first = gate.first.load(Ordering::SeqCst);
+        let second = gate.second.load(Ordering::SeqCst);
+        let third = gate.third.load(Ordering::SeqCst);
+        let all = first.wrapping_add(second).wrapping_add(third);
+        same(&rt, &all, &17);
         if !by_worker {
-            let entered = [&gate.first, &gate.second, &gate.third];
-            for (entered, times) in entered.iter().zip([5, 6, 6]) {
-                same(&rt, &entered.load(Ordering::SeqCst), &times);
-            }
+            same(&rt, &(first, second), &(5, 6));
         }
     }
     Ok(())

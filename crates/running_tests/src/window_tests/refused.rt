@@ -60,16 +60,16 @@ impl Process for Refused {
     }
 }
 
-/// Two machines that are refused at the input after so many.
-fn machines_of(
+/// Machines that are refused at the input after so many, and count those that they take.
+pub fn machines_of(
     alloc: Global,
     scenario: &Scenario,
     limit: u64,
+    taken: &Arc<AtomicU64, Global>,
 ) -> Result<Vec<Box<dyn Process>>, AllocError>
     ensures { IfOk result (λ machines. map mind machines.items
         ≡ map (opening_mind scenario.now) (numbers_to scenario.now.processes)) }
 {
-    let taken = Arc::new(alloc, AtomicU64::new(0))?;
     make_all(
         alloc,
         scenario,
@@ -80,7 +80,7 @@ fn machines_of(
                 stack: watcher(alloc, &opening)?,
                 failed: false,
                 limit,
-                taken: Arc::try_clone(&taken)?,
+                taken: Arc::try_clone(taken)?,
             };
             Ok(Box::new(alloc, machine)?)
         },
@@ -98,9 +98,11 @@ fn each_input(rt: HostRuntime) -> Result<(), Fail> {
     let scenario = one_crash(alloc)?;
     let plan = Plan::new(&scenario, 2, 2)?;
     for limit in 0..=INPUTS {
-        let machines = machines_of(alloc, &scenario, limit)?;
+        let taken = Arc::new(alloc, AtomicU64::new(0))?;
+        let machines = machines_of(alloc, &scenario, limit, &taken)?;
         let list = run_list(alloc, &scenario, machines);
-        let machines = machines_of(alloc, &scenario, limit)?;
+        taken.store(0, Ordering::SeqCst);
+        let machines = machines_of(alloc, &scenario, limit, &taken)?;
         let windows = run_windows(&rt, alloc, &scenario, machines, &plan, &OpenGate);
         if let (Ok(list), Ok(windows)) = (&list, &windows) {
             same(&rt, &list.entries().len(), &12);
@@ -125,7 +127,8 @@ fn each_input(rt: HostRuntime) -> Result<(), Fail> {
 fn refused_again(rt: HostRuntime) -> Result<(), Fail> {
     let alloc = rt.alloc();
     let scenario = one_crash(alloc)?;
-    let mut machines = machines_of(alloc, &scenario, 1)?;
+    let taken = Arc::new(alloc, AtomicU64::new(0))?;
+    let mut machines = machines_of(alloc, &scenario, 1, &taken)?;
     let mut out = Vec::new(alloc);
     let first = machines.first_mut().ok_or("no machine")?;
     first.on_input(0, &StepInput::Start, &mut out)?;

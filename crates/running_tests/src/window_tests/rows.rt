@@ -13,21 +13,31 @@ use std::test::Fail;
 use std::thread::Threads;
 use windows::{Berth, Plan};
 
-/// The berths of the window after so many others, which ends at tick `end`, where they were called in this order; its
-/// start, and how many letters were posted.
+/// The berths of the window of so many ticks after so many others, where they were called in this order; its start and
+/// its end, and how many letters were posted.
 fn called<R: Threads + Wait + Sync>(
     rt: &R,
     alloc: Global,
     scenario: &Scenario,
+    window: u32,
     before: usize,
-    end: u32,
     order: &[u16],
-) -> Result<(Vec<Berth<Box<dyn Process>>>, u32, usize), Fail> {
-    let plan = Plan::new(scenario, 1, 2)?;
+) -> Result<(Vec<Berth<Box<dyn Process>>>, (u32, u32), usize), Fail> {
+    let plan = Plan::new(scenario, 1, u64::from(window))?;
     let stage = stage_after(rt, alloc, scenario, &plan, before)?;
     let start = stage.start();
-    let (berths, letters) = call_window(rt, alloc, stage, end, order)?;
-    Ok((berths, start, letters))
+    let end = start.saturating_add(window).min(scenario.horizon());
+    let (berths, letters) = call_window(rt, alloc, stage, end, u64::MAX, order)?;
+    Ok((berths, (start, end), letters))
+}
+
+/// How many entries berths have.
+fn count(berths: &[Berth<Box<dyn Process>>]) -> usize {
+    let mut entries: usize = 0;
+    for berth in berths {
+        entries = entries.saturating_add(berth.part.len());
+    }
+    entries
 }
 
 /// Of each window of 2 ticks its end, how many entries it has, and how many letters are posted in it. The letter that
@@ -40,35 +50,33 @@ fn entries_and_letters(rt: HostRuntime) -> Result<(), Fail> {
     let scenario = one_crash(alloc)?;
     for order in [[1, 2], [2, 1]] {
         for before in 0..WINDOWS.len() {
-            let (end, _, _) = WINDOWS[before];
-            let (berths, _, letters) = called(&rt, alloc, &scenario, before, end, &order)?;
-            let mut entries: usize = 0;
-            for berth in &berths {
-                entries = entries.saturating_add(berth.part.len());
-            }
-            same(&rt, &(end, entries, letters), &WINDOWS[before]);
+            let (berths, (_, end), letters) = called(&rt, alloc, &scenario, 2, before, &order)?;
+            same(&rt, &(end, count(&berths), letters), &WINDOWS[before]);
         }
     }
     Ok(())
 }
 
-/// Limits of the trace, and how the second window of 2 ticks is refused. The first one has 2 entries; in the second
-/// each process has 2.
-const LIMITS: [(&str, Option<RunError>); 3] = [
-    ("limit = 2\n", Some(RunError::Limit)),
-    ("limit = 3\n", Some(RunError::Limit)),
-    ("limit = 4\n", None),
+/// Limits of the trace, after how many windows of 2 ticks one is called, where it ends, for how many entries each berth
+/// has room at most, and how it is refused. The first window has 2 entries, one of each process; in the second each
+/// process has 2.
+const LIMITS: [(&str, usize, u32, u64, Option<RunError>); 5] = [
+    ("limit = 2\n", 1, 4, u64::MAX, Some(RunError::Limit)),
+    ("limit = 3\n", 1, 4, u64::MAX, Some(RunError::Limit)),
+    ("limit = 4\n", 1, 4, u64::MAX, None),
+    ("", 0, 2, 0, Some(RunError::Limit)),
+    ("", 0, 2, 1, None),
 ];
 
 #[test]
 fn no_room(rt: HostRuntime) -> Result<(), Fail> {
     let alloc = rt.alloc();
-    for (limit, refusal) in LIMITS {
+    for (limit, before, end, room, refusal) in LIMITS {
         let text = format!(in alloc; "{limit}{ONE_CRASH}")?;
         let scenario = read_scenario(alloc, text.as_bytes())?;
         let plan = Plan::new(&scenario, 1, 2)?;
-        let stage = stage_after(&rt, alloc, &scenario, &plan, 1)?;
-        let called = call_window(&rt, alloc, stage, 4, &[1, 2]);
+        let stage = stage_after(&rt, alloc, &scenario, &plan, before)?;
+        let called = call_window(&rt, alloc, stage, end, room, &[1, 2]);
         same(&rt, &(limit, called.err()), &(limit, refusal));
     }
     Ok(())
@@ -90,25 +98,28 @@ fn is_as_listed(berth: &Berth<Box<dyn Process>>, list: &[Entry], start: u32, end
     count == berth.part.len()
 }
 
-/// The ends of the windows of 2 ticks in which something happens.
-const ENDS: [u32; 6] = [2, 4, 6, 8, 10, 12];
-
-/// The berths are called in the given order, and whatever it is, each process does in each window what the list has of
-/// it there.
+/// The berths are called in the given order, and whatever it is, each process does in each window of one tick or two
+/// what the list has of it there, and in all windows what the list has.
 #[test]
 fn as_the_list(rt: HostRuntime) -> Result<(), Fail> {
     let alloc = rt.alloc();
     let scenario = three_coordinators(alloc)?;
     let list = list_of(alloc, &scenario)?;
-    for order in [[1, 2, 3], [3, 2, 1], [2, 3, 1]] {
-        for before in 0..ENDS.len() {
-            let end = ENDS[before];
-            let (berths, start, _) = called(&rt, alloc, &scenario, before, end, &order)?;
-            same(&rt, &berths.len(), &order.len());
-            for (berth, number) in berths.iter().zip(order) {
-                same(&rt, &berth.pid().number(), &number);
-                assert!(rt; is_as_listed(berth, list.entries(), start, end));
+    for window in [1, 2] {
+        for order in [[1, 2, 3], [3, 2, 1], [2, 3, 1]] {
+            let mut made: usize = 0;
+            // after the last window none has an entry
+            for before in 0..20 {
+                let (berths, (start, end), _) = called(
+                    &rt, alloc, &scenario, window, before, &order,
+                )?;
+                made = made.saturating_add(count(&berths));
+                for (berth, number) in berths.iter().zip(order) {
+                    same(&rt, &berth.pid().number(), &number);
+                    assert!(rt; is_as_listed(berth, list.entries(), start, end));
+                }
             }
+            same(&rt, &made, &list.entries().len());
         }
     }
     Ok(())

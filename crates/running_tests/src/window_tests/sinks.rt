@@ -1,7 +1,7 @@
 //! What a sink is handed, window by window.
 ghost use Rattle.std.specs.Prelude.{◌≡◌, ◌<◌, ◌-◌, ◌^◌};
 
-use super::makers::all_machines;
+use super::refused::machines_of;
 use super::runs::list_of;
 use super::{one_crash, same_entries};
 use crate::common::same;
@@ -10,7 +10,8 @@ use process_api::Entry;
 use scenario::Scenario;
 use std::alloc::Global;
 use std::process::Abort;
-use std::sync::Wait;
+use std::sync::atomic::{AtomicU64, Ordering};
+use std::sync::{Arc, Wait};
 use std::test::Fail;
 use std::thread::Threads;
 use windows::{OpenGate, Plan, Sink, run_windows_into};
@@ -19,8 +20,9 @@ use windows::{OpenGate, Plan, Sink, run_windows_into};
 #[derive(Drop)]
 struct Counting {
     entries: Vec<Entry>,
-    // the length of each part that it was handed, taken or not
-    handed: Vec<usize>,
+    // the length of each part that it was handed, taken or not, and how many inputs the machines had taken by then
+    handed: Vec<(usize, u64)>,
+    inputs: Arc<AtomicU64, Global>,
     most: usize,
     // whether it refuses because it can't write, and not for want of memory
     writes: bool,
@@ -37,7 +39,8 @@ impl Sink for Counting {
     ghost failed = { λ s. s.failures };
 
     fn part(&mut self, mut entries: Vec<Entry>) -> Result<(), RunError> {
-        self.handed.push(entries.len())?;
+        let inputs = self.inputs.load(Ordering::SeqCst);
+        self.handed.push((entries.len(), inputs))?;
         if self.handed.len() <= self.most {
             self.entries.append(&mut entries)?;
             return Ok(());
@@ -54,8 +57,9 @@ impl Sink for Counting {
     }
 }
 
-/// How many entries each window of 2 ticks has.
-const PARTS: [usize; 5] = [2, 4, 2, 2, 2];
+/// How many entries each window of 2 ticks has, and how many inputs the machines have taken as it closes: a process
+/// that has crashed takes none.
+const PARTS: [(usize, u64); 5] = [(2, 2), (4, 5), (2, 6), (2, 7), (2, 9)];
 
 /// How many entries the windows before each have, and all windows.
 const BEFORE: [usize; 6] = [0, 2, 6, 8, 10, 12];
@@ -74,10 +78,12 @@ fn takes_so_many<R: Abort + Threads + Wait + Sync>(
     requires { most < 6 }
 {
     let plan = Plan::new(scenario, 2, 2)?;
-    let machines = all_machines(alloc, scenario)?;
+    let inputs = Arc::new(alloc, AtomicU64::new(0))?;
+    let machines = machines_of(alloc, scenario, u64::MAX, &inputs)?;
     let mut sink = Counting {
         entries: Vec::new(alloc),
         handed: Vec::new(alloc),
+        inputs,
         most,
         writes: refusal == RunError::Write,
         failures: 0,
@@ -95,8 +101,8 @@ fn takes_so_many<R: Abort + Threads + Wait + Sync>(
     Ok(())
 }
 
-/// The parts come one by one, in the order of the windows. After a refused one none is handed on, nor that one again,
-/// and the sink has the entries of the windows before it.
+/// The parts come one by one, in the order of the windows, each before a machine takes an input of the next window.
+/// After a refused one none is handed on, nor that one again, and the sink has the entries of the windows before it.
 #[test]
 fn parts_in_order(rt: HostRuntime) -> Result<(), Fail> {
     let alloc = rt.alloc();

@@ -80,10 +80,10 @@ fn first_window(rt: HostRuntime) -> Result<(), Fail> {
 }
 
 /// As many processes as there can be, each of which sends a letter to every other at each tick. The second of three
-/// windows has 8,256 entries and posts 8,064 letters, which the third takes: both are worth four threads that close
+/// windows has 131,328 entries and posts 130,560 letters, which the third takes: both are worth 63 threads that close
 /// them.
-const SIXTY_FOUR: &str = "version = 1
-processes = 64
+const AS_MANY_AS_CAN_BE: &str = "version = 2
+processes = 256
 horizon = 6
 lookahead = 2
 seed = 1
@@ -101,11 +101,11 @@ max = 2
 #[test]
 fn sixty_four(rt: HostRuntime) -> Result<(), Fail> {
     let alloc = rt.alloc();
-    let scenario = read_scenario(alloc, SIXTY_FOUR.as_bytes())?;
+    let scenario = read_scenario(alloc, AS_MANY_AS_CAN_BE.as_bytes())?;
     let list = list_of(alloc, &scenario)?;
-    // 64 starts, 64 checks, 320 beats, and four letters for each pair
-    same(&rt, &list.entries().len(), &16_576);
-    assert!(rt; 4 * WORTH_A_THREAD <= 8_192);
+    // 256 starts, 256 checks, 1,280 beats, and four letters for each pair
+    same(&rt, &list.entries().len(), &262_912);
+    assert!(rt; 63 * WORTH_A_THREAD <= 130_560);
     for workers in [1, 2, 4, 64] {
         let windows = run_by(&rt, alloc, &scenario, workers, &OpenGate)?;
         same_entries(&rt, windows.entries(), list.entries());

@@ -1,16 +1,26 @@
-use Rattle.std.proofs.Common.{◌≡◌, ◌+◌, ◌-◌, sym, subst}
+use Rattle.std.proofs.Common.{◌≡◌, ◌≤◌, ◌+◌, ◌-◌, ℕ, List, sym, subst, arith}
 use Rattle.std.specs.List.{All}
+use Rattle.std.proofs.lemmas.List.Elements.{All-weaker}
 use Rattle.std.proofs.lemmas.List.Sorted.{All-permutation}
+use Rattle.process_api.specs.Mind.{Mind}
+use Rattle.scenario_record.specs.Record.{Record}
 use Rattle.windows.specs.Workers.{IsReady}
+use Rattle.windows.specs.declared.berth.Berth.{Berth}
 use Rattle.windows.proofs.Settled.{sum_of, stage_ready}
 use Rattle.running_tests.proofs.window_tests.calls.call_window.Goals as goal
+
+-- what is ready for so many entries is ready for fewer
+less_ready : {M : Type 0} (mind : M → Mind) (s : Record) (left less : ℕ) (bs : List (Berth M)) → less ≤ left → All (IsReady mind s left) bs → All (IsReady mind s less) bs
+less_ready mind s left less bs le = All-weaker (IsReady mind s left) (IsReady mind s less) (λ b is. ((is.0.0, is.0.1, is.0.2, omega (arith, le, is.0.3)), is.1)) bs
 
 pub call_berths-requires-clause-ready : goal.call_berths-requires-clause-ready
 call_berths-requires-clause-ready g c κs within =
     let mind = g.M.Process.mind in
     let old = c.args.stage in
-    let left = c.limit.result - old.so_far in
-    let sum : left + old.so_far ≡ old.scenario.now.limit = sum_of _ _ _ c.limit.ensures.value c.requires.1.within in
-    let ready = stage_ready mind old c.limit.ensures.ranges c.requires.0 c.requires.1 left sum in
+    let most = c.limit.result - old.so_far in
+    let sum : most + old.so_far ≡ old.scenario.now.limit = sum_of _ _ _ c.limit.ensures.value c.requires.1.within in
+    let left = c.min-left.result in
+    let few : left ≤ most = omega (arith, c.min-left.ensures) in
+    let ready = less_ready mind old.scenario.now most left old.berths.items few (stage_ready mind old c.limit.ensures.ranges c.requires.0 c.requires.1 most sum) in
     subst (λ s. All (IsReady mind s left) c.in_given_order-berths.result.items) (sym c.new-streams.ensures)
     (All-permutation (IsReady mind old.scenario.now left) old.berths.items _ c.in_given_order-berths.ensures ready)
