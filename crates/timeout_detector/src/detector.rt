@@ -85,7 +85,6 @@ impl TimeoutDetector {
 
     /// A check at tick `now`: suspects each process that is overdue, in rising order, with its note, and asks for the
     /// next check.
-    #[tactic(auto, using(std::proofs::Common::append_assoc, process_api::proofs::Membership::without_after_insert))]
     fn check(&mut self, now: u32, out: &mut Vec<Action>) -> Result<(), AllocError>
         ensures state { OnOk result (state_of self.new ≡ (checked_by self.old now).state) }
         ensures actions { OnOk result (out.new.items ≡ out.old.items ++ (checked_by self.old now).actions) }

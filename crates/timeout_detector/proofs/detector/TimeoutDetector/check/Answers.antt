@@ -1,15 +1,19 @@
-use Rattle.std.proofs.Common.{◌≡◌, ◌∷◌, [], ◌++◌, ℕ, ◌+◌, ◌-◌, Bool, true, false, not, ◌&&◌, nat_le, ap, sym, ◌∙◌}
+use Rattle.std.proofs.Common.{◌≡◌, ◌∷◌, [], ◌++◌, ℕ, ◌+◌, ◌-◌, Bool, true, false, not, ◌&&◌, nat_le, List, map, append_assoc, arith, rules, ap, sym, ◌∙◌}
 use Rattle.std.specs.FinSet as set
 use Rattle.process_api.specs.Place.{Place}
 use Rattle.process_api.specs.Timeout.{TimeoutState, is_overdue, watches}
 use Rattle.process_api.specs.declared.numbers.TimeoutNumbers.{TimeoutNumbers}
 use Rattle.process_api.specs.declared.action.Action.{Action}
-use Rattle.process_api.specs.declared.action.Action.TheVariants.{Note}
+use Rattle.process_api.specs.declared.action.Action.TheVariants.{Note, Wake}
 use Rattle.process_api.specs.declared.action.Note.TheVariants.{Suspect}
+use Rattle.process_api.specs.declared.message.Tag.TheVariants.{Check}
+use Rattle.process_api.specs.Numbers.{numbers_to}
+use Rattle.std.specs.List.{filter}
+use Rattle.std.proofs.lemmas.Result.{on_ok_weaker}
 use Rattle.scenario_record.specs.Opening.{place_of}
 use Rattle.timeout_detector.specs.View.{state_of}
 use Rattle.process_api.proofs.Numbering.{appended-passes, appended-fails}
-use Rattle.process_api.proofs.Membership.{contains-insert_all_below, insert_all-passes, insert_all-fails}
+use Rattle.process_api.proofs.Membership.{contains-insert_all_below, insert_all-passes, insert_all-fails, without_after_insert}
 use Rattle.timeout_detector.proofs.detector.TimeoutDetector.check.Goals as goal
 use Rattle.timeout_detector.proofs.detector.TimeoutDetector.check.Goals.{then-is_overdue+in_ok-note_that, else-is_overdue}
 
@@ -53,3 +57,23 @@ loop-before-preserved c =
             notes = ap (λ v. v.items) w.out-is ∙ (i.notes ∙ appended-fails c.args.out.now.items note test n fails);
           }
     ]
+
+pub invariant_of-self : goal.invariant_of-self
+invariant_of-self c = record {
+  kind = search rules;
+  heard_places = search rules;
+  bound_places = search rules;
+  not_itself = without_after_insert c.loop-before.self.suspects c.insert.new.self c.after-q.result c.loop-before.self.opening.own c.insert.ensures
+      (c.is_overdue.ensures.other c.if-is_overdue.true) c.loop-before.self.not_itself;
+}
+
+pub returns-clause-actions : goal.returns-clause-actions
+returns-clause-actions c =
+    let start = c.args.self.now in
+    let i = c.loop-before.invariant in
+    let found : ℕ → List Action = λ k. map (λ q. Note (Suspect 1 q)) (filter (is_overdue (place_of start.opening) start.numbers (state_of start) c.args.now) (numbers_to k)) in
+    let all : c.loop-before.before ≡ start.opening.processes = omega arith in
+    on_ok_weaker c.wake_after.result (λ ok. ok ∙ (ap (λ xs. xs ++ Wake c.loop-before.self.numbers.check Check ∷ []) i.notes
+    ∙ (append_assoc c.args.out.now.items (found c.loop-before.before) (Wake c.loop-before.self.numbers.check Check ∷ [])
+    ∙ (ap (λ (ns : TimeoutNumbers). c.args.out.now.items ++ (found c.loop-before.before ++ Wake ns.check Check ∷ [])) i.numbers
+    ∙ ap (λ k. c.args.out.now.items ++ (found k ++ Wake start.numbers.check Check ∷ [])) all)))) c.wake_after.ensures.ok
