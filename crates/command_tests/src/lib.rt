@@ -2,8 +2,8 @@
 //! status.
 //!
 //! What a run prints is compared by the crate `transcripts`. Here stands what no printed text shows: inputs and outlets
-//! that fail, calls of the library, threads that must overlap, runs with many seeds, sums over many reports, and the line
-//! of progress.
+//! that fail, calls of the library, threads that must overlap, agreement with many seeds, sums over many reports, and
+//! the line of progress.
 #![tactic(auto)]
 
 #[cfg(test)]
@@ -24,7 +24,5 @@ mod refusals;
 mod reports;
 #[cfg(test)]
 mod runs;
-#[cfg(test)]
-mod studies;
 #[cfg(test)]
 mod traces;
