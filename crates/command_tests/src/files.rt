@@ -42,52 +42,6 @@ min = 1
 max = 1
 ";
 
-/// Process 1 takes a false suspicion back inside one tick; process 2 keeps its own.
-pub const TAKEN_BACK: &str = "version = 1
-processes = 2
-horizon = 8
-lookahead = 2
-seed = 1
-algorithm = \"none\"
-
-[detector]
-period = 100
-check = 2
-timeout = 2
-grow = 5
-
-[link]
-min = 2
-max = 2
-";
-
-/// Each of three processes watches the next, and a reduction shares the suspicions.
-pub const WATCH_NEXT: &str = "version = 1
-processes = 3
-horizon = 20
-lookahead = 2
-seed = 1
-algorithm = \"none\"
-
-[detector]
-period = 2
-check = 3
-timeout = 5
-grow = 1
-watch = \"next\"
-
-[link]
-min = 2
-max = 2
-
-[share]
-period = 4
-
-[[crash]]
-process = 2
-at = 0
-";
-
 /// Three processes that agree by rotating coordinators, with a quiet detector.
 pub const COORDINATORS: &str = "version = 1
 processes = 3
@@ -106,26 +60,6 @@ grow = 1
 [link]
 min = 2
 max = 2
-";
-
-/// One process that runs the rotating coordinator by itself.
-pub const ALONE: &str = "version = 1
-processes = 1
-horizon = 10
-lookahead = 1
-seed = 1
-algorithm = \"es\"
-proposals = [7]
-
-[detector]
-period = 100
-check = 100
-timeout = 100
-grow = 1
-
-[link]
-min = 1
-max = 1
 ";
 
 /// Five processes over links that lose and delay letters.
@@ -147,48 +81,4 @@ grow = 2
 min = 2
 max = 9
 loss = 300
-";
-
-/// Three processes that exchange vectors, of which the first crashes at tick 0.
-pub const EXCHANGE_CRASH: &str = "version = 1
-processes = 3
-horizon = 20
-lookahead = 2
-seed = 1
-algorithm = \"s\"
-proposals = [10, 20, 30]
-
-[detector]
-period = 2
-check = 3
-timeout = 5
-grow = 1
-
-[link]
-min = 2
-max = 2
-
-[[crash]]
-process = 1
-at = 0
-";
-
-/// Two processes that exchange vectors and suspect each other too early.
-pub const EXCHANGE_PAIR: &str = "version = 1
-processes = 2
-horizon = 10
-lookahead = 2
-seed = 1
-algorithm = \"s\"
-proposals = [10, 20]
-
-[detector]
-period = 100
-check = 1
-timeout = 1
-grow = 1
-
-[link]
-min = 2
-max = 2
 ";

@@ -3,7 +3,7 @@
 //!
 //! What a run prints is compared by the crate `transcripts`. Here stands what no printed text shows: inputs and outlets
 //! that fail, files by their paths, calls of the library, threads that must overlap, plans and windows as a gate sees
-//! them, runs with many seeds, sums over many reports, and the line of progress.
+//! them, agreement with many seeds, sums over many reports, and the line of progress.
 #![tactic(auto)]
 
 #[cfg(test)]
@@ -28,7 +28,5 @@ mod refusals;
 mod reports;
 #[cfg(test)]
 mod runs;
-#[cfg(test)]
-mod studies;
 #[cfg(test)]
 mod traces;

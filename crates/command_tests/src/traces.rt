@@ -1,21 +1,16 @@
 //! Traces and reports, beside what the library tells of them.
-ghost use Rattle.std.specs.Prelude.{◌≡◌, IfOk};
-ghost use Rattle.scenario_record.specs.Opening.{mind_of};
 
-use crate::files::{COORDINATORS, FIVE, ONE_CRASH, ONE_PROCESS};
-use crate::judged::{ALL_DECIDE, NOTHING, are_outcomes};
-use crate::runs::{printed, same, seeded};
+use crate::files::{COORDINATORS, ONE_CRASH, ONE_PROCESS};
+use crate::judged::{ALL_DECIDE, NOTHING, are_outcomes, trace_of};
+use crate::runs::same;
 use bench_commands::bench::{Mode, bench};
 use bench_commands::compare::same_bytes;
-use event_list::run_list;
-use machines::{idle, make_all};
-use process_api::{DetectorNumbers, Process, Trace};
+use process_api::Trace;
 use qos_report::{MemoryOutlet, Outlet, PrintChoice, write_report, write_trace};
-use scenario::{AlgorithmKind, Opening, Scenario, read_scenario};
-use std::alloc::{AllocError, Global};
+use scenario::{Scenario, read_scenario};
+use std::alloc::Global;
 use std::process::Abort;
 use std::test::Fail;
-use timeout_detector::TimeoutDetector;
 use windows::OpenGate;
 
 /// What `list` tells of a run, over an outlet that takes all: how many entries and letters there are and how many of
@@ -67,26 +62,6 @@ verdict,1,0,0,eventual_strong_accuracy,0
 verdict,1,0,0,eventual_weak_accuracy,0
 ";
 
-/// The run of one process over a machine of one's own.
-fn own_trace(alloc: Global, scenario: &Scenario) -> Result<Trace, Fail> {
-    let machines = make_all(
-        alloc,
-        scenario,
-        |opening: Opening| -> Result<Box<dyn Process>, AllocError>
-            ensures { IfOk result (λ made. mind made ≡ mind_of opening) }
-        {
-            match (opening.detector, opening.share, opening.algorithm) {
-                (DetectorNumbers::Timeout(_), None, AlgorithmKind::Idle) => {
-                    let detector = TimeoutDetector::open(alloc, &opening)?;
-                    Ok(Box::new(alloc, idle(&opening, detector))?)
-                }
-                _ => Err(AllocError),
-            }
-        },
-    )?;
-    Ok(run_list(alloc, scenario, machines)?)
-}
-
 /// The texts of a trace are those of one process that takes its start alone.
 fn has_texts<R: Abort>(
     rt: &R,
@@ -103,26 +78,13 @@ fn has_texts<R: Abort>(
     Ok(())
 }
 
-/// A machine of one's own, its run, and the texts of its trace.
+/// Machines that are made here, their run, and the texts of its trace.
 #[test]
-fn own_machine(rt: HostRuntime) -> Result<(), Fail> {
+fn texts_of_a_trace(rt: HostRuntime) -> Result<(), Fail> {
     let alloc = rt.alloc();
     let scenario = read_scenario(alloc, ONE_PROCESS.as_bytes())?;
-    let trace = own_trace(alloc, &scenario)?;
+    let trace = trace_of(alloc, &scenario)?;
     has_texts(&rt, alloc, &scenario, &trace)
-}
-
-/// With each of ten seeds a run is the same each time.
-#[test]
-fn ten_seeds(rt: HostRuntime) -> Result<(), Fail> {
-    let alloc = rt.alloc();
-    for seed in 1..11u32 {
-        let file = seeded(alloc, FIVE, seed)?;
-        let first = printed(&rt, alloc, "fdbench list - --print trace", &file)?;
-        let second = printed(&rt, alloc, "fdbench list - --print trace", &file)?;
-        same(&rt, &second.as_str(), &first.as_str());
-    }
-    Ok(())
 }
 
 /// Texts, and whether their bytes are the same.

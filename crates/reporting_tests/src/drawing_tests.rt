@@ -1,5 +1,4 @@
 //! Bars and pictures of worked traces.
 mod bars;
 mod letters_pictures;
-mod pictures;
 mod whole;

@@ -1,5 +1,4 @@
-//! The letters of a run, and their table.
-mod runs;
+//! The table of letters.
 mod texts;
 
 use crate::comparisons::same;

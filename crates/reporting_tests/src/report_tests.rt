@@ -1,4 +1,3 @@
-//! Measures of worked traces and of worked runs; and outlets over a writer.
+//! Measures of worked traces; and outlets over a writer.
 mod measured;
 mod outlets;
-mod runs;

@@ -1,6 +1,5 @@
 //! Sums and rows by hand, and sweeps of small studies.
 mod laws;
-mod layouts;
 mod parallel;
 mod rows;
 mod studies;

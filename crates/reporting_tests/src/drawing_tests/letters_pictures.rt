@@ -1,5 +1,4 @@
 //! Pictures of letters, and refusals.
-use super::pictures::{ONE_CRASH, answer_of};
 use crate::comparisons::same;
 use crate::traces::{
     CRASH_AT_3, number_of, pid, pid_of, scenario_of, small_number_of, trace_of, word_of,
@@ -61,6 +60,24 @@ pub fn letters_of<R: Abort>(rt: &R, alloc: Global, rows: &str) -> Vec<Letter> {
     }
     letters
 }
+
+/// What became of a picture, in a word.
+fn answer_of(drawn: Result<Vec<u8>, DrawError>) -> &'static str {
+    match drawn {
+        Ok(_) => "drawn",
+        Err(DrawError::TooManyProcesses) => "processes",
+        Err(DrawError::Ticks) => "ticks",
+        Err(DrawError::TooManyLetters) => "letters",
+        Err(DrawError::Memory(_)) => "memory",
+    }
+}
+
+/// Process 2 crashes at tick 3, and process 1 suspects it at tick 9.
+const ONE_CRASH: &str = "0,1,1,0,start,1,0,
+0,2,2,0,start,1,0,
+3,2,2,2,dead,0,0,
+9,1,1,5,check,0,0,suspect:1:2
+";
 
 /// A run and its letters.
 #[derive(Drop)]

@@ -1,0 +1,5 @@
+use Rattle.std.specs.FinSet.{contains-empty}
+use Rattle.base_tests.proofs.coordinator_tests.laws.waits_settle.Goals as goal
+
+pub open_and_take-requires : goal.open_and_take-requires
+open_and_take-requires g c = rw c.new-suspects.ensures (contains-empty _ _)

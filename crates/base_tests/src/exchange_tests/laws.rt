@@ -1,0 +1,53 @@
+//! What a caller has of the laws.
+ghost use Rattle.std.specs.Prelude.{◌≡◌, ◌++◌, IsTrue, OnOk};
+ghost use Rattle.process_api.specs.Mind.{leaves_out};
+ghost use Rattle.process_api.specs.React.{react_algorithm};
+ghost use Rattle.consensus_s.specs.Machine.{state_of};
+ghost use Rattle.base_tests.specs.Settled.{IsSettled};
+
+use crate::answers::actions_text;
+use crate::comparisons::same;
+use crate::driving::{TIMEOUTS, opening_of};
+use consensus_s::{SConsensus, law_settled};
+use process_api::{Action, Algorithm, ProcSet, StepInput, Tag};
+use scenario_record::AlgorithmKind;
+use std::alloc::AllocError;
+use std::test::Fail;
+
+/// A wake that comes right after an input does nothing more, and no wait is over then.
+fn take_and_wake(
+    machine: &mut SConsensus,
+    input: &StepInput,
+    suspects: &ProcSet,
+    out: &mut Vec<Action>,
+) -> Result<(), AllocError>
+    requires { IsTrue (leaves_out suspects.now (state_of machine.old)) }
+    ensures over { OnOk result (IsSettled suspects.now (state_of machine.new)) }
+    ensures state { OnOk result (state_of machine.new
+        ≡ (react_algorithm (state_of machine.old) input.now suspects.now).state) }
+    ensures actions { OnOk result (out.new.items ≡ out.old.items
+        ++ (react_algorithm (state_of machine.old) input.now suspects.now).actions) }
+{
+    law_settled();
+    machine.take(0, input, suspects, out)?;
+    machine.take(0, &StepInput::Wake(Tag::Check), suspects, out)?;
+    Ok(())
+}
+
+/// Process 1 of two starts, and nothing more is done.
+#[test]
+fn waits_settle(rt: HostRuntime) -> Result<(), Fail> {
+    let alloc = rt.alloc();
+    let kind = AlgorithmKind::Strong;
+    let opening = opening_of(1, 2, 20, TIMEOUTS, None, kind, Some(10))?;
+    let mut machine = SConsensus::open(alloc, &opening)?;
+    let mut out = Vec::new(alloc);
+    take_and_wake(&mut machine, &StepInput::Start, &ProcSet::new(), &mut out)?;
+    let text = actions_text(alloc, &out)?;
+    same(
+        &rt,
+        &text.as_str(),
+        &"round:1 vector:1[10 -]>1 vector:1[10 -]>2",
+    );
+    Ok(())
+}

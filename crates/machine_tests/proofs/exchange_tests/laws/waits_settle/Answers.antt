@@ -1,6 +1,0 @@
-use Rattle.std.proofs.Common.{ap, not}
-use Rattle.std.specs.FinSet.{contains-empty}
-use Rattle.machine_tests.proofs.exchange_tests.laws.waits_settle.Goals as goal
-
-pub take_and_wake-requires : goal.take_and_wake-requires
-take_and_wake-requires g c = rw c.new.ensures (ap not (contains-empty _ _))

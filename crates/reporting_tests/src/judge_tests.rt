@@ -1,3 +1,0 @@
-//! Verdicts and outcomes of worked traces.
-mod decided;
-mod judged;
