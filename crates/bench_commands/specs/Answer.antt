@@ -44,8 +44,8 @@ module _ (s : Record) where
     pub is_within : IsTraceWithin s trace
     pub text : IsSameLine piece
 
-  -- The piece is what an order over the scenario asks for. A run by windows goes by any plan that nothing speaks against,
-  -- and answers with the texts that `list` answers with
+  -- The piece is what an order over the scenario asks for. A run by windows goes by any plan that nothing speaks
+  -- against, and answers with the texts that `list` answers with
   abbrev pub AnswersOver : Order → List ℕ → Type 0
   AnswersOver (order.Check path) piece = piece ≡ codes "ok\n"
   AnswersOver (order.List path print) piece = IsListAnswer print piece

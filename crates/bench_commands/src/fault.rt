@@ -45,8 +45,8 @@ impl Fault {
         }
     }
 
-    /// Writes the fault's line and answers the exit status. Where a put fails, a front part of it went out, and nobody is
-    /// told.
+    /// Writes the fault's line and answers the exit status. Where a put fails, a front part of it went out, and nobody
+    /// is told.
     pub fn report<O: Outlet>(&self, faults: &mut O) -> u8
         requires { O.failed faults.old < 2 ^ 64 - 1 }
         ensures status { result ≡ status_of self.now }

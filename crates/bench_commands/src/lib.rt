@@ -8,8 +8,8 @@
 //! the trace by the definitions of `trace_laws`, and the words by `command_line`. The process ends with the status, by
 //! the contract of [`serve::finish`].
 //!
-//! That a run goes by the plan that is asked for no text shows. [`serve::carry_out`] is lent a gate, which a worker tells
-//! of each process that it takes.
+//! That a run goes by the plan that is asked for no text shows. [`serve::carry_out`] is lent a gate, which a worker
+//! tells of each process that it takes.
 //!
 //! For example, the words `fdbench compare - --workers 2 --window 1` over a file with two processes print `same`.
 #![tactic(auto)]

@@ -82,9 +82,9 @@ fn full_writer(rt: HostRuntime) -> Result<(), Fail> {
     Ok(())
 }
 
-/// Lines, and in how many puts each writes what it prints of one crash. By the list a text is one piece; by windows of 2
-/// ticks the first line is, the rows of each of five windows, and the report. Then whether an outlet that takes a byte at
-/// a time is to fail at each put, and not after the last alone.
+/// Lines, and in how many puts each writes what it prints of one crash. By the list a text is one piece; by windows of
+/// 2 ticks the first line is, the rows of each of five windows, and the report. Then whether an outlet that takes a
+/// byte at a time is to fail at each put, and not after the last alone.
 const LINES: [(&str, u64, bool); 7] = [
     ("fdbench list - --print both", 1, true),
     ("fdbench list - --print report", 1, false),
@@ -103,8 +103,8 @@ const LINES: [(&str, u64, bool); 7] = [
     ("fdbench compare - --workers 2 --window 2", 1, true),
 ];
 
-/// A line ends well over an outlet that takes at most `most` bytes at a put, `times` times, or with one put that failed.
-/// Then the outlet holds what went out before, and nothing was tried again.
+/// A line ends well over an outlet that takes at most `most` bytes at a put, `times` times, or with one put that
+/// failed. Then the outlet holds what went out before, and nothing was tried again.
 fn ends<R: Files + Threads + Wait + Sync + Clock + Abort>(
     rt: &R,
     alloc: Global,
@@ -130,8 +130,8 @@ fn ends<R: Files + Threads + Wait + Sync + Clock + Abort>(
     Ok(())
 }
 
-/// An outlet that fails at a put, be it the first or a later one: a run fails at each of the puts that it makes, and ends
-/// well where none fails. One that takes a byte at a time gets every byte.
+/// An outlet that fails at a put, be it the first or a later one: a run fails at each of the puts that it makes, and
+/// ends well where none fails. One that takes a byte at a time gets every byte.
 #[test]
 fn each_write_fails(rt: HostRuntime) -> Result<(), Fail> {
     let alloc = rt.alloc();
