@@ -105,7 +105,6 @@ impl TimeoutDetector {
 
     /// Hears at tick `now` of a process that is watched. If it was suspected, that was a mistake: it is trusted again,
     /// with its note, and its bound grows.
-    #[tactic(auto, using(process_api::proofs::Membership::fewer_after_remove))]
     fn hear(&mut self, now: u32, q: Pid, out: &mut Vec<Action>) -> Result<(), AllocError>
         requires { q ≤ self.old.opening.processes }
 
