@@ -4,6 +4,7 @@ use crate::comparisons::same;
 use process_api::Pid;
 use scenario::{Link, Outage, Scenario, read_scenario};
 use std::alloc::Global;
+use std::process::Abort;
 use std::test::Fail;
 
 /// A file with the fewest keys.
@@ -118,30 +119,42 @@ fn told_of(alloc: Global, text: &str) -> Result<String, Fail> {
     Ok(format!(in alloc; "{:?}", read_scenario(alloc, text.as_bytes())?)?)
 }
 
-/// Files, with their records as text, or with a part of them: the files with the fewest and with all keys, the crash
-/// file in version 2 and with freshness points, and the crash file without its last byte and without its crash.
+/// The record of a file, as text, is this, or has this part.
+fn stands_for<R: Abort>(
+    rt: &R,
+    alloc: Global,
+    file: &str,
+    record: &str,
+    is_all: bool,
+) -> Result<(), Fail> {
+    let told = told_of(alloc, file)?;
+    assert!(rt; told.contains(record), "{record}");
+    same(rt, &(told.as_str() == record, record), &(is_all, record));
+    Ok(())
+}
+
+/// The files with the fewest and with all keys, and the crash file in version 2 and with freshness points.
 #[test]
 fn what_it_stands_for(rt: HostRuntime) -> Result<(), Fail> {
     let alloc = rt.alloc();
+    stands_for(&rt, alloc, FEWEST, FEWEST_IS, true)?;
+    stands_for(&rt, alloc, EVERY, EVERY_IS, true)?;
     let second = changed(alloc, CRASH_FILE, "version = 1", "version = 2")?;
+    stands_for(&rt, alloc, &second, TIMEOUT_IS, false)?;
     let fresh = changed(alloc, &second, TIMEOUT, FRESHNESS)?;
-    let cut = changed(alloc, CRASH_FILE, "at = 3\n", "at = 3")?;
-    let without = changed(alloc, CRASH_FILE, CRASH, "")?;
+    stands_for(&rt, alloc, &fresh, FRESHNESS_IS, false)
+}
+
+/// The crash file without its last byte, and without its crash.
+#[test]
+fn without_its_end(rt: HostRuntime) -> Result<(), Fail> {
+    let alloc = rt.alloc();
     let whole = told_of(alloc, CRASH_FILE)?;
-    for (file, record, is_all) in [
-        (FEWEST, FEWEST_IS, true),
-        (EVERY, EVERY_IS, true),
-        (second.as_str(), TIMEOUT_IS, false),
-        (fresh.as_str(), FRESHNESS_IS, false),
-        (cut.as_str(), whole.as_str(), true),
-        (cut.as_str(), "crashes: [None, Some(3)]", false),
-        (without.as_str(), "crashes: [None, None]", false),
-    ] {
-        let told = told_of(alloc, file)?;
-        assert!(rt; told.contains(record), "{file}: {told}");
-        same(&rt, &(told.as_str() == record, file), &(is_all, file));
-    }
-    Ok(())
+    let cut = changed(alloc, CRASH_FILE, "at = 3\n", "at = 3")?;
+    stands_for(&rt, alloc, &cut, &whole, true)?;
+    stands_for(&rt, alloc, &cut, "crashes: [None, Some(3)]", false)?;
+    let without = changed(alloc, CRASH_FILE, CRASH, "")?;
+    stands_for(&rt, alloc, &without, "crashes: [None, None]", false)
 }
 
 /// The process of this number.

@@ -2,6 +2,7 @@
 use super::answer;
 use crate::changes::{CRASH_FILE, changed};
 use crate::comparisons::{same, same_text};
+use std::alloc::Global;
 use std::test::Fail;
 
 /// Changes of the crash file, and what they get.
@@ -56,15 +57,26 @@ const REPEATED: [(&str, &str, &str, &str, usize, &str); 4] = [
     ),
 ];
 
+/// The crash file with such a text in the place of a part.
+fn repeated(
+    alloc: Global,
+    old: &str,
+    first: &str,
+    (open, close): (&str, &str),
+    times: usize,
+) -> Result<String, Fail> {
+    let open = open.repeat(alloc, times)?;
+    let close = close.repeat(alloc, times)?;
+    let new = format!(in alloc; "{first}{open}{close}")?;
+    changed(alloc, CRASH_FILE, old, &new)
+}
+
 /// Deep files and large files are read, in time.
 #[test]
 fn depth_and_length(rt: HostRuntime) -> Result<(), Fail> {
     let alloc = rt.alloc();
     for (old, first, open, close, times, name) in REPEATED {
-        let open = open.repeat(alloc, times)?;
-        let close = close.repeat(alloc, times)?;
-        let new = format!(in alloc; "{first}{open}{close}")?;
-        let text = changed(alloc, CRASH_FILE, old, &new)?;
+        let text = repeated(alloc, old, first, (open, close), times)?;
         let came = answer(alloc, text.as_bytes());
         same(&rt, &(came, old, times), &(name, old, times));
     }
