@@ -1,0 +1,3 @@
+//! Verdicts and outcomes of worked traces.
+mod decided;
+mod judged;
