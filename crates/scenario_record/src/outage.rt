@@ -1,7 +1,7 @@
 //! Outages.
 
 /// A time during which a link loses all letters that are sent on it.
-#[derive(Clone, Copy, Debug)]
+#[derive(Clone, Copy, Debug, PartialEq, Eq)]
 pub struct Outage {
     /// The first tick of it, 0 to 9,999,999.
     pub begin: u32,
