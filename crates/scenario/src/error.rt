@@ -36,7 +36,8 @@ pub enum ScenarioError {
     /// There are proposals without an algorithm, or an algorithm has other proposals than one of each process, each
     /// 0 to 4,294,967,295.
     Proposals,
-    /// A number of the detector isn't 1 to 1,000,000, or `watch` isn't `all` or `next`.
+    /// The detector's `kind` isn't `timeout` or `freshness`, one of its numbers isn't 1 to 1,000,000, or its `watch`
+    /// isn't `all` or `next`.
     DetectorNumbers,
     /// The period of the shares isn't 1 to 1,000,000.
     Share,
