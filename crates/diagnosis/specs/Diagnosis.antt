@@ -37,6 +37,7 @@ Breaks e _ _ = ⊥
 pub record Describes (s : Record) (a : Accepted) : Type 0 where
   pub processes : a.processes ≡ s.processes
   pub horizon : a.horizon ≡ s.horizon
+  pub limit : a.limit ≡ s.limit
 
 -- ---- a file's bytes
 

@@ -21,6 +21,8 @@ pub struct Accepted {
     pub processes: u16,
     /// The tick at which the run ends.
     pub horizon: u32,
+    /// How many entries the run may have.
+    pub limit: u64,
     /// About how much the run will be.
     pub estimate: Estimate,
 }
@@ -92,6 +94,7 @@ pub fn diagnose_table(alloc: Global, table: &Table) -> Result<Diagnosis, AllocEr
         Ok(scenario) => Ok(Diagnosis::Accepted(Accepted {
             processes: scenario.processes(),
             horizon: scenario.horizon(),
+            limit: scenario.limit(),
             estimate: estimate_of(&scenario),
         })),
         Err(refusal) => Ok(Diagnosis::Refused(refused_table(alloc, table, refusal)?)),

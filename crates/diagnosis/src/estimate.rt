@@ -1,7 +1,7 @@
 //! About how much a run will be.
 ghost use Rattle.std.specs.Prelude.{◌≡◌};
 
-use process_api::{DetectorNumbers, Watch};
+use process_api::DetectorNumbers;
 use scenario::Scenario;
 
 /// How many entries a second a run is reckoned with.
@@ -20,11 +20,10 @@ pub struct Estimate {
 }
 
 impl Estimate {
-    /// A limit that would do for the run: a quarter above its entries, as some letters are left out, and at most the
-    /// highest limit that a file can have.
+    /// A limit that would do for the run: a quarter above its entries, as some letters are left out. It may be above
+    /// the highest that a file can have.
     pub fn limit(&self) -> u64 {
-        let roomy = self.entries.saturating_add(self.entries / 4);
-        roomy.max(1).min(HIGHEST_LIMIT)
+        self.entries.saturating_add(self.entries / 4).max(1)
     }
 }
 
@@ -33,36 +32,22 @@ fn turns(horizon: u64, period: u32) -> u64 {
     (horizon / u64::from(period.max(1))).saturating_add(1)
 }
 
-/// To how many others a process sends its Alive letters or heartbeats, or of how many it gets some.
-fn others_of(processes: u64, watch: Watch) -> u64 {
-    let others = processes.saturating_sub(1);
-    match watch {
-        Watch::All => others,
-        Watch::Next => others.min(1),
-    }
-}
-
-/// Entries of one process's detector: its beats and its checks, and a letter of each turn of each other.
+/// Entries of one process's detector: its beats and its checks, and a letter of each turn of each other, whomever it
+/// watches.
 fn detector_entries(horizon: u64, processes: u64, detector: DetectorNumbers) -> u64 {
-    let (beats, checks, watch) = match detector {
-        DetectorNumbers::Timeout(its) => (
-            turns(horizon, its.period),
-            turns(horizon, its.check),
-            its.watch,
-        ),
+    let (beats, checks) = match detector {
+        DetectorNumbers::Timeout(its) => (turns(horizon, its.period), turns(horizon, its.check)),
         DetectorNumbers::Freshness(its) => {
             let beats = turns(horizon, its.eta);
-            (beats, beats, its.watch)
+            (beats, beats)
         }
     };
-    let letters = beats.saturating_mul(others_of(processes, watch));
-    beats.saturating_add(checks).saturating_add(letters)
+    beats.saturating_mul(processes).saturating_add(checks)
 }
 
 /// About how much a scenario's run will be, reckoned as if no process crashed and no letter was lost or came late. Each
 /// process has its start, and beats, checks and shares by their periods up to the horizon; of each beat one letter
-/// comes to each process that watches the sender, and of each share one to all. The few letters of an algorithm are
-/// left out.
+/// comes to each other process, and of each share one to all. The letters of an algorithm are left out.
 pub fn estimate_of(scenario: &Scenario) -> Estimate {
     let horizon = u64::from(scenario.horizon());
     let processes = u64::from(scenario.processes());
