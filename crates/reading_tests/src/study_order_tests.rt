@@ -9,23 +9,26 @@ use study_line::read_words;
 /// ticks and letters where none are named, and the two pictures are told apart. The first run is shown where none is
 /// named. Axes keep their order, and the three kinds are told apart. A row tells of a point where nothing is said.
 /// `check` takes a study or none of its options.
-const ANSWERS: [(&str, &str); 18] = [
+const ANSWERS: [(&str, &str); 20] = [
     ("fdstudy check -", "Ok(Check { path: \"-\", study: None })"),
     (
         "fdstudy check x.toml --seeds 4",
         "Ok(Check { path: \"x.toml\", study: Some(StudyTexts { grid: GridTexts { seeds: \"4\", vary: [], over: [], \
-            deal: [] }, shard: None, threads: None }) })",
+            deal: [] }, shard: None, threads: None, columns: None, each: Point }) })",
     ),
     (
-        "fdstudy check --threads 3 --over b=2 --deal c=3 --shard=1/2 --vary a=1 --seeds 1..=6 -",
+        "fdstudy check --threads 3 --over b=2 --deal c=3 --shard=1/2 --vary a=1 --seeds 1..=6 - --each run --columns d",
         "Ok(Check { path: \"-\", study: Some(StudyTexts { grid: GridTexts { seeds: \"1..=6\", vary: [\"a=1\"], over: \
-            [\"b=2\"], deal: [\"c=3\"] }, shard: Some(\"1/2\"), threads: Some(3) }) })",
+            [\"b=2\"], deal: [\"c=3\"] }, shard: Some(\"1/2\"), threads: Some(3), columns: Some(\"d\"), each: Run \
+            }) })",
     ),
     ("fdstudy check - --vary a=1", "Err(Form)"),
     ("fdstudy check - --over a=1", "Err(Form)"),
     ("fdstudy check - --deal a=1", "Err(Form)"),
     ("fdstudy check - --shard 1/2", "Err(Form)"),
     ("fdstudy check - --threads 2", "Err(Form)"),
+    ("fdstudy check - --columns runs", "Err(Form)"),
+    ("fdstudy check - --each point", "Err(Form)"),
     ("fdstudy letters x.toml", "Ok(Letters { path: \"x.toml\" })"),
     (
         "fdstudy draw - --as suspicions",
@@ -52,19 +55,19 @@ const ANSWERS: [(&str, &str); 18] = [
     (
         "fdstudy sweep - --seeds 1..=2",
         "Ok(Sweep { path: \"-\", study: StudyTexts { grid: GridTexts { seeds: \"1..=2\", vary: [], over: [], deal: [] \
-            }, shard: None, threads: None }, columns: None, each: Point })",
+            }, shard: None, threads: None, columns: None, each: Point } })",
     ),
     (
         "fdstudy sweep - --vary detector.timeout=10..=30:10 --over=crash[1].at=1,2 --seeds=1..=2 \
             --vary=link.loss=0 --threads=64 --shard=2/3 --over horizon=5 --each run",
         "Ok(Sweep { path: \"-\", study: StudyTexts { grid: GridTexts { seeds: \"1..=2\", vary: \
             [\"detector.timeout=10..=30:10\", \"link.loss=0\"], over: [\"crash[1].at=1,2\", \"horizon=5\"], deal: [] \
-            }, shard: Some(\"2/3\"), threads: Some(64) }, columns: None, each: Run })",
+            }, shard: Some(\"2/3\"), threads: Some(64), columns: None, each: Run } })",
     ),
     (
         "fdstudy sweep --columns runs,mistakes --deal b=2 --seeds 7 - --each=point --deal=a=1",
         "Ok(Sweep { path: \"-\", study: StudyTexts { grid: GridTexts { seeds: \"7\", vary: [], over: [], deal: \
-            [\"b=2\", \"a=1\"] }, shard: None, threads: None }, columns: Some(\"runs,mistakes\"), each: Point })",
+            [\"b=2\", \"a=1\"] }, shard: None, threads: None, columns: Some(\"runs,mistakes\"), each: Point } })",
     ),
     (
         "fdstudy sweep - --seeds 1..=2 --each Run",
@@ -90,7 +93,7 @@ const HELP: [(&str, &str, &str); 8] = [
     (
         "fdstudy check --help",
         "Usage: fdstudy check",
-        "--over <KEY=VALUE,..> --deal <KEY=VALUE,..> --threads <N>",
+        "--over <KEY=VALUE,..> --deal <KEY=VALUE,..> --threads <N> --columns <NAME,..> --each <WHAT>",
     ),
     ("fdstudy letters --help", "Usage: fdstudy letters", ""),
     ("fdstudy draw --help", "Usage: fdstudy draw", "--of <P,Q>"),

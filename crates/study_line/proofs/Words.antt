@@ -89,7 +89,7 @@ module _ (rows : List Row) where
   show_has_point (order.Letters path) h = let bad : codes "show" ≡ codes "letters" = h.0 in search rules
   show_has_point (order.Draw path named from until of) h = let bad : codes "show" ≡ codes "draw" = h.0 in search rules
   show_has_point (order.Show path grid point run) h = (point, h.3)
-  show_has_point (order.Sweep path study columns told) h = let bad : codes "show" ≡ codes "sweep" = h.0 in search rules
+  show_has_point (order.Sweep path study) h = let bad : codes "show" ≡ codes "sweep" = h.0 in search rules
 
   pub show_has_run : (asked : Order) → StatesIn (codes "show") rows asked
       → (n : ℕ) × IsNumberAt (codes "run") rows n
@@ -97,7 +97,7 @@ module _ (rows : List Row) where
   show_has_run (order.Letters path) h = let bad : codes "show" ≡ codes "letters" = h.0 in search rules
   show_has_run (order.Draw path named from until of) h = let bad : codes "show" ≡ codes "draw" = h.0 in search rules
   show_has_run (order.Show path grid point run) h = (run, h.4)
-  show_has_run (order.Sweep path study columns told) h = let bad : codes "show" ≡ codes "sweep" = h.0 in search rules
+  show_has_run (order.Sweep path study) h = let bad : codes "show" ≡ codes "sweep" = h.0 in search rules
 
 simple : is_simple whole_app ≡ true
 unfolding clap_on_literals

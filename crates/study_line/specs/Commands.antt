@@ -47,10 +47,6 @@ run_rule = record (option_rule (codes "run")) {
 abbrev pub threads_rule : Rule
 threads_rule = record (option_rule (codes "threads")) { parser = Some (parser.Unsigned 1 64) }
 
--- where nothing is said a row tells of a point
-abbrev pub each_rule : Rule
-each_rule = record (option_rule (codes "each")) { defaults = codes "point" ∷ [] }
-
 abbrev pub picture_rule : Rule
 picture_rule = record (option_rule (codes "as")) { required = true }
 
@@ -66,10 +62,14 @@ with_ticks app = with_rule (with_rule app (tick_rule (codes "from"))) (tick_rule
 abbrev pub with_path : Text → App
 with_path name = with_rule (new_app name) path_rule
 
+-- what the table of a study has
+abbrev pub with_table : App → App
+with_table app = with_rule (with_rule app (option_rule (codes "columns"))) (option_rule (codes "each"))
+
 -- a command that takes a path and a study
 abbrev pub study_app : (needed : Bool) → Text → App
 study_app needed name =
-    with_rule (with_rule (with_grid needed (with_path name)) (option_rule (codes "shard"))) threads_rule
+    with_table (with_rule (with_rule (with_grid needed (with_path name)) (option_rule (codes "shard"))) threads_rule)
 
 abbrev pub check_app : App
 check_app = study_app false (codes "check")
@@ -84,7 +84,7 @@ abbrev pub show_app : App
 show_app = with_rule (with_rule (with_grid true (with_path (codes "show"))) point_rule) run_rule
 
 abbrev pub sweep_app : App
-sweep_app = with_rule (with_rule (study_app true (codes "sweep")) (option_rule (codes "columns"))) each_rule
+sweep_app = study_app true (codes "sweep")
 
 -- the program's command, which is nothing without one of these
 abbrev pub top_app : App

@@ -1,6 +1,6 @@
 -- What the words of a command line state.
 use Rattle.std.specs.Prelude.{◌≡◌, ◌≢◌, [], ◌∷◌, ℕ, Bool, List, Ok, Option, Some, None, true}
-use Rattle.std.specs.Prelude.{codes, is_some, map, not, option_map}
+use Rattle.std.specs.Prelude.{codes, is_some, map, not, option_map, unwrap_or}
 use Rattle.std.specs.Borrow.{Bor}
 use Rattle.std.specs.List.{list_all}
 use Rattle.std.specs.Option.{option_map_or}
@@ -25,6 +25,10 @@ use Rattle.study_line.specs.declared.order.WordsError.TheVariants as refusal
 
 abbrev pub IsTextAt : Text → List Row → Text → Type 0
 IsTextAt id rows text = first_of id rows ≡ Some text
+
+-- the text of an argument, or another one where there is none
+abbrev pub text_or_else : Text → List Row → Text → Text
+text_or_else id rows other = unwrap_or (first_of id rows) other
 
 -- the same of an argument that may be missing
 abbrev pub MayBeTextAt : Text → List Row → Option (Bor Text) → Type 0
@@ -71,9 +75,9 @@ abbrev pub each_text : Each → Text
 each_text each.Point = codes "point"
 each_text each.Run = codes "run"
 
--- what a row tells of, as an argument's text names it
+-- what a row tells of, as an argument's text names it; a point where there is none
 abbrev pub IsEachAt : Text → List Row → Each → Type 0
-IsEachAt id rows told = IsTextAt id rows (each_text told)
+IsEachAt id rows told = text_or_else id rows (codes "point") ≡ each_text told
 
 -- which runs a study has
 pub record IsGridAt (rows : List Row) (grid : GridTexts) : Type 0 where
@@ -82,16 +86,19 @@ pub record IsGridAt (rows : List Row) (grid : GridTexts) : Type 0 where
   pub over : map (λ t. t.now) grid.over.items ≡ texts_at (codes "over") rows
   pub deal : map (λ t. t.now) grid.deal.items ≡ texts_at (codes "deal") rows
 
--- a study: its runs, which part of them is done, and by how many threads
+-- a study: its runs, which part of them is done, by how many threads, and what its table has
 pub record IsStudyAt (rows : List Row) (study : StudyTexts) : Type 0 where
   pub grid : IsGridAt rows study.grid
   pub shard : MayBeTextAt (codes "shard") rows study.shard
   pub threads : MayBeNumberAt (codes "threads") rows study.threads
+  pub columns : MayBeTextAt (codes "columns") rows study.columns
+  pub each : IsEachAt (codes "each") rows study.each
 
 -- the options that say a study
 abbrev pub study_options : List Text
 study_options =
-    codes "seeds" ∷ codes "vary" ∷ codes "over" ∷ codes "deal" ∷ codes "shard" ∷ codes "threads" ∷ []
+    codes "seeds" ∷ codes "vary" ∷ codes "over" ∷ codes "deal" ∷ codes "shard" ∷ codes "threads" ∷ codes "columns"
+    ∷ codes "each" ∷ []
 
 -- a study, or none where none of its options is there
 abbrev pub MayBeStudyAt : List Row → Option StudyTexts → Type 0
@@ -112,9 +119,8 @@ StatesIn name rows (order.Draw path named from until of) = (name ≡ codes "draw
 StatesIn name rows (order.Show path grid point run) = (name ≡ codes "show")
     × IsTextAt (codes "path") rows path.now × IsGridAt rows grid
     × IsNumberAt (codes "point") rows point × IsNumberAt (codes "run") rows run
-StatesIn name rows (order.Sweep path study columns told) = (name ≡ codes "sweep")
+StatesIn name rows (order.Sweep path study) = (name ≡ codes "sweep")
     × IsTextAt (codes "path") rows path.now × IsStudyAt rows study
-    × MayBeTextAt (codes "columns") rows columns × IsEachAt (codes "each") rows told
 
 -- the order is what the subcommand that was found says
 abbrev pub StatesFound : Option (Text × List Row) → Order → Type 0

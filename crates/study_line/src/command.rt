@@ -1,7 +1,7 @@
 //! The command line, with its help.
 ghost use Rattle.std.specs.Prelude.{◌≡◌, Some, false};
 ghost use Rattle.clap.specs.Words.{App, app_of, rule_of, with_rule, with_subcommand};
-ghost use Rattle.study_line.specs.Commands.{IsLocal, Makes, axis_rule, check_app, draw_app, each_rule, letters_app, option_rule, path_rule, picture_rule, point_rule, run_rule, seeds_rule, show_app, study_app, sweep_app, threads_rule, tick_rule, top_app, whole_app, with_axes, with_grid, with_path, with_scenario, with_study, with_ticks};
+ghost use Rattle.study_line.specs.Commands.{IsLocal, Makes, axis_rule, check_app, draw_app, letters_app, option_rule, path_rule, picture_rule, point_rule, run_rule, seeds_rule, show_app, study_app, sweep_app, threads_rule, tick_rule, top_app, whole_app, with_axes, with_grid, with_path, with_scenario, with_study, with_table, with_ticks};
 
 use clap::builder::ValueParser;
 use clap::{Arg, ArgAction, Command, value_parser};
@@ -115,7 +115,8 @@ const SHARD: &str =
 const COLUMNS: &str =
     "The columns that are printed, by their names, in the order that is wanted [default: all]";
 
-const EACH: &str = "What has a row: each `point`, with its runs added up, or each `run`";
+const EACH: &str =
+    "What has a row: each `point`, with its runs added up, or each `run` [default: point]";
 
 const PICTURE: &str =
     "Which picture: `suspicions`, who suspects whom, or `letters`, what went from whom to whom";
@@ -248,14 +249,6 @@ fn threads_option<'a>(alloc: Global) -> Arg<'a>
     parsed_option(alloc, "threads", "N", THREADS, values)
 }
 
-/// The option for what has a row.
-fn each_option<'a>(alloc: Global) -> Arg<'a>
-    ensures rule { rule_of result ≡ each_rule }
-    ensures local { result.global ≡ false }
-{
-    option(alloc, "each", "WHAT", EACH).default_value("point")
-}
-
 /// The option for the picture.
 fn picture_option<'a>(alloc: Global) -> Arg<'a>
     ensures rule { rule_of result ≡ picture_rule }
@@ -302,6 +295,14 @@ fn grid_command<'a>(
     with_grid_options(alloc, path_command(alloc, name, about, example), needed)
 }
 
+/// A command with the options that say what the table of a study has.
+fn with_table_options<'a>(alloc: Global, command: Made<'a>) -> Made<'a>
+    ensures { (app : App) → Makes app command.entry → Makes (with_table app) result }
+{
+    let command = with_argument(command, option(alloc, "columns", "NAME,..", COLUMNS));
+    with_argument(command, option(alloc, "each", "WHAT", EACH))
+}
+
 /// A command that takes a scenario file and the options that say a study.
 fn study_command<'a>(
     alloc: Global,
@@ -314,7 +315,8 @@ fn study_command<'a>(
 {
     let command = grid_command(alloc, name, about, example, needed);
     let command = with_argument(command, option(alloc, "shard", "K/N", SHARD));
-    with_argument(command, threads_option(alloc))
+    let command = with_argument(command, threads_option(alloc));
+    with_table_options(alloc, command)
 }
 
 /// `check SCENARIO [--seeds A..=B] ..`, with the options of a study
@@ -350,13 +352,11 @@ fn show_command<'a>(alloc: Global) -> Made<'a>
     with_argument(command, run_option(alloc))
 }
 
-/// `sweep SCENARIO --seeds A..=B .. [--columns NAME,..] [--each WHAT]`, with the options of a study
+/// `sweep SCENARIO --seeds A..=B ..`, with the options of a study
 fn sweep_command<'a>(alloc: Global) -> Made<'a>
     ensures { Makes sweep_app result }
 {
-    let command = study_command(alloc, "sweep", SWEEP, SWEEP_EXAMPLE, true);
-    let command = with_argument(command, option(alloc, "columns", "NAME,..", COLUMNS));
-    with_argument(command, each_option(alloc))
+    study_command(alloc, "sweep", SWEEP, SWEEP_EXAMPLE, true)
 }
 
 /// The command line with no command yet.

@@ -3,12 +3,13 @@ ghost use Rattle.std.specs.Prelude.{◌≡◌, List, IfOk, IfErr, map, codes};
 ghost use Rattle.std.specs.List.{list_all};
 ghost use Rattle.clap.specs.Words.{Text, rows_of, found_of, subcommand_rows_of, fault_of, HasKind};
 ghost use Rattle.study_line.specs.Commands.{whole_app};
-ghost use Rattle.study_line.specs.Order.{Explains, IsEachAt, IsGridAt, IsNumberAt, IsPictureAt, IsStudyAt, IsTextAt, Lacks, MayBeNumberAt, MayBeStudyAt, MayBeTextAt, MayBeTickAt, States, StatesFound, StatesIn, is_missing, study_options, texts_at};
+ghost use Rattle.study_line.specs.Order.{Explains, IsEachAt, IsGridAt, IsNumberAt, IsPictureAt, IsStudyAt, IsTextAt, Lacks, MayBeNumberAt, MayBeStudyAt, MayBeTextAt, MayBeTickAt, States, StatesFound, StatesIn, is_missing, study_options, text_or_else, texts_at};
 
 use crate::command::command;
 use clap::ArgMatches;
 use clap::error::ErrorKind;
-use std::alloc::Global;
+use printable::Printable;
+use std::alloc::{AllocError, Global};
 
 /// Which runs a study has, by texts that are still to be read.
 #[derive(Debug, Drop)]
@@ -32,6 +33,10 @@ pub struct StudyTexts<'a> {
     pub shard: Option<&'a str>,
     /// How many threads share the runs, 1 to 64, where it is said.
     pub threads: Option<u64>,
+    /// The columns of its table, as `mistakes,runs`; all of them where nothing is said.
+    pub columns: Option<&'a str>,
+    /// What a row of its table tells of.
+    pub each: Each,
 }
 
 /// What a row of a study's table tells of.
@@ -98,10 +103,6 @@ pub enum Order<'a> {
         path: &'a str,
         /// Which study.
         study: StudyTexts<'a>,
-        /// The columns that are printed, as `mistakes,runs`; all of them where nothing is said.
-        columns: Option<&'a str>,
-        /// What a row tells of.
-        each: Each,
     },
 }
 
@@ -110,7 +111,7 @@ pub enum Order<'a> {
 pub enum WordsError {
     /// They ask for help, which is this.
     Help(String),
-    /// `clap` refuses them, and says why.
+    /// `clap` refuses them, and says why. What it quotes of them has no control characters.
     Mistake(String),
     /// `clap` takes them, but no picture is named so.
     NoPicture(String),
@@ -137,6 +138,16 @@ fn text_at<'a>(found: &ArgMatches<'a>, id: &str) -> Result<&'a str, WordsError>
     match text_if_at(found, id) {
         Some(text) => Ok(text),
         None => Err(WordsError::Form),
+    }
+}
+
+/// The text of an argument, or another one where there is none.
+fn text_or<'a>(found: &ArgMatches<'a>, id: &str, other: &'a str) -> &'a str
+    ensures { result.now ≡ text_or_else id.now (rows_of (found_of found.now)) other.now }
+{
+    match text_if_at(found, id) {
+        Some(text) => text,
+        None => other,
     }
 }
 
@@ -209,12 +220,12 @@ fn picture_at(alloc: Global, found: &ArgMatches<'_>, id: &str) -> Result<Picture
     Err(WordsError::NoPicture(copy_of(alloc, word)?))
 }
 
-/// What a row tells of, as an argument names it.
+/// What a row tells of, as an argument names it; a point where there is none.
 fn each_at(alloc: Global, found: &ArgMatches<'_>, id: &str) -> Result<Each, WordsError>
     ensures stated { IfOk result (IsEachAt id.now (rows_of (found_of found.now))) }
     ensures refused { IfErr result (Lacks (IsEachAt id.now (rows_of (found_of found.now)))) }
 {
-    let word = text_at(found, id)?;
+    let word = text_or(found, id, "point");
     if word == "point" {
         return Ok(Each::Point);
     }
@@ -242,10 +253,13 @@ fn read_study<'a>(alloc: Global, found: &ArgMatches<'a>) -> Result<StudyTexts<'a
     ensures stated { IfOk result (IsStudyAt (rows_of (found_of found.now))) }
     ensures refused { IfErr result (Lacks (IsStudyAt (rows_of (found_of found.now)))) }
 {
+    let each = each_at(alloc, found, "each")?;
     Ok(StudyTexts {
         grid: read_grid(alloc, found)?,
         shard: text_if_at(found, "shard"),
         threads: number_if_at(found, "threads"),
+        columns: text_if_at(found, "columns"),
+        each,
     })
 }
 
@@ -259,6 +273,8 @@ fn lacks_study(found: &ArgMatches<'_>) -> bool
         && lacks(found, "deal")
         && lacks(found, "shard")
         && lacks(found, "threads")
+        && lacks(found, "columns")
+        && lacks(found, "each")
 }
 
 /// A study, if any of its options is there.
@@ -336,15 +352,8 @@ fn read_sweep<'a>(alloc: Global, found: &ArgMatches<'a>) -> Result<Order<'a>, Wo
     ensures refused { IfErr result (Lacks (StatesIn (codes "sweep") (rows_of (found_of found.now)))) }
 {
     let path = text_at(found, "path")?;
-    let each = each_at(alloc, found, "each")?;
     let study = read_study(alloc, found)?;
-    let columns = text_if_at(found, "columns");
-    Ok(Order::Sweep {
-        path,
-        study,
-        columns,
-        each,
-    })
+    Ok(Order::Sweep { path, study })
 }
 
 /// What a subcommand's name and matches ask for.
@@ -382,15 +391,36 @@ fn read_matches<'a>(alloc: Global, matches: &ArgMatches<'a>) -> Result<Order<'a>
     }
 }
 
+/// Words as they are printed, each on one line.
+fn shown_words(alloc: Global, words: &[&str]) -> Result<Vec<String>, AllocError> {
+    let mut shown = Vec::new(alloc);
+    for word in words {
+        let word = Printable(word);
+        shown.push(format!(in alloc; "{word}")?)?;
+    }
+    Ok(shown)
+}
+
+/// What `clap` tells of words that it answers with this error. The words that it quotes are told without control
+/// characters: it reads them once more, as they are printed.
+fn text_of(alloc: Global, words: &[&str], error: &clap::Error) -> Result<String, AllocError> {
+    let shown = shown_words(alloc, words)?;
+    let again = command(alloc)?.try_get_matches_from(&shown);
+    match again {
+        Ok(_) => error.to_string(alloc),
+        Err(error) => error.to_string(alloc),
+    }
+}
+
 /// What is told of words that `clap` refuses, or for which it shows help.
-fn told_of(alloc: Global, error: &clap::Error) -> WordsError
-    ensures { (words : List Text) → HasKind (fault_of whole_app words) error.now → Explains words result }
+fn told_of(alloc: Global, words: &[&str], error: &clap::Error) -> WordsError
+    ensures { (read : List Text) → HasKind (fault_of whole_app read) error.now → Explains read result }
 {
     let kind = error.kind();
     if kind == ErrorKind::OutOfMemory {
         return WordsError::Memory;
     }
-    match error.to_string(alloc) {
+    match text_of(alloc, words, error) {
         Ok(text) if kind == ErrorKind::DisplayHelp => WordsError::Help(text),
         Ok(text) => WordsError::Mistake(text),
         Err(_) => WordsError::Memory,
@@ -414,6 +444,6 @@ pub fn read_words<'a>(alloc: Global, words: &'a [&'a str]) -> Result<Order<'a>, 
     };
     match command.try_get_matches_from(words) {
         Ok(matches) => read_matches(alloc, &matches),
-        Err(error) => Err(told_of(alloc, &error)),
+        Err(error) => Err(told_of(alloc, words, &error)),
     }
 }
