@@ -12,10 +12,10 @@ use Rattle.study_commands.specs.Letters.{IsLettersAnswer}
 use Rattle.study_commands.specs.Show.{IsPlace, IsShowAnswer}
 use Rattle.study_commands.specs.Stop.{Stops, Went}
 use Rattle.study_commands.specs.Fault.{IsBefore}
-use Rattle.study_commands.specs.Study.{IsGrid, IsShardOf, shard_word}
+use Rattle.study_commands.specs.Study.{IsGrid}
 use Rattle.study_commands.specs.Sweep.{IsFaultOf, IsOfRun, IsSaid, IsSweepAnswer, IsSweepFront}
 use Rattle.study_commands.specs.declared.fault.Fault.{Fault}
-use Rattle.study_commands.specs.Why.{IsOfText, StopsShow, StopsStudyCheck, StopsSweep}
+use Rattle.study_commands.specs.Why.{IsOfText, StopsShow, StopsSweep}
 use Rattle.study_commands.proofs.Reasons.{study_run, study_text}
 use Rattle.study_commands.proofs.Stopping.{refusal_before, refusal_one, stops_one}
 use Rattle.letters.specs.Letters.{AreLetters}
@@ -28,7 +28,6 @@ use Rattle.study.specs.Placed.{table_of_run}
 use Rattle.study.specs.Runs.{IsRunText}
 use Rattle.study.specs.Shard.{ShardRecord}
 use Rattle.study.specs.Words.{Word}
-use Rattle.study_line.specs.declared.order.Each.{Each}
 use Rattle.study_line.specs.declared.order.GridTexts.{GridTexts}
 use Rattle.study_line.specs.declared.order.Picture.{Picture}
 use Rattle.study_line.specs.declared.order.StudyTexts.{StudyTexts}
@@ -40,10 +39,13 @@ use Rattle.sweep.specs.declared.error.SweepError.TheVariants as error
 use Rattle.toml.specs.Data.{Members}
 
 pub check_answer : (input : Option (List ℕ)) (path bytes text line : List ℕ) (a : Accepted) → AreBytes input path bytes → AcceptsAs bytes a
-    → text ≡ line → line ≡ accepted_text a.processes a.horizon a.estimate.entries a.estimate.seconds → IsCheckAnswer input path text
+    → text ≡ line → line ≡ accepted_text a.processes a.horizon a.limit a.estimate.entries a.estimate.seconds → IsCheckAnswer input path text
 check_answer input path bytes text line a are accepts same is =
     let p : a.processes ≡ accepts.stands_for.processes = accepts.describes.processes in
     let h : a.horizon ≡ accepts.stands_for.horizon = accepts.describes.horizon in
+    let l : a.limit ≡ accepts.stands_for.limit = accepts.describes.limit in
+    let Told : (processes horizon limit : ℕ) → List ℕ =
+    λ processes horizon limit. accepted_text processes horizon limit a.estimate.entries a.estimate.seconds in
     record {
       bytes = bytes;
       are_bytes = are;
@@ -51,8 +53,9 @@ check_answer input path bytes text line a are accepts same is =
       accepted = accepts.accepts;
       entries = a.estimate.entries;
       seconds = a.estimate.seconds;
-      text = same ∙ (is ∙ (ap (λ n. accepted_text n a.horizon a.estimate.entries a.estimate.seconds) p
-          ∙ ap (λ n. accepted_text accepts.stands_for.processes n a.estimate.entries a.estimate.seconds) h));
+      text = same ∙ (is ∙ (ap (λ n. Told n a.horizon a.limit) p
+          ∙ (ap (λ n. Told accepts.stands_for.processes n a.limit) h
+          ∙ ap (λ n. Told accepts.stands_for.processes accepts.stands_for.horizon n) l)));
     }
 
 -- the letters of an accepted file's run
@@ -123,9 +126,9 @@ show_answer input path words point run file g p r text is_file is_grid is_point 
   text = is_text;
 }
 
-module _ (input : Option (List ℕ)) (path : List ℕ) (study : StudyTexts) (columns : Option Word) (kind : Each)
+module _ (input : Option (List ℕ)) (path : List ℕ) (study : StudyTexts)
     (file : Members) (g : GridRecord) (shard : ShardRecord) (layout : LayoutRecord)
-    (said : IsSaid input path study columns kind file g shard layout)
+    (said : IsSaid input path study file g shard layout)
     {O : Type 0} (told : O → Option (List ℕ)) (failed : O → ℕ) (old new : O) where
   pub of_run : (e : SweepError) → BreaksOff file g shard layout told failed old new e → IsOfRun g e
   of_run (error.Refused point run reason) broke = (point_within g shard point broke.0.point_in, broke.0.run_in)
@@ -133,7 +136,7 @@ module _ (input : Option (List ℕ)) (path : List ℕ) (study : StudyTexts) (col
   of_run error.Write broke = tt
 
   pub sweep_why : (e : SweepError) (f : Fault) → IsFaultOf e f → BreaksOff file g shard layout told failed old new e
-      → StopsSweep input path study columns kind f
+      → StopsSweep input path study f
   sweep_why (error.Refused point run reason) f is broke = study_run _ _ f is (λ line. inr (record {
     file = file;
     is_file = said.is_file;
@@ -146,17 +149,17 @@ module _ (input : Option (List ℕ)) (path : List ℕ) (study : StudyTexts) (col
     reason = reason;
     first = broke.0;
   }))
-  sweep_why error.Memory f is broke = let P : Fault → Type 0 = λ x. StopsSweep input path study columns kind x in subst P (sym is) tt
-  sweep_why error.Write f is broke = let P : Fault → Type 0 = λ x. StopsSweep input path study columns kind x in subst P (sym is) tt
+  sweep_why error.Memory f is broke = let P : Fault → Type 0 = λ x. StopsSweep input path study x in subst P (sym is) tt
+  sweep_why error.Write f is broke = let P : Fault → Type 0 = λ x. StopsSweep input path study x in subst P (sym is) tt
 
-  pub swept : WroteStudy file g shard layout told failed old new → Went told failed old new (IsSweepAnswer input path study columns kind)
+  pub swept : WroteStudy file g shard layout told failed old new → Went told failed old new (IsSweepAnswer input path study)
   swept wrote = record {
     piece = wrote.text;
     is_wanted = record { file = file; grid = g; shard = shard; layout = layout; said = said; text = wrote.is_text };
     written = wrote.wrote;
   }
 
-  front : WroteFirst file g shard layout told failed old new → Went told failed old new (IsSweepFront input path study columns kind)
+  front : WroteFirst file g shard layout told failed old new → Went told failed old new (IsSweepFront input path study)
   front first = record {
     piece = first.text;
     is_wanted = record { file = file; grid = g; shard = shard; layout = layout; said = said; count = first.count; text = first.is_text };
@@ -164,18 +167,18 @@ module _ (input : Option (List ℕ)) (path : List ℕ) (study : StudyTexts) (col
   }
 
   left : WroteNothing told failed old new ⊎ WroteFirst file g shard layout told failed old new
-      → WroteNothing told failed old new ⊎ Went told failed old new (IsSweepFront input path study columns kind)
+      → WroteNothing told failed old new ⊎ Went told failed old new (IsSweepFront input path study)
   left (inl nothing) = inl nothing
   left (inr first) = inr (front first)
 
   pub sweep_stops : (e : SweepError) (f : Fault) → IsFaultOf e f → BreaksOff file g shard layout told failed old new e
-      → Stops told failed old new (IsSweepFront input path study columns kind) (IsSweepFront input path study columns kind) f
+      → Stops told failed old new (IsSweepFront input path study) (IsSweepFront input path study) f
   sweep_stops (error.Refused point run reason) f is broke = stops_one told failed old new _ _ f (refusal_one f is) broke.1
   sweep_stops error.Memory f is broke =
-      let P : Fault → Type 0 = λ x. Stops told failed old new (IsSweepFront input path study columns kind) (IsSweepFront input path study columns kind) x in
+      let P : Fault → Type 0 = λ x. Stops told failed old new (IsSweepFront input path study) (IsSweepFront input path study) x in
       subst P (sym is) (left broke)
   sweep_stops error.Write f is broke =
-      let P : Fault → Type 0 = λ x. Stops told failed old new (IsSweepFront input path study columns kind) (IsSweepFront input path study columns kind) x in
+      let P : Fault → Type 0 = λ x. Stops told failed old new (IsSweepFront input path study) (IsSweepFront input path study) x in
       subst P (sym is) (record {
         piece = broke.text;
         is_wanted = record { file = file; grid = g; shard = shard; layout = layout; said = said; count = broke.count; text = broke.is_text };
@@ -188,40 +191,38 @@ cant_of_run file g shard (error.Refused point run reason) cant = (point_within g
 cant_of_run file g shard error.Memory cant = tt
 cant_of_run file g shard error.Write cant = tt
 
-module _ (input : Option (List ℕ)) (path : List ℕ) (study : StudyTexts)
-    (file : Members) (is_file : IsTable input path file) (g : GridRecord) (is_grid : IsGrid study.grid g)
-    (shard : ShardRecord) (is_shard : IsShardOf (shard_word study) shard) where
+module _ (input : Option (List ℕ)) (path : List ℕ) (study : StudyTexts) (file : Members) (g : GridRecord)
+    (shard : ShardRecord) (layout : LayoutRecord) (said : IsSaid input path study file g shard layout) where
   -- of a study that can be run
   pub study_answer : (piece : List ℕ) → HaveScenarios file g shard
       → (reckoned : List ℕ) × (piece ≡ study_begin (length (numbers_of g shard)) (length (runs g)) ++ reckoned)
       → IsStudyCheck input path study piece
   study_answer piece each text = record {
     file = file;
-    is_file = is_file;
     grid = g;
-    is_grid = is_grid;
     shard = shard;
-    is_shard = is_shard;
+    layout = layout;
+    said = said;
     each = each;
     reckoned = text.0;
     text = text.1;
   }
 
   -- of one that can't
-  pub checked_why : (e : SweepError) (f : Fault) → IsFaultOf e f → CantBeRun file g shard e → StopsStudyCheck input path study f
+  pub checked_why : (e : SweepError) (f : Fault) → IsFaultOf e f → CantBeRun file g shard e → StopsSweep input path study f
   checked_why (error.Refused point run reason) f is cant = study_run _ _ f is (λ line. inr (record {
     file = file;
-    is_file = is_file;
+    is_file = said.is_file;
     grid = g;
-    is_grid = is_grid;
+    is_grid = said.is_grid;
     shard = shard;
-    is_shard = is_shard;
+    is_shard = said.is_shard;
     point = point;
     run = run;
     reason = reason;
     first = cant;
   }))
-  checked_why error.Memory f is cant = let P : Fault → Type 0 = λ x. StopsStudyCheck input path study x in subst P (sym is) tt
+  checked_why error.Memory f is cant = let P : Fault → Type 0 = λ x. StopsSweep input path study x in subst P (sym is) tt
   checked_why error.Write f is cant = absurd cant
 
   pub checked_before : (e : SweepError) (f : Fault) → IsFaultOf e f → CantBeRun file g shard e → IsBefore f

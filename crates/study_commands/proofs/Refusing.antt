@@ -79,7 +79,7 @@ module _ (input : Option (List ℕ)) (path : List ℕ) (named : Picture) (from u
   picture_before Form is = absurd is
   picture_before WordsMemory is = absurd is
   picture_before (Words line) is = absurd is
-  picture_before (Refused line) is = tt
+  picture_before (Refused line) is = is
   picture_before (NotDrawn error line) is = absurd is
   picture_before Limit is = absurd is
   picture_before Memory is = tt
@@ -87,26 +87,26 @@ module _ (input : Option (List ℕ)) (path : List ℕ) (named : Picture) (from u
 
   stops_at : (s : Record) (of : List ℕ) (f : Fault) → IsScenario input path s → AreNamed named word of
       → IsOfPicture named s of (first_tick from) (end_of_ticks s until) f → StopsPicture input path named from until word f
-  stops_at s of Form at are is = tt
-  stops_at s of WordsMemory at are is = tt
+  stops_at s of Form at are is = absurd is
+  stops_at s of WordsMemory at are is = absurd is
   stops_at s of (Words line) at are is = absurd is
-  stops_at s of (Refused line) at are is = tt
+  stops_at s of (Refused line) at are is = absurd is
   stops_at s of (NotDrawn error line) at are is =
       record { of = of; are_named = are; scenario = s; is_scenario = at; refused = is }
   stops_at s of Limit at are is = (s, at, is.0, is.1)
   stops_at s of Memory at are is = tt
-  stops_at s of Write at are is = tt
+  stops_at s of Write at are is = absurd is
 
   -- words that are refused
   pub picture_words : (f : Fault) → IsOfWordsFor (NamesNone named word) f → StopsPicture input path named from until word f
-  picture_words Form is = tt
+  picture_words Form is = absurd is
   picture_words WordsMemory is = tt
   picture_words (Words line) is = is
-  picture_words (Refused line) is = tt
+  picture_words (Refused line) is = absurd is
   picture_words (NotDrawn error line) is = absurd is
   picture_words Limit is = absurd is
-  picture_words Memory is = tt
-  picture_words Write is = tt
+  picture_words Memory is = absurd is
+  picture_words Write is = absurd is
 
   -- and so does that of a picture of the file's scenario
   pub picture_stops : (s : Record) (of : List ℕ) (f : Fault) (first end : ℕ) → IsScenario input path s → AreNamed named word of

@@ -3,7 +3,8 @@ use Rattle.std.proofs.Common.{◌≡◌, ◌⊎◌, inl, inr, refl, sym, ℕ, Li
 use Rattle.study_commands.specs.Draw.{IsOfPicture}
 use Rattle.study_commands.specs.Fault.{IsBefore, IsOfWordsFor, IsRefusal, status_of}
 use Rattle.study_commands.specs.File.{IsScenario}
-use Rattle.study_commands.specs.Runs.{IsOfRun, StopsAtLimit}
+use Rattle.study_commands.specs.Refusal.{IsOfFile}
+use Rattle.study_commands.specs.Runs.{IsOfRun, StopsLetters}
 use Rattle.study_commands.specs.Stop.{Stops, Tells, Went, WentPart}
 use Rattle.study_commands.specs.declared.fault.Fault.{Fault}
 use Rattle.study_commands.specs.declared.fault.Fault.TheVariants.{Form, Limit, Memory, NotDrawn, Refused, Words, WordsMemory, Write}
@@ -168,33 +169,33 @@ module _ {O : Type 0} (told : O → Option (List ℕ)) (failed : O → ℕ) (old
   left_as P Q f (inl nothing) = inl nothing
   left_as P Q f (inr went) = inr (went_as P Q f went)
 
--- a fault that isn't a run's keeps what is said of the limit
-pub limit_before : (input : Option (List ℕ)) (path : List ℕ) (f : Fault) → IsBefore f → StopsAtLimit input path f
-limit_before input path Form is = tt
-limit_before input path WordsMemory is = tt
-limit_before input path (Words line) is = tt
-limit_before input path (Refused line) is = tt
-limit_before input path (NotDrawn error line) is = absurd is
-limit_before input path Limit is = absurd is
-limit_before input path Memory is = tt
-limit_before input path Write is = absurd is
+module _ (input : Option (List ℕ)) (path : List ℕ) where
+  -- letters aren't told for a fault of the file
+  pub letters_before : (f : Fault) → IsOfFile input path f → StopsLetters input path f
+  letters_before Form is = absurd is
+  letters_before WordsMemory is = absurd is
+  letters_before (Words line) is = absurd is
+  letters_before (Refused line) is = is
+  letters_before (NotDrawn error line) is = absurd is
+  letters_before Limit is = absurd is
+  letters_before Memory is = tt
+  letters_before Write is = absurd is
 
--- and so does that of a run of the file's scenario
-pub limit_of_run : (input : Option (List ℕ)) (path : List ℕ) (s : Record) (f : Fault) → IsScenario input path s → IsOfRun s f
-    → StopsAtLimit input path f
-limit_of_run input path s Form at is = tt
-limit_of_run input path s WordsMemory at is = tt
-limit_of_run input path s (Words line) at is = tt
-limit_of_run input path s (Refused line) at is = tt
-limit_of_run input path s (NotDrawn error line) at is = tt
-limit_of_run input path s Limit at is = (s, at, is)
-limit_of_run input path s Memory at is = tt
-limit_of_run input path s Write at is = tt
+  -- and for that of a run of the file's scenario
+  pub letters_of_run : (s : Record) (f : Fault) → IsScenario input path s → IsOfRun s f → StopsLetters input path f
+  letters_of_run s Form at is = absurd is
+  letters_of_run s WordsMemory at is = absurd is
+  letters_of_run s (Words line) at is = absurd is
+  letters_of_run s (Refused line) at is = absurd is
+  letters_of_run s (NotDrawn error line) at is = absurd is
+  letters_of_run s Limit at is = (s, at, is)
+  letters_of_run s Memory at is = tt
+  letters_of_run s Write at is = absurd is
 
--- a failed write isn't the limit
-pub limit_of_put : {A : Type 0} (input : Option (List ℕ)) (path : List ℕ) (r : Result A Fault) (P : Type 0)
-    → IfErr r (λ f. (f ≡ Write) × P) → IfErr r (StopsAtLimit input path)
-limit_of_put input path (Ok a) P part = tt
-limit_of_put input path (Err f) P part =
-    let L : Fault → Type 0 = λ x. StopsAtLimit input path x in
-    subst L (sym part.0) tt
+  -- and for a failed write
+  pub letters_of_put : {A : Type 0} (r : Result A Fault) (P : Type 0)
+      → IfErr r (λ f. (f ≡ Write) × P) → IfErr r (StopsLetters input path)
+  letters_of_put (Ok a) P part = tt
+  letters_of_put (Err f) P part =
+      let L : Fault → Type 0 = λ x. StopsLetters input path x in
+      subst L (sym part.0) tt

@@ -21,8 +21,7 @@ Answers input (order.Letters path) piece = IsLettersAnswer input path.now piece
 Answers input (order.Draw path named from until of) piece =
     IsDrawAnswer input path.now named from until (option_map (λ w. w.now) of) piece
 Answers input (order.Show path grid point run) piece = IsShowAnswer input path.now grid point run piece
-Answers input (order.Sweep path study columns each) piece =
-    IsSweepAnswer input path.now study (option_map (λ w. w.now) columns) each piece
+Answers input (order.Sweep path study) piece = IsSweepAnswer input path.now study piece
 
 -- the piece is what is written for the order, as far as it comes: of a sweep the rows of the first points
 abbrev pub Writes : Option (List ℕ) → Order → List ℕ → Type 0
@@ -31,13 +30,11 @@ Writes input (order.Letters path) piece = IsLettersAnswer input path.now piece
 Writes input (order.Draw path named from until of) piece =
     IsDrawAnswer input path.now named from until (option_map (λ w. w.now) of) piece
 Writes input (order.Show path grid point run) piece = IsShowAnswer input path.now grid point run piece
-Writes input (order.Sweep path study columns each) piece =
-    IsSweepFront input path.now study (option_map (λ w. w.now) columns) each piece
+Writes input (order.Sweep path study) piece = IsSweepFront input path.now study piece
 
 -- the piece is what the order has left where memory ended it: only a sweep leaves anything
 abbrev pub Leaves : Option (List ℕ) → Order → List ℕ → Type 0
-Leaves input (order.Sweep path study columns each) piece =
-    IsSweepFront input path.now study (option_map (λ w. w.now) columns) each piece
+Leaves input (order.Sweep path study) piece = IsSweepFront input path.now study piece
 Leaves input _ piece = ⊥
 
 -- the path that an order names
@@ -46,4 +43,4 @@ path_of (order.Check path study) = path.now
 path_of (order.Letters path) = path.now
 path_of (order.Draw path named from until of) = path.now
 path_of (order.Show path grid point run) = path.now
-path_of (order.Sweep path study columns each) = path.now
+path_of (order.Sweep path study) = path.now

@@ -1,23 +1,34 @@
 -- What `check` answers.
-use Rattle.std.specs.Prelude.{◌≡◌, ℕ, List, length, ◌++◌, codes, decimal, Option}
+use Rattle.std.specs.Prelude.{◌≡◌, ℕ, if◌then◌else◌, nat_lt, List, [], length, ◌++◌, codes, decimal, Option}
 use Rattle.toml.specs.Data.{Members}
 use Rattle.study.specs.Grid.{GridRecord, runs}
 use Rattle.study.specs.Shard.{ShardRecord}
-use Rattle.study_commands.specs.File.{AreBytes, IsTable}
-use Rattle.study_commands.specs.Study.{IsGrid, IsShardOf, shard_word}
+use Rattle.study_commands.specs.File.{AreBytes}
+use Rattle.study_commands.specs.Sweep.{IsSaid}
 use Rattle.study_line.specs.declared.order.StudyTexts.{StudyTexts}
+use Rattle.sweep.specs.Layout.{LayoutRecord}
 use Rattle.sweep.specs.Outcome.{HaveScenarios}
 use Rattle.sweep.specs.StudyText.{numbers_of}
 use Rattle.scenario_record.specs.Record.{Record}
 use Rattle.scenario.specs.Refusals.{Accepts}
 
--- the line of an accepted file
-abbrev pub accepted_text : (processes horizon entries seconds : ℕ) → List ℕ
-accepted_text processes horizon entries seconds =
-    codes "ok: " ++ decimal processes ++ codes " processes, horizon " ++ decimal horizon ++ codes ", about "
-    ++ decimal entries ++ codes " entries in " ++ decimal seconds ++ codes " s\n"
+-- that a run of about so many entries may have more than its limit, where that is so
+abbrev pub limit_text : (limit entries : ℕ) → List ℕ
+limit_text limit entries =
+    if nat_lt limit entries then codes "limit " ++ decimal limit ++ codes " may stop the run\n" else []
 
--- the file is accepted, and these are its processes and its horizon. How near the estimate comes isn't said
+-- an accepted file's line, and what is told behind it
+abbrev pub told_size : (processes horizon entries seconds : ℕ) → List ℕ → List ℕ
+told_size processes horizon entries seconds more =
+    codes "ok: " ++ decimal processes ++ codes " processes, horizon " ++ decimal horizon ++ codes ", about "
+    ++ decimal entries ++ codes " entries in " ++ decimal seconds ++ codes " s\n" ++ more
+
+-- what is told of an accepted file
+abbrev pub accepted_text : (processes horizon limit entries seconds : ℕ) → List ℕ
+accepted_text processes horizon limit entries seconds =
+    told_size processes horizon entries seconds (limit_text limit entries)
+
+-- the file is accepted, and these are its processes, its horizon and its limit. How near the estimate comes isn't said
 pub record IsCheckAnswer (input : Option (List ℕ)) (path : List ℕ) (piece : List ℕ) : Type 0 where
   pub bytes : List ℕ
   pub are_bytes : AreBytes input path bytes
@@ -25,21 +36,20 @@ pub record IsCheckAnswer (input : Option (List ℕ)) (path : List ℕ) (piece : 
   pub accepted : Accepts bytes scenario
   pub entries : ℕ
   pub seconds : ℕ
-  pub text : piece ≡ accepted_text scenario.processes scenario.horizon entries seconds
+  pub text : piece ≡ accepted_text scenario.processes scenario.horizon scenario.limit entries seconds
 
 -- the begin of the text of a study whose runs are all accepted
 abbrev pub study_begin : (points runs : ℕ) → List ℕ
 study_begin points runs = codes "ok: " ++ decimal points ++ codes " points of " ++ decimal runs ++ codes " runs each"
 
--- all runs of the study have a scenario, of the shard's points where one is named, and the text begins with how many
--- points and runs these are. What is reckoned of them, and of their limits, isn't said
+-- all runs of the study that can be swept have a scenario, of the shard's points where one is named, and the text
+-- begins with how many points and runs these are. What is reckoned of them, and of their limits, isn't said
 pub record IsStudyCheck (input : Option (List ℕ)) (path : List ℕ) (study : StudyTexts) (piece : List ℕ) : Type 0 where
   pub file : Members
-  pub is_file : IsTable input path file
   pub grid : GridRecord
-  pub is_grid : IsGrid study.grid grid
   pub shard : ShardRecord
-  pub is_shard : IsShardOf (shard_word study) shard
+  pub layout : LayoutRecord
+  pub said : IsSaid input path study file grid shard layout
   pub each : HaveScenarios file grid shard
   pub reckoned : List ℕ
   pub text : piece ≡ study_begin (length (numbers_of grid shard)) (length (runs grid)) ++ reckoned

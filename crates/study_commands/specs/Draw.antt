@@ -9,9 +9,10 @@ use Rattle.drawing.specs.declared.error.DrawError.{DrawError}
 use Rattle.trace_laws.specs.ScenarioSetting.{setting_of}
 use Rattle.trace_laws.specs.World.{IsTrace}
 use Rattle.study_commands.specs.File.{IsScenario}
+use Rattle.study_commands.specs.Refusal.{IsOfFile}
 use Rattle.study_commands.specs.Runs.{IsTooLong}
 use Rattle.study_commands.specs.declared.fault.Fault.{Fault}
-use Rattle.study_commands.specs.declared.fault.Fault.TheVariants.{Limit, Memory, NotDrawn, Words}
+use Rattle.study_commands.specs.declared.fault.Fault.TheVariants.{Limit, Memory, NotDrawn, Words, WordsMemory, Write}
 use Rattle.letters.specs.Letters.{AreLetters}
 use Rattle.letters.specs.declared.letter.Letter.{Letter}
 use Rattle.process_api.specs.EntryRecord.{EntryRecord}
@@ -111,7 +112,8 @@ pub record IsRefusedPicture (input : Option (List ℕ)) (path : List ℕ) (named
   pub is_scenario : IsScenario input path scenario
   pub refused : IsRefused named scenario of (first_tick from) (end_of_ticks scenario until) error
 
--- words, a picture or its run stop the command only as the rules say, of the file's scenario
+-- `draw` stops for its words, for its file, for a picture or a run of the file's scenario that is refused, for want of
+-- memory or at a failed write
 abbrev pub StopsPicture : Option (List ℕ) → (path : List ℕ) → Picture → (from until : Option ℕ) → Option Word → Fault
     → Type 0
 StopsPicture input path named from until word (Words line) = NamesNone named word
@@ -119,4 +121,6 @@ StopsPicture input path named from until word (NotDrawn error line) =
     IsRefusedPicture input path named from until word error
 StopsPicture input path named from until word Limit =
     (s : Record) × IsScenario input path s × IsTooLong s × (refusal s (first_tick from) (end_of_ticks s until) ≡ None)
-StopsPicture input path named from until word _ = Unit {0}
+StopsPicture input path named from until word WordsMemory = Unit {0}
+StopsPicture input path named from until word Write = Unit {0}
+StopsPicture input path named from until word fault = IsOfFile input path fault

@@ -5,8 +5,9 @@ use Rattle.trace_laws.specs.World.{IsTrace}
 use Rattle.run_error.specs.declared.error.RunError.{RunError}
 use Rattle.run_error.specs.declared.error.RunError.TheVariants as error
 use Rattle.study_commands.specs.File.{IsScenario}
+use Rattle.study_commands.specs.Refusal.{IsOfFile}
 use Rattle.study_commands.specs.declared.fault.Fault.{Fault}
-use Rattle.study_commands.specs.declared.fault.Fault.TheVariants.{Limit, Memory}
+use Rattle.study_commands.specs.declared.fault.Fault.TheVariants.{Limit, Memory, Write}
 use Rattle.process_api.specs.EntryRecord.{EntryRecord}
 use Rattle.scenario_record.specs.Record.{Record}
 
@@ -25,7 +26,9 @@ IsOfRun s Limit = IsTooLong s
 IsOfRun s Memory = Unit {0}
 IsOfRun s _ = ⊥
 
--- the limit stops no command but over a file whose scenario has a longer trace
-abbrev pub StopsAtLimit : Option (List ℕ) → (path : List ℕ) → Fault → Type 0
-StopsAtLimit input path Limit = (s : Record) × IsScenario input path s × IsTooLong s
-StopsAtLimit input path _ = Unit {0}
+-- `letters` stops for its file, for a run of its scenario that is longer than the limit, for want of memory or at a
+-- failed write
+abbrev pub StopsLetters : Option (List ℕ) → (path : List ℕ) → Fault → Type 0
+StopsLetters input path Limit = (s : Record) × IsScenario input path s × IsTooLong s
+StopsLetters input path Write = Unit {0}
+StopsLetters input path fault = IsOfFile input path fault

@@ -39,6 +39,10 @@ IsShardOf (Some word) s = shard_said word ≡ Some s
 abbrev pub shard_word : StudyTexts → Option Word
 shard_word study = option_map (λ w. w.now) study.shard
 
+-- and of the columns of its table
+abbrev pub columns_word : StudyTexts → Option Word
+columns_word study = option_map (λ w. w.now) study.columns
+
 -- the rows tell of points or of runs, as the word says
 abbrev pub rows_for : Each → Rows
 rows_for each.Point = rows.Points

@@ -3,13 +3,11 @@ use Rattle.std.specs.Prelude.{◌≡◌, ◌<◌, ℕ, List, length, take, Optio
 use Rattle.toml.specs.Data.{Members}
 use Rattle.study_commands.specs.Fault.{IsRefusal}
 use Rattle.study_commands.specs.File.{IsTable}
-use Rattle.study_commands.specs.Study.{IsGrid, IsLayout, IsShardOf, shard_word}
+use Rattle.study_commands.specs.Study.{IsGrid, IsLayout, IsShardOf, columns_word, shard_word}
 use Rattle.study_commands.specs.declared.fault.Fault.{Fault}
 use Rattle.study_commands.specs.declared.fault.Fault.TheVariants.{Memory, Write}
 use Rattle.study.specs.Grid.{GridRecord, points, runs}
 use Rattle.study.specs.Shard.{ShardRecord}
-use Rattle.study.specs.Words.{Word}
-use Rattle.study_line.specs.declared.order.Each.{Each}
 use Rattle.study_line.specs.declared.order.StudyTexts.{StudyTexts}
 use Rattle.sweep.specs.Layout.{LayoutRecord}
 use Rattle.sweep.specs.StudyText.{IsStudyText, IsTextOf, units_of}
@@ -17,12 +15,12 @@ use Rattle.sweep.specs.declared.error.SweepError.{SweepError}
 use Rattle.sweep.specs.declared.error.SweepError.TheVariants as error
 
 -- the study that words say of the file, and the layout of its rows
-module _ (input : Option (List ℕ)) (path : List ℕ) (study : StudyTexts) (columns : Option Word) (kind : Each) where
+module _ (input : Option (List ℕ)) (path : List ℕ) (study : StudyTexts) where
   pub record IsSaid (file : Members) (grid : GridRecord) (shard : ShardRecord) (layout : LayoutRecord) : Type 0 where
     pub is_file : IsTable input path file
     pub is_grid : IsGrid study.grid grid
     pub is_shard : IsShardOf (shard_word study) shard
-    pub is_layout : IsLayout kind columns grid layout
+    pub is_layout : IsLayout study.each (columns_word study) grid layout
 
   -- the piece is the text of the study: of its shard's points, where a shard is named
   pub record IsSweepAnswer (piece : List ℕ) : Type 0 where

@@ -4,9 +4,9 @@ use Rattle.std.specs.declared.alloc.Global.{Global}
 use Rattle.study_commands.specs.Draw.{StopsPicture}
 use Rattle.study_commands.specs.File.{IsTable}
 use Rattle.study_commands.specs.Refusal.{IsNoTable, IsOfFile}
-use Rattle.study_commands.specs.Runs.{StopsAtLimit}
+use Rattle.study_commands.specs.Runs.{StopsLetters}
 use Rattle.study_commands.specs.Show.{IsPlace}
-use Rattle.study_commands.specs.Study.{IsGrid, IsShardOf, shard_word}
+use Rattle.study_commands.specs.Study.{IsGrid, IsShardOf, columns_word, shard_word}
 use Rattle.study_commands.specs.WordRefusals.{IsOutside, LacksColumn, SaysNoGrid, SaysNoShard}
 use Rattle.study_commands.specs.declared.fault.Fault.{Fault}
 use Rattle.study_commands.specs.declared.fault.Fault.TheVariants.{Memory, Refused, Words, WordsMemory, Write}
@@ -14,11 +14,9 @@ use Rattle.study.specs.Grid.{GridRecord, points, runs}
 use Rattle.study.specs.Placed.{table_of_run}
 use Rattle.study.specs.Runs.{HasNoText, is_text_memory}
 use Rattle.study.specs.Shard.{ShardRecord}
-use Rattle.study.specs.Words.{Word}
 use Rattle.study.specs.declared.error.PlaceError.{PlaceError}
 use Rattle.study.specs.declared.error.ReadError.{ReadError}
 use Rattle.study.specs.declared.error.TextError.{TextError}
-use Rattle.study_line.specs.declared.order.Each.{Each}
 use Rattle.study_line.specs.declared.order.GridTexts.{GridTexts}
 use Rattle.study_line.specs.declared.order.StudyTexts.{StudyTexts}
 use Rattle.study_line.specs.declared.order.Order.{Order}
@@ -95,30 +93,26 @@ module _ (input : Option (List ℕ)) (path : List ℕ) where
     abbrev pub StopsRuns : (OfWords : Type 0) → Fault → Type 0
     StopsRuns OfWords = IsOfStudy OfWords (λ line. IsNoTable input path line ⊎ HasRefusedRun)
 
-    abbrev pub StopsStudyCheck : Fault → Type 0
-    StopsStudyCheck = StopsRuns (SaysNoGrid study.grid ⊎ SaysNoShard (shard_word study))
+    -- the words say no grid, no shard, or columns that its rows don't have
+    abbrev pub SaysNoSweep : Type 0
+    SaysNoSweep = SaysNoGrid study.grid
+        ⊎ (SaysNoShard (shard_word study)
+        ⊎ ((g : GridRecord) × IsGrid study.grid g × LacksColumn study.each (columns_word study) g))
 
-    module _ (columns : Option Word) (kind : Each) where
-      -- the words say no grid, no shard, or columns that its rows don't have
-      abbrev pub SaysNoSweep : Type 0
-      SaysNoSweep = SaysNoGrid study.grid
-          ⊎ (SaysNoShard (shard_word study)
-          ⊎ ((g : GridRecord) × IsGrid study.grid g × LacksColumn kind columns g))
-
-      abbrev pub StopsSweep : Fault → Type 0
-      StopsSweep = StopsRuns SaysNoSweep
+    -- `check` of a study stops where `sweep` does before the first run
+    abbrev pub StopsSweep : Fault → Type 0
+    StopsSweep = StopsRuns SaysNoSweep
 
 -- a check stops for this fault, of the file or of a study over it
 abbrev pub StopsChecked : Option (List ℕ) → (path : List ℕ) → Option StudyTexts → Fault → Type 0
 StopsChecked input path None fault = StopsCheck input path fault
-StopsChecked input path (Some study) fault = StopsStudyCheck input path study fault
+StopsChecked input path (Some study) fault = StopsSweep input path study fault
 
--- an order isn't carried out for this fault. Of a run's letters and of pictures a refused file isn't told here
+-- an order isn't carried out for this fault
 abbrev pub StopsFor : Option (List ℕ) → Order → Fault → Type 0
 StopsFor input (order.Check path study) fault = StopsChecked input path.now study fault
-StopsFor input (order.Letters path) fault = StopsAtLimit input path.now fault
+StopsFor input (order.Letters path) fault = StopsLetters input path.now fault
 StopsFor input (order.Draw path named from until of) fault =
     StopsPicture input path.now named from until (option_map (λ w. w.now) of) fault
 StopsFor input (order.Show path grid point run) fault = StopsShow input path.now grid point run fault
-StopsFor input (order.Sweep path study columns each) fault =
-    StopsSweep input path.now study (option_map (λ w. w.now) columns) each fault
+StopsFor input (order.Sweep path study) fault = StopsSweep input path.now study fault

@@ -1,7 +1,7 @@
 //! The command `check`: what a scenario file has, or where it breaks a rule and why.
 ghost use Rattle.std.specs.Prelude.{◌≡◌, ◌≢◌, ◌^◌, ◌-◌, ◌+◌, ◌<◌, OnOk, IfOk, IfErr, string_bytes};
 ghost use Rattle.diagnosis.specs.Diagnosis.{AcceptsAs};
-ghost use Rattle.study_commands.specs.Check.{IsCheckAnswer, accepted_text};
+ghost use Rattle.study_commands.specs.Check.{IsCheckAnswer, accepted_text, limit_text};
 ghost use Rattle.study_commands.specs.Refusal.{IsOfBytes};
 ghost use Rattle.study_commands.specs.Stop.{Stops, Went};
 ghost use Rattle.study_commands.specs.Why.{StopsCheck};
@@ -16,16 +16,32 @@ use std::alloc::Global;
 use std::io::Read;
 use std::rt::Files;
 
-/// The line of an accepted file.
+/// That a run may have more entries than its limit, where that is so.
+fn limit_line(alloc: Global, limit: u64, entries: u64) -> Result<String, Fault>
+    ensures line { IfOk result (λ s. string_bytes s ≡ limit_text limit entries) }
+    ensures refused { IfErr result (λ fault. fault ≡ Fault.Memory) }
+{
+    if limit < entries {
+        match format!(in alloc; "limit {limit} may stop the run\n") {
+            Ok(line) => Ok(line),
+            Err(_) => Err(Fault::Memory),
+        }
+    } else {
+        Ok(String::new(alloc))
+    }
+}
+
+/// The lines of an accepted file.
 fn line_of(alloc: Global, accepted: &Accepted) -> Result<String, Fault>
     ensures line { IfOk result (λ s. string_bytes s ≡ accepted_text accepted.now.processes accepted.now.horizon
-        accepted.now.estimate.entries accepted.now.estimate.seconds) }
+        accepted.now.limit accepted.now.estimate.entries accepted.now.estimate.seconds) }
     ensures refused { IfErr result (λ fault. fault ≡ Fault.Memory) }
 {
     let (processes, horizon) = (accepted.processes, accepted.horizon);
     let (entries, seconds) = (accepted.estimate.entries, accepted.estimate.seconds);
+    let more = limit_line(alloc, accepted.limit, entries)?;
     match format!(in alloc;
-        "ok: {processes} processes, horizon {horizon}, about {entries} entries in {seconds} s\n"
+        "ok: {processes} processes, horizon {horizon}, about {entries} entries in {seconds} s\n{more}"
     ) {
         Ok(line) => Ok(line),
         Err(_) => Err(Fault::Memory),
@@ -44,7 +60,8 @@ fn accepted_in(alloc: Global, path: &str, bytes: &[u8]) -> Result<Accepted, Faul
     }
 }
 
-/// Answers `check`: how many processes an accepted file has, its horizon, and about how much a run of it is.
+/// Answers `check`: how many processes an accepted file has, its horizon, about how much a run of it is, and where its
+/// limit may stop that.
 pub(crate) fn serve_check<R: Files, I: Read, O: Outlet>(
     rt: &R,
     alloc: Global,

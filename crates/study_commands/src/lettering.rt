@@ -1,7 +1,7 @@
 //! The command `letters`: the letters of a scenario's run.
 ghost use Rattle.std.specs.Prelude.{◌≡◌, ◌≢◌, ◌^◌, ◌-◌, ◌+◌, ◌<◌, OnOk, IfErr, IfOk};
 ghost use Rattle.study_commands.specs.Letters.{IsLettersAnswer};
-ghost use Rattle.study_commands.specs.Runs.{StopsAtLimit};
+ghost use Rattle.study_commands.specs.Runs.{StopsLetters};
 ghost use Rattle.study_commands.specs.Stop.{Stops, Went};
 ghost use Rattle.sources.specs.Input.{TakesAtMost, input_path, most_bytes};
 
@@ -28,7 +28,7 @@ pub(crate) fn serve_letters<R: Files, I: Read, O: Outlet>(
         OnOk result (Went O.told O.failed outlet.old outlet.new wanted) }
     ensures stops { let wanted = IsLettersAnswer (I.remaining input.old) path.now in
         IfErr result (Stops O.told O.failed outlet.old outlet.new wanted (λ _. ⊥)) }
-    ensures limit { IfErr result (StopsAtLimit (I.remaining input.old) path.now) }
+    ensures why { IfErr result (StopsLetters (I.remaining input.old) path.now) }
     ensures taken { TakesAtMost (most_bytes + 1) (I.remaining input.old) (I.remaining input.new) }
     ensures untouched { path.now ≢ input_path → input.new ≡ input.old }
 {

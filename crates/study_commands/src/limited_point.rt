@@ -13,13 +13,11 @@ use toml::Table;
 /// Of how many runs of a point that differ in more than their seeds the size is reckoned.
 const MOST_RECKONED: u64 = 1000;
 
-/// Which limit would do in place of those that runs passed: by their estimates, and at least twice as high. There is
-/// none where that is above the highest limit of a file.
+/// Which limit would do in place of those that runs passed: by their estimates, and twice as high where a file can have
+/// that. There is none where they passed the highest limit of a file, or are estimated to.
 fn next_limit(reckoned: &Reckoned) -> Option<u64> {
-    let limit = reckoned
-        .limit
-        .max(reckoned.highest.saturating_mul(2))
-        .min(HIGHEST_LIMIT);
+    let twice = reckoned.highest.saturating_mul(2);
+    let limit = reckoned.possible_limit()?.max(twice).min(HIGHEST_LIMIT);
     (limit > reckoned.highest).then_some(limit)
 }
 
@@ -45,7 +43,7 @@ pub(crate) fn line_of_limited(
             "fdstudy: {name}: {count} of {runs} runs passed their limit; limit={limit} would do\n"
         ),
         None => format!(in alloc;
-            "fdstudy: {name}: {count} of {runs} runs passed their limit; no limit is higher\n"
+            "fdstudy: {name}: {count} of {runs} runs passed their limit; no limit of a file would do\n"
         ),
     }
 }

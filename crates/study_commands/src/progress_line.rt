@@ -1,6 +1,6 @@
 //! What standard error tells of a sweep: on a terminal, in one line, how far it has come; and of points of which runs
 //! passed their limit.
-ghost use Rattle.std.specs.Prelude.{◌≡◌, ◌≤◌, ◌==◌, not};
+ghost use Rattle.std.specs.Prelude.{◌≡◌, ◌≤◌, ◌==◌, false, not, true};
 
 use crate::limited_point::line_of_limited;
 use std::alloc::{AllocError, Global};
@@ -78,6 +78,7 @@ pub struct ProgressLine<'a, C: Clock, W: Write + Drop> {
     began: Option<Instant>,
     drawn: Option<Instant>,
     columns: usize,
+    ghost silent: { is_terminal ≡ false → columns ≡ 0 },
 }
 
 impl<'a, C: Clock, W: Write + Drop> ProgressLine<'a, C, W> {
@@ -113,13 +114,29 @@ impl<'a, C: Clock, W: Write + Drop> ProgressLine<'a, C, W> {
     }
 
     /// Draws a text, over the one that stands there.
-    fn draw(&mut self, text: &str) {
+    fn draw(&mut self, text: &str)
+        requires { self.old.is_terminal ≡ true }
+    {
         let columns = self.columns.max(text.len());
         let Ok(line) = format!(in self.alloc; "\r{text:<columns$}") else {
             return;
         };
         let _answer = self.faults.write_all(line.as_bytes());
         self.columns = columns;
+    }
+
+    /// Takes away what is shown.
+    fn clear(&mut self)
+        ensures { self.new.columns ≡ 0 }
+    {
+        if self.columns == 0 {
+            return;
+        }
+        let blanks = &BLANKS[..self.columns.min(BLANKS.len())];
+        let _answer = self.faults.write_all(b"\r");
+        let _answer = self.faults.write_all(blanks);
+        let _answer = self.faults.write_all(b"\r");
+        self.columns = 0;
     }
 }
 
@@ -152,19 +169,12 @@ impl<C: Clock, W: Write + Drop> Watcher for ProgressLine<'_, C, W> {
 
     fn make_way(&mut self) {
         if self.is_shared {
-            self.hide();
+            self.clear();
         }
     }
 
     fn hide(&mut self) {
-        if self.columns == 0 {
-            return;
-        }
-        let blanks = &BLANKS[..self.columns.min(BLANKS.len())];
-        let _answer = self.faults.write_all(b"\r");
-        let _answer = self.faults.write_all(blanks);
-        let _answer = self.faults.write_all(b"\r");
-        self.columns = 0;
+        self.clear();
     }
 
     /// Writes the line of the point. What is shown is taken away before.

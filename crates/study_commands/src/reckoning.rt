@@ -1,7 +1,7 @@
 //! About how much a study will be, by the estimates of its runs. No proof says how near this comes.
 ghost use Rattle.std.specs.Prelude.{◌-◌, ◌<◌, ◌^◌};
 
-use diagnosis::estimate_of;
+use diagnosis::{HIGHEST_LIMIT, estimate_of};
 use scenario::Scenario;
 use std::alloc::{AllocError, Global};
 use std::marker::Sync;
@@ -32,7 +32,7 @@ pub(crate) struct Above {
 pub(crate) struct Reckoned {
     /// Entries of all of them.
     pub entries: u128,
-    /// A limit that would do for each of them, as far as one can.
+    /// A limit that would do for each of them. It may be above the highest that a file can have.
     pub limit: u64,
     /// The highest of their limits.
     pub highest: u64,
@@ -49,6 +49,12 @@ impl Reckoned {
             highest: 1,
             above: None,
         }
+    }
+
+    /// A limit of a file that would do for each of them, by the estimate, if there is one.
+    pub(crate) fn possible_limit(&self) -> Option<u64> {
+        let would_do = self.limit <= HIGHEST_LIMIT + HIGHEST_LIMIT / 4;
+        would_do.then_some(self.limit.min(HIGHEST_LIMIT))
     }
 
     /// Takes in what is reckoned of further runs.

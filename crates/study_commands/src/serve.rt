@@ -94,14 +94,9 @@ fn carry_out<R: Files + Threads + Sync + Clock, I: Read, O: Outlet, W: Watcher>(
             point,
             run,
         } => serve_show(rt, alloc, path, grid, *point, *run, input, outlet),
-        Order::Sweep {
-            path,
-            study,
-            columns,
-            each,
-        } => serve_sweep(
-            rt, alloc, path, study, *columns, *each, input, outlet, watcher,
-        ),
+        Order::Sweep { path, study } => {
+            serve_sweep(rt, alloc, path, study, input, outlet, watcher)
+        }
     }
 }
 

@@ -4,7 +4,7 @@ ghost use Rattle.study.specs.Grid.{runs};
 ghost use Rattle.study_commands.specs.Check.{IsStudyCheck, study_begin};
 ghost use Rattle.study_commands.specs.Stop.{Stops, Went};
 ghost use Rattle.study_commands.specs.Sweep.{IsFaultOf};
-ghost use Rattle.study_commands.specs.Why.{StopsStudyCheck};
+ghost use Rattle.study_commands.specs.Why.{StopsSweep};
 ghost use Rattle.sources.specs.Input.{TakesAtMost, input_path, most_bytes};
 ghost use Rattle.sweep.specs.Outcome.{CantBeRun, HaveScenarios};
 ghost use Rattle.sweep.specs.StudyText.{numbers_of};
@@ -16,7 +16,7 @@ use crate::progress_line::time_of;
 use crate::reckoning::{Above, Reckoned, reckon};
 use crate::run_name::RunName;
 use crate::study_words::{grid_of, shard_of};
-use crate::sweeping::{fault_of, threads_for};
+use crate::sweeping::{fault_of, layout_of, threads_for};
 use crate::writing::put_text;
 use diagnosis::ENTRIES_A_SECOND;
 use printable::Printable;
@@ -41,8 +41,13 @@ fn size_text(alloc: Global, reckoned: &Reckoned, threads: u8) -> Result<String, 
     format!(in alloc; ", about {entries} entries in {time} by {threads} threads\n")
 }
 
-/// That a limit will stop a run, and which limit would do for all.
-fn limit_text(alloc: Global, grid: &Grid, above: &Above, limit: u64) -> Result<String, AllocError> {
+/// That a limit may stop a run, and which limit would do for all, if there is one.
+fn limit_text(
+    alloc: Global,
+    grid: &Grid,
+    above: &Above,
+    limit: Option<u64>,
+) -> Result<String, AllocError> {
     if above.point >= grid.points() || above.run >= grid.runs() {
         return Ok(String::new(alloc));
     }
@@ -55,13 +60,10 @@ fn limit_text(alloc: Global, grid: &Grid, above: &Above, limit: u64) -> Result<S
     let name = format!(in alloc; "{name}")?;
     let name = Printable(name.as_str());
     let (entries, its) = (above.entries, above.limit);
-    let text = format!(in alloc;
-        "limit {its} will stop {name}, which has about {entries} entries"
-    )?;
-    if limit > its {
-        format!(in alloc; "{text}; limit={limit} would do for all\n")
-    } else {
-        format!(in alloc; "{text}; no limit is higher\n")
+    let text = format!(in alloc; "limit {its} may stop {name}, which has about {entries} entries")?;
+    match limit {
+        Some(limit) => format!(in alloc; "{text}; limit={limit} would do for all\n"),
+        None => format!(in alloc; "{text}; no limit of a file would do for all\n"),
     }
 }
 
@@ -74,7 +76,7 @@ fn reckoned_text(
 ) -> Result<String, AllocError> {
     let mut text = size_text(alloc, reckoned, threads)?;
     if let Some(above) = &reckoned.above {
-        text.push_str(limit_text(alloc, grid, above, reckoned.limit)?.as_str())?;
+        text.push_str(limit_text(alloc, grid, above, reckoned.possible_limit())?.as_str())?;
     }
     Ok(text)
 }
@@ -123,7 +125,8 @@ fn read_runs<R: Threads + Sync + Clock, W: Watcher>(
 }
 
 /// Answers `check` with a study: how many points and runs there are, of the shard where one is named, about how many
-/// entries they have, how long that takes, and where a limit will stop a run. The scenario of each run is read.
+/// entries they have, how long that takes, and of a run that its limit may stop. The scenario of each run is read. It
+/// is refused where `sweep` is before the first run.
 pub(crate) fn serve_study_check<R: Files + Threads + Sync + Clock, I: Read, O: Outlet, W: Watcher>(
     rt: &R,
     alloc: Global,
@@ -138,13 +141,14 @@ pub(crate) fn serve_study_check<R: Files + Threads + Sync + Clock, I: Read, O: O
         OnOk result (Went O.told O.failed outlet.old outlet.new wanted) }
     ensures stops { let wanted = IsStudyCheck (I.remaining input.old) path.now study.now in
         IfErr result (Stops O.told O.failed outlet.old outlet.new wanted (λ _. ⊥)) }
-    ensures why { IfErr result (StopsStudyCheck (I.remaining input.old) path.now study.now) }
+    ensures why { IfErr result (StopsSweep (I.remaining input.old) path.now study.now) }
     ensures taken { TakesAtMost (most_bytes + 1) (I.remaining input.old) (I.remaining input.new) }
     ensures untouched { path.now ≢ input_path → input.new ≡ input.old }
     ensures hidden { W.shows watcher.old ≡ false → W.shows watcher.new ≡ false }
 {
     let grid = grid_of(alloc, &study.grid)?;
     let shard = shard_of(alloc, study.shard)?;
+    layout_of(alloc, &grid, study.each, study.columns)?;
     let file = table_of(rt, alloc, path, input)?;
     let threads = threads_for(rt, study.threads);
     read_runs(rt, alloc, path, &file, &grid, shard, threads, watcher)?;

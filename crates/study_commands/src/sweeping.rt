@@ -1,5 +1,5 @@
 //! The command `sweep`: the table of a study.
-ghost use Rattle.std.specs.Prelude.{◌≡◌, ◌≢◌, ◌^◌, ◌-◌, ◌+◌, ◌<◌, ◌≤◌, false, IfOk, IfErr, OnOk, option_map};
+ghost use Rattle.std.specs.Prelude.{◌≡◌, ◌≢◌, ◌^◌, ◌-◌, ◌+◌, ◌<◌, ◌≤◌, false, IfOk, IfErr, IfSome, OnOk, option_map};
 ghost use Rattle.study_commands.specs.Fault.{IsOfWords, IsOfWordsFor};
 ghost use Rattle.study_commands.specs.Stop.{Stops, Went};
 ghost use Rattle.study_commands.specs.Study.{IsLayout, rows_for};
@@ -27,16 +27,16 @@ use toml::Table;
 
 /// How many threads share the runs: as many as were asked for, or else one for each processor; at most 64.
 pub(crate) fn threads_for<R: Threads>(rt: &R, asked: Option<u64>) -> u8
-    ensures { result ≤ 64 }
+    ensures few { result ≤ 64 }
+    ensures asked { IfSome asked (λ count. count ≤ 64 → result ≡ count) }
 {
-    let count = match asked {
-        Some(count) => count,
+    match asked {
+        Some(count) => count.min(64) as u8,
         None => match available_parallelism(rt) {
-            Ok(count) => count.get() as u64,
+            Ok(count) => count.get().min(64) as u8,
             Err(_) => 1,
         },
-    };
-    count.min(64) as u8
+    }
 }
 
 /// The fault of runs of a study that break off.
@@ -86,7 +86,12 @@ fn layout_fault(alloc: Global, error: &LayoutError) -> Fault
 }
 
 /// The layout of the rows that words ask for.
-fn layout_of(alloc: Global, grid: &Grid, each: Each, columns: Option<&str>) -> Result<Layout, Fault>
+pub(crate) fn layout_of(
+    alloc: Global,
+    grid: &Grid,
+    each: Each,
+    columns: Option<&str>,
+) -> Result<Layout, Fault>
     ensures layout { IfOk result (IsLayout each (option_map (λ w. w.now) columns.entry) grid.now) }
     ensures refused { IfErr result (IsOfWordsFor (LacksColumn each (option_map (λ w. w.now) columns.entry) grid.now)) }
 {
@@ -102,28 +107,23 @@ pub(crate) fn serve_sweep<R: Files + Threads + Sync + Clock, I: Read, O: Outlet,
     alloc: Global,
     path: &str,
     study: &StudyTexts<'_>,
-    columns: Option<&str>,
-    each: Each,
     input: &mut I,
     outlet: &mut O,
     watcher: &mut W,
 ) -> Result<(), Fault>
     requires { O.failed outlet.old < 2 ^ 64 - 1 }
-    ensures done { let wanted = IsSweepAnswer (I.remaining input.old) path.now study.now
-        (option_map (λ w. w.now) columns.entry) each in
+    ensures done { let wanted = IsSweepAnswer (I.remaining input.old) path.now study.now in
         OnOk result (Went O.told O.failed outlet.old outlet.new wanted) }
-    ensures stops { let front = IsSweepFront (I.remaining input.old) path.now study.now
-        (option_map (λ w. w.now) columns.entry) each in
+    ensures stops { let front = IsSweepFront (I.remaining input.old) path.now study.now in
         IfErr result (Stops O.told O.failed outlet.old outlet.new front front) }
-    ensures why { IfErr result (StopsSweep (I.remaining input.old) path.now study.now
-        (option_map (λ w. w.now) columns.entry) each) }
+    ensures why { IfErr result (StopsSweep (I.remaining input.old) path.now study.now) }
     ensures taken { TakesAtMost (most_bytes + 1) (I.remaining input.old) (I.remaining input.new) }
     ensures untouched { path.now ≢ input_path → input.new ≡ input.old }
     ensures hidden { W.shows watcher.old ≡ false → W.shows watcher.new ≡ false }
 {
     let grid = grid_of(alloc, &study.grid)?;
     let shard = shard_of(alloc, study.shard)?;
-    let layout = layout_of(alloc, &grid, each, columns)?;
+    let layout = layout_of(alloc, &grid, study.each, study.columns)?;
     let file = table_of(rt, alloc, path, input)?;
     let threads = threads_for(rt, study.threads);
     match sweep(

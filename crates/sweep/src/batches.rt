@@ -59,7 +59,8 @@ impl Batches {
         }
     }
 
-    /// What a job gives for the first of these numbers, for one at least.
+    /// What a job gives for the first of these numbers, for one at least, and not for many: what is held doesn't grow
+    /// with how many there are.
     ///
     /// # Errors
     ///
@@ -77,6 +78,7 @@ impl Batches {
         requires accepts { (number : ℕ) → first ≤ number → number < end → F.pre job.now number }
         ensures some { IfOk result (λ v. 1 ≤ length v.items) }
         ensures within { IfOk result (λ v. first + length v.items ≤ end) }
+        ensures few { IfOk result (λ v. length v.items ≤ 65536) }
         ensures answers { IfOk result (λ v. AreAnswers F.Fn job.now first (length v.items) v.items) }
     {
         let count = self.size.min(end - first);

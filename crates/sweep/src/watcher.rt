@@ -42,10 +42,12 @@ pub trait Watcher {
     fn hear(&mut self, standing: Standing)
         ensures { HaveJoined heard self.old self.new (stands standing ∷ []) };
 
-    /// The last run of a point of this study, from 0, is in, and so many of the point's runs passed their limit.
+    /// The last run of a point of this study, from 0, is in, and so many of the point's runs passed their limit. What
+    /// is shown is taken away before that is told.
     fn limited(&mut self, file: &Table, grid: &Grid, point: u64, count: u64)
         requires { point < length (points grid.now) }
-        ensures { HaveJoined heard self.old self.new (limits point count ∷ []) };
+        ensures told { HaveJoined heard self.old self.new (limits point count ∷ []) }
+        ensures hidden { shows self.new ≡ false };
 
     /// Rows are to go out now, maybe where it shows something.
     fn make_way(&mut self)

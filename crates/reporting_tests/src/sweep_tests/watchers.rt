@@ -10,12 +10,13 @@ use study::{Grid, Shard};
 use sweep::{Pass, Standing, SweepError, Watcher, sweep};
 use toml::Table;
 
-/// Keeps the last that it heard, whether each was one more of the same sweep, and of how many runs it heard that they
-/// passed their limit, with the last point where that was so.
+/// Keeps the last that it heard, whether each was one more of the same sweep, how often it heard of runs that are in,
+/// and of how many runs it heard that they passed their limit, with the last point where that was so.
 #[derive(Drop)]
 struct Keeper {
     last: Option<Standing>,
     all_rise: bool,
+    times: u64,
     limited: Option<(u64, u64)>,
     shows: bool,
 }
@@ -41,6 +42,9 @@ impl Watcher for Keeper {
             Some(last) => comes_after(last, &standing),
         };
         self.all_rise = self.all_rise && rises;
+        if standing.pass == Pass::Running {
+            self.times = self.times.saturating_add(1);
+        }
         self.last = Some(standing);
         self.shows = true;
     }
@@ -51,6 +55,7 @@ impl Watcher for Keeper {
             None => 0,
         };
         self.limited = Some((point, before.saturating_add(count)));
+        self.shows = false;
     }
 
     fn make_way(&mut self) {}
@@ -65,6 +70,7 @@ impl Keeper {
         Keeper {
             last: None,
             all_rise: true,
+            times: 0,
             limited: None,
             shows: false,
         }
@@ -97,12 +103,13 @@ fn heard_of<R: Threads + Sync + Clock>(
 }
 
 /// Seven points with 160 runs each are 1,120 runs. The last of three shards has the points 4 to 6 of seven: of these
-/// alone is told.
+/// alone is told. The first batch has two runs, and no batch more than twice as many as the one before, so that 1,120
+/// runs are 10 batches at least, and 480 are 8; before the first it is told that none is in.
 #[test]
 fn hears_of_all_runs(rt: HostRuntime) {
     let alloc = rt.alloc();
     let seven = seven_points(&rt, alloc);
-    for (number, of, points, done) in [(1, 1, 7, 1_120), (3, 3, 3, 480)] {
+    for (number, of, points, done, batches) in [(1, 1, 7, 1_120, 10), (3, 3, 3, 480, 8)] {
         let shard = shard(&rt, number, of);
         let keeper = heard_of(&rt, alloc, &seven, shard).expect(&rt, "no sweep");
         let last = Standing {
@@ -114,6 +121,7 @@ fn hears_of_all_runs(rt: HostRuntime) {
         same(&rt, &keeper.last, &Some(last));
         same(&rt, &keeper.limited, &None);
         assert!(rt; keeper.all_rise && !keeper.shows);
+        assert!(rt; keeper.times > batches);
     }
 }
 

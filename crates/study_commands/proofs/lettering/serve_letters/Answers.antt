@@ -1,12 +1,12 @@
 use Rattle.std.proofs.Common.{rules, ◌∙◌, ap}
 use Rattle.study_commands.proofs.Answered.{letters_answer}
-use Rattle.study_commands.proofs.Stopping.{limit_of_run, put_done, put_stops}
+use Rattle.study_commands.proofs.Stopping.{letters_of_run, put_done, put_stops}
 use Rattle.letters.specs.LettersText.{letters_text}
 use Rattle.study_commands.proofs.lettering.serve_letters.Goals as goal
 
-pub returns-in_err-letters-clause-limit : goal.returns-in_err-letters-clause-limit
-returns-in_err-letters-clause-limit g c =
-    let limit = limit_of_run (g.I.Read.remaining c.args.input.now) c.args.path.now c.in_ok-scenario.scenario c.in_err-letters.field-0.0 c.in_ok-scenario.ensures.scenario
+pub returns-in_err-letters-clause-why : goal.returns-in_err-letters-clause-why
+returns-in_err-letters-clause-why g c =
+    let why = letters_of_run (g.I.Read.remaining c.args.input.now) c.args.path.now c.in_ok-scenario.scenario c.in_err-letters.field-0.0 c.in_ok-scenario.ensures.scenario
     c.in_err-letters.ensures.refused in
     search rules
 

@@ -12,4 +12,4 @@ returns-then-count-eq0 g c =
 pub returns : goal.returns
 returns g c =
     subst (HaveJoined g.W.Watcher.heard c.args.watcher.now c.limited.new.self) (sym (said_some c.args.point c.args.count c.if-count-eq0.false))
-    c.limited.ensures
+    c.limited.ensures.told
