@@ -5,7 +5,7 @@ set -eu
 cd "$(dirname "$0")"
 mkdir -p out
 for end in 60 170 1000; do
-    sed "s/^until = .*/until = $end/" cluster.toml > "out/until_$end.toml"
+    ../../fdstudy show cluster.toml --seeds 1 --vary "outage[*].until=$end" --point 1 > "out/until_$end.toml"
     ../../fdbench list "out/until_$end.toml" --print trace > "out/trace_$end.csv"
     echo "healed at $end ms: tick,process,note"
     awk -F, '{ n = split($8, notes, " "); for (i = 1; i <= n; i++) if (notes[i] ~ /^decided/) print $1 "," $2 "," notes[i] }' \

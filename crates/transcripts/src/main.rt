@@ -11,6 +11,8 @@
 //! | `sha256`, then a command | the digest of what it writes to standard output, as hexadecimal digits |
 //! | `rows PART`, then a command | the lines that have this part, of what it prints, and `N rows` |
 //!
+//! In the words of a command `␤` is a line feed.
+//!
 //! Before what is printed changes of the input may stand, and after it further changes with what is printed then: each
 //! is a case of its own, over the file that the head names. Changes are lines that begin with `-`, which are looked for
 //! in the file as whole lines, and below them lines that begin with `+`, which take their place. Lines with `+` alone,

@@ -12,6 +12,9 @@ use std::thread::Threads;
 use std::time::Clock;
 use study_commands::progress_line::ProgressLine;
 
+/// What stands for a line feed in a word.
+const LINE_FEED: &str = "␤";
+
 /// Puts lines of standard error at the end of a text.
 fn push_faults(printed: &mut String, faults: &[u8]) -> Result<(), Fault> {
     for line in std::str::from_utf8(faults)?.lines() {
@@ -38,6 +41,7 @@ impl Ran {
         line: &str,
         mut input: &[u8],
     ) -> Result<Ran, Fault> {
+        let line = line.replace(alloc, LINE_FEED, "\n")?;
         let words: Vec<&str> = line.split(' ').collect(alloc)?;
         let (mut out, mut faults) = (MemoryOutlet::new(alloc), MemoryOutlet::new(alloc));
         let mut notes = Vec::new(alloc);
