@@ -3,6 +3,7 @@ pub mod Combos
 pub mod Points
 pub mod Refusing
 pub mod Placing
+pub mod ReadBack
 pub mod Texts
 pub mod Numerals
 pub mod KeyNames

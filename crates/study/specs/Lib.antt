@@ -3,6 +3,7 @@ pub mod Combinations
 pub mod Settings
 pub mod Grid
 pub mod Placed
+pub mod Reading
 pub mod Runs
 pub mod Words
 pub mod KeyWords

@@ -37,6 +37,7 @@ pub use error::{
 };
 pub use grid::Grid;
 pub use key::Key;
+pub use placed::law_settings;
 pub use read::{read_run, run_table};
 pub use run::Run;
 pub use seeds::Seeds;

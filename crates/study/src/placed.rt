@@ -3,6 +3,7 @@ ghost use Rattle.std.specs.Prelude.{◌≡◌, ◌<◌, ◌≤◌, false, true, 
 ghost use Rattle.toml.specs.Data.{get_member, table};
 ghost use Rattle.toml.specs.View.{view, table_view, array_view, items_view};
 ghost use Rattle.study.specs.Settings.{path_of, given_by, chosen, inner, element, every};
+ghost use Rattle.study.specs.Reading.{AreSet};
 ghost use Rattle.study.specs.Placed.{data_of, put as put_member, put_item, put_in_each, set_at, set_all, table_of, table_or_new, items_of, element_of, is_memory};
 
 use crate::axis::Choice;
@@ -252,3 +253,9 @@ pub(crate) fn set_choices(
     }
     Ok(())
 }
+
+/// Wherever a key is set, its value is what the file then has there, in every table of an array where that is meant,
+/// and each key apart from it has what it had.
+pub fn law_settings()
+    ensures { AreSet }
+{}
