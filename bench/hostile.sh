@@ -1,10 +1,10 @@
 #!/bin/bash
 # Runs the built program where the machine refuses memory, threads and writes, and feeds it bad input. Each run has to end
-# by itself, with a status of the program's table, and where that is 0 with the same bytes as with ample means. Prints a
-# line for each kind of refusal, how many runs it had and how they ended; status 1 where one ended otherwise. The program
-# is proved and built first, where that is needed. As root it also tries a limit on threads, as nobody, and a full disk;
-# where there is a C compiler, it refuses each single request for memory in turn; then, too, no memory may be held when the
-# program ends.
+# by itself, with a status of the program's table and the line of just that fault, and where the status is 0 with the same
+# bytes as with ample means. Prints of each kind of refusal how many runs it had and how they ended; status 1 where one
+# ended otherwise. The program is proved and built first, where that is needed. As root it also tries a limit on threads,
+# as nobody, and a full disk; where there is a C compiler, it refuses each single request for memory, and each start of a
+# thread, in turn; then, too, no memory may be held when the program ends.
 root=$(CDPATH='' cd -- "$(dirname -- "$0")/.." && pwd) || exit 1
 "$root/fdbench" --help > /dev/null || exit 1
 folder=$(mktemp -d) || exit 1
@@ -23,70 +23,85 @@ done
 echo ok > "$folder/ok"
 echo same > "$folder/same"
 
-# 127 is the system's loader, which found no room for the C library before the program began
-begin "memory refused, from 2.5 MiB on (ulimit -v)" "0 1 2 3 127"
-for ((room = 2500; room <= 60000; room += room / 16)); do
-    for file in "$five" "$many"; do
-        (ulimit -v "$room"; exec $limit "$fdbench" check "$file") > "$folder/out" 2> "$folder/err"
-        ended $? "$folder/ok"
-        (ulimit -v "$room"; exec $limit "$fdbench" list "$file" --print both) > "$folder/out" 2> "$folder/err"
-        ended $? "$file.listed"
-        (ulimit -v "$room"; exec $limit "$fdbench" run "$file" --workers 3 --window 2 --print both) \
-            > "$folder/out" 2> "$folder/err"
-        ended $? "$file.listed"
-        (ulimit -v "$room"; exec $limit "$fdbench" compare "$file" --workers 3 --window 2) > "$folder/out" 2> "$folder/err"
-        ended $? "$folder/same"
-    done
-done
-end
+# Splits the order $1 into words, and says how it may end where it is refused memory. What starts threads may be refused
+# one for want of memory.
+split() {
+    read -r -a words <<< "$1"
+    memory=("2 fdbench: words: Memory" "1 fdbench: scenario: Memory")
+    [ "${words[0]}" = check ] || memory+=("3 fdbench: run: Memory")
+    case ${words[0]} in run | compare) memory+=("3 fdbench: run: Spawn") ;; esac
+}
 
-if cc -shared -fPIC -O1 -o "$folder/refuse.so" "$root/bench/refuse.c" 2> /dev/null; then
-    begin "each request for memory refused in turn" "0 1 2 3"
-    for example in one_crash exchange lossy_coordinator; do
-        file="$root/examples/$example.toml"
-        "$fdbench" list "$file" --print both > "$folder/listed" || exit 1
-        for command in "list" "run --workers 2 --window 2"; do
-            read -r -a words <<< "$command"
-            for ((request = 1; ; request++)); do
-                rm -f "$folder/refused"
-                REFUSE=$request REFUSED=$folder/refused LEFT=$folder/left LD_PRELOAD=$folder/refuse.so \
-                    "$fdbench" "${words[0]}" "$file" "${words[@]:1}" --print both > "$folder/out" 2> "$folder/err"
-                status=$?
-                # beyond the last request
-                [ -e "$folder/refused" ] || break
-                ended "$status" "$folder/listed"
-                held "request $request of $command, $example"
-            done
+# 127 is the system's loader, which found no room for the C library before the program began
+for order in check "list --print both" "run --workers 3 --window 2 --print both" "compare --workers 3 --window 2"; do
+    split "$order"
+    begin "memory refused to $order, from 2.5 MiB on (ulimit -v)" 0 "${memory[@]}" "127 *"
+    for ((room = 2500; room <= 60000; room += room / 16)); do
+        for file in "$five" "$many"; do
+            (ulimit -v "$room"; exec $limit "$fdbench" "${words[0]}" "$file" "${words[@]:1}") \
+                > "$folder/out" 2> "$folder/err"
+            status=$?
+            case ${words[0]} in
+                check) ended $status "$folder/ok" ;;
+                compare) ended $status "$folder/same" ;;
+                *) ended $status "$file.listed" ;;
+            esac
         done
     done
     end
+done
 
-    # windows that several threads close: a worker that can't be had ends the run, such a thread doesn't
-    crowd="$root/bench/crowd_64.toml"
-    "$fdbench" list "$crowd" --print both > "$folder/listed" || exit 1
-    # refuses one request after the other, each by the variable $1, in steps of $2
+if cc -shared -fPIC -O1 -o "$folder/refuse.so" "$root/bench/refuse.c" 2> /dev/null; then
+    # Runs the order $1 over the file $2, which prints the file $3 where it is done, with one request after the other
+    # refused: of those that the variable $4 names, in steps of $5.
     refuse_in_turn() {
-        for ((request = 1; ; request += $2)); do
+        split "$1"
+        for ((request = 1; ; request += $5)); do
             rm -f "$folder/refused"
             (
-                export "$1=$request" "REFUSED=$folder/refused" "LEFT=$folder/left" "LD_PRELOAD=$folder/refuse.so"
-                exec "$fdbench" run "$crowd" --workers 4 --window 2 --print both
+                export "$4=$request" "REFUSED=$folder/refused" "LEFT=$folder/left" "LD_PRELOAD=$folder/refuse.so"
+                exec "$fdbench" "${words[0]}" "$2" "${words[@]:1}"
             ) > "$folder/out" 2> "$folder/err"
             status=$?
+            # beyond the last request
             [ -e "$folder/refused" ] || break
-            ended "$status" "$folder/listed"
-            held "$1 $request of the crowd"
+            ended "$status" "$3"
+            held "$4 $request of $1, $2"
+        done
+    }
+    for order in "list --print both" "run --workers 2 --window 2 --print both"; do
+        split "$order"
+        begin "each request for memory of $order refused in turn" 0 "${memory[@]}"
+        for example in one_crash exchange lossy_coordinator; do
+            file="$root/examples/$example.toml"
+            "$fdbench" list "$file" --print both > "$folder/listed" || exit 1
+            refuse_in_turn "$order" "$file" "$folder/listed" REFUSE 1
         done
         end
-    }
-    begin "each start of a thread refused in turn, 64 processes, 4 workers" "0 3"
-    refuse_in_turn REFUSE_THREAD 1
-    begin "one request for memory in 61 refused, 64 processes, 4 workers" "0 1 2 3"
-    refuse_in_turn REFUSE 61
+    done
+
+    # these windows are small, so that all threads are workers, of which each that can't be had ends the run
+    begin "each start of a worker refused in turn, 5 processes" "3 fdbench: run: Spawn"
+    for order in "run --workers 3 --window 2 --print both" "compare --workers 2 --window 1"; do
+        refuse_in_turn "$order" "$five" "$five.listed" REFUSE_THREAD 1
+    done
+    end
+
+    # windows that several threads close: such a thread that can't be had doesn't end the run
+    crowd="$root/bench/crowd_64.toml"
+    "$fdbench" list "$crowd" --print both > "$folder/listed" || exit 1
+    order="run --workers 4 --window 2 --print both"
+    begin "each start of a thread refused in turn, 64 processes, 4 workers" 0 "3 fdbench: run: Spawn"
+    refuse_in_turn "$order" "$crowd" "$folder/listed" REFUSE_THREAD 1
+    end
+    split "$order"
+    begin "one request for memory in 61 refused, 64 processes, 4 workers" 0 "${memory[@]}"
+    refuse_in_turn "$order" "$crowd" "$folder/listed" REFUSE 61
+    end
 fi
 
 if [ "$(id -u)" -eq 0 ]; then
-    begin "threads refused (ulimit -u, 64 workers)" "0 3"
+    begin "threads refused (ulimit -u, 64 workers)" 0 "3 fdbench: run: Spawn"
     for threads in 1 2 3 8 16 32 63 64 65 80; do
         # shellcheck disable=SC2016 (the inner shell's own words)
         $limit setpriv --reuid=65534 --regid=65534 --clear-groups \
@@ -97,7 +112,7 @@ if [ "$(id -u)" -eq 0 ]; then
     end
     mkdir "$folder/small"
     if mount -t tmpfs -o size=64k tmpfs "$folder/small" 2> /dev/null; then
-        begin "a file that fills up" "4"
+        begin "a file that fills up" "4 fdbench: run: Write"
         $limit "$fdbench" list "$many" --print both > "$folder/small/out" 2> "$folder/err"
         ended $?
         $limit "$fdbench" run "$many" --workers 2 --window 4 --print both > "$folder/small/out" 2> "$folder/err"
@@ -106,10 +121,10 @@ if [ "$(id -u)" -eq 0 ]; then
     fi
 fi
 
-begin "writes refused" "4"
+begin "writes refused" "4 fdbench: run: Write"
 mkfifo "$folder/pipe"
-for command in "list" "run --workers 2 --window 2"; do
-    read -r -a words <<< "$command"
+for order in "list" "run --workers 2 --window 2"; do
+    split "$order"
     of_five=("${words[0]}" "$five" "${words[@]:1}" --print both)
     of_many=("${words[0]}" "$many" "${words[@]:1}" --print both)
     $limit "$fdbench" "${of_five[@]}" > /dev/full 2> "$folder/err"
@@ -123,18 +138,22 @@ for command in "list" "run --workers 2 --window 2"; do
 done
 end
 
-begin "a slow reader" "0"
+begin "a slow reader" 0
 $limit "$fdbench" list "$five" --print both 2> "$folder/err" | (sleep 1; cat) > "$folder/out"
 ended "${PIPESTATUS[0]}" "$five.listed"
 $limit "$fdbench" run "$five" --workers 2 --window 2 --print both 2> "$folder/err" | (sleep 1; cat) > "$folder/out"
 ended "${PIPESTATUS[0]}" "$five.listed"
 end
 
-begin "standard input closed, endless, of one byte at a time" "0 1"
+begin "standard input closed" "1 fdbench: input: unreadable"
 $limit "$fdbench" check - <&- > "$folder/out" 2> "$folder/err"
-ended $? "$folder/ok"
+ended $?
+end
+begin "standard input endless" "1 fdbench: input: too long"
 $limit "$fdbench" check - < /dev/zero > "$folder/out" 2> "$folder/err"
-ended $? "$folder/ok"
+ended $?
+end
+begin "standard input of one byte at a time" 0
 dd if="$five" bs=1 status=none | $limit "$fdbench" list - --print both > "$folder/out" 2> "$folder/err"
 ended "${PIPESTATUS[1]}" "$five.listed"
 end
@@ -144,8 +163,8 @@ bytes=8388608
 repeat() {
     yes "$1" | tr -d "${2:-}" | head -c $bytes
 }
-begin "files of 8 MiB, each in a second" "1"
 for content in random brackets rows key comment tables; do
+    fault=NotToml
     case $content in
         random) head -c $bytes /dev/urandom ;;
         brackets) repeat '[' '\n' ;;
@@ -154,10 +173,15 @@ for content in random brackets rows key comment tables; do
         comment) repeat '#' '\n' ;;
         tables) repeat '[[crash]]' ;;
     esac > "$folder/hostile"
+    case $content in
+        key) fault=UnknownKey ;;
+        comment) fault=MissingKey ;;
+    esac
+    begin "a file of 8 MiB, $content, in a second" "1 fdbench: scenario: $fault"
     timeout 1 "$fdbench" check "$folder/hostile" > "$folder/out" 2> "$folder/err"
     ended $?
+    end
 done
-end
 
 echo "$wrong wrong"
 [ "$wrong" -eq 0 ]

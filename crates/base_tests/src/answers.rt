@@ -1,6 +1,6 @@
 //! What a part of a process does, as text: a letter with its receiver, a wake with its pause, and a note as a trace
 //! prints it.
-use process_api::{Action, Cells, Note, Payload, ProcSet};
+use process_api::{Action, Cells, Note, Payload, ProcSet, Tag};
 use std::alloc::{AllocError, Global};
 
 /// The members of a set.
@@ -57,6 +57,15 @@ fn text_of_letter(alloc: Global, payload: &Payload) -> Result<String, AllocError
     }
 }
 
+/// What a wake is for.
+fn name_of(tag: Tag) -> &'static str {
+    match tag {
+        Tag::Beat => "Beat",
+        Tag::Check => "Check",
+        Tag::Share => "Share",
+    }
+}
+
 /// One action.
 fn action_text(alloc: Global, action: &Action) -> Result<String, AllocError> {
     match action {
@@ -65,7 +74,10 @@ fn action_text(alloc: Global, action: &Action) -> Result<String, AllocError> {
             let to = to.number();
             format!(in alloc; "{letter}>{to}")
         }
-        Action::Wake { pause, tag } => format!(in alloc; "{tag:?}+{pause}"),
+        Action::Wake { pause, tag } => {
+            let tag = name_of(*tag);
+            format!(in alloc; "{tag}+{pause}")
+        }
         Action::Note(Note::Suspect { layer, who }) => {
             let who = who.number();
             format!(in alloc; "suspect:{layer}:{who}")

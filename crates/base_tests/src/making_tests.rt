@@ -1,15 +1,11 @@
 //! Machines of small scenarios, at their start.
-ghost use Rattle.std.specs.Prelude.{◌≡◌, IfOk};
-ghost use Rattle.scenario_record.specs.Opening.{mind_of};
-
 use crate::comparisons::same;
 use crate::driving::drive_process;
 use crate::inputs::Given::Start;
-use machines::{AnyDetector, eventually_strong, idle, make_all, strong};
+use machines::{Machine, machines_of};
 use process_api::Process;
-use scenario::AlgorithmKind::{EventuallyStrong, Idle, Strong};
-use scenario::{Opening, Scenario, ScenarioError, read_scenario};
-use std::alloc::{AllocError, Global};
+use scenario::{Scenario, ScenarioError, read_scenario};
+use std::alloc::Global;
 use std::process::Abort;
 use std::test::Fail;
 
@@ -34,26 +30,6 @@ fn scenario_of(
 [detector]\n{detector}[link]\nmin = 2\nmax = 2\n{rest}"
     )?;
     read_scenario(alloc, file.as_bytes())
-}
-
-/// The machines of a scenario, in boxes.
-fn machines_of(alloc: Global, scenario: &Scenario) -> Result<Vec<Box<dyn Process>>, AllocError> {
-    make_all(
-        alloc,
-        scenario,
-        |opening: Opening| -> Result<Box<dyn Process>, AllocError>
-            ensures { IfOk result (λ made. mind made ≡ mind_of opening) }
-        {
-            let detector = AnyDetector::open(alloc, &opening)?;
-            match opening.algorithm {
-                Idle => Ok(Box::new(alloc, idle(&opening, detector))?),
-                Strong => Ok(Box::new(alloc, strong(alloc, &opening, detector)?)?),
-                EventuallyStrong => {
-                    Ok(Box::new(alloc, eventually_strong(alloc, &opening, detector)?)?)
-                }
-            }
-        },
-    )
 }
 
 /// Algorithm, detector and what else the file says, and what the two machines do: a letter to the other process, a Beat
@@ -108,7 +84,7 @@ const MACHINES: &[(&str, &str, &str, &str, &str)] = &[
 fn start(
     rt: &impl Abort,
     alloc: Global,
-    machines: &mut [Box<dyn Process>],
+    machines: &mut [Machine],
     first: &str,
     second: &str,
 ) -> Result<(), Fail> {

@@ -1,22 +1,9 @@
--- A text in pieces.
-use Rattle.std.proofs.Common.{◌≡◌, ◌∙◌, ◌<◌, ap, sym, refl, ℕ, suc, List, ◌++◌, length, take, drop, get_or, flat_map, codes, decimal}
-use Rattle.std.proofs.lemmas.Grind.{flat_map-append}
-use Rattle.std.proofs.lemmas.List.{take-append-drop}
-use Rattle.std.proofs.Math.Seq.{drop-cons}
+-- The line of a scenario's refusal.
+use Rattle.std.proofs.Common.{◌≡◌, ap, refl, ℕ, List, ◌++◌, codes, decimal}
 use Rattle.bench_commands.specs.Fault.{after_name}
 use Rattle.scenario.specs.Names.{name_of}
 use Rattle.scenario.specs.declared.error.ScenarioError.{ScenarioError}
 use Rattle.scenario.specs.declared.error.ScenarioError.TheVariants as error
-
--- the whole text, about one piece
-pub text_about : {X : Type 0} (f : X → List ℕ) (ps : List X) (i : ℕ) (none : X) → i < length ps
-    → flat_map f ps ≡ flat_map f (take i ps) ++ (f (get_or ps i none) ++ flat_map f (drop (suc i) ps))
-text_about f ps i none in_range =
-    sym (ap (flat_map f) (take-append-drop i ps))
-    ∙ (flat_map-append f (take i ps) (drop i ps)
-    ∙ ap (λ t. flat_map f (take i ps) ++ t) (ap (flat_map f) (drop-cons ps i none in_range)))
-
--- ---- the line of a scenario's refusal
 
 -- of a link that is below the lookahead the pair is told
 pub pair_line : (begin name from to : List ℕ) (e : ScenarioError) (p q : ℕ) → e ≡ error.BelowLookahead p q → name ≡ name_of e → from ≡ decimal p

@@ -1,15 +1,18 @@
 -- What an order is answered with.
-use Rattle.std.specs.Prelude.{◌≡◌, ℕ, List, ◌++◌, codes, Option, IsTrue}
+use Rattle.std.specs.Prelude.{◌≡◌, ℕ, List, ◌++◌, codes, Option, IsTrue, Result}
 use Rattle.command_line.specs.declared.order.Order.{Order}
 use Rattle.command_line.specs.declared.order.Order.TheVariants as order
 use Rattle.trace_laws.specs.ScenarioSetting.{setting_of}
 use Rattle.trace_laws.specs.World.{IsTrace}
+use Rattle.bench_commands.specs.Fault.{end_of}
 use Rattle.bench_commands.specs.Scenario.{IsScenarioAt}
+use Rattle.bench_commands.specs.declared.fault.Fault.{Fault}
 use Rattle.print_choice.specs.declared.PrintChoice.{PrintChoice}
 use Rattle.process_api.specs.EntryRecord.{EntryRecord}
 use Rattle.reporting.specs.Printed.{IsTraceWithin, printed, prints_trace}
 use Rattle.reporting.specs.TraceText.{trace_text}
 use Rattle.scenario_record.specs.Record.{Record}
+use Rattle.shell.specs.Ending.{Goes}
 use Rattle.windows.specs.Plan.{NoneApplies}
 
 -- what `compare` writes
@@ -66,6 +69,18 @@ module _ (s : Record) where
       NoneApplies s.lookahead workers window × IsRunFront print piece
   LeavesOver _ piece = ⊥
 
+  -- what went out for a run by windows: its texts, or what is left where it stops
+  abbrev pub GoesByWindows : {O A : Type 0} (told : O → Option (List ℕ)) (failed : O → ℕ) (old new : O) → PrintChoice
+      → Result A Fault → Type 0
+  GoesByWindows told failed old new print outcome =
+      Goes end_of told failed old new (IsListAnswer print) (IsRunText print) (IsRunFront print) outcome
+
+  -- what went out for the order: what it asks for, or what is left where it stops
+  abbrev pub GoesOver : {O A : Type 0} (told : O → Option (List ℕ)) (failed : O → ℕ) (old new : O) → Order
+      → Result A Fault → Type 0
+  GoesOver told failed old new asked outcome =
+      Goes end_of told failed old new (AnswersOver asked) (WritesOver asked) (LeavesOver asked) outcome
+
 -- the path that an order names
 abbrev pub path_of : Order → List ℕ
 path_of (order.Check path) = path.now
@@ -83,6 +98,12 @@ module _ (input : Option (List ℕ)) (asked : Order) (piece : List ℕ) where
 
   abbrev pub Leaves : Type 0
   Leaves = (s : Record) × IsScenarioAt input (path_of asked) s × LeavesOver s asked piece
+
+-- what went out for an order: what it asks for, or what is left where it stops
+abbrev pub GoesFor : {O A : Type 0} (told : O → Option (List ℕ)) (failed : O → ℕ) (old new : O) → Option (List ℕ) → Order
+    → Result A Fault → Type 0
+GoesFor told failed old new input asked outcome =
+    Goes end_of told failed old new (Answers input asked) (Writes input asked) (Leaves input asked) outcome
 
 -- the order asks for a run
 abbrev pub AsksRun : Order → Type 0

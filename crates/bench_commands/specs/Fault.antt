@@ -1,12 +1,13 @@
--- The exit status of a fault, its line, and which fault of a plan comes.
-use Rattle.std.specs.Prelude.{ℕ, List, [], ◌++◌, codes, decimal}
+-- The exit status of a fault, its line, what it leaves of what was to be written, and which fault of a plan comes.
+use Rattle.std.specs.Prelude.{ℕ, List, [], ◌++◌, codes, decimal, string_bytes}
 use Rattle.run_error.specs.declared.error.RunError.{RunError}
 use Rattle.run_error.specs.declared.error.RunError.TheVariants as run
 use Rattle.bench_commands.specs.declared.fault.Fault.{Fault}
-use Rattle.bench_commands.specs.declared.fault.Fault.TheVariants.{Different, Form, Plan, Run, Scenario, TooLong, Unreadable, WordsMemory}
+use Rattle.bench_commands.specs.declared.fault.Fault.TheVariants.{Different, Form, Plan, Run, Scenario, TooLong, Unreadable, Words, WordsMemory}
 use Rattle.scenario.specs.Names.{name_of}
 use Rattle.scenario.specs.declared.error.ScenarioError.{ScenarioError}
 use Rattle.scenario.specs.declared.error.ScenarioError.TheVariants as scenario
+use Rattle.shell.specs.Ending.{End, begun, cut, untouched}
 use Rattle.windows.specs.Plan.{IsFirst}
 use Rattle.windows.specs.declared.error.PlanError.{PlanError}
 use Rattle.windows.specs.declared.error.PlanError.TheVariants as plan
@@ -16,6 +17,7 @@ use Rattle.windows.specs.declared.error.PlanError.TheVariants as plan
 abbrev pub status_of : Fault → ℕ
 status_of Form = 2
 status_of WordsMemory = 2
+status_of (Words text) = 2
 status_of Unreadable = 1
 status_of TooLong = 1
 status_of (Scenario refusal) = 1
@@ -26,13 +28,22 @@ status_of (Run run.Memory) = 3
 status_of (Run run.Spawn) = 3
 status_of (Run run.Write) = 4
 
+-- only a run that is refused later, by windows, leaves anything, and a failed write
+abbrev pub end_of : Fault → End
+end_of (Run run.Write) = cut
+end_of (Run refusal) = begun
+end_of _ = untouched
+
 -- what follows the name of a scenario's refusal: the pair of a link that is below the lookahead
 abbrev pub after_name : ScenarioError → List ℕ
 after_name (scenario.BelowLookahead from to) =
     codes " " ++ (decimal from ++ (codes " " ++ (decimal to ++ codes "\n")))
 after_name _ = codes "\n"
 
--- the lines of a plan's refusals, and of a run's
+-- the lines of a scenario's refusals, of a plan's, and of a run's
+abbrev pub scenario_line : ScenarioError → List ℕ
+scenario_line refusal = codes "fdbench: scenario: " ++ (name_of refusal ++ after_name refusal)
+
 abbrev pub plan_line : PlanError → List ℕ
 plan_line plan.Workers = codes "fdbench: plan: Workers\n"
 plan_line plan.WindowZero = codes "fdbench: plan: WindowZero\n"
@@ -48,9 +59,10 @@ run_line run.Write = codes "fdbench: run: Write\n"
 abbrev pub line_of : Fault → List ℕ
 line_of Form = codes "fdbench: words: Form\n"
 line_of WordsMemory = codes "fdbench: words: Memory\n"
+line_of (Words text) = string_bytes text
 line_of Unreadable = codes "fdbench: input: unreadable\n"
 line_of TooLong = codes "fdbench: input: too long\n"
-line_of (Scenario refusal) = codes "fdbench: scenario: " ++ (name_of refusal ++ after_name refusal)
+line_of (Scenario refusal) = scenario_line refusal
 line_of (Plan refusal) = plan_line refusal
 line_of Different = []
 line_of (Run refusal) = run_line refusal

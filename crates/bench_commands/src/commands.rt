@@ -1,10 +1,10 @@
 //! What an order asks for, over its scenario.
 ghost use Rattle.std.specs.Prelude.{◌≡◌, ◌^◌, ◌-◌, ◌<◌, codes, IfOk, IfErr, OnOk, true};
-ghost use Rattle.bench_commands.specs.Answer.{AnswersOver, IsCompareAnswer, IsListAnswer, IsRunFront, IsRunText, LeavesOver, WritesOver};
-ghost use Rattle.bench_commands.specs.Fault.{IsFirstFault};
-ghost use Rattle.bench_commands.specs.Stop.{Stops, Went};
+ghost use Rattle.bench_commands.specs.Answer.{GoesByWindows, GoesOver, IsCompareAnswer, IsListAnswer};
+ghost use Rattle.bench_commands.specs.Fault.{IsFirstFault, end_of};
 ghost use Rattle.bench_commands.specs.Why.{StopsList, StopsOver, StopsWindows};
 ghost use Rattle.reporting.specs.Writing.{Wrote, WrotePart};
+ghost use Rattle.shell.specs.Ending.{Puts};
 ghost use Rattle.windows.specs.Plan.{IsPlanFor, NoneApplies, plan_of};
 
 use crate::bench::{Mode, bench};
@@ -12,27 +12,14 @@ use crate::compare::compare;
 use crate::fault::Fault;
 use command_line::Order;
 use event_list::RunError;
-use qos_report::{Outlet, PrintChoice, put_all};
+use qos_report::{Outlet, PrintChoice};
 use scenario::Scenario;
+use shell::put_bytes;
 use std::alloc::Global;
 use std::marker::Sync;
 use std::sync::Wait;
 use std::thread::Threads;
 use windows::{Gate, Plan};
-
-/// Writes a line that is an answer.
-fn put_line<O: Outlet>(line: &[u8], outlet: &mut O) -> Result<(), Fault>
-    requires { O.failed outlet.old < 2 ^ 64 - 1 }
-    ensures whole { OnOk result (Wrote O.told O.failed outlet.old outlet.new line.now) }
-    ensures part { IfErr result (λ fault. (fault ≡ Fault.Run RunError.Write)
-        × WrotePart O.told O.failed outlet.old outlet.new line.now) }
-{
-    if put_all(outlet, line) {
-        Ok(())
-    } else {
-        Err(Fault::Run(RunError::Write))
-    }
-}
 
 /// Answers `list`: the texts of the run.
 fn list<R: Threads + Wait + Sync, G: Gate, O: Outlet>(
@@ -44,9 +31,7 @@ fn list<R: Threads + Wait + Sync, G: Gate, O: Outlet>(
     outlet: &mut O,
 ) -> Result<(), Fault>
     requires { O.failed outlet.old < 2 ^ 64 - 1 }
-    ensures done { OnOk result (Went O.told O.failed outlet.old outlet.new (IsListAnswer scenario.now print)) }
-    ensures stops { let wanted = IsListAnswer scenario.now print in
-        IfErr result (Stops O.told O.failed outlet.old outlet.new wanted (λ _. ⊥)) }
+    ensures text { Puts end_of O.told O.failed outlet.old outlet.new (IsListAnswer scenario.now print) result }
     ensures why { IfErr result (StopsList scenario.now) }
 {
     match bench(rt, alloc, scenario, Mode::List, gate, print, outlet) {
@@ -80,9 +65,7 @@ fn run<R: Threads + Wait + Sync, G: Gate, O: Outlet>(
 ) -> Result<(), Fault>
     requires failures { O.failed outlet.old < 2 ^ 64 - 1 }
     requires plan { IsPlanFor scenario.now plan }
-    ensures done { OnOk result (Went O.told O.failed outlet.old outlet.new (IsListAnswer scenario.now print)) }
-    ensures stops { let written = IsRunText scenario.now print in let left = IsRunFront scenario.now print in
-        IfErr result (Stops O.told O.failed outlet.old outlet.new written left) }
+    ensures text { GoesByWindows scenario.now O.told O.failed outlet.old outlet.new print result }
     ensures why { IfErr result (StopsWindows scenario.now) }
 {
     match bench(
@@ -107,9 +90,9 @@ fn put_verdict<O: Outlet>(same: bool, outlet: &mut O) -> Result<(), Fault>
         × WrotePart O.told O.failed outlet.old outlet.new (codes "same\n")) }
 {
     if same {
-        put_line(b"same\n", outlet)
+        put_bytes(b"same\n", outlet)
     } else {
-        put_line(b"different\n", outlet)?;
+        put_bytes(b"different\n", outlet)?;
         Err(Fault::Different)
     }
 }
@@ -125,9 +108,7 @@ fn compare_runs<R: Threads + Wait + Sync, G: Gate, O: Outlet>(
 ) -> Result<(), Fault>
     requires failures { O.failed outlet.old < 2 ^ 64 - 1 }
     requires plan { IsPlanFor scenario.now plan }
-    ensures done { OnOk result (Went O.told O.failed outlet.old outlet.new (IsCompareAnswer scenario.now)) }
-    ensures stops { let wanted = IsCompareAnswer scenario.now in
-        IfErr result (Stops O.told O.failed outlet.old outlet.new wanted (λ _. ⊥)) }
+    ensures text { Puts end_of O.told O.failed outlet.old outlet.new (IsCompareAnswer scenario.now) result }
     ensures why { IfErr result (StopsWindows scenario.now) }
 {
     match compare(rt, alloc, scenario, plan, gate) {
@@ -146,14 +127,11 @@ pub(crate) fn answer<R: Threads + Wait + Sync, G: Gate, O: Outlet>(
     outlet: &mut O,
 ) -> Result<(), Fault>
     requires { O.failed outlet.old < 2 ^ 64 - 1 }
-    ensures done { let wanted = AnswersOver scenario.now order.now in
-        OnOk result (Went O.told O.failed outlet.old outlet.new wanted) }
-    ensures stops { let written = WritesOver scenario.now order.now in let left = LeavesOver scenario.now order.now in
-        IfErr result (Stops O.told O.failed outlet.old outlet.new written left) }
+    ensures text { GoesOver scenario.now O.told O.failed outlet.old outlet.new order.now result }
     ensures why { IfErr result (StopsOver scenario.now order.now) }
 {
     match order {
-        Order::Check { .. } => put_line(b"ok\n", outlet),
+        Order::Check { .. } => put_bytes(b"ok\n", outlet),
         Order::List { print, .. } => list(rt, alloc, scenario, *print, gate, outlet),
         Order::Run {
             workers,

@@ -1,14 +1,13 @@
 //! Why a run of the program ends without having done what it was asked, and how it says so.
-ghost use Rattle.std.specs.Prelude.{◌≡◌, ◌^◌, ◌-◌, ◌+◌, ◌<◌, ◌≤◌, ◌++◌, codes};
-ghost use Rattle.std.specs.List.{flat_map};
-ghost use Rattle.bench_commands.specs.Fault.{after_name, line_of, plan_line, run_line, status_of};
-ghost use Rattle.bench_commands.specs.Stop.{Tells};
-ghost use Rattle.scenario.specs.Names.{name_of};
+ghost use Rattle.std.specs.Prelude.{◌≡◌, ◌^◌, ◌-◌, ◌<◌};
+ghost use Rattle.bench_commands.specs.Fault.{plan_line, run_line, scenario_line};
+ghost use Rattle.shell.specs.Ending.{Tells};
 
 use event_list::RunError;
 use itoa::Buffer;
-use qos_report::{Outlet, put_all};
+use qos_report::Outlet;
 use scenario::ScenarioError;
+use shell::{Failure, tell_pieces, tell_text};
 use windows::PlanError;
 
 /// Why the program did not do what it was asked.
@@ -18,6 +17,8 @@ pub enum Fault {
     Form,
     /// Memory was refused while words were read.
     WordsMemory,
+    /// `clap` refuses the words, as this text says.
+    Words(String),
     /// A read failed.
     Unreadable,
     /// The scenario file is too long.
@@ -32,58 +33,49 @@ pub enum Fault {
     Different,
 }
 
-impl Fault {
-    /// The exit status.
-    pub fn status(&self) -> u8
-        ensures { result ≡ status_of self.now }
-    {
+impl Failure for Fault {
+    ghost use Rattle.bench_commands.specs.Fault.{end_of, line_of, status_of};
+    ghost use Rattle.bench_commands.specs.Statuses.{has_status};
+    ghost use Rattle.bench_commands.specs.declared.fault.Fault.TheVariants.{Run};
+    ghost use Rattle.run_error.specs.declared.error.RunError.TheVariants.{Write};
+    ghost use Rattle.std.specs.Prelude.{refl};
+
+    ghost status = { status_of };
+
+    ghost line = { line_of };
+
+    ghost end = { end_of };
+
+    ghost unwritten = { Run Write };
+
+    ghost is_cut = { refl };
+
+    ghost statuses = { has_status };
+
+    fn unwritten() -> Fault {
+        Fault::Run(RunError::Write)
+    }
+
+    fn status(&self) -> u8 {
         match self {
-            Fault::Form | Fault::WordsMemory => 2,
+            Fault::Form | Fault::WordsMemory | Fault::Words(_) => 2,
             Fault::Unreadable | Fault::TooLong | Fault::Scenario(_) => 1,
             Fault::Run(RunError::Write) => 4,
             Fault::Plan(_) | Fault::Run(_) | Fault::Different => 3,
         }
     }
 
-    /// Writes the fault's line and answers the exit status. Where a put fails, a front part of it went out, and nobody
-    /// is told.
-    pub fn report<O: Outlet>(&self, faults: &mut O) -> u8
-        requires { O.failed faults.old < 2 ^ 64 - 1 }
-        ensures status { result ≡ status_of self.now }
-        ensures told { O.failed faults.new ≤ O.failed faults.old + 1 }
-        ensures line { Tells O.told O.failed faults.old faults.new (λ line. line ≡ line_of self.now) }
-    {
-        self.put_line(faults);
-        self.status()
-    }
-
-    /// Writes the fault's line.
-    fn put_line<O: Outlet>(&self, faults: &mut O)
-        requires { O.failed faults.old < 2 ^ 64 - 1 }
-        ensures { Tells O.told O.failed faults.old faults.new (λ line. line ≡ line_of self.now) }
-    {
+    fn put_line<O: Outlet>(&self, faults: &mut O) {
         match self {
-            Fault::Form => put_pieces(faults, &["fdbench: words: Form\n"]),
-            Fault::WordsMemory => put_pieces(faults, &["fdbench: words: Memory\n"]),
-            Fault::Unreadable => put_pieces(faults, &["fdbench: input: unreadable\n"]),
-            Fault::TooLong => put_pieces(faults, &["fdbench: input: too long\n"]),
+            Fault::Form => tell_text("fdbench: words: Form\n", faults),
+            Fault::WordsMemory => tell_text("fdbench: words: Memory\n", faults),
+            Fault::Words(text) => tell_text(text.as_str(), faults),
+            Fault::Unreadable => tell_text("fdbench: input: unreadable\n", faults),
+            Fault::TooLong => tell_text("fdbench: input: too long\n", faults),
             Fault::Scenario(error) => put_refusal(faults, error),
-            Fault::Plan(error) => put_pieces(faults, &[line_of_plan_error(*error)]),
-            Fault::Run(error) => put_pieces(faults, &[line_of_run_error(*error)]),
-            Fault::Different => put_pieces(faults, &[]),
-        }
-    }
-}
-
-/// Writes the pieces one after the other, up to the first that fails.
-fn put_pieces<O: Outlet>(outlet: &mut O, pieces: &[&str])
-    requires { O.failed outlet.old < 2 ^ 64 - 1 }
-    ensures { let text = flat_map (λ p. p.now) pieces.now in
-        Tells O.told O.failed outlet.old outlet.new (λ line. line ≡ text) }
-{
-    for piece in pieces {
-        if !put_all(outlet, piece.as_bytes()) {
-            return;
+            Fault::Plan(error) => tell_text(line_of_plan_error(*error), faults),
+            Fault::Run(error) => tell_text(line_of_run_error(*error), faults),
+            Fault::Different => {}
         }
     }
 }
@@ -91,8 +83,7 @@ fn put_pieces<O: Outlet>(outlet: &mut O, pieces: &[&str])
 /// Writes the line of a scenario's refusal.
 fn put_refusal<O: Outlet>(faults: &mut O, error: &ScenarioError)
     requires { O.failed faults.old < 2 ^ 64 - 1 }
-    ensures { let text = codes "fdbench: scenario: " ++ (name_of error.now ++ after_name error.now) in
-        Tells O.told O.failed faults.old faults.new (λ line. line ≡ text) }
+    ensures { Tells O.told O.failed faults.old faults.new (λ line. line ≡ scenario_line error.now) }
 {
     let begin = "fdbench: scenario: ";
     match error {
@@ -100,9 +91,9 @@ fn put_refusal<O: Outlet>(faults: &mut O, error: &ScenarioError)
             let (mut from_text, mut to_text) = (Buffer::new(), Buffer::new());
             let from = from_text.format(from.number());
             let to = to_text.format(to.number());
-            put_pieces(faults, &[begin, error.name(), " ", from, " ", to, "\n"]);
+            tell_pieces(&[begin, error.name(), " ", from, " ", to, "\n"], faults);
         }
-        _ => put_pieces(faults, &[begin, error.name(), "\n"]),
+        _ => tell_pieces(&[begin, error.name(), "\n"], faults),
     }
 }
 

@@ -6,7 +6,7 @@
 //! What is told with a status other than 0 is the line of its fault, which comes for a reason that holds
 //! (`specs/Why.antt`). The texts are defined by `reporting`, in its `specs/TraceText.antt` and `specs/ReportText.antt`,
 //! the trace by the definitions of `trace_laws`, and the words by `command_line`. The process ends with the status, by
-//! the contract of [`serve::finish`].
+//! the contract of `finish` of `shell`.
 //!
 //! That a run goes by the plan that is asked for no text shows. [`serve::carry_out`] is lent a gate, which a worker
 //! tells of each process that it takes.

@@ -2,16 +2,15 @@
 ghost use Rattle.std.specs.Prelude.{◌≡◌, IfOk};
 ghost use Rattle.trace_laws.specs.ScenarioSetting.{setting_of};
 ghost use Rattle.trace_laws.specs.World.{IsTrace};
-ghost use Rattle.scenario_record.specs.Opening.{mind_of};
 
 use crate::files::COORDINATORS;
 use crate::runs::same;
 use event_list::{law_only_history, run_list};
 use judges::{Answer, Outcome, decisions};
-use machines::{AnyDetector, eventually_strong, idle, make_all, strong};
-use process_api::{Process, Trace};
-use scenario::{AlgorithmKind, Opening, Scenario, read_scenario};
-use std::alloc::{AllocError, Global};
+use machines::machines_of;
+use process_api::Trace;
+use scenario::{Scenario, read_scenario};
+use std::alloc::Global;
 use std::process::Abort;
 use std::test::Fail;
 
@@ -19,22 +18,7 @@ use std::test::Fail;
 pub fn trace_of(alloc: Global, scenario: &Scenario) -> Result<Trace, Fail>
     ensures { IfOk result (λ trace. IsTrace (setting_of scenario.now) trace) }
 {
-    let machines = make_all(
-        alloc,
-        scenario,
-        |opening: Opening| -> Result<Box<dyn Process>, AllocError>
-            ensures { IfOk result (λ made. mind made ≡ mind_of opening) }
-        {
-            let detector = AnyDetector::open(alloc, &opening)?;
-            match opening.algorithm {
-                AlgorithmKind::Idle => Ok(Box::new(alloc, idle(&opening, detector))?),
-                AlgorithmKind::Strong => Ok(Box::new(alloc, strong(alloc, &opening, detector)?)?),
-                AlgorithmKind::EventuallyStrong => {
-                    Ok(Box::new(alloc, eventually_strong(alloc, &opening, detector)?)?)
-                }
-            }
-        },
-    )?;
+    let machines = machines_of(alloc, scenario)?;
     Ok(run_list(alloc, scenario, machines)?)
 }
 

@@ -29,4 +29,6 @@ mod reports;
 #[cfg(test)]
 mod runs;
 #[cfg(test)]
+mod threads;
+#[cfg(test)]
 mod traces;

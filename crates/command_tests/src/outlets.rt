@@ -2,8 +2,9 @@
 
 use crate::files::{ONE_CRASH, ONE_PROCESS};
 use crate::runs::{printed, same, served};
-use bench_commands::serve;
+use bench_commands::fault::Fault as BenchFault;
 use qos_report::{FuseOutlet, MemoryOutlet, Outlet, StreamOutlet, put_all};
+use shell::finish;
 use std::alloc::Global;
 use std::io::{self, Write};
 use std::marker::Sync;
@@ -13,6 +14,7 @@ use std::sync::Wait;
 use std::test::Fail;
 use std::thread::Threads;
 use std::time::Clock;
+use study_commands::fault::Fault as StudyFault;
 
 /// A writer that takes everything and cannot send it on.
 #[derive(Drop)]
@@ -192,8 +194,8 @@ fn flushes(rt: HostRuntime) -> Result<(), Fail> {
         let mut outlet = StreamOutlet::new(Stuck);
         let (mut faults, mut others) = (MemoryOutlet::new(alloc), MemoryOutlet::new(alloc));
         assert!(rt; put_all(&mut outlet, b"ok\n"));
-        let code = serve::finish(status, &mut outlet, &mut faults);
-        let other = study_commands::serve::finish(status, &mut outlet, &mut others);
+        let code = finish::<BenchFault, _, _>(status, &mut outlet, &mut faults);
+        let other = finish::<StudyFault, _, _>(status, &mut outlet, &mut others);
         let (line, its) = if status == 0 {
             (write_failed("fdbench"), write_failed("fdstudy"))
         } else {
@@ -205,7 +207,7 @@ fn flushes(rt: HostRuntime) -> Result<(), Fail> {
     for status in 0..5u8 {
         let mut outlet = StreamOutlet::new(Vec::new(alloc));
         let mut faults = MemoryOutlet::new(alloc);
-        let code = serve::finish(status, &mut outlet, &mut faults);
+        let code = finish::<BenchFault, _, _>(status, &mut outlet, &mut faults);
         same(&rt, &code, &ExitCode::from(status));
     }
     Ok(())

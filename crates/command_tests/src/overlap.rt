@@ -1,24 +1,21 @@
-//! Two workers that must be at work at the same time, or the run fails.
+//! Two workers that must be at work at the same time, or the run fails, over machines of the test's own, in boxes.
 ghost use Rattle.std.specs.Prelude.{◌≡◌, IfOk, map};
 ghost use Rattle.process_api.specs.Numbers.{numbers_to};
-ghost use Rattle.scenario_record.specs.Opening.{mind_of};
 ghost use Rattle.scenario_record.specs.Record.{opening_mind};
 ghost use Rattle.windows.specs.Plan.{IsPlanFor};
 
 use crate::files::ONE_CRASH;
 use crate::runs::{changed, printed, same};
-use machines::make_all;
-use process_api::{Action, DetectorNumbers, Pid, Process, StepInput};
-use qos_report::{MemoryOutlet, Outlet, PrintChoice, bench_windows, write_trace};
-use scenario::{AlgorithmKind, Opening, Scenario, read_scenario};
-use stack::{NoAlgorithm, Stack};
+use machines::Machine;
+use process_api::{Action, Pid, Process, StepInput};
+use qos_report::{MemoryOutlet, Outlet, PrintChoice, bench_list, bench_windows, write_trace};
+use scenario::{Scenario, read_scenario};
 use std::alloc::{AllocError, Global};
 use std::marker::Sync;
 use std::sync::atomic::{AtomicU64, AtomicUsize, Ordering};
 use std::sync::{Arc, Wait};
 use std::test::Fail;
 use std::thread::{self, Threads};
-use timeout_detector::TimeoutDetector;
 use windows::{Gate, Plan, run_windows};
 
 /// How many inputs each of the two processes has taken before each of the five windows: they take 1, 2, 1, 2 and 2.
@@ -33,17 +30,17 @@ const TURNS: u32 = 2_000_000;
 /// A machine that counts its inputs.
 #[derive(Drop)]
 struct Counted {
-    stack: Stack<TimeoutDetector, NoAlgorithm>,
+    machine: Machine,
     taken: Arc<AtomicU64, Global>,
 }
 
 impl Process for Counted {
-    ghost mind = { λ c. ⟦<Stack<TimeoutDetector, NoAlgorithm> as Process>⟧.mind c.stack };
+    ghost mind = { λ c. ⟦<Machine as Process>⟧.mind c.machine };
 
-    ghost has_failed = { λ c. ⟦<Stack<TimeoutDetector, NoAlgorithm> as Process>⟧.has_failed c.stack };
+    ghost has_failed = { λ c. ⟦<Machine as Process>⟧.has_failed c.machine };
 
     fn pid(&self) -> Pid {
-        self.stack.pid()
+        self.machine.pid()
     }
 
     fn on_input(
@@ -53,11 +50,11 @@ impl Process for Counted {
         out: &mut Vec<Action>,
     ) -> Result<(), AllocError> {
         self.taken.fetch_add(1, Ordering::SeqCst);
-        self.stack.on_input(now, input, out)
+        self.machine.on_input(now, input, out)
     }
 
     fn failed(&self) -> bool {
-        self.stack.failed()
+        self.machine.failed()
     }
 }
 
@@ -136,6 +133,7 @@ impl Gate for Holding {
 /// How a run is started.
 #[derive(Clone, Copy)]
 enum Start {
+    Listed,
     Trace,
     Texts,
 }
@@ -185,7 +183,47 @@ fn text_written<R: Threads + Wait + Sync>(
     Ok(outlet)
 }
 
-/// The trace's text of a run of machines that the gate counts, by two workers and windows of 2 ticks.
+/// The text that a run of these machines by the list writes.
+fn text_listed(
+    alloc: Global,
+    scenario: &Scenario,
+    machines: Vec<Box<dyn Process>>,
+) -> Result<MemoryOutlet, Fail>
+    requires { map mind machines.items ≡ map (opening_mind scenario.now) (numbers_to scenario.now.processes) }
+{
+    let mut outlet = MemoryOutlet::new(alloc);
+    bench_list(alloc, scenario, machines, PrintChoice::Trace, &mut outlet)?;
+    Ok(outlet)
+}
+
+/// A machine that counts its inputs, in a box.
+fn boxed(alloc: Global, counted: Counted) -> Result<Box<dyn Process>, AllocError>
+    ensures { IfOk result (λ made. mind made ≡ ⟦<Machine as Process>⟧.mind counted.machine) }
+{
+    Ok(Box::new(alloc, counted)?)
+}
+
+/// The machines of both processes in boxes, of process 1 first, which count their inputs for the gate.
+fn counted_machines(
+    alloc: Global,
+    scenario: &Scenario,
+    gate: &Holding,
+) -> Result<Vec<Box<dyn Process>>, AllocError>
+    ensures { IfOk result (λ machines. map mind machines.items
+        ≡ map (opening_mind scenario.now) (numbers_to scenario.now.processes)) }
+{
+    let mut machines = Vec::new(alloc);
+    for before in 0..scenario.processes() {
+        let counted = Counted {
+            machine: Machine::open(alloc, &scenario.opening(Pid::after(before)))?,
+            taken: Arc::try_clone(gate.taken(before == 0))?,
+        };
+        machines.push(boxed(alloc, counted)?)?;
+    }
+    Ok(machines)
+}
+
+/// The trace's text of a run of machines that the gate counts: by the list, or by two workers and windows of 2 ticks.
 fn text_of<R: Threads + Wait + Sync>(
     rt: &R,
     alloc: Global,
@@ -194,24 +232,9 @@ fn text_of<R: Threads + Wait + Sync>(
     start: Start,
 ) -> Result<MemoryOutlet, Fail> {
     let plan = Plan::new(scenario, 2, 2)?;
-    let machines = make_all(
-        alloc,
-        scenario,
-        |opening: Opening| -> Result<Box<dyn Process>, AllocError>
-            ensures { IfOk result (λ made. mind made ≡ mind_of opening) }
-        {
-            match (opening.detector, opening.share, opening.algorithm) {
-                (DetectorNumbers::Timeout(_), None, AlgorithmKind::Idle) => {
-                    let detector = TimeoutDetector::open(alloc, &opening)?;
-                    let stack = Stack::new(opening.own, detector, NoAlgorithm);
-                    let taken = Arc::try_clone(gate.taken(opening.own.number() == 1))?;
-                    Ok(Box::new(alloc, Counted { stack, taken })?)
-                }
-                _ => Err(AllocError),
-            }
-        },
-    )?;
+    let machines = counted_machines(alloc, scenario, gate)?;
     match start {
+        Start::Listed => text_listed(alloc, scenario, machines),
         Start::Trace => text_of_trace(rt, alloc, scenario, machines, &plan, gate),
         Start::Texts => text_written(rt, alloc, scenario, machines, &plan, gate),
     }
@@ -219,17 +242,26 @@ fn text_of<R: Threads + Wait + Sync>(
 
 /// Where the crash is at the horizon, each of the ten calls finds its process as it was before the window, and five of
 /// them wait for the other process. In each window worker 1 makes one call, and worker 2 the other. The text is the one
-/// that the list gives.
+/// that the list gives, also of these machines.
 #[test]
 fn overlaps(rt: HostRuntime) -> Result<(), Fail> {
     let alloc = rt.alloc();
     let file = changed(alloc, ONE_CRASH, "at = 3", "at = 10")?;
     let listed = printed(&rt, alloc, "fdbench list - --print trace", &file)?;
     let scenario = read_scenario(alloc, file.as_bytes())?;
-    for start in [Start::Trace, Start::Texts] {
+    for (start, calls) in [
+        (Start::Listed, (0, 0, 0)),
+        (Start::Trace, (10, 10, 15)),
+        (Start::Texts, (10, 10, 15)),
+    ] {
         let gate = Holding::new(alloc)?;
         let outlet = text_of(&rt, alloc, &scenario, &gate, start)?;
-        same(&rt, &gate.counts(), &(10, 10, 15, (IN_ALL, IN_ALL)));
+        let (count, kept, workers) = calls;
+        same(
+            &rt,
+            &gate.counts(),
+            &(count, kept, workers, (IN_ALL, IN_ALL)),
+        );
         same(&rt, &outlet.bytes(), &listed.as_bytes());
     }
     Ok(())

@@ -1,37 +1,38 @@
 -- What a diagnosis says of a file.
-use Rattle.std.specs.Prelude.{◌≡◌, ℕ, ◌≤◌, List, length, take, false, Option, Some, None}
+use Rattle.std.specs.Prelude.{◌≡◌, ℕ, ◌≤◌, List, length, take, false, Option, Some, None, string_bytes}
+use Rattle.std.specs.Borrow.{Bor}
 use Rattle.toml.specs.Data.{Members}
 use Rattle.scenario_record.specs.Record.{Record}
 use Rattle.scenario.specs.Text.{record_of}
 use Rattle.scenario.specs.Refusals.{Accepts, Refuses, IsDocumentOf, IsFirst, is_memory, table_rules}
 use Rattle.scenario.specs.Groups.{Passes}
+use Rattle.scenario.specs.Parts.{fields_of}
+use Rattle.scenario.specs.Faults.{Breaks}
+use Rattle.scenario.specs.declared.fault.Fault.TheVariants as fault
+use Rattle.scenario.specs.declared.finding.Finding.{Finding}
+use Rattle.scenario.specs.declared.finding.Finding.TheVariants as finding
 use Rattle.scenario.specs.declared.error.ScenarioError.{ScenarioError}
 use Rattle.scenario.specs.declared.error.ScenarioError.TheVariants as error
 use Rattle.diagnosis.specs.Position.{line_after, column_after}
-use Rattle.diagnosis.specs.Place.{table_of}
-use Rattle.diagnosis.specs.Faults.{IsFault}
-use Rattle.diagnosis.specs.declared.place.Place.{Place}
-use Rattle.diagnosis.specs.declared.fault.Fault.{Fault}
-use Rattle.diagnosis.specs.declared.finding.NotToml.{NotToml}
-use Rattle.diagnosis.specs.declared.finding.Finding.{Finding}
-use Rattle.diagnosis.specs.declared.finding.Finding.TheVariants as finding
+use Rattle.diagnosis.specs.Likeness.{IsMeant}
+use Rattle.diagnosis.specs.Text.{Reason, no_toml, found, nothing, told_text}
+use Rattle.diagnosis.specs.declared.told.NotToml.{NotToml}
 use Rattle.diagnosis.specs.declared.answer.Accepted.{Accepted}
 use Rattle.diagnosis.specs.declared.answer.Refused.{Refused}
 use Rattle.diagnosis.specs.declared.answer.Diagnosis.{Diagnosis}
 use Rattle.diagnosis.specs.declared.answer.Diagnosis.TheVariants as diagnosis
 
--- the file has a table at the place, which has the fault
-pub record HasFault (e : ScenarioError) (file : Members) (place : Place) (its : Fault) : Type 0 where
-  pub table : Members
-  pub there : table_of place file ≡ Some table
-  pub is : IsFault e file place table its
+-- a key is meant only by one that isn't its table's, and then it is one of the nearest
+abbrev pub IsMeantIn : Finding → (meant : Option (Bor (List ℕ))) → Type 0
+IsMeantIn (finding.At at (fault.UnknownKey u)) meant = IsMeant (fields_of u.fields.now) u.key.now meant
+IsMeantIn _ meant = meant ≡ None
 
--- what is found in a file's document breaks the rule of the refusal; nothing is found only where it has a table
-abbrev pub Breaks : ScenarioError → Option Members → Finding → Type 0
-Breaks e None (finding.NotToml n) = e ≡ error.NotToml
-Breaks e (Some file) (finding.At place its) = HasFault e file place its
-Breaks e (Some file) finding.Unplaced = Unit {0}
-Breaks e _ _ = ⊥
+-- what is told of a file's document breaks the rule of the refusal; nothing is told only where it has a table
+abbrev pub IsReason : ScenarioError → Option Members → Reason → Type 0
+IsReason e None (no_toml n) = e ≡ error.NotToml
+IsReason e (Some file) (found its meant) = Breaks e file its × IsMeantIn its meant
+IsReason e (Some file) nothing = Unit {0}
+IsReason e _ _ = ⊥
 
 -- what is said of an accepted file
 pub record Describes (s : Record) (a : Accepted) : Type 0 where
@@ -53,17 +54,19 @@ pub record IsPlaced (bytes : List ℕ) (place : ℕ) (n : NotToml) : Type 0 wher
   pub line : n.line ≡ line_after (take place bytes)
   pub column : n.column ≡ column_after (take place bytes)
 
-abbrev pub HasPlace : List ℕ → Finding → Type 0
-HasPlace bytes (finding.NotToml n) = (place : ℕ) × IsPlaced bytes place n
+abbrev pub HasPlace : List ℕ → Reason → Type 0
+HasPlace bytes (no_toml n) = (place : ℕ) × IsPlaced bytes place n
 HasPlace bytes _ = Unit {0}
 
--- the refusal is that of the file's bytes, and the finding breaks its rule
+-- the refusal is that of the file's bytes, and the line tells it with what breaks its rule
 pub record RefusesFor (bytes : List ℕ) (r : Refused) : Type 0 where
   pub refuses : Refuses bytes r.refusal
   pub document : Option Members
   pub is_document : IsDocumentOf bytes document
-  pub breaks : Breaks r.refusal document r.finding
-  pub placed : HasPlace bytes r.finding
+  pub its : Reason
+  pub is_reason : IsReason r.refusal document its
+  pub placed : HasPlace bytes its
+  pub told : string_bytes r.line ≡ told_text r.refusal its
 
 -- what is said of the file is so
 abbrev pub IsDiagnosisOf : List ℕ → Diagnosis → Type 0
@@ -77,11 +80,13 @@ pub record AcceptsTableAs (file : Members) (a : Accepted) : Type 0 where
   pub passes : Passes table_rules (Some file)
   pub describes : Describes (record_of file) a
 
--- the refusal is that of the first rule that applies, and the finding breaks it
+-- the refusal is that of the first rule that applies, and the line tells it with what breaks that
 pub record RefusesTableFor (file : Members) (r : Refused) : Type 0 where
   pub other : is_memory r.refusal ≡ false
   pub first : IsFirst table_rules (Some file) r.refusal
-  pub breaks : Breaks r.refusal (Some file) r.finding
+  pub its : Reason
+  pub is_reason : IsReason r.refusal (Some file) its
+  pub told : string_bytes r.line ≡ told_text r.refusal its
 
 abbrev pub IsTableDiagnosisOf : Members → Diagnosis → Type 0
 IsTableDiagnosisOf file (diagnosis.Accepted a) = AcceptsTableAs file a

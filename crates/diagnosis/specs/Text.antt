@@ -7,25 +7,27 @@ use Rattle.std.specs.Fmt.{signed_decimal}
 use Rattle.printable.specs.Printable.{printable}
 use Rattle.scenario.specs.Names.{name_of}
 use Rattle.scenario.specs.Rules.{is_within, most_in}
-use Rattle.scenario.specs.Table.{same_text}
+use Rattle.scenario.specs.Table.{is_listed, same_text}
+use Rattle.scenario.specs.Parts.{fields_of}
+use Rattle.scenario.specs.Place.{place_text}
+use Rattle.scenario.specs.declared.error.ScenarioError.{ScenarioError}
 use Rattle.scenario.specs.declared.field.Kind.{Kind}
 use Rattle.scenario.specs.declared.field.Kind.TheVariants as kind
-use Rattle.diagnosis.specs.Place.{place_text}
-use Rattle.diagnosis.specs.declared.place.Place.{Place}
-use Rattle.diagnosis.specs.declared.place.Place.TheVariants as place
-use Rattle.diagnosis.specs.declared.fault.UnknownKey.{UnknownKey}
-use Rattle.diagnosis.specs.declared.fault.WrongKind.{WrongKind}
-use Rattle.diagnosis.specs.declared.fault.Outside.{Outside}
-use Rattle.diagnosis.specs.declared.fault.OtherName.{OtherName}
-use Rattle.diagnosis.specs.declared.fault.ProposalsFault.{ProposalsFault}
-use Rattle.diagnosis.specs.declared.fault.ProposalsFault.TheVariants as proposals
-use Rattle.diagnosis.specs.declared.fault.MinAboveMax.{MinAboveMax}
-use Rattle.diagnosis.specs.declared.fault.BelowLookahead.{BelowLookahead}
-use Rattle.diagnosis.specs.declared.fault.Fault.{Fault}
-use Rattle.diagnosis.specs.declared.fault.Fault.TheVariants as fault
-use Rattle.diagnosis.specs.declared.finding.NotToml.{NotToml}
-use Rattle.diagnosis.specs.declared.finding.Finding.{Finding}
-use Rattle.diagnosis.specs.declared.finding.Finding.TheVariants as finding
+use Rattle.scenario.specs.declared.place.Place.{Place}
+use Rattle.scenario.specs.declared.place.Place.TheVariants as place
+use Rattle.scenario.specs.declared.fault.UnknownKey.{UnknownKey}
+use Rattle.scenario.specs.declared.fault.WrongKind.{WrongKind}
+use Rattle.scenario.specs.declared.fault.Outside.{Outside}
+use Rattle.scenario.specs.declared.fault.OtherName.{OtherName}
+use Rattle.scenario.specs.declared.fault.ProposalsFault.{ProposalsFault}
+use Rattle.scenario.specs.declared.fault.ProposalsFault.TheVariants as proposals
+use Rattle.scenario.specs.declared.fault.MinAboveMax.{MinAboveMax}
+use Rattle.scenario.specs.declared.fault.BelowLookahead.{BelowLookahead}
+use Rattle.scenario.specs.declared.fault.Fault.{Fault}
+use Rattle.scenario.specs.declared.fault.Fault.TheVariants as fault
+use Rattle.scenario.specs.declared.finding.Finding.{Finding}
+use Rattle.scenario.specs.declared.finding.Finding.TheVariants as finding
+use Rattle.diagnosis.specs.declared.told.NotToml.{NotToml}
 use Rattle.diagnosis.specs.declared.answer.Refused.{Refused}
 
 -- a text and then another. It groups to the right
@@ -48,11 +50,12 @@ suggestion_text at (Some key) = codes " (did you mean " <> path_text at key.now 
 abbrev pub second_text : List ℕ
 second_text = codes " (version 2 allows it)"
 
-abbrev pub unknown_hint : Place → UnknownKey → List ℕ
-unknown_hint at u = if u.is_of_second then second_text else suggestion_text at u.suggestion
+abbrev pub unknown_hint : Place → UnknownKey → (meant : Option (Bor (List ℕ))) → List ℕ
+unknown_hint at u meant =
+    if is_listed (fields_of u.in_second.now) u.key.now then second_text else suggestion_text at meant
 
-abbrev pub unknown_text : Place → UnknownKey → List ℕ
-unknown_text at u = path_text at (printable (string_bytes u.key)) <> unknown_hint at u
+abbrev pub unknown_text : Place → UnknownKey → (meant : Option (Bor (List ℕ))) → List ℕ
+unknown_text at u meant = path_text at (printable u.key.now) <> unknown_hint at u meant
 
 abbrev pub kind_words : Kind → List ℕ
 kind_words kind.Number = codes "an integer"
@@ -92,7 +95,7 @@ abbrev pub none_of_text : List ℕ → List (Bor (List ℕ)) → List ℕ
 none_of_text value names = codes ": \"" <> value <> codes "\" is none of" <> names_text names
 
 abbrev pub other_name_text : Place → OtherName → List ℕ
-other_name_text at o = path_text at o.key.now <> none_of_text (printable (string_bytes o.value)) o.allowed.now
+other_name_text at o = path_text at o.key.now <> none_of_text (printable o.value.now) o.allowed.now
 
 abbrev pub proposals_text : ProposalsFault → List ℕ
 proposals_text proposals.Unasked = codes "proposals: there are some, and no algorithm"
@@ -117,47 +120,57 @@ not_before_text at begin until =
 
 abbrev pub below_text : BelowLookahead → List ℕ
 below_text b =
-    codes "link " <> decimal b.from <> codes " to " <> decimal b.to <> codes ": min " <> signed_decimal b.min
-    <> codes " is below the lookahead " <> signed_decimal b.lookahead
+    codes "link " <> decimal b.from <> codes " to " <> decimal b.to <> codes ": min " <> decimal b.min
+    <> codes " is below the lookahead " <> decimal b.lookahead
 
-abbrev pub twice_pair_text : Place → ℤ → ℤ → ℕ → List ℕ
-twice_pair_text at from to earlier =
-    place_text at <> codes ": link " <> signed_decimal from <> codes " to " <> signed_decimal to
+abbrev pub twice_pair_text : (from to : ℤ) → (number earlier : ℕ) → List ℕ
+twice_pair_text from to number earlier =
+    codes "links[" <> decimal number <> codes "]: link " <> signed_decimal from <> codes " to " <> signed_decimal to
     <> codes " has a table already, links[" <> decimal earlier <> codes "]"
 
-abbrev pub twice_process_text : Place → ℤ → ℕ → List ℕ
-twice_process_text at process earlier =
-    place_text at <> codes ": process " <> signed_decimal process <> codes " has a table already, crash["
-    <> decimal earlier <> codes "]"
+abbrev pub twice_process_text : (process : ℤ) → (number earlier : ℕ) → List ℕ
+twice_process_text process number earlier =
+    codes "crash[" <> decimal number <> codes "]: process " <> signed_decimal process
+    <> codes " has a table already, crash[" <> decimal earlier <> codes "]"
 
 -- ---- all
 
 -- what is wrong with the table at a place
-abbrev pub fault_text : Place → Fault → List ℕ
-fault_text at (fault.UnknownKey u) = unknown_text at u
-fault_text at (fault.MissingKey key) = path_text at key.now
-fault_text at (fault.WrongKind w) = wrong_kind_text at w
-fault_text at (fault.Outside o) = outside_text at o
-fault_text at (fault.OtherName o) = other_name_text at o
-fault_text at (fault.Proposals p) = proposals_text p
-fault_text at (fault.MinAboveMax a) = min_above_max_text at a
-fault_text at (fault.ToItself process) = to_itself_text at process
-fault_text at (fault.NotBefore n) = not_before_text at n.begin n.until
-fault_text at (fault.BelowLookahead b) = below_text b
-fault_text at (fault.TwicePair from to earlier) = twice_pair_text at from to earlier
-fault_text at (fault.TwiceProcess process earlier) = twice_process_text at process earlier
+abbrev pub fault_text : Place → Fault → (meant : Option (Bor (List ℕ))) → List ℕ
+fault_text at (fault.UnknownKey u) meant = unknown_text at u meant
+fault_text at (fault.MissingKey key) meant = path_text at key.now
+fault_text at (fault.WrongKind w) meant = wrong_kind_text at w
+fault_text at (fault.Outside o) meant = outside_text at o
+fault_text at (fault.OtherName o) meant = other_name_text at o
+fault_text at (fault.MinAboveMax a) meant = min_above_max_text at a
+fault_text at (fault.ToItself process) meant = to_itself_text at process
+fault_text at (fault.NotBefore n) meant = not_before_text at n.begin n.until
+
+-- what is wrong with a file
+abbrev pub finding_text : Finding → (meant : Option (Bor (List ℕ))) → List ℕ
+finding_text (finding.At at its) meant = fault_text at its meant
+finding_text (finding.Proposals p) meant = proposals_text p
+finding_text (finding.Below b) meant = below_text b
+finding_text (finding.TwicePair from to number earlier) meant = twice_pair_text from to number earlier
+finding_text (finding.TwiceProcess process number earlier) meant = twice_process_text process number earlier
 
 abbrev pub not_toml_text : NotToml → List ℕ
 not_toml_text n =
-    codes "line " <> decimal n.line <> codes ", column " <> decimal n.column <> codes ": "
-    <> printable (string_bytes n.message)
+    codes "line " <> decimal n.line <> codes ", column " <> decimal n.column <> codes ": " <> printable n.message.now
 
--- nothing, or what is wrong, and where
-abbrev pub finding_text : Finding → List ℕ
-finding_text (finding.NotToml n) = codes ": " <> not_toml_text n
-finding_text (finding.At at its) = codes ": " <> fault_text at its
-finding_text finding.Unplaced = []
+-- why a file is refused: its bytes are no TOML, or something of it breaks the rule, with the key that is perhaps meant.
+-- No file that is TOML is known in which nothing is found
+pub data Reason : Type 0 where
+  no_toml : NotToml → Reason
+  found : Finding → (meant : Option (Bor (List ℕ))) → Reason
+  nothing : Reason
 
 -- as `LinkNumbers: links[2500]: min 21 is above max 20`
+abbrev pub told_text : ScenarioError → Reason → List ℕ
+told_text refusal (no_toml n) = name_of refusal <> codes ": " <> not_toml_text n
+told_text refusal (found its meant) = name_of refusal <> codes ": " <> finding_text its meant
+told_text refusal nothing = name_of refusal
+
+-- the line with it
 abbrev pub refused_text : Refused → List ℕ
-refused_text r = name_of r.refusal <> finding_text r.finding
+refused_text r = string_bytes r.line

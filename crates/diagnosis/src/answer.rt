@@ -1,16 +1,17 @@
 //! Diagnoses of scenarios' files.
-ghost use Rattle.std.specs.Prelude.{◌≡◌, IfOk, Some, None};
+ghost use Rattle.std.specs.Prelude.{◌≡◌, IfOk, IfSome, Some, None};
 ghost use Rattle.toml.specs.View.{table_view};
 ghost use Rattle.toml.specs.Errors.{IsWithin, span_start, IsMemory as IsMemoryError};
 ghost use Rattle.scenario.specs.Refusals.{IsDocumentOf, table_rules, is_memory as is_for_memory};
 ghost use Rattle.scenario.specs.Groups.{StopsFirst};
-ghost use Rattle.diagnosis.specs.Diagnosis.{Breaks, IsDiagnosisOf, IsPlaced, IsTableDiagnosisOf, RefusesFor, RefusesTableFor};
+ghost use Rattle.scenario.specs.Faults.{Breaks};
+ghost use Rattle.diagnosis.specs.Diagnosis.{IsDiagnosisOf, IsPlaced, IsTableDiagnosisOf, RefusesFor, RefusesTableFor};
 
 use crate::estimate::{Estimate, estimate_of};
-use crate::finding::{Finding, NotToml};
+use crate::keys::meant_in;
 use crate::position::position_after;
-use crate::search::find;
-use scenario::{ScenarioError, read_table, tables_of};
+use crate::told::{NotToml, Told};
+use scenario::{Finding, ScenarioError, read_with_place};
 use std::alloc::{AllocError, Global};
 use toml::Table;
 
@@ -32,8 +33,8 @@ pub struct Accepted {
 pub struct Refused {
     /// The refusal.
     pub refusal: ScenarioError,
-    /// What is wrong, and where.
-    pub finding: Finding,
+    /// The line that tells it, with what is wrong and where.
+    pub line: String,
 }
 
 /// What is said of a scenario's file.
@@ -43,17 +44,6 @@ pub enum Diagnosis {
     Accepted(Accepted),
     /// It is refused.
     Refused(Refused),
-}
-
-/// What is wrong with a table's file, that is refused.
-fn finding_of(alloc: Global, refusal: &ScenarioError, table: &Table) -> Result<Finding, AllocError>
-    ensures { IfOk result (Breaks refusal.now (Some (table_view table.now))) }
-{
-    let tables = tables_of(alloc, table)?;
-    match find(alloc, refusal, &tables)? {
-        Some(finding) => Ok(finding),
-        None => Ok(Finding::Unplaced),
-    }
 }
 
 /// Whether a refusal is for want of memory.
@@ -66,20 +56,29 @@ fn is_memory(refusal: &ScenarioError) -> bool
     }
 }
 
-/// Why a file's table is refused, with this refusal.
+/// Why a file's table is refused.
 fn refused_table(
     alloc: Global,
     table: &Table,
     refusal: ScenarioError,
+    finding: &Option<Finding>,
 ) -> Result<Refused, AllocError>
-    requires { StopsFirst table_rules (Some (table_view table.now)) refusal }
+    requires first { StopsFirst table_rules (Some (table_view table.now)) refusal }
+    requires finds { IfSome finding.now (Breaks refusal (table_view table.now)) }
     ensures { IfOk result (RefusesTableFor (table_view table.now)) }
 {
     if is_memory(&refusal) {
         return Err(AllocError);
     }
-    let finding = finding_of(alloc, &refusal, table)?;
-    Ok(Refused { refusal, finding })
+    let name = refusal.name();
+    let Some(finding) = finding else {
+        let line = String::from_str(alloc, name)?;
+        return Ok(Refused { refusal, line });
+    };
+    let meant = meant_in(alloc, finding)?;
+    let told = Told { finding, meant };
+    let line = format!(in alloc; "{name}: {told}")?;
+    Ok(Refused { refusal, line })
 }
 
 /// Says of the table of a scenario's file what [`diagnose`] says of the file.
@@ -90,34 +89,37 @@ fn refused_table(
 pub fn diagnose_table(alloc: Global, table: &Table) -> Result<Diagnosis, AllocError>
     ensures { IfOk result (IsTableDiagnosisOf (table_view table.now)) }
 {
-    match read_table(alloc, table) {
+    match read_with_place(alloc, table) {
         Ok(scenario) => Ok(Diagnosis::Accepted(Accepted {
             processes: scenario.processes(),
             horizon: scenario.horizon(),
             limit: scenario.limit(),
             estimate: estimate_of(&scenario),
         })),
-        Err(refusal) => Ok(Diagnosis::Refused(refused_table(alloc, table, refusal)?)),
+        Err(scenario::Refused { error, finding }) => {
+            let refused = refused_table(alloc, table, error, &finding)?;
+            Ok(Diagnosis::Refused(refused))
+        }
     }
 }
 
 /// Where and why bytes are no TOML.
-fn not_toml(alloc: Global, bytes: &[u8], error: &toml::de::Error) -> Result<NotToml, AllocError>
+fn not_toml<'a>(bytes: &[u8], error: &'a toml::de::Error) -> NotToml<'a>
     requires other { ¬ IsMemoryError error.now }
     requires within { IsWithin bytes.now error.now }
-    ensures { IfOk result (IsPlaced bytes.now (span_start error.now)) }
+    ensures { IsPlaced bytes.now (span_start error.now) result }
 {
     let place = match error.span() {
         Some(span) => span.start,
         None => 0,
     };
     let (line, column) = position_after(&bytes[..place]);
-    let message = String::from_str(alloc, error.message())?;
-    Ok(NotToml {
+    let message = error.message();
+    NotToml {
         line,
         column,
         message,
-    })
+    }
 }
 
 /// Why bytes that are no TOML are refused.
@@ -131,10 +133,11 @@ fn refused_bytes(
     requires within { IsWithin bytes.now error.now }
     ensures { IfOk result (RefusesFor bytes.now) }
 {
-    let fault = not_toml(alloc, bytes, error)?;
+    let fault = not_toml(bytes, error);
+    let line = format!(in alloc; "NotToml: {fault}")?;
     Ok(Refused {
         refusal: ScenarioError::NotToml,
-        finding: Finding::NotToml(fault),
+        line,
     })
 }
 

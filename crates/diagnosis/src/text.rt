@@ -2,37 +2,17 @@
 ghost use Rattle.std.specs.Prelude.{◌≡◌, Some};
 ghost use Rattle.std.specs.Fmt.{WritesOnOk};
 ghost use Rattle.printable.specs.Printable.{printable};
-ghost use Rattle.diagnosis.specs.Text.{path_text, suggestion_text, unknown_hint, unknown_text, kind_words, found_text, unit_text, wrong_kind_text, is_of_second, outside_hint, outside_text, names_text, none_of_text, other_name_text, proposals_text, min_above_max_text, to_itself_text, not_before_text, below_text, twice_pair_text, twice_process_text, fault_text, not_toml_text, refused_text};
+ghost use Rattle.diagnosis.specs.Text.{path_text, suggestion_text, unknown_hint, unknown_text, kind_words, found_text, unit_text, wrong_kind_text, is_of_second, outside_hint, outside_text, names_text, none_of_text, other_name_text, proposals_text, min_above_max_text, not_before_text, below_text, twice_pair_text, twice_process_text, fault_text, finding_text, not_toml_text, refused_text};
 
 use crate::answer::Refused;
-use crate::fault::{
-    BelowLookahead, Fault, MinAboveMax, OtherName, Outside, ProposalsFault, UnknownKey, WrongKind,
-};
-use crate::finding::{Finding, NotToml};
-use crate::place::Place;
-use crate::ranges::lies_within;
+use crate::told::{NotToml, Told};
 use printable::Printable;
 use process_api::MOST_PROCESSES;
-use scenario::Kind;
+use scenario::{
+    BelowLookahead, Fault, Finding, Kind, MinAboveMax, OtherName, Outside, Place, ProposalsFault,
+    UnknownKey, WrongKind, is_listed_key, lies_within,
+};
 use std::fmt;
-
-impl fmt::Display for Place {
-    ghost use Rattle.diagnosis.specs.Place.{place_text};
-
-    ghost output = { λ p. Some (place_text p) };
-
-    /// Writes the table's path: nothing for the top table, `detector`, or `crash[1]`.
-    fn fmt<W: fmt::Write>(&self, f: &mut fmt::Formatter<W>) -> fmt::Result {
-        match self {
-            Place::Top => Ok(()),
-            Place::Section(section) => f.write_str(section.key()),
-            Place::Element { array, number } => {
-                let key = array.key();
-                write!(f, "{key}[{number}]")
-            }
-        }
-    }
-}
 
 /// Writes the path of a key of a table, as a study's settings name it: `horizon`, `detector.timeout` or `crash[1].at`.
 fn write_path<W: fmt::Write>(f: &mut fmt::Formatter<W>, place: Place, key: &str) -> fmt::Result
@@ -82,13 +62,14 @@ fn write_unknown_hint<W: fmt::Write>(
     f: &mut fmt::Formatter<W>,
     place: Place,
     unknown: &UnknownKey,
+    meant: Option<&str>,
 ) -> fmt::Result
-    ensures { WritesOnOk W.Write.write_str_gives f.old result (unknown_hint place unknown.now) f.new }
+    ensures { WritesOnOk W.Write.write_str_gives f.old result (unknown_hint place unknown.now meant.entry) f.new }
 {
-    if unknown.is_of_second {
+    if is_listed_key(unknown.in_second, unknown.key) {
         f.write_str(" (version 2 allows it)")
     } else {
-        write_suggestion(f, place, unknown.suggestion)
+        write_suggestion(f, place, meant)
     }
 }
 
@@ -97,11 +78,12 @@ fn write_unknown<W: fmt::Write>(
     f: &mut fmt::Formatter<W>,
     place: Place,
     unknown: &UnknownKey,
+    meant: Option<&str>,
 ) -> fmt::Result
-    ensures { WritesOnOk W.Write.write_str_gives f.old result (unknown_text place unknown.now) f.new }
+    ensures { WritesOnOk W.Write.write_str_gives f.old result (unknown_text place unknown.now meant.entry) f.new }
 {
-    write_quoted_path(f, place, unknown.key.as_str())?;
-    write_unknown_hint(f, place, unknown)
+    write_quoted_path(f, place, unknown.key)?;
+    write_unknown_hint(f, place, unknown, meant)
 }
 
 /// The words for a kind.
@@ -218,7 +200,7 @@ fn write_other_name<W: fmt::Write>(
     ensures { WritesOnOk W.Write.write_str_gives f.old result (other_name_text place other.now) f.new }
 {
     write_path(f, place, other.key)?;
-    write_none_of(f, other.value.as_str(), other.allowed)
+    write_none_of(f, other.value, other.allowed)
 }
 
 /// Writes how proposals don't fit.
@@ -278,81 +260,106 @@ fn write_below<W: fmt::Write>(f: &mut fmt::Formatter<W>, below: &BelowLookahead)
 /// Writes that an earlier table of `links` is of the pair.
 fn write_twice_pair<W: fmt::Write>(
     f: &mut fmt::Formatter<W>,
-    place: Place,
     from: i64,
     to: i64,
+    number: u64,
     earlier: u64,
 ) -> fmt::Result
-    ensures { WritesOnOk W.Write.write_str_gives f.old result (twice_pair_text place from to earlier) f.new }
+    ensures { WritesOnOk W.Write.write_str_gives f.old result (twice_pair_text from to number earlier) f.new }
 {
     write!(
         f,
-        "{place}: link {from} to {to} has a table already, links[{earlier}]"
+        "links[{number}]: link {from} to {to} has a table already, links[{earlier}]"
     )
 }
 
 /// Writes that an earlier table of `crash` is of the process.
 fn write_twice_process<W: fmt::Write>(
     f: &mut fmt::Formatter<W>,
-    place: Place,
     process: i64,
+    number: u64,
     earlier: u64,
 ) -> fmt::Result
-    ensures { WritesOnOk W.Write.write_str_gives f.old result (twice_process_text place process earlier) f.new }
+    ensures { WritesOnOk W.Write.write_str_gives f.old result (twice_process_text process number earlier) f.new }
 {
     write!(
         f,
-        "{place}: process {process} has a table already, crash[{earlier}]"
+        "crash[{number}]: process {process} has a table already, crash[{earlier}]"
     )
 }
 
 /// Writes what is wrong with the table at a place.
-fn write_fault<W: fmt::Write>(f: &mut fmt::Formatter<W>, place: Place, fault: &Fault) -> fmt::Result
-    ensures { WritesOnOk W.Write.write_str_gives f.old result (fault_text place fault.now) f.new }
+fn write_fault<W: fmt::Write>(
+    f: &mut fmt::Formatter<W>,
+    place: Place,
+    fault: &Fault,
+    meant: Option<&str>,
+) -> fmt::Result
+    ensures { WritesOnOk W.Write.write_str_gives f.old result (fault_text place fault.now meant.entry) f.new }
 {
     match fault {
-        Fault::UnknownKey(unknown) => write_unknown(f, place, unknown),
+        Fault::UnknownKey(unknown) => write_unknown(f, place, unknown, meant),
         Fault::MissingKey { key } => write_path(f, place, key),
         Fault::WrongKind(wrong) => write_wrong_kind(f, place, wrong),
         Fault::Outside(outside) => write_outside(f, place, outside),
         Fault::OtherName(other) => write_other_name(f, place, other),
-        Fault::Proposals(fault) => write_proposals(f, fault),
         Fault::MinAboveMax(above) => write_min_above_max(f, place, above),
         Fault::ToItself { process } => write!(f, "{place}: from and to are both {process}"),
         Fault::NotBefore(ends) => write_not_before(f, place, ends.begin, ends.until),
-        Fault::BelowLookahead(below) => write_below(f, below),
-        Fault::TwicePair { from, to, earlier } => write_twice_pair(f, place, *from, *to, *earlier),
-        Fault::TwiceProcess { process, earlier } => {
-            write_twice_process(f, place, *process, *earlier)
-        }
     }
 }
 
-/// Writes where and why bytes are no TOML.
-fn write_not_toml<W: fmt::Write>(f: &mut fmt::Formatter<W>, fault: &NotToml) -> fmt::Result
-    ensures { WritesOnOk W.Write.write_str_gives f.old result (not_toml_text fault.now) f.new }
+/// Writes what is wrong with a file.
+fn write_finding<W: fmt::Write>(
+    f: &mut fmt::Formatter<W>,
+    finding: &Finding,
+    meant: Option<&str>,
+) -> fmt::Result
+    ensures { WritesOnOk W.Write.write_str_gives f.old result (finding_text finding.now meant.entry) f.new }
 {
-    let (line, column) = (fault.line, fault.column);
-    let message = Printable(fault.message.as_str());
-    write!(f, "line {line}, column {column}: {message}")
+    match finding {
+        Finding::At { place, fault } => write_fault(f, *place, fault, meant),
+        Finding::Proposals(fault) => write_proposals(f, fault),
+        Finding::Below(below) => write_below(f, below),
+        Finding::TwicePair {
+            from,
+            to,
+            number,
+            earlier,
+        } => write_twice_pair(f, *from, *to, *number, *earlier),
+        Finding::TwiceProcess {
+            process,
+            number,
+            earlier,
+        } => write_twice_process(f, *process, *number, *earlier),
+    }
+}
+
+impl<'a> fmt::Display for NotToml<'a> {
+    ghost output = { λ n. Some (not_toml_text n) };
+
+    /// Writes where and why bytes are no TOML, as `line 2, column 3: invalid UTF-8`.
+    fn fmt<W: fmt::Write>(&self, f: &mut fmt::Formatter<W>) -> fmt::Result {
+        let (line, column) = (self.line, self.column);
+        let message = Printable(self.message);
+        write!(f, "line {line}, column {column}: {message}")
+    }
+}
+
+impl<'a> fmt::Display for Told<'a> {
+    ghost output = { λ t. Some (finding_text t.finding.now t.meant) };
+
+    /// Writes what is wrong, and where, as `links[2500]: min 21 is above max 20`.
+    fn fmt<W: fmt::Write>(&self, f: &mut fmt::Formatter<W>) -> fmt::Result {
+        write_finding(f, self.finding, self.meant)
+    }
 }
 
 impl fmt::Display for Refused {
     ghost output = { λ r. Some (refused_text r) };
 
-    /// Writes the refusal's name, and what is wrong and where, as `LinkNumbers: links[2500]: min 21 is above max 20`.
+    /// Writes the refusal's line, as `LinkNumbers: links[2500]: min 21 is above max 20`.
     fn fmt<W: fmt::Write>(&self, f: &mut fmt::Formatter<W>) -> fmt::Result {
-        f.write_str(self.refusal.name())?;
-        match &self.finding {
-            Finding::NotToml(fault) => {
-                f.write_str(": ")?;
-                write_not_toml(f, fault)
-            }
-            Finding::At { place, fault } => {
-                f.write_str(": ")?;
-                write_fault(f, *place, fault)
-            }
-            Finding::Unplaced => Ok(()),
-        }
+        f.write_str(self.line.as_str())
     }
 }

@@ -4,7 +4,7 @@ use Rattle.std.specs.Prelude.{take}
 use Rattle.process_api.specs.EntryRecord.{EntryRecord}
 use Rattle.process_api.specs.Mind.{Mind}
 use Rattle.steps.specs.Posting.{Posted}
-use Rattle.event_list.specs.Recorder.{WereTaken, IsRecorded}
+use Rattle.event_list.specs.Following.{WereTaken, IsRecorded}
 use Rattle.trace_laws.specs.Setting.{Setting}
 use Rattle.event_list.specs.Standing.{Stands}
 use Rattle.trace_laws.specs.Step.{Events, Process}
@@ -32,6 +32,6 @@ pub cut_short : (S : Setting Mind) (processes : List (Process Mind)) (pending : 
 cut_short S processes pending old now told limit is whole whole_is =
     subst (WereTaken old now) (reached_front S is.stands.world is.trace is.stands.reached whole whole_is ∙ ap (λ n. take n whole) is.long) is.taken
 
--- what a recorder that keeps entries holds, where it held none
+-- what a follower that keeps entries holds, where it held none
 pub all_kept : (S : Setting Mind) (limit : ℕ) (old new : List EntryRecord) (is : IsRecorded S limit (λ es. old ≡ es) (λ es. new ≡ es)) → old ≡ [] → is.trace ≡ new
 all_kept S limit old new is none = sym (is.taken [] none)

@@ -10,8 +10,8 @@
 //! only where the whole trace has more entries than the scenario's limit. [`law_only_history`] says what a trace is
 //! without any list: it is the only closed history of its scenario, in which each entry but the starts has one cause,
 //! and each event that is added below the horizon is taken once. [`run_list`] says these two of the trace that it
-//! gives. [`run_list_into`] is the same run, which holds no trace: it hands each entry to a [`Recorder`] as it comes
-//! (`specs/Recorder.antt`). [`run_list_heard`] is the same run too: it also tells a [`Listener`] of each letter between
+//! gives. [`run_list_into`] is the same run, which holds no trace: it tells a follower of each entry as it comes
+//! (`specs/Following.antt`). [`run_list_heard`] is the same run too: it also tells a [`Listener`] of each letter between
 //! different processes as it is put on its link (`specs/Posting.antt`), lost ones and late ones too, of which no trace
 //! tells.
 //!
@@ -25,11 +25,9 @@
 
 mod laws;
 mod list;
-mod recorder;
 
 pub use laws::law_only_history;
 pub use list::{run_list, run_list_heard, run_list_into};
 pub use pending_events::Pending;
-pub use recorder::Recorder;
 pub use run_error::RunError;
-pub use steps::{Joins, Listener, Nobody, Seat, kind_of_letter};
+pub use steps::{Event, Joins, Listener, Nobody, Seat, kind_of_letter};

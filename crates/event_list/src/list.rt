@@ -8,7 +8,7 @@ ghost use Rattle.scenario_record.specs.Record.{opening_mind};
 ghost use Rattle.trace_laws.specs.Effects.{HasCauses, TakesOnce};
 ghost use Rattle.trace_laws.specs.Joins.{HaveJoined};
 ghost use Rattle.steps.specs.Posting.{posted_in, WereHeard};
-ghost use Rattle.event_list.specs.Recorder.{WereTaken, IsRecorded, IsCutShort};
+ghost use Rattle.event_list.specs.Following.{WereTaken, IsRecorded, IsCutShort};
 ghost use Rattle.trace_laws.specs.ScenarioSetting.{setting_of};
 ghost use Rattle.steps.specs.Seat.{process_of, IsMindIn, IsSeated};
 ghost use Rattle.trace_laws.specs.Setting.{IsProcess};
@@ -16,13 +16,13 @@ ghost use Rattle.event_list.specs.Standing.{Stands, IsStepped};
 ghost use Rattle.trace_laws.specs.Step.{Process, step};
 ghost use Rattle.trace_laws.specs.World.{starts, opened, IsTrace};
 
-use crate::recorder::Recorder;
+use followers::Follower;
 use pending_events::Pending;
-use process_api::{Action, Entry, Key, Pid, Process, StepInput, Trace};
+use process_api::{Action, Entry, Pid, Process, Trace};
 use run_error::RunError;
 use scenario_record::Scenario;
 use std::alloc::{AllocError, Global};
-use steps::{Listener, Nobody, Seat};
+use steps::{Event, Listener, Nobody, Seat};
 use streams::Streams;
 
 /// A run of the list: who sits where, what is pending, and room for what one machine answers.
@@ -56,16 +56,9 @@ fn starts_of(alloc: Global, processes: u16) -> Result<Pending, AllocError>
     requires { processes ≤ most_processes }
     ensures { IfOk result (λ m. m ≡ starts processes) }
 {
-    let mut pending = Pending::with_ring(alloc)?;
+    let mut pending = Pending::new(alloc)?;
     for before in 0..processes {
-        let p = Pid::after(before);
-        let key = Key {
-            tick: 0,
-            receiver: p,
-            sender: p,
-            number: 0,
-        };
-        pending.join(key, StepInput::Start)?;
+        pending.join(Event::start(Pid::after(before)))?;
     }
     Ok(pending)
 }
@@ -98,42 +91,42 @@ impl<M: Process> EventList<M> {
     fn take<L: Listener>(
         &mut self,
         streams: &Streams<'_>,
-        key: Key,
-        input: &StepInput,
+        event: Event,
         listener: &mut L,
     ) -> Result<Entry, AllocError>
         requires seated { (most : ℕ)
             × All (IsSeated M.mind streams.now most) self.old.seats.items × (most + most_step_actions < 2 ^ 64) }
         requires count { vec_len self.old.seats ≡ streams.now.processes }
-        requires receiver { IsProcess (setting_of streams.now) key.receiver }
+        requires receiver { IsProcess (setting_of streams.now) event.0.receiver }
         requires own { (before : Process Mind)
-            → slice_get (map (process_of M.mind) self.old.seats.items) (key.receiver - 1) ≡ Some before
-            → before.mind.lower.place.own ≡ key.receiver }
+            → slice_get (map (process_of M.mind) self.old.seats.items) (event.0.receiver - 1) ≡ Some before
+            → before.mind.lower.place.own ≡ event.0.receiver }
 
         ensures count { OnOk result (vec_len self.new.seats ≡ vec_len self.old.seats) }
         ensures seated { OnOk result ((most : ℕ)
             → All (IsSeated M.mind streams.now most) self.old.seats.items
             → All (IsSeated M.mind streams.now (most + most_step_actions)) self.new.seats.items) }
         ensures stepped { IfOk result (λ e. (before : Process Mind)
-            → slice_get (map (process_of M.mind) self.old.seats.items) (key.receiver - 1) ≡ Some before
+            → slice_get (map (process_of M.mind) self.old.seats.items) (event.0.receiver - 1) ≡ Some before
             → IsStepped (map (process_of M.mind) self.old.seats.items) (map (process_of M.mind) self.new.seats.items)
-            self.old.pending self.new.pending key e (step (setting_of streams.now) before key input.now)) }
+            self.old.pending self.new.pending event.0 e (step (setting_of streams.now) before event.0 event.1)) }
         ensures heard { OnOk result ((before : Process Mind)
-            → slice_get (map (process_of M.mind) self.old.seats.items) (key.receiver - 1) ≡ Some before
-            → HaveJoined L.heard listener.old listener.new (posted_in (setting_of streams.now) before key input.now)) }
+            → slice_get (map (process_of M.mind) self.old.seats.items) (event.0.receiver - 1) ≡ Some before
+            → HaveJoined L.heard listener.old listener.new
+            (posted_in (setting_of streams.now) before event.0 event.1)) }
     {
-        let place = usize::from(key.receiver.number()) - 1;
+        let place = usize::from(event.key().receiver.number()) - 1;
         let seat = &mut self.seats[place];
         let pending = &mut self.pending;
-        let entry = seat.turn(streams, key, input, &mut self.actions, pending, listener)?;
+        let entry = seat.turn(streams, event, &mut self.actions, pending, listener)?;
         Ok(entry)
     }
 
     /// Takes the least pending event again and again, until none is left, and hands on the entries and the letters.
-    fn run<R: Recorder, L: Listener>(
+    fn run<F: Follower, L: Listener>(
         &mut self,
         scenario: &Scenario,
-        recorder: &mut R,
+        follower: &mut F,
         listener: &mut L,
     ) -> Result<(), RunError>
         requires seated { All (IsSeated M.mind scenario.now 0) self.old.seats.items }
@@ -142,24 +135,23 @@ impl<M: Process> EventList<M> {
             (map (process_of M.mind) self.old.seats.items) self.old.pending [] [] }
         ensures trace { IfOk result (λ _. (t : List EntryRecord)
             × IsTrace (setting_of scenario.now) t × (length t ≤ scenario.now.limit)
-            × WereTaken (R.recorded recorder.old recorder.old) (R.recorded recorder.old recorder.new) t) }
+            × WereTaken (F.followed follower.old follower.old) (F.followed follower.old follower.new) t) }
         ensures heard { OnOk result (WereHeard (setting_of scenario.now) L.heard listener.old listener.new) }
         ensures errors { IfErr result (λ e. (e ≡ RunError.Limit) ⊎ (e ≡ RunError.Memory)) }
         ensures limit { IsErrOf result RunError.Limit → (whole : List EntryRecord)
             → IsTrace (setting_of scenario.now) whole → scenario.now.limit < length whole }
         ensures front { IsErrOf result RunError.Limit → IsCutShort (setting_of scenario.now) scenario.now.limit
-            (R.recorded recorder.old recorder.old) (R.recorded recorder.old recorder.new) }
+            (F.followed follower.old follower.old) (F.followed follower.old follower.new) }
     {
         let streams = Streams::new(scenario);
         let limit = scenario.limit();
         let mut taken = 0u64;
-        while let Some((key, input)) = self.pending.take_least()? {
+        while let Some(event) = self.pending.take_least()? {
             if taken >= limit {
                 return Err(RunError::Limit);
             }
-            let entry = self.take(&streams, key, &input, listener)?;
-            drop(input);
-            recorder.record(entry)?;
+            let entry = self.take(&streams, event, listener)?;
+            follower.follow(&entry)?;
             taken += 1;
         }
         Ok(())
@@ -167,54 +159,54 @@ impl<M: Process> EventList<M> {
 }
 
 /// Runs machines by one event list.
-fn run_machines<M: Process, R: Recorder, L: Listener>(
+fn run_machines<M: Process, F: Follower, L: Listener>(
     alloc: Global,
     scenario: &Scenario,
     machines: Vec<M>,
-    recorder: &mut R,
+    follower: &mut F,
     listener: &mut L,
 ) -> Result<(), RunError>
     requires { map M.mind machines.items ≡ map (opening_mind scenario.now) (numbers_to scenario.now.processes) }
     ensures recorded { OnOk result (IsRecorded (setting_of scenario.now) scenario.now.limit
-        (R.recorded recorder.old recorder.old) (R.recorded recorder.old recorder.new)) }
+        (F.followed follower.old follower.old) (F.followed follower.old follower.new)) }
     ensures heard { OnOk result (WereHeard (setting_of scenario.now) L.heard listener.old listener.new) }
     ensures errors { IfErr result (λ e. (e ≡ RunError.Limit) ⊎ (e ≡ RunError.Memory)) }
     ensures limit { IsErrOf result RunError.Limit → (whole : List EntryRecord)
         → IsTrace (setting_of scenario.now) whole → scenario.now.limit < length whole }
     ensures front { IsErrOf result RunError.Limit → IsCutShort (setting_of scenario.now) scenario.now.limit
-        (R.recorded recorder.old recorder.old) (R.recorded recorder.old recorder.new) }
+        (F.followed follower.old follower.old) (F.followed follower.old follower.new) }
 {
     let _horizon = scenario.horizon();
     let mut list = EventList::open(alloc, scenario, machines)?;
-    list.run(scenario, recorder, listener)
+    list.run(scenario, follower, listener)
 }
 
-/// Runs machines by one event list, up to the horizon, and hands each entry to the recorder as it comes: nothing of the
+/// Runs machines by one event list, up to the horizon, and tells the follower of each entry as it comes: nothing of the
 /// trace is held. There is one machine for each process, of process 1 first, and each opens as the scenario says. What
-/// the recorder took is, after what it had, the scenario's trace, in its order; keys rise, each entry but the starts
+/// the follower was told is, after what it had, the scenario's trace, in its order; keys rise, each entry but the starts
 /// has one cause, an earlier entry, and each event that a step adds below the horizon is one entry.
 ///
 /// # Errors
 ///
-/// `Limit` where the whole trace has more entries than the scenario's limit: the recorder took the first so many of
-/// them. `Memory` where memory was refused; the recorder is good for nothing then. The machines are gone.
-pub fn run_list_into<R: Recorder>(
+/// `Limit` where the whole trace has more entries than the scenario's limit: the follower was told the first so many of
+/// them. `Memory` where memory was refused; the follower is good for nothing then. The machines are gone.
+pub fn run_list_into<M: Process, F: Follower>(
     alloc: Global,
     scenario: &Scenario,
-    machines: Vec<Box<dyn Process>>,
-    recorder: &mut R,
+    machines: Vec<M>,
+    follower: &mut F,
 ) -> Result<(), RunError>
-    requires { map mind machines.items ≡ map (opening_mind scenario.now) (numbers_to scenario.now.processes) }
+    requires { map M.mind machines.items ≡ map (opening_mind scenario.now) (numbers_to scenario.now.processes) }
 
     ensures recorded { OnOk result (IsRecorded (setting_of scenario.now) scenario.now.limit
-        (R.recorded recorder.old recorder.old) (R.recorded recorder.old recorder.new)) }
+        (F.followed follower.old follower.old) (F.followed follower.old follower.new)) }
     ensures errors { IfErr result (λ e. (e ≡ RunError.Limit) ⊎ (e ≡ RunError.Memory)) }
     ensures limit { IsErrOf result RunError.Limit → (whole : List EntryRecord)
         → IsTrace (setting_of scenario.now) whole → scenario.now.limit < length whole }
     ensures front { IsErrOf result RunError.Limit → IsCutShort (setting_of scenario.now) scenario.now.limit
-        (R.recorded recorder.old recorder.old) (R.recorded recorder.old recorder.new) }
+        (F.followed follower.old follower.old) (F.followed follower.old follower.new) }
 {
-    run_machines(alloc, scenario, machines, recorder, &mut Nobody)
+    run_machines(alloc, scenario, machines, follower, &mut Nobody)
 }
 
 /// Runs machines by one event list, as [`run_list_into`] does, and tells a listener of each letter to another process
@@ -224,28 +216,28 @@ pub fn run_list_into<R: Recorder>(
 ///
 /// # Errors
 ///
-/// `Limit` where the whole trace has more entries than the scenario's limit: the recorder took the first so many of
-/// them. `Memory` where memory was refused; the recorder and the listener are good for nothing then. The machines are
+/// `Limit` where the whole trace has more entries than the scenario's limit: the follower was told the first so many of
+/// them. `Memory` where memory was refused; the follower and the listener are good for nothing then. The machines are
 /// gone.
-pub fn run_list_heard<R: Recorder, L: Listener>(
+pub fn run_list_heard<M: Process, F: Follower, L: Listener>(
     alloc: Global,
     scenario: &Scenario,
-    machines: Vec<Box<dyn Process>>,
-    recorder: &mut R,
+    machines: Vec<M>,
+    follower: &mut F,
     listener: &mut L,
 ) -> Result<(), RunError>
-    requires { map mind machines.items ≡ map (opening_mind scenario.now) (numbers_to scenario.now.processes) }
+    requires { map M.mind machines.items ≡ map (opening_mind scenario.now) (numbers_to scenario.now.processes) }
 
     ensures recorded { OnOk result (IsRecorded (setting_of scenario.now) scenario.now.limit
-        (R.recorded recorder.old recorder.old) (R.recorded recorder.old recorder.new)) }
+        (F.followed follower.old follower.old) (F.followed follower.old follower.new)) }
     ensures heard { OnOk result (WereHeard (setting_of scenario.now) L.heard listener.old listener.new) }
     ensures errors { IfErr result (λ e. (e ≡ RunError.Limit) ⊎ (e ≡ RunError.Memory)) }
     ensures limit { IsErrOf result RunError.Limit → (whole : List EntryRecord)
         → IsTrace (setting_of scenario.now) whole → scenario.now.limit < length whole }
     ensures front { IsErrOf result RunError.Limit → IsCutShort (setting_of scenario.now) scenario.now.limit
-        (R.recorded recorder.old recorder.old) (R.recorded recorder.old recorder.new) }
+        (F.followed follower.old follower.old) (F.followed follower.old follower.new) }
 {
-    run_machines(alloc, scenario, machines, recorder, listener)
+    run_machines(alloc, scenario, machines, follower, listener)
 }
 
 /// Runs machines by one event list, up to the horizon. There is one machine for each process, of process 1 first, and
@@ -256,12 +248,12 @@ pub fn run_list_heard<R: Recorder, L: Listener>(
 ///
 /// `Limit` where the whole trace has more entries than the scenario's limit, `Memory` where memory was refused. The
 /// machines are gone then, and there is no trace.
-pub fn run_list(
+pub fn run_list<M: Process>(
     alloc: Global,
     scenario: &Scenario,
-    machines: Vec<Box<dyn Process>>,
+    machines: Vec<M>,
 ) -> Result<Trace, RunError>
-    requires { map mind machines.items ≡ map (opening_mind scenario.now) (numbers_to scenario.now.processes) }
+    requires { map M.mind machines.items ≡ map (opening_mind scenario.now) (numbers_to scenario.now.processes) }
 
     ensures trace { IfOk result (λ t. IsTrace (setting_of scenario.now) t) }
     ensures cause { IfOk result (λ t. HasCauses (setting_of scenario.now) t) }

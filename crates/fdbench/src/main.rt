@@ -18,34 +18,17 @@
 #![tactic(auto)]
 
 use bench_commands::fault::Fault;
-use bench_commands::serve;
+use bench_commands::serve::serve;
 use qos_report::StreamOutlet;
-use std::alloc::Global;
-use std::env;
-use std::io::{self, ErrorKind};
+use shell::{NoWords, finish, lent, report, words_of};
 use std::process::ExitCode;
-
-/// The words of the command line.
-fn words_of(rt: &HostRuntime) -> io::Result<Vec<String>> {
-    let words = env::args(rt)?.collect(rt.alloc())?;
-    Ok(words)
-}
-
-/// The words as texts that are lent.
-fn lent<'a>(alloc: Global, words: &'a [String]) -> io::Result<Vec<&'a str>> {
-    let mut texts = Vec::new(alloc);
-    for word in words {
-        texts.push(word.as_str())?;
-    }
-    Ok(texts)
-}
 
 fn main(rt: HostRuntime) -> ExitCode {
     let mut outlet = StreamOutlet::new(rt.stdout());
     let mut faults = StreamOutlet::new(rt.stderr());
     let status = match words_of(&rt) {
         Ok(words) => match lent(rt.alloc(), &words) {
-            Ok(texts) => serve::serve(
+            Ok(texts) => serve(
                 &rt,
                 rt.alloc(),
                 &texts,
@@ -53,12 +36,10 @@ fn main(rt: HostRuntime) -> ExitCode {
                 &mut outlet,
                 &mut faults,
             ),
-            Err(_) => Fault::WordsMemory.report(&mut faults),
+            Err(_) => report(&Fault::WordsMemory, &mut faults),
         },
-        Err(error) => match error.kind() {
-            ErrorKind::OutOfMemory => Fault::WordsMemory.report(&mut faults),
-            _ => Fault::Form.report(&mut faults),
-        },
+        Err(NoWords::Memory) => report(&Fault::WordsMemory, &mut faults),
+        Err(NoWords::NoText) => report(&Fault::Form, &mut faults),
     };
-    serve::finish(status, &mut outlet, &mut faults)
+    finish::<Fault, _, _>(status, &mut outlet, &mut faults)
 }

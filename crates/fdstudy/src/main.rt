@@ -16,28 +16,13 @@
 #![tactic(auto)]
 
 use reporting::StreamOutlet;
+use shell::{NoWords, finish, lent, report, words_of};
 use std::alloc::Global;
-use std::env;
-use std::io::{self, ErrorKind, IsTerminal};
+use std::io::IsTerminal;
 use std::process::ExitCode;
 use study_commands::fault::Fault;
 use study_commands::progress_line::ProgressLine;
-use study_commands::serve;
-
-/// The words of the command line.
-fn words_of(rt: &HostRuntime) -> io::Result<Vec<String>> {
-    let words = env::args(rt)?.collect(rt.alloc())?;
-    Ok(words)
-}
-
-/// The words as texts that are lent.
-fn lent<'a>(alloc: Global, words: &'a [String]) -> io::Result<Vec<&'a str>> {
-    let mut texts = Vec::new(alloc);
-    for word in words {
-        texts.push(word.as_str())?;
-    }
-    Ok(texts)
-}
+use study_commands::serve::serve;
 
 /// The fault of words of which one is no text. Which one isn't known.
 fn no_text(alloc: Global) -> Fault {
@@ -51,7 +36,7 @@ fn main(rt: HostRuntime) -> ExitCode {
     let mut line = ProgressLine::new(&rt, rt.alloc(), rt.stderr(), is_terminal, is_shared);
     let status = match words_of(&rt) {
         Ok(words) => match lent(rt.alloc(), &words) {
-            Ok(texts) => serve::serve(
+            Ok(texts) => serve(
                 &rt,
                 rt.alloc(),
                 &texts,
@@ -60,12 +45,10 @@ fn main(rt: HostRuntime) -> ExitCode {
                 &mut faults,
                 &mut line,
             ),
-            Err(_) => Fault::WordsMemory.report(&mut faults),
+            Err(_) => report(&Fault::WordsMemory, &mut faults),
         },
-        Err(error) => match error.kind() {
-            ErrorKind::OutOfMemory => Fault::WordsMemory.report(&mut faults),
-            _ => no_text(rt.alloc()).report(&mut faults),
-        },
+        Err(NoWords::Memory) => report(&Fault::WordsMemory, &mut faults),
+        Err(NoWords::NoText) => report(&no_text(rt.alloc()), &mut faults),
     };
-    serve::finish(status, &mut outlet, &mut faults)
+    finish::<Fault, _, _>(status, &mut outlet, &mut faults)
 }

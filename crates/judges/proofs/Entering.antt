@@ -12,9 +12,6 @@ use Rattle.judges.specs.Crashes.{end_of}
 use Rattle.judges.specs.Ends.{AreEnds, end_tick, opened_at}
 use Rattle.judges.specs.Pair.{opened, turned, all_turned, AreTurned}
 use Rattle.judges.specs.Pairs.{AreUntil, ArePairs, fed}
-use Rattle.judges.specs.Judging.{IsJudging}
-use Rattle.judges.specs.Track.{new_track, passed}
-use Rattle.judges.specs.declared.running.RunningJudge.{RunningJudge}
 use Rattle.judges.specs.Turns.{Turn, noted_turns, entry_turns, turns}
 use Rattle.judges.specs.declared.pair.Pair.{Pair}
 use Rattle.judges.specs.declared.pairs.Pairs.{Pairs}
@@ -178,7 +175,3 @@ module _ {K : Type 0} (passed : ℕ → Bool → ℕ → K → K) where
         same i j =
             ap (λ l. cond (eqb entry.key.receiver (suc i)) (noted_turns l (suc j) entry.key.tick entry.notes) []) h.same_layer
             ∙ both (eqb entry.key.receiver (suc i)) (ltb entry.key.tick S.horizon) (noted_turns layer (suc j) entry.key.tick entry.notes) (lt-ltb entry.key.tick S.horizon (omega (arith, h.horizon)))
-
--- an entry without notes changes nothing
-pub judging_quiet : (S : Record) (layer : ℕ) (trace : List EntryRecord) (entry : EntryRecord) (judge : RunningJudge) → IsJudging S layer trace judge → AreUntil trace entry.key.tick → entry.notes ≡ [] → IsJudging S layer (trace ++ entry ∷ []) judge
-judging_quiet S layer trace entry judge = pairs_quiet passed S layer new_track trace entry judge.pairs

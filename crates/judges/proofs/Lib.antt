@@ -13,6 +13,7 @@ pub mod Meaning
 pub mod Closing
 pub mod Order
 pub mod Adding
+pub mod Following
 -- the outcomes
 pub mod Noting
 pub mod Outcoming

@@ -18,6 +18,28 @@ same_from_beq false false e = refl
 same_from_beq true false e = absurd (true≢false (sym e))
 same_from_beq false true e = absurd (true≢false (sym e))
 
+-- ---- what is kept seen as something else that goes on alike
+
+module _ {K J : Type 0} (seen : K → J) where
+  abbrev pub shown : Pair K → Pair J
+  shown p = record { end = p.end; current = p.current; kept = seen p.kept }
+
+module _ {K J : Type 0} (passed : ℕ → Bool → ℕ → K → K) (gone : ℕ → Bool → ℕ → J → J) (seen : K → J)
+    (sees : (until : ℕ) (now : Bool) (end : ℕ) (k : K) → seen (passed until now end k) ≡ gone until now end (seen k)) where
+  shown_turned : (tick : ℕ) (suspected : Bool) (p : Pair K) → shown seen (turned passed tick suspected p) ≡ turned gone tick suspected (shown seen p)
+  shown_turned tick suspected p = by (beq suspected p.current)
+    where
+      by : (b : Bool) → shown seen (cond b p (record p { current = suspected; kept = passed tick p.current p.end p.kept }))
+          ≡ cond b (shown seen p) (record (shown seen p) { current = suspected; kept = gone tick p.current p.end (seen p.kept) })
+      by true = refl
+      by false = λ i. record { end = p.end; current = suspected; kept = sees tick p.current p.end p.kept i }
+
+  pub shown_all : (ts : List Turn) (p : Pair K) → shown seen (all_turned passed p ts) ≡ all_turned gone (shown seen p) ts
+  shown_all [] p = refl
+  shown_all (t ∷ ts) p = shown_all ts (turned passed t.tick t.suspected p) ∙ ap (λ q. all_turned gone q ts) (shown_turned t.tick t.suspected p)
+
+-- ---- what is known of it
+
 -- what is kept goes on to a tick, and knows of a test of ticks what it is before that tick
 pub record IsKeeping {K : Type 0} (passed : ℕ → Bool → ℕ → K → K) (tick : K → ℕ) (Knows : (ℕ → Bool) → ℕ → K → Type 0) : Type 0 where
   pub ticks : (k : K) (until : ℕ) (now : Bool) (end : ℕ) → tick k ≤ until → tick (passed until now end k) ≡ until

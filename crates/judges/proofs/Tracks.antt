@@ -22,11 +22,11 @@ any_below-flat f a (suc t) l h =
       | inr p ↦ ap (λ x. x || any_below f t) (h t p (omega arith)) ∙ any_below-flat f a t p (λ u x y. h u x (omega arith))
     ]
 
-or_none : (x : Bool) → (x || false) ≡ x
+pub or_none : (x : Bool) → (x || false) ≡ x
 or_none true = refl
 or_none false = refl
 
-or_all : (x : Bool) → (x || true) ≡ true
+pub or_all : (x : Bool) → (x || true) ≡ true
 or_all true = refl
 or_all false = refl
 

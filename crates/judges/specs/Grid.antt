@@ -2,20 +2,22 @@
 use Rattle.std.specs.Prelude.{ℕ, ◌+◌, ◌*◌, Bool, not, ◌&&◌, ◌==◌, if◌then◌else◌, Option, None, Some, get_or}
 use Rattle.judges.specs.Ticks.{all_below, any_below}
 use Rattle.judges.specs.Pair.{opened, kept_at}
-use Rattle.judges.specs.Track.{new_track, passed, suspected_from, trusted_from, latest_below, earliest_below}
+use Rattle.judges.specs.Track.{suspected_from, trusted_from, latest_below, earliest_below}
 use Rattle.judges.specs.declared.pair.Pair.{Pair}
 use Rattle.judges.specs.declared.pairs.Pairs.{Pairs}
 use Rattle.judges.specs.declared.verdicts.Verdicts.{Verdicts}
 use Rattle.judges.specs.declared.track.Track.{Track}
 
-module _ (pairs : Pairs Track) where
+-- of pairs of which what is kept goes on so, and is seen as a track
+module _ {K : Type 0} (passed : (until : ℕ) → (suspected : Bool) → (end : ℕ) → K → K) (seen : K → Track) (fresh : K)
+    (pairs : Pairs K) where
   -- observer i + 1 and subject j + 1
-  abbrev pub pair : (i j : ℕ) → Pair Track
-  pair i j = get_or pairs.pairs.items (i * pairs.processes + j) (opened 0 new_track)
+  abbrev pub pair : (i j : ℕ) → Pair K
+  pair i j = get_or pairs.pairs.items (i * pairs.processes + j) (opened 0 fresh)
 
   -- their track, as all ticks below the horizon are behind
   abbrev pub place : (i j : ℕ) → Track
-  place i j = kept_at passed pairs.horizon (pair i j)
+  place i j = seen (kept_at passed pairs.horizon (pair i j))
 
   -- whether process i + 1 is correct: it isn't crashed below the horizon
   abbrev pub counts_as_correct : ℕ → Bool

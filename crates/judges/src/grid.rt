@@ -4,6 +4,7 @@ ghost use Rattle.std.specs.Prelude.{◌≡◌, ◌<◌};
 ghost use Rattle.judges.specs.Track.{earliest, latest};
 ghost use Rattle.judges.specs.Grid.{column_right, column_suspected, column_trusted, grid_verdicts, place, row_right, row_suspected, row_trusted, counts_as_correct};
 
+use crate::pair::Gauge;
 use crate::pairs::Pairs;
 use crate::track::Track;
 use crate::verdicts::Verdicts;
@@ -30,26 +31,26 @@ fn earliest(a: Option<u32>, b: Option<u32>) -> Option<u32>
 }
 
 /// The track of two processes, each by how many come before it, as all ticks below the horizon are behind.
-fn place(pairs: &Pairs<Track>, i: usize, j: usize) -> Track
+fn place<K: Gauge>(pairs: &Pairs<K>, i: usize, j: usize) -> Track
     requires row { i < pairs.now.processes }
     requires column { j < pairs.now.processes }
-    ensures { result ≡ place pairs.now i j }
+    ensures { result ≡ place K.passed K.seen K.fresh pairs.now i j }
 {
-    pairs.pair(i, j).close(pairs.horizon())
+    pairs.pair(i, j).close(pairs.horizon()).track()
 }
 
 /// Whether a process is correct: whether its own end is the horizon.
-fn counts_as_correct(pairs: &Pairs<Track>, i: usize) -> bool
+fn counts_as_correct<K: Gauge>(pairs: &Pairs<K>, i: usize) -> bool
     requires row { i < pairs.now.processes }
-    ensures { result ≡ counts_as_correct pairs.now i }
+    ensures { result ≡ counts_as_correct K.passed K.seen K.fresh pairs.now i }
 {
     pairs.pair(i, i).end == pairs.horizon()
 }
 
 /// From which tick on a process suspects all crashed ones.
-fn row_suspected(pairs: &Pairs<Track>, i: usize) -> Option<u32>
+fn row_suspected<K: Gauge>(pairs: &Pairs<K>, i: usize) -> Option<u32>
     requires inside { i < pairs.now.processes }
-    ensures { result ≡ row_suspected pairs.now i }
+    ensures { result ≡ row_suspected K.passed K.seen K.fresh pairs.now i }
 {
     let mut found = Some(0);
     for j in 0..pairs.processes() {
@@ -61,9 +62,9 @@ fn row_suspected(pairs: &Pairs<Track>, i: usize) -> Option<u32>
 }
 
 /// From which tick on some correct process suspects one.
-fn column_suspected(pairs: &Pairs<Track>, j: usize) -> Option<u32>
+fn column_suspected<K: Gauge>(pairs: &Pairs<K>, j: usize) -> Option<u32>
     requires inside { j < pairs.now.processes }
-    ensures { result ≡ column_suspected pairs.now j }
+    ensures { result ≡ column_suspected K.passed K.seen K.fresh pairs.now j }
 {
     let mut found = None;
     for i in 0..pairs.processes() {
@@ -75,9 +76,9 @@ fn column_suspected(pairs: &Pairs<Track>, j: usize) -> Option<u32>
 }
 
 /// From which tick on a process trusts all correct ones.
-fn row_trusted(pairs: &Pairs<Track>, i: usize) -> Option<u32>
+fn row_trusted<K: Gauge>(pairs: &Pairs<K>, i: usize) -> Option<u32>
     requires inside { i < pairs.now.processes }
-    ensures { result ≡ row_trusted pairs.now i }
+    ensures { result ≡ row_trusted K.passed K.seen K.fresh pairs.now i }
 {
     let mut found = Some(0);
     for j in 0..pairs.processes() {
@@ -89,9 +90,9 @@ fn row_trusted(pairs: &Pairs<Track>, i: usize) -> Option<u32>
 }
 
 /// From which tick on all correct processes trust one.
-fn column_trusted(pairs: &Pairs<Track>, j: usize) -> Option<u32>
+fn column_trusted<K: Gauge>(pairs: &Pairs<K>, j: usize) -> Option<u32>
     requires inside { j < pairs.now.processes }
-    ensures { result ≡ column_trusted pairs.now j }
+    ensures { result ≡ column_trusted K.passed K.seen K.fresh pairs.now j }
 {
     let mut found = Some(0);
     for i in 0..pairs.processes() {
@@ -103,9 +104,9 @@ fn column_trusted(pairs: &Pairs<Track>, j: usize) -> Option<u32>
 }
 
 /// Whether a process made no mistake.
-fn row_right(pairs: &Pairs<Track>, i: usize) -> bool
+fn row_right<K: Gauge>(pairs: &Pairs<K>, i: usize) -> bool
     requires inside { i < pairs.now.processes }
-    ensures { result ≡ row_right pairs.now i }
+    ensures { result ≡ row_right K.passed K.seen K.fresh pairs.now i }
 {
     let mut found = true;
     for j in 0..pairs.processes() {
@@ -115,9 +116,9 @@ fn row_right(pairs: &Pairs<Track>, i: usize) -> bool
 }
 
 /// Whether no mistake was made of a process.
-fn column_right(pairs: &Pairs<Track>, j: usize) -> bool
+fn column_right<K: Gauge>(pairs: &Pairs<K>, j: usize) -> bool
     requires inside { j < pairs.now.processes }
-    ensures { result ≡ column_right pairs.now j }
+    ensures { result ≡ column_right K.passed K.seen K.fresh pairs.now j }
 {
     let mut found = true;
     for i in 0..pairs.processes() {
@@ -127,8 +128,8 @@ fn column_right(pairs: &Pairs<Track>, j: usize) -> bool
 }
 
 /// From which tick on all correct processes suspect all crashed ones.
-fn strong_completeness(pairs: &Pairs<Track>) -> Option<u32>
-    ensures { result ≡ (grid_verdicts pairs.now).strong_completeness }
+fn strong_completeness<K: Gauge>(pairs: &Pairs<K>) -> Option<u32>
+    ensures { result ≡ (grid_verdicts K.passed K.seen K.fresh pairs.now).strong_completeness }
 {
     let mut found = Some(0);
     for i in 0..pairs.processes() {
@@ -140,8 +141,8 @@ fn strong_completeness(pairs: &Pairs<Track>) -> Option<u32>
 }
 
 /// From which tick on each crashed process is suspected by some correct one.
-fn weak_completeness(pairs: &Pairs<Track>) -> Option<u32>
-    ensures { result ≡ (grid_verdicts pairs.now).weak_completeness }
+fn weak_completeness<K: Gauge>(pairs: &Pairs<K>) -> Option<u32>
+    ensures { result ≡ (grid_verdicts K.passed K.seen K.fresh pairs.now).weak_completeness }
 {
     let mut found = Some(0);
     for j in 0..pairs.processes() {
@@ -153,8 +154,8 @@ fn weak_completeness(pairs: &Pairs<Track>) -> Option<u32>
 }
 
 /// Whether no mistake was made.
-fn strong_accuracy(pairs: &Pairs<Track>) -> bool
-    ensures { result ≡ (grid_verdicts pairs.now).strong_accuracy }
+fn strong_accuracy<K: Gauge>(pairs: &Pairs<K>) -> bool
+    ensures { result ≡ (grid_verdicts K.passed K.seen K.fresh pairs.now).strong_accuracy }
 {
     let mut found = true;
     for i in 0..pairs.processes() {
@@ -164,8 +165,8 @@ fn strong_accuracy(pairs: &Pairs<Track>) -> bool
 }
 
 /// Whether no mistake was made of some correct process.
-fn weak_accuracy(pairs: &Pairs<Track>) -> bool
-    ensures { result ≡ (grid_verdicts pairs.now).weak_accuracy }
+fn weak_accuracy<K: Gauge>(pairs: &Pairs<K>) -> bool
+    ensures { result ≡ (grid_verdicts K.passed K.seen K.fresh pairs.now).weak_accuracy }
 {
     let mut found = false;
     for j in 0..pairs.processes() {
@@ -175,8 +176,8 @@ fn weak_accuracy(pairs: &Pairs<Track>) -> bool
 }
 
 /// From which tick on all correct processes trust each other.
-fn eventual_strong_accuracy(pairs: &Pairs<Track>) -> Option<u32>
-    ensures { result ≡ (grid_verdicts pairs.now).eventual_strong_accuracy }
+fn eventual_strong_accuracy<K: Gauge>(pairs: &Pairs<K>) -> Option<u32>
+    ensures { result ≡ (grid_verdicts K.passed K.seen K.fresh pairs.now).eventual_strong_accuracy }
 {
     let mut found = Some(0);
     for i in 0..pairs.processes() {
@@ -188,8 +189,8 @@ fn eventual_strong_accuracy(pairs: &Pairs<Track>) -> Option<u32>
 }
 
 /// From which tick on some correct process is trusted by all correct ones.
-fn eventual_weak_accuracy(pairs: &Pairs<Track>) -> Option<u32>
-    ensures { result ≡ (grid_verdicts pairs.now).eventual_weak_accuracy }
+fn eventual_weak_accuracy<K: Gauge>(pairs: &Pairs<K>) -> Option<u32>
+    ensures { result ≡ (grid_verdicts K.passed K.seen K.fresh pairs.now).eventual_weak_accuracy }
 {
     let mut found = None;
     for j in 0..pairs.processes() {
@@ -201,8 +202,8 @@ fn eventual_weak_accuracy(pairs: &Pairs<Track>) -> Option<u32>
 }
 
 /// All verdicts.
-pub fn grid_verdicts(pairs: &Pairs<Track>) -> Verdicts
-    ensures { result ≡ grid_verdicts pairs.now }
+pub fn grid_verdicts<K: Gauge>(pairs: &Pairs<K>) -> Verdicts
+    ensures { result ≡ grid_verdicts K.passed K.seen K.fresh pairs.now }
 {
     Verdicts {
         strong_completeness: strong_completeness(pairs),

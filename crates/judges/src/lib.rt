@@ -18,12 +18,12 @@
 //! here: each suspicion of layer 2 has an earlier entry that notes one of the same process on layer 1.
 //!
 //! [`RunningJudge`] and [`RunningOutcomes`] answer the same with no trace at hand: they are fed with its entries as
-//! these come, and hold nothing of them. The two calls feed them (`specs/Judging.antt` says what it is that they were
-//! fed).
+//! these come, and hold nothing of them. Both follow a run as a `Follower` does, and the two calls have them follow the
+//! trace (`specs/Judging.antt` says what it is that they were fed).
 //!
 //! [`Pairs`] is the machinery of the judge, and of other crates that count what detectors do: of each pair of processes
 //! on a layer it keeps a [`Gauge`], that its owner chooses, and moves it where a note of the observer begins or ends
-//! the suspicion of the subject. What is kept is the gauge as it opened, moved by the turns of the pair in the trace
+//! the suspicion of the subject. Whatever the gauge, [`grid_verdicts`] sees a [`Track`] in it. What is kept is the gauge as it opened, moved by the turns of the pair in the trace
 //! (`specs/Turns.antt`, `specs/Pairs.antt`); `proofs/Standing.antt` says what it then knows of the ticks.
 //!
 //! Of work and memory no contract speaks. The code goes over the entries once: it keeps for each pair of processes
@@ -44,8 +44,10 @@ mod track;
 mod verdicts;
 
 pub use ends::end_tick;
+pub use grid::grid_verdicts;
 pub use outcomes::{Answer, Outcome, RunningOutcomes, decisions};
 pub use pair::{Gauge, Pair, turn_of};
 pub use pairs::Pairs;
 pub use running::RunningJudge;
+pub use track::Track;
 pub use verdicts::{Verdicts, judge};

@@ -6,6 +6,7 @@ ghost use Rattle.judges.specs.Agreement.{Agree, DecidesOnce, IsCoordinated};
 ghost use Rattle.judges.specs.Outcomes.{outcome, outcomes};
 ghost use Rattle.judges.specs.Noting.{all_noted, noted};
 
+use followers::{Follower, follow_all};
 use process_api::{Entry, Note, Pid, Trace};
 use scenario_record::Scenario;
 use std::alloc::{AllocError, Global};
@@ -126,6 +127,22 @@ impl RunningOutcomes {
     }
 }
 
+impl Follower for RunningOutcomes {
+    ghost use Rattle.judges.specs.Judging.{IsDeciding};
+
+    ghost followed = { λ first now told. (n : ℕ) → IsDeciding n [] first → IsDeciding n told now };
+
+    /// One more entry. Takes no memory; one without notes takes no time.
+    #[inline(always)]
+    fn follow(&mut self, entry: &Entry) -> Result<(), AllocError> {
+        if entry.notes.is_empty() {
+            return Ok(());
+        }
+        self.feed(entry);
+        Ok(())
+    }
+}
+
 /// What each process of a finished trace decided first, when, and the greatest round that it noted; process 1 first.
 ///
 /// In the trace of a scenario with the rotating coordinator, no two outcomes have different values, each value was
@@ -146,8 +163,6 @@ pub fn decisions(
     ensures once { IsCoordinated scenario.now trace.now → (p : ℕ) → DecidesOnce trace.now p }
 {
     let mut running = RunningOutcomes::open(alloc, scenario)?;
-    for entry in trace.entries() {
-        running.feed(entry);
-    }
+    follow_all(&mut running, trace.entries())?;
     Ok(running.close())
 }

@@ -2,17 +2,29 @@
 ghost use Rattle.std.specs.Prelude.{◌≡◌, ℕ, Bool};
 ghost use Rattle.judges.specs.Turns.{noted_turns, turn_of};
 ghost use Rattle.judges.specs.Pair.{all_turned, kept_at, opened, turned};
+ghost use Rattle.judges.specs.declared.track.Track.{Track};
 
+use crate::track::Track;
 use process_api::{Note, Pid};
 
 /// What is kept of a pair of processes, of the ticks that are behind.
 pub trait Gauge: Copy {
     ghost passed: { (until : ℕ) → (suspected : Bool) → (end : ℕ) → Self → Self };
 
+    /// What a judge sees of it.
+    ghost seen: { Self → Track };
+
+    /// One that nothing passed.
+    ghost fresh: { Self };
+
     /// From the first tick that isn't behind up to another there is suspicion, or there is none. Below `end` suspicion
     /// is a mistake.
     fn pass(&mut self, until: u32, suspected: bool, end: u32)
         ensures { self.new ≡ passed until suspected end self.old };
+
+    /// What a judge sees of it.
+    fn track(&self) -> Track
+        ensures { result ≡ seen self.now };
 }
 
 /// Whether an observer suspects a subject now, and what is kept of the ticks before.

@@ -5,6 +5,7 @@ use crate::grid::grid_verdicts;
 use crate::pairs::Pairs;
 use crate::track::Track;
 use crate::verdicts::Verdicts;
+use followers::Follower;
 use process_api::Entry;
 use scenario_record::Scenario;
 use std::alloc::{AllocError, Global};
@@ -52,5 +53,16 @@ impl RunningJudge {
             → result ≡ verdicts S trace layer }
     {
         grid_verdicts(&self.pairs)
+    }
+}
+
+impl Follower for RunningJudge {
+    ghost use Rattle.judges.specs.Judging.{HasFollowed, IsJudging};
+
+    ghost followed = { HasFollowed IsJudging };
+
+    fn follow(&mut self, entry: &Entry) -> Result<(), AllocError> {
+        self.feed(entry);
+        Ok(())
     }
 }

@@ -6,7 +6,7 @@ use crate::pair::Gauge;
 
 /// Whether one process suspected another at last, and since when.
 #[derive(Clone, Copy)]
-pub(crate) struct Track {
+pub struct Track {
     /// All ticks below this one are behind.
     pub tick: u32,
     /// Whether there was suspicion at the last of the ticks behind.
@@ -19,7 +19,7 @@ pub(crate) struct Track {
 
 impl Track {
     /// No tick is behind.
-    pub fn new() -> Track
+    pub(crate) fn new() -> Track
         ensures { result ≡ new_track }
     {
         Track {
@@ -31,14 +31,14 @@ impl Track {
     }
 
     /// From which tick on there was suspicion, if there was at last.
-    pub fn suspected_from(&self) -> Option<u32>
+    pub(crate) fn suspected_from(&self) -> Option<u32>
         ensures { result ≡ suspected_from self.now }
     {
         if self.was { Some(self.since) } else { None }
     }
 
     /// From which tick on there was trust, if there was at last.
-    pub fn trusted_from(&self) -> Option<u32>
+    pub(crate) fn trusted_from(&self) -> Option<u32>
         ensures { result ≡ trusted_from self.now }
     {
         if self.was { None } else { Some(self.since) }
@@ -47,6 +47,10 @@ impl Track {
 
 impl Gauge for Track {
     ghost passed = { passed };
+
+    ghost seen = { λ t. t };
+
+    ghost fresh = { new_track };
 
     fn pass(&mut self, until: u32, suspected: bool, end: u32) {
         if self.tick < until {
@@ -59,5 +63,9 @@ impl Gauge for Track {
             self.was = suspected;
             self.tick = until;
         }
+    }
+
+    fn track(&self) -> Track {
+        *self
     }
 }

@@ -4,6 +4,7 @@ ghost use Rattle.judges.specs.Verdicts.{verdicts};
 ghost use Rattle.judges.specs.Meaning.{AreVerdicts};
 
 use crate::running::RunningJudge;
+use followers::follow_all;
 use process_api::Trace;
 use scenario_record::Scenario;
 use std::alloc::{AllocError, Global};
@@ -44,8 +45,6 @@ pub fn judge(
     ensures meaning { IfOk result (λ v. AreVerdicts scenario.now trace.now layer v) }
 {
     let mut judge = RunningJudge::open(alloc, scenario, layer)?;
-    for entry in trace.entries() {
-        judge.feed(entry);
-    }
+    follow_all(&mut judge, trace.entries())?;
     Ok(judge.close())
 }

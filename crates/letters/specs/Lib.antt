@@ -1,5 +1,4 @@
 pub mod Letters
 pub mod Traces
 pub mod LettersText
-pub mod Rows
 pub mod Book

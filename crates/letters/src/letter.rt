@@ -3,7 +3,7 @@
 use process_api::{Kind, Pid};
 
 /// What became of a letter.
-#[derive(Clone, Copy, Debug, PartialEq, Eq)]
+#[derive(Clone, Copy)]
 pub enum LetterFate {
     /// Its receiver took it.
     Taken,
@@ -16,7 +16,7 @@ pub enum LetterFate {
 }
 
 /// A letter from one process to another.
-#[derive(Clone, Copy, Debug, PartialEq, Eq)]
+#[derive(Clone, Copy)]
 pub struct Letter {
     /// The tick of the step that sent it.
     pub sent: u32,

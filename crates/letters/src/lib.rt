@@ -15,7 +15,6 @@
 
 mod book;
 mod letter;
-mod rows;
 mod running;
 mod text;
 

@@ -11,7 +11,7 @@ ghost use Rattle.letters.specs.Traces.{AreInTrace, AreLostAs, AreNumbered};
 
 use crate::book::LetterBook;
 use crate::letter::Letter;
-use event_list::{Nobody, RunError, run_list_heard};
+use event_list::{RunError, run_list_heard};
 use process_api::Process;
 use scenario_record::Scenario;
 use std::alloc::Global;
@@ -26,12 +26,12 @@ use std::alloc::Global;
 ///
 /// `Limit` where the whole trace has more entries than the scenario's limit, `Memory` where memory was refused. The
 /// machines are gone then, and there are no letters.
-pub fn letters(
+pub fn letters<M: Process>(
     alloc: Global,
     scenario: &Scenario,
-    machines: Vec<Box<dyn Process>>,
+    machines: Vec<M>,
 ) -> Result<Vec<Letter>, RunError>
-    requires { map mind machines.items ≡ map (opening_mind scenario.now) (numbers_to scenario.now.processes) }
+    requires { map M.mind machines.items ≡ map (opening_mind scenario.now) (numbers_to scenario.now.processes) }
 
     ensures letters { IfOk result (λ letters. AreLetters scenario.now letters.items) }
     ensures only { IfOk result (λ letters. (others : List Letter)
@@ -48,6 +48,6 @@ pub fn letters(
 {
     let _horizon = scenario.horizon();
     let mut book = LetterBook::new(alloc, scenario);
-    run_list_heard(alloc, scenario, machines, &mut Nobody, &mut book)?;
+    run_list_heard(alloc, scenario, machines, &mut (), &mut book)?;
     Ok(book.letters)
 }

@@ -1,38 +1,15 @@
 //! The text of letters.
 ghost use Rattle.std.specs.Prelude.{◌≡◌, ◌++◌, IfOk, OnOk};
-ghost use Rattle.letters.specs.LettersText.{kind_text, fate_text, number_text, row_of, fields_of, letters_text as text_for};
-ghost use Rattle.letters.specs.Rows.{IsBetweenRows, text_of};
+ghost use Rattle.letters.specs.LettersText.{fate_text, number_text, fields_of, letters_text as text_for};
+ghost use Rattle.rows.specs.Rows.{IsBetweenRows, row_of, text_of};
 
 use crate::letter::{Letter, LetterFate};
-use crate::rows::Rows;
 use itoa::Buffer;
-use process_api::Kind;
+use rows::{Rows, name_of_kind};
 use std::alloc::{AllocError, Global};
 
 /// The first line of the text of letters.
 const HEADER: &[u8] = b"sent,sender,receiver,number,kind,due,fate\n";
-
-/// The name of a kind.
-fn name_of_kind(kind: Kind) -> &'static str
-    ensures { result.now ≡ kind_text kind }
-{
-    match kind {
-        Kind::Start => "start",
-        Kind::Beat => "beat",
-        Kind::Check => "check",
-        Kind::Share => "share",
-        Kind::Alive => "alive",
-        Kind::Heartbeat => "heartbeat",
-        Kind::Suspects => "suspects",
-        Kind::Vector => "vector",
-        Kind::Last => "last",
-        Kind::Estimate => "estimate",
-        Kind::Proposal => "proposal",
-        Kind::Reply => "reply",
-        Kind::Decide => "decide",
-        Kind::Dead => "dead",
-    }
-}
 
 /// The name of a fate.
 fn name_of_fate(fate: LetterFate) -> &'static str

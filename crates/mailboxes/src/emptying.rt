@@ -32,8 +32,8 @@ pub(crate) fn empty_in_turn<R: Wait>(
         let Some(mut list) = empties.next() else {
             unreachable!()
         };
-        emptied.push(boxes[at].empty(rt, home, &mut list)?)?;
-        filled.push(list)?;
+        emptied.push_reserved(boxes[at].empty(rt, home, &mut list)?);
+        filled.push_reserved(list);
         at += 1;
     }
     Ok((emptied, filled))

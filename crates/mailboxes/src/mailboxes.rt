@@ -53,7 +53,8 @@ impl Mailboxes {
 
     /// Whether they are as new mailboxes for receivers 1 to n are: no slip was made since.
     pub fn are_new(&self, n: u16) -> bool
-        ensures { result ≡ true → (length self.now.mailboxes ≡ n) × (self.now.slips ≡ 0) }
+        ensures only { result ≡ true → (length self.now.mailboxes ≡ n) × (self.now.slips ≡ 0) }
+        ensures all { length self.now.mailboxes ≡ n → self.now.slips ≡ 0 → result ≡ true }
     {
         self.homes.len() == usize::from(n) && self.slips == 0
     }
@@ -66,7 +67,7 @@ impl Mailboxes {
     }
 
     /// One more slip, by which nothing was posted yet. The error is that memory was refused, or that 2^64 - 1 slips
-    /// were made; then nothing changes.
+    /// were made, as many as a list for [`Mailboxes::collect`] could hold; then nothing changes.
     pub fn slip(&mut self, alloc: Global) -> Result<Slip, AllocError>
         ensures mailboxes { IfOk result (λ _. self.new ≡ mailboxes_of self.old.mailboxes (self.old.slips + 1)) }
         ensures slip { IfOk result (λ s. s ≡ unused self.old.mailboxes) }
@@ -120,7 +121,7 @@ impl Mailboxes {
         let count = self.homes.len();
         let mut lists = Vec::with_capacity(alloc, count)?;
         for _ in 0..count {
-            lists.push(Vec::new(alloc))?;
+            lists.push_reserved(Vec::new(alloc));
         }
         Ok(lists)
     }

@@ -4,4 +4,3 @@ pub mod Nearby
 pub mod Ordered
 pub mod Taken
 pub mod Tree
-pub mod Popped

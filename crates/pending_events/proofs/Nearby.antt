@@ -11,13 +11,12 @@ use Rattle.std.proofs.lemmas.Cmp.{ranked}
 use Rattle.std.proofs.lemmas.List.{append-nil}
 use Rattle.process_api.specs.Order.{key_cmp}
 use Rattle.process_api.specs.declared.key.Key.{Key}
-use Rattle.process_api.specs.declared.message.StepInput.{StepInput}
 use Rattle.pending_events.specs.declared.calendar.Calendar.{Calendar}
 use Rattle.pending_events.specs.Buckets.{latest, Buckets, bucket, HasTick, IsFiled}
 use Rattle.pending_events.specs.Calendar.{year, IsNear, near_at, held_at, IsVacant, IsCalendar, HoldsSame, IsAdded, IsFirst, IsTaken, NoneAhead, flat_ring}
 use Rattle.pending_events.specs.Lanes.{lane}
 use Rattle.trace_laws.specs.Step.{Event}
-use Rattle.pending_events.proofs.Falling.{held, nat_apart, all_weaker, all_append, none_latest, find_append, or_None}
+use Rattle.pending_events.proofs.Falling.{held, all_weaker, all_append, none_latest, find_append, or_None}
 use Rattle.pending_events.proofs.Dealing.{lane_set, lane_kept, lane_past}
 
 -- ---- the year
@@ -243,70 +242,70 @@ pub err_weaker : {X Y : Type 0} (r : Result X Y) (P Q : Type 0) → (P → Q) �
 err_weaker (Ok x) P Q f p = tt
 err_weaker (Err e) P Q f p = f p
 
-module _ (c : Calendar) (h : IsCalendar c) (ring2 : Vec (Vec Event)) (key : Key) (x : StepInput) (near : IsNear c.from key.tick) (others : (p : ℕ) → p ≢ key.tick % 1024 → lane ring2.items p ≡ lane c.ring.items p) where
-  pub near_calendar : (lane ring2.items (key.tick % 1024) ≡ lane c.ring.items (key.tick % 1024) ++ (key, x) ∷ []) ⊎ (lane ring2.items (key.tick % 1024) ≡ lane c.ring.items (key.tick % 1024)) → IsCalendar (calendar_of c.from ring2 c.map)
-  near_calendar here = record {
+module _ (c : Calendar) (h : IsCalendar c) (ring2 : Vec (Vec Event)) (tick : ℕ) (event : Event) (near : IsNear c.from tick) (others : (p : ℕ) → p ≢ tick % 1024 → lane ring2.items p ≡ lane c.ring.items p) where
+  pub near_calendar : event.0.tick ≡ tick → (lane ring2.items (tick % 1024) ≡ lane c.ring.items (tick % 1024) ++ event ∷ []) ⊎ (lane ring2.items (tick % 1024) ≡ lane c.ring.items (tick % 1024)) → IsCalendar (calendar_of c.from ring2 c.map)
+  near_calendar own_tick here = record {
     ordered = h.ordered;
     full = h.full;
     own = h.own;
-    placed = λ p. place p (cases_eq p (key.tick % 1024)) here;
+    placed = λ p. place p (cases_eq p (tick % 1024)) here;
     room = h.room;
   }
     where
-      place : (p : ℕ) → (p ≡ key.tick % 1024) ⊎ (p ≢ key.tick % 1024)
-          → (lane ring2.items (key.tick % 1024) ≡ lane c.ring.items (key.tick % 1024) ++ (key, x) ∷ []) ⊎ (lane ring2.items (key.tick % 1024) ≡ lane c.ring.items (key.tick % 1024))
+      place : (p : ℕ) → (p ≡ tick % 1024) ⊎ (p ≢ tick % 1024)
+          → (lane ring2.items (tick % 1024) ≡ lane c.ring.items (tick % 1024) ++ event ∷ []) ⊎ (lane ring2.items (tick % 1024) ≡ lane c.ring.items (tick % 1024))
           → AllByRecursion (λ e. IsNear c.from e.0.tick × (e.0.tick % 1024 ≡ p)) (lane ring2.items p)
       place p (inr n) a = subst (AllByRecursion (λ e. IsNear c.from e.0.tick × (e.0.tick % 1024 ≡ p))) (sym (others p n)) (h.placed p)
       place p (inl e) (inl more) =
           subst (AllByRecursion (λ f. IsNear c.from f.0.tick × (f.0.tick % 1024 ≡ p))) (sym (ap (lane ring2.items) e ∙ more))
-          (all_append (λ f. IsNear c.from f.0.tick × (f.0.tick % 1024 ≡ p)) (lane c.ring.items (key.tick % 1024)) ((key, x) ∷ [])
+          (all_append (λ f. IsNear c.from f.0.tick × (f.0.tick % 1024 ≡ p)) (lane c.ring.items (tick % 1024)) (event ∷ [])
           (subst (λ o. AllByRecursion (λ f. IsNear c.from f.0.tick × (f.0.tick % 1024 ≡ p)) (lane c.ring.items o)) e (h.placed p))
-          ((near, sym e), tt))
+          ((subst (IsNear c.from) (sym own_tick) near, ap (λ t. t % 1024) own_tick ∙ sym e), tt))
       place p (inl e) (inr same) =
           subst (AllByRecursion (λ f. IsNear c.from f.0.tick × (f.0.tick % 1024 ≡ p))) (sym (ap (lane ring2.items) e ∙ (same ∙ ap (lane c.ring.items) (sym e)))) (h.placed p)
 
-  pub near_added : lane ring2.items (key.tick % 1024) ≡ lane c.ring.items (key.tick % 1024) ++ (key, x) ∷ [] → IsAdded c (calendar_of c.from ring2 c.map) key x
+  pub near_added : lane ring2.items (tick % 1024) ≡ lane c.ring.items (tick % 1024) ++ event ∷ [] → IsAdded c (calendar_of c.from ring2 c.map) tick event
   near_added more = record {
     here =
-        ap (λ es. bucket c.map key.tick ++ es) (near_in c.from ring2.items key.tick near ∙ (more ∙ ap (λ es. es ++ (key, x) ∷ []) (sym (near_in c.from c.ring.items key.tick near))))
-        ∙ sym (append_assoc (bucket c.map key.tick) (near_at c.from c.ring.items key.tick) ((key, x) ∷ []));
-    others = λ t n. ap (λ es. bucket c.map t ++ es) (near_kept c.from key.tick c.ring.items near ring2.items others t n);
+        ap (λ es. bucket c.map tick ++ es) (near_in c.from ring2.items tick near ∙ (more ∙ ap (λ es. es ++ event ∷ []) (sym (near_in c.from c.ring.items tick near))))
+        ∙ sym (append_assoc (bucket c.map tick) (near_at c.from c.ring.items tick) (event ∷ []));
+    others = λ t n. ap (λ es. bucket c.map t ++ es) (near_kept c.from tick c.ring.items near ring2.items others t n);
   }
 
-  pub near_same : lane ring2.items (key.tick % 1024) ≡ lane c.ring.items (key.tick % 1024) → HoldsSame c (calendar_of c.from ring2 c.map)
-  near_same same t = ap (λ es. bucket c.map t ++ es) (go (cases_eq t key.tick))
+  pub near_same : lane ring2.items (tick % 1024) ≡ lane c.ring.items (tick % 1024) → HoldsSame c (calendar_of c.from ring2 c.map)
+  near_same same t = ap (λ es. bucket c.map t ++ es) (go (cases_eq t tick))
     where
-      go : (t ≡ key.tick) ⊎ (t ≢ key.tick) → near_at c.from ring2.items t ≡ near_at c.from c.ring.items t
+      go : (t ≡ tick) ⊎ (t ≢ tick) → near_at c.from ring2.items t ≡ near_at c.from c.ring.items t
       go (inl e) =
           ap (near_at c.from ring2.items) e
-          ∙ (near_in c.from ring2.items key.tick near ∙ (same ∙ (sym (near_in c.from c.ring.items key.tick near) ∙ ap (near_at c.from c.ring.items) (sym e))))
-      go (inr n) = near_kept c.from key.tick c.ring.items near ring2.items others t n
+          ∙ (near_in c.from ring2.items tick near ∙ (same ∙ (sym (near_in c.from c.ring.items tick near) ∙ ap (near_at c.from c.ring.items) (sym e))))
+      go (inr n) = near_kept c.from tick c.ring.items near ring2.items others t n
 
-pub listed_calendar : (c : Calendar) (m : Buckets) (key : Key) (x : StepInput) → IsCalendar c → IsFiled c.map m key x → tree.IsOrdered nat_cmp m → IsCalendar (calendar_of c.from c.ring m)
-listed_calendar c m key x h filed ordered = record {
+pub listed_calendar : (c : Calendar) (m : Buckets) (tick : ℕ) (event : Event) → event.0.tick ≡ tick → IsCalendar c → IsFiled c.map m tick event → tree.IsOrdered nat_cmp m → IsCalendar (calendar_of c.from c.ring m)
+listed_calendar c m tick event own_tick h filed ordered = record {
   ordered = ordered;
-  full = λ t there. full t there (cases_eq t key.tick);
-  own = λ t. own t (cases_eq t key.tick);
+  full = λ t there. full t there (cases_eq t tick);
+  own = λ t. own t (cases_eq t tick);
   placed = h.placed;
   room = h.room;
 }
   where
-    own : (t : ℕ) → (t ≡ key.tick) ⊎ (t ≢ key.tick) → AllByRecursion (λ e. e.0.tick ≡ t) (bucket m t)
+    own : (t : ℕ) → (t ≡ tick) ⊎ (t ≢ tick) → AllByRecursion (λ e. e.0.tick ≡ t) (bucket m t)
     own t (inl e) = subst (AllByRecursion (λ f. f.0.tick ≡ t)) (sym (ap (bucket m) e ∙ filed.here))
-        (all_append (λ f. f.0.tick ≡ t) (bucket c.map key.tick) ((key, x) ∷ []) (subst (λ u. AllByRecursion (λ f. f.0.tick ≡ u) (bucket c.map key.tick)) (sym e) (h.own key.tick)) (sym e, tt))
+        (all_append (λ f. f.0.tick ≡ t) (bucket c.map tick) (event ∷ []) (subst (λ u. AllByRecursion (λ f. f.0.tick ≡ u) (bucket c.map tick)) (sym e) (h.own tick)) (own_tick ∙ sym e, tt))
     own t (inr other) = subst (AllByRecursion (λ f. f.0.tick ≡ t)) (sym (filed.others t other)) (h.own t)
 
-    full : (t : ℕ) → HasTick m t → (t ≡ key.tick) ⊎ (t ≢ key.tick) → 0 < length (bucket m t)
-    full t there (inl e) = omega (arith, ap length (ap (bucket m) e ∙ filed.here), length-append (bucket c.map key.tick) ((key, x) ∷ []))
+    full : (t : ℕ) → HasTick m t → (t ≡ tick) ⊎ (t ≢ tick) → 0 < length (bucket m t)
+    full t there (inl e) = omega (arith, ap length (ap (bucket m) e ∙ filed.here), length-append (bucket c.map tick) (event ∷ []))
     full t there (inr other) = subst (λ es. 0 < length es) (sym (filed.others t other)) (h.full t (filed.has t there other))
 
-pub listed_added : (c : Calendar) (m : Buckets) (key : Key) (x : StepInput) → IsFiled c.map m key x → near_at c.from c.ring.items key.tick ≡ [] → IsAdded c (calendar_of c.from c.ring m) key x
-listed_added c m key x filed none = record {
+pub listed_added : (c : Calendar) (m : Buckets) (tick : ℕ) (event : Event) → IsFiled c.map m tick event → near_at c.from c.ring.items tick ≡ [] → IsAdded c (calendar_of c.from c.ring m) tick event
+listed_added c m tick event filed none = record {
   here =
-      ap (λ es. bucket m key.tick ++ es) none
-      ∙ (append-nil (bucket m key.tick)
+      ap (λ es. bucket m tick ++ es) none
+      ∙ (append-nil (bucket m tick)
       ∙ (filed.here
-      ∙ ap (λ es. es ++ (key, x) ∷ []) (sym (ap (λ es. bucket c.map key.tick ++ es) none ∙ append-nil (bucket c.map key.tick)))));
+      ∙ ap (λ es. es ++ event ∷ []) (sym (ap (λ es. bucket c.map tick ++ es) none ∙ append-nil (bucket c.map tick)))));
   others = λ t other. ap (λ es. es ++ near_at c.from c.ring.items t) (filed.others t other);
 }
 
@@ -418,47 +417,3 @@ module _ (c : Calendar) (h : IsCalendar c) (tick : ℕ) (ring2 : Vec (Vec Event)
 
 pub some_taken : (old new : Calendar) (r : Option (ℕ × Vec Event)) (least : ℕ) (b : Vec Event) → r ≡ Some (least, b) → MatchOption r (IsVacant old × IsVacant new) (λ p. IsTaken old new p.0 p.1.items) → IsTaken old new least b.items
 some_taken old new r least b is h = subst (λ o. MatchOption o (IsVacant old × IsVacant new) (λ p. IsTaken old new p.0 p.1.items)) is h
-
--- ---- the first bucket of the map goes, where there is no ring
-
-module _ (c : Calendar) (h : IsCalendar c) (bare : c.ring.items ≡ []) (n : Buckets) (ordered : tree.IsOrdered nat_cmp n) where
-  no_near : (t : ℕ) → near_at c.from c.ring.items t ≡ []
-  no_near t = near_none c.from c.ring.items t (λ _. ap (λ ls. lane ls (t % 1024)) bare)
-
-  module _ (least : ℕ) (b : Vec Event) (value : tree.get nat_cmp c.map least ≡ Some b) (low : tree.IsLowerBound nat_cmp c.map least) (upd : tree.Updates nat_cmp c.map n least None) where
-    is_first : IsFirst c least
-    is_first = first_listed c (Some least) h (subst IsSome (sym value) refl, low) (λ t _ _. ap (λ ls. lane ls (t % 1024)) bare)
-
-    none_of_least : HasTick n least → ⊥
-    none_of_least there = true≢false (sym (subst IsSome upd.1 there))
-
-    kept_other : (t : ℕ) → t ≢ least → tree.get nat_cmp n t ≡ tree.get nat_cmp c.map t
-    kept_other t other = upd.2 t (nat_apart least t other)
-
-    pub popped_calendar : IsCalendar (calendar_of c.from c.ring n)
-    popped_calendar = left_calendar c h least c.ring n is_first (λ p. inr refl) (no_near least) (λ t other. refl) none_of_least kept_other ordered
-
-    pub popped_taken : IsTaken c (calendar_of c.from c.ring n) least b.items
-    popped_taken =
-        next_taken c h least c.ring n is_first (λ p. inr refl) (no_near least) (λ t other. refl) none_of_least kept_other ordered
-        c.from (omega arith) (inl (omega arith)) h.room b.items
-        (sym (ap held value) ∙ (sym (append-nil (bucket c.map least)) ∙ ap (λ es. bucket c.map least ++ es) (sym (no_near least))))
-
-  module _ (same : n.entries ≡ c.map.entries) where
-    pub unchanged_calendar : IsCalendar (calendar_of c.from c.ring n)
-    unchanged_calendar = record {
-      ordered = ordered;
-      full = λ t there. subst (λ es. 0 < length es) (sym (ap held (as_before t))) (h.full t (subst IsSome (as_before t) there));
-      own = λ t. subst (AllByRecursion (λ e. e.0.tick ≡ t)) (sym (ap held (as_before t))) (h.own t);
-      placed = h.placed;
-      room = h.room;
-    }
-      where
-        as_before : (t : ℕ) → tree.get nat_cmp n t ≡ tree.get nat_cmp c.map t
-        as_before t = ap (lookup (tree.is_at (nat_cmp t))) same
-
-  pub emptied_vacant : (0 < length c.map.entries → ⊥) → n.entries ≡ c.map.entries → IsVacant c × IsVacant (calendar_of c.from c.ring n)
-  emptied_vacant none same = (
-    vacant_of c.from c.ring c.map (λ p. ap (λ ls. lane ls p) bare) (no_rows c.map none),
-    vacant_of c.from c.ring n (λ p. ap (λ ls. lane ls p) bare) (no_rows n (λ long. none (omega (arith, long, ap length same)))),
-  )

@@ -184,7 +184,7 @@ after_due tick t due later q y h long found = go (cases_lt tick t)
     go (inr low) = absurd (found_some q y (held_at later t) found (h.after long t low))
 
 -- an event joins
-module _ (tick : ℕ) (due : List Event) (later new : Calendar) (key : Key) (x : StepInput) (h : IsInOrder tick due later) (behind : 0 < length due → tick < key.tick) (added : IsAdded later new key x) (kept : IsCalendar new) where
+module _ (tick : ℕ) (due : List Event) (later new : Calendar) (key : Key) (x : StepInput) (h : IsInOrder tick due later) (behind : 0 < length due → tick < key.tick) (added : IsAdded later new key.tick (key, x)) (kept : IsCalendar new) where
   pub join_order : IsInOrder tick due new
   join_order = record {
     calendar = kept;

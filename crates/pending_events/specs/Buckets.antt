@@ -46,11 +46,11 @@ bucket m t = unwrap_or (option_map (λ v. v.items) (tree.get nat_cmp m t)) []
 abbrev pub HasTick : Buckets → ℕ → Type 0
 HasTick m t = IsSome (tree.get nat_cmp m t)
 
--- an event came to the bucket of its tick
-pub record IsFiled (old new : Buckets) (key : Key) (input : StepInput) : Type 0 where
-  pub here : bucket new key.tick ≡ bucket old key.tick ++ (key, input) ∷ []
-  pub others : (t : ℕ) → t ≢ key.tick → bucket new t ≡ bucket old t
-  pub has : (t : ℕ) → HasTick new t → (t ≢ key.tick → HasTick old t)
+-- an event came to the bucket of a tick
+pub record IsFiled (old new : Buckets) (tick : ℕ) (event : Event) : Type 0 where
+  pub here : bucket new tick ≡ bucket old tick ++ event ∷ []
+  pub others : (t : ℕ) → t ≢ tick → bucket new t ≡ bucket old t
+  pub has : (t : ℕ) → HasTick new t → (t ≢ tick → HasTick old t)
 
 -- the buckets have the same events
 pub record IsSame (old new : Buckets) : Type 0 where

@@ -9,57 +9,57 @@ ghost use Rattle.pending_events.specs.Calendar.{IsInOrder, IsVacant, seen_at};
 
 use crate::calendar::Calendar;
 use crate::lanes::put_in_order;
-use process_api::{Key, StepInput};
 use std::alloc::{AllocError, Global};
 use std::cmp::Reverse;
 use std::collections::BTreeMap;
 use std::mem;
+use trace_laws::Event;
 
 /// Puts events in order, the least last. Of events with one key, the one that came last stays last.
-pub(crate) fn sort_falling(bucket: &mut Vec<(Key, StepInput)>) -> Result<(), AllocError>
+pub(crate) fn sort_falling(bucket: &mut Vec<Event>) -> Result<(), AllocError>
     ensures falls { OnOk result (Falls bucket.new.items) }
     ensures latest { (q : KeyValue) → latest q bucket.new.items ≡ latest q bucket.old.items }
     ensures ticks { IsPermutation bucket.old.items bucket.new.items }
 {
-    bucket.sort_by_key(|event| Reverse(event.0))?;
+    bucket.sort_by_key(|event| Reverse(event.key()))?;
     Ok(())
 }
 
 /// Takes the least event of a bucket that is in order, and drops what came before it with the same key.
 #[inline(always)]
-pub(crate) fn pop_least(bucket: &mut Vec<(Key, StepInput)>) -> Option<(Key, StepInput)>
+pub(crate) fn pop_least(bucket: &mut Vec<Event>) -> Option<Event>
     requires { Falls bucket.old.items }
     ensures { MatchOption result
         ((bucket.old.items ≡ []) × (bucket.new.items ≡ []))
         (λ e. IsPopped bucket.old.items bucket.new.items e) }
 {
-    let (key, input) = bucket.pop()?;
-    while ends_at(bucket, &key) {
+    let event = bucket.pop()?;
+    while ends_at(bucket, &event) {
         drop_last(bucket);
     }
-    Some((key, input))
+    Some(event)
 }
 
-/// Whether the last event of a bucket has this key.
-fn ends_at(bucket: &[(Key, StepInput)], key: &Key) -> bool
-    ensures yes { result ≡ true → EndsAt bucket.now key.now }
-    ensures no { EndsAt bucket.now key.now → result ≡ true }
+/// Whether the last event of a bucket has the key of this one.
+fn ends_at(bucket: &[Event], event: &Event) -> bool
+    ensures yes { result ≡ true → EndsAt bucket.now event.now.0 }
+    ensures no { EndsAt bucket.now event.now.0 → result ≡ true }
 {
     match bucket.last() {
-        Some((next, _)) => next.cmp(key).is_eq(),
+        Some(next) => next.key().cmp(&event.key()).is_eq(),
         None => false,
     }
 }
 
 /// Drops the last event of a bucket, if there is one.
-fn drop_last(bucket: &mut Vec<(Key, StepInput)>)
+fn drop_last(bucket: &mut Vec<Event>)
     ensures { bucket.new.items ≡ take (vec_len bucket.old - 1) bucket.old.items }
 {
     bucket.pop();
 }
 
 /// An empty bucket: one that was kept for reuse, or a new one.
-fn empty_bucket(alloc: Global, spare: &mut Vec<Vec<(Key, StepInput)>>) -> Vec<(Key, StepInput)>
+fn empty_bucket(alloc: Global, spare: &mut Vec<Vec<Event>>) -> Vec<Event>
     ensures { result.items ≡ [] }
 {
     match spare.pop() {
@@ -72,38 +72,38 @@ fn empty_bucket(alloc: Global, spare: &mut Vec<Vec<(Key, StepInput)>>) -> Vec<(K
 }
 
 /// Keeps a bucket for reuse, or lets it go where there is no room.
-fn keep_bucket(spare: &mut Vec<Vec<(Key, StepInput)>>, bucket: Vec<(Key, StepInput)>) {
+fn keep_bucket(spare: &mut Vec<Vec<Event>>, bucket: Vec<Event>) {
     drop(spare.push(bucket));
 }
 
-/// Adds an event to the bucket of its tick.
+/// Adds an event to the bucket of a tick.
 #[inline(always)]
 pub(crate) fn file(
     alloc: Global,
-    spare: &mut Vec<Vec<(Key, StepInput)>>,
-    later: &mut BTreeMap<u32, Vec<(Key, StepInput)>>,
-    key: Key,
-    input: StepInput,
+    spare: &mut Vec<Vec<Event>>,
+    later: &mut BTreeMap<u32, Vec<Event>>,
+    tick: u32,
+    event: Event,
 ) -> Result<(), AllocError>
-    ensures ok { OnOk result (IsFiled later.old later.new key input) }
+    ensures ok { OnOk result (IsFiled later.old later.new tick event) }
     ensures err { OnErr result (IsSame later.old later.new) }
     ensures ordered { IsOrdered nat_cmp later.new }
 {
-    if let Some(bucket) = later.get_mut(&key.tick) {
-        bucket.push((key, input))?;
+    if let Some(bucket) = later.get_mut(&tick) {
+        bucket.push(event)?;
         return Ok(());
     }
     let mut bucket = empty_bucket(alloc, spare);
-    bucket.push((key, input))?;
-    later.insert(key.tick, bucket)?;
+    bucket.push(event)?;
+    later.insert(tick, bucket)?;
     Ok(())
 }
 
 /// Puts the events of a tick, which are in order, to the other buckets, where there is none of that tick.
 fn stow(
     tick: u32,
-    due: &mut Vec<(Key, StepInput)>,
-    later: &mut BTreeMap<u32, Vec<(Key, StepInput)>>,
+    due: &mut Vec<Event>,
+    later: &mut BTreeMap<u32, Vec<Event>>,
 ) -> Result<(), AllocError>
     requires { HasTick later.old tick → ⊥ }
     ensures ok { OnOk result ((due.new.items ≡ []) × IsStowed later.old later.new tick due.old.items) }
@@ -122,7 +122,7 @@ fn stow(
 pub(crate) fn settle(
     tick: u32,
     at: u32,
-    due: &mut Vec<(Key, StepInput)>,
+    due: &mut Vec<Event>,
     later: &mut Calendar,
 ) -> Result<(), AllocError>
     requires { IsInOrder tick due.old.items later.old }
@@ -140,10 +140,10 @@ pub(crate) fn settle(
 /// Takes the bucket of the least tick out, where nothing is due, and puts it in order.
 pub(crate) fn refill(
     tick: &mut u32,
-    due: &mut Vec<(Key, StepInput)>,
+    due: &mut Vec<Event>,
     later: &mut Calendar,
-    spare: &mut Vec<Vec<(Key, StepInput)>>,
-    lanes: &mut Vec<Vec<(Key, StepInput)>>,
+    spare: &mut Vec<Vec<Event>>,
+    lanes: &mut Vec<Vec<Event>>,
 ) -> Result<(), AllocError>
     requires { IsInOrder tick.old due.old.items later.old }
     ensures in_order { IsInOrder tick.new due.new.items later.new }

@@ -8,10 +8,10 @@ ghost use Rattle.pending_events.specs.Lanes.{lane};
 
 use crate::buckets::file;
 use crate::lanes::open_lanes;
-use process_api::{Key, StepInput};
 use std::alloc::{AllocError, Global};
 use std::collections::BTreeMap;
 use std::mem;
+use trace_laws::Event;
 
 /// How many ticks a year has. A ring has as many places.
 const YEAR: u32 = 1024;
@@ -21,31 +21,19 @@ const LAST_YEAR: u32 = u32::MAX - YEAR;
 
 /// Events by their ticks. The year is the 1,024 ticks from `from` on. An event of the year lies in the ring: the place
 /// of its bucket is its tick's rest by 1,024, so each tick of the year has a place of its own. Every other event lies
-/// in the map, and so does every event where there is no ring. The year only moves forward, to the tick whose events
-/// are taken. So of the events of one tick those in the map came first.
+/// in the map. The year only moves forward, to the tick whose events are taken. So of the events of one tick those in
+/// the map came first.
 #[derive(Drop)]
 pub(crate) struct Calendar {
     pub(crate) from: u32,
-    pub(crate) ring: Vec<Vec<(Key, StepInput)>>,
+    pub(crate) ring: Vec<Vec<Event>>,
     // by tick
-    pub(crate) map: BTreeMap<u32, Vec<(Key, StepInput)>>,
+    pub(crate) map: BTreeMap<u32, Vec<Event>>,
 }
 
 impl Calendar {
-    /// No event, and no ring: all events will lie in the map.
-    pub(crate) fn new(alloc: Global) -> Calendar
-        ensures calendar { IsCalendar result }
-        ensures vacant { IsVacant result }
-    {
-        Calendar {
-            from: 0,
-            ring: Vec::new(alloc),
-            map: BTreeMap::new(alloc),
-        }
-    }
-
-    /// No event, and a ring.
-    pub(crate) fn with_ring(alloc: Global) -> Result<Calendar, AllocError>
+    /// No event.
+    pub(crate) fn new(alloc: Global) -> Result<Calendar, AllocError>
         ensures calendar { IfOk result (λ c. IsCalendar c) }
         ensures vacant { IfOk result (λ c. IsVacant c) }
     {
@@ -64,9 +52,6 @@ impl Calendar {
         ensures { MatchOption result (IsVacant self.now) (λ tick. IsFirst self.now tick) }
     {
         let listed = least_listed(&self.map);
-        if self.ring.is_empty() {
-            return listed;
-        }
         let end = (self.from + YEAR).min(listed.unwrap_or(u32::MAX));
         match first_filled(&self.ring, self.from, end) {
             Some(tick) => Some(tick),
@@ -75,16 +60,13 @@ impl Calendar {
     }
 
     /// Takes the events of the least tick.
-    pub(crate) fn take_first(&mut self) -> Result<Option<(u32, Vec<(Key, StepInput)>)>, AllocError>
+    pub(crate) fn take_first(&mut self) -> Result<Option<(u32, Vec<Event>)>, AllocError>
         requires { IsCalendar self.old }
         ensures calendar { IsCalendar self.new }
         ensures taken { IfOk result (λ r. MatchOption r
             (IsVacant self.old × IsVacant self.new)
             (λ p. IsTaken self.old self.new p.0 p.1.items)) }
     {
-        if self.ring.is_empty() {
-            return Ok(self.map.pop_first());
-        }
         let Some(tick) = self.least_tick() else {
             return Ok(None);
         };
@@ -107,7 +89,7 @@ fn is_near(from: u32, tick: u32) -> bool
 }
 
 /// The least tick of a map.
-fn least_listed(map: &BTreeMap<u32, Vec<(Key, StepInput)>>) -> Option<u32>
+fn least_listed(map: &BTreeMap<u32, Vec<Event>>) -> Option<u32>
     ensures { MatchOption result ((t : ℕ) → HasTick map.now t → ⊥)
         (λ tick. HasTick map.now tick × IsLowerBound nat_cmp map.now tick) }
 {
@@ -118,7 +100,7 @@ fn least_listed(map: &BTreeMap<u32, Vec<(Key, StepInput)>>) -> Option<u32>
 }
 
 /// Whether there are events in the bucket at a tick's place.
-fn is_filled(ring: &[Vec<(Key, StepInput)>], tick: u32) -> bool
+fn is_filled(ring: &[Vec<Event>], tick: u32) -> bool
     ensures yes { result ≡ true → 0 < length (lane ring.now (tick % year)) }
     ensures no { result ≡ false → lane ring.now (tick % year) ≡ [] }
 {
@@ -127,7 +109,7 @@ fn is_filled(ring: &[Vec<(Key, StepInput)>], tick: u32) -> bool
 }
 
 /// The first tick of a part of the year with events at its place.
-fn first_filled(ring: &[Vec<(Key, StepInput)>], from: u32, end: u32) -> Option<u32>
+fn first_filled(ring: &[Vec<Event>], from: u32, end: u32) -> Option<u32>
     ensures { MatchOption result (NoneAhead ring.now from end) (λ tick.
         (from ≤ tick) × (tick < end) × NoneAhead ring.now from tick × (0 < length (lane ring.now (tick % year)))) }
 {
@@ -140,11 +122,7 @@ fn first_filled(ring: &[Vec<(Key, StepInput)>], from: u32, end: u32) -> Option<u
 }
 
 /// Takes the events of a tick out of the map.
-fn take_listed(
-    alloc: Global,
-    map: &mut BTreeMap<u32, Vec<(Key, StepInput)>>,
-    tick: u32,
-) -> Vec<(Key, StepInput)>
+fn take_listed(alloc: Global, map: &mut BTreeMap<u32, Vec<Event>>, tick: u32) -> Vec<Event>
     ensures whole { result.items ≡ bucket map.old tick }
     ensures gone { HasTick map.new tick → ⊥ }
     ensures others { (t : ℕ) → t ≢ tick → get nat_cmp map.new t ≡ get nat_cmp map.old t }
@@ -157,12 +135,7 @@ fn take_listed(
 }
 
 /// Takes the events of a tick out of the ring, if the tick is in the year.
-fn take_near(
-    alloc: Global,
-    from: u32,
-    ring: &mut Vec<Vec<(Key, StepInput)>>,
-    tick: u32,
-) -> Vec<(Key, StepInput)>
+fn take_near(alloc: Global, from: u32, ring: &mut Vec<Vec<Event>>, tick: u32) -> Vec<Event>
     ensures whole { result.items ≡ near_at from ring.old.items tick }
     ensures gone { near_at from ring.new.items tick ≡ [] }
     ensures others { (t : ℕ) → t ≢ tick → near_at from ring.new.items t ≡ near_at from ring.old.items t }
@@ -177,10 +150,7 @@ fn take_near(
 }
 
 /// Events, and then others.
-fn followed_by(
-    mut early: Vec<(Key, StepInput)>,
-    mut late: Vec<(Key, StepInput)>,
-) -> Result<Vec<(Key, StepInput)>, AllocError>
+fn followed_by(mut early: Vec<Event>, mut late: Vec<Event>) -> Result<Vec<Event>, AllocError>
     ensures { IfOk result (λ v. v.items ≡ early.items ++ late.items) }
 {
     if early.is_empty() {
@@ -191,7 +161,7 @@ fn followed_by(
 }
 
 /// Gives an empty bucket the memory of one that was kept for reuse.
-fn furnish(spare: &mut Vec<Vec<(Key, StepInput)>>, bucket: &mut Vec<(Key, StepInput)>)
+fn furnish(spare: &mut Vec<Vec<Event>>, bucket: &mut Vec<Event>)
     requires { bucket.old.items ≡ [] }
     ensures { bucket.new.items ≡ [] }
 {
@@ -204,55 +174,54 @@ fn furnish(spare: &mut Vec<Vec<(Key, StepInput)>>, bucket: &mut Vec<(Key, StepIn
 /// Adds an event to the end of a bucket.
 #[inline(always)]
 fn put_last(
-    spare: &mut Vec<Vec<(Key, StepInput)>>,
-    bucket: &mut Vec<(Key, StepInput)>,
-    key: Key,
-    input: StepInput,
+    spare: &mut Vec<Vec<Event>>,
+    bucket: &mut Vec<Event>,
+    event: Event,
 ) -> Result<(), AllocError>
-    ensures ok { OnOk result (bucket.new.items ≡ bucket.old.items ++ (key, input) ∷ []) }
+    ensures ok { OnOk result (bucket.new.items ≡ bucket.old.items ++ event ∷ []) }
     ensures err { OnErr result (bucket.new.items ≡ bucket.old.items) }
 {
     if bucket.is_empty() {
         furnish(spare, bucket);
     }
-    bucket.push((key, input))?;
+    bucket.push(event)?;
     Ok(())
 }
 
 /// Adds an event to the end of the bucket at a place of the ring.
 #[inline(always)]
 fn put_near(
-    spare: &mut Vec<Vec<(Key, StepInput)>>,
-    ring: &mut Vec<Vec<(Key, StepInput)>>,
+    spare: &mut Vec<Vec<Event>>,
+    ring: &mut Vec<Vec<Event>>,
     place: usize,
-    key: Key,
-    input: StepInput,
+    event: Event,
 ) -> Result<(), AllocError>
     requires { place < vec_len ring.old }
-    ensures ok { OnOk result (lane ring.new.items place ≡ lane ring.old.items place ++ (key, input) ∷ []) }
+    ensures ok { OnOk result (lane ring.new.items place ≡ lane ring.old.items place ++ event ∷ []) }
     ensures err { OnErr result (lane ring.new.items place ≡ lane ring.old.items place) }
     ensures others { (other : ℕ) → other ≢ place → lane ring.new.items other ≡ lane ring.old.items other }
 {
-    put_last(spare, &mut ring[place], key, input)
+    put_last(spare, &mut ring[place], event)
 }
 
-/// Adds an event to those of its tick.
+/// Adds an event to those of its tick, which is this.
 #[inline(always)]
 pub(crate) fn add(
     alloc: Global,
-    spare: &mut Vec<Vec<(Key, StepInput)>>,
+    spare: &mut Vec<Vec<Event>>,
     calendar: &mut Calendar,
-    key: Key,
-    input: StepInput,
+    tick: u32,
+    event: Event,
 ) -> Result<(), AllocError>
-    requires { IsCalendar calendar.old }
+    requires calendar { IsCalendar calendar.old }
+    requires tick { event.0.tick ≡ tick }
     ensures calendar { IsCalendar calendar.new }
-    ensures ok { OnOk result (IsAdded calendar.old calendar.new key input) }
+    ensures ok { OnOk result (IsAdded calendar.old calendar.new tick event) }
     ensures err { OnErr result (HoldsSame calendar.old calendar.new) }
 {
-    let place = (key.tick % YEAR) as usize;
-    if place < calendar.ring.len() && is_near(calendar.from, key.tick) {
-        return put_near(spare, &mut calendar.ring, place, key, input);
+    let place = (tick % YEAR) as usize;
+    if place < calendar.ring.len() && is_near(calendar.from, tick) {
+        return put_near(spare, &mut calendar.ring, place, event);
     }
-    file(alloc, spare, &mut calendar.map, key, input)
+    file(alloc, spare, &mut calendar.map, tick, event)
 }

@@ -3,16 +3,24 @@ ghost use Rattle.std.specs.Prelude.{◌≡◌};
 ghost use Rattle.trace_laws.specs.World.{joined};
 
 use crate::pending::Pending;
-use process_api::{Key, StepInput};
+use process_api::Letter;
 use std::alloc::AllocError;
-use trace_laws::Joins;
+use trace_laws::{Event, Joins};
 
 impl Joins for Pending {
+    ghost serves = { λ _ _ _ _. Unit {0} };
+
     ghost grown = { λ old events new. new ≡ joined old events };
 
     #[inline(always)]
-    fn add(&mut self, key: Key, input: StepInput) -> Result<(), AllocError> {
-        self.join(key, input)?;
+    fn add(&mut self, event: Event) -> Result<(), AllocError> {
+        self.join(event)?;
+        Ok(())
+    }
+
+    #[inline(always)]
+    fn send(&mut self, letter: Letter) -> Result<(), AllocError> {
+        self.join(Event::letter(letter))?;
         Ok(())
     }
 }

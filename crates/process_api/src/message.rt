@@ -6,7 +6,7 @@ use crate::pid::Pid;
 use crate::proc_set::ProcSet;
 
 /// What a wake is for.
-#[derive(Clone, Copy, Debug)]
+#[derive(Clone, Copy)]
 pub enum Tag {
     /// The base detector sends its next letters.
     Beat,

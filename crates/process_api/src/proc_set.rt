@@ -10,7 +10,7 @@ use crate::words::{WORDS, clear, count, either, first_with_bits, low, put, witho
 use std::marker::Model;
 
 /// A set of processes. Contracts see the finite set of their numbers.
-#[derive(Debug, Drop)]
+#[derive(Drop)]
 pub struct ProcSet {
     // process q is bit q - 1
     words: [u64; WORDS],

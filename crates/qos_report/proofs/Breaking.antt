@@ -1,5 +1,5 @@
 -- A run by windows from its trace to its texts: what it leaves once it is done, and once it breaks off.
-use Rattle.std.proofs.Common.{◌≡◌, ◌≢◌, ◌⊎◌, ℕ, ◌+◌, inl, inr, refl, sym, ap, ◌∙◌, subst, arith, Bool, true, false, true≢false, Option, None, Some, List, [], ◌++◌, Err}
+use Rattle.std.proofs.Common.{◌≡◌, ◌≢◌, ◌⊎◌, ℕ, ◌+◌, inl, inr, refl, sym, ap, ◌∙◌, subst, arith, Bool, true, false, true≢false, Option, None, Some, List, [], ◌++◌, Err, append-nil}
 use Rattle.std.specs.Prelude.{IsTrue}
 use Rattle.std.specs.Global.{Vec}
 use Rattle.trace_laws.specs.ScenarioSetting.{setting_of}
@@ -18,7 +18,6 @@ use Rattle.reporting.specs.Printed.{IsLonger}
 use Rattle.qos_report.specs.Streaming.{WroteFirst, WroteFront, WroteWhere}
 use Rattle.reporting.specs.TraceText.{rows_text, trace_header, trace_text}
 use Rattle.reporting.specs.Writing.{Wrote, WrotePart, WroteNothing}
-use Rattle.reporting.proofs.EachProcess.{append_none}
 use Rattle.reporting.proofs.Written.{part_of_more, wrote_both, wrote_then_part}
 
 trace_text_is : (trace : List EntryRecord) → trace_header ++ rows_text trace ≡ trace_text trace
@@ -55,7 +54,7 @@ module _ (S : Record) {O : Type 0} (told : O → Option (List ℕ)) (failed : O 
   pub wrote_printed : (print : PrintChoice) (report : Option (Vec ℕ)) (a b c d : O) → WroteWhere told failed a b (prints_trace print) trace_header → WroteWhere told failed b c (prints_trace print) (rows_text trace)
       → IsTextWhere (prints_report print) (report_text S trace) report → Wrote told failed c d (items_of report) → Wrote told failed a d (printed print S trace)
   wrote_printed choice.Trace None a b c d header rows is last =
-      subst (Wrote told failed a d) (append_none (trace_header ++ rows_text trace) ∙ trace_text_is trace)
+      subst (Wrote told failed a d) (append-nil (trace_header ++ rows_text trace) ∙ trace_text_is trace)
       (wrote_both told failed a c d (trace_header ++ rows_text trace) [] (wrote_both told failed a b c trace_header (rows_text trace) header rows) last)
   wrote_printed choice.Trace (Some t) a b c d header rows is last = absurd is
   wrote_printed choice.Report None a b c d header rows is last = absurd is
@@ -87,7 +86,7 @@ module _ (S : Record) {O : Type 0} (told : O → Option (List ℕ)) (failed : O 
   pub part_in_report : (print : PrintChoice) (report : Option (Vec ℕ)) (a b c d : O) → WroteWhere told failed a b (prints_trace print) trace_header → WroteWhere told failed b c (prints_trace print) (rows_text trace)
       → IsTextWhere (prints_report print) (report_text S trace) report → WrotePart told failed c d (items_of report) → WrotePart told failed a d (printed print S trace)
   part_in_report choice.Trace None a b c d header rows is last =
-      subst (WrotePart told failed a d) (append_none (trace_header ++ rows_text trace) ∙ trace_text_is trace)
+      subst (WrotePart told failed a d) (append-nil (trace_header ++ rows_text trace) ∙ trace_text_is trace)
       (wrote_then_part told failed a c d (trace_header ++ rows_text trace) [] (wrote_both told failed a b c trace_header (rows_text trace) header rows) last)
   part_in_report choice.Trace (Some t) a b c d header rows is last = absurd is
   part_in_report choice.Report None a b c d header rows is last = absurd is
@@ -171,6 +170,6 @@ module _ (S : Record) {O : Type 0} (told : O → Option (List ℕ)) (failed : O 
       trace = trace;
       is_trace = is_trace;
       write = λ is. absurd (true≢false (sym (ap is_write is)));
-      others = λ _. rows_out a b c Memory header (record { first = trace; others = []; all = sym (append_none trace); out = rows });
+      others = λ _. rows_out a b c Memory header (record { first = trace; others = []; all = sym (append-nil trace); out = rows });
       limit = λ is. let bad : Memory ≡ Limit = is in cc;
     }

@@ -1,21 +1,19 @@
 -- What a sink took, window by window.
-use Rattle.std.proofs.Common.{◌≡◌, ◌⊎◌, ◌≤◌, ℕ, inl, inr, refl, sym, ap, ◌∙◌, subst, true, Option, List, [], ◌∷◌, ◌++◌, length, append_assoc, Result, Ok, Err, OnOk, OnErr}
+use Rattle.std.proofs.Common.{◌≡◌, ◌⊎◌, ◌≤◌, ℕ, inl, inr, refl, sym, ap, ◌∙◌, subst, Option, List, [], ◌∷◌, ◌++◌, length, append_assoc, append-nil, Result, Ok, Err, OnOk, OnErr}
 use Rattle.trace_laws.specs.ScenarioSetting.{setting_of}
 use Rattle.trace_laws.specs.Setting.{IsSound}
 use Rattle.trace_laws.specs.World.{IsTrace}
 use Rattle.run_error.specs.declared.error.RunError.{RunError}
 use Rattle.trace_laws.proofs.Closed.{trace_rises}
-use Rattle.judges.proofs.Order.{rising_front}
 use Rattle.process_api.specs.EntryRecord.{EntryRecord}
-use Rattle.process_api.specs.Order.{is_rising}
 use Rattle.scenario_record.specs.Record.{Record}
 use Rattle.windows.specs.Sink.{TookAll, TookFront, TookTrace}
 use Rattle.window_laws.specs.Theorems.{end_to_end}
-use Rattle.reporting.specs.Running.{IsRunning}
+use Rattle.reporting.specs.Running.{RunningFollowed}
 use Rattle.qos_report.specs.Streaming.{StreamedFront, StreamedTrace, TookFrontOfPart, TookPart, WroteFront, WroteWhere}
 use Rattle.reporting.specs.TraceText.{rows_text}
 use Rattle.qos_report.specs.declared.streaming.Streaming.{Streaming}
-use Rattle.reporting.proofs.EachProcess.{append_none}
+use Rattle.reporting.proofs.Followed.{running_same, running_told}
 use Rattle.reporting.proofs.Written.{rows_both}
 use Rattle.qos_report.proofs.UnderWay.{front_more, front_of, then_front, where_both, where_nothing}
 
@@ -24,7 +22,7 @@ module _ {O : Type 0} (told : O → Option (List ℕ)) (failed : O → ℕ) wher
   took_none s = record {
     same = record { outlet = refl; traced = refl };
     written = where_nothing told failed s.is_traced s.outlet.now;
-    measured = λ S reported trace is rises. subst (λ t. IsRunning S t reported s.running) (sym (append_none trace)) is;
+    measured = λ first told was. subst (RunningFollowed first s.running) (sym (append-nil told)) was;
   }
 
   took_both : (a b c : Streaming O) (xs ys : List EntryRecord) → TookPart told failed a xs b → TookPart told failed b ys c → TookPart told failed a (xs ++ ys) c
@@ -34,11 +32,7 @@ module _ {O : Type 0} (told : O → Option (List ℕ)) (failed : O → ℕ) wher
         subst (WroteWhere told failed a.outlet.now c.outlet.now a.is_traced) (sym (rows_both xs ys))
         (where_both told failed a.is_traced a.outlet.now b.outlet.now c.outlet.now (rows_text xs) (rows_text ys) p.written
         (subst (λ t. WroteWhere told failed b.outlet.now c.outlet.now t (rows_text ys)) p.same.traced q.written));
-    measured = λ S reported trace is rises.
-        let split = append_assoc trace xs ys in
-        let all = subst (λ t. is_rising t ≡ true) (sym split) rises in
-        subst (λ t. IsRunning S t reported c.running) split
-        (q.measured S reported (trace ++ xs) (p.measured S reported trace is (rising_front (trace ++ xs) ys all)) all);
+    measured = λ first told was. subst (RunningFollowed first c.running) (append_assoc told xs ys) (q.measured first (told ++ xs) (p.measured first told was));
   }
 
   pub took_all : (old new : Streaming O) (parts : List (List EntryRecord)) → TookAll (TookPart told failed) old parts new → TookPart told failed old (end_to_end parts) new
@@ -89,7 +83,7 @@ module _ {O : Type 0} (told : O → Option (List ℕ)) (failed : O → ℕ) wher
           trace = trace;
           is_within = record { is_trace = took.is_trace; within = within trace took.is_trace };
           written = part.written;
-          measured = λ reported is. part.measured s reported [] is (trace_rises (setting_of s) sound trace took.is_trace);
+          measured = λ reported is. running_told s trace (trace_rises (setting_of s) sound trace took.is_trace) reported old.running new.running (part.measured old.running [] (running_same old.running)) is;
         }
     ran_took sound (Err e) took within = tt
 

@@ -1,11 +1,10 @@
 -- Rows that are asked for or not, and rows in a buffer.
-use Rattle.std.proofs.Common.{◌≡◌, ℕ, inl, inr, refl, sym, ap, ◌∙◌, subst, Bool, true, false, true≢false, Option, List, [], ◌∷◌, ◌++◌, append_assoc}
+use Rattle.std.proofs.Common.{◌≡◌, ℕ, inl, inr, refl, sym, ap, ◌∙◌, subst, Bool, true, false, true≢false, Option, List, [], ◌∷◌, ◌++◌, append_assoc, append-nil}
 use Rattle.process_api.specs.EntryRecord.{EntryRecord}
-use Rattle.reporting.specs.Rows.{row_of}
+use Rattle.rows.specs.Rows.{row_of}
 use Rattle.qos_report.specs.Streaming.{AreUnderWay, WroteFront, WroteWhere}
 use Rattle.reporting.specs.TraceText.{fields_of, rows_text}
 use Rattle.reporting.specs.Writing.{Wrote, WrotePart}
-use Rattle.reporting.proofs.EachProcess.{append_none}
 use Rattle.reporting.proofs.Written.{part_of_more, rows_both, rows_one, wrote_both, wrote_nothing, wrote_then_part}
 
 module _ {O : Type 0} (told : O → Option (List ℕ)) (failed : O → ℕ) where
@@ -64,7 +63,7 @@ module _ {O : Type 0} (told : O → Option (List ℕ)) (failed : O → ℕ) wher
         (wrote_both told failed a b c (rows_text way.gone) (rows_text way.held) way.out (subst (Wrote told failed b c) way.rest w))
 
     pub all_gone : (c : O) (left : List ℕ) → Wrote told failed b c kept → left ≡ [] → AreUnderWay told failed a c entries left
-    all_gone c left w none = record { gone = entries; held = []; all = sym (append_none entries); out = all_out c w; rest = none }
+    all_gone c left w none = record { gone = entries; held = []; all = sym (append-nil entries); out = all_out c w; rest = none }
 
     -- a put failed
     pub part_out : (c : O) → WrotePart told failed b c kept → WroteFront told failed a c true entries

@@ -3,14 +3,12 @@ use Rattle.std.specs.Prelude.{◌≡◌, ◌⊎◌, ℕ, Bool, true, false, List
 use Rattle.trace_laws.specs.ScenarioSetting.{setting_of}
 use Rattle.trace_laws.specs.World.{IsTrace}
 use Rattle.process_api.specs.EntryRecord.{EntryRecord}
-use Rattle.process_api.specs.Order.{is_rising}
 use Rattle.scenario_record.specs.Record.{Record}
 use Rattle.reporting.specs.Printed.{IsTraceWithin}
 use Rattle.reporting.specs.ReportText.{Text}
-use Rattle.reporting.specs.Running.{IsRunning}
+use Rattle.reporting.specs.Running.{IsRunning, Running, RunningFollowed}
 use Rattle.reporting.specs.TraceText.{rows_text}
 use Rattle.reporting.specs.Writing.{Wrote, WrotePart}
-use Rattle.reporting.specs.declared.running.Running.{Running}
 use Rattle.qos_report.specs.declared.streaming.Streaming.{Streaming}
 
 module _ {O : Type 0} (told : O → Option (List ℕ)) (failed : O → ℕ) where
@@ -45,12 +43,12 @@ module _ {O : Type 0} (told : O → Option (List ℕ)) (failed : O → ℕ) wher
     pub outlet : new.outlet.ghost_name ≡ old.outlet.ghost_name
     pub traced : new.is_traced ≡ old.is_traced
 
-  -- the entries of a part were measured, and their rows went out where they are asked for
+  -- the entries of a part were told, and their rows went out where they are asked for
   pub record TookPart (old : Streaming O) (part : List EntryRecord) (new : Streaming O) : Type 0 where
     pub same : IsSame old new
     pub written : WroteWhere old.outlet.now new.outlet.now old.is_traced (rows_text part)
-    pub measured : (S : Record) (reported : Bool) (trace : List EntryRecord) → IsRunning S trace reported old.running
-        → IsTrue (is_rising (trace ++ part)) → IsRunning S (trace ++ part) reported new.running
+    pub measured : (first : Running) (told : List EntryRecord) → RunningFollowed first old.running told
+        → RunningFollowed first new.running (told ++ part)
 
   -- a part was refused
   pub record TookFrontOfPart (old : Streaming O) (part : List EntryRecord) (new : Streaming O) : Type 0 where

@@ -9,7 +9,9 @@ use crate::streaming::{stream_windows, write_header};
 use event_list::RunError;
 use print_choice::PrintChoice;
 use process_api::Process;
-use reporting::{Outlet, Running, Summary, prints_report, prints_trace, write_if_any};
+use reporting::{
+    Outlet, Summary, close_running, open_running, prints_report, prints_trace, write_if_any,
+};
 use scenario_record::Scenario;
 use std::alloc::Global;
 use std::marker::Sync;
@@ -35,17 +37,17 @@ use windows::{Gate, Plan};
 /// than the scenario's limit: then the trace's first line and the rows of the windows before went out, where the trace
 /// is asked for, and nothing of the report did. `Write` where a put failed: then a front part of the texts went out, of
 /// which the trace may be longer than the limit.
-pub fn bench_windows<G: Gate, O: Outlet, R: Threads + Wait + Sync>(
+pub fn bench_windows<M: Process, G: Gate, O: Outlet, R: Threads + Wait + Sync>(
     rt: &R,
     alloc: Global,
     scenario: &Scenario,
-    machines: Vec<Box<dyn Process>>,
+    machines: Vec<M>,
     plan: &Plan,
     gate: &G,
     print: PrintChoice,
     outlet: &mut O,
 ) -> Result<Summary, RunError>
-    requires machines { map mind machines.items
+    requires machines { map M.mind machines.items
         ≡ map (opening_mind scenario.now) (numbers_to scenario.now.processes) }
     requires plan { IsPlanFor scenario.now plan.now }
     requires failures { O.failed outlet.old < 2 ^ 64 - 1 }
@@ -54,12 +56,12 @@ pub fn bench_windows<G: Gate, O: Outlet, R: Threads + Wait + Sync>(
 {
     let _ticks = scenario.horizon();
     let is_traced = prints_trace(print);
-    let running = Running::open(alloc, scenario, prints_report(print))?;
+    let running = open_running(alloc, scenario, prints_report(print))?;
     write_header(is_traced, outlet)?;
     let run = stream_windows(
         rt, alloc, scenario, machines, plan, gate, is_traced, running, outlet,
     )?;
-    let (summary, report) = run.close(alloc, scenario)?;
+    let (summary, report) = close_running(alloc, scenario, run)?;
     write_if_any(report, outlet)?;
     Ok(summary)
 }

@@ -11,6 +11,7 @@ ghost use Rattle.windows.specs.Plan.{IsPlanFor};
 ghost use Rattle.windows.specs.Sink.{IsRefusalOfSink, writes_of};
 
 use event_list::RunError;
+use followers::follow_all;
 use process_api::{Entry, Process};
 use reporting::{HEADER, Outlet, Running, append_entry, write_text};
 use scenario_record::Scenario;
@@ -84,7 +85,7 @@ impl<'a, O: Outlet> Sink for Streaming<'a, O> {
     ghost failed = { λ s. O.failed s.outlet.now };
 
     fn part(&mut self, entries: Vec<Entry>) -> Result<(), RunError> {
-        self.running.feed_all(&entries);
+        follow_all(&mut self.running, &entries)?;
         if self.is_traced {
             write_rows(&entries, &mut self.buffer, self.outlet)
         } else {
@@ -113,16 +114,16 @@ pub(crate) fn write_header<O: Outlet>(is_traced: bool, outlet: &mut O) -> Result
 
 /// Runs machines by windows into a sink that streams. There is one machine for each process, of process 1 first, and
 /// each opens as the scenario says.
-fn run_into<G: Gate, O: Outlet, R: Threads + Wait + Sync>(
+fn run_into<M: Process, G: Gate, O: Outlet, R: Threads + Wait + Sync>(
     rt: &R,
     alloc: Global,
     scenario: &Scenario,
-    machines: Vec<Box<dyn Process>>,
+    machines: Vec<M>,
     plan: &Plan,
     gate: &G,
     sink: &mut Streaming<'_, O>,
 ) -> Result<(), RunError>
-    requires machines { map mind machines.items ≡ map (opening_mind scenario.now) (numbers_to scenario.now.processes) }
+    requires machines { map M.mind machines.items ≡ map (opening_mind scenario.now) (numbers_to scenario.now.processes) }
     requires plan { IsPlanFor scenario.now plan.now }
     requires failures { O.failed sink.old.outlet.now < 2 ^ 64 - 1 }
     ensures outlet { sink.new.outlet.ghost_name ≡ sink.old.outlet.ghost_name }
@@ -145,18 +146,18 @@ fn run_into<G: Gate, O: Outlet, R: Threads + Wait + Sync>(
 /// `Spawn` where a thread was refused, `Memory` where memory was, `Limit` where the run has more entries than the
 /// scenario's limit, `Write` where a put failed. The rows of windows that were closed before went out, where they are
 /// asked for.
-pub(crate) fn stream_windows<G: Gate, O: Outlet, R: Threads + Wait + Sync>(
+pub(crate) fn stream_windows<M: Process, G: Gate, O: Outlet, R: Threads + Wait + Sync>(
     rt: &R,
     alloc: Global,
     scenario: &Scenario,
-    machines: Vec<Box<dyn Process>>,
+    machines: Vec<M>,
     plan: &Plan,
     gate: &G,
     is_traced: bool,
     running: Running,
     outlet: &mut O,
 ) -> Result<Running, RunError>
-    requires machines { map mind machines.items ≡ map (opening_mind scenario.now) (numbers_to scenario.now.processes) }
+    requires machines { map M.mind machines.items ≡ map (opening_mind scenario.now) (numbers_to scenario.now.processes) }
     requires plan { IsPlanFor scenario.now plan.now }
     requires failures { O.failed outlet.old < 2 ^ 64 - 1 }
     ensures took { IfOk result (λ run. StreamedTrace scenario.now O.told O.failed is_traced running outlet.old

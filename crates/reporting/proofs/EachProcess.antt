@@ -1,14 +1,10 @@
 -- Lists that are made process by process.
-use Rattle.std.proofs.Common.{◌≡◌, ◌≢◌, ℕ, zero, suc, ◌+◌, ◌<◌, Bool, true, false, cond, not, refl, sym, ap, ◌∙◌, arith, eqb, List, [], ◌∷◌, ◌++◌, map, flat_map, filter, append_assoc, add-one}
+use Rattle.std.proofs.Common.{◌≡◌, ◌≢◌, ℕ, zero, suc, ◌+◌, ◌<◌, Bool, true, false, cond, not, refl, sym, ap, ◌∙◌, arith, eqb, List, [], ◌∷◌, ◌++◌, map, flat_map, filter, append_assoc, add-one, append-nil}
 use Rattle.std.proofs.lemmas.Bool.{eq-eqb, ne_eqb}
 use Rattle.std.proofs.lemmas.List.{map-append}
 use Rattle.std.proofs.lemmas.List.Elements.{filter-append}
 use Rattle.std.proofs.lemmas.Grind.{flat_map-append}
 use Rattle.process_api.specs.Numbers.{numbers_to, others}
-
-pub append_none : {X : Type 0} (xs : List X) → xs ++ [] ≡ xs
-append_none [] = refl
-append_none (x ∷ xs) = ap (λ ys. x ∷ ys) (append_none xs)
 
 -- one more of the others of a process, unless it is that process
 pub others_more : {X : Type 0} (f : ℕ → X) (k q : ℕ) → map f (others (suc k) q) ≡ map f (others k q) ++ cond (not (eqb (suc k) q)) (f (suc k) ∷ []) []
@@ -30,7 +26,7 @@ others_same f g (suc k) q same =
     ∙ sym (others_more g k q)
 
 pub rows_more : {X : Type 0} (f : ℕ → List X) (k : ℕ) → flat_map f (numbers_to (suc k)) ≡ flat_map f (numbers_to k) ++ f (suc k)
-rows_more f k = flat_map-append f (numbers_to k) (suc k ∷ []) ∙ ap (λ ys. flat_map f (numbers_to k) ++ ys) (append_none (f (suc k)))
+rows_more f k = flat_map-append f (numbers_to k) (suc k ∷ []) ∙ ap (λ ys. flat_map f (numbers_to k) ++ ys) (append-nil (f (suc k)))
 
 pub rows_same : {X : Type 0} (f g : ℕ → List X) (k : ℕ) → ((j : ℕ) → j < k → f (suc j) ≡ g (suc j)) → flat_map f (numbers_to k) ≡ flat_map g (numbers_to k)
 rows_same f g zero same = refl
@@ -54,7 +50,7 @@ pushed_other f old now new k q x so_far pushed other is =
 pub skipped_own : {X : Type 0} (f : ℕ → X) (old now : List X) (k q : ℕ) → now ≡ old ++ map f (others k q) → k + 1 ≡ q → now ≡ old ++ map f (others (k + 1) q)
 skipped_own f old now k q so_far own =
     so_far
-    ∙ ap (λ ys. old ++ ys) (sym (append_none (map f (others k q))))
+    ∙ ap (λ ys. old ++ ys) (sym (append-nil (map f (others k q))))
     ∙ ap (λ b. old ++ (map f (others k q) ++ cond b (f (suc k) ∷ []) [])) (sym (ap not (eq-eqb (suc k) q (omega arith))))
     ∙ ap (λ ys. old ++ ys) (sym (others_more f k q))
     ∙ ap (λ n. old ++ map f (others n q)) (sym (add-one k))

@@ -1,4 +1,4 @@
--- Meters and panels, as they open and as they are fed with one more entry.
+-- Meters, as they open and as they are fed with one more entry.
 use Rattle.std.proofs.Common.{◌≡◌, ◌≢◌, ℕ, ◌<◌, ◌≤◌, min, cond, not, inl, inr, sym, ap, ◌∙◌, arith, ltb, eqb, None, Some, List, [], ◌∷◌, ◌++◌}
 use Rattle.std.proofs.lemmas.Bool.{cases_lt, cond-true, cond-false, and_from, and_left, and_right, lt-ltb, le-ltb, eq-eqb, ne_eqb}
 use Rattle.process_api.specs.EntryRecord.{EntryRecord}
@@ -8,15 +8,13 @@ use Rattle.judges.specs.Judging.{AreUntil}
 use Rattle.judges.specs.Pair.{all_turned}
 use Rattle.judges.specs.Turns.{noted_turns, entry_turns}
 use Rattle.judges.specs.declared.pair.Pair.{Pair}
-use Rattle.judges.proofs.Entering.{fed_more, pairs_quiet}
+use Rattle.judges.proofs.Entering.{fed_more}
 use Rattle.judges.proofs.Turns.{turns_own, turns_late, turns_other, in_order_more}
 use Rattle.reporting.specs.Measures.{is_measured}
 use Rattle.reporting.specs.Meter.{crash_between}
 use Rattle.reporting.specs.MeterFed.{IsFed}
-use Rattle.reporting.specs.Metering.{IsMetering}
 use Rattle.reporting.specs.Tally.{counted, new_tally}
 use Rattle.reporting.specs.declared.meter.Meter.{Meter}
-use Rattle.reporting.specs.declared.panel.Panel.{Panel}
 use Rattle.reporting.specs.declared.tally.Tally.{Tally}
 
 pub crash_is : (S : Record) (q p a b n : ℕ) → a ≡ min (crash_tick S q) S.horizon → b ≡ min (crash_tick S p) S.horizon → n ≡ S.horizon
@@ -65,7 +63,3 @@ module _ (S : Record) (layer q p : ℕ) (trace : List EntryRecord) (entry : Entr
 
   pub meter_other : entry.key.receiver ≢ m.observer → IsFed S layer q p (trace ++ entry ∷ []) m
   meter_other other = meter_turned m.pair (ap (all_turned counted m.pair) (sym (turns_other layer q p S.horizon entry (λ e. other (e ∙ sym h.observer)))))
-
--- an entry without notes changes nothing
-pub metering_quiet : (S : Record) (layer : ℕ) (trace : List EntryRecord) (entry : EntryRecord) (panel : Panel) → IsMetering S layer trace panel → AreUntil trace entry.key.tick → entry.notes ≡ [] → IsMetering S layer (trace ++ entry ∷ []) panel
-metering_quiet S layer trace entry panel = pairs_quiet counted S layer new_tally trace entry panel.pairs

@@ -1,5 +1,5 @@
 -- Distances one by one: they are what sums and counts of distances are over, and a tally that passes on knows the next.
-use Rattle.std.proofs.Common.{◌≡◌, ℕ, zero, suc, ◌+◌, ◌-◌, ◌<◌, ◌≤◌, min, Bool, true, false, cond, ◌&&◌, inl, inr, refl, sym, ap, ◌∙◌, arith, ltb, Some, List, [], ◌∷◌, ◌++◌, length, sum, length-append}
+use Rattle.std.proofs.Common.{◌≡◌, ℕ, zero, suc, ◌+◌, ◌-◌, ◌<◌, ◌≤◌, min, Bool, true, false, cond, ◌&&◌, inl, inr, refl, sym, ap, ◌∙◌, arith, ltb, Some, List, [], ◌∷◌, ◌++◌, length, sum, length-append, append-nil}
 use Rattle.std.proofs.lemmas.Bool.{cases_lt, lt-ltb, le-ltb, cond-true, cond-false}
 use Rattle.std.proofs.lemmas.List.{nil_from_length}
 use Rattle.std.proofs.lemmas.List.Sums.{sum_by-append}
@@ -7,7 +7,6 @@ use Rattle.reporting.specs.Distances.{sum_below, list_below, distances, is_next,
 use Rattle.reporting.specs.Durations.{caught, ticks_between}
 use Rattle.reporting.specs.Knows.{IsWaiting}
 use Rattle.reporting.specs.declared.tally.Tally.{Tally}
-use Rattle.reporting.proofs.EachProcess.{append_none}
 use Rattle.reporting.proofs.Waits.{ending, ending_none, ending_one}
 
 -- a measure of lists, as a sum or a length is
@@ -47,7 +46,7 @@ list_below-flat g a (suc t) l h =
       | inl m ↦ let e : a ≡ suc t = omega arith in ap (list_below g) (sym e)
       | inr m ↦
           ap (λ xs. list_below g t ++ xs) (h t m (omega arith))
-          ∙ append_none (list_below g t)
+          ∙ append-nil (list_below g t)
           ∙ list_below-flat g a t m (λ u x y. h u x (omega arith))
     ]
 
@@ -61,7 +60,7 @@ list_below-turn g a b end l h =
           ∙ ap (λ xs. list_below g (min a end) ++ xs) (sym (cond-true _ _ _ (lt-ltb a end p)))
       | inr p ↦
           ap (list_below g) (let m : min b end ≡ min a end = omega arith in m)
-          ∙ sym (append_none (list_below g (min a end)))
+          ∙ sym (append-nil (list_below g (min a end)))
           ∙ ap (λ xs. list_below g (min a end) ++ xs) (sym (cond-false _ _ _ (le-ltb a end p)))
     ]
 
@@ -104,4 +103,4 @@ caught_one t xs lt = cond-true _ _ _ (lt-ltb (length xs) t.duration.count lt)
 
 pub caught_new : (t : Tally) (xs : List ℕ) (b : Bool) (x : ℕ) → x ≡ ticks_between t.started t.ended → t.duration.count ≡ length (xs ++ cond b (x ∷ []) []) → caught t xs ≡ xs ++ cond b (x ∷ []) []
 caught_new t xs true x is count = caught_one t xs (omega (arith, length-append xs (x ∷ []))) ∙ ap (λ n. xs ++ n ∷ []) (sym is)
-caught_new t xs false x is count = caught_same t xs (omega (arith, length-append xs [])) ∙ sym (append_none xs)
+caught_new t xs false x is count = caught_same t xs (omega (arith, length-append xs [])) ∙ sym (append-nil xs)

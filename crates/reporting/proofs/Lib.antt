@@ -4,15 +4,15 @@ pub mod Passes
 pub mod Lasting
 pub mod EachProcess
 pub mod Closing
+pub mod Layers
 pub mod Fed
+pub mod Followed
 pub mod Keeping
 pub mod Entering
 pub mod Lengths
 pub mod Listing
 pub mod Caught
-pub mod Layers
 mod Examples
-pub mod PlainRows
 pub mod Joining
 pub mod Finishing
 pub mod Resting

@@ -1,5 +1,5 @@
 -- The lengths that are kept beside a tally: as entries come, and as no entry follows.
-use Rattle.std.proofs.Common.{◌≡◌, ℕ, suc, ◌-◌, ◌<◌, ◌≤◌, min, Bool, true, false, cond, not, ◌&&◌, inl, inr, refl, sym, ap, ◌∙◌, subst, arith, ltb, eqb, Option, None, Some, List, [], ◌∷◌, ◌++◌, length, length-append}
+use Rattle.std.proofs.Common.{◌≡◌, ℕ, suc, ◌-◌, ◌<◌, ◌≤◌, min, Bool, true, false, cond, not, ◌&&◌, inl, inr, refl, sym, ap, ◌∙◌, subst, arith, ltb, eqb, Option, None, Some, List, [], ◌∷◌, ◌++◌, length, length-append, append-nil}
 use mathlib.Core.Bool.{beq}
 use Rattle.std.proofs.lemmas.Bool.{cases_lt, cond_both, lt-ltb, le-ltb, cond-true, cond-false}
 use Rattle.std.proofs.lemmas.List.Sums.{fold-append}
@@ -13,14 +13,13 @@ use Rattle.judges.specs.Pairs.{AreFrom, fed}
 use Rattle.judges.specs.Turns.{Turn, turn_of, turns_at, noted_turns, entry_turns, turns}
 use Rattle.judges.specs.declared.pair.Pair.{Pair}
 use Rattle.judges.proofs.Entering.{fed_more}
-use Rattle.judges.proofs.Standing.{IsKeeping, fed_known}
+use Rattle.judges.proofs.Standing.{IsKeeping, fed_known, shown, shown_all}
 use Rattle.reporting.specs.Distances.{distances}
 use Rattle.reporting.specs.Durations.{caught, listed, lengths_so_far, ticks_between}
 use Rattle.reporting.specs.Knows.{Knows, IsWaiting}
 use Rattle.reporting.specs.Measures.{starts, ends, pair_durations}
 use Rattle.reporting.specs.Tally.{gain, changed, passed, moved, counted, new_tally}
 use Rattle.reporting.specs.declared.tally.Tally.{Tally}
-use Rattle.reporting.proofs.EachProcess.{append_none}
 use Rattle.reporting.proofs.Keeping.{tallies_keep, none_known}
 use Rattle.reporting.proofs.Lengths.{ending_at, length_of_distances, distances_more, new_none, new_one, caught_same, caught_one, caught_new}
 use Rattle.reporting.proofs.Passes.{t_after, t_at, open_start, knows_moved}
@@ -30,20 +29,8 @@ Listed = Tally × List ℕ
 
 -- ---- the tally is as it is with no lengths beside it
 
-abbrev strip : Pair Listed → Pair Tally
-strip p = record { end = p.end; current = p.current; kept = p.kept.0 }
-
-strip_turned : (tick : ℕ) (suspected : Bool) (p : Pair Listed) → strip (turned listed tick suspected p) ≡ turned counted tick suspected (strip p)
-strip_turned tick suspected p = by (beq suspected p.current)
-  where
-    by : (b : Bool) → strip (cond b p (record p { current = suspected; kept = listed tick p.current p.end p.kept }))
-        ≡ cond b (strip p) (record (strip p) { current = suspected; kept = counted tick p.current p.end p.kept.0 })
-    by true = refl
-    by false = refl
-
-strip_all : (ts : List Turn) (p : Pair Listed) → strip (all_turned listed p ts) ≡ all_turned counted (strip p) ts
-strip_all [] p = refl
-strip_all (t ∷ ts) p = strip_all ts (turned listed t.tick t.suspected p) ∙ ap (λ q. all_turned counted q ts) (strip_turned t.tick t.suspected p)
+strip_all : (ts : List Turn) (p : Pair Listed) → shown (λ (k : Listed). k.0) (all_turned listed p ts) ≡ all_turned counted (shown (λ (k : Listed). k.0) p) ts
+strip_all = shown_all listed counted (λ (k : Listed). k.0) (λ until now end k. refl)
 
 -- ---- a tally counts at most one more at a time, and that one is listed
 
@@ -216,7 +203,7 @@ module _ (f : ℕ → Bool) (end : ℕ) (k : Listed) (until : ℕ) (now : Bool) 
     none quiet =
         let nothing : new ≡ [] = new_none (starts f) (ends f) t.tick end quiet in
         caught_same t' k.1 (omega (arith, counts_now, ap length more, length-append k.1 new, ap length nothing))
-        ∙ sym (more ∙ ap (λ xs. k.1 ++ xs) nothing ∙ append_none k.1)
+        ∙ sym (more ∙ ap (λ xs. k.1 ++ xs) nothing ∙ append-nil k.1)
 
     by_cases : (was is : Bool) → t.was ≡ was → now ≡ is → caught t' k.1 ≡ listed_to t'.tick
     by_cases false true e i = none (t_at f end t until l h.tally now same false e ∙ ap (λ b. not b && false) i)

@@ -1,14 +1,21 @@
--- The meters of all pairs on a layer, and what they tell.
+-- What is counted of all pairs on a layer, and what their meters tell.
 use Rattle.std.specs.Prelude.{ℕ, suc, ◌+◌, ◌-◌, ◌*◌, List, map, flat_map, get_or}
 use Rattle.process_api.specs.Numbers.{numbers_to, others}
+use Rattle.process_api.specs.EntryRecord.{EntryRecord}
+use Rattle.scenario_record.specs.Record.{Record}
 use Rattle.judges.specs.Pair.{opened}
+use Rattle.judges.specs.Pairs.{ArePairs}
 use Rattle.judges.specs.declared.pair.Pair.{Pair}
 use Rattle.judges.specs.declared.pairs.Pairs.{Pairs}
 use Rattle.reporting.specs.Meter.{closed, crash_between}
-use Rattle.reporting.specs.Tally.{new_tally}
+use Rattle.reporting.specs.Tally.{counted, new_tally}
 use Rattle.reporting.specs.declared.meter.Meter.{Meter}
 use Rattle.reporting.specs.declared.pair_measures.PairMeasures.{PairMeasures}
 use Rattle.reporting.specs.declared.tally.Tally.{Tally}
+
+-- they were fed with the entries of a trace
+abbrev pub IsMetering : Record → (layer : ℕ) → List EntryRecord → Pairs Tally → Type 0
+IsMetering S layer trace pairs = ArePairs counted S layer new_tally trace pairs
 
 module _ (pairs : Pairs Tally) where
   -- observer i + 1 and subject j + 1

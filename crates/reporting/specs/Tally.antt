@@ -1,6 +1,7 @@
 -- The steps of a tally, which counts as a suspicion starts, goes on and ends.
-use Rattle.std.specs.Prelude.{ℕ, ◌+◌, ◌-◌, ◌*◌, ◌^◌, ◌<◌, ◌≤◌, min, Bool, false, if◌then◌else◌, nat_lt, Option, None, Some}
+use Rattle.std.specs.Prelude.{ℕ, ◌+◌, ◌-◌, ◌*◌, ◌^◌, ◌<◌, ◌≤◌, min, Bool, false, if◌then◌else◌, nat_lt, Option, None, Some, unwrap_or}
 use Rattle.std.specs.Option.{ForSome}
+use Rattle.judges.specs.declared.track.Track.{Track}
 use Rattle.reporting.specs.declared.tally.Distances.{Distances}
 use Rattle.reporting.specs.declared.tally.Tally.{Tally}
 
@@ -56,6 +57,15 @@ moved t until suspected end = if nat_lt t.tick until then passed t until suspect
 
 abbrev pub counted : (until : ℕ) → (suspected : Bool) → (end : ℕ) → Tally → Tally
 counted until suspected end t = moved t until suspected end
+
+-- what a judge sees of it
+abbrev pub tracked : Tally → Track
+tracked t = record {
+  tick = t.tick;
+  was = t.was;
+  since = unwrap_or (if t.was then t.started else t.ended) 0;
+  mistaken = nat_lt 0 t.mistake_ticks;
+}
 
 -- the numbers fit their types
 pub record HasRoom (d : Distances) (tick : ℕ) : Type 0 where

@@ -4,28 +4,11 @@ use Rattle.std.specs.List.{join_with_byte, flat_map}
 use Rattle.process_api.specs.EntryRecord.{EntryRecord}
 use Rattle.process_api.specs.declared.action.Note.{Note}
 use Rattle.process_api.specs.declared.action.Note.TheVariants.{Suspect, Trust, Round, Decided, NoValue}
-use Rattle.process_api.specs.declared.entry.Kind.{Kind}
-use Rattle.process_api.specs.declared.entry.Kind.TheVariants as kind
-use Rattle.reporting.specs.Rows.{row_of}
+use Rattle.rows.specs.Kinds.{kind_text}
+use Rattle.rows.specs.Rows.{row_of}
 
 abbrev pub space : ℕ
 space = 32
-
-abbrev pub kind_text : Kind → List ℕ
-kind_text kind.Start = codes "start"
-kind_text kind.Beat = codes "beat"
-kind_text kind.Check = codes "check"
-kind_text kind.Share = codes "share"
-kind_text kind.Alive = codes "alive"
-kind_text kind.Heartbeat = codes "heartbeat"
-kind_text kind.Suspects = codes "suspects"
-kind_text kind.Vector = codes "vector"
-kind_text kind.Last = codes "last"
-kind_text kind.Estimate = codes "estimate"
-kind_text kind.Proposal = codes "proposal"
-kind_text kind.Reply = codes "reply"
-kind_text kind.Decide = codes "decide"
-kind_text kind.Dead = codes "dead"
 
 abbrev pub note_text : Note → List ℕ
 note_text (Suspect layer who) = codes "suspect:" ++ (decimal layer ++ (codes ":" ++ decimal who))

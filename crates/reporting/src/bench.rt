@@ -4,8 +4,8 @@ ghost use Rattle.process_api.specs.Numbers.{numbers_to};
 ghost use Rattle.reporting.specs.Printed.{Finishes, Refuses};
 ghost use Rattle.scenario_record.specs.Record.{opening_mind};
 
+use crate::following::open_recording;
 use crate::outlet::Outlet;
-use crate::recording::Recording;
 use crate::summary::Summary;
 use crate::writing::write_recorded;
 use event_list::{RunError, run_list_into};
@@ -28,14 +28,14 @@ use std::alloc::Global;
 ///
 /// `Limit` where the run has more entries than the scenario's limit, `Memory` where memory was refused: then nothing
 /// was written. `Write` where a put failed: then a front part of the texts went out.
-pub fn bench_list<O: Outlet>(
+pub fn bench_list<M: Process, O: Outlet>(
     alloc: Global,
     scenario: &Scenario,
-    machines: Vec<Box<dyn Process>>,
+    machines: Vec<M>,
     print: PrintChoice,
     outlet: &mut O,
 ) -> Result<Summary, RunError>
-    requires machines { map mind machines.items
+    requires machines { map M.mind machines.items
         ≡ map (opening_mind scenario.now) (numbers_to scenario.now.processes) }
     requires failures { O.failed outlet.old < 2 ^ 64 - 1 }
     ensures done { IfOk result (Finishes scenario.now print O.told O.failed outlet.old outlet.new) }
@@ -43,7 +43,7 @@ pub fn bench_list<O: Outlet>(
     ensures threads { result ≢ Err RunError.Spawn }
 {
     let _ticks = scenario.horizon();
-    let mut recording = Recording::open(alloc, scenario, print)?;
+    let mut recording = open_recording(alloc, scenario, print)?;
     run_list_into(alloc, scenario, machines, &mut recording)?;
     write_recorded(alloc, scenario, recording, outlet)
 }

@@ -2,11 +2,13 @@
 ghost use Rattle.std.specs.Prelude.{◌++◌, ◌∷◌, [], List};
 ghost use Rattle.process_api.specs.EntryRecord.{EntryRecord};
 
+use followers::Follower;
 use process_api::Entry;
+use std::alloc::AllocError;
 
 /// The counts of a run, fed with its entries as they come. They stay at the greatest number, should they reach it.
 #[derive(Clone, Copy)]
-pub(crate) struct Counts {
+pub struct Counts {
     /// How many entries there were.
     pub entries: u64,
     /// How many letters they sent.
@@ -19,7 +21,7 @@ impl Counts {
     ghost use Rattle.reporting.specs.Running.{IsCounting};
 
     /// Nothing is counted.
-    pub fn open() -> Counts
+    pub(crate) fn open() -> Counts
         ensures { IsCounting [] result }
     {
         Counts {
@@ -30,7 +32,7 @@ impl Counts {
     }
 
     /// One more entry.
-    pub fn feed(&mut self, entry: &Entry)
+    fn feed(&mut self, entry: &Entry)
         ensures { (trace : List EntryRecord) → IsCounting trace self.old
             → IsCounting (trace ++ entry.now ∷ []) self.new }
     {
@@ -38,5 +40,17 @@ impl Counts {
         self.entries = self.entries.saturating_add(1);
         self.sent = self.sent.saturating_add(u128::from(sent));
         self.lost = self.lost.saturating_add(u128::from(lost));
+    }
+}
+
+impl Follower for Counts {
+    ghost use Rattle.reporting.specs.Running.{IsCounting};
+
+    ghost followed = { λ first now told. IsCounting [] first → IsCounting told now };
+
+    #[inline(always)]
+    fn follow(&mut self, entry: &Entry) -> Result<(), AllocError> {
+        self.feed(entry);
+        Ok(())
     }
 }

@@ -4,10 +4,12 @@ ghost use Rattle.process_api.specs.EntryRecord.{EntryRecord};
 ghost use Rattle.scenario_record.specs.Record.{Record};
 ghost use Rattle.judges.specs.Judging.{AreUntil};
 ghost use Rattle.reporting.specs.Durations.{AreCaught, caught, lists_in, ticks_between};
-ghost use Rattle.reporting.specs.Metering.{IsMetering};
+ghost use Rattle.reporting.specs.Panel.{IsMetering};
 
-use crate::panel::Panel;
+use crate::ledger::Ledger;
+use crate::panel::{places, tally_at};
 use crate::tally::Tally;
+use judges::Pairs;
 use process_api::{Entry, Pid};
 use std::alloc::{AllocError, Global};
 
@@ -34,19 +36,19 @@ fn catch(lengths: &mut Vec<u32>, tally: &Tally) -> Result<(), AllocError>
 /// Brings the lengths of the pairs at these places up to the panel's tallies; once no entry follows, these are closed.
 fn catch_up(
     pairs: &mut [Vec<u32>],
-    panel: &Panel,
+    panel: &Pairs<Ledger>,
     from: usize,
     end: usize,
     closed: bool,
 ) -> Result<(), AllocError>
     requires order { from ≤ end }
     requires places { end ≤ length pairs.old }
-    requires pairs { end ≤ panel.now.pairs.processes * panel.now.pairs.processes }
+    requires pairs { end ≤ panel.now.processes * panel.now.processes }
     ensures { OnOk result
-        (AreCaught panel.now.pairs closed from end (lists_in pairs.old) (lists_in pairs.new)) }
+        (AreCaught panel.now closed from end (lists_in pairs.old) (lists_in pairs.new)) }
 {
     for place in from..end {
-        catch(&mut pairs[place], &panel.tally(place, closed))?;
+        catch(&mut pairs[place], &tally_at(panel, place, closed))?;
     }
     Ok(())
 }
@@ -76,30 +78,27 @@ impl Durations {
     }
 
     /// The panel was fed with one more entry.
-    pub(crate) fn follow(&mut self, panel: &Panel, entry: &Entry) -> Result<(), AllocError>
+    pub(crate) fn follow(&mut self, panel: &Pairs<Ledger>, entry: &Entry) -> Result<(), AllocError>
         ensures { OnOk result ((S : Record) (layer : ℕ) (trace : List EntryRecord) → AreFollowing S layer trace self.old
             → IsMetering S layer (trace ++ entry.now ∷ []) panel.now
             → AreFollowing S layer (trace ++ entry.now ∷ []) self.new) }
     {
-        if entry.notes.is_empty() {
-            return Ok(());
-        }
         let processes = usize::from(self.processes);
         let first = (usize::from(entry.key.receiver.number()) - 1) * processes;
         let end = first + processes;
-        if end <= self.pairs.len().min(panel.places()) {
+        if end <= self.pairs.len().min(places(panel)) {
             catch_up(&mut self.pairs, panel, first, end, false)?;
         }
         Ok(())
     }
 
     /// No entry follows.
-    pub(crate) fn close(&mut self, panel: &Panel) -> Result<(), AllocError>
+    pub(crate) fn close(&mut self, panel: &Pairs<Ledger>) -> Result<(), AllocError>
         ensures { OnOk result ((S : Record) (layer : ℕ) (trace : List EntryRecord) → AreFollowing S layer trace self.old
             → IsMetering S layer trace panel.now → AreDurations S layer trace self.new) }
     {
         let end = self.pairs.len();
-        if end <= panel.places() {
+        if end <= places(panel) {
             catch_up(&mut self.pairs, panel, 0, end, true)?;
         }
         Ok(())

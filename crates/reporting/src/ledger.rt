@@ -1,9 +1,9 @@
 //! A tally whose numbers fit their types.
 ghost use Rattle.std.specs.Prelude.{◌≡◌};
-ghost use Rattle.reporting.specs.Tally.{counted, new_tally};
+ghost use Rattle.reporting.specs.Tally.{counted, new_tally, tracked};
 
 use crate::tally::Tally;
-use judges::Gauge;
+use judges::{Gauge, Track};
 use std::marker::Model;
 
 /// What is counted of a pair; contracts see its tally.
@@ -43,7 +43,26 @@ impl Ledger {
 impl Gauge for Ledger {
     ghost passed = { counted };
 
+    ghost seen = { tracked };
+
+    ghost fresh = { new_tally };
+
     fn pass(&mut self, until: u32, suspected: bool, end: u32) {
         self.tally.pass(until, suspected, end);
+    }
+
+    fn track(&self) -> Track {
+        let tally = self.tally;
+        let since = if tally.was {
+            tally.started
+        } else {
+            tally.ended
+        };
+        Track {
+            tick: tally.tick,
+            was: tally.was,
+            since: since.unwrap_or(0),
+            mistaken: 0 < tally.mistake_ticks,
+        }
     }
 }

@@ -30,7 +30,8 @@
 //!
 //! Nothing is ever tried again. Each text is formed whole before the first of its bytes is written. A trace's text is
 //! formed row by row into one buffer, numbers by their digits; a report's rows are written by `csv`. All that is
-//! measured of a run takes one pass over its entries ([`Running`]): an entry without notes is counted, and no more.
+//! measured of a run takes one pass over its entries, by followers put together ([`Running`]): an entry without notes is
+//! counted, and no more.
 //! That pass is the run itself, so no entry is held; of a run whose report alone is asked for nothing is held that
 //! grows with it, and of one that is only measured the length of each mistake.
 //!
@@ -43,7 +44,9 @@ mod bench;
 mod counts;
 mod durations;
 mod findings;
+mod following;
 mod fuse_outlet;
+mod layer;
 mod ledger;
 mod measured_run;
 mod measuring;
@@ -52,26 +55,25 @@ mod meter;
 mod outlet;
 mod pair_measures;
 mod panel;
-mod recording;
 mod report;
 mod report_rows;
-mod rows;
-mod running;
-mod running_findings;
-mod running_summary;
 mod stream_outlet;
 mod summary;
 mod tail;
 mod tally;
+mod telling;
 mod trace_text;
 mod values;
 mod writing;
 
 pub use asked::{prints_report, prints_trace};
 pub use bench::bench_list;
+pub use counts::Counts;
 pub use durations::{Durations, RunDurations};
 pub use findings::RunFindings;
+pub use following::{Layers, Running, Summing, open_running};
 pub use fuse_outlet::FuseOutlet;
+pub use layer::Layer;
 pub use measured_run::measure_list;
 pub use measuring::measures;
 pub use memory_outlet::MemoryOutlet;
@@ -79,8 +81,8 @@ pub use meter::Meter;
 pub use outlet::{Outlet, put_all};
 pub use pair_measures::{Detection, PairMeasures};
 pub use print_choice::PrintChoice;
-pub use running::Running;
 pub use stream_outlet::StreamOutlet;
 pub use summary::Summary;
+pub use telling::close_running;
 pub use trace_text::{HEADER, append_entry};
 pub use writing::{write_if_any, write_report, write_text, write_trace};

@@ -1,39 +1,18 @@
 //! The text of a trace.
 ghost use Rattle.std.specs.Prelude.{◌≡◌, ◌≤◌, ◌++◌, ◌∷◌, [], length, OnOk, IfOk};
 ghost use Rattle.std.specs.List.{flat_map};
-ghost use Rattle.reporting.specs.Rows.{row_of, with_commas};
+ghost use Rattle.rows.specs.Rows.{row_of, with_commas};
 ghost use Rattle.reporting.specs.Tail.{text_of};
-ghost use Rattle.reporting.specs.TraceText.{notes_text, fields_of, first_fields_of, note_text, kind_text, trace_text};
+ghost use Rattle.reporting.specs.TraceText.{notes_text, fields_of, first_fields_of, note_text, trace_text};
 
 use crate::tail::Tail;
-use process_api::{Entry, Kind, Note};
+use followers::{Follower, follow_all};
+use process_api::{Entry, Note};
+use rows::name_of_kind;
 use std::alloc::{AllocError, Global};
 
 /// The first line of a trace's text.
 pub const HEADER: &[u8] = b"tick,receiver,sender,number,kind,sent,lost,notes\n";
-
-/// The name of a kind.
-fn name_of(kind: Kind) -> &'static str
-    ensures text { result.now ≡ kind_text kind }
-    ensures short { length result.now ≤ 9 }
-{
-    match kind {
-        Kind::Start => "start",
-        Kind::Beat => "beat",
-        Kind::Check => "check",
-        Kind::Share => "share",
-        Kind::Alive => "alive",
-        Kind::Heartbeat => "heartbeat",
-        Kind::Suspects => "suspects",
-        Kind::Vector => "vector",
-        Kind::Last => "last",
-        Kind::Estimate => "estimate",
-        Kind::Proposal => "proposal",
-        Kind::Reply => "reply",
-        Kind::Decide => "decide",
-        Kind::Dead => "dead",
-    }
-}
 
 /// The text of a note.
 fn text_of_note(note: Note) -> Tail
@@ -99,7 +78,7 @@ fn text_of_front(entry: &Entry) -> Tail
     text.put_field(u64::from(entry.lost), b',');
     text.put_field(u64::from(entry.sent), b',');
     text.put_byte(b',');
-    text.put_word(name_of(entry.kind).as_bytes());
+    text.put_word(name_of_kind(entry.kind).as_bytes());
     text.put_field(entry.key.number, b',');
     text.put_field(u64::from(entry.key.sender.number()), b',');
     text.put_field(u64::from(entry.key.receiver.number()), b',');
@@ -118,18 +97,44 @@ pub fn append_entry(text: &mut Vec<u8>, entry: &Entry) -> Result<(), AllocError>
     Ok(())
 }
 
+/// The text of a trace that grows with its entries.
+#[derive(Drop)]
+pub(crate) struct TraceText {
+    pub text: Vec<u8>,
+}
+
+impl TraceText {
+    /// The header alone.
+    #[tactic(auto, unfolding(crate::specs::TraceText::trace_text, crate::specs::TraceText::trace_header))]
+    pub(crate) fn open(alloc: Global) -> Result<TraceText, AllocError>
+        ensures { IfOk result (λ t. t.text.items ≡ trace_text []) }
+    {
+        let text = Vec::from_slice(alloc, HEADER)?;
+        Ok(TraceText { text })
+    }
+}
+
+impl Follower for TraceText {
+    ghost use Rattle.reporting.specs.TraceText.{rows_text};
+
+    ghost followed = { λ first now told. now.text.items ≡ first.text.items ++ rows_text told };
+
+    /// Appends the row of the entry.
+    #[inline(always)]
+    fn follow(&mut self, entry: &Entry) -> Result<(), AllocError> {
+        append_entry(&mut self.text, entry)
+    }
+}
+
 /// The text of a trace: the header, and a row for each entry.
 ///
 /// # Errors
 ///
 /// `AllocError` where memory was refused.
-#[tactic(auto, unfolding(crate::specs::TraceText::trace_text, crate::specs::TraceText::trace_header))]
 pub(crate) fn text_of_trace(alloc: Global, entries: &[Entry]) -> Result<Vec<u8>, AllocError>
     ensures { IfOk result (λ text. text.items ≡ trace_text entries.now) }
 {
-    let mut text = Vec::from_slice(alloc, HEADER)?;
-    for entry in entries {
-        append_entry(&mut text, entry)?;
-    }
-    Ok(text)
+    let mut rows = TraceText::open(alloc)?;
+    follow_all(&mut rows, entries)?;
+    Ok(rows.text)
 }

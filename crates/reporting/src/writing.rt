@@ -3,18 +3,19 @@ ghost use Rattle.std.specs.Prelude.{◌≡◌, ◌≢◌, ◌^◌, ◌-◌, ◌+
 ghost use Rattle.process_api.specs.EntryRecord.{EntryRecord};
 ghost use Rattle.print_choice.specs.declared.PrintChoice.{PrintChoice};
 ghost use Rattle.reporting.specs.Printed.{items_of, printed};
-ghost use Rattle.reporting.specs.Recording.{IsRecording};
+ghost use Rattle.reporting.specs.Running.{IsRecording};
 ghost use Rattle.reporting.specs.ReportText.{report_text};
 ghost use Rattle.reporting.specs.Summary.{IsSummary};
 ghost use Rattle.reporting.specs.TraceText.{trace_text};
 ghost use Rattle.reporting.specs.Writing.{Wrote, WrotePart, WroteNothing};
 
+use crate::following::{Recording, open_running};
 use crate::outlet::{Outlet, put_all};
-use crate::recording::Recording;
-use crate::running::Running;
 use crate::summary::Summary;
+use crate::telling::{close_recording, close_running};
 use crate::trace_text::text_of_trace;
 use event_list::RunError;
+use followers::follow_all;
 use process_api::Trace;
 use scenario_record::Scenario;
 use std::alloc::Global;
@@ -79,7 +80,7 @@ pub(crate) fn write_recorded<O: Outlet>(
     ensures memory { result ≡ Err RunError.Memory → WroteNothing O.told O.failed outlet.old outlet.new }
     ensures only { (result ≢ Err RunError.Limit) × (result ≢ Err RunError.Spawn) }
 {
-    let (summary, text) = recording.close(alloc, scenario)?;
+    let (summary, text) = close_recording(alloc, scenario, recording)?;
     write_text(&text, outlet)?;
     Ok(summary)
 }
@@ -117,8 +118,8 @@ pub fn write_report<O: Outlet>(
     ensures memory { result ≡ Err RunError.Memory → WroteNothing O.told O.failed outlet.old outlet.new }
     ensures only { (result ≢ Err RunError.Limit) × (result ≢ Err RunError.Spawn) }
 {
-    let mut running = Running::open(alloc, scenario, true)?;
-    running.feed_all(trace.entries());
-    let (_summary, report) = running.close(alloc, scenario)?;
+    let mut running = open_running(alloc, scenario, true)?;
+    follow_all(&mut running, trace.entries())?;
+    let (_summary, report) = close_running(alloc, scenario, running)?;
     write_if_any(report, outlet)
 }

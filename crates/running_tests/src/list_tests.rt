@@ -1,6 +1,6 @@
 //! The set of pending events, once with ample memory.
 use crate::common::{NO_MEMORY, own_key, pid, same};
-use event_list::Pending;
+use event_list::{Event, Pending};
 use process_api::{StepInput, Tag};
 use std::process::Abort;
 use std::test::Fail;
@@ -10,7 +10,8 @@ const TOO_FEW: &str = "too few events";
 
 /// Takes the least event, if there is one. Answers its tick, its receiver, its number and the input.
 fn take<R: Abort>(rt: &R, pending: &mut Pending) -> Option<(u32, u16, u64, StepInput)> {
-    let (key, input) = pending.take_least().expect(rt, NO_MEMORY)?;
+    let event = pending.take_least().expect(rt, NO_MEMORY)?;
+    let (key, input) = event.into_parts();
     Some((key.tick, key.receiver.number(), key.number, input))
 }
 
@@ -24,30 +25,27 @@ fn are_taken<R: Abort>(rt: &R, pending: &mut Pending, wanted: &[(u32, u16, u64)]
 
 #[test]
 fn takes_least_first(rt: HostRuntime) -> Result<(), Fail> {
-    let mut pending = Pending::new(rt.alloc());
-    pending.join(own_key(3, pid(1), 2), StepInput::Wake(Tag::Check))?;
-    let mut added = vec![in rt.alloc();
-        (own_key(0, pid(2), 0), StepInput::Start),
-        (own_key(0, pid(1), 0), StepInput::Start),
-    ]?;
-    pending.join_all(&mut added)?;
+    let mut pending = Pending::new(rt.alloc())?;
+    pending.join(Event::wake(own_key(3, pid(1), 2), Tag::Check))?;
+    pending.join(Event::start(pid(2)))?;
+    pending.join(Event::start(pid(1)))?;
     same(&rt, &pending.least_tick(), &Some(0));
     are_taken(&rt, &mut pending, &[(0, 1, 0), (0, 2, 0)]);
     assert!(rt; pending.take_below(3)?.is_none());
-    let (key, _) = pending.take_below(4)?.ok_or("nothing is below")?;
-    same(&rt, &(key.tick, pending.least_tick()), &(3, None));
+    let event = pending.take_below(4)?.ok_or("nothing is below")?;
+    same(&rt, &(event.key().tick, pending.least_tick()), &(3, None));
     Ok(())
 }
 
 /// So many events of one tick that they are put in order by way of lanes.
 #[test]
 fn takes_many_in_order(rt: HostRuntime) -> Result<(), Fail> {
-    let mut pending = Pending::new(rt.alloc());
+    let mut pending = Pending::new(rt.alloc())?;
     for place in 0..30u64 {
         // receivers in turn, with numbers that don't rise
         let receiver = place as u16 % 5 + 1;
         let key = own_key(7, pid(receiver), place * 7 % 30);
-        pending.join(key, StepInput::Wake(Tag::Beat))?;
+        pending.join(Event::wake(key, Tag::Beat))?;
     }
     let mut last = (0u16, 0u64);
     for _place in 0..30 {
@@ -63,7 +61,7 @@ fn takes_many_in_order(rt: HostRuntime) -> Result<(), Fail> {
 fn join_all<R: Abort>(rt: &R, pending: &mut Pending, events: &[(u32, u64)], tag: Tag) {
     for (tick, number) in events {
         let key = own_key(*tick, pid(1), *number);
-        let joined = pending.join(key, StepInput::Wake(tag));
+        let joined = pending.join(Event::wake(key, tag));
         joined.expect(rt, NO_MEMORY);
     }
 }
@@ -71,7 +69,7 @@ fn join_all<R: Abort>(rt: &R, pending: &mut Pending, events: &[(u32, u64)], tag:
 /// Events of ticks with one place in the ring, and before and past what the ring has.
 #[test]
 fn takes_ticks_in_order(rt: HostRuntime) -> Result<(), Fail> {
-    let mut pending = Pending::with_ring(rt.alloc())?;
+    let mut pending = Pending::new(rt.alloc())?;
     // 5, 1029, 2053 and 5125 leave the rest 5 by 1024
     let beats = [(5125, 0), (5, 0), (2053, 0), (1029, 0), (u32::MAX, 0)];
     join_all(&rt, &mut pending, &beats, Tag::Beat);

@@ -1,7 +1,6 @@
 //! Plans that are made and refused, the law at a run in which two workers take turns, windows whose berths are called
 //! in a given order, and workers that are watched.
 mod calls;
-mod makers;
 mod odd;
 mod orders;
 mod plans;

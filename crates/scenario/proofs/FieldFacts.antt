@@ -1,10 +1,11 @@
 -- Lemmas on the keys of a table.
-use Rattle.std.proofs.Common.{◌≡◌, ℕ, List, [], ◌∷◌, map, Bool, false, not, refl, ap, ◌||◌, String, string_bytes, Global, Some, None, option_and_then, if◌then◌else◌}
+use Rattle.std.proofs.Common.{◌≡◌, ℕ, List, [], ◌∷◌, map, Bool, false, not, refl, ap, ◌||◌, String, string_bytes, Global, Option, Some, None, option_and_then, if◌then◌else◌}
 use Rattle.std.specs.List.{list_any}
-use Rattle.toml.specs.Data.{Members, Items, as_array, get_member}
+use Rattle.std.specs.Option.{option_map_or}
+use Rattle.toml.specs.Data.{Data, Members, Items, as_array, get_member}
 use Rattle.toml.specs.View.{members_view}
 use Rattle.toml.specs.declared.value.Value.{Value}
-use Rattle.scenario.specs.Table.{Field, same_text, is_listed, has_unlisted, is_lacking, has_lacking, is_mistyped, has_mistyped, tables_at, the_tables, all_items, is_table}
+use Rattle.scenario.specs.Table.{Field, same_text, is_of, is_listed, has_unlisted, is_lacking, has_lacking, is_mistyped, has_mistyped, tables_at, the_tables, all_items, is_table}
 
 -- the first of some fields has the key, or another of them has
 pub listed_first : (fields : List Field) (f : Field) (key : List ℕ) (b : Bool) → b ≡ same_text f.key key
@@ -57,3 +58,7 @@ tables_at-array key t ds b found e = rw (found, e) refl
 pub tables_at-none : (key : List ℕ) (t : Members) → option_and_then as_array (get_member key t) ≡ None → tables_at key t ≡ []
 unfolding tables_at
 tables_at-none key t found = rw found refl
+
+pub mistyped_at : (f : Field) (t : Members) (found : Option Data) → get_member f.key t ≡ found → is_mistyped f t ≡ option_map_or (λ d. not (is_of f.kind d)) found false
+unfolding is_mistyped
+mistyped_at f t found is = rw is refl

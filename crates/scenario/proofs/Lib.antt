@@ -14,3 +14,6 @@ pub mod BelowFacts
 pub mod PartFacts
 pub mod RangeFacts
 pub mod Reading
+pub mod Elements
+pub mod Items
+pub mod Findings

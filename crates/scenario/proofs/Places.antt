@@ -77,7 +77,7 @@ first_named before r after d e is passes same number applied pair =
     subst (λ x. IsFirst (before ++ (r ∷ after)) d x) (sym same) (first_at before r after d is passes number applied pair)
 
 -- an error that `?` passes on
-pub carried : {A : Type 0} (P : ScenarioError → Type 0) (r : Result A ScenarioError) (x : ScenarioError) → IsErrAnd r (λ y. y ≡ x) → P x → IfErr r P
+pub carried : {A E : Type 0} (P : E → Type 0) (r : Result A E) (x : E) → IsErrAnd r (λ y. y ≡ x) → P x → IfErr r P
 carried P (Ok a) x e p = tt
 carried P (Err y) x e p = subst P (sym e) p
 

@@ -9,7 +9,7 @@ use Rattle.scenario.specs.Table.{the_integers, integers_at, has_key}
 use Rattle.scenario.specs.Text.{natural}
 use Rattle.scenario.specs.Rules.{is_bad_proposal, are_other_than}
 
-or_true : (a : Bool) → (a || true) ≡ true
+pub or_true : (a : Bool) → (a || true) ≡ true
 or_true true = refl
 or_true false = refl
 

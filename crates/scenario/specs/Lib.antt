@@ -6,3 +6,6 @@ pub mod Refusals
 pub mod Groups
 pub mod Parts
 pub mod Names
+pub mod Place
+pub mod Ranges
+pub mod Faults

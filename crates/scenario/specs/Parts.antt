@@ -13,10 +13,12 @@ use Rattle.scenario.specs.Table as table
 use Rattle.scenario.specs.Table.{has_unlisted, has_lacking, has_mistyped, integers_at, table_at, table_or_empty, tables_at}
 use Rattle.scenario.specs.Text.{number_at, natural, algorithm_in, processes_of, detector_of, share_of, delays_of, pair_of, same_pair, links_among, pair_outages, outages_among, crash_process, crash_tick, crashes_among}
 use Rattle.scenario.specs.Rules.{same_process}
+use Rattle.scenario.specs.declared.error.ScenarioError.{ScenarioError}
+use Rattle.scenario.specs.declared.error.ScenarioError.TheVariants as error
 use Rattle.scenario.specs.declared.field.Field.{Field}
 use Rattle.scenario.specs.declared.keys.Tables.{Tables}
-use Rattle.scenario.specs.declared.keys.Fault.{Fault}
-use Rattle.scenario.specs.declared.keys.Fault.TheVariants.{Unlisted, Lacking, Mistyped}
+use Rattle.scenario.specs.declared.keys.KeyFault.{KeyFault}
+use Rattle.scenario.specs.declared.keys.KeyFault.TheVariants.{Unlisted, Lacking, Mistyped}
 use Rattle.scenario.specs.declared.numbers.TopNumbers.{TopNumbers}
 use Rattle.scenario.specs.declared.parts.Parts.{Parts}
 use Rattle.scenario_record.specs.declared.link.Link.{Link}
@@ -29,10 +31,16 @@ field_of f = record { key = f.key.now; kind = f.kind; needed = f.needed }
 abbrev pub fields_of : List Field → List table.Field
 fields_of fs = map field_of fs
 
-abbrev pub fault_of : Fault → List table.Field → Members → Bool
+abbrev pub fault_of : KeyFault → List table.Field → Members → Bool
 fault_of Unlisted = has_unlisted
 fault_of Lacking = has_lacking
 fault_of Mistyped = has_mistyped
+
+-- the refusal for it
+abbrev pub error_of : KeyFault → ScenarioError
+error_of Unlisted = error.UnknownKey
+error_of Lacking = error.MissingKey
+error_of Mistyped = error.WrongKind
 
 -- a table that the code was lent, if it was, and those of a list
 abbrev pub table_in : Option (Bor (BTreeMap (String Global) Value)) → Option Members

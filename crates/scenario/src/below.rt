@@ -1,12 +1,31 @@
 //! The least pair whose link is below the lookahead.
-ghost use Rattle.std.specs.Prelude.{◌≡◌, ◌≤◌, ◌*◌, ◌==◌, ◌&&◌, not, find, length};
+ghost use Rattle.std.specs.Prelude.{◌≡◌, ◌≢◌, ◌≤◌, ◌<◌, ◌*◌, ◌==◌, ◌&&◌, not, find, length, IfSome};
 ghost use Rattle.process_api.specs.Bounds.{most_processes};
 ghost use Rattle.scenario.specs.Rules.{pairs, pairs_from, is_below};
+ghost use Rattle.toml.specs.Data.{Members};
+ghost use Rattle.scenario.specs.Text.{processes_of, record_of};
 ghost use Rattle.scenario.specs.Parts.{link_in};
+ghost use Rattle.scenario.specs.Faults.{Finds};
 
 use crate::error::ScenarioError;
+use crate::fault::BelowLookahead;
+use crate::finding::{Finding, Refused};
+use crate::links::place_of;
 use process_api::Pid;
 use scenario_record::Link;
+
+/// The link of two processes.
+fn link_of(links: &[Link], n: u16, from: u16, to: u16) -> Link
+    requires few { n ≤ most_processes }
+    requires all { length links.now ≡ n * n }
+    requires from_low { 1 ≤ from }
+    requires from_high { from ≤ n }
+    requires to_low { 1 ≤ to }
+    requires to_high { to ≤ n }
+    ensures { result ≡ link_in n links.now (from, to) }
+{
+    links[place_of(u32::from(from), u32::from(to), n)]
+}
 
 /// Whether the processes differ and a letter from one to the other may take fewer ticks than the lookahead.
 fn is_low(links: &[Link], lookahead: u32, n: u16, from: u16, to: u16) -> bool
@@ -18,8 +37,7 @@ fn is_low(links: &[Link], lookahead: u32, n: u16, from: u16, to: u16) -> bool
     requires to_high { to ≤ n }
     ensures { result ≡ (not (to == from) && is_below (link_in n links.now) lookahead (from, to)) }
 {
-    let place = usize::from(from - 1) * usize::from(n) + usize::from(to - 1);
-    to != from && links[place].min < lookahead
+    to != from && link_of(links, n, from, to).min < lookahead
 }
 
 /// The pair of two processes.
@@ -63,12 +81,56 @@ pub(crate) fn first_below(links: &[Link], lookahead: u32, n: u16) -> Option<(Pid
     None
 }
 
-/// The refusal of a pair whose link is below the lookahead.
-pub(crate) fn below_lookahead(pair: (Pid, Pid)) -> ScenarioError
-    ensures { result ≡ ScenarioError.BelowLookahead pair.0 pair.1 }
+/// The `min` of a pair's link, where it is below the lookahead.
+fn below(links: &[Link], lookahead: u32, n: u16, pair: (Pid, Pid)) -> Option<BelowLookahead>
+    requires few { n ≤ most_processes }
+    requires all { length links.now ≡ n * n }
+    ensures from { IfSome result (λ b. b.from ≡ pair.0) }
+    ensures to { IfSome result (λ b. b.to ≡ pair.1) }
+    ensures different { IfSome result (λ b. b.from ≢ b.to) }
+    ensures min { IfSome result (λ b. b.min ≡ (link_in n links.now pair).min) }
+    ensures lookahead { IfSome result (λ b. b.lookahead ≡ lookahead) }
+    ensures below { IfSome result (λ b. b.min < b.lookahead) }
 {
-    ScenarioError::BelowLookahead {
-        from: pair.0,
-        to: pair.1,
+    let (from, to) = pair;
+    if from == to || n < from.number() || n < to.number() {
+        return None;
+    }
+    let min = link_of(links, n, from.number(), to.number()).min;
+    if lookahead <= min {
+        return None;
+    }
+    Some(BelowLookahead {
+        from,
+        to,
+        min,
+        lookahead,
+    })
+}
+
+/// The refusal of a pair whose link is below the lookahead.
+pub(crate) fn below_lookahead(
+    links: &[Link],
+    lookahead: u32,
+    n: u16,
+    pair: (Pid, Pid),
+) -> Refused<'static>
+    requires few { n ≤ most_processes }
+    requires all { length links.now ≡ n * n }
+    ensures error { result.error ≡ ScenarioError.BelowLookahead pair.0 pair.1 }
+    ensures finds { (file : Members) → n ≡ processes_of file → links.now ≡ (record_of file).links
+        → lookahead ≡ (record_of file).lookahead → Finds file result }
+{
+    let (from, to) = pair;
+    let error = ScenarioError::BelowLookahead { from, to };
+    match below(links, lookahead, n, pair) {
+        Some(found) => Refused {
+            error,
+            finding: Some(Finding::Below(found)),
+        },
+        None => Refused {
+            error,
+            finding: None,
+        },
     }
 }

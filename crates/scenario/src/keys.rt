@@ -1,95 +1,54 @@
 //! The tables of a scenario's file, and the faults of their keys.
-ghost use Rattle.std.specs.Prelude.{◌≡◌, false, Some, IfOk, IfErr, OnOk};
+ghost use Rattle.std.specs.Prelude.{◌≡◌, false, is_some, Some, IfOk, IfSome, IfErr, OnOk};
 ghost use Rattle.std.specs.List.{list_any};
 ghost use Rattle.std.specs.Option.{option_map_or};
 ghost use Rattle.toml.specs.View.{table_view};
-ghost use Rattle.scenario.specs.Parts.{fields_of, fault_of, table_in, tables_in, AreTables};
-ghost use Rattle.scenario.specs.Keys.{some_table, top_fields, timeout_fields, freshness_fields, detector_fields, detector_has, share_fields, link_fields, pair_fields, crash_fields, outage_fields};
-ghost use Rattle.scenario.specs.Text.{is_second as second_in};
+ghost use Rattle.scenario.specs.Parts.{fields_of, fault_of, error_of, table_in, tables_in, AreTables};
+ghost use Rattle.scenario.specs.Keys.{some_table, top_fields, timeout_fields, freshness_fields, detector_fields, share_fields, link_fields, pair_fields, crash_fields, outage_fields};
+ghost use Rattle.scenario.specs.Table.{tables_at};
 ghost use Rattle.scenario.specs.Refusals.{key_rules};
 ghost use Rattle.scenario.specs.Groups.{Passes, StopsAt};
+ghost use Rattle.scenario.specs.Place.{array_key, fields_at, fields_in, fields_of_array, table_of};
+ghost use Rattle.scenario.specs.Faults.{Breaks, Finds, IsFault};
 
 use crate::error::ScenarioError;
+use crate::fault::{Fault, UnknownKey};
 use crate::field::{Field, Kind};
+use crate::finding::{Finding, Refused};
+use crate::place::{Place, Section, TableArray};
 use crate::table::{
-    has_lacking_key, has_mistyped_key, has_unlisted_key, inner_table, inner_tables, is_fresh,
-    is_second,
+    inner_table, inner_tables, is_fresh, is_second, lacking_key, mistyped_key, unlisted_key,
 };
 use std::alloc::{AllocError, Global};
 use toml::Table;
 
+/// A key, the kind of its value, and whether it must be there.
+macro_rules! field {
+    ($key:literal, $kind:ident, $needed:literal) => {
+        Field {
+            key: $key,
+            kind: Kind::$kind,
+            needed: $needed,
+        }
+    };
+}
+
 /// The keys of the file itself; those of version 2 alone come last.
 const TOP: [Field; 14] = [
-    Field {
-        key: "version",
-        kind: Kind::Number,
-        needed: true,
-    },
-    Field {
-        key: "processes",
-        kind: Kind::Number,
-        needed: true,
-    },
-    Field {
-        key: "horizon",
-        kind: Kind::Number,
-        needed: true,
-    },
-    Field {
-        key: "lookahead",
-        kind: Kind::Number,
-        needed: true,
-    },
-    Field {
-        key: "seed",
-        kind: Kind::Number,
-        needed: true,
-    },
-    Field {
-        key: "limit",
-        kind: Kind::Number,
-        needed: false,
-    },
-    Field {
-        key: "algorithm",
-        kind: Kind::Text,
-        needed: true,
-    },
-    Field {
-        key: "proposals",
-        kind: Kind::Numbers,
-        needed: false,
-    },
-    Field {
-        key: "detector",
-        kind: Kind::Table,
-        needed: true,
-    },
-    Field {
-        key: "link",
-        kind: Kind::Table,
-        needed: true,
-    },
-    Field {
-        key: "share",
-        kind: Kind::Table,
-        needed: false,
-    },
-    Field {
-        key: "links",
-        kind: Kind::Tables,
-        needed: false,
-    },
-    Field {
-        key: "crash",
-        kind: Kind::Tables,
-        needed: false,
-    },
-    Field {
-        key: "outage",
-        kind: Kind::Tables,
-        needed: false,
-    },
+    field!("version", Number, true),
+    field!("processes", Number, true),
+    field!("horizon", Number, true),
+    field!("lookahead", Number, true),
+    field!("seed", Number, true),
+    field!("limit", Number, false),
+    field!("algorithm", Text, true),
+    field!("proposals", Numbers, false),
+    field!("detector", Table, true),
+    field!("link", Table, true),
+    field!("share", Table, false),
+    field!("links", Tables, false),
+    field!("crash", Tables, false),
+    field!("outage", Tables, false),
 ];
 
 /// How many of them a file of version 1 may have.
@@ -97,36 +56,12 @@ const FIRST: usize = 13;
 
 /// The keys of a detector's table that names no freshness points; those of version 2 alone come last.
 const TIMEOUT: [Field; 6] = [
-    Field {
-        key: "period",
-        kind: Kind::Number,
-        needed: true,
-    },
-    Field {
-        key: "check",
-        kind: Kind::Number,
-        needed: true,
-    },
-    Field {
-        key: "timeout",
-        kind: Kind::Number,
-        needed: true,
-    },
-    Field {
-        key: "grow",
-        kind: Kind::Number,
-        needed: false,
-    },
-    Field {
-        key: "watch",
-        kind: Kind::Text,
-        needed: false,
-    },
-    Field {
-        key: "kind",
-        kind: Kind::Text,
-        needed: false,
-    },
+    field!("period", Number, true),
+    field!("check", Number, true),
+    field!("timeout", Number, true),
+    field!("grow", Number, false),
+    field!("watch", Text, false),
+    field!("kind", Text, false),
 ];
 
 /// How many of them a file of version 1 may have.
@@ -134,119 +69,40 @@ const FIRST_TIMEOUT: usize = 5;
 
 /// The keys of a detector's table that names freshness points.
 const FRESHNESS: [Field; 4] = [
-    Field {
-        key: "eta",
-        kind: Kind::Number,
-        needed: true,
-    },
-    Field {
-        key: "delta",
-        kind: Kind::Number,
-        needed: true,
-    },
-    Field {
-        key: "watch",
-        kind: Kind::Text,
-        needed: false,
-    },
-    Field {
-        key: "kind",
-        kind: Kind::Text,
-        needed: false,
-    },
+    field!("eta", Number, true),
+    field!("delta", Number, true),
+    field!("watch", Text, false),
+    field!("kind", Text, false),
 ];
 
-const SHARE: [Field; 1] = [Field {
-    key: "period",
-    kind: Kind::Number,
-    needed: true,
-}];
+const SHARE: [Field; 1] = [field!("period", Number, true)];
 
 const LINK: [Field; 3] = [
-    Field {
-        key: "min",
-        kind: Kind::Number,
-        needed: true,
-    },
-    Field {
-        key: "max",
-        kind: Kind::Number,
-        needed: true,
-    },
-    Field {
-        key: "loss",
-        kind: Kind::Number,
-        needed: false,
-    },
+    field!("min", Number, true),
+    field!("max", Number, true),
+    field!("loss", Number, false),
 ];
 
 const PAIR: [Field; 5] = [
-    Field {
-        key: "from",
-        kind: Kind::Number,
-        needed: true,
-    },
-    Field {
-        key: "to",
-        kind: Kind::Number,
-        needed: true,
-    },
-    Field {
-        key: "min",
-        kind: Kind::Number,
-        needed: true,
-    },
-    Field {
-        key: "max",
-        kind: Kind::Number,
-        needed: true,
-    },
-    Field {
-        key: "loss",
-        kind: Kind::Number,
-        needed: false,
-    },
+    field!("from", Number, true),
+    field!("to", Number, true),
+    field!("min", Number, true),
+    field!("max", Number, true),
+    field!("loss", Number, false),
 ];
 
-const CRASH: [Field; 2] = [
-    Field {
-        key: "process",
-        kind: Kind::Number,
-        needed: true,
-    },
-    Field {
-        key: "at",
-        kind: Kind::Number,
-        needed: true,
-    },
-];
+const CRASH: [Field; 2] = [field!("process", Number, true), field!("at", Number, true)];
 
 const OUTAGE: [Field; 4] = [
-    Field {
-        key: "from",
-        kind: Kind::Number,
-        needed: true,
-    },
-    Field {
-        key: "to",
-        kind: Kind::Number,
-        needed: true,
-    },
-    Field {
-        key: "begin",
-        kind: Kind::Number,
-        needed: true,
-    },
-    Field {
-        key: "until",
-        kind: Kind::Number,
-        needed: true,
-    },
+    field!("from", Number, true),
+    field!("to", Number, true),
+    field!("begin", Number, true),
+    field!("until", Number, true),
 ];
 
 /// The keys of a file's top table, by whether the file is of version 2.
 #[tactic(auto, unfolding(crate::specs::Keys::top_fields))]
-pub fn top_keys(is_second: bool) -> &'static [Field]
+fn top_keys(is_second: bool) -> &'static [Field]
     ensures { fields_of result.now ≡ top_fields is_second }
 {
     if is_second { &TOP } else { &TOP[..FIRST] }
@@ -273,7 +129,7 @@ fn freshness_keys() -> &'static [Field]
 }
 
 /// The keys of a table `detector`, by whether the file is of version 2.
-pub fn detector_keys(is_second: bool, table: &Table) -> &'static [Field]
+fn detector_keys(is_second: bool, table: &Table) -> &'static [Field]
     ensures { fields_of result.now ≡ detector_fields is_second (table_view table.now) }
 {
     if is_second && is_fresh(table) {
@@ -283,68 +139,48 @@ pub fn detector_keys(is_second: bool, table: &Table) -> &'static [Field]
     }
 }
 
-/// The keys of a table `share`.
-#[tactic(auto, unfolding(crate::specs::Keys::share_fields))]
-pub fn share_keys() -> &'static [Field]
-    ensures { fields_of result.now ≡ share_fields }
+/// The keys that the table at a place of a file may have, by whether the file is of version 2.
+#[tactic(auto, unfolding(crate::specs::Keys::share_fields, crate::specs::Keys::link_fields, crate::specs::Keys::pair_fields, crate::specs::Keys::crash_fields, crate::specs::Keys::outage_fields))]
+fn keys_in(is_second: bool, place: Place, table: &Table) -> &'static [Field]
+    ensures { fields_of result.now ≡ fields_in is_second place (table_view table.now) }
 {
-    &SHARE
-}
-
-/// The keys of a table `link`.
-#[tactic(auto, unfolding(crate::specs::Keys::link_fields))]
-pub fn link_keys() -> &'static [Field]
-    ensures { fields_of result.now ≡ link_fields }
-{
-    &LINK
-}
-
-/// The keys of each table of `links`.
-#[tactic(auto, unfolding(crate::specs::Keys::pair_fields))]
-pub fn pair_keys() -> &'static [Field]
-    ensures { fields_of result.now ≡ pair_fields }
-{
-    &PAIR
-}
-
-/// The keys of each table of `crash`.
-#[tactic(auto, unfolding(crate::specs::Keys::crash_fields))]
-pub fn crash_keys() -> &'static [Field]
-    ensures { fields_of result.now ≡ crash_fields }
-{
-    &CRASH
-}
-
-/// The keys of each table of `outage`.
-#[tactic(auto, unfolding(crate::specs::Keys::outage_fields))]
-pub fn outage_keys() -> &'static [Field]
-    ensures { fields_of result.now ≡ outage_fields }
-{
-    &OUTAGE
+    match place {
+        Place::Top => top_keys(is_second),
+        Place::Section(section) => match section {
+            Section::Detector => detector_keys(is_second, table),
+            Section::Share => &SHARE,
+            Section::Link => &LINK,
+        },
+        Place::Element { array, .. } => match array {
+            TableArray::Links => &PAIR,
+            TableArray::Crash => &CRASH,
+            TableArray::Outage => &OUTAGE,
+        },
+    }
 }
 
 /// The tables of a file. Where a value isn't of its kind its table, or all of its tables, are left out.
 #[derive(Drop)]
-pub struct Tables<'a> {
+pub(crate) struct Tables<'a> {
     /// The top table.
-    pub top: &'a Table,
+    pub(crate) top: &'a Table,
     /// `detector`.
-    pub detector: Option<&'a Table>,
+    pub(crate) detector: Option<&'a Table>,
     /// `share`.
-    pub share: Option<&'a Table>,
+    pub(crate) share: Option<&'a Table>,
     /// `link`.
-    pub link: Option<&'a Table>,
+    pub(crate) link: Option<&'a Table>,
     /// Those of `links`.
-    pub links: Vec<&'a Table>,
+    pub(crate) links: Vec<&'a Table>,
     /// Those of `crash`.
-    pub crashes: Vec<&'a Table>,
+    pub(crate) crashes: Vec<&'a Table>,
     /// Those of `outage`.
-    pub outages: Vec<&'a Table>,
+    pub(crate) outages: Vec<&'a Table>,
 }
 
 /// A fault of a table's keys.
 #[derive(Clone, Copy)]
-pub(crate) enum Fault {
+pub(crate) enum KeyFault {
     /// A key that isn't listed.
     Unlisted,
     /// A needed key that is missing.
@@ -353,109 +189,98 @@ pub(crate) enum Fault {
     Mistyped,
 }
 
-impl Fault {
-    /// Whether a table has the fault.
-    fn is_in(self, fields: &[Field], table: &Table) -> bool
-        ensures { result ≡ fault_of self (fields_of fields.now) (table_view table.now) }
+impl KeyFault {
+    /// The first such fault of the table at a place.
+    fn of_table<'a>(self, top: &Table, place: Place, table: &'a Table) -> Option<Fault<'a>>
+        ensures test { is_some result ≡ fault_of self
+            (fields_at place (table_view top.now) (table_view table.now)) (table_view table.now) }
+        ensures fault { IfSome result
+            (IsFault (error_of self) (table_view top.now) place (table_view table.now)) }
     {
+        let fields = keys_in(is_second(top), place, table);
         match self {
-            Fault::Unlisted => has_unlisted_key(fields, table),
-            Fault::Lacking => has_lacking_key(fields, table),
-            Fault::Mistyped => has_mistyped_key(fields, table),
-        }
-    }
-
-    /// Whether a table is there and has the fault.
-    fn is_in_optional(self, fields: &[Field], table: Option<&Table>) -> bool
-        ensures { result ≡ option_map_or (fault_of self (fields_of fields.now)) (table_in table.entry) false }
-    {
-        match table {
-            Some(table) => self.is_in(fields, table),
-            None => false,
-        }
-    }
-
-    /// Whether some table has the fault.
-    fn is_in_any(self, fields: &[Field], tables: &[&Table]) -> bool
-        ensures { result ≡ list_any (fault_of self (fields_of fields.now)) (tables_in tables.now) }
-    {
-        for table in tables {
-            if self.is_in(fields, table) {
-                return true;
+            KeyFault::Unlisted => {
+                let key = unlisted_key(fields, table)?;
+                let in_second = keys_in(true, place, table);
+                Some(Fault::UnknownKey(UnknownKey {
+                    key,
+                    fields,
+                    in_second,
+                }))
+            }
+            KeyFault::Lacking => {
+                let key = lacking_key(fields, table)?;
+                Some(Fault::MissingKey { key })
+            }
+            KeyFault::Mistyped => {
+                let wrong = mistyped_key(fields, table)?;
+                Some(Fault::WrongKind(wrong))
             }
         }
-        false
     }
 
-    fn is_in_top(self, table: &Table) -> bool
-        ensures { result ≡ fault_of self (top_fields (second_in (table_view table.now))) (table_view table.now) }
+    /// The first such fault of the table at a place, if it is there.
+    fn at<'a>(self, top: &Table, place: Place, table: Option<&'a Table>) -> Option<Finding<'a>>
+        requires { table_in table ≡ table_of place (table_view top.now) }
+        ensures test { is_some result ≡ option_map_or
+            (λ t. fault_of self (fields_at place (table_view top.now) t) t) (table_in table.entry) false }
+        ensures finding { IfSome result (Breaks (error_of self) (table_view top.now)) }
     {
-        self.is_in(top_keys(is_second(table)), table)
+        let Some(table) = table else {
+            return None;
+        };
+        let Some(fault) = self.of_table(top, place, table) else {
+            return None;
+        };
+        Some(Finding::At { place, fault })
     }
 
-    fn is_in_detector_table(self, is_second: bool, table: &Table) -> bool
-        ensures { result ≡ detector_has (fault_of self) is_second (table_view table.now) }
+    /// The first such fault of the tables of an array.
+    fn among<'a>(self, top: &Table, array: TableArray, tables: &[&'a Table]) -> Option<Finding<'a>>
+        requires { tables_in tables.now ≡ tables_at (array_key array) (table_view top.now) }
+        ensures test { is_some result ≡ list_any (fault_of self (fields_of_array array)) (tables_in tables.now) }
+        ensures finding { IfSome result (Breaks (error_of self) (table_view top.now)) }
     {
-        self.is_in(detector_keys(is_second, table), table)
-    }
-
-    fn is_in_detector(self, is_second: bool, table: Option<&Table>) -> bool
-        ensures { result ≡ option_map_or (detector_has (fault_of self) is_second) (table_in table.entry) false }
-    {
-        match table {
-            Some(table) => self.is_in_detector_table(is_second, table),
-            None => false,
+        for i in 0..tables.len() {
+            if let Some(found) = self.at(top, array.place(tables, i), Some(tables[i])) {
+                return Some(found);
+            }
         }
+        None
     }
 
-    fn is_in_share(self, table: Option<&Table>) -> bool
-        ensures { result ≡ option_map_or (fault_of self share_fields) (table_in table.entry) false }
-    {
-        self.is_in_optional(share_keys(), table)
-    }
-
-    fn is_in_link(self, table: Option<&Table>) -> bool
-        ensures { result ≡ option_map_or (fault_of self link_fields) (table_in table.entry) false }
-    {
-        self.is_in_optional(link_keys(), table)
-    }
-
-    fn is_in_links(self, tables: &[&Table]) -> bool
-        ensures { result ≡ list_any (fault_of self pair_fields) (tables_in tables.now) }
-    {
-        self.is_in_any(pair_keys(), tables)
-    }
-
-    fn is_in_crashes(self, tables: &[&Table]) -> bool
-        ensures { result ≡ list_any (fault_of self crash_fields) (tables_in tables.now) }
-    {
-        self.is_in_any(crash_keys(), tables)
-    }
-
-    fn is_in_outages(self, tables: &[&Table]) -> bool
-        ensures { result ≡ list_any (fault_of self outage_fields) (tables_in tables.now) }
-    {
-        self.is_in_any(outage_keys(), tables)
-    }
-
-    /// Whether some table of the file has the fault.
+    /// The first such fault of a file's tables.
     #[tactic(auto, unfolding(crate::specs::Keys::some_table))]
-    fn is_in_some(self, tables: &Tables) -> bool
+    fn find<'a>(self, tables: &Tables<'a>) -> Option<Finding<'a>>
         requires { AreTables tables.now }
-        ensures { result ≡ some_table (fault_of self) (table_view tables.now.top.now) }
+        ensures test { is_some result ≡ some_table (fault_of self) (table_view tables.now.top.now) }
+        ensures finding { IfSome result (Breaks (error_of self) (table_view tables.now.top.now)) }
     {
-        self.is_in_top(tables.top)
-            || self.is_in_detector(is_second(tables.top), tables.detector)
-            || self.is_in_share(tables.share)
-            || self.is_in_link(tables.link)
-            || self.is_in_links(&tables.links)
-            || self.is_in_crashes(&tables.crashes)
-            || self.is_in_outages(&tables.outages)
+        let top = tables.top;
+        if let Some(found) = self.at(top, Place::Top, Some(top)) {
+            return Some(found);
+        }
+        if let Some(found) = self.at(top, Place::Section(Section::Detector), tables.detector) {
+            return Some(found);
+        }
+        if let Some(found) = self.at(top, Place::Section(Section::Share), tables.share) {
+            return Some(found);
+        }
+        if let Some(found) = self.at(top, Place::Section(Section::Link), tables.link) {
+            return Some(found);
+        }
+        if let Some(found) = self.among(top, TableArray::Links, &tables.links) {
+            return Some(found);
+        }
+        if let Some(found) = self.among(top, TableArray::Crash, &tables.crashes) {
+            return Some(found);
+        }
+        self.among(top, TableArray::Outage, &tables.outages)
     }
 }
 
 /// The tables of a file.
-pub fn tables_of<'a>(alloc: Global, top: &'a Table) -> Result<Tables<'a>, AllocError>
+pub(crate) fn tables_of<'a>(alloc: Global, top: &'a Table) -> Result<Tables<'a>, AllocError>
     ensures { IfOk result (λ s. (table_view s.top.now ≡ table_view top.now) × AreTables s) }
 {
     let links = inner_tables(alloc, top, "links")?;
@@ -477,19 +302,29 @@ pub fn tables_of<'a>(alloc: Global, top: &'a Table) -> Result<Tables<'a>, AllocE
 
 /// Refuses a file of which some table has a fault of its keys: keys that aren't listed first, then missing ones, then
 /// values of another kind.
-pub(crate) fn check_keys(tables: &Tables) -> Result<(), ScenarioError>
+pub(crate) fn check_keys<'a>(tables: &Tables<'a>) -> Result<(), Refused<'a>>
     requires { AreTables tables.now }
     ensures ok { OnOk result (Passes key_rules (Some (table_view tables.now.top.now))) }
-    ensures err { IfErr result (StopsAt key_rules (Some (table_view tables.now.top.now))) }
+    ensures err { IfErr result (λ r. StopsAt key_rules (Some (table_view tables.now.top.now)) r.error) }
+    ensures finds { IfErr result (Finds (table_view tables.now.top.now)) }
 {
-    if Fault::Unlisted.is_in_some(tables) {
-        return Err(ScenarioError::UnknownKey);
+    if let Some(found) = KeyFault::Unlisted.find(tables) {
+        return Err(Refused {
+            error: ScenarioError::UnknownKey,
+            finding: Some(found),
+        });
     }
-    if Fault::Lacking.is_in_some(tables) {
-        return Err(ScenarioError::MissingKey);
+    if let Some(found) = KeyFault::Lacking.find(tables) {
+        return Err(Refused {
+            error: ScenarioError::MissingKey,
+            finding: Some(found),
+        });
     }
-    if Fault::Mistyped.is_in_some(tables) {
-        return Err(ScenarioError::WrongKind);
+    if let Some(found) = KeyFault::Mistyped.find(tables) {
+        return Err(Refused {
+            error: ScenarioError::WrongKind,
+            finding: Some(found),
+        });
     }
     Ok(())
 }

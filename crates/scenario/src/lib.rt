@@ -20,24 +20,30 @@ mod below;
 mod crashes;
 mod detector;
 mod error;
+mod fault;
 mod field;
+mod finding;
 mod keys;
 mod links;
 mod names;
 mod numbers;
 mod outages;
 mod parts;
+mod place;
 mod proposals;
 mod read;
 mod table;
+mod twice;
 
 pub use error::ScenarioError;
-pub use field::{Field, Kind};
-pub use keys::{
-    Tables, crash_keys, detector_keys, link_keys, outage_keys, pair_keys, share_keys, tables_of,
-    top_keys,
+pub use fault::{
+    BelowLookahead, Fault, MinAboveMax, NotBefore, OtherName, Outside, ProposalsFault, UnknownKey,
+    WrongKind,
 };
-pub use numbers::natural;
-pub use read::{read_scenario, read_table};
+pub use field::{Field, Kind};
+pub use finding::{Finding, Refused};
+pub use numbers::lies_within;
+pub use place::{Place, Section, TableArray};
+pub use read::{read_scenario, read_table, read_with_place};
 pub use scenario_record::{AlgorithmKind, Link, Opening, Outage, Scenario};
-pub use table::{inner_array, is_lacking_field, is_listed_key, is_second};
+pub use table::is_listed_key;

@@ -1,38 +1,69 @@
 //! The links.
-ghost use Rattle.std.specs.Prelude.{◌≡◌, ◌≤◌, ◌<◌, ◌+◌, ◌-◌, ◌*◌, false, map, length, unwrap_or, is_none, OnOk, IfOk, IfErr, IfSome};
+ghost use Rattle.std.specs.Prelude.{◌≡◌, ◌≤◌, ◌<◌, ◌+◌, ◌-◌, ◌*◌, true, false, map, length, unwrap_or, is_err, OnOk, IfOk, IfErr, IfSome};
 ghost use Rattle.process_api.specs.Bounds.{most_processes};
-ghost use Rattle.toml.specs.Data.{no_members};
+ghost use Rattle.toml.specs.Data.{Members, no_members};
 ghost use Rattle.toml.specs.View.{table_view};
-ghost use Rattle.scenario.specs.Text.{delays_of, pair_of, links_among};
+ghost use Rattle.scenario.specs.Table.{table_at, tables_at};
+ghost use Rattle.scenario.specs.Text.{delays_of, pair_of, links_among, processes_of};
 ghost use Rattle.scenario.specs.Rules.{is_bad_link, is_bad_pair, are_bad_pairs, are_bad_links};
 ghost use Rattle.scenario.specs.Refusals.{GivenBy};
 ghost use Rattle.scenario.specs.Parts.{table_in, tables_in, HoldLinks};
+ghost use Rattle.scenario.specs.Place.{array_key, section_key};
+ghost use Rattle.scenario.specs.Ranges.{Subject, link_subject, pair_subject};
+ghost use Rattle.scenario.specs.Faults.{Finds, IsValueFault};
 
 use crate::error::ScenarioError;
+use crate::fault::{Fault, MinAboveMax};
+use crate::finding::{Refused, accepted};
 use crate::numbers::ranged;
+use crate::place::{Place, Section, TableArray};
+use crate::table::integer_at;
+use crate::twice::find_twice;
 use scenario_record::Link;
 use std::alloc::{AllocError, Global};
 use toml::Table;
 
-/// What the table of a link says of letters, where its numbers are in their ranges.
-#[tactic(auto, unfolding(crate::specs::Rules::is_bad_link))]
-fn read_link(table: &Table) -> Option<Link>
-    ensures none { is_none result ≡ is_bad_link (table_view table.now) }
-    ensures value { IfSome result (λ l. l ≡ delays_of (table_view table.now)) }
+/// The greatest loss, in thousandths.
+const MOST_LOSS: u32 = 1_000;
+
+/// The fault of a link's table, if its `min` is above its `max`.
+fn min_above_max(table: &Table) -> Option<Fault<'static>>
+    ensures { (s : Subject) → s.delays ≡ true → IfSome result (IsValueFault s (table_view table.now)) }
 {
-    let Some(min) = ranged(table, "min", 0, 1, 1_000_000) else {
-        return None;
-    };
-    let Some(max) = ranged(table, "max", 0, 1, 1_000_000) else {
-        return None;
-    };
-    if max < min {
+    let min = integer_at(table, "min")?;
+    let max = integer_at(table, "max")?;
+    if min <= max {
         return None;
     }
-    let Some(loss) = ranged(table, "loss", 0, 0, 1_000) else {
+    Some(Fault::MinAboveMax(MinAboveMax { min, max }))
+}
+
+/// The fault of a table of a pair, if that is of one process.
+pub(crate) fn to_itself(table: &Table) -> Option<Fault<'static>>
+    ensures { (s : Subject) → s.pair ≡ true → IfSome result (IsValueFault s (table_view table.now)) }
+{
+    let from = integer_at(table, "from")?;
+    let to = integer_at(table, "to")?;
+    if from != to {
         return None;
-    };
-    Some(Link { min, max, loss })
+    }
+    Some(Fault::ToItself { process: from })
+}
+
+/// What the table of a link says of letters, where its numbers are in their ranges; else its fault.
+#[tactic(auto, unfolding(crate::specs::Rules::is_bad_link))]
+fn read_link(table: &Table) -> Result<Link, Option<Fault<'static>>>
+    ensures test { is_err result ≡ is_bad_link (table_view table.now) }
+    ensures value { IfOk result (λ l. l ≡ delays_of (table_view table.now)) }
+    ensures fault { IfErr result (λ found. IfSome found (IsValueFault link_subject (table_view table.now))) }
+{
+    let min = ranged(table, "min", 0, 1, 1_000_000)?;
+    let max = ranged(table, "max", 0, 1, 1_000_000)?;
+    let loss = ranged(table, "loss", 0, 0, MOST_LOSS)?;
+    if max < min {
+        return Err(min_above_max(table));
+    }
+    Ok(Link { min, max, loss })
 }
 
 /// What a table of `links` says.
@@ -45,31 +76,32 @@ pub(crate) struct PairLink {
     link: Link,
 }
 
-/// What the table of a pair of n processes says, where its numbers are in their ranges.
-#[tactic(auto, unfolding(crate::specs::Rules::is_bad_pair))]
-fn read_pair(table: &Table, n: u16) -> Option<PairLink>
-    ensures none { is_none result ≡ is_bad_pair n (table_view table.now) }
-    ensures from { IfSome result (λ l. l.from ≡ (pair_of (table_view table.now)).0) }
-    ensures to { IfSome result (λ l. l.to ≡ (pair_of (table_view table.now)).1) }
-    ensures link { IfSome result (λ l. l.link ≡ delays_of (table_view table.now)) }
-    ensures from_low { IfSome result (λ l. 1 ≤ l.from) }
-    ensures from_high { IfSome result (λ l. l.from ≤ n) }
-    ensures to_low { IfSome result (λ l. 1 ≤ l.to) }
-    ensures to_high { IfSome result (λ l. l.to ≤ n) }
+/// What the table of a pair of n processes says, where its numbers are in their ranges; else its fault.
+#[tactic(auto, unfolding(crate::specs::Rules::is_bad_pair, crate::specs::Rules::is_bad_link))]
+pub(crate) fn read_pair(table: &Table, n: u16) -> Result<PairLink, Option<Fault<'static>>>
+    ensures test { is_err result ≡ is_bad_pair n (table_view table.now) }
+    ensures from { IfOk result (λ l. l.from ≡ (pair_of (table_view table.now)).0) }
+    ensures to { IfOk result (λ l. l.to ≡ (pair_of (table_view table.now)).1) }
+    ensures link { IfOk result (λ l. l.link ≡ delays_of (table_view table.now)) }
+    ensures from_low { IfOk result (λ l. 1 ≤ l.from) }
+    ensures from_high { IfOk result (λ l. l.from ≤ n) }
+    ensures to_low { IfOk result (λ l. 1 ≤ l.to) }
+    ensures to_high { IfOk result (λ l. l.to ≤ n) }
+    ensures fault { IfErr result (λ found. IfSome found (IsValueFault (pair_subject n) (table_view table.now))) }
 {
-    let Some(link) = read_link(table) else {
-        return None;
-    };
-    let Some(from) = ranged(table, "from", 0, 1, u32::from(n)) else {
-        return None;
-    };
-    let Some(to) = ranged(table, "to", 0, 1, u32::from(n)) else {
-        return None;
-    };
-    if from == to {
-        return None;
+    let min = ranged(table, "min", 0, 1, 1_000_000)?;
+    let max = ranged(table, "max", 0, 1, 1_000_000)?;
+    let loss = ranged(table, "loss", 0, 0, MOST_LOSS)?;
+    let from = ranged(table, "from", 0, 1, u32::from(n))?;
+    let to = ranged(table, "to", 0, 1, u32::from(n))?;
+    if min > max {
+        return Err(min_above_max(table));
     }
-    Some(PairLink { from, to, link })
+    if from == to {
+        return Err(to_itself(table));
+    }
+    let link = Link { min, max, loss };
+    Ok(PairLink { from, to, link })
 }
 
 /// The place of a pair's link among those of n processes, by sender and then by receiver.
@@ -87,23 +119,37 @@ pub(crate) fn place_of(from: u32, to: u32, n: u16) -> usize
 
 /// The links of the pairs of n processes that have tables of their own. The first table that is of a pair which has
 /// one already ends the reading, so no more than one of each pair are taken.
-fn read_pairs(alloc: Global, tables: &[&Table], n: u16) -> Result<Vec<Option<Link>>, ScenarioError>
+fn read_pairs<'a>(
+    alloc: Global,
+    tables: &[&'a Table],
+    n: u16,
+) -> Result<Vec<Option<Link>>, Refused<'a>>
     requires few { n ≤ most_processes }
     ensures ok { OnOk result (are_bad_pairs n (tables_in tables.now) ≡ false) }
     ensures value { IfOk result (λ v. HoldLinks n v.items (tables_in tables.now)) }
-    ensures err { IfErr result (GivenBy ScenarioError.LinkNumbers (are_bad_pairs n (tables_in tables.now))) }
+    ensures err { IfErr result (λ r. GivenBy ScenarioError.LinkNumbers (
+        are_bad_pairs n (tables_in tables.now)) r.error) }
+    ensures finds { (file : Members) → tables_in tables.now ≡ tables_at (array_key TableArray.Links) file
+        → n ≡ processes_of file → IfErr result (Finds file) }
 {
     let mut links = match vec![in alloc; None; usize::from(n) * usize::from(n)] {
         Ok(links) => links,
-        Err(_) => return Err(ScenarioError::Memory(AllocError)),
+        Err(_) => return Err(Refused::memory()),
     };
-    for table in tables {
-        let Some(pair) = read_pair(table, n) else {
-            return Err(ScenarioError::LinkNumbers);
+    for i in 0..tables.len() {
+        let pair = match read_pair(tables[i], n) {
+            Ok(pair) => pair,
+            Err(fault) => {
+                let place = TableArray::Links.place(tables, i);
+                return Err(Refused::at(ScenarioError::LinkNumbers, place, fault));
+            }
         };
         let place = place_of(pair.from, pair.to, n);
         if links[place].is_some() {
-            return Err(ScenarioError::LinkNumbers);
+            return Err(Refused {
+                error: ScenarioError::LinkNumbers,
+                finding: find_twice(TableArray::Links, tables, i, n),
+            });
         }
         links[place] = Some(pair.link);
     }
@@ -121,38 +167,52 @@ fn filled(alloc: Global, own: &[Option<Link>], common: Link) -> Result<Vec<Link>
     Ok(links)
 }
 
-/// The common link, where its numbers are in their ranges; none where there is no table.
-fn read_common(table: Option<&Table>) -> Option<Link>
-    ensures none { is_none result ≡ is_bad_link (unwrap_or (table_in table.entry) no_members) }
-    ensures value { IfSome result (λ l. l ≡ delays_of (unwrap_or (table_in table.entry) no_members)) }
+/// The common link, where its numbers are in their ranges; else, and where there is no table, the refusal.
+fn read_common(table: Option<&Table>) -> Result<Link, Refused<'static>>
+    ensures ok { OnOk result (is_bad_link (unwrap_or (table_in table.entry) no_members) ≡ false) }
+    ensures value { IfOk result (λ l. l ≡ delays_of (unwrap_or (table_in table.entry) no_members)) }
+    ensures err { IfErr result (λ r. GivenBy ScenarioError.LinkNumbers (
+        is_bad_link (unwrap_or (table_in table.entry) no_members)) r.error) }
+    ensures finds { (file : Members) → table_in table.entry ≡ table_at (section_key Section.Link) file
+        → IfErr result (Finds file) }
 {
-    match table {
-        Some(table) => read_link(table),
-        None => None,
+    let Some(table) = table else {
+        return Err(Refused {
+            error: ScenarioError::LinkNumbers,
+            finding: None,
+        });
+    };
+    match read_link(table) {
+        Ok(link) => Ok(link),
+        Err(fault) => {
+            let place = Place::Section(Section::Link);
+            Err(Refused::at(ScenarioError::LinkNumbers, place, fault))
+        }
     }
 }
 
 /// The links from each of n processes to each, by sender and then by receiver.
-pub(crate) fn read_links(
+pub(crate) fn read_links<'a>(
     alloc: Global,
-    common: Option<&Table>,
-    tables: &[&Table],
+    common: Option<&'a Table>,
+    tables: &[&'a Table],
     n: u16,
-) -> Result<Vec<Link>, ScenarioError>
+) -> Result<Vec<Link>, Refused<'a>>
     requires few { n ≤ most_processes }
     ensures ok { OnOk result (
         are_bad_links n (unwrap_or (table_in common.entry) no_members) (tables_in tables.now) ≡ false) }
     ensures value { IfOk result (λ v. v.items
         ≡ links_among (delays_of (unwrap_or (table_in common.entry) no_members)) (tables_in tables.now) n) }
-    ensures err { IfErr result (GivenBy ScenarioError.LinkNumbers (
-        are_bad_links n (unwrap_or (table_in common.entry) no_members) (tables_in tables.now))) }
+    ensures err { IfErr result (λ r. GivenBy ScenarioError.LinkNumbers (
+        are_bad_links n (unwrap_or (table_in common.entry) no_members) (tables_in tables.now)) r.error) }
+    ensures finds { (file : Members) → table_in common.entry ≡ table_at (section_key Section.Link) file
+        → tables_in tables.now ≡ tables_at (array_key TableArray.Links) file → n ≡ processes_of file
+        → IfErr result (Finds file) }
 {
-    let Some(common) = read_common(common) else {
-        return Err(ScenarioError::LinkNumbers);
-    };
-    let own = read_pairs(alloc, tables, n)?;
+    let common = accepted!(read_common(common));
+    let own = accepted!(read_pairs(alloc, tables, n));
     match filled(alloc, &own, common) {
         Ok(links) => Ok(links),
-        Err(error) => Err(ScenarioError::Memory(error)),
+        Err(_) => Err(Refused::memory()),
     }
 }

@@ -1,16 +1,21 @@
 //! The numbers of a scenario's tables.
-ghost use Rattle.std.specs.Prelude.{◌≡◌, ◌≤◌, ◌<◌, ◌^◌, ◌&&◌, nat_le, IsTrue, Some, pos, is_none, OnOk, IfOk, IfErr, IfSome};
+ghost use Rattle.std.specs.Prelude.{◌≡◌, ◌≤◌, ◌<◌, ◌^◌, ◌&&◌, nat_le, IsTrue, Some, codes, pos, is_none, is_err, OnOk, IfOk, IfErr, IfSome};
 ghost use Rattle.process_api.specs.Bounds.{most_processes};
 ghost use Rattle.toml.specs.View.{table_view};
 ghost use Rattle.scenario.specs.Table.{number_or};
 ghost use Rattle.scenario.specs.Text.{number_at, natural_of, is_second as second_in};
-ghost use Rattle.scenario.specs.Rules.{is_outside, is_negative, most_in};
+ghost use Rattle.scenario.specs.Rules.{is_outside, is_negative, is_within, most_in};
 ghost use Rattle.scenario.specs.Refusals.{number_rules};
 ghost use Rattle.scenario.specs.Parts.{AreNumbersOf};
 ghost use Rattle.scenario.specs.Groups.{Passes, StopsAt};
+ghost use Rattle.scenario.specs.Ranges.{Subject, ends_of, subject_of};
+ghost use Rattle.scenario.specs.Faults.{Finds, IsValueFault};
 
 use crate::error::ScenarioError;
-use crate::table::{is_second, number};
+use crate::fault::{Fault, Outside};
+use crate::finding::{Refused, accepted};
+use crate::place::Place;
+use crate::table::{integer_at, is_second, number};
 use process_api::MOST_PROCESSES;
 use toml::Table;
 
@@ -33,27 +38,62 @@ fn natural_at(table: &Table, key: &str, default: u32) -> Option<u64>
 }
 
 /// Whether the number lies between the ends.
-pub(crate) fn lies_within(value: u64, low: u32, high: u32) -> bool
+fn lies_between(value: u64, low: u64, high: u64) -> bool
     ensures test { result ≡ (nat_le low value && nat_le value high) }
     ensures facts { IsTrue result → (low ≤ value) × (value ≤ high) }
 {
-    u64::from(low) <= value && value <= u64::from(high)
+    low <= value && value <= high
 }
 
-/// The number at a key, or its default, where it lies between these ends.
-pub(crate) fn ranged(table: &Table, key: &str, default: u32, low: u32, high: u32) -> Option<u32>
-    ensures test { is_none result ≡ is_outside low high key.now default (table_view table.now) }
-    ensures value { IfSome result (λ n. n ≡ number_at key.now default (table_view table.now)) }
-    ensures low { IfSome result (λ n. low ≤ n) }
-    ensures high { IfSome result (λ n. n ≤ high) }
+/// Whether the number, which may be negative, lies between the ends.
+pub fn lies_within(value: i64, low: u64, high: u64) -> bool
+    ensures { result ≡ is_within low high value }
 {
-    let Some(value) = natural_at(table, key, default) else {
-        return None;
-    };
-    if !lies_within(value, low, high) {
+    match natural(value) {
+        Some(value) => lies_between(value, low, high),
+        None => false,
+    }
+}
+
+/// The fault of the number at a key, if there is one and it lies outside these ends.
+fn outside(table: &Table, key: &'static str, low: u64, high: u64) -> Option<Fault<'static>>
+    ensures { (s : Subject) → ends_of s.ranges key.now ≡ Some (low, high)
+        → IfSome result (IsValueFault s (table_view table.now)) }
+{
+    let value = integer_at(table, key)?;
+    if lies_within(value, low, high) {
         return None;
     }
-    Some(value as u32)
+    Some(Fault::Outside(Outside {
+        key,
+        value,
+        low,
+        high,
+    }))
+}
+
+/// The number at a key, or its default, where it lies between these ends; else its fault.
+pub(crate) fn ranged(
+    table: &Table,
+    key: &'static str,
+    default: u32,
+    low: u32,
+    high: u32,
+) -> Result<u32, Option<Fault<'static>>>
+    ensures test { is_err result ≡ is_outside low high key.now default (table_view table.now) }
+    ensures value { IfOk result (λ n. n ≡ number_at key.now default (table_view table.now)) }
+    ensures low { IfOk result (λ n. low ≤ n) }
+    ensures high { IfOk result (λ n. n ≤ high) }
+    ensures fault { (s : Subject) → ends_of s.ranges key.now ≡ Some (low, high)
+        → IfErr result (λ found. IfSome found (IsValueFault s (table_view table.now))) }
+{
+    let Some(value) = natural_at(table, key, default) else {
+        return Err(outside(table, key, u64::from(low), u64::from(high)));
+    };
+    if !lies_between(value, u64::from(low), u64::from(high)) {
+        return Err(outside(table, key, u64::from(low), u64::from(high)));
+    }
+    Ok(value as u32)
 }
 
 /// How many processes a file of version 1 may have.
@@ -81,30 +121,74 @@ pub(crate) struct TopNumbers {
     pub(crate) seed: u64,
 }
 
+/// The number at a key of the top table, or its default, where it lies between these ends; else this refusal.
+fn top_number(
+    top: &Table,
+    error: ScenarioError,
+    key: &'static str,
+    default: u32,
+    low: u32,
+    high: u32,
+) -> Result<u32, Refused<'static>>
+    ensures test { is_err result ≡ is_outside low high key.now default (table_view top.now) }
+    ensures value { IfOk result (λ n. n ≡ number_at key.now default (table_view top.now)) }
+    ensures low { IfOk result (λ n. low ≤ n) }
+    ensures high { IfOk result (λ n. n ≤ high) }
+    ensures error { IfErr result (λ r. r.error ≡ error) }
+    ensures finds { ends_of (subject_of error Place.Top (table_view top.now)).ranges key.now ≡ Some (low, high)
+        → IfErr result (Finds (table_view top.now)) }
+{
+    match ranged(top, key, default, low, high) {
+        Ok(number) => Ok(number),
+        Err(fault) => Err(Refused::at(error, Place::Top, fault)),
+    }
+}
+
+/// The seed, where it isn't negative.
+fn read_seed(top: &Table) -> Result<u64, Refused<'static>>
+    ensures test { is_err result ≡ is_negative (codes "seed") 0 (table_view top.now) }
+    ensures value { IfOk result (λ n. n ≡ number_at (codes "seed") 0 (table_view top.now)) }
+    ensures high { IfOk result (λ n. n < 2 ^ 63) }
+    ensures error { IfErr result (λ r. r.error ≡ ScenarioError.Seed) }
+    ensures finds { IfErr result (Finds (table_view top.now)) }
+{
+    match natural_at(top, "seed", 0) {
+        Some(seed) => Ok(seed),
+        None => {
+            let fault = outside(top, "seed", 0, i64::MAX as u64);
+            Err(Refused::at(ScenarioError::Seed, Place::Top, fault))
+        }
+    }
+}
+
 /// The numbers of the top table, where all are in their ranges; else the refusal of the first that isn't.
-pub(crate) fn read_numbers(top: &Table) -> Result<TopNumbers, ScenarioError>
+pub(crate) fn read_numbers(top: &Table) -> Result<TopNumbers, Refused<'static>>
     ensures ok { OnOk result (Passes number_rules (Some (table_view top.now))) }
     ensures value { IfOk result (AreNumbersOf (table_view top.now)) }
-    ensures err { IfErr result (StopsAt number_rules (Some (table_view top.now))) }
+    ensures err { IfErr result (λ r. StopsAt number_rules (Some (table_view top.now)) r.error) }
+    ensures finds { IfErr result (Finds (table_view top.now)) }
 {
-    let Some(_) = ranged(top, "version", 0, 1, 2) else {
-        return Err(ScenarioError::Version);
-    };
-    let Some(processes) = ranged(top, "processes", 0, 1, most_of_version(top)) else {
-        return Err(ScenarioError::Processes);
-    };
-    let Some(horizon) = ranged(top, "horizon", 0, 1, 10_000_000) else {
-        return Err(ScenarioError::Horizon);
-    };
-    let Some(lookahead) = ranged(top, "lookahead", 0, 1, 1_000_000) else {
-        return Err(ScenarioError::Lookahead);
-    };
-    let Some(limit) = ranged(top, "limit", 1_000_000, 1, 100_000_000) else {
-        return Err(ScenarioError::Limit);
-    };
-    let Some(seed) = natural_at(top, "seed", 0) else {
-        return Err(ScenarioError::Seed);
-    };
+    accepted!(top_number(top, ScenarioError::Version, "version", 0, 1, 2));
+    let most = most_of_version(top);
+    let processes = accepted!(top_number(top, ScenarioError::Processes, "processes", 0, 1, most));
+    let horizon = accepted!(top_number(top, ScenarioError::Horizon, "horizon", 0, 1, 10_000_000));
+    let lookahead = accepted!(top_number(
+        top,
+        ScenarioError::Lookahead,
+        "lookahead",
+        0,
+        1,
+        1_000_000
+    ));
+    let limit = accepted!(top_number(
+        top,
+        ScenarioError::Limit,
+        "limit",
+        1_000_000,
+        1,
+        100_000_000
+    ));
+    let seed = accepted!(read_seed(top));
     Ok(TopNumbers {
         processes: processes as u16,
         horizon,

@@ -1,15 +1,24 @@
 //! The outage tables.
-ghost use Rattle.std.specs.Prelude.{◌≡◌, ◌≤◌, ◌<◌, ◌+◌, ◌++◌, ◌∷◌, ◌*◌, [], false, replicate, get_or, length, vec_len, is_none, slice_set, OnOk, IfOk, IfErr, IfSome};
+ghost use Rattle.std.specs.Prelude.{◌≡◌, ◌≤◌, ◌<◌, ◌+◌, ◌++◌, ◌∷◌, ◌*◌, [], false, replicate, get_or, length, vec_len, is_err, slice_set, true, OnOk, IfOk, IfErr, IfSome};
 ghost use Rattle.process_api.specs.Bounds.{most_processes};
+ghost use Rattle.toml.specs.Data.{Members};
 ghost use Rattle.toml.specs.View.{table_view};
-ghost use Rattle.scenario.specs.Text.{pair_of, outage_of, outages_among};
+ghost use Rattle.scenario.specs.Table.{tables_at};
+ghost use Rattle.scenario.specs.Text.{pair_of, outage_of, outages_among, processes_of};
 ghost use Rattle.scenario.specs.Rules.{is_bad_outage, are_bad_outages};
 ghost use Rattle.scenario.specs.Refusals.{GivenBy};
 ghost use Rattle.scenario.specs.Parts.{tables_in, outages_in};
+ghost use Rattle.scenario.specs.Place.{array_key};
+ghost use Rattle.scenario.specs.Ranges.{Subject, outage_subject};
+ghost use Rattle.scenario.specs.Faults.{Finds, IsValueFault};
 
 use crate::error::ScenarioError;
-use crate::links::place_of;
+use crate::fault::{Fault, NotBefore};
+use crate::finding::Refused;
+use crate::links::{place_of, to_itself};
 use crate::numbers::ranged;
+use crate::place::TableArray;
+use crate::table::integer_at;
 use scenario_record::Outage;
 use std::alloc::{AllocError, Global};
 use toml::Table;
@@ -24,41 +33,43 @@ pub(crate) struct PairOutage {
     outage: Outage,
 }
 
-/// What the table of an outage among n processes says, where its numbers are in their ranges.
-#[tactic(auto, unfolding(crate::specs::Rules::is_bad_outage))]
-fn read_outage(table: &Table, n: u16) -> Option<PairOutage>
-    ensures none { is_none result ≡ is_bad_outage n (table_view table.now) }
-    ensures from { IfSome result (λ o. o.from ≡ (pair_of (table_view table.now)).0) }
-    ensures to { IfSome result (λ o. o.to ≡ (pair_of (table_view table.now)).1) }
-    ensures outage { IfSome result (λ o. o.outage ≡ outage_of (table_view table.now)) }
-    ensures from_low { IfSome result (λ o. 1 ≤ o.from) }
-    ensures from_high { IfSome result (λ o. o.from ≤ n) }
-    ensures to_low { IfSome result (λ o. 1 ≤ o.to) }
-    ensures to_high { IfSome result (λ o. o.to ≤ n) }
+/// The fault of a table of `outage`, if its `begin` isn't below its `until`.
+fn not_before(table: &Table) -> Option<Fault<'static>>
+    ensures { (s : Subject) → s.ends ≡ true → IfSome result (IsValueFault s (table_view table.now)) }
 {
-    let Some(from) = ranged(table, "from", 0, 1, u32::from(n)) else {
+    let begin = integer_at(table, "begin")?;
+    let until = integer_at(table, "until")?;
+    if begin < until {
         return None;
-    };
-    let Some(to) = ranged(table, "to", 0, 1, u32::from(n)) else {
-        return None;
-    };
+    }
+    Some(Fault::NotBefore(NotBefore { begin, until }))
+}
+
+/// What the table of an outage among n processes says, where its numbers are in their ranges; else its fault.
+#[tactic(auto, unfolding(crate::specs::Rules::is_bad_outage))]
+fn read_outage(table: &Table, n: u16) -> Result<PairOutage, Option<Fault<'static>>>
+    ensures test { is_err result ≡ is_bad_outage n (table_view table.now) }
+    ensures from { IfOk result (λ o. o.from ≡ (pair_of (table_view table.now)).0) }
+    ensures to { IfOk result (λ o. o.to ≡ (pair_of (table_view table.now)).1) }
+    ensures outage { IfOk result (λ o. o.outage ≡ outage_of (table_view table.now)) }
+    ensures from_low { IfOk result (λ o. 1 ≤ o.from) }
+    ensures from_high { IfOk result (λ o. o.from ≤ n) }
+    ensures to_low { IfOk result (λ o. 1 ≤ o.to) }
+    ensures to_high { IfOk result (λ o. o.to ≤ n) }
+    ensures fault { IfErr result (λ found. IfSome found (IsValueFault (outage_subject n) (table_view table.now))) }
+{
+    let from = ranged(table, "from", 0, 1, u32::from(n))?;
+    let to = ranged(table, "to", 0, 1, u32::from(n))?;
+    let begin = ranged(table, "begin", 0, 0, 10_000_000)?;
+    let until = ranged(table, "until", 0, 0, 10_000_000)?;
     if from == to {
-        return None;
+        return Err(to_itself(table));
     }
-    let Some(begin) = ranged(table, "begin", 0, 0, 10_000_000) else {
-        return None;
-    };
-    let Some(until) = ranged(table, "until", 0, 0, 10_000_000) else {
-        return None;
-    };
     if until <= begin {
-        return None;
+        return Err(not_before(table));
     }
-    Some(PairOutage {
-        from,
-        to,
-        outage: Outage { begin, until },
-    })
+    let outage = Outage { begin, until };
+    Ok(PairOutage { from, to, outage })
 }
 
 /// No outages of the link from each of n processes to each.
@@ -84,30 +95,37 @@ fn add(outages: &mut Vec<Vec<Outage>>, place: usize, outage: Outage) -> Result<(
 
 /// The outages of the link from each of n processes to each, by sender and then by receiver, each link's in the order
 /// of their tables. Where there are no tables there is no list, of no link.
-pub(crate) fn read_outages(
+pub(crate) fn read_outages<'a>(
     alloc: Global,
-    tables: &[&Table],
+    tables: &[&'a Table],
     n: u16,
-) -> Result<Vec<Vec<Outage>>, ScenarioError>
+) -> Result<Vec<Vec<Outage>>, Refused<'a>>
     requires few { n ≤ most_processes }
     ensures ok { OnOk result (are_bad_outages n (tables_in tables.now) ≡ false) }
     ensures value { IfOk result (λ v. outages_in v.items ≡ outages_among (tables_in tables.now) n) }
-    ensures err { IfErr result (GivenBy ScenarioError.OutageLine (are_bad_outages n (tables_in tables.now))) }
+    ensures err { IfErr result (λ r. GivenBy ScenarioError.OutageLine (
+        are_bad_outages n (tables_in tables.now)) r.error) }
+    ensures finds { (file : Members) → tables_in tables.now ≡ tables_at (array_key TableArray.Outage) file
+        → n ≡ processes_of file → IfErr result (Finds file) }
 {
     if tables.is_empty() {
         return Ok(Vec::new(alloc));
     }
     let mut outages = match no_outages(alloc, n) {
         Ok(outages) => outages,
-        Err(error) => return Err(ScenarioError::Memory(error)),
+        Err(_) => return Err(Refused::memory()),
     };
-    for table in tables {
-        let Some(pair) = read_outage(table, n) else {
-            return Err(ScenarioError::OutageLine);
+    for i in 0..tables.len() {
+        let pair = match read_outage(tables[i], n) {
+            Ok(pair) => pair,
+            Err(fault) => {
+                let place = TableArray::Outage.place(tables, i);
+                return Err(Refused::at(ScenarioError::OutageLine, place, fault));
+            }
         };
         let place = place_of(pair.from, pair.to, n);
-        if let Err(error) = add(&mut outages, place, pair.outage) {
-            return Err(ScenarioError::Memory(error));
+        if let Err(_) = add(&mut outages, place, pair.outage) {
+            return Err(Refused::memory());
         }
     }
     Ok(outages)

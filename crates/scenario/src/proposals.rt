@@ -1,14 +1,18 @@
 //! The proposals of the processes.
-ghost use Rattle.std.specs.Prelude.{◌≡◌, ◌≤◌, true, false, Some, map, codes, is_none, MatchOption, OnOk, IfOk, IfErr, IfSome};
+ghost use Rattle.std.specs.Prelude.{◌≡◌, ◌≤◌, true, false, Some, map, codes, option_and_then, is_none, MatchOption, OnOk, IfOk, IfErr, IfSome};
 ghost use Rattle.std.specs.List.{list_any};
+ghost use Rattle.toml.specs.Data.{Members, as_array, get_member};
 ghost use Rattle.toml.specs.View.{items_view, table_view};
 ghost use Rattle.scenario.specs.Table.{the_integers, has_key};
-ghost use Rattle.scenario.specs.Text.{natural, natural_of, proposals_of};
+ghost use Rattle.scenario.specs.Text.{natural, natural_of, algorithm_in, processes_of, proposals_of};
 ghost use Rattle.scenario.specs.Rules.{is_bad_proposal, has_other_proposals, has_bad_proposals};
 ghost use Rattle.scenario.specs.Refusals.{GivenBy};
+ghost use Rattle.scenario.specs.Faults.{AsksForOne, Finds, IsProposalsFault};
 
 use crate::error::ScenarioError;
-use crate::numbers::natural;
+use crate::fault::ProposalsFault;
+use crate::finding::{Finding, Refused};
+use crate::numbers::{lies_within, natural};
 use crate::table::{has, inner_array};
 use scenario_record::AlgorithmKind;
 use std::alloc::{AllocError, Global};
@@ -48,37 +52,97 @@ fn proposals_among(alloc: Global, values: &[Value]) -> Result<Option<Vec<u32>>, 
     Ok(Some(found))
 }
 
+/// The first proposal among some values that is out of range.
+fn bad_proposal(values: &[Value]) -> Option<ProposalsFault>
+    ensures { (file : Members) → AsksForOne file
+        → Some (items_view values.now) ≡ option_and_then as_array (get_member (codes "proposals") file)
+        → IfSome result (IsProposalsFault file) }
+{
+    for i in 0..values.len() {
+        let Some(value) = values[i].as_integer() else {
+            continue;
+        };
+        if !lies_within(value, 0, u64::from(u32::MAX)) {
+            let number = i as u64 + 1;
+            return Some(ProposalsFault::Outside { number, value });
+        }
+    }
+    None
+}
+
+/// What is wrong with the proposals of n processes that run an algorithm.
+fn asked_fault(top: &Table, n: u16) -> Option<ProposalsFault>
+    ensures { AsksForOne (table_view top.now) → n ≡ processes_of (table_view top.now)
+        → IfSome result (IsProposalsFault (table_view top.now)) }
+{
+    if !has(top, "proposals") {
+        return Some(ProposalsFault::Missing { processes: n });
+    }
+    let values = inner_array(top, "proposals")?;
+    if values.len() != usize::from(n) {
+        return Some(ProposalsFault::Count {
+            count: values.len() as u64,
+            processes: n,
+        });
+    }
+    bad_proposal(values)
+}
+
+/// The refusal of proposals, for this fault.
+fn refused(fault: Option<ProposalsFault>) -> Refused<'static>
+    ensures error { result.error ≡ ScenarioError.Proposals }
+    ensures finds { (file : Members) → IfSome fault (IsProposalsFault file) → Finds file result }
+{
+    let error = ScenarioError::Proposals;
+    match fault {
+        Some(fault) => Refused {
+            error,
+            finding: Some(Finding::Proposals(fault)),
+        },
+        None => Refused {
+            error,
+            finding: None,
+        },
+    }
+}
+
 /// The proposals of the processes of a scenario without an algorithm: there may be none.
-fn read_no_proposals(alloc: Global, top: &Table) -> Result<Vec<u32>, ScenarioError>
+fn read_no_proposals(alloc: Global, top: &Table) -> Result<Vec<u32>, Refused<'static>>
     ensures ok { OnOk result (has_key (codes "proposals") (table_view top.now) ≡ false) }
     ensures value { IfOk result (λ v. v.items ≡ proposals_of (table_view top.now)) }
-    ensures err { IfErr result (GivenBy ScenarioError.Proposals (has_key (codes "proposals") (table_view top.now))) }
+    ensures err { IfErr result (λ r. GivenBy ScenarioError.Proposals (
+        has_key (codes "proposals") (table_view top.now)) r.error) }
+    ensures finds { Some AlgorithmKind.Idle ≡ algorithm_in (table_view top.now)
+        → IfErr result (Finds (table_view top.now)) }
 {
     if has(top, "proposals") {
-        return Err(ScenarioError::Proposals);
+        return Err(refused(Some(ProposalsFault::Unasked)));
     }
     Ok(Vec::new(alloc))
 }
 
 /// The proposals of n processes that run an algorithm: one of each.
-fn read_each_proposal(alloc: Global, top: &Table, n: u16) -> Result<Vec<u32>, ScenarioError>
+fn read_each_proposal(alloc: Global, top: &Table, n: u16) -> Result<Vec<u32>, Refused<'static>>
     requires { 1 ≤ n }
     ensures ok { OnOk result (has_other_proposals n (table_view top.now) ≡ false) }
     ensures value { IfOk result (λ v. v.items ≡ proposals_of (table_view top.now)) }
-    ensures err { IfErr result (GivenBy ScenarioError.Proposals (has_other_proposals n (table_view top.now))) }
+    ensures err { IfErr result (λ r. GivenBy ScenarioError.Proposals (
+        has_other_proposals n (table_view top.now)) r.error) }
+    ensures finds { AsksForOne (table_view top.now) → n ≡ processes_of (table_view top.now)
+        → IfErr result (Finds (table_view top.now)) }
 {
     let Some(values) = inner_array(top, "proposals") else {
-        return Err(ScenarioError::Proposals);
+        return Err(refused(asked_fault(top, n)));
     };
     match proposals_among(alloc, values) {
         Ok(Some(found)) => {
             if found.len() != usize::from(n) {
-                return Err(ScenarioError::Proposals);
+                return Err(refused(asked_fault(top, n)));
             }
             Ok(found)
         }
-        Ok(None) => Err(ScenarioError::Proposals),
-        Err(error) => Err(ScenarioError::Memory(error)),
+        Ok(None) => Err(refused(asked_fault(top, n))),
+        Err(_) => Err(Refused::memory()),
     }
 }
 
@@ -88,12 +152,14 @@ pub(crate) fn read_proposals(
     top: &Table,
     algorithm: AlgorithmKind,
     n: u16,
-) -> Result<Vec<u32>, ScenarioError>
+) -> Result<Vec<u32>, Refused<'static>>
     requires { 1 ≤ n }
     ensures ok { OnOk result (has_bad_proposals (Some algorithm) n (table_view top.now) ≡ false) }
     ensures value { IfOk result (λ v. v.items ≡ proposals_of (table_view top.now)) }
-    ensures err { IfErr result (
-        GivenBy ScenarioError.Proposals (has_bad_proposals (Some algorithm) n (table_view top.now))) }
+    ensures err { IfErr result (λ r. GivenBy ScenarioError.Proposals (
+        has_bad_proposals (Some algorithm) n (table_view top.now)) r.error) }
+    ensures finds { Some algorithm ≡ algorithm_in (table_view top.now) → n ≡ processes_of (table_view top.now)
+        → IfErr result (Finds (table_view top.now)) }
 {
     match algorithm {
         AlgorithmKind::Idle => read_no_proposals(alloc, top),

@@ -4,8 +4,10 @@ ghost use Rattle.toml.specs.View.{table_view};
 ghost use Rattle.scenario.specs.Text.{record_of};
 ghost use Rattle.scenario.specs.Refusals.{Accepts, Refuses, is_memory, table_rules};
 ghost use Rattle.scenario.specs.Groups.{Passes, StopsFirst};
+ghost use Rattle.scenario.specs.Faults.{Finds};
 
 use crate::error::ScenarioError;
+use crate::finding::{Refused, accepted};
 use crate::keys::{check_keys, tables_of};
 use crate::numbers::read_numbers;
 use crate::parts::read_parts;
@@ -42,13 +44,32 @@ pub fn read_table(alloc: Global, table: &Table) -> Result<Scenario, ScenarioErro
     ensures value { IfOk result (λ s. s ≡ record_of (table_view table.now)) }
     ensures err { IfErr result (StopsFirst table_rules (Some (table_view table.now))) }
 {
+    match read_with_place(alloc, table) {
+        Ok(scenario) => Ok(scenario),
+        Err(refused) => Err(refused.error),
+    }
+}
+
+/// Reads a scenario from its file's table, as [`read_table`] does, and says of a table that is refused what is wrong
+/// with it, and where.
+///
+/// # Errors
+///
+/// The refusal that [`read_table`] answers, with what breaks its rule: what is named stands there
+/// (`specs/Faults.antt`).
+pub fn read_with_place(alloc: Global, table: &Table) -> Result<Scenario, Refused<'_>>
+    ensures ok { OnOk result (Passes table_rules (Some (table_view table.now))) }
+    ensures value { IfOk result (λ s. s ≡ record_of (table_view table.now)) }
+    ensures err { IfErr result (λ r. StopsFirst table_rules (Some (table_view table.now)) r.error) }
+    ensures finds { IfErr result (Finds (table_view table.now)) }
+{
     let tables = match tables_of(alloc, table) {
         Ok(tables) => tables,
-        Err(error) => return Err(ScenarioError::Memory(error)),
+        Err(_) => return Err(Refused::memory()),
     };
-    check_keys(&tables)?;
-    let numbers = read_numbers(tables.top)?;
-    let parts = read_parts(alloc, &tables, &numbers)?;
+    accepted!(check_keys(&tables));
+    let numbers = accepted!(read_numbers(tables.top));
+    let parts = accepted!(read_parts(alloc, &tables, &numbers));
     Ok(Scenario::of(Fields {
         processes: numbers.processes,
         horizon: numbers.horizon,

@@ -1,14 +1,54 @@
 //! What a TOML table holds at its keys, and the faults of its keys.
-ghost use Rattle.std.specs.Prelude.{◌≡◌, IfOk, option_map, option_and_then};
+ghost use Rattle.std.specs.Prelude.{◌≡◌, false, is_some, option_map, option_copied, option_and_then, IfOk, IfSome};
+ghost use Rattle.std.specs.List.{Contains};
 ghost use Rattle.toml.specs.View.{view, array_view, items_view, table_view};
 ghost use Rattle.toml.specs.Data.{as_array, get_member};
-ghost use Rattle.scenario.specs.Table.{number_or, text_or, has_key, table_at, tables_at, the_tables, all_items, is_number, is_table, is_of, is_listed, has_unlisted, is_lacking, has_lacking, is_mistyped, has_mistyped};
+ghost use Rattle.scenario.specs.Table.{number_or, text_or, has_key, table_at, tables_at, the_tables, all_items, is_number, is_table, is_of, is_listed, keys_of, has_unlisted, is_lacking, has_lacking, is_mistyped, has_mistyped};
 ghost use Rattle.scenario.specs.Parts.{field_of, fields_of, table_in, tables_in};
 ghost use Rattle.scenario.specs.Text.{is_second as second_in, is_fresh as fresh_in};
+ghost use Rattle.scenario.specs.Faults.{integer_in, text_in, has_integer, IsMissing, IsWrongKind, IsWrongKindOf};
 
+use crate::fault::WrongKind;
 use crate::field::{Field, Kind};
 use std::alloc::{AllocError, Global};
 use toml::{Table, Value};
+
+/// The value at a key, if there is one.
+pub(crate) fn value_at<'a>(table: &'a Table, key: &str) -> Option<&'a Value>
+    ensures { option_map (λ v. view v.now) result ≡ get_member key.now (table_view table.now) }
+{
+    table.get(key)
+}
+
+/// The integer at a key, if there is one.
+pub(crate) fn integer_at(table: &Table, key: &str) -> Option<i64>
+    ensures { result ≡ integer_in key.now (table_view table.now) }
+{
+    match value_at(table, key) {
+        Some(value) => value.as_integer(),
+        None => None,
+    }
+}
+
+/// Whether the integer at a key is this one.
+pub(crate) fn has_integer_at(table: &Table, key: &str, value: i64) -> bool
+    ensures { result ≡ has_integer key.now value (table_view table.now) }
+{
+    match integer_at(table, key) {
+        Some(found) => found == value,
+        None => false,
+    }
+}
+
+/// The text at a key, if there is one.
+pub(crate) fn text_at<'a>(table: &'a Table, key: &str) -> Option<&'a str>
+    ensures { option_copied result ≡ text_in key.now (table_view table.now) }
+{
+    match value_at(table, key) {
+        Some(value) => value.as_str(),
+        None => None,
+    }
+}
 
 /// The integer at a key, or the default where there is none.
 pub(crate) fn number(table: &Table, key: &str, default: i64) -> i64
@@ -147,35 +187,38 @@ pub fn is_listed_key(fields: &[Field], key: &str) -> bool
     false
 }
 
-/// Whether some key of the table isn't one of these.
-pub(crate) fn has_unlisted_key(fields: &[Field], table: &Table) -> bool
-    ensures { result ≡ has_unlisted (fields_of fields.now) (table_view table.now) }
+/// The first key of the table that isn't one of these.
+pub(crate) fn unlisted_key<'a>(fields: &[Field], table: &'a Table) -> Option<&'a str>
+    ensures test { is_some result ≡ has_unlisted (fields_of fields.now) (table_view table.now) }
+    ensures there { IfSome result (λ k. Contains (keys_of (table_view table.now)) k.now) }
+    ensures other { IfSome result (λ k. is_listed (fields_of fields.now) k.now ≡ false) }
 {
     for key in table.keys() {
         if !is_listed_key(fields, key.as_str()) {
-            return true;
+            return Some(key.as_str());
         }
     }
-    false
+    None
 }
 
 /// Whether the field is needed and missing.
-pub fn is_lacking_field(field: &Field, table: &Table) -> bool
+fn is_lacking_field(field: &Field, table: &Table) -> bool
     ensures { result ≡ is_lacking (field_of field.now) (table_view table.now) }
 {
     field.needed && table.get(field.key).is_none()
 }
 
-/// Whether some needed key is missing.
-pub(crate) fn has_lacking_key(fields: &[Field], table: &Table) -> bool
-    ensures { result ≡ has_lacking (fields_of fields.now) (table_view table.now) }
+/// The first needed key that is missing.
+pub(crate) fn lacking_key(fields: &[Field], table: &Table) -> Option<&'static str>
+    ensures test { is_some result ≡ has_lacking (fields_of fields.now) (table_view table.now) }
+    ensures key { IfSome result (λ k. IsMissing (fields_of fields.now) (table_view table.now) k.now) }
 {
     for field in fields {
         if is_lacking_field(field, table) {
-            return true;
+            return Some(field.key);
         }
     }
-    false
+    None
 }
 
 impl Kind {
@@ -199,24 +242,33 @@ impl Kind {
     }
 }
 
-/// Whether the field is there and of another kind.
-fn is_mistyped_field(field: &Field, table: &Table) -> bool
-    ensures { result ≡ is_mistyped (field_of field.now) (table_view table.now) }
+/// The field's value, where it is there and of another kind.
+fn mistyped_field(field: &Field, table: &Table) -> Option<WrongKind>
+    ensures test { is_some result ≡ is_mistyped (field_of field.now) (table_view table.now) }
+    ensures wrong { IfSome result (IsWrongKindOf (field_of field.now) (table_view table.now)) }
 {
-    match table.get(field.key) {
-        Some(value) => !field.kind.takes(value),
-        None => false,
+    let Some(value) = value_at(table, field.key) else {
+        return None;
+    };
+    if field.kind.takes(value) {
+        return None;
     }
+    Some(WrongKind {
+        key: field.key,
+        wanted: field.kind,
+        found: value.type_str(),
+    })
 }
 
-/// Whether some listed key has a value of another kind.
-pub(crate) fn has_mistyped_key(fields: &[Field], table: &Table) -> bool
-    ensures { result ≡ has_mistyped (fields_of fields.now) (table_view table.now) }
+/// The first value at a listed key that is of another kind.
+pub(crate) fn mistyped_key(fields: &[Field], table: &Table) -> Option<WrongKind>
+    ensures test { is_some result ≡ has_mistyped (fields_of fields.now) (table_view table.now) }
+    ensures wrong { IfSome result (IsWrongKind (fields_of fields.now) (table_view table.now)) }
 {
     for field in fields {
-        if is_mistyped_field(field, table) {
-            return true;
+        if let Some(wrong) = mistyped_field(field, table) {
+            return Some(wrong);
         }
     }
-    false
+    None
 }

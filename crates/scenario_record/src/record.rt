@@ -12,7 +12,7 @@ use process_api::{DetectorNumbers, Pid};
 use std::marker::Model;
 
 /// What a scenario has, field by field. Contracts see the record of these fields.
-#[derive(Debug, Drop)]
+#[derive(Drop)]
 pub struct Fields {
     /// How many processes there are.
     pub processes: u16,
@@ -64,7 +64,7 @@ impl Model for Fields {
 
 /// An accepted scenario. Contracts see the record that the file stands for (`specs/Record.antt`), with every field
 /// in its range (`specs/Ranges.antt`).
-#[derive(Debug, Drop)]
+#[derive(Drop)]
 pub struct Scenario {
     fields: Fields,
 }

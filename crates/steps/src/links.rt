@@ -1,21 +1,21 @@
 //! What a process puts on its links.
-ghost use Rattle.std.specs.Prelude.{◌≡◌, ◌≢◌, ◌≤◌, ◌<◌, ◌+◌, ◌^◌, ◌++◌, ℕ, IfOk, OnOk, length, replicate, vec_len};
+ghost use Rattle.std.specs.Prelude.{◌≡◌, ◌≢◌, ◌≤◌, ◌<◌, ◌+◌, ◌^◌, ◌++◌, ◌∷◌, [], ℕ, IfOk, MatchOption, OnOk, length, replicate, vec_len};
 ghost use Rattle.std.specs.List.{AllByRecursion};
 ghost use Rattle.process_api.specs.Actions.{IsAllowed};
 ghost use Rattle.process_api.specs.Bounds.{most_step_actions};
 ghost use Rattle.streams.specs.Fate.{fate_of};
-ghost use Rattle.trace_laws.specs.Joins.{HaveJoined};
+ghost use Rattle.trace_laws.specs.Joins.{HaveJoined, Serves, StillServes};
 ghost use Rattle.steps.specs.Posting.{posting, posted_by};
 ghost use Rattle.trace_laws.specs.ScenarioSetting.{setting_of};
 ghost use Rattle.steps.specs.Seat.{count_of};
 ghost use Rattle.trace_laws.specs.Step.{raised, in_time, counted, joining, sent_by, lost_by, noted_by, counts_after, added as added_by, sent as sent_by_all, lost as lost_by_all, noted, dead};
 
 use crate::listener::Listener;
-use process_api::{Action, Entry, Key, Kind, Note, Payload, Pid, StepInput, Tag};
+use process_api::{Action, Entry, Key, Kind, Letter, Note, Payload, Pid, StepInput, Tag};
 use std::alloc::{AllocError, Global};
 use std::mem;
 use streams::{Fate, LinkWords, Streams};
-use trace_laws::Joins;
+use trace_laws::{Event, Joins};
 
 /// How much a process put on the link to each process so far: letters, lost ones too, and wakes.
 #[derive(Drop)]
@@ -28,35 +28,21 @@ pub struct Links {
     words: Vec<LinkWords>,
 }
 
-/// Adds the event, so many ticks after the tick of its key, where that is below the horizon.
+/// The key of what is due so many ticks after it was sent, where that is below the horizon.
 #[inline(always)]
-fn join_after<J: Joins>(
-    added: &mut J,
-    horizon: u32,
-    sent: Key,
-    ticks: u32,
-    input: StepInput,
-) -> Result<(), AllocError>
-    ensures { OnOk result (HaveJoined J.grown added.old added.new
-        (in_time horizon (record sent { tick = sent.tick + ticks }) input)) }
+fn due_after(horizon: u32, sent: Key, ticks: u32) -> Option<Key>
+    ensures { let due = record sent { tick = sent.tick + ticks } in
+        MatchOption result ((x : StepInput) → in_time horizon due x ≡ [])
+        (λ key. (key ≡ due) × ((x : StepInput) → in_time horizon due x ≡ (key, x) ∷ [])) }
 {
     let tick = u64::from(sent.tick) + u64::from(ticks);
     if tick < u64::from(horizon) {
-        let key = Key {
+        return Some(Key {
             tick: tick as u32,
             ..sent
-        };
-        added.add(key, input)?;
+        });
     }
-    Ok(())
-}
-
-/// What the receiver of a letter takes.
-#[inline(always)]
-fn letter_from(sender: Pid, payload: Payload) -> StepInput
-    ensures { result ≡ StepInput.Letter sender payload }
-{
-    StepInput::Letter { sender, payload }
+    None
 }
 
 /// A count of 0 for each process, and one for place 0.
@@ -155,7 +141,9 @@ impl Links {
         requires to { to ≤ streams.now.processes }
         requires there { to < vec_len self.old.counts }
         requires room { count_of self.old.counts.items to + 1 < 2 ^ 64 }
+        requires serves { Serves J.serves added.old key.receiver streams.now.processes }
 
+        ensures serves { StillServes J.serves added.old added.new }
         ensures counts { OnOk result (count_of self.new.counts.items ≡ raised (count_of self.old.counts.items) to) }
         ensures places { vec_len self.new.counts ≡ vec_len self.old.counts }
         ensures horizon { self.new.horizon ≡ self.old.horizon }
@@ -178,20 +166,22 @@ impl Links {
             number,
         };
         if to == own {
-            let input = letter_from(own, payload);
-            join_after(added, self.horizon, sent, 1, input)?;
+            let Some(key) = due_after(self.horizon, sent, 1) else {
+                return Ok(0);
+            };
+            added.add(Event::letter(Letter { key, payload }))?;
             return Ok(0);
         }
         let fate = self.fate(streams, own, to, number, key.tick);
         listener.hear(&sent, &payload, fate)?;
-        let input = letter_from(own, payload);
-        match fate {
-            Fate::Lost => Ok(1),
-            Fate::Delay(ticks) => {
-                join_after(added, self.horizon, sent, ticks, input)?;
-                Ok(0)
-            }
-        }
+        let Fate::Delay(ticks) = fate else {
+            return Ok(1);
+        };
+        let Some(key) = due_after(self.horizon, sent, ticks) else {
+            return Ok(0);
+        };
+        added.send(Letter { key, payload })?;
+        Ok(0)
     }
 
     /// Sets a wake, in the step of `key`.
@@ -205,7 +195,9 @@ impl Links {
     ) -> Result<(), AllocError>
         requires there { key.receiver < vec_len self.old.counts }
         requires room { count_of self.old.counts.items key.receiver + 1 < 2 ^ 64 }
+        requires serves { (processes : ℕ) × Serves J.serves added.old key.receiver processes }
 
+        ensures serves { StillServes J.serves added.old added.new }
         ensures counts { OnOk result (count_of self.new.counts.items
             ≡ raised (count_of self.old.counts.items) key.receiver) }
         ensures places { vec_len self.new.counts ≡ vec_len self.old.counts }
@@ -225,7 +217,10 @@ impl Links {
             sender: own,
             number,
         };
-        join_after(added, self.horizon, set, pause, StepInput::Wake(tag))
+        let Some(key) = due_after(self.horizon, set, pause) else {
+            return Ok(());
+        };
+        added.add(Event::wake(key, tag))
     }
 
     /// Does what one action of the step of `key` says. Answers how many letters were put on a link, and how many of
@@ -245,7 +240,9 @@ impl Links {
         requires own { key.now.receiver ≤ streams.now.processes }
         requires room { (q : ℕ) → count_of self.old.counts.items q + 1 < 2 ^ 64 }
         requires allowed { IsAllowed streams.now.processes action }
+        requires serves { Serves J.serves added.old key.now.receiver streams.now.processes }
 
+        ensures serves { StillServes J.serves added.old added.new }
         ensures counts { OnOk result (count_of self.new.counts.items
             ≡ counted key.now.receiver (count_of self.old.counts.items) action) }
         ensures places { OnOk result (vec_len self.new.counts ≡ vec_len self.old.counts) }
@@ -293,7 +290,9 @@ impl Links {
         requires room { (q : ℕ) → count_of self.old.counts.items q + most_step_actions < 2 ^ 64 }
         requires allowed { AllByRecursion (IsAllowed streams.now.processes) actions.old.items }
         requires few { length actions.old.items ≤ most_step_actions }
+        requires serves { Serves J.serves added.old key.receiver streams.now.processes }
 
+        ensures serves { StillServes J.serves added.old added.new }
         ensures counts { OnOk result (count_of self.new.counts.items
             ≡ counts_after key.receiver (count_of self.old.counts.items) actions.old.items) }
         ensures places { OnOk result (vec_len self.new.counts ≡ vec_len self.old.counts) }

@@ -1,7 +1,7 @@
 //! One step of one process.
 ghost use Rattle.std.specs.Prelude.{◌≡◌, ◌≤◌, ◌<◌, ◌+◌, ◌^◌, ℕ, IfOk, OnOk};
 ghost use Rattle.process_api.specs.Bounds.{most_step_actions};
-ghost use Rattle.trace_laws.specs.Joins.{HaveJoined};
+ghost use Rattle.trace_laws.specs.Joins.{HaveJoined, Serves, StillServes};
 ghost use Rattle.steps.specs.Posting.{posted_in};
 ghost use Rattle.trace_laws.specs.ScenarioSetting.{setting_of};
 ghost use Rattle.trace_laws.specs.Setting.{has_crashed};
@@ -9,11 +9,11 @@ ghost use Rattle.trace_laws.specs.Step.{kind_of as kind_for, kind_of_payload, st
 
 use crate::links::Links;
 use crate::listener::Listener;
-use process_api::{Action, Entry, Key, Kind, Payload, Pid, Process, StepInput, Tag};
+use process_api::{Action, Entry, Kind, Payload, Pid, Process, StepInput, Tag};
 use scenario_record::Scenario;
 use std::alloc::{AllocError, Global};
 use streams::Streams;
-use trace_laws::Joins;
+use trace_laws::{Event, Joins};
 
 /// A machine, and how much it put on the link to each process so far.
 #[derive(Drop)]
@@ -95,8 +95,9 @@ impl<M: Process> Seat<M> {
     }
 
     /// Makes the step of one event: the machine takes the input, unless the process has crashed, and what it does is
-    /// put on its links. The events that join go to `added` in their order, and the listener is told of the letters to
-    /// other processes, in theirs. `actions` is room for the machine's answer; what it held is thrown away.
+    /// put on its links. The events that join go to `added` in their order, which takes what this process causes, and
+    /// the listener is told of the letters to other processes, in theirs. `actions` is room for the machine's answer;
+    /// what it held is thrown away.
     ///
     /// # Errors
     ///
@@ -105,33 +106,38 @@ impl<M: Process> Seat<M> {
     pub fn turn<J: Joins, L: Listener>(
         &mut self,
         streams: &Streams<'_>,
-        key: Key,
-        input: &StepInput,
+        event: Event,
         actions: &mut Vec<Action>,
         added: &mut J,
         listener: &mut L,
     ) -> Result<Entry, AllocError>
         requires seated { (most : ℕ) × IsSeated M.mind streams.now most self.old × (most + most_step_actions < 2 ^ 64) }
-        requires own { key.receiver ≡ own_of M.mind self.old }
+        requires own { event.0.receiver ≡ own_of M.mind self.old }
+        requires serves { Serves J.serves added.old event.0.receiver streams.now.processes }
 
+        ensures serves { StillServes J.serves added.old added.new }
+        ensures own { OnOk result (own_of M.mind self.new ≡ own_of M.mind self.old) }
         ensures process { OnOk result (process_of M.mind self.new
-            ≡ (step (setting_of streams.now) (process_of M.mind self.old) key input.now).process) }
+            ≡ (step (setting_of streams.now) (process_of M.mind self.old) event.0 event.1).process) }
         ensures entry { IfOk result (λ e.
-            e ≡ (step (setting_of streams.now) (process_of M.mind self.old) key input.now).entry) }
+            e ≡ (step (setting_of streams.now) (process_of M.mind self.old) event.0 event.1).entry) }
         ensures added { OnOk result (HaveJoined J.grown added.old added.new
-            (step (setting_of streams.now) (process_of M.mind self.old) key input.now).added) }
+            (step (setting_of streams.now) (process_of M.mind self.old) event.0 event.1).added) }
         ensures heard { OnOk result (HaveJoined L.heard listener.old listener.new
-            (posted_in (setting_of streams.now) (process_of M.mind self.old) key input.now)) }
+            (posted_in (setting_of streams.now) (process_of M.mind self.old) event.0 event.1)) }
         ensures seated { OnOk result ((most : ℕ)
             → IsSeated M.mind streams.now most self.old
             → IsSeated M.mind streams.now (most + most_step_actions) self.new) }
     {
+        let (key, input) = event.into_parts();
         if is_down(self.crash, key.tick) {
             return Ok(self.links.dead_entry(key));
         }
         actions.clear();
-        self.machine.on_input(key.tick, input, actions)?;
+        self.machine.on_input(key.tick, &input, actions)?;
+        let kind = kind_of(&input);
+        drop(input);
         self.links
-            .perform(streams, key, kind_of(input), actions, added, listener)
+            .perform(streams, key, kind, actions, added, listener)
     }
 }

@@ -3,7 +3,7 @@ ghost use Rattle.std.specs.Prelude.{◌≡◌, ◌<◌, ◌≤◌, false, true, 
 ghost use Rattle.toml.specs.Data.{get_member, table};
 ghost use Rattle.toml.specs.View.{view, table_view, array_view, items_view};
 ghost use Rattle.study.specs.Settings.{path_of, given_by, chosen, inner, element, every};
-ghost use Rattle.study.specs.Reading.{AreSet};
+ghost use Rattle.study.specs.Reading.{AreSet, Sets};
 ghost use Rattle.study.specs.Placed.{data_of, put as put_member, put_item, put_in_each, set_at, set_all, table_of, table_or_new, items_of, element_of, is_memory};
 
 use crate::axis::Choice;
@@ -212,8 +212,8 @@ fn set_in_inner(
     put(alloc, table, name, Value::Table(changed))
 }
 
-/// Sets a key of a file's table.
-pub(crate) fn set(
+/// Sets a key of a file's table, as it is of its kind.
+fn set_by_kind(
     alloc: Global,
     table: &mut Table,
     key: &Key,
@@ -236,6 +236,20 @@ pub(crate) fn set(
             set_in_every(alloc, table, array.as_str(), key.as_str(), setting)
         }
     }
+}
+
+/// Sets a key of a file's table. The setting is what the table then has there, and each key apart from it has what it
+/// had.
+fn set(alloc: Global, table: &mut Table, key: &Key, setting: &Setting) -> Result<(), PlaceError>
+    ensures ok { OnOk result (set_at (path_of key.now) (data_of (given_by setting.now)) (table_view table.old)
+        ≡ Ok (table_view table.new)) }
+    ensures sets { OnOk result (Sets (path_of key.now) (data_of (given_by setting.now)) (table_view table.old)
+        (table_view table.new)) }
+    ensures err { IfErr result (λ e. is_memory e ≡ false
+        → set_at (path_of key.now) (data_of (given_by setting.now)) (table_view table.old) ≡ Err e) }
+{
+    law_settings();
+    set_by_kind(alloc, table, key, setting)
 }
 
 /// Sets the keys of some choices, one after the other.

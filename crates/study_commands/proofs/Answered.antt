@@ -10,14 +10,14 @@ use Rattle.study_commands.specs.Draw.{AreNamed, IsDrawAnswer, Shows, end_of_tick
 use Rattle.study_commands.specs.File.{AreBytes, IsScenario, IsTable}
 use Rattle.study_commands.specs.Letters.{IsLettersAnswer}
 use Rattle.study_commands.specs.Show.{IsPlace, IsShowAnswer}
-use Rattle.study_commands.specs.Stop.{Stops, Went}
-use Rattle.study_commands.specs.Fault.{IsBefore}
+use Rattle.shell.specs.Ending.{LeftAt, MayHaveGone, Went}
+use Rattle.study_commands.specs.Fault.{end_of}
 use Rattle.study_commands.specs.Study.{IsGrid}
 use Rattle.study_commands.specs.Sweep.{IsFaultOf, IsOfRun, IsSaid, IsSweepAnswer, IsSweepFront}
 use Rattle.study_commands.specs.declared.fault.Fault.{Fault}
 use Rattle.study_commands.specs.Why.{IsOfText, StopsShow, StopsSweep}
 use Rattle.study_commands.proofs.Reasons.{study_run, study_text}
-use Rattle.study_commands.proofs.Stopping.{refusal_before, refusal_one, stops_one}
+use Rattle.study_commands.proofs.Stopping.{refusal_one, stops_one}
 use Rattle.letters.specs.Letters.{AreLetters}
 use Rattle.letters.specs.LettersText.{letters_text}
 use Rattle.letters.specs.declared.letter.Letter.{Letter}
@@ -167,18 +167,18 @@ module _ (input : Option (List ℕ)) (path : List ℕ) (study : StudyTexts)
   }
 
   left : WroteNothing told failed old new ⊎ WroteFirst file g shard layout told failed old new
-      → WroteNothing told failed old new ⊎ Went told failed old new (IsSweepFront input path study)
+      → MayHaveGone told failed old new (IsSweepFront input path study)
   left (inl nothing) = inl nothing
   left (inr first) = inr (front first)
 
   pub sweep_stops : (e : SweepError) (f : Fault) → IsFaultOf e f → BreaksOff file g shard layout told failed old new e
-      → Stops told failed old new (IsSweepFront input path study) (IsSweepFront input path study) f
+      → LeftAt told failed old new (IsSweepFront input path study) (IsSweepFront input path study) (end_of f)
   sweep_stops (error.Refused point run reason) f is broke = stops_one told failed old new _ _ f (refusal_one f is) broke.1
   sweep_stops error.Memory f is broke =
-      let P : Fault → Type 0 = λ x. Stops told failed old new (IsSweepFront input path study) (IsSweepFront input path study) x in
+      let P : Fault → Type 0 = λ x. LeftAt told failed old new (IsSweepFront input path study) (IsSweepFront input path study) (end_of x) in
       subst P (sym is) (left broke)
   sweep_stops error.Write f is broke =
-      let P : Fault → Type 0 = λ x. Stops told failed old new (IsSweepFront input path study) (IsSweepFront input path study) x in
+      let P : Fault → Type 0 = λ x. LeftAt told failed old new (IsSweepFront input path study) (IsSweepFront input path study) (end_of x) in
       subst P (sym is) (record {
         piece = broke.text;
         is_wanted = record { file = file; grid = g; shard = shard; layout = layout; said = said; count = broke.count; text = broke.is_text };
@@ -224,8 +224,3 @@ module _ (input : Option (List ℕ)) (path : List ℕ) (study : StudyTexts) (fil
   }))
   checked_why error.Memory f is cant = let P : Fault → Type 0 = λ x. StopsSweep input path study x in subst P (sym is) tt
   checked_why error.Write f is cant = absurd cant
-
-  pub checked_before : (e : SweepError) (f : Fault) → IsFaultOf e f → CantBeRun file g shard e → IsBefore f
-  checked_before (error.Refused point run reason) f is cant = refusal_before f is
-  checked_before error.Memory f is cant = subst IsBefore (sym is) tt
-  checked_before error.Write f is cant = absurd cant

@@ -2,9 +2,9 @@
 use Rattle.std.proofs.Common.{◌≡◌, ◌++◌, codes, append_assoc, ℕ, List, None, Option, Result, String}
 use Rattle.std.specs.declared.alloc.Global.{Global}
 use Rattle.printable.specs.Printable.{printable}
-use Rattle.study_commands.specs.Fault.{IsBefore, IsOfWords, IsOfWordsFor, IsRefusal}
+use Rattle.study_commands.specs.Fault.{IsOfWords, IsOfWordsFor, IsRefusal}
 use Rattle.study_commands.specs.File.{AreBytes}
-use Rattle.study_commands.specs.Refusal.{IsBeforeReading, IsNoTable, IsOfBytes, IsOfFile, IsOfTable, IsRight, IsRightOfTable, IsToldWith, IsUnread, refusal_text, FileRefusal, absent, unreadable, too_long, broken, line_with}
+use Rattle.study_commands.specs.Refusal.{IsBeforeReading, IsOfBytes, IsOfFile, IsOfTable, IsRight, IsToldWith, IsUnread, refusal_text, FileRefusal, broken, line_with}
 use Rattle.study_commands.specs.Why.{HasNone, IsOfStudy, IsOfText, StopsCheck}
 use Rattle.study_commands.specs.declared.fault.Fault.{Fault}
 use Rattle.study_commands.specs.declared.fault.Fault.TheVariants.{Form, Limit, Memory, NotDrawn, Refused, Words, WordsMemory, Write}
@@ -35,28 +35,6 @@ words_as P Q Limit is then = absurd is
 words_as P Q Memory is then = absurd is
 words_as P Q Write is then = absurd is
 
--- ---- before anything is written
-
-pub of_bytes_before : (path bytes : List ℕ) (f : Fault) → IsOfBytes path bytes f → IsBefore f
-of_bytes_before path bytes Form is = absurd is
-of_bytes_before path bytes WordsMemory is = absurd is
-of_bytes_before path bytes (Words line) is = absurd is
-of_bytes_before path bytes (Refused line) is = tt
-of_bytes_before path bytes (NotDrawn error line) is = absurd is
-of_bytes_before path bytes Limit is = absurd is
-of_bytes_before path bytes Memory is = tt
-of_bytes_before path bytes Write is = absurd is
-
-pub of_text_before : (table : Result Members PlaceError) (f : Fault) → IsOfText table f → IsBefore f
-of_text_before table Form is = absurd is
-of_text_before table WordsMemory is = absurd is
-of_text_before table (Words line) is = absurd is
-of_text_before table (Refused line) is = tt
-of_text_before table (NotDrawn error line) is = absurd is
-of_text_before table Limit is = absurd is
-of_text_before table Memory is = tt
-of_text_before table Write is = absurd is
-
 -- ---- files
 
 -- a line of three parts, however they are grouped
@@ -64,13 +42,6 @@ pub told_line : (line path text : List ℕ) → line ≡ printable path ++ (code
 told_line line path text is = simp append_assoc is
 
 module _ (input : Option (List ℕ)) (path : List ℕ) where
-  -- a file that can't be read has no scenario and no table
-  table_refused : (r : FileRefusal) → IsBeforeReading r → IsRight input path r → IsRightOfTable input path r
-  table_refused absent before right = right
-  table_refused unreadable before right = right
-  table_refused too_long before right = right
-  table_refused (broken r) before right = absurd before
-
   -- what can't be read, and is told so
   pub unread_told : (r : FileRefusal) (f : Fault) → IsBeforeReading r → IsRight input path r → IsToldWith path (refusal_text r) f → IsUnread input path f
   unread_told r Form before right is = absurd is
@@ -81,26 +52,6 @@ module _ (input : Option (List ℕ)) (path : List ℕ) where
   unread_told r Limit before right is = absurd is
   unread_told r Memory before right is = absurd is
   unread_told r Write before right is = absurd is
-
-  pub unread_file : (f : Fault) → IsUnread input path f → IsOfFile input path f
-  unread_file Form is = absurd is
-  unread_file WordsMemory is = absurd is
-  unread_file (Words line) is = absurd is
-  unread_file (Refused line) is = record { refusal = is.refusal; right = is.right; says = is.says }
-  unread_file (NotDrawn error line) is = absurd is
-  unread_file Limit is = absurd is
-  unread_file Memory is = tt
-  unread_file Write is = absurd is
-
-  pub unread_table : (f : Fault) → IsUnread input path f → IsOfTable input path f
-  unread_table Form is = absurd is
-  unread_table WordsMemory is = absurd is
-  unread_table (Words line) is = absurd is
-  unread_table (Refused line) is = record { refusal = is.refusal; right = table_refused is.refusal is.before is.right; says = is.says }
-  unread_table (NotDrawn error line) is = absurd is
-  unread_table Limit is = absurd is
-  unread_table Memory is = tt
-  unread_table Write is = absurd is
 
   -- its bytes are refused
   pub bytes_file : (bytes : List ℕ) (f : Fault) → AreBytes input path bytes → IsOfBytes path bytes f → IsOfFile input path f
@@ -145,17 +96,6 @@ module _ (OfWords : Type 0) (OfFile : Option (String Global) → Type 0) where
   study_words P Limit is then = absurd is
   study_words P Memory is then = absurd is
   study_words P Write is then = absurd is
-
-  pub study_file : (input : Option (List ℕ)) (path : List ℕ) (f : Fault) → IsOfTable input path f
-      → ((line : Option (String Global)) → IsNoTable input path line → OfFile line) → IsOfStudy OfWords OfFile f
-  study_file input path Form is then = absurd is
-  study_file input path WordsMemory is then = absurd is
-  study_file input path (Words line) is then = absurd is
-  study_file input path (Refused line) is then = then line is
-  study_file input path (NotDrawn error line) is then = absurd is
-  study_file input path Limit is then = absurd is
-  study_file input path Memory is then = tt
-  study_file input path Write is then = absurd is
 
   pub study_text : (table : Result Members PlaceError) (f : Fault) → IsOfText table f
       → (HasNone table → (line : Option (String Global)) → OfFile line) → IsOfStudy OfWords OfFile f

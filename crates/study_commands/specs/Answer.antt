@@ -1,10 +1,13 @@
 -- What an order is answered with.
-use Rattle.std.specs.Prelude.{ℕ, List, Option, None, Some, option_map}
+use Rattle.std.specs.Prelude.{ℕ, List, Option, None, Some, Result, option_map}
 use Rattle.study_commands.specs.Check.{IsCheckAnswer, IsStudyCheck}
 use Rattle.study_commands.specs.Draw.{IsDrawAnswer}
+use Rattle.study_commands.specs.Fault.{end_of}
 use Rattle.study_commands.specs.Letters.{IsLettersAnswer}
 use Rattle.study_commands.specs.Show.{IsShowAnswer}
 use Rattle.study_commands.specs.Sweep.{IsSweepAnswer, IsSweepFront}
+use Rattle.study_commands.specs.declared.fault.Fault.{Fault}
+use Rattle.shell.specs.Ending.{Goes}
 use Rattle.study_line.specs.declared.order.Order.{Order}
 use Rattle.study_line.specs.declared.order.Order.TheVariants as order
 use Rattle.study_line.specs.declared.order.StudyTexts.{StudyTexts}
@@ -36,6 +39,12 @@ Writes input (order.Sweep path study) piece = IsSweepFront input path.now study 
 abbrev pub Leaves : Option (List ℕ) → Order → List ℕ → Type 0
 Leaves input (order.Sweep path study) piece = IsSweepFront input path.now study piece
 Leaves input _ piece = ⊥
+
+-- what went out for an order: what it asks for, or what is left where it stops
+abbrev pub GoesFor : {O A : Type 0} (told : O → Option (List ℕ)) (failed : O → ℕ) (old new : O) → Option (List ℕ) → Order
+    → Result A Fault → Type 0
+GoesFor told failed old new input asked outcome =
+    Goes end_of told failed old new (Answers input asked) (Writes input asked) (Leaves input asked) outcome
 
 -- the path that an order names
 abbrev pub path_of : Order → List ℕ

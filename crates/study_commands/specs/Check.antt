@@ -1,5 +1,6 @@
 -- What `check` answers.
 use Rattle.std.specs.Prelude.{◌≡◌, ℕ, if◌then◌else◌, nat_lt, List, [], length, ◌++◌, codes, decimal, Option}
+use Rattle.diagnosis.specs.declared.answer.Accepted.{Accepted}
 use Rattle.toml.specs.Data.{Members}
 use Rattle.study.specs.Grid.{GridRecord, runs}
 use Rattle.study.specs.Shard.{ShardRecord}
@@ -27,6 +28,9 @@ told_size processes horizon entries seconds more =
 abbrev pub accepted_text : (processes horizon limit entries seconds : ℕ) → List ℕ
 accepted_text processes horizon limit entries seconds =
     told_size processes horizon entries seconds (limit_text limit entries)
+
+abbrev pub accepted_line : Accepted → List ℕ
+accepted_line a = accepted_text a.processes a.horizon a.limit a.estimate.entries a.estimate.seconds
 
 -- the file is accepted, and these are its processes, its horizon and its limit. How near the estimate comes isn't said
 pub record IsCheckAnswer (input : Option (List ℕ)) (path : List ℕ) (piece : List ℕ) : Type 0 where

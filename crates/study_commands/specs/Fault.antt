@@ -1,7 +1,8 @@
--- The exit status of a fault, and its line.
+-- The exit status of a fault, its line, and what it leaves of what was to be written.
 use Rattle.std.specs.Prelude.{ℕ, List, Some, None, codes, string_bytes}
 use Rattle.study_commands.specs.declared.fault.Fault.{Fault}
 use Rattle.study_commands.specs.declared.fault.Fault.TheVariants.{Form, Limit, Memory, NotDrawn, Refused, Words, WordsMemory, Write}
+use Rattle.shell.specs.Ending.{End, begun, cut, untouched}
 
 -- 1: the file, a run's scenario or a picture is refused, 2: the words are, 3: a run is or memory was, 4: writing failed
 abbrev pub status_of : Fault → ℕ
@@ -13,6 +14,12 @@ status_of (NotDrawn error line) = 1
 status_of Limit = 3
 status_of Memory = 3
 status_of Write = 4
+
+-- only a sweep that memory ends leaves anything, and a failed write
+abbrev pub end_of : Fault → End
+end_of Write = cut
+end_of Memory = begun
+end_of _ = untouched
 
 -- the line that is told of it: what a refusal has to say stands in it
 abbrev pub line_of : Fault → List ℕ

@@ -1,4 +1,5 @@
 pub mod Fault
+pub mod Statuses
 pub mod File
 pub mod Study
 pub mod Refusal
@@ -11,5 +12,4 @@ pub mod Show
 pub mod Sweep
 pub mod Why
 pub mod Answer
-pub mod Stop
 pub mod Serve

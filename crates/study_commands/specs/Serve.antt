@@ -1,11 +1,12 @@
 -- What the program does for a command line.
-use Rattle.std.specs.Prelude.{◌≡◌, ◌≢◌, ◌⊎◌, ◌++◌, ℕ, List, Option, codes, string_bytes}
+use Rattle.std.specs.Prelude.{◌≡◌, ◌≢◌, ◌⊎◌, ◌++◌, ℕ, List, Option, Result, codes, string_bytes}
 use Rattle.study_commands.specs.Answer.{Answers, Leaves, Writes, path_of}
-use Rattle.study_commands.specs.Fault.{line_of, status_of}
+use Rattle.study_commands.specs.Fault.{end_of, line_of, status_of}
 use Rattle.study_commands.specs.Why.{StopsFor}
 use Rattle.study_commands.specs.declared.fault.Fault.{Fault}
-use Rattle.study_commands.specs.declared.fault.Fault.TheVariants.{Form, WordsMemory, Write}
+use Rattle.study_commands.specs.declared.fault.Fault.TheVariants.{Form, Words, WordsMemory, Write}
 use Rattle.printable.specs.Printable.{printable, printable_lines}
+use Rattle.shell.specs.Ending.{Goes, IsWhy as Why}
 use Rattle.sources.specs.Input.{input_path}
 use Rattle.study_line.specs.Order.{AsksHelp, Explains, States}
 use Rattle.study_line.specs.declared.order.Order.{Order}
@@ -24,42 +25,50 @@ ServesFor input words piece = ((asked : Order) × States words asked × Writes i
 abbrev pub LeftOf : Option (List ℕ) → List (List ℕ) → List ℕ → Type 0
 LeftOf input words piece = (asked : Order) × States words asked × Leaves input asked piece
 
+-- what went out for the words: what they ask for, or what is left where that stops
+abbrev pub GoesForWords : {O A : Type 0} (told : O → Option (List ℕ)) (failed : O → ℕ) (old new : O) → Option (List ℕ)
+    → List (List ℕ) → Result A Fault → Type 0
+GoesForWords told failed old new input words outcome =
+    Goes end_of told failed old new (Serves input words) (ServesFor input words) (LeftOf input words) outcome
+
 -- what is told of a word that isn't one of those for its option
 abbrev pub other_word_line : (name word : List ℕ) → List ℕ
 other_word_line name word = codes "fdstudy: words: " ++ name ++ codes ": " ++ printable word ++ codes "\n"
 
--- that is told, or that there was no memory for it
-abbrev pub TellsWord : (name word line : List ℕ) → Type 0
-TellsWord name word line = (line ≡ other_word_line name word) ⊎ (line ≡ line_of WordsMemory)
+-- the fault tells this of words, or that there was no memory for it
+abbrev pub TellsLine : List ℕ → Fault → Type 0
+TellsLine text (Words line) = string_bytes line ≡ text
+TellsLine text WordsMemory = Unit {0}
+TellsLine text _ = ⊥
 
--- what is told of words that state no order, and the status
-abbrev pub TellsOf : WordsError → (status : ℕ) → (line : List ℕ) → Type 0
-TellsOf (refusal.Help text) status line = (status ≡ 4) × (line ≡ line_of Write)
-TellsOf (refusal.Mistake text) status line =
-    (status ≡ 2) × ((line ≡ printable_lines (string_bytes text)) ⊎ (line ≡ line_of WordsMemory))
-TellsOf (refusal.NoPicture word) status line = (status ≡ 2) × TellsWord (codes "NoPicture") (string_bytes word) line
-TellsOf (refusal.NoEach word) status line = (status ≡ 2) × TellsWord (codes "NoEach") (string_bytes word) line
-TellsOf refusal.Form status line = (status ≡ 2) × (line ≡ line_of Form)
-TellsOf refusal.Memory status line = (status ≡ 2) × (line ≡ line_of WordsMemory)
+-- the fault of words that state no order. Help is told well, unless it can't be written
+abbrev pub TellsOf : WordsError → Fault → Type 0
+TellsOf (refusal.Help text) fault = fault ≡ Write
+TellsOf (refusal.Mistake text) fault = TellsLine (printable_lines (string_bytes text)) fault
+TellsOf (refusal.NoPicture word) fault = TellsLine (other_word_line (codes "NoPicture") (string_bytes word)) fault
+TellsOf (refusal.NoEach word) fault = TellsLine (other_word_line (codes "NoEach") (string_bytes word)) fault
+TellsOf refusal.Form fault = fault ≡ Form
+TellsOf refusal.Memory fault = fault ≡ WordsMemory
 
 -- the words state no order
-pub record IsUnasked (words : List (List ℕ)) (status : ℕ) (line : List ℕ) : Type 0 where
+pub record IsUnasked (words : List (List ℕ)) (fault : Fault) : Type 0 where
   pub reason : WordsError
   pub explains : Explains words reason
-  pub tells : TellsOf reason status line
+  pub tells : TellsOf reason fault
 
 -- they state one, which isn't carried out
-pub record IsStopped (input : Option (List ℕ)) (words : List (List ℕ)) (status : ℕ) (line : List ℕ) : Type 0 where
+pub record IsStopped (input : Option (List ℕ)) (words : List (List ℕ)) (fault : Fault) : Type 0 where
   pub asked : Order
   pub stated : States words asked
-  pub fault : Fault
   pub why : StopsFor input asked fault
-  pub status_is : status ≡ status_of fault
-  pub line_is : line ≡ line_of fault
+
+-- the words aren't followed for this fault
+abbrev pub IsReason : Option (List ℕ) → List (List ℕ) → Fault → Type 0
+IsReason input words fault = IsUnasked words fault ⊎ IsStopped input words fault
 
 -- why the program ends with this status and this line
 abbrev pub IsWhy : Option (List ℕ) → List (List ℕ) → (status : ℕ) → (line : List ℕ) → Type 0
-IsWhy input words status line = IsUnasked words status line ⊎ IsStopped input words status line
+IsWhy input words = Why status_of line_of (IsReason input words)
 
 -- the words make a whole order
 abbrev pub IsAsked : List (List ℕ) → Type 0

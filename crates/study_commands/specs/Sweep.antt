@@ -1,11 +1,12 @@
 -- What `sweep` answers.
-use Rattle.std.specs.Prelude.{◌≡◌, ◌<◌, ℕ, List, length, take, Option}
+use Rattle.std.specs.Prelude.{◌≡◌, ◌<◌, ℕ, List, length, take, Option, Result}
 use Rattle.toml.specs.Data.{Members}
-use Rattle.study_commands.specs.Fault.{IsRefusal}
+use Rattle.study_commands.specs.Fault.{IsRefusal, end_of}
 use Rattle.study_commands.specs.File.{IsTable}
 use Rattle.study_commands.specs.Study.{IsGrid, IsLayout, IsShardOf, columns_word, shard_word}
 use Rattle.study_commands.specs.declared.fault.Fault.{Fault}
 use Rattle.study_commands.specs.declared.fault.Fault.TheVariants.{Memory, Write}
+use Rattle.shell.specs.Ending.{Goes}
 use Rattle.study.specs.Grid.{GridRecord, points, runs}
 use Rattle.study.specs.Shard.{ShardRecord}
 use Rattle.study_line.specs.declared.order.StudyTexts.{StudyTexts}
@@ -40,6 +41,13 @@ module _ (input : Option (List ℕ)) (path : List ℕ) (study : StudyTexts) wher
     pub said : IsSaid file grid shard layout
     pub count : ℕ
     pub text : IsTextOf file grid shard layout (take count (units_of layout.rows grid shard)) piece
+
+-- what went out for a sweep: its text, or the rows of the first points
+abbrev pub GoesForSweep : {O A : Type 0} (told : O → Option (List ℕ)) (failed : O → ℕ) (old new : O) → Option (List ℕ)
+    → (path : List ℕ) → StudyTexts → Result A Fault → Type 0
+GoesForSweep told failed old new input path study outcome =
+    let front = IsSweepFront input path study in
+    Goes end_of told failed old new (IsSweepAnswer input path study) front front outcome
 
 -- the fault of a sweep that breaks off: of a run that is refused its line isn't said
 abbrev pub IsFaultOf : SweepError → Fault → Type 0

@@ -1,17 +1,18 @@
 //! The command `check`: what a scenario file has, or where it breaks a rule and why.
 ghost use Rattle.std.specs.Prelude.{◌≡◌, ◌≢◌, ◌^◌, ◌-◌, ◌+◌, ◌<◌, OnOk, IfOk, IfErr, string_bytes};
 ghost use Rattle.diagnosis.specs.Diagnosis.{AcceptsAs};
-ghost use Rattle.study_commands.specs.Check.{IsCheckAnswer, accepted_text, limit_text};
+ghost use Rattle.study_commands.specs.Check.{IsCheckAnswer, accepted_line, limit_text};
 ghost use Rattle.study_commands.specs.Refusal.{IsOfBytes};
-ghost use Rattle.study_commands.specs.Stop.{Stops, Went};
 ghost use Rattle.study_commands.specs.Why.{StopsCheck};
+ghost use Rattle.study_commands.specs.Fault.{end_of};
+ghost use Rattle.shell.specs.Ending.{Puts};
 ghost use Rattle.sources.specs.Input.{TakesAtMost, input_path, most_bytes};
 
 use crate::fault::Fault;
 use crate::file::{bytes_of, fault_of};
-use crate::writing::put_text;
 use diagnosis::{Accepted, Diagnosis, diagnose};
 use reporting::Outlet;
+use shell::put_text;
 use std::alloc::Global;
 use std::io::Read;
 use std::rt::Files;
@@ -33,8 +34,7 @@ fn limit_line(alloc: Global, limit: u64, entries: u64) -> Result<String, Fault>
 
 /// The lines of an accepted file.
 fn line_of(alloc: Global, accepted: &Accepted) -> Result<String, Fault>
-    ensures line { IfOk result (λ s. string_bytes s ≡ accepted_text accepted.now.processes accepted.now.horizon
-        accepted.now.limit accepted.now.estimate.entries accepted.now.estimate.seconds) }
+    ensures line { IfOk result (λ s. string_bytes s ≡ accepted_line accepted.now) }
     ensures refused { IfErr result (λ fault. fault ≡ Fault.Memory) }
 {
     let (processes, horizon) = (accepted.processes, accepted.horizon);
@@ -70,10 +70,8 @@ pub(crate) fn serve_check<R: Files, I: Read, O: Outlet>(
     outlet: &mut O,
 ) -> Result<(), Fault>
     requires { O.failed outlet.old < 2 ^ 64 - 1 }
-    ensures done { let wanted = IsCheckAnswer (I.remaining input.old) path.now in
-        OnOk result (Went O.told O.failed outlet.old outlet.new wanted) }
-    ensures stops { let wanted = IsCheckAnswer (I.remaining input.old) path.now in
-        IfErr result (Stops O.told O.failed outlet.old outlet.new wanted (λ _. ⊥)) }
+    ensures text { let wanted = IsCheckAnswer (I.remaining input.old) path.now in
+        Puts end_of O.told O.failed outlet.old outlet.new wanted result }
     ensures why { IfErr result (StopsCheck (I.remaining input.old) path.now) }
     ensures taken { TakesAtMost (most_bytes + 1) (I.remaining input.old) (I.remaining input.new) }
     ensures untouched { path.now ≢ input_path → input.new ≡ input.old }

@@ -1,11 +1,10 @@
 //! Why a run of the program ends without having done what it was asked, and how it says so.
-ghost use Rattle.std.specs.Prelude.{◌≡◌, ◌^◌, ◌-◌, ◌+◌, ◌<◌, ◌≤◌, IfOk, IfErr};
-ghost use Rattle.study_commands.specs.Fault.{line_of, status_of, IsOfWords};
-ghost use Rattle.study_commands.specs.Stop.{Tells};
+ghost use Rattle.std.specs.Prelude.{◌≡◌, IfOk, IfErr};
+ghost use Rattle.study_commands.specs.Fault.{line_of, IsOfWords};
 
-use crate::writing::tell_text;
 use drawing::DrawError;
 use reporting::Outlet;
+use shell::{Failure, tell_text};
 use std::alloc::AllocError;
 
 /// Why the program did not do what it was asked.
@@ -43,18 +42,6 @@ impl Fault {
         }
     }
 
-    /// The exit status.
-    pub fn status(&self) -> u8
-        ensures { result ≡ status_of self.now }
-    {
-        match self {
-            Fault::Form | Fault::WordsMemory | Fault::Words(_) => 2,
-            Fault::Refused(_) | Fault::NotDrawn(..) => 1,
-            Fault::Limit | Fault::Memory => 3,
-            Fault::Write => 4,
-        }
-    }
-
     /// The line that is told of the fault.
     fn line(&self) -> &str
         ensures { result.now ≡ line_of self.now }
@@ -73,16 +60,40 @@ impl Fault {
             Fault::Write => "fdstudy: run: Write\n",
         }
     }
+}
 
-    /// Writes the fault's line and answers the exit status. Where the line can't be written whole, a front part of it
-    /// went out.
-    pub fn report<O: Outlet>(&self, faults: &mut O) -> u8
-        requires { O.failed faults.old < 2 ^ 64 - 1 }
-        ensures status { result ≡ status_of self.now }
-        ensures told { O.failed faults.new ≤ O.failed faults.old + 1 }
-        ensures line { Tells O.told O.failed faults.old faults.new (λ text. text ≡ line_of self.now) }
-    {
+impl Failure for Fault {
+    ghost use Rattle.std.specs.Prelude.{refl};
+    ghost use Rattle.study_commands.specs.Fault.{end_of, line_of, status_of};
+    ghost use Rattle.study_commands.specs.Statuses.{has_status};
+    ghost use Rattle.study_commands.specs.declared.fault.Fault.TheVariants.{Write};
+
+    ghost status = { status_of };
+
+    ghost line = { line_of };
+
+    ghost end = { end_of };
+
+    ghost unwritten = { Write };
+
+    ghost is_cut = { refl };
+
+    ghost statuses = { has_status };
+
+    fn unwritten() -> Fault {
+        Fault::Write
+    }
+
+    fn status(&self) -> u8 {
+        match self {
+            Fault::Form | Fault::WordsMemory | Fault::Words(_) => 2,
+            Fault::Refused(_) | Fault::NotDrawn(..) => 1,
+            Fault::Limit | Fault::Memory => 3,
+            Fault::Write => 4,
+        }
+    }
+
+    fn put_line<O: Outlet>(&self, faults: &mut O) {
         tell_text(self.line(), faults);
-        self.status()
     }
 }

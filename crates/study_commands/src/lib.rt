@@ -7,7 +7,7 @@
 //! file of definitions: `specs/Sweep.antt`, `specs/Show.antt`, `specs/Check.antt`, `specs/Letters.antt` and
 //! `specs/Draw.antt`. The study's text is defined by `sweep`, its grid and its words by `study`, letters by `letters`,
 //! pictures by `drawing`, and the command line by `study_line`. The process ends with the status, by the contract of
-//! [`serve::finish`].
+//! `finish` of `shell`.
 //!
 //! For example, the words `fdstudy sweep - --seeds 1..=20 --vary detector.timeout=5,10` print the line of the columns'
 //! names and two rows, each over 20 runs.
@@ -30,4 +30,3 @@ mod showing;
 mod study_check;
 mod study_words;
 mod sweeping;
-mod writing;

@@ -38,7 +38,7 @@ pub(crate) fn line_of_limited(
     };
     let name = format!(in alloc; "{name}")?;
     let name = Printable(name.as_str());
-    match next_limit(&reckon_point(alloc, file, grid, point, MOST_RECKONED)) {
+    match next_limit(&reckon_point(alloc, file, grid, point, MOST_RECKONED)?) {
         Some(limit) => format!(in alloc;
             "fdstudy: {name}: {count} of {runs} runs passed their limit; limit={limit} would do\n"
         ),

@@ -4,20 +4,20 @@ ghost use Rattle.drawing.specs.Refusals.{refusal};
 ghost use Rattle.study_commands.specs.Draw.{IsDrawAnswer, IsOfPicture, Shows, ShowsLetters, ShowsSuspicions};
 ghost use Rattle.study_commands.specs.Draw.{StopsPicture, TellsOf, end_of_ticks, first_tick};
 ghost use Rattle.study_commands.specs.Draw.{AreNamed, HasNoProcess, NamesNone, process_said};
-ghost use Rattle.study_commands.specs.Fault.{IsOfWords, IsOfWordsFor};
-ghost use Rattle.study_commands.specs.Stop.{Stops, Went};
+ghost use Rattle.study_commands.specs.Fault.{IsOfWords, IsOfWordsFor, end_of};
+ghost use Rattle.shell.specs.Ending.{Puts};
 ghost use Rattle.sources.specs.Input.{TakesAtMost, input_path, most_bytes};
 
 use crate::fault::Fault;
 use crate::file::scenario_at;
 use crate::processes::{pieces_of, process_of};
 use crate::running::{letters_of, trace_of};
-use crate::writing::put_bytes;
 use drawing::{DrawError, check_ticks, draw_letters, draw_suspicions};
 use printable::Printable;
 use process_api::Pid;
 use reporting::Outlet;
 use scenario::Scenario;
+use shell::put_bytes;
 use std::alloc::Global;
 use std::io::Read;
 use std::rt::Files;
@@ -181,12 +181,8 @@ pub(crate) fn serve_draw<R: Files, I: Read, O: Outlet>(
     outlet: &mut O,
 ) -> Result<(), Fault>
     requires { O.failed outlet.old < 2 ^ 64 - 1 }
-    ensures done { let wanted = IsDrawAnswer (I.remaining input.old) path.now picture from until
-        (option_map (λ w. w.now) of.entry) in
-        OnOk result (Went O.told O.failed outlet.old outlet.new wanted) }
-    ensures stops { let wanted = IsDrawAnswer (I.remaining input.old) path.now picture from until
-        (option_map (λ w. w.now) of.entry) in
-        IfErr result (Stops O.told O.failed outlet.old outlet.new wanted (λ _. ⊥)) }
+    ensures text { let wanted = IsDrawAnswer (I.remaining input.old) path.now picture from until (option_map (λ w. w.now) of.entry) in
+        Puts end_of O.told O.failed outlet.old outlet.new wanted result }
     ensures refused { IfErr result (StopsPicture (I.remaining input.old) path.now picture from until
         (option_map (λ w. w.now) of.entry)) }
     ensures taken { TakesAtMost (most_bytes + 1) (I.remaining input.old) (I.remaining input.new) }

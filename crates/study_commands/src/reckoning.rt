@@ -116,14 +116,23 @@ impl Kinds {
     }
 }
 
-/// The scenario of a run of a point, both from 0. There is none where the run is refused or memory is.
-fn scenario_of(alloc: Global, file: &Table, grid: &Grid, point: u64, run: u64) -> Option<Scenario> {
+/// The scenario of a run of a point, both from 0. As it was read before, there is one but for want of memory.
+fn scenario_of(
+    alloc: Global,
+    file: &Table,
+    grid: &Grid,
+    point: u64,
+    run: u64,
+) -> Result<Scenario, AllocError> {
     if point >= grid.points() || run >= grid.runs() {
-        return None;
+        return Err(AllocError);
     }
-    let settings = grid.point(alloc, point).ok()?;
-    let its = grid.run(alloc, run).ok()?;
-    read_run(alloc, file, &settings, &its).ok()
+    let settings = grid.point(alloc, point)?;
+    let its = grid.run(alloc, run)?;
+    match read_run(alloc, file, &settings, &its) {
+        Ok(scenario) => Ok(scenario),
+        Err(_) => Err(AllocError),
+    }
 }
 
 /// What is reckoned of so many runs like one, of a point, both from 0.
@@ -153,16 +162,15 @@ pub(crate) fn reckon_point(
     grid: &Grid,
     point: u64,
     most: u64,
-) -> Reckoned {
+) -> Result<Reckoned, AllocError> {
     let kinds = Kinds::of(grid);
     let mut all = Reckoned::none();
     for kind in 0..kinds.count().min(most) {
         let run = kinds.first(kind);
-        if let Some(scenario) = scenario_of(alloc, file, grid, point, run) {
-            all.join(&reckon_run(&scenario, point, run, kinds.share()));
-        }
+        let scenario = scenario_of(alloc, file, grid, point, run)?;
+        all.join(&reckon_run(&scenario, point, run, kinds.share()));
     }
-    all
+    Ok(all)
 }
 
 /// What is reckoned of all runs of some points, from 0, by so many threads.
@@ -188,8 +196,8 @@ pub(crate) fn reckon<R: Threads + Sync>(
             threads,
             &|point| { reckon_point(alloc, file, grid, point, u64::MAX) },
         )?;
-        for reckoned in &each {
-            all.join(reckoned);
+        for reckoned in each {
+            all.join(&reckoned?);
         }
         next += count;
     }

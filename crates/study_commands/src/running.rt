@@ -4,16 +4,14 @@ ghost use Rattle.trace_laws.specs.ScenarioSetting.{setting_of};
 ghost use Rattle.trace_laws.specs.World.{IsTrace};
 ghost use Rattle.study_commands.specs.Runs.{IsOfRun, fault_of_run};
 ghost use Rattle.letters.specs.Letters.{AreLetters};
-ghost use Rattle.scenario_record.specs.Opening.{mind_of};
 
 use crate::fault::Fault;
 use event_list::{RunError, run_list};
 use letters::{Letter, letters};
-use machines::{AnyDetector, eventually_strong, idle, make_all, strong};
-use process_api::{Process, Trace};
-use scenario::AlgorithmKind::{EventuallyStrong, Idle, Strong};
-use scenario::{Opening, Scenario};
-use std::alloc::{AllocError, Global};
+use machines::machines_of;
+use process_api::Trace;
+use scenario::Scenario;
+use std::alloc::Global;
 
 /// The fault of a run that is refused.
 fn fault_of(error: RunError) -> Fault
@@ -30,23 +28,7 @@ pub(crate) fn trace_of(alloc: Global, scenario: &Scenario) -> Result<Trace, Faul
     ensures trace { IfOk result (λ t. IsTrace (setting_of scenario.now) t) }
     ensures refused { IfErr result (IsOfRun scenario.now) }
 {
-    let made = make_all(
-        alloc,
-        scenario,
-        |opening: Opening| -> Result<Box<dyn Process>, AllocError>
-            ensures { IfOk result (λ made. mind made ≡ mind_of opening) }
-        {
-            let detector = AnyDetector::open(alloc, &opening)?;
-            match opening.algorithm {
-                Idle => Ok(Box::new(alloc, idle(&opening, detector))?),
-                Strong => Ok(Box::new(alloc, strong(alloc, &opening, detector)?)?),
-                EventuallyStrong => {
-                    Ok(Box::new(alloc, eventually_strong(alloc, &opening, detector)?)?)
-                }
-            }
-        },
-    );
-    let Ok(machines) = made else {
+    let Ok(machines) = machines_of(alloc, scenario) else {
         return Err(Fault::Memory);
     };
     match run_list(alloc, scenario, machines) {
@@ -60,23 +42,7 @@ pub(crate) fn letters_of(alloc: Global, scenario: &Scenario) -> Result<Vec<Lette
     ensures letters { IfOk result (λ v. AreLetters scenario.now v.items) }
     ensures refused { IfErr result (IsOfRun scenario.now) }
 {
-    let made = make_all(
-        alloc,
-        scenario,
-        |opening: Opening| -> Result<Box<dyn Process>, AllocError>
-            ensures { IfOk result (λ made. mind made ≡ mind_of opening) }
-        {
-            let detector = AnyDetector::open(alloc, &opening)?;
-            match opening.algorithm {
-                Idle => Ok(Box::new(alloc, idle(&opening, detector))?),
-                Strong => Ok(Box::new(alloc, strong(alloc, &opening, detector)?)?),
-                EventuallyStrong => {
-                    Ok(Box::new(alloc, eventually_strong(alloc, &opening, detector)?)?)
-                }
-            }
-        },
-    );
-    let Ok(machines) = made else {
+    let Ok(machines) = machines_of(alloc, scenario) else {
         return Err(Fault::Memory);
     };
     match letters(alloc, scenario, machines) {

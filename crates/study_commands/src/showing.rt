@@ -1,11 +1,11 @@
 //! The command `show`: the scenario file of one run of a study.
 ghost use Rattle.std.specs.Prelude.{◌≡◌, ◌≢◌, ◌^◌, ◌-◌, ◌+◌, ◌<◌, OnOk, IfOk, IfErr, length, string_bytes};
 ghost use Rattle.toml.specs.View.{table_view};
-ghost use Rattle.study_commands.specs.Fault.{IsOfWordsFor};
+ghost use Rattle.study_commands.specs.Fault.{IsOfWordsFor, end_of};
 ghost use Rattle.study_commands.specs.Show.{IsPlace, IsShowAnswer};
-ghost use Rattle.study_commands.specs.Stop.{Stops, Went};
 ghost use Rattle.study_commands.specs.Why.{IsOfText, StopsShow};
 ghost use Rattle.study_commands.specs.WordRefusals.{IsOutside};
+ghost use Rattle.shell.specs.Ending.{Puts};
 ghost use Rattle.sources.specs.Input.{TakesAtMost, input_path, most_bytes};
 ghost use Rattle.study.specs.Grid.{points, runs};
 ghost use Rattle.study.specs.Placed.{table_of_run};
@@ -16,8 +16,8 @@ use crate::fault::Fault;
 use crate::file::table_of;
 use crate::refused_run::line_of_run;
 use crate::study_words::grid_of;
-use crate::writing::put_text;
 use reporting::Outlet;
+use shell::put_text;
 use std::alloc::Global;
 use std::io::Read;
 use std::rt::Files;
@@ -76,10 +76,8 @@ pub(crate) fn serve_show<R: Files, I: Read, O: Outlet>(
     outlet: &mut O,
 ) -> Result<(), Fault>
     requires { O.failed outlet.old < 2 ^ 64 - 1 }
-    ensures done { let wanted = IsShowAnswer (I.remaining input.old) path.now words.now point run in
-        OnOk result (Went O.told O.failed outlet.old outlet.new wanted) }
-    ensures stops { let wanted = IsShowAnswer (I.remaining input.old) path.now words.now point run in
-        IfErr result (Stops O.told O.failed outlet.old outlet.new wanted (λ _. ⊥)) }
+    ensures text { let wanted = IsShowAnswer (I.remaining input.old) path.now words.now point run in
+        Puts end_of O.told O.failed outlet.old outlet.new wanted result }
     ensures why { IfErr result (StopsShow (I.remaining input.old) path.now words.now point run) }
     ensures taken { TakesAtMost (most_bytes + 1) (I.remaining input.old) (I.remaining input.new) }
     ensures untouched { path.now ≢ input_path → input.new ≡ input.old }

@@ -2,9 +2,10 @@
 ghost use Rattle.std.specs.Prelude.{◌≡◌, ◌≢◌, ◌^◌, ◌-◌, ◌+◌, ◌<◌, ◌++◌, ℕ, List, false, IfOk, IfErr, OnOk, length, string_bytes};
 ghost use Rattle.study.specs.Grid.{runs};
 ghost use Rattle.study_commands.specs.Check.{IsStudyCheck, study_begin};
-ghost use Rattle.study_commands.specs.Stop.{Stops, Went};
 ghost use Rattle.study_commands.specs.Sweep.{IsFaultOf};
 ghost use Rattle.study_commands.specs.Why.{StopsSweep};
+ghost use Rattle.study_commands.specs.Fault.{end_of};
+ghost use Rattle.shell.specs.Ending.{Puts};
 ghost use Rattle.sources.specs.Input.{TakesAtMost, input_path, most_bytes};
 ghost use Rattle.sweep.specs.Outcome.{CantBeRun, HaveScenarios};
 ghost use Rattle.sweep.specs.StudyText.{numbers_of};
@@ -17,10 +18,10 @@ use crate::reckoning::{Above, Reckoned, reckon};
 use crate::run_name::RunName;
 use crate::study_words::{grid_of, shard_of};
 use crate::sweeping::{fault_of, layout_of, threads_for};
-use crate::writing::put_text;
 use diagnosis::ENTRIES_A_SECOND;
 use printable::Printable;
 use reporting::Outlet;
+use shell::put_text;
 use std::alloc::{AllocError, Global};
 use std::io::Read;
 use std::marker::Sync;
@@ -137,10 +138,8 @@ pub(crate) fn serve_study_check<R: Files + Threads + Sync + Clock, I: Read, O: O
     watcher: &mut W,
 ) -> Result<(), Fault>
     requires { O.failed outlet.old < 2 ^ 64 - 1 }
-    ensures done { let wanted = IsStudyCheck (I.remaining input.old) path.now study.now in
-        OnOk result (Went O.told O.failed outlet.old outlet.new wanted) }
-    ensures stops { let wanted = IsStudyCheck (I.remaining input.old) path.now study.now in
-        IfErr result (Stops O.told O.failed outlet.old outlet.new wanted (λ _. ⊥)) }
+    ensures text { let wanted = IsStudyCheck (I.remaining input.old) path.now study.now in
+        Puts end_of O.told O.failed outlet.old outlet.new wanted result }
     ensures why { IfErr result (StopsSweep (I.remaining input.old) path.now study.now) }
     ensures taken { TakesAtMost (most_bytes + 1) (I.remaining input.old) (I.remaining input.new) }
     ensures untouched { path.now ≢ input_path → input.new ≡ input.old }

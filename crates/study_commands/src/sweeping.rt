@@ -1,9 +1,8 @@
 //! The command `sweep`: the table of a study.
 ghost use Rattle.std.specs.Prelude.{◌≡◌, ◌≢◌, ◌^◌, ◌-◌, ◌+◌, ◌<◌, ◌≤◌, false, IfOk, IfErr, IfSome, OnOk, option_map};
 ghost use Rattle.study_commands.specs.Fault.{IsOfWords, IsOfWordsFor};
-ghost use Rattle.study_commands.specs.Stop.{Stops, Went};
 ghost use Rattle.study_commands.specs.Study.{IsLayout, rows_for};
-ghost use Rattle.study_commands.specs.Sweep.{IsFaultOf, IsOfRun, IsSweepAnswer, IsSweepFront};
+ghost use Rattle.study_commands.specs.Sweep.{GoesForSweep, IsFaultOf, IsOfRun};
 ghost use Rattle.study_commands.specs.Why.{StopsSweep};
 ghost use Rattle.study_commands.specs.WordRefusals.{LacksColumn, is_layout_memory};
 ghost use Rattle.sources.specs.Input.{TakesAtMost, input_path, most_bytes};
@@ -112,10 +111,7 @@ pub(crate) fn serve_sweep<R: Files + Threads + Sync + Clock, I: Read, O: Outlet,
     watcher: &mut W,
 ) -> Result<(), Fault>
     requires { O.failed outlet.old < 2 ^ 64 - 1 }
-    ensures done { let wanted = IsSweepAnswer (I.remaining input.old) path.now study.now in
-        OnOk result (Went O.told O.failed outlet.old outlet.new wanted) }
-    ensures stops { let front = IsSweepFront (I.remaining input.old) path.now study.now in
-        IfErr result (Stops O.told O.failed outlet.old outlet.new front front) }
+    ensures text { GoesForSweep O.told O.failed outlet.old outlet.new (I.remaining input.old) path.now study.now result }
     ensures why { IfErr result (StopsSweep (I.remaining input.old) path.now study.now) }
     ensures taken { TakesAtMost (most_bytes + 1) (I.remaining input.old) (I.remaining input.new) }
     ensures untouched { path.now ≢ input_path → input.new ≡ input.old }

@@ -1,6 +1,5 @@
 //! Runs scenarios and measures them.
 ghost use Rattle.std.specs.Prelude.{◌≡◌, ◌+◌, ◌*◌, ◌^◌, ◌<◌, ◌≤◌, length, IfOk};
-ghost use Rattle.scenario_record.specs.Opening.{mind_of};
 ghost use Rattle.toml.specs.View.{table_view};
 ghost use Rattle.study.specs.Grid.{points, runs};
 ghost use Rattle.sweep.specs.Numbering.{point_of, IsAnswerAt, AreNumbersFrom};
@@ -12,11 +11,9 @@ use crate::numbering::scenario_of;
 use crate::parallel::all_of;
 use crate::run_numbers::RunNumbers;
 use event_list::RunError;
-use machines::{AnyDetector, eventually_strong, idle, make_all, strong};
-use process_api::Process;
+use machines::machines_of;
 use reporting::measure_list;
-use scenario::AlgorithmKind::{EventuallyStrong, Idle, Strong};
-use scenario::{Opening, Scenario};
+use scenario::Scenario;
 use std::alloc::{AllocError, Global};
 use std::marker::Sync;
 use std::thread::Threads;
@@ -30,22 +27,7 @@ fn measure_scenario(alloc: Global, scenario: &Scenario) -> Result<RunNumbers, Al
         × AreNumbers (record { scenario = scenario.now; result = r }) n) }
 {
     let _ticks = scenario.horizon();
-    let machines = make_all(
-        alloc,
-        scenario,
-        |opening: Opening| -> Result<Box<dyn Process>, AllocError>
-            ensures { IfOk result (λ made. mind made ≡ mind_of opening) }
-        {
-            let detector = AnyDetector::open(alloc, &opening)?;
-            match opening.algorithm {
-                Idle => Ok(Box::new(alloc, idle(&opening, detector))?),
-                Strong => Ok(Box::new(alloc, strong(alloc, &opening, detector)?)?),
-                EventuallyStrong => {
-                    Ok(Box::new(alloc, eventually_strong(alloc, &opening, detector)?)?)
-                }
-            }
-        },
-    )?;
+    let machines = machines_of(alloc, scenario)?;
     match measure_list(alloc, scenario, machines) {
         Ok((findings, durations)) => {
             let numbers = RunNumbers::of_run(alloc, scenario, &findings, &durations)?;

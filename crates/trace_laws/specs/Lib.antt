@@ -7,4 +7,6 @@ pub mod Theorems
 pub mod ScenarioSetting
 pub mod Effects
 pub mod Joins
+pub mod Taken
+pub mod Codes
 pub mod Reached

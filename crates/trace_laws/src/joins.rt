@@ -1,32 +1,40 @@
 //! Where the events of a step go.
-ghost use Rattle.std.specs.Prelude.{◌≡◌, ◌++◌, ◌∷◌, [], List, OnOk};
-ghost use Rattle.trace_laws.specs.Joins.{HaveJoined};
-ghost use Rattle.trace_laws.specs.Step.{Event};
+ghost use Rattle.std.specs.Prelude.{◌≢◌, ◌≤◌, ◌∷◌, [], ℕ, List, OnOk};
+ghost use Rattle.trace_laws.specs.Joins.{HaveJoined, Serves, StillServes};
+ghost use Rattle.trace_laws.specs.Step.{Event as Pair};
+ghost use Rattle.trace_laws.specs.Taken.{event_of};
 
-use process_api::{Key, StepInput};
+use crate::event::Event;
+use process_api::Letter;
 use std::alloc::AllocError;
 
 /// Takes the events that join, one after another.
 pub trait Joins {
-    /// The first, with these events joined in their order, is the second.
-    ghost grown: { Self → List Event → Self → Type 0 };
+    /// The second, which was the first, takes what process `own` of so many processes causes.
+    ghost serves: { Self → Self → (own processes : ℕ) → Type 0 };
 
-    /// One more event.
+    /// The first, with these events joined in their order, is the second.
+    ghost grown: { Self → List Pair → Self → Type 0 };
+
+    /// One more event of the process itself: a wake, or a letter to itself.
     ///
     /// # Errors
     ///
     /// `AllocError` where memory was refused. The event is gone then, and others may be.
-    fn add(&mut self, key: Key, input: StepInput) -> Result<(), AllocError>
-        ensures { OnOk result (HaveJoined grown self.old self.new ((key, input) ∷ [])) };
-}
+    fn add(&mut self, event: Event) -> Result<(), AllocError>
+        requires { (processes : ℕ) × Serves serves self.old event.0.receiver processes }
+        ensures serves { StillServes serves self.old self.new }
+        ensures grown { OnOk result (HaveJoined grown self.old self.new (event ∷ [])) };
 
-impl Joins for Vec<(Key, StepInput)> {
-    ghost grown = { λ old events new. new.items ≡ old.items ++ events };
-
-    /// Appends the event.
-    #[inline(always)]
-    fn add(&mut self, key: Key, input: StepInput) -> Result<(), AllocError> {
-        self.push((key, input))?;
-        Ok(())
-    }
+    /// One more letter, to another process.
+    ///
+    /// # Errors
+    ///
+    /// `AllocError` where memory was refused. The letter is gone then, and others may be.
+    fn send(&mut self, letter: Letter) -> Result<(), AllocError>
+        requires sender { (processes : ℕ) × Serves serves self.old letter.key.sender processes
+            × (letter.key.receiver ≤ processes) }
+        requires other { letter.key.receiver ≢ letter.key.sender }
+        ensures serves { StillServes serves self.old self.new }
+        ensures grown { OnOk result (HaveJoined grown self.old self.new (event_of letter ∷ [])) };
 }

@@ -8,13 +8,15 @@
 //! Proved here: a scenario has exactly one trace, it is a closed history, and every closed history has its entries
 //! (`proofs/Closed.antt`); each entry but a start has one cause, an earlier one, and each event that a step adds below
 //! the horizon is one entry (`proofs/Effects.antt`). The contract that names these laws is that of `law_only_history` of
-//! `event_list`, and the runs of `event_list` and `windows` rest on them. The only code is [`Joins`], the trait of
-//! whoever takes the events of a step.
+//! `event_list`, and the runs of `event_list` and `windows` rest on them. The only code is an [`Event`], which
+//! waits for its receiver, and [`Joins`], the trait of whoever takes the events of a step.
 //!
 //! For example, of two processes that send each other a letter at tick 0 the trace begins with both starts, in the
 //! order of their numbers.
 #![tactic(auto)]
 
+mod event;
 mod joins;
 
+pub use event::Event;
 pub use joins::Joins;

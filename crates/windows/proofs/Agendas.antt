@@ -14,7 +14,8 @@ use Rattle.trace_laws.specs.Step.{Event, Events}
 use Rattle.trace_laws.specs.World.{Has, IsLeast, NoneBelow, joined}
 use Rattle.trace_laws.proofs.Runs.{least_below}
 use Rattle.trace_laws.proofs.Sets.{insert_at, insert_other, joined_cases}
-use Rattle.windows.specs.Agenda.{event_of, earlier_of, SomeAt, IsSoonestOf}
+use Rattle.trace_laws.specs.Taken.{event_of}
+use Rattle.windows.specs.Agenda.{earlier_of, SomeAt, IsSoonestOf}
 use Rattle.windows.proofs.Starts.{from_least}
 
 weaker : (P Q : Letter → Type 0) → ((x : Letter) → P x → Q x) → (xs : List Letter) → AllByRecursion P xs → AllByRecursion Q xs

@@ -33,7 +33,7 @@ use Rattle.trace_laws.proofs.Runs.{run_exists, one_run}
 use Rattle.trace_laws.proofs.Sets.{joined_cases, one_input, insert_at, not_None, same_Some}
 use Rattle.trace_laws.proofs.Sound.{setting_sound}
 use Rattle.trace_merge.specs.Parts.{all_of, AreDisjoint}
-use Rattle.windows.specs.Agenda.{event_of}
+use Rattle.trace_laws.specs.Taken.{event_of}
 use Rattle.windows.specs.Berth.{RanTo, IsBerth}
 use Rattle.window_laws.specs.Machine.{StageRecord, Act, StandsFor, IsRun, end_of, first_status}
 use Rattle.window_laws.specs.Theorems.{IsListRun, IsMerge}

@@ -1,126 +1,60 @@
--- What one step sends.
-use Rattle.std.proofs.Common.{◌≡◌, ◌≢◌, ℕ, ◌+◌, ◌≤◌, inl, inr, refl, sym, ap, ◌∙◌, Bool, true, false, cond, not, List, [], ◌∷◌, ◌++◌, nat_lt, nat_eq, IsTrue}
-use Rattle.std.specs.List.{AllByRecursion}
-use Rattle.std.proofs.lemmas.List.Elements.{recursion_from_All}
-use Rattle.process_api.specs.Actions.{IsAllowed}
-use Rattle.process_api.specs.Mind.{Mind, is_mind_at}
-use Rattle.process_api.specs.React.{react}
-use Rattle.process_api.specs.declared.action.Action.{Action}
-use Rattle.process_api.specs.declared.action.Action.TheVariants.{Send, Wake, Note}
-use Rattle.process_api.specs.declared.key.Key.{Key}
+-- Events that a process causes in a window, as they are handed on.
+use Rattle.std.proofs.Common.{◌≡◌, ◌≢◌, ℕ, refl, ap, Bool, true, false, cond, not, List, [], ◌∷◌, ◌++◌, nat_eq, length}
+use Rattle.std.proofs.lemmas.Bool.{eq-eqb, ne_eqb}
+use Rattle.std.specs.FinMap as events
 use Rattle.process_api.specs.declared.message.Letter.{Letter}
-use Rattle.process_api.specs.declared.message.Payload.{Payload}
-use Rattle.process_api.specs.declared.message.StepInput.{StepInput}
-use Rattle.process_api.specs.declared.message.StepInput.TheVariants as input
-use Rattle.process_api.proofs.Allowed.{react_allowed}
-use Rattle.process_api.proofs.Keeping.{react_keeps}
-use Rattle.process_api.proofs.Lists.{both}
-use Rattle.process_api.proofs.Minds.{mind_place, same_own}
-use Rattle.scenario_record.specs.Record.{Record, place_in}
-use Rattle.streams.specs.declared.fate.Fate.{Fate}
-use Rattle.streams.specs.declared.fate.Fate.TheVariants as fate
-use Rattle.trace_laws.specs.ScenarioSetting.{setting_of}
-use Rattle.trace_laws.specs.Setting.{Setting, has_crashed}
-use Rattle.trace_laws.specs.Step.{Event, Events, Process, Made, in_time, by_fate, joining, counted, added, step, made_by, dead}
+use Rattle.trace_laws.specs.Joins.{HaveJoined, Serves, StillServes}
+use Rattle.trace_laws.specs.Step.{Event, Events}
 use Rattle.trace_laws.specs.World.{joined}
-use Rattle.mailboxes.specs.Mailboxes.{SlipView, with_letter}
-use Rattle.windows.specs.Berth.{IsOwnOrLetter, with_letters}
+use Rattle.mailboxes.specs.Mailboxes.{IsSlipOf, SlipView, with_letter}
+use Rattle.windows.specs.Berth.{with_letters}
+use Rattle.windows.specs.Outbox.{HandedOn, IsFor}
+use Rattle.windows.specs.declared.outbox.Outbox.{Outbox}
 use Rattle.window_laws.specs.Machine.{for_self, for_others}
 
--- the events of one more
-pub self_more : (p : ℕ) (x : Event) (es : List Event) (m : Events) → joined (joined m (for_self p (x ∷ []))) (for_self p es) ≡ joined m (for_self p (x ∷ es))
-self_more p x es m = go (nat_eq x.0.receiver p)
+-- what was handed on with one event more
+pub self_then : (p : ℕ) (es : List Event) (x : Event) (m : Events) → joined m (for_self p (es ++ x ∷ [])) ≡ joined (joined m (for_self p es)) (for_self p (x ∷ []))
+self_then p [] x m = refl
+self_then p (y ∷ es) x m = go (nat_eq y.0.receiver p) (self_then p es x (events.insert m y.0 y.1)) (self_then p es x m)
   where
-    go : (b : Bool) → joined (joined m (cond b (x ∷ []) [])) (for_self p es) ≡ joined m (cond b (x ∷ for_self p es) (for_self p es))
-    go true = refl
-    go false = refl
+    go : (b : Bool)
+        → joined (events.insert m y.0 y.1) (for_self p (es ++ x ∷ [])) ≡ joined (joined (events.insert m y.0 y.1) (for_self p es)) (for_self p (x ∷ []))
+        → joined m (for_self p (es ++ x ∷ [])) ≡ joined (joined m (for_self p es)) (for_self p (x ∷ []))
+        → joined m (cond b (y ∷ for_self p (es ++ x ∷ [])) (for_self p (es ++ x ∷ []))) ≡ joined (joined m (cond b (y ∷ for_self p es) (for_self p es))) (for_self p (x ∷ []))
+    go true own other = own
+    go false own other = other
 
-pub others_more : (p : ℕ) (x : Event) (es : List Event) → for_others p (x ∷ []) ++ for_others p es ≡ for_others p (x ∷ es)
-others_more p x es = go (not (nat_eq x.0.receiver p))
+pub others_then : (p : ℕ) (es : List Event) (x : Event) → for_others p (es ++ x ∷ []) ≡ for_others p es ++ for_others p (x ∷ [])
+others_then p [] x = refl
+others_then p (y ∷ es) x = go (not (nat_eq y.0.receiver p)) (others_then p es x)
   where
-    go : (b : Bool) → cond b (x ∷ []) [] ++ for_others p es ≡ cond b (x ∷ for_others p es) (for_others p es)
-    go true = refl
-    go false = refl
+    go : (b : Bool) → for_others p (es ++ x ∷ []) ≡ for_others p es ++ for_others p (x ∷ [])
+        → cond b (y ∷ for_others p (es ++ x ∷ [])) (for_others p (es ++ x ∷ [])) ≡ cond b (y ∷ for_others p es) (for_others p es) ++ for_others p (x ∷ [])
+    go true rest = ap (λ zs. y ∷ zs) rest
+    go false rest = rest
 
--- what joined an empty list
-pub from_none : (old new made : List Event) → new ≡ old ++ made → old ≡ [] → new ≡ made
-from_none old new made e none = e ∙ ap (λ es. es ++ made) none
+-- one event, for the process itself or for another
+module _ (p : ℕ) (x : Event) where
+  pub one_own : x.0.receiver ≡ p → (for_self p (x ∷ []) ≡ x ∷ []) × (for_others p (x ∷ []) ≡ [])
+  one_own is = let same = eq-eqb x.0.receiver p is in (ap (λ b. cond b (x ∷ []) []) same, ap (λ b. cond (not b) (x ∷ []) []) same)
 
-pub joined_same : (p : ℕ) (old new : Events) (es es' : List Event) → new ≡ joined old (for_self p es) → es ≡ es' → new ≡ joined old (for_self p es')
-joined_same p old new es es' e same = e ∙ ap (λ z. joined old (for_self p z)) same
+  pub one_other : x.0.receiver ≢ p → (for_self p (x ∷ []) ≡ []) × (for_others p (x ∷ []) ≡ x ∷ [])
+  one_other apart = let other = ne_eqb x.0.receiver p apart in (ap (λ b. cond b (x ∷ []) []) other, ap (λ b. cond (not b) (x ∷ []) []) other)
 
 -- letters posted after others
 pub with_more : (slip : SlipView) (xs ys : List Letter) → with_letters (with_letters slip xs) ys ≡ with_letters slip (xs ++ ys)
 with_more slip [] ys = refl
 with_more slip (x ∷ xs) ys = with_more (with_letter slip x) xs ys
 
-payload_of : Payload → StepInput → Payload
-payload_of none input.Start = none
-payload_of none (input.Letter sender payload) = payload
-payload_of none (input.Wake tag) = none
+-- an outbox, before events were handed to it and after
+module _ {R : Type 0} (old : Outbox R) where
+  pub is_for : (own n : ℕ) → old.own ≡ own → length old.mailboxes.now ≡ n → IsSlipOf old.mailboxes.now old.slip.now → Serves IsFor old own n
+  is_for own n is count of = (old, record { pending = refl; slip = refl; mailboxes = refl; own_is = is; count = count; of_mailboxes = of })
 
--- a letter that comes from no link of its own process names its sender
-pub letter_is : (n p : ℕ) (key : Key) (x : StepInput) → IsOwnOrLetter n p (key, x) → key.receiver ≢ p → (sender : ℕ) (payload : Payload) → x ≡ input.Letter sender payload → x ≡ input.Letter key.sender payload
-unfolding payload_of
-letter_is n p key x (inl own) apart sender payload is = absurd (apart own)
-letter_is n p key x (inr (high, other, e)) apart sender payload is = e ∙ ap (λ q. input.Letter key.sender q) (ap (payload_of other) (sym e ∙ is))
+  module _ (new : Outbox R) where
+    pub still_for : StillServes IsFor old new → (own n : ℕ) → old.own ≡ own → length old.mailboxes.now ≡ n → IsSlipOf old.mailboxes.now old.slip.now → IsFor old new own n
+    unfolding is_for
+    still_for still own n is count of = still old own n (is_for own n is count of).1
 
-pub letter_high : (n p : ℕ) (e : Event) → IsOwnOrLetter n p e → e.0.receiver ≢ p → e.0.receiver ≤ n
-letter_high n p e (inl own) apart = absurd (apart own)
-letter_high n p e (inr h) apart = h.0
-
-module _ {Mind : Type 0} (S : Setting Mind) (p now : ℕ) where
-  in_time_is : (key : Key) (x : StepInput) → IsOwnOrLetter S.processes p (key, x) → AllByRecursion (IsOwnOrLetter S.processes p) (in_time S.horizon key x)
-  in_time_is key x is = go (nat_lt key.tick S.horizon)
-    where
-      go : (b : Bool) → AllByRecursion (IsOwnOrLetter S.processes p) (cond b ((key, x) ∷ []) [])
-      go true = (is, tt)
-      go false = tt
-
-  joining_is : (counts : ℕ → ℕ) (a : Action) → IsAllowed S.processes a → AllByRecursion (IsOwnOrLetter S.processes p) (joining S p now counts a)
-  joining_is counts (Send to payload) allowed = go (nat_eq to p)
-    where
-      other : (f : Fate) → AllByRecursion (IsOwnOrLetter S.processes p) (by_fate S.horizon f (record { tick = now; receiver = to; sender = p; number = counts to + 1 }) (input.Letter p payload))
-      other fate.Lost = tt
-      other (fate.Delay ticks) = in_time_is (record { tick = now + ticks; receiver = to; sender = p; number = counts to + 1 }) (input.Letter p payload) (inr (allowed.1, payload, refl))
-
-      go : (b : Bool) → AllByRecursion (IsOwnOrLetter S.processes p) (cond b (in_time S.horizon (record { tick = now + 1; receiver = p; sender = p; number = counts p + 1 }) (input.Letter p payload))
-          (by_fate S.horizon (S.fate p to (counts to + 1) now) (record { tick = now; receiver = to; sender = p; number = counts to + 1 }) (input.Letter p payload)))
-      go true = in_time_is (record { tick = now + 1; receiver = p; sender = p; number = counts p + 1 }) (input.Letter p payload) (inl refl)
-      go false = other (S.fate p to (counts to + 1) now)
-  joining_is counts (Wake pause tag) allowed = in_time_is (record { tick = now + pause; receiver = p; sender = p; number = counts p + 1 }) (input.Wake tag) (inl refl)
-  joining_is counts (Note note) allowed = tt
-
-  added_are : (counts : ℕ → ℕ) (actions : List Action) → AllByRecursion (IsAllowed S.processes) actions → AllByRecursion (IsOwnOrLetter S.processes p) (added S p now counts actions)
-  added_are counts [] allowed = tt
-  added_are counts (a ∷ actions) allowed = both (IsOwnOrLetter S.processes p) _ _ (joining_is counts a allowed.0) (added_are (counted p counts a) actions allowed.1)
-
-module _ (s : Record) (before : Process Mind) (key : Key) (x : StepInput) (low : 1 ≤ s.processes) (is : IsTrue (is_mind_at (place_in s key.receiver) before.mind)) where
-  abbrev S : Setting Mind
-  S = setting_of s
-
-  abbrev dead_or : Bool → Made S
-  dead_or b = cond b (record { process = before; entry = (dead key); added = [] }) (made_by S before key x (react before.mind key.tick x))
-
-  -- what a step causes are events of the process itself, and letters to processes
-  pub step_causes : AllByRecursion (IsOwnOrLetter s.processes key.receiver) (step S before key x).added
-  step_causes = go (has_crashed (S.crash key.receiver) key.tick)
-    where
-      go : (b : Bool) → AllByRecursion (IsOwnOrLetter s.processes key.receiver) (dead_or b).added
-      go true = tt
-      go false = added_are S key.receiver key.tick before.counts _ (recursion_from_All _ _ (react_allowed (place_in s key.receiver) before.mind key.tick x low is))
-
-  -- and the process stays who it is
-  pub step_own : (step S before key x).process.mind.lower.place.own ≡ key.receiver
-  step_own = go (has_crashed (S.crash key.receiver) key.tick)
-    where
-      own_is : (m : Mind) → IsTrue (is_mind_at (place_in s key.receiver) m) → m.lower.place.own ≡ key.receiver
-      own_is m h = same_own m.lower.place (place_in s key.receiver) (mind_place (place_in s key.receiver) m h)
-
-      go : (b : Bool) → (dead_or b).process.mind.lower.place.own ≡ key.receiver
-      go true = own_is before.mind is
-      go false = own_is (react before.mind key.tick x).state (react_keeps (place_in s key.receiver) before.mind key.tick x low is)
-
-  -- also after it
-  pub own_kept : (p : ℕ) (after : Process Mind) → after ≡ (step S before key x).process → key.receiver ≡ p → after.mind.lower.place.own ≡ p
-  own_kept p after e to_p = ap (λ (q : Process Mind). q.mind.lower.place.own) e ∙ (step_own ∙ to_p)
+    pub all_handed : (es : List Event) → HaveJoined HandedOn old new es → HandedOn old es new
+    all_handed es is = is old [] (record { own = refl; pending = refl; letters = ([], refl, refl) })

@@ -13,7 +13,7 @@ use Rattle.trace_laws.specs.World.{joined, entries}
 use Rattle.trace_laws.proofs.Sets.{not_None, same_Some}
 use Rattle.trace_laws.proofs.Steps.{in_append, in_left, in_right}
 use Rattle.trace_merge.specs.Parts.{all_of, AreApart, AreDisjoint}
-use Rattle.windows.specs.Agenda.{event_of}
+use Rattle.trace_laws.specs.Taken.{event_of}
 use Rattle.windows.specs.Stage.{of_process, delivered}
 
 none_inside : (i : ℕ) → i < 0 → ⊥

@@ -19,7 +19,7 @@ use Rattle.trace_laws.specs.World.{IsTrace}
 use Rattle.trace_laws.proofs.Sets.{not_None, same_Some}
 use Rattle.mailboxes.specs.Mailboxes.{list_of}
 use Rattle.trace_merge.specs.Parts.{all_of, AreDisjoint}
-use Rattle.windows.specs.Agenda.{event_of}
+use Rattle.trace_laws.specs.Taken.{event_of}
 use Rattle.windows.specs.Berth.{RanTo, IsBerth}
 use Rattle.window_laws.specs.Machine.{end_of}
 use Rattle.windows.specs.Shared.{IsCountOfWorkers}

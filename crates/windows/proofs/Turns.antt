@@ -9,7 +9,7 @@ use Rattle.process_api.specs.declared.message.StepInput.{StepInput}
 use Rattle.trace_laws.specs.Setting.{Setting}
 use Rattle.trace_laws.specs.Step.{Event, Events, Process, step}
 use Rattle.trace_laws.specs.World.{IsLeast, joined}
-use Rattle.windows.specs.Agenda.{event_of}
+use Rattle.trace_laws.specs.Taken.{event_of}
 use Rattle.window_laws.specs.Machine.{for_self, for_others}
 use Rattle.window_laws.proofs.Berths.{BerthStands, berth_next}
 

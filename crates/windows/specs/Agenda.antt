@@ -2,15 +2,10 @@
 use Rattle.std.specs.Prelude.{◌≡◌, ◌⊎◌, ◌≤◌, ℕ, List, [], ◌∷◌, min, Option, Some, None, MatchOption}
 use Rattle.std.specs.List.{AllByRecursion}
 use Rattle.process_api.specs.declared.message.Letter.{Letter}
-use Rattle.process_api.specs.declared.message.StepInput.TheVariants as input
 use Rattle.pending_events.specs.Pending.{IsEmpty, IsLeastTick}
-use Rattle.trace_laws.specs.Step.{Event, Events}
+use Rattle.trace_laws.specs.Step.{Events}
 use Rattle.windows.specs.declared.agenda.Ahead.{Ahead}
 use Rattle.windows.specs.declared.agenda.Ahead.TheVariants as ahead
-
--- the event that a letter becomes
-abbrev pub event_of : Letter → Event
-event_of x = (x.key, input.Letter x.key.sender x.payload)
 
 -- the lesser of two ticks, as far as they are there
 abbrev pub earlier_of : Option ℕ → Option ℕ → Option ℕ

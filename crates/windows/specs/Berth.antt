@@ -1,11 +1,9 @@
 -- A machine in its berth, and what it does in one window.
-use Rattle.std.specs.Prelude.{◌≡◌, ◌⊎◌, ℕ, ◌≤◌, ◌<◌, List, [], ◌∷◌, length, map}
+use Rattle.std.specs.Prelude.{◌≡◌, ℕ, ◌<◌, List, [], ◌∷◌, length, map}
 use Rattle.process_api.specs.Mind.{Mind}
 use Rattle.process_api.specs.declared.key.Key.{Key}
 use Rattle.process_api.specs.declared.message.Letter.{Letter}
-use Rattle.process_api.specs.declared.message.Payload.{Payload}
 use Rattle.process_api.specs.declared.message.StepInput.{StepInput}
-use Rattle.process_api.specs.declared.message.StepInput.TheVariants as input
 use Rattle.scenario_record.specs.Record.{Record}
 use Rattle.trace_laws.specs.ScenarioSetting.{setting_of}
 use Rattle.steps.specs.Seat.{process_of, own_of, IsSeated}
@@ -13,15 +11,10 @@ use Rattle.steps.specs.declared.seat.Seat.{Seat}
 use Rattle.trace_laws.specs.Step.{Event, Events, Process, Made, step}
 use Rattle.trace_laws.specs.World.{Pair, Has, entries}
 use Rattle.mailboxes.specs.Mailboxes.{SlipView, with_letter}
-use Rattle.windows.specs.Agenda.{event_of}
+use Rattle.trace_laws.specs.Taken.{event_of}
 use Rattle.window_laws.specs.Machine.{for_others}
 use Rattle.window_laws.specs.Window.{BerthRun}
 use Rattle.windows.specs.declared.berth.Berth.{Berth}
-
--- an event that process p causes: one of its own, or a letter to one of processes 1 to n
-abbrev pub IsOwnOrLetter : (n p : ℕ) → Event → Type 0
-IsOwnOrLetter n p e =
-    (e.0.receiver ≡ p) ⊎ ((e.0.receiver ≤ n) × (payload : Payload) × (e.1 ≡ input.Letter e.0.sender payload))
 
 -- a slip after further letters were posted by it, in this order
 abbrev pub with_letters : SlipView → List Letter → SlipView

@@ -19,7 +19,7 @@ use Rattle.trace_laws.specs.Reached.{IsReached}
 use Rattle.trace_laws.specs.Step.{Events}
 use Rattle.trace_laws.specs.World.{World, IsWorld, NoneBelow, joined, start_of, opening_process}
 use Rattle.trace_merge.specs.Parts.{all_of}
-use Rattle.windows.specs.Agenda.{event_of}
+use Rattle.trace_laws.specs.Taken.{event_of}
 use Rattle.windows.specs.Berth.{IsBerth}
 use Rattle.window_laws.specs.Machine.{StageRecord, Act, StandsFor, IsRun, end_of, first_status}
 use Rattle.window_laws.specs.Theorems.{IsMerge}

@@ -3,13 +3,15 @@ ghost use Rattle.std.specs.Prelude.{◌≡◌, ◌<◌, ◌++◌, [], map, Match
 ghost use Rattle.std.specs.FinMap as events;
 ghost use Rattle.trace_laws.specs.World.{IsLeast, NoneBelow, joined};
 ghost use Rattle.pending_events.specs.Pending.{IsEmpty, IsLeastTick};
-ghost use Rattle.windows.specs.Agenda.{event_of, earlier_of, IsSoonestOf, IsAheadOf};
+ghost use Rattle.trace_laws.specs.Taken.{event_of};
+ghost use Rattle.windows.specs.Agenda.{earlier_of, IsSoonestOf, IsAheadOf};
 
 use pending_events::Pending;
-use process_api::{Key, Letter, StepInput};
+use process_api::Letter;
 use std::alloc::{AllocError, Global};
 use std::marker::Model;
 use std::mem::replace;
+use trace_laws::Event;
 
 /// What is known of the least pending tick.
 #[derive(Clone, Copy)]
@@ -39,10 +41,11 @@ impl Model for Agenda {
     ghost use Rattle.std.specs.Prelude.{map};
     ghost use Rattle.std.specs.FinMap as events;
     ghost use Rattle.process_api.specs.contracts.message.StepInput as step_input;
-    ghost use Rattle.pending_events.specs.Pending.{key_code};
+    ghost use Rattle.trace_laws.specs.Codes.{key_code};
     ghost use Rattle.trace_laws.specs.Step.{Events};
     ghost use Rattle.trace_laws.specs.World.{joined};
-    ghost use Rattle.windows.specs.Agenda.{event_of, IsSoonestOf, IsAheadOf};
+    ghost use Rattle.trace_laws.specs.Taken.{event_of};
+    ghost use Rattle.windows.specs.Agenda.{IsSoonestOf, IsAheadOf};
 
     ghost Value = { Events };
 
@@ -117,9 +120,7 @@ fn join_all(pending: &mut Pending, letters: Vec<Letter>) -> Result<(), AllocErro
     ensures { OnOk result (pending.new ≡ joined pending.old (map event_of letters.items)) }
 {
     for letter in letters {
-        let Letter { key, payload } = letter;
-        let sender = key.sender;
-        pending.join(key, StepInput::Letter { sender, payload })?;
+        pending.join(Event::letter(letter))?;
     }
     Ok(())
 }
@@ -166,12 +167,12 @@ impl Agenda {
     }
 
     /// One more event. Where memory is refused some events may be gone.
-    pub(crate) fn join(&mut self, key: Key, input: StepInput) -> Result<(), AllocError>
-        ensures { OnOk result (self.new ≡ events.insert self.old key input) }
+    pub(crate) fn join(&mut self, event: Event) -> Result<(), AllocError>
+        ensures { OnOk result (self.new ≡ events.insert self.old event.0 event.1) }
     {
         self.ahead = Ahead::Unknown;
         settle(&mut self.pending, &mut self.letters, &mut self.soonest)?;
-        self.pending.join(key, input)?;
+        self.pending.join(event)?;
         Ok(())
     }
 
@@ -183,7 +184,7 @@ impl Agenda {
     }
 
     /// Takes the least event, where it is below a tick. Where memory is refused some events may be gone.
-    pub(crate) fn take_below(&mut self, end: u32) -> Result<Option<(Key, StepInput)>, AllocError>
+    pub(crate) fn take_below(&mut self, end: u32) -> Result<Option<Event>, AllocError>
         ensures least { IfOk result (λ r.
             MatchOption r (NoneBelow end self.old) (λ e. IsLeast self.old e.0 e.1 × (e.0.tick < end))) }
         ensures removed { IfOk result (λ r.

@@ -51,6 +51,7 @@ mod gather;
 mod halves;
 mod kept;
 mod laws;
+mod outbox;
 mod plan;
 mod run;
 mod shared;

@@ -69,16 +69,16 @@ fn run_machines<M: Process, G: Gate, K: Sink, R: Threads + Wait + Sync>(
 /// entries than the scenario's limit; after each window, `Memory` or `Write` where the sink refused its part. The
 /// machines are gone then, and the sink has a front of the trace: after `Limit` and `Spawn` just the entries of the
 /// windows that were closed.
-pub fn run_windows_into<G: Gate, K: Sink, R: Threads + Wait + Sync>(
+pub fn run_windows_into<M: Process, G: Gate, K: Sink, R: Threads + Wait + Sync>(
     rt: &R,
     alloc: Global,
     scenario: &Scenario,
-    machines: Vec<Box<dyn Process>>,
+    machines: Vec<M>,
     plan: &Plan,
     gate: &G,
     sink: &mut K,
 ) -> Result<(), RunError>
-    requires machines { map mind machines.items ≡ map (opening_mind scenario.now) (numbers_to scenario.now.processes) }
+    requires machines { map M.mind machines.items ≡ map (opening_mind scenario.now) (numbers_to scenario.now.processes) }
     requires plan { IsPlanFor scenario.now plan.now }
     requires failures { K.failed sink.old < 2 ^ 64 - 1 }
 
@@ -101,15 +101,15 @@ pub fn run_windows_into<G: Gate, K: Sink, R: Threads + Wait + Sync>(
 ///
 /// `Spawn` where a thread was refused, `Memory` where memory was, and `Limit` only where the whole trace has more
 /// entries than the scenario's limit. The machines are gone then, and there is no trace.
-pub fn run_windows<G: Gate, R: Threads + Wait + Sync>(
+pub fn run_windows<M: Process, G: Gate, R: Threads + Wait + Sync>(
     rt: &R,
     alloc: Global,
     scenario: &Scenario,
-    machines: Vec<Box<dyn Process>>,
+    machines: Vec<M>,
     plan: &Plan,
     gate: &G,
 ) -> Result<Trace, RunError>
-    requires machines { map mind machines.items ≡ map (opening_mind scenario.now) (numbers_to scenario.now.processes) }
+    requires machines { map M.mind machines.items ≡ map (opening_mind scenario.now) (numbers_to scenario.now.processes) }
     requires plan { IsPlanFor scenario.now plan.now }
 
     ensures trace { IfOk result (λ t. IsTrace (setting_of scenario.now) t) }

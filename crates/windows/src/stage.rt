@@ -20,13 +20,14 @@ use crate::berth::Berth;
 use crate::halves::{empty_and_merge, threads_for};
 use mailboxes::{Mailboxes, Slip};
 use pending_events::Pending;
-use process_api::{Entry, Key, Letter, Pid, Process, StepInput};
+use process_api::{Entry, Letter, Pid, Process};
 use run_error::RunError;
 use scenario_record::Scenario;
 use std::alloc::{AllocError, Global};
 use std::mem::replace;
 use std::sync::Wait;
 use std::thread::Threads;
+use trace_laws::Event;
 
 /// All processes of a scenario between two windows: each in its berth, the tick at which the next window starts, and
 /// how many entries the trace has so far. The parameter has no bound here, so that machines may be boxed.
@@ -57,14 +58,8 @@ pub(crate) struct Ran<M> {
 fn start_of(alloc: Global, p: Pid) -> Result<Pending, AllocError>
     ensures { IfOk result (λ m. m ≡ start_event p) }
 {
-    let mut pending = Pending::with_ring(alloc)?;
-    let key = Key {
-        tick: 0,
-        receiver: p,
-        sender: p,
-        number: 0,
-    };
-    pending.join(key, StepInput::Start)?;
+    let mut pending = Pending::new(alloc)?;
+    pending.join(Event::start(p))?;
     Ok(pending)
 }
 

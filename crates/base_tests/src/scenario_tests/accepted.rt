@@ -1,9 +1,9 @@
 //! The scenarios that files stand for.
 use crate::changes::{CRASH_FILE, changed};
 use crate::comparisons::same;
-use process_api::Pid;
-use scenario::{Link, Outage, Scenario, read_scenario};
-use std::alloc::Global;
+use process_api::{DetectorNumbers, FreshnessNumbers, Pid, TimeoutNumbers, Watch};
+use scenario::{AlgorithmKind, Link, Outage, Scenario, read_scenario};
+use std::alloc::{AllocError, Global};
 use std::process::Abort;
 use std::test::Fail;
 
@@ -23,13 +23,9 @@ min = 2
 max = 3
 ";
 
-/// What it stands for: defaults are filled in, and each of the four pairs has the common link.
-const FEWEST_IS: &str =
-    "Scenario { fields: Fields { processes: 2, horizon: 10, lookahead: 2, limit: 1000000, seed: 1, \
-    algorithm: Idle, detector: Timeout(TimeoutNumbers { period: 4, check: 3, timeout: 5, grow: 1, watch: All }), \
-    share: None, proposals: [], crashes: [None, None], \
-    links: [Link { min: 2, max: 3, loss: 0 }, Link { min: 2, max: 3, loss: 0 }, \
-    Link { min: 2, max: 3, loss: 0 }, Link { min: 2, max: 3, loss: 0 }], outages: [] } }";
+/// What it stands for: defaults are filled in, and both links are the common one.
+const FEWEST_IS: &str = "2 10 2 1000000 1 none None; timeout 4 3 5 1 all; \
+    1 None None >2 2 3 0 []; 2 None None >1 2 3 0 []";
 
 /// A file with every key.
 const EVERY: &str = "version = 2
@@ -86,19 +82,12 @@ begin = 0
 until = 1
 ";
 
-/// What it stands for: the links and their outages are those from process 1 first, each to processes 1, 2 and 3.
-const EVERY_IS: &str =
-    "Scenario { fields: Fields { processes: 3, horizon: 10000000, lookahead: 7, limit: 12, \
-    seed: 9223372036854775807, algorithm: EventuallyStrong, \
-    detector: Timeout(TimeoutNumbers { period: 4, check: 3, timeout: 5, grow: 6, watch: Next }), \
-    share: Some(8), proposals: [0, 20, 4294967295], crashes: [Some(0), None, Some(10000000)], \
-    links: [\
-    Link { min: 7, max: 9, loss: 300 }, Link { min: 7, max: 7, loss: 1000 }, Link { min: 7, max: 9, loss: 300 }, \
-    Link { min: 7, max: 9, loss: 300 }, Link { min: 7, max: 9, loss: 300 }, Link { min: 7, max: 9, loss: 300 }, \
-    Link { min: 10, max: 11, loss: 0 }, Link { min: 7, max: 9, loss: 300 }, Link { min: 7, max: 9, loss: 300 }], \
-    outages: [[], [], [], \
-    [], [], [Outage { begin: 9, until: 10000000 }, Outage { begin: 0, until: 1 }], \
-    [Outage { begin: 2, until: 5 }], [], []] } }";
+/// What it stands for: of each process its proposal, its crash, and its links to the others with their outages.
+const EVERY_IS: &str = "3 10000000 7 12 9223372036854775807 es Some(8); timeout 4 3 5 6 next; \
+    1 Some(0) Some(0) >2 7 7 1000 [] >3 7 9 300 []; \
+    2 Some(20) None >1 7 9 300 [] \
+    >3 7 9 300 [Outage { begin: 9, until: 10000000 }, Outage { begin: 0, until: 1 }]; \
+    3 Some(4294967295) Some(10000000) >1 10 11 0 [Outage { begin: 2, until: 5 }] >2 7 9 300 []";
 
 /// The keys of the crash file's detector, and those of freshness points.
 const TIMEOUT: &str = "period = 4\ncheck = 3\ntimeout = 5\ngrow = 1\n";
@@ -106,20 +95,101 @@ const TIMEOUT: &str = "period = 4\ncheck = 3\ntimeout = 5\ngrow = 1\n";
 const FRESHNESS: &str = "kind = \"freshness\"\neta = 3\ndelta = 2\n";
 
 /// What these stand for.
-const TIMEOUT_IS: &str =
-    "Timeout(TimeoutNumbers { period: 4, check: 3, timeout: 5, grow: 1, watch: All })";
+const TIMEOUT_IS: &str = "; timeout 4 3 5 1 all;";
 
-const FRESHNESS_IS: &str = "Freshness(FreshnessNumbers { eta: 3, delta: 2, watch: All })";
+const FRESHNESS_IS: &str = "; freshness 3 2 all;";
 
 /// The crash table of the crash file.
 const CRASH: &str = "\n[[crash]]\nprocess = 2\nat = 3\n";
 
-/// The record of a text, as text.
-fn told_of(alloc: Global, text: &str) -> Result<String, Fail> {
-    Ok(format!(in alloc; "{:?}", read_scenario(alloc, text.as_bytes())?)?)
+/// The process of this number.
+fn pid(number: u16) -> Result<Pid, Fail> {
+    Ok(Pid::new(number).ok_or("it is no process")?)
 }
 
-/// The record of a file, as text, is this, or has this part.
+/// The link from one process of a scenario to another, and its outages.
+fn link_of(scenario: &Scenario, from: u16, to: u16) -> Result<(Link, &[Outage]), Fail> {
+    let processes = scenario.processes();
+    let (from, to) = (pid(from)?, pid(to)?);
+    if from == to || processes < from.number() || processes < to.number() {
+        return Err(Fail::from("the scenario has no such link"));
+    }
+    Ok((scenario.link(from, to), scenario.outages(from, to)))
+}
+
+/// Whom a detector watches, as text.
+fn watched(watch: Watch) -> &'static str {
+    match watch {
+        Watch::All => "all",
+        Watch::Next => "next",
+    }
+}
+
+/// The numbers of a detector, as text.
+fn numbers_text(alloc: Global, numbers: DetectorNumbers) -> Result<String, AllocError> {
+    match numbers {
+        DetectorNumbers::Timeout(
+            TimeoutNumbers {
+                period,
+                check,
+                timeout,
+                grow,
+                watch,
+            },
+        ) => {
+            let watch = watched(watch);
+            format!(in alloc; "timeout {period} {check} {timeout} {grow} {watch}")
+        }
+        DetectorNumbers::Freshness(FreshnessNumbers { eta, delta, watch }) => {
+            let watch = watched(watch);
+            format!(in alloc; "freshness {eta} {delta} {watch}")
+        }
+    }
+}
+
+/// What a scenario says of all processes, as text.
+fn told_of_all(alloc: Global, scenario: &Scenario) -> Result<String, AllocError> {
+    let (processes, horizon) = (scenario.processes(), scenario.horizon());
+    let (lookahead, limit) = (scenario.lookahead(), scenario.limit());
+    let (seed, share) = (scenario.seed(), scenario.share());
+    let algorithm = match scenario.algorithm() {
+        AlgorithmKind::Idle => "none",
+        AlgorithmKind::Strong => "s",
+        AlgorithmKind::EventuallyStrong => "es",
+    };
+    let numbers = numbers_text(alloc, scenario.detector())?;
+    format!(in alloc;
+        "{processes} {horizon} {lookahead} {limit} {seed} {algorithm} {share:?}; {numbers}"
+    )
+}
+
+/// Adds what a scenario says of one process: its proposal, its crash, and its links to the others.
+fn tell_of_one(scenario: &Scenario, own: u16, text: &mut String) -> Result<(), Fail> {
+    let process = pid(own)?;
+    let (proposal, crash) = (scenario.proposal(process), scenario.crash(process));
+    write!(text, "; {own} {proposal:?} {crash:?}")?;
+    for before in 0..scenario.processes() {
+        let to = before + 1;
+        if to != own {
+            let (link, outages) = link_of(scenario, own, to)?;
+            let (min, max, loss) = (link.min, link.max, link.loss);
+            write!(text, " >{to} {min} {max} {loss} {outages:?}")?;
+        }
+    }
+    Ok(())
+}
+
+/// What the scenario of a file says, as text.
+fn told_of(alloc: Global, file: &str) -> Result<String, Fail> {
+    let scenario = read_scenario(alloc, file.as_bytes())?;
+    let mut told = told_of_all(alloc, &scenario)?;
+    for before in 0..scenario.processes() {
+        tell_of_one(&scenario, before + 1, &mut told)?;
+    }
+    Ok(told)
+}
+
+/// What the scenario of a file says is this, or has this part.
 fn stands_for<R: Abort>(
     rt: &R,
     alloc: Global,
@@ -152,24 +222,9 @@ fn without_its_end(rt: HostRuntime) -> Result<(), Fail> {
     let whole = told_of(alloc, CRASH_FILE)?;
     let cut = changed(alloc, CRASH_FILE, "at = 3\n", "at = 3")?;
     stands_for(&rt, alloc, &cut, &whole, true)?;
-    stands_for(&rt, alloc, &cut, "crashes: [None, Some(3)]", false)?;
+    stands_for(&rt, alloc, &cut, "; 2 None Some(3) ", false)?;
     let without = changed(alloc, CRASH_FILE, CRASH, "")?;
-    stands_for(&rt, alloc, &without, "crashes: [None, None]", false)
-}
-
-/// The process of this number.
-fn pid(number: u16) -> Result<Pid, Fail> {
-    Ok(Pid::new(number).ok_or("it is no process")?)
-}
-
-/// The link from one process of a scenario to another, and its outages.
-fn link_of(scenario: &Scenario, from: u16, to: u16) -> Result<(Link, &[Outage]), Fail> {
-    let processes = scenario.processes();
-    let (from, to) = (pid(from)?, pid(to)?);
-    if from == to || processes < from.number() || processes < to.number() {
-        return Err(Fail::from("the scenario has no such link"));
-    }
-    Ok((scenario.link(from, to), scenario.outages(from, to)))
+    stands_for(&rt, alloc, &without, "; 2 None None ", false)
 }
 
 /// Two outages of the link from 2 to 1.

@@ -1,40 +1,36 @@
 //! Runs in which each input in turn is refused by the machine that takes it.
 ghost use Rattle.std.specs.Prelude.{◌≡◌, IfOk, map};
 ghost use Rattle.process_api.specs.Numbers.{numbers_to};
-ghost use Rattle.scenario_record.specs.Opening.{mind_of};
 ghost use Rattle.scenario_record.specs.Record.{opening_mind};
 
-use super::makers::watcher;
 use super::{one_crash, same_entries};
 use crate::common::same;
 use event_list::{RunError, run_list};
-use machines::make_all;
+use machines::Machine;
 use process_api::{Action, Pid, Process, StepInput};
-use scenario::{Opening, Scenario};
-use stack::{NoAlgorithm, Stack};
+use scenario::Scenario;
 use std::alloc::{AllocError, Global};
 use std::sync::Arc;
 use std::sync::atomic::{AtomicU64, Ordering};
 use std::test::Fail;
-use timeout_detector::TimeoutDetector;
 use windows::{OpenGate, Plan, run_windows};
 
 /// A machine that is refused memory where all machines together have taken so many inputs.
 #[derive(Drop)]
 struct Refused {
-    stack: Stack<TimeoutDetector, NoAlgorithm>,
+    machine: Machine,
     failed: bool,
     limit: u64,
     taken: Arc<AtomicU64, Global>,
 }
 
 impl Process for Refused {
-    ghost mind = { λ r. ⟦<Stack<TimeoutDetector, NoAlgorithm> as Process>⟧.mind r.stack };
+    ghost mind = { λ r. ⟦<Machine as Process>⟧.mind r.machine };
 
     ghost has_failed = { λ r. r.failed };
 
     fn pid(&self) -> Pid {
-        self.stack.pid()
+        self.machine.pid()
     }
 
     fn on_input(
@@ -50,7 +46,7 @@ impl Process for Refused {
         if self.taken.fetch_add(1, Ordering::SeqCst) >= self.limit {
             return Err(AllocError);
         }
-        self.stack.on_input(now, input, out)?;
+        self.machine.on_input(now, input, out)?;
         self.failed = false;
         Ok(())
     }
@@ -60,8 +56,16 @@ impl Process for Refused {
     }
 }
 
-/// Machines that are refused at the input after so many, and count those that they take.
-pub fn machines_of(
+/// One of them in a box.
+fn boxed(alloc: Global, refused: Refused) -> Result<Box<dyn Process>, AllocError>
+    ensures { IfOk result (λ made. mind made ≡ ⟦<Machine as Process>⟧.mind refused.machine) }
+{
+    Ok(Box::new(alloc, refused)?)
+}
+
+/// The machines of all processes in boxes, of process 1 first: refused at the input after so many, and they count those
+/// that they take.
+pub fn boxed_machines(
     alloc: Global,
     scenario: &Scenario,
     limit: u64,
@@ -70,21 +74,17 @@ pub fn machines_of(
     ensures { IfOk result (λ machines. map mind machines.items
         ≡ map (opening_mind scenario.now) (numbers_to scenario.now.processes)) }
 {
-    make_all(
-        alloc,
-        scenario,
-        |opening: Opening| -> Result<Box<dyn Process>, AllocError>
-            ensures { IfOk result (λ made. mind made ≡ mind_of opening) }
-        {
-            let machine = Refused {
-                stack: watcher(alloc, &opening)?,
-                failed: false,
-                limit,
-                taken: Arc::try_clone(taken)?,
-            };
-            Ok(Box::new(alloc, machine)?)
-        },
-    )
+    let mut machines = Vec::new(alloc);
+    for before in 0..scenario.processes() {
+        let refused = Refused {
+            machine: Machine::open(alloc, &scenario.opening(Pid::after(before)))?,
+            failed: false,
+            limit,
+            taken: Arc::try_clone(taken)?,
+        };
+        machines.push(boxed(alloc, refused)?)?;
+    }
+    Ok(machines)
 }
 
 /// How many inputs the two processes take: of the 12 entries 3 are of a process that has crashed.
@@ -99,10 +99,10 @@ fn each_input(rt: HostRuntime) -> Result<(), Fail> {
     let plan = Plan::new(&scenario, 2, 2)?;
     for limit in 0..=INPUTS {
         let taken = Arc::new(alloc, AtomicU64::new(0))?;
-        let machines = machines_of(alloc, &scenario, limit, &taken)?;
+        let machines = boxed_machines(alloc, &scenario, limit, &taken)?;
         let list = run_list(alloc, &scenario, machines);
         taken.store(0, Ordering::SeqCst);
-        let machines = machines_of(alloc, &scenario, limit, &taken)?;
+        let machines = boxed_machines(alloc, &scenario, limit, &taken)?;
         let windows = run_windows(&rt, alloc, &scenario, machines, &plan, &OpenGate);
         if let (Ok(list), Ok(windows)) = (&list, &windows) {
             same(&rt, &list.entries().len(), &12);
@@ -128,7 +128,7 @@ fn refused_again(rt: HostRuntime) -> Result<(), Fail> {
     let alloc = rt.alloc();
     let scenario = one_crash(alloc)?;
     let taken = Arc::new(alloc, AtomicU64::new(0))?;
-    let mut machines = machines_of(alloc, &scenario, 1, &taken)?;
+    let mut machines = boxed_machines(alloc, &scenario, 1, &taken)?;
     let mut out = Vec::new(alloc);
     let first = machines.first_mut().ok_or("no machine")?;
     first.on_input(0, &StepInput::Start, &mut out)?;

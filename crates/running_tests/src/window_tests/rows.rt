@@ -5,7 +5,8 @@ use super::runs::{list_of, stage_after};
 use super::{ONE_CRASH, is_same, one_crash, three_coordinators};
 use crate::common::same;
 use event_list::RunError;
-use process_api::{Entry, Process};
+use machines::Machine;
+use process_api::Entry;
 use scenario::{Scenario, read_scenario};
 use std::alloc::Global;
 use std::sync::Wait;
@@ -22,7 +23,7 @@ fn called<R: Threads + Wait + Sync>(
     window: u32,
     before: usize,
     order: &[u16],
-) -> Result<(Vec<Berth<Box<dyn Process>>>, (u32, u32), usize), Fail> {
+) -> Result<(Vec<Berth<Machine>>, (u32, u32), usize), Fail> {
     let plan = Plan::new(scenario, 1, u64::from(window))?;
     let stage = stage_after(rt, alloc, scenario, &plan, before)?;
     let start = stage.start();
@@ -32,7 +33,7 @@ fn called<R: Threads + Wait + Sync>(
 }
 
 /// How many entries berths have.
-fn count(berths: &[Berth<Box<dyn Process>>]) -> usize {
+fn count(berths: &[Berth<Machine>]) -> usize {
     let mut entries: usize = 0;
     for berth in berths {
         entries = entries.saturating_add(berth.part.len());
@@ -83,7 +84,7 @@ fn no_room(rt: HostRuntime) -> Result<(), Fail> {
 }
 
 /// Whether a berth has what the list has of its process from tick `start` to before tick `end`.
-fn is_as_listed(berth: &Berth<Box<dyn Process>>, list: &[Entry], start: u32, end: u32) -> bool {
+fn is_as_listed(berth: &Berth<Machine>, list: &[Entry], start: u32, end: u32) -> bool {
     let own = berth.pid();
     let mut count: usize = 0;
     for entry in list {

@@ -4,8 +4,8 @@ ghost use Rattle.windows.specs.Plan.{IsPlanFor};
 ghost use Rattle.windows.specs.Stage.{IsStage};
 
 use super::calls::after_windows;
-use super::makers::all_machines;
 use event_list::run_list;
+use machines::{Machine, machines_of};
 use process_api::{Process, Trace};
 use scenario::Scenario;
 use std::alloc::Global;
@@ -16,7 +16,7 @@ use windows::{Gate, Plan, Stage, run_windows};
 
 /// What the list makes of a scenario.
 pub fn list_of(alloc: Global, scenario: &Scenario) -> Result<Trace, Fail> {
-    let machines = all_machines(alloc, scenario)?;
+    let machines = machines_of(alloc, scenario)?;
     Ok(run_list(alloc, scenario, machines)?)
 }
 
@@ -29,7 +29,7 @@ pub fn run_by<G: Gate, R: Threads + Wait + Sync>(
     gate: &G,
 ) -> Result<Trace, Fail> {
     let plan = Plan::new(scenario, workers, 2)?;
-    let machines = all_machines(alloc, scenario)?;
+    let machines = machines_of(alloc, scenario)?;
     Ok(run_windows(rt, alloc, scenario, machines, &plan, gate)?)
 }
 
@@ -40,11 +40,11 @@ pub fn stage_after<'s, R: Threads + Wait + Sync>(
     scenario: &'s Scenario,
     plan: &Plan,
     windows: usize,
-) -> Result<Stage<'s, Box<dyn Process>>, Fail>
+) -> Result<Stage<'s, Machine>, Fail>
     requires { IsPlanFor scenario.now plan.now }
-    ensures { IfOk result (IsStage mind) }
+    ensures { IfOk result (IsStage ⟦<Machine as Process>⟧.mind) }
 {
-    let machines = all_machines(alloc, scenario)?;
+    let machines = machines_of(alloc, scenario)?;
     let stage = Stage::open(alloc, scenario, machines)?;
     Ok(after_windows(rt, alloc, stage, plan, windows)?)
 }

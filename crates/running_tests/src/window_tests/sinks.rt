@@ -1,7 +1,7 @@
 //! What a sink is handed, window by window.
 ghost use Rattle.std.specs.Prelude.{◌≡◌, ◌<◌, ◌-◌, ◌^◌};
 
-use super::refused::machines_of;
+use super::refused::boxed_machines;
 use super::runs::list_of;
 use super::{one_crash, same_entries};
 use crate::common::same;
@@ -79,7 +79,7 @@ fn takes_so_many<R: Abort + Threads + Wait + Sync>(
 {
     let plan = Plan::new(scenario, 2, 2)?;
     let inputs = Arc::new(alloc, AtomicU64::new(0))?;
-    let machines = machines_of(alloc, scenario, u64::MAX, &inputs)?;
+    let machines = boxed_machines(alloc, scenario, u64::MAX, &inputs)?;
     let mut sink = Counting {
         entries: Vec::new(alloc),
         handed: Vec::new(alloc),

@@ -1,11 +1,11 @@
 //! Workers that are watched: which processes they take, in which order one of them takes them, and which of two
 //! refusals comes first.
 
-use super::makers::all_machines;
 use super::runs::{list_of, run_by};
 use super::{one_crash, same_entries, three_coordinators};
 use crate::common::same;
 use event_list::RunError;
+use machines::machines_of;
 use process_api::Pid;
 use scenario::read_scenario;
 use std::sync::Wait;
@@ -67,7 +67,7 @@ fn first_window(rt: HostRuntime) -> Result<(), Fail> {
     let alloc = rt.alloc();
     let scenario = one_crash(alloc)?;
     let plan = Plan::new(&scenario, 2, 2)?;
-    let machines = all_machines(alloc, &scenario)?;
+    let machines = machines_of(alloc, &scenario)?;
     let mut stage = Stage::open(alloc, &scenario, machines)?;
     same(&rt, &stage.start(), &0);
     if stage.finished() {

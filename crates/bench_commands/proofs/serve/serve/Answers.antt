@@ -1,38 +1,36 @@
-use Rattle.std.proofs.Common.{◌∙◌, sym, inl, inr}
-use Rattle.bench_commands.proofs.Stopping.{at_four, at_three, left_as, part_as, run_asked, tells_as}
+use Rattle.std.proofs.Common.{◌∙◌, map, sym, arith}
+use Rattle.bench_commands.specs.Fault.{end_of, line_of, status_of}
+use Rattle.bench_commands.specs.Serve.{IsReason, LeftOf, Serves, ServesFor}
+use Rattle.bench_commands.specs.Statuses.{has_status}
+use Rattle.bench_commands.proofs.Stopping.{asked_at_one, run_asked}
+use Rattle.shell.proofs.Leaving.{ends}
 use Rattle.bench_commands.proofs.serve.serve.Goals as goal
 
-pub returns-in-Err-clause-why : goal.returns-in-Err-clause-why
-returns-in-Err-clause-why g c = λ other.
-    tells_as _ _ _ _ _ _ (λ line is. inl (record {
-      reason = c.in-Err.error;
-      explains = c.in-Err.ensures.refused;
-      said = c.told_of.result;
-      is_said = c.told_of.ensures.told;
-      tells = is;
-    })) (c.tell.ensures.why other)
-
-pub returns-in-Err-carry_out-clause-broken : goal.returns-in-Err-carry_out-clause-broken
-returns-in-Err-carry_out-clause-broken g c four =
-    part_as _ _ _ _ _ _ (λ piece writes. inl (c.in-Ok.order, c.in-Ok.ensures.stated, writes))
-    (at_four _ _ _ _ _ _ c.in-Err-carry_out.fault (sym c.report.ensures.status ∙ four) c.in-Err-carry_out.ensures.stops)
-
-pub returns-in-Err-carry_out-clause-left : goal.returns-in-Err-carry_out-clause-left
-returns-in-Err-carry_out-clause-left g c three =
-    left_as _ _ _ _ _ _ (λ piece leaves. (c.in-Ok.order, c.in-Ok.ensures.stated, leaves))
-    (at_three _ _ _ _ _ _ c.in-Err-carry_out.fault (sym c.report.ensures.status ∙ three) c.in-Err-carry_out.ensures.stops)
-
-pub returns-in-Err-carry_out-clause-accepted : goal.returns-in-Err-carry_out-clause-accepted
-returns-in-Err-carry_out-clause-accepted g c three =
-    run_asked _ _ c.in-Ok.order c.in-Err-carry_out.fault c.in-Ok.ensures.stated c.in-Err-carry_out.ensures.why (sym c.report.ensures.status ∙ three)
-
-pub returns-in-Err-carry_out-clause-why : goal.returns-in-Err-carry_out-clause-why
-returns-in-Err-carry_out-clause-why g c = λ other.
-    tells_as _ _ _ _ _ _ (λ line is. inr (record {
-      asked = c.in-Ok.order;
-      stated = c.in-Ok.ensures.stated;
-      fault = c.in-Err-carry_out.fault;
-      why = c.in-Err-carry_out.ensures.why;
-      status_is = c.report.ensures.status;
-      line_is = is;
-    })) c.report.ensures.line
+pub returns : goal.returns
+returns g c =
+    let input = g.I.Read.remaining c.args.input.now in
+    let words = map (λ w. w.now) c.args.words.now in
+    let outcome = c.answer_words-outcome in
+    let n = c.ended.result in
+    let all =
+    ends status_of line_of end_of has_status g.F.Outlet.told g.F.Outlet.failed _ _ g.O.Outlet.told g.O.Outlet.failed _ _
+    (Serves input words) (ServesFor input words) (LeftOf input words) (IsReason input words) n outcome.result
+    c.ended.ensures.done c.ended.ensures.failed outcome.ensures.text outcome.ensures.why in
+    record {
+      statuses = all.few;
+      done = all.done;
+      broken = all.broken;
+      refused = all.refused;
+      left = all.left;
+      asked = λ one.
+          let at = all.stopped (λ zero. omega (arith, one, zero)) in
+          asked_at_one input words at.0 at.2 (sym at.1 ∙ one);
+      accepted = λ three.
+          let at = all.stopped (λ zero. omega (arith, three, zero)) in
+          run_asked input words at.0 at.2 (sym at.1 ∙ three);
+      silent = all.silent;
+      told = c.ended.ensures.told;
+      why = all.why;
+      taken = outcome.ensures.taken;
+      untouched = outcome.ensures.untouched;
+    }

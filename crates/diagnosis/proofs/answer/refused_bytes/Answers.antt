@@ -1,8 +1,16 @@
-use Rattle.std.proofs.Common.{refl}
+use Rattle.std.proofs.Common.{None, refl, rules}
 use Rattle.toml.specs.Errors.{span_start}
-use Rattle.diagnosis.specs.declared.finding.Finding.TheVariants.{NotToml}
-use Rattle.diagnosis.proofs.Telling.{no_text}
+use Rattle.scenario.proofs.Reading.{refused_text}
+use Rattle.diagnosis.specs.Text.{no_toml}
 use Rattle.diagnosis.proofs.answer.refused_bytes.Goals as goal
 
 pub returns : goal.returns
-returns c = no_text c.args.bytes.now (NotToml c.in_ok-fault.fault) c.requires.document refl (span_start c.args.error.now, c.in_ok-fault.ensures)
+returns c = record {
+  refuses = refused_text c.args.bytes.now c.requires.document;
+  document = None;
+  is_document = c.requires.document;
+  its = no_toml c.not_toml-fault.result;
+  is_reason = refl;
+  placed = (span_start c.args.error.now, c.not_toml-fault.ensures);
+  told = search rules;
+}

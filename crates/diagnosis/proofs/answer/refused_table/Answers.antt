@@ -1,9 +1,21 @@
 use Rattle.std.proofs.Common.{rules}
+use Rattle.diagnosis.specs.Text.{found, nothing}
 use Rattle.diagnosis.proofs.answer.refused_table.Goals as goal
+
+pub returns-in_default : goal.returns-in_default
+returns-in_default c = record {
+  other = search rules;
+  first = c.requires.first (search rules);
+  its = nothing;
+  is_reason = tt;
+  told = search rules;
+}
 
 pub returns : goal.returns
 returns c = record {
   other = search rules;
-  first = c.requires (search rules);
-  breaks = search rules;
+  first = c.requires.first (search rules);
+  its = found c.in-Some.finding c.in_ok-meant.meant;
+  is_reason = (rw c.in-Some.is at c.requires.finds, c.in_ok-meant.ensures);
+  told = search rules;
 }

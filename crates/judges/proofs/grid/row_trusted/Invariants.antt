@@ -4,4 +4,4 @@ use Rattle.judges.specs.Grid.{place, counts_as_correct}
 use Rattle.judges.proofs.grid.row_trusted.Given as goal
 
 abbrev pub invariant-loop-j : goal.invariant-loop-j
-invariant-loop-j l = l.found ≡ latest_below (λ j. if counts_as_correct l.pairs j then trusted_from (place l.pairs l.i j) else Some 0) l.j
+invariant-loop-j g l = l.found ≡ latest_below (λ j. if counts_as_correct g.K.Gauge.passed g.K.Gauge.seen g.K.Gauge.fresh l.pairs j then trusted_from (place g.K.Gauge.passed g.K.Gauge.seen g.K.Gauge.fresh l.pairs l.i j) else Some 0) l.j

@@ -1,4 +1,4 @@
-use Rattle.std.proofs.Common.{rules, ◌≡◌, ap, ◌∙◌, subst, map, sym, [], ◌∷◌, ◌++◌, List, length, arith, append-nil, append_assoc, length-append}
+use Rattle.std.proofs.Common.{rules, ◌≡◌, ◌≤◌, vec_len, ap, ◌∙◌, subst, map, sym, [], ◌∷◌, ◌++◌, List, length, arith, append-nil, append_assoc, length-append}
 use Rattle.std.specs.Global.{Vec}
 use Rattle.std.specs.List.{All}
 use Rattle.std.specs.Vec.Iter.{into_iter_items}
@@ -27,6 +27,10 @@ loop-home-init g c =
       same = ap length lists ∙ c.requires.2 ∙ sym (ap length homes);
       blank = subst (All IsBlank) (sym lists) c.requires.3;
       letters = subst (Shuffled (map back_of hs)) (λ i. letters_in (sym empty i) ++ map back_of (sym homes i)) (Shuffled-refl (map back_of hs));
+      made = search rules;
+      count = search rules;
+      room = search rules;
+      space = search rules;
     }
 
 pub empty-requires-clause-letters : goal.empty-requires-clause-letters
@@ -47,10 +51,10 @@ loop-home-preserved g c =
     let done = c.loop-home.emptied.items in
     let new = c.in_ok-empty.field-0 in
     let is = c.in_ok-empty.ensures in
-    let more : c.push.new.self.items ≡ done ++ new ∷ [] = c.in_ok-push.ensures.items in
+    let more : c.push_reserved.new.self.items ≡ done ++ new ∷ [] = c.push_reserved.ensures.items in
     let filled = c.loop-home.filled.items in
     let got = c.empty.new.letters in
-    let fuller : c.push-in-loop-home.new.self.items ≡ filled ++ got ∷ [] = c.in_ok-push-2.ensures.items in
+    let fuller : c.push_reserved-in-loop-home.new.self.items ≡ filled ++ got ∷ [] = c.push_reserved-in-loop-home.ensures.items in
     let items_of = λ (v : Vec Letter). v.items in
     record {
       place = omega (arith, i.place, ap length more, length-append done (new ∷ []));
@@ -69,6 +73,10 @@ loop-home-preserved g c =
           subst (Shuffled (map back_of hs))
           (sym (ap (λ xs. letters_in xs ++ map back_of left) fuller
           ∙ (ap (λ xs. xs ++ map back_of left) (map-append items_of filled (got ∷ [])) ∙ append_assoc (letters_in filled) (got.items ∷ []) (map back_of left)))) next;
+      made = omega (arith, i.made, ap length e, c.push_reserved.ensures.len);
+      count = omega (arith, i.count, ap length e, c.push_reserved-in-loop-home.ensures.len);
+      room = subst (λ m. vec_len c.args.homes ≤ m) (sym c.push_reserved.ensures.capacity) i.room;
+      space = subst (λ m. vec_len c.args.homes ≤ m) (sym c.push_reserved-in-loop-home.ensures.capacity) i.space;
     }
 
 none_left : {X : Type 0} (xs : List X) → length xs ≡ 0 → xs ≡ []

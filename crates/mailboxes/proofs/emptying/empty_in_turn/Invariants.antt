@@ -1,4 +1,4 @@
-use Rattle.std.proofs.Common.{◌≡◌, ◌++◌, [], length, map}
+use Rattle.std.proofs.Common.{◌≡◌, ◌≤◌, ◌+◌, ◌++◌, [], length, map, vec_len, vec_capacity}
 use Rattle.std.specs.List.{All}
 use Rattle.std.specs.Vec.Iter.{into_iter_items}
 use Rattle.mailboxes.specs.Mailboxes.{letters_in}
@@ -18,4 +18,8 @@ invariant-loop-home g l =
       same : length empties ≡ length rest;
       blank : All (λ v. v.items ≡ []) empties;
       letters : Shuffled (map (λ h. h.back) l.fn.homes.items) (letters_in l.filled.items ++ map (λ h. h.back) rest);
+      made : vec_len l.emptied + length rest ≡ vec_len l.fn.homes;
+      count : vec_len l.filled + length rest ≡ vec_len l.fn.homes;
+      room : vec_len l.fn.homes ≤ vec_capacity l.emptied;
+      space : vec_len l.fn.homes ≤ vec_capacity l.filled;
     }

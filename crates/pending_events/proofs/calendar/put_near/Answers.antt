@@ -10,7 +10,7 @@ returns-clause-ok c =
     let v = c.put_last.new.bucket in
     let inside : c.args.place < length ls = omega (arith, c.requires, c.args.ring.now.ok.0) in
     let there : c.index_mut.result.now.items ≡ lane ls c.args.place = ap (λ w. w.items) c.index_mut.ensures.value ∙ lane_there ls c.args.place c.index_mut.result.now inside in
-    ok_weaker c.put_last.result _ _ (λ more. lane_set ls c.args.place v inside ∙ (more ∙ ap (λ es. es ++ (c.args.key, c.args.input) ∷ []) there)) c.put_last.ensures.ok
+    ok_weaker c.put_last.result _ _ (λ more. lane_set ls c.args.place v inside ∙ (more ∙ ap (λ es. es ++ c.args.event ∷ []) there)) c.put_last.ensures.ok
 
 pub returns-clause-err : goal.returns-clause-err
 returns-clause-err c =

@@ -11,10 +11,9 @@ use Rattle.qos_report.proofs.Breaking.{breaks_at_close, breaks_at_opening, break
 use Rattle.reporting.proofs.Fed.{if_reason}
 use Rattle.reporting.proofs.Finishing.{finishes}
 use Rattle.reporting.specs.ReportText.{report_text}
-use Rattle.reporting.specs.Running.{IsTextWhere}
+use Rattle.reporting.specs.Running.{IsTextWhere, Running}
 use Rattle.qos_report.specs.Streaming.{WroteFront, WroteWhere}
 use Rattle.reporting.specs.TraceText.{rows_text, trace_header}
-use Rattle.reporting.specs.declared.running.Running.{Running}
 use Rattle.qos_report.proofs.bench.bench_windows.Goals as goal
 
 pub returns-clause-done : goal.returns-clause-done

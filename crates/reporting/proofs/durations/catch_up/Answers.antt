@@ -5,19 +5,19 @@ use Rattle.reporting.proofs.Caught.{caught_none, caught_next}
 use Rattle.reporting.proofs.durations.catch_up.Goals as goal
 
 pub loop-place-init : goal.loop-place-init
-loop-place-init c = record { same = omega arith; caught = caught_none c.args.panel.now.pairs c.args.closed c.args.from (lists_in c.args.pairs.now) }
+loop-place-init c = record { same = omega arith; caught = caught_none c.args.panel.now c.args.closed c.args.from (lists_in c.args.pairs.now) }
 
 pub loop-place-preserved : goal.loop-place-preserved
 loop-place-preserved c =
     let l = c.loop-place in
     record {
       same = length-set l.pairs l.place c.catch.new.lengths ∙ l.invariant.same;
-      caught = caught_next c.args.panel.now.pairs c.args.closed c.args.from l.place (lists_in c.args.pairs.now) l.pairs l.invariant.caught l.auto.place
+      caught = caught_next c.args.panel.now c.args.closed c.args.from l.place (lists_in c.args.pairs.now) l.pairs l.invariant.caught l.auto.place
           (omega (arith, l.invariant.same, c.loop-place-test.true, c.requires.places)) c.index-pairs-place.result c.catch.new.lengths
-          (c.in_ok-catch.ensures ∙ ap (λ t. caught t (get_or l.pairs l.place c.index-pairs-place.result).items) c.tally.ensures);
+          (c.in_ok-catch.ensures ∙ ap (λ t. caught t (get_or l.pairs l.place c.index-pairs-place.result).items) c.tally_at.ensures);
     }
 
 pub returns : goal.returns
 returns c =
     let end : c.loop-place.place ≡ c.args.end = omega (arith, c.loop-place-test.false, c.loop-place.auto.place-end, c.requires.order) in
-    subst (λ n. AreCaught c.args.panel.now.pairs c.args.closed c.args.from n (lists_in c.args.pairs.now) (lists_in c.loop-place.pairs)) end c.loop-place.invariant.caught
+    subst (λ n. AreCaught c.args.panel.now c.args.closed c.args.from n (lists_in c.args.pairs.now) (lists_in c.loop-place.pairs)) end c.loop-place.invariant.caught

@@ -1,7 +1,7 @@
-use Rattle.std.proofs.Common.{◌<◌, ◌^◌, [], length, arith, sym, subst}
+use Rattle.std.proofs.Common.{◌<◌, ◌^◌, [], length, arith, sym, subst, true}
 use Rattle.judges.specs.Agreement.{Agree}
 use Rattle.judges.proofs.Agreement.Agreed.{agrees}
-use Rattle.reporting.specs.MeasuredRun.{IsMeasured}
+use Rattle.reporting.proofs.Followed.{measuring_same, measuring_told}
 use Rattle.reporting.proofs.measured_run.measure_list.Goals as goal
 
 pub returns-clause-done : goal.returns-clause-done
@@ -9,16 +9,16 @@ returns-clause-done g c =
     let S = c.args.scenario.now in
     let ranges = c.horizon-ticks.ensures.ranges in
     let r = c.in_ok-run_list_into.ensures.recorded in
-    let is : IsMeasured S r.trace c.run_list_into.new.recorder = r.taken [] (λ S h rises. h) S c.in_ok-running.ensures r.rising in
+    let opened = c.in_ok-measuring.measuring in
+    let told = measuring_told S r.trace r.rising true opened c.run_list_into.new.follower (r.taken [] (measuring_same opened)) c.in_ok-measuring.ensures in
     let small : length r.trace < 2 ^ 64 = omega (arith, r.within, ranges.limit_high) in
-    let told = c.in_ok-close.ensures S r.trace is small in
-    let found = told.0 in
-    let counts = is.findings.summary.counts in
+    let found = c.in_ok-find.ensures.found true S r.trace told small in
+    let counts = told.0.0 in
     record {
       trace = r.trace;
       is_within = record { is_trace = r.is_trace; within = r.within };
       measured = found;
-      lasted = told.1;
+      lasted = c.in_ok-find.ensures.lasted S r.trace told;
       sent_high = omega (arith, found.summary.sent, counts.sent_high);
       lost_high = omega (arith, found.summary.lost, counts.lost_high);
       causes = r.cause;

@@ -1,33 +1,33 @@
-use Rattle.std.proofs.Common.{sym, ap, ◌∙◌, ◌++◌, subst}
+use Rattle.std.proofs.Common.{◌<◌, ◌^◌, sym, ap, ◌∙◌, subst, false, length, [], rules}
 use Rattle.std.specs.List.{All}
 use Rattle.judges.proofs.Blamed.{shares_suspicions}
-use Rattle.reporting.specs.Measures.{layer_measures}
+use Rattle.reporting.specs.Measures.{all_measures}
 use Rattle.reporting.specs.Resting.{RestsOnBlame}
-use Rattle.reporting.proofs.Layers.{one_layer, two_layers}
+use Rattle.reporting.proofs.Followed.{measuring_same, measuring_told}
 use Rattle.reporting.proofs.Resting.{all_rest}
-use Rattle.reporting.proofs.measuring.measures.Goals.{then-shared+in_ok-measure_layer-2, else-shared}
 use Rattle.reporting.proofs.measuring.measures.Goals as goal
 
 pub returns-clause-rows : goal.returns-clause-rows
 returns-clause-rows c =
     let S = c.args.scenario.now in
-    let trace = c.args.trace.now in
-    let first = c.in_ok-measure_layer.ensures ∙ ap (λ rows. rows ++ layer_measures S trace 1) c.new-rows.ensures.items in
-    elim c.if-shared.branch [
-      | then-shared+in_ok-measure_layer-2 w ↦
-          rw w.rows-is (w.in_ok-measure_layer-2.ensures ∙ ap (λ rows. rows ++ layer_measures S trace 2) first ∙ two_layers S trace (sym c.is_shared-shared.ensures.value ∙ w.if-shared.true))
-      | else-shared w ↦ rw w.rows-is (first ∙ one_layer S trace (sym c.is_shared-shared.ensures.value ∙ w.if-shared.false))
-    ]
+    let trace = c.entries.result.now in
+    let opened = c.in_ok-measuring.measuring in
+    let small : length trace < 2 ^ 64 = search rules in
+    let told = measuring_told S trace c.entries.ensures.rising false opened c.follow_all.new.follower (c.in_ok-follow_all.ensures opened [] (measuring_same opened)) c.in_ok-measuring.ensures in
+    (c.in_ok-found.ensures.found false S trace told small).measures ∙ ap (all_measures S) c.entries.ensures.value
 
 pub returns-clause-blame : goal.returns-clause-blame
 returns-clause-blame c is_trace =
-    subst (All (RestsOnBlame c.args.scenario.now c.args.trace.now)) (sym (returns-clause-rows c)) (all_rest c.args.scenario.now c.is_shared-shared.ensures.ranges c.args.trace.now is_trace)
+    subst (All (RestsOnBlame c.args.scenario.now c.args.trace.now)) (sym (returns-clause-rows c)) (all_rest c.args.scenario.now c.horizon-ticks.ensures.ranges c.args.trace.now is_trace)
 
-pub returns-in_err-measure_layer-clause-shares : goal.returns-in_err-measure_layer-clause-shares
-returns-in_err-measure_layer-clause-shares c is_trace = shares_suspicions c.args.scenario.now c.is_shared-shared.ensures.ranges c.args.trace.now is_trace
+pub returns-in_err-measuring-clause-shares : goal.returns-in_err-measuring-clause-shares
+returns-in_err-measuring-clause-shares c is_trace = shares_suspicions c.args.scenario.now c.horizon-ticks.ensures.ranges c.args.trace.now is_trace
 
-pub returns-in_err-measure_layer-2-clause-shares : goal.returns-in_err-measure_layer-2-clause-shares
-returns-in_err-measure_layer-2-clause-shares c is_trace = shares_suspicions c.args.scenario.now c.is_shared-shared.ensures.ranges c.args.trace.now is_trace
+pub returns-in_err-follow_all-clause-shares : goal.returns-in_err-follow_all-clause-shares
+returns-in_err-follow_all-clause-shares c is_trace = shares_suspicions c.args.scenario.now c.horizon-ticks.ensures.ranges c.args.trace.now is_trace
+
+pub returns-in_err-found-clause-shares : goal.returns-in_err-found-clause-shares
+returns-in_err-found-clause-shares c is_trace = shares_suspicions c.args.scenario.now c.horizon-ticks.ensures.ranges c.args.trace.now is_trace
 
 pub returns-clause-shares : goal.returns-clause-shares
-returns-clause-shares c is_trace = shares_suspicions c.args.scenario.now c.is_shared-shared.ensures.ranges c.args.trace.now is_trace
+returns-clause-shares c is_trace = shares_suspicions c.args.scenario.now c.horizon-ticks.ensures.ranges c.args.trace.now is_trace

@@ -2,21 +2,26 @@ use Rattle.std.proofs.Common.{rules, ◌<◌, ◌^◌, ◌∙◌, [], true, ap, 
 use Rattle.reporting.specs.ReportText.{report_text}
 use Rattle.reporting.specs.Writing.{Wrote, WrotePart}
 use Rattle.reporting.proofs.Fed.{on_ok, text_items}
+use Rattle.reporting.proofs.Followed.{running_same, running_told}
 use Rattle.reporting.proofs.writing.write_report.Goals as goal
 
 pub returns-clause-whole : goal.returns-clause-whole
 returns-clause-whole g c =
     let s = c.args.scenario.now in
-    let small : length c.entries.result.now < 2 ^ 64 = search rules in
-    let is = c.in_ok-_summary.ensures c.entries.result.now true (c.feed_all.ensures s [] true c.in_ok-running.ensures c.entries.ensures.rising) small in
+    let trace = c.entries.result.now in
+    let opened = c.in_ok-running.running in
+    let small : length trace < 2 ^ 64 = search rules in
+    let is = c.in_ok-_summary.ensures trace true (running_told s trace c.entries.ensures.rising true opened c.follow_all.new.follower (c.in_ok-follow_all.ensures opened [] (running_same opened)) c.in_ok-running.ensures) small in
     on_ok c.write_if_any.result
-    (subst (Wrote g.O.Outlet.told g.O.Outlet.failed c.args.outlet.now c.write_if_any.new.outlet) (text_items (report_text s c.entries.result.now) c.in_ok-_summary.report is.report ∙ ap (report_text s) c.entries.ensures.value))
+    (subst (Wrote g.O.Outlet.told g.O.Outlet.failed c.args.outlet.now c.write_if_any.new.outlet) (text_items (report_text s trace) c.in_ok-_summary.report is.report ∙ ap (report_text s) c.entries.ensures.value))
     c.write_if_any.ensures.whole
 
 pub returns-clause-part : goal.returns-clause-part
 returns-clause-part g c = λ failed.
     let s = c.args.scenario.now in
-    let small : length c.entries.result.now < 2 ^ 64 = search rules in
-    let is = c.in_ok-_summary.ensures c.entries.result.now true (c.feed_all.ensures s [] true c.in_ok-running.ensures c.entries.ensures.rising) small in
-    subst (WrotePart g.O.Outlet.told g.O.Outlet.failed c.args.outlet.now c.write_if_any.new.outlet) (text_items (report_text s c.entries.result.now) c.in_ok-_summary.report is.report ∙ ap (report_text s) c.entries.ensures.value)
+    let trace = c.entries.result.now in
+    let opened = c.in_ok-running.running in
+    let small : length trace < 2 ^ 64 = search rules in
+    let is = c.in_ok-_summary.ensures trace true (running_told s trace c.entries.ensures.rising true opened c.follow_all.new.follower (c.in_ok-follow_all.ensures opened [] (running_same opened)) c.in_ok-running.ensures) small in
+    subst (WrotePart g.O.Outlet.told g.O.Outlet.failed c.args.outlet.now c.write_if_any.new.outlet) (text_items (report_text s trace) c.in_ok-_summary.report is.report ∙ ap (report_text s) c.entries.ensures.value)
     (c.write_if_any.ensures.part failed)

@@ -4,8 +4,8 @@ use Rattle.scenario.specs.Rules.{are_bad_pairs}
 use Rattle.scenario.specs.Parts.{HoldLinks}
 use Rattle.scenario.proofs.links.read_pairs.Given as goal
 
-abbrev pub invariant-loop-table : goal.invariant-loop-table
-invariant-loop-table l = record {
-  clean : are_bad_pairs l.n (map (λ m. table_view m.now) (take l.table-index l.tables)) ≡ false;
-  hold : HoldLinks l.n l.links.items (map (λ m. table_view m.now) (take l.table-index l.tables));
+abbrev pub invariant-loop-i : goal.invariant-loop-i
+invariant-loop-i l = record {
+  clean : are_bad_pairs l.n (map (λ m. table_view m.now) (take l.i l.tables)) ≡ false;
+  hold : HoldLinks l.n l.links.items (map (λ m. table_view m.now) (take l.i l.tables));
 }

@@ -1,22 +1,18 @@
-use Rattle.std.proofs.Common.{rules, subst, List, ℕ}
+use Rattle.std.proofs.Common.{rules, subst, List, ℕ, refl}
 use Rattle.diagnosis.specs.Diagnosis.{AcceptsAs}
 use Rattle.study_commands.specs.Refusal.{IsOfBytes}
 use Rattle.study_commands.proofs.Answered.{check_answer}
 use Rattle.study_commands.proofs.Reasons.{bytes_file, check_file}
-use Rattle.study_commands.proofs.Stopping.{put_done, put_stops}
+use Rattle.study_commands.specs.Fault.{end_of}
+use Rattle.study_commands.specs.declared.fault.Fault.TheVariants.{Write}
+use Rattle.shell.proofs.Going.{put_goes}
 use Rattle.study_commands.proofs.checking.serve_check.Goals as goal
 
-pub returns-clause-done : goal.returns-clause-done
-returns-clause-done g c =
+pub returns-clause-text : goal.returns-clause-text
+returns-clause-text g c =
     let P : List ℕ → Type 0 = λ b. AcceptsAs b c.in_ok-accepted.accepted in
     let wanted = check_answer (g.I.Read.remaining c.args.input.now) c.args.path.now _ _ _ c.in_ok-accepted.accepted c.in_ok-bytes.ensures.bytes (subst P c.deref.ensures.value c.in_ok-accepted.ensures.accepted) c.as_str.ensures.value c.in_ok-line.ensures.line in
-    put_done _ _ _ _ _ (λ _. ⊥) c.put_text.result _ wanted c.put_text.ensures.whole
-
-pub returns-clause-stops : goal.returns-clause-stops
-returns-clause-stops g c =
-    let P : List ℕ → Type 0 = λ b. AcceptsAs b c.in_ok-accepted.accepted in
-    let wanted = check_answer (g.I.Read.remaining c.args.input.now) c.args.path.now _ _ _ c.in_ok-accepted.accepted c.in_ok-bytes.ensures.bytes (subst P c.deref.ensures.value c.in_ok-accepted.ensures.accepted) c.as_str.ensures.value c.in_ok-line.ensures.line in
-    put_stops _ _ _ _ _ (λ _. ⊥) c.put_text.result _ wanted c.put_text.ensures.part
+    put_goes _ _ _ _ _ end_of Write refl c.put_text.result _ wanted c.put_text.ensures.whole c.put_text.ensures.part
 
 pub returns-in_err-accepted-clause-why : goal.returns-in_err-accepted-clause-why
 returns-in_err-accepted-clause-why g c =

@@ -1,36 +1,39 @@
-use Rattle.std.proofs.Common.{◌≡◌, ◌⊎◌, ◌∙◌, ℕ, sym, subst, inl, inr}
-use Rattle.study_commands.proofs.Stopping.{above_zero, at_four, at_three, below_three, left_as, part_as, tells_as}
+use Rattle.std.proofs.Common.{◌≡◌, ◌≢◌, ◌⊎◌, inl, inr, ℕ, map, subst, arith}
+use Rattle.study_commands.specs.Fault.{end_of, line_of, status_of}
+use Rattle.study_commands.specs.Serve.{IsReason, LeftOf, Serves, ServesFor}
+use Rattle.study_commands.specs.Statuses.{has_status}
+use Rattle.study_commands.proofs.Stopping.{asked_so}
+use Rattle.shell.proofs.Leaving.{ends}
 use Rattle.study_commands.proofs.serve.serve.Goals as goal
 
-pub returns-clause-broken : goal.returns-clause-broken
-returns-clause-broken g c four =
-    part_as _ _ _ _ _ _ (λ piece answers. inl (c.in-Ok.order, c.in-Ok.ensures.stated, answers))
-    (at_four _ _ _ _ _ _ c.in-Err-carry_out.fault (sym c.report.ensures.status ∙ four) c.in-Err-carry_out.ensures.stops)
+not_zero : (n : ℕ) → (n ≡ 1) ⊎ (n ≡ 3) → n ≢ 0
+not_zero n (inl one) zero = omega (arith, one, zero)
+not_zero n (inr three) zero = omega (arith, three, zero)
 
-pub returns-clause-left : goal.returns-clause-left
-returns-clause-left g c three =
-    left_as _ _ _ _ _ _ (λ piece leaves. (c.in-Ok.order, c.in-Ok.ensures.stated, leaves))
-    (at_three _ _ _ _ _ _ c.in-Err-carry_out.fault (sym c.report.ensures.status ∙ three) c.in-Err-carry_out.ensures.stops)
-
-pub returns-in-Err-clause-why : goal.returns-in-Err-clause-why
-returns-in-Err-clause-why g c = λ other.
-    tells_as _ _ _ _ _ _ (λ line is. inl (record { reason = c.in-Err.error; explains = c.in-Err.ensures.refused; tells = is })) (c.tell.ensures.why other)
-
-pub returns-clause-why : goal.returns-clause-why
-returns-clause-why g c = λ other.
-    tells_as _ _ _ _ _ _ (λ line is. inr (record {
-      asked = c.in-Ok.order;
-      stated = c.in-Ok.ensures.stated;
-      fault = c.in-Err-carry_out.fault;
-      why = c.in-Err-carry_out.ensures.why;
-      status_is = c.report.ensures.status;
-      line_is = is;
-    })) c.report.ensures.line
-
-pub returns-clause-refused : goal.returns-clause-refused
-returns-clause-refused g c low =
-    let P : ℕ → Type 0 = λ n. (n ≡ 1) ⊎ (n ≡ 2) in
-    below_three _ _ _ _ _ _ c.in-Err-carry_out.fault (subst P c.report.ensures.status low) c.in-Err-carry_out.ensures.stops
-
-pub returns-clause-silent : goal.returns-clause-silent
-returns-clause-silent g c zero = absurd (above_zero c.in-Err-carry_out.fault (sym c.report.ensures.status ∙ zero))
+pub returns : goal.returns
+returns g c =
+    let input = g.I.Read.remaining c.args.input.now in
+    let words = map (λ w. w.now) c.args.words.now in
+    let outcome = c.answer_words-outcome in
+    let n = c.ended.result in
+    let all =
+    ends status_of line_of end_of has_status g.F.Outlet.told g.F.Outlet.failed _ _ g.O.Outlet.told g.O.Outlet.failed _ _
+    (Serves input words) (ServesFor input words) (LeftOf input words) (IsReason input words) n outcome.result
+    c.ended.ensures.done c.ended.ensures.failed outcome.ensures.text outcome.ensures.why in
+    record {
+      statuses = all.few;
+      done = all.done;
+      broken = all.broken;
+      refused = all.refused;
+      left = all.left;
+      asked = λ at.
+          let so = all.stopped (not_zero n at) in
+          let P : ℕ → Type 0 = λ m. (m ≡ 1) ⊎ (m ≡ 3) in
+          asked_so input words so.0 so.2 (subst P so.1 at);
+      silent = all.silent;
+      told = c.ended.ensures.told;
+      why = all.why;
+      taken = outcome.ensures.taken;
+      untouched = outcome.ensures.untouched;
+      hidden = outcome.ensures.hidden;
+    }

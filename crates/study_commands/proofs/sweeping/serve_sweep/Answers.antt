@@ -9,15 +9,15 @@ fault_of-requires g c =
     (record { is_file = c.in_ok-file.ensures.table; is_grid = c.in_ok-grid.ensures.grid; is_shard = c.in_ok-shard.ensures.shard; is_layout = c.in_ok-layout.ensures.layout })
     g.O.Outlet.told g.O.Outlet.failed c.args.outlet.now c.sweep.new.outlet c.in-Err.error c.in-Err.ensures.breaks_off
 
-pub returns-in-Ok-clause-done : goal.returns-in-Ok-clause-done
-returns-in-Ok-clause-done g c =
+pub returns-in-Ok-clause-text : goal.returns-in-Ok-clause-text
+returns-in-Ok-clause-text g c =
     swept (g.I.Read.remaining c.args.input.now) c.args.path.now c.args.study.now (table_view c.in_ok-file.file)
     c.in_ok-grid.grid c.in_ok-shard.shard c.in_ok-layout.layout
     (record { is_file = c.in_ok-file.ensures.table; is_grid = c.in_ok-grid.ensures.grid; is_shard = c.in_ok-shard.ensures.shard; is_layout = c.in_ok-layout.ensures.layout })
     g.O.Outlet.told g.O.Outlet.failed c.args.outlet.now c.sweep.new.outlet c.in-Ok.ensures.done
 
-pub returns-clause-stops : goal.returns-clause-stops
-returns-clause-stops g c =
+pub returns-clause-text : goal.returns-clause-text
+returns-clause-text g c =
     sweep_stops (g.I.Read.remaining c.args.input.now) c.args.path.now c.args.study.now (table_view c.in_ok-file.file)
     c.in_ok-grid.grid c.in_ok-shard.shard c.in_ok-layout.layout
     (record { is_file = c.in_ok-file.ensures.table; is_grid = c.in_ok-grid.ensures.grid; is_shard = c.in_ok-shard.ensures.shard; is_layout = c.in_ok-layout.ensures.layout })

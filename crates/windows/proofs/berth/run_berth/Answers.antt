@@ -3,7 +3,7 @@ use Rattle.process_api.specs.Bounds.{most_step_actions}
 use Rattle.trace_laws.specs.ScenarioSetting.{setting_of}
 use Rattle.steps.specs.Seat.{process_of, own_of, IsSeated}
 use Rattle.trace_laws.specs.World.{Has}
-use Rattle.windows.specs.Agenda.{event_of}
+use Rattle.trace_laws.specs.Taken.{event_of}
 use Rattle.windows.specs.Berth.{made_in, with_letters}
 use Rattle.window_laws.specs.Window.{BerthRun}
 use Rattle.window_laws.proofs.Berths.{BerthStands, berth_opens, berth_longer, berth_ends}
@@ -12,8 +12,8 @@ use Rattle.windows.proofs.Turns.{one_longer, stands_next}
 use Rattle.windows.proofs.Taken.{below_of, removed_of, none_below_of, kept_of}
 use Rattle.windows.proofs.berth.run_berth.Goals as goal
 
-pub loop-key-init : goal.loop-key-init
-loop-key-init g c =
+pub loop-event-init : goal.loop-event-init
+loop-event-init g c =
     let mind = g.M.Process.mind in
     let s = c.args.streams.now in
     let S = setting_of s in
@@ -38,17 +38,17 @@ loop-key-init g c =
 pub take-requires-clause-seated : goal.take-requires-clause-seated
 take-requires-clause-seated g c κs within =
     let r = c.requires.berth in
-    (r.1 + most_step_actions * vec_len c.loop-key.berth.part, c.loop-key.invariant.seated r.1 r.2.seated, omega (arith, r.3, c.loop-key.invariant.within))
+    (r.1 + most_step_actions * vec_len c.loop-event.berth.part, c.loop-event.invariant.seated r.1 r.2.seated, omega (arith, r.3, c.loop-event.invariant.within))
 
-pub loop-key-preserved : goal.loop-key-preserved
-loop-key-preserved g c =
+pub loop-event-preserved : goal.loop-event-preserved
+loop-event-preserved g c =
     let mind = g.M.Process.mind in
     let b = c.args.berth.now in
-    let i = c.loop-key.invariant in
-    let old = c.loop-key.berth in
+    let i = c.loop-event.invariant in
+    let old = c.loop-event.berth in
     let new = c.take.new.self in
-    let taken = below_of c.args.end old.pending c.in_ok-key.field-0 (c.in-Some.key, c.in-Some.input) c.in-Some.is c.in_ok-key.ensures.least in
-    let removed = removed_of old.pending c.take_below.new.self c.in_ok-key.field-0 (c.in-Some.key, c.in-Some.input) c.in-Some.is c.in_ok-key.ensures.removed in
+    let taken = below_of c.args.end old.pending c.in_ok-event.field-0 c.in-Some.event c.in-Some.is c.in_ok-event.ensures.least in
+    let removed = removed_of old.pending c.take_below.new.self c.in_ok-event.field-0 c.in-Some.event c.in-Some.is c.in_ok-event.ensures.removed in
     let done = c.in_ok-take.ensures in
     let longer : length new.part.items ≡ length old.part.items + 1 = one_longer old.part.items new.part.items _ done.part in
     record {
@@ -58,7 +58,7 @@ loop-key-preserved g c =
         i.stands.0 ++ done.letters.0,
         done.letters.2 ∙ (ap (λ z. with_letters z done.letters.0) i.stands.1 ∙ with_more c.args.slip.now i.stands.0 done.letters.0),
         stands_next (setting_of c.args.streams.now) (own_of mind b.seat) c.args.end (process_of mind b.seat) b.pending (process_of mind old.seat) old.pending old.part.items i.stands.0 i.stands.2
-            c.in-Some.key c.in-Some.input taken.0 taken.1 (process_of mind new.seat) c.take_below.new.self new.pending new.part.items done.letters.0 done.process removed done.pending done.part done.letters.1,
+            c.in-Some.event.0 c.in-Some.event.1 taken.0 taken.1 (process_of mind new.seat) c.take_below.new.self new.pending new.part.items done.letters.0 done.process removed done.pending done.part done.letters.1,
       );
       seated = λ most h. let same : (most + most_step_actions * vec_len old.part) + most_step_actions ≡ most + most_step_actions * vec_len new.part = omega (arith, longer, new.part.ok.0, old.part.ok.0) in
           subst (λ n. IsSeated mind c.args.streams.now n new.seat) same (done.seated (most + most_step_actions * vec_len old.part) (i.seated most h));
@@ -67,50 +67,50 @@ loop-key-preserved g c =
 
 pub take-requires-clause-own : goal.take-requires-clause-own
 take-requires-clause-own g c κs within =
-    let i = c.loop-key.invariant in
-    let taken = below_of c.args.end c.loop-key.berth.pending c.in_ok-key.field-0 (c.in-Some.key, c.in-Some.input) c.in-Some.is c.in_ok-key.ensures.least in
-    i.stands.2.own c.in-Some.key c.in-Some.input taken.0.there ∙ sym i.own
+    let i = c.loop-event.invariant in
+    let taken = below_of c.args.end c.loop-event.berth.pending c.in_ok-event.field-0 c.in-Some.event c.in-Some.is c.in_ok-event.ensures.least in
+    i.stands.2.own c.in-Some.event.0 c.in-Some.event.1 taken.0.there ∙ sym i.own
 
-pub loop-key-smaller : goal.loop-key-smaller
-loop-key-smaller g c =
-    let old = c.loop-key.berth.part in
+pub loop-event-smaller : goal.loop-event-smaller
+loop-event-smaller g c =
+    let old = c.loop-event.berth.part in
     let new = c.take.new.self.part in
-    let made = (made_in g.M.Process.mind c.args.streams.now c.loop-key.berth.seat c.in-Some.key c.in-Some.input).entry in
-    let longer : length new.items ≡ length old.items + 1 = one_longer c.loop-key.berth.part.items c.take.new.self.part.items made c.in_ok-take.ensures.part in
+    let made = (made_in g.M.Process.mind c.args.streams.now c.loop-event.berth.seat c.in-Some.event.0 c.in-Some.event.1).entry in
+    let longer : length new.items ≡ length old.items + 1 = one_longer c.loop-event.berth.part.items c.take.new.self.part.items made c.in_ok-take.ensures.part in
     omega (arith, longer, new.ok.0, old.ok.0, c.if-len-left.false, c.len.ensures)
 
 pub returns-then-len-left-clause-limit : goal.returns-then-len-left-clause-limit
 returns-then-len-left-clause-limit g c is history after rest letters run =
     let mind = g.M.Process.mind in
     let b = c.args.berth.now in
-    let i = c.loop-key.invariant in
-    let old = c.loop-key.berth in
-    let taken = below_of c.args.end old.pending c.in_ok-key.field-0 (c.in-Some.key, c.in-Some.input) c.in-Some.is c.in_ok-key.ensures.least in
+    let i = c.loop-event.invariant in
+    let old = c.loop-event.berth in
+    let taken = below_of c.args.end old.pending c.in_ok-event.field-0 c.in-Some.event c.in-Some.is c.in_ok-event.ensures.least in
     let longer : length old.part.items < length history =
     berth_longer (setting_of c.args.streams.now) (own_of mind b.seat) c.args.end (process_of mind b.seat) b.pending (process_of mind old.seat) old.pending old.part.items (map event_of i.stands.0) i.stands.2
-    c.in-Some.key c.in-Some.input taken.0 taken.1 history after rest letters run in
+    c.in-Some.event.0 c.in-Some.event.1 taken.0 taken.1 history after rest letters run in
     omega (arith, longer, c.if-len-left.true, c.len.ensures, old.part.ok.0)
 
 pub returns-clause-slip : goal.returns-clause-slip
-returns-clause-slip g c = c.loop-key.invariant.slip
+returns-clause-slip g c = c.loop-event.invariant.slip
 
 pub returns-clause-within : goal.returns-clause-within
-returns-clause-within g c = c.loop-key.invariant.within
+returns-clause-within g c = c.loop-event.invariant.within
 
 pub returns-clause-ran : goal.returns-clause-ran
 returns-clause-ran g c =
     let mind = g.M.Process.mind in
     let S = setting_of c.args.streams.now in
     let b = c.args.berth.now in
-    let i = c.loop-key.invariant in
-    let old = c.loop-key.berth in
+    let i = c.loop-event.invariant in
+    let old = c.loop-event.berth in
     let was = i.stands.2 in
-    let run = berth_ends S (own_of mind b.seat) c.args.end (process_of mind b.seat) b.pending (process_of mind old.seat) old.pending old.part.items (map event_of i.stands.0) was (none_below_of c.args.end c.loop-key.berth.pending c.in_ok-key.field-0 c.in_default.is c.in_ok-key.ensures.least) in
+    let run = berth_ends S (own_of mind b.seat) c.args.end (process_of mind b.seat) b.pending (process_of mind old.seat) old.pending old.part.items (map event_of i.stands.0) was (none_below_of c.args.end c.loop-event.berth.pending c.in_ok-event.field-0 c.in_default.is c.in_ok-event.ensures.least) in
     λ p is. (
       i.stands.0,
       record {
         history = was.history;
-        run = subst (λ m. BerthRun S p c.args.end (process_of mind b.seat) b.pending was.history (process_of mind old.seat) m (map event_of i.stands.0)) (sym (kept_of c.loop-key.berth.pending c.take_below.new.self c.in_ok-key.field-0 c.in_default.is c.in_ok-key.ensures.removed))
+        run = subst (λ m. BerthRun S p c.args.end (process_of mind b.seat) b.pending was.history (process_of mind old.seat) m (map event_of i.stands.0)) (sym (kept_of c.loop-event.berth.pending c.take_below.new.self c.in_ok-event.field-0 c.in_default.is c.in_ok-event.ensures.removed))
             (subst (λ q. BerthRun S q c.args.end (process_of mind b.seat) b.pending was.history (process_of mind old.seat) old.pending (map event_of i.stands.0)) is run);
         part = was.part_is;
       },
@@ -119,9 +119,9 @@ returns-clause-ran g c =
 
 pub returns-clause-berth : goal.returns-clause-berth
 returns-clause-berth g c =
-    let i = c.loop-key.invariant in
+    let i = c.loop-event.invariant in
     λ p most h. record {
       seated = i.seated most h.seated;
       is = i.own ∙ h.is;
-      own = λ key x there. i.stands.2.own key x (subst (λ m. Has m key x) (kept_of c.loop-key.berth.pending c.take_below.new.self c.in_ok-key.field-0 c.in_default.is c.in_ok-key.ensures.removed) there) ∙ h.is;
+      own = λ key x there. i.stands.2.own key x (subst (λ m. Has m key x) (kept_of c.loop-event.berth.pending c.take_below.new.self c.in_ok-event.field-0 c.in_default.is c.in_ok-event.ensures.removed) there) ∙ h.is;
     }

@@ -4,13 +4,13 @@ use Rattle.process_api.specs.declared.message.Letter.{Letter}
 use Rattle.trace_laws.specs.ScenarioSetting.{setting_of}
 use Rattle.steps.specs.Seat.{process_of, own_of, IsSeated}
 use Rattle.mailboxes.specs.Mailboxes.{IsSlipOf}
-use Rattle.windows.specs.Agenda.{event_of}
+use Rattle.trace_laws.specs.Taken.{event_of}
 use Rattle.windows.specs.Berth.{with_letters}
 use Rattle.window_laws.proofs.Berths.{BerthStands}
 use Rattle.windows.proofs.berth.run_berth.Given as goal
 
-abbrev pub invariant-loop-key : goal.invariant-loop-key
-invariant-loop-key g l =
+abbrev pub invariant-loop-event : goal.invariant-loop-event
+invariant-loop-event g l =
     let mind = g.M.Process.mind in
     let s = l.fn.streams in
     let p = own_of mind l.fn.berth.seat in
@@ -23,5 +23,5 @@ invariant-loop-key g l =
       within : vec_len l.berth.part ≤ l.left;
     }
 
-abbrev pub decreases-loop-key : goal.decreases-loop-key
-decreases-loop-key g l = l.left - vec_len l.berth.part
+abbrev pub decreases-loop-event : goal.decreases-loop-event
+decreases-loop-event g l = l.left - vec_len l.berth.part

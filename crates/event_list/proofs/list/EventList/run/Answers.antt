@@ -17,10 +17,10 @@ use Rattle.event_list.proofs.Standing.{first_longer, first_receiver, first_proce
 use Rattle.pending_events.proofs.Taken.{least_of, removed_of, none_of}
 use Rattle.event_list.proofs.list.EventList.run.Goals as goal
 
-pub loop-key-init : goal.loop-key-init
-loop-key-init g c =
+pub loop-event-init : goal.loop-event-init
+loop-event-init g c =
     record {
-      going = record { trace = []; letters = []; stands = c.requires.opening; long = refl; taken = λ before had. subst (g.R.Recorder.recorded c.args.recorder.now c.args.recorder.now) (sym (append-nil before)) had; heard = none_joined g.L.Listener.heard c.args.listener.now };
+      going = record { trace = []; letters = []; stands = c.requires.opening; long = refl; taken = λ before had. subst (g.F.Follower.followed c.args.follower.now c.args.follower.now) (sym (append-nil before)) had; heard = none_joined g.L.Listener.heard c.args.listener.now };
       seated = c.requires.seated;
       count = c.requires.count;
       within = omega arith;
@@ -28,68 +28,68 @@ loop-key-init g c =
 
 pub returns-then-taken-limit-clause-limit : goal.returns-then-taken-limit-clause-limit
 returns-then-taken-limit-clause-limit g c =
-    let going = c.loop-key.invariant.going in
-    λ _ whole is. omega (arith, going.long, c.limit-limit.ensures.value, c.if-taken-limit.true, first_longer _ _ _ _ _ going.stands _ _ (least_of c.loop-key.self.pending c.in_ok-key.field-0 (c.in-Some.key, c.in-Some.input) c.in-Some.is c.in_ok-key.ensures.least) whole is)
+    let going = c.loop-event.invariant.going in
+    λ _ whole is. omega (arith, going.long, c.limit-limit.ensures.value, c.if-taken-limit.true, first_longer _ _ _ _ _ going.stands _ _ (least_of c.loop-event.self.pending c.in_ok-event.field-0 c.in-Some.event c.in-Some.is c.in_ok-event.ensures.least) whole is)
 
 pub returns-then-taken-limit-clause-front : goal.returns-then-taken-limit-clause-front
 returns-then-taken-limit-clause-front g c =
-    let i = c.loop-key.invariant in
+    let i = c.loop-event.invariant in
     let s = c.args.scenario.now in
-    let all : c.loop-key.taken ≡ s.limit = omega (arith, i.within, c.limit-limit.ensures.value, c.if-taken-limit.true) in
+    let all : c.loop-event.taken ≡ s.limit = omega (arith, i.within, c.limit-limit.ensures.value, c.if-taken-limit.true) in
     λ _. cut_short (setting_of s) _ _ _ _ _ s.limit (subst (Going (setting_of s) _ _ _ _ _) all i.going)
 
 pub take-requires-clause-seated : goal.take-requires-clause-seated
 take-requires-clause-seated g c κs within =
-    let all = subst (λ s. All (IsSeated g.M.Process.mind s (most_step_actions * c.loop-key.taken)) c.loop-key.self.seats.items) (sym c.new-streams.ensures) c.loop-key.invariant.seated in
-    (most_step_actions * c.loop-key.taken, all, omega (arith, c.loop-key.invariant.within, c.limit-limit.ensures.ranges.limit_high))
+    let all = subst (λ s. All (IsSeated g.M.Process.mind s (most_step_actions * c.loop-event.taken)) c.loop-event.self.seats.items) (sym c.new-streams.ensures) c.loop-event.invariant.seated in
+    (most_step_actions * c.loop-event.taken, all, omega (arith, c.loop-event.invariant.within, c.limit-limit.ensures.ranges.limit_high))
 
 pub take-requires-clause-count : goal.take-requires-clause-count
 take-requires-clause-count g c κs within =
-    subst (λ s. vec_len c.loop-key.self.seats ≡ s.processes) (sym c.new-streams.ensures) c.loop-key.invariant.count
+    subst (λ s. vec_len c.loop-event.self.seats ≡ s.processes) (sym c.new-streams.ensures) c.loop-event.invariant.count
 
 pub take-requires-clause-receiver : goal.take-requires-clause-receiver
 take-requires-clause-receiver g c κs within =
-    subst (λ s. IsProcess (setting_of s) c.in-Some.key.receiver) (sym c.new-streams.ensures) (first_receiver _ _ _ _ _ c.loop-key.invariant.going.stands _ _ (least_of c.loop-key.self.pending c.in_ok-key.field-0 (c.in-Some.key, c.in-Some.input) c.in-Some.is c.in_ok-key.ensures.least))
+    subst (λ s. IsProcess (setting_of s) c.in-Some.event.0.receiver) (sym c.new-streams.ensures) (first_receiver _ _ _ _ _ c.loop-event.invariant.going.stands _ _ (least_of c.loop-event.self.pending c.in_ok-event.field-0 c.in-Some.event c.in-Some.is c.in_ok-event.ensures.least))
 
 pub take-requires-clause-own : goal.take-requires-clause-own
 take-requires-clause-own g c κs within =
-    first_own c.args.scenario.now _ _ _ _ c.loop-key.invariant.going.stands _ _ (least_of c.loop-key.self.pending c.in_ok-key.field-0 (c.in-Some.key, c.in-Some.input) c.in-Some.is c.in_ok-key.ensures.least)
+    first_own c.args.scenario.now _ _ _ _ c.loop-event.invariant.going.stands _ _ (least_of c.loop-event.self.pending c.in_ok-event.field-0 c.in-Some.event c.in-Some.is c.in_ok-event.ensures.least)
 
-pub loop-key-preserved : goal.loop-key-preserved
-loop-key-preserved g c =
+pub loop-event-preserved : goal.loop-event-preserved
+loop-event-preserved g c =
     let mind = g.M.Process.mind in
     let s = c.args.scenario.now in
     let S = setting_of s in
-    let i = c.loop-key.invariant in
-    let ps = map (process_of mind) c.loop-key.self.seats.items in
+    let i = c.loop-event.invariant in
+    let ps = map (process_of mind) c.loop-event.self.seats.items in
     let trace = i.going.trace in
     let letters = i.going.letters in
-    let old = c.loop-key.taken in
+    let old = c.loop-event.taken in
     let entry = c.in_ok-entry.entry in
     let done = c.in_ok-entry.ensures in
-    let least = (least_of c.loop-key.self.pending c.in_ok-key.field-0 (c.in-Some.key, c.in-Some.input) c.in-Some.is c.in_ok-key.ensures.least) in
-    let key = c.in-Some.key in
-    let input = c.in-Some.input in
+    let least = (least_of c.loop-event.self.pending c.in_ok-event.field-0 c.in-Some.event c.in-Some.is c.in_ok-event.ensures.least) in
+    let key = c.in-Some.event.0 in
+    let input = c.in-Some.event.1 in
     let later : List (Process Mind) = map (process_of mind) c.take.new.self.seats.items in
     let is : c.new-streams.result ≡ s = c.new-streams.ensures in
-    let long : length ps ≡ s.processes = omega (arith, i.count, c.loop-key.self.seats.ok.0, length-map c.loop-key.self.seats.items (process_of mind)) in
+    let long : length ps ≡ s.processes = omega (arith, i.count, c.loop-event.self.seats.ok.0, length-map c.loop-event.self.seats.items (process_of mind)) in
     let stepped : (p : Process Mind) → slice_get ps (key.receiver - 1) ≡ Some p → IsStepped {S = S} ps later c.take_least.new.self c.take.new.self.pending key entry (step S p key input) =
     subst (λ r. (p : Process Mind) → slice_get ps (key.receiver - 1) ≡ Some p → IsStepped {S = setting_of r} ps later c.take_least.new.self c.take.new.self.pending key entry (step (setting_of r) p key input)) is done.stepped in
     let heard = g.L.Listener.heard in
-    let told : (p : Process Mind) → slice_get ps (key.receiver - 1) ≡ Some p → HaveJoined heard c.loop-key.listener c.take.new.listener (posted_in S p key input) =
-    subst (λ r. (p : Process Mind) → slice_get ps (key.receiver - 1) ≡ Some p → HaveJoined heard c.loop-key.listener c.take.new.listener (posted_in (setting_of r) p key input)) is done.heard in
+    let told : (p : Process Mind) → slice_get ps (key.receiver - 1) ≡ Some p → HaveJoined heard c.loop-event.listener c.take.new.listener (posted_in S p key input) =
+    subst (λ r. (p : Process Mind) → slice_get ps (key.receiver - 1) ≡ Some p → HaveJoined heard c.loop-event.listener c.take.new.listener (posted_in (setting_of r) p key input)) is done.heard in
     let seated : All (IsSeated mind s (most_step_actions * old + most_step_actions)) c.take.new.self.seats.items =
-    subst (λ r. All (IsSeated mind r (most_step_actions * old + most_step_actions)) c.take.new.self.seats.items) is (done.seated (most_step_actions * old) (subst (λ r. All (IsSeated mind r (most_step_actions * old)) c.loop-key.self.seats.items) (sym is) i.seated)) in
+    subst (λ r. All (IsSeated mind r (most_step_actions * old + most_step_actions)) c.take.new.self.seats.items) is (done.seated (most_step_actions * old) (subst (λ r. All (IsSeated mind r (most_step_actions * old)) c.loop-event.self.seats.items) (sym is) i.seated)) in
     record {
       going = record {
         trace = trace ++ entry ∷ [];
         letters = letters ++ posted_in S (i.going.stands.world.process key.receiver) key input;
-        stands = stands_next S ps c.loop-key.self.pending trace letters i.going.stands key input least (setting_sound s c.limit-limit.ensures.ranges) long c.take_least.new.self (removed_of c.loop-key.self.pending c.take_least.new.self c.in_ok-key.field-0 (c.in-Some.key, c.in-Some.input) c.in-Some.is c.in_ok-key.ensures.removed) later _ entry
-            (stepped _ (first_process S ps c.loop-key.self.pending trace letters i.going.stands key input least));
+        stands = stands_next S ps c.loop-event.self.pending trace letters i.going.stands key input least (setting_sound s c.limit-limit.ensures.ranges) long c.take_least.new.self (removed_of c.loop-event.self.pending c.take_least.new.self c.in_ok-event.field-0 c.in-Some.event c.in-Some.is c.in_ok-event.ensures.removed) later _ entry
+            (stepped _ (first_process S ps c.loop-event.self.pending trace letters i.going.stands key input least));
         long = longer trace entry old i.going.long;
-        taken = taken_next _ _ (g.R.Recorder.recorded c.args.recorder.now c.record.new.self) trace entry i.going.taken (c.in_ok-record.ensures c.args.recorder.now);
-        heard = joined_then heard c.args.listener.now c.loop-key.listener c.take.new.listener letters _ i.going.heard
-            (told _ (first_process S ps c.loop-key.self.pending trace letters i.going.stands key input least));
+        taken = taken_next _ _ (g.F.Follower.followed c.args.follower.now c.follow.new.self) trace entry i.going.taken (c.in_ok-follow.ensures c.args.follower.now);
+        heard = joined_then heard c.args.listener.now c.loop-event.listener c.take.new.listener letters _ i.going.heard
+            (told _ (first_process S ps c.loop-event.self.pending trace letters i.going.stands key input least));
       };
       seated = let same : most_step_actions * old + most_step_actions ≡ most_step_actions * (old + 1) = omega arith in subst (λ n. All (IsSeated mind s n) c.take.new.self.seats.items) same seated;
       count = done.count ∙ i.count;
@@ -98,17 +98,17 @@ loop-key-preserved g c =
 
 pub returns-clause-trace : goal.returns-clause-trace
 returns-clause-trace g c =
-    let i = c.loop-key.invariant in (
+    let i = c.loop-event.invariant in (
       i.going.trace,
-      (stands_end (setting_of c.args.scenario.now) _ _ _ _ i.going.stands (none_of c.loop-key.self.pending c.in_ok-key.field-0 c.in_default.is c.in_ok-key.ensures.least)).0,
+      (stands_end (setting_of c.args.scenario.now) _ _ _ _ i.going.stands (none_of c.loop-event.self.pending c.in_ok-event.field-0 c.in_default.is c.in_ok-event.ensures.least)).0,
       omega (arith, i.going.long, i.within),
       i.going.taken,
     )
 
 pub returns-clause-heard : goal.returns-clause-heard
 returns-clause-heard g c =
-    let i = c.loop-key.invariant in (
+    let i = c.loop-event.invariant in (
       i.going.letters,
-      (stands_end (setting_of c.args.scenario.now) _ _ _ _ i.going.stands (none_of c.loop-key.self.pending c.in_ok-key.field-0 c.in_default.is c.in_ok-key.ensures.least)).1,
+      (stands_end (setting_of c.args.scenario.now) _ _ _ _ i.going.stands (none_of c.loop-event.self.pending c.in_ok-event.field-0 c.in_default.is c.in_ok-event.ensures.least)).1,
       i.going.heard,
     )

@@ -7,16 +7,16 @@ use Rattle.event_list.proofs.Recording.{Going}
 use Rattle.event_list.proofs.list.EventList.run.Given as goal
 use Rattle.process_api.specs.Bounds.{most_step_actions}
 
-abbrev pub invariant-loop-key : goal.invariant-loop-key
-invariant-loop-key g l =
+abbrev pub invariant-loop-event : goal.invariant-loop-event
+invariant-loop-event g l =
     let mind = g.M.Process.mind in
-    let recorded = g.R.Recorder.recorded in
+    let followed = g.F.Follower.followed in
     record {
-      going : Going (setting_of l.fn.scenario) (map (process_of mind) l.self.seats.items) l.self.pending (recorded l.fn.recorder l.fn.recorder) (recorded l.fn.recorder l.recorder) (HaveJoined g.L.Listener.heard l.fn.listener l.listener) l.taken;
+      going : Going (setting_of l.fn.scenario) (map (process_of mind) l.self.seats.items) l.self.pending (followed l.fn.follower l.fn.follower) (followed l.fn.follower l.follower) (HaveJoined g.L.Listener.heard l.fn.listener l.listener) l.taken;
       seated : All (IsSeated mind l.fn.scenario (most_step_actions * l.taken)) l.self.seats.items;
       count : vec_len l.self.seats ≡ l.fn.scenario.processes;
       within : l.taken ≤ l.fn.scenario.limit;
     }
 
-abbrev pub decreases-loop-key : goal.decreases-loop-key
-decreases-loop-key g l = l.fn.scenario.limit - l.taken
+abbrev pub decreases-loop-event : goal.decreases-loop-event
+decreases-loop-event g l = l.fn.scenario.limit - l.taken

@@ -17,8 +17,8 @@ turn-requires-clause-own g c κs within =
     let xs = c.args.self.now.seats.items in
     let i = c.from-place.result - 1 in
     let old = c.index_mut-seat.result.now in
-    let at : i ≡ c.args.key.receiver - 1 = ap (λ n. n - 1) (c.from-place.ensures ∙ c.number.ensures.value) in
-    let inside : i < length xs = omega (arith, c.from-place.ensures, c.number.ensures.value, c.requires.receiver.0, c.requires.receiver.1, c.requires.count, c.args.self.now.seats.ok.0) in
+    let at : i ≡ c.args.event.0.receiver - 1 = ap (λ n. n - 1) (c.from-place.ensures ∙ (c.number.ensures.value ∙ ap (λ k. k.receiver) c.key.ensures)) in
+    let inside : i < length xs = omega (arith, c.from-place.ensures, c.number.ensures.value, ap (λ k. k.receiver) c.key.ensures, c.requires.receiver.0, c.requires.receiver.1, c.requires.count, c.args.self.now.seats.ok.0) in
     let there : old ≡ get_or xs i old = c.index_mut-seat.ensures.value in
     sym (c.requires.own (f old) (ap (slice_get (map f xs)) (sym at) ∙ image_at f xs i old inside there))
 
@@ -29,7 +29,7 @@ returns-clause-seated g c =
     let xs = c.args.self.now.seats.items in
     let i = c.from-place.result - 1 in
     let old = c.index_mut-seat.result.now in
-    let inside : i < length xs = omega (arith, c.from-place.ensures, c.number.ensures.value, c.requires.receiver.0, c.requires.receiver.1, c.requires.count, c.args.self.now.seats.ok.0) in
+    let inside : i < length xs = omega (arith, c.from-place.ensures, c.number.ensures.value, ap (λ k. k.receiver) c.key.ensures, c.requires.receiver.0, c.requires.receiver.1, c.requires.count, c.args.self.now.seats.ok.0) in
     let there : old ≡ get_or xs i old = c.index_mut-seat.ensures.value in
     λ most all.
     let was : IsSeated mind s most old = subst (IsSeated mind s most) (sym there) (All-get_or (IsSeated mind s most) xs i old inside all) in
@@ -41,16 +41,16 @@ returns-clause-stepped g c =
     let mind = g.M.Process.mind in
     let f = process_of mind in
     let S = setting_of c.args.streams.now in
-    let key = c.args.key in
+    let key = c.args.event.0 in
     let xs = c.args.self.now.seats.items in
     let i = c.from-place.result - 1 in
     let old = c.index_mut-seat.result.now in
-    let made = step S (f old) key c.args.input.now in
-    let at : i ≡ key.receiver - 1 = ap (λ n. n - 1) (c.from-place.ensures ∙ c.number.ensures.value) in
+    let made = step S (f old) key c.args.event.1 in
+    let at : i ≡ key.receiver - 1 = ap (λ n. n - 1) (c.from-place.ensures ∙ (c.number.ensures.value ∙ ap (λ k. k.receiver) c.key.ensures)) in
     let there : old ≡ get_or xs i old = c.index_mut-seat.ensures.value in
     λ before is.
     let same : f old ≡ before = ap f there ∙ place_is f xs i old before (ap (λ n. slice_get (map f xs) n) at ∙ is) in
-    subst (λ b. IsStepped {S = S} (map f xs) (map f (slice_set xs i c.turn.new.self)) c.args.self.now.pending c.turn.new.added key c.in_ok-entry.entry (step S b key c.args.input.now)) same
+    subst (λ b. IsStepped {S = S} (map f xs) (map f (slice_set xs i c.turn.new.self)) c.args.self.now.pending c.turn.new.added key c.in_ok-entry.entry (step S b key c.args.event.1)) same
     (record {
       processes = map-set f xs i c.turn.new.self ∙ (λ k. slice_set (map f xs) (at k) (c.in_ok-entry.ensures.process k));
       entry_is = c.in_ok-entry.ensures.entry;
@@ -61,12 +61,12 @@ pub returns-clause-heard : goal.returns-clause-heard
 returns-clause-heard g c =
     let f = process_of g.M.Process.mind in
     let S = setting_of c.args.streams.now in
-    let key = c.args.key in
+    let key = c.args.event.0 in
     let xs = c.args.self.now.seats.items in
     let i = c.from-place.result - 1 in
     let old = c.index_mut-seat.result.now in
-    let at : i ≡ key.receiver - 1 = ap (λ n. n - 1) (c.from-place.ensures ∙ c.number.ensures.value) in
+    let at : i ≡ key.receiver - 1 = ap (λ n. n - 1) (c.from-place.ensures ∙ (c.number.ensures.value ∙ ap (λ k. k.receiver) c.key.ensures)) in
     let there : old ≡ get_or xs i old = c.index_mut-seat.ensures.value in
     λ before is.
     let same : f old ≡ before = ap f there ∙ place_is f xs i old before (ap (λ n. slice_get (map f xs) n) at ∙ is) in
-    subst (λ b. HaveJoined g.L.Listener.heard c.args.listener.now c.turn.new.listener (posted_in S b key c.args.input.now)) same c.in_ok-entry.ensures.heard
+    subst (λ b. HaveJoined g.L.Listener.heard c.args.listener.now c.turn.new.listener (posted_in S b key c.args.event.1)) same c.in_ok-entry.ensures.heard

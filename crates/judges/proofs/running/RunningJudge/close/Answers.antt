@@ -1,6 +1,7 @@
-use Rattle.std.proofs.Common.{◌∙◌}
+use Rattle.std.proofs.Common.{◌∙◌, refl}
+use Rattle.judges.specs.Track.{new_track, passed}
 use Rattle.judges.proofs.Closing.{judging_closed}
 use Rattle.judges.proofs.running.RunningJudge.close.Goals as goal
 
 pub returns : goal.returns
-returns c = λ S layer trace h. c.grid_verdicts.ensures ∙ judging_closed S layer trace c.args.self.pairs h
+returns c = λ S layer trace h. c.grid_verdicts.ensures ∙ judging_closed passed (λ t. t) new_track refl (λ until now end t. refl) S layer trace c.args.self.pairs h

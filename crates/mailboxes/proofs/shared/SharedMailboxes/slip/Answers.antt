@@ -1,9 +1,20 @@
-use Rattle.std.proofs.Common.{◌≡◌, ◌<◌, length, [], ◌∷◌, ◌++◌, map, set, get_or, sym, ap, ◌∙◌, add-one, rules}
-use Rattle.mailboxes.specs.Mailbox.{one_out}
+use Rattle.std.proofs.Common.{◌≡◌, ◌<◌, List, length, [], ◌∷◌, ◌++◌, map, set, get_or, sym, ap, ◌∙◌, add-one, rules}
+use Rattle.mailboxes.specs.Mailbox.{MailboxId, one_out}
 use Rattle.mailboxes.specs.Mailboxes.{unused}
-use Rattle.ledger.proofs.Lists.{mixed_at, mixed_more, map_take_more, take_all}
-use Rattle.mailboxes.proofs.Homes.{blank, blank-slip, slip_with}
+use Rattle.ledger.proofs.Lists.{mixed_at, mixed_more, map_take_more, take_all, parts_agree, map_same}
+use Rattle.mailboxes.proofs.Homes.{blank, blank-slip, slip_with, mailbox_of}
 use Rattle.mailboxes.proofs.shared.SharedMailboxes.slip.Goals as goal
+
+pub ticket-ticket-requires : goal.ticket-ticket-requires
+ticket-ticket-requires c =
+    let hs = c.args.homes.now.items in
+    let i = c.loop-at.at in
+    let d = c.index_mut.result.now in
+    let boxes : List MailboxId = c.self.inside.boxes.items in
+    let e : MailboxId = c.index.result.now in
+    let old : d ≡ get_or hs i d = c.index_mut.ensures.value ∙ ap (λ l. get_or l i d) c.loop-at.invariant.0 ∙ mixed_at one_out hs i d in
+    let lt : i < length hs = search rules in
+    ap mailbox_of old ∙ parts_agree mailbox_of (λ q. q) hs boxes i d e lt (sym c.requires ∙ sym c.self.view_is ∙ sym (map_same boxes)) ∙ sym c.index.ensures
 
 pub loop-at-preserved : goal.loop-at-preserved
 loop-at-preserved c =

@@ -2,19 +2,7 @@ use Rattle.std.proofs.Common.{◌≡◌, ◌∙◌, ◌<◌, ◌%◌, ◌+◌, L
 use Rattle.pending_events.specs.Calendar.{NoneAhead}
 use Rattle.pending_events.specs.Lanes.{lane}
 use Rattle.pending_events.proofs.Nearby.{first_listed, first_near, sooner_than, within_end}
-use Rattle.trace_laws.specs.Step.{Event}
-use Rattle.std.specs.Global.{Vec}
 use Rattle.pending_events.proofs.calendar.Calendar.least_tick.Goals as goal
-
-no_places : (ls : List (Vec Event)) → length ls ≡ 0 → ls ≡ []
-no_places [] h = refl
-no_places (v ∷ vs) h = absurd (omega (arith, h))
-
-pub returns-then-is_empty : goal.returns-then-is_empty
-returns-then-is_empty c =
-    let f = c.args.self.now in
-    let none : f.ring.items ≡ [] = no_places f.ring.items (search rules) in
-    first_listed f c.least_listed-listed.result c.requires c.least_listed-listed.ensures (λ t n before. ap (λ ls. lane ls (t % 1024)) none)
 
 pub returns-in-Some : goal.returns-in-Some
 returns-in-Some c =

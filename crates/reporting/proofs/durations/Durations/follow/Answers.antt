@@ -1,22 +1,15 @@
-use Rattle.std.proofs.Common.{◌≡◌, ◌+◌, ◌-◌, ◌*◌, false, vec_len, sym, ap, ◌∙◌, refl, subst, arith}
-use Rattle.std.proofs.lemmas.Bool.{eqb-true}
-use Rattle.std.proofs.lemmas.List.{nil_from_length, with_items_is}
+use Rattle.std.proofs.Common.{◌≡◌, ◌+◌, ◌-◌, ◌*◌, false, sym, ap, ◌∙◌, refl, subst, arith}
+use Rattle.std.proofs.lemmas.List.{with_items_is}
 use Rattle.process_api.specs.EntryRecord.{EntryRecord}
 use Rattle.reporting.specs.Durations.{AreCaught, lists_in}
-use Rattle.reporting.proofs.Caught.{follows_quiet, follows_above, follows_caught, same_length}
+use Rattle.reporting.proofs.Caught.{follows_above, follows_caught, same_length}
 use Rattle.reporting.proofs.durations.Durations.follow.Goals as goal
-
-pub returns-then-is_empty : goal.returns-then-is_empty
-returns-then-is_empty c = λ S layer trace h metering.
-    let empty : vec_len c.entry.inside.notes ≡ 0 = eqb-true _ _ (sym c.is_empty.ensures ∙ c.if-is_empty.true) in
-    follows_quiet S layer trace c.args.self.now h c.args.entry.now
-    (sym (ap (λ (e : EntryRecord). e.notes) c.entry.view_is) ∙ nil_from_length c.entry.inside.notes.items (omega (arith, empty, c.entry.inside.notes.ok.0)))
 
 pub returns-in_ok-catch_up : goal.returns-in_ok-catch_up
 returns-in_ok-catch_up c = λ S layer trace h metering.
     let d = c.args.self.now in
     let e = c.args.entry.now in
-    let pairs = c.args.panel.now.pairs in
+    let pairs = c.args.panel.now in
     let receiver : c.number.result ≡ e.key.receiver = c.number.ensures.value ∙ ap (λ (x : EntryRecord). x.key.receiver) c.entry.view_is in
     let number : c.from.result ≡ e.key.receiver = c.from.ensures ∙ receiver in
     let first : (c.from.result - 1) * c.from-processes.result ≡ (e.key.receiver - 1) * d.processes = (λ i. (number i - 1) * c.from-processes.ensures i) in
@@ -36,7 +29,7 @@ pub returns-else-end-min : goal.returns-else-end-min
 returns-else-end-min c = λ S layer trace h metering.
     let d = c.args.self.now in
     let e = c.args.entry.now in
-    let pairs = c.args.panel.now.pairs in
+    let pairs = c.args.panel.now in
     let receiver : c.number.result ≡ e.key.receiver = c.number.ensures.value ∙ ap (λ (x : EntryRecord). x.key.receiver) c.entry.view_is in
     let number : c.from.result ≡ e.key.receiver = c.from.ensures ∙ receiver in
     let first : (c.from.result - 1) * c.from-processes.result ≡ (e.key.receiver - 1) * d.processes = (λ i. (number i - 1) * c.from-processes.ensures i) in

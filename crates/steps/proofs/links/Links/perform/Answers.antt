@@ -29,12 +29,14 @@ loop-place-preserved h c =
     let i = c.loop-place.invariant in
     let letters = c.in_ok-letters.letters in
     let done = c.in_ok-letters.ensures in
+    let done_serves = c.act.ensures.serves in
     record {
       many = length-set old place c.replace-action.new.dest ∙ i.many;
       counts = one_counted all rest left a e p before f g done.counts i.counts;
       places = done.places ∙ i.places;
       horizon = done.horizon ∙ i.horizon;
       room = one_room all rest left a e p before f g done.counts i.room;
+      serves = λ first own n h. done_serves first own n (i.serves first own n h);
       added = one_added all rest left a e p before f g done.counts S now c.args.added.now c.loop-place.added c.act.new.added h.J.Joins.grown done.added i.added;
       heard = one_posted all rest left a e p before f g done.counts S now c.args.listener.now c.loop-place.listener c.act.new.listener h.L.Listener.heard done.heard i.heard;
       sent = one_sent all rest left a e c.loop-place.sent letters.0 done.sent i.sent;
@@ -58,6 +60,7 @@ loop-place-init h c =
       places = c.requires.places;
       horizon = c.requires.horizon;
       room = λ q. omega arith;
+      serves = λ first own n h. h;
       added = joined_init h.J.Joins.grown c.args.added.now (added S p now before all);
       heard = joined_init h.L.Listener.heard c.args.listener.now (posted_by S p now before all);
       sent = omega arith;
@@ -89,5 +92,6 @@ returns h c =
       room = λ q. omega (arith, i.room q, c.requires.few);
       added = all_joined h.J.Joins.grown c.args.added.now c.loop-place.added (added S p now f rest) (added S p now before all) (ap (λ xs. added S p now f xs) none) i.added;
       heard = all_joined h.L.Listener.heard c.args.listener.now c.loop-place.listener (posted_by S p now f rest) (posted_by S p now before all) (ap (λ xs. posted_by S p now f xs) none) i.heard;
+      serves = i.serves;
       entry = λ j. record { key = c.args.key; kind = c.args.kind; sent = sent_is j; lost = lost_is j; notes = notes_are j };
     }

@@ -2,6 +2,7 @@ use Rattle.std.proofs.Common.{◌≡◌, ◌≤◌, ◌+◌, ◌++◌, ℕ, leng
 use Rattle.std.specs.List.{AllByRecursion}
 use Rattle.std.specs.Prelude.{drop}
 use Rattle.process_api.specs.Actions.{IsAllowed}
+use Rattle.trace_laws.specs.Joins.{StillServes}
 use Rattle.trace_laws.specs.ScenarioSetting.{setting_of}
 use Rattle.steps.specs.Posting.{posted_by}
 use Rattle.steps.specs.Seat.{count_of}
@@ -25,6 +26,7 @@ invariant-loop-place g l =
       places : vec_len l.self.counts ≡ l.fn.streams.processes + 1;
       horizon : l.self.horizon ≡ l.fn.streams.horizon;
       room : (q : ℕ) → here q + length rest ≤ before q + length all;
+      serves : StillServes g.J.Joins.serves l.fn.added l.added;
       added : Joined g.J.Joins.grown l.fn.added l.added (added S p now here rest) (added S p now before all);
       heard : Joined g.L.Listener.heard l.fn.listener l.listener (posted_by S p now here rest) (posted_by S p now before all);
       sent : l.sent + sent rest ≡ sent all;

@@ -1,5 +1,5 @@
 use Rattle.std.proofs.Common.{[], ◌++◌, cond, false, ◌≡◌, ◌≤◌, ap, sym, subst, ◌∙◌, arith, vec_len}
-use Rattle.std.specs.Prelude.{IsTrue}
+use Rattle.std.specs.Prelude.{IfOk, IsTrue}
 use Rattle.process_api.specs.Mind.{Mind, is_mind_at}
 use Rattle.process_api.proofs.Minds.{mind_place, same_own}
 use Rattle.process_api.proofs.Keeping.{react_keeps}
@@ -7,9 +7,21 @@ use Rattle.scenario_record.specs.Record.{crash, place_in}
 use Rattle.trace_laws.specs.ScenarioSetting.{setting_of}
 use Rattle.steps.specs.Seat.{process_of, own_of, IsSeated}
 use Rattle.trace_laws.specs.Setting.{has_crashed}
-use Rattle.trace_laws.specs.Step.{dead, lost, made_by, noted, sent}
-use Rattle.steps.proofs.Performing.{if_ok_then, on_ok_three}
+use Rattle.trace_laws.specs.Step.{Event, dead, lost, made_by, noted, sent, step}
+use Rattle.steps.proofs.Performing.{if_ok_then, on_ok_of, on_ok_three}
 use Rattle.steps.proofs.seat.Seat.turn.Goals as goal
+
+pub returns-clause-own : goal.returns-clause-own
+returns-clause-own g c =
+    let mind = g.M.Process.mind in
+    let s = c.args.streams.now in
+    let seat = c.args.self.now in
+    let was = c.requires.seated.1 in
+    let p = own_of mind seat in
+    let after : Mind = mind c.on_input.new.self in
+    let is_mind : IsTrue (is_mind_at (place_in s p) after) = subst (λ m. IsTrue (is_mind_at (place_in s p) m)) (sym c.in_ok-on_input.ensures.mind)
+    (react_keeps (place_in s p) (mind seat.machine) c.into_parts-key.result.0.tick c.into_parts-key.result.1 (omega (arith, was.low, was.high)) was.is_mind) in
+    on_ok_of c.perform.result (same_own after.lower.place (place_in s p) (mind_place (place_in s p) after is_mind))
 
 pub returns-clause-seated : goal.returns-clause-seated
 returns-clause-seated g c =
@@ -20,7 +32,7 @@ returns-clause-seated g c =
     let p = own_of mind seat in
     let after : Mind = mind c.on_input.new.self in
     let is_mind : IsTrue (is_mind_at (place_in s p) after) = subst (λ m. IsTrue (is_mind_at (place_in s p) m)) (sym c.in_ok-on_input.ensures.mind)
-    (react_keeps (place_in s p) (mind seat.machine) c.args.key.tick c.args.input.now (omega (arith, was.low, was.high)) was.is_mind) in
+    (react_keeps (place_in s p) (mind seat.machine) c.into_parts-key.result.0.tick c.into_parts-key.result.1 (omega (arith, was.low, was.high)) was.is_mind) in
     let stays : p ≡ after.lower.place.own = sym (same_own after.lower.place (place_in s p) (mind_place (place_in s p) after is_mind)) in
     on_ok_three c.perform.result
     (λ (places : vec_len c.perform.new.self.counts ≡ vec_len seat.links.counts) (horizon : c.perform.new.self.horizon ≡ seat.links.horizon) room most (h : IsSeated mind s most seat). record {
@@ -39,16 +51,18 @@ returns-clause-entry g c =
     let S = setting_of s in
     let seat = c.args.self.now in
     let before = process_of g.M.Process.mind seat in
-    let key = c.args.key in
-    let x = c.args.input.now in
+    let is : c.into_parts-key.result ≡ c.args.event = c.into_parts-key.ensures in
+    let key = c.into_parts-key.result.0 in
+    let x = c.into_parts-key.result.1 in
     let answer = S.react before.mind key.tick x in
-    let crash_is : seat.crash ≡ crash s key.receiver = c.requires.seated.1.crash ∙ ap (crash s) (sym c.requires.own) in
+    let crash_is : seat.crash ≡ crash s key.receiver = c.requires.seated.1.crash ∙ ap (crash s) (sym (ap (λ (e : Event). e.0.receiver) is ∙ c.requires.own)) in
     let up : has_crashed (crash s key.receiver) key.tick ≡ false = ap (λ k. has_crashed k key.tick) (sym crash_is) ∙ (sym c.is_down.ensures ∙ c.if-is_down.false) in
     let does : c.on_input.new.out.items ≡ answer.actions = c.in_ok-on_input.ensures.actions ∙ ap (λ xs. xs ++ answer.actions) c.clear.ensures.items in
-    if_ok_then c.perform.result (λ e h. h ∙ ((λ i. record {
+    subst (λ (z : Event). IfOk c.perform.result (λ e. e ≡ (step S before z.0 z.1).entry)) is
+    (if_ok_then c.perform.result (λ e h. h ∙ ((λ i. record {
       key = key;
-      kind = c.kind_of.ensures i;
+      kind = c.kind_of-kind.ensures i;
       sent = sent (does i);
       lost = lost S key.receiver key.tick before.counts (does i);
       notes = noted (does i);
-    }) ∙ sym (ap (λ b. (cond b (record { process = before; entry = dead key; added = [] }) (made_by S before key x answer)).entry) up))) c.perform.ensures.entry
+    }) ∙ sym (ap (λ b. (cond b (record { process = before; entry = dead key; added = [] }) (made_by S before key x answer)).entry) up))) c.perform.ensures.entry)

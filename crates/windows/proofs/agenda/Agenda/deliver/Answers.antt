@@ -1,7 +1,8 @@
 use Rattle.std.proofs.Common.{◌++◌, ap, ◌∙◌, sym, subst, map}
 use Rattle.std.proofs.lemmas.List.{map-append}
 use Rattle.trace_laws.specs.World.{joined}
-use Rattle.windows.specs.Agenda.{event_of, IsSoonestOf}
+use Rattle.trace_laws.specs.Taken.{event_of}
+use Rattle.windows.specs.Agenda.{IsSoonestOf}
 use Rattle.windows.proofs.Agendas.{soonest_both, joined_both}
 use Rattle.windows.proofs.agenda.Agenda.deliver.Goals as goal
 

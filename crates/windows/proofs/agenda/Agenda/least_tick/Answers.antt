@@ -1,6 +1,6 @@
 use Rattle.std.proofs.Common.{subst, sym, map, MatchOption}
 use Rattle.trace_laws.specs.World.{joined}
-use Rattle.windows.specs.Agenda.{event_of}
+use Rattle.trace_laws.specs.Taken.{event_of}
 use Rattle.pending_events.specs.Pending.{IsEmpty, IsLeastTick}
 use Rattle.windows.proofs.Agendas.{least_both}
 use Rattle.windows.proofs.agenda.Agenda.least_tick.Goals as goal

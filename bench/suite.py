@@ -1,0 +1,129 @@
+#!/usr/bin/env python3
+"""Makes a part of the suite again, and compares it with what is committed.
+
+    bench/suite.py [--jobs N] [--points N]
+
+It makes all quick points again (suite/results/quick is of `suite.py run --quick --to results/quick`), and of each study
+of suite/results the cheapest points of N parts of its list (12). It runs each of the latter by `--each run` too: the runs
+have different seeds, which no other point of the study has, and their mistakes, entries and decisions come to those of
+the point's row. From the committed rows it makes the tables, the pictures and the page anew. Of the page each row that is
+named has to be there with the values that stand beside it, as in (`rack_5:freshness:all:10:1`: mistakes 16). It prints
+what differs, and ends with status 1 where something does.
+"""
+import argparse
+import csv
+import io
+import os
+import re
+import shutil
+import subprocess
+import sys
+import tempfile
+
+ROOT = os.path.dirname(os.path.dirname(os.path.abspath(__file__)))
+SUITE = os.path.join(ROOT, "suite")
+sys.dont_write_bytecode = True
+sys.path.insert(0, SUITE)
+import suite  # noqa: E402
+
+NAMED = re.compile(r"`([\w]+(?::[\w-]+){2,6})`(?:: ((?:\w+ [^\s,;)]+(?:, )?)+))?")
+ADDED = ["mistakes", "entries", "sent", "lost", "detections", "pair_ticks", "to_decide", "decided"]
+
+
+class Faults:
+    def __init__(self):
+        self.compared = self.count = 0
+
+    def compare(self, what, wanted, found):
+        self.compared += 1
+        if wanted != found:
+            self.count += 1
+            print(f"{what}: {found!r} and not {wanted!r}" if len(str(wanted)) < 80 else f"{what}: another")
+
+
+def text(path):
+    with open(path, encoding="utf-8", newline="") as file:
+        return file.read()
+
+
+def rows(*path):
+    return {it["row"]: it for it in csv.DictReader(io.StringIO(text(os.path.join(SUITE, "results", *path))))}
+
+
+def compare_quick(faults, folder, jobs):
+    words = ["suite.py", "run", "--quick", "--to", folder, "--jobs", str(jobs)]
+    subprocess.run([sys.executable, *words], cwd=SUITE, check=True)
+    for study in suite.STUDIES:
+        wanted = text(os.path.join(SUITE, "results", "quick", study + ".csv"))
+        faults.compare(f"results/quick/{study}.csv", wanted, text(os.path.join(folder, study + ".csv")))
+
+
+def compare_points(faults, study, count):
+    points, committed = list(suite.STUDIES[study]([], False)), rows(study + ".csv")
+    faults.compare(f"rows of {study}.csv", [it.row for it in points], list(committed))
+    parts = [points[len(points) * k // count : len(points) * (k + 1) // count] for k in range(count)]
+    for point in (min(it, key=lambda point: point.cost) for it in parts if it):
+        names = suite.header(point)
+        row = dict(zip(names, (str(it) for it in suite.rows_of(point))))
+        for name in names:
+            faults.compare(f"{study}.csv, {point.row}: {name}", committed[point.row][name], row[name])
+        each = runs_of(point)
+        faults.compare(f"{point.row}: seeds", list(range(point.first_seed, point.first_seed + point.runs)),
+                       [int(it["seed"]) for it in each])
+        for name in (it for it in ADDED if it in point.columns):
+            faults.compare(f"{point.row}: {name} of its runs", int(row[name]), sum(int(it[name]) for it in each))
+    blocks = sorted((it.first_seed, it.runs) for it in points)
+    apart = all(first + runs <= after for (first, runs), (after, _) in zip(blocks, blocks[1:]))
+    faults.compare(f"{study}: no two points share a seed", True, apart)
+
+
+def runs_of(point):
+    """The rows of a point's runs, each by itself."""
+    words = point.command()
+    words[words.index("--columns") + 1] = ",".join(["seed", "layer", *(it for it in ADDED if it in point.columns)])
+    ran = subprocess.run([suite.FDSTUDY, *words, "--each", "run"], input=point.text, capture_output=True, text=True,
+                         cwd=SUITE, check=True)
+    return [it for it in csv.DictReader(io.StringIO(ran.stdout)) if int(it["layer"]) == point.layer]
+
+
+def compare_page(faults, folder):
+    page = os.path.join(folder, "README.md")
+    shutil.copy(os.path.join(SUITE, "README.md"), page)
+    words = ["page.py", "--to", folder, "--page", page]
+    subprocess.run([sys.executable, *words], cwd=SUITE, check=True, stdout=subprocess.DEVNULL)
+    made = {"README.md": "", "settings.csv": "results", "theory.csv": "results"}
+    made.update({it: "pictures" for it in os.listdir(os.path.join(SUITE, "pictures"))})
+    for name, place in sorted(made.items()):
+        committed = text(os.path.join(SUITE, place, name))
+        faults.compare(f"suite/{place}/{name}", committed, text(os.path.join(folder, name)))
+
+
+def compare_sentences(faults):
+    known = {}
+    for name in (*suite.STUDIES, "theory"):
+        for row, values in rows(name + ".csv").items():
+            known.setdefault(row, {}).update(values)
+    for row, values in NAMED.findall(re.sub(r"\s+", " ", text(os.path.join(SUITE, "README.md")))):
+        faults.compare(f"README.md names {row}", True, row in known)
+        for name, value in re.findall(r"(\w+) ([^\s,;)]+)", values):
+            faults.compare(f"README.md, {row}: {name}", known.get(row, {}).get(name), value)
+
+
+def main():
+    words = argparse.ArgumentParser(description=__doc__, formatter_class=argparse.RawDescriptionHelpFormatter)
+    words.add_argument("--jobs", type=int, default=len(os.sched_getaffinity(0)))
+    words.add_argument("--points", type=int, default=12)
+    asked = words.parse_args()
+    faults = Faults()
+    with tempfile.TemporaryDirectory() as folder:
+        compare_page(faults, folder)
+        compare_sentences(faults)
+        compare_quick(faults, folder, asked.jobs)
+    for study in suite.STUDIES:
+        compare_points(faults, study, asked.points)
+    print(f"{faults.compared} compared, {faults.count} differ")
+    return 1 if faults.count else 0
+
+
+if __name__ == "__main__":
+    sys.exit(main())

@@ -1,8 +1,0 @@
-use Rattle.std.proofs.Common.{flat_map, take}
-use Rattle.reporting.specs.Writing.{Wrote}
-use Rattle.bench_commands.proofs.fault.put_pieces.Given as goal
-
--- the pieces so far went out
-abbrev pub invariant-loop-piece : goal.invariant-loop-piece
-invariant-loop-piece g l =
-    Wrote g.O.Outlet.told g.O.Outlet.failed l.initial.outlet l.outlet (flat_map (λ p. p.now) (take l.piece-index l.pieces))

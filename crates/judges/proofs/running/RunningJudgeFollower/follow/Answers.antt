@@ -1,0 +1,6 @@
+use Rattle.judges.specs.Judging.{IsJudging}
+use Rattle.judges.proofs.Following.{next_followed}
+use Rattle.judges.proofs.running.RunningJudgeFollower.follow.Goals as goal
+
+pub returns : goal.returns
+returns c = next_followed IsJudging c.args.self.now c.feed.new.self c.args.entry.now c.feed.ensures

@@ -1,8 +1,0 @@
-use Rattle.std.proofs.Common.{◌≡◌, map}
-use Rattle.process_api.specs.Numbers.{numbers_to}
-use Rattle.scenario_record.specs.Record.{opening_mind}
-use Rattle.machines.proofs.making.make_all.Given as goal
-
--- the machines so far open as the scenario says
-abbrev pub invariant-loop-before : goal.invariant-loop-before
-invariant-loop-before g l = map g.M.Process.mind l.machines.items ≡ map (opening_mind l.fn.scenario) (numbers_to l.before)

@@ -1,0 +1,22 @@
+use Rattle.std.proofs.Common.{rules, ◌≡◌, [], ◌∷◌, ◌++◌, map, sym, ap, ◌∙◌}
+use Rattle.std.proofs.lemmas.List.{map-append}
+use Rattle.std.proofs.lemmas.List.Elements.{All-same, All-push}
+use Rattle.mailboxes.specs.Mailbox.{HomeView}
+use Rattle.mailboxes.proofs.Homes.{mailbox_of, back_of, Even}
+use Rattle.mailboxes.proofs.shared.SharedMailboxes.open.Goals as goal
+
+pub loop-preserved : goal.loop-preserved
+loop-preserved c =
+    let inv = c.loop.invariant in
+    let h = c.in_ok-mailbox.home in
+    let is = c.in_ok-mailbox.ensures in
+    let homes = c.loop.homes.items in
+    let more : c.push_reserved-in-loop.new.self.items ≡ homes ++ h ∷ [] = c.push_reserved-in-loop.ensures.items in (
+      search rules,
+      search rules,
+      search rules,
+      search rules,
+      search rules,
+      c.push_reserved.ensures.items ∙ (λ i. inv.5 i ++ (sym (ap mailbox_of is)) i ∷ []) ∙ sym (map-append mailbox_of homes (h ∷ [])) ∙ ap (map mailbox_of) (sym more),
+      All-same (Even 0) _ (homes ++ h ∷ []) more (All-push (Even 0) homes h inv.6 (ap (λ (x : HomeView). x.out) is, ap back_of is)),
+    )

@@ -1,0 +1,9 @@
+use Rattle.std.proofs.Common.{ap, sym, ◌∙◌}
+use Rattle.std.specs.FinMap as events
+use Rattle.trace_laws.specs.Taken.{event_of}
+use Rattle.trace_laws.proofs.Joining.{joined_one}
+use Rattle.pending_events.proofs.joins.PendingJoins.send.Goals as goal
+
+pub returns-clause-grown : goal.returns-clause-grown
+returns-clause-grown c = λ first before had.
+    c.in_ok-join.ensures.ok ∙ ((λ i. events.insert (had i) (c.letter.ensures i).0 (c.letter.ensures i).1) ∙ sym (joined_one first before (event_of c.args.letter)))

@@ -1,9 +1,0 @@
-use Rattle.std.proofs.Common.{◌∙◌, ap}
-use Rattle.pending_events.proofs.Ordered.{seen, vacant_seen}
-use Rattle.pending_events.proofs.pending.Pending.with_ring.Goals as goal
-
-pub returns : goal.returns
-returns c =
-    let later = c.in_ok-with_ring.field-0 in
-    let h = c.in_ok-with_ring.ensures in
-    ap (λ es. seen es later) c.new.ensures.items ∙ vacant_seen later h.calendar h.vacant

@@ -1,0 +1,44 @@
+use Rattle.std.proofs.Common.{◌++◌, [], inl, refl, sym, subst}
+use Rattle.windows.proofs.Handed.{on_err}
+use Rattle.reporting.specs.Running.{RunningFollowed}
+use Rattle.reporting.specs.TraceText.{rows_text}
+use Rattle.reporting.specs.Writing.{Wrote}
+use Rattle.reporting.proofs.Fed.{on_ok}
+use Rattle.qos_report.specs.Streaming.{WroteWhere}
+use Rattle.qos_report.proofs.UnderWay.{where_nothing}
+use Rattle.qos_report.proofs.streaming.StreamingSink.part.Goals as goal
+
+-- nothing of a part went out that couldn't be measured
+pub returns-in_err-follow_all-clause-front : goal.returns-in_err-follow_all-clause-front
+returns-in_err-follow_all-clause-front g c =
+    on_err c.from_residual.result _
+    (record {
+      outlet = refl;
+      written = inl (record { first = []; others = c.args.entries.items; all = refl; out = where_nothing g.O.Outlet.told g.O.Outlet.failed c.args.self.now.is_traced c.args.self.now.outlet.now });
+    })
+
+pub returns-then-self-clause-whole : goal.returns-then-self-clause-whole
+returns-then-self-clause-whole g c =
+    let told = g.O.Outlet.told in
+    let failed = g.O.Outlet.failed in
+    let old = c.args.self.now.outlet.now in
+    let new = c.write_rows.new.outlet in
+    let items = c.args.entries.items in
+    on_ok c.write_rows.result
+    (λ wrote. record {
+      same = record { outlet = refl; traced = refl };
+      written = subst (λ t. WroteWhere told failed old new t (rows_text items)) (sym c.if-self.true) (subst (λ es. Wrote told failed old new (rows_text es)) c.deref-then-self.ensures.value wrote);
+      measured = λ first seen was. subst (λ es. RunningFollowed first c.follow_all.new.follower (seen ++ es)) c.deref.ensures.value (c.in_ok-follow_all.ensures first seen was);
+    })
+    c.write_rows.ensures.whole
+
+pub returns-clause-whole : goal.returns-clause-whole
+returns-clause-whole g c =
+    let told = g.O.Outlet.told in
+    let failed = g.O.Outlet.failed in
+    let outlet = c.args.self.now.outlet.now in
+    record {
+      same = record { outlet = refl; traced = refl };
+      written = subst (λ t. WroteWhere told failed outlet outlet t (rows_text c.args.entries.items)) (sym c.if-self.false) refl;
+      measured = λ first seen was. subst (λ es. RunningFollowed first c.follow_all.new.follower (seen ++ es)) c.deref.ensures.value (c.in_ok-follow_all.ensures first seen was);
+    }

@@ -1,0 +1,11 @@
+use Rattle.std.proofs.Common.{◌≡◌, ap, ◌∙◌, ◌++◌, arith}
+use Rattle.reporting.specs.Panel.{closed_rows}
+use Rattle.reporting.proofs.Closing.{metering_closed}
+use Rattle.reporting.proofs.panel.close_rows.Goals as goal
+
+pub returns : goal.returns
+returns c = λ S layer trace h.
+    let all : c.loop-row.row ≡ c.args.pairs.now.processes = omega (arith, c.loop-row-test.false, c.loop-row.auto.row-end) in
+    c.loop-row.invariant
+    ∙ ap (λ n. c.args.rows.now.items ++ closed_rows c.args.pairs.now n) all
+    ∙ ap (λ rows. c.args.rows.now.items ++ rows) (metering_closed S layer trace c.args.pairs.now h)

@@ -1,0 +1,25 @@
+use Rattle.std.proofs.Common.{◌∙◌, Some, None, ap, sym, subst, false}
+use Rattle.followers.specs.Following.{IsWhere}
+use Rattle.followers.proofs.Where.{absent_where, there_where}
+use Rattle.reporting.specs.Findings.{found_text}
+use Rattle.reporting.specs.ReportText.{report_text}
+use Rattle.reporting.specs.Running.{AreLayers, IsTextWhere}
+use Rattle.reporting.proofs.Fed.{found_is}
+use Rattle.reporting.proofs.telling.close_running.Goals as goal
+
+pub returns-in-None : goal.returns-in-None
+returns-in-None c = λ trace reported h small.
+    let S = c.args.scenario.now in
+    let none = absent_where (AreLayers false S trace) reported (subst (IsWhere reported (AreLayers false S trace)) c.in-None.is h.1) in
+    record { summary = c.sum_up.ensures S trace h.0 small; report = subst (λ b. IsTextWhere b (report_text S trace) None) (sym none) tt }
+
+pub returns-in_ok-report-in-Some : goal.returns-in_ok-report-in-Some
+returns-in_ok-report-in-Some c = λ trace reported h small.
+    let S = c.args.scenario.now in
+    let some = there_where (AreLayers false S trace) reported c.in-Some.layers (subst (IsWhere reported (AreLayers false S trace)) c.in-Some.is h.1) in
+    let told = c.in_ok-found-in-Some.ensures.found false S trace (h.0, some.1) small in
+    record {
+      summary = told.summary;
+      report = subst (λ b. IsTextWhere b (report_text S trace) (Some c.in_ok-report-in-Some.report)) (sym some.0)
+          (c.in_ok-report-in-Some.ensures ∙ ap (λ algorithm. found_text algorithm c.in_ok-found-in-Some.found) c.algorithm.ensures ∙ found_is S trace c.in_ok-found-in-Some.found told);
+    }

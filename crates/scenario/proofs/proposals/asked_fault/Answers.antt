@@ -1,0 +1,23 @@
+use Rattle.std.proofs.Common.{◌≡◌, ◌∙◌, length, sym, rules}
+use Rattle.toml.specs.View.{array_view, table_view}
+use Rattle.scenario.proofs.Items.{count_view}
+use Rattle.scenario.proofs.proposals.asked_fault.Goals as goal
+
+pub returns-then-not-has : goal.returns-then-not-has
+returns-then-not-has c = λ asks same. (asks, search rules, same)
+
+pub returns-then-len-from : goal.returns-then-len-from
+returns-then-len-from c = λ asks same.
+    let n : c.len-then-len-from.result ≡ length c.in_ok-values.values.now.items = search rules in (
+      asks,
+      record {
+        its = array_view c.in_ok-values.values.now;
+        there = sym (search rules);
+        counted = n ∙ sym (count_view c.in_ok-values.values.now.items);
+        wanted = same;
+        other = search rules;
+      },
+    )
+
+pub returns : goal.returns
+returns c = λ asks same. c.bad_proposal.ensures (table_view c.args.top.now) asks (search rules)

@@ -1,0 +1,13 @@
+use Rattle.std.proofs.Common.{◌≡◌, string_bytes}
+use Rattle.std.specs.List.{All, Contains}
+use Rattle.toml.specs.View.{table_view}
+use Rattle.scenario.specs.Table.{has_unlisted, keys_of}
+use Rattle.scenario.specs.Parts.{fields_of}
+use Rattle.scenario.proofs.FieldFacts.{any_unlisted}
+use Rattle.scenario.proofs.table.unlisted_key.Given as goal
+
+abbrev pub invariant-loop-key : goal.invariant-loop-key
+invariant-loop-key l = record {
+  test : has_unlisted (fields_of l.fields) (table_view l.table) ≡ any_unlisted (fields_of l.fields) l.key-iterator;
+  there : All (λ k. Contains (keys_of (table_view l.table)) (string_bytes k)) l.key-iterator;
+}

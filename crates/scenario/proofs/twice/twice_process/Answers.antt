@@ -1,0 +1,19 @@
+use Rattle.std.proofs.Common.{refl, rules, arith, codes, to_z, of_z, w64}
+use Rattle.toml.specs.View.{table_view}
+use Rattle.scenario.proofs.Elements.{numbered_table}
+use Rattle.scenario.proofs.Findings.{has_it}
+use Rattle.scenario.proofs.twice.twice_process.Goals as goal
+
+pub returns-then-has_integer_at : goal.returns-then-has_integer_at
+returns-then-has_integer_at c = λ file are. (
+  refl,
+  record {
+    before = omega arith;
+    first = table_view c.index-tables-j.result.now;
+    first_there = numbered_table c.args.tables.now file (codes "crash") c.loop-j.j c.index-tables-j.result are (omega arith) c.index-tables-j.is;
+    first_is = search rules;
+    second = table_view c.index-tables-i.result.now;
+    second_there = numbered_table c.args.tables.now file (codes "crash") c.args.i c.index-tables-i.result are (omega arith) c.index-tables-i.is;
+    second_is = has_it (codes "process") (to_z w64 (of_z w64 c.in_ok-process.process)) (table_view c.index-tables-i.result.now) (search rules);
+  },
+)

@@ -1,0 +1,99 @@
+//! Why a scenario's file is refused, and where.
+ghost use Rattle.std.specs.Prelude.{◌≡◌, Some, IfSome};
+ghost use Rattle.toml.specs.Data.{Members};
+ghost use Rattle.scenario.specs.Place.{table_of};
+ghost use Rattle.scenario.specs.Ranges.{subject_of};
+ghost use Rattle.scenario.specs.Faults.{IsValueFault, Finds};
+
+use crate::error::ScenarioError;
+use crate::fault::{BelowLookahead, Fault, ProposalsFault};
+use crate::place::Place;
+use std::alloc::AllocError;
+
+/// What was read, where it isn't refused; else its refusal is answered. That is `?` without its `From`, through which
+/// the prover can't follow a [`Refused`].
+macro_rules! accepted {
+    ($read:expr) => {
+        match $read {
+            Ok(read) => read,
+            Err(refused) => return Err(refused),
+        }
+    };
+}
+
+pub(crate) use accepted;
+
+/// What is wrong with a refused file, and where.
+#[derive(Clone, Copy)]
+pub enum Finding<'a> {
+    /// A table has a fault by itself.
+    At {
+        /// The table.
+        place: Place,
+        /// The fault.
+        fault: Fault<'a>,
+    },
+    /// The proposals don't fit.
+    Proposals(ProposalsFault),
+    /// A link is below the lookahead.
+    Below(BelowLookahead),
+    /// A table of `links` is of the pair of an earlier one.
+    TwicePair {
+        /// The pair's sender.
+        from: i64,
+        /// Its receiver.
+        to: i64,
+        /// Which table it is, from 1.
+        number: u64,
+        /// Which table the earlier one is, from 1.
+        earlier: u64,
+    },
+    /// A table of `crash` is of the process of an earlier one.
+    TwiceProcess {
+        /// The process.
+        process: i64,
+        /// Which table it is, from 1.
+        number: u64,
+        /// Which table the earlier one is, from 1.
+        earlier: u64,
+    },
+}
+
+/// Why a file is refused, and where.
+#[derive(Drop)]
+pub struct Refused<'a> {
+    /// The refusal.
+    pub error: ScenarioError,
+    /// What is wrong, and where. None where memory was refused; of other files none is known for which it's none.
+    pub finding: Option<Finding<'a>>,
+}
+
+impl<'a> Refused<'a> {
+    /// The refusal for a table's fault, if there is one.
+    pub(crate) fn at(error: ScenarioError, place: Place, fault: Option<Fault<'a>>) -> Refused<'a>
+        ensures error { result.error ≡ error }
+        ensures finds { (file table : Members) → table_of place file ≡ Some table
+            → IfSome fault.entry (IsValueFault (subject_of error place file) table) → Finds file result }
+    {
+        match fault {
+            Some(fault) => Refused {
+                error,
+                finding: Some(Finding::At { place, fault }),
+            },
+            None => Refused {
+                error,
+                finding: None,
+            },
+        }
+    }
+
+    /// That memory was refused.
+    pub(crate) fn memory() -> Refused<'a>
+        ensures { result ≡ record { error = ScenarioError.Memory (record {}); finding = None } }
+    {
+        Refused {
+            error: ScenarioError::Memory(AllocError),
+            finding: None,
+        }
+    }
+}

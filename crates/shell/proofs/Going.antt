@@ -1,0 +1,46 @@
+-- What went out is what was wanted, by another name.
+use Rattle.std.proofs.Common.{◌≡◌, sym, subst, inl, inr, ℕ, List, Option, Result, Ok, Err, IfErr, OnOk}
+use Rattle.reporting.specs.Writing.{Wrote, WrotePart}
+use Rattle.shell.specs.Ending.{End, Goes, LeftAt, MayHaveGone, Puts, Tells, Went, WentPart, begun, cut, untouched}
+
+-- what follows for each failure follows for the one that is answered
+pub if_failure : {A F : Type 0} (P Q : F → Type 0) → ((failure : F) → P failure → Q failure) → (r : Result A F) → IfErr r P → IfErr r Q
+if_failure P Q f (Ok a) is = tt
+if_failure P Q f (Err failure) is = f failure is
+
+module _ {O : Type 0} (told : O → Option (List ℕ)) (failed : O → ℕ) (old new : O) where
+  module _ (P Q : List ℕ → Type 0) (f : (piece : List ℕ) → P piece → Q piece) where
+    pub went_as : Went told failed old new P → Went told failed old new Q
+    went_as went = record { piece = went.piece; is_wanted = f went.piece went.is_wanted; written = went.written }
+
+    pub part_as : WentPart told failed old new P → WentPart told failed old new Q
+    part_as part = record { piece = part.piece; is_wanted = f part.piece part.is_wanted; written = part.written }
+
+    pub tells_as : Tells told failed old new P → Tells told failed old new Q
+    tells_as (inl went) = inl (went_as went)
+    tells_as (inr part) = inr (part_as part)
+
+    pub left_as : MayHaveGone told failed old new P → MayHaveGone told failed old new Q
+    left_as (inl nothing) = inl nothing
+    left_as (inr went) = inr (went_as went)
+
+  module _ (P Q L M : List ℕ → Type 0) (f : (piece : List ℕ) → P piece → Q piece) (g : (piece : List ℕ) → L piece → M piece) where
+    at_end_as : (end : End) → LeftAt told failed old new P L end → LeftAt told failed old new Q M end
+    at_end_as untouched left = left
+    at_end_as begun left = left_as L M g left
+    at_end_as cut left = part_as P Q f left
+
+  pub goes_as : (W X P Q L M : List ℕ → Type 0) → ((piece : List ℕ) → W piece → X piece) → ((piece : List ℕ) → P piece → Q piece)
+      → ((piece : List ℕ) → L piece → M piece) → {A F : Type 0} (end_of : F → End) (r : Result A F)
+      → Goes end_of told failed old new W P L r → Goes end_of told failed old new X Q M r
+  goes_as W X P Q L M e f g end_of (Ok a) goes = went_as W X e goes
+  goes_as W X P Q L M e f g end_of (Err failure) goes = at_end_as P Q L M f g (end_of failure) goes
+
+  -- a piece that is wanted is put
+  pub put_goes : (IsWanted : List ℕ → Type 0) {A F : Type 0} (end_of : F → End) (unwritten : F) → end_of unwritten ≡ cut → (r : Result A F) (piece : List ℕ)
+      → IsWanted piece → OnOk r (Wrote told failed old new piece) → IfErr r (λ failure. (failure ≡ unwritten) × WrotePart told failed old new piece)
+      → Puts end_of told failed old new IsWanted r
+  put_goes IsWanted end_of unwritten is (Ok a) piece wanted whole part = record { piece = piece; is_wanted = wanted; written = whole }
+  put_goes IsWanted end_of unwritten is (Err failure) piece wanted whole part =
+      let Left : End → Type 0 = LeftAt told failed old new IsWanted (λ _. ⊥) in
+      subst (λ f. Left (end_of f)) (sym part.0) (subst Left (sym is) (record { piece = piece; is_wanted = wanted; written = part.1 }))

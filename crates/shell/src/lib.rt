@@ -1,0 +1,24 @@
+//! What a program does around its work, whatever that is: the words that `main` is given, texts that go out, faults that
+//! are told, and the status with which a run ends.
+//!
+//! It is generic in the program's faults: a [`Failure`] has a status, a line, and what it leaves of what was to be
+//! written (`specs/Ending.antt`). Contracts for the layers above:
+//!
+//! - [`put_bytes`] and [`put_text`] write whole, or answer the failure of a write, and then a front part went out.
+//! - [`ended`] answers the status of a run: 0 where it is done, and nothing is told; else that of its failure, of which
+//!   the line is told. `proofs/Leaving.antt` has what follows for the outlet and the line, status by status.
+//! - [`finish`] flushes, and turns 0 into 4 where that fails.
+//!
+//! As an example, a run that is refused for its limit answers a failure with status 3 and the line `fdbench: run: Limit`;
+//! [`ended`] puts that line and answers 3.
+#![tactic(auto)]
+
+mod ending;
+mod failure;
+mod words;
+mod writing;
+
+pub use ending::{ended, finish};
+pub use failure::{Failure, report};
+pub use words::{NoWords, lent, words_of};
+pub use writing::{put_bytes, put_text, tell_pieces, tell_text};

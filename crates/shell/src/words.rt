@@ -1,0 +1,42 @@
+//! The words that a program is given.
+
+use std::alloc::{AllocError, AllocGlobal, Global};
+use std::env;
+use std::io::ErrorKind;
+use std::rt::Env;
+
+/// Why there are no words.
+#[derive(Clone, Copy, Debug, PartialEq, Eq)]
+pub enum NoWords {
+    /// Memory was refused.
+    Memory,
+    /// A word isn't text. Which one isn't known.
+    NoText,
+}
+
+/// The words of the command line, the program's name first.
+///
+/// # Errors
+///
+/// `Memory`, and `NoText` where a word isn't text.
+pub fn words_of<R: Env + AllocGlobal>(rt: &R) -> Result<Vec<String>, NoWords> {
+    let words = match env::args(rt) {
+        Ok(words) => words,
+        Err(error) if error.kind() == ErrorKind::OutOfMemory => return Err(NoWords::Memory),
+        Err(_) => return Err(NoWords::NoText),
+    };
+    words.collect(rt.alloc()).map_err(|_| NoWords::Memory)
+}
+
+/// The words as texts that are lent.
+///
+/// # Errors
+///
+/// `AllocError` where memory was refused.
+pub fn lent<'a>(alloc: Global, words: &'a [String]) -> Result<Vec<&'a str>, AllocError> {
+    let mut texts = Vec::new(alloc);
+    for word in words {
+        texts.push(word.as_str())?;
+    }
+    Ok(texts)
+}
