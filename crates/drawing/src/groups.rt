@@ -4,7 +4,7 @@ ghost use Rattle.judges.specs.Outcomes.{outcome, outcomes};
 
 use crate::labels::own_name;
 use crate::layout::{GAP, ROW, TOP, Ticks};
-use crate::rows::{decided, life_line, push_crash, push_decision};
+use crate::row_shapes::{decided, life_line, push_crash, push_decision};
 use judges::{Outcome, decisions, end_tick};
 use process_api::{Pid, Trace};
 use scenario_record::Scenario;

@@ -27,7 +27,7 @@ mod letters_legend;
 mod letters_picture;
 mod marks;
 mod pairs;
-mod rows;
+mod row_shapes;
 mod suspicions;
 mod sweep;
 

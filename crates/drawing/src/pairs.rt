@@ -7,7 +7,7 @@ use crate::bars::{Bar, bars_of};
 use crate::groups::{Row, Rows, Run};
 use crate::labels::pair_name;
 use crate::layout::ROW;
-use crate::rows::{life_line, push_bars, push_crash};
+use crate::row_shapes::{life_line, push_bars, push_crash};
 use process_api::Pid;
 use std::alloc::{AllocError, Global};
 use svg::{Class, Shape};

@@ -1,7 +1,7 @@
 //! Sums and rows by hand, and sweeps of small studies.
 mod laws;
 mod parallel;
-mod rows;
+mod points;
 mod studies;
 mod sums;
 mod sweeps;

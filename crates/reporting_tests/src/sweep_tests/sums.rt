@@ -1,5 +1,5 @@
 //! The rows of points whose runs are worked by hand.
-use super::rows::{
+use super::points::{
     are_rows, crash_at_3, crash_run, durations, grid_of, is_same, is_text, one_crash, rows_of,
     run_of,
 };

@@ -1,5 +1,5 @@
 //! Percentiles of the times after which crashes were detected.
-use super::rows::{crash_at_3, one_crash, run_of};
+use super::points::{crash_at_3, one_crash, run_of};
 use crate::comparisons::same;
 use crate::findings::quiet;
 use reporting::Detection::{self, At, NoTick};

@@ -1,6 +1,6 @@
 use Rattle.std.proofs.Common.{◌≡◌, ◌++◌, map, take}
 use Rattle.drawing.specs.Suspicions.{bar_shape}
-use Rattle.drawing.proofs.rows.push_bars.Given as goal
+use Rattle.drawing.proofs.row_shapes.push_bars.Given as goal
 
 -- the bars so far
 abbrev pub invariant-loop-bar : goal.invariant-loop-bar
