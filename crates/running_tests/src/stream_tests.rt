@@ -49,7 +49,7 @@ fn delays(scenario: &Scenario, from: u16, to: u16) -> Result<[u32; 12], Fail> {
 const PLACES: [u128; 7] = [0, 1, 2, 15, 16, 17, 1000];
 
 /// Words of a link's stream under a seed: the seed, the link's ends, and the words at `PLACES`.
-const WORDS: [(u64, u16, u16, [u32; 7]); 5] = [
+const WORDS: [(u64, u16, u16, [u32; 7]); 6] = [
     (
         1,
         1,
@@ -90,10 +90,18 @@ const WORDS: [(u64, u16, u16, [u32; 7]); 5] = [
             0xc5c7d6ac, 0xc4c40c80, 0x8a018642, 0x1f968f22, 0x0ca62962, 0x87d10b86, 0x5c835e1a,
         ],
     ),
+    (
+        1,
+        256,
+        255,
+        [
+            0xaa781756, 0x138c5cab, 0xe14fb910, 0xa8c4dcc5, 0x9d31a364, 0x59ef084e, 0x49d245b8,
+        ],
+    ),
 ];
 
 #[test]
-fn words_of_five_streams(rt: HostRuntime) -> Result<(), Fail> {
+fn words_of_streams(rt: HostRuntime) -> Result<(), Fail> {
     for (seed, from, to, words) in WORDS {
         let (sender, receiver) = (pid(from)?, pid(to)?);
         let mut kept = LinkWords::new();
