@@ -1,5 +1,3 @@
-mod Rows
-mod Dropping
 mod Settled
 mod Settling
 mod Keeping

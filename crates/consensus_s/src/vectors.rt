@@ -5,8 +5,8 @@ ghost use Rattle.process_api.specs.Cells.{cell};
 ghost use Rattle.process_api.specs.ConsensusS.{cells_of, first_to, or_else};
 ghost use Rattle.consensus_s.specs.Kept.{kept_of, missed_in, told_in};
 
-use crate::letters::Letters;
-use process_api::{Cells, Pid};
+use crate::letters::{is_missed, told};
+use process_api::{Cells, Letters, Pid};
 use std::alloc::{AllocError, Global};
 
 /// What a process knows as it opens: its own proposal.
@@ -34,7 +34,7 @@ pub(crate) fn known_at_first(
 /// What is known after a round: each empty cell takes what the letters tell.
 pub(crate) fn known_after(
     alloc: Global,
-    letters: &Letters,
+    letters: &Letters<Cells>,
     n: u16,
     round: u64,
     known: &Cells,
@@ -48,7 +48,7 @@ pub(crate) fn known_after(
         let k = Pid::after(before);
         let mut value = known.get(k);
         if value.is_none() {
-            value = letters.told(n, round, k);
+            value = told(letters, n, round, k);
         }
         cells.push(value)?;
     }
@@ -58,7 +58,7 @@ pub(crate) fn known_after(
 /// What a round brought: what the letters tell of the empty cells.
 pub(crate) fn news_after(
     alloc: Global,
-    letters: &Letters,
+    letters: &Letters<Cells>,
     n: u16,
     round: u64,
     known: &Cells,
@@ -72,7 +72,7 @@ pub(crate) fn news_after(
         let k = Pid::after(before);
         let mut value = None;
         if known.get(k).is_none() {
-            value = letters.told(n, round, k);
+            value = told(letters, n, round, k);
         }
         cells.push(value)?;
     }
@@ -82,7 +82,7 @@ pub(crate) fn news_after(
 /// What all that were heard of in the last round know.
 pub(crate) fn common_after(
     alloc: Global,
-    letters: &Letters,
+    letters: &Letters<Cells>,
     n: u16,
     round: u64,
     known: &Cells,
@@ -95,7 +95,7 @@ pub(crate) fn common_after(
     for before in 0..n {
         let k = Pid::after(before);
         let mut value = None;
-        if !letters.is_missed(n, round, k) {
+        if !is_missed(letters, n, round, k) {
             value = known.get(k);
         }
         cells.push(value)?;

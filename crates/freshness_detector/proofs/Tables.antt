@@ -31,10 +31,3 @@ module _ (latest : List (Option ℕ)) (q j : ℕ) (g : Option ℕ) (inside : q <
 
   pub heard_tables : (sent reached : ℕ) (place : Place) (numbers : FreshnessNumbers) → state_by sent reached (slice_set latest q g) ≡ heard place numbers (state_by sent reached latest) q j
   heard_tables sent reached place numbers = λ k. record { sent = sent; reached = reached; came = λ p i. at p i k }
-
--- the next point is none before the last, nor before the first
-pub next_above : (i n : ℕ) → n ≡ next i → i ≤ 1000000000000 → (1 ≤ n) × (i ≤ n)
-next_above i n e h = (grind (e, h, arith), grind (e, h, arith))
-
-pub next_counted : (i n : ℕ) → n ≡ next i → n ≤ 1000000000000
-next_counted i n e = grind (e, arith)

@@ -1,0 +1,7 @@
+use Rattle.std.proofs.Common.{◌∙◌, sym}
+use Rattle.process_api.proofs.Rows.{keep_there}
+use Rattle.consensus_s.specs.Kept.{kept_of}
+use Rattle.consensus_s.proofs.letters.keep.Goals as goal
+
+pub returns-then-has : goal.returns-then-has
+returns-then-has c = keep_there (kept_of c.args.letters.now) c.args.round c.args.sender c.args.cells.now (sym c.has.ensures ∙ c.if-has.true)
