@@ -6,10 +6,10 @@ use Rattle.std.proofs.lemmas.Bool.Decides.{nat_tests}
 use Rattle.std.proofs.lemmas.Option.{none-some}
 use Rattle.process_api.specs.Bounds.{most_processes, most_algorithm_actions}
 use Rattle.process_api.specs.Place.{Place, same_place}
-use Rattle.process_api.specs.Coordinator.{Kept, Coordinator, is_opening, is_running, enter, leave, reply, end_wait, waits_left, end_waits, is_timely, is_early, receive, begin, step_coordinator, opening_coordinator}
+use Rattle.process_api.specs.Coordinator.{Kept, Coordinator, is_decided, is_opening, is_running, keep, enter, leave, reply, end_wait, waits_left, end_waits, is_timely, is_early, receive, begin, step_coordinator, opening_coordinator}
 use Rattle.process_api.specs.Rows.{keep_one}
 use Rattle.process_api.specs.Answer.{Answer, to_all, after, still}
-use Rattle.process_api.specs.Rounds.{coordinator, is_own}
+use Rattle.process_api.specs.Rounds.{coordinator, greatest_round, is_own}
 use Rattle.process_api.specs.declared.consensus.Estimate.{Estimate}
 use Rattle.process_api.specs.declared.consensus.Phase.{Phase}
 use Rattle.process_api.specs.declared.consensus.Phase.TheVariants.{Opening, Collect, Await, Tally, Decided, Ended}
@@ -20,9 +20,9 @@ use Rattle.process_api.specs.declared.message.StepInput.TheVariants as input
 use Rattle.process_api.specs.declared.action.Note.TheVariants as note
 use Rattle.process_api.specs.declared.action.Action.{Action}
 use Rattle.process_api.specs.declared.action.Action.TheVariants as action
-use Rattle.process_api.proofs.Lists.{option_both}
 use Rattle.process_api.proofs.Sending.{length-to_all}
 use Rattle.process_api.proofs.Waits.{by_ends}
+use Rattle.consensus_es.proofs.Cases.{by_leave, by_reply, by_collect, by_await, by_tally}
 use Rattle.consensus_es.specs.Orderly as orderly_of
 use Rattle.consensus_es.specs.Orderly.{own_below, is_in_place}
 
@@ -129,8 +129,7 @@ module _ (n own top : ℕ) (first : 1 ≤ own) (last : own ≤ n) where
       go false is = (orderly Await (omega arith) refl, c, inr (is, d, there, some, low), omega arith, omega arith)
 
   left : (s : Coordinator) (c d : ℕ) → KeptBelow s (s.round + 1) → is_own n own (s.round + 1 + d) ≡ true → 3 * d + n ≤ c → s.round + 1 + d ≤ top → Cheap (c + 2) (leave n own s)
-  left s c d kept there some low =
-      cond_both _ _ _ (Cheap (c + 2)) (λ _. entered s (s.round + 1) c d (omega arith) kept there some low) (λ _. (record { own_kept = kept; in_place = refl }, 0, tt, omega arith, omega arith))
+  left s c d kept there some low = by_leave n own s (Cheap (c + 2)) (λ _. entered s (s.round + 1) c d (omega arith) kept there some low) (record { own_kept = kept; in_place = refl }, 0, tt, omega arith, omega arith)
 
   -- some actions before
   cheap_after : (c e : ℕ) (more : List Action) (a : Answer Coordinator) → length more + c ≤ e → Cheap c a → Cheap e (after more a)
@@ -140,16 +139,13 @@ module _ (n own top : ℕ) (first : 1 ≤ own) (last : own ≤ n) where
     abbrev at : Phase → Coordinator
     at phase = record { round = round; phase = phase; estimate = e; kept = kept; seen = seen }
 
-    abbrev Rest : ℕ → Bool → Answer Coordinator → Type 0
-    Rest c ack a = Cheap c (after (action.Send (coordinator n round) (payload.Reply round ack) ∷ []) a)
-
     -- a proposal is answered: the own one came, or the round is another's
     replied : (c : ℕ) (ack : Bool) (d2 : Estimate) → IsOrderly (at Await) → Costs Await (at Await) c → round ≤ top → (is_own n own round ≡ true → kept.proposals round ≡ None → ⊥)
         → Cheap c (reply n own ack (record (at Await) { estimate = d2 }))
     replied c ack d2 o l low came = by l
       where
         onward : is_own n own round ≡ false → (d : ℕ) → is_own n own (round + d) ≡ true → 3 * d + n ≤ c → round + d ≤ top
-            → Rest c ack (leave n own (record (at Await) { estimate = d2 }))
+            → Cheap c (after (action.Send (coordinator n round) (payload.Reply round ack) ∷ []) (leave n own (record (at Await) { estimate = d2 })))
         onward is zero there some far = absurd (both_ways _ is (moved (round + 0) round (omega arith) there))
         onward is (suc d) there some far =
             cheap_after (3 * d + n + 2) c (action.Send (coordinator n round) (payload.Reply round ack) ∷ []) (leave n own (record (at Await) { estimate = d2 })) (omega arith)
@@ -158,23 +154,22 @@ module _ (n own top : ℕ) (first : 1 ≤ own) (last : own ≤ n) where
         by : AwaitsItself (at Await) c ⊎ AwaitsAnother (at Await) c → Cheap c (reply n own ack (record (at Await) { estimate = d2 }))
         by (inl (is, inl none)) = absurd (came is none)
         by (inl (is, inr (m, further))) =
-            cond_both _ _ _ (Rest c ack) (λ _. (record { own_kept = o.own_kept; in_place = is }, 5 * n, (omega arith, further), omega arith, low)) (λ other. absurd (both_ways _ other is))
-        by (inr (is, d, there, m, further)) = cond_both _ _ _ (Rest c ack) (λ mine. absurd (both_ways _ is mine)) (λ _. onward is d there m further)
+            by_reply n own (record (at Await) { estimate = d2 }) ack (Cheap c) (λ _. (record { own_kept = o.own_kept; in_place = is }, 5 * n, (omega arith, further), omega arith, low)) (λ other. absurd (both_ways _ other is))
+        by (inr (is, d, there, m, further)) = by_reply n own (record (at Await) { estimate = d2 }) ack (Cheap c) (λ mine. absurd (both_ways _ is mine)) (λ _. onward is d there m further)
 
     waited : (phase : Phase) (c : ℕ) → IsOrderly (at phase) → Costs phase (at phase) c → round ≤ top → Good c (end_wait n own is_suspected (at phase))
-    waited Collect c o l low =
-        cond_both _ _ _ (Good c) (λ _. option_both _ _ _ (Good c) (λ _. tt) (λ best _.
-        (record { own_kept = λ r v h own2. let m : r < round = o.own_kept r v h own2 in omega arith; in_place = refl }, 0, inl (o.in_place, inl l.0), omega (arith, l.1, length-to_all n (payload.Proposal round best.value)), low))) (λ _. tt)
+    waited Collect c o l low = by_collect n own (at Collect) (Good c) tt (λ best.
+        let few : length (to_all n (payload.Proposal round best.value)) + 0 ≤ c = omega (arith, l.1, length-to_all n (payload.Proposal round best.value)) in
+        (record { own_kept = λ r v h own2. let m : r < round = o.own_kept r v h own2 in omega arith; in_place = refl }, 0, inl (o.in_place, inl l.0), few, low))
     waited Await c o l low =
-        option_both _ _ _ (Good c)
-        (λ _. cond_both _ _ _ (Good c) (λ sus. replied c false e o l low (λ mine _. both_ways _ not_itself (ap is_suspected (sym (eqb-true _ _ mine)) ∙ sus))) (λ _. tt))
-        (λ v is. replied c true (record { value = v; stamp = round }) o l low (λ _ none. none-some v (sym none ∙ is)))
+        by_await n own (at Await) is_suspected (Good c) tt (λ v is. replied c true (record { value = v; stamp = round }) o l low (λ _ none. none-some v (sym none ∙ is)))
+        (λ sus. replied c false e o l low (λ mine _. both_ways _ not_itself (ap is_suspected (sym (eqb-true _ _ mine)) ∙ sus)))
     waited Tally c o l low =
-        cond_both _ _ _ (Good c) (λ _. cheap_after (3 * (n - 1) + n + 2) c _ (leave n own (at Tally)) (omega (arith, l.0, spread _ (payload.Decide round e.value)))
-        (left (at Tally) (3 * (n - 1) + n) (n - 1) o.own_kept (moved (round + n) (round + 1 + (n - 1)) (omega arith) (own_again round o.in_place)) (omega arith) (omega (arith, l.1)))) (λ _. tt)
+        by_tally n own (at Tally) (Good c) tt (λ b. cheap_after (3 * (n - 1) + n + 2) c (cond b (to_all n (payload.Decide round e.value)) []) (leave n own (at Tally)) (omega (arith, l.0, spread b (payload.Decide round e.value)))
+        (left (at Tally) (3 * (n - 1) + n) (n - 1) o.own_kept (moved (round + n) (round + 1 + (n - 1)) (omega arith) (own_again round o.in_place)) (omega arith) (omega (arith, l.1))))
       where
         spread : (b : Bool) (what : Payload) → length (cond b (to_all n what) []) ≤ n
-        spread b what = cond_both _ _ _ (λ xs. length xs ≤ n) (λ _. omega (arith, length-to_all n what)) (λ _. omega arith)
+        spread b what = cond_both b (to_all n what) [] (λ xs. length xs ≤ n) (λ _. omega (arith, length-to_all n what)) (λ _. omega arith)
     waited _ c o l low = tt
 
   -- whatever waits: all that it can cost
@@ -211,7 +206,7 @@ module _ (n own top : ℕ) (first : 1 ≤ own) (last : own ≤ n) where
           let others = and_parts (nat_eq sender (coordinator n r)) _ parts.1 in
           let timely = and_parts (is_running s.phase) _ parts.0 in
           let mine : nat_eq sender own ≡ true = ap (λ z. nat_eq z own) (eqb-true sender (coordinator n r) others.0) ∙ own2 in
-          room s.phase timely.0 (low _ true mine timely.1) (ap (λ b. b && _) (sym mine) ∙ not-true _ others.1)
+          room s.phase timely.0 (low _ true mine timely.1) (ap (λ b. b && elim s.phase [ Opening ↦ false | Collect ↦ true | Await ↦ false | Tally ↦ false | Decided ↦ false | Ended ↦ false ]) (sym mine) ∙ not-true _ others.1)
 
       go : (k w : ℕ) → is_own n own k ≡ true → (s.kept.proposals k ≡ Some w) ⊎ (k ≡ r) → k < own_below s.phase s.round
       go k w own2 (inl h) = o.own_kept k w h own2
@@ -224,22 +219,31 @@ module _ (n own top : ℕ) (first : 1 ≤ own) (last : own ≤ n) where
   begun_still : (s : Coordinator) → IsOrderly s → s.round + n ≤ top → Begun (still s)
   begun_still s o far = (o, 5 * n + 1, costs_all s o far, omega arith, omega arith)
 
-  abbrev Keeps : Coordinator → Type 0
-  Keeps s = Begun (still s)
+  kept : (b : Bool) (s t : Coordinator) → (b ≡ true → IsOrderly s) → IsOrderly t → s.round + n ≤ top → t.round + n ≤ top → Begun (still (cond b s t))
+  kept b s t o p far further = cond_both b s t (λ s. Begun (still s)) (λ is. begun_still s (o is) far) (λ _. begun_still t p further)
 
   received : (sender : ℕ) (what : Payload) (s : Coordinator) → IsOrderly s → s.round + n ≤ top → Begun (receive n own sender what s)
-  received sender (payload.Estimate r v t) s o far = cond_both _ _ _ Keeps (λ _. begun_still _ (record { own_kept = o.own_kept; in_place = o.in_place }) far) (λ _. begun_still s o far)
-  received sender (payload.Proposal r v) s o far = cond_both _ _ _ Keeps (λ is. begun_still _ (proposal_orderly s o sender r v is) far) (λ _. begun_still s o far)
-  received sender (payload.Reply r ack) s o far = cond_both _ _ _ Keeps (λ _. begun_still _ (record { own_kept = o.own_kept; in_place = o.in_place }) far) (λ _. begun_still s o far)
-  received sender (payload.Decide r v) s o far =
-      cond_both _ _ _ Begun (λ _. cond_both _ _ _ Begun (λ _. begun_still s o far) (λ _.
-      (record { own_kept = λ k w h own2. let l : k < own_below s.phase s.round = o.own_kept k w h own2 in omega (arith, bound_low s.phase s.round); in_place = refl }, 0, tt, omega (arith, few _ _), omega arith))) (λ _. begun_still s o far)
+  received sender (payload.Estimate r v t) s o far =
+      kept (is_timely n own s sender r && is_own n own r) (record s { kept = record s.kept { estimates = keep s.kept.estimates r sender (record { value = v; stamp = t }) } }) s (λ _. record { own_kept = o.own_kept; in_place = o.in_place }) o far far
+  received sender (payload.Proposal r v) s o far =
+      kept (is_timely n own s sender r && (nat_eq sender (coordinator n r) && not (is_early n own s sender))) (record s { kept = record s.kept { proposals = keep_one s.kept.proposals r v } }) s (λ is. proposal_orderly s o sender r v is) o far far
+  received sender (payload.Reply r ack) s o far =
+      kept (is_timely n own s sender r && is_own n own r) (record s { kept = record s.kept { replies = keep s.kept.replies r sender ack } }) s (λ _. record { own_kept = o.own_kept; in_place = o.in_place }) o far far
+  received sender (payload.Decide r v) s o far = go (nat_le 1 r && nat_le r greatest_round) (s.seen r)
     where
       few : (b d : Bool) → length (cond b [] (to_all n (payload.Decide r v)) ++ cond d [] (action.Note (note.Decided v) ∷ [])) ≤ n + 2
       few b d =
-          let k : length (cond b [] (to_all n (payload.Decide r v))) ≤ n = cond_both _ _ _ (λ xs. length xs ≤ n) (λ _. omega arith) (λ _. omega (arith, length-to_all n (payload.Decide r v))) in
-          let m : length (cond d [] (action.Note (note.Decided v) ∷ [])) ≤ 1 = cond_both _ _ _ (λ xs. length xs ≤ 1) (λ _. omega arith) (λ _. omega arith) in
+          let k : length (cond b [] (to_all n (payload.Decide r v))) ≤ n = cond_both b [] (to_all n (payload.Decide r v)) (λ xs. length xs ≤ n) (λ _. omega arith) (λ _. omega (arith, length-to_all n (payload.Decide r v))) in
+          let m : length (cond d [] (action.Note (note.Decided v) ∷ [])) ≤ 1 = cond_both d [] (action.Note (note.Decided v) ∷ []) (λ xs. length xs ≤ 1) (λ _. omega arith) (λ _. omega arith) in
           omega (arith, length-append (cond b [] (to_all n (payload.Decide r v))) (cond d [] (action.Note (note.Decided v) ∷ [])))
+
+      go : (b c : Bool) → Begun (cond b (cond c (still s) (record {
+        state = record s { seen = λ k. cond (nat_eq k r) true (s.seen k); phase = Decided };
+        actions = cond (is_own n own r) [] (to_all n (payload.Decide r v)) ++ cond (is_decided s.phase) [] (action.Note (note.Decided v) ∷ []);
+      })) (still s))
+      go true true = begun_still s o far
+      go true false = (record { own_kept = λ k w h own2. let l : k < own_below s.phase s.round = o.own_kept k w h own2 in omega (arith, bound_low s.phase s.round); in_place = refl }, 0, tt, omega (arith, few (is_own n own r) (is_decided s.phase)), omega arith)
+      go false c = begun_still s o far
   received sender what s o far = begun_still s o far
 
   opens : (phase : Phase) (round : ℕ) → is_opening phase ≡ true → is_in_place n own phase round ≡ true → (round ≡ 0) × (own_below phase round ≡ round + 1)
@@ -247,14 +251,18 @@ module _ (n own top : ℕ) (first : 1 ≤ own) (last : own ≤ n) where
   opens _ round is right = absurd (false≢true is)
 
   begun : (x : StepInput) (s : Coordinator) → IsOrderly s → s.round + n ≤ top → Begun (begin n own x s)
-  begun input.Start s o far = cond_both _ _ _ Begun (λ is. entering (opens s.phase s.round is o.in_place) (near 1)) (λ _. begun_still s o far)
+  begun input.Start s o far = cond_both (is_opening s.phase) (enter n own 1 s) (still s) Begun (λ is. entering (opens s.phase s.round is o.in_place) (near 1)) (λ _. begun_still s o far)
     where
       entering : (s.round ≡ 0) × (own_below s.phase s.round ≡ s.round + 1) → (d : ℕ) × (d < n) × (is_own n own (1 + d) ≡ true) → Begun (enter n own 1 s)
       entering p (d, l, there) =
           cheap_after (3 * d + n + 2) (6 * n + 3) [] (enter n own 1 s) (omega arith)
           (entered s 1 (3 * d + n) d (omega (arith, p.0)) (λ k v h own2. let m : k < own_below s.phase s.round = o.own_kept k v h own2 in omega (arith, p.1)) there (omega arith) (omega (arith, p.0)))
   begun (input.Wake tag) s o far = begun_still s o far
-  begun (input.Letter sender what) s o far = cond_both _ _ _ Begun (λ _. begun_still s o far) (λ _. cond_both _ _ _ Begun (λ _. received sender what s o far) (λ _. begun_still s o far))
+  begun (input.Letter sender what) s o far = go (is_opening s.phase) (nat_le sender n)
+    where
+      go : (b c : Bool) → Begun (cond b (still s) (cond c (receive n own sender what s) (still s)))
+      go false true = received sender what s o far
+      go _ _ = begun_still s o far
 
   module _ (is_suspected : ℕ → Bool) (not_itself : is_suspected own ≡ false) where
     -- what comes of it all

@@ -1,3 +1,4 @@
+mod Cases
 mod Settled
 mod Settling
 mod Keeping

@@ -1,6 +1,6 @@
 -- The number of waits that may end is enough: after an input no wait is over.
 use Rattle.std.proofs.Common.{◌≡◌, ℕ, ◌+◌, ◌-◌, ◌*◌, ◌<◌, ◌≤◌, refl, Bool, true, false, cond, arith, Option, None, Some, IfSome}
-use Rattle.std.proofs.lemmas.Bool.{ltb-true, cond_both}
+use Rattle.std.proofs.lemmas.Bool.{ltb-true}
 use Rattle.process_api.specs.declared.consensus.Estimate.{Estimate}
 use Rattle.process_api.specs.declared.consensus.Phase.{Phase}
 use Rattle.process_api.specs.declared.consensus.Phase.TheVariants.{Opening, Collect, Await, Tally, Decided, Ended}
@@ -8,8 +8,8 @@ use Rattle.process_api.specs.Coordinator.{Coordinator, enter, leave, reply, end_
 use Rattle.process_api.specs.Answer.{Answer, after, still}
 use Rattle.process_api.specs.Rounds.{is_own, greatest_round}
 use Rattle.process_api.specs.declared.message.StepInput.{StepInput}
-use Rattle.process_api.proofs.Lists.{option_both}
 use Rattle.process_api.proofs.Waits as waits
+use Rattle.consensus_es.proofs.Cases.{by_leave, by_reply, by_collect, by_await, by_tally}
 
 module _ (n own : ℕ) (is_suspected : ℕ → Bool) where
   -- fewer than so many can end
@@ -17,7 +17,7 @@ module _ (n own : ℕ) (is_suspected : ℕ → Bool) where
   Fewer k a = waits_left n own a.state < k
 
   left_fewer : (s : Coordinator) (k : ℕ) → (greatest_round - s.round) * 3 + 1 ≤ k → Fewer k (leave n own s)
-  left_fewer s k some = cond_both _ _ _ (Fewer k) (λ low. entered (is_own n own (s.round + 1)) (ltb-true _ _ low)) (λ _. omega arith)
+  left_fewer s k some = by_leave n own s (Fewer k) (λ low. entered (is_own n own (s.round + 1)) (ltb-true _ _ low)) (omega arith)
     where
       entered : (b : Bool) → s.round < greatest_round → waits_left n own (record (enter n own (s.round + 1) s).state { phase = cond b Collect Await }) < k
       entered true low = omega arith
@@ -32,13 +32,12 @@ module _ (n own : ℕ) (is_suspected : ℕ → Bool) where
     AreFewer phase o = IfSome o (Fewer (waits_left n own (at phase)))
 
     replied : (ack : Bool) (d : Estimate) → Fewer (waits_left n own (at Await)) (reply n own ack (record (at Await) { estimate = d }))
-    replied ack d = cond_both _ _ _ (Fewer (waits_left n own (at Await))) (λ _. omega arith) (λ _. left_fewer (record (at Await) { estimate = d }) _ (omega arith))
+    replied ack d = by_reply n own (record (at Await) { estimate = d }) ack (Fewer (waits_left n own (at Await))) (λ _. omega arith) (λ _. left_fewer (record (at Await) { estimate = d }) _ (omega arith))
 
     by_phase : (phase : Phase) → AreFewer phase (end_wait n own is_suspected (at phase))
-    by_phase Collect = cond_both _ _ _ (AreFewer Collect) (λ _. option_both _ _ _ (AreFewer Collect) (λ _. tt) (λ best _. omega arith)) (λ _. tt)
-    by_phase Await =
-        option_both _ _ _ (AreFewer Await) (λ _. cond_both _ _ _ (AreFewer Await) (λ _. replied false s.estimate) (λ _. tt)) (λ v _. replied true (record { value = v; stamp = s.round }))
-    by_phase Tally = cond_both _ _ _ (AreFewer Tally) (λ _. left_fewer (at Tally) _ (omega arith)) (λ _. tt)
+    by_phase Collect = by_collect n own (at Collect) (AreFewer Collect) tt (λ best. omega arith)
+    by_phase Await = by_await n own (at Await) is_suspected (AreFewer Await) tt (λ v _. replied true (record { value = v; stamp = s.round })) (λ _. replied false s.estimate)
+    by_phase Tally = by_tally n own (at Tally) (AreFewer Tally) tt (λ b. left_fewer (at Tally) _ (omega arith))
     by_phase _ = tt
 
   -- after the end of a wait fewer can end

@@ -47,8 +47,8 @@ module _ (n own : ℕ) (is_suspected : ℕ → Bool) where
         where
           go : (o : Option (Answer Coordinator)) → IfSome o (Fewer n own is_suspected (waits_left n own (state_of s))) → Ends b s t out2 out3 o
               → waits_left n own (state_of t) + cond b 1 0 < waits_left n own (state_of s) + 1
-          go None f (off, d) = omega (arith, ap (waits_left n own) d.state, ap (λ (c : Bool). cond c 1 0) off)
-          go (Some a) f (ok, d) = omega (arith, f, ap (waits_left n own) d.state, ap (λ (c : Bool). cond c 1 0) ok)
+          go None f (off, d) = omega (arith, ap (waits_left n own) d.state, ap {B = ℕ} (λ (c : Bool). cond c 1 0) off)
+          go (Some a) f (ok, d) = omega (arith, f, ap (waits_left n own) d.state, ap {B = ℕ} (λ (c : Bool). cond c 1 0) ok)
 
     -- where no wait is over all is done
     pub gone : (s : Progress) (out2 : List Action) → Going first s out out2 false → Does s out out2 (settle n own is_suspected (still (state_of first)))
