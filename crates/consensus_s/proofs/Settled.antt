@@ -5,7 +5,7 @@ use Rattle.std.proofs.lemmas.Bool.Decides.{nat_tests}
 use Rattle.std.proofs.lemmas.Option.{none-some}
 use Rattle.process_api.specs.Answer.{Answer, still, after, to_all}
 use Rattle.process_api.specs.Cells.{Vector}
-use Rattle.process_api.specs.ConsensusS.{Exchange, all_to, keep, above, enter, is_running, is_over, gather, decide, end_wait, end_waits, waits_left, settle, receive_cells, receive, begin, step_exchange}
+use Rattle.process_api.specs.ConsensusS.{Exchange, all_to, keep, above, enter, is_running, is_over, gather, decide, end_wait, end_waits, waits_left, settle, is_timely, receive_cells, receive, begin, step_exchange}
 use Rattle.process_api.specs.declared.message.Payload.{Payload}
 use Rattle.process_api.specs.declared.message.Payload.TheVariants as payload
 use Rattle.process_api.specs.declared.message.StepInput.{StepInput}
@@ -39,11 +39,19 @@ module _ (n own : ℕ) (is_suspected : ℕ → Bool) where
   abbrev Fewer : ℕ → Answer Exchange → Type 0
   Fewer k a = waits_left n own a.state < k
 
+  -- a wait goes on, or a round is left, or the decision is made
+  by_end : (s : Exchange) (P : Option (Answer Exchange) → Type 0) → P None → ((is_running n own s && is_over n own is_suspected s) ≡ true → (nat_lt s.round n ≡ true → P (Some (enter n own (s.round + 1) (gather n own s))))
+      × (nat_lt s.round n ≡ false → P (Some (decide n own s)))) → P (end_wait n own is_suspected s)
+  by_end s P none ended =
+      let next = cond (nat_lt s.round n) (enter n own (s.round + 1) (gather n own s)) (decide n own s) in
+      cond_both (is_running n own s && is_over n own is_suspected s) (Some next) None P
+      (λ is. cond_both (nat_lt s.round n) (enter n own (s.round + 1) (gather n own s)) (decide n own s) (λ a. P (Some a)) (ended is).0 (ended is).1) (λ _. none)
+
+  in_round : (s : Exchange) → (is_running n own s && is_over n own is_suspected s) ≡ true → s.round ≤ n
+  in_round s is = leb-true s.round n (and_parts (nat_le 1 s.round) _ (and_parts (is_running n own s) _ is).0).1
+
   wait_fewer : (s : Exchange) → IfSome (end_wait n own is_suspected s) (Fewer (waits_left n own s))
-  wait_fewer s =
-      cond_both _ _ _ (λ (o : Option (Answer Exchange)). IfSome o (Fewer (waits_left n own s)))
-      (λ runs. let high : s.round ≤ n = leb-true _ _ (and_parts (nat_le 1 s.round) (nat_le s.round n) (and_parts _ _ runs).0).1 in
-      cond_both _ _ _ (Fewer (waits_left n own s)) (λ early. let low : s.round < n = ltb-true _ _ early in omega arith) (λ _. omega arith)) (λ _. tt)
+  wait_fewer s = by_end s (λ o. IfSome o (Fewer (waits_left n own s))) tt (λ is. (λ early. let low : s.round < n = ltb-true _ _ early in omega arith, λ _. let high : s.round ≤ n = in_round s is in omega arith))
 
   abbrev at_most : ℕ → Exchange → Answer Exchange
   at_most k s = end_waits n own k is_suspected s
@@ -59,13 +67,12 @@ module _ (n own : ℕ) (is_suspected : ℕ → Bool) where
   module _ (first : 1 ≤ own) (last : own ≤ n) (not_itself : is_suspected own ≡ false) where
     -- without the own letter no wait is over
     needs_own : (s : Exchange) → s.kept s.round own ≡ None → end_wait n own is_suspected s ≡ None
-    needs_own s none =
-        cond_both _ _ _ (λ (o : Option (Answer Exchange)). o ≡ None)
-        (λ is. absurd (both_ways _ (ap (λ o. is_some o || is_suspected own) none ∙ not_itself) (all_each n (λ q. is_some (s.kept s.round q) || is_suspected q) own (and_parts (is_running n own s) _ is).1 first last))) (λ _. refl)
+    needs_own s none = by_end s (λ o. o ≡ None) refl (λ is. absurd (both_ways _ (ap (λ o. is_some o || is_suspected own) none ∙ not_itself)
+        (all_each n (λ q. is_some (s.kept s.round q) || is_suspected q) own (and_parts (is_running n own s) _ is).1 first last)))
 
     -- when a round is left, no own letter is kept
     left_none : (s : Exchange) → IsOrderly own s → (r : ℕ) → above s.round s.kept r own ≡ None
-    left_none s orderly r = cond_both _ _ _ (λ (o : Option Vector). o ≡ None) (λ _. refl) (λ is. orderly r (leb-false _ _ is))
+    left_none s orderly r = cond_both (nat_le r s.round) None (s.kept r own) (λ (o : Option Vector). o ≡ None) (λ _. refl) (λ is. orderly r (leb-false _ _ is))
 
     -- what ends a wait: nothing waits then, the process is orderly, and few actions are made
     abbrev IsQuiet : Answer Exchange → Type 0
@@ -83,13 +90,13 @@ module _ (n own : ℕ) (is_suspected : ℕ → Bool) where
 
     -- past the last round nothing waits
     ended : (s : Exchange) → n < s.round → end_wait n own is_suspected s ≡ None
-    ended s past = cond_both _ _ _ (λ (o : Option (Answer Exchange)). o ≡ None) (λ is. let high : s.round ≤ n = leb-true _ _ (and_parts (nat_le 1 s.round) _ (and_parts (is_running n own s) _ is).0).1 in absurd (omega arith)) (λ _. refl)
+    ended s past = by_end s (λ o. o ≡ None) refl (λ is. absurd (let high : s.round ≤ n = in_round s is in omega arith))
 
     end_quiet : (s : Exchange) → IsOrderly own s → IfSome (end_wait n own is_suspected s) IsQuiet
-    end_quiet s orderly =
-        cond_both _ _ _ (λ (o : Option (Answer Exchange)). IfSome o IsQuiet)
-        (λ _. cond_both _ _ _ IsQuiet (λ _. enter_quiet (s.round + 1) (gather n own s) (λ r later. left_none s orderly r))
-        (λ _. (ended (decide n own s).state (omega arith), (λ r later. left_none s orderly r), omega arith))) (λ _. tt)
+    end_quiet s orderly = by_end s (λ o. IfSome o IsQuiet) tt (λ is. (
+      λ _. enter_quiet (s.round + 1) (gather n own s) (λ r later. left_none s orderly r),
+      λ late. let high : n ≤ s.round = ltb-false _ _ late in (ended (decide n own s).state (omega arith), (λ r later. left_none s orderly r), omega arith),
+    ))
 
     -- what an input begins: the process stays orderly, and either few actions are made and no wait is over, or none is made
     abbrev Begun : Answer Exchange → Type 0
@@ -97,23 +104,26 @@ module _ (n own : ℕ) (is_suspected : ℕ → Bool) where
 
     keep_none : (s : Exchange) (sender round : ℕ) (cells : Vector) → IsOrderly own s → (nat_eq sender own && nat_lt s.round round) ≡ false
         → (r : ℕ) → s.round < r → keep s.kept round sender cells r own ≡ None
-    keep_none s sender round cells orderly is r later = cond_both _ _ _ (λ (o : Option Vector). o ≡ None) (λ here. absurd (never here is)) (λ _. orderly r later)
+    keep_none s sender round cells orderly is r later =
+        cond_both (nat_eq r round && nat_eq own sender) (Some (unwrap_or (s.kept round sender) cells)) (s.kept r own) (λ (o : Option Vector). o ≡ None) (λ here. absurd (never here is)) (λ _. orderly r later)
       where
         never : (nat_eq r round && nat_eq own sender) ≡ true → (nat_eq sender own && nat_lt s.round round) ≡ false → ⊥
         never here is = grind (later, here, is, arith, nat_tests)
 
     receive_cells_orderly : (sender round : ℕ) (cells : Vector) (s : Exchange) → IsOrderly own s → IsOrderly own (receive_cells n own sender round cells s)
     receive_cells_orderly sender round cells s orderly =
-        cond_both _ _ _ (IsOrderly own)
+        cond_both (is_timely n own s sender round cells) (record s { kept = keep s.kept round sender cells }) s (IsOrderly own)
         (λ is. keep_none s sender round cells orderly (not-true _ (and_parts (nat_le s.round round) _ (and_parts (nat_eq (length cells) n) _ (and_parts (nat_le sender n) _ (and_parts (is_running n own s) _ is).1).1).1).1)) (λ _. orderly)
 
     receive_orderly : (sender : ℕ) (what : Payload) (s : Exchange) → IsOrderly own s → IsOrderly own (receive n own sender what s)
-    receive_orderly sender (payload.Vector round cells) s orderly = cond_both _ _ _ (IsOrderly own) (λ _. receive_cells_orderly sender round cells s orderly) (λ _. orderly)
+    receive_orderly sender (payload.Vector round cells) s orderly =
+        cond_both (nat_le 1 round && nat_lt round n) (receive_cells n own sender round cells s) s (IsOrderly own) (λ _. receive_cells_orderly sender round cells s orderly) (λ _. orderly)
     receive_orderly sender (payload.Last cells) s orderly = receive_cells_orderly sender n cells s orderly
     receive_orderly sender what s orderly = orderly
 
     begun : (x : StepInput) (s : Exchange) → IsOrderly own s → Begun (begin n own x s)
-    begun input.Start s orderly = cond_both _ _ _ Begun (λ is. let quiet = enter_quiet 1 s (λ r later. orderly r (omega (arith, later, eqb-true s.round 0 is))) in (quiet.1, inl quiet)) (λ _. (orderly, inr refl))
+    begun input.Start s orderly =
+        cond_both (nat_eq s.round 0) (enter n own 1 s) (still s) Begun (λ is. let quiet = enter_quiet 1 s (λ r later. orderly r (omega (arith, later, eqb-true s.round 0 is))) in (quiet.1, inl quiet)) (λ _. (orderly, inr refl))
     begun (input.Letter sender what) s orderly = (receive_orderly sender what s orderly, inr refl)
     begun (input.Wake tag) s orderly = (orderly, inr refl)
 
