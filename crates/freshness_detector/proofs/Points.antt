@@ -49,7 +49,7 @@ module _ (place : Place) (numbers : FreshnessNumbers) (s : FreshnessState) (susp
     -- it is as late as the last point: q is no more suspected
     module _ (fresh : nat_le s.reached j ≡ true) where
       pub left_members : (p : ℕ) → set.contains (set.remove suspects q) p ≡ set.contains (suspected place numbers next) p
-      left_members p = contains-remove_is suspects q p ∙ left_by _ _ _ _ _ _ _ _ fresh (is_in p) (will_be p)
+      left_members p = contains-remove_is suspects q p ∙ left_by (is_process place.processes p) (watches place numbers p) (nat_le 1 s.reached) (s.came p s.reached) (nat_eq p q) (nat_le s.reached j) _ _ fresh (is_in p) (will_be p)
 
       pub left_notes : is_process place.processes q ≡ true → set.contains suspects q ≡ true → action.Note (note.Trust 1 q) ∷ [] ≡ noted place numbers s next
       left_notes one suspected_before =
@@ -59,7 +59,7 @@ module _ (place : Place) (numbers : FreshnessNumbers) (s : FreshnessState) (susp
     -- it is older than the last point, or q isn't suspected
     module _ (stays : (nat_le s.reached j && set.contains suspects q) ≡ false) where
       pub kept_members : (p : ℕ) → set.contains suspects p ≡ set.contains (suspected place numbers next) p
-      kept_members p = kept_by _ _ _ _ _ _ _ _ (λ e. ap (λ k. nat_le s.reached j && set.contains suspects k) (eqb-true p q e) ∙ stays) (is_in p) (will_be p)
+      kept_members p = kept_by (is_process place.processes p) (watches place numbers p) (nat_le 1 s.reached) (s.came p s.reached) (nat_eq p q) (nat_le s.reached j) _ _ (λ e. ap (λ k. nat_le s.reached j && set.contains suspects k) (eqb-true p q e) ∙ stays) (is_in p) (will_be p)
 
       pub kept_notes : [] ≡ noted place numbers s next
       kept_notes =

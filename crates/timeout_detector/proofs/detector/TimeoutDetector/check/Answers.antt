@@ -1,6 +1,7 @@
-use Rattle.std.proofs.Common.{ap, sym, ◌∙◌, ◌++◌, ◌&&◌, not, nat_le, ◌-◌, map, append_assoc}
+use Rattle.std.proofs.Common.{◌≡◌, ℕ, true, false, ap, sym, ◌∙◌, ◌++◌, ◌&&◌, not, nat_le, ◌-◌, map, append_assoc}
 use Rattle.std.proofs.Math.Bool.{and-false}
 use Rattle.std.proofs.lemmas.Result.{on_ok_weaker}
+use Rattle.std.specs.FinSet as set
 use Rattle.process_api.specs.Sets.{changes}
 use Rattle.process_api.specs.declared.action.Action.TheVariants.{Note}
 use Rattle.process_api.specs.Timeout.{next_check}
@@ -13,7 +14,8 @@ pub returns-clause-actions : goal.returns-clause-actions
 returns-clause-actions c =
     let d = c.args.self.now in
     let out = c.args.out.now.items in
-    let new = λ q h. ap (λ b. is_watched d q && (not b && nat_le ((state_of d).bound q) (c.args.now - (state_of d).last_heard q))) h ∙ and-false (is_watched d q) in
+    let new : (q : ℕ) → set.contains d.suspects q ≡ true → is_overdue d c.args.now q ≡ false =
+    λ q h. ap (λ b. is_watched d q && (not b && nat_le ((state_of d).bound q) (c.args.now - (state_of d).last_heard q))) h ∙ and-false (is_watched d q) in
     let noted =
     c.in_ok-note_changes.ensures
     ∙ ap (λ xs. out ++ xs) (ap (λ s. map Note (changes 1 d.opening.processes d.suspects s)) c.suspects_at-suspects.ensures.value ∙ notes-joined d.opening.processes d.suspects (is_overdue d c.args.now) new) in
