@@ -175,11 +175,13 @@ impl FreshnessDetector {
                 wake_after(out, numbers.eta, Tag::Beat)
             }
             StepInput::Wake(Tag::Check) => self.check(out),
-            StepInput::Letter {
-                sender,
-                payload: Payload::Heartbeat { number },
-            } if self.watches(*sender) => self.hear(*sender, *number, out),
-            _ => Ok(()),
+            StepInput::Letter { sender, payload } => match payload {
+                Payload::Heartbeat { number } if self.watches(*sender) => {
+                    self.hear(*sender, *number, out)
+                }
+                _ => Ok(()),
+            },
+            StepInput::Wake(_) => Ok(()),
         }
     }
 }
