@@ -3,7 +3,7 @@ use Rattle.std.proofs.Common.{◌≡◌, ℕ, ◌+◌, ◌-◌, ◌*◌, ◌<◌
 use Rattle.std.proofs.lemmas.Bool.{ltb-true}
 use Rattle.process_api.specs.declared.consensus.Estimate.{Estimate}
 use Rattle.process_api.specs.declared.consensus.Phase.{Phase}
-use Rattle.process_api.specs.declared.consensus.Phase.TheVariants.{Opening, Collect, Await, Tally, Decided, Ended}
+use Rattle.process_api.specs.declared.consensus.Phase.TheVariants.{Collect, Await, Tally}
 use Rattle.process_api.specs.Coordinator.{Coordinator, enter, leave, reply, end_wait, waits_left, end_waits, settle, begin, step_coordinator}
 use Rattle.process_api.specs.Answer.{Answer, after, still}
 use Rattle.process_api.specs.Rounds.{is_own, greatest_round}

@@ -1,5 +1,5 @@
 -- A process whose waits end, one after the other.
-use Rattle.std.proofs.Common.{◌≡◌, ℕ, ◌+◌, ◌<◌, refl, sym, ap, ◌∙◌, subst, Bool, true, false, cond, arith, Option, None, Some, IfSome, List, [], ◌++◌, append_assoc, append-nil, true≢false}
+use Rattle.std.proofs.Common.{◌≡◌, ℕ, ◌+◌, ◌<◌, refl, sym, ap, ◌∙◌, Bool, true, false, cond, arith, Option, None, Some, IfSome, List, [], ◌++◌, append_assoc, append-nil, true≢false}
 use Rattle.process_api.specs.Answer.{Answer, after, still}
 use Rattle.process_api.specs.Coordinator.{Coordinator, settle, end_wait, waits_left}
 use Rattle.process_api.specs.declared.action.Action.{Action}

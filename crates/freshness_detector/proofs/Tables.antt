@@ -1,9 +1,9 @@
 -- A table with one more heartbeat stands for the state that heard it.
-use Rattle.std.proofs.Common.{◌≡◌, ◌≢◌, ◌⊎◌, inl, inr, ℕ, ◌≤◌, ◌<◌, sym, ap, ◌∙◌, List, length, Bool, false, cond, ◌||◌, nat_le, Option, None, slice_index_or, slice_set, arith}
+use Rattle.std.proofs.Common.{◌≡◌, ◌≢◌, ◌⊎◌, inl, inr, ℕ, ◌<◌, sym, ap, ◌∙◌, List, length, Bool, false, cond, ◌||◌, nat_le, Option, None, slice_index_or, slice_set}
 use Rattle.std.proofs.lemmas.Bool.{cases_eq, eq-eqb, ne_eqb}
 use Rattle.std.proofs.lemmas.List.{get_or-set_same, get_or-set_other}
 use Rattle.std.specs.Option.{option_map_or}
-use Rattle.process_api.specs.Freshness.{heard, next}
+use Rattle.process_api.specs.Freshness.{heard}
 use Rattle.process_api.specs.Numbers.{change}
 use Rattle.process_api.specs.Place.{Place}
 use Rattle.process_api.specs.declared.numbers.FreshnessNumbers.{FreshnessNumbers}

@@ -1,5 +1,5 @@
 -- A base detector's step and then the reduction's are the step of the two together.
-use Rattle.std.proofs.Common.{◌≡◌, ◌+◌, ◌≤◌, ◌++◌, [], ℕ, List, length, ap, sym, subst, refl, ◌∙◌, arith, append_assoc, length-append, Option, None, Some}
+use Rattle.std.proofs.Common.{◌≡◌, ◌+◌, ◌≤◌, ◌++◌, [], ℕ, List, length, ap, sym, subst, refl, ◌∙◌, arith, append_assoc, length-append, None, Some}
 use Rattle.std.specs.List.{All}
 use Rattle.std.proofs.lemmas.List.Elements.{All-append, All-from_recursion}
 use Rattle.process_api.specs.Bounds.{most_processes, most_first_actions, most_second_actions}

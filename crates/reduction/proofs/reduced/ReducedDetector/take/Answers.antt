@@ -1,4 +1,4 @@
-use Rattle.std.proofs.Common.{◌≤◌, ap, sym, subst}
+use Rattle.std.proofs.Common.{◌≤◌, sym, subst}
 use Rattle.process_api.specs.Bounds.{most_processes}
 use Rattle.process_api.specs.Place.{Place}
 use Rattle.scenario_record.specs.Opening.{place_of}
