@@ -118,7 +118,7 @@ module _ (place : Place) (numbers : TimeoutNumbers) where
       go : ((is_process place.processes q && is_overdue place numbers s now q) ≡ true) ⊎ (set.contains s.suspects q ≡ true) → (set.contains s.suspects q ≡ true) ⊎ (is_other place.own place.processes q ≡ true)
       go (inl late) = inr (and_parts _ _ (and_parts _ _ (and_parts _ _ late).1).0).0
       go (inr before) = inl before
-  others_join s now (input.Letter k payload.Alive) q h = 
+  others_join s now (input.Letter k payload.Alive) q h =
       inl (by_letter s now k (λ a. set.contains a.state.suspects q ≡ true → set.contains s.suspects q ≡ true)
       (λ _ _ f. (and_parts (not (nat_eq q k)) _ (sym (contains-remove_is s.suspects k q) ∙ f)).1) (λ _ f. f) (λ _ f. f) h)
   others_join s now x q h = inl h
