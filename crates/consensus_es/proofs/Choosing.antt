@@ -1,85 +1,61 @@
 -- The best estimate has the largest stamp, and of those with that stamp the least sender.
-use Rattle.std.proofs.Common.{◌≡◌, ◌⊎◌, ℕ, zero, suc, ◌<◌, ◌≤◌, inl, inr, refl, sym, ap, ◌∙◌, subst, Bool, true, false, cond, arith, nat_lt, Option, None, Some, is_some, unwrap_or, true≢false}
-use Rattle.std.proofs.lemmas.Bool.{ltb-true, ltb-false}
+use Rattle.std.proofs.Common.{◌≡◌, ◌⊎◌, ℕ, zero, suc, ◌<◌, ◌≤◌, inl, inr, ⊎_elim, refl, sym, ap, ◌∙◌, subst, arith, Option, None, Some}
+use Rattle.std.proofs.lemmas.Bool.{ltb-true, ltb-false, cond_both}
+use Rattle.std.proofs.lemmas.Option.{none-some, same_Some}
 use Rattle.process_api.specs.Coordinator.{better, best_to}
 use Rattle.process_api.specs.declared.consensus.Estimate.{Estimate}
 use Rattle.consensus_es.specs.Laws.{IsBest, IsBehind}
-use Rattle.consensus_es.proofs.Bound.{none_some}
 
-some_same : {X : Type 0} (x y : X) → Some x ≡ Some y → x ≡ y
-some_same x y e = ap (λ o. unwrap_or o x) e
+-- the best, or that there is none
+abbrev Is : ℕ → (ℕ → Option Estimate) → Option Estimate → Type 0
+Is n f None = (p : ℕ) → 1 ≤ p → p ≤ n → f p ≡ None
+Is n f (Some e) = IsBest n f e
 
-last_or_before : (q n : ℕ) → q ≤ suc n → (q ≡ suc n) ⊎ (q ≤ n)
-last_or_before q n h = grind arith
+last_or : (p n : ℕ) → p ≤ suc n → (p ≡ suc n) ⊎ (p ≤ n)
+last_or p n h = grind arith
 
--- there is a best one where there is one at all
-best_there : (n : ℕ) (f : ℕ → Option Estimate) (q : ℕ) → 1 ≤ q → q ≤ n → (d : Estimate) → f q ≡ Some d → is_some (best_to n f) ≡ true
-best_there zero f q low high d at = absurd (omega arith)
-best_there (suc n) f q low high d at = go (best_to n f) (f (suc n)) refl refl (λ h. best_there n f q low h d at)
-  where
-    chosen : (a b : Estimate) (c : Bool) → is_some (cond c (Some b) (Some a)) ≡ true
-    chosen a b true = refl
-    chosen a b false = refl
+behind : (x y q m : ℕ) → x ≤ y → q ≤ m → (x < y) ⊎ ((x ≡ y) × (q ≤ m))
+behind x y q m h k = grind arith
 
-    go : (a b : Option Estimate) → best_to n f ≡ a → f (suc n) ≡ b → (q ≤ n → is_some (best_to n f) ≡ true) → is_some (better a b) ≡ true
-    go (Some a) (Some b) x y rest = chosen a b (nat_lt a.stamp b.stamp)
-    go (Some a) None x y rest = refl
-    go None (Some b) x y rest = refl
-    go None None x y rest = split (last_or_before q n high)
-      where
-        split : (q ≡ suc n) ⊎ (q ≤ n) → false ≡ true
-        split (inl s) = absurd (none_some d (sym y ∙ ap f (sym s) ∙ at))
-        split (inr s) = absurd (true≢false (sym (rest s) ∙ ap is_some x))
+less_by : (x y z q p : ℕ) → (x < y) ⊎ ((x ≡ y) × (q ≤ p)) → y < z → x < z
+less_by x y z q p h k = grind arith
 
-le_cases : (a b : ℕ) → a ≤ b → (a < b) ⊎ (a ≡ b)
-le_cases a b h = grind arith
+module _ (n : ℕ) (f : ℕ → Option Estimate) where
+  by_place : (A : ℕ → Type 0) → ((p : ℕ) → p ≤ n → A p) → A (suc n) → (p : ℕ) → p ≤ suc n → A p
+  by_place A early last p high = ⊎_elim (λ e. subst A (sym e) last) (early p) (last_or p n high)
+
+  -- the earlier best stays
+  stays : (a : Estimate) → ((d : Estimate) → f (suc n) ≡ Some d → d.stamp ≤ a.stamp) → IsBest n f a → IsBest (suc n) f a
+  stays a low b = (
+    b.0,
+    b.1,
+    omega (arith, b.2),
+    b.3,
+    λ p first high. by_place (λ p. 1 ≤ p → (d : Estimate) → f p ≡ Some d → IsBehind a b.0 p d) (λ p h one. b.4 p one h) (λ one d at. behind d.stamp a.stamp b.0 (suc n) (low d at) (omega (arith, b.2))) p high first,
+  )
+
+  -- the last is the best
+  wins : (b : Estimate) → f (suc n) ≡ Some b → ((p : ℕ) → 1 ≤ p → p ≤ n → (d : Estimate) → f p ≡ Some d → d.stamp < b.stamp) → IsBest (suc n) f b
+  wins b y less = (
+    suc n,
+    omega arith,
+    omega arith,
+    y,
+    λ p first high. by_place (λ p. 1 ≤ p → (d : Estimate) → f p ≡ Some d → IsBehind b (suc n) p d) (λ p h one d at. inl (less p one h d at)) (λ one d at. inr (ap (λ (z : Estimate). z.stamp) (same_Some d b (sym at ∙ y)), omega arith)) p high first,
+  )
+
+  next : (a b : Option Estimate) → f (suc n) ≡ b → Is n f a → Is (suc n) f (better a b)
+  next None None y none = λ p first high. by_place (λ p. 1 ≤ p → f p ≡ None) (λ p h one. none p one h) (λ one. y) p high first
+  next None (Some b) y none = wins b y (λ p first h d at. absurd (none-some d (sym (none p first h) ∙ at)))
+  next (Some a) None y best = stays a (λ d at. absurd (none-some d (sym y ∙ at))) best
+  next (Some a) (Some b) y best =
+      cond_both _ _ _ (Is (suc n) f)
+      (λ t. wins b y (λ p first h d at. less_by d.stamp a.stamp b.stamp best.0 p (best.4 p first h d at) (ltb-true _ _ t)))
+      (λ t. stays a (λ d at. subst (λ (z : Estimate). z.stamp ≤ a.stamp) (same_Some b d (sym y ∙ at)) (ltb-false _ _ t)) best)
+
+best : (n : ℕ) (f : ℕ → Option Estimate) → Is n f (best_to n f)
+best zero f = λ p first high. absurd (omega (arith, first, high))
+best (suc n) f = next n f (best_to n f) (f (suc n)) refl (best n f)
 
 pub best_is : (n : ℕ) (f : ℕ → Option Estimate) (e : Estimate) → best_to n f ≡ Some e → IsBest n f e
-best_is zero f e is = absurd (none_some e is)
-best_is (suc n) f e is = go (best_to n f) (f (suc n)) refl refl (best_is n f) is
-  where
-    Rest : Type 0
-    Rest = (e : Estimate) → best_to n f ≡ Some e → IsBest n f e
-
-    at_last : (o : Option Estimate) → f (suc n) ≡ o → (p : ℕ) (d : Estimate) → f p ≡ Some d → p ≡ suc n → o ≡ Some d
-    at_last o y p d at s = sym y ∙ ap f (sym s) ∙ at
-
-    by_place : (p : ℕ) → p ≤ suc n → (A : Type 0) → (p ≤ n → A) → (p ≡ suc n → A) → A
-    by_place p high A early last = split (last_or_before p n high)
-      where
-        split : (p ≡ suc n) ⊎ (p ≤ n) → A
-        split (inl s) = last s
-        split (inr s) = early s
-
-    stamps : (x y : Estimate) → Some x ≡ Some y → x.stamp ≡ y.stamp
-    stamps x y s = ap (λ (z : Estimate). z.stamp) (some_same x y s)
-
-    -- the earlier best stays
-    stays : (a : Estimate) → (o : Option Estimate) → f (suc n) ≡ o → ((d : Estimate) → o ≡ Some d → d.stamp ≤ a.stamp) → IsBest n f a → IsBest (suc n) f a
-    stays a o y low b = (b.0, b.1, omega (arith, b.2), b.3, λ p first high d at. by_place p high (IsBehind a b.0 p d) (λ h. b.4 p first h d at) (λ s. last p d (low d (at_last o y p d at s)) s))
-      where
-        last : (p : ℕ) (d : Estimate) → d.stamp ≤ a.stamp → p ≡ suc n → IsBehind a b.0 p d
-        last p d h s = split (le_cases d.stamp a.stamp h)
-          where
-            split : (d.stamp < a.stamp) ⊎ (d.stamp ≡ a.stamp) → IsBehind a b.0 p d
-            split (inl l) = inl l
-            split (inr l) = inr (l, omega (arith, b.2))
-
-    -- the last is the best
-    wins : (b : Estimate) → f (suc n) ≡ Some b → ((p : ℕ) → 1 ≤ p → p ≤ n → (d : Estimate) → f p ≡ Some d → d.stamp < b.stamp) → IsBest (suc n) f b
-    wins b y less = (suc n, omega arith, omega arith, y, λ p first high d at. by_place p high (IsBehind b (suc n) p d) (λ h. inl (less p first h d at)) (λ s. inr (sym (stamps b d (at_last (Some b) y p d at s)), omega arith)))
-
-    choose : (a b : Estimate) (c : Bool) → nat_lt a.stamp b.stamp ≡ c → best_to n f ≡ Some a → f (suc n) ≡ Some b → Rest → cond c (Some b) (Some a) ≡ Some e → IsBest (suc n) f e
-    choose a b true t x y rest is2 = subst (IsBest (suc n) f) (some_same b e is2) (wins b y (λ p first high d at. less p d ((rest a x).4 p first high d at)))
-      where
-        less : (p : ℕ) (d : Estimate) → IsBehind a (rest a x).0 p d → d.stamp < b.stamp
-        less p d (inl l) = let m : a.stamp < b.stamp = ltb-true _ _ t in omega arith
-        less p d (inr l) = let m : a.stamp < b.stamp = ltb-true _ _ t in omega (arith, l.0)
-    choose a b false t x y rest is2 =
-        subst (IsBest (suc n) f) (some_same a e is2) (stays a (Some b) y (λ d s. let m : b.stamp ≤ a.stamp = ltb-false _ _ t in let k : b.stamp ≡ d.stamp = stamps b d s in omega arith) (rest a x))
-
-    go : (a b : Option Estimate) → best_to n f ≡ a → f (suc n) ≡ b → Rest → better a b ≡ Some e → IsBest (suc n) f e
-    go (Some a) (Some b) x y rest is2 = choose a b (nat_lt a.stamp b.stamp) refl x y rest is2
-    go (Some a) None x y rest is2 = subst (IsBest (suc n) f) (some_same a e is2) (stays a None y (λ d s. absurd (none_some d s)) (rest a x))
-    go None (Some b) x y rest is2 = subst (IsBest (suc n) f) (some_same b e is2) (wins b y (λ p first high d at. absurd (true≢false (sym (best_there n f p first high d at) ∙ ap is_some x))))
-    go None None x y rest is2 = absurd (none_some e is2)
+best_is n f e is = subst (Is n f) is (best n f)

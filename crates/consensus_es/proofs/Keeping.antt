@@ -4,7 +4,7 @@ use Rattle.process_api.specs.Answer.{Answer, still}
 use Rattle.process_api.specs.declared.action.Action.{Action}
 use Rattle.process_api.specs.Coordinator.{Coordinator, keep}
 use Rattle.process_api.specs.declared.consensus.Estimate.{Estimate}
-use Rattle.consensus_es.specs.declared.letters.Letters.{Letters}
+use Rattle.process_api.specs.declared.letters.Letters.{Letters}
 use Rattle.consensus_es.specs.declared.progress.Progress.{Progress}
 use Rattle.consensus_es.specs.Kept.{by_sender}
 use Rattle.consensus_es.specs.State.{state_of, Does}

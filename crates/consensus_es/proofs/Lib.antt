@@ -1,5 +1,4 @@
-mod Rows
-mod Dropping
+mod Cases
 mod Settled
 mod Settling
 mod Keeping

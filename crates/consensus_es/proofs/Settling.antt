@@ -1,5 +1,5 @@
 -- A process whose waits end, one after the other.
-use Rattle.std.proofs.Common.{◌≡◌, ℕ, ◌+◌, ◌<◌, refl, sym, ap, ◌∙◌, subst, Bool, true, false, cond, arith, Option, None, Some, List, [], ◌++◌, append_assoc, append-nil, true≢false}
+use Rattle.std.proofs.Common.{◌≡◌, ℕ, ◌+◌, ◌<◌, refl, sym, ap, ◌∙◌, Bool, true, false, cond, arith, Option, None, Some, IfSome, List, [], ◌++◌, append_assoc, append-nil, true≢false}
 use Rattle.process_api.specs.Answer.{Answer, after, still}
 use Rattle.process_api.specs.Coordinator.{Coordinator, settle, end_wait, waits_left}
 use Rattle.process_api.specs.declared.action.Action.{Action}
@@ -43,18 +43,12 @@ module _ (n own : ℕ) (is_suspected : ℕ → Bool) where
           }
 
       pub going_fewer : Ends b s t out2 out3 (end_wait n own is_suspected (state_of s)) → waits_left n own (state_of t) + cond b 1 0 < waits_left n own (state_of s) + 1
-      going_fewer e = go (end_wait n own is_suspected (state_of s)) (wait_fewer n own is_suspected s.round s.estimate (state_of s).kept (state_of s).seen s.phase) e
+      going_fewer e = go (end_wait n own is_suspected (state_of s)) (wait_fewer n own is_suspected (state_of s)) e
         where
-          less : (w v : ℕ) → w ≡ v → b ≡ false → w + cond b 1 0 < v + 1
-          less w v e2 off = subst (λ z. w + cond z 1 0 < v + 1) (sym off) (omega (arith, e2))
-
-          less_more : (w u v : ℕ) → w ≡ u → u < v → b ≡ true → w + cond b 1 0 < v + 1
-          less_more w u v e2 h ok = subst (λ z. w + cond z 1 0 < v + 1) (sym ok) (omega (arith, e2, h))
-
-          go : (o : Option (Answer Coordinator)) → Fewer n own is_suspected (waits_left n own (state_of s)) o → Ends b s t out2 out3 o
+          go : (o : Option (Answer Coordinator)) → IfSome o (Fewer n own is_suspected (waits_left n own (state_of s))) → Ends b s t out2 out3 o
               → waits_left n own (state_of t) + cond b 1 0 < waits_left n own (state_of s) + 1
-          go None f (off, d) = less _ _ (ap (waits_left n own) d.state) off
-          go (Some a) f (ok, d) = less_more _ _ _ (ap (waits_left n own) d.state) f ok
+          go None f (off, d) = omega (arith, ap (waits_left n own) d.state, ap {B = ℕ} (λ (c : Bool). cond c 1 0) off)
+          go (Some a) f (ok, d) = omega (arith, f, ap (waits_left n own) d.state, ap {B = ℕ} (λ (c : Bool). cond c 1 0) ok)
 
     -- where no wait is over all is done
     pub gone : (s : Progress) (out2 : List Action) → Going first s out out2 false → Does s out out2 (settle n own is_suspected (still (state_of first)))

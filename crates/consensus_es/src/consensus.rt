@@ -6,9 +6,8 @@ ghost use Rattle.scenario_record.specs.Opening.{place_of};
 ghost use Rattle.consensus_es.specs.Orderly.{IsOrderly};
 ghost use Rattle.consensus_es.specs.State.{state_of};
 
-use crate::membership::Membership;
 use crate::progress::Progress;
-use process_api::{Action, Algorithm, ProcSet, StepInput};
+use process_api::{Action, Algorithm, Membership, ProcSet, StepInput};
 use scenario_record::Opening;
 use std::alloc::{AllocError, Global};
 

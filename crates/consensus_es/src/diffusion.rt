@@ -2,8 +2,7 @@
 ghost use Rattle.std.specs.Prelude.{◌≡◌, ◌++◌, [], OnOk, OnErr, IfOk, not, if◌then◌else◌};
 ghost use Rattle.process_api.specs.Diffusion.{none_seen, also_seen, broadcast as broadcast_of, relay as relay_of};
 
-use crate::membership::Membership;
-use process_api::{Action, Payload, send_to};
+use process_api::{Action, Membership, Payload, send_to_all};
 use std::alloc::{AllocError, Global};
 use std::collections::BTreeSet;
 
@@ -77,14 +76,7 @@ impl Diffusion {
     ) -> Result<(), AllocError>
         ensures { OnOk result (out.new.items ≡ out.old.items ++ broadcast_of membership.now.processes round value) }
     {
-        for before in 0..membership.processes {
-            send_to(
-                out,
-                membership.process(before),
-                Payload::Decide { round, value },
-            )?;
-        }
-        Ok(())
+        send_to_all(out, membership.processes, &Payload::Decide { round, value })
     }
 }
 

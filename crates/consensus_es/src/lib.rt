@@ -23,15 +23,11 @@
 mod consensus;
 mod diffusion;
 mod laws;
-mod letters;
-mod membership;
 mod progress;
 mod proposals;
-mod row;
 
 pub use consensus::EsConsensus;
 pub use diffusion::Diffusion;
 pub use laws::law_settled;
-pub use letters::Letters;
-pub use membership::Membership;
+pub use process_api::{Letters, Membership};
 pub use progress::{Progress, best};

@@ -12,11 +12,10 @@ ghost use Rattle.consensus_es.specs.Kept.{by_sender};
 ghost use Rattle.consensus_es.specs.State.{state_of, Does, Ends, is_collecting, acks_of};
 
 use crate::diffusion::Diffusion;
-use crate::letters::Letters;
-use crate::membership::Membership;
 use crate::proposals::Proposals;
 use process_api::{
-    Action, Estimate, Note, Payload, Phase, Pid, ProcSet, StepInput, note_that, send_to,
+    Action, Estimate, Letters, Membership, Note, Payload, Phase, Pid, ProcSet, StepInput,
+    note_that, send_to, send_to_all,
 };
 use std::alloc::{AllocError, Global};
 
@@ -225,7 +224,11 @@ impl Progress {
             value,
             stamp: self.estimate.stamp,
         };
-        propose(membership, round, value, out)?;
+        send_to_all(
+            out,
+            membership.processes,
+            &Payload::Proposal { round, value },
+        )?;
         Ok(true)
     }
 
@@ -464,7 +467,7 @@ pub fn best(estimates: &Letters<Estimate>, membership: &Membership, round: u64) 
     };
     let mut chosen: Option<Estimate> = None;
     for before in 0..membership.processes {
-        chosen = better(chosen, row.get(membership.process(before)));
+        chosen = better(chosen, row.get(membership.process(before)).copied());
     }
     chosen
 }
@@ -478,32 +481,15 @@ fn count_acks(replies: &Letters<bool>, membership: &Membership, round: u64) -> u
     };
     let mut count: u16 = 0;
     for before in 0..membership.processes {
-        let ack = row.get(membership.process(before)).unwrap_or(false);
+        let ack = row
+            .get(membership.process(before))
+            .copied()
+            .unwrap_or(false);
         if ack {
             count += 1;
         }
     }
     count
-}
-
-/// Proposes a value to all, in order.
-fn propose(
-    membership: &Membership,
-    round: u64,
-    value: u32,
-    out: &mut Vec<Action>,
-) -> Result<(), AllocError>
-    ensures { OnOk result (
-        out.new.items ≡ out.old.items ++ to_all membership.now.processes (Payload.Proposal round value)) }
-{
-    for before in 0..membership.processes {
-        send_to(
-            out,
-            membership.process(before),
-            Payload::Proposal { round, value },
-        )?;
-    }
-    Ok(())
 }
 
 /// Notes a decision, where none was made before.

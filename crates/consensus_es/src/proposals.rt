@@ -12,7 +12,8 @@ pub struct Proposals {
 }
 
 impl Proposals {
-    ghost use Rattle.consensus_es.specs.Kept.{of_round, no_proposals, since_round};
+    ghost use Rattle.consensus_es.specs.Kept.{of_round, no_proposals};
+    ghost use Rattle.process_api.specs.Letters.{since_round};
 
     /// No proposals.
     pub fn new(alloc: Global) -> Proposals
@@ -44,11 +45,6 @@ impl Proposals {
     pub fn drop_before(&mut self, round: u64)
         ensures { of_round self.new ≡ since_round round (of_round self.old) }
     {
-        while let Some((first, _)) = self.by_round.first_key_value() {
-            if *first >= round {
-                break;
-            }
-            let _ = self.by_round.pop_first();
-        }
+        self.by_round.retain(|kept, _| *kept >= round);
     }
 }

@@ -1,19 +1,10 @@
 -- What holds of 1 to n, looked at one by one.
 use Rattle.std.proofs.Common.{◌≡◌, ◌⊎◌, inl, inr, ℕ, zero, suc, ◌+◌, ◌≤◌, ◌<◌, refl, sym, ap, ◌∙◌, Bool, true, false, ◌&&◌, ◌||◌, Option, None, Some, is_some, true≢false, List, [], ◌∷◌, ◌++◌, map, arith}
-use Rattle.std.proofs.lemmas.List.{map-append}
-use Rattle.process_api.specs.Numbers.{numbers_to}
-use Rattle.process_api.specs.ConsensusS.{all_to, any_to, cells_of, first_to, or_else}
+use Rattle.std.proofs.Math.Bool.{and-false, or-true}
+use Rattle.process_api.specs.ConsensusS.{all_to, any_to, first_to, or_else}
 
 at_last : (q n : ℕ) → q ≤ suc n → (q ≡ suc n) ⊎ (q ≤ n)
 at_last q n h = grind arith
-
-and_false : (a : Bool) → (a && false) ≡ false
-and_false true = refl
-and_false false = refl
-
-or_true : (a : Bool) → (a || true) ≡ true
-or_true true = refl
-or_true false = refl
 
 -- one that isn't meant is enough
 pub all_fails : (n : ℕ) (which : ℕ → Bool) (q : ℕ) → 1 ≤ q → q ≤ n → which q ≡ false → all_to n which ≡ false
@@ -21,7 +12,7 @@ all_fails zero which q low high none = absurd (omega arith)
 all_fails (suc n) which q low high none = go (at_last q n high) (λ h. all_fails n which q low h none)
   where
     go : (q ≡ suc n) ⊎ (q ≤ n) → (q ≤ n → all_to n which ≡ false) → (all_to n which && which (suc n)) ≡ false
-    go (inl e) before = ap (λ b. all_to n which && b) (ap which (sym e) ∙ none) ∙ and_false (all_to n which)
+    go (inl e) before = ap (λ b. all_to n which && b) (ap which (sym e) ∙ none) ∙ and-false (all_to n which)
     go (inr h) before = ap (λ b. b && which (suc n)) (before h)
 
 -- one that is meant is enough
@@ -30,7 +21,7 @@ any_holds zero which q low high one = absurd (omega arith)
 any_holds (suc n) which q low high one = go (at_last q n high) (λ h. any_holds n which q low h one)
   where
     go : (q ≡ suc n) ⊎ (q ≤ n) → (q ≤ n → any_to n which ≡ true) → (any_to n which || which (suc n)) ≡ true
-    go (inl e) before = ap (λ b. any_to n which || b) (ap which (sym e) ∙ one) ∙ or_true (any_to n which)
+    go (inl e) before = ap (λ b. any_to n which || b) (ap which (sym e) ∙ one) ∙ or-true (any_to n which)
     go (inr h) before = ap (λ b. b || which (suc n)) (before h)
 
 -- the first that has a value gives it
@@ -50,18 +41,3 @@ first_is {X = X} (suc n) k value_of found less before here some = go (last k n l
         let next : k + 1 ≡ suc n = omega (arith, e) in
         ap (λ o. or_else o (value_of (suc n))) (ap (λ m. first_to m value_of) (sym e) ∙ before) ∙ (ap value_of (sym next) ∙ here)
     go (inr h) earlier = ap (λ o. or_else o (value_of (suc n))) (earlier h) ∙ stays found (value_of (suc n)) some
-
--- one cell more, where a vector has the cells of the first processes
-pub cells_more : (f : ℕ → Option ℕ) (n k : ℕ) (xs ys : List (Option ℕ)) (v : Option ℕ) → k ≡ n + 1 → xs ≡ cells_of n f → v ≡ f k → ys ≡ xs ++ v ∷ [] → ys ≡ cells_of (n + 1) f
-cells_more f n k xs ys v here so_far is more =
-    let next : suc n ≡ n + 1 = omega arith in
-    let at : k ≡ suc n = omega arith in
-    more ∙ (λ i. so_far i ++ is i ∷ []) ∙ (λ i. map f (numbers_to n) ++ f (at i) ∷ []) ∙ sym (map-append f (numbers_to n) (suc n ∷ [])) ∙ (λ i. map f (numbers_to (next i)))
-
-pub or_else_none : (o other : Option ℕ) → is_some o ≡ false → other ≡ or_else o other
-or_else_none None other none = refl
-or_else_none (Some x) other none = absurd (true≢false none)
-
-pub or_else_some : (o other : Option ℕ) → is_some o ≡ true → o ≡ or_else o other
-or_else_some None other some = absurd (true≢false (sym some))
-or_else_some (Some x) other some = refl

@@ -1,4 +1,2 @@
 pub mod Counting
-pub mod Rows
 pub mod Settled
-pub mod Allowed

@@ -1,15 +1,15 @@
 //! The exchange of vectors at one process.
 ghost use Rattle.std.specs.Prelude.{◌≡◌, ◌≤◌, ◌<◌, ◌+◌, ◌++◌, false, IfOk, OnOk, length};
 ghost use Rattle.std.specs.FinSet as set;
-ghost use Rattle.process_api.specs.Answer.{to_all};
-ghost use Rattle.process_api.specs.Bounds.{most_processes};
 ghost use Rattle.process_api.specs.ConsensusS.{opening_exchange, step_exchange};
 ghost use Rattle.process_api.specs.ConsensusS.{begin as begun, decide as decided, enter as entered, gather as gathered, is_running as is_running_in, is_timely as is_timely_for, receive as received, receive_cells as received_cells};
 ghost use Rattle.consensus_s.specs.State.{end_one, exchange_of, IsOrderly};
 
-use crate::letters::Letters;
+use crate::letters::{is_over, keep, leave};
 use crate::vectors::{common_after, first_value, known_after, known_at_first, news_after};
-use process_api::{Action, Cells, Note, Payload, Pid, ProcSet, StepInput, note_that, send_to};
+use process_api::{
+    Action, Cells, Letters, Note, Payload, Pid, ProcSet, StepInput, note_that, send_to_all,
+};
 use scenario_record::Opening;
 use std::alloc::{AllocError, Global};
 
@@ -23,7 +23,7 @@ pub(crate) struct Exchange {
     known: Cells,
     // of these the ones that the round before brought
     news: Cells,
-    letters: Letters,
+    letters: Letters<Cells>,
 }
 
 impl Exchange {
@@ -44,13 +44,14 @@ impl Exchange {
 
     /// Takes what the letters of the round tell, and leaves the round.
     fn gather(&mut self, opening: &Opening) -> Result<(), AllocError>
+        requires { self.old.round ≤ opening.now.processes }
         ensures { OnOk result (exchange_of self.new
             ≡ gathered opening.now.processes opening.now.own (exchange_of self.old)) }
     {
         let n = opening.processes;
         let known = known_after(self.alloc, &self.letters, n, self.round, &self.known)?;
         let news = news_after(self.alloc, &self.letters, n, self.round, &self.known)?;
-        self.letters.leave(self.round);
+        leave(&mut self.letters, self.round);
         self.known = known;
         self.news = news;
         Ok(())
@@ -71,9 +72,11 @@ impl Exchange {
         let n = opening.processes;
         note_that(out, Note::Round(round))?;
         if round < u64::from(n) {
-            send_vectors(n, round, &self.news, out)?;
+            let cells = self.news.copy()?;
+            send_to_all(out, n, &Payload::Vector { round, cells })?;
         } else {
-            send_lasts(n, &self.known, out)?;
+            let cells = self.known.copy()?;
+            send_to_all(out, n, &Payload::Last { cells })?;
         }
         self.round = round;
         Ok(())
@@ -81,6 +84,7 @@ impl Exchange {
 
     /// Decides after the last round.
     fn decide(&mut self, opening: &Opening, out: &mut Vec<Action>) -> Result<(), AllocError>
+        requires { self.old.round ≤ opening.now.processes }
         ensures state { OnOk result (exchange_of self.new
             ≡ (decided opening.now.processes opening.now.own (exchange_of self.old)).state) }
         ensures actions { OnOk result (out.new.items ≡ out.old.items
@@ -93,7 +97,7 @@ impl Exchange {
             None => Note::NoValue,
         };
         note_that(out, note)?;
-        self.letters.leave(self.round);
+        leave(&mut self.letters, self.round);
         self.known = common;
         self.round = u64::from(n) + 1;
         Ok(())
@@ -114,7 +118,7 @@ impl Exchange {
             (set.contains suspects.now) (exchange_of self.old)).actions) }
     {
         let n = opening.processes;
-        if !self.is_running(opening) || !self.letters.is_over(n, self.round, suspects) {
+        if !self.is_running(opening) || !is_over(&self.letters, n, self.round, suspects) {
             return Ok(());
         }
         if self.round < u64::from(n) {
@@ -158,7 +162,7 @@ impl Exchange {
             ≡ received_cells opening.now.processes opening.now.own sender round cells.now (exchange_of self.old)) }
     {
         if self.is_timely(opening, sender, round, cells) {
-            self.letters.keep(round, sender, cells)?;
+            keep(&mut self.letters, round, sender, cells)?;
         }
         Ok(())
     }
@@ -237,28 +241,4 @@ impl Exchange {
         self.begin(opening, input, out)?;
         self.end_wait(opening, suspects, out)
     }
-}
-
-/// Sends the vector of a round to all.
-fn send_vectors(n: u16, round: u64, cells: &Cells, out: &mut Vec<Action>) -> Result<(), AllocError>
-    requires { n ≤ most_processes }
-    ensures { OnOk result (out.new.items ≡ out.old.items ++ to_all n (Payload.Vector round cells.now)) }
-{
-    for before in 0..n {
-        let cells = cells.copy()?;
-        send_to(out, Pid::after(before), Payload::Vector { round, cells })?;
-    }
-    Ok(())
-}
-
-/// Sends the last vector to all.
-fn send_lasts(n: u16, cells: &Cells, out: &mut Vec<Action>) -> Result<(), AllocError>
-    requires { n ≤ most_processes }
-    ensures { OnOk result (out.new.items ≡ out.old.items ++ to_all n (Payload.Last cells.now)) }
-{
-    for before in 0..n {
-        let cells = cells.copy()?;
-        send_to(out, Pid::after(before), Payload::Last { cells })?;
-    }
-    Ok(())
 }

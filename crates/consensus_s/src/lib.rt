@@ -22,7 +22,6 @@ mod exchange;
 mod laws;
 mod letters;
 mod machine;
-mod row;
 mod vectors;
 
 pub use laws::law_settled;

@@ -1,13 +1,27 @@
 //! Vectors of proposals after a round.
-ghost use Rattle.std.specs.Prelude.{◌≡◌, ◌≤◌, nat_eq, is_some, None, Some, if◌then◌else◌, IfOk};
+ghost use Rattle.std.specs.Prelude.{◌≡◌, ◌≤◌, ℕ, Option, nat_eq, is_some, None, Some, if◌then◌else◌, IfOk};
 ghost use Rattle.process_api.specs.Bounds.{most_processes};
 ghost use Rattle.process_api.specs.Cells.{cell};
 ghost use Rattle.process_api.specs.ConsensusS.{cells_of, first_to, or_else};
 ghost use Rattle.consensus_s.specs.Kept.{kept_of, missed_in, told_in};
 
-use crate::letters::Letters;
-use process_api::{Cells, Pid};
+use crate::letters::{is_missed, told};
+use process_api::{Cells, Letters, Pid};
 use std::alloc::{AllocError, Global};
+
+/// The vector of `n` cells, each made from its process.
+fn cells_by<F: Fn(Pid) -> Option<u32>>(alloc: Global, n: u16, cell: F) -> Result<Cells, AllocError>
+    requires few { n ≤ most_processes }
+    requires called { F.IsAlwaysCallable cell }
+    ensures { IfOk result (λ c. (value_of : ℕ → Option ℕ)
+        → ((k : ℕ) (value : Option ℕ) → F.post cell k value → value ≡ value_of k) → c ≡ cells_of n value_of) }
+{
+    let mut cells = Vec::new(alloc);
+    for before in 0..n {
+        cells.push(cell(Pid::after(before)))?;
+    }
+    Ok(Cells::new(cells))
+}
 
 /// What a process knows as it opens: its own proposal.
 pub(crate) fn known_at_first(
@@ -19,22 +33,13 @@ pub(crate) fn known_at_first(
     requires { n ≤ most_processes }
     ensures { IfOk result (λ c. c ≡ cells_of n (λ k. if nat_eq k own then Some proposal else None)) }
 {
-    let mut cells = Vec::new(alloc);
-    for before in 0..n {
-        let value = if Pid::after(before) == own {
-            Some(proposal)
-        } else {
-            None
-        };
-        cells.push(value)?;
-    }
-    Ok(Cells::new(cells))
+    cells_by(alloc, n, |k| if k == own { Some(proposal) } else { None })
 }
 
 /// What is known after a round: each empty cell takes what the letters tell.
 pub(crate) fn known_after(
     alloc: Global,
-    letters: &Letters,
+    letters: &Letters<Cells>,
     n: u16,
     round: u64,
     known: &Cells,
@@ -43,22 +48,16 @@ pub(crate) fn known_after(
     ensures { IfOk result (λ c.
         c ≡ cells_of n (λ k. or_else (cell known.now k) (told_in n (kept_of letters.now) round k))) }
 {
-    let mut cells = Vec::new(alloc);
-    for before in 0..n {
-        let k = Pid::after(before);
-        let mut value = known.get(k);
-        if value.is_none() {
-            value = letters.told(n, round, k);
-        }
-        cells.push(value)?;
-    }
-    Ok(Cells::new(cells))
+    cells_by(alloc, n, |k| match known.get(k) {
+        Some(value) => Some(value),
+        None => told(letters, n, round, k),
+    })
 }
 
 /// What a round brought: what the letters tell of the empty cells.
 pub(crate) fn news_after(
     alloc: Global,
-    letters: &Letters,
+    letters: &Letters<Cells>,
     n: u16,
     round: u64,
     known: &Cells,
@@ -67,22 +66,16 @@ pub(crate) fn news_after(
     ensures { IfOk result (λ c. c ≡ cells_of n (λ k.
         if is_some (cell known.now k) then None else told_in n (kept_of letters.now) round k)) }
 {
-    let mut cells = Vec::new(alloc);
-    for before in 0..n {
-        let k = Pid::after(before);
-        let mut value = None;
-        if known.get(k).is_none() {
-            value = letters.told(n, round, k);
-        }
-        cells.push(value)?;
-    }
-    Ok(Cells::new(cells))
+    cells_by(alloc, n, |k| match known.get(k) {
+        Some(_) => None,
+        None => told(letters, n, round, k),
+    })
 }
 
 /// What all that were heard of in the last round know.
 pub(crate) fn common_after(
     alloc: Global,
-    letters: &Letters,
+    letters: &Letters<Cells>,
     n: u16,
     round: u64,
     known: &Cells,
@@ -91,16 +84,13 @@ pub(crate) fn common_after(
     ensures { IfOk result (λ c. c ≡ cells_of n (λ k.
         if missed_in n (kept_of letters.now) round k then None else cell known.now k)) }
 {
-    let mut cells = Vec::new(alloc);
-    for before in 0..n {
-        let k = Pid::after(before);
-        let mut value = None;
-        if !letters.is_missed(n, round, k) {
-            value = known.get(k);
+    cells_by(alloc, n, |k| {
+        if is_missed(letters, n, round, k) {
+            None
+        } else {
+            known.get(k)
         }
-        cells.push(value)?;
-    }
-    Ok(Cells::new(cells))
+    })
 }
 
 /// The first value of a vector.

@@ -1,9 +1,9 @@
 -- A table with one more heartbeat stands for the state that heard it.
-use Rattle.std.proofs.Common.{◌≡◌, ◌≢◌, ◌⊎◌, inl, inr, ℕ, ◌≤◌, ◌<◌, sym, ap, ◌∙◌, List, length, Bool, false, cond, ◌||◌, nat_le, Option, None, slice_index_or, slice_set, arith}
+use Rattle.std.proofs.Common.{◌≡◌, ◌≢◌, ◌⊎◌, inl, inr, ℕ, ◌<◌, sym, ap, ◌∙◌, List, length, Bool, false, cond, ◌||◌, nat_le, Option, None, slice_index_or, slice_set}
 use Rattle.std.proofs.lemmas.Bool.{cases_eq, eq-eqb, ne_eqb}
 use Rattle.std.proofs.lemmas.List.{get_or-set_same, get_or-set_other}
 use Rattle.std.specs.Option.{option_map_or}
-use Rattle.process_api.specs.Freshness.{heard, next}
+use Rattle.process_api.specs.Freshness.{heard}
 use Rattle.process_api.specs.Numbers.{change}
 use Rattle.process_api.specs.Place.{Place}
 use Rattle.process_api.specs.declared.numbers.FreshnessNumbers.{FreshnessNumbers}
@@ -31,10 +31,3 @@ module _ (latest : List (Option ℕ)) (q j : ℕ) (g : Option ℕ) (inside : q <
 
   pub heard_tables : (sent reached : ℕ) (place : Place) (numbers : FreshnessNumbers) → state_by sent reached (slice_set latest q g) ≡ heard place numbers (state_by sent reached latest) q j
   heard_tables sent reached place numbers = λ k. record { sent = sent; reached = reached; came = λ p i. at p i k }
-
--- the next point is none before the last, nor before the first
-pub next_above : (i n : ℕ) → n ≡ next i → i ≤ 1000000000000 → (1 ≤ n) × (i ≤ n)
-next_above i n e h = (grind (e, h, arith), grind (e, h, arith))
-
-pub next_counted : (i n : ℕ) → n ≡ next i → n ≤ 1000000000000
-next_counted i n e = grind (e, arith)

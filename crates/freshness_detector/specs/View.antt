@@ -1,11 +1,10 @@
 -- What a detector is, as plain data.
-use Rattle.std.specs.Prelude.{ℕ, Bool, not, ◌&&◌, List, filter}
-use Rattle.std.specs.FinSet as set
+use Rattle.std.specs.Prelude.{ℕ, Bool, List}
 use Rattle.process_api.specs.Answer.{Answer}
 use Rattle.process_api.specs.Detector.{ByFreshness}
-use Rattle.process_api.specs.Freshness.{FreshnessState, watches, noted, next_check, heard, checked, step_freshness}
+use Rattle.process_api.specs.Freshness.{FreshnessState, watches, is_stale, suspected, noted, next_check, heard, checked, step_freshness}
 use Rattle.process_api.specs.Mind.{Lower}
-use Rattle.process_api.specs.Numbers.{numbers_to}
+use Rattle.process_api.specs.Sets.{Processes}
 use Rattle.process_api.specs.declared.action.Action.{Action}
 use Rattle.process_api.specs.declared.message.StepInput.{StepInput}
 use Rattle.scenario_record.specs.Opening.{place_of, base_of}
@@ -39,11 +38,9 @@ next_check_of d = next_check (place_of d.opening) d.numbers
 abbrev pub answer_of : FreshnessDetector → StepInput → Answer FreshnessState
 answer_of d = step_freshness (place_of d.opening) d.numbers (state_of d)
 
--- q becomes suspected as a point is reached: it is watched and not yet suspected, and no heartbeat of the point's
--- number or later came from it
-abbrev pub is_late : FreshnessDetector → (point : ℕ) → ℕ → Bool
-is_late d point q = is_watched d q && (not (set.contains d.suspects q) && not ((state_of d).came q point))
+-- whether it suspects q once a point is reached, and whom
+abbrev pub is_stale_at : FreshnessDetector → (point : ℕ) → ℕ → Bool
+is_stale_at d point = is_stale (place_of d.opening) d.numbers (record (state_of d) { reached = point })
 
--- all of these, in rising order
-abbrev pub late_ones : FreshnessDetector → (point : ℕ) → List ℕ
-late_ones d point = filter (is_late d point) (numbers_to d.opening.processes)
+abbrev pub suspected_at : FreshnessDetector → (point : ℕ) → Processes
+suspected_at d point = suspected (place_of d.opening) d.numbers (record (state_of d) { reached = point })

@@ -2,17 +2,15 @@
 ghost use Rattle.std.specs.Prelude.{◌≡◌, ◌≤◌, ◌+◌, ◌++◌, ◌&&◌, nat_le, false, true, IsTrue, IfOk, OnOk, map, vec_len};
 ghost use Rattle.std.specs.FinSet as set;
 ghost use Rattle.process_api.specs.Detector.{is_freshness};
-ghost use Rattle.process_api.specs.Sets.{insert_all};
 ghost use Rattle.process_api.specs.declared.numbers.DetectorNumbers.TheVariants.{Freshness};
 ghost use Rattle.scenario_record.specs.Numbers.{AreFreshnessInRange};
 ghost use Rattle.scenario_record.specs.Opening.{base_of};
 ghost use Rattle.freshness_detector.specs.Tables.{state_by, AreSuspects};
 
 use crate::count::{greatest, has_come, next};
-use crate::heartbeat::send_heartbeat;
 use process_api::{
     Action, Detector, DetectorNumbers, FreshnessNumbers, Note, Payload, Pid, ProcSet, StepInput,
-    Tag, note_that, wake_after,
+    Tag, note_changes, note_that, send_to_others, wake_after,
 };
 use scenario_record::Opening;
 use std::alloc::{AllocError, Global};
@@ -37,12 +35,11 @@ pub struct FreshnessDetector {
     ghost kind: { opening.detector ≡ Freshness numbers },
     ghost ranges: { AreFreshnessInRange numbers },
     ghost places: { vec_len latest ≡ opening.processes + 1 },
-    ghost counted: { reached ≤ 1000000000000 },
     ghost current: { AreSuspects opening numbers (state_by sent reached latest.items) suspects },
 }
 
 impl FreshnessDetector {
-    ghost use Rattle.freshness_detector.specs.View.{state_of, is_watched, is_late, late_ones, checked_by, heard_by, noted_by, next_check_of, answer_of};
+    ghost use Rattle.freshness_detector.specs.View.{state_of, is_watched, is_stale_at, suspected_at, checked_by, heard_by, noted_by, next_check_of, answer_of};
 
     /// The detector with which a process opens that has the numbers of this kind: it sent no heartbeat, reached no
     /// point and suspects nobody. Its table has a place for each process, and nothing else in it needs memory.
@@ -75,33 +72,27 @@ impl FreshnessDetector {
             .takes_in(self.opening.own, self.opening.processes, q)
     }
 
-    /// Whether a process becomes suspected as a point is reached: it is watched and not yet suspected, and no heartbeat
-    /// of the point's number or later came from it.
-    fn is_late(&self, point: u64, q: Pid) -> bool
+    /// Whether a process is suspected once a point is reached: it is watched, and no heartbeat of the point's number or
+    /// later came from it.
+    fn is_stale(&self, point: u64, q: Pid) -> bool
         requires { q ≤ self.now.opening.processes }
-        ensures { result ≡ is_late self.now point q }
+        ensures { result ≡ is_stale_at self.now point q }
     {
-        self.watches(q)
-            && !self.suspects.contains(q)
-            && !has_come(self.latest[usize::from(q.number())], point)
+        self.watches(q) && 1 <= point && !has_come(self.latest[usize::from(q.number())], point)
     }
 
-    /// Whom it suspects once a point is reached: those that it suspects already, and all that are late, in rising
-    /// order, each with its note.
-    fn suspects_at(&self, point: u64, out: &mut Vec<Action>) -> Result<ProcSet, AllocError>
-        ensures set { IfOk result (λ s. s ≡ insert_all self.now.suspects (late_ones self.now point)) }
-        ensures notes { OnOk result (
-            out.new.items ≡ out.old.items ++ map (λ q. Action.Note (Note.Suspect 1 q)) (late_ones self.now point)) }
+    /// Whom it suspects once a point is reached.
+    fn suspects_at(&self, point: u64) -> ProcSet
+        ensures { result ≡ suspected_at self.now point }
     {
-        let mut suspects = self.suspects.copy();
+        let mut suspects = ProcSet::new();
         for before in 0..self.opening.processes {
             let q = Pid::after(before);
-            if self.is_late(point, q) {
+            if self.is_stale(point, q) {
                 suspects.insert(q);
-                note_that(out, Note::Suspect { layer: 1, who: q })?;
             }
         }
-        Ok(suspects)
+        suspects
     }
 
     /// Reaches the next point, and asks for the one after it.
@@ -117,7 +108,8 @@ impl FreshnessDetector {
         ensures failure { self.new.has_failed ≡ self.old.has_failed }
     {
         let point = next(self.reached);
-        let suspects = self.suspects_at(point, out)?;
+        let suspects = self.suspects_at(point);
+        note_changes(out, 1, self.opening.processes, &self.suspects, &suspects)?;
         self.reached = point;
         self.suspects = suspects;
         wake_after(out, self.numbers.eta, Tag::Check)
@@ -154,30 +146,6 @@ impl FreshnessDetector {
         Ok(())
     }
 
-    /// Takes a letter.
-    fn receive(
-        &mut self,
-        sender: Pid,
-        payload: &Payload,
-        out: &mut Vec<Action>,
-    ) -> Result<(), AllocError>
-        ensures state { OnOk result (
-            state_of self.new ≡ (answer_of self.old (StepInput.Letter sender payload.now)).state) }
-        ensures actions { OnOk result (
-            out.new.items ≡ out.old.items ++ (answer_of self.old (StepInput.Letter sender payload.now)).actions) }
-
-        ensures opening { self.new.opening ≡ self.old.opening }
-        ensures numbers { self.new.numbers ≡ self.old.numbers }
-        ensures failure { self.new.has_failed ≡ self.old.has_failed }
-    {
-        match payload {
-            Payload::Heartbeat { number } if self.watches(sender) => {
-                self.hear(sender, *number, out)
-            }
-            _ => Ok(()),
-        }
-    }
-
     /// Takes one input. After an `Err` the tables are of no use.
     #[tactic(auto, using(std::proofs::Common::append_assoc))]
     fn step(&mut self, input: &StepInput, out: &mut Vec<Action>) -> Result<(), AllocError>
@@ -196,12 +164,23 @@ impl FreshnessDetector {
             }
             StepInput::Wake(Tag::Beat) => {
                 let number = next(self.sent);
-                send_heartbeat(&self.opening, number, out)?;
+                let opening = &self.opening;
+                send_to_others(
+                    out,
+                    opening.processes,
+                    opening.own,
+                    &Payload::Heartbeat { number },
+                )?;
                 self.sent = number;
                 wake_after(out, numbers.eta, Tag::Beat)
             }
             StepInput::Wake(Tag::Check) => self.check(out),
-            StepInput::Letter { sender, payload } => self.receive(*sender, payload, out),
+            StepInput::Letter { sender, payload } => match payload {
+                Payload::Heartbeat { number } if self.watches(*sender) => {
+                    self.hear(*sender, *number, out)
+                }
+                _ => Ok(()),
+            },
             StepInput::Wake(_) => Ok(()),
         }
     }

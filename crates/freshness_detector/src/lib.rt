@@ -19,6 +19,5 @@
 
 mod count;
 mod detector;
-mod heartbeat;
 
 pub use detector::FreshnessDetector;

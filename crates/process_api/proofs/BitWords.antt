@@ -1,5 +1,5 @@
 -- The bits of words in a row.
-use Rattle.std.proofs.Common.{◌≡◌, ◌≢◌, ℕ, zero, suc, ◌+◌, ◌-◌, ◌*◌, ◌/◌, ◌%◌, ◌^◌, ◌<◌, ◌≤◌, inl, inr, refl, sym, ap, ◌∙◌, Bool, true, false, cond, not, ◌&&◌, ◌||◌, nat_eq, nat_lt, List, get_or, set, length, max, min, bit_and, bit_or, bit_xor, arith, nat_cmp, w64}
+use Rattle.std.proofs.Common.{◌≡◌, ◌≢◌, ℕ, zero, suc, ◌+◌, ◌-◌, ◌*◌, ◌/◌, ◌%◌, ◌^◌, ◌<◌, ◌≤◌, inl, inr, refl, sym, ap, ◌∙◌, true, false, cond, not, ◌&&◌, ◌||◌, nat_eq, nat_lt, List, get_or, set, length, max, min, bit_and, bit_or, bit_xor, arith, nat_cmp, w64}
 use Rattle.std.specs.Int.{bit_at, bit_not, trailing_zeros}
 use Rattle.std.specs.Prelude.{count_ones}
 use Rattle.std.specs.FinSet as finite
@@ -11,7 +11,7 @@ use Rattle.std.proofs.lemmas.List.{get_or-set_same, get_or-set_other}
 use Rattle.std.proofs.lemmas.Nat.{pow_pos, mod-pow-add, mod_below, ones_cat}
 use Rattle.std.proofs.lemmas.Nat.Bits.{bit_at-zero, bit_at-lt, bit_at_or, bit_at_and, bit_at_xor, bit_at_ones, bit_at_ones_above, bit_at_set_same, bit_at_set_other, bit_at_clear_same, bit_at_clear_other, bit_at-trailing_zeros}
 use Rattle.process_api.specs.Bits.{is_set, members}
-use Rattle.process_api.proofs.Told.{len-told, len-untold}
+use Rattle.process_api.proofs.Told.{len-more}
 
 -- the place of a bit in its word
 split : (i k : ℕ) → i / 64 ≡ k → k * 64 + i % 64 ≡ i
@@ -56,76 +56,42 @@ module _ (words : List ℕ) (place : ℕ) (within : place / 64 < length words) w
   pub clear_others : (i : ℕ) → i ≢ place → is_set (set words (place / 64) (bit_and (get_or words (place / 64) 0) (bit_not w64 (1 * 2 ^ (place % 64) % 2 ^ 64)))) i ≡ is_set words i
   clear_others i apart = bit_changed words place _ within (λ j low other. bit_at_clear_other w64 (get_or words (place / 64) 0) (place % 64) small j low other) i apart
 
--- words that have the bits of either
-pub is_set-either : (a b both : List ℕ) (place : ℕ) → get_or both (place / 64) 0 ≡ bit_or (get_or a (place / 64) 0) (get_or b (place / 64) 0) → is_set both place ≡ (is_set a place || is_set b place)
-is_set-either a b both place each =
-    ap (λ w. nat_eq (bit_at w (place % 64)) 1) each
-    ∙ (ap (λ x. nat_eq x 1) (bit_at_or (get_or a (place / 64) 0) (get_or b (place / 64) 0) (place % 64))
-    ∙ larger (bit_at (get_or a (place / 64) 0) (place % 64)) (bit_at (get_or b (place / 64) 0) (place % 64)) (bit_at-lt _ _) (bit_at-lt _ _))
-  where
-    larger : (x y : ℕ) → x < 2 → y < 2 → nat_eq (max x y) 1 ≡ (nat_eq x 1 || nat_eq y 1)
-    larger x y f g = grind (arith, nat_tests)
+-- words that have the bits of either, or of one and not of the other
+module _ (a b all : List ℕ) (place : ℕ) where
+  abbrev bit_in : List ℕ → ℕ
+  bit_in words = bit_at (get_or words (place / 64) 0) (place % 64)
 
--- words that have the bits of one and not of the other
-pub is_set-without : (a b left : List ℕ) (place : ℕ) → get_or left (place / 64) 0 ≡ bit_xor (get_or a (place / 64) 0) (bit_and (get_or a (place / 64) 0) (get_or b (place / 64) 0))
-    → is_set left place ≡ (is_set a place && not (is_set b place))
-is_set-without a b left place each =
-    ap (λ w. nat_eq (bit_at w (place % 64)) 1) each
-    ∙ (ap (λ x. nat_eq x 1) (bit_at_xor (get_or a (place / 64) 0) (bit_and (get_or a (place / 64) 0) (get_or b (place / 64) 0)) (place % 64))
-    ∙ (ap (λ x. nat_eq ((bit_at (get_or a (place / 64) 0) (place % 64) + x) % 2) 1) (bit_at_and (get_or a (place / 64) 0) (get_or b (place / 64) 0) (place % 64))
-    ∙ by_bits (bit_at (get_or a (place / 64) 0) (place % 64)) (bit_at (get_or b (place / 64) 0) (place % 64)) (bit_at-lt _ _) (bit_at-lt _ _)))
-  where
-    by_bits : (x y : ℕ) → x < 2 → y < 2 → nat_eq ((x + min x y) % 2) 1 ≡ (nat_eq x 1 && not (nat_eq y 1))
-    by_bits zero zero f g = refl
-    by_bits zero (suc zero) f g = refl
-    by_bits (suc zero) zero f g = refl
-    by_bits (suc zero) (suc zero) f g = refl
-    by_bits (suc (suc x)) y f g = absurd (omega (arith, f))
-    by_bits x (suc (suc y)) f g = absurd (omega (arith, g))
+  pub is_set-either : get_or all (place / 64) 0 ≡ bit_or (get_or a (place / 64) 0) (get_or b (place / 64) 0) → is_set all place ≡ (is_set a place || is_set b place)
+  is_set-either each = ap (λ w. nat_eq (bit_at w (place % 64)) 1) each ∙ (ap (λ x. nat_eq x 1) (bit_at_or _ _ (place % 64)) ∙ larger (bit_in a) (bit_in b) (bit_at-lt _ _) (bit_at-lt _ _))
+    where
+      larger : (x y : ℕ) → x < 2 → y < 2 → nat_eq (max x y) 1 ≡ (nat_eq x 1 || nat_eq y 1)
+      larger x y f g = grind (arith, nat_tests)
+
+  pub is_set-without : get_or all (place / 64) 0 ≡ bit_xor (get_or a (place / 64) 0) (bit_and (get_or a (place / 64) 0) (get_or b (place / 64) 0)) → is_set all place ≡ (is_set a place && not (is_set b place))
+  is_set-without each =
+      ap (λ w. nat_eq (bit_at w (place % 64)) 1) each
+      ∙ (ap (λ x. nat_eq x 1) (bit_at_xor _ _ (place % 64) ∙ ap (λ x. (bit_in a + x) % 2) (bit_at_and _ _ (place % 64)))
+      ∙ by_bits (bit_in a) (bit_in b) (bit_at-lt _ _) (bit_at-lt _ _))
+    where
+      by_bits : (x y : ℕ) → x < 2 → y < 2 → nat_eq ((x + min x y) % 2) 1 ≡ (nat_eq x 1 && not (nat_eq y 1))
+      by_bits zero zero f g = refl
+      by_bits zero (suc zero) f g = refl
+      by_bits (suc zero) zero f g = refl
+      by_bits (suc zero) (suc zero) f g = refl
+      by_bits (suc (suc x)) y f g = absurd (omega (arith, f))
+      by_bits x (suc (suc y)) f g = absurd (omega (arith, g))
 
 -- a word below a bit
 pub low_bit : (word most i : ℕ) → bit_at (bit_and word (2 ^ most - 1)) i ≡ cond (nat_lt i most) (bit_at word i) 0
-low_bit word most i =
-    bit_at_and word (2 ^ most - 1) i ∙ elim (nat_lt i most) as (λ l. nat_lt i most ≡ l → min (bit_at word i) (bit_at (2 ^ most - 1) i) ≡ cond l (bit_at word i) 0) [
-      | true ↦ λ l. ap (λ x. min (bit_at word i) x) (bit_at_ones most i (inside l)) ∙ least (bit_at word i) (bit_at-lt word i)
-      | false ↦ λ l. ap (λ x. min (bit_at word i) x) (bit_at_ones_above most i (outside l)) ∙ none (bit_at word i)
-    ] refl
-  where
-    inside : nat_lt i most ≡ true → i < most
-    inside l = grind (arith, nat_tests)
-
-    outside : nat_lt i most ≡ false → most ≤ i
-    outside l = grind (arith, nat_tests)
-
-    least : (x : ℕ) → x < 2 → min x 1 ≡ x
-    least x low = grind arith
-
-    none : (x : ℕ) → min x 0 ≡ 0
-    none x = grind arith
+low_bit word most i = grind (bit_at_and word (2 ^ most - 1) i, bit_at_ones most i, bit_at_ones_above most i, bit_at-lt word i, arith, nat_tests)
 
 -- words that have the lowest bits
 pub is_set-low : (words low : List ℕ) (most place : ℕ) → bit_at (get_or low (place / 64) 0) (place % 64) ≡ cond (nat_lt (place % 64) (most - place / 64 * 64)) (bit_at (get_or words (place / 64) 0) (place % 64)) 0
     → is_set low place ≡ (is_set words place && nat_lt place most)
-is_set-low words low most place each =
-    ap (λ b. nat_eq b 1) each ∙ (ap (λ l. nat_eq (cond l (bit_at (get_or words (place / 64) 0) (place % 64)) 0) 1) same ∙ by_case (nat_lt place most) (bit_at (get_or words (place / 64) 0) (place % 64)))
+is_set-low words low most place each = moved (place % 64) (place / 64 * 64) _ _ (split place (place / 64) refl) each
   where
-    same : nat_lt (place % 64) (most - place / 64 * 64) ≡ nat_lt place most
-    same = let e : place / 64 * 64 + place % 64 ≡ place = split place (place / 64) refl in moved (place % 64) (place / 64 * 64) place most e
-      where
-        moved : (r b place most : ℕ) → b + r ≡ place → nat_lt r (most - b) ≡ nat_lt place most
-        moved r b place most e = grind (arith, nat_tests)
-
-    by_case : (l : Bool) (b : ℕ) → nat_eq (cond l b 0) 1 ≡ (nat_eq b 1 && l)
-    by_case true b = sym (and_true (nat_eq b 1))
-      where
-        and_true : (c : Bool) → (c && true) ≡ c
-        and_true true = refl
-        and_true false = refl
-    by_case false b = sym (and_false (nat_eq b 1))
-      where
-        and_false : (c : Bool) → (c && false) ≡ false
-        and_false true = refl
-        and_false false = refl
+    moved : (r b before after : ℕ) → b + r ≡ place → after ≡ cond (nat_lt r (most - b)) before 0 → nat_eq after 1 ≡ (nat_eq before 1 && nat_lt place most)
+    moved r b before after e each = grind (arith, nat_tests)
 
 -- where a word is 0, none of its bits is set
 pub none_set : (words : List ℕ) (place : ℕ) → get_or words (place / 64) 0 ≡ 0 → is_set words place ≡ false
@@ -142,14 +108,12 @@ module _ (words : List ℕ) (k : ℕ) (some : 0 < get_or words k 0) (fits : get_
   pub lowest_place : lowest < 64
   lowest_place = found.0
 
-  word_of : (k * 64 + lowest) / 64 ≡ k
-  word_of = let h : lowest < 64 = found.0 in omega (arith, h)
-
-  bit_of : (k * 64 + lowest) % 64 ≡ lowest
-  bit_of = let h : lowest < 64 = found.0 in omega (arith, h)
-
   pub lowest_set : is_set words (k * 64 + lowest) ≡ true
-  lowest_set = (λ i. nat_eq (bit_at (get_or words (word_of i) 0) (bit_of i)) 1) ∙ ap (λ b. nat_eq b 1) found.1
+  lowest_set =
+      let h : lowest < 64 = found.0 in
+      let word : (k * 64 + lowest) / 64 ≡ k = omega arith in
+      let bit : (k * 64 + lowest) % 64 ≡ lowest = omega arith in
+      (λ i. nat_eq (bit_at (get_or words (word i) 0) (bit i)) 1) ∙ ap (λ b. nat_eq b 1) found.1
 
   pub none_below : (i : ℕ) → i < k * 64 + lowest → is_set words i ≡ false
   none_below i below = elim (cases_lt (i / 64) k) [
@@ -185,28 +149,18 @@ module _ (words : List ℕ) (k : ℕ) where
       let bit : m % 64 ≡ j = omega (arith, e, low) in
       λ i. nat_eq (bit_at (get_or words (word i) 0) (bit i)) 1
 
+  bit_count : (b : ℕ) → b < 2 → count_ones b ≡ cond (nat_eq b 1) 1 0
+  unfolding ones
+  bit_count zero small = refl
+  bit_count (suc zero) small = refl
+  bit_count (suc (suc b)) small = absurd (omega (arith, small))
+
   -- one more bit
   len-next : (j m : ℕ) → m ≡ k * 64 + j → j < 64 → finite.len (members m (is_set words)) ≡ finite.len (members (k * 64) (is_set words)) + count_ones (here % 2 ^ j)
       → finite.len (members (suc m) (is_set words)) ≡ finite.len (members (k * 64) (is_set words)) + count_ones (here % 2 ^ suc j)
-  unfolding ones
-  len-next j m at low before = go (bit_at here j) (bit_at-lt here j) refl
-    where
-      bit : (b : ℕ) → bit_at here j ≡ b → is_set words m ≡ nat_eq b 1
-      bit b is = own m j at low ∙ ap (λ x. nat_eq x 1) is
-
-      more : (b : ℕ) → bit_at here j ≡ b → count_ones (here % 2 ^ suc j) ≡ count_ones b + count_ones (here % 2 ^ j)
-      more b is = ones-more here j ∙ ap (λ x. count_ones x + count_ones (here % 2 ^ j)) is
-
-      same : (n b c d : ℕ) → n ≡ b + c → d ≡ 0 + c → n ≡ b + d
-      same n b c d f g = omega (arith, f, g)
-
-      next : (n b c d : ℕ) → n ≡ b + c → d ≡ 1 + c → suc n ≡ b + d
-      next n b c d f g = omega (arith, f, g)
-
-      go : (b : ℕ) → b < 2 → bit_at here j ≡ b → finite.len (members (suc m) (is_set words)) ≡ finite.len (members (k * 64) (is_set words)) + count_ones (here % 2 ^ suc j)
-      go zero small is = len-untold (is_set words) m (bit 0 is) ∙ same _ _ _ _ before (more 0 is)
-      go (suc zero) small is = len-told (is_set words) m (bit 1 is) ∙ next _ _ _ _ before (more 1 is)
-      go (suc (suc b)) small is = absurd (omega (arith, small))
+  len-next j m at low before =
+      let bit : cond (is_set words m) 1 0 ≡ count_ones (bit_at here j) = ap (λ b. cond b 1 0) (own m j at low) ∙ sym (bit_count (bit_at here j) (bit_at-lt here j)) in
+      omega (arith, before, bit, len-more (is_set words) m, ones-more here j)
 
   pub len-below : (j m : ℕ) → m ≡ k * 64 + j → j ≤ 64 → finite.len (members m (is_set words)) ≡ finite.len (members (k * 64) (is_set words)) + count_ones (here % 2 ^ j)
   unfolding ones

@@ -1,15 +1,15 @@
 -- The detector with freshness points has the laws of a base detector.
-use Rattle.std.proofs.Common.{◌≡◌, inr, ℕ, ◌+◌, ◌≤◌, refl, sym, ap, ◌∙◌, List, [], ◌∷◌, ◌++◌, map, length, length-append, append-nil, Bool, true, false, cond, not, ◌&&◌, ◌||◌, nat_eq, nat_le, nat_cmp, arith}
-use Rattle.std.proofs.lemmas.Bool.{leb-true, and_parts}
-use Rattle.std.proofs.lemmas.List.{length-map}
+use Rattle.std.proofs.Common.{◌≡◌, inr, ℕ, ◌+◌, ◌≤◌, refl, sym, ap, ◌∙◌, [], ◌++◌, map, length, length-append, append-nil, true, ◌&&◌, ◌||◌, nat_le, nat_cmp, arith}
+use Rattle.std.proofs.lemmas.Bool.{leb-true, and_parts, and_right, cond_both}
+use Rattle.std.proofs.Math.Bool.{and-false, or-false}
 use Rattle.std.specs.List.{AllByRecursion}
 use Rattle.std.specs.FinSet as set
 use Rattle.std.specs.Prelude.{IsTrue}
 use Rattle.process_api.specs.Actions.{IsAllowed, notes_of_layer}
-use Rattle.process_api.specs.Answer.{still}
+use Rattle.process_api.specs.Answer.{Answer, still}
 use Rattle.process_api.specs.BaseDetector.{IsOfDetector, TrustsAll, IsDetectorStep}
 use Rattle.process_api.specs.Freshness.{FreshnessState, opening_freshness, next, watches, is_stale, suspected, noted, heartbeat_to_others, next_beat, next_check, checked, heard, step_freshness}
-use Rattle.process_api.specs.Numbers.{is_process, numbers_to, others}
+use Rattle.process_api.specs.Numbers.{is_process, others}
 use Rattle.process_api.specs.Place.{Place}
 use Rattle.process_api.specs.Sets.{Processes, gone, changes}
 use Rattle.process_api.specs.Watching.{is_other}
@@ -19,39 +19,22 @@ use Rattle.process_api.specs.declared.action.Note.TheVariants as note
 use Rattle.process_api.specs.declared.message.Payload.TheVariants as payload
 use Rattle.process_api.specs.declared.message.StepInput.{StepInput}
 use Rattle.process_api.specs.declared.message.StepInput.TheVariants as input
+use Rattle.process_api.specs.declared.message.Tag.{Tag}
 use Rattle.process_api.specs.declared.message.Tag.TheVariants as tag
 use Rattle.process_api.specs.declared.numbers.FreshnessNumbers.{FreshnessNumbers}
 use Rattle.process_api.proofs.Changes.{length-changes}
 use Rattle.process_api.proofs.LayerNotes.{notes_of_layer-append, no_letters, changes_kept, changes-none}
-use Rattle.process_api.proofs.Lists.{both, images, always, filtered, numbers_are}
-use Rattle.process_api.proofs.Membership.{contains-insert_all}
-use Rattle.process_api.proofs.Numbering.{length-filter_to}
-
-one_of : (a b : Bool) → (a || b) ≡ true → b ≡ false → a ≡ true
-one_of true b h none = refl
-one_of false b h none = sym none ∙ h
-
-none_of : (a b : Bool) → a ≡ false → b ≡ false → (a || b) ≡ false
-none_of a b f g = λ i. f i || g i
-
-and_false : (a : Bool) → (a && false) ≡ false
-and_false true = refl
-and_false false = refl
+use Rattle.process_api.proofs.Lists.{both, images, always}
+use Rattle.process_api.proofs.Contains.{contains-insert_all}
+use Rattle.process_api.proofs.Sending.{sent_to_others, length-to_others}
 
 module _ (place : Place) (numbers : FreshnessNumbers) where
   -- q is suspected just where it is one of 1 to n and stale
   pub contains-suspected : (s : FreshnessState) (q : ℕ) → set.contains (suspected place numbers s) q ≡ (is_process place.processes q && is_stale place numbers s q)
-  contains-suspected s q =
-      contains-insert_all set.empty (is_stale place numbers s) place.processes q
-      ∙ (ap (λ b. (is_process place.processes q && is_stale place numbers s q) || b) (set.contains-empty nat_cmp q)
-      ∙ or_false (is_process place.processes q && is_stale place numbers s q))
-    where
-      or_false : (a : Bool) → (a || false) ≡ a
-      or_false true = refl
-      or_false false = refl
+  contains-suspected s q = contains-insert_all set.empty (is_stale place numbers s) place.processes q ∙ ap (λ b. (is_process place.processes q && is_stale place numbers s q) || b) (set.contains-empty nat_cmp q) ∙ or-false _
 
   pub freshness_opens : TrustsAll (suspected place numbers opening_freshness)
-  freshness_opens q = contains-suspected opening_freshness q ∙ (ap (λ b. is_process place.processes q && b) (and_false (watches place numbers q)) ∙ and_false (is_process place.processes q))
+  freshness_opens q = contains-suspected opening_freshness q ∙ and_right (is_process place.processes q) _ (and-false (watches place numbers q))
 
   -- whoever is suspected is another process
   pub only_others : (s : FreshnessState) (q : ℕ) → set.contains (suspected place numbers s) q ≡ true → is_other place.own place.processes q ≡ true
@@ -59,66 +42,55 @@ module _ (place : Place) (numbers : FreshnessNumbers) where
       let stale : is_stale place numbers s q ≡ true = (and_parts (is_process place.processes q) (is_stale place numbers s q) (sym (contains-suspected s q) ∙ h)).1 in
       (and_parts _ _ (and_parts (watches place numbers q) _ stale).0).0
 
-  all_sent : (P : Action → Type 0) (i : ℕ) → ((q : ℕ) → (1 ≤ q) × (q ≤ place.processes) → P (action.Send q (payload.Heartbeat i))) → AllByRecursion P (heartbeat_to_others place numbers i)
-  all_sent P i f =
-      images P (λ q. action.Send q (payload.Heartbeat i)) (others place.processes place.own)
-      (filtered (λ q. P (action.Send q (payload.Heartbeat i))) (λ q. not (nat_eq q place.own)) (numbers_to place.processes) (each (numbers_to place.processes) (numbers_are place.processes)))
-    where
-      each : (qs : List ℕ) → AllByRecursion (λ q. (1 ≤ q) × (q ≤ place.processes)) qs → AllByRecursion (λ q. P (action.Send q (payload.Heartbeat i))) qs
-      each [] all = tt
-      each (q ∷ qs) all = (f q all.0, each qs all.1)
+  -- what a heartbeat makes of it: it is of a watched process, or of another
+  by_letter : (s : FreshnessState) (q j : ℕ) (P : Answer FreshnessState → Type 0) → P (record { state = heard place numbers s q j; actions = noted place numbers s (heard place numbers s q j) }) → P (still s)
+      → P (step_freshness place numbers s (input.Letter q (payload.Heartbeat j)))
+  by_letter s q j P watched other =
+      cond_both (watches place numbers q) (record { state = heard place numbers s q j; actions = noted place numbers s (heard place numbers s q j) }) (still s) P (λ _. watched) (λ _. other)
 
-  all_noted : (P : Action → Type 0) → ((q : ℕ) → P (action.Note (note.Suspect 1 q))) → ((q : ℕ) → P (action.Note (note.Trust 1 q))) → (old new : Processes) → AllByRecursion P (map action.Note (changes 1 place.processes old new))
-  all_noted P f g old new =
-      images P action.Note (changes 1 place.processes old new)
-      (both (λ x. P (action.Note x)) (map (note.Suspect 1) (gone place.processes new old)) (map (note.Trust 1) (gone place.processes old new))
-      (images (λ x. P (action.Note x)) (note.Suspect 1) (gone place.processes new old) (always (λ q. P (action.Note (note.Suspect 1 q))) f (gone place.processes new old)))
-      (images (λ x. P (action.Note x)) (note.Trust 1) (gone place.processes old new) (always (λ q. P (action.Note (note.Trust 1 q))) g (gone place.processes old new))))
+  -- what holds of each action that it may take
+  module _ (P : Action → Type 0) (sends : (i q : ℕ) → (1 ≤ q) × (q ≤ place.processes) → P (action.Send q (payload.Heartbeat i))) (wakes : (pause : ℕ) (why : Tag) → numbers.eta ≤ pause → P (action.Wake pause why))
+      (suspects : (q : ℕ) → P (action.Note (note.Suspect 1 q))) (trusts : (q : ℕ) → P (action.Note (note.Trust 1 q))) where
+    abbrev Have : Answer FreshnessState → Type 0
+    Have a = AllByRecursion P a.actions
+
+    all_noted : (old new : Processes) → AllByRecursion P (map action.Note (changes 1 place.processes old new))
+    all_noted old new =
+        images P action.Note (changes 1 place.processes old new)
+        (both (λ x. P (action.Note x)) (map (note.Suspect 1) (gone place.processes new old)) (map (note.Trust 1) (gone place.processes old new))
+        (images (λ x. P (action.Note x)) (note.Suspect 1) (gone place.processes new old) (always (λ q. P (action.Note (note.Suspect 1 q))) suspects (gone place.processes new old)))
+        (images (λ x. P (action.Note x)) (note.Trust 1) (gone place.processes old new) (always (λ q. P (action.Note (note.Trust 1 q))) trusts (gone place.processes old new))))
+
+    all_have : (s : FreshnessState) (x : StepInput) → AllByRecursion P (step_freshness place numbers s x).actions
+    all_have s input.Start = (wakes _ _ (omega arith), (wakes _ _ (omega arith), tt))
+    all_have s (input.Wake tag.Beat) =
+        both P (heartbeat_to_others place numbers (next s.sent)) _ (sent_to_others P place.processes (payload.Heartbeat (next s.sent)) (sends (next s.sent)) place.own) (wakes _ _ (omega arith), tt)
+    all_have s (input.Wake tag.Check) =
+        both P (noted place numbers s (checked place numbers s)) _ (all_noted (suspected place numbers s) (suspected place numbers (checked place numbers s))) (wakes _ _ (omega arith), tt)
+    all_have s (input.Letter q (payload.Heartbeat j)) = by_letter s q j Have (all_noted (suspected place numbers s) (suspected place numbers (heard place numbers s q j))) tt
+    all_have s x = tt
 
   acts : (s : FreshnessState) (x : StepInput) → AllByRecursion IsOfDetector (step_freshness place numbers s x).actions
-  acts s input.Start = (tt, (tt, tt))
-  acts s (input.Wake tag.Beat) = both IsOfDetector (heartbeat_to_others place numbers (next s.sent)) _ (all_sent IsOfDetector (next s.sent) (λ q h. tt)) (tt, tt)
-  acts s (input.Wake tag.Check) = both IsOfDetector (noted place numbers s (checked place numbers s)) _ (all_noted IsOfDetector (λ q. refl) (λ q. refl) _ _) (tt, tt)
-  acts s (input.Letter q (payload.Heartbeat j)) = go (watches place numbers q)
-    where
-      go : (b : Bool) → AllByRecursion IsOfDetector (cond b (record { state = heard place numbers s q j; actions = noted place numbers s (heard place numbers s q j) }) (still s)).actions
-      go true = all_noted IsOfDetector (λ q. refl) (λ q. refl) _ _
-      go false = tt
-  acts s x = tt
+  acts = all_have IsOfDetector (λ i q h. tt) (λ p w h. tt) (λ q. refl) (λ q. refl)
 
   allowed : (s : FreshnessState) (x : StepInput) → IsTrue (nat_le 1 numbers.eta) → AllByRecursion (IsAllowed place.processes) (step_freshness place numbers s x).actions
-  allowed s x paced = go x
-    where
-      eta : 1 ≤ numbers.eta
-      eta = leb-true 1 numbers.eta paced
+  allowed s x paced = all_have (IsAllowed place.processes) (λ i q h. h) (λ p w h. omega (arith, h, leb-true 1 numbers.eta paced)) (λ q. tt) (λ q. tt) s x
 
-      go : (x : StepInput) → AllByRecursion (IsAllowed place.processes) (step_freshness place numbers s x).actions
-      go input.Start = (eta, (omega (arith, eta), tt))
-      go (input.Wake tag.Beat) = both (IsAllowed place.processes) (heartbeat_to_others place numbers (next s.sent)) _ (all_sent (IsAllowed place.processes) (next s.sent) (λ q h. h)) (eta, tt)
-      go (input.Wake tag.Check) = both (IsAllowed place.processes) (noted place numbers s (checked place numbers s)) _ (all_noted (IsAllowed place.processes) (λ q. tt) (λ q. tt) _ _) (eta, tt)
-      go (input.Letter q (payload.Heartbeat j)) = by_watch (watches place numbers q)
-        where
-          by_watch : (b : Bool) → AllByRecursion (IsAllowed place.processes) (cond b (record { state = heard place numbers s q j; actions = noted place numbers s (heard place numbers s q j) }) (still s)).actions
-          by_watch true = all_noted (IsAllowed place.processes) (λ q. tt) (λ q. tt) _ _
-          by_watch false = tt
-      go x = tt
+  abbrev IsFew : Answer FreshnessState → Type 0
+  IsFew a = length a.actions ≤ place.processes + 2
 
-  length-letters : (i : ℕ) → length (heartbeat_to_others place numbers i) ≤ place.processes
-  length-letters i = omega (arith, length-map (others place.processes place.own) (λ q. action.Send q (payload.Heartbeat i)), length-filter_to (λ q. not (nat_eq q place.own)) place.processes)
-
-  few : (s : FreshnessState) (x : StepInput) → length (step_freshness place numbers s x).actions ≤ place.processes + 2
+  few : (s : FreshnessState) (x : StepInput) → IsFew (step_freshness place numbers s x)
   few s input.Start = omega arith
-  few s (input.Wake tag.Beat) = omega (arith, length-letters (next s.sent), length-append (heartbeat_to_others place numbers (next s.sent)) (next_beat place numbers))
+  few s (input.Wake tag.Beat) = omega (arith, length-to_others place.processes place.own (payload.Heartbeat (next s.sent)), length-append (heartbeat_to_others place numbers (next s.sent)) (next_beat place numbers))
   few s (input.Wake tag.Check) = omega (arith, length-changes 1 place.processes (suspected place numbers s) (suspected place numbers (checked place numbers s)), length-append (noted place numbers s (checked place numbers s)) (next_check place numbers))
-  few s (input.Letter q (payload.Heartbeat j)) = go (watches place numbers q)
-    where
-      go : (b : Bool) → length (cond b (record { state = heard place numbers s q j; actions = noted place numbers s (heard place numbers s q j) }) (still s)).actions ≤ place.processes + 2
-      go true = omega (arith, length-changes 1 place.processes (suspected place numbers s) (suspected place numbers (heard place numbers s q j)))
-      go false = omega arith
+  few s (input.Letter q (payload.Heartbeat j)) = by_letter s q j IsFew (omega (arith, length-changes 1 place.processes (suspected place numbers s) (suspected place numbers (heard place numbers s q j)))) (omega arith)
   few s x = omega arith
 
-  notes : (s : FreshnessState) (x : StepInput)
-      → notes_of_layer 1 (step_freshness place numbers s x).actions ≡ changes 1 place.processes (suspected place numbers s) (suspected place numbers (step_freshness place numbers s x).state)
+  -- the notes are the changes of the suspects
+  abbrev Tells : FreshnessState → Answer FreshnessState → Type 0
+  Tells s a = notes_of_layer 1 a.actions ≡ changes 1 place.processes (suspected place numbers s) (suspected place numbers a.state)
+
+  notes : (s : FreshnessState) (x : StepInput) → Tells s (step_freshness place numbers s x)
   notes s input.Start = changes-none 1 place.processes (suspected place numbers s)
   notes s (input.Wake tag.Beat) =
       notes_of_layer-append 1 (heartbeat_to_others place numbers (next s.sent)) (next_beat place numbers)
@@ -127,12 +99,8 @@ module _ (place : Place) (numbers : FreshnessNumbers) where
   notes s (input.Wake tag.Check) =
       notes_of_layer-append 1 (noted place numbers s (checked place numbers s)) (next_check place numbers)
       ∙ (append-nil _ ∙ changes_kept 1 place.processes (suspected place numbers s) (suspected place numbers (checked place numbers s)))
-  notes s (input.Letter q (payload.Heartbeat j)) = go (watches place numbers q)
-    where
-      go : (b : Bool) → notes_of_layer 1 (cond b (record { state = heard place numbers s q j; actions = noted place numbers s (heard place numbers s q j) }) (still s)).actions
-          ≡ changes 1 place.processes (suspected place numbers s) (suspected place numbers (cond b (record { state = heard place numbers s q j; actions = noted place numbers s (heard place numbers s q j) }) (still s)).state)
-      go true = changes_kept 1 place.processes (suspected place numbers s) (suspected place numbers (heard place numbers s q j))
-      go false = changes-none 1 place.processes (suspected place numbers s)
+  notes s (input.Letter q (payload.Heartbeat j)) =
+      by_letter s q j (Tells s) (changes_kept 1 place.processes (suspected place numbers s) (suspected place numbers (heard place numbers s q j))) (changes-none 1 place.processes (suspected place numbers s))
   notes s x = changes-none 1 place.processes (suspected place numbers s)
 
   pub freshness_laws : (s : FreshnessState) (x : StepInput)

@@ -1,10 +1,9 @@
 -- What a step keeps of a mind: where it stands, its pauses, and that the process suspects itself on no layer.
-use Rattle.std.proofs.Common.{◌≡◌, ◌⊎◌, inl, inr, ℕ, ◌≤◌, refl, sym, ap, ◌∙◌, Bool, true, false, not, ◌&&◌, nat_le, Option, None, Some, true≢false}
+use Rattle.std.proofs.Common.{◌≡◌, ◌⊎◌, inl, inr, ℕ, ◌≤◌, refl, sym, ap, ◌∙◌, true, false, not, ◌&&◌, nat_le, Option, None, Some, true≢false}
 use Rattle.std.specs.Prelude.{IsTrue}
 use Rattle.std.specs.FinSet as set
-use Rattle.std.specs.Cmp.{nat_cmp_total, unsigned_tied}
-use borrow.Author.Tests.{eq-eqb}
-use Rattle.process_api.specs.Mind.{Lower, AlgorithmState, Idle, Exchanging, Coordinating, Mind, is_mind_at, is_paced, trusts_itself, stands_at, leaves_out, layer_of, suspects_of, processes_of}
+use Rattle.std.proofs.lemmas.Bool.{eq-eqb, not-true, both_ways, false_from_ne_true}
+use Rattle.process_api.specs.Mind.{Lower, AlgorithmState, Idle, Exchanging, Coordinating, Mind, is_mind_at, is_paced, trusts_itself, stands_at, suspects_of}
 use Rattle.process_api.specs.Place.{Place, same_place}
 use Rattle.process_api.specs.React.{react_lower, react_algorithm, react}
 use Rattle.process_api.specs.Watching.{is_other}
@@ -16,32 +15,21 @@ use Rattle.process_api.specs.declared.message.StepInput.{StepInput}
 use Rattle.process_api.specs.declared.message.StepInput.TheVariants as input
 use Rattle.process_api.specs.declared.message.Tag.TheVariants as tag
 use Rattle.process_api.proofs.DetectorLaws.{detector_laws}
-use Rattle.process_api.proofs.Minds.{both_true, and_true, same_own, mind_place, mind_paced, mind_trusts, mind_stands}
+use Rattle.process_api.proofs.Contains.{contains-remove_is}
+use Rattle.process_api.proofs.Minds.{both_true, and_true, mind_place, mind_paced, mind_trusts, mind_stands}
 
-and_false : (a : Bool) → (a && false) ≡ false
-and_false true = refl
-and_false false = refl
-
-out_of_not : (a : Bool) → not a ≡ true → a ≡ false
-out_of_not true h = absurd (true≢false (sym h))
-out_of_not false h = refl
-
-without_itself : (s : Processes) (p : ℕ) → set.contains (set.remove s p) p ≡ false
-without_itself s p = set.contains-remove nat_cmp_total s p p ∙ ap (λ b. not b && set.contains s p) (unsigned_tied p p ∙ eq-eqb p p refl)
+pub without_itself : (s : Processes) (p : ℕ) → set.contains (set.remove s p) p ≡ false
+without_itself s p = contains-remove_is s p p ∙ ap (λ b. not b && set.contains s p) (eq-eqb p p refl)
 
 -- a base detector
 pub apart_from_itself : (place : Place) → is_other place.own place.processes place.own ≡ true → ⊥
-apart_from_itself place h = true≢false (sym (eq-eqb place.own place.own refl) ∙ out_of_not _ (both_true _ _ h).1)
+apart_from_itself place h = true≢false (sym (eq-eqb place.own place.own refl) ∙ not-true _ (both_true _ _ h).1)
 
 pub detector_keeps : (place : Place) (s : DetectorState) (now : ℕ) (x : StepInput) → set.contains (suspected_by place s) place.own ≡ false → set.contains (suspected_by place (step_detector place s now x).state) place.own ≡ false
-detector_keeps place s now x h =
-    elim (set.contains (suspected_by place (step_detector place s now x).state) place.own) as (λ b. set.contains (suspected_by place (step_detector place s now x).state) place.own ≡ b → b ≡ false) [
-      | true ↦ λ is. absurd (go ((detector_laws place s now x).others place.own is))
-      | false ↦ λ is. refl
-    ] refl
+detector_keeps place s now x h = false_from_ne_true _ (λ is. go ((detector_laws place s now x).others place.own is))
   where
     go : (set.contains (suspected_by place s) place.own ≡ true) ⊎ (is_other place.own place.processes place.own ≡ true) → ⊥
-    go (inl before) = true≢false (sym before ∙ h)
+    go (inl before) = both_ways _ h before
     go (inr other) = apart_from_itself place other
 
 -- the reduction
@@ -55,50 +43,37 @@ reduction_period place s suspects (input.Letter sender (payload.Suspects shared)
 reduction_period place s suspects (input.Wake tag.Share) = refl
 reduction_period place s suspects x = refl
 
--- the detector's part
+-- the detector's part, by whether a reduction stands over the base detector
+pub by_layer : (P : Lower → Type 0) (m : Lower) → P (record m { reduction = None }) → ((r : ReductionState) → P (record m { reduction = Some r })) → P m
+by_layer P m alone over = go m.reduction
+  where
+    go : (o : Option ReductionState) → P (record m { reduction = o })
+    go None = alone
+    go (Some r) = over r
+
 pub lower_place : (m : Lower) (now : ℕ) (x : StepInput) → (react_lower m now x).state.place ≡ m.place
 unfolding react_lower
-lower_place m now x = go m.reduction
-  where
-    go : (o : Option ReductionState) → (react_lower (record m { reduction = o }) now x).state.place ≡ m.place
-    go None = refl
-    go (Some reduction) = refl
-
-pub lower_layer : (m : Lower) (now : ℕ) (x : StepInput) → layer_of (react_lower m now x).state ≡ layer_of m
-unfolding react_lower
-lower_layer m now x = go m.reduction
-  where
-    go : (o : Option ReductionState) → layer_of (react_lower (record m { reduction = o }) now x).state ≡ layer_of (record m { reduction = o })
-    go None = refl
-    go (Some reduction) = refl
+lower_place m now x = by_layer (λ m. (react_lower m now x).state.place ≡ m.place) m refl (λ r. refl)
 
 pub lower_paced : (m : Lower) (now : ℕ) (x : StepInput) → is_paced (react_lower m now x).state ≡ is_paced m
 unfolding react_lower
-lower_paced m now x = go m.reduction
-  where
-    go : (o : Option ReductionState) → is_paced (react_lower (record m { reduction = o }) now x).state ≡ is_paced (record m { reduction = o })
-    go None = ap (λ b. b && true) (detector_laws m.place m.detector now x).paced
-    go (Some reduction) = λ i. (detector_laws m.place m.detector now x).paced i && nat_le 1 (reduction_period m.place reduction (suspected_by m.place (step_detector m.place m.detector now x).state) x i)
+lower_paced m now x =
+    let base = (detector_laws m.place m.detector now x).paced in
+    by_layer (λ m. is_paced (react_lower m now x).state ≡ is_paced m) m (ap (λ b. b && true) base)
+    (λ r i. base i && nat_le 1 (reduction_period m.place r (suspected_by m.place (step_detector m.place m.detector now x).state) x i))
 
 pub lower_trusts : (m : Lower) (now : ℕ) (x : StepInput) → IsTrue (trusts_itself m) → IsTrue (trusts_itself (react_lower m now x).state)
 unfolding react_lower
-lower_trusts m now x h = go m.reduction h
-  where
-    base : IsTrue (trusts_itself m) → not (set.contains (suspected_by m.place (step_detector m.place m.detector now x).state) m.place.own) ≡ true
-    base h = ap not (detector_keeps m.place m.detector now x (out_of_not _ (both_true _ _ h).0))
-
-    go : (o : Option ReductionState) → IsTrue (trusts_itself (record m { reduction = o })) → IsTrue (trusts_itself (react_lower (record m { reduction = o }) now x).state)
-    go None trusts = and_true _ _ (base h) refl
-    go (Some reduction) trusts =
-        and_true _ _ (base h) (ap not (reduction_keeps m.place reduction (suspected_by m.place (step_detector m.place m.detector now x).state) x (out_of_not _ (both_true _ _ trusts).1)))
+lower_trusts m now x h =
+    let base = λ (t : not (set.contains (suspected_by m.place m.detector) m.place.own) ≡ true). ap not (detector_keeps m.place m.detector now x (not-true _ t)) in
+    by_layer (λ m. IsTrue (trusts_itself m) → IsTrue (trusts_itself (react_lower m now x).state)) m
+    (λ t. and_true _ _ (base (both_true _ _ t).0) refl)
+    (λ r t. and_true _ _ (base (both_true _ _ t).0) (ap not (reduction_keeps m.place r (suspected_by m.place (step_detector m.place m.detector now x).state) x (not-true _ (both_true _ _ t).1)))) h
 
 -- the top layer's suspects leave the process out
 pub suspects_leave_out : (m : Lower) → IsTrue (trusts_itself m) → set.contains (suspects_of m) m.place.own ≡ false
-suspects_leave_out m h = go m.reduction h
-  where
-    go : (o : Option ReductionState) → IsTrue (trusts_itself (record m { reduction = o })) → set.contains (suspects_of (record m { reduction = o })) m.place.own ≡ false
-    go None trusts = out_of_not _ (both_true _ _ trusts).0
-    go (Some reduction) trusts = out_of_not _ (both_true _ _ trusts).1
+suspects_leave_out m h =
+    by_layer (λ m. IsTrue (trusts_itself m) → set.contains (suspects_of m) m.place.own ≡ false) m (λ t. not-true _ (both_true _ _ t).0) (λ r t. not-true _ (both_true _ _ t).1) h
 
 -- the algorithm's part
 pub algorithm_stands : (place : Place) (a : AlgorithmState) (x : StepInput) (suspects : Processes) → stands_at place (react_algorithm a x suspects).state ≡ stands_at place a
@@ -107,12 +82,6 @@ algorithm_stands place Idle x suspects = refl
 algorithm_stands place (Exchanging its s) x suspects = refl
 algorithm_stands place (Coordinating its s) x suspects = refl
 
-pub algorithm_processes : (a : AlgorithmState) (x : StepInput) (suspects : Processes) → processes_of (react_algorithm a x suspects).state ≡ processes_of a
-unfolding react_algorithm
-algorithm_processes Idle x suspects = refl
-algorithm_processes (Exchanging its s) x suspects = refl
-algorithm_processes (Coordinating its s) x suspects = refl
-
 -- the whole mind
 pub react_keeps : (place : Place) (m : Mind) (now : ℕ) (x : StepInput) → 1 ≤ place.processes → IsTrue (is_mind_at place m) → IsTrue (is_mind_at place (react m now x).state)
 unfolding react
@@ -120,15 +89,3 @@ react_keeps place m now x some is =
     and_true _ _
     (and_true _ _ (ap (λ p. same_place p place) (lower_place m.lower now x) ∙ mind_place place m is) (lower_paced m.lower now x ∙ mind_paced place m is))
     (and_true _ _ (lower_trusts m.lower now x (mind_trusts place m is)) (algorithm_stands place m.algorithm x (suspects_of (react_lower m.lower now x).state) ∙ mind_stands place m is))
-
--- an algorithm at the place of a detector's part that trusts itself is asked with suspects that leave it out
-pub asked_without_itself : (place : Place) (m : Mind) → IsTrue (is_mind_at place m) → IsTrue (leaves_out (suspects_of m.lower) m.algorithm)
-asked_without_itself place m is = go m.algorithm (mind_stands place m is)
-  where
-    there : (its : Place) → IsTrue (same_place its place) → not (set.contains (suspects_of m.lower) its.own) ≡ true
-    there its at = ap not (ap (set.contains (suspects_of m.lower)) (same_own its place at ∙ sym (same_own m.lower.place place (mind_place place m is))) ∙ suspects_leave_out m.lower (mind_trusts place m is))
-
-    go : (a : AlgorithmState) → IsTrue (stands_at place a) → IsTrue (leaves_out (suspects_of m.lower) a)
-    go Idle at = refl
-    go (Exchanging its s) at = there its at
-    go (Coordinating its s) at = there its at

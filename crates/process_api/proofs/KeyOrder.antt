@@ -28,9 +28,6 @@ exact_keys a b e =
     let s = tied_parts _ _ r.1 in
     same_fields a b (nat_cmp-IsAntisymmetric _ _ t.0) (nat_cmp-IsAntisymmetric _ _ r.0) (nat_cmp-IsAntisymmetric _ _ s.0) (nat_cmp-IsAntisymmetric _ _ s.1)
 
-pub IsBefore : Key → Key → Type 0
-IsBefore a b = key_cmp a b ≡ Less
-
 pub not_before_itself : (a : Key) → key_cmp a a ≢ Less
 not_before_itself a e = true≢false (ap is_lt (sym e) ∙ ap is_lt (tied_itself keys_total a))
 

@@ -1,6 +1,7 @@
 -- Which notes of a layer some actions leave.
-use Rattle.std.proofs.Common.{◌≡◌, ℕ, refl, sym, ap, ◌∙◌, Bool, true, false, not, ◌&&◌, cond, nat_eq, List, [], ◌∷◌, ◌++◌, map, append_assoc}
-use Rattle.std.proofs.lemmas.Bool.{eq-eqb}
+use Rattle.std.proofs.Common.{◌≡◌, ℕ, refl, sym, ap, ◌∙◌, cond, nat_eq, List, [], ◌∷◌, ◌++◌, map, append_assoc}
+use Rattle.std.proofs.lemmas.Bool.{eq-eqb, cond-true}
+use Rattle.std.proofs.Math.Bool.{and-not_self}
 use Rattle.std.proofs.lemmas.List.{map-append}
 use Rattle.std.specs.List.{AllByRecursion}
 use Rattle.std.specs.FinSet as set
@@ -41,27 +42,22 @@ none_of_layer_2 (action.Note (note.Decided v) ∷ xs) all = absurd all.0
 none_of_layer_2 (action.Note note.NoValue ∷ xs) all = absurd all.0
 
 -- noted changes are notes of their layer
-suspicions_kept : (layer : ℕ) (qs : List ℕ) → notes_of_layer layer (map action.Note (map (note.Suspect layer) qs)) ≡ map (note.Suspect layer) qs
-suspicions_kept layer [] = refl
-suspicions_kept layer (q ∷ qs) = λ i. cond {A = List Note} (eq-eqb layer layer refl i) (note.Suspect layer q ∷ []) [] ++ suspicions_kept layer qs i
+all_kept : (layer : ℕ) (kind : ℕ → Note) → ((q : ℕ) → of_layer layer (kind q) ≡ kind q ∷ []) → (qs : List ℕ) → notes_of_layer layer (map action.Note (map kind qs)) ≡ map kind qs
+all_kept layer kind own [] = refl
+all_kept layer kind own (q ∷ qs) = λ i. own q i ++ all_kept layer kind own qs i
 
-trusts_kept : (layer : ℕ) (qs : List ℕ) → notes_of_layer layer (map action.Note (map (note.Trust layer) qs)) ≡ map (note.Trust layer) qs
-trusts_kept layer [] = refl
-trusts_kept layer (q ∷ qs) = λ i. cond {A = List Note} (eq-eqb layer layer refl i) (note.Trust layer q ∷ []) [] ++ trusts_kept layer qs i
+own_layer : (layer : ℕ) (x : Note) → cond {A = List Note} (nat_eq layer layer) (x ∷ []) [] ≡ x ∷ []
+own_layer layer x = cond-true _ _ _ (eq-eqb layer layer refl)
 
 pub changes_kept : (layer n : ℕ) (old new : Processes) → notes_of_layer layer (map action.Note (changes layer n old new)) ≡ changes layer n old new
 changes_kept layer n old new =
     ap (notes_of_layer layer) (map-append action.Note (map (note.Suspect layer) (gone n new old)) (map (note.Trust layer) (gone n old new)))
     ∙ (notes_of_layer-append layer (map action.Note (map (note.Suspect layer) (gone n new old))) (map action.Note (map (note.Trust layer) (gone n old new)))
-    ∙ (λ i. suspicions_kept layer (gone n new old) i ++ trusts_kept layer (gone n old new) i))
+    ∙ (λ i. all_kept layer (note.Suspect layer) (λ q. own_layer layer (note.Suspect layer q)) (gone n new old) i ++ all_kept layer (note.Trust layer) (λ q. own_layer layer (note.Trust layer q)) (gone n old new) i))
 
 -- a set that stays has no changes
-not_both : (a : Bool) → (a && not a) ≡ false
-not_both true = refl
-not_both false = refl
-
 gone-itself : (n : ℕ) (s : Processes) → gone n s s ≡ []
-gone-itself n s = filter-none _ n (λ q h. not_both (set.contains s q))
+gone-itself n s = filter-none _ n (λ q low high. and-not_self (set.contains s q))
 
 pub changes-none : (layer n : ℕ) (s : Processes) → [] ≡ changes layer n s s
 changes-none layer n s = sym (λ i. map (note.Suspect layer) (gone-itself n s i) ++ map (note.Trust layer) (gone-itself n s i))

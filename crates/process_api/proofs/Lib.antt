@@ -1,5 +1,4 @@
 pub mod Allowed
-pub mod Alone
 pub mod BitWords
 pub mod Changes
 pub mod DetectorLaws
@@ -8,11 +7,13 @@ pub mod Keeping
 pub mod KeyOrder
 pub mod LayerNotes
 pub mod Lists
-pub mod Membership
+pub mod Contains
 pub mod Minds
 pub mod Numbering
 pub mod Told
-pub mod OneCrash
 pub mod Rising
 pub mod Rows
 pub mod TimeoutLaws
+pub mod Sending
+pub mod Waits
+pub mod Dropping

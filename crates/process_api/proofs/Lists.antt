@@ -1,5 +1,5 @@
 -- What holds of all of a list, and of parts of 1 to n.
-use Rattle.std.proofs.Common.{◌≡◌, ℕ, zero, suc, ◌≤◌, refl, Bool, true, false, cond, List, [], ◌∷◌, ◌++◌, map, arith}
+use Rattle.std.proofs.Common.{◌≡◌, ℕ, zero, suc, ◌≤◌, refl, Bool, true, false, cond, Option, None, Some, List, [], ◌∷◌, ◌++◌, map, arith}
 use Rattle.std.specs.List.{AllByRecursion, filter}
 use Rattle.process_api.specs.Numbers.{numbers_to}
 
@@ -23,17 +23,13 @@ pub filtered : {X : Type 0} (P : X → Type 0) (p : X → Bool) (xs : List X) �
 filtered P p [] a = tt
 filtered P p (x ∷ xs) a = elim (p x) as (λ b. AllByRecursion P (cond b (x ∷ filter p xs) (filter p xs))) [ true ↦ (a.0, filtered P p xs a.1) | false ↦ filtered P p xs a.1 ]
 
--- what a filter lets through passes its test
-pub passed : {X : Type 0} (P : X → Type 0) (p : X → Bool) → ((x : X) → p x ≡ true → P x) → (xs : List X) → AllByRecursion P (filter p xs)
-passed P p f [] = tt
-passed P p f (x ∷ xs) =
-    elim (p x) as (λ b. p x ≡ b → AllByRecursion P (cond b (x ∷ filter p xs) (filter p xs))) [
-      | true ↦ λ e. (f x e, passed P p f xs)
-      | false ↦ λ e. passed P p f xs
-    ] refl
-
 pub numbers_are : (n : ℕ) → AllByRecursion (λ q. (1 ≤ q) × (q ≤ n)) (numbers_to n)
 numbers_are zero = tt
 numbers_are (suc n) =
     both _ (numbers_to n) (suc n ∷ []) (weaker (λ q. (1 ≤ q) × (q ≤ n)) (λ q. (1 ≤ q) × (q ≤ suc n)) (λ q h. (h.0, omega (arith, h.1))) (numbers_to n) (numbers_are n))
     ((omega arith, omega arith), tt)
+
+-- what holds of both ends of a choice by a value that may be there
+pub option_both : {A X : Type 0} (o : Option A) (z : X) (f : A → X) (P : X → Type 0) → (o ≡ None → P z) → ((a : A) → o ≡ Some a → P (f a)) → P (elim o as (λ q. X) [ None ↦ z | Some a ↦ f a ])
+option_both None z f P p q = p refl
+option_both (Some a) z f P p q = q a refl

@@ -18,9 +18,6 @@ same_own a b h = eqb-true a.own b.own (both_true _ _ h).0
 pub same_count : (a b : Place) → IsTrue (same_place a b) → a.processes ≡ b.processes
 same_count a b h = eqb-true a.processes b.processes (both_true _ _ (both_true _ _ h).1).0
 
-pub same_horizon : (a b : Place) → IsTrue (same_place a b) → a.horizon ≡ b.horizon
-same_horizon a b h = eqb-true a.horizon b.horizon (both_true _ _ (both_true _ _ h).1).1
-
 module _ (place : Place) (m : Mind) (is : IsTrue (is_mind_at place m)) where
   pub mind_place : IsTrue (same_place m.lower.place place)
   mind_place = (both_true _ _ (both_true _ _ is).0).0

@@ -1,43 +1,30 @@
 -- Tests of the numbers 1 to n.
-use Rattle.std.proofs.Common.{length, length-append, subst, ◌≡◌, ◌≢◌, ⊎_elim, ℕ, zero, suc, ◌+◌, ◌≤◌, refl, sym, ap, ◌∙◌, List, [], ◌∷◌, ◌++◌, Bool, true, false, cond, nat_eq, append-nil, append_assoc, map, arith}
+use Rattle.std.proofs.Common.{add-one, length, length-append, ◌≡◌, ◌≢◌, ⊎_elim, ℕ, zero, suc, ◌+◌, ◌≤◌, refl, sym, ap, ◌∙◌, List, [], ◌∷◌, ◌++◌, Bool, true, false, cond, nat_eq, append-nil, append_assoc, map, arith}
 use Rattle.std.proofs.lemmas.Bool.{cases_eq, eq-eqb, ne_eqb}
-use Rattle.std.proofs.lemmas.Bool.Decides.{nat_tests}
 use Rattle.std.proofs.lemmas.List.Elements.{filter-append}
 use Rattle.std.proofs.lemmas.List.{map-append}
 use Rattle.std.proofs.lemmas.List.Sums.{length-filter, count_by-le-length}
 use Rattle.std.specs.List.{filter}
-use Rattle.process_api.specs.Numbers.{numbers_to, is_process}
+use Rattle.process_api.specs.Numbers.{numbers_to}
 
-filter-suc : (p : ℕ → Bool) (n : ℕ) → filter p (numbers_to (suc n)) ≡ filter p (numbers_to n) ++ cond (p (suc n)) (suc n ∷ []) []
+pub filter-suc : (p : ℕ → Bool) (n : ℕ) → filter p (numbers_to (suc n)) ≡ filter p (numbers_to n) ++ cond (p (suc n)) (suc n ∷ []) []
 filter-suc p n = filter-append p (numbers_to n) (suc n ∷ [])
 
-filter-last : (p : ℕ → Bool) (n : ℕ) → filter p (numbers_to (n + 1)) ≡ filter p (numbers_to n) ++ cond (p (n + 1)) ((n + 1) ∷ []) []
-filter-last p n =
-    let e : n + 1 ≡ suc n = omega arith in
-    ap (λ k. filter p (numbers_to k)) e ∙ (filter-suc p n ∙ ap (λ k. filter p (numbers_to n) ++ cond (p k) (k ∷ []) []) (sym e))
-
--- of 1 to n + 1, the last passes the test
-pub filter-last_passes : (p : ℕ → Bool) (n : ℕ) → p (n + 1) ≡ true → filter p (numbers_to (n + 1)) ≡ filter p (numbers_to n) ++ (n + 1) ∷ []
-filter-last_passes p n h = filter-last p n ∙ ap (λ b. filter p (numbers_to n) ++ cond b ((n + 1) ∷ []) []) h
-
--- or it doesn't
-pub filter-last_fails : (p : ℕ → Bool) (n : ℕ) → p (n + 1) ≡ false → filter p (numbers_to (n + 1)) ≡ filter p (numbers_to n)
-filter-last_fails p n h = filter-last p n ∙ (ap (λ b. filter p (numbers_to n) ++ cond b ((n + 1) ∷ []) []) h ∙ append-nil _)
+pub filter-last : (p : ℕ → Bool) (n : ℕ) → filter p (numbers_to (n + 1)) ≡ filter p (numbers_to n) ++ cond (p (n + 1)) ((n + 1) ∷ []) []
+filter-last p n = ap (λ k. filter p (numbers_to k)) (add-one n) ∙ (filter-suc p n ∙ ap (λ k. filter p (numbers_to n) ++ cond (p k) (k ∷ []) []) (sym (add-one n)))
 
 -- a list that goes through 1 to n gets what belongs to n + 1, where that passes the test
 pub appended-passes : {X : Type 0} (old : List X) (f : ℕ → X) (p : ℕ → Bool) (n : ℕ) → p (n + 1) ≡ true → (old ++ map f (filter p (numbers_to n))) ++ f (n + 1) ∷ [] ≡ old ++ map f (filter p (numbers_to (n + 1)))
 appended-passes old f p n h =
     let found : List ℕ = filter p (numbers_to n) in
     append_assoc old (map f found) (f (n + 1) ∷ [])
-    ∙ (ap (λ xs. old ++ xs) (sym (map-append f found ((n + 1) ∷ []))) ∙ ap (λ xs. old ++ map f xs) (sym (filter-last_passes p n h)))
+    ∙ (ap (λ xs. old ++ xs) (sym (map-append f found ((n + 1) ∷ []))) ∙ ap (λ xs. old ++ map f xs) (sym (filter-last p n ∙ ap (λ b. found ++ cond b ((n + 1) ∷ []) []) h)))
 
 pub appended-fails : {X : Type 0} (old : List X) (f : ℕ → X) (p : ℕ → Bool) (n : ℕ) → p (n + 1) ≡ false → old ++ map f (filter p (numbers_to n)) ≡ old ++ map f (filter p (numbers_to (n + 1)))
-appended-fails old f p n h = ap (λ xs. old ++ map f xs) (sym (filter-last_fails p n h))
+appended-fails old f p n h = ap (λ xs. old ++ map f xs) (sym (filter-last p n ∙ (ap (λ b. filter p (numbers_to n) ++ cond b ((n + 1) ∷ []) []) h ∙ append-nil _)))
 
 numbers-last : (n : ℕ) → numbers_to (n + 1) ≡ numbers_to n ++ (n + 1) ∷ []
-numbers-last n =
-    let e : n + 1 ≡ suc n = omega arith in
-    ap numbers_to e ∙ ap (λ k. numbers_to n ++ k ∷ []) (sym e)
+numbers-last n = ap numbers_to (add-one n) ∙ ap (λ k. numbers_to n ++ k ∷ []) (sym (add-one n))
 
 -- a list that goes through 1 to n, with no test
 pub appended : {X : Type 0} (old : List X) (f : ℕ → X) (n p : ℕ) (out more : List X) → out ≡ old ++ map f (numbers_to n) → p ≡ n + 1 → more ≡ out ++ f p ∷ []
@@ -57,11 +44,11 @@ filter-same f g (suc n) agree =
     filter-suc f n ∙ ((λ i. earlier i ++ cond (last i) (suc n ∷ []) []) ∙ sym (filter-suc g n))
 
 -- nobody from 1 to n passes
-pub filter-none : (f : ℕ → Bool) (n : ℕ) → ((q : ℕ) → q ≤ n → f q ≡ false) → filter f (numbers_to n) ≡ []
+pub filter-none : (f : ℕ → Bool) (n : ℕ) → ((q : ℕ) → 1 ≤ q → q ≤ n → f q ≡ false) → filter f (numbers_to n) ≡ []
 filter-none f zero fails = refl
 filter-none f (suc n) fails =
-    let earlier : filter f (numbers_to n) ≡ [] = filter-none f n (λ q high. fails q (omega (arith, high))) in
-    let last : f (suc n) ≡ false = fails (suc n) (omega arith) in
+    let earlier : filter f (numbers_to n) ≡ [] = filter-none f n (λ q low high. fails q low (omega (arith, high))) in
+    let last : f (suc n) ≡ false = fails (suc n) (omega arith) (omega arith) in
     filter-suc f n ∙ (λ i. earlier i ++ cond (last i) (suc n ∷ []) [])
 
 -- the test for one number finds it
@@ -70,7 +57,7 @@ filter-one f q zero low high is = absurd (omega (arith, low, high))
 filter-one f q (suc n) low high is =
     filter-suc f n ∙ ⊎_elim
     (λ (e : q ≡ suc n).
-    let earlier : filter f (numbers_to n) ≡ [] = filter-none f n (λ p h. is p ∙ ne_eqb p q (λ same. omega (arith, h, e, same))) in
+    let earlier : filter f (numbers_to n) ≡ [] = filter-none f n (λ p low h. is p ∙ ne_eqb p q (λ same. omega (arith, h, e, same))) in
     let last : f (suc n) ≡ true = is (suc n) ∙ eq-eqb (suc n) q (sym e) in
     (λ i. earlier i ++ cond (last i) (suc n ∷ []) []) ∙ ap (λ k. k ∷ []) (sym e))
     (λ (apart : q ≢ suc n).
@@ -78,21 +65,6 @@ filter-one f q (suc n) low high is =
     let last : f (suc n) ≡ false = is (suc n) ∙ ne_eqb (suc n) q (λ e. apart (sym e)) in
     λ i. earlier i ++ cond (last i) (suc n ∷ []) [])
     (cases_eq q (suc n))
-
-pub is_process-none : (q : ℕ) → is_process 0 q ≡ false
-is_process-none q = grind (arith, nat_tests)
-
-pub is_process-last : (n q : ℕ) → q ≡ suc n → is_process (suc n) q ≡ true
-is_process-last n q e = grind (arith, nat_tests)
-
-pub is_process-past : (n q : ℕ) → q ≡ suc n → is_process n q ≡ false
-is_process-past n q e = grind (arith, nat_tests)
-
-pub is_process-more : (n q : ℕ) → q ≢ suc n → is_process (suc n) q ≡ is_process n q
-is_process-more n q apart = grind (arith, nat_tests)
-
-pub is_process_within : (n q : ℕ) → 1 ≤ q → q ≤ n → is_process n q ≡ true
-is_process_within n q low high = grind (arith, nat_tests)
 
 pub length-numbers_to : (n : ℕ) → length (numbers_to n) ≡ n
 length-numbers_to zero = refl
@@ -114,8 +86,4 @@ length-apart f g zero apart = omega arith
 length-apart f g (suc n) apart = omega (arith, length-last f n, length-last g n, length-apart f g n apart, one_of_them)
   where
     one_of_them : cond (f (suc n)) 1 0 + cond (g (suc n)) 1 0 ≤ 1
-    one_of_them =
-        elim (f (suc n)) as (λ b. f (suc n) ≡ b → cond b 1 0 + cond (g (suc n)) 1 0 ≤ 1) [
-          | true ↦ λ is. subst (λ c. 1 + cond c 1 0 ≤ 1) (sym (apart (suc n) is)) (omega arith)
-          | false ↦ λ is. elim (g (suc n)) as (λ c. 0 + cond c 1 0 ≤ 1) [ true ↦ omega arith | false ↦ omega arith ]
-        ] refl
+    one_of_them = grind (arith, apart (suc n))

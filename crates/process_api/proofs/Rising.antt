@@ -1,77 +1,48 @@
 -- The members of a set in rising order, one after the other.
-use Rattle.std.proofs.Common.{◌≡◌, ◌≢◌, ℕ, zero, suc, ◌+◌, ◌-◌, ◌<◌, ◌≤◌, refl, sym, ap, ◌∙◌, subst, Bool, true, false, cond, not, ◌&&◌, nat_eq, List, [], ◌∷◌, ◌++◌, arith, ⊎_elim, append-nil, nat_cmp, length, Option, Some}
+use Rattle.std.proofs.Common.{◌≡◌, ◌≢◌, ℕ, zero, suc, ◌+◌, ◌-◌, ◌<◌, ◌≤◌, refl, sym, ap, ◌∙◌, subst, Bool, true, false, cond, not, ◌&&◌, nat_le, List, [], ◌∷◌, ◌++◌, arith, ⊎_elim, append-nil, nat_cmp, length, Option, Some}
 use Rattle.std.proofs.lemmas.Bool.{cases_eq}
-use Rattle.std.specs.List.{filter, AllByRecursion}
+use Rattle.std.specs.List.{filter}
 use Rattle.std.specs.FinSet as set
-use Rattle.std.specs.Cmp.{nat_cmp_total, unsigned_tied}
 use Rattle.std.specs.Iterator.{YieldsFirst, MakesProgress, item_count}
 use borrow.Author.Tests.{eq-eqb, ne_eqb}
+use Rattle.std.specs.Cmp.{nat_cmp_total}
+use Rattle.std.proofs.lemmas.Bool.Decides.{nat_tests}
 use Rattle.process_api.specs.Bits.{members}
 use Rattle.process_api.specs.Bounds.{most_processes}
 use Rattle.process_api.specs.InOrder.{in_order}
 use Rattle.process_api.specs.Numbers.{numbers_to}
-use Rattle.process_api.specs.Sets.{Processes}
-use Rattle.process_api.proofs.Lists.{passed, filtered, numbers_are}
+use Rattle.process_api.specs.Sets.{Processes, up_to, gone}
+use Rattle.process_api.proofs.Contains.{contains-remove_is, contains-up_to}
+use Rattle.process_api.proofs.Numbering.{filter-suc, filter-none, filter-same}
 use Rattle.process_api.proofs.Told.{told_in_range, members-none, members-remove}
-
-filter_last : {X : Type 0} (p : X → Bool) (xs : List X) (y : X) → filter p (xs ++ y ∷ []) ≡ filter p xs ++ cond (p y) (y ∷ []) []
-filter_last p [] y = refl
-filter_last p (x ∷ xs) y =
-    elim (p x) as (λ b. cond b (x ∷ filter p (xs ++ y ∷ [])) (filter p (xs ++ y ∷ [])) ≡ cond b (x ∷ filter p xs) (filter p xs) ++ cond (p y) (y ∷ []) []) [
-      | true ↦ ap (λ zs. x ∷ zs) (filter_last p xs y)
-      | false ↦ filter_last p xs y
-    ]
-
--- a test that none of 1 to n passes
-none_passes : (p : ℕ → Bool) (n : ℕ) → ((x : ℕ) → 1 ≤ x → x ≤ n → p x ≡ false) → filter p (numbers_to n) ≡ []
-none_passes p zero none = refl
-none_passes p (suc n) none =
-    filter_last p (numbers_to n) (suc n)
-    ∙ (λ i. none_passes p n (λ x low high. none x low (omega (arith, high))) i ++ cond (none (suc n) (omega arith) (omega arith) i) (suc n ∷ []) [])
 
 -- the first that passes, and then those that pass besides it
 module _ (p others : ℕ → Bool) (q : ℕ) (some : 1 ≤ q) (passes : p q ≡ true) (none : (x : ℕ) → 1 ≤ x → x < q → p x ≡ false) (without : others q ≡ false) (alike : (x : ℕ) → x ≢ q → others x ≡ p x) where
   last_is : (n : ℕ) → q ≡ suc n → filter p (numbers_to n) ++ cond (p (suc n)) (suc n ∷ []) [] ≡ q ∷ (filter others (numbers_to n) ++ cond (others (suc n)) (suc n ∷ []) [])
   last_is n e =
-      (λ i. none_passes p n (λ x low high. none x low (omega (arith, high, e))) i ++ cond ((ap p (sym e) ∙ passes) i) (suc n ∷ []) [])
-      ∙ sym (λ i. e i ∷ (none_passes others n (λ x low high. alike x (apart_of x high) ∙ none x low (omega (arith, high, e))) i ++ cond ((ap others (sym e) ∙ without) i) (suc n ∷ []) []))
-    where
-      apart_of : (x : ℕ) → x ≤ n → x ≢ q
-      apart_of x high s = omega (arith, high, s, e)
+      (λ i. filter-none p n (λ x low high. none x low (omega (arith, high, e))) i ++ cond ((ap p (sym e) ∙ passes) i) (suc n ∷ []) [])
+      ∙ sym (λ i. e i ∷ (filter-none others n (λ x low high. alike x (λ s. omega (arith, high, s, e)) ∙ none x low (omega (arith, high, e))) i ++ cond ((ap others (sym e) ∙ without) i) (suc n ∷ []) []))
 
   first_passes : (n : ℕ) → q ≤ n → filter p (numbers_to n) ≡ q ∷ filter others (numbers_to n)
   first_passes zero within = absurd (omega (arith, within, some))
   first_passes (suc n) within =
-      filter_last p (numbers_to n) (suc n)
+      filter-suc p n
       ∙ (⊎_elim (last_is n) (λ (apart : q ≢ suc n) i. first_passes n (omega (arith, within, apart)) i ++ cond (sym (alike (suc n) (λ s. apart (sym s))) i) (suc n ∷ []) []) (cases_eq q (suc n))
-      ∙ ap (λ zs. q ∷ zs) (sym (filter_last others (numbers_to n) (suc n))))
+      ∙ ap (λ zs. q ∷ zs) (sym (filter-suc others n)))
 
 pub in_order-empty : (s : Processes) → ((x : ℕ) → set.contains s x ≡ false) → in_order s ≡ []
 unfolding in_order
-in_order-empty s none = none_passes (set.contains s) most_processes (λ x low high. none x)
+in_order-empty s none = filter-none (set.contains s) most_processes (λ x low high. none x)
 
 pub in_order-first : (s : Processes) (q : ℕ) → 1 ≤ q → q ≤ most_processes → set.contains s q ≡ true → ((x : ℕ) → 1 ≤ x → x < q → set.contains s x ≡ false) → in_order s ≡ q ∷ in_order (set.remove s q)
 unfolding in_order
 in_order-first s q low high there none = first_passes (set.contains s) (set.contains (set.remove s q)) q low there none without alike most_processes high
   where
-    tied : (x : ℕ) → set.contains (set.remove s q) x ≡ (not (nat_eq x q) && set.contains s x)
-    tied x = set.contains-remove nat_cmp_total s q x ∙ ap (λ b. not b && set.contains s x) (unsigned_tied x q)
-
     without : set.contains (set.remove s q) q ≡ false
-    without = tied q ∙ ap (λ b. not b && set.contains s q) (eq-eqb q q refl)
+    without = contains-remove_is s q q ∙ ap (λ b. not b && set.contains s q) (eq-eqb q q refl)
 
     alike : (x : ℕ) → x ≢ q → set.contains (set.remove s q) x ≡ set.contains s x
-    alike x apart = tied x ∙ ap (λ b. not b && set.contains s x) (ne_eqb x q apart)
-
--- all of them are members
-pub in_order-members : (s : Processes) → AllByRecursion (λ q. set.contains s q ≡ true) (in_order s)
-unfolding in_order
-in_order-members s = passed (λ q. set.contains s q ≡ true) (set.contains s) (λ q h. h) (numbers_to most_processes)
-
--- and processes
-pub in_order-processes : (s : Processes) → AllByRecursion (λ q. (1 ≤ q) × (q ≤ most_processes)) (in_order s)
-unfolding in_order
-in_order-processes s = filtered (λ q. (1 ≤ q) × (q ≤ most_processes)) (set.contains s) (numbers_to most_processes) (numbers_are most_processes)
+    alike x apart = contains-remove_is s q x ∙ ap (λ b. not b && set.contains s x) (ne_eqb x q apart)
 
 -- the first that is told, and then those that are told besides it
 pub in_order-told : (told new : ℕ → Bool) (place : ℕ) → place < most_processes → told place ≡ true → ((i : ℕ) → i < place → told i ≡ false)
@@ -99,15 +70,21 @@ progressed r old new n e is =
 
 -- where all members are at most n, those of 1 to n are all
 filter_to : (p : ℕ → Bool) (n m : ℕ) → n ≤ m → ((x : ℕ) → n < x → p x ≡ false) → filter p (numbers_to m) ≡ filter p (numbers_to n)
-filter_to p n zero within none = ap (λ k. filter p (numbers_to k)) (least n within)
-  where
-    least : (n : ℕ) → n ≤ 0 → 0 ≡ n
-    least n h = omega (arith, h)
+filter_to p n zero within none = ap (λ k. filter p (numbers_to k)) (let e : 0 ≡ n = omega (arith, within) in e)
 filter_to p n (suc m) within none =
     ⊎_elim (λ e. ap (λ k. filter p (numbers_to k)) (sym e))
-    (λ apart. filter_last p (numbers_to m) (suc m) ∙ (ap (λ b. filter p (numbers_to m) ++ cond b (suc m ∷ []) []) (none (suc m) (omega (arith, within, apart))) ∙ (append-nil (filter p (numbers_to m)) ∙ filter_to p n m (omega (arith, within, apart)) none)))
+    (λ apart. filter-suc p m ∙ (ap (λ b. filter p (numbers_to m) ++ cond b (suc m ∷ []) []) (none (suc m) (omega (arith, within, apart))) ∙ (append-nil (filter p (numbers_to m)) ∙ filter_to p n m (omega (arith, within, apart)) none)))
     (cases_eq n (suc m))
 
 pub in_order-to : (s : Processes) (n : ℕ) → n ≤ most_processes → ((x : ℕ) → n < x → set.contains s x ≡ false) → in_order s ≡ filter (set.contains s) (numbers_to n)
 unfolding in_order
 in_order-to s n within none = filter_to (set.contains s) n most_processes within none
+
+-- those of 1 to n that are in one set and not in another
+pub gone-members : (n : ℕ) (from to : Processes) → n ≤ most_processes → in_order (up_to n (set.difference from to)) ≡ gone n from to
+gone-members n from to few =
+    in_order-to (up_to n (set.difference from to)) n few (λ q h. grind (cut q, h, arith, nat_tests))
+    ∙ filter-same _ _ n (λ q low h. grind (cut q, h, arith, nat_tests))
+  where
+    cut : (q : ℕ) → set.contains (up_to n (set.difference from to)) q ≡ ((set.contains from q && not (set.contains to q)) && nat_le q n)
+    cut q = contains-up_to n (set.difference from to) q ∙ ap (λ b. b && nat_le q n) (set.contains-difference nat_cmp_total from to q)

@@ -1,13 +1,22 @@
 -- One more in a row of cells.
-use Rattle.std.proofs.Common.{◌≡◌, ◌⊎◌, ℕ, zero, suc, ◌+◌, ◌<◌, inl, inr, refl, sym, ap, ◌∙◌, subst, Bool, true, false, cond, ◌||◌, nat_eq, Option, None, Some, is_some, unwrap_or, Ordering, Less, Equal, Greater, is_eq, nat_cmp, true≢false, List, [], length, get_or, arith}
+use Rattle.std.proofs.Common.{◌≡◌, ◌⊎◌, ℕ, zero, suc, ◌+◌, ◌-◌, ◌<◌, ◌≤◌, inl, inr, refl, sym, ap, ◌∙◌, subst, Bool, true, false, cond, ◌&&◌, ◌||◌, nat_eq, nat_le, nat_lt, Option, None, Some, is_some, unwrap_or, Ordering, Less, Equal, Greater, is_eq, nat_cmp, true≢false, BTreeMap, List, [], ◌∷◌, ◌++◌, length, get_or, arith}
 use Rattle.std.specs.FinSet as set
 use Rattle.std.specs.FinMap.{nat_cmp-IsAntisymmetric}
+use Rattle.std.specs.BTreeMap as tree
 use Rattle.std.proofs.Math.ListN as list
 use Rattle.std.proofs.lemmas.List.{get_or-set_same, get_or-set_other}
 use Rattle.std.proofs.lemmas.Cmp.{tied_itself, nat_cmp_total}
 use Rattle.std.proofs.lemmas.Bool.{cases_eq, eq-eqb, ne_eqb, eqb-true}
+use Rattle.std.proofs.lemmas.Bool.Decides.{nat_tests}
+use Rattle.process_api.specs.Bits.{members}
+use Rattle.process_api.specs.Coordinator.{keep}
+use Rattle.process_api.specs.Letters.{by_number, by_row, in_row, of_sender}
+use Rattle.process_api.specs.Rounds.{count_to}
 use Rattle.process_api.specs.Rows.{keep_one, cell_of, AreSenders}
-use Rattle.process_api.specs.Sets.{Processes}
+use Rattle.process_api.specs.Sets.{Processes, up_to}
+use Rattle.process_api.specs.declared.row.Row.{Row}
+use Rattle.process_api.proofs.Contains.{contains-up_to, same_members}
+use Rattle.process_api.proofs.Told.{contains-members, len-more}
 
 pub same_number : (a b : ℕ) → is_eq (nat_cmp a b) ≡ nat_eq b a
 same_number a b = go (cases_eq b a)
@@ -26,23 +35,9 @@ module _ {X : Type 0} where
   filled None x e = absurd (true≢false (sym e))
   filled (Some y) x e = refl
 
-  -- what is kept already stays
-  pub kept_there : (f : ℕ → Option X) (sender : ℕ) (x : X) → is_some (f sender) ≡ true → f ≡ keep_one f sender x
-  kept_there f sender x there = λ i q. at q i
-    where
-      at : (q : ℕ) → f q ≡ keep_one f sender x q
-      at q = go (nat_eq q sender) refl
-        where
-          go : (b : Bool) → nat_eq q sender ≡ b → f q ≡ cond b (Some (unwrap_or (f sender) x)) (f q)
-          go true e = ap f (eqb-true q sender e) ∙ filled (f sender) x there
-          go false e = refl
-
   pub no_cell : (xs : List (Option X)) (q : ℕ) → xs ≡ [] → cell_of xs q ≡ None
   no_cell xs zero e = refl
   no_cell xs (suc k) e = ap (λ ys. get_or ys k None) e
-
-  pub none_there : (xs : List (Option X)) → xs ≡ [] → cell_of xs ≡ (λ q. None)
-  none_there xs e = λ i q. no_cell xs q e i
 
   pub no_senders : (s : Processes) (xs : List (Option X)) → s ≡ set.empty → xs ≡ [] → AreSenders s xs
   no_senders s xs e f q = ap (λ z. set.contains z q) e ∙ (set.contains-empty nat_cmp q ∙ sym (ap is_some (no_cell xs q f)))
@@ -86,3 +81,69 @@ module _ {X : Type 0} where
       go true false e = absurd (true≢false e)
       go false true e = absurd (true≢false (sym e))
       go false false e = ap (λ f. is_some (f q)) (sym same)
+
+  -- a round's row changes as one letter is kept
+  pub row_changed : (t u : BTreeMap ℕ (Row X)) (round sender : ℕ) (x : X) (row : Row X) → tree.Updates nat_cmp t u round (Some row)
+      → of_sender row ≡ keep_one (in_row (by_number t round)) sender x → by_row (by_number u) ≡ keep (by_row (by_number t)) round sender x
+  row_changed t u round sender x row updates kept = λ i r q. at r q i
+    where
+      at : (r q : ℕ) → by_row (by_number u) r q ≡ keep (by_row (by_number t)) round sender x r q
+      at r q = ap (λ o. in_row o q) (updates.0 r ∙ ap (λ b. cond b (Some row) (by_number t r)) (same_number round r)) ∙ go (nat_eq r round) refl
+        where
+          go : (b : Bool) → nat_eq r round ≡ b
+              → in_row (cond b (Some row) (by_number t r)) q ≡ cond (b && nat_eq q sender) (Some (unwrap_or (in_row (by_number t round) sender) x)) (in_row (by_number t r) q)
+          go true e = ap (λ f. f q) kept ∙ ap (λ z. cond (nat_eq q sender) (Some (unwrap_or (in_row (by_number t round) sender) x)) (in_row (by_number t z) q)) (sym (eqb-true r round e))
+          go false e = refl
+
+  -- what is kept already stays
+  pub keep_there : (f : ℕ → ℕ → Option X) (round sender : ℕ) (x : X) → is_some (f round sender) ≡ true → f ≡ keep f round sender x
+  keep_there f round sender x there = λ i r q. at r q i
+    where
+      at : (r q : ℕ) → f r q ≡ keep f round sender x r q
+      at r q = go (nat_eq r round) (nat_eq q sender) refl refl
+        where
+          go : (b c : Bool) → nat_eq r round ≡ b → nat_eq q sender ≡ c → f r q ≡ cond (b && c) (Some (unwrap_or (f round sender) x)) (f r q)
+          go true true d e = (λ i. f (eqb-true r round d i) (eqb-true q sender e i)) ∙ filled (f round sender) x there
+          go true false d e = refl
+          go false c d e = refl
+
+  -- an empty cell at the end changes nothing
+  pushed_at : (xs : List (Option X)) (k : ℕ) → get_or (xs ++ None ∷ []) k None ≡ get_or xs k None
+  pushed_at [] zero = refl
+  pushed_at [] (suc k) = refl
+  pushed_at (x ∷ xs) zero = refl
+  pushed_at (x ∷ xs) (suc k) = pushed_at xs k
+
+  pub pushed : (xs : List (Option X)) → cell_of (xs ++ None ∷ []) ≡ cell_of xs
+  pushed xs = λ i q. at q i
+    where
+      at : (q : ℕ) → cell_of (xs ++ None ∷ []) q ≡ cell_of xs q
+      at zero = refl
+      at (suc k) = pushed_at xs k
+
+-- a row that isn't there has no letters
+pub none_counted : (n : ℕ) → count_to n (λ q. false) ≡ 0
+none_counted zero = refl
+none_counted (suc n) = ap (λ z. z + 0) (none_counted n)
+
+one_more_most : (n k : ℕ) (b : Bool) → k ≤ n → k + cond b 1 0 ≤ suc n
+one_more_most n k b h = grind (h, arith)
+
+pub count_most : (n : ℕ) (f : ℕ → Bool) → count_to n f ≤ n
+count_most zero f = omega arith
+count_most (suc n) f = one_more_most n _ (f (suc n)) (count_most n f)
+
+-- how many of 1 to n are in a set
+len_members : (s : Processes) (n : ℕ) → set.len (members n (λ i. set.contains s (suc i))) ≡ count_to n (set.contains s)
+unfolding members
+len_members s zero = set.len-empty nat_cmp
+len_members s (suc n) = len-more (λ i. set.contains s (suc i)) n ∙ ap (λ k. k + cond (set.contains s (suc n)) 1 0) (len_members s n)
+
+cut : (s : Processes) (n q : ℕ) → set.contains s 0 ≡ false → ((nat_lt 0 q && nat_le q n) && set.contains s (suc (q - 1))) ≡ (set.contains s q && nat_le q n)
+cut s n q none = grind (none, arith, nat_tests)
+
+-- the senders of a row are counted
+pub counted : {X : Type 0} (s : Processes) (xs : List (Option X)) (n : ℕ) → AreSenders s xs → set.len (up_to n s) ≡ count_to n (λ q. is_some (cell_of xs q))
+counted s xs n were =
+    ap set.len (same_members (up_to n s) (members n (λ i. set.contains s (suc i))) (λ q. contains-up_to n s q ∙ sym (contains-members (λ i. set.contains s (suc i)) n q ∙ cut s n q (were 0))))
+    ∙ (len_members s n ∙ ap (count_to n) (λ i q. were q i))

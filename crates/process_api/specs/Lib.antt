@@ -23,4 +23,4 @@ pub mod Diffusion
 pub mod Coordinator
 pub mod Mind
 pub mod React
-pub mod Alone
+pub mod Letters

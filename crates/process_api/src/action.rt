@@ -1,5 +1,7 @@
 //! Actions and notes.
-ghost use Rattle.std.specs.Prelude.{◌≡◌, ◌++◌, ◌∷◌, [], OnOk, OnErr};
+ghost use Rattle.std.specs.Prelude.{◌≡◌, ◌≤◌, ◌++◌, ◌∷◌, [], OnOk, OnErr};
+ghost use Rattle.process_api.specs.Answer.{to_all, to_others};
+ghost use Rattle.process_api.specs.Bounds.{most_processes};
 
 use crate::message::{Payload, Tag};
 use crate::pid::Pid;
@@ -43,6 +45,48 @@ pub fn send_to(out: &mut Vec<Action>, to: Pid, payload: Payload) -> Result<(), A
     // The check wants the type of a note named where an action is pushed.
     let _none: Option<Note> = None;
     out.push(Action::Send { to, payload })?;
+    Ok(())
+}
+
+/// Appends a letter to each of processes 1 to `processes`, in rising order, to the sender itself too.
+///
+/// # Errors
+///
+/// `AllocError` where memory was refused; `out` may hold a part of the letters.
+pub fn send_to_all(
+    out: &mut Vec<Action>,
+    processes: u16,
+    payload: &Payload,
+) -> Result<(), AllocError>
+    requires { processes ≤ most_processes }
+    ensures { OnOk result (out.new.items ≡ out.old.items ++ to_all processes payload.now) }
+{
+    for before in 0..processes {
+        send_to(out, Pid::after(before), payload.copy()?)?;
+    }
+    Ok(())
+}
+
+/// Appends a letter to each of processes 1 to `processes` but the sender, process `own`, in rising order.
+///
+/// # Errors
+///
+/// `AllocError` where memory was refused; `out` may hold a part of the letters.
+pub fn send_to_others(
+    out: &mut Vec<Action>,
+    processes: u16,
+    own: Pid,
+    payload: &Payload,
+) -> Result<(), AllocError>
+    requires { processes ≤ most_processes }
+    ensures { OnOk result (out.new.items ≡ out.old.items ++ to_others processes own payload.now) }
+{
+    for before in 0..processes {
+        let q = Pid::after(before);
+        if q != own {
+            send_to(out, q, payload.copy()?)?;
+        }
+    }
     Ok(())
 }
 

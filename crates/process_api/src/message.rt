@@ -1,9 +1,11 @@
 //! Letters and inputs.
+ghost use Rattle.std.specs.Prelude.{◌≡◌, IfOk};
 
 use crate::cells::Cells;
 use crate::key::Key;
 use crate::pid::Pid;
 use crate::proc_set::ProcSet;
+use std::alloc::AllocError;
 
 /// What a wake is for.
 #[derive(Clone, Copy)]
@@ -38,6 +40,46 @@ pub enum Payload {
     Reply { round: u64, ack: bool },
     /// Diffusion: the decision of a round.
     Decide { round: u64, value: u32 },
+}
+
+impl Payload {
+    /// The same letter, in memory of its own.
+    ///
+    /// # Errors
+    ///
+    /// `AllocError` where memory was refused.
+    pub fn copy(&self) -> Result<Payload, AllocError>
+        ensures { IfOk result (λ copied. copied ≡ self.now) }
+    {
+        let copied = match self {
+            Payload::Alive => Payload::Alive,
+            Payload::Heartbeat { number } => Payload::Heartbeat { number: *number },
+            Payload::Suspects(shared) => Payload::Suspects(shared.copy()),
+            Payload::Vector { round, cells } => {
+                let cells = cells.copy()?;
+                Payload::Vector {
+                    round: *round,
+                    cells,
+                }
+            }
+            Payload::Last { cells } => Payload::Last {
+                cells: cells.copy()?,
+            },
+            &Payload::Estimate {
+                round,
+                value,
+                stamp,
+            } => Payload::Estimate {
+                round,
+                value,
+                stamp,
+            },
+            &Payload::Proposal { round, value } => Payload::Proposal { round, value },
+            &Payload::Reply { round, ack } => Payload::Reply { round, ack },
+            &Payload::Decide { round, value } => Payload::Decide { round, value },
+        };
+        Ok(copied)
+    }
 }
 
 /// What a process takes in one step.

@@ -1,30 +1,48 @@
 -- A base detector's step and then the reduction's are the step of the two together.
-use Rattle.std.proofs.Common.{◌≡◌, ◌≤◌, ◌++◌, ℕ, List, length, ap, sym, subst, refl, ◌∙◌, arith, append_assoc, length-append, Option, None, Some}
+use Rattle.std.proofs.Common.{◌≡◌, ◌+◌, ◌≤◌, ◌++◌, [], ℕ, List, length, ap, sym, subst, refl, ◌∙◌, arith, append_assoc, length-append, None, Some}
 use Rattle.std.specs.List.{All}
-use Rattle.std.proofs.lemmas.List.Elements.{All-append}
+use Rattle.std.proofs.lemmas.List.Elements.{All-append, All-from_recursion}
 use Rattle.process_api.specs.Bounds.{most_processes, most_first_actions, most_second_actions}
 use Rattle.process_api.specs.Sets.{Processes, changes}
 use Rattle.process_api.specs.Place.{Place}
-use Rattle.process_api.specs.Answer.{Answer}
+use Rattle.process_api.specs.Answer.{Answer, to_all}
+use Rattle.process_api.specs.Numbers.{numbers_to}
 use Rattle.process_api.specs.Actions.{IsAllowed, notes_of_layer}
 use Rattle.process_api.specs.Mind.{Lower, layer_of, suspects_of, most_actions}
 use Rattle.process_api.specs.React.{react_lower}
-use Rattle.process_api.specs.Reduction.{ReductionState, step_reduction}
+use Rattle.process_api.specs.Reduction.{ReductionState, gathered, next_share, step_reduction}
 use Rattle.process_api.specs.Detector.{DetectorState, suspected_by, step_detector}
 use Rattle.process_api.specs.declared.action.Action.{Action}
+use Rattle.process_api.specs.declared.message.Payload.TheVariants as payload
 use Rattle.process_api.specs.declared.message.StepInput.{StepInput}
+use Rattle.process_api.specs.declared.message.StepInput.TheVariants as input
+use Rattle.process_api.specs.declared.message.Tag.TheVariants as tag
 use Rattle.process_api.proofs.DetectorLaws.{detector_laws}
-use Rattle.process_api.proofs.LayerNotes.{notes_of_layer-append, none_of_layer_2}
-use Rattle.reduction.proofs.LayerNotes.{reduction_notes}
-use Rattle.reduction.proofs.Bounds.{reduction_allowed, reduction_few}
+use Rattle.process_api.proofs.Allowed.{reduction_allowed}
+use Rattle.process_api.proofs.Changes.{length-changes}
+use Rattle.process_api.proofs.Keeping.{by_layer}
+use Rattle.process_api.proofs.LayerNotes.{notes_of_layer-append, none_of_layer_2, no_letters, changes_kept, changes-none}
+use Rattle.process_api.proofs.Sending.{length-to_all}
+
+-- a share takes n + 1 actions, and a letter at most n: the detector below has room for its own
+reduction_few : (place : Place) (s : ReductionState) (suspects : Processes) (x : StepInput) → place.processes ≤ most_processes → most_first_actions + length (step_reduction place s suspects x).actions ≤ most_second_actions
+reduction_few place s suspects input.Start few = omega arith
+reduction_few place s suspects (input.Wake tag.Share) few =
+    omega (arith, few, length-append (to_all place.processes (payload.Suspects suspects)) (next_share place s), length-to_all place.processes (payload.Suspects suspects))
+reduction_few place s suspects (input.Letter sender (payload.Suspects shared)) few = omega (arith, few, length-changes 2 place.processes s.output (gathered place s.output sender shared))
+reduction_few place s suspects x few = omega arith
+
+-- the reduction notes exactly the changes of its output
+reduction_notes : (place : Place) (s : ReductionState) (suspects : Processes) (x : StepInput)
+    → notes_of_layer 2 (step_reduction place s suspects x).actions ≡ changes 2 place.processes s.output (step_reduction place s suspects x).state.output
+reduction_notes place s suspects (input.Wake tag.Share) =
+    notes_of_layer-append 2 (to_all place.processes (payload.Suspects suspects)) (next_share place s) ∙ (λ i. no_letters 2 (payload.Suspects suspects) (numbers_to place.processes) i ++ []) ∙ changes-none 2 place.processes s.output
+reduction_notes place s suspects (input.Letter sender (payload.Suspects shared)) = changes_kept 2 place.processes s.output (gathered place s.output sender shared)
+reduction_notes place s suspects x = changes-none 2 place.processes s.output
 
 -- on layer 1 there is no reduction
 base_alone : (m : Lower) → layer_of m ≡ 1 → m.reduction ≡ None
-base_alone m h = go m.reduction h
-  where
-    go : (o : Option ReductionState) → elim o as (λ z. ℕ) [ None ↦ 1 | Some r ↦ 2 ] ≡ 1 → o ≡ None
-    go None e = refl
-    go (Some r) e = absurd (omega (arith, e))
+base_alone m h = by_layer (λ m. layer_of m ≡ 1 → m.reduction ≡ None) m (λ e. refl) (λ r e. absurd (omega (arith, e))) h
 
 module _ (m : Lower) (base : layer_of m ≡ 1) (r : ReductionState) (now : ℕ) (input : StepInput) where
   abbrev below : Answer DetectorState
@@ -74,7 +92,8 @@ module _ (m : Lower) (base : layer_of m ≡ 1) (r : ReductionState) (now : ℕ) 
   pub joined_allowed : 1 ≤ r.period → All (IsAllowed m.place.processes) (react_lower m now input).actions → All (IsAllowed m.place.processes) (react_lower top now input).actions
   joined_allowed period f =
       subst (All (IsAllowed m.place.processes)) (sym top_actions)
-      (All-append (IsAllowed m.place.processes) below.actions over.actions (subst (All (IsAllowed m.place.processes)) base_actions f) (reduction_allowed m.place r (suspected_by m.place below.state) input period))
+      (All-append (IsAllowed m.place.processes) below.actions over.actions (subst (All (IsAllowed m.place.processes)) base_actions f)
+      (All-from_recursion (IsAllowed m.place.processes) over.actions (reduction_allowed m.place r (suspected_by m.place below.state) input period)))
 
   -- the two steps as the code takes them
   module _ (next : Lower) (after : ReductionState) (s : Processes) (place : Place) (here : place ≡ m.place)

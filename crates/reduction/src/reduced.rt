@@ -17,8 +17,7 @@ pub struct Reduced<D: Detector> {
     gathering: Gathering,
     failed: bool,
     ghost base: { layer_of (D.lower detector) ≡ 1 },
-    ghost own: { gathering.own ≡ (D.lower detector).place.own },
-    ghost processes: { gathering.processes ≡ (D.lower detector).place.processes },
+    ghost place: { (D.lower detector).place ≡ place_of gathering.opening },
 }
 
 impl<D: Detector> Reduced<D> {
@@ -36,8 +35,7 @@ impl<D: Detector> Reduced<D> {
             Some(period) => Reduced {
                 detector,
                 gathering: Gathering {
-                    own: opening.own,
-                    processes: opening.processes,
+                    opening: *opening,
                     period,
                     output: ProcSet::new(),
                 },

@@ -1,10 +1,11 @@
 -- What a detector is, as plain data.
-use Rattle.std.specs.Prelude.{ℕ, Bool, slice_index_or}
+use Rattle.std.specs.Prelude.{ℕ, Bool, List, ◌++◌, slice_index_or}
 use Rattle.process_api.specs.Answer.{Answer}
 use Rattle.process_api.specs.Timeout as timeout
-use Rattle.process_api.specs.Timeout.{TimeoutState, watches, checked, heard, step_timeout}
+use Rattle.process_api.specs.Timeout.{TimeoutState, watches, checked, heard, alive_to_others, next_beat, step_timeout}
 use Rattle.process_api.specs.Detector.{ByTimeout}
 use Rattle.process_api.specs.Mind.{Lower}
+use Rattle.process_api.specs.declared.action.Action.{Action}
 use Rattle.process_api.specs.declared.message.StepInput.{StepInput}
 use Rattle.scenario_record.specs.Opening.{place_of, base_of}
 use Rattle.timeout_detector.specs.declared.detector.TimeoutDetector.{TimeoutDetector}
@@ -33,6 +34,9 @@ checked_by d = checked (place_of d.opening) d.numbers (state_of d)
 
 abbrev pub heard_by : TimeoutDetector → ℕ → ℕ → Answer TimeoutState
 heard_by d = heard (place_of d.opening) d.numbers (state_of d)
+
+abbrev pub beats_of : TimeoutDetector → List Action
+beats_of d = alive_to_others (place_of d.opening) d.numbers ++ next_beat (place_of d.opening) d.numbers
 
 abbrev pub answer_of : TimeoutDetector → ℕ → StepInput → Answer TimeoutState
 answer_of d = step_timeout (place_of d.opening) d.numbers (state_of d)

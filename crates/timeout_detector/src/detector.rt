@@ -5,11 +5,10 @@ ghost use Rattle.process_api.specs.Detector.{is_timeout};
 ghost use Rattle.process_api.specs.declared.numbers.DetectorNumbers.TheVariants.{Timeout};
 ghost use Rattle.scenario_record.specs.Opening.{base_of};
 
-use crate::alive::send_alive;
 use crate::bound::grown;
 use process_api::{
     Action, Detector, DetectorNumbers, Note, Payload, Pid, ProcSet, StepInput, Tag, TimeoutNumbers,
-    note_that, wake_after,
+    note_changes, note_that, send_to_others, wake_after,
 };
 use scenario_record::Opening;
 use std::alloc::{AllocError, Global};
@@ -35,7 +34,7 @@ pub struct TimeoutDetector {
 }
 
 impl TimeoutDetector {
-    ghost use Rattle.timeout_detector.specs.View.{state_of, is_watched, is_overdue, checked_by, heard_by, answer_of};
+    ghost use Rattle.timeout_detector.specs.View.{state_of, is_watched, is_overdue, checked_by, heard_by, beats_of, answer_of};
 
     /// The detector with which a process opens that has the numbers of this kind: it suspects nobody, and has heard of
     /// nobody since tick 0. Its tables have a place for each process, and nothing else in it needs memory.
@@ -83,6 +82,21 @@ impl TimeoutDetector {
             && !self.suspects.contains(q)
     }
 
+    /// Whom it suspects after a check at tick `now`: whom it suspects already, and all that are overdue.
+    fn suspects_at(&self, now: u32) -> ProcSet
+        ensures value { result ≡ (checked_by self.now now).state.suspects }
+        ensures not_itself { set.contains result self.now.opening.own ≡ false }
+    {
+        let mut suspects = self.suspects.copy();
+        for before in 0..self.opening.processes {
+            let q = Pid::after(before);
+            if self.is_overdue(now, q) {
+                suspects.insert(q);
+            }
+        }
+        suspects
+    }
+
     /// A check at tick `now`: suspects each process that is overdue, in rising order, with its note, and asks for the
     /// next check.
     fn check(&mut self, now: u32, out: &mut Vec<Action>) -> Result<(), AllocError>
@@ -93,13 +107,9 @@ impl TimeoutDetector {
         ensures numbers { self.new.numbers ≡ self.old.numbers }
         ensures failure { self.new.has_failed ≡ self.old.has_failed }
     {
-        for before in 0..self.opening.processes {
-            let q = Pid::after(before);
-            if self.is_overdue(now, q) {
-                self.suspects.insert(q);
-                note_that(out, Note::Suspect { layer: 1, who: q })?;
-            }
-        }
+        let suspects = self.suspects_at(now);
+        note_changes(out, 1, self.opening.processes, &self.suspects, &suspects)?;
+        self.suspects = suspects;
         wake_after(out, self.numbers.check, Tag::Check)
     }
 
@@ -126,6 +136,16 @@ impl TimeoutDetector {
         Ok(())
     }
 
+    /// Tells all others that the process is alive, whoever is watched, and asks for the next beat.
+    #[tactic(auto, using(std::proofs::Common::append_assoc))]
+    fn beat(&self, out: &mut Vec<Action>) -> Result<(), AllocError>
+        ensures { OnOk result (out.new.items ≡ out.old.items ++ beats_of self.now) }
+    {
+        let opening = &self.opening;
+        send_to_others(out, opening.processes, opening.own, &Payload::Alive)?;
+        wake_after(out, self.numbers.period, Tag::Beat)
+    }
+
     /// Takes one input. After an `Err` the tables are of no use.
     #[tactic(auto, using(std::proofs::Common::append_assoc))]
     fn step(&mut self, now: u32, input: &StepInput, out: &mut Vec<Action>) -> Result<(), AllocError>
@@ -136,17 +156,12 @@ impl TimeoutDetector {
         ensures numbers { self.new.numbers ≡ self.old.numbers }
         ensures failure { self.new.has_failed ≡ self.old.has_failed }
     {
-        let numbers = self.numbers;
         match input {
             StepInput::Start => {
-                send_alive(&self.opening, out)?;
-                wake_after(out, numbers.period, Tag::Beat)?;
-                wake_after(out, numbers.check, Tag::Check)
+                self.beat(out)?;
+                wake_after(out, self.numbers.check, Tag::Check)
             }
-            StepInput::Wake(Tag::Beat) => {
-                send_alive(&self.opening, out)?;
-                wake_after(out, numbers.period, Tag::Beat)
-            }
+            StepInput::Wake(Tag::Beat) => self.beat(out),
             StepInput::Wake(Tag::Check) => self.check(now, out),
             StepInput::Letter {
                 sender,

@@ -16,7 +16,6 @@
 //! process 1 trusts it again, and from then on bears with 6 ticks of silence, if `grow` is 1.
 #![tactic(auto)]
 
-mod alive;
 mod bound;
 mod detector;
 

@@ -1,8 +1,11 @@
-use Rattle.std.proofs.Common.{◌∙◌, sym, ap}
-use Rattle.process_api.specs.Coordinator.{best_to}
-use Rattle.consensus_es.specs.Kept.{in_row}
-use Rattle.consensus_es.proofs.Rows.{none_best}
+use Rattle.std.proofs.Common.{◌≡◌, ◌∙◌, ℕ, zero, suc, None, refl, sym, ap}
+use Rattle.process_api.specs.Coordinator.{best_to, better}
+use Rattle.process_api.specs.Letters.{in_row}
 use Rattle.consensus_es.proofs.progress.best.Goals as goal
+
+none_best : (n : ℕ) → best_to n (λ q. None) ≡ None
+none_best zero = refl
+none_best (suc n) = ap (λ z. better z None) (none_best n)
 
 pub returns-in_default : goal.returns-in_default
 returns-in_default c =

@@ -1,7 +1,7 @@
 use Rattle.std.proofs.Common.{◌∙◌, sym, ap, unwrap_or, false}
 use Rattle.process_api.specs.Rounds.{count_to}
-use Rattle.consensus_es.specs.Kept.{in_row}
-use Rattle.consensus_es.proofs.Rows.{none_counted}
+use Rattle.process_api.specs.Letters.{in_row}
+use Rattle.process_api.proofs.Rows.{none_counted}
 use Rattle.consensus_es.proofs.progress.count_acks.Goals as goal
 
 pub returns-in_default : goal.returns-in_default

@@ -7,14 +7,15 @@ use Rattle.process_api.specs.React.{react_algorithm}
 use Rattle.consensus_es.specs.Orderly.{IsOrderly}
 use Rattle.consensus_es.specs.State.{state_of}
 use Rattle.consensus_es.specs.Whole.{place_of, algorithm_of}
-use Rattle.consensus_es.proofs.Bound.{same_itself, step_few, untrue, within}
+use Rattle.std.proofs.lemmas.Bool.{not-true}
+use Rattle.consensus_es.proofs.Bound.{same_itself, step_few, within}
 use Rattle.consensus_es.proofs.consensus.EsConsensusAlgorithm.take.Goals as goal
 
 pub invariant_of-self : goal.invariant_of-self
 invariant_of-self c =
     let m = c.args.self.now.membership in
     let s = state_of c.args.self.now.progress in
-    let few = step_few m.processes m.own m.from_one m.one_of_them (set.contains c.args.suspects.now) (untrue _ c.requires) c.args.input.now s (c.args.self.now.orderly c.if-self.false) in
+    let few = step_few m.processes m.own m.from_one m.one_of_them (set.contains c.args.suspects.now) (not-true _ c.requires) c.args.input.now s (c.args.self.now.orderly c.if-self.false) in
     record { orderly = λ alive. subst (IsOrderly m.processes m.own) (sym c.in-Ok.ensures.state) few.0 }
 
 pub returns-in-Ok-clause-state : goal.returns-in-Ok-clause-state
@@ -37,5 +38,5 @@ returns-in-Ok-clause-few c =
     let m = c.args.self.now.membership in
     let s = state_of c.args.self.now.progress in
     let q = set.contains c.args.suspects.now in
-    let bound = step_few m.processes m.own m.from_one m.one_of_them q (untrue _ c.requires) c.args.input.now s (c.args.self.now.orderly c.if-self.false) in
+    let bound = step_few m.processes m.own m.from_one m.one_of_them q (not-true _ c.requires) c.args.input.now s (c.args.self.now.orderly c.if-self.false) in
     within (length (step_coordinator m.processes m.own q c.args.input.now s).actions) m.processes bound.1 m.few

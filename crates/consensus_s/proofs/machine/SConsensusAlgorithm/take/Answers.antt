@@ -1,15 +1,17 @@
 use Rattle.std.proofs.Common.{arith}
+use Rattle.std.proofs.lemmas.List.Elements.{All-from_recursion}
 use Rattle.std.specs.FinSet as set
+use Rattle.process_api.proofs.Allowed.{exchange_allowed}
+use Rattle.process_api.specs.Actions.{IsAllowed}
 use Rattle.process_api.specs.React.{react_algorithm}
 use Rattle.consensus_s.specs.State.{exchange_of}
-use Rattle.consensus_s.proofs.Allowed.{step_allowed}
 use Rattle.consensus_s.proofs.machine.SConsensusAlgorithm.take.Goals as goal
 
 pub returns-in-Ok-clause-allowed : goal.returns-in-Ok-clause-allowed
 unfolding react_algorithm
 returns-in-Ok-clause-allowed c =
     let o = c.args.self.now.opening in
-    step_allowed o.processes o.own (set.contains c.args.suspects.now) c.args.input.now (exchange_of c.args.self.now.exchange)
+    All-from_recursion (IsAllowed o.processes) _ (exchange_allowed o.processes o.own (set.contains c.args.suspects.now) c.args.input.now (exchange_of c.args.self.now.exchange))
 
 pub returns-in-Ok-clause-few : goal.returns-in-Ok-clause-few
 unfolding react_algorithm

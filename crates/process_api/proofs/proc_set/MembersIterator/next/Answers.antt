@@ -1,4 +1,4 @@
-use Rattle.std.proofs.Common.{rules, ◌≡◌, ◌+◌, ◌*◌, ◌/◌, ◌<◌, ◌^◌, [], get_or, refl, sym, ap, ◌∙◌, arith, w64, Some}
+use Rattle.std.proofs.Common.{rules, ◌≡◌, ◌+◌, ◌*◌, ◌/◌, ◌<◌, ◌^◌, [], ◌∷◌, get_or, refl, sym, ap, ◌∙◌, arith, w64, Some}
 use Rattle.std.specs.Int.{trailing_zeros}
 use Rattle.process_api.specs.Bits.{is_set, members}
 use Rattle.process_api.specs.Bounds.{most_processes}
@@ -22,28 +22,20 @@ clear-requires c =
     let low = lowest_place words k first.1 fits first.2 in
     omega (arith, low, first.0)
 
-pub returns-clause-steps : goal.returns-clause-steps
-returns-clause-steps c =
+pub returns : goal.returns
+returns c =
     let words = c.self.inside.words in
     let k = c.in-Some.k in
     let first = c.in-Some.ensures.some in
     let fits : get_or words k 0 < 2 ^ 64 = search rules in
     let place = k * 64 + trailing_zeros w64 (get_or words k 0) in
     let low = lowest_place words k first.1 fits first.2 in
-    yielded _ c.args.self.now (in_order (members most_processes (is_set c.clear.new.words))) (place + 1) (ap Some c.after.ensures)
-    (sym c.self.view_is
+    let left = in_order (members most_processes (is_set c.clear.new.words)) in
+    let is : c.args.self.now ≡ (place + 1) ∷ left =
+    sym c.self.view_is
     ∙ in_order-told (is_set words) (is_set c.clear.new.words) place (omega (arith, low, first.0)) (lowest_set words k first.1 fits first.2)
-    (none_below words k first.1 fits first.2) c.clear.ensures.own (λ i _ apart. c.clear.ensures.others i apart))
-
-pub returns-clause-goes : goal.returns-clause-goes
-returns-clause-goes c =
-    let words = c.self.inside.words in
-    let k = c.in-Some.k in
-    let first = c.in-Some.ensures.some in
-    let fits : get_or words k 0 < 2 ^ 64 = search rules in
-    let place = k * 64 + trailing_zeros w64 (get_or words k 0) in
-    let low = lowest_place words k first.1 fits first.2 in
-    progressed _ c.args.self.now (in_order (members most_processes (is_set c.clear.new.words))) (place + 1) (ap Some c.after.ensures)
-    (sym c.self.view_is
-    ∙ in_order-told (is_set words) (is_set c.clear.new.words) place (omega (arith, low, first.0)) (lowest_set words k first.1 fits first.2)
-    (none_below words k first.1 fits first.2) c.clear.ensures.own (λ i _ apart. c.clear.ensures.others i apart))
+    (none_below words k first.1 fits first.2) c.clear.ensures.own (λ i _ apart. c.clear.ensures.others i apart) in
+    record {
+      steps = yielded _ c.args.self.now left (place + 1) (ap Some c.after.ensures) is;
+      goes = progressed _ c.args.self.now left (place + 1) (ap Some c.after.ensures) is;
+    }

@@ -1,6 +1,0 @@
-use Rattle.std.proofs.Common.{◌≡◌, None}
-use Rattle.consensus_s.specs.Kept.{kept_of, told_in}
-use Rattle.consensus_s.proofs.letters.Letters.told.Given as goal
-
-abbrev pub invariant-loop-before : goal.invariant-loop-before
-invariant-loop-before l = told_in l.before (kept_of l.fn.self) l.fn.round l.fn.k ≡ None

@@ -1,5 +1,0 @@
-use Rattle.process_api.proofs.Rows.{no_senders}
-use Rattle.consensus_s.proofs.row.Row.new.Goals as goal
-
-pub invariant_of-result : goal.invariant_of-result
-invariant_of-result c = record { counted = no_senders _ _ c.new-2.ensures c.new.ensures.items }

@@ -1,0 +1,10 @@
+use Rattle.std.proofs.Common.{◌∙◌, sym, ap, is_some}
+use Rattle.process_api.specs.Rounds.{count_to}
+use Rattle.process_api.specs.Letters.{in_row}
+use Rattle.process_api.proofs.Rows.{none_counted}
+use Rattle.process_api.proofs.letters.Letters.count.Goals as goal
+
+pub returns-in-None : goal.returns-in-None
+returns-in-None g c =
+    let n = c.args.membership.now.processes in
+    sym (none_counted n) ∙ ap (λ o. count_to n (λ q. is_some (in_row o q))) c.in-None.ensures
