@@ -2,46 +2,26 @@
 use Rattle.std.proofs.Common.{◌≡◌, ◌∙◌, ◌++◌, ◌<◌, ◌+◌, ℕ, ℤ, List, [], ◌∷◌, length, map, get_or, drop, take, Some, None, Bool, ◌||◌, ap, sym, refl, append_assoc}
 use Rattle.std.specs.List.{list_any}
 use Rattle.std.proofs.lemmas.List.{at_drop_more, append-nil, map-append, take_more}
-use Rattle.toml.specs.Data.{Data, string, integer, float, boolean, datetime, array, table, Items, item, Members, as_table, as_integer}
+use Rattle.toml.specs.Data.{Data, integer, table, Items, item, Members, as_table, as_integer}
 use Rattle.toml.specs.View.{view, items_view}
 use Rattle.toml.specs.declared.value.Value.{Value}
 use Rattle.scenario.specs.Table.{the_tables, the_integers}
 
 table_first : (d : Data) (ds : Items) (m : Members) → Some m ≡ as_table d → the_tables (item d ds) ≡ m ∷ the_tables ds
-table_first (string s) ds m e = cc
-table_first (integer z) ds m e = cc
-table_first (float x) ds m e = cc
-table_first (boolean b) ds m e = cc
-table_first (datetime t) ds m e = cc
-table_first (array v) ds m e = cc
 table_first (table ms) ds m e = cc
+table_first _ ds m e = cc
 
 other_first : (d : Data) (ds : Items) → None ≡ as_table d → the_tables (item d ds) ≡ the_tables ds
-other_first (string s) ds e = refl
-other_first (integer z) ds e = refl
-other_first (float x) ds e = refl
-other_first (boolean b) ds e = refl
-other_first (datetime t) ds e = refl
-other_first (array v) ds e = refl
 other_first (table ms) ds e = cc
+other_first _ ds e = refl
 
 integer_first : (d : Data) (ds : Items) (z : ℤ) → Some z ≡ as_integer d → the_integers (item d ds) ≡ z ∷ the_integers ds
-integer_first (string s) ds z e = cc
 integer_first (integer y) ds z e = cc
-integer_first (float x) ds z e = cc
-integer_first (boolean b) ds z e = cc
-integer_first (datetime t) ds z e = cc
-integer_first (array v) ds z e = cc
-integer_first (table ms) ds z e = cc
+integer_first _ ds z e = cc
 
 no_integer_first : (d : Data) (ds : Items) → None ≡ as_integer d → the_integers (item d ds) ≡ the_integers ds
-no_integer_first (string s) ds e = refl
 no_integer_first (integer y) ds e = cc
-no_integer_first (float x) ds e = refl
-no_integer_first (boolean b) ds e = refl
-no_integer_first (datetime t) ds e = refl
-no_integer_first (array v) ds e = refl
-no_integer_first (table ms) ds e = refl
+no_integer_first _ ds e = refl
 
 -- what is read of the items from a place on, by the value there
 at_value : {Y : Type 0} → (F : Items → Y) (vs : List Value) (i : ℕ) (v : Value) → i < length vs → v ≡ get_or vs i v

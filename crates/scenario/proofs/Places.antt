@@ -1,9 +1,9 @@
 -- Lemmas on the first of some rules that applies.
-use Rattle.std.proofs.Common.{◌≡◌, ℕ, zero, suc, ◌<◌, ◌≤◌, ◌==◌, Option, Bool, true, false, refl, sym, ap, ◌∙◌, List, [], ◌∷◌, ◌++◌, arith, subst, Result, Ok, Err, IfErr, IsErrAnd}
+use Rattle.std.proofs.Common.{◌≡◌, ℕ, zero, suc, ◌<◌, ◌≤◌, ◌==◌, Option, Some, Bool, true, false, refl, sym, ap, ◌∙◌, List, [], ◌∷◌, ◌++◌, arith, subst}
 use Rattle.std.proofs.lemmas.Bool.{eqb-true}
 use Rattle.toml.specs.Data.{Members}
-use Rattle.scenario.specs.Refusals.{Rule, rule_at, number_of, is_memory, NamesPair, IsFirst}
-use Rattle.scenario.specs.Groups.{Passes, Decided, Stops, StopsAt}
+use Rattle.scenario.specs.Refusals.{Rule, rule_at, number_of, GivenBy, NamesPair, IsFirst}
+use Rattle.scenario.specs.Groups.{Passes, Decided, Stops, StopsAt, StopsFirst}
 use Rattle.scenario.specs.declared.error.ScenarioError.{ScenarioError}
 
 pub passes_all : (rs : List Rule) (d : Option Members) → Passes rs d → (k : ℕ) → (rule_at rs k).applies d ≡ false
@@ -65,23 +65,12 @@ first_of_stops (r ∷ rs) d e stops pair =
     ] in
     split (r.number == number_of e) refl stops
 
--- one rule applies, after some that don't
-pub first_at : (before : List Rule) (r : Rule) (after : List Rule) (d : Option Members) (e : ScenarioError) → Passes before d
-    → r.number ≡ number_of e → r.applies d ≡ true → NamesPair d e → IsFirst (before ++ (r ∷ after)) d e
-first_at before r after d e passes number applied pair = first_after before (r ∷ after) d e passes (first_here r after d e number applied pair)
-
--- the same, of a refusal that is one of these
-pub first_named : (before : List Rule) (r : Rule) (after : List Rule) (d : Option Members) (e is : ScenarioError) → Passes before d
-    → e ≡ is → r.number ≡ number_of is → r.applies d ≡ true → NamesPair d is → IsFirst (before ++ (r ∷ after)) d e
-first_named before r after d e is passes same number applied pair =
-    subst (λ x. IsFirst (before ++ (r ∷ after)) d x) (sym same) (first_at before r after d is passes number applied pair)
-
--- an error that `?` passes on
-pub carried : {A E : Type 0} (P : E → Type 0) (r : Result A E) (x : E) → IsErrAnd r (λ y. y ≡ x) → P x → IfErr r P
-carried P (Ok a) x e p = tt
-carried P (Err y) x e p = subst P (sym e) p
+-- a refusal for memory, or this one, whose test is that of the first rule that applies
+pub given : (rs : List Rule) (t : Members) (e named : ScenarioError) (test : Bool) → GivenBy named test e
+    → (test ≡ true → Stops (number_of named) rs (Some t) × NamesPair (Some t) named) → StopsAt rs (Some t) e
+given rs t e named test by stops = λ other. subst (λ x. Stops (number_of x) rs (Some t) × NamesPair (Some t) x) (sym (by other).0) (stops (by other).1)
 
 -- a group stops, after some rules and before others
-pub first_in : (before group after : List Rule) (d : Option Members) (e : ScenarioError) → Passes before d → StopsAt group d e → is_memory e ≡ false → IsFirst (before ++ (group ++ after)) d e
-first_in before group after d e passes stops other =
+pub first_in : (before group after : List Rule) (d : Option Members) (e : ScenarioError) → Passes before d → StopsAt group d e → StopsFirst (before ++ (group ++ after)) d e
+first_in before group after d e passes stops = λ other.
     first_after before (group ++ after) d e passes (first_widened group after d e (let s = stops other in first_of_stops group d e s.0 s.1))

@@ -1,16 +1,17 @@
 //! The least pair whose link is below the lookahead.
 ghost use Rattle.std.specs.Prelude.{◌≡◌, ◌≢◌, ◌≤◌, ◌<◌, ◌*◌, ◌==◌, ◌&&◌, not, find, length, IfSome};
 ghost use Rattle.process_api.specs.Bounds.{most_processes};
-ghost use Rattle.scenario.specs.Rules.{pairs, pairs_from, is_below};
-ghost use Rattle.toml.specs.Data.{Members};
-ghost use Rattle.scenario.specs.Text.{processes_of, record_of};
-ghost use Rattle.scenario.specs.Parts.{link_in};
+ghost use Rattle.scenario.specs.Rules.{pair_below, pairs_from, is_below};
+ghost use Rattle.toml.specs.View.{table_view};
+ghost use Rattle.scenario.specs.Text.{record_of};
+ghost use Rattle.scenario.specs.Parts.{link_in, IsTop};
 ghost use Rattle.scenario.specs.Faults.{Finds};
 
 use crate::error::ScenarioError;
 use crate::fault::BelowLookahead;
 use crate::finding::{Finding, Refused};
 use crate::links::place_of;
+use crate::numbers::Top;
 use process_api::Pid;
 use scenario_record::Link;
 
@@ -68,11 +69,14 @@ fn first_from(links: &[Link], lookahead: u32, n: u16, from: u16) -> Option<(Pid,
 }
 
 /// The least pair of different processes, by sender and then by receiver, whose link is below the lookahead.
-pub(crate) fn first_below(links: &[Link], lookahead: u32, n: u16) -> Option<(Pid, Pid)>
-    requires few { n ≤ most_processes }
-    requires all { length links.now ≡ n * n }
-    ensures { result ≡ find (is_below (link_in n links.now) lookahead) (pairs n) }
+pub(crate) fn first_below(top: &Top<'_>, links: &[Link]) -> Option<(Pid, Pid)>
+    requires numbers { IsTop top.now }
+    requires links { links.now ≡ (record_of (table_view top.now.table.now)).links }
+    requires all { length links.now ≡ top.now.numbers.processes * top.now.numbers.processes }
+    ensures { result ≡ pair_below (record_of (table_view top.now.table.now)) }
 {
+    let n = top.numbers.processes;
+    let lookahead = top.numbers.lookahead;
     for from in 1..n + 1 {
         if let Some(pair) = first_from(links, lookahead, n, from) {
             return Some(pair);
@@ -109,21 +113,16 @@ fn below(links: &[Link], lookahead: u32, n: u16, pair: (Pid, Pid)) -> Option<Bel
 }
 
 /// The refusal of a pair whose link is below the lookahead.
-pub(crate) fn below_lookahead(
-    links: &[Link],
-    lookahead: u32,
-    n: u16,
-    pair: (Pid, Pid),
-) -> Refused<'static>
-    requires few { n ≤ most_processes }
-    requires all { length links.now ≡ n * n }
+pub(crate) fn below_lookahead(top: &Top<'_>, links: &[Link], pair: (Pid, Pid)) -> Refused<'static>
+    requires numbers { IsTop top.now }
+    requires links { links.now ≡ (record_of (table_view top.now.table.now)).links }
+    requires all { length links.now ≡ top.now.numbers.processes * top.now.numbers.processes }
     ensures error { result.error ≡ ScenarioError.BelowLookahead pair.0 pair.1 }
-    ensures finds { (file : Members) → n ≡ processes_of file → links.now ≡ (record_of file).links
-        → lookahead ≡ (record_of file).lookahead → Finds file result }
+    ensures finds { Finds (table_view top.now.table.now) result }
 {
     let (from, to) = pair;
     let error = ScenarioError::BelowLookahead { from, to };
-    match below(links, lookahead, n, pair) {
+    match below(links, top.numbers.lookahead, top.numbers.processes, pair) {
         Some(found) => Refused {
             error,
             finding: Some(Finding::Below(found)),

@@ -159,17 +159,9 @@ fn keys_in(is_second: bool, place: Place, table: &Table) -> &'static [Field]
     }
 }
 
-/// The tables of a file. Where a value isn't of its kind its table, or all of its tables, are left out.
+/// The tables of a file's arrays. Where a value isn't of its kind all of its tables are left out.
 #[derive(Drop)]
 pub(crate) struct Tables<'a> {
-    /// The top table.
-    pub(crate) top: &'a Table,
-    /// `detector`.
-    pub(crate) detector: Option<&'a Table>,
-    /// `share`.
-    pub(crate) share: Option<&'a Table>,
-    /// `link`.
-    pub(crate) link: Option<&'a Table>,
     /// Those of `links`.
     pub(crate) links: Vec<&'a Table>,
     /// Those of `crash`.
@@ -251,22 +243,24 @@ impl KeyFault {
 
     /// The first such fault of a file's tables.
     #[tactic(auto, unfolding(crate::specs::Keys::some_table))]
-    fn find<'a>(self, tables: &Tables<'a>) -> Option<Finding<'a>>
-        requires { AreTables tables.now }
-        ensures test { is_some result ≡ some_table (fault_of self) (table_view tables.now.top.now) }
-        ensures finding { IfSome result (Breaks (error_of self) (table_view tables.now.top.now)) }
+    fn find<'a>(self, top: &'a Table, tables: &Tables<'a>) -> Option<Finding<'a>>
+        requires { AreTables (table_view top.now) tables.now }
+        ensures test { is_some result ≡ some_table (fault_of self) (table_view top.now) }
+        ensures finding { IfSome result (Breaks (error_of self) (table_view top.now)) }
     {
-        let top = tables.top;
+        let detector = inner_table(top, "detector");
+        let share = inner_table(top, "share");
+        let link = inner_table(top, "link");
         if let Some(found) = self.at(top, Place::Top, Some(top)) {
             return Some(found);
         }
-        if let Some(found) = self.at(top, Place::Section(Section::Detector), tables.detector) {
+        if let Some(found) = self.at(top, Place::Section(Section::Detector), detector) {
             return Some(found);
         }
-        if let Some(found) = self.at(top, Place::Section(Section::Share), tables.share) {
+        if let Some(found) = self.at(top, Place::Section(Section::Share), share) {
             return Some(found);
         }
-        if let Some(found) = self.at(top, Place::Section(Section::Link), tables.link) {
+        if let Some(found) = self.at(top, Place::Section(Section::Link), link) {
             return Some(found);
         }
         if let Some(found) = self.among(top, TableArray::Links, &tables.links) {
@@ -279,21 +273,14 @@ impl KeyFault {
     }
 }
 
-/// The tables of a file.
-pub(crate) fn tables_of<'a>(alloc: Global, top: &'a Table) -> Result<Tables<'a>, AllocError>
-    ensures { IfOk result (λ s. (table_view s.top.now ≡ table_view top.now) × AreTables s) }
+/// The tables of a file's arrays.
+pub(crate) fn tables_of(alloc: Global, top: &Table) -> Result<Tables<'_>, AllocError>
+    ensures { IfOk result (AreTables (table_view top.now)) }
 {
     let links = inner_tables(alloc, top, "links")?;
     let crashes = inner_tables(alloc, top, "crash")?;
     let outages = inner_tables(alloc, top, "outage")?;
-    let detector = inner_table(top, "detector");
-    let share = inner_table(top, "share");
-    let link = inner_table(top, "link");
     Ok(Tables {
-        top,
-        detector,
-        share,
-        link,
         links,
         crashes,
         outages,
@@ -302,25 +289,25 @@ pub(crate) fn tables_of<'a>(alloc: Global, top: &'a Table) -> Result<Tables<'a>,
 
 /// Refuses a file of which some table has a fault of its keys: keys that aren't listed first, then missing ones, then
 /// values of another kind.
-pub(crate) fn check_keys<'a>(tables: &Tables<'a>) -> Result<(), Refused<'a>>
-    requires { AreTables tables.now }
-    ensures ok { OnOk result (Passes key_rules (Some (table_view tables.now.top.now))) }
-    ensures err { IfErr result (λ r. StopsAt key_rules (Some (table_view tables.now.top.now)) r.error) }
-    ensures finds { IfErr result (Finds (table_view tables.now.top.now)) }
+pub(crate) fn check_keys<'a>(top: &'a Table, tables: &Tables<'a>) -> Result<(), Refused<'a>>
+    requires { AreTables (table_view top.now) tables.now }
+    ensures ok { OnOk result (Passes key_rules (Some (table_view top.now))) }
+    ensures err { IfErr result (λ r. StopsAt key_rules (Some (table_view top.now)) r.error) }
+    ensures finds { IfErr result (Finds (table_view top.now)) }
 {
-    if let Some(found) = KeyFault::Unlisted.find(tables) {
+    if let Some(found) = KeyFault::Unlisted.find(top, tables) {
         return Err(Refused {
             error: ScenarioError::UnknownKey,
             finding: Some(found),
         });
     }
-    if let Some(found) = KeyFault::Lacking.find(tables) {
+    if let Some(found) = KeyFault::Lacking.find(top, tables) {
         return Err(Refused {
             error: ScenarioError::MissingKey,
             finding: Some(found),
         });
     }
-    if let Some(found) = KeyFault::Mistyped.find(tables) {
+    if let Some(found) = KeyFault::Mistyped.find(top, tables) {
         return Err(Refused {
             error: ScenarioError::WrongKind,
             finding: Some(found),

@@ -5,7 +5,7 @@ ghost use Rattle.toml.specs.View.{table_view};
 ghost use Rattle.scenario.specs.Table.{same_text};
 ghost use Rattle.scenario.specs.Text.{algorithm_named, watch_named};
 ghost use Rattle.scenario.specs.Ranges.{Subject, allowed_of};
-ghost use Rattle.scenario.specs.Faults.{IsValueFault};
+ghost use Rattle.scenario.specs.Faults.{IsFoundBy};
 
 use crate::fault::{Fault, OtherName};
 use crate::table::text_at;
@@ -56,13 +56,14 @@ fn is_among(names: &[&str], text: &str) -> bool
 }
 
 /// The fault of the text at a key, if there is one and it is none of these names.
+#[tactic(auto, unfolding(crate::specs::Faults::IsFoundBy))]
 pub(crate) fn other_name<'a>(
     table: &'a Table,
     key: &'static str,
     allowed: &'static [&'static str],
 ) -> Option<Fault<'a>>
     ensures { (s : Subject) → allowed_of s.names key.now ≡ Some (map (λ name. name.now) allowed.now)
-        → IfSome result (IsValueFault s (table_view table.now)) }
+        → IsFoundBy s (table_view table.now) result }
 {
     let value = text_at(table, key)?;
     if is_among(allowed, value) {

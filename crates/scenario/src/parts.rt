@@ -5,8 +5,8 @@ ghost use Rattle.scenario.specs.Text.{algorithm_in};
 ghost use Rattle.scenario.specs.Rules.{algorithm_refused};
 ghost use Rattle.scenario.specs.Refusals.{part_rules};
 ghost use Rattle.scenario.specs.Faults.{Finds};
-ghost use Rattle.scenario.specs.Parts.{AreTables, AreNumbersOf, ArePartsOf};
-ghost use Rattle.scenario.specs.Groups.{Passes, StopsFirst};
+ghost use Rattle.scenario.specs.Parts.{AreTables, ArePartsOf, IsTop};
+ghost use Rattle.scenario.specs.Groups.{Passes, StopsAt};
 
 use crate::below::{below_lookahead, first_below};
 use crate::crashes::read_crashes;
@@ -16,7 +16,7 @@ use crate::finding::{Refused, accepted};
 use crate::keys::Tables;
 use crate::links::read_links;
 use crate::names::{algorithm_of, other_name};
-use crate::numbers::TopNumbers;
+use crate::numbers::Top;
 use crate::outages::read_outages;
 use crate::place::Place;
 use crate::proposals::read_proposals;
@@ -57,27 +57,26 @@ fn read_algorithm(top: &Table) -> Result<AlgorithmKind, Refused<'_>>
 /// The parts of a scenario, where none is refused; else the refusal of the first that is.
 pub(crate) fn read_parts<'a>(
     alloc: Global,
+    top: &Top<'a>,
     tables: &Tables<'a>,
-    numbers: &TopNumbers,
 ) -> Result<Parts, Refused<'a>>
-    requires tables { AreTables tables.now }
-    requires numbers { AreNumbersOf (table_view tables.now.top.now) numbers.now }
-    ensures ok { OnOk result (Passes part_rules (Some (table_view tables.now.top.now))) }
-    ensures value { IfOk result (ArePartsOf (table_view tables.now.top.now)) }
-    ensures err { IfErr result (λ r. StopsFirst part_rules (Some (table_view tables.now.top.now)) r.error) }
-    ensures finds { IfErr result (Finds (table_view tables.now.top.now)) }
+    requires numbers { IsTop top.now }
+    requires tables { AreTables (table_view top.now.table.now) tables.now }
+    ensures ok { OnOk result (Passes part_rules (Some (table_view top.now.table.now))) }
+    ensures value { IfOk result (ArePartsOf (table_view top.now.table.now)) }
+    ensures err { IfErr result (λ r. StopsAt part_rules (Some (table_view top.now.table.now)) r.error) }
+    ensures finds { IfErr result (Finds (table_view top.now.table.now)) }
 {
-    let n = numbers.processes;
-    let algorithm = accepted!(read_algorithm(tables.top));
-    let proposals = accepted!(read_proposals(alloc, tables.top, algorithm, n));
-    let detector = accepted!(read_detector(tables.detector));
-    let share = accepted!(read_share(tables.share));
-    let links = accepted!(read_links(alloc, tables.link, &tables.links, n));
-    if let Some(pair) = first_below(&links, numbers.lookahead, n) {
-        return Err(below_lookahead(&links, numbers.lookahead, n, pair));
+    let algorithm = accepted!(read_algorithm(top.table));
+    let proposals = accepted!(read_proposals(alloc, top, algorithm));
+    let detector = accepted!(read_detector(top.table));
+    let share = accepted!(read_share(top.table));
+    let links = accepted!(read_links(alloc, top, &tables.links));
+    if let Some(pair) = first_below(top, &links) {
+        return Err(below_lookahead(top, &links, pair));
     }
-    let crashes = accepted!(read_crashes(alloc, &tables.crashes, n));
-    let outages = accepted!(read_outages(alloc, &tables.outages, n));
+    let crashes = accepted!(read_crashes(alloc, top, &tables.crashes));
+    let outages = accepted!(read_outages(alloc, top, &tables.outages));
     Ok(Parts {
         algorithm,
         proposals,
