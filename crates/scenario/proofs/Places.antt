@@ -38,22 +38,11 @@ first_after (r ∷ xs) ys d e passes first =
     before r rs d place here rest (suc k) lt = rest k (omega arith)
 
 -- rules that come after don't matter
-widened_at : (xs ys : List Rule) (place : ℕ) (d : Option Members) → (rule_at xs place).applies d ≡ true → (k : ℕ) → k ≤ place → rule_at (xs ++ ys) k ≡ rule_at xs k
-widened_at [] ys place d applied k le = cc
-widened_at (r ∷ xs) ys place d applied zero le = refl
-widened_at (r ∷ xs) ys zero d applied (suc k) le = absurd (omega arith)
-widened_at (r ∷ xs) ys (suc place) d applied (suc k) le = widened_at xs ys place d applied k (omega arith)
-
-pub first_widened : (xs ys : List Rule) (d : Option Members) (e : ScenarioError) → IsFirst xs d e → IsFirst (xs ++ ys) d e
-first_widened xs ys d e first =
-    let here : rule_at (xs ++ ys) first.place ≡ rule_at xs first.place = widened_at xs ys first.place d first.applied first.place (omega arith) in
-    record {
-      place = first.place;
-      number = ap (λ r. r.number) here ∙ first.number;
-      applied = ap (λ r. r.applies d) here ∙ first.applied;
-      none_before = λ k lt. ap (λ r. r.applies d) (widened_at xs ys first.place d first.applied k (omega arith)) ∙ first.none_before k lt;
-      pair = first.pair;
-    }
+stops_widened : (n : ℕ) (xs ys : List Rule) (d : Option Members) → Stops n xs d → Stops n (xs ++ ys) d
+stops_widened n [] ys d stops = absurd stops
+stops_widened n (r ∷ xs) ys d stops =
+    elim (r.number == n) as (λ b. Decided b (r.applies d ≡ true) ((r.applies d ≡ false) × Stops n xs d) → Decided b (r.applies d ≡ true) ((r.applies d ≡ false) × Stops n (xs ++ ys) d))
+    [ true ↦ λ s. s | false ↦ λ s. (s.0, stops_widened n xs ys d s.1) ] stops
 
 pub first_of_stops : (rs : List Rule) (d : Option Members) (e : ScenarioError) → Stops (number_of e) rs d → NamesPair d e → IsFirst rs d e
 first_of_stops [] d e stops pair = absurd stops
@@ -73,4 +62,4 @@ given rs t e named test by stops = λ other. subst (λ x. Stops (number_of x) rs
 -- a group stops, after some rules and before others
 pub first_in : (before group after : List Rule) (d : Option Members) (e : ScenarioError) → Passes before d → StopsAt group d e → StopsFirst (before ++ (group ++ after)) d e
 first_in before group after d e passes stops = λ other.
-    first_after before (group ++ after) d e passes (first_widened group after d e (let s = stops other in first_of_stops group d e s.0 s.1))
+    first_after before (group ++ after) d e passes (let s = stops other in first_of_stops (group ++ after) d e (stops_widened (number_of e) group after d s.0) s.1)

@@ -21,7 +21,6 @@ use Rattle.scenario.specs.declared.keys.KeyFault.{KeyFault}
 use Rattle.scenario.specs.declared.keys.KeyFault.TheVariants.{Unlisted, Lacking, Mistyped}
 use Rattle.scenario.specs.declared.numbers.Top.{Top}
 use Rattle.scenario.specs.declared.numbers.TopNumbers.{TopNumbers}
-use Rattle.scenario.specs.declared.parts.Parts.{Parts}
 use Rattle.scenario_record.specs.declared.link.Link.{Link}
 use Rattle.scenario_record.specs.declared.outage.Outage.{Outage}
 
@@ -81,17 +80,6 @@ links_of common t = links_among common (tables_at (codes "links") t) (processes_
 -- the outages of each link, in lists of the code
 abbrev pub outages_in : List (Vec Outage) → List (List Outage)
 outages_in lists = map (λ v. v.items) lists
-
--- the parts are those of the table
-pub record ArePartsOf (t : Members) (p : Parts) : Type 0 where
-  pub algorithm : Some p.algorithm ≡ algorithm_in t
-  pub proposals : p.proposals.items ≡ map natural (integers_at (codes "proposals") t)
-  pub detector : p.detector ≡ detector_of (table_or_empty (codes "detector") t)
-  pub share : p.share ≡ option_map share_of (table_at (codes "share") t)
-  pub crashes : p.crashes.items ≡ crashes_among (tables_at (codes "crash") t) (processes_of t)
-  pub links : p.links.items
-      ≡ links_among (delays_of (table_or_empty (codes "link") t)) (tables_at (codes "links") t) (processes_of t)
-  pub outages : outages_in p.outages.items ≡ outages_among (tables_at (codes "outage") t) (processes_of t)
 
 -- the number is one of 1 to n
 pub record IsProcess (n p : ℕ) : Type 0 where

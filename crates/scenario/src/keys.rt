@@ -4,7 +4,7 @@ ghost use Rattle.std.specs.List.{list_any};
 ghost use Rattle.std.specs.Option.{option_map_or};
 ghost use Rattle.toml.specs.View.{table_view};
 ghost use Rattle.scenario.specs.Parts.{fields_of, fault_of, error_of, table_in, tables_in, AreTables};
-ghost use Rattle.scenario.specs.Keys.{some_table, top_fields, timeout_fields, freshness_fields, detector_fields, share_fields, link_fields, pair_fields, crash_fields, outage_fields};
+ghost use Rattle.scenario.specs.Keys.{some_table, top_fields, detector_fields, share_fields, link_fields, pair_fields, crash_fields, outage_fields};
 ghost use Rattle.scenario.specs.Table.{tables_at};
 ghost use Rattle.scenario.specs.Refusals.{key_rules};
 ghost use Rattle.scenario.specs.Groups.{Passes, StopsAt};
@@ -108,34 +108,17 @@ fn top_keys(is_second: bool) -> &'static [Field]
     if is_second { &TOP } else { &TOP[..FIRST] }
 }
 
-/// The keys of a detector's table that names no freshness points, by whether the file is of version 2.
-#[tactic(auto, unfolding(crate::specs::Keys::timeout_fields))]
-fn timeout_keys(is_second: bool) -> &'static [Field]
-    ensures { fields_of result.now ≡ timeout_fields is_second }
-{
-    if is_second {
-        &TIMEOUT
-    } else {
-        &TIMEOUT[..FIRST_TIMEOUT]
-    }
-}
-
-/// The keys of one that does.
-#[tactic(auto, unfolding(crate::specs::Keys::freshness_fields))]
-fn freshness_keys() -> &'static [Field]
-    ensures { fields_of result.now ≡ freshness_fields }
-{
-    &FRESHNESS
-}
-
 /// The keys of a table `detector`, by whether the file is of version 2.
+#[tactic(auto, unfolding(crate::specs::Keys::freshness_fields, crate::specs::Keys::timeout_fields))]
 fn detector_keys(is_second: bool, table: &Table) -> &'static [Field]
     ensures { fields_of result.now ≡ detector_fields is_second (table_view table.now) }
 {
     if is_second && is_fresh(table) {
-        freshness_keys()
+        &FRESHNESS
+    } else if is_second {
+        &TIMEOUT
     } else {
-        timeout_keys(is_second)
+        &TIMEOUT[..FIRST_TIMEOUT]
     }
 }
 

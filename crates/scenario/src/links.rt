@@ -157,11 +157,9 @@ fn read_pairs<'a>(
 fn filled(alloc: Global, own: &[Option<Link>], common: Link) -> Result<Vec<Link>, AllocError>
     ensures { IfOk result (λ v. v.items ≡ map (λ link. unwrap_or link common) own.now) }
 {
-    let mut links = Vec::new(alloc);
-    for link in own {
-        links.push(link.unwrap_or(common))?;
-    }
-    Ok(links)
+    own.iter()
+        .map(|link| link.unwrap_or(common))
+        .collect(alloc)
 }
 
 /// The common link, where its numbers are in their ranges; else, and where there is no table, the refusal.

@@ -47,12 +47,7 @@ pub(crate) fn watch_of(name: &str) -> Option<Watch>
 fn is_among(names: &[&str], text: &str) -> bool
     ensures { result ≡ list_any (λ name. same_text name.now text.now) names.now }
 {
-    for name in names {
-        if *name == text {
-            return true;
-        }
-    }
-    false
+    names.iter().any(|name| *name == text)
 }
 
 /// The fault of the text at a key, if there is one and it is none of these names.

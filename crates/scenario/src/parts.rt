@@ -1,11 +1,11 @@
 //! The parts of a scenario that stand on the numbers of its top table.
 ghost use Rattle.std.specs.Prelude.{◌≡◌, true, Some, OnOk, OnErr, IfOk, IfErr};
 ghost use Rattle.toml.specs.View.{table_view};
-ghost use Rattle.scenario.specs.Text.{algorithm_in};
+ghost use Rattle.scenario.specs.Text.{algorithm_in, record_of};
 ghost use Rattle.scenario.specs.Rules.{algorithm_refused};
 ghost use Rattle.scenario.specs.Refusals.{part_rules};
 ghost use Rattle.scenario.specs.Faults.{Finds};
-ghost use Rattle.scenario.specs.Parts.{AreTables, ArePartsOf, IsTop};
+ghost use Rattle.scenario.specs.Parts.{AreTables, IsTop};
 ghost use Rattle.scenario.specs.Groups.{Passes, StopsAt};
 
 use crate::below::{below_lookahead, first_below};
@@ -21,22 +21,9 @@ use crate::outages::read_outages;
 use crate::place::Place;
 use crate::proposals::read_proposals;
 use crate::table::text;
-use process_api::DetectorNumbers;
-use scenario_record::{AlgorithmKind, Link, Outage};
+use scenario_record::{AlgorithmKind, Fields};
 use std::alloc::Global;
 use toml::Table;
-
-/// The parts of a scenario that stand on the numbers of its top table.
-#[derive(Drop)]
-pub(crate) struct Parts {
-    pub(crate) algorithm: AlgorithmKind,
-    pub(crate) proposals: Vec<u32>,
-    pub(crate) detector: DetectorNumbers,
-    pub(crate) share: Option<u32>,
-    pub(crate) links: Vec<Link>,
-    pub(crate) crashes: Vec<Option<u32>>,
-    pub(crate) outages: Vec<Vec<Outage>>,
-}
 
 /// The algorithm that the top table names; else the refusal.
 fn read_algorithm(top: &Table) -> Result<AlgorithmKind, Refused<'_>>
@@ -54,16 +41,17 @@ fn read_algorithm(top: &Table) -> Result<AlgorithmKind, Refused<'_>>
     }
 }
 
-/// The parts of a scenario, where none is refused; else the refusal of the first that is.
+/// What a scenario has, with the parts that stand on the numbers of its top table, where none is refused; else the
+/// refusal of the first that is.
 pub(crate) fn read_parts<'a>(
     alloc: Global,
     top: &Top<'a>,
     tables: &Tables<'a>,
-) -> Result<Parts, Refused<'a>>
+) -> Result<Fields, Refused<'a>>
     requires numbers { IsTop top.now }
     requires tables { AreTables (table_view top.now.table.now) tables.now }
     ensures ok { OnOk result (Passes part_rules (Some (table_view top.now.table.now))) }
-    ensures value { IfOk result (ArePartsOf (table_view top.now.table.now)) }
+    ensures value { IfOk result (λ s. s ≡ record_of (table_view top.now.table.now)) }
     ensures err { IfErr result (λ r. StopsAt part_rules (Some (table_view top.now.table.now)) r.error) }
     ensures finds { IfErr result (Finds (table_view top.now.table.now)) }
 {
@@ -77,13 +65,18 @@ pub(crate) fn read_parts<'a>(
     }
     let crashes = accepted!(read_crashes(alloc, top, &tables.crashes));
     let outages = accepted!(read_outages(alloc, top, &tables.outages));
-    Ok(Parts {
+    Ok(Fields {
+        processes: top.numbers.processes,
+        horizon: top.numbers.horizon,
+        lookahead: top.numbers.lookahead,
+        limit: top.numbers.limit,
+        seed: top.numbers.seed,
         algorithm,
-        proposals,
         detector,
         share,
-        links,
+        proposals,
         crashes,
+        links,
         outages,
     })
 }

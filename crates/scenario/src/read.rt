@@ -11,7 +11,7 @@ use crate::finding::{Refused, accepted};
 use crate::keys::{check_keys, tables_of};
 use crate::numbers::{Top, read_numbers};
 use crate::parts::read_parts;
-use scenario_record::{Fields, Scenario};
+use scenario_record::Scenario;
 use std::alloc::{AllocError, Global};
 use toml::Table;
 
@@ -70,19 +70,5 @@ pub fn read_with_place(alloc: Global, table: &Table) -> Result<Scenario, Refused
     accepted!(check_keys(table, &tables));
     let numbers = accepted!(read_numbers(table));
     let top = Top { table, numbers };
-    let parts = accepted!(read_parts(alloc, &top, &tables));
-    Ok(Scenario::of(Fields {
-        processes: numbers.processes,
-        horizon: numbers.horizon,
-        lookahead: numbers.lookahead,
-        limit: numbers.limit,
-        seed: numbers.seed,
-        algorithm: parts.algorithm,
-        detector: parts.detector,
-        share: parts.share,
-        proposals: parts.proposals,
-        crashes: parts.crashes,
-        links: parts.links,
-        outages: parts.outages,
-    }))
+    Ok(Scenario::of(accepted!(read_parts(alloc, &top, &tables))))
 }

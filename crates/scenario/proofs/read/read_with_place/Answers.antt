@@ -24,22 +24,8 @@ of-requires c =
     let t = table_view c.args.table.now in
     let parts : Passes (number_rules ++ part_rules) (Some t) = passes_joined number_rules part_rules (Some t) c.in-Ok-read_numbers.ensures.ok c.in-Ok-read_parts.ensures.ok in
     let all : Passes table_rules (Some t) = passes_joined key_rules (number_rules ++ part_rules) (Some t) c.in-Ok-check_keys.ensures.ok parts in
-    let same : record {
-      processes = c.in-Ok-read_numbers.read.processes;
-      horizon = c.in-Ok-read_numbers.read.horizon;
-      lookahead = c.in-Ok-read_numbers.read.lookahead;
-      limit = c.in-Ok-read_numbers.read.limit;
-      seed = c.in-Ok-read_numbers.read.seed;
-      algorithm = c.in-Ok-read_parts.read.algorithm;
-      detector = c.in-Ok-read_parts.read.detector;
-      share = c.in-Ok-read_parts.read.share;
-      proposals = c.in-Ok-read_parts.read.proposals.items;
-      crashes = c.in-Ok-read_parts.read.crashes.items;
-      links = c.in-Ok-read_parts.read.links.items;
-      outages = map (λ v. v.items) c.in-Ok-read_parts.read.outages.items;
-    } ≡ record_of t = search rules in
     let seed : number_at (codes "seed") 0 t < 2 ^ 63 = subst (λ x. x < 2 ^ 63) c.in-Ok-read_numbers.ensures.value.seed c.in-Ok-read_numbers.ensures.value.seed_high in
-    subst (λ s. IsInRange s) (sym same) (in_range t all seed)
+    subst (λ s. IsInRange s) (sym c.in-Ok-read_parts.ensures.value) (in_range t all seed)
 
 pub returns-clause-ok : goal.returns-clause-ok
 returns-clause-ok c =
