@@ -1,5 +1,5 @@
 -- Lemmas on the first of some rules that applies.
-use Rattle.std.proofs.Common.{◌≡◌, ℕ, zero, suc, ◌<◌, ◌≤◌, ◌==◌, Option, Some, Bool, true, false, refl, sym, ap, ◌∙◌, List, [], ◌∷◌, ◌++◌, arith, subst}
+use Rattle.std.proofs.Common.{◌≡◌, ℕ, zero, suc, ◌<◌, ◌==◌, Option, Some, Bool, true, false, refl, sym, List, [], ◌∷◌, ◌++◌, arith, subst}
 use Rattle.std.proofs.lemmas.Bool.{eqb-true}
 use Rattle.toml.specs.Data.{Members}
 use Rattle.scenario.specs.Refusals.{Rule, rule_at, number_of, GivenBy, NamesPair, IsFirst}

@@ -1,5 +1,5 @@
 -- What the code has read so far, seen as parts of the definitions.
-use Rattle.std.specs.Prelude.{String, ◌≡◌, ◌≤◌, ◌<◌, ◌^◌, ℕ, ◌+◌, ◌-◌, ◌*◌, List, Bool, map, Option, Some, option_map, get_or, codes}
+use Rattle.std.specs.Prelude.{String, ◌≡◌, ◌≢◌, ◌≤◌, ◌<◌, ◌^◌, ℕ, ◌+◌, ◌-◌, ◌*◌, List, Bool, map, Option, option_map, get_or, codes}
 use Rattle.std.specs.BTreeMap.{BTreeMap}
 use Rattle.std.specs.Borrow.{Bor}
 use Rattle.std.specs.Global.{Vec}
@@ -11,7 +11,7 @@ use Rattle.toml.specs.declared.value.Value.{Value}
 use Rattle.scenario_record.specs.Record.{no_link}
 use Rattle.scenario.specs.Table as table
 use Rattle.scenario.specs.Table.{has_unlisted, has_lacking, has_mistyped, integers_at, table_at, table_or_empty, tables_at}
-use Rattle.scenario.specs.Text.{number_at, natural, algorithm_in, processes_of, detector_of, share_of, delays_of, links_among, outages_among, crashes_among}
+use Rattle.scenario.specs.Text.{number_at, processes_of, links_among}
 use Rattle.scenario.specs.Rules.{are_bad_pairs}
 use Rattle.scenario.specs.declared.error.ScenarioError.{ScenarioError}
 use Rattle.scenario.specs.declared.error.ScenarioError.TheVariants as error
@@ -94,3 +94,9 @@ pub record AreProcesses (n : ℕ) (pair : ℕ × ℕ) : Type 0 where
 -- the link of a pair among n processes, in a list by sender and then by receiver
 abbrev pub link_in : ℕ → List Link → ℕ × ℕ → Link
 link_in n links pair = get_or links ((pair.0 - 1) * n + (pair.1 - 1)) no_link
+
+-- of n processes: the pair's link has its min below the lookahead
+pub record IsLow (n : ℕ) (links : List Link) (lookahead : ℕ) (pair : ℕ × ℕ) : Type 0 where
+  pub processes : AreProcesses n pair
+  pub different : pair.0 ≢ pair.1
+  pub below : (link_in n links pair).min < lookahead

@@ -81,15 +81,9 @@ fn read_named(table: &Table) -> Result<DetectorNumbers, Option<Fault<'_>>>
     ensures fault { IfErr result (IsFoundBy detector_subject (table_view table.now)) }
 {
     if is_fresh(table) {
-        match read_freshness(table) {
-            Ok(its) => Ok(DetectorNumbers::Freshness(its)),
-            Err(fault) => Err(fault),
-        }
+        Ok(DetectorNumbers::Freshness(accepted!(read_freshness(table))))
     } else {
-        match read_timeout(table) {
-            Ok(its) => Ok(DetectorNumbers::Timeout(its)),
-            Err(fault) => Err(fault),
-        }
+        Ok(DetectorNumbers::Timeout(accepted!(read_timeout(table))))
     }
 }
 

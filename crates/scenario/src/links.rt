@@ -157,9 +157,7 @@ fn read_pairs<'a>(
 fn filled(alloc: Global, own: &[Option<Link>], common: Link) -> Result<Vec<Link>, AllocError>
     ensures { IfOk result (λ v. v.items ≡ map (λ link. unwrap_or link common) own.now) }
 {
-    own.iter()
-        .map(|link| link.unwrap_or(common))
-        .collect(alloc)
+    own.iter().map(|link| link.unwrap_or(common)).collect(alloc)
 }
 
 /// The common link, where its numbers are in their ranges; else, and where there is no table, the refusal.

@@ -27,4 +27,4 @@ returns-in-Err-read_outages-clause-err c =
     given part_rules t c.in-Err-read_outages.refused.error error.OutageLine (outages_refused t) c.in-Err-read_outages.ensures.err (λ test. search (rules, test))
 
 pub returns-in-Some-clause-err : goal.returns-in-Some-clause-err
-returns-in-Some-clause-err c = λ other. rw c.below_lookahead.ensures.error (search rules, sym c.first_below.ensures ∙ c.in-Some.is)
+returns-in-Some-clause-err c = λ other. rw c.below_lookahead.ensures.error (search rules, sym c.first_below.ensures.value ∙ c.in-Some.is)

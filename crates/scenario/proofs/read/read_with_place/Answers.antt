@@ -1,7 +1,7 @@
-use Rattle.std.proofs.Common.{◌≡◌, ◌<◌, ◌^◌, [], ◌++◌, Some, map, subst, sym, rules, codes}
+use Rattle.std.proofs.Common.{◌<◌, ◌^◌, [], ◌++◌, Some, subst, sym, codes}
 use Rattle.toml.specs.View.{table_view}
 use Rattle.scenario_record.specs.Ranges.{IsInRange}
-use Rattle.scenario.specs.Text.{number_at, record_of}
+use Rattle.scenario.specs.Text.{number_at}
 use Rattle.scenario.specs.Refusals.{key_rules, number_rules, part_rules, table_rules}
 use Rattle.scenario.specs.Groups.{Passes}
 use Rattle.scenario.proofs.Places.{first_in, passes_joined}
