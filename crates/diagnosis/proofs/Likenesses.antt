@@ -1,8 +1,9 @@
 -- Edits, as they are counted, and the nearest of a table's keys, as a loop finds it.
-use Rattle.std.proofs.Common.{Bor, ◌≡◌, ◌≢◌, ◌⊎◌, inl, inr, ℕ, ◌+◌, ◌<◌, ◌≤◌, List, [], ◌∷◌, length, get_or, nat_eq, Bool, true, false, Option, Some, None, Result, Ok, Err, IfOk, refl, sym, ap, ◌∙◌, rules, arith}
-use Rattle.std.specs.List.{Contains}
+use Rattle.std.proofs.Common.{Bor, ◌≡◌, ◌≢◌, ℕ, ◌+◌, ◌<◌, ◌≤◌, List, [], ◌∷◌, length, get_or, take, nat_eq, Bool, true, false, Option, Some, None, Result, Ok, Err, IfOk, refl, sym, ap, ◌∙◌, rules, arith}
+use Rattle.std.specs.List.{All, Contains}
 use Rattle.std.specs.Str.{chars}
-use Rattle.std.proofs.lemmas.Bool.{cases_lt}
+use Rattle.std.proofs.lemmas.List.{take_all}
+use Rattle.std.proofs.lemmas.List.Elements.{All-nil, All-more, All-weaker, All-map, All-contains}
 use Rattle.std.proofs.lemmas.Slice.Eq.{bytes_eq-Decides}
 use Rattle.strsim.specs.Edits.{damerau}
 use Rattle.scenario.specs.Table.{Field, same_text}
@@ -10,7 +11,7 @@ use Rattle.scenario.specs.Parts.{field_of, fields_of}
 use Rattle.scenario.specs.declared.field.Field as code
 use Rattle.scenario.specs.declared.field.Kind.TheVariants.{Number}
 use Rattle.diagnosis.specs.Likeness.{edits, edits_of, most_edits, IsMeant}
-use Rattle.scenario.proofs.Elements.{length_map, get_or_map, contains_image}
+use Rattle.scenario.proofs.Elements.{contains_image}
 
 ok_value : {E : Type 0} (d e : ℕ) → ◌≡◌ {A = Result ℕ E} (Ok d) (Ok e) → d ≡ e
 ok_value d e is = search (rules, is)
@@ -40,52 +41,35 @@ IsBest fields key (Some near) least =
 
 pub record IsSoFar (fields : List code.Field) (i : ℕ) (key : List ℕ) (best : Option (Bor (List ℕ))) (least : ℕ) : Type 0 where
   pub best_is : IsBest (fields_of fields) key best least
-  pub least_is : (k : ℕ) → k < i → least ≤ edits key (get_or fields k no_field).key.now
+  pub least_is : All (λ f. least ≤ edits key f.key.now) (take i fields)
 
 at_most : (fields : List Field) (key : List ℕ) (best : Option (Bor (List ℕ))) (least : ℕ) → IsBest fields key best least → least ≤ most_edits key + 1
 at_most fields key None least is = omega (arith, is)
 at_most fields key (Some near) least is = omega (arith, is.2)
 
 pub begun : (fields : List code.Field) (key : List ℕ) → IsSoFar fields 0 key None (most_edits key + 1)
-begun fields key = record { best_is = refl; least_is = λ k lt. absurd (omega (arith, lt)) }
-
-at_last : (k i : ℕ) → k < i + 1 → (k < i) ⊎ (k ≡ i)
-at_last k i lt = by (cases_lt k i)
-  where
-    by : (k < i) ⊎ (i ≤ k) → (k < i) ⊎ (k ≡ i)
-    by (inl less) = inl less
-    by (inr more) = inr (omega (arith, lt, more))
+begun fields key = record { best_is = refl; least_is = All-nil (λ f. most_edits key + 1 ≤ edits key f.key.now) }
 
 -- one key more, which is nearer
 pub nearer : (fields : List code.Field) (i : ℕ) (key : List ℕ) (best : Option (Bor (List ℕ))) (least e : ℕ) → i < length fields → e ≡ edits key (get_or fields i no_field).key.now → e < least → IsSoFar fields i key best least → IsSoFar fields (i + 1) key (Some (get_or fields i no_field).key) e
 nearer fields i key best least e within is less so = record {
   best_is = ((field_of (get_or fields i no_field), contains_image field_of fields i no_field within, refl), is, omega (arith, less, at_most (fields_of fields) key best least so.best_is));
-  least_is = λ k lt. by k (at_last k i (omega (arith, lt)));
+  least_is = All-more (λ f. e ≤ edits key f.key.now) fields i no_field within
+      (All-weaker (λ f. least ≤ edits key f.key.now) (λ f. e ≤ edits key f.key.now) (λ f le. omega arith) (take i fields) so.least_is) (omega arith);
 }
-  where
-    by : (k : ℕ) → (k < i) ⊎ (k ≡ i) → e ≤ edits key (get_or fields k no_field).key.now
-    by k (inl lt) = omega (arith, less, so.least_is k lt)
-    by k (inr same) = rw same (omega (arith, is))
 
 -- one key more, which isn't
-pub farther : (fields : List code.Field) (i : ℕ) (key : List ℕ) (best : Option (Bor (List ℕ))) (least e : ℕ) → e ≡ edits key (get_or fields i no_field).key.now → least ≤ e → IsSoFar fields i key best least → IsSoFar fields (i + 1) key best least
-farther fields i key best least e is far so = record {
+pub farther : (fields : List code.Field) (i : ℕ) (key : List ℕ) (best : Option (Bor (List ℕ))) (least e : ℕ) → i < length fields → e ≡ edits key (get_or fields i no_field).key.now → least ≤ e → IsSoFar fields i key best least → IsSoFar fields (i + 1) key best least
+farther fields i key best least e within is far so = record {
   best_is = so.best_is;
-  least_is = λ k lt. by k (at_last k i (omega (arith, lt)));
+  least_is = All-more (λ f. least ≤ edits key f.key.now) fields i no_field within so.least_is (omega arith);
 }
-  where
-    by : (k : ℕ) → (k < i) ⊎ (k ≡ i) → least ≤ edits key (get_or fields k no_field).key.now
-    by k (inl lt) = so.least_is k lt
-    by k (inr same) = rw same (omega (arith, is, far))
 
 pub ended : (fields : List code.Field) (i : ℕ) (key : List ℕ) (best : Option (Bor (List ℕ))) (least : ℕ) → length fields ≤ i → IsSoFar fields i key best least → IsMeant (fields_of fields) key best
 ended fields i key best least past so = by best so.best_is
   where
     each : (other : Field) → Contains (fields_of fields) other → least ≤ edits key other.key
-    each other (k, lt, is) =
-        let within : k < length fields = omega (arith, lt, length_map field_of fields) in
-        let image : field_of (get_or fields k no_field) ≡ other = sym (get_or_map field_of fields k no_field other within) ∙ is in
-        rw (← image) (so.least_is k (omega (arith, within, past)))
+    each other = All-contains (λ f. least ≤ edits key f.key) (fields_of fields) other (All-map (λ f. least ≤ edits key f.key) field_of fields (rw (take_all i fields past) at so.least_is))
 
     by : (b : Option (Bor (List ℕ))) → IsBest (fields_of fields) key b least → IsMeant (fields_of fields) key b
     by None is = λ other listed. omega (arith, is, each other listed)

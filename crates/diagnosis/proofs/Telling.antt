@@ -1,14 +1,12 @@
 -- What is said of a file, from what is said of its table.
-use Rattle.std.proofs.Common.{◌≡◌, ℕ, List, Some, None, Result, Ok, Err, IfOk, refl, sym, subst, false, string_bytes}
+use Rattle.std.proofs.Common.{ℕ, List, Some, Result, Ok, Err, IfOk, refl}
 use Rattle.toml.specs.Data.{Members}
 use Rattle.scenario.specs.Text.{record_of}
-use Rattle.scenario.specs.Refusals.{IsDocumentOf, IsFirst, is_memory, table_rules}
+use Rattle.scenario.specs.Refusals.{IsDocumentOf}
 use Rattle.scenario.specs.declared.error.ScenarioError.{ScenarioError}
-use Rattle.scenario.specs.declared.error.ScenarioError.TheVariants as error
-use Rattle.scenario.proofs.Reading.{accepted, refused, refused_text}
-use Rattle.diagnosis.specs.Diagnosis.{HasPlace, IsPlaced, IsReason, RefusesFor, RefusesTableFor, IsDiagnosisOf, IsTableDiagnosisOf}
-use Rattle.diagnosis.specs.Text.{Reason, no_toml, found, nothing, told_text}
-use Rattle.diagnosis.specs.declared.answer.Refused.{Refused}
+use Rattle.scenario.proofs.Reading.{accepted, refused}
+use Rattle.diagnosis.specs.Diagnosis.{HasPlace, IsReason, IsDiagnosisOf, IsTableDiagnosisOf}
+use Rattle.diagnosis.specs.Text.{Reason, no_toml, found, nothing}
 use Rattle.diagnosis.specs.declared.answer.Diagnosis.{Diagnosis}
 use Rattle.diagnosis.specs.declared.answer.Diagnosis.TheVariants as diagnosis
 

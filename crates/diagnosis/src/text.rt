@@ -2,15 +2,15 @@
 ghost use Rattle.std.specs.Prelude.{◌≡◌, Some};
 ghost use Rattle.std.specs.Fmt.{WritesOnOk};
 ghost use Rattle.printable.specs.Printable.{printable};
-ghost use Rattle.diagnosis.specs.Text.{path_text, suggestion_text, unknown_hint, unknown_text, kind_words, found_text, unit_text, wrong_kind_text, is_of_second, outside_hint, outside_text, names_text, none_of_text, other_name_text, proposals_text, min_above_max_text, not_before_text, below_text, twice_pair_text, twice_process_text, fault_text, finding_text, not_toml_text, refused_text};
+ghost use Rattle.diagnosis.specs.Text.{path_text, suggestion_text, unknown_hint, kind_words, found_text, unit_text, wrong_kind_text, is_of_second, outside_hint, outside_text, names_text, none_of_text, proposals_text, not_before_text, fault_text, finding_text, not_toml_text, refused_text};
 
 use crate::answer::Refused;
 use crate::told::{NotToml, Told};
 use printable::Printable;
 use process_api::MOST_PROCESSES;
 use scenario::{
-    BelowLookahead, Fault, Finding, Kind, MinAboveMax, OtherName, Outside, Place, ProposalsFault,
-    UnknownKey, WrongKind, is_listed_key, lies_within,
+    Fault, Finding, Kind, MinAboveMax, Outside, Place, ProposalsFault, UnknownKey, WrongKind,
+    is_listed_key, lies_within,
 };
 use std::fmt;
 
@@ -71,19 +71,6 @@ fn write_unknown_hint<W: fmt::Write>(
     } else {
         write_suggestion(f, place, meant)
     }
-}
-
-/// Writes the key that isn't one of the table's.
-fn write_unknown<W: fmt::Write>(
-    f: &mut fmt::Formatter<W>,
-    place: Place,
-    unknown: &UnknownKey,
-    meant: Option<&str>,
-) -> fmt::Result
-    ensures { WritesOnOk W.Write.write_str_gives f.old result (unknown_text place unknown.now meant.entry) f.new }
-{
-    write_quoted_path(f, place, unknown.key)?;
-    write_unknown_hint(f, place, unknown, meant)
 }
 
 /// The words for a kind.
@@ -191,18 +178,6 @@ fn write_none_of<W: fmt::Write>(
     write_names(f, names)
 }
 
-/// Writes that a text is none of the names for its key.
-fn write_other_name<W: fmt::Write>(
-    f: &mut fmt::Formatter<W>,
-    place: Place,
-    other: &OtherName,
-) -> fmt::Result
-    ensures { WritesOnOk W.Write.write_str_gives f.old result (other_name_text place other.now) f.new }
-{
-    write_path(f, place, other.key)?;
-    write_none_of(f, other.value, other.allowed)
-}
-
 /// Writes how proposals don't fit.
 fn write_proposals<W: fmt::Write>(f: &mut fmt::Formatter<W>, fault: &ProposalsFault) -> fmt::Result
     ensures { WritesOnOk W.Write.write_str_gives f.old result (proposals_text fault.now) f.new }
@@ -221,18 +196,6 @@ fn write_proposals<W: fmt::Write>(f: &mut fmt::Formatter<W>, fault: &ProposalsFa
     }
 }
 
-/// Writes that a link's `min` is above its `max`.
-fn write_min_above_max<W: fmt::Write>(
-    f: &mut fmt::Formatter<W>,
-    place: Place,
-    above: &MinAboveMax,
-) -> fmt::Result
-    ensures { WritesOnOk W.Write.write_str_gives f.old result (min_above_max_text place above.now) f.new }
-{
-    let (min, max) = (above.min, above.max);
-    write!(f, "{place}: min {min} is above max {max}")
-}
-
 /// Writes that an outage's `begin` isn't below its `until`.
 fn write_not_before<W: fmt::Write>(
     f: &mut fmt::Formatter<W>,
@@ -245,49 +208,6 @@ fn write_not_before<W: fmt::Write>(
     write!(f, "{place}: begin {begin} is not below until {until}")
 }
 
-/// Writes that the link of a pair has a `min` below the lookahead.
-fn write_below<W: fmt::Write>(f: &mut fmt::Formatter<W>, below: &BelowLookahead) -> fmt::Result
-    ensures { WritesOnOk W.Write.write_str_gives f.old result (below_text below.now) f.new }
-{
-    let (from, to) = (below.from.number(), below.to.number());
-    let (min, lookahead) = (below.min, below.lookahead);
-    write!(
-        f,
-        "link {from} to {to}: min {min} is below the lookahead {lookahead}"
-    )
-}
-
-/// Writes that an earlier table of `links` is of the pair.
-fn write_twice_pair<W: fmt::Write>(
-    f: &mut fmt::Formatter<W>,
-    from: i64,
-    to: i64,
-    number: u64,
-    earlier: u64,
-) -> fmt::Result
-    ensures { WritesOnOk W.Write.write_str_gives f.old result (twice_pair_text from to number earlier) f.new }
-{
-    write!(
-        f,
-        "links[{number}]: link {from} to {to} has a table already, links[{earlier}]"
-    )
-}
-
-/// Writes that an earlier table of `crash` is of the process.
-fn write_twice_process<W: fmt::Write>(
-    f: &mut fmt::Formatter<W>,
-    process: i64,
-    number: u64,
-    earlier: u64,
-) -> fmt::Result
-    ensures { WritesOnOk W.Write.write_str_gives f.old result (twice_process_text process number earlier) f.new }
-{
-    write!(
-        f,
-        "crash[{number}]: process {process} has a table already, crash[{earlier}]"
-    )
-}
-
 /// Writes what is wrong with the table at a place.
 fn write_fault<W: fmt::Write>(
     f: &mut fmt::Formatter<W>,
@@ -298,40 +218,22 @@ fn write_fault<W: fmt::Write>(
     ensures { WritesOnOk W.Write.write_str_gives f.old result (fault_text place fault.now meant.entry) f.new }
 {
     match fault {
-        Fault::UnknownKey(unknown) => write_unknown(f, place, unknown, meant),
+        Fault::UnknownKey(unknown) => {
+            write_quoted_path(f, place, unknown.key)?;
+            write_unknown_hint(f, place, unknown, meant)
+        }
         Fault::MissingKey { key } => write_path(f, place, key),
         Fault::WrongKind(wrong) => write_wrong_kind(f, place, wrong),
         Fault::Outside(outside) => write_outside(f, place, outside),
-        Fault::OtherName(other) => write_other_name(f, place, other),
-        Fault::MinAboveMax(above) => write_min_above_max(f, place, above),
+        Fault::OtherName(other) => {
+            write_path(f, place, other.key)?;
+            write_none_of(f, other.value, other.allowed)
+        }
+        Fault::MinAboveMax(MinAboveMax { min, max }) => {
+            write!(f, "{place}: min {min} is above max {max}")
+        }
         Fault::ToItself { process } => write!(f, "{place}: from and to are both {process}"),
         Fault::NotBefore(ends) => write_not_before(f, place, ends.begin, ends.until),
-    }
-}
-
-/// Writes what is wrong with a file.
-fn write_finding<W: fmt::Write>(
-    f: &mut fmt::Formatter<W>,
-    finding: &Finding,
-    meant: Option<&str>,
-) -> fmt::Result
-    ensures { WritesOnOk W.Write.write_str_gives f.old result (finding_text finding.now meant.entry) f.new }
-{
-    match finding {
-        Finding::At { place, fault } => write_fault(f, *place, fault, meant),
-        Finding::Proposals(fault) => write_proposals(f, fault),
-        Finding::Below(below) => write_below(f, below),
-        Finding::TwicePair {
-            from,
-            to,
-            number,
-            earlier,
-        } => write_twice_pair(f, *from, *to, *number, *earlier),
-        Finding::TwiceProcess {
-            process,
-            number,
-            earlier,
-        } => write_twice_process(f, *process, *number, *earlier),
     }
 }
 
@@ -351,7 +253,35 @@ impl<'a> fmt::Display for Told<'a> {
 
     /// Writes what is wrong, and where, as `links[2500]: min 21 is above max 20`.
     fn fmt<W: fmt::Write>(&self, f: &mut fmt::Formatter<W>) -> fmt::Result {
-        write_finding(f, self.finding, self.meant)
+        match self.finding {
+            Finding::At { place, fault } => write_fault(f, *place, fault, self.meant),
+            Finding::Proposals(fault) => write_proposals(f, fault),
+            Finding::Below(below) => {
+                let (from, to) = (below.from.number(), below.to.number());
+                let (min, lookahead) = (below.min, below.lookahead);
+                write!(
+                    f,
+                    "link {from} to {to}: min {min} is below the lookahead {lookahead}"
+                )
+            }
+            Finding::TwicePair {
+                from,
+                to,
+                number,
+                earlier,
+            } => write!(
+                f,
+                "links[{number}]: link {from} to {to} has a table already, links[{earlier}]"
+            ),
+            Finding::TwiceProcess {
+                process,
+                number,
+                earlier,
+            } => write!(
+                f,
+                "crash[{number}]: process {process} has a table already, crash[{earlier}]"
+            ),
+        }
     }
 }
 

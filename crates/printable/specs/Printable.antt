@@ -1,5 +1,5 @@
 -- Texts as they are printed.
-use Rattle.std.specs.Prelude.{ℕ, List, [], ◌∷◌, ◌++◌, ◌==◌, false, if◌then◌else◌, codes}
+use Rattle.std.specs.Prelude.{ℕ, List, [], ◌∷◌, ◌++◌, ◌==◌, Bool, true, false, if◌then◌else◌, codes}
 use Rattle.std.specs.Char.{encode_utf8, is_control}
 use Rattle.std.specs.Fmt.{digits}
 use Rattle.std.specs.List.{flat_map}
@@ -12,6 +12,10 @@ shown c = if is_control c then codes "\\u{" ++ digits 16 false c ++ codes "}" el
 -- the end of a line, or another character
 abbrev pub shown_in_lines : ℕ → List ℕ
 shown_in_lines c = if c == 10 then 10 ∷ [] else shown c
+
+abbrev pub shown_as : (in_lines : Bool) → ℕ → List ℕ
+shown_as true = shown_in_lines
+shown_as false = shown
 
 -- a text on one line, without control characters
 unfoldable pub printable : List ℕ → List ℕ

@@ -8,7 +8,9 @@
 #![tactic(auto)]
 
 ghost use Rattle.std.specs.Fmt.{WritesOnOk};
-ghost use Rattle.printable.specs.Printable.{printable as printable_text, printable_lines as lines_text, shown, shown_in_lines};
+ghost use Rattle.std.specs.List.{flat_map};
+ghost use Rattle.std.specs.Str.{chars};
+ghost use Rattle.printable.specs.Printable.{shown, shown_in_lines, shown_as};
 
 use std::fmt;
 
@@ -43,22 +45,23 @@ fn write_in_lines<W: fmt::Write>(f: &mut fmt::Formatter<W>, c: char) -> fmt::Res
     }
 }
 
-/// Writes the characters of a text.
-fn write_text<W: fmt::Write>(f: &mut fmt::Formatter<W>, text: &str) -> fmt::Result
-    ensures { WritesOnOk W.Write.write_str_gives f.old result (printable_text text.now) f.new }
+/// Writes a character of a text that is printed in its lines, or on one.
+fn write_one<W: fmt::Write>(f: &mut fmt::Formatter<W>, c: char, in_lines: bool) -> fmt::Result
+    ensures { WritesOnOk W.Write.write_str_gives f.old result (shown_as in_lines c) f.new }
 {
-    for c in text.chars() {
-        write_shown(f, c)?;
+    if in_lines {
+        write_in_lines(f, c)
+    } else {
+        write_shown(f, c)
     }
-    Ok(())
 }
 
-/// Writes the characters of a text, where the ends of lines stay.
-fn write_lines<W: fmt::Write>(f: &mut fmt::Formatter<W>, text: &str) -> fmt::Result
-    ensures { WritesOnOk W.Write.write_str_gives f.old result (lines_text text.now) f.new }
+/// Writes the characters of a text, in its lines or on one.
+fn write_text<W: fmt::Write>(f: &mut fmt::Formatter<W>, text: &str, in_lines: bool) -> fmt::Result
+    ensures { WritesOnOk W.Write.write_str_gives f.old result (flat_map (shown_as in_lines) (chars text.now)) f.new }
 {
     for c in text.chars() {
-        write_in_lines(f, c)?;
+        write_one(f, c, in_lines)?;
     }
     Ok(())
 }
@@ -69,8 +72,9 @@ impl fmt::Display for Printable<'_> {
 
     ghost output = { λ p. Some (printable p.0.now) };
 
+    #[tactic(auto, unfolding(crate::specs::Printable::printable))]
     fn fmt<W: fmt::Write>(&self, f: &mut fmt::Formatter<W>) -> fmt::Result {
-        write_text(f, self.0)
+        write_text(f, self.0, false)
     }
 }
 
@@ -80,7 +84,8 @@ impl fmt::Display for PrintableLines<'_> {
 
     ghost output = { λ p. Some (printable_lines p.0.now) };
 
+    #[tactic(auto, unfolding(crate::specs::Printable::printable_lines))]
     fn fmt<W: fmt::Write>(&self, f: &mut fmt::Formatter<W>) -> fmt::Result {
-        write_lines(f, self.0)
+        write_text(f, self.0, true)
     }
 }

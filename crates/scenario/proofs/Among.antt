@@ -1,96 +1,36 @@
--- What one value more adds to the tables, and to the integers, among some values.
-use Rattle.std.proofs.Common.{◌≡◌, ◌∙◌, ◌++◌, ◌<◌, ◌+◌, ℕ, ℤ, List, [], ◌∷◌, length, map, get_or, drop, take, Some, None, Bool, ◌||◌, ap, sym, refl, append_assoc}
-use Rattle.std.specs.List.{list_any}
-use Rattle.std.proofs.lemmas.List.{at_drop_more, append-nil, map-append, take_more}
-use Rattle.toml.specs.Data.{Data, string, integer, float, boolean, datetime, array, table, Items, item, Members, as_table, as_integer}
+-- The tables, and the integers, among some values.
+use Rattle.std.proofs.Common.{◌≡◌, ◌∙◌, ◌++◌, ◌<◌, ◌+◌, ℕ, List, [], ◌∷◌, length, get_or, take, Some, None, Option, ap, sym, refl}
+use Rattle.std.specs.List.{cons_option, filter_map}
+use Rattle.std.proofs.lemmas.List.{append-nil, take_more}
+use Rattle.std.proofs.lemmas.List.Elements.{filter_map-append}
+use Rattle.toml.specs.Data.{Data, integer, table, Items, item, as_table, as_integer}
 use Rattle.toml.specs.View.{view, items_view}
 use Rattle.toml.specs.declared.value.Value.{Value}
 use Rattle.scenario.specs.Table.{the_tables, the_integers}
 
-table_first : (d : Data) (ds : Items) (m : Members) → Some m ≡ as_table d → the_tables (item d ds) ≡ m ∷ the_tables ds
-table_first (string s) ds m e = cc
-table_first (integer z) ds m e = cc
-table_first (float x) ds m e = cc
-table_first (boolean b) ds m e = cc
-table_first (datetime t) ds m e = cc
-table_first (array v) ds m e = cc
-table_first (table ms) ds m e = cc
+pub tables_of : (vs : List Value) → the_tables (items_view vs) ≡ filter_map (λ v. as_table (view v)) vs
+tables_of [] = refl
+tables_of (v ∷ vs) = first (view v) (items_view vs) ∙ ap (cons_option (as_table (view v))) (tables_of vs)
+  where
+    first : (d : Data) (ds : Items) → the_tables (item d ds) ≡ cons_option (as_table d) (the_tables ds)
+    first (table ms) ds = refl
+    first _ ds = refl
 
-other_first : (d : Data) (ds : Items) → None ≡ as_table d → the_tables (item d ds) ≡ the_tables ds
-other_first (string s) ds e = refl
-other_first (integer z) ds e = refl
-other_first (float x) ds e = refl
-other_first (boolean b) ds e = refl
-other_first (datetime t) ds e = refl
-other_first (array v) ds e = refl
-other_first (table ms) ds e = cc
+pub integers_of : (vs : List Value) → the_integers (items_view vs) ≡ filter_map (λ v. as_integer (view v)) vs
+integers_of [] = refl
+integers_of (v ∷ vs) = first (view v) (items_view vs) ∙ ap (cons_option (as_integer (view v))) (integers_of vs)
+  where
+    first : (d : Data) (ds : Items) → the_integers (item d ds) ≡ cons_option (as_integer d) (the_integers ds)
+    first (integer z) ds = refl
+    first _ ds = refl
 
-integer_first : (d : Data) (ds : Items) (z : ℤ) → Some z ≡ as_integer d → the_integers (item d ds) ≡ z ∷ the_integers ds
-integer_first (string s) ds z e = cc
-integer_first (integer y) ds z e = cc
-integer_first (float x) ds z e = cc
-integer_first (boolean b) ds z e = cc
-integer_first (datetime t) ds z e = cc
-integer_first (array v) ds z e = cc
-integer_first (table ms) ds z e = cc
+module _ {Y : Type 0} (f : Value → Option Y) (vs : List Value) (i : ℕ) (v : Value) (low : i < length vs) (is : v ≡ get_or vs i v) where
+  cut : filter_map f (take (i + 1) vs) ≡ filter_map f (take i vs) ++ cons_option (f v) []
+  cut = ap (filter_map f) (take_more vs i v low) ∙ (filter_map-append f (take i vs) (get_or vs i v ∷ []) ∙ ap (λ w. filter_map f (take i vs) ++ cons_option (f w) []) (sym is))
 
-no_integer_first : (d : Data) (ds : Items) → None ≡ as_integer d → the_integers (item d ds) ≡ the_integers ds
-no_integer_first (string s) ds e = refl
-no_integer_first (integer y) ds e = cc
-no_integer_first (float x) ds e = refl
-no_integer_first (boolean b) ds e = refl
-no_integer_first (datetime t) ds e = refl
-no_integer_first (array v) ds e = refl
-no_integer_first (table ms) ds e = refl
+  -- one value more is one of the kind, or isn't
+  pub one_there : (y : Y) → Some y ≡ f v → filter_map f (take (i + 1) vs) ≡ filter_map f (take i vs) ++ y ∷ []
+  one_there y e = cut ∙ ap (λ o. filter_map f (take i vs) ++ cons_option o []) (sym e)
 
--- what is read of the items from a place on, by the value there
-at_value : {Y : Type 0} → (F : Items → Y) (vs : List Value) (i : ℕ) (v : Value) → i < length vs → v ≡ get_or vs i v
-    → F (items_view (drop i vs)) ≡ F (item (view v) (items_view (drop (i + 1) vs)))
-at_value F vs i v low is =
-    at_drop_more (λ xs. F (items_view xs)) vs i v low
-    ∙ ap (λ x. F (item (view x) (items_view (drop (i + 1) vs)))) (sym is)
-
-pub table_there : (vs : List Value) (i : ℕ) (v : Value) (m : Members) → i < length vs → v ≡ get_or vs i v
-    → Some m ≡ as_table (view v) → the_tables (items_view (drop i vs)) ≡ m ∷ the_tables (items_view (drop (i + 1) vs))
-table_there vs i v m low is e = at_value the_tables vs i v low is ∙ table_first (view v) (items_view (drop (i + 1) vs)) m e
-
-pub no_table_there : (vs : List Value) (i : ℕ) (v : Value) → i < length vs → v ≡ get_or vs i v
-    → None ≡ as_table (view v) → the_tables (items_view (drop i vs)) ≡ the_tables (items_view (drop (i + 1) vs))
-no_table_there vs i v low is e = at_value the_tables vs i v low is ∙ other_first (view v) (items_view (drop (i + 1) vs)) e
-
-pub integer_there : (vs : List Value) (i : ℕ) (v : Value) (z : ℤ) → i < length vs → v ≡ get_or vs i v
-    → Some z ≡ as_integer (view v) → the_integers (items_view (drop i vs)) ≡ z ∷ the_integers (items_view (drop (i + 1) vs))
-integer_there vs i v z low is e = at_value the_integers vs i v low is ∙ integer_first (view v) (items_view (drop (i + 1) vs)) z e
-
-pub no_integer_there : (vs : List Value) (i : ℕ) (v : Value) → i < length vs → v ≡ get_or vs i v
-    → None ≡ as_integer (view v) → the_integers (items_view (drop i vs)) ≡ the_integers (items_view (drop (i + 1) vs))
-no_integer_there vs i v low is e = at_value the_integers vs i v low is ∙ no_integer_first (view v) (items_view (drop (i + 1) vs)) e
-
--- what was found so far and what is left: the first of what is left is moved over
-pub moved : {A : Type 0} → (all found more : List A) (a : A) (left rest : List A)
-    → all ≡ found ++ left → left ≡ a ∷ rest → more ≡ found ++ a ∷ [] → all ≡ more ++ rest
-moved all found more a left rest before step made =
-    before ∙ (ap (λ l. found ++ l) step ∙ (sym (append_assoc found (a ∷ []) rest) ∙ ap (λ l. l ++ rest) (sym made)))
-
--- the same where what was found is seen by a function
-pub moved_over : {A B : Type 0} → (f : A → B) (all : List B) (found more : List A) (a : A) (left rest : List B)
-    → all ≡ map f found ++ left → left ≡ f a ∷ rest → more ≡ found ++ a ∷ [] → all ≡ map f more ++ rest
-moved_over f all found more a left rest before step made =
-    moved all (map f found) (map f more) (f a) left rest before step (ap (map f) made ∙ map-append f found (a ∷ []))
-
--- nothing is left
-pub all_moved : {A : Type 0} → (all found left : List A) → all ≡ found ++ left → left ≡ [] → found ≡ all
-all_moved all found left before none = sym (before ∙ (ap (λ l. found ++ l) none ∙ append-nil found))
-
--- whether there is one of a kind among all, by the first of what is left
-pub any_by_first : {A : Type 0} → (p : A → Bool) (all left rest : List A) (a : A) (b : Bool)
-    → list_any p all ≡ list_any p left → left ≡ a ∷ rest → b ≡ p a → list_any p all ≡ (b || list_any p rest)
-any_by_first p all left rest a b before step e =
-    before ∙ (ap (list_any p) step ∙ ap (λ x. x || list_any p rest) (sym e))
-
--- one value more of those that were taken
-pub more_taken : {A B : Type 0} → (f : A → B) (all : List A) (i : ℕ) (d : A) (found more : List B) → i < length all
-    → found ≡ map f (take i all) → more ≡ found ++ f (get_or all i d) ∷ [] → more ≡ map f (take (i + 1) all)
-more_taken f all i d found more low before made =
-    made ∙ (ap (λ l. l ++ f (get_or all i d) ∷ []) before
-    ∙ (sym (map-append f (take i all) (get_or all i d ∷ [])) ∙ ap (map f) (sym (take_more all i d low))))
+  pub none_there : None ≡ f v → filter_map f (take (i + 1) vs) ≡ filter_map f (take i vs)
+  none_there e = cut ∙ (ap (λ o. filter_map f (take i vs) ++ cons_option o []) (sym e) ∙ append-nil (filter_map f (take i vs)))

@@ -1,39 +1,37 @@
 -- Lemmas on the keys of a table.
-use Rattle.std.proofs.Common.{◌≡◌, ℕ, List, [], ◌∷◌, map, Bool, false, not, refl, ap, ◌||◌, String, string_bytes, Global, Option, Some, None, option_and_then, if◌then◌else◌}
+use Rattle.std.proofs.Common.{is_some, is_none, option_map, ◌≡◌, ℕ, List, [], ◌∷◌, map, Bool, not, refl, ap, ◌||◌, String, string_bytes, Global, Option, Some, None, option_and_then, if◌then◌else◌}
 use Rattle.std.specs.List.{list_any}
-use Rattle.std.specs.Option.{option_map_or}
-use Rattle.toml.specs.Data.{Data, Members, Items, as_array, get_member}
+use Rattle.scenario.specs.Parts.{field_of, fields_of}
+use Rattle.scenario.specs.declared.field.Field as code
+use Rattle.toml.specs.Data.{Members, Items, as_array, get_member}
 use Rattle.toml.specs.View.{members_view}
 use Rattle.toml.specs.declared.value.Value.{Value}
-use Rattle.scenario.specs.Table.{Field, same_text, is_of, is_listed, has_unlisted, is_lacking, has_lacking, is_mistyped, has_mistyped, tables_at, the_tables, all_items, is_table}
+use Rattle.scenario.specs.Table.{Field, same_text, is_listed, has_unlisted, is_lacking, has_lacking, is_mistyped, has_mistyped, tables_at, the_tables, all_items, is_table}
 
--- the first of some fields has the key, or another of them has
-pub listed_first : (fields : List Field) (f : Field) (key : List ℕ) (b : Bool) → b ≡ same_text f.key key
-    → is_listed (f ∷ fields) key ≡ (b || is_listed fields key)
+pub some_of_map : {A B : Type 0} (f : A → B) (o : Option A) → is_some (option_map f o) ≡ is_some o
+some_of_map f None = refl
+some_of_map f (Some x) = refl
+
+pub none_of_map : {A B : Type 0} (f : A → B) (o : Option A) → is_none (option_map f o) ≡ is_none o
+none_of_map f None = refl
+none_of_map f (Some x) = refl
+
+any_map : {A B : Type 0} (p : B → Bool) (f : A → B) (xs : List A) → list_any p (map f xs) ≡ list_any (λ x. p (f x)) xs
+any_map p f [] = refl
+any_map p f (x ∷ xs) = ap (λ b. p (f x) || b) (any_map p f xs)
+
+-- whether some field is so, of the code's fields
+pub any_listed : (fs : List code.Field) (key : List ℕ) → is_listed (fields_of fs) key ≡ list_any (λ f. same_text f.key.now key) fs
 unfolding is_listed
-listed_first fields f key b e = rw e refl
+any_listed fs key = any_map (λ f. same_text f.key key) field_of fs
 
-pub listed_none : (key : List ℕ) → is_listed [] key ≡ false
-unfolding is_listed
-listed_none key = refl
-
-pub lacking_first : (fields : List Field) (f : Field) (t : Members) (b : Bool) → b ≡ is_lacking f t
-    → has_lacking (f ∷ fields) t ≡ (b || has_lacking fields t)
+pub any_lacking : (fs : List code.Field) (t : Members) → has_lacking (fields_of fs) t ≡ list_any (λ f. is_lacking (field_of f) t) fs
 unfolding has_lacking
-lacking_first fields f t b e = rw e refl
+any_lacking fs t = any_map (λ f. is_lacking f t) field_of fs
 
-pub lacking_none : (t : Members) → has_lacking [] t ≡ false
-unfolding has_lacking
-lacking_none t = refl
-
-pub mistyped_first : (fields : List Field) (f : Field) (t : Members) (b : Bool) → b ≡ is_mistyped f t
-    → has_mistyped (f ∷ fields) t ≡ (b || has_mistyped fields t)
+pub any_mistyped : (fs : List code.Field) (t : Members) → has_mistyped (fields_of fs) t ≡ list_any (λ f. is_mistyped (field_of f) t) fs
 unfolding has_mistyped
-mistyped_first fields f t b e = rw e refl
-
-pub mistyped_none : (t : Members) → has_mistyped [] t ≡ false
-unfolding has_mistyped
-mistyped_none t = refl
+any_mistyped fs t = any_map (λ f. is_mistyped f t) field_of fs
 
 -- some of these keys isn't listed
 abbrev pub any_unlisted : List Field → List (String Global) → Bool
@@ -58,7 +56,3 @@ tables_at-array key t ds b found e = rw (found, e) refl
 pub tables_at-none : (key : List ℕ) (t : Members) → option_and_then as_array (get_member key t) ≡ None → tables_at key t ≡ []
 unfolding tables_at
 tables_at-none key t found = rw found refl
-
-pub mistyped_at : (f : Field) (t : Members) (found : Option Data) → get_member f.key t ≡ found → is_mistyped f t ≡ option_map_or (λ d. not (is_of f.kind d)) found false
-unfolding is_mistyped
-mistyped_at f t found is = rw is refl

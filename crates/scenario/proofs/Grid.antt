@@ -1,38 +1,32 @@
 -- Cells by sender and then by receiver, one of each pair.
-use Rattle.std.proofs.Common.{◌≡◌, ℕ, zero, suc, add-zero, zero-add, ◌++◌, ◌+◌, ◌-◌, ◌*◌, ◌/◌, ◌%◌, ◌<◌, List, map, length, get_or, refl, ap, sym, ◌∙◌, arith, subst}
+use Rattle.std.proofs.Common.{◌≡◌, ℕ, zero, suc, ◌+◌, ◌-◌, ◌*◌, ◌/◌, ◌%◌, ◌<◌, List, [], ◌∷◌, map, length, get_or, take, refl, ap, sym, ◌∙◌, arith, subst}
 use Rattle.std.specs.List.{range_with_len, flat_map}
-use Rattle.std.proofs.lemmas.List.{ext_get_or, length-append, get_or_append_left, get_or-append-add}
+use Rattle.std.proofs.lemmas.List.{ext_get_or, length-append, length-take}
+use Rattle.std.proofs.lemmas.List.Concat.{get_or-flat_map}
 use Rattle.std.proofs.Math.Nat.{zero-mul, suc-mul, mod-lt, div-lt_iff_lt-mul}
 use Rattle.std.proofs.lemmas.Nat.{div-add-mod'}
-use Rattle.std.proofs.lemmas.List.FromFn.{get_or-map-range_with_len, length-map-range_with_len}
+use Rattle.std.proofs.lemmas.List.FromFn.{length-range_with_len, get_or-range_with_len, get_or-map-range_with_len, length-map-range_with_len}
 use Rattle.scenario.specs.Parts.{AreProcesses}
 use Rattle.scenario.proofs.KeyFacts.{pair_place}
 
-row_lengths : {X : Type 0} (g : ℕ → ℕ → X) (n a m : ℕ) → length (flat_map (λ f. map (g f) (range_with_len 1 n)) (range_with_len a m)) ≡ m * n
-row_lengths g n a zero = simp zero-mul
-row_lengths g n a (suc m) =
-    let one : length (map (g a) (range_with_len 1 n)) ≡ n = length-map-range_with_len (g a) 1 n in
-    let rest : length (flat_map (λ f. map (g f) (range_with_len 1 n)) (range_with_len (a + 1) m)) ≡ m * n = row_lengths g n (a + 1) m in
-    let more : suc m * n ≡ m * n + n = suc-mul m n in
-    length-append (map (g a) (range_with_len 1 n)) (flat_map (λ f. map (g f) (range_with_len 1 n)) (range_with_len (a + 1) m)) ∙ omega arith
+rows_length : {X : Type 0} (g : ℕ → ℕ → X) (n : ℕ) (xs : List ℕ) → length (flat_map (λ f. map (g f) (range_with_len 1 n)) xs) ≡ length xs * n
+rows_length g n [] = sym (zero-mul n)
+rows_length g n (x ∷ xs) =
+    let one : length (map (g x) (range_with_len 1 n)) ≡ n = length-map-range_with_len (g x) 1 n in
+    let rest : length (flat_map (λ f. map (g f) (range_with_len 1 n)) xs) ≡ length xs * n = rows_length g n xs in
+    let more : suc (length xs) * n ≡ length xs * n + n = suc-mul (length xs) n in
+    length-append (map (g x) (range_with_len 1 n)) (flat_map (λ f. map (g f) (range_with_len 1 n)) xs) ∙ omega arith
 
 -- the k-th of row j, rows of n one after the other
-pub cell_at : {X : Type 0} (g : ℕ → ℕ → X) (n a m j k : ℕ) (d : X) → j < m → k < n
-    → get_or (flat_map (λ f. map (g f) (range_with_len 1 n)) (range_with_len a m)) (j * n + k) d ≡ g (a + j) (1 + k)
-cell_at g n a zero j k d lt in_row = absurd (omega arith)
-cell_at g n a (suc m) zero k d lt in_row =
-    let width : length (map (g a) (range_with_len 1 n)) ≡ n = length-map-range_with_len (g a) 1 n in
-    let place : zero * n + k ≡ k = simp (zero-mul, zero-add) in
-    ap (λ i. get_or (map (g a) (range_with_len 1 n) ++ flat_map (λ f. map (g f) (range_with_len 1 n)) (range_with_len (a + 1) m)) i d) place
-    ∙ (get_or_append_left (map (g a) (range_with_len 1 n)) (flat_map (λ f. map (g f) (range_with_len 1 n)) (range_with_len (a + 1) m)) d k (omega arith)
-    ∙ (get_or-map-range_with_len (g a) 1 n k (1 + k) d in_row refl ∙ ap (λ b. g b (1 + k)) (sym (add-zero a))))
-cell_at g n a (suc m) (suc j) k d lt in_row =
-    let width : length (map (g a) (range_with_len 1 n)) ≡ n = length-map-range_with_len (g a) 1 n in
-    let more : suc j * n ≡ j * n + n = suc-mul j n in
-    let place : suc j * n + k ≡ length (map (g a) (range_with_len 1 n)) + (j * n + k) = omega arith in
-    ap (λ i. get_or (map (g a) (range_with_len 1 n) ++ flat_map (λ f. map (g f) (range_with_len 1 n)) (range_with_len (a + 1) m)) i d) place
-    ∙ (get_or-append-add (map (g a) (range_with_len 1 n)) (flat_map (λ f. map (g f) (range_with_len 1 n)) (range_with_len (a + 1) m)) (j * n + k) d
-    ∙ (cell_at g n (a + 1) m j k d (omega arith) in_row ∙ ap (λ b. g b (1 + k)) (omega arith)))
+cell_at : {X : Type 0} (g : ℕ → ℕ → X) (n j k : ℕ) (d : X) → j < n → k < n
+    → get_or (flat_map (λ f. map (g f) (range_with_len 1 n)) (range_with_len 1 n)) (j * n + k) d ≡ g (1 + j) (1 + k)
+cell_at g n j k d low in_row =
+    let row = λ (f : ℕ). map (g f) (range_with_len 1 n) in
+    let count : length (take j (range_with_len 1 n)) ≡ j = omega (arith, length-take j (range_with_len 1 n), length-range_with_len 1 n) in
+    let before : length (flat_map row (take j (range_with_len 1 n))) ≡ j * n = rows_length g n (take j (range_with_len 1 n)) ∙ ap (λ l. l * n) count in
+    ap (λ i. get_or (flat_map row (range_with_len 1 n)) (i + k) d) (sym before)
+    ∙ (get_or-flat_map row (range_with_len 1 n) j k 0 d (simp length-range_with_len low) (simp length-map-range_with_len in_row)
+    ∙ (ap (λ f. get_or (row f) k d) (get_or-range_with_len 1 n j 0 low) ∙ get_or-map-range_with_len (g (1 + j)) 1 n k (1 + k) d in_row refl))
 
 -- a place is that of some pair
 some_pair : (n i : ℕ) → i < n * n → (pair : ℕ × ℕ) × (AreProcesses n pair × (i ≡ pair_place n pair))
@@ -54,12 +48,12 @@ module _ {X : Type 0} (g : ℕ × ℕ → X) (n : ℕ) where
   grid = flat_map (λ from. map (λ to. g (from, to)) (range_with_len 1 n)) (range_with_len 1 n)
 
   pub grid_length : length grid ≡ n * n
-  grid_length = row_lengths (λ from to. g (from, to)) n 1 n
+  grid_length = rows_length (λ from to. g (from, to)) n (range_with_len 1 n) ∙ ap (λ l. l * n) (length-range_with_len 1 n)
 
   -- the cell of a pair
   pub grid_at : (pair : ℕ × ℕ) (d : X) → AreProcesses n pair → get_or grid (pair_place n pair) d ≡ g pair
   grid_at pair d good =
-      cell_at (λ from to. g (from, to)) n 1 n (pair.0 - 1) (pair.1 - 1) d (omega arith) (omega arith)
+      cell_at (λ from to. g (from, to)) n (pair.0 - 1) (pair.1 - 1) d (omega arith) (omega arith)
       ∙ (ap (λ from. g (from, 1 + (pair.1 - 1))) (omega arith) ∙ ap (λ to. g (pair.0, to)) (omega arith))
 
   -- cells that hold each pair's are all of them

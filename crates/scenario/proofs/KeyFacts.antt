@@ -2,18 +2,30 @@
 use Rattle.std.proofs.Common.{◌≡◌, ℕ, ◌+◌, ◌-◌, ◌*◌, ◌/◌, ◌<◌, ◌==◌, ◌&&◌, Bool, true, false, refl, ap, sym, ◌∙◌, arith}
 use Rattle.std.proofs.lemmas.Bool.{eqb-true, eq-eqb}
 use Rattle.std.proofs.lemmas.Nat.{div-mul-add, mul-add-lt}
-use Rattle.scenario.specs.Text.{same_pair}
+use Rattle.scenario.specs.Text.{pair_of, same_pair, crash_process}
 use Rattle.scenario.specs.Rules.{same_process}
 use Rattle.scenario.specs.Parts.{IsProcess, AreProcesses}
+use Rattle.scenario.proofs.Slots.{Keys}
 
-pub process_alike : (a b : ℕ) → same_process a b ≡ true → a ≡ b
-process_alike a b e = eqb-true a b e
-
-pub process_itself : (a : ℕ) → same_process a a ≡ true
-process_itself a = eq-eqb a a refl
+pub process_within : (n a : ℕ) → IsProcess n a → a - 1 < n
+process_within n a good = omega arith
 
 pub process_apart : (n a b : ℕ) → IsProcess n a → IsProcess n b → a - 1 ≡ b - 1 → a ≡ b
 process_apart n a b good also e = omega arith
+
+-- the process of a crash
+abbrev pub process_keys : ℕ → Keys ℕ
+process_keys n = record {
+  key = crash_process;
+  same = same_process;
+  alike = eqb-true;
+  itself = λ a. eq-eqb a a refl;
+  IsKey = IsProcess n;
+  count = n;
+  place = λ a. a - 1;
+  within = process_within n;
+  apart = process_apart n;
+}
 
 both_true : (p q : Bool) → (p && q) ≡ true → (p ≡ true) × (q ≡ true)
 both_true true true e = (refl, refl)
@@ -24,11 +36,7 @@ same_parts : (a b : ℕ × ℕ) → a.0 ≡ b.0 → a.1 ≡ b.1 → a ≡ b
 same_parts a b first second = ap (λ x. (x, a.1)) first ∙ ap (λ y. (b.0, y)) second
 
 pub pair_alike : (a b : ℕ × ℕ) → same_pair a b ≡ true → a ≡ b
-pair_alike a b e =
-    let tests = both_true (a.0 == b.0) (a.1 == b.1) e in
-    let first : a.0 ≡ b.0 = eqb-true a.0 b.0 tests.0 in
-    let second : a.1 ≡ b.1 = eqb-true a.1 b.1 tests.1 in
-    same_parts a b first second
+pair_alike a b e = let tests = both_true (a.0 == b.0) (a.1 == b.1) e in same_parts a b (eqb-true a.0 b.0 tests.0) (eqb-true a.1 b.1 tests.1)
 
 pub pair_itself : (a : ℕ × ℕ) → same_pair a a ≡ true
 pair_itself a = rw (eq-eqb a.0 a.0 refl, eq-eqb a.1 a.1 refl) refl
@@ -43,9 +51,21 @@ pair_apart n a b good also e =
     let second_row : pair_place n b / n ≡ b.0 - 1 = div-mul-add (b.0 - 1) n (b.1 - 1) (omega arith) in
     let rows : a.0 - 1 ≡ b.0 - 1 = sym first_row ∙ (ap (λ x. x / n) e ∙ second_row) in
     let same_row : (a.0 - 1) * n ≡ (b.0 - 1) * n = ap (λ x. x * n) rows in
-    let first : a.0 ≡ b.0 = omega arith in
-    let second : a.1 ≡ b.1 = omega arith in
-    same_parts a b first second
+    same_parts a b (omega arith) (omega arith)
 
 pub pair_within : (n : ℕ) (a : ℕ × ℕ) → AreProcesses n a → pair_place n a < n * n
 pair_within n a good = mul-add-lt (a.0 - 1) n (a.1 - 1) n (omega arith) (omega arith)
+
+-- the pair of a link, or of an outage
+abbrev pub pair_keys : ℕ → Keys (ℕ × ℕ)
+pair_keys n = record {
+  key = pair_of;
+  same = same_pair;
+  alike = pair_alike;
+  itself = pair_itself;
+  IsKey = AreProcesses n;
+  count = n * n;
+  place = pair_place n;
+  within = pair_within n;
+  apart = pair_apart n;
+}

@@ -11,7 +11,6 @@ pub mod Within
 pub mod Cuts
 pub mod Places
 pub mod BelowFacts
-pub mod PartFacts
 pub mod RangeFacts
 pub mod Reading
 pub mod Elements

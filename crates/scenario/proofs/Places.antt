@@ -1,9 +1,9 @@
 -- Lemmas on the first of some rules that applies.
-use Rattle.std.proofs.Common.{◌≡◌, ℕ, zero, suc, ◌<◌, ◌≤◌, ◌==◌, Option, Bool, true, false, refl, sym, ap, ◌∙◌, List, [], ◌∷◌, ◌++◌, arith, subst, Result, Ok, Err, IfErr, IsErrAnd}
+use Rattle.std.proofs.Common.{◌≡◌, ℕ, zero, suc, ◌<◌, ◌==◌, Option, Some, Bool, true, false, refl, sym, List, [], ◌∷◌, ◌++◌, arith, subst}
 use Rattle.std.proofs.lemmas.Bool.{eqb-true}
 use Rattle.toml.specs.Data.{Members}
-use Rattle.scenario.specs.Refusals.{Rule, rule_at, number_of, is_memory, NamesPair, IsFirst}
-use Rattle.scenario.specs.Groups.{Passes, Decided, Stops, StopsAt}
+use Rattle.scenario.specs.Refusals.{Rule, rule_at, number_of, GivenBy, NamesPair, IsFirst}
+use Rattle.scenario.specs.Groups.{Passes, Decided, Stops, StopsAt, StopsFirst}
 use Rattle.scenario.specs.declared.error.ScenarioError.{ScenarioError}
 
 pub passes_all : (rs : List Rule) (d : Option Members) → Passes rs d → (k : ℕ) → (rule_at rs k).applies d ≡ false
@@ -38,22 +38,11 @@ first_after (r ∷ xs) ys d e passes first =
     before r rs d place here rest (suc k) lt = rest k (omega arith)
 
 -- rules that come after don't matter
-widened_at : (xs ys : List Rule) (place : ℕ) (d : Option Members) → (rule_at xs place).applies d ≡ true → (k : ℕ) → k ≤ place → rule_at (xs ++ ys) k ≡ rule_at xs k
-widened_at [] ys place d applied k le = cc
-widened_at (r ∷ xs) ys place d applied zero le = refl
-widened_at (r ∷ xs) ys zero d applied (suc k) le = absurd (omega arith)
-widened_at (r ∷ xs) ys (suc place) d applied (suc k) le = widened_at xs ys place d applied k (omega arith)
-
-pub first_widened : (xs ys : List Rule) (d : Option Members) (e : ScenarioError) → IsFirst xs d e → IsFirst (xs ++ ys) d e
-first_widened xs ys d e first =
-    let here : rule_at (xs ++ ys) first.place ≡ rule_at xs first.place = widened_at xs ys first.place d first.applied first.place (omega arith) in
-    record {
-      place = first.place;
-      number = ap (λ r. r.number) here ∙ first.number;
-      applied = ap (λ r. r.applies d) here ∙ first.applied;
-      none_before = λ k lt. ap (λ r. r.applies d) (widened_at xs ys first.place d first.applied k (omega arith)) ∙ first.none_before k lt;
-      pair = first.pair;
-    }
+stops_widened : (n : ℕ) (xs ys : List Rule) (d : Option Members) → Stops n xs d → Stops n (xs ++ ys) d
+stops_widened n [] ys d stops = absurd stops
+stops_widened n (r ∷ xs) ys d stops =
+    elim (r.number == n) as (λ b. Decided b (r.applies d ≡ true) ((r.applies d ≡ false) × Stops n xs d) → Decided b (r.applies d ≡ true) ((r.applies d ≡ false) × Stops n (xs ++ ys) d))
+    [ true ↦ λ s. s | false ↦ λ s. (s.0, stops_widened n xs ys d s.1) ] stops
 
 pub first_of_stops : (rs : List Rule) (d : Option Members) (e : ScenarioError) → Stops (number_of e) rs d → NamesPair d e → IsFirst rs d e
 first_of_stops [] d e stops pair = absurd stops
@@ -65,23 +54,12 @@ first_of_stops (r ∷ rs) d e stops pair =
     ] in
     split (r.number == number_of e) refl stops
 
--- one rule applies, after some that don't
-pub first_at : (before : List Rule) (r : Rule) (after : List Rule) (d : Option Members) (e : ScenarioError) → Passes before d
-    → r.number ≡ number_of e → r.applies d ≡ true → NamesPair d e → IsFirst (before ++ (r ∷ after)) d e
-first_at before r after d e passes number applied pair = first_after before (r ∷ after) d e passes (first_here r after d e number applied pair)
-
--- the same, of a refusal that is one of these
-pub first_named : (before : List Rule) (r : Rule) (after : List Rule) (d : Option Members) (e is : ScenarioError) → Passes before d
-    → e ≡ is → r.number ≡ number_of is → r.applies d ≡ true → NamesPair d is → IsFirst (before ++ (r ∷ after)) d e
-first_named before r after d e is passes same number applied pair =
-    subst (λ x. IsFirst (before ++ (r ∷ after)) d x) (sym same) (first_at before r after d is passes number applied pair)
-
--- an error that `?` passes on
-pub carried : {A E : Type 0} (P : E → Type 0) (r : Result A E) (x : E) → IsErrAnd r (λ y. y ≡ x) → P x → IfErr r P
-carried P (Ok a) x e p = tt
-carried P (Err y) x e p = subst P (sym e) p
+-- a refusal for memory, or this one, whose test is that of the first rule that applies
+pub given : (rs : List Rule) (t : Members) (e named : ScenarioError) (test : Bool) → GivenBy named test e
+    → (test ≡ true → Stops (number_of named) rs (Some t) × NamesPair (Some t) named) → StopsAt rs (Some t) e
+given rs t e named test by stops = λ other. subst (λ x. Stops (number_of x) rs (Some t) × NamesPair (Some t) x) (sym (by other).0) (stops (by other).1)
 
 -- a group stops, after some rules and before others
-pub first_in : (before group after : List Rule) (d : Option Members) (e : ScenarioError) → Passes before d → StopsAt group d e → is_memory e ≡ false → IsFirst (before ++ (group ++ after)) d e
-first_in before group after d e passes stops other =
-    first_after before (group ++ after) d e passes (first_widened group after d e (let s = stops other in first_of_stops group d e s.0 s.1))
+pub first_in : (before group after : List Rule) (d : Option Members) (e : ScenarioError) → Passes before d → StopsAt group d e → StopsFirst (before ++ (group ++ after)) d e
+first_in before group after d e passes stops = λ other.
+    first_after before (group ++ after) d e passes (let s = stops other in first_of_stops (group ++ after) d e (stops_widened (number_of e) group after d s.0) s.1)

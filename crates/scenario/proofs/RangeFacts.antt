@@ -1,11 +1,11 @@
 -- The record of a table to which no rule applies is in its ranges.
-use Rattle.std.proofs.Common.{◌≡◌, ◌≢◌, ℕ, zero, suc, ◌+◌, ◌-◌, ◌<◌, ◌≤◌, ◌^◌, ◌==◌, ℤ, List, [], ◌∷◌, map, filter, find, length, get_or, Bool, true, false, not, ◌||◌, Option, Some, None, is_some, is_none, refl, ap, sym, ◌∙◌, arith, subst, codes, cond, IfSome}
+use Rattle.std.proofs.Common.{◌≡◌, ◌≢◌, ℕ, zero, suc, ◌-◌, ◌<◌, ◌≤◌, ◌^◌, ◌==◌, ℤ, List, [], ◌∷◌, map, filter, find, length, get_or, Bool, true, false, not, ◌&&◌, ◌||◌, Option, Some, None, is_some, is_none, refl, ap, sym, ◌∙◌, arith, subst, codes, cond, IfSome}
 use Rattle.std.specs.Option.{option_map, option_map_or, unwrap_or, ForSome}
-use Rattle.std.specs.List.{range_with_len, flat_map, list_any}
-use Rattle.std.specs.List.{slice_get}
-use Rattle.std.proofs.lemmas.Bool.{ltb-false, ne_eqb, eqb-true, eqb-false}
-use Rattle.std.proofs.lemmas.List.{length-map}
-use Rattle.std.proofs.lemmas.List.FromFn.{length-map-range_with_len}
+use Rattle.std.specs.List.{range_with_len, flat_map, list_any, slice_get}
+use Rattle.std.proofs.lemmas.Bool.{ltb-false, ne_eqb, eqb-true}
+use Rattle.std.proofs.lemmas.List.{length-map, get_or_past}
+use Rattle.std.proofs.lemmas.Option.{slice_get-get_or, slice_get_past}
+use Rattle.std.proofs.lemmas.List.FromFn.{length-range_with_len, get_or-range_with_len, length-map-range_with_len}
 use Rattle.std.proofs.lemmas.List.Folds.{list_any-append}
 use Rattle.toml.specs.Data.{Members}
 use Rattle.process_api.specs.declared.numbers.DetectorNumbers.TheVariants as numbers
@@ -20,7 +20,7 @@ use Rattle.scenario.specs.Groups.{Passes}
 use Rattle.scenario.specs.Parts.{AreProcesses}
 use Rattle.scenario_record.specs.declared.algorithm.AlgorithmKind.{AlgorithmKind}
 use Rattle.scenario_record.specs.declared.algorithm.AlgorithmKind.TheVariants as kind
-use Rattle.scenario.proofs.Within.{neither, within, within_of}
+use Rattle.scenario.proofs.Within.{neither, within, within_of, first_inside}
 use Rattle.scenario.proofs.Slots.{some_found}
 use Rattle.scenario.proofs.Taking.{link_at, links_length}
 use Rattle.scenario.proofs.Cuts.{outages_in_range}
@@ -37,14 +37,10 @@ for_some (Some y) P p = λ x e. let same : y ≡ x = cc in subst P same p
 timeout_in_range : (d : Members) → is_bad_timeout d ≡ false → AreTimeoutInRange (timeout_of d)
 unfolding is_bad_timeout
 timeout_in_range d e =
-    let a = neither _ _ e in
-    let b = neither _ _ a.1 in
-    let c = neither _ _ b.1 in
-    let g = neither _ _ c.1 in
-    let period = within 1 1000000 (codes "period") 0 d a.0 in
-    let check = within 1 1000000 (codes "check") 0 d b.0 in
-    let timeout = within 1 1000000 (codes "timeout") 0 d c.0 in
-    let grow = within 1 1000000 (codes "grow") 1 d g.0 in
+    let period = first_inside _ _ _ _ _ _ e in
+    let check = first_inside _ _ _ _ _ _ period.2 in
+    let timeout = first_inside _ _ _ _ _ _ check.2 in
+    let grow = first_inside _ _ _ _ _ _ timeout.2 in
     record {
       period_low = period.0;
       period_high = period.1;
@@ -59,10 +55,8 @@ timeout_in_range d e =
 freshness_in_range : (d : Members) → is_bad_freshness d ≡ false → AreFreshnessInRange (freshness_of d)
 unfolding is_bad_freshness
 freshness_in_range d e =
-    let a = neither _ _ e in
-    let b = neither _ _ a.1 in
-    let eta = within 1 1000000 (codes "eta") 0 d a.0 in
-    let delta = within 1 1000000 (codes "delta") 0 d b.0 in
+    let eta = first_inside _ _ _ _ _ _ e in
+    let delta = first_inside _ _ _ _ _ _ eta.2 in
     record { eta_low = eta.0; eta_high = eta.1; delta_low = delta.0; delta_high = delta.1 }
 
 detector_in_range : (d : Members) → is_bad_detector d ≡ false → AreInRange (detector_of d)
@@ -87,28 +81,16 @@ proposals_high [] i e = tt
 proposals_high (z ∷ zs) zero e = proposal_high z (neither _ _ e).0
 proposals_high (z ∷ zs) (suc i) e = proposals_high zs i (neither _ _ e).1
 
-some_inside : (xs : List ℕ) (i : ℕ) → i < length xs → is_some (slice_get xs i) ≡ true
-some_inside [] i lt = absurd (omega arith)
-some_inside (x ∷ xs) zero lt = refl
-some_inside (x ∷ xs) (suc i) lt = some_inside xs i (omega arith)
-
-none_past : (xs : List ℕ) (i : ℕ) → length xs ≤ i → slice_get xs i ≡ None
-none_past [] i le = refl
-none_past (x ∷ xs) zero le = absurd (omega arith)
-none_past (x ∷ xs) (suc i) le = none_past xs i (omega arith)
-
 -- ---- the links and the crashes
 
 link_in_range : (l : Members) → is_bad_link l ≡ false → IsLink (delays_of l)
 unfolding is_bad_link
 link_in_range l e =
-    let a = neither _ _ e in
-    let b = neither _ _ a.1 in
-    let c = neither _ _ b.1 in
-    let min = within 1 1000000 (codes "min") 0 l a.0 in
-    let max = within 1 1000000 (codes "max") 0 l b.0 in
-    let loss = within 0 1000 (codes "loss") 0 l c.1 in
-    record { min_low = min.0; min_high = ltb-false _ _ c.0; max_high = max.1; loss_high = loss.1 }
+    let min = first_inside _ _ _ _ _ _ e in
+    let max = first_inside _ _ _ _ _ _ min.2 in
+    let rest = neither _ _ max.2 in
+    let loss = within _ _ _ _ _ rest.1 in
+    record { min_low = min.0; min_high = ltb-false _ _ rest.0; max_high = max.1; loss_high = loss.1 }
 
 good_pair : (n : ℕ) (l : Members) → is_bad_pair n l ≡ false → is_bad_link l ≡ false
 unfolding is_bad_pair
@@ -135,14 +117,14 @@ pair_in_range n common tables pair good clean =
     chosen_link common (find (λ l. same_pair (pair_of l) pair) tables) good
     (found_good (λ l. same_pair (pair_of l) pair) (is_bad_pair n) (λ l. IsLink (delays_of l)) (λ l e. link_in_range l (good_pair n l e)) tables (neither _ _ clean).0)
 
-chosen_tick : (o : Option Members) → IfSome o (λ c. crash_tick c ≤ 10000000) → IfSome (option_map crash_tick o) (λ at. at ≤ 10000000)
-chosen_tick None found = tt
-chosen_tick (Some c) found = found
-
 crash_in_range : (n : ℕ) (tables : List Members) (p : ℕ) → are_bad_crashes n tables ≡ false → IfSome (crash_among tables p) (λ at. at ≤ 10000000)
 unfolding crash_among
 crash_in_range n tables p clean =
-    chosen_tick (find (λ c. crash_process c == p) tables) (found_good (λ c. crash_process c == p) (is_bad_crash n) (λ c. crash_tick c ≤ 10000000) (good_crash n) tables (neither _ _ clean).0)
+    its (find (λ c. crash_process c == p) tables) (found_good (λ c. crash_process c == p) (is_bad_crash n) (λ c. crash_tick c ≤ 10000000) (good_crash n) tables (neither _ _ clean).0)
+  where
+    its : (o : Option Members) → IfSome o (λ c. crash_tick c ≤ 10000000) → IfSome (option_map crash_tick o) (λ at. at ≤ 10000000)
+    its None found = tt
+    its (Some c) found = found
 
 each_in_range : (f : ℕ → Option ℕ) → ((p : ℕ) → IfSome (f p) (λ at. at ≤ 10000000)) → (xs : List ℕ) (i : ℕ) → IfSome (get_or (map f xs) i None) (λ at. at ≤ 10000000)
 each_in_range f good [] i = tt
@@ -153,62 +135,43 @@ crashes_in_range : (n : ℕ) (tables : List Members) (i : ℕ) → are_bad_crash
 unfolding crashes_among
 crashes_in_range n tables i clean = each_in_range (crash_among tables) (λ p. crash_in_range n tables p clean) (range_with_len 1 n) i
 
-no_tick_past : (ticks : List (Option ℕ)) (i : ℕ) → length ticks ≤ i → get_or ticks i None ≡ None
-no_tick_past [] i le = refl
-no_tick_past (x ∷ xs) zero le = absurd (omega arith)
-no_tick_past (x ∷ xs) (suc i) le = no_tick_past xs i (omega arith)
-
 no_crash_above : (n : ℕ) (tables : List Members) (p : ℕ) → n < p → get_or (crashes_among tables n) (p - 1) None ≡ None
 unfolding crashes_among
-no_crash_above n tables p above =
-    let full : length (map (crash_among tables) (range_with_len 1 n)) ≡ n = length-map-range_with_len (crash_among tables) 1 n in
-    no_tick_past (map (crash_among tables) (range_with_len 1 n)) (p - 1) (omega arith)
+no_crash_above n tables p above = get_or_past (map (crash_among tables) (range_with_len 1 n)) (p - 1) None (simp length-map-range_with_len (omega arith))
 
 -- ---- pairs
 
-none_in_rows : (P : ℕ × ℕ → Bool) (g : ℕ → List (ℕ × ℕ)) (a m i : ℕ) → list_any P (flat_map g (range_with_len a m)) ≡ false → a ≤ i → i < a + m → list_any P (g i) ≡ false
-none_in_rows P g a zero i e low high = absurd (omega arith)
-none_in_rows P g a (suc m) i e low high =
-    let both = neither (list_any P (g a)) (list_any P (flat_map g (range_with_len (a + 1) m))) (sym (list_any-append P (g a) (flat_map g (range_with_len (a + 1) m))) ∙ e) in
-    let split : (b : Bool) → (a == i) ≡ b → list_any P (g i) ≡ false =
-    λ b. elim b as (λ v. (a == i) ≡ v → list_any P (g i) ≡ false) [
-      | true ↦ λ s. ap (λ j. list_any P (g j)) (sym (eqb-true a i s)) ∙ both.0
-      | false ↦ λ s. none_in_rows P g (a + 1) m i both.1 (let other : a ≢ i = eqb-false a i s in omega arith) (omega arith)
-    ] in
-    split (a == i) refl
-
-none_in_row : (P : ℕ × ℕ → Bool) (h : ℕ → ℕ × ℕ) (q : ℕ → Bool) (a m i : ℕ) → list_any P (map h (filter q (range_with_len a m))) ≡ false → a ≤ i → i < a + m → q i ≡ true → P (h i) ≡ false
-none_in_row P h q a zero i e low high here = absurd (omega arith)
-none_in_row P h q a (suc m) i e low high here =
-    let split : (b : Bool) → (a == i) ≡ b → P (h i) ≡ false =
-    λ b. elim b as (λ v. (a == i) ≡ v → P (h i) ≡ false) [
-      | true ↦ λ s. at_first P h q a (range_with_len (a + 1) m) i e (eqb-true a i s) here
-      | false ↦ λ s. none_in_row P h q (a + 1) m i (at_rest P h q a (range_with_len (a + 1) m) (q a) refl e) (let other : a ≢ i = eqb-false a i s in omega arith) (omega arith) here
-    ] in
-    split (a == i) refl
+none_in_range : (p : ℕ → Bool) (n i : ℕ) → list_any p (range_with_len 1 n) ≡ false → 1 ≤ i → i ≤ n → p i ≡ false
+none_in_range p n i e low high =
+    let its : get_or (range_with_len 1 n) (i - 1) 0 ≡ i = get_or-range_with_len 1 n (i - 1) 0 (omega arith) ∙ omega arith in
+    ap p (sym its) ∙ none_at (range_with_len 1 n) (i - 1) e (simp length-range_with_len (omega arith))
   where
-    at_first : (P : ℕ × ℕ → Bool) (h : ℕ → ℕ × ℕ) (q : ℕ → Bool) (a : ℕ) (xs : List ℕ) (i : ℕ) → list_any P (map h (filter q (a ∷ xs))) ≡ false → a ≡ i → q i ≡ true → P (h i) ≡ false
-    at_first P h q a xs i e same here =
-        let first : q a ≡ true = ap q same ∙ here in
-        let whole : (P (h a) || list_any P (map h (filter q xs))) ≡ false = rw first at e in
-        ap (λ j. P (h j)) (sym same) ∙ (neither (P (h a)) (list_any P (map h (filter q xs))) whole).0
+    none_at : (xs : List ℕ) (k : ℕ) → list_any p xs ≡ false → k < length xs → p (get_or xs k 0) ≡ false
+    none_at [] k e lt = absurd (omega arith)
+    none_at (x ∷ xs) zero e lt = (neither _ _ e).0
+    none_at (x ∷ xs) (suc k) e lt = none_at xs k (neither _ _ e).1 (omega arith)
 
-    at_rest : (P : ℕ × ℕ → Bool) (h : ℕ → ℕ × ℕ) (q : ℕ → Bool) (a : ℕ) (xs : List ℕ) (b : Bool) → q a ≡ b → list_any P (map h (filter q (a ∷ xs))) ≡ false → list_any P (map h (filter q xs)) ≡ false
-    at_rest P h q a xs true s e =
-        let whole : (P (h a) || list_any P (map h (filter q xs))) ≡ false = rw s at e in
-        (neither (P (h a)) (list_any P (map h (filter q xs))) whole).1
-    at_rest P h q a xs false s e = rw s at e
+any_flat : {X : Type 0} (P : X → Bool) (g : ℕ → List X) (xs : List ℕ) → list_any P (flat_map g xs) ≡ list_any (λ x. list_any P (g x)) xs
+any_flat P g [] = refl
+any_flat P g (x ∷ xs) = list_any-append P (g x) (flat_map g xs) ∙ ap (λ b. list_any P (g x) || b) (any_flat P g xs)
+
+any_kept : {X : Type 0} (P : X → Bool) (h : ℕ → X) (q : ℕ → Bool) (xs : List ℕ) → list_any P (map h (filter q xs)) ≡ list_any (λ x. q x && P (h x)) xs
+any_kept P h q [] = refl
+any_kept P h q (x ∷ xs) = elim (q x) as (λ b. list_any P (map h (cond b (x ∷ filter q xs) (filter q xs))) ≡ ((b && P (h x)) || list_any (λ y. q y && P (h y)) xs))
+    [ true ↦ ap (λ b. P (h x) || b) (any_kept P h q xs) | false ↦ any_kept P h q xs ]
 
 -- where no pair is below the lookahead, a pair isn't
-pub not_below : (s : Record) (from to : ℕ) → is_some (pair_below s) ≡ false → 1 ≤ from → from ≤ s.processes → 1 ≤ to → to ≤ s.processes → from ≢ to → s.lookahead ≤ (link s from to).min
+not_below : (s : Record) (from to : ℕ) → is_some (pair_below s) ≡ false → 1 ≤ from → from ≤ s.processes → 1 ≤ to → to ≤ s.processes → from ≢ to → s.lookahead ≤ (link s from to).min
 unfolding pair_below
 not_below s from to e from_low from_high to_low to_high differ =
     let P : ℕ × ℕ → Bool = is_below (λ pair. link s pair.0 pair.1) s.lookahead in
-    let none : list_any (is_below (λ pair. link s pair.0 pair.1) s.lookahead) (pairs s.processes) ≡ false = sym (some_found (is_below (λ pair. link s pair.0 pair.1) s.lookahead) (pairs s.processes)) ∙ e in
-    let row : list_any (is_below (λ pair. link s pair.0 pair.1) s.lookahead) (pairs_from s.processes from) ≡ false =
-    none_in_rows (is_below (λ pair. link s pair.0 pair.1) s.lookahead) (pairs_from s.processes) 1 s.processes from none from_low (omega arith) in
-    let other : not (to == from) ≡ true = ap not (ne_eqb to from (λ f. differ (sym f))) in
-    ltb-false _ _ (none_in_row (is_below (λ pair. link s pair.0 pair.1) s.lookahead) (λ x. (from, x)) (λ x. not (x == from)) 1 s.processes to row to_low (omega arith) other)
+    let none : list_any P (pairs s.processes) ≡ false = sym (some_found P (pairs s.processes)) ∙ e in
+    let row : list_any P (pairs_from s.processes from) ≡ false =
+    none_in_range (λ x. list_any P (pairs_from s.processes x)) s.processes from (sym (any_flat P (pairs_from s.processes) (range_with_len 1 s.processes)) ∙ none) from_low from_high in
+    let cell : (not (to == from) && P (from, to)) ≡ false =
+    none_in_range (λ x. not (x == from) && P (from, x)) s.processes to (sym (any_kept P (λ x. (from, x)) (λ x. not (x == from)) (range_with_len 1 s.processes)) ∙ row) to_low to_high in
+    let other : (to == from) ≡ false = ne_eqb to from (λ f. differ (sym f)) in
+    ltb-false _ _ (rw other at cell)
 
 -- ---- the algorithm
 
@@ -230,36 +193,32 @@ not_other n b zs e =
     is_true true e = refl
     is_true false e = cc
 
--- with the proposals accepted: they are in their range, and there is one of each process unless there is no algorithm
-accepted_proposals : (k : AlgorithmKind) (n : ℕ) (t : Members) → are_bad_proposals (Some k) n (has_key (codes "proposals") t) (integers_at (codes "proposals") t) ≡ false
-    → (i : ℕ) → IfSome (slice_get (map natural (integers_at (codes "proposals") t)) i) (λ value. value < 2 ^ 32)
-accepted_proposals kind.Idle n t e i = rw (no_key (codes "proposals") t e) tt
-accepted_proposals kind.Strong n t e i = proposals_high (integers_at (codes "proposals") t) i (not_other n (has_key (codes "proposals") t) (integers_at (codes "proposals") t) e).1
-accepted_proposals kind.EventuallyStrong n t e i = proposals_high (integers_at (codes "proposals") t) i (not_other n (has_key (codes "proposals") t) (integers_at (codes "proposals") t) e).1
+module _ (n : ℕ) (t : Members) where
+  abbrev pub values : List ℕ
+  values = map natural (integers_at (codes "proposals") t)
 
-one_of_each : (n : ℕ) (t : Members) (i : ℕ) → are_other_than n (has_key (codes "proposals") t) (integers_at (codes "proposals") t) ≡ false → i < n
-    → is_some (slice_get (map natural (integers_at (codes "proposals") t)) i) ≡ true
-one_of_each n t i e lt =
-    let count = (not_other n (has_key (codes "proposals") t) (integers_at (codes "proposals") t) e).0 in
-    some_inside (map natural (integers_at (codes "proposals") t)) i (simp length-map (rw count lt))
+  -- they are in their range, and there is one of each process unless there is no algorithm
+  pub record AreProposals (k : AlgorithmKind) : Type 0 where
+    pub high : (i : ℕ) → IfSome (slice_get values i) (λ value. value < 2 ^ 32)
+    pub each : (i : ℕ) → i < n → is_some (slice_get values i) ≡ not (is_idle k)
+    pub above : (i : ℕ) → n ≤ i → slice_get values i ≡ None
 
-proposed_each : (k : AlgorithmKind) (n : ℕ) (t : Members) → are_bad_proposals (Some k) n (has_key (codes "proposals") t) (integers_at (codes "proposals") t) ≡ false
-    → (i : ℕ) → i < n → is_some (slice_get (map natural (integers_at (codes "proposals") t)) i) ≡ not (is_idle k)
-proposed_each kind.Idle n t e i lt = rw (no_key (codes "proposals") t e) refl
-proposed_each kind.Strong n t e i lt = one_of_each n t i e lt
-proposed_each kind.EventuallyStrong n t e i lt = one_of_each n t i e lt
+  one_of_each : (k : AlgorithmKind) → is_idle k ≡ false → are_other_than n (has_key (codes "proposals") t) (integers_at (codes "proposals") t) ≡ false → AreProposals k
+  one_of_each k other e =
+      let good = not_other n (has_key (codes "proposals") t) (integers_at (codes "proposals") t) e in
+      let count : length values ≡ n = length-map (integers_at (codes "proposals") t) natural ∙ good.0 in
+      record {
+        high = λ i. proposals_high (integers_at (codes "proposals") t) i good.1;
+        each = λ i lt. ap is_some (slice_get-get_or values i 0 (omega arith)) ∙ ap not (sym other);
+        above = λ i le. slice_get_past values i (omega arith);
+      }
 
-none_of_more : (n : ℕ) (t : Members) (i : ℕ) → are_other_than n (has_key (codes "proposals") t) (integers_at (codes "proposals") t) ≡ false → n ≤ i
-    → slice_get (map natural (integers_at (codes "proposals") t)) i ≡ None
-none_of_more n t i e le =
-    let count = (not_other n (has_key (codes "proposals") t) (integers_at (codes "proposals") t) e).0 in
-    none_past (map natural (integers_at (codes "proposals") t)) i (simp length-map (rw count le))
-
-none_proposed : (k : AlgorithmKind) (n : ℕ) (t : Members) → are_bad_proposals (Some k) n (has_key (codes "proposals") t) (integers_at (codes "proposals") t) ≡ false
-    → (i : ℕ) → n ≤ i → slice_get (map natural (integers_at (codes "proposals") t)) i ≡ None
-none_proposed kind.Idle n t e i le = rw (no_key (codes "proposals") t e) refl
-none_proposed kind.Strong n t e i le = none_of_more n t i e le
-none_proposed kind.EventuallyStrong n t e i le = none_of_more n t i e le
+  accepted_proposals : (k : AlgorithmKind) → are_bad_proposals (Some k) n (has_key (codes "proposals") t) (integers_at (codes "proposals") t) ≡ false → AreProposals k
+  accepted_proposals kind.Idle e =
+      let none : values ≡ [] = ap (map natural) (no_key (codes "proposals") t e) in
+      record { high = λ i. rw none tt; each = λ i lt. rw none refl; above = λ i le. rw none refl }
+  accepted_proposals kind.Strong e = one_of_each kind.Strong refl e
+  accepted_proposals kind.EventuallyStrong e = one_of_each kind.EventuallyStrong refl e
 
 -- ---- all of it
 
@@ -278,8 +237,8 @@ in_range t passes seed =
     let lookahead = within 1 1000000 (codes "lookahead") 0 t numbers.1.1.1.0 in
     let limit = within 1 100000000 (codes "limit") 1000000 t numbers.1.1.1.1.0 in
     let algorithm : algorithm_in t ≡ Some (unwrap_or (algorithm_in t) kind.Idle) = algorithm_is t parts.0 in
-    let proposals : are_bad_proposals (Some (unwrap_or (algorithm_in t) kind.Idle)) (processes_of t) (has_key (codes "proposals") t) (integers_at (codes "proposals") t) ≡ false =
-    ap (λ a. are_bad_proposals a (processes_of t) (has_key (codes "proposals") t) (integers_at (codes "proposals") t)) (sym algorithm) ∙ parts.1.0 in
+    let proposals : AreProposals n t (unwrap_or (algorithm_in t) kind.Idle) =
+    accepted_proposals n t (unwrap_or (algorithm_in t) kind.Idle) (ap (λ a. are_bad_proposals a n (has_key (codes "proposals") t) (integers_at (codes "proposals") t)) (sym algorithm) ∙ parts.1.0) in
     let links = neither (is_bad_link (table_or_empty (codes "link") t)) (are_bad_pairs (processes_of t) (tables_at (codes "links") t)) parts.1.1.1.1.0 in
     record {
       processes_low = processes.0;
@@ -293,10 +252,10 @@ in_range t passes seed =
       seed_high = seed;
       numbers = detector_in_range (table_or_empty (codes "detector") t) parts.1.1.0;
       share = for_some (option_map share_of (table_at (codes "share") t)) (λ period. (1 ≤ period) × (period ≤ 1000000)) (share_in_range (table_at (codes "share") t) parts.1.1.1.0);
-      proposals = λ p. for_some (proposal (record_of t) p) (λ value. value < 2 ^ 32) (accepted_proposals (unwrap_or (algorithm_in t) kind.Idle) (processes_of t) t proposals (p - 1));
-      proposed = λ p low high. proposed_each (unwrap_or (algorithm_in t) kind.Idle) (processes_of t) t proposals (p - 1) (omega arith);
+      proposals = λ p. for_some (proposal (record_of t) p) (λ value. value < 2 ^ 32) (proposals.high (p - 1));
+      proposed = λ p low high. proposals.each (p - 1) (omega arith);
       crashes = λ p. for_some (crash (record_of t) p) (λ at. at ≤ 10000000) (crashes_in_range (processes_of t) (tables_at (codes "crash") t) (p - 1) parts.1.1.1.1.1.1.0);
-      proposed_above = λ p above. none_proposed (unwrap_or (algorithm_in t) kind.Idle) (processes_of t) t proposals (p - 1) (omega arith);
+      proposed_above = λ p above. proposals.above (p - 1) (omega arith);
       crashed_above = λ p above. no_crash_above (processes_of t) (tables_at (codes "crash") t) p above;
       linked = links_length (delays_of (table_or_empty (codes "link") t)) (tables_at (codes "links") t) (processes_of t);
       links = λ from to from_low from_high to_low to_high.

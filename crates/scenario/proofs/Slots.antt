@@ -1,82 +1,119 @@
 -- Tables put in places by their keys, and lists of tables of which two have the same key.
-use Rattle.std.proofs.Common.{◌≡◌, ◌≢◌, ℕ, ◌+◌, ◌<◌, List, [], ◌∷◌, ◌++◌, map, length, take, drop, set, get_or, Bool, true, false, cond, ◌||◌, Option, Some, None, find, is_some, refl, ap, sym, ◌∙◌}
-use Rattle.std.specs.Option.{option_map, option_or}
-use Rattle.std.specs.List.{list_any}
-use Rattle.std.proofs.lemmas.List.{take_more, map-append, take-append-drop, length-map, get_or-map, get_or-set_same, get_or-set_other, get_or_default}
-use Rattle.std.proofs.lemmas.List.Folds.{list_any-append, list_any_at, find-append}
+use Rattle.std.proofs.Common.{◌≡◌, ◌≢◌, ℕ, ◌+◌, ◌<◌, List, [], ◌∷◌, ◌++◌, length, take, drop, set, get_or, replicate, Bool, true, false, cond, ◌||◌, Option, Some, None, find, is_some, refl, ap, sym, ◌∙◌, subst}
+use Rattle.std.specs.Option.{option_map}
+use Rattle.std.specs.List.{filter, list_any}
+use Rattle.std.proofs.lemmas.List.{take_more, map-append, append-nil, take-append-drop, length-map, length-set, length-replicate, get_or-map, get_or-set_same, get_or-set_other, get_or-replicate, get_or_default}
+use Rattle.std.proofs.lemmas.List.Elements.{filter-append}
+use Rattle.std.proofs.lemmas.List.Folds.{list_any-append, list_any_at}
 use Rattle.toml.specs.Data.{Members}
+use Rattle.toml.specs.View.{table_view}
+use Rattle.scenario.specs.Parts.{tables_in}
 use Rattle.scenario.specs.Rules.{has_repeat}
+use Rattle.scenario.proofs.FieldFacts.{some_of_map}
+use Rattle.scenario.proofs.Elements.{Lent, IsAt}
+
+-- ---- tables of an array, one after the other
+
+pub one_more : (tables : List Lent) (i : ℕ) (m : Lent) → IsAt tables i m → tables_in (take (i + 1) tables) ≡ tables_in (take i tables) ++ table_view m.now ∷ []
+one_more tables i m spot =
+    ap tables_in (take_more tables i m spot.low)
+    ∙ (map-append (λ t. table_view t.now) (take i tables) (get_or tables i m ∷ []) ∙ ap (λ t. tables_in (take i tables) ++ table_view t.now ∷ []) (sym spot.is))
+
+-- those before it, it, and those after it
+cut : (tables : List Lent) (i : ℕ) (m : Lent) → IsAt tables i m → tables_in tables ≡ (tables_in (take i tables) ++ table_view m.now ∷ []) ++ tables_in (drop (i + 1) tables)
+cut tables i m spot =
+    ap tables_in (sym (take-append-drop (i + 1) tables))
+    ∙ (map-append (λ t. table_view t.now) (take (i + 1) tables) (drop (i + 1) tables) ∙ ap (λ ts. ts ++ tables_in (drop (i + 1) tables)) (one_more tables i m spot))
+
+pub bad_one : (bad : Members → Bool) (tables : List Lent) (i : ℕ) (m : Lent) → IsAt tables i m → bad (table_view m.now) ≡ true → list_any bad (tables_in tables) ≡ true
+bad_one bad tables i m spot e =
+    let its : get_or (tables_in tables) i (table_view m.now) ≡ table_view m.now = get_or-map (λ t. table_view t.now) tables i m (table_view m.now) spot.low ∙ ap (λ t. table_view t.now) (sym spot.is) in
+    list_any_at bad (tables_in tables) i (table_view m.now) (simp length-map spot.low) (ap bad its ∙ e)
+
+pub none_more : (bad : Members → Bool) (tables : List Lent) (i : ℕ) (m : Lent) → IsAt tables i m → list_any bad (tables_in (take i tables)) ≡ false → bad (table_view m.now) ≡ false
+    → list_any bad (tables_in (take (i + 1) tables)) ≡ false
+none_more bad tables i m spot none good = rw (one_more tables i m spot, list_any-append, none, good) refl
+
+-- ---- keys
+
+-- each key has a place of its own
+pub record Keys (K : Type 0) : Type 1 where
+  pub key : Members → K
+  pub same : K → K → Bool
+  pub alike : (a b : K) → same a b ≡ true → a ≡ b
+  pub itself : (a : K) → same a a ≡ true
+  pub IsKey : K → Type 0
+  pub count : ℕ
+  pub place : K → ℕ
+  pub within : (a : K) → IsKey a → place a < count
+  pub apart : (a b : K) → IsKey a → IsKey b → place a ≡ place b → a ≡ b
+
+-- the tables of a key
+abbrev pub of : {K : Type 0} → Keys K → K → List Members → List Members
+of P k ts = filter (λ t. P.same (P.key t) k) ts
+
+module _ {K X : Type 0} (P : Keys K) (whole : List Members → X) where
+  -- each key's place holds what its tables are together
+  pub record AreHeld (slots : List X) (done : List Members) : Type 0 where
+    pub full : length slots ≡ P.count
+    pub held : (k : K) → P.IsKey k → get_or slots (P.place k) (whole []) ≡ whole (of P k done)
+
+  pub none_held : (slots : List X) → slots ≡ replicate P.count (whole []) → AreHeld slots []
+  none_held slots none = record {
+    full = ap length none ∙ length-replicate P.count (whole []);
+    held = λ k good. ap (λ s. get_or s (P.place k) (whole [])) none ∙ get_or-replicate P.count (P.place k) (whole []) (whole []) (P.within k good);
+  }
+
+  of_more : (done : List Members) (t : Members) (k : K) (b : Bool) → P.same (P.key t) k ≡ b → of P k (done ++ t ∷ []) ≡ of P k done ++ cond b (t ∷ []) []
+  of_more done t k b e = filter-append (λ u. P.same (P.key u) k) done (t ∷ []) ∙ ap (λ c. of P k done ++ cond c (t ∷ []) []) e
+
+  -- one more table is put at its key's place
+  pub put : (slots : List X) (done : List Members) (t : Members) (x : X) → AreHeld slots done → P.IsKey (P.key t) → x ≡ whole (of P (P.key t) done ++ t ∷ [])
+      → AreHeld (set slots (P.place (P.key t)) x) (done ++ t ∷ [])
+  put slots done t x hold good is = record { full = simp length-set hold.full; held = λ k its. by k its (P.same (P.key t) k) refl }
+    where
+      by : (k : K) → P.IsKey k → (b : Bool) → P.same (P.key t) k ≡ b → get_or (set slots (P.place (P.key t)) x) (P.place k) (whole []) ≡ whole (of P k (done ++ t ∷ []))
+      by k its true e =
+          let here : P.key t ≡ k = P.alike (P.key t) k e in
+          ap (λ q. get_or (set slots (P.place (P.key t)) x) (P.place q) (whole [])) (sym here)
+          ∙ (get_or-set_same slots (P.place (P.key t)) x (whole []) (subst (λ m. P.place (P.key t) < m) (sym hold.full) (P.within (P.key t) good))
+          ∙ (is ∙ (ap (λ q. whole (of P q done ++ t ∷ [])) here ∙ ap whole (sym (of_more done t k true e)))))
+      by k its false e =
+          let differ : P.place k ≢ P.place (P.key t) = λ q. let both : true ≡ false = sym (P.itself (P.key t)) ∙ (ap (P.same (P.key t)) (sym (P.apart k (P.key t) its good q)) ∙ e) in cc in
+          get_or-set_other slots (P.place (P.key t)) (P.place k) x (whole []) differ
+          ∙ (hold.held k its ∙ ap whole (sym (of_more done t k false e ∙ append-nil (of P k done))))
+
+-- ---- one table of each key
+
+abbrev pub first : {X : Type 0} → List X → Option X
+first [] = None
+first (x ∷ xs) = Some x
+
+-- what the one table of a key is
+abbrev pub once : {V : Type 0} → (Members → V) → List Members → Option V
+once value ts = option_map value (first ts)
+
+pub find_first : {X : Type 0} (p : X → Bool) (xs : List X) → find p xs ≡ first (filter p xs)
+find_first p [] = refl
+find_first p (x ∷ xs) = elim (p x) as (λ b. cond b (Some x) (find p xs) ≡ first (cond b (x ∷ filter p xs) (filter p xs))) [ true ↦ refl | false ↦ find_first p xs ]
+
+any_first : {X : Type 0} (p : X → Bool) (xs : List X) → is_some (first (filter p xs)) ≡ list_any p xs
+any_first p [] = refl
+any_first p (x ∷ xs) = elim (p x) as (λ b. is_some (first (cond b (x ∷ filter p xs) (filter p xs))) ≡ (b || list_any p xs)) [ true ↦ refl | false ↦ any_first p xs ]
+
+-- a search finds something where some element passes
+pub some_found : {X : Type 0} (p : X → Bool) (xs : List X) → is_some (find p xs) ≡ list_any p xs
+some_found p xs = ap is_some (find_first p xs) ∙ any_first p xs
+
+none_kept : {X : Type 0} (p : X → Bool) (xs : List X) → list_any p xs ≡ false → filter p xs ≡ []
+none_kept p [] e = refl
+none_kept p (x ∷ xs) e = elim (p x) as (λ b. (b || list_any p xs) ≡ false → cond b (x ∷ filter p xs) (filter p xs) ≡ []) [ true ↦ λ f. cc | false ↦ none_kept p xs ] e
+
+-- ---- refused lists
 
 or_true : (a : Bool) → (a || true) ≡ true
 or_true true = refl
 or_true false = refl
-
--- a search finds something where some element passes
-pub some_found : {X : Type 0} (p : X → Bool) (xs : List X) → is_some (find p xs) ≡ list_any p xs
-some_found p [] = refl
-some_found p (x ∷ xs) = elim (p x) as (λ b. is_some (cond b (Some x) (find p xs)) ≡ (b || list_any p xs)) [ true ↦ refl | false ↦ some_found p xs ]
-
-map_some : {X Y : Type 0} (f : X → Y) (o : Option X) → is_some (option_map f o) ≡ is_some o
-map_some f None = refl
-map_some f (Some x) = refl
-
-none_of_map : {X Y : Type 0} (f : X → Y) (o : Option X) → is_some (option_map f o) ≡ false → o ≡ None
-none_of_map f None e = refl
-none_of_map f (Some x) e = cc
-
-or_none : {X : Type 0} (o : Option X) → option_or o None ≡ o
-or_none None = refl
-or_none (Some x) = refl
-
-none_of_none : {X : Type 0} (o : Option X) → o ≡ None → is_some o ≡ false
-none_of_none o e = rw e refl
-
-module _ {K V : Type 0} (same : K → K → Bool) (IsKey : K → Type 0) (place : K → ℕ) (key : Members → K) (value : Members → V) where
-  -- the places hold what was found for each key
-  abbrev pub Hold : List (Option V) → List Members → Type 0
-  Hold slots done = (k : K) → IsKey k → get_or slots (place k) None ≡ option_map value (find (λ t. same (key t) k) done)
-
-  -- whether a key's place is taken
-  pub taken : (slots : List (Option V)) (done : List Members) (t : Members) → Hold slots done → IsKey (key t)
-      → is_some (get_or slots (place (key t)) None) ≡ list_any (λ u. same (key u) (key t)) done
-  taken slots done t held good =
-      ap is_some (held (key t) good) ∙ (map_some value (find (λ u. same (key u) (key t)) done) ∙ some_found (λ u. same (key u) (key t)) done)
-
-  found_more : (done : List Members) (t : Members) (k : K) (b : Bool) → b ≡ same (key t) k
-      → find (λ u. same (key u) k) (done ++ t ∷ []) ≡ option_or (find (λ u. same (key u) k) done) (cond b (Some t) None)
-  found_more done t k b e = find-append (λ u. same (key u) k) done (t ∷ []) ∙ rw e refl
-
-  module _ (alike : (a b : K) → same a b ≡ true → a ≡ b) (itself : (a : K) → same a a ≡ true)
-      (apart : (a b : K) → IsKey a → IsKey b → place a ≡ place b → a ≡ b) where
-    -- one more table is put at its key's place, which was free
-    put_same : (slots : List (Option V)) (done : List Members) (t : Members) (k : K) → Hold slots done → IsKey (key t) → place (key t) < length slots
-        → is_some (get_or slots (place (key t)) None) ≡ false → IsKey k → same (key t) k ≡ true
-        → get_or (set slots (place (key t)) (Some (value t))) (place k) None ≡ option_map value (find (λ u. same (key u) k) (done ++ t ∷ []))
-    put_same slots done t k held good within free good_k here =
-        let e : key t ≡ k = alike (key t) k here in
-        let none : find (λ u. same (key u) k) done ≡ None = none_of_map value (find (λ u. same (key u) k) done) (ap is_some (sym (held k good_k)) ∙ (ap (λ q. is_some (get_or slots (place q) None)) (sym e) ∙ free)) in
-        let right : option_map value (find (λ u. same (key u) k) (done ++ t ∷ [])) ≡ Some (value t) = let found : find (λ u. same (key u) k) (done ++ t ∷ []) ≡ Some t = found_more done t k true (sym here) ∙ ap (λ o. option_or o (Some t)) none in ap (option_map value) found in
-        ap (λ q. get_or (set slots (place (key t)) (Some (value t))) (place q) None) (sym e)
-        ∙ (get_or-set_same slots (place (key t)) (Some (value t)) None within ∙ sym right)
-
-    put_other : (slots : List (Option V)) (done : List Members) (t : Members) (k : K) → Hold slots done → IsKey (key t)
-        → IsKey k → same (key t) k ≡ false
-        → get_or (set slots (place (key t)) (Some (value t))) (place k) None ≡ option_map value (find (λ u. same (key u) k) (done ++ t ∷ []))
-    put_other slots done t k held good good_k other =
-        let differ : place k ≢ place (key t) = λ e. let both : true ≡ false = sym (itself (key t)) ∙ (ap (λ q. same (key t) q) (sym (apart k (key t) good_k good e)) ∙ other) in cc in
-        let right : option_map value (find (λ u. same (key u) k) (done ++ t ∷ [])) ≡ option_map value (find (λ u. same (key u) k) done) =
-        ap (option_map value) (found_more done t k false (sym other) ∙ or_none (find (λ u. same (key u) k) done)) in
-        get_or-set_other slots (place (key t)) (place k) (Some (value t)) None differ ∙ (held k good_k ∙ sym right)
-
-    pub put : (slots : List (Option V)) (done : List Members) (t : Members) → Hold slots done → IsKey (key t) → place (key t) < length slots
-        → is_some (get_or slots (place (key t)) None) ≡ false → Hold (set slots (place (key t)) (Some (value t))) (done ++ t ∷ [])
-    put slots done t held good within free = λ k good_k.
-        let split : (b : Bool) → same (key t) k ≡ b → get_or (set slots (place (key t)) (Some (value t))) (place k) None ≡ option_map value (find (λ u. same (key u) k) (done ++ t ∷ [])) =
-        λ b. elim b as (λ v. same (key t) k ≡ v → get_or (set slots (place (key t)) (Some (value t))) (place k) None ≡ option_map value (find (λ u. same (key u) k) (done ++ t ∷ [])))
-        [ true ↦ λ e. put_same slots done t k held good within free good_k e | false ↦ λ e. put_other slots done t k held good good_k e ] in
-        split (same (key t) k) refl
-
--- ---- refused lists
 
 regroup : (a b r s : Bool) → ((a || (b || false)) || (r || s)) ≡ ((a || r) || (b || s))
 regroup true b r s = refl
@@ -84,57 +121,63 @@ regroup false true true s = refl
 regroup false true false s = refl
 regroup false false r s = refl
 
-module _ {K : Type 0} (same : K → K → Bool) (key : Members → K) (bad : Members → Bool) where
-  -- some table is refused by itself, or two have the same key
-  abbrev pub refused : List Members → Bool
-  refused ts = list_any bad ts || has_repeat same key ts
+module _ {K : Type 0} (P : Keys K) where
+  abbrev pub repeats : List Members → Bool
+  repeats = has_repeat P.same P.key
 
-  repeat_more : (ts : List Members) (t : Members) → has_repeat same key (ts ++ t ∷ []) ≡ (has_repeat same key ts || list_any (λ u. same (key u) (key t)) ts)
+  -- a table with a key has one before it
+  abbrev pub is_there : K → List Members → Bool
+  is_there k = list_any (λ u. P.same (P.key u) k)
+
+  repeat_more : (ts : List Members) (t : Members) → repeats (ts ++ t ∷ []) ≡ (repeats ts || is_there (P.key t) ts)
   repeat_more [] t = refl
   repeat_more (u ∷ ts) t =
-      ap (λ a. a || has_repeat same key (ts ++ t ∷ [])) (list_any-append (λ v. same (key u) (key v)) ts (t ∷ []))
-      ∙ (ap (λ r. (list_any (λ v. same (key u) (key v)) ts || (same (key u) (key t) || false)) || r) (repeat_more ts t)
-      ∙ regroup (list_any (λ v. same (key u) (key v)) ts) (same (key u) (key t)) (has_repeat same key ts) (list_any (λ v. same (key v) (key t)) ts))
+      ap (λ a. a || repeats (ts ++ t ∷ [])) (list_any-append (λ v. P.same (P.key u) (P.key v)) ts (t ∷ []))
+      ∙ (ap (λ r. (list_any (λ v. P.same (P.key u) (P.key v)) ts || (P.same (P.key u) (P.key t) || false)) || r) (repeat_more ts t)
+      ∙ regroup (list_any (λ v. P.same (P.key u) (P.key v)) ts) (P.same (P.key u) (P.key t)) (repeats ts) (is_there (P.key t) ts))
 
-  repeat_kept : (ts us : List Members) → has_repeat same key ts ≡ true → has_repeat same key (ts ++ us) ≡ true
+  repeat_kept : (ts us : List Members) → repeats ts ≡ true → repeats (ts ++ us) ≡ true
   repeat_kept [] us e = cc
   repeat_kept (t ∷ ts) us e =
-      ap (λ a. a || has_repeat same key (ts ++ us)) (list_any-append (λ v. same (key t) (key v)) ts us)
-      ∙ elim (list_any (λ v. same (key t) (key v)) ts) as (λ b. (b || has_repeat same key ts) ≡ true → ((b || list_any (λ v. same (key t) (key v)) us) || has_repeat same key (ts ++ us)) ≡ true)
-      [ true ↦ λ h. refl | false ↦ λ h. rw (repeat_kept ts us h) (or_true (list_any (λ v. same (key t) (key v)) us)) ] e
+      ap (λ a. a || repeats (ts ++ us)) (list_any-append (λ v. P.same (P.key t) (P.key v)) ts us)
+      ∙ elim (list_any (λ v. P.same (P.key t) (P.key v)) ts) as (λ b. (b || repeats ts) ≡ true → ((b || list_any (λ v. P.same (P.key t) (P.key v)) us) || repeats (ts ++ us)) ≡ true)
+      [ true ↦ λ h. refl | false ↦ λ h. rw (repeat_kept ts us h) (or_true (list_any (λ v. P.same (P.key t) (P.key v)) us)) ] e
 
-  module _ {X : Type 0} (view : X → Members) where
-    taken_more : (tables : List X) (i : ℕ) (x : X) → i < length tables → x ≡ get_or tables i x → map view (take (i + 1) tables) ≡ map view (take i tables) ++ view x ∷ []
-    taken_more tables i x lt is =
-        ap (map view) (take_more tables i x lt) ∙ (map-append view (take i tables) (get_or tables i x ∷ []) ∙ ap (λ y. map view (take i tables) ++ view y ∷ []) (sym is))
+-- ---- one more table, where each key has one
 
-    -- a table that is refused by itself
-    pub step_bad : (tables : List X) (i : ℕ) (x : X) → i < length tables → x ≡ get_or tables i x → bad (view x) ≡ true → refused (map view tables) ≡ true
-    step_bad tables i x lt is e =
-        let at : get_or (map view tables) i (view x) ≡ view x = get_or-map view tables i x (view x) lt ∙ ap view (sym is) in
-        let within : i < length (map view tables) = simp length-map lt in
-        rw (list_any_at bad (map view tables) i (view x) within (ap bad at ∙ e)) refl
+module _ {K V : Type 0} (P : Keys K) (bad : Members → Bool) (value : Members → V) where
+  -- some table is refused by itself, or two have the same key
+  abbrev pub refused : List Members → Bool
+  refused ts = list_any bad ts || repeats P ts
 
-    -- a table whose key one before it has
-    pub step_repeat : (tables : List X) (i : ℕ) (x : X) → i < length tables → x ≡ get_or tables i x
-        → list_any (λ u. same (key u) (key (view x))) (map view (take i tables)) ≡ true → refused (map view tables) ≡ true
-    step_repeat tables i x lt is e =
-        let here : has_repeat same key (map view (take i tables) ++ view x ∷ []) ≡ true = repeat_more (map view (take i tables)) (view x) ∙ rw e (or_true (has_repeat same key (map view (take i tables)))) in
-        let whole : map view tables ≡ (map view (take i tables) ++ view x ∷ []) ++ map view (drop (i + 1) tables) =
-        ap (map view) (sym (take-append-drop (i + 1) tables)) ∙ (map-append view (take (i + 1) tables) (drop (i + 1) tables) ∙ ap (λ ts. ts ++ map view (drop (i + 1) tables)) (taken_more tables i x lt is)) in
-        rw (whole, repeat_kept (map view (take i tables) ++ view x ∷ []) (map view (drop (i + 1) tables)) here) (or_true (list_any bad ((map view (take i tables) ++ view x ∷ []) ++ map view (drop (i + 1) tables))))
+  pub bad_among : (tables : List Lent) (i : ℕ) (m : Lent) → IsAt tables i m → bad (table_view m.now) ≡ true → refused (tables_in tables) ≡ true
+  bad_among tables i m spot e = rw (bad_one bad tables i m spot e) refl
 
-    both : (a r b s : Bool) → (a || r) ≡ false → b ≡ false → s ≡ false → ((a || (b || false)) || (r || s)) ≡ false
-    both a r b s e f g = rw (f, g) (regroup a false r false ∙ rw e refl)
+  module _ (tables : List Lent) (i : ℕ) (m : Lent) (spot : IsAt tables i m) (slots : List (Option V)) (hold : AreHeld P (once value) slots (tables_in (take i tables)))
+      (k : K) (is : k ≡ P.key (table_view m.now)) (good : P.IsKey k) where
+    -- whether a table before it has its key, by what its place holds
+    before : (b : Bool) → is_some (get_or slots (P.place k) None) ≡ b → is_there P (P.key (table_view m.now)) (tables_in (take i tables)) ≡ b
+    before b e =
+        sym (any_first (λ u. P.same (P.key u) (P.key (table_view m.now))) (tables_in (take i tables)))
+        ∙ (sym (some_of_map value (first (of P (P.key (table_view m.now)) (tables_in (take i tables)))))
+        ∙ (ap is_some (sym (hold.held (P.key (table_view m.now)) (subst P.IsKey is good))) ∙ (ap (λ q. is_some (get_or slots (P.place q) None)) (sym is) ∙ e)))
 
-    -- a table that is taken
-    pub step_on : (tables : List X) (i : ℕ) (x : X) → i < length tables → x ≡ get_or tables i x → refused (map view (take i tables)) ≡ false
-        → bad (view x) ≡ false → list_any (λ u. same (key u) (key (view x))) (map view (take i tables)) ≡ false → refused (map view (take (i + 1) tables)) ≡ false
-    step_on tables i x lt is clean good new =
-        rw (taken_more tables i x lt is, list_any-append, repeat_more) (both (list_any bad (map view (take i tables))) (has_repeat same key (map view (take i tables))) (bad (view x)) (list_any (λ u. same (key u) (key (view x))) (map view (take i tables))) clean good new)
+    pub again : is_some (get_or slots (P.place k) None) ≡ true → refused (tables_in tables) ≡ true
+    again e =
+        let here : repeats P (tables_in (take i tables) ++ table_view m.now ∷ []) ≡ true = repeat_more P (tables_in (take i tables)) (table_view m.now) ∙ rw (before true e) (or_true (repeats P (tables_in (take i tables)))) in
+        rw (cut tables i m spot, repeat_kept P (tables_in (take i tables) ++ table_view m.now ∷ []) (tables_in (drop (i + 1) tables)) here)
+        (or_true (list_any bad ((tables_in (take i tables) ++ table_view m.now ∷ []) ++ tables_in (drop (i + 1) tables))))
 
-    pub tables_more : (tables : List X) (i : ℕ) (x : X) → i < length tables → x ≡ get_or tables i x → map view (take (i + 1) tables) ≡ map view (take i tables) ++ view x ∷ []
-    tables_more tables i x lt is = taken_more tables i x lt is
+    pub clean : is_some (get_or slots (P.place k) None) ≡ false → refused (tables_in (take i tables)) ≡ false → bad (table_view m.now) ≡ false → refused (tables_in (take (i + 1) tables)) ≡ false
+    clean e so_far fine =
+        rw (one_more tables i m spot, list_any-append, repeat_more, before false e, fine)
+        (regroup (list_any bad (tables_in (take i tables))) false (repeats P (tables_in (take i tables))) false ∙ rw so_far refl)
+
+    pub kept : (v : V) → v ≡ value (table_view m.now) → is_some (get_or slots (P.place k) None) ≡ false → AreHeld P (once value) (set slots (P.place k) (Some v)) (tables_in (take (i + 1) tables))
+    kept v its e =
+        rw (one_more tables i m spot, is, its)
+        (put P (once value) slots (tables_in (take i tables)) (table_view m.now) (Some (value (table_view m.now))) hold (subst P.IsKey is good)
+        (rw (none_kept (λ u. P.same (P.key u) (P.key (table_view m.now))) (tables_in (take i tables)) (before false e)) refl))
 
 -- a place that was read
 pub at_place : {V : Type 0} (xs : List (Option V)) (i : ℕ) (o : Option V) (b : Bool) → i < length xs → o ≡ get_or xs i o → is_some o ≡ b → is_some (get_or xs i None) ≡ b

@@ -28,3 +28,11 @@ within_of low high (Some n) e =
 pub within : (low high : ℕ) (key : List ℕ) (default : ℕ) (t : Members) → is_outside low high key default t ≡ false → (low ≤ number_at key default t) × (number_at key default t ≤ high)
 unfolding is_outside number_at
 within low high key default t e = within_of low high (natural_of (number_or key (pos default) t)) e
+
+-- where neither the first number is outside nor another test holds
+pub first_inside : (low high : ℕ) (key : List ℕ) (default : ℕ) (t : Members) (rest : Bool) → (is_outside low high key default t || rest) ≡ false
+    → (low ≤ number_at key default t) × (number_at key default t ≤ high) × (rest ≡ false)
+first_inside low high key default t rest e =
+    let both = neither (is_outside low high key default t) rest e in
+    let ends = within low high key default t both.0 in
+    (ends.0, ends.1, both.1)

@@ -116,6 +116,10 @@ IsValueFault s table (fault.ToItself process) = (s.pair ≡ true) × IsToItself 
 IsValueFault s table (fault.NotBefore n) = (s.ends ≡ true) × IsNotBefore table n
 IsValueFault s table _ = ⊥
 
+-- the fault that was found in the table, if one was, is so
+unfoldable pub IsFoundBy : Subject → (table : Members) → Option Fault → Type 0
+IsFoundBy s table found = IfSome found (IsValueFault s table)
+
 -- the fault is one of a table at a place of a file, and breaks the rule of the refusal
 abbrev pub IsFault : ScenarioError → (file : Members) → Place → (table : Members) → Fault → Type 0
 IsFault e file at table (fault.UnknownKey u) =

@@ -1,5 +1,5 @@
 -- What the code has read so far, seen as parts of the definitions.
-use Rattle.std.specs.Prelude.{String, ◌≡◌, ◌≤◌, ◌<◌, ◌^◌, ℕ, ◌+◌, ◌-◌, ◌*◌, List, [], Bool, map, find, length, Option, Some, None, option_map, get_or, codes}
+use Rattle.std.specs.Prelude.{String, ◌≡◌, ◌≢◌, ◌≤◌, ◌<◌, ◌^◌, ℕ, ◌+◌, ◌-◌, ◌*◌, List, Bool, map, Option, option_map, get_or, codes}
 use Rattle.std.specs.BTreeMap.{BTreeMap}
 use Rattle.std.specs.Borrow.{Bor}
 use Rattle.std.specs.Global.{Vec}
@@ -11,16 +11,16 @@ use Rattle.toml.specs.declared.value.Value.{Value}
 use Rattle.scenario_record.specs.Record.{no_link}
 use Rattle.scenario.specs.Table as table
 use Rattle.scenario.specs.Table.{has_unlisted, has_lacking, has_mistyped, integers_at, table_at, table_or_empty, tables_at}
-use Rattle.scenario.specs.Text.{number_at, natural, algorithm_in, processes_of, detector_of, share_of, delays_of, pair_of, same_pair, links_among, pair_outages, outages_among, crash_process, crash_tick, crashes_among}
-use Rattle.scenario.specs.Rules.{same_process}
+use Rattle.scenario.specs.Text.{number_at, processes_of, links_among}
+use Rattle.scenario.specs.Rules.{are_bad_pairs}
 use Rattle.scenario.specs.declared.error.ScenarioError.{ScenarioError}
 use Rattle.scenario.specs.declared.error.ScenarioError.TheVariants as error
 use Rattle.scenario.specs.declared.field.Field.{Field}
 use Rattle.scenario.specs.declared.keys.Tables.{Tables}
 use Rattle.scenario.specs.declared.keys.KeyFault.{KeyFault}
 use Rattle.scenario.specs.declared.keys.KeyFault.TheVariants.{Unlisted, Lacking, Mistyped}
+use Rattle.scenario.specs.declared.numbers.Top.{Top}
 use Rattle.scenario.specs.declared.numbers.TopNumbers.{TopNumbers}
-use Rattle.scenario.specs.declared.parts.Parts.{Parts}
 use Rattle.scenario_record.specs.declared.link.Link.{Link}
 use Rattle.scenario_record.specs.declared.outage.Outage.{Outage}
 
@@ -49,14 +49,11 @@ table_in found = option_map (λ m. table_view m.now) found
 abbrev pub tables_in : List (Bor (BTreeMap (String Global) Value)) → List Members
 tables_in found = map (λ m. table_view m.now) found
 
--- the tables are those of the top table
-pub record AreTables (s : Tables) : Type 0 where
-  pub detector : table_in s.detector ≡ table_at (codes "detector") (table_view s.top.now)
-  pub share : table_in s.share ≡ table_at (codes "share") (table_view s.top.now)
-  pub link : table_in s.link ≡ table_at (codes "link") (table_view s.top.now)
-  pub links : tables_in s.links.items ≡ tables_at (codes "links") (table_view s.top.now)
-  pub crashes : tables_in s.crashes.items ≡ tables_at (codes "crash") (table_view s.top.now)
-  pub outages : tables_in s.outages.items ≡ tables_at (codes "outage") (table_view s.top.now)
+-- the tables are those of a file
+pub record AreTables (file : Members) (s : Tables) : Type 0 where
+  pub links : tables_in s.links.items ≡ tables_at (codes "links") file
+  pub crashes : tables_in s.crashes.items ≡ tables_at (codes "crash") file
+  pub outages : tables_in s.outages.items ≡ tables_at (codes "outage") file
 
 -- the numbers are those of the table
 pub record AreNumbersOf (t : Members) (n : TopNumbers) : Type 0 where
@@ -69,20 +66,20 @@ pub record AreNumbersOf (t : Members) (n : TopNumbers) : Type 0 where
   pub seed : n.seed ≡ number_at (codes "seed") 0 t
   pub seed_high : n.seed < 2 ^ 63
 
+abbrev pub IsTop : Top → Type 0
+IsTop top = AreNumbersOf (table_view top.table.now) top.numbers
+
+-- the tables of `links` are refused, whatever the common link is
+abbrev pub pairs_refused : Members → Bool
+pairs_refused t = are_bad_pairs (processes_of t) (tables_at (codes "links") t)
+
+-- the links of a file with this common link
+abbrev pub links_of : Link → Members → List Link
+links_of common t = links_among common (tables_at (codes "links") t) (processes_of t)
+
 -- the outages of each link, in lists of the code
 abbrev pub outages_in : List (Vec Outage) → List (List Outage)
 outages_in lists = map (λ v. v.items) lists
-
--- the parts are those of the table
-pub record ArePartsOf (t : Members) (p : Parts) : Type 0 where
-  pub algorithm : Some p.algorithm ≡ algorithm_in t
-  pub proposals : p.proposals.items ≡ map natural (integers_at (codes "proposals") t)
-  pub detector : p.detector ≡ detector_of (table_or_empty (codes "detector") t)
-  pub share : p.share ≡ option_map share_of (table_at (codes "share") t)
-  pub crashes : p.crashes.items ≡ crashes_among (tables_at (codes "crash") t) (processes_of t)
-  pub links : p.links.items
-      ≡ links_among (delays_of (table_or_empty (codes "link") t)) (tables_at (codes "links") t) (processes_of t)
-  pub outages : outages_in p.outages.items ≡ outages_among (tables_at (codes "outage") t) (processes_of t)
 
 -- the number is one of 1 to n
 pub record IsProcess (n p : ℕ) : Type 0 where
@@ -98,21 +95,8 @@ pub record AreProcesses (n : ℕ) (pair : ℕ × ℕ) : Type 0 where
 abbrev pub link_in : ℕ → List Link → ℕ × ℕ → Link
 link_in n links pair = get_or links ((pair.0 - 1) * n + (pair.1 - 1)) no_link
 
--- of n processes: each pair's place holds the link of the pair's table, if it has one
-pub record HoldLinks (n : ℕ) (links : List (Option Link)) (tables : List Members) : Type 0 where
-  pub full : length links ≡ n * n
-  pub held : (pair : ℕ × ℕ) → AreProcesses n pair
-      → get_or links ((pair.0 - 1) * n + (pair.1 - 1)) None
-      ≡ option_map delays_of (find (λ l. same_pair (pair_of l) pair) tables)
-
--- of n processes: each pair's place holds the outages of the pair's tables
-pub record HoldOutages (n : ℕ) (outages : List (List Outage)) (tables : List Members) : Type 0 where
-  pub full : length outages ≡ n * n
-  pub held : (pair : ℕ × ℕ) → AreProcesses n pair
-      → get_or outages ((pair.0 - 1) * n + (pair.1 - 1)) [] ≡ pair_outages tables pair
-
--- of n processes: each process's place holds the tick of the process's table, if it has one
-pub record HoldCrashes (n : ℕ) (ticks : List (Option ℕ)) (tables : List Members) : Type 0 where
-  pub full : length ticks ≡ n
-  pub held : (p : ℕ) → IsProcess n p
-      → get_or ticks (p - 1) None ≡ option_map crash_tick (find (λ c. same_process (crash_process c) p) tables)
+-- of n processes: the pair's link has its min below the lookahead
+pub record IsLow (n : ℕ) (links : List Link) (lookahead : ℕ) (pair : ℕ × ℕ) : Type 0 where
+  pub processes : AreProcesses n pair
+  pub different : pair.0 ≢ pair.1
+  pub below : (link_in n links pair).min < lookahead

@@ -1,16 +1,17 @@
 //! The least pair whose link is below the lookahead.
-ghost use Rattle.std.specs.Prelude.{◌≡◌, ◌≢◌, ◌≤◌, ◌<◌, ◌*◌, ◌==◌, ◌&&◌, not, find, length, IfSome};
+ghost use Rattle.std.specs.Prelude.{◌≡◌, ◌≢◌, ◌≤◌, ◌<◌, ◌*◌, ◌==◌, ◌&&◌, not, IsTrue, find, length, IfSome};
 ghost use Rattle.process_api.specs.Bounds.{most_processes};
-ghost use Rattle.scenario.specs.Rules.{pairs, pairs_from, is_below};
-ghost use Rattle.toml.specs.Data.{Members};
-ghost use Rattle.scenario.specs.Text.{processes_of, record_of};
-ghost use Rattle.scenario.specs.Parts.{link_in};
+ghost use Rattle.scenario.specs.Rules.{pair_below, pairs_from, is_below};
+ghost use Rattle.toml.specs.View.{table_view};
+ghost use Rattle.scenario.specs.Text.{record_of};
+ghost use Rattle.scenario.specs.Parts.{link_in, IsLow, IsTop};
 ghost use Rattle.scenario.specs.Faults.{Finds};
 
 use crate::error::ScenarioError;
 use crate::fault::BelowLookahead;
 use crate::finding::{Finding, Refused};
 use crate::links::place_of;
+use crate::numbers::Top;
 use process_api::Pid;
 use scenario_record::Link;
 
@@ -35,7 +36,8 @@ fn is_low(links: &[Link], lookahead: u32, n: u16, from: u16, to: u16) -> bool
     requires from_high { from ≤ n }
     requires to_low { 1 ≤ to }
     requires to_high { to ≤ n }
-    ensures { result ≡ (not (to == from) && is_below (link_in n links.now) lookahead (from, to)) }
+    ensures test { result ≡ (not (to == from) && is_below (link_in n links.now) lookahead (from, to)) }
+    ensures facts { IsTrue result → (from ≢ to) × ((link_in n links.now (from, to)).min < lookahead) }
 {
     to != from && link_of(links, n, from, to).min < lookahead
 }
@@ -57,7 +59,8 @@ fn first_from(links: &[Link], lookahead: u32, n: u16, from: u16) -> Option<(Pid,
     requires all { length links.now ≡ n * n }
     requires from_low { 1 ≤ from }
     requires from_high { from ≤ n }
-    ensures { result ≡ find (is_below (link_in n links.now) lookahead) (pairs_from n from) }
+    ensures value { result ≡ find (is_below (link_in n links.now) lookahead) (pairs_from n from) }
+    ensures low { IfSome result (IsLow n links.now lookahead) }
 {
     for to in 1..n + 1 {
         if is_low(links, lookahead, n, from, to) {
@@ -68,11 +71,15 @@ fn first_from(links: &[Link], lookahead: u32, n: u16, from: u16) -> Option<(Pid,
 }
 
 /// The least pair of different processes, by sender and then by receiver, whose link is below the lookahead.
-pub(crate) fn first_below(links: &[Link], lookahead: u32, n: u16) -> Option<(Pid, Pid)>
-    requires few { n ≤ most_processes }
-    requires all { length links.now ≡ n * n }
-    ensures { result ≡ find (is_below (link_in n links.now) lookahead) (pairs n) }
+pub(crate) fn first_below(top: &Top<'_>, links: &[Link]) -> Option<(Pid, Pid)>
+    requires numbers { IsTop top.now }
+    requires links { links.now ≡ (record_of (table_view top.now.table.now)).links }
+    requires all { length links.now ≡ top.now.numbers.processes * top.now.numbers.processes }
+    ensures value { result ≡ pair_below (record_of (table_view top.now.table.now)) }
+    ensures low { IfSome result (IsLow top.now.numbers.processes links.now top.now.numbers.lookahead) }
 {
+    let n = top.numbers.processes;
+    let lookahead = top.numbers.lookahead;
     for from in 1..n + 1 {
         if let Some(pair) = first_from(links, lookahead, n, from) {
             return Some(pair);
@@ -81,56 +88,26 @@ pub(crate) fn first_below(links: &[Link], lookahead: u32, n: u16) -> Option<(Pid
     None
 }
 
-/// The `min` of a pair's link, where it is below the lookahead.
-fn below(links: &[Link], lookahead: u32, n: u16, pair: (Pid, Pid)) -> Option<BelowLookahead>
-    requires few { n ≤ most_processes }
-    requires all { length links.now ≡ n * n }
-    ensures from { IfSome result (λ b. b.from ≡ pair.0) }
-    ensures to { IfSome result (λ b. b.to ≡ pair.1) }
-    ensures different { IfSome result (λ b. b.from ≢ b.to) }
-    ensures min { IfSome result (λ b. b.min ≡ (link_in n links.now pair).min) }
-    ensures lookahead { IfSome result (λ b. b.lookahead ≡ lookahead) }
-    ensures below { IfSome result (λ b. b.min < b.lookahead) }
-{
-    let (from, to) = pair;
-    if from == to || n < from.number() || n < to.number() {
-        return None;
-    }
-    let min = link_of(links, n, from.number(), to.number()).min;
-    if lookahead <= min {
-        return None;
-    }
-    Some(BelowLookahead {
-        from,
-        to,
-        min,
-        lookahead,
-    })
-}
-
 /// The refusal of a pair whose link is below the lookahead.
-pub(crate) fn below_lookahead(
-    links: &[Link],
-    lookahead: u32,
-    n: u16,
-    pair: (Pid, Pid),
-) -> Refused<'static>
-    requires few { n ≤ most_processes }
-    requires all { length links.now ≡ n * n }
+pub(crate) fn below_lookahead(top: &Top<'_>, links: &[Link], pair: (Pid, Pid)) -> Refused<'static>
+    requires numbers { IsTop top.now }
+    requires links { links.now ≡ (record_of (table_view top.now.table.now)).links }
+    requires all { length links.now ≡ top.now.numbers.processes * top.now.numbers.processes }
+    requires low { IsLow top.now.numbers.processes links.now top.now.numbers.lookahead pair }
     ensures error { result.error ≡ ScenarioError.BelowLookahead pair.0 pair.1 }
-    ensures finds { (file : Members) → n ≡ processes_of file → links.now ≡ (record_of file).links
-        → lookahead ≡ (record_of file).lookahead → Finds file result }
+    ensures finds { Finds (table_view top.now.table.now) result }
 {
     let (from, to) = pair;
-    let error = ScenarioError::BelowLookahead { from, to };
-    match below(links, lookahead, n, pair) {
-        Some(found) => Refused {
-            error,
-            finding: Some(Finding::Below(found)),
-        },
-        None => Refused {
-            error,
-            finding: None,
-        },
+    let n = top.numbers.processes;
+    let lookahead = top.numbers.lookahead;
+    let min = link_of(links, n, from.number(), to.number()).min;
+    Refused {
+        error: ScenarioError::BelowLookahead { from, to },
+        finding: Some(Finding::Below(BelowLookahead {
+            from,
+            to,
+            min,
+            lookahead,
+        })),
     }
 }

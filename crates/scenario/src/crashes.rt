@@ -1,20 +1,18 @@
 //! The crash tables.
-ghost use Rattle.std.specs.Prelude.{◌≡◌, ◌≤◌, false, is_err, OnOk, IfOk, IfErr, IfSome};
-ghost use Rattle.toml.specs.Data.{Members};
+ghost use Rattle.std.specs.Prelude.{◌≡◌, false, codes, is_err, OnOk, IfOk, IfErr};
 ghost use Rattle.toml.specs.View.{table_view};
 ghost use Rattle.scenario.specs.Table.{tables_at};
-ghost use Rattle.scenario.specs.Text.{crash_process, crash_tick, crashes_among, processes_of};
-ghost use Rattle.scenario.specs.Rules.{is_bad_crash, are_bad_crashes};
+ghost use Rattle.scenario.specs.Text.{crash_process, crash_tick, record_of};
+ghost use Rattle.scenario.specs.Rules.{is_bad_crash, crashes_refused};
 ghost use Rattle.scenario.specs.Refusals.{GivenBy};
-ghost use Rattle.scenario.specs.Parts.{tables_in};
-ghost use Rattle.scenario.specs.Place.{array_key};
+ghost use Rattle.scenario.specs.Parts.{tables_in, IsProcess, IsTop};
 ghost use Rattle.scenario.specs.Ranges.{crash_subject};
-ghost use Rattle.scenario.specs.Faults.{Finds, IsValueFault};
+ghost use Rattle.scenario.specs.Faults.{Finds, IsFoundBy};
 
 use crate::error::ScenarioError;
 use crate::fault::Fault;
-use crate::finding::Refused;
-use crate::numbers::ranged;
+use crate::finding::{Refused, accepted};
+use crate::numbers::{Top, ranged};
 use crate::place::TableArray;
 use crate::twice::find_twice;
 use std::alloc::Global;
@@ -35,12 +33,11 @@ pub(crate) fn read_crash(table: &Table, n: u16) -> Result<Crash, Option<Fault<'s
     ensures test { is_err result ≡ is_bad_crash n (table_view table.now) }
     ensures process { IfOk result (λ c. c.process ≡ crash_process (table_view table.now)) }
     ensures tick { IfOk result (λ c. c.at ≡ crash_tick (table_view table.now)) }
-    ensures low { IfOk result (λ c. 1 ≤ c.process) }
-    ensures high { IfOk result (λ c. c.process ≤ n) }
-    ensures fault { IfErr result (λ found. IfSome found (IsValueFault (crash_subject n) (table_view table.now))) }
+    ensures one_of_them { IfOk result (λ c. IsProcess n c.process) }
+    ensures fault { IfErr result (IsFoundBy (crash_subject n) (table_view table.now)) }
 {
-    let process = ranged(table, "process", 0, 1, u32::from(n))?;
-    let at = ranged(table, "at", 0, 0, 10_000_000)?;
+    let process = accepted!(ranged(table, "process", 0, 1, u32::from(n)));
+    let at = accepted!(ranged(table, "at", 0, 0, 10_000_000));
     Ok(Crash { process, at })
 }
 
@@ -48,16 +45,17 @@ pub(crate) fn read_crash(table: &Table, n: u16) -> Result<Crash, Option<Fault<'s
 /// already ends the reading, so no more than n of them are taken.
 pub(crate) fn read_crashes<'a>(
     alloc: Global,
+    top: &Top<'_>,
     tables: &[&'a Table],
-    n: u16,
 ) -> Result<Vec<Option<u32>>, Refused<'a>>
-    ensures ok { OnOk result (are_bad_crashes n (tables_in tables.now) ≡ false) }
-    ensures value { IfOk result (λ v. v.items ≡ crashes_among (tables_in tables.now) n) }
-    ensures err { IfErr result (λ r. GivenBy ScenarioError.CrashLine (
-        are_bad_crashes n (tables_in tables.now)) r.error) }
-    ensures finds { (file : Members) → tables_in tables.now ≡ tables_at (array_key TableArray.Crash) file
-        → n ≡ processes_of file → IfErr result (Finds file) }
+    requires numbers { IsTop top.now }
+    requires tables { tables_in tables.now ≡ tables_at (codes "crash") (table_view top.now.table.now) }
+    ensures ok { OnOk result (crashes_refused (table_view top.now.table.now) ≡ false) }
+    ensures value { IfOk result (λ v. v.items ≡ (record_of (table_view top.now.table.now)).crashes) }
+    ensures err { IfErr result (λ r. GivenBy ScenarioError.CrashLine (crashes_refused (table_view top.now.table.now)) r.error) }
+    ensures finds { IfErr result (Finds (table_view top.now.table.now)) }
 {
+    let n = top.numbers.processes;
     let mut ticks = match vec![in alloc; None; usize::from(n)] {
         Ok(ticks) => ticks,
         Err(_) => return Err(Refused::memory()),

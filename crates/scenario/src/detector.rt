@@ -1,24 +1,18 @@
 //! The numbers of the detector and of the reduction.
-ghost use Rattle.std.specs.Prelude.{◌≡◌, ◌||◌, false, is_err, is_none, option_map, unwrap_or, OnOk, IfOk, IfErr, IfSome};
-ghost use Rattle.std.specs.Option.{option_map_or};
-ghost use Rattle.toml.specs.Data.{Members, no_members};
+ghost use Rattle.std.specs.Prelude.{◌≡◌, ◌||◌, is_err, is_none, unwrap_or, IfOk, IfErr};
 ghost use Rattle.toml.specs.View.{table_view};
-ghost use Rattle.scenario.specs.Table.{table_at};
-ghost use Rattle.scenario.specs.Text.{detector_of, freshness_of, share_of, timeout_of, watch_in};
-ghost use Rattle.scenario.specs.Rules.{is_bad_detector, is_bad_freshness, is_bad_share, is_bad_timeout, is_other_kind};
-ghost use Rattle.scenario.specs.Refusals.{GivenBy};
-ghost use Rattle.scenario.specs.Parts.{table_in};
-ghost use Rattle.scenario.specs.Place.{section_key};
+ghost use Rattle.scenario.specs.Text.{detector_of, freshness_of, record_of, timeout_of, watch_in};
+ghost use Rattle.scenario.specs.Rules.{detector_refused, is_bad_detector, is_bad_freshness, is_bad_timeout, is_other_kind, share_refused};
 ghost use Rattle.scenario.specs.Ranges.{detector_subject};
-ghost use Rattle.scenario.specs.Faults.{Finds, IsValueFault};
+ghost use Rattle.scenario.specs.Faults.{Finds, IsFoundBy};
 
 use crate::error::ScenarioError;
 use crate::fault::Fault;
-use crate::finding::Refused;
+use crate::finding::{Refused, accepted};
 use crate::names::{other_name, watch_of};
 use crate::numbers::ranged;
 use crate::place::{Place, Section};
-use crate::table::{is_fresh, text};
+use crate::table::{inner_table, is_fresh, text};
 use process_api::{DetectorNumbers, FreshnessNumbers, TimeoutNumbers, Watch};
 use toml::Table;
 
@@ -26,7 +20,7 @@ use toml::Table;
 fn read_watch(table: &Table) -> Result<Watch, Option<Fault<'_>>>
     ensures test { is_err result ≡ is_none (watch_in (table_view table.now)) }
     ensures value { IfOk result (λ w. w ≡ unwrap_or (watch_in (table_view table.now)) Watch.All) }
-    ensures fault { IfErr result (λ found. IfSome found (IsValueFault detector_subject (table_view table.now))) }
+    ensures fault { IfErr result (IsFoundBy detector_subject (table_view table.now)) }
 {
     match watch_of(text(table, "watch", "all")) {
         Some(watch) => Ok(watch),
@@ -47,16 +41,16 @@ fn names_other_kind(table: &Table) -> bool
 fn read_timeout(table: &Table) -> Result<TimeoutNumbers, Option<Fault<'_>>>
     ensures test { is_err result ≡ (is_other_kind (table_view table.now) || is_bad_timeout (table_view table.now)) }
     ensures value { IfOk result (λ d. d ≡ timeout_of (table_view table.now)) }
-    ensures fault { IfErr result (λ found. IfSome found (IsValueFault detector_subject (table_view table.now))) }
+    ensures fault { IfErr result (IsFoundBy detector_subject (table_view table.now)) }
 {
-    let period = ranged(table, "period", 0, 1, 1_000_000)?;
-    let check = ranged(table, "check", 0, 1, 1_000_000)?;
-    let timeout = ranged(table, "timeout", 0, 1, 1_000_000)?;
-    let grow = ranged(table, "grow", 1, 1, 1_000_000)?;
+    let period = accepted!(ranged(table, "period", 0, 1, 1_000_000));
+    let check = accepted!(ranged(table, "check", 0, 1, 1_000_000));
+    let timeout = accepted!(ranged(table, "timeout", 0, 1, 1_000_000));
+    let grow = accepted!(ranged(table, "grow", 1, 1, 1_000_000));
     if names_other_kind(table) {
         return Err(other_name(table, "kind", &["timeout", "freshness"]));
     }
-    let watch = read_watch(table)?;
+    let watch = accepted!(read_watch(table));
     Ok(TimeoutNumbers {
         period,
         check,
@@ -71,11 +65,11 @@ fn read_timeout(table: &Table) -> Result<TimeoutNumbers, Option<Fault<'_>>>
 fn read_freshness(table: &Table) -> Result<FreshnessNumbers, Option<Fault<'_>>>
     ensures test { is_err result ≡ is_bad_freshness (table_view table.now) }
     ensures value { IfOk result (λ d. d ≡ freshness_of (table_view table.now)) }
-    ensures fault { IfErr result (λ found. IfSome found (IsValueFault detector_subject (table_view table.now))) }
+    ensures fault { IfErr result (IsFoundBy detector_subject (table_view table.now)) }
 {
-    let eta = ranged(table, "eta", 0, 1, 1_000_000)?;
-    let delta = ranged(table, "delta", 0, 1, 1_000_000)?;
-    let watch = read_watch(table)?;
+    let eta = accepted!(ranged(table, "eta", 0, 1, 1_000_000));
+    let delta = accepted!(ranged(table, "delta", 0, 1, 1_000_000));
+    let watch = accepted!(read_watch(table));
     Ok(FreshnessNumbers { eta, delta, watch })
 }
 
@@ -84,31 +78,23 @@ fn read_freshness(table: &Table) -> Result<FreshnessNumbers, Option<Fault<'_>>>
 fn read_named(table: &Table) -> Result<DetectorNumbers, Option<Fault<'_>>>
     ensures test { is_err result ≡ is_bad_detector (table_view table.now) }
     ensures value { IfOk result (λ d. d ≡ detector_of (table_view table.now)) }
-    ensures fault { IfErr result (λ found. IfSome found (IsValueFault detector_subject (table_view table.now))) }
+    ensures fault { IfErr result (IsFoundBy detector_subject (table_view table.now)) }
 {
     if is_fresh(table) {
-        match read_freshness(table) {
-            Ok(its) => Ok(DetectorNumbers::Freshness(its)),
-            Err(fault) => Err(fault),
-        }
+        Ok(DetectorNumbers::Freshness(accepted!(read_freshness(table))))
     } else {
-        match read_timeout(table) {
-            Ok(its) => Ok(DetectorNumbers::Timeout(its)),
-            Err(fault) => Err(fault),
-        }
+        Ok(DetectorNumbers::Timeout(accepted!(read_timeout(table))))
     }
 }
 
 /// The numbers of the detector's table, where all are in their ranges; else, and where there is no table, the refusal.
-pub(crate) fn read_detector(table: Option<&Table>) -> Result<DetectorNumbers, Refused<'_>>
-    ensures ok { OnOk result (is_bad_detector (unwrap_or (table_in table.entry) no_members) ≡ false) }
-    ensures value { IfOk result (λ d. d ≡ detector_of (unwrap_or (table_in table.entry) no_members)) }
-    ensures err { IfErr result (λ r. GivenBy ScenarioError.DetectorNumbers (
-        is_bad_detector (unwrap_or (table_in table.entry) no_members)) r.error) }
-    ensures finds { (file : Members) → table_in table.entry ≡ table_at (section_key Section.Detector) file
-        → IfErr result (Finds file) }
+pub(crate) fn read_detector(top: &Table) -> Result<DetectorNumbers, Refused<'_>>
+    ensures test { is_err result ≡ detector_refused (table_view top.now) }
+    ensures value { IfOk result (λ d. d ≡ (record_of (table_view top.now)).detector) }
+    ensures error { IfErr result (λ r. r.error ≡ ScenarioError.DetectorNumbers) }
+    ensures finds { IfErr result (Finds (table_view top.now)) }
 {
-    let Some(table) = table else {
+    let Some(table) = inner_table(top, "detector") else {
         return Err(Refused {
             error: ScenarioError::DetectorNumbers,
             finding: None,
@@ -124,15 +110,13 @@ pub(crate) fn read_detector(table: Option<&Table>) -> Result<DetectorNumbers, Re
 }
 
 /// The period of the shares, if there are any, where it is in its range; else the refusal.
-pub(crate) fn read_share(table: Option<&Table>) -> Result<Option<u32>, Refused<'_>>
-    ensures ok { OnOk result (option_map_or is_bad_share (table_in table.entry) false ≡ false) }
-    ensures value { IfOk result (λ share. share ≡ option_map share_of (table_in table.entry)) }
-    ensures err { IfErr result (λ r. GivenBy ScenarioError.Share (
-        option_map_or is_bad_share (table_in table.entry) false) r.error) }
-    ensures finds { (file : Members) → table_in table.entry ≡ table_at (section_key Section.Share) file
-        → IfErr result (Finds file) }
+pub(crate) fn read_share(top: &Table) -> Result<Option<u32>, Refused<'_>>
+    ensures test { is_err result ≡ share_refused (table_view top.now) }
+    ensures value { IfOk result (λ share. share ≡ (record_of (table_view top.now)).share) }
+    ensures error { IfErr result (λ r. r.error ≡ ScenarioError.Share) }
+    ensures finds { IfErr result (Finds (table_view top.now)) }
 {
-    let Some(table) = table else {
+    let Some(table) = inner_table(top, "share") else {
         return Ok(None);
     };
     match ranged(table, "period", 0, 1, 1_000_000) {

@@ -3,7 +3,7 @@ ghost use Rattle.std.specs.Prelude.{◌≡◌, Some, IfSome};
 ghost use Rattle.toml.specs.Data.{Members};
 ghost use Rattle.scenario.specs.Place.{table_of};
 ghost use Rattle.scenario.specs.Ranges.{subject_of};
-ghost use Rattle.scenario.specs.Faults.{IsValueFault, Finds};
+ghost use Rattle.scenario.specs.Faults.{Finds, IsFoundBy};
 
 use crate::error::ScenarioError;
 use crate::fault::{BelowLookahead, Fault, ProposalsFault};
@@ -11,7 +11,7 @@ use crate::place::Place;
 use std::alloc::AllocError;
 
 /// What was read, where it isn't refused; else its refusal is answered. That is `?` without its `From`, through which
-/// the prover can't follow a [`Refused`].
+/// the prover can't follow a [`Refused`] or a fault.
 macro_rules! accepted {
     ($read:expr) => {
         match $read {
@@ -73,7 +73,7 @@ impl<'a> Refused<'a> {
     pub(crate) fn at(error: ScenarioError, place: Place, fault: Option<Fault<'a>>) -> Refused<'a>
         ensures error { result.error ≡ error }
         ensures finds { (file table : Members) → table_of place file ≡ Some table
-            → IfSome fault.entry (IsValueFault (subject_of error place file) table) → Finds file result }
+            → IsFoundBy (subject_of error place file) table fault.entry → Finds file result }
     {
         match fault {
             Some(fault) => Refused {

@@ -4,7 +4,7 @@ ghost use Rattle.std.specs.List.{list_any};
 ghost use Rattle.std.specs.Option.{option_map_or};
 ghost use Rattle.toml.specs.View.{table_view};
 ghost use Rattle.scenario.specs.Parts.{fields_of, fault_of, error_of, table_in, tables_in, AreTables};
-ghost use Rattle.scenario.specs.Keys.{some_table, top_fields, timeout_fields, freshness_fields, detector_fields, share_fields, link_fields, pair_fields, crash_fields, outage_fields};
+ghost use Rattle.scenario.specs.Keys.{some_table, top_fields, detector_fields, share_fields, link_fields, pair_fields, crash_fields, outage_fields};
 ghost use Rattle.scenario.specs.Table.{tables_at};
 ghost use Rattle.scenario.specs.Refusals.{key_rules};
 ghost use Rattle.scenario.specs.Groups.{Passes, StopsAt};
@@ -108,34 +108,17 @@ fn top_keys(is_second: bool) -> &'static [Field]
     if is_second { &TOP } else { &TOP[..FIRST] }
 }
 
-/// The keys of a detector's table that names no freshness points, by whether the file is of version 2.
-#[tactic(auto, unfolding(crate::specs::Keys::timeout_fields))]
-fn timeout_keys(is_second: bool) -> &'static [Field]
-    ensures { fields_of result.now ≡ timeout_fields is_second }
-{
-    if is_second {
-        &TIMEOUT
-    } else {
-        &TIMEOUT[..FIRST_TIMEOUT]
-    }
-}
-
-/// The keys of one that does.
-#[tactic(auto, unfolding(crate::specs::Keys::freshness_fields))]
-fn freshness_keys() -> &'static [Field]
-    ensures { fields_of result.now ≡ freshness_fields }
-{
-    &FRESHNESS
-}
-
 /// The keys of a table `detector`, by whether the file is of version 2.
+#[tactic(auto, unfolding(crate::specs::Keys::freshness_fields, crate::specs::Keys::timeout_fields))]
 fn detector_keys(is_second: bool, table: &Table) -> &'static [Field]
     ensures { fields_of result.now ≡ detector_fields is_second (table_view table.now) }
 {
     if is_second && is_fresh(table) {
-        freshness_keys()
+        &FRESHNESS
+    } else if is_second {
+        &TIMEOUT
     } else {
-        timeout_keys(is_second)
+        &TIMEOUT[..FIRST_TIMEOUT]
     }
 }
 
@@ -159,17 +142,9 @@ fn keys_in(is_second: bool, place: Place, table: &Table) -> &'static [Field]
     }
 }
 
-/// The tables of a file. Where a value isn't of its kind its table, or all of its tables, are left out.
+/// The tables of a file's arrays. Where a value isn't of its kind all of its tables are left out.
 #[derive(Drop)]
 pub(crate) struct Tables<'a> {
-    /// The top table.
-    pub(crate) top: &'a Table,
-    /// `detector`.
-    pub(crate) detector: Option<&'a Table>,
-    /// `share`.
-    pub(crate) share: Option<&'a Table>,
-    /// `link`.
-    pub(crate) link: Option<&'a Table>,
     /// Those of `links`.
     pub(crate) links: Vec<&'a Table>,
     /// Those of `crash`.
@@ -251,22 +226,24 @@ impl KeyFault {
 
     /// The first such fault of a file's tables.
     #[tactic(auto, unfolding(crate::specs::Keys::some_table))]
-    fn find<'a>(self, tables: &Tables<'a>) -> Option<Finding<'a>>
-        requires { AreTables tables.now }
-        ensures test { is_some result ≡ some_table (fault_of self) (table_view tables.now.top.now) }
-        ensures finding { IfSome result (Breaks (error_of self) (table_view tables.now.top.now)) }
+    fn find<'a>(self, top: &'a Table, tables: &Tables<'a>) -> Option<Finding<'a>>
+        requires { AreTables (table_view top.now) tables.now }
+        ensures test { is_some result ≡ some_table (fault_of self) (table_view top.now) }
+        ensures finding { IfSome result (Breaks (error_of self) (table_view top.now)) }
     {
-        let top = tables.top;
+        let detector = inner_table(top, "detector");
+        let share = inner_table(top, "share");
+        let link = inner_table(top, "link");
         if let Some(found) = self.at(top, Place::Top, Some(top)) {
             return Some(found);
         }
-        if let Some(found) = self.at(top, Place::Section(Section::Detector), tables.detector) {
+        if let Some(found) = self.at(top, Place::Section(Section::Detector), detector) {
             return Some(found);
         }
-        if let Some(found) = self.at(top, Place::Section(Section::Share), tables.share) {
+        if let Some(found) = self.at(top, Place::Section(Section::Share), share) {
             return Some(found);
         }
-        if let Some(found) = self.at(top, Place::Section(Section::Link), tables.link) {
+        if let Some(found) = self.at(top, Place::Section(Section::Link), link) {
             return Some(found);
         }
         if let Some(found) = self.among(top, TableArray::Links, &tables.links) {
@@ -279,21 +256,14 @@ impl KeyFault {
     }
 }
 
-/// The tables of a file.
-pub(crate) fn tables_of<'a>(alloc: Global, top: &'a Table) -> Result<Tables<'a>, AllocError>
-    ensures { IfOk result (λ s. (table_view s.top.now ≡ table_view top.now) × AreTables s) }
+/// The tables of a file's arrays.
+pub(crate) fn tables_of(alloc: Global, top: &Table) -> Result<Tables<'_>, AllocError>
+    ensures { IfOk result (AreTables (table_view top.now)) }
 {
     let links = inner_tables(alloc, top, "links")?;
     let crashes = inner_tables(alloc, top, "crash")?;
     let outages = inner_tables(alloc, top, "outage")?;
-    let detector = inner_table(top, "detector");
-    let share = inner_table(top, "share");
-    let link = inner_table(top, "link");
     Ok(Tables {
-        top,
-        detector,
-        share,
-        link,
         links,
         crashes,
         outages,
@@ -302,25 +272,25 @@ pub(crate) fn tables_of<'a>(alloc: Global, top: &'a Table) -> Result<Tables<'a>,
 
 /// Refuses a file of which some table has a fault of its keys: keys that aren't listed first, then missing ones, then
 /// values of another kind.
-pub(crate) fn check_keys<'a>(tables: &Tables<'a>) -> Result<(), Refused<'a>>
-    requires { AreTables tables.now }
-    ensures ok { OnOk result (Passes key_rules (Some (table_view tables.now.top.now))) }
-    ensures err { IfErr result (λ r. StopsAt key_rules (Some (table_view tables.now.top.now)) r.error) }
-    ensures finds { IfErr result (Finds (table_view tables.now.top.now)) }
+pub(crate) fn check_keys<'a>(top: &'a Table, tables: &Tables<'a>) -> Result<(), Refused<'a>>
+    requires { AreTables (table_view top.now) tables.now }
+    ensures ok { OnOk result (Passes key_rules (Some (table_view top.now))) }
+    ensures err { IfErr result (λ r. StopsAt key_rules (Some (table_view top.now)) r.error) }
+    ensures finds { IfErr result (Finds (table_view top.now)) }
 {
-    if let Some(found) = KeyFault::Unlisted.find(tables) {
+    if let Some(found) = KeyFault::Unlisted.find(top, tables) {
         return Err(Refused {
             error: ScenarioError::UnknownKey,
             finding: Some(found),
         });
     }
-    if let Some(found) = KeyFault::Lacking.find(tables) {
+    if let Some(found) = KeyFault::Lacking.find(top, tables) {
         return Err(Refused {
             error: ScenarioError::MissingKey,
             finding: Some(found),
         });
     }
-    if let Some(found) = KeyFault::Mistyped.find(tables) {
+    if let Some(found) = KeyFault::Mistyped.find(top, tables) {
         return Err(Refused {
             error: ScenarioError::WrongKind,
             finding: Some(found),

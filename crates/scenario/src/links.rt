@@ -1,23 +1,21 @@
 //! The links.
-ghost use Rattle.std.specs.Prelude.{◌≡◌, ◌≤◌, ◌<◌, ◌+◌, ◌-◌, ◌*◌, true, false, map, length, unwrap_or, is_err, OnOk, IfOk, IfErr, IfSome};
+ghost use Rattle.std.specs.Prelude.{◌≡◌, ◌≤◌, ◌<◌, ◌+◌, ◌-◌, ◌*◌, true, false, codes, map, length, unwrap_or, is_err, OnOk, IfOk, IfErr};
 ghost use Rattle.process_api.specs.Bounds.{most_processes};
-ghost use Rattle.toml.specs.Data.{Members, no_members};
 ghost use Rattle.toml.specs.View.{table_view};
-ghost use Rattle.scenario.specs.Table.{table_at, tables_at};
-ghost use Rattle.scenario.specs.Text.{delays_of, pair_of, links_among, processes_of};
-ghost use Rattle.scenario.specs.Rules.{is_bad_link, is_bad_pair, are_bad_pairs, are_bad_links};
+ghost use Rattle.scenario.specs.Table.{table_or_empty, tables_at};
+ghost use Rattle.scenario.specs.Text.{delays_of, pair_of, record_of};
+ghost use Rattle.scenario.specs.Rules.{is_bad_link, is_bad_pair, links_refused};
 ghost use Rattle.scenario.specs.Refusals.{GivenBy};
-ghost use Rattle.scenario.specs.Parts.{table_in, tables_in, HoldLinks};
-ghost use Rattle.scenario.specs.Place.{array_key, section_key};
+ghost use Rattle.scenario.specs.Parts.{tables_in, AreProcesses, IsTop, links_of, pairs_refused};
 ghost use Rattle.scenario.specs.Ranges.{Subject, link_subject, pair_subject};
-ghost use Rattle.scenario.specs.Faults.{Finds, IsValueFault};
+ghost use Rattle.scenario.specs.Faults.{Finds, IsFoundBy};
 
 use crate::error::ScenarioError;
 use crate::fault::{Fault, MinAboveMax};
 use crate::finding::{Refused, accepted};
-use crate::numbers::ranged;
+use crate::numbers::{Top, ranged};
 use crate::place::{Place, Section, TableArray};
-use crate::table::integer_at;
+use crate::table::{inner_table, integer_at};
 use crate::twice::find_twice;
 use scenario_record::Link;
 use std::alloc::{AllocError, Global};
@@ -27,8 +25,9 @@ use toml::Table;
 const MOST_LOSS: u32 = 1_000;
 
 /// The fault of a link's table, if its `min` is above its `max`.
+#[tactic(auto, unfolding(crate::specs::Faults::IsFoundBy))]
 fn min_above_max(table: &Table) -> Option<Fault<'static>>
-    ensures { (s : Subject) → s.delays ≡ true → IfSome result (IsValueFault s (table_view table.now)) }
+    ensures { (s : Subject) → s.delays ≡ true → IsFoundBy s (table_view table.now) result }
 {
     let min = integer_at(table, "min")?;
     let max = integer_at(table, "max")?;
@@ -39,8 +38,9 @@ fn min_above_max(table: &Table) -> Option<Fault<'static>>
 }
 
 /// The fault of a table of a pair, if that is of one process.
+#[tactic(auto, unfolding(crate::specs::Faults::IsFoundBy))]
 pub(crate) fn to_itself(table: &Table) -> Option<Fault<'static>>
-    ensures { (s : Subject) → s.pair ≡ true → IfSome result (IsValueFault s (table_view table.now)) }
+    ensures { (s : Subject) → s.pair ≡ true → IsFoundBy s (table_view table.now) result }
 {
     let from = integer_at(table, "from")?;
     let to = integer_at(table, "to")?;
@@ -55,11 +55,11 @@ pub(crate) fn to_itself(table: &Table) -> Option<Fault<'static>>
 fn read_link(table: &Table) -> Result<Link, Option<Fault<'static>>>
     ensures test { is_err result ≡ is_bad_link (table_view table.now) }
     ensures value { IfOk result (λ l. l ≡ delays_of (table_view table.now)) }
-    ensures fault { IfErr result (λ found. IfSome found (IsValueFault link_subject (table_view table.now))) }
+    ensures fault { IfErr result (IsFoundBy link_subject (table_view table.now)) }
 {
-    let min = ranged(table, "min", 0, 1, 1_000_000)?;
-    let max = ranged(table, "max", 0, 1, 1_000_000)?;
-    let loss = ranged(table, "loss", 0, 0, MOST_LOSS)?;
+    let min = accepted!(ranged(table, "min", 0, 1, 1_000_000));
+    let max = accepted!(ranged(table, "max", 0, 1, 1_000_000));
+    let loss = accepted!(ranged(table, "loss", 0, 0, MOST_LOSS));
     if max < min {
         return Err(min_above_max(table));
     }
@@ -80,20 +80,16 @@ pub(crate) struct PairLink {
 #[tactic(auto, unfolding(crate::specs::Rules::is_bad_pair, crate::specs::Rules::is_bad_link))]
 pub(crate) fn read_pair(table: &Table, n: u16) -> Result<PairLink, Option<Fault<'static>>>
     ensures test { is_err result ≡ is_bad_pair n (table_view table.now) }
-    ensures from { IfOk result (λ l. l.from ≡ (pair_of (table_view table.now)).0) }
-    ensures to { IfOk result (λ l. l.to ≡ (pair_of (table_view table.now)).1) }
+    ensures pair { IfOk result (λ l. (l.from, l.to) ≡ pair_of (table_view table.now)) }
     ensures link { IfOk result (λ l. l.link ≡ delays_of (table_view table.now)) }
-    ensures from_low { IfOk result (λ l. 1 ≤ l.from) }
-    ensures from_high { IfOk result (λ l. l.from ≤ n) }
-    ensures to_low { IfOk result (λ l. 1 ≤ l.to) }
-    ensures to_high { IfOk result (λ l. l.to ≤ n) }
-    ensures fault { IfErr result (λ found. IfSome found (IsValueFault (pair_subject n) (table_view table.now))) }
+    ensures processes { IfOk result (λ l. AreProcesses n (l.from, l.to)) }
+    ensures fault { IfErr result (IsFoundBy (pair_subject n) (table_view table.now)) }
 {
-    let min = ranged(table, "min", 0, 1, 1_000_000)?;
-    let max = ranged(table, "max", 0, 1, 1_000_000)?;
-    let loss = ranged(table, "loss", 0, 0, MOST_LOSS)?;
-    let from = ranged(table, "from", 0, 1, u32::from(n))?;
-    let to = ranged(table, "to", 0, 1, u32::from(n))?;
+    let min = accepted!(ranged(table, "min", 0, 1, 1_000_000));
+    let max = accepted!(ranged(table, "max", 0, 1, 1_000_000));
+    let loss = accepted!(ranged(table, "loss", 0, 0, MOST_LOSS));
+    let from = accepted!(ranged(table, "from", 0, 1, u32::from(n)));
+    let to = accepted!(ranged(table, "to", 0, 1, u32::from(n)));
     if min > max {
         return Err(min_above_max(table));
     }
@@ -121,17 +117,18 @@ pub(crate) fn place_of(from: u32, to: u32, n: u16) -> usize
 /// one already ends the reading, so no more than one of each pair are taken.
 fn read_pairs<'a>(
     alloc: Global,
+    top: &Top<'_>,
     tables: &[&'a Table],
-    n: u16,
 ) -> Result<Vec<Option<Link>>, Refused<'a>>
-    requires few { n ≤ most_processes }
-    ensures ok { OnOk result (are_bad_pairs n (tables_in tables.now) ≡ false) }
-    ensures value { IfOk result (λ v. HoldLinks n v.items (tables_in tables.now)) }
-    ensures err { IfErr result (λ r. GivenBy ScenarioError.LinkNumbers (
-        are_bad_pairs n (tables_in tables.now)) r.error) }
-    ensures finds { (file : Members) → tables_in tables.now ≡ tables_at (array_key TableArray.Links) file
-        → n ≡ processes_of file → IfErr result (Finds file) }
+    requires numbers { IsTop top.now }
+    requires tables { tables_in tables.now ≡ tables_at (codes "links") (table_view top.now.table.now) }
+    ensures ok { OnOk result (pairs_refused (table_view top.now.table.now) ≡ false) }
+    ensures value { IfOk result (λ v. (common : _) → map (λ link. unwrap_or link common) v.items
+        ≡ links_of common (table_view top.now.table.now)) }
+    ensures err { IfErr result (λ r. GivenBy ScenarioError.LinkNumbers (pairs_refused (table_view top.now.table.now)) r.error) }
+    ensures finds { IfErr result (Finds (table_view top.now.table.now)) }
 {
+    let n = top.numbers.processes;
     let mut links = match vec![in alloc; None; usize::from(n) * usize::from(n)] {
         Ok(links) => links,
         Err(_) => return Err(Refused::memory()),
@@ -160,23 +157,17 @@ fn read_pairs<'a>(
 fn filled(alloc: Global, own: &[Option<Link>], common: Link) -> Result<Vec<Link>, AllocError>
     ensures { IfOk result (λ v. v.items ≡ map (λ link. unwrap_or link common) own.now) }
 {
-    let mut links = Vec::new(alloc);
-    for link in own {
-        links.push(link.unwrap_or(common))?;
-    }
-    Ok(links)
+    own.iter().map(|link| link.unwrap_or(common)).collect(alloc)
 }
 
 /// The common link, where its numbers are in their ranges; else, and where there is no table, the refusal.
-fn read_common(table: Option<&Table>) -> Result<Link, Refused<'static>>
-    ensures ok { OnOk result (is_bad_link (unwrap_or (table_in table.entry) no_members) ≡ false) }
-    ensures value { IfOk result (λ l. l ≡ delays_of (unwrap_or (table_in table.entry) no_members)) }
-    ensures err { IfErr result (λ r. GivenBy ScenarioError.LinkNumbers (
-        is_bad_link (unwrap_or (table_in table.entry) no_members)) r.error) }
-    ensures finds { (file : Members) → table_in table.entry ≡ table_at (section_key Section.Link) file
-        → IfErr result (Finds file) }
+fn read_common(top: &Table) -> Result<Link, Refused<'static>>
+    ensures test { is_err result ≡ is_bad_link (table_or_empty (codes "link") (table_view top.now)) }
+    ensures value { IfOk result (λ l. l ≡ delays_of (table_or_empty (codes "link") (table_view top.now))) }
+    ensures error { IfErr result (λ r. r.error ≡ ScenarioError.LinkNumbers) }
+    ensures finds { IfErr result (Finds (table_view top.now)) }
 {
-    let Some(table) = table else {
+    let Some(table) = inner_table(top, "link") else {
         return Err(Refused {
             error: ScenarioError::LinkNumbers,
             finding: None,
@@ -194,23 +185,19 @@ fn read_common(table: Option<&Table>) -> Result<Link, Refused<'static>>
 /// The links from each of n processes to each, by sender and then by receiver.
 pub(crate) fn read_links<'a>(
     alloc: Global,
-    common: Option<&'a Table>,
+    top: &Top<'a>,
     tables: &[&'a Table],
-    n: u16,
 ) -> Result<Vec<Link>, Refused<'a>>
-    requires few { n ≤ most_processes }
-    ensures ok { OnOk result (
-        are_bad_links n (unwrap_or (table_in common.entry) no_members) (tables_in tables.now) ≡ false) }
-    ensures value { IfOk result (λ v. v.items
-        ≡ links_among (delays_of (unwrap_or (table_in common.entry) no_members)) (tables_in tables.now) n) }
-    ensures err { IfErr result (λ r. GivenBy ScenarioError.LinkNumbers (
-        are_bad_links n (unwrap_or (table_in common.entry) no_members) (tables_in tables.now)) r.error) }
-    ensures finds { (file : Members) → table_in common.entry ≡ table_at (section_key Section.Link) file
-        → tables_in tables.now ≡ tables_at (array_key TableArray.Links) file → n ≡ processes_of file
-        → IfErr result (Finds file) }
+    requires numbers { IsTop top.now }
+    requires tables { tables_in tables.now ≡ tables_at (codes "links") (table_view top.now.table.now) }
+    ensures ok { OnOk result (links_refused (table_view top.now.table.now) ≡ false) }
+    ensures value { IfOk result (λ v. v.items ≡ (record_of (table_view top.now.table.now)).links) }
+    ensures all { IfOk result (λ v. length v.items ≡ top.now.numbers.processes * top.now.numbers.processes) }
+    ensures err { IfErr result (λ r. GivenBy ScenarioError.LinkNumbers (links_refused (table_view top.now.table.now)) r.error) }
+    ensures finds { IfErr result (Finds (table_view top.now.table.now)) }
 {
-    let common = accepted!(read_common(common));
-    let own = accepted!(read_pairs(alloc, tables, n));
+    let common = accepted!(read_common(top.table));
+    let own = accepted!(read_pairs(alloc, top, tables));
     match filled(alloc, &own, common) {
         Ok(links) => Ok(links),
         Err(_) => Err(Refused::memory()),

@@ -5,7 +5,7 @@ ghost use Rattle.toml.specs.View.{table_view};
 ghost use Rattle.scenario.specs.Table.{same_text};
 ghost use Rattle.scenario.specs.Text.{algorithm_named, watch_named};
 ghost use Rattle.scenario.specs.Ranges.{Subject, allowed_of};
-ghost use Rattle.scenario.specs.Faults.{IsValueFault};
+ghost use Rattle.scenario.specs.Faults.{IsFoundBy};
 
 use crate::fault::{Fault, OtherName};
 use crate::table::text_at;
@@ -47,22 +47,18 @@ pub(crate) fn watch_of(name: &str) -> Option<Watch>
 fn is_among(names: &[&str], text: &str) -> bool
     ensures { result ≡ list_any (λ name. same_text name.now text.now) names.now }
 {
-    for name in names {
-        if *name == text {
-            return true;
-        }
-    }
-    false
+    names.iter().any(|name| *name == text)
 }
 
 /// The fault of the text at a key, if there is one and it is none of these names.
+#[tactic(auto, unfolding(crate::specs::Faults::IsFoundBy))]
 pub(crate) fn other_name<'a>(
     table: &'a Table,
     key: &'static str,
     allowed: &'static [&'static str],
 ) -> Option<Fault<'a>>
     ensures { (s : Subject) → allowed_of s.names key.now ≡ Some (map (λ name. name.now) allowed.now)
-        → IfSome result (IsValueFault s (table_view table.now)) }
+        → IsFoundBy s (table_view table.now) result }
 {
     let value = text_at(table, key)?;
     if is_among(allowed, value) {

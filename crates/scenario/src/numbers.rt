@@ -9,7 +9,7 @@ ghost use Rattle.scenario.specs.Refusals.{number_rules};
 ghost use Rattle.scenario.specs.Parts.{AreNumbersOf};
 ghost use Rattle.scenario.specs.Groups.{Passes, StopsAt};
 ghost use Rattle.scenario.specs.Ranges.{Subject, ends_of, subject_of};
-ghost use Rattle.scenario.specs.Faults.{Finds, IsValueFault};
+ghost use Rattle.scenario.specs.Faults.{Finds, IsFoundBy};
 
 use crate::error::ScenarioError;
 use crate::fault::{Fault, Outside};
@@ -28,10 +28,10 @@ pub fn natural(value: i64) -> Option<u64>
 }
 
 /// The number at a key, or its default, where it isn't negative.
+#[tactic(auto, unfolding(crate::specs::Rules::is_negative))]
 fn natural_at(table: &Table, key: &str, default: u32) -> Option<u64>
     ensures read { result ≡ natural_of (number_or key.now (pos default) (table_view table.now)) }
     ensures test { is_none result ≡ is_negative key.now default (table_view table.now) }
-    ensures value { IfSome result (λ n. n ≡ number_at key.now default (table_view table.now)) }
     ensures high { IfSome result (λ n. n < 2 ^ 63) }
 {
     natural(number(table, key, i64::from(default)))
@@ -56,9 +56,10 @@ pub fn lies_within(value: i64, low: u64, high: u64) -> bool
 }
 
 /// The fault of the number at a key, if there is one and it lies outside these ends.
+#[tactic(auto, unfolding(crate::specs::Faults::IsFoundBy))]
 fn outside(table: &Table, key: &'static str, low: u64, high: u64) -> Option<Fault<'static>>
     ensures { (s : Subject) → ends_of s.ranges key.now ≡ Some (low, high)
-        → IfSome result (IsValueFault s (table_view table.now)) }
+        → IsFoundBy s (table_view table.now) result }
 {
     let value = integer_at(table, key)?;
     if lies_within(value, low, high) {
@@ -73,6 +74,7 @@ fn outside(table: &Table, key: &'static str, low: u64, high: u64) -> Option<Faul
 }
 
 /// The number at a key, or its default, where it lies between these ends; else its fault.
+#[tactic(auto, unfolding(crate::specs::Rules::is_outside, crate::specs::Text::number_at))]
 pub(crate) fn ranged(
     table: &Table,
     key: &'static str,
@@ -85,7 +87,7 @@ pub(crate) fn ranged(
     ensures low { IfOk result (λ n. low ≤ n) }
     ensures high { IfOk result (λ n. n ≤ high) }
     ensures fault { (s : Subject) → ends_of s.ranges key.now ≡ Some (low, high)
-        → IfErr result (λ found. IfSome found (IsValueFault s (table_view table.now))) }
+        → IfErr result (IsFoundBy s (table_view table.now)) }
 {
     let Some(value) = natural_at(table, key, default) else {
         return Err(outside(table, key, u64::from(low), u64::from(high)));
@@ -121,6 +123,13 @@ pub(crate) struct TopNumbers {
     pub(crate) seed: u64,
 }
 
+/// A file's top table, and its numbers.
+#[derive(Clone, Copy)]
+pub(crate) struct Top<'a> {
+    pub(crate) table: &'a Table,
+    pub(crate) numbers: TopNumbers,
+}
+
 /// The number at a key of the top table, or its default, where it lies between these ends; else this refusal.
 fn top_number(
     top: &Table,
@@ -145,6 +154,7 @@ fn top_number(
 }
 
 /// The seed, where it isn't negative.
+#[tactic(auto, unfolding(crate::specs::Text::number_at))]
 fn read_seed(top: &Table) -> Result<u64, Refused<'static>>
     ensures test { is_err result ≡ is_negative (codes "seed") 0 (table_view top.now) }
     ensures value { IfOk result (λ n. n ≡ number_at (codes "seed") 0 (table_view top.now)) }

@@ -1,22 +1,19 @@
 //! The outage tables.
-ghost use Rattle.std.specs.Prelude.{◌≡◌, ◌≤◌, ◌<◌, ◌+◌, ◌++◌, ◌∷◌, ◌*◌, [], false, replicate, get_or, length, vec_len, is_err, slice_set, true, OnOk, IfOk, IfErr, IfSome};
-ghost use Rattle.process_api.specs.Bounds.{most_processes};
-ghost use Rattle.toml.specs.Data.{Members};
+ghost use Rattle.std.specs.Prelude.{◌≡◌, ◌≤◌, ◌<◌, ◌+◌, ◌++◌, ◌∷◌, ◌*◌, [], false, replicate, get_or, length, codes, vec_len, is_err, slice_set, true, OnOk, IfOk, IfErr, IfSome};
 ghost use Rattle.toml.specs.View.{table_view};
 ghost use Rattle.scenario.specs.Table.{tables_at};
-ghost use Rattle.scenario.specs.Text.{pair_of, outage_of, outages_among, processes_of};
-ghost use Rattle.scenario.specs.Rules.{is_bad_outage, are_bad_outages};
+ghost use Rattle.scenario.specs.Text.{pair_of, outage_of, record_of};
+ghost use Rattle.scenario.specs.Rules.{is_bad_outage, outages_refused};
 ghost use Rattle.scenario.specs.Refusals.{GivenBy};
-ghost use Rattle.scenario.specs.Parts.{tables_in, outages_in};
-ghost use Rattle.scenario.specs.Place.{array_key};
+ghost use Rattle.scenario.specs.Parts.{tables_in, outages_in, AreProcesses, IsTop};
 ghost use Rattle.scenario.specs.Ranges.{Subject, outage_subject};
-ghost use Rattle.scenario.specs.Faults.{Finds, IsValueFault};
+ghost use Rattle.scenario.specs.Faults.{Finds, IsFoundBy};
 
 use crate::error::ScenarioError;
 use crate::fault::{Fault, NotBefore};
-use crate::finding::Refused;
+use crate::finding::{Refused, accepted};
 use crate::links::{place_of, to_itself};
-use crate::numbers::ranged;
+use crate::numbers::{Top, ranged};
 use crate::place::TableArray;
 use crate::table::integer_at;
 use scenario_record::Outage;
@@ -34,8 +31,9 @@ pub(crate) struct PairOutage {
 }
 
 /// The fault of a table of `outage`, if its `begin` isn't below its `until`.
+#[tactic(auto, unfolding(crate::specs::Faults::IsFoundBy))]
 fn not_before(table: &Table) -> Option<Fault<'static>>
-    ensures { (s : Subject) → s.ends ≡ true → IfSome result (IsValueFault s (table_view table.now)) }
+    ensures { (s : Subject) → s.ends ≡ true → IsFoundBy s (table_view table.now) result }
 {
     let begin = integer_at(table, "begin")?;
     let until = integer_at(table, "until")?;
@@ -49,19 +47,15 @@ fn not_before(table: &Table) -> Option<Fault<'static>>
 #[tactic(auto, unfolding(crate::specs::Rules::is_bad_outage))]
 fn read_outage(table: &Table, n: u16) -> Result<PairOutage, Option<Fault<'static>>>
     ensures test { is_err result ≡ is_bad_outage n (table_view table.now) }
-    ensures from { IfOk result (λ o. o.from ≡ (pair_of (table_view table.now)).0) }
-    ensures to { IfOk result (λ o. o.to ≡ (pair_of (table_view table.now)).1) }
+    ensures pair { IfOk result (λ o. (o.from, o.to) ≡ pair_of (table_view table.now)) }
     ensures outage { IfOk result (λ o. o.outage ≡ outage_of (table_view table.now)) }
-    ensures from_low { IfOk result (λ o. 1 ≤ o.from) }
-    ensures from_high { IfOk result (λ o. o.from ≤ n) }
-    ensures to_low { IfOk result (λ o. 1 ≤ o.to) }
-    ensures to_high { IfOk result (λ o. o.to ≤ n) }
-    ensures fault { IfErr result (λ found. IfSome found (IsValueFault (outage_subject n) (table_view table.now))) }
+    ensures processes { IfOk result (λ o. AreProcesses n (o.from, o.to)) }
+    ensures fault { IfErr result (IsFoundBy (outage_subject n) (table_view table.now)) }
 {
-    let from = ranged(table, "from", 0, 1, u32::from(n))?;
-    let to = ranged(table, "to", 0, 1, u32::from(n))?;
-    let begin = ranged(table, "begin", 0, 0, 10_000_000)?;
-    let until = ranged(table, "until", 0, 0, 10_000_000)?;
+    let from = accepted!(ranged(table, "from", 0, 1, u32::from(n)));
+    let to = accepted!(ranged(table, "to", 0, 1, u32::from(n)));
+    let begin = accepted!(ranged(table, "begin", 0, 0, 10_000_000));
+    let until = accepted!(ranged(table, "until", 0, 0, 10_000_000));
     if from == to {
         return Err(to_itself(table));
     }
@@ -97,17 +91,17 @@ fn add(outages: &mut Vec<Vec<Outage>>, place: usize, outage: Outage) -> Result<(
 /// of their tables. Where there are no tables there is no list, of no link.
 pub(crate) fn read_outages<'a>(
     alloc: Global,
+    top: &Top<'_>,
     tables: &[&'a Table],
-    n: u16,
 ) -> Result<Vec<Vec<Outage>>, Refused<'a>>
-    requires few { n ≤ most_processes }
-    ensures ok { OnOk result (are_bad_outages n (tables_in tables.now) ≡ false) }
-    ensures value { IfOk result (λ v. outages_in v.items ≡ outages_among (tables_in tables.now) n) }
-    ensures err { IfErr result (λ r. GivenBy ScenarioError.OutageLine (
-        are_bad_outages n (tables_in tables.now)) r.error) }
-    ensures finds { (file : Members) → tables_in tables.now ≡ tables_at (array_key TableArray.Outage) file
-        → n ≡ processes_of file → IfErr result (Finds file) }
+    requires numbers { IsTop top.now }
+    requires tables { tables_in tables.now ≡ tables_at (codes "outage") (table_view top.now.table.now) }
+    ensures ok { OnOk result (outages_refused (table_view top.now.table.now) ≡ false) }
+    ensures value { IfOk result (λ v. outages_in v.items ≡ (record_of (table_view top.now.table.now)).outages) }
+    ensures err { IfErr result (λ r. GivenBy ScenarioError.OutageLine (outages_refused (table_view top.now.table.now)) r.error) }
+    ensures finds { IfErr result (Finds (table_view top.now.table.now)) }
 {
+    let n = top.numbers.processes;
     if tables.is_empty() {
         return Ok(Vec::new(alloc));
     }

@@ -1,12 +1,12 @@
 //! The parts of a scenario that stand on the numbers of its top table.
 ghost use Rattle.std.specs.Prelude.{◌≡◌, true, Some, OnOk, OnErr, IfOk, IfErr};
 ghost use Rattle.toml.specs.View.{table_view};
-ghost use Rattle.scenario.specs.Text.{algorithm_in};
+ghost use Rattle.scenario.specs.Text.{algorithm_in, record_of};
 ghost use Rattle.scenario.specs.Rules.{algorithm_refused};
 ghost use Rattle.scenario.specs.Refusals.{part_rules};
 ghost use Rattle.scenario.specs.Faults.{Finds};
-ghost use Rattle.scenario.specs.Parts.{AreTables, AreNumbersOf, ArePartsOf};
-ghost use Rattle.scenario.specs.Groups.{Passes, StopsFirst};
+ghost use Rattle.scenario.specs.Parts.{AreTables, IsTop};
+ghost use Rattle.scenario.specs.Groups.{Passes, StopsAt};
 
 use crate::below::{below_lookahead, first_below};
 use crate::crashes::read_crashes;
@@ -16,27 +16,14 @@ use crate::finding::{Refused, accepted};
 use crate::keys::Tables;
 use crate::links::read_links;
 use crate::names::{algorithm_of, other_name};
-use crate::numbers::TopNumbers;
+use crate::numbers::Top;
 use crate::outages::read_outages;
 use crate::place::Place;
 use crate::proposals::read_proposals;
 use crate::table::text;
-use process_api::DetectorNumbers;
-use scenario_record::{AlgorithmKind, Link, Outage};
+use scenario_record::{AlgorithmKind, Fields};
 use std::alloc::Global;
 use toml::Table;
-
-/// The parts of a scenario that stand on the numbers of its top table.
-#[derive(Drop)]
-pub(crate) struct Parts {
-    pub(crate) algorithm: AlgorithmKind,
-    pub(crate) proposals: Vec<u32>,
-    pub(crate) detector: DetectorNumbers,
-    pub(crate) share: Option<u32>,
-    pub(crate) links: Vec<Link>,
-    pub(crate) crashes: Vec<Option<u32>>,
-    pub(crate) outages: Vec<Vec<Outage>>,
-}
 
 /// The algorithm that the top table names; else the refusal.
 fn read_algorithm(top: &Table) -> Result<AlgorithmKind, Refused<'_>>
@@ -54,37 +41,42 @@ fn read_algorithm(top: &Table) -> Result<AlgorithmKind, Refused<'_>>
     }
 }
 
-/// The parts of a scenario, where none is refused; else the refusal of the first that is.
+/// What a scenario has, with the parts that stand on the numbers of its top table, where none is refused; else the
+/// refusal of the first that is.
 pub(crate) fn read_parts<'a>(
     alloc: Global,
+    top: &Top<'a>,
     tables: &Tables<'a>,
-    numbers: &TopNumbers,
-) -> Result<Parts, Refused<'a>>
-    requires tables { AreTables tables.now }
-    requires numbers { AreNumbersOf (table_view tables.now.top.now) numbers.now }
-    ensures ok { OnOk result (Passes part_rules (Some (table_view tables.now.top.now))) }
-    ensures value { IfOk result (ArePartsOf (table_view tables.now.top.now)) }
-    ensures err { IfErr result (λ r. StopsFirst part_rules (Some (table_view tables.now.top.now)) r.error) }
-    ensures finds { IfErr result (Finds (table_view tables.now.top.now)) }
+) -> Result<Fields, Refused<'a>>
+    requires numbers { IsTop top.now }
+    requires tables { AreTables (table_view top.now.table.now) tables.now }
+    ensures ok { OnOk result (Passes part_rules (Some (table_view top.now.table.now))) }
+    ensures value { IfOk result (λ s. s ≡ record_of (table_view top.now.table.now)) }
+    ensures err { IfErr result (λ r. StopsAt part_rules (Some (table_view top.now.table.now)) r.error) }
+    ensures finds { IfErr result (Finds (table_view top.now.table.now)) }
 {
-    let n = numbers.processes;
-    let algorithm = accepted!(read_algorithm(tables.top));
-    let proposals = accepted!(read_proposals(alloc, tables.top, algorithm, n));
-    let detector = accepted!(read_detector(tables.detector));
-    let share = accepted!(read_share(tables.share));
-    let links = accepted!(read_links(alloc, tables.link, &tables.links, n));
-    if let Some(pair) = first_below(&links, numbers.lookahead, n) {
-        return Err(below_lookahead(&links, numbers.lookahead, n, pair));
+    let algorithm = accepted!(read_algorithm(top.table));
+    let proposals = accepted!(read_proposals(alloc, top, algorithm));
+    let detector = accepted!(read_detector(top.table));
+    let share = accepted!(read_share(top.table));
+    let links = accepted!(read_links(alloc, top, &tables.links));
+    if let Some(pair) = first_below(top, &links) {
+        return Err(below_lookahead(top, &links, pair));
     }
-    let crashes = accepted!(read_crashes(alloc, &tables.crashes, n));
-    let outages = accepted!(read_outages(alloc, &tables.outages, n));
-    Ok(Parts {
+    let crashes = accepted!(read_crashes(alloc, top, &tables.crashes));
+    let outages = accepted!(read_outages(alloc, top, &tables.outages));
+    Ok(Fields {
+        processes: top.numbers.processes,
+        horizon: top.numbers.horizon,
+        lookahead: top.numbers.lookahead,
+        limit: top.numbers.limit,
+        seed: top.numbers.seed,
         algorithm,
-        proposals,
         detector,
         share,
-        links,
+        proposals,
         crashes,
+        links,
         outages,
     })
 }

@@ -4,15 +4,16 @@ ghost use Rattle.std.specs.List.{list_any};
 ghost use Rattle.toml.specs.Data.{Members, as_array, get_member};
 ghost use Rattle.toml.specs.View.{items_view, table_view};
 ghost use Rattle.scenario.specs.Table.{the_integers, has_key};
-ghost use Rattle.scenario.specs.Text.{natural, natural_of, algorithm_in, processes_of, proposals_of};
-ghost use Rattle.scenario.specs.Rules.{is_bad_proposal, has_other_proposals, has_bad_proposals};
+ghost use Rattle.scenario.specs.Text.{natural, natural_of, algorithm_in, processes_of, proposals_of, record_of};
+ghost use Rattle.scenario.specs.Rules.{is_bad_proposal, has_other_proposals, proposals_refused};
+ghost use Rattle.scenario.specs.Parts.{IsTop};
 ghost use Rattle.scenario.specs.Refusals.{GivenBy};
 ghost use Rattle.scenario.specs.Faults.{AsksForOne, Finds, IsProposalsFault};
 
 use crate::error::ScenarioError;
 use crate::fault::ProposalsFault;
 use crate::finding::{Finding, Refused};
-use crate::numbers::{lies_within, natural};
+use crate::numbers::{Top, lies_within, natural};
 use crate::table::{has, inner_array};
 use scenario_record::AlgorithmKind;
 use std::alloc::{AllocError, Global};
@@ -149,22 +150,20 @@ fn read_each_proposal(alloc: Global, top: &Table, n: u16) -> Result<Vec<u32>, Re
 /// What n processes propose, of process 1 first; nothing where there is no algorithm.
 pub(crate) fn read_proposals(
     alloc: Global,
-    top: &Table,
+    top: &Top<'_>,
     algorithm: AlgorithmKind,
-    n: u16,
 ) -> Result<Vec<u32>, Refused<'static>>
-    requires { 1 ≤ n }
-    ensures ok { OnOk result (has_bad_proposals (Some algorithm) n (table_view top.now) ≡ false) }
-    ensures value { IfOk result (λ v. v.items ≡ proposals_of (table_view top.now)) }
-    ensures err { IfErr result (λ r. GivenBy ScenarioError.Proposals (
-        has_bad_proposals (Some algorithm) n (table_view top.now)) r.error) }
-    ensures finds { Some algorithm ≡ algorithm_in (table_view top.now) → n ≡ processes_of (table_view top.now)
-        → IfErr result (Finds (table_view top.now)) }
+    requires numbers { IsTop top.now }
+    requires algorithm { Some algorithm ≡ algorithm_in (table_view top.now.table.now) }
+    ensures ok { OnOk result (proposals_refused (table_view top.now.table.now) ≡ false) }
+    ensures value { IfOk result (λ v. v.items ≡ (record_of (table_view top.now.table.now)).proposals) }
+    ensures err { IfErr result (λ r. GivenBy ScenarioError.Proposals (proposals_refused (table_view top.now.table.now)) r.error) }
+    ensures finds { IfErr result (Finds (table_view top.now.table.now)) }
 {
     match algorithm {
-        AlgorithmKind::Idle => read_no_proposals(alloc, top),
-        AlgorithmKind::Strong | AlgorithmKind::EventuallyStrong => read_each_proposal(
-            alloc, top, n,
-        ),
+        AlgorithmKind::Idle => read_no_proposals(alloc, top.table),
+        AlgorithmKind::Strong | AlgorithmKind::EventuallyStrong => {
+            read_each_proposal(alloc, top.table, top.numbers.processes)
+        }
     }
 }

@@ -9,9 +9,9 @@ ghost use Rattle.scenario.specs.Faults.{Finds};
 use crate::error::ScenarioError;
 use crate::finding::{Refused, accepted};
 use crate::keys::{check_keys, tables_of};
-use crate::numbers::read_numbers;
+use crate::numbers::{Top, read_numbers};
 use crate::parts::read_parts;
-use scenario_record::{Fields, Scenario};
+use scenario_record::Scenario;
 use std::alloc::{AllocError, Global};
 use toml::Table;
 
@@ -67,21 +67,8 @@ pub fn read_with_place(alloc: Global, table: &Table) -> Result<Scenario, Refused
         Ok(tables) => tables,
         Err(_) => return Err(Refused::memory()),
     };
-    accepted!(check_keys(&tables));
-    let numbers = accepted!(read_numbers(tables.top));
-    let parts = accepted!(read_parts(alloc, &tables, &numbers));
-    Ok(Scenario::of(Fields {
-        processes: numbers.processes,
-        horizon: numbers.horizon,
-        lookahead: numbers.lookahead,
-        limit: numbers.limit,
-        seed: numbers.seed,
-        algorithm: parts.algorithm,
-        detector: parts.detector,
-        share: parts.share,
-        proposals: parts.proposals,
-        crashes: parts.crashes,
-        links: parts.links,
-        outages: parts.outages,
-    }))
+    accepted!(check_keys(table, &tables));
+    let numbers = accepted!(read_numbers(table));
+    let top = Top { table, numbers };
+    Ok(Scenario::of(accepted!(read_parts(alloc, &top, &tables))))
 }

@@ -51,13 +51,11 @@ pub(crate) fn text_at<'a>(table: &'a Table, key: &str) -> Option<&'a str>
 }
 
 /// The integer at a key, or the default where there is none.
+#[tactic(auto, unfolding(crate::specs::Table::number_or))]
 pub(crate) fn number(table: &Table, key: &str, default: i64) -> i64
     ensures { result ≡ number_or key.now default (table_view table.now) }
 {
-    match table.get(key) {
-        Some(value) => value.as_integer().unwrap_or(default),
-        None => default,
-    }
+    integer_at(table, key).unwrap_or(default)
 }
 
 /// Whether the file with this table is of version 2.
@@ -77,30 +75,30 @@ pub(crate) fn is_fresh(table: &Table) -> bool
 }
 
 /// Whether the key is there.
+#[tactic(auto, unfolding(crate::specs::Table::has_key), using(crate::proofs::FieldFacts::some_of_map))]
 pub(crate) fn has(table: &Table, key: &str) -> bool
     ensures { result ≡ has_key key.now (table_view table.now) }
 {
-    table.get(key).is_some()
+    value_at(table, key).is_some()
 }
 
 /// The text at a key, or the default where there is none.
+#[tactic(auto, unfolding(crate::specs::Table::text_or))]
 pub(crate) fn text<'a>(table: &'a Table, key: &str, default: &'a str) -> &'a str
     ensures { result.now ≡ text_or key.now default.entry.now (table_view table.now) }
 {
-    match table.get(key) {
-        Some(value) => match value.as_str() {
-            Some(word) => word,
-            None => default,
-        },
+    match text_at(table, key) {
+        Some(word) => word,
         None => default,
     }
 }
 
 /// The table at a key, if there is one.
+#[tactic(auto, unfolding(crate::specs::Table::table_at))]
 pub(crate) fn inner_table<'a>(table: &'a Table, key: &str) -> Option<&'a Table>
     ensures { table_in result ≡ table_at key.now (table_view table.now) }
 {
-    match table.get(key) {
+    match value_at(table, key) {
         Some(value) => value.as_table(),
         None => None,
     }
@@ -149,7 +147,7 @@ pub fn inner_array<'a>(table: &'a Table, key: &str) -> Option<&'a Vec<Value>>
     ensures { option_map (λ v. array_view v.now) result
         ≡ option_and_then as_array (get_member key.now (table_view table.now)) }
 {
-    match table.get(key) {
+    match value_at(table, key) {
         Some(value) => value.as_array(),
         None => None,
     }
@@ -176,6 +174,7 @@ pub(crate) fn inner_tables<'a>(
 }
 
 /// Whether the key is one of these.
+#[tactic(auto, using(crate::proofs::FieldFacts::any_listed))]
 pub fn is_listed_key(fields: &[Field], key: &str) -> bool
     ensures { result ≡ is_listed (fields_of fields.now) key.now }
 {
@@ -202,13 +201,15 @@ pub(crate) fn unlisted_key<'a>(fields: &[Field], table: &'a Table) -> Option<&'a
 }
 
 /// Whether the field is needed and missing.
+#[tactic(auto, unfolding(crate::specs::Table::is_lacking), using(crate::proofs::FieldFacts::none_of_map))]
 fn is_lacking_field(field: &Field, table: &Table) -> bool
     ensures { result ≡ is_lacking (field_of field.now) (table_view table.now) }
 {
-    field.needed && table.get(field.key).is_none()
+    field.needed && value_at(table, field.key).is_none()
 }
 
 /// The first needed key that is missing.
+#[tactic(auto, using(crate::proofs::FieldFacts::any_lacking))]
 pub(crate) fn lacking_key(fields: &[Field], table: &Table) -> Option<&'static str>
     ensures test { is_some result ≡ has_lacking (fields_of fields.now) (table_view table.now) }
     ensures key { IfSome result (λ k. IsMissing (fields_of fields.now) (table_view table.now) k.now) }
@@ -243,6 +244,7 @@ impl Kind {
 }
 
 /// The field's value, where it is there and of another kind.
+#[tactic(auto, unfolding(crate::specs::Table::is_mistyped))]
 fn mistyped_field(field: &Field, table: &Table) -> Option<WrongKind>
     ensures test { is_some result ≡ is_mistyped (field_of field.now) (table_view table.now) }
     ensures wrong { IfSome result (IsWrongKindOf (field_of field.now) (table_view table.now)) }
@@ -261,6 +263,7 @@ fn mistyped_field(field: &Field, table: &Table) -> Option<WrongKind>
 }
 
 /// The first value at a listed key that is of another kind.
+#[tactic(auto, using(crate::proofs::FieldFacts::any_mistyped))]
 pub(crate) fn mistyped_key(fields: &[Field], table: &Table) -> Option<WrongKind>
     ensures test { is_some result ≡ has_mistyped (fields_of fields.now) (table_view table.now) }
     ensures wrong { IfSome result (IsWrongKind (fields_of fields.now) (table_view table.now)) }

@@ -7,7 +7,7 @@ ghost use Rattle.scenario.specs.Text.{processes_of};
 ghost use Rattle.scenario.specs.Parts.{tables_in};
 ghost use Rattle.scenario.specs.Place.{array_key};
 ghost use Rattle.scenario.specs.Ranges.{array_error, subject_of};
-ghost use Rattle.scenario.specs.Faults.{Breaks, IsValueFault, is_of_pair as of_pair};
+ghost use Rattle.scenario.specs.Faults.{Breaks, IsFoundBy, is_of_pair as of_pair};
 
 use crate::crashes::read_crash;
 use crate::error::ScenarioError;
@@ -19,9 +19,10 @@ use crate::table::{has_integer_at, integer_at};
 use toml::Table;
 
 /// The fault of a table of `links` or of `crash` by itself, of n processes.
+#[tactic(auto, unfolding(crate::specs::Faults::IsFoundBy))]
 fn own_fault(array: TableArray, table: &Table, n: u16) -> Option<Fault<'static>>
-    ensures { (file : Members) (number : ℕ) → n ≡ processes_of file → IfSome result
-        (IsValueFault (subject_of (array_error array) (Place.Element array number) file) (table_view table.now)) }
+    ensures { (file : Members) (number : ℕ) → n ≡ processes_of file
+        → IsFoundBy (subject_of (array_error array) (Place.Element array number) file) (table_view table.now) result }
 {
     match array {
         TableArray::Links => match read_pair(table, n) {

@@ -1,6 +1,5 @@
 use Rattle.std.proofs.Common.{refl}
 use Rattle.std.proofs.lemmas.Str.{IsUtf8-past_char}
-use Rattle.printable.specs.Printable.{printable}
 use Rattle.printable.proofs.Characters.{one_more, ended}
 use Rattle.printable.proofs.write_text.Goals as goal
 
@@ -9,9 +8,8 @@ loop-c-preserved g c =
     let held = c.loop-c.invariant in
     let parts = c.in-Some.ensures.steps.0 in (
       IsUtf8-past_char _ _ c.in-Some.c held.0 parts,
-      λ plain. one_more _ _ _ _ _ _ _ _ c.in-Some.c held.0 parts (c.in_ok-write_shown.ensures (held.1 plain).written.plain refl) (held.1 plain),
+      λ plain. one_more _ _ _ _ _ _ _ _ c.in-Some.c held.0 parts (c.in_ok-write_one.ensures (held.1 plain).written.plain refl) (held.1 plain),
     )
 
 pub returns : goal.returns
-unfolding printable
 returns g c = λ plain ok. ended _ _ _ _ _ _ c.in-None.ensures.steps.0.0 (c.loop-c.invariant.1 plain)

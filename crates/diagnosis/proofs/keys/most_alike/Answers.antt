@@ -9,7 +9,7 @@ loop-field-preserved c =
     let counted : c.in_ok-edits.edits ≡ edits c.args.key.now (get_or c.args.fields.now c.loop-field.field-index no_field).key.now = c.in_ok-edits.ensures in
     elim c.if-edits-least.branch [
       | then-edits-least w ↦ rw (w.best-is, w.least-is) (nearer c.args.fields.now c.loop-field.field-index c.args.key.now c.loop-field.best c.loop-field.least c.in_ok-edits.edits c.loop-field-test.true counted w.if-edits-least.true c.loop-field.invariant)
-      | else-edits-least w ↦ rw (w.best-is, w.least-is) (farther c.args.fields.now c.loop-field.field-index c.args.key.now c.loop-field.best c.loop-field.least c.in_ok-edits.edits counted w.if-edits-least.false c.loop-field.invariant)
+      | else-edits-least w ↦ rw (w.best-is, w.least-is) (farther c.args.fields.now c.loop-field.field-index c.args.key.now c.loop-field.best c.loop-field.least c.in_ok-edits.edits c.loop-field-test.true counted w.if-edits-least.false c.loop-field.invariant)
     ]
 
 pub returns : goal.returns

@@ -1,11 +1,13 @@
-use Rattle.std.proofs.Common.{◌≡◌, map, take, false}
-use Rattle.toml.specs.View.{table_view}
+use Rattle.std.proofs.Common.{◌≡◌, take, false}
+use Rattle.scenario.specs.Text.{crash_tick}
 use Rattle.scenario.specs.Rules.{are_bad_crashes}
-use Rattle.scenario.specs.Parts.{HoldCrashes}
+use Rattle.scenario.specs.Parts.{tables_in}
+use Rattle.scenario.proofs.KeyFacts.{process_keys}
+use Rattle.scenario.proofs.Slots.{AreHeld, once}
 use Rattle.scenario.proofs.crashes.read_crashes.Given as goal
 
 abbrev pub invariant-loop-i : goal.invariant-loop-i
 invariant-loop-i l = record {
-  clean : are_bad_crashes l.n (map (λ m. table_view m.now) (take l.i l.tables)) ≡ false;
-  hold : HoldCrashes l.n l.ticks.items (map (λ m. table_view m.now) (take l.i l.tables));
+  clean : are_bad_crashes l.n (tables_in (take l.i l.tables)) ≡ false;
+  hold : AreHeld (process_keys l.n) (once crash_tick) l.ticks.items (tables_in (take l.i l.tables));
 }

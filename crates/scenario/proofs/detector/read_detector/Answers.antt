@@ -1,17 +1,10 @@
-use Rattle.std.proofs.Common.{◌≡◌, codes, refl, sym}
+use Rattle.std.proofs.Common.{sym}
 use Rattle.toml.specs.View.{table_view}
-use Rattle.scenario.specs.Table.{table_at}
-use Rattle.scenario.specs.Parts.{table_in}
 use Rattle.scenario.proofs.NumberFacts.{no_detector}
 use Rattle.scenario.proofs.detector.read_detector.Goals as goal
 
-pub returns-in_default-clause-err : goal.returns-in_default-clause-err
-returns-in_default-clause-err c = λ other. (refl, rw c.in_default.is no_detector)
-
-pub returns-in_default-clause-finds : goal.returns-in_default-clause-finds
-returns-in_default-clause-finds c = λ file is. tt
+pub returns-in_default-clause-test : goal.returns-in_default-clause-test
+returns-in_default-clause-test c = rw (← rw c.in_default.is at c.inner_table.ensures) (sym no_detector)
 
 pub returns-in-Err-clause-finds : goal.returns-in-Err-clause-finds
-returns-in-Err-clause-finds c = λ file is.
-    let same : table_in c.args.table ≡ table_at (codes "detector") file = is in
-    c.at.ensures.finds file (table_view c.in-Some.table.now) (sym (rw c.in-Some.is at same)) c.in-Err.ensures.fault
+returns-in-Err-clause-finds c = c.at.ensures.finds (table_view c.args.top.now) (table_view c.in-Some.table.now) (sym (rw c.in-Some.is at c.inner_table.ensures)) (c.in-Err.ensures.fault)

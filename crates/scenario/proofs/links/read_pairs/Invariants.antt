@@ -1,11 +1,13 @@
-use Rattle.std.proofs.Common.{◌≡◌, map, take, false}
-use Rattle.toml.specs.View.{table_view}
+use Rattle.std.proofs.Common.{◌≡◌, take, false}
+use Rattle.scenario.specs.Text.{delays_of}
 use Rattle.scenario.specs.Rules.{are_bad_pairs}
-use Rattle.scenario.specs.Parts.{HoldLinks}
+use Rattle.scenario.specs.Parts.{tables_in}
+use Rattle.scenario.proofs.KeyFacts.{pair_keys}
+use Rattle.scenario.proofs.Slots.{AreHeld, once}
 use Rattle.scenario.proofs.links.read_pairs.Given as goal
 
 abbrev pub invariant-loop-i : goal.invariant-loop-i
 invariant-loop-i l = record {
-  clean : are_bad_pairs l.n (map (λ m. table_view m.now) (take l.i l.tables)) ≡ false;
-  hold : HoldLinks l.n l.links.items (map (λ m. table_view m.now) (take l.i l.tables));
+  clean : are_bad_pairs l.n (tables_in (take l.i l.tables)) ≡ false;
+  hold : AreHeld (pair_keys l.n) (once delays_of) l.links.items (tables_in (take l.i l.tables));
 }

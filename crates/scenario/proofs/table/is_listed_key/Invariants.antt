@@ -1,7 +1,8 @@
 use Rattle.std.proofs.Common.{◌≡◌, drop}
-use Rattle.scenario.specs.Table.{is_listed}
+use Rattle.std.specs.List.{list_any}
+use Rattle.scenario.specs.Table.{is_listed, same_text}
 use Rattle.scenario.specs.Parts.{fields_of}
 use Rattle.scenario.proofs.table.is_listed_key.Given as goal
 
 abbrev pub invariant-loop-field : goal.invariant-loop-field
-invariant-loop-field l = is_listed (fields_of l.fields) l.key ≡ is_listed (fields_of (drop l.field-index l.fields)) l.key
+invariant-loop-field l = is_listed (fields_of l.fields) l.key ≡ list_any (λ f. same_text f.key.now l.key) (drop l.field-index l.fields)

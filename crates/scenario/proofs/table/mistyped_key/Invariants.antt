@@ -1,8 +1,9 @@
 use Rattle.std.proofs.Common.{◌≡◌, drop}
+use Rattle.std.specs.List.{list_any}
 use Rattle.toml.specs.View.{table_view}
-use Rattle.scenario.specs.Table.{has_mistyped}
-use Rattle.scenario.specs.Parts.{fields_of}
+use Rattle.scenario.specs.Table.{has_mistyped, is_mistyped}
+use Rattle.scenario.specs.Parts.{field_of, fields_of}
 use Rattle.scenario.proofs.table.mistyped_key.Given as goal
 
 abbrev pub invariant-loop-field : goal.invariant-loop-field
-invariant-loop-field l = has_mistyped (fields_of l.fields) (table_view l.table) ≡ has_mistyped (fields_of (drop l.field-index l.fields)) (table_view l.table)
+invariant-loop-field l = has_mistyped (fields_of l.fields) (table_view l.table) ≡ list_any (λ f. is_mistyped (field_of f) (table_view l.table)) (drop l.field-index l.fields)

@@ -1,10 +1,23 @@
-use Rattle.std.proofs.Common.{◌+◌, Some}
+use Rattle.std.proofs.Common.{◌+◌}
 use Rattle.scenario.specs.Ranges.{array_error}
-use Rattle.scenario.proofs.Findings.{among, value_fault}
+use Rattle.toml.specs.View.{table_view}
+use Rattle.scenario.specs.Place.{array_key}
+use Rattle.scenario.specs.Faults.{IsFoundBy}
+use Rattle.scenario.proofs.Elements.{IsAt, numbered_table}
+use Rattle.scenario.proofs.Findings.{value_fault}
 use Rattle.scenario.proofs.twice.find_twice.Goals as goal
 
 pub returns-in-Some : goal.returns-in-Some
-returns-in-Some c = λ file are same. among (array_error c.args.array) c.args.array c.place-place.result c.args.tables.now file c.loop-later.later c.index-tables-later.result (Some c.in-Some.fault) c.place-place.ensures are c.loop-later-test.true c.index-tables-later.is (rw c.in-Some.is at (c.own_fault.ensures file (c.loop-later.later + 1) same)) (λ table there is. record { table = table; there = there; is = value_fault (array_error c.args.array) file c.place-place.result table c.in-Some.fault is })
+unfolding IsFoundBy
+returns-in-Some c = λ file are same.
+    let spot : IsAt c.args.tables.now c.loop-later.later c.index-tables-later.result = record { low = c.loop-later-test.true; is = c.index-tables-later.is } in
+    let error = array_error c.args.array in
+    record {
+      table = table_view c.index-tables-later.result.now;
+      there = rw c.place-place.ensures (numbered_table c.args.tables.now file (array_key c.args.array) c.loop-later.later c.index-tables-later.result are spot);
+      is = value_fault error file c.place-place.result (table_view c.index-tables-later.result.now) c.in-Some.fault
+          (rw c.place-place.ensures (rw c.in-Some.is at (c.own_fault.ensures file (c.loop-later.later + 1) same)));
+    }
 
 pub returns-in-Links : goal.returns-in-Links
 returns-in-Links c = λ file are same. rw c.in-Links.is (c.twice_pair.ensures file (rw c.in-Links.is at are))

@@ -1,6 +1,0 @@
-use Rattle.std.proofs.Common.{w64}
-use Rattle.std.proofs.lemmas.Int.{to_z-of_z}
-use Rattle.diagnosis.proofs.text.write_twice_process.Goals as goal
-
-pub returns : goal.returns
-returns g c = λ p ok. rw (to_z-of_z w64 c.args.process c.ranges.process) at (c.write.ensures.writes p ok)
