@@ -3,6 +3,7 @@ use Rattle.std.proofs.Common.{◌≡◌, ◌≢◌, ℕ, zero, suc, ◌+◌, ◌
 use Rattle.std.specs.Global.{Vec}
 use Rattle.std.proofs.Math.Nat.{mul-le-mul_right, suc-mul}
 use Rattle.std.proofs.lemmas.Bool.{cases_eq, cases_lt, lt-ltb, le-ltb, le-leb, lt-leb, cond-true, cond-false, and_from, and_left, and_right}
+use Rattle.std.proofs.lemmas.Bool.Decides.{nat_tests}
 use Rattle.std.proofs.lemmas.Grind.{get_or-set_at}
 use Rattle.std.proofs.lemmas.List.{map-set, length-map, length-set, get_or-map, get_or-set_other}
 use Rattle.std.proofs.lemmas.Nat.{mul-add-lt}
@@ -10,10 +11,10 @@ use Rattle.process_api.specs.EntryRecord.{EntryRecord}
 use Rattle.scenario_record.specs.Record.{Record}
 use Rattle.judges.specs.Pair.{opened, kept_at}
 use Rattle.judges.specs.Pairs.{ArePairs}
-use Rattle.judges.specs.Turns.{Turn, noted_turns, entry_turns}
+use Rattle.judges.specs.Turns.{entry_turns}
 use Rattle.judges.specs.declared.pair.Pair.{Pair}
 use Rattle.judges.specs.declared.pairs.Pairs.{Pairs}
-use Rattle.judges.proofs.Turns.{turns_other}
+use Rattle.judges.proofs.Turns.{turns_other, turns_quiet}
 use Rattle.reporting.specs.Durations.{caught, lists_in, tally_at, lengths_so_far, AreCaught, AreFollowing, AreDurations}
 use Rattle.reporting.specs.Tally.{counted, new_tally}
 use Rattle.reporting.specs.declared.durations.Durations.{Durations}
@@ -25,10 +26,7 @@ use Rattle.reporting.proofs.Listing.{so_far_same, so_far_more, lengths_closed}
 pub caught_none : (pairs : Pairs Tally) (closed : Bool) (from : ℕ) (old : List (List ℕ)) → AreCaught pairs closed from from old old
 caught_none pairs closed from old = record {
   count = refl;
-  each = λ k l. sym (cond-false _ _ _ (elim (cases_lt k from) [
-    | inl m ↦ and_left (leb from k) (ltb k from) (lt-leb from k m)
-    | inr m ↦ and_right (leb from k) (ltb k from) (le-ltb k from m)
-  ]));
+  each = λ k l. grind (arith, nat_tests);
 }
 
 module _ (pairs : Pairs Tally) (closed : Bool) (from place : ℕ) (old : List (List ℕ)) (now : List (Vec ℕ)) (h : AreCaught pairs closed from place old (lists_in now)) (low : from ≤ place) (inside : place < length now) where
@@ -60,13 +58,7 @@ module _ (pairs : Pairs Tally) (closed : Bool) (from place : ℕ) (old : List (L
           ∙ sym (cond-true _ _ _ (and_from (leb from k) (ltb k (place + 1)) (le-leb from k (omega (arith, low, e))) (lt-ltb k (place + 1) (omega (arith, e)))))
 
       same_test : (k : ℕ) → k ≢ place → ltb k place ≡ ltb k (place + 1)
-      same_test k n = elim (cases_lt k place) [
-        | inl l ↦ lt-ltb k place l ∙ sym (lt-ltb k (place + 1) (omega arith))
-        | inr l ↦ le-ltb k place l ∙ sym (le-ltb k (place + 1) (omega (arith, above k n l)))
-      ]
-        where
-          above : (k : ℕ) → k ≢ place → place ≤ k → place + 1 ≤ k
-          above k n l = elim (cases_lt place k) [ inl m ↦ omega arith | inr m ↦ absurd (n (omega arith)) ]
+      same_test k n = grind (arith, nat_tests)
 
       other : (k : ℕ) → k < length old → k ≢ place
           → get_or (set (lists_in now) place new.items) k [] ≡ cond (leb from k && ltb k (place + 1)) (caught (tally_at pairs closed k) (get_or old k [])) (get_or old k [])
@@ -84,15 +76,6 @@ empty_more (x ∷ xs) none zero = none 0
 empty_more (x ∷ xs) none (suc k) = empty_more xs (λ j. none (suc j)) k
 
 -- ---- one more entry
-
-turns_quiet : (layer q p horizon : ℕ) (entry : EntryRecord) → entry.notes ≡ [] → entry_turns layer q p horizon entry ≡ []
-turns_quiet layer q p horizon entry none =
-    ap (λ notes. cond (eqb entry.key.receiver q && ltb entry.key.tick horizon) (noted_turns layer p entry.key.tick notes) []) none
-    ∙ by (eqb entry.key.receiver q && ltb entry.key.tick horizon)
-  where
-    by : (b : Bool) → ◌≡◌ {A = List Turn} (cond b [] []) []
-    by true = refl
-    by false = refl
 
 module _ (S : Record) (layer : ℕ) (trace : List EntryRecord) (d : Durations) (h : AreFollowing S layer trace d) where
   module _ (entry : EntryRecord) where
@@ -145,12 +128,9 @@ module _ (S : Record) (layer : ℕ) (trace : List EntryRecord) (d : Durations) (
                   let le : suc i * n ≤ row * n = mul-le-mul_right n l in
                   and_left (leb (row * d.processes) (i * n + j)) (ltb (i * n + j) (row * d.processes + d.processes)) (lt-leb _ _ (omega (arith, le, first_is, suc-mul i n, m)))
               | inr l ↦
-                  let le : suc row * n ≤ i * n = mul-le-mul_right n (below l) in
+                  let le : suc row * n ≤ i * n = mul-le-mul_right n (let m : row < i = omega (arith, l, other, some) in m) in
                   and_right (leb (row * d.processes) (i * n + j)) (ltb (i * n + j) (row * d.processes + d.processes)) (le-ltb _ _ (omega (arith, le, first_is, suc-mul row n, h.processes)))
             ]
-          where
-            below : row ≤ i → row < i
-            below l = elim (cases_lt row i) [ inl m ↦ m | inr m ↦ absurd (other (omega (arith, l, m, some))) ]
 
         pub follows_caught : 1 ≤ entry.key.receiver → AreFollowing S layer (trace ++ entry ∷ []) new
         follows_caught some = record {

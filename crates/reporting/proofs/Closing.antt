@@ -1,5 +1,6 @@
 -- The measures at the close.
 use Rattle.std.proofs.Common.{◌≡◌, ℕ, suc, ◌+◌, ◌-◌, ◌*◌, ◌<◌, min, Bool, true, false, cond, refl, sym, ap, ◌∙◌, subst, arith, None, Some, List, map, get_or, add-one}
+use Rattle.std.proofs.lemmas.Bool.{cond_both}
 use Rattle.process_api.specs.Numbers.{others}
 use Rattle.process_api.specs.EntryRecord.{EntryRecord}
 use Rattle.scenario_record.specs.Record.{Record}
@@ -48,11 +49,8 @@ module _ (S : Record) (layer q p : ℕ) (trace : List EntryRecord) (m : Meter) (
   at_end = omega (arith, at_horizon)
 
   lasting : least_from (suspects layer trace q p) S.horizon ≡ cond t.was t.started None
-  lasting = ap (least_from (suspects layer trace q p)) (sym at_horizon) ∙ go t.was refl
-    where
-      go : (b : Bool) → t.was ≡ b → least_from (suspects layer trace q p) t.tick ≡ cond b t.started None
-      go true e = let s = knows.since e in least_from-since _ s.0 t.tick s.2 ∙ sym s.1
-      go false e = least_from-none _ t.tick (sym knows.was ∙ e)
+  lasting = ap (least_from (suspects layer trace q p)) (sym at_horizon) ∙ cond_both t.was t.started None (λ o. least_from (suspects layer trace q p) t.tick ≡ o)
+      (λ e. let s = knows.since e in least_from-since _ s.0 t.tick s.2 ∙ sym s.1) (λ e. least_from-none _ t.tick (sym knows.was ∙ e))
 
   pub closed_is : closed m ≡ pair_measures S trace layer q p
   unfolding pair_measures
@@ -60,27 +58,19 @@ module _ (S : Record) (layer q p : ℕ) (trace : List EntryRecord) (m : Meter) (
       let f = suspects layer trace q p in
       let s = starts (suspects layer trace q p) in
       let r = ends (suspects layer trace q p) in
-      let mistakes = knows.mistakes ∙ ap (count_below s) at_end in
-      let mistake_ticks = knows.mistake_ticks ∙ ap (count_below f) at_end in
-      let rs = knows.recurrence.sum ∙ ap (sum_of_distances s s) at_end in
-      let rc = knows.recurrence.count ∙ ap (count_of_distances s s) at_end in
-      let ds = knows.duration.sum ∙ ap (sum_of_distances s r) at_end in
-      let dc = knows.duration.count ∙ ap (count_of_distances s r) at_end in
-      let gs = knows.good.sum ∙ ap (sum_of_distances r s) at_end in
-      let gc = knows.good.count ∙ ap (count_of_distances r s) at_end in
       let detection = ap (detected m.crash) (sym lasting) ∙ ap (λ c. detected c (least_from f S.horizon)) h.crash ∙ by_case (is_measured S q p) in
       λ i. record {
         layer = h.same_layer i;
         observer = h.observer i;
         subject = h.subject i;
-        mistakes = mistakes i;
-        mistake_ticks = mistake_ticks i;
-        recurrence_sum = rs i;
-        recurrence_count = rc i;
-        duration_sum = ds i;
-        duration_count = dc i;
-        good_sum = gs i;
-        good_count = gc i;
+        mistakes = (knows.mistakes ∙ ap (count_below s) at_end) i;
+        mistake_ticks = (knows.mistake_ticks ∙ ap (count_below f) at_end) i;
+        recurrence_sum = (knows.recurrence.sum ∙ ap (sum_of_distances s s) at_end) i;
+        recurrence_count = (knows.recurrence.count ∙ ap (count_of_distances s s) at_end) i;
+        duration_sum = (knows.duration.sum ∙ ap (sum_of_distances s r) at_end) i;
+        duration_count = (knows.duration.count ∙ ap (count_of_distances s r) at_end) i;
+        good_sum = (knows.good.sum ∙ ap (sum_of_distances r s) at_end) i;
+        good_count = (knows.good.count ∙ ap (count_of_distances r s) at_end) i;
         detection = detection i;
       }
     where

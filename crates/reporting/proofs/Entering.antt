@@ -1,6 +1,7 @@
 -- Meters, as they open and as they are fed with one more entry.
 use Rattle.std.proofs.Common.{◌≡◌, ◌≢◌, ℕ, ◌<◌, ◌≤◌, min, cond, not, inl, inr, sym, ap, ◌∙◌, arith, ltb, eqb, None, Some, List, [], ◌∷◌, ◌++◌}
 use Rattle.std.proofs.lemmas.Bool.{cases_lt, cond-true, cond-false, and_from, and_left, and_right, lt-ltb, le-ltb, eq-eqb, ne_eqb}
+use Rattle.std.proofs.lemmas.Bool.Decides.{nat_tests}
 use Rattle.process_api.specs.EntryRecord.{EntryRecord}
 use Rattle.scenario_record.specs.Record.{Record}
 use Rattle.judges.specs.Crashes.{crash_tick, is_crashed, is_correct}
@@ -19,21 +20,7 @@ use Rattle.reporting.specs.declared.tally.Tally.{Tally}
 
 pub crash_is : (S : Record) (q p a b n : ℕ) → a ≡ min (crash_tick S q) S.horizon → b ≡ min (crash_tick S p) S.horizon → n ≡ S.horizon
     → crash_between a b n ≡ cond (is_measured S q p) (Some (crash_tick S p)) None
-crash_is S q p a b n is_a is_b is_n =
-    elim (cases_lt (crash_tick S p) S.horizon) [
-      | inl l ↦ elim (cases_lt (crash_tick S q) S.horizon) [
-        | inl m ↦
-            cond-false _ _ _ (and_right (ltb b n) (eqb a n) (ne_eqb a n (λ e. omega (arith, e, is_a, is_n, m))))
-            ∙ sym (cond-false _ _ _ (and_right (is_crashed S p) (is_correct S q) (ap not (lt-ltb _ _ m))))
-        | inr m ↦
-            cond-true _ _ _ (and_from (ltb b n) (eqb a n) (lt-ltb b n (omega (arith, is_b, is_n, l))) (eq-eqb a n (omega (arith, is_a, is_n, m))))
-            ∙ ap Some (omega (arith, is_b, l))
-            ∙ sym (cond-true _ _ _ (and_from (is_crashed S p) (is_correct S q) (lt-ltb _ _ l) (ap not (le-ltb _ _ m))))
-      ]
-      | inr l ↦
-          cond-false _ _ _ (and_left (ltb b n) (eqb a n) (le-ltb b n (omega (arith, is_b, is_n, l))))
-          ∙ sym (cond-false _ _ _ (and_left (is_crashed S p) (is_correct S q) (le-ltb _ _ l)))
-    ]
+crash_is S q p a b n is_a is_b is_n = grind (arith, nat_tests)
 
 module _ (S : Record) (layer q p : ℕ) (trace : List EntryRecord) (entry : EntryRecord) (m : Meter) (h : IsFed S layer q p trace m) (until : AreUntil trace entry.key.tick) where
   meter_turned : (pair : Pair Tally) → pair ≡ all_turned counted m.pair (entry_turns layer q p S.horizon entry) → IsFed S layer q p (trace ++ entry ∷ []) (record m { pair = pair })

@@ -2,9 +2,10 @@
 use Rattle.std.proofs.Common.{◌≡◌, ℕ, ◌+◌, ◌-◌, ◌<◌, ◌≤◌, min, Bool, true, false, cond, ◌&&◌, ◌||◌, ltb, inl, inr, refl, sym, ap, ◌∙◌, arith, true≢false, unwrap_or}
 use mathlib.Core.Bool.{beq}
 use Rattle.std.proofs.lemmas.Bool.{cases_lt, lt-ltb, le-ltb, cond-true, cond-false}
+use Rattle.std.proofs.lemmas.Bool.Decides.{nat_tests}
 use Rattle.judges.specs.Track.{passed}
 use Rattle.judges.proofs.Standing.{IsKeeping}
-use Rattle.judges.proofs.Tracks.{or_all, or_none}
+use Rattle.std.proofs.Math.Bool.{or-false, or-true}
 use Rattle.reporting.specs.Distances.{count_below, sum_of_distances, count_of_distances}
 use Rattle.reporting.specs.Measures.{starts, ends}
 use Rattle.reporting.specs.Knows.{Knows}
@@ -13,11 +14,7 @@ use Rattle.reporting.specs.declared.tally.Tally.{Tally}
 use Rattle.reporting.proofs.Passes.{knows_moved}
 
 moved_tick : (t : Tally) (until : ℕ) (now : Bool) (end : ℕ) → t.tick ≤ until → (moved t until now end).tick ≡ until
-moved_tick t until now end l =
-    elim (cases_lt t.tick until) [
-      | inl p ↦ ap (λ (x : Tally). x.tick) (cond-true _ _ _ (lt-ltb t.tick until p))
-      | inr p ↦ ap (λ (x : Tally). x.tick) (cond-false _ _ _ (le-ltb t.tick until p)) ∙ (let e : t.tick ≡ until = omega arith in e)
-    ]
+moved_tick t until now end l = grind (arith, nat_tests)
 
 pub tallies_keep : IsKeeping counted (λ (t : Tally). t.tick) Knows
 tallies_keep = record { ticks = moved_tick; knows = λ f end t until now k same. knows_moved f end t until now k same }
@@ -42,20 +39,10 @@ none_known f end =
 
 module _ (t : Tally) (until end : ℕ) where
   since_is : (was now : Bool) → unwrap_or (cond now (changed was now t end).started (changed was now t end).ended) 0 ≡ cond (beq now was) (unwrap_or (cond was t.started t.ended) 0) t.tick
-  since_is true true = refl
-  since_is true false = refl
-  since_is false true = refl
-  since_is false false = refl
+  since_is was now = grind arith
 
   mistaken_is : (now : Bool) → t.tick < until → ltb 0 (t.mistake_ticks + cond now (min until end - min t.tick end) 0) ≡ (ltb 0 t.mistake_ticks || (now && ltb t.tick end))
-  mistaken_is false l = ap (ltb 0) (let e : t.mistake_ticks + 0 ≡ t.mistake_ticks = omega arith in e) ∙ sym (or_none (ltb 0 t.mistake_ticks))
-  mistaken_is true l =
-      elim (cases_lt t.tick end) [
-        | inl p ↦ lt-ltb 0 (t.mistake_ticks + (min until end - min t.tick end)) (omega arith) ∙ sym (ap (λ b. ltb 0 t.mistake_ticks || b) (lt-ltb t.tick end p) ∙ or_all (ltb 0 t.mistake_ticks))
-        | inr p ↦
-            ap (ltb 0) (let e : t.mistake_ticks + (min until end - min t.tick end) ≡ t.mistake_ticks = omega arith in e)
-            ∙ sym (ap (λ b. ltb 0 t.mistake_ticks || b) (le-ltb t.tick end p) ∙ or_none (ltb 0 t.mistake_ticks))
-      ]
+  mistaken_is now l = grind (arith, nat_tests)
 
 pub tallies_seen : (until : ℕ) (now : Bool) (end : ℕ) (t : Tally) → tracked (counted until now end t) ≡ passed until now end (tracked t)
 tallies_seen until now end t =

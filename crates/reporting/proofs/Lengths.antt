@@ -1,6 +1,6 @@
 -- Distances one by one: they are what sums and counts of distances are over, and a tally that passes on knows the next.
 use Rattle.std.proofs.Common.{◌≡◌, ℕ, zero, suc, ◌+◌, ◌-◌, ◌<◌, ◌≤◌, min, Bool, true, false, cond, ◌&&◌, inl, inr, refl, sym, ap, ◌∙◌, arith, ltb, Some, List, [], ◌∷◌, ◌++◌, length, sum, length-append, append-nil}
-use Rattle.std.proofs.lemmas.Bool.{cases_lt, lt-ltb, le-ltb, cond-true, cond-false}
+use Rattle.std.proofs.lemmas.Bool.{cases_lt, lt-ltb, le-ltb, cond-true, cond-false, cond_both}
 use Rattle.std.proofs.lemmas.List.{nil_from_length}
 use Rattle.std.proofs.lemmas.List.Sums.{sum_by-append}
 use Rattle.reporting.specs.Distances.{sum_below, list_below, distances, is_next, over_distances, count_of_distances}
@@ -85,11 +85,7 @@ module _ (from to : ℕ → Bool) where
   distances_more a b end l quiet = list_below-turn ending_at a b end l (λ u x y. ends_none u (quiet u x y))
 
   pub new_none : (a end : ℕ) → to a ≡ false → cond (ltb a end) (ending_at a) [] ≡ []
-  new_none a end quiet = by (ltb a end)
-    where
-      by : (b : Bool) → cond b (ending_at a) [] ≡ []
-      by true = ends_none a quiet
-      by false = refl
+  new_none a end quiet = cond_both (ltb a end) (ending_at a) [] (λ xs. xs ≡ []) (λ _. ends_none a quiet) (λ _. refl)
 
   pub new_one : (a end s : ℕ) → to a ≡ true → IsWaiting from to a (Some s) → cond (ltb a end) (ending_at a) [] ≡ cond (ltb a end) ((a - s) ∷ []) []
   new_one a end s ends waits = ap (λ xs. cond (ltb a end) xs []) (ends_one a s ends waits)

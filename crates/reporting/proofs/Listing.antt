@@ -35,25 +35,10 @@ strip_all = shown_all listed counted (λ (k : Listed). k.0) (λ until now end k.
 -- ---- a tally counts at most one more at a time, and that one is listed
 
 gain_few : (from : Option ℕ) (to end : ℕ) → gain (λ n. 1) from to end ≤ 1
-gain_few None to end = omega arith
-gain_few (Some s) to end = by (ltb to end)
-  where
-    by : (b : Bool) → cond b 1 0 ≤ 1
-    by true = omega arith
-    by false = omega arith
-
-changed_few : (was now : Bool) (t : Tally) (end : ℕ) → (changed was now t end).duration.count ≤ suc t.duration.count
-changed_few true true t end = omega arith
-changed_few false true t end = omega arith
-changed_few true false t end = omega (arith, gain_few t.started t.tick end)
-changed_few false false t end = omega arith
+gain_few from to end = grind arith
 
 moved_few : (t : Tally) (until : ℕ) (now : Bool) (end : ℕ) → (moved t until now end).duration.count ≤ suc t.duration.count
-moved_few t until now end = by (ltb t.tick until)
-  where
-    by : (b : Bool) → (cond b (passed t until now end) t).duration.count ≤ suc t.duration.count
-    by true = changed_few t.was now t end
-    by false = omega arith
+moved_few t until now end = grind (arith, gain_few)
 
 abbrev IsLevel : Listed → Type 0
 IsLevel k = k.0.duration.count ≤ length k.1

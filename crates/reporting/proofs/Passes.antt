@@ -12,12 +12,7 @@ use Rattle.reporting.proofs.Sums.{sum_below-turn, sum_below-still, sum_below-run
 use Rattle.reporting.proofs.Waits.{IsQuiet, waiting_still, waiting_renewed, waiting_begun, waiting_ended, ending, ending_none, ending_one, distance}
 
 gain_is : (amount : ℕ → ℕ) (o : Option ℕ) (a end : ℕ) → (from to : ℕ → Bool) → gain amount o a end ≡ cond (ltb a end) (distance from to amount o a) 0
-gain_is amount None a end from to = go (ltb a end)
-  where
-    go : (b : Bool) → ◌≡◌ {A = ℕ} 0 (cond b 0 0)
-    go true = refl
-    go false = refl
-gain_is amount (Some s) a end from to = refl
+gain_is amount o a end from to = grind arith
 
 module _ (from to : ℕ → Bool) (a b end : ℕ) (d : Distances) where
   distances_still : a ≤ b → ((u : ℕ) → a ≤ u → u < b → to u ≡ false) → AreDistances from to d (min a end) → AreDistances from to d (min b end)
@@ -40,14 +35,10 @@ module _ (from to : ℕ → Bool) (a b end : ℕ) (d : Distances) where
     distances_grown k = record { sum = more (λ n. n) d.sum k.sum; count = more (λ n. 1) d.count k.count }
 
 and_not : (x y n : Bool) → x ≡ n → y ≡ n → (x && not y) ≡ false
-and_not false y n e f = refl
-and_not true true n e f = refl
-and_not true false n e f = absurd (true≢false (e ∙ sym f))
+and_not x y n e f = grind arith
 
 not_and : (x y n : Bool) → x ≡ n → y ≡ n → (not x && y) ≡ false
-not_and true y n e f = refl
-not_and false false n e f = refl
-not_and false true n e f = absurd (true≢false (f ∙ sym e))
+not_and x y n e f = grind arith
 
 module _ (f : ℕ → Bool) where
   pub before_last : (a b : ℕ) (now : Bool) → a < b → ((u : ℕ) → a ≤ u → u < b → f u ≡ now) → before f b ≡ now
@@ -81,25 +72,12 @@ module _ (f : ℕ → Bool) where
       from_first : (test : ℕ → Bool) → test t.tick ≡ false → ((u : ℕ) → t.tick < u → u < until → test u ≡ false) → (u : ℕ) → t.tick ≤ u → u < until → test u ≡ false
       from_first test e after u x y = elim (cases_lt t.tick u) [ inl p ↦ after u p y | inr p ↦ ap test (let q : u ≡ t.tick = omega arith in q) ∙ e ]
 
-    after_true : ((u : ℕ) → t.tick ≤ u → u < until → f u ≡ true) → t.mistake_ticks + (min until end - min t.tick end) ≡ count_below f (min until end)
-    after_true same =
-        let run : count_below f (min until end) ≡ count_below f (min t.tick end) + (min until end - min t.tick end)
-        = sum_below-run (λ u. cond (f u) 1 0) t.tick until end (omega arith) (λ u x y. cond-true _ _ _ (same u x y)) in
-        let known : t.mistake_ticks ≡ count_below f (min t.tick end) = k.mistake_ticks in
-        omega arith
-
-    after_false : ((u : ℕ) → t.tick ≤ u → u < until → f u ≡ false) → t.mistake_ticks + 0 ≡ count_below f (min until end)
-    after_false same =
-        let still : count_below f (min until end) ≡ count_below f (min t.tick end)
-        = sum_below-still (λ u. cond (f u) 1 0) t.tick until end (omega arith) (λ u x y. cond-false _ _ _ (same u x y)) in
-        let known : t.mistake_ticks ≡ count_below f (min t.tick end) = k.mistake_ticks in
-        omega arith
+    ticks_more : (now : Bool) → ((u : ℕ) → t.tick ≤ u → u < until → f u ≡ now) → t.mistake_ticks + cond now (min until end - min t.tick end) 0 ≡ count_below f (min until end)
+    ticks_more true same = omega (arith, k.mistake_ticks, sum_below-run (λ u. cond (f u) 1 0) t.tick until end (omega arith) (λ u x y. cond-true _ _ _ (same u x y)))
+    ticks_more false same = omega (arith, k.mistake_ticks, sum_below-still (λ u. cond (f u) 1 0) t.tick until end (omega arith) (λ u x y. cond-false _ _ _ (same u x y)))
 
     none_more : ((u : ℕ) → t.tick ≤ u → u < until → starts f u ≡ false) → t.mistakes ≡ count_below (starts f) (min until end)
-    none_more quiet =
-        let still : count_below (starts f) (min until end) ≡ count_below (starts f) (min t.tick end)
-        = sum_below-still (λ u. cond (starts f u) 1 0) t.tick until end (omega arith) (λ u x y. cond-false _ _ _ (quiet u x y)) in
-        k.mistakes ∙ sym still
+    none_more quiet = k.mistakes ∙ sym (sum_below-still (λ u. cond (starts f u) 1 0) t.tick until end (omega arith) (λ u x y. cond-false _ _ _ (quiet u x y)))
 
     one_more : starts f t.tick ≡ true → ((u : ℕ) → t.tick < u → u < until → starts f u ≡ false)
         → t.mistakes + cond (ltb t.tick end) 1 0 ≡ count_below (starts f) (min until end)
@@ -120,6 +98,36 @@ module _ (f : ℕ → Bool) where
     open_end : (was : Bool) → t.was ≡ was → IsWaiting (ends f) (starts f) t.tick (cond was None t.ended)
     open_end was e = subst (λ b. IsWaiting (ends f) (starts f) t.tick (cond b None t.ended)) e k.open_end
 
+    stays : (now : Bool) → t.was ≡ now → ((u : ℕ) → t.tick ≤ u → u < until → f u ≡ now)
+        → Knows f end (record t { was = now; mistake_ticks = t.mistake_ticks + cond now (min until end - min t.tick end) 0; tick = until })
+    stays now e same =
+        let sq = from_first now same (starts f) (s_at now same now e ∙ and_not now now now refl refl) (s_after now same) in
+        let tq = from_first now same (ends f) (t_at now same now e ∙ not_and now now now refl refl) (t_after now same) in
+        let ss : IsQuiet (starts f) (starts f) t.tick until = λ u x y. (sq u x y, sq u x y) in
+        let st : IsQuiet (starts f) (ends f) t.tick until = λ u x y. (sq u x y, tq u x y) in
+        let ts : IsQuiet (ends f) (starts f) t.tick until = λ u x y. (tq u x y, sq u x y) in
+        record {
+          was = sym (before_last t.tick until now l same);
+          mistakes = none_more sq;
+          mistake_ticks = ticks_more now same;
+          recurrence = distances_still (starts f) (starts f) t.tick until end t.recurrence (omega arith) sq k.recurrence;
+          duration = distances_still (starts f) (ends f) t.tick until end t.duration (omega arith) tq k.duration;
+          good = distances_still (ends f) (starts f) t.tick until end t.good (omega arith) sq k.good;
+          last_start = waiting_still (starts f) (starts f) t.tick until t.started (omega arith) ss k.last_start;
+          open_start = waiting_still (starts f) (ends f) t.tick until (cond now t.started None) (omega arith) st (open_start now e);
+          open_end = waiting_still (ends f) (starts f) t.tick until (cond now None t.ended) (omega arith) ts (open_end now e);
+          since = λ on.
+              let long = k.since (e ∙ on) in (
+                long.0,
+                long.1,
+                record {
+                  below = omega (arith, long.2.below);
+                  not_before = long.2.not_before;
+                  on = λ u x y. elim (cases_lt u t.tick) [ inl p ↦ long.2.on u x p | inr p ↦ same u p y ∙ on ];
+                },
+              );
+        }
+
     by_cases : (was now : Bool) → t.was ≡ was → ((u : ℕ) → t.tick ≤ u → u < until → f u ≡ now) → Knows f end (after was now)
     -- suspicion starts
     by_cases false true e same =
@@ -134,7 +142,7 @@ module _ (f : ℕ → Bool) where
         record {
           was = sym (before_last t.tick until true l same);
           mistakes = one_more s1 sa;
-          mistake_ticks = after_true same;
+          mistake_ticks = ticks_more true same;
           recurrence = distances_grown (starts f) (starts f) t.tick until end t.recurrence l sa s1 t.started k.last_start k.recurrence;
           duration = distances_still (starts f) (ends f) t.tick until end t.duration (omega arith) tq k.duration;
           good = distances_grown (ends f) (starts f) t.tick until end t.good l sa s1 t.ended (open_end false e) k.good;
@@ -156,7 +164,7 @@ module _ (f : ℕ → Bool) where
         record {
           was = sym (before_last t.tick until false l same);
           mistakes = none_more sq;
-          mistake_ticks = after_false same;
+          mistake_ticks = ticks_more false same;
           recurrence = distances_still (starts f) (starts f) t.tick until end t.recurrence (omega arith) sq k.recurrence;
           duration = distances_grown (starts f) (ends f) t.tick until end t.duration l ta t1 t.started (open_start true e) k.duration;
           good = distances_still (ends f) (starts f) t.tick until end t.good (omega arith) sq k.good;
@@ -165,53 +173,9 @@ module _ (f : ℕ → Bool) where
           open_end = waiting_begun (ends f) (starts f) t.tick until l ts t1 (open_end true e);
           since = λ x. absurd (true≢false (sym x));
         }
-    -- it goes on
-    by_cases true true e same =
-        let sq = from_first true same (starts f) (s_at true same true e) (s_after true same) in
-        let tq = from_first true same (ends f) (t_at true same true e) (t_after true same) in
-        let ss : IsQuiet (starts f) (starts f) t.tick until = λ u x y. (sq u x y, sq u x y) in
-        let st : IsQuiet (starts f) (ends f) t.tick until = λ u x y. (sq u x y, tq u x y) in
-        let ts : IsQuiet (ends f) (starts f) t.tick until = λ u x y. (tq u x y, sq u x y) in
-        let long = k.since e in
-        record {
-          was = sym (before_last t.tick until true l same);
-          mistakes = none_more sq;
-          mistake_ticks = after_true same;
-          recurrence = distances_still (starts f) (starts f) t.tick until end t.recurrence (omega arith) sq k.recurrence;
-          duration = distances_still (starts f) (ends f) t.tick until end t.duration (omega arith) tq k.duration;
-          good = distances_still (ends f) (starts f) t.tick until end t.good (omega arith) sq k.good;
-          last_start = waiting_still (starts f) (starts f) t.tick until t.started (omega arith) ss k.last_start;
-          open_start = waiting_still (starts f) (ends f) t.tick until t.started (omega arith) st (open_start true e);
-          open_end = waiting_still (ends f) (starts f) t.tick until None (omega arith) ts (open_end true e);
-          since = λ _. (
-            long.0,
-            long.1,
-            record {
-              below = omega (arith, long.2.below);
-              not_before = long.2.not_before;
-              on = λ u x y. elim (cases_lt u t.tick) [ inl p ↦ long.2.on u x p | inr p ↦ same u p y ];
-            },
-          );
-        }
-    -- nothing is suspected
-    by_cases false false e same =
-        let sq = from_first false same (starts f) (s_at false same false e) (s_after false same) in
-        let tq = from_first false same (ends f) (t_at false same false e) (t_after false same) in
-        let ss : IsQuiet (starts f) (starts f) t.tick until = λ u x y. (sq u x y, sq u x y) in
-        let st : IsQuiet (starts f) (ends f) t.tick until = λ u x y. (sq u x y, tq u x y) in
-        let ts : IsQuiet (ends f) (starts f) t.tick until = λ u x y. (tq u x y, sq u x y) in
-        record {
-          was = sym (before_last t.tick until false l same);
-          mistakes = none_more sq;
-          mistake_ticks = after_false same;
-          recurrence = distances_still (starts f) (starts f) t.tick until end t.recurrence (omega arith) sq k.recurrence;
-          duration = distances_still (starts f) (ends f) t.tick until end t.duration (omega arith) tq k.duration;
-          good = distances_still (ends f) (starts f) t.tick until end t.good (omega arith) sq k.good;
-          last_start = waiting_still (starts f) (starts f) t.tick until t.started (omega arith) ss k.last_start;
-          open_start = waiting_still (starts f) (ends f) t.tick until None (omega arith) st (open_start false e);
-          open_end = waiting_still (ends f) (starts f) t.tick until t.ended (omega arith) ts (open_end false e);
-          since = λ x. absurd (true≢false (sym x));
-        }
+    -- it goes on, or nothing is suspected
+    by_cases true true e same = stays true e same
+    by_cases false false e same = stays false e same
 
   pub knows_passed : (end : ℕ) (t : Tally) (until : ℕ) (now : Bool) → t.tick < until → Knows f end t → ((u : ℕ) → t.tick ≤ u → u < until → f u ≡ now) → Knows f end (passed t until now end)
   knows_passed end t until now l k same = by_cases end t until l k t.was now refl same
