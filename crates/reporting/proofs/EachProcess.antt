@@ -1,5 +1,5 @@
 -- Lists that are made process by process.
-use Rattle.std.proofs.Common.{◌≡◌, ◌≢◌, ℕ, zero, suc, ◌+◌, ◌<◌, Bool, true, false, cond, not, refl, sym, ap, ◌∙◌, arith, eqb, List, [], ◌∷◌, ◌++◌, map, flat_map, filter, append_assoc, add-one, append-nil}
+use Rattle.std.proofs.Common.{◌≡◌, ◌≢◌, ℕ, zero, suc, ◌+◌, ◌<◌, true, false, cond, not, refl, sym, ap, ◌∙◌, arith, eqb, List, [], ◌∷◌, ◌++◌, map, flat_map, filter, append_assoc, add-one, append-nil}
 use Rattle.std.proofs.lemmas.Bool.{eq-eqb, ne_eqb}
 use Rattle.std.proofs.lemmas.List.{map-append}
 use Rattle.std.proofs.lemmas.List.Elements.{filter-append}

@@ -1,5 +1,5 @@
 -- A run from its trace to its texts: what it leaves once it is done, and once it is refused.
-use Rattle.std.proofs.Common.{◌≡◌, ◌≢◌, ℕ, ◌<◌, ◌∙◌, sym, ap, subst, refl, Bool, true, false, true≢false, List, length, Option, Result, Ok, Err, IfOk, IfErr, OnOk}
+use Rattle.std.proofs.Common.{◌≡◌, ◌≢◌, ℕ, ◌<◌, sym, subst, refl, List, length, Option, Result, Ok, Err, IfOk, IfErr, OnOk}
 use Rattle.trace_laws.specs.Effects.{HasCauses, TakesOnce}
 use Rattle.trace_laws.specs.ScenarioSetting.{setting_of}
 use Rattle.trace_laws.specs.World.{IsTrace}

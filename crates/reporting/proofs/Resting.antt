@@ -1,5 +1,5 @@
 -- Every row of layer 2 with a mistake or a detection rests on an earlier suspicion of layer 1.
-use Rattle.std.proofs.Common.{◌≡◌, inl, inr, ℕ, zero, suc, ◌+◌, ◌<◌, ◌≤◌, refl, sym, ap, ◌∙◌, subst, Bool, true, false, cond, arith, true≢false, List, [], ◌∷◌, map, Option, None, Some, is_some, unwrap_or}
+use Rattle.std.proofs.Common.{◌≡◌, inl, inr, ℕ, zero, suc, ◌<◌, ◌≤◌, refl, sym, ap, ◌∙◌, subst, Bool, true, cond, arith, List, [], ◌∷◌, map, Option, None, Some}
 use Rattle.std.specs.List.{All, AllByRecursion, flat_map}
 use Rattle.std.proofs.lemmas.Bool.{cases_Bool, cond-false, cond_both}
 use Rattle.std.proofs.lemmas.Option.{cond_some}
@@ -20,8 +20,7 @@ use Rattle.judges.proofs.Lasting.{all_from-at}
 use Rattle.reporting.specs.Distances.{count_below}
 use Rattle.reporting.specs.Measures.{starts, delay_after, is_measured, detection, measured, pair_measures, layer_measures, layers, all_measures}
 use Rattle.reporting.specs.Resting.{HasBlame, RestsOnBlame}
-use Rattle.reporting.specs.declared.pair_measures.Detection.{Detection}
-use Rattle.reporting.specs.declared.pair_measures.Detection.TheVariants.{Na, NoTick, At}
+use Rattle.reporting.specs.declared.pair_measures.Detection.TheVariants.{Na, At}
 
 -- ---- ticks
 

@@ -1,7 +1,7 @@
 use Rattle.std.proofs.Common.{◌≡◌, true, length, refl, arith}
 use Rattle.std.proofs.lemmas.List.{with_items_is}
 use Rattle.reporting.specs.Durations.{AreCaught, lists_in}
-use Rattle.reporting.proofs.Caught.{closes_caught, same_length}
+use Rattle.reporting.proofs.Listing.{closes_caught, same_length}
 use Rattle.reporting.proofs.durations.Durations.close.Goals as goal
 
 pub returns-in_ok-catch_up : goal.returns-in_ok-catch_up

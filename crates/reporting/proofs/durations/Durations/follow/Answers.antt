@@ -2,7 +2,7 @@ use Rattle.std.proofs.Common.{◌≡◌, ◌+◌, ◌-◌, ◌*◌, false, ap, �
 use Rattle.std.proofs.lemmas.List.{with_items_is}
 use Rattle.process_api.specs.EntryRecord.{EntryRecord}
 use Rattle.reporting.specs.Durations.{AreCaught, lists_in}
-use Rattle.reporting.proofs.Caught.{follows_above, follows_caught, same_length}
+use Rattle.reporting.proofs.Listing.{follows_above, follows_caught, same_length}
 use Rattle.reporting.proofs.durations.Durations.follow.Goals as goal
 
 pub returns-in_ok-catch_up : goal.returns-in_ok-catch_up
