@@ -7,9 +7,9 @@
 --    in the whole run, and say nothing else of the others: an estimate stamped t > 0 is round t's proposal; a proposal is the
 --    best of a majority's estimates; who acknowledged round r stamps its later estimates r or more; a Decide has a majority's
 --    acknowledgements behind it.
--- 3. Waits: one input keeps these facts, wait by wait. MoreSent: they last as others send more.
--- 4. Coordinators: so they are an invariant of the list steps. A ghost log has what each process did so far, `Sent` is read
---    from it, and each letter on its way is in it.
+-- 3. Waits: one input keeps these facts, wait by wait.
+-- 4. Coordinators: so they are an invariant of the list steps. A ghost log has what each process did so far, and each letter on
+--    its way is in it. `Sent` is read from the log of the whole run.
 -- 5. Locking: what follows for the values. A value that a majority acknowledged in round r is locked. A later proposal is the
 --    best of a majority's estimates; two majorities meet (Majorities), so one of these is of a process that acknowledged, its
 --    stamp is r or more, and by induction on the round every proposal from r on has the locked value. Hence one locked value;
@@ -22,7 +22,6 @@ pub mod Locking
 pub mod Local
 pub mod Joined
 pub mod Waits
-pub mod MoreSent
 pub mod Coordinators
 pub mod OneValue
 pub mod Agreed

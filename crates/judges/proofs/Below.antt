@@ -48,8 +48,7 @@ any_below-same f g (suc t) h = ap (λ x. x || any_below f t) (h t (omega arith))
 
 -- what holds where a condition does
 pub where_at : (which test : Bool) → cond which test true ≡ true → which ≡ true → test ≡ true
-where_at true test e w = e
-where_at false test e w = absurd (true≢false (sym w))
+where_at which test e w = grind arith
 
 pub where_from : (which test : Bool) → (which ≡ true → test ≡ true) → cond which test true ≡ true
 where_from true test h = h refl

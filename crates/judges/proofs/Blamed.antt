@@ -1,11 +1,11 @@
 -- Who is suspected on layer 2 at a tick was suspected on layer 1 by then.
-use Rattle.std.proofs.Common.{◌≡◌, ◌⊎◌, ℕ, ◌≤◌, inl, inr, refl, sym, ap, ◌∙◌, subst, Bool, true, false, cond, ◌&&◌, ◌==◌, nat_le, arith, true≢false, List, [], ◌∷◌, ◌++◌, fold}
+use Rattle.std.proofs.Common.{◌≡◌, ◌⊎◌, ℕ, ◌≤◌, inl, inr, refl, sym, ap, ◌∙◌, subst, Bool, true, false, ◌&&◌, ◌==◌, nat_le, arith, List, [], ◌∷◌, ◌++◌, fold}
 use Rattle.std.specs.List.{list_all}
-use Rattle.std.proofs.lemmas.Bool.{leb-true, eqb-true, and_parts}
+use Rattle.std.proofs.lemmas.Bool.{cond_both, leb-true, eqb-true, and_parts}
 use Rattle.process_api.specs.EntryRecord.{EntryRecord}
 use Rattle.process_api.specs.Order.{is_before, is_rising}
 use Rattle.process_api.specs.declared.action.Note.{Note}
-use Rattle.process_api.specs.declared.action.Note.TheVariants.{Suspect, Trust, Round, Decided, NoValue}
+use Rattle.process_api.specs.declared.action.Note.TheVariants.{Suspect, Trust}
 use Rattle.process_api.proofs.KeyOrder.{ticks_rise}
 use Rattle.scenario_record.specs.Ranges.{IsInRange}
 use Rattle.scenario_record.specs.Record.{Record}
@@ -22,41 +22,21 @@ use Rattle.judges.proofs.Order.{less_from}
 use Rattle.judges.proofs.Shared.{StandsBehind, stands_behind}
 
 module _ (layer p : ℕ) where
+  one_noted : (before : Set) (note : Note) → after_note layer before note p ≡ true → (before p ≡ true) ⊎ (Suspect layer p ≡ note)
+  one_noted before (Suspect l who) g = cond_both (l == layer) (with before who) before (λ (s : Set). s p ≡ true → (before p ≡ true) ⊎ (Suspect layer p ≡ Suspect l who))
+      (λ is. cond_both (who == p) true (before p) (λ b. b ≡ true → (before p ≡ true) ⊎ (Suspect layer p ≡ Suspect l who))
+      (λ same _. inr (λ i. Suspect (sym (eqb-true l layer is) i) (sym (eqb-true who p same) i))) (λ _ h. inl h)) (λ _ h. inl h) g
+  one_noted before (Trust l who) g = inl (cond_both (l == layer) (without before who) before (λ (s : Set). s p ≡ true → before p ≡ true)
+      (λ _. cond_both (who == p) false (before p) (λ b. b ≡ true → before p ≡ true) (λ _ h. absurd (cc h)) (λ _ h. h)) (λ _ h. h) g)
+  one_noted before note g = inl g
+
   -- who is suspected after some notes was so before, or one of the notes suspects it
   noted : (notes : List Note) (before : Set) → fold (after_note layer) before notes p ≡ true → (before p ≡ true) ⊎ IsIn (Suspect layer p) notes
   noted [] before h = inl h
-  noted (note ∷ notes) before h = go (noted notes (after_note layer before note) h)
-    where
-      joins : (l who : ℕ) (b : Bool) → (l == layer) ≡ b → cond b (with before who) before p ≡ true → (before p ≡ true) ⊎ (Suspect layer p ≡ Suspect l who)
-      joins l who false is g = inl g
-      joins l who true is g = by (who == p) refl g
-        where
-          by : (c : Bool) → (who == p) ≡ c → cond c true (before p) ≡ true → (before p ≡ true) ⊎ (Suspect layer p ≡ Suspect l who)
-          by true same f = inr (λ i. Suspect (sym (eqb-true l layer is) i) (sym (eqb-true who p same) i))
-          by false same f = inl f
-
-      leaves : (who : ℕ) (b : Bool) → cond b (without before who) before p ≡ true → before p ≡ true
-      leaves who false g = g
-      leaves who true g = by (who == p) g
-        where
-          by : (c : Bool) → cond c false (before p) ≡ true → before p ≡ true
-          by true f = absurd (true≢false (sym f))
-          by false f = f
-
-      one : (note : Note) → after_note layer before note p ≡ true → (before p ≡ true) ⊎ (Suspect layer p ≡ note)
-      one (Suspect l who) g = joins l who (l == layer) refl g
-      one (Trust l who) g = inl (leaves who (l == layer) g)
-      one (Round r) g = inl g
-      one (Decided v) g = inl g
-      one NoValue g = inl g
-
-      first : (before p ≡ true) ⊎ (Suspect layer p ≡ note) → (before p ≡ true) ⊎ IsIn (Suspect layer p) (note ∷ notes)
-      first (inl g) = inl g
-      first (inr e) = inr (inl e)
-
-      go : (after_note layer before note p ≡ true) ⊎ IsIn (Suspect layer p) notes → (before p ≡ true) ⊎ IsIn (Suspect layer p) (note ∷ notes)
-      go (inl g) = first (one note g)
-      go (inr i) = inr (inr i)
+  noted (note ∷ notes) before h = elim (noted notes (after_note layer before note) h) [
+    | inl g ↦ elim (one_noted before note g) [ inl was ↦ inl was | inr e ↦ inr (inl e) ]
+    | inr i ↦ inr (inr i)
+  ]
 
 -- the entry of a note up to a tick
 abbrev Placed : List EntryRecord → (t : ℕ) → Note → Type 0
@@ -64,19 +44,16 @@ Placed trace t note = (e : EntryRecord) × IsIn e trace × (e.key.tick ≤ t) ×
 
 placed : (trace : List EntryRecord) (q t : ℕ) (note : Note) → IsIn note (notes_until trace q t) → Placed trace t note
 placed [] q t note none = absurd none
-placed (e ∷ trace) q t note i = go (e.key.receiver == q && nat_le e.key.tick t) refl i (placed trace q t note)
+placed (e ∷ trace) q t note i =
+    cond_both (e.key.receiver == q && nat_le e.key.tick t) (e.notes ++ notes_until trace q t) (notes_until trace q t) (λ notes. IsIn note notes → Placed (e ∷ trace) t note)
+    (λ is j. elim (in_append note e.notes (notes_until trace q t) j) [
+      | inl here ↦ (e, inl refl, leb-true _ _ (and_parts _ _ is).1, here)
+      | inr later ↦ after (placed trace q t note later)
+    ])
+    (λ _ j. after (placed trace q t note j)) i
   where
     after : Placed trace t note → Placed (e ∷ trace) t note
     after (f, there, low, noted) = (f, inr there, low, noted)
-
-    split : (nat_le e.key.tick t ≡ true) → IsIn note e.notes ⊎ IsIn note (notes_until trace q t) → (IsIn note (notes_until trace q t) → Placed trace t note) → Placed (e ∷ trace) t note
-    split low (inl j) rest = (e, inl refl, leb-true _ _ low, j)
-    split low (inr j) rest = after (rest j)
-
-    go : (b : Bool) → (e.key.receiver == q && nat_le e.key.tick t) ≡ b → IsIn note (cond b (e.notes ++ notes_until trace q t) (notes_until trace q t))
-        → (IsIn note (notes_until trace q t) → Placed trace t note) → Placed (e ∷ trace) t note
-    go true is j rest = split (and_parts _ _ is).1 (in_append note e.notes (notes_until trace q t) j) rest
-    go false is j rest = after (rest j)
 
 all_pass : {X : Type 0} (f : X → Bool) (xs : List X) → list_all f xs ≡ true → (x : X) → IsIn x xs → f x ≡ true
 all_pass f [] all x none = absurd none
@@ -112,14 +89,11 @@ module _ (s : Record) (is : IsInRange s) (trace : List EntryRecord) (is_trace : 
 
   -- whom a process suspects on layer 2 at a tick, some base detector had suspected by then
   pub blamed_by_out : (q t p : ℕ) → out 2 trace q t p ≡ true → IsBlamedBy trace p t
-  blamed_by_out q t p h = go (noted 2 p (notes_until trace q t) nobody h)
-    where
-      by : Placed trace t (Suspect 2 p) → IsBlamedBy trace p t
-      by (e, there, low, i) =
-          let b = shares_suspicions e there p i in
-          let before : b.0.key.tick ≤ e.key.tick = ticks_rise b.0.key e.key (less_from _ b.2) in
-          (b.0, b.1, omega arith, b.3)
-
-      go : (false ≡ true) ⊎ IsIn (Suspect 2 p) (notes_until trace q t) → IsBlamedBy trace p t
-      go (inl none) = absurd (true≢false (sym none))
-      go (inr i) = by (placed trace q t (Suspect 2 p) i)
+  blamed_by_out q t p h = elim (noted 2 p (notes_until trace q t) nobody h) [
+    | inl none ↦ absurd (cc none)
+    | inr i ↦
+        let at = placed trace q t (Suspect 2 p) i in
+        let b = shares_suspicions at.0 at.1 p at.3 in
+        let before : b.0.key.tick ≤ at.0.key.tick = ticks_rise b.0.key at.0.key (less_from _ b.2) in
+        (b.0, b.1, omega (arith, at.2), b.3)
+  ]

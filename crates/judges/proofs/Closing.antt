@@ -1,6 +1,7 @@
 -- The verdicts at the close.
-use Rattle.std.proofs.Common.{◌≡◌, ℕ, zero, suc, ◌+◌, ◌*◌, ◌<◌, Bool, true, false, cond, not, ◌&&◌, inl, inr, refl, sym, ap, ◌∙◌, subst, arith, Option, None, Some, List, get_or}
+use Rattle.std.proofs.Common.{◌≡◌, ℕ, zero, suc, ◌+◌, ◌*◌, ◌<◌, Bool, cond, not, ◌&&◌, inl, inr, refl, sym, ap, ◌∙◌, subst, arith, Option, None, Some, List, get_or}
 use Rattle.std.proofs.lemmas.Bool.{cases_lt, lt-ltb, le-ltb, eq-eqb, ne_eqb}
+use Rattle.std.proofs.Math.Bool.{not-not}
 use Rattle.process_api.specs.EntryRecord.{EntryRecord}
 use Rattle.scenario_record.specs.Record.{Record}
 use Rattle.judges.specs.Crashes.{crash_tick, is_crashed, is_correct, end_of}
@@ -68,11 +69,7 @@ module _ {K : Type 0} (keeps : ℕ → Bool → ℕ → K → K) (seen : K → T
       ]
 
   crashes_is : (i : ℕ) → i < S.processes → not (counts_as_correct keeps seen fresh m i) ≡ is_crashed S (suc i)
-  crashes_is i l = ap not (stays_is i l) ∙ twice (is_crashed S (suc i))
-    where
-      twice : (b : Bool) → not (not b) ≡ b
-      twice true = refl
-      twice false = refl
+  crashes_is i l = ap not (stays_is i l) ∙ not-not (is_crashed S (suc i))
 
   row_suspected_is : (i : ℕ) → row_suspected keeps seen fresh m i ≡ latest_below (λ j. cond (is_crashed S (suc j)) (suspected_from (place keeps seen fresh m i j)) (Some 0)) S.processes
   row_suspected_is i = latest_with _ _ (λ j x. ap (λ b. cond b (suspected_from (place keeps seen fresh m i j)) (Some 0)) (crashes_is j x))

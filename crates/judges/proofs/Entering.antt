@@ -1,7 +1,8 @@
 -- All pairs, as they open and as they are fed with one more entry.
-use Rattle.std.proofs.Common.{◌≡◌, ◌≢◌, ℕ, suc, ◌+◌, ◌-◌, ◌*◌, ◌/◌, ◌%◌, ◌<◌, ◌≤◌, min, Bool, true, false, cond, ◌&&◌, inl, inr, refl, sym, ap, ◌∙◌, subst, arith, ltb, eqb, List, [], ◌∷◌, ◌++◌, set, length, get_or}
+use Rattle.std.proofs.Common.{◌≡◌, ◌≢◌, ℕ, suc, ◌+◌, ◌-◌, ◌*◌, ◌/◌, ◌%◌, ◌<◌, ◌≤◌, min, Bool, cond, ◌&&◌, inl, inr, refl, sym, ap, ◌∙◌, subst, arith, eqb, List, [], ◌∷◌, ◌++◌, set, length, get_or}
 use Rattle.std.specs.Vec.{with_items, vec_len}
-use Rattle.std.proofs.lemmas.Bool.{cases_eq, lt-ltb, eq-eqb, ne_eqb}
+use Rattle.std.proofs.Math.Bool.{and-true}
+use Rattle.std.proofs.lemmas.Bool.{cases_eq, cond-true, cond-false, cond_both, lt-ltb, eq-eqb, eqb-true, ne_eqb}
 use Rattle.std.proofs.lemmas.List.{with_items_is, get_or_default, get_or-set_same, get_or-set_other, length-set}
 use Rattle.std.proofs.lemmas.List.Sums.{fold-append}
 use Rattle.std.proofs.lemmas.Nat.{mul-add-lt, div-mul-add, mod-mul-add}
@@ -15,11 +16,7 @@ use Rattle.judges.specs.Pairs.{AreUntil, ArePairs, fed}
 use Rattle.judges.specs.Turns.{Turn, noted_turns, entry_turns, turns}
 use Rattle.judges.specs.declared.pair.Pair.{Pair}
 use Rattle.judges.specs.declared.pairs.Pairs.{Pairs}
-use Rattle.judges.proofs.Turns.{turns_more, turns_late, in_order_more}
-
-same_none : (b : Bool) → ◌≡◌ {A = List Turn} (cond b [] []) []
-same_none true = refl
-same_none false = refl
+use Rattle.judges.proofs.Turns.{turns_more, turns_late, turns_quiet, in_order_more}
 
 module _ {K : Type 0} (passed : ℕ → Bool → ℕ → K → K) where
   -- ---- turns of the pairs of n processes
@@ -56,11 +53,8 @@ module _ {K : Type 0} (passed : ℕ → Bool → ℕ → K → K) where
       its_turns q p = cond (eqb o q) (cond (eqb w p) (record { tick = tick; suspected = suspected } ∷ []) []) []
 
       not_its : (q p : ℕ) → (o ≡ q → w ≡ p → ⊥) → its_turns q p ≡ []
-      not_its q p other =
-          elim (cases_eq o q) [
-            | inl e ↦ ap (λ b. cond (eqb o q) (cond b (record { tick = tick; suspected = suspected } ∷ []) []) []) (ne_eqb w p (λ d. other e d)) ∙ same_none (eqb o q)
-            | inr e ↦ ap (λ b. cond b (cond (eqb w p) (record { tick = tick; suspected = suspected } ∷ []) []) []) (ne_eqb o q e)
-          ]
+      not_its q p other = cond_both (eqb o q) (cond (eqb w p) (record { tick = tick; suspected = suspected } ∷ []) []) [] (λ ts. ts ≡ [])
+          (λ e. cond-false (eqb w p) _ [] (ne_eqb w p (other (eqb-true o q e)))) (λ _. refl)
 
       -- numbers above n have no pair
       pub outside_turned : (xs : List (Pair K)) → (o ≤ n → w ≤ n → ⊥) → AreTurned passed n xs xs its_turns
@@ -85,8 +79,7 @@ module _ {K : Type 0} (passed : ℕ → Bool → ℕ → K → K) where
               ∙ get_or-set_same xs k y d inside
               ∙ new
               ∙ ap (turned passed tick suspected) (is ∙ get_or_default xs k x d inside ∙ ap (λ a. get_or xs a d) (sym place))
-              ∙ ap (λ b. all_turned passed (get_or xs (i * n + j) d) (cond b (cond true (record { tick = tick; suspected = suspected } ∷ []) []) [])) (sym (eq-eqb o (suc i) (omega (arith, e))))
-              ∙ ap (λ b. all_turned passed (get_or xs (i * n + j) d) (cond (eqb o (suc i)) (cond b (record { tick = tick; suspected = suspected } ∷ []) []) [])) (sym (eq-eqb w (suc j) (omega (arith, f))))
+              ∙ ap (all_turned passed (get_or xs (i * n + j) d)) (sym (cond-true (eqb o (suc i)) _ [] (eq-eqb o (suc i) (omega (arith, e))) ∙ cond-true (eqb w (suc j)) _ [] (eq-eqb w (suc j) (omega (arith, f)))))
 
           other : (i j : ℕ) (d : Pair K) → j < n → (i ≡ o - 1 → j ≡ w - 1 → ⊥) → get_or (set xs k y) (i * n + j) d ≡ all_turned passed (get_or xs (i * n + j) d) (its_turns (suc i) (suc j))
           other i j d m out =
@@ -144,9 +137,7 @@ module _ {K : Type 0} (passed : ℕ → Bool → ℕ → K → K) where
     pairs_late late = pairs_same (λ i j. turns_late layer (suc i) (suc j) S.horizon entry (omega (arith, h.horizon)))
 
     pub pairs_quiet : entry.notes ≡ [] → ArePairs passed S layer kept (trace ++ entry ∷ []) m
-    pairs_quiet none = pairs_same (λ i j.
-        ap (λ notes. cond (eqb entry.key.receiver (suc i) && ltb entry.key.tick S.horizon) (noted_turns layer (suc j) entry.key.tick notes) []) none
-        ∙ same_none (eqb entry.key.receiver (suc i) && ltb entry.key.tick S.horizon))
+    pairs_quiet none = pairs_same (λ i j. turns_quiet layer (suc i) (suc j) S.horizon entry none)
 
     pub pairs_fed : entry.key.tick < m.horizon → (xs : List (Pair K))
         → AreTurned passed m.processes m.pairs.items xs (λ q p. cond (eqb entry.key.receiver q) (noted_turns m.layer p entry.key.tick entry.notes) [])
@@ -166,12 +157,7 @@ module _ {K : Type 0} (passed : ℕ → Bool → ℕ → K → K) where
           ∙ fed_more S layer (suc i) (suc j) kept trace entry;
     }
       where
-        both : (b c : Bool) (ts : List Turn) → c ≡ true → cond b ts [] ≡ cond (b && c) ts []
-        both true true ts e = refl
-        both false c ts e = refl
-        both true false ts e = absurd (cc)
-
         same : (i j : ℕ) → cond (eqb entry.key.receiver (suc i)) (noted_turns m.layer (suc j) entry.key.tick entry.notes) [] ≡ entry_turns layer (suc i) (suc j) S.horizon entry
         same i j =
             ap (λ l. cond (eqb entry.key.receiver (suc i)) (noted_turns l (suc j) entry.key.tick entry.notes) []) h.same_layer
-            ∙ both (eqb entry.key.receiver (suc i)) (ltb entry.key.tick S.horizon) (noted_turns layer (suc j) entry.key.tick entry.notes) (lt-ltb entry.key.tick S.horizon (omega (arith, h.horizon)))
+            ∙ ap (λ b. cond b (noted_turns layer (suc j) entry.key.tick entry.notes) []) (sym (ap (λ c. eqb entry.key.receiver (suc i) && c) (lt-ltb entry.key.tick S.horizon (omega (arith, h.horizon))) ∙ and-true (eqb entry.key.receiver (suc i))))

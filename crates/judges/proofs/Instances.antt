@@ -1,5 +1,5 @@
 -- The machines of a scenario are such as the promises on traces ask for. Of the base detector its laws alone are used.
-use Rattle.std.proofs.Common.{◌≡◌, ◌⊎◌, ℕ, inl, inr, sym, ap, ◌∙◌, subst, false, [], ◌++◌, append_assoc, unwrap_or}
+use Rattle.std.proofs.Common.{◌≡◌, ℕ, inl, inr, sym, ap, ◌∙◌, subst, false, ◌++◌, unwrap_or}
 use Rattle.std.specs.Prelude.{IsTrue}
 use Rattle.std.specs.FinSet as set
 use Rattle.process_api.specs.Answer.{Answer}
@@ -7,10 +7,12 @@ use Rattle.process_api.specs.BaseDetector.{IsOfDetector}
 use Rattle.process_api.specs.Coordinator.{Coordinator, step_coordinator}
 use Rattle.process_api.specs.Mind.{Lower, Mind, suspects_of, is_mind_at}
 use Rattle.process_api.specs.Place.{Place}
-use Rattle.process_api.specs.React.{react_lower, react_algorithm, react}
-use Rattle.process_api.specs.Reduction.{ReductionState, step_reduction}
+use Rattle.process_api.proofs.Lists.{both, weaker}
+use Rattle.std.specs.List.{AllByRecursion}
+use Rattle.process_api.specs.React.{react_lower, react}
 use Rattle.process_api.specs.Detector.{suspected_by}
-use Rattle.process_api.specs.declared.action.Action.{Action}
+use Rattle.process_api.specs.declared.action.Action.TheVariants as action
+use Rattle.process_api.specs.declared.action.Note.TheVariants as note
 use Rattle.process_api.specs.declared.message.StepInput.{StepInput}
 use Rattle.process_api.proofs.DetectorLaws.{detector_opens, detector_laws}
 use Rattle.process_api.proofs.Keeping.{lower_place, lower_trusts, suspects_leave_out}
@@ -19,28 +21,18 @@ use Rattle.scenario_record.specs.Record.{Record, proposal, place_in, opening_alg
 use Rattle.scenario_record.specs.declared.algorithm.AlgorithmKind.TheVariants as kind
 use Rattle.trace_laws.specs.ScenarioSetting.{setting_of}
 use Rattle.trace_laws.specs.History.{IsIn}
-use Rattle.trace_laws.proofs.Steps.{in_append}
+use Rattle.trace_laws.proofs.Steps.{in_left}
 use Rattle.judges.proofs.Algorithms.{IsOfAlgorithm, algorithm_acts}
 use Rattle.judges.proofs.Agreement.Joined.{IsOfLower, IsJoined, RunsCoordinator}
-use Rattle.judges.proofs.PartsActions.{each_of, detector_is_lower, detector_is_other, algorithm_is_other, reduction_lower}
-use Rattle.judges.proofs.Reacting.{based, IsLayered, layered, stacked, is_coordinating, coordinator_of, place_of, stepped, coordinated, coordinator_place}
-use Rattle.judges.proofs.Sharing.{IsShared, RunsReduction}
+use Rattle.judges.proofs.Gathering.{reduction_shares}
+use Rattle.judges.proofs.PartsActions.{detector_is_lower, detector_is_sharing, algorithm_is_sharing, reduction_lower}
+use Rattle.judges.proofs.Reacting.{based, layered, lower_acts, stacked, is_coordinating, coordinator_of, place_of, stepped, coordinated, coordinator_place}
+use Rattle.judges.proofs.Sharing.{IsSharing, IsShared, RunsReduction}
 use Rattle.judges.proofs.Suspecting.{noted_where_new}
 
 -- the detector's part does nothing of an algorithm
-of_lower : (m : Lower) (now : ℕ) (x : StepInput) (a : Action) → IsIn a (react_lower m now x).actions → IsOfLower a
-of_lower m now x a i = split (in_append a (based m now x).actions l.over (subst (IsIn a) l.acts i))
-  where
-    l : IsLayered m now x
-    l = layered m now x
-
-    by_reduction : (l.over ≡ []) ⊎ ((place : Place) × (s : ReductionState) × (l.over ≡ (step_reduction place s (suspected_by m.place (based m now x).state) x).actions)) → IsIn a l.over → IsOfLower a
-    by_reduction (inl none) j = absurd (subst (IsIn a) none j)
-    by_reduction (inr (place, s, is)) j = each_of IsOfLower _ (reduction_lower place s (suspected_by m.place (based m now x).state) x) a (subst (IsIn a) is j)
-
-    split : IsIn a (based m now x).actions ⊎ IsIn a l.over → IsOfLower a
-    split (inl j) = detector_is_lower a (each_of IsOfDetector _ (detector_laws m.place m.detector now x).acts a j)
-    split (inr j) = by_reduction l.of_reduction j
+of_lower : (m : Lower) (now : ℕ) (x : StepInput) → AllByRecursion IsOfLower (react_lower m now x).actions
+of_lower m now x = lower_acts IsOfLower m now x (weaker IsOfDetector IsOfLower detector_is_lower _ (detector_laws m.place m.detector now x).acts) (λ place r. reduction_lower place r _ x)
 
 module _ (s : Record) where
   module _ (p : ℕ) (m : Mind) (now : ℕ) (x : StepInput) (is : IsTrue (is_mind_at (place_in s p) m)) (has : IsTrue (is_coordinating m.algorithm)) where
@@ -85,17 +77,19 @@ module _ (s : Record) where
   suspects_are m now x = ap (λ (l : Lower). suspected_by l.place l.detector) (stacked m now x).lower ∙ (λ i. suspected_by ((layered m.lower now x).place i) ((layered m.lower now x).detector i))
 
   shared : (m : Mind) (now : ℕ) (x : StepInput) → IsShared x (suspected_by m.lower.place m.lower.detector) (suspected_by m.lower.place (based m.lower now x).state) (react m now x).actions
-  shared m now x = record {
-    detector = (based m.lower now x).actions;
-    reduction = (layered m.lower now x).over;
-    algorithm = (react_algorithm m.algorithm x (suspects_of (react_lower m.lower now x).state)).actions;
-    of_detector = λ a i. detector_is_other a (each_of IsOfDetector _ (detector_laws m.lower.place m.lower.detector now x).acts a i);
-    of_algorithm = λ a i. algorithm_is_other a (each_of IsOfAlgorithm _ (algorithm_acts m.algorithm x (suspects_of (react_lower m.lower now x).state)) a i);
-    noted = λ q h. noted_where_new _ _ _ _ _ _ (detector_laws m.lower.place m.lower.detector now x) q h;
-    of_reduction = (layered m.lower now x).of_reduction;
-    acts = (stacked m now x).acts ∙ (ap (λ done. done ++ (react_algorithm m.algorithm x (suspects_of (react_lower m.lower now x).state)).actions) (layered m.lower now x).acts
-        ∙ append_assoc (based m.lower now x).actions (layered m.lower now x).over (react_algorithm m.algorithm x (suspects_of (react_lower m.lower now x).state)).actions);
-  }
+  shared m now x =
+      let laws = detector_laws m.lower.place m.lower.detector now x in
+      let after = suspected_by m.lower.place (based m.lower now x).state in
+      let does = (stacked m now x).acts in
+      record {
+        acts = subst (AllByRecursion (IsSharing x after)) (sym does) (both (IsSharing x after) (react_lower m.lower now x).actions _
+            (lower_acts (IsSharing x after) m.lower now x (weaker IsOfDetector (IsSharing x after) (detector_is_sharing x after) _ laws.acts) (λ place r. reduction_shares place r after x))
+            (weaker IsOfAlgorithm (IsSharing x after) (algorithm_is_sharing x after) _ (algorithm_acts m.algorithm x (suspects_of (react_lower m.lower now x).state))));
+        noted = λ q h. elim (noted_where_new _ _ _ _ _ _ laws q h) [
+          | inl was ↦ inl was
+          | inr i ↦ inr (subst (IsIn (action.Note (note.Suspect 1 q))) (sym does) (in_left _ (react_lower m.lower now x).actions _ ((layered m.lower now x).within _ i)))
+        ];
+      }
 
   -- those of every scenario, with a reduction or without
   pub runs_reduction : RunsReduction (setting_of s)

@@ -1,5 +1,6 @@
 -- The verdicts are what the tracks tell.
-use Rattle.std.proofs.Common.{◌≡◌, ℕ, suc, ◌<◌, Bool, true, false, cond, not, ◌&&◌, subst, arith, None, Some, List}
+use Rattle.std.proofs.Common.{◌≡◌, ℕ, suc, ◌<◌, true, cond, not, ◌&&◌, subst, arith, None, Some, List}
+use Rattle.std.proofs.lemmas.Bool.{cond_both}
 use Rattle.process_api.specs.EntryRecord.{EntryRecord}
 use Rattle.scenario_record.specs.Record.{Record}
 use Rattle.judges.specs.Crashes.{is_crashed, is_correct, end_of}
@@ -30,18 +31,10 @@ module _ (S : Record) (trace : List EntryRecord) (layer : ℕ) (track : ℕ → 
     since_below = let k = known i j l m in omega (arith, k.0.steady.below, k.1)
 
     suspected_below : IsBelow S.horizon (suspected_from (track i j))
-    suspected_below = go (track i j).was
-      where
-        go : (b : Bool) → IsBelow S.horizon (cond b (Some (track i j).since) None)
-        go true = since_below
-        go false = tt
+    suspected_below = cond_both (track i j).was (Some (track i j).since) None (IsBelow S.horizon) (λ _. since_below) (λ _. tt)
 
     trusted_below : IsBelow S.horizon (trusted_from (track i j))
-    trusted_below = go (track i j).was
-      where
-        go : (b : Bool) → IsBelow S.horizon (cond b None (Some (track i j).since))
-        go true = tt
-        go false = since_below
+    trusted_below = cond_both (track i j).was None (Some (track i j).since) (IsBelow S.horizon) (λ _. tt) (λ _. since_below)
 
   pub strong_completeness_is : strong_completeness S trace layer ≡ judged_strong_completeness S track
   strong_completeness_is =

@@ -34,9 +34,7 @@ all_from-from f u t h = all_below-from _ t (λ v l. elim (cases_lt v u) [ inl p 
 
 -- two tests that imply each other
 pub same_tests : (x y : Bool) → (x ≡ true → y ≡ true) → (y ≡ true → x ≡ true) → x ≡ y
-same_tests true y h g = sym (h refl)
-same_tests false true h g = g refl
-same_tests false false h g = refl
+same_tests x y h g = grind arith
 
 pub all_from-and : (f g : ℕ → Bool) (u t : ℕ) → all_from (λ v. f v && g v) u t ≡ (all_from f u t && all_from g u t)
 all_from-and f g u t =

@@ -18,6 +18,7 @@ pub mod Following
 pub mod Noting
 pub mod Outcoming
 -- what the parts of a process do in every run
+pub mod Members
 pub mod Letters
 pub mod Algorithms
 pub mod Suspecting

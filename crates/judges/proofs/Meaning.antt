@@ -1,7 +1,7 @@
 -- The tests of the verdicts are the quantifiers.
-use Rattle.std.proofs.Common.{◌≡◌, ℕ, zero, suc, ◌<◌, ◌≤◌, Bool, true, false, cond, not, inl, inr, refl, sym, subst, arith, Option, None, Some, List}
+use Rattle.std.proofs.Common.{◌≡◌, ℕ, zero, suc, ◌<◌, ◌≤◌, Bool, true, false, cond, not, inl, inr, refl, subst, arith, Option, None, Some, List}
 use Rattle.std.specs.Bool.{Decides}
-use Rattle.std.proofs.lemmas.Bool.{cases_lt, lt-ltb, le-ltb, ltb-true, ltb-false, both_ways, and_parts, and_from, true≢false, not-true, not_from_false}
+use Rattle.std.proofs.lemmas.Bool.{cases_lt, lt-ltb, le-ltb, ltb-true, ltb-false, both_ways, and_parts, and_from, not-true, not_from_false}
 use Rattle.process_api.specs.EntryRecord.{EntryRecord}
 use Rattle.scenario_record.specs.Record.{Record}
 use Rattle.judges.specs.Crashes.{crash_tick, is_up, is_crashed, is_correct}
@@ -32,8 +32,8 @@ from_decides : (test : ℕ → Bool) (P : ℕ → Type 0) (start end : ℕ) → 
 from_decides test P start end d = (λ e u x y. (d u).0 (all_from-at test start end u e x y), λ h. all_from-from test start end (λ u x y. (d u).1 (h u x y)))
 
 not_decides : (b : Bool) → Decides (not b) (b ≡ true → ⊥)
-not_decides true = (λ e. absurd (true≢false (sym e)), λ n. absurd (n refl))
-not_decides false = (λ e x. true≢false (sym x), λ n. refl)
+not_decides true = (λ e. absurd (cc), λ n. absurd (n refl))
+not_decides false = (λ e x. cc, λ n. refl)
 
 module _ (S : Record) where
   each_decides : (which test : ℕ → Bool) (W T : ℕ → Type 0) → ((p : ℕ) → Decides (which p) (W p)) → ((p : ℕ) → Decides (test p) (T p)) → Decides (each S which test) ((p : ℕ) → IsProcess S p × W p → T p)

@@ -46,27 +46,23 @@ module _ (trace : List EntryRecord) (entry : EntryRecord) (n : ℕ) where
             ∙ sym (outcome-other trace entry (suc i) (λ r. e (omega (arith, own, r)))) ∙ sym (number_at (outcome (trace ++ entry ∷ [])) n i d small)
       ])
 
-  pub outcomes-other : n < entry.key.receiver → outcomes trace n ≡ outcomes (trace ++ entry ∷ []) n
-  outcomes-other above =
+  -- no other changes
+  outcomes_same : ((i : ℕ) → i < n → outcome (trace ++ entry ∷ []) (suc i) ≡ outcome trace (suc i)) → outcomes trace n ≡ outcomes (trace ++ entry ∷ []) n
+  outcomes_same same =
       same_lists (outcomes trace n) (outcomes (trace ++ entry ∷ []) n) (length-outcomes trace n ∙ sym (length-outcomes (trace ++ entry ∷ []) n))
       (λ i d m.
       let small : i < n = omega (arith, length-outcomes trace n) in
-      number_at (outcome trace) n i d small ∙ sym (outcome-other trace entry (suc i) (λ r. omega (arith, r, small))) ∙ sym (number_at (outcome (trace ++ entry ∷ [])) n i d small))
+      number_at (outcome trace) n i d small ∙ sym (same i small) ∙ sym (number_at (outcome (trace ++ entry ∷ [])) n i d small))
+
+  pub outcomes-other : n < entry.key.receiver → outcomes trace n ≡ outcomes (trace ++ entry ∷ []) n
+  outcomes-other above = outcomes_same (λ i small. outcome-other trace entry (suc i) (λ r. omega (arith, r, small)))
+
+  -- an entry without notes changes nothing
+  pub outcomes_quiet : entry.notes ≡ [] → outcomes trace n ≡ outcomes (trace ++ entry ∷ []) n
+  outcomes_quiet none = outcomes_same (λ i small. elim (cases_eq entry.key.receiver (suc i)) [
+    | inl e ↦ outcome-own trace entry (suc i) e ∙ ap (all_noted (outcome trace (suc i)) entry.key.tick) none
+    | inr d ↦ outcome-other trace entry (suc i) d
+  ])
 
 pub outcomes-at : (trace : List EntryRecord) (n k : ℕ) (d : Outcome) → k < n → get_or (outcomes trace n) k d ≡ outcome trace (suc k)
 outcomes-at trace n k d l = number_at (outcome trace) n k d l
-
--- an entry without notes changes nothing
-pub outcomes_quiet : (trace : List EntryRecord) (entry : EntryRecord) (n : ℕ) → entry.notes ≡ [] → outcomes trace n ≡ outcomes (trace ++ entry ∷ []) n
-outcomes_quiet trace entry n none =
-    same_lists (outcomes trace n) (outcomes (trace ++ entry ∷ []) n) (length-outcomes trace n ∙ sym (length-outcomes (trace ++ entry ∷ []) n))
-    (λ i d m.
-    let small : i < n = omega (arith, length-outcomes trace n) in
-    number_at (outcome trace) n i d small ∙ sym (same (suc i)) ∙ sym (number_at (outcome (trace ++ entry ∷ [])) n i d small))
-  where
-    same : (p : ℕ) → outcome (trace ++ entry ∷ []) p ≡ outcome trace p
-    same p =
-        elim (cases_eq entry.key.receiver p) [
-          | inl e ↦ outcome-own trace entry p e ∙ ap (all_noted (outcome trace p) entry.key.tick) none
-          | inr d ↦ outcome-other trace entry p d
-        ]

@@ -1,70 +1,33 @@
 -- Tests that pass just from one tick on: all of several, and some of several.
-use Rattle.std.proofs.Common.{◌≡◌, ℕ, zero, suc, ◌<◌, ◌≤◌, min, max, Bool, true, false, cond, ◌&&◌, ◌||◌, inl, inr, refl, sym, ap, ◌∙◌, arith, leb, Option, None, Some}
-use Rattle.std.proofs.lemmas.Bool.{cases_lt, le-leb, lt-leb, leb-true, and_parts, and_from, or_cases, or_left, or_right}
+use Rattle.std.proofs.Common.{◌≡◌, ℕ, zero, suc, ◌<◌, Bool, true, false, cond, ◌&&◌, ◌||◌, refl, sym, ◌∙◌, arith, Option, None, Some}
+use Rattle.std.proofs.lemmas.Bool.{le-leb, lt-leb}
+use Rattle.std.proofs.lemmas.Bool.Decides.{nat_tests}
 use Rattle.judges.specs.Ticks.{all_below, any_below, all_from, least_below}
 use Rattle.judges.specs.Track.{IsReached, reached, latest, earliest, latest_below, earliest_below}
-use Rattle.judges.proofs.Lasting.{all_from-and, all_from-from, least_below-is, least_below-none, same_tests}
+use Rattle.judges.proofs.Lasting.{all_from-and, all_from-from, least_below-is, least_below-none}
 
-and_comm : (x y : Bool) → (x && y) ≡ (y && x)
-and_comm true true = refl
-and_comm true false = refl
-and_comm false true = refl
-and_comm false false = refl
+reached-latest : (a b : Option ℕ) (t : ℕ) → reached (latest a b) t ≡ (reached b t && reached a t)
+reached-latest a b t = grind (arith, nat_tests)
 
-or_comm : (x y : Bool) → (x || y) ≡ (y || x)
-or_comm true true = refl
-or_comm true false = refl
-or_comm false true = refl
-or_comm false false = refl
-
-reached-latest : (a b : Option ℕ) (t : ℕ) → reached (latest a b) t ≡ (reached a t && reached b t)
-reached-latest None b t = refl
-reached-latest (Some x) None t = and_comm false (leb x t)
-reached-latest (Some x) (Some y) t =
-    same_tests _ _
-    (λ e. let l : max x y ≤ t = leb-true (max x y) t e in and_from (leb x t) (leb y t) (le-leb x t (omega arith)) (le-leb y t (omega arith)))
-    (λ e. let both = and_parts (leb x t) (leb y t) e in
-    let l : x ≤ t = leb-true x t both.0 in let m : y ≤ t = leb-true y t both.1 in le-leb (max x y) t (omega arith))
-
-reached-earliest : (a b : Option ℕ) (t : ℕ) → reached (earliest a b) t ≡ (reached a t || reached b t)
-reached-earliest None b t = refl
-reached-earliest (Some x) None t = or_comm false (leb x t)
-reached-earliest (Some x) (Some y) t =
-    same_tests _ _
-    (λ e. let l : min x y ≤ t = leb-true (min x y) t e in
-    elim (cases_lt t x) [
-      | inl p ↦ or_right (leb x t) (leb y t) (le-leb y t (omega arith))
-      | inr p ↦ or_left (leb x t) (leb y t) (le-leb x t p)
-    ])
-    (λ e. elim (or_cases (leb x t) (leb y t) e) [
-      | inl p ↦ let l : x ≤ t = leb-true x t p in le-leb (min x y) t (omega arith)
-      | inr p ↦ let l : y ≤ t = leb-true y t p in le-leb (min x y) t (omega arith)
-    ])
+reached-earliest : (a b : Option ℕ) (t : ℕ) → reached (earliest a b) t ≡ (reached b t || reached a t)
+reached-earliest a b t = grind (arith, nat_tests)
 
 module _ (end : ℕ) where
   pub reached_all : (A : ℕ → ℕ → Bool) (o : ℕ → Option ℕ) (n : ℕ) → ((i : ℕ) → i < n → IsReached (A i) end (o i)) → IsReached (λ t. all_below (λ i. A i t) n) end (latest_below o n)
   reached_all A o zero h t l = sym (le-leb 0 t (omega arith))
-  reached_all A o (suc n) h t l =
-      let first : A n t ≡ reached (o n) t = h n (omega arith) t l in
-      let rest : all_below (λ i. A i t) n ≡ reached (latest_below o n) t = reached_all A o n (λ i m. h i (omega arith)) t l in
-      and_comm (A n t) (all_below (λ i. A i t) n) ∙ ap (λ x. x && A n t) rest ∙ ap (λ x. reached (latest_below o n) t && x) first ∙ sym (reached-latest (latest_below o n) (o n) t)
+  reached_all A o (suc n) h t l = (λ i. h n (omega arith) t l i && reached_all A o n (λ k m. h k (omega arith)) t l i) ∙ sym (reached-latest (latest_below o n) (o n) t)
 
   pub reached_any : (A : ℕ → ℕ → Bool) (o : ℕ → Option ℕ) (n : ℕ) → ((i : ℕ) → i < n → IsReached (A i) end (o i)) → IsReached (λ t. any_below (λ i. A i t) n) end (earliest_below o n)
   reached_any A o zero h t l = refl
-  reached_any A o (suc n) h t l =
-      let first : A n t ≡ reached (o n) t = h n (omega arith) t l in
-      let rest : any_below (λ i. A i t) n ≡ reached (earliest_below o n) t = reached_any A o n (λ i m. h i (omega arith)) t l in
-      or_comm (A n t) (any_below (λ i. A i t) n) ∙ ap (λ x. x || A n t) rest ∙ ap (λ x. reached (earliest_below o n) t || x) first ∙ sym (reached-earliest (earliest_below o n) (o n) t)
+  reached_any A o (suc n) h t l = (λ i. h n (omega arith) t l i || reached_any A o n (λ k m. h k (omega arith)) t l i) ∙ sym (reached-earliest (earliest_below o n) (o n) t)
 
   -- the same of all ticks from one on
   pub from_all : (A : ℕ → ℕ → Bool) (o : ℕ → Option ℕ) (n : ℕ) → ((i : ℕ) → i < n → IsReached (λ t. all_from (A i) t end) end (o i))
       → IsReached (λ t. all_from (λ u. all_below (λ i. A i u) n) t end) end (latest_below o n)
   from_all A o zero h t l = all_from-from (λ u. true) t end (λ v x y. refl) ∙ sym (le-leb 0 t (omega arith))
   from_all A o (suc n) h t l =
-      let first : all_from (A n) t end ≡ reached (o n) t = h n (omega arith) t l in
-      let rest : all_from (λ u. all_below (λ i. A i u) n) t end ≡ reached (latest_below o n) t = from_all A o n (λ i m. h i (omega arith)) t l in
-      all_from-and (A n) (λ u. all_below (λ i. A i u) n) t end ∙ and_comm (all_from (A n) t end) (all_from (λ u. all_below (λ i. A i u) n) t end)
-      ∙ ap (λ x. x && all_from (A n) t end) rest ∙ ap (λ x. reached (latest_below o n) t && x) first ∙ sym (reached-latest (latest_below o n) (o n) t)
+      all_from-and (A n) (λ u. all_below (λ i. A i u) n) t end
+      ∙ (λ i. h n (omega arith) t l i && from_all A o n (λ k m. h k (omega arith)) t l i) ∙ sym (reached-latest (latest_below o n) (o n) t)
 
   pub from_where : (which : Bool) (f : ℕ → Bool) (o : Option ℕ) → IsReached (λ t. all_from f t end) end o → IsReached (λ t. all_from (λ u. cond which (f u) true) t end) end (cond which o (Some 0))
   from_where true f o h = h
@@ -87,9 +50,8 @@ module _ (end : ℕ) where
   least_reached A (Some s) h b = least_below-is A end s b (h s b ∙ le-leb s s (omega arith)) (λ u l. h u (omega arith) ∙ lt-leb s u l)
 
   below-latest : (a b : Option ℕ) → IsBelow a → IsBelow b → IsBelow (latest a b)
-  below-latest None b h g = tt
-  below-latest (Some x) None h g = tt
   below-latest (Some x) (Some y) h g = omega arith
+  below-latest a b h g = tt
 
   below-earliest : (a b : Option ℕ) → IsBelow a → IsBelow b → IsBelow (earliest a b)
   below-earliest None b h g = g

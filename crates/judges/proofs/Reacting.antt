@@ -1,6 +1,7 @@
 -- How the minds of a scenario react: the parts act one after the other.
-use Rattle.std.proofs.Common.{◌≡◌, ◌⊎◌, ℕ, inl, inr, refl, sym, Bool, true, false, List, [], ◌++◌, append-nil, true≢false, Option, None, Some}
+use Rattle.std.proofs.Common.{◌≡◌, ℕ, refl, Bool, true, false, ◌++◌, Option, None, Some}
 use Rattle.std.specs.Prelude.{IsTrue}
+use Rattle.std.specs.List.{AllByRecursion}
 use Rattle.std.specs.FinSet as set
 use Rattle.process_api.specs.Answer.{Answer}
 use Rattle.process_api.specs.Coordinator.{Coordinator, opening_coordinator, step_coordinator}
@@ -12,7 +13,10 @@ use Rattle.process_api.specs.Sets.{Processes}
 use Rattle.process_api.specs.Detector.{DetectorState, suspected_by, step_detector}
 use Rattle.process_api.specs.declared.action.Action.{Action}
 use Rattle.process_api.specs.declared.message.StepInput.{StepInput}
+use Rattle.process_api.proofs.Lists.{both}
 use Rattle.process_api.proofs.Minds.{same_own, same_count}
+use Rattle.trace_laws.specs.History.{IsIn}
+use Rattle.trace_laws.proofs.Steps.{in_left}
 
 -- the base detector's step
 abbrev pub based : Lower → ℕ → StepInput → Answer DetectorState
@@ -20,9 +24,7 @@ based m now x = step_detector m.place m.detector now x
 
 -- how the detector's part acts: first the base detector, and then the reduction, if there is one
 pub record IsLayered (m : Lower) (now : ℕ) (x : StepInput) : Type 0 where
-  pub over : List Action
-  pub of_reduction : (over ≡ []) ⊎ ((place : Place) × (s : ReductionState) × (over ≡ (step_reduction place s (suspected_by m.place (based m now x).state) x).actions))
-  pub acts : (react_lower m now x).actions ≡ (based m now x).actions ++ over
+  pub within : (a : Action) → IsIn a (based m now x).actions → IsIn a (react_lower m now x).actions
   pub detector : (react_lower m now x).state.detector ≡ (based m now x).state
   pub place : (react_lower m now x).state.place ≡ m.place
 
@@ -31,8 +33,15 @@ unfolding react_lower
 layered m now x = go m.reduction
   where
     go : (o : Option ReductionState) → IsLayered (record m { reduction = o }) now x
-    go None = record { over = []; of_reduction = inl refl; acts = sym (append-nil (based m now x).actions); detector = refl; place = refl }
-    go (Some r) = record { over = (step_reduction m.place r (suspected_by m.place (based m now x).state) x).actions; of_reduction = inr (m.place, r, refl); acts = refl; detector = refl; place = refl }
+    go None = record { within = λ a i. i; detector = refl; place = refl }
+    go (Some r) = record { within = λ a i. in_left a (based m now x).actions _ i; detector = refl; place = refl }
+
+-- what holds of all that the two do holds of all that it does
+pub lower_acts : (P : Action → Type 0) (m : Lower) (now : ℕ) (x : StepInput) → AllByRecursion P (based m now x).actions
+    → ((place : Place) (s : ReductionState) → AllByRecursion P (step_reduction place s (suspected_by m.place (based m now x).state) x).actions) → AllByRecursion P (react_lower m now x).actions
+unfolding react_lower
+lower_acts P m now x base reduction =
+    elim m.reduction as (λ o. AllByRecursion P (react_lower (record m { reduction = o }) now x).actions) [ None ↦ base | Some r ↦ both P (based m now x).actions _ base (reduction m.place r) ]
 
 -- the detector's part acts, and then the algorithm
 pub record IsStacked (m : Mind) (now : ℕ) (x : StepInput) : Type 0 where
@@ -46,14 +55,12 @@ stacked m now x = record { lower = refl; algorithm = refl; acts = refl }
 
 -- the coordinator of an algorithm's part, where it has one
 abbrev pub is_coordinating : AlgorithmState → Bool
-is_coordinating Idle = false
-is_coordinating (Exchanging place s) = false
 is_coordinating (Coordinating place s) = true
+is_coordinating a = false
 
 abbrev pub coordinator_of : AlgorithmState → Coordinator
-coordinator_of Idle = opening_coordinator 0
-coordinator_of (Exchanging place s) = opening_coordinator 0
 coordinator_of (Coordinating place s) = s
+coordinator_of a = opening_coordinator 0
 
 abbrev pub place_of : AlgorithmState → Place
 place_of Idle = record { own = 0; processes = 0; horizon = 0 }
@@ -71,11 +78,9 @@ pub record IsCoordinated (a : AlgorithmState) (x : StepInput) (suspects : Proces
 
 pub coordinated : (a : AlgorithmState) (x : StepInput) (suspects : Processes) → IsTrue (is_coordinating a) → IsCoordinated a x suspects
 unfolding react_algorithm
-coordinated Idle x suspects not_one = absurd (true≢false (sym not_one))
-coordinated (Exchanging place s) x suspects not_one = absurd (true≢false (sym not_one))
 coordinated (Coordinating place s) x suspects is = record { still_one = refl; state = refl; acts = refl }
+coordinated a x suspects not_one = absurd (cc)
 
 pub coordinator_place : (place : Place) (a : AlgorithmState) → IsTrue (is_coordinating a) → IsTrue (stands_at place a) → ((place_of a).own ≡ place.own) × ((place_of a).processes ≡ place.processes)
-coordinator_place place Idle not_one at = absurd (true≢false (sym not_one))
-coordinator_place place (Exchanging its s) not_one at = absurd (true≢false (sym not_one))
 coordinator_place place (Coordinating its s) is at = (same_own its place at, same_count its place at)
+coordinator_place place a not_one at = absurd (cc)

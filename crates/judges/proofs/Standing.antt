@@ -1,7 +1,7 @@
 -- What is kept of a pair after its turns in a trace, as all ticks below the horizon are behind.
-use Rattle.std.proofs.Common.{◌≡◌, ℕ, ◌<◌, ◌≤◌, Bool, true, false, cond, inl, inr, refl, sym, ap, ◌∙◌, subst, arith, List, [], ◌∷◌}
+use Rattle.std.proofs.Common.{◌≡◌, ℕ, ◌<◌, ◌≤◌, Bool, true, false, cond, inl, inr, refl, ap, ◌∙◌, subst, arith, List, [], ◌∷◌}
 use mathlib.Core.Bool.{beq}
-use Rattle.std.proofs.lemmas.Bool.{cases_lt, cond_both, le-leb, lt-leb, true≢false}
+use Rattle.std.proofs.lemmas.Bool.{cases_lt, cond_both, le-leb, lt-leb}
 use Rattle.process_api.specs.EntryRecord.{EntryRecord}
 use Rattle.scenario_record.specs.Record.{Record}
 use Rattle.judges.specs.Crashes.{end_of}
@@ -13,10 +13,7 @@ use Rattle.judges.specs.declared.pair.Pair.{Pair}
 use Rattle.judges.proofs.Turns.{stood, standing, AreWithin, suspects_is, turns_within}
 
 pub same_from_beq : (x y : Bool) → beq x y ≡ true → x ≡ y
-same_from_beq true true e = refl
-same_from_beq false false e = refl
-same_from_beq true false e = absurd (true≢false (sym e))
-same_from_beq false true e = absurd (true≢false (sym e))
+same_from_beq x y e = grind arith
 
 -- ---- what is kept seen as something else that goes on alike
 

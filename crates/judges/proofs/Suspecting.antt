@@ -1,5 +1,5 @@
 -- Whoever becomes suspected by a base detector is noted, since its notes are the changes of its suspects.
-use Rattle.std.proofs.Common.{◌≡◌, ◌≢◌, ◌⊎◌, ℕ, zero, suc, ◌≤◌, ◌∙◌, inl, inr, refl, sym, ap, subst, Bool, true, false, cond, not, ◌&&◌, nat_eq, nat_le, List, [], ◌∷◌, ◌++◌, map, filter, arith}
+use Rattle.std.proofs.Common.{◌≡◌, ◌⊎◌, ℕ, zero, suc, ◌≤◌, ◌∙◌, inl, inr, refl, sym, ap, subst, Bool, true, false, cond, not, ◌&&◌, nat_eq, nat_le, List, [], ◌∷◌, map, arith}
 use Rattle.std.proofs.lemmas.Bool.{leb-true, cases_eq, and_parts}
 use Rattle.std.specs.FinSet as set
 use Rattle.process_api.specs.Actions.{of_layer, notes_of_layer}
@@ -14,48 +14,29 @@ use Rattle.process_api.specs.declared.action.Note.{Note}
 use Rattle.process_api.specs.declared.action.Note.TheVariants as note
 use Rattle.trace_laws.specs.History.{IsIn}
 use Rattle.trace_laws.proofs.Steps.{in_append, in_left, in_right}
+use Rattle.judges.proofs.Members.{in_image, in_filter}
 
 in_numbers : (n q : ℕ) → 1 ≤ q → q ≤ n → IsIn q (numbers_to n)
 in_numbers zero q low high = absurd (omega (arith, low, high))
-in_numbers (suc n) q low high = go (in_numbers n q low) (cases_eq q (suc n))
-  where
-    go : (q ≤ n → IsIn q (numbers_to n)) → (q ≡ suc n) ⊎ (q ≢ suc n) → IsIn q (numbers_to n ++ suc n ∷ [])
-    go earlier (inl last) = in_right q (numbers_to n) (suc n ∷ []) (inl last)
-    go earlier (inr apart) = in_left q (numbers_to n) (suc n ∷ []) (earlier (omega (arith, high, apart)))
-
-passing : (f : ℕ → Bool) (qs : List ℕ) (q : ℕ) → IsIn q qs → f q ≡ true → IsIn q (filter f qs)
-passing f [] q none h = absurd none
-passing f (k ∷ qs) q (inl e) h = subst (λ b. IsIn q (cond b (k ∷ filter f qs) (filter f qs))) (sym (ap f (sym e) ∙ h)) (inl e)
-passing f (k ∷ qs) q (inr i) h =
-    elim (f k) as (λ b. IsIn q (cond b (k ∷ filter f qs) (filter f qs))) [ true ↦ inr (passing f qs q i h) | false ↦ passing f qs q i h ]
-
-suspicions : (qs : List ℕ) (q : ℕ) → IsIn q qs → IsIn (note.Suspect 1 q) (map (note.Suspect 1) qs)
-suspicions [] q none = absurd none
-suspicions (k ∷ qs) q (inl e) = inl (ap (note.Suspect 1) e)
-suspicions (k ∷ qs) q (inr i) = inr (suspicions qs q i)
+in_numbers (suc n) q low high = elim (cases_eq q (suc n)) [
+  | inl last ↦ in_right q (numbers_to n) (suc n ∷ []) (inl last)
+  | inr apart ↦ in_left q (numbers_to n) (suc n ∷ []) (in_numbers n q low (omega (arith, high, apart)))
+]
 
 -- what is a note of a layer is noted
-the_one : (b : Bool) (x y : Note) → IsIn x (cond b (y ∷ []) []) → x ≡ y
-the_one true x y (inl e) = e
-the_one true x y (inr none) = absurd none
-the_one false x y none = absurd none
+the_one : {x y : Note} (b : Bool) → IsIn x (cond b (y ∷ []) []) → x ≡ y
+the_one true i = elim i [ inl e ↦ e | inr none ↦ absurd none ]
+the_one false none = absurd none
 
 itself : (layer : ℕ) (x y : Note) → IsIn x (of_layer layer y) → x ≡ y
-itself layer x (note.Suspect l q) i = the_one (nat_eq l layer) x (note.Suspect l q) i
-itself layer x (note.Trust l q) i = the_one (nat_eq l layer) x (note.Trust l q) i
-itself layer x (note.Round r) none = absurd none
-itself layer x (note.Decided v) none = absurd none
-itself layer x note.NoValue none = absurd none
+itself layer x (note.Suspect l q) i = the_one (nat_eq l layer) i
+itself layer x (note.Trust l q) i = the_one (nat_eq l layer) i
+itself layer x y none = absurd none
 
 noted_in : (layer : ℕ) (x : Note) (actions : List Action) → IsIn x (notes_of_layer layer actions) → IsIn (action.Note x) actions
 noted_in layer x [] none = absurd none
-noted_in layer x (action.Send to what ∷ later) i = inr (noted_in layer x later i)
-noted_in layer x (action.Wake pause tag ∷ later) i = inr (noted_in layer x later i)
-noted_in layer x (action.Note y ∷ later) i = go (noted_in layer x later) (in_append x (of_layer layer y) (notes_of_layer layer later) i)
-  where
-    go : (IsIn x (notes_of_layer layer later) → IsIn (action.Note x) later) → IsIn x (of_layer layer y) ⊎ IsIn x (notes_of_layer layer later) → IsIn (action.Note x) (action.Note y ∷ later)
-    go rest (inl j) = inl (ap action.Note (itself layer x y j))
-    go rest (inr j) = inr (rest j)
+noted_in layer x (action.Note y ∷ later) i = elim (in_append x (of_layer layer y) (notes_of_layer layer later) i) [ inl j ↦ inl (ap action.Note (itself layer x y j)) | inr j ↦ inr (noted_in layer x later j) ]
+noted_in layer x (a ∷ later) i = inr (noted_in layer x later i)
 
 module _ (place : Place) (before after : Processes) (was_paced is_paced : Bool) (actions : List Action) (laws : IsDetectorStep place before after was_paced is_paced actions) where
   pub noted_where_new : (q : ℕ) → set.contains after q ≡ true → (set.contains before q ≡ true) ⊎ IsIn (action.Note (note.Suspect 1 q)) actions
@@ -69,8 +50,8 @@ module _ (place : Place) (before after : Processes) (was_paced is_paced : Bool) 
       joins : set.contains before q ≡ false → is_process place.processes q ≡ true → IsIn (note.Suspect 1 q) (changes 1 place.processes before after)
       joins new one =
           in_left (note.Suspect 1 q) (map (note.Suspect 1) (gone place.processes after before)) (map (note.Trust 1) (gone place.processes before after))
-          (suspicions (gone place.processes after before) q
-          (passing (λ p. set.contains after p && not (set.contains before p)) (numbers_to place.processes) q
+          (in_image (note.Suspect 1) (gone place.processes after before) q
+          (in_filter (λ p. set.contains after p && not (set.contains before p)) (numbers_to place.processes) q
           (in_numbers place.processes q (leb-true 1 q (and_parts (nat_le 1 q) (nat_le q place.processes) one).0) (leb-true q place.processes (and_parts (nat_le 1 q) (nat_le q place.processes) one).1))
           (λ i. h i && not (new i))))
 

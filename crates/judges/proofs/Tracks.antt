@@ -1,6 +1,8 @@
 -- What a track knows as it goes on, and what it tells at the end.
 use Rattle.std.proofs.Common.{◌≡◌, ℕ, zero, suc, ◌-◌, ◌<◌, ◌≤◌, min, Bool, true, false, cond, not, ◌&&◌, ◌||◌, inl, inr, refl, sym, ap, ◌∙◌, subst, arith, ltb, None, Some}
-use Rattle.std.proofs.lemmas.Bool.{cases_lt, lt-ltb, le-ltb, le-leb, lt-leb, cond-true, cond-false, both_ways, true≢false, false_from_ne_true}
+use Rattle.std.proofs.lemmas.Bool.{cases_lt, lt-ltb, le-ltb, le-leb, lt-leb, cond-true, cond-false, cond_both, both_ways, false_from_ne_true}
+use Rattle.std.proofs.lemmas.Bool.Decides.{nat_tests}
+use Rattle.std.proofs.Math.Bool.{or-false, or-true}
 use mathlib.Core.Bool.{beq}
 use Rattle.judges.specs.Ticks.{any_below, all_from, before}
 use Rattle.judges.specs.Track.{Knows, IsSteady, IsReached, new_track, gone, passed, suspected_from, trusted_from}
@@ -22,22 +24,17 @@ any_below-flat f a (suc t) l h =
       | inr p ↦ ap (λ x. x || any_below f t) (h t p (omega arith)) ∙ any_below-flat f a t p (λ u x y. h u x (omega arith))
     ]
 
-pub or_none : (x : Bool) → (x || false) ≡ x
-or_none true = refl
-or_none false = refl
-
-pub or_all : (x : Bool) → (x || true) ≡ true
-or_all true = refl
-or_all false = refl
-
 module _ (f : ℕ → Bool) (end : ℕ) where
   any_stretch : (a b : ℕ) (now : Bool) → a < b → ((u : ℕ) → a ≤ u → u < b → f u ≡ now) → (any_below f (min a end) || (now && ltb a end)) ≡ any_below f (min b end)
-  any_stretch a b false l same = or_none _ ∙ sym (any_below-flat f (min a end) (min b end) (omega arith) (λ u x y. same u (omega arith) (omega arith)))
+  any_stretch a b false l same = or-false _ ∙ sym (any_below-flat f (min a end) (min b end) (omega arith) (λ u x y. same u (omega arith) (omega arith)))
   any_stretch a b true l same =
       elim (cases_lt a end) [
-        | inl p ↦ ap (λ x. any_below f (min a end) || x) (lt-ltb a end p) ∙ or_all _ ∙ sym (any_below-from f (min b end) a (omega arith) (same a (omega arith) l))
-        | inr p ↦ ap (λ x. any_below f (min a end) || x) (le-ltb a end p) ∙ or_none _ ∙ ap (any_below f) (let e : min a end ≡ min b end = omega arith in e)
+        | inl p ↦ ap (λ x. any_below f (min a end) || x) (lt-ltb a end p) ∙ or-true _ ∙ sym (any_below-from f (min b end) a (omega arith) (same a (omega arith) l))
+        | inr p ↦ ap (λ x. any_below f (min a end) || x) (le-ltb a end p) ∙ or-false _ ∙ ap (any_below f) (let e : min a end ≡ min b end = omega arith in e)
       ]
+
+  other : (x y : Bool) → beq x y ≡ false → y ≡ not x
+  other x y e = grind arith
 
   steady_on : (was now : Bool) (since a b : ℕ) → a < b → IsSteady f was since a → before f a ≡ was → ((u : ℕ) → a ≤ u → u < b → f u ≡ now) → (r : Bool) → beq now was ≡ r → IsSteady f now (cond r since a) b
   steady_on was now since a b l s e same true is =
@@ -47,20 +44,7 @@ module _ (f : ℕ → Bool) (end : ℕ) where
         on = λ u x y. elim (cases_lt u a) [ inl p ↦ s.on u x p ∙ sym eq | inr p ↦ same u p y ];
         not_before = λ v h. s.not_before v h ∙ ap not (sym eq);
       }
-  steady_on was now since a b l s e same false is = record {
-    below = omega arith;
-    on = same;
-    not_before = λ v h. earlier v (sym h);
-  }
-    where
-      other : (x y : Bool) → beq x y ≡ false → y ≡ not x
-      other true true e = absurd (true≢false e)
-      other false false e = absurd (true≢false e)
-      other true false e = refl
-      other false true e = refl
-
-      earlier : (v : ℕ) → suc v ≡ a → f v ≡ not now
-      earlier v h = ap (before f) h ∙ e ∙ other now was is
+  steady_on was now since a b l s e same false is = record { below = omega arith; on = same; not_before = λ v h. ap (before f) (sym h) ∙ e ∙ other now was is }
 
   knows_gone : (t : Track) (until : ℕ) (now : Bool) → t.tick < until → Knows f end t → ((u : ℕ) → t.tick ≤ u → u < until → f u ≡ now) → Knows f end (gone until now end t)
   knows_gone t until now l k same = record {
@@ -84,11 +68,7 @@ module _ (f : ℕ → Bool) (end : ℕ) where
   }
 
 passed_tick : (t : Track) (until : ℕ) (now : Bool) (end : ℕ) → t.tick ≤ until → (passed until now end t).tick ≡ until
-passed_tick t until now end l =
-    elim (cases_lt t.tick until) [
-      | inl p ↦ ap (λ (x : Track). x.tick) (cond-true _ _ _ (lt-ltb t.tick until p))
-      | inr p ↦ ap (λ (x : Track). x.tick) (cond-false _ _ _ (le-ltb t.tick until p)) ∙ (let e : t.tick ≡ until = omega arith in e)
-    ]
+passed_tick t until now end l = grind (arith, nat_tests)
 
 pub tracks_keep : IsKeeping passed (λ (t : Track). t.tick) Knows
 tracks_keep = record { ticks = passed_tick; knows = λ f end t until now k same. knows_passed f end t until now k same }
@@ -117,15 +97,11 @@ before_not f zero l = absurd (omega arith)
 before_not f (suc v) l = refl
 
 pub suspected_reached : (f : ℕ → Bool) (end : ℕ) (t : Track) → Knows f end t → IsReached (λ u. all_from f u t.tick) t.tick (suspected_from t)
-suspected_reached f end t k = go t.was refl
-  where
-    go : (b : Bool) → t.was ≡ b → IsReached (λ u. all_from f u t.tick) t.tick (cond b (Some t.since) None)
-    go true e = lasts_from f t.tick t.since (λ u x y. k.steady.on u x y ∙ e) (λ v h. k.steady.not_before v h ∙ ap not e) k.steady.below
-    go false e = λ u l. nothing_lasts f t.tick (sym k.was ∙ e) u l
+suspected_reached f end t k = cond_both t.was (Some t.since) None (IsReached (λ u. all_from f u t.tick) t.tick)
+    (λ e. lasts_from f t.tick t.since (λ u x y. k.steady.on u x y ∙ e) (λ v h. k.steady.not_before v h ∙ ap not e) k.steady.below)
+    (λ e. nothing_lasts f t.tick (sym k.was ∙ e))
 
 pub trusted_reached : (f : ℕ → Bool) (end : ℕ) (t : Track) → 0 < t.tick → Knows f end t → IsReached (λ u. all_from (λ v. not (f v)) u t.tick) t.tick (trusted_from t)
-trusted_reached f end t some k = go t.was refl
-  where
-    go : (b : Bool) → t.was ≡ b → IsReached (λ u. all_from (λ v. not (f v)) u t.tick) t.tick (cond b None (Some t.since))
-    go true e = λ u l. nothing_lasts (λ v. not (f v)) t.tick (before_not f t.tick some ∙ ap not (sym k.was ∙ e)) u l
-    go false e = lasts_from (λ v. not (f v)) t.tick t.since (λ u x y. ap not (k.steady.on u x y ∙ e)) (λ v h. ap not (k.steady.not_before v h ∙ ap not e)) k.steady.below
+trusted_reached f end t some k = cond_both t.was None (Some t.since) (IsReached (λ u. all_from (λ v. not (f v)) u t.tick) t.tick)
+    (λ e. nothing_lasts (λ v. not (f v)) t.tick (before_not f t.tick some ∙ ap not (sym k.was ∙ e)))
+    (λ e. lasts_from (λ v. not (f v)) t.tick t.since (λ u x y. ap not (k.steady.on u x y ∙ e)) (λ v h. ap not (k.steady.not_before v h ∙ ap not e)) k.steady.below)

@@ -7,7 +7,7 @@ use Rattle.std.proofs.lemmas.List.{take_more}
 use Rattle.std.proofs.lemmas.List.Sums.{fold-append}
 use Rattle.process_api.specs.EntryRecord.{EntryRecord}
 use Rattle.process_api.specs.declared.action.Note.{Note}
-use Rattle.process_api.specs.declared.action.Note.TheVariants.{Suspect, Trust, Round, Decided, NoValue}
+use Rattle.process_api.specs.declared.action.Note.TheVariants.{Suspect, Trust}
 use Rattle.judges.specs.Out.{Set, nobody, with, without, after_note, notes_until, suspects}
 use Rattle.judges.specs.Pairs.{AreFrom, AreUntil}
 use Rattle.judges.specs.Turns.{Turn, turn_of, turns_at, noted_turns, entry_turns, turns}
@@ -37,11 +37,8 @@ module _ (layer p tick u : ℕ) where
   module _ (g : ℕ → Bool) where
     one_early : u < tick → (o : Option (ℕ × Bool)) → standing g (turns_at p tick o) u ≡ g u
     one_early l None = refl
-    one_early l (Some t) = go (eqb t.0 p)
-      where
-        go : (c : Bool) → standing g (cond c (record { tick = tick; suspected = t.1 } ∷ []) []) u ≡ g u
-        go true = ap (λ b. cond b t.1 (g u)) (lt-leb tick u l)
-        go false = refl
+    one_early l (Some t) =
+        elim (eqb t.0 p) as (λ c. standing g (cond c (record { tick = tick; suspected = t.1 } ∷ []) []) u ≡ g u) [ true ↦ ap (λ b. cond b t.1 (g u)) (lt-leb tick u l) | false ↦ refl ]
 
     module _ (set : Set) (l : tick ≤ u) (e : g u ≡ set p) where
       said : (c s : Bool) → standing g (cond c (record { tick = tick; suspected = s } ∷ []) []) u ≡ cond c s (set p)
@@ -49,19 +46,11 @@ module _ (layer p tick u : ℕ) where
       said false s = e
 
       one_noted : (note : Note) → standing g (turns_at p tick (turn_of layer note)) u ≡ after_note layer set note p
-      one_noted (Suspect of who) = go (eqb of layer)
-        where
-          go : (b : Bool) → standing g (turns_at p tick (cond b (Some (who, true)) None)) u ≡ cond b (with set who) set p
-          go true = said (eqb who p) true
-          go false = e
-      one_noted (Trust of who) = go (eqb of layer)
-        where
-          go : (b : Bool) → standing g (turns_at p tick (cond b (Some (who, false)) None)) u ≡ cond b (without set who) set p
-          go true = said (eqb who p) false
-          go false = e
-      one_noted (Round r) = e
-      one_noted (Decided v) = e
-      one_noted NoValue = e
+      one_noted (Suspect of who) =
+          elim (eqb of layer) as (λ b. standing g (turns_at p tick (cond b (Some (who, true)) None)) u ≡ cond b (with set who) set p) [ true ↦ said (eqb who p) true | false ↦ e ]
+      one_noted (Trust of who) =
+          elim (eqb of layer) as (λ b. standing g (turns_at p tick (cond b (Some (who, false)) None)) u ≡ cond b (without set who) set p) [ true ↦ said (eqb who p) false | false ↦ e ]
+      one_noted note = e
 
   -- at ticks before they say nothing
   pub noted_early : u < tick → (notes : List Note) (g : ℕ → Bool) → standing g (noted_turns layer p tick notes) u ≡ g u
@@ -120,6 +109,10 @@ module _ (layer q p horizon : ℕ) where
   pub turns_late : (entry : EntryRecord) → horizon ≤ entry.key.tick → entry_turns layer q p horizon entry ≡ []
   turns_late entry late = cond-false _ _ _ (and_right (eqb entry.key.receiver q) (ltb entry.key.tick horizon) (le-ltb entry.key.tick horizon late))
 
+  -- without notes
+  pub turns_quiet : (entry : EntryRecord) → entry.notes ≡ [] → entry_turns layer q p horizon entry ≡ []
+  turns_quiet entry none = cond_both (eqb entry.key.receiver q && ltb entry.key.tick horizon) (noted_turns layer p entry.key.tick entry.notes) [] (λ ts. ts ≡ []) (λ _. ap (noted_turns layer p entry.key.tick) none) (λ _. refl)
+
   pub turns_own : (entry : EntryRecord) → entry.key.receiver ≡ q → entry.key.tick < horizon → entry_turns layer q p horizon entry ≡ noted_turns layer p entry.key.tick entry.notes
   turns_own entry own below = cond-true _ _ _ (and_from (eqb entry.key.receiver q) (ltb entry.key.tick horizon) (eq-eqb entry.key.receiver q own) (lt-ltb entry.key.tick horizon below))
 
@@ -136,15 +129,13 @@ module _ (layer q p horizon : ℕ) where
 
   noted_within : (tick : ℕ) (rest : List Turn) → AreWithin tick horizon rest → (notes : List Note) (first : ℕ) → first ≤ tick → AreWithin first horizon (noted_turns layer p tick notes ++ rest)
   noted_within tick rest h [] first l = lower rest tick first h l
-  noted_within tick rest h (note ∷ notes) first l = by_turn (noted_within tick rest h notes) (turn_of layer note)
-    where
-      by_turn : ((f : ℕ) → f ≤ tick → AreWithin f horizon (noted_turns layer p tick notes ++ rest)) → (o : Option (ℕ × Bool)) → AreWithin first horizon ((turns_at p tick o ++ noted_turns layer p tick notes) ++ rest)
-      by_turn more None = more first l
-      by_turn more (Some t) = go (eqb t.0 p)
-        where
-          go : (c : Bool) → AreWithin first horizon ((cond c (record { tick = tick; suspected = t.1 } ∷ []) [] ++ noted_turns layer p tick notes) ++ rest)
-          go true = (l, more tick (omega arith))
-          go false = more first l
+  noted_within tick rest h (note ∷ notes) first l =
+      elim (turn_of layer note) as (λ o. AreWithin first horizon ((turns_at p tick o ++ noted_turns layer p tick notes) ++ rest)) [
+        | None ↦ noted_within tick rest h notes first l
+        | Some t ↦
+            cond_both (eqb t.0 p) (record { tick = tick; suspected = t.1 } ∷ []) [] (λ ts. AreWithin first horizon ((ts ++ noted_turns layer p tick notes) ++ rest))
+            (λ _. (l, noted_within tick rest h notes tick (omega arith))) (λ _. noted_within tick rest h notes first l)
+      ]
 
   pub turns_within : (trace : List EntryRecord) (first last : ℕ) → AreFrom first trace → last ≤ first → last ≤ horizon → AreWithin last horizon (turns layer q p horizon trace)
   turns_within [] first last h l m = m

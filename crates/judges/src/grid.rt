@@ -1,6 +1,6 @@
 //! The verdicts, from the tracks of all pairs at the horizon.
 
-ghost use Rattle.std.specs.Prelude.{◌≡◌, ◌<◌};
+ghost use Rattle.std.specs.Prelude.{◌≡◌, ◌<◌, None, Some, if◌then◌else◌};
 ghost use Rattle.judges.specs.Track.{earliest, latest};
 ghost use Rattle.judges.specs.Grid.{column_right, column_suspected, column_trusted, grid_verdicts, place, row_right, row_suspected, row_trusted, counts_as_correct};
 
@@ -30,6 +30,20 @@ fn earliest(a: Option<u32>, b: Option<u32>) -> Option<u32>
     }
 }
 
+/// The later of two ticks, where the second counts.
+fn latest_where(counts: bool, a: Option<u32>, b: Option<u32>) -> Option<u32>
+    ensures { result ≡ latest a (if counts then b else Some 0) }
+{
+    if counts { latest(a, b) } else { a }
+}
+
+/// The earlier of two ticks, where the second counts.
+fn earliest_where(counts: bool, a: Option<u32>, b: Option<u32>) -> Option<u32>
+    ensures { result ≡ earliest a (if counts then b else None) }
+{
+    if counts { earliest(a, b) } else { a }
+}
+
 /// The track of two processes, each by how many come before it, as all ticks below the horizon are behind.
 fn place<K: Gauge>(pairs: &Pairs<K>, i: usize, j: usize) -> Track
     requires row { i < pairs.now.processes }
@@ -47,170 +61,97 @@ fn counts_as_correct<K: Gauge>(pairs: &Pairs<K>, i: usize) -> bool
     pairs.pair(i, i).end == pairs.horizon()
 }
 
-/// From which tick on a process suspects all crashed ones.
-fn row_suspected<K: Gauge>(pairs: &Pairs<K>, i: usize) -> Option<u32>
+/// What the tracks of a row or of a column tell.
+#[derive(Clone, Copy)]
+struct Line {
+    /// From which tick on crashed ones are suspected.
+    suspected: Option<u32>,
+    /// From which tick on correct ones are trusted.
+    trusted: Option<u32>,
+    /// Whether there is no mistake.
+    right: bool,
+}
+
+/// From which tick on a process suspects all crashed ones, from which on it trusts all correct ones, and whether it
+/// made no mistake.
+fn row<K: Gauge>(pairs: &Pairs<K>, i: usize) -> Line
     requires inside { i < pairs.now.processes }
-    ensures { result ≡ row_suspected K.passed K.seen K.fresh pairs.now i }
+    ensures suspected { result.suspected ≡ row_suspected K.passed K.seen K.fresh pairs.now i }
+    ensures trusted { result.trusted ≡ row_trusted K.passed K.seen K.fresh pairs.now i }
+    ensures right { result.right ≡ row_right K.passed K.seen K.fresh pairs.now i }
 {
-    let mut found = Some(0);
+    let mut suspected = Some(0);
+    let mut trusted = Some(0);
+    let mut right = true;
     for j in 0..pairs.processes() {
-        if !counts_as_correct(pairs, j) {
-            found = latest(found, place(pairs, i, j).suspected_from());
-        }
+        let track = place(pairs, i, j);
+        let correct = counts_as_correct(pairs, j);
+        suspected = latest_where(!correct, suspected, track.suspected_from());
+        trusted = latest_where(correct, trusted, track.trusted_from());
+        right &= !track.mistaken;
     }
-    found
+    Line {
+        suspected,
+        trusted,
+        right,
+    }
 }
 
-/// From which tick on some correct process suspects one.
-fn column_suspected<K: Gauge>(pairs: &Pairs<K>, j: usize) -> Option<u32>
+/// From which tick on some correct process suspects one, from which on all correct ones trust it, and whether no mistake
+/// was made of it.
+fn column<K: Gauge>(pairs: &Pairs<K>, j: usize) -> Line
     requires inside { j < pairs.now.processes }
-    ensures { result ≡ column_suspected K.passed K.seen K.fresh pairs.now j }
+    ensures suspected { result.suspected ≡ column_suspected K.passed K.seen K.fresh pairs.now j }
+    ensures trusted { result.trusted ≡ column_trusted K.passed K.seen K.fresh pairs.now j }
+    ensures right { result.right ≡ column_right K.passed K.seen K.fresh pairs.now j }
 {
-    let mut found = None;
+    let mut suspected = None;
+    let mut trusted = Some(0);
+    let mut right = true;
     for i in 0..pairs.processes() {
-        if counts_as_correct(pairs, i) {
-            found = earliest(found, place(pairs, i, j).suspected_from());
-        }
+        let track = place(pairs, i, j);
+        let correct = counts_as_correct(pairs, i);
+        suspected = earliest_where(correct, suspected, track.suspected_from());
+        trusted = latest_where(correct, trusted, track.trusted_from());
+        right &= !track.mistaken;
     }
-    found
-}
-
-/// From which tick on a process trusts all correct ones.
-fn row_trusted<K: Gauge>(pairs: &Pairs<K>, i: usize) -> Option<u32>
-    requires inside { i < pairs.now.processes }
-    ensures { result ≡ row_trusted K.passed K.seen K.fresh pairs.now i }
-{
-    let mut found = Some(0);
-    for j in 0..pairs.processes() {
-        if counts_as_correct(pairs, j) {
-            found = latest(found, place(pairs, i, j).trusted_from());
-        }
+    Line {
+        suspected,
+        trusted,
+        right,
     }
-    found
-}
-
-/// From which tick on all correct processes trust one.
-fn column_trusted<K: Gauge>(pairs: &Pairs<K>, j: usize) -> Option<u32>
-    requires inside { j < pairs.now.processes }
-    ensures { result ≡ column_trusted K.passed K.seen K.fresh pairs.now j }
-{
-    let mut found = Some(0);
-    for i in 0..pairs.processes() {
-        if counts_as_correct(pairs, i) {
-            found = latest(found, place(pairs, i, j).trusted_from());
-        }
-    }
-    found
-}
-
-/// Whether a process made no mistake.
-fn row_right<K: Gauge>(pairs: &Pairs<K>, i: usize) -> bool
-    requires inside { i < pairs.now.processes }
-    ensures { result ≡ row_right K.passed K.seen K.fresh pairs.now i }
-{
-    let mut found = true;
-    for j in 0..pairs.processes() {
-        found = found && !place(pairs, i, j).mistaken;
-    }
-    found
-}
-
-/// Whether no mistake was made of a process.
-fn column_right<K: Gauge>(pairs: &Pairs<K>, j: usize) -> bool
-    requires inside { j < pairs.now.processes }
-    ensures { result ≡ column_right K.passed K.seen K.fresh pairs.now j }
-{
-    let mut found = true;
-    for i in 0..pairs.processes() {
-        found = found && !place(pairs, i, j).mistaken;
-    }
-    found
-}
-
-/// From which tick on all correct processes suspect all crashed ones.
-fn strong_completeness<K: Gauge>(pairs: &Pairs<K>) -> Option<u32>
-    ensures { result ≡ (grid_verdicts K.passed K.seen K.fresh pairs.now).strong_completeness }
-{
-    let mut found = Some(0);
-    for i in 0..pairs.processes() {
-        if counts_as_correct(pairs, i) {
-            found = latest(found, row_suspected(pairs, i));
-        }
-    }
-    found
-}
-
-/// From which tick on each crashed process is suspected by some correct one.
-fn weak_completeness<K: Gauge>(pairs: &Pairs<K>) -> Option<u32>
-    ensures { result ≡ (grid_verdicts K.passed K.seen K.fresh pairs.now).weak_completeness }
-{
-    let mut found = Some(0);
-    for j in 0..pairs.processes() {
-        if !counts_as_correct(pairs, j) {
-            found = latest(found, column_suspected(pairs, j));
-        }
-    }
-    found
-}
-
-/// Whether no mistake was made.
-fn strong_accuracy<K: Gauge>(pairs: &Pairs<K>) -> bool
-    ensures { result ≡ (grid_verdicts K.passed K.seen K.fresh pairs.now).strong_accuracy }
-{
-    let mut found = true;
-    for i in 0..pairs.processes() {
-        found = found && row_right(pairs, i);
-    }
-    found
-}
-
-/// Whether no mistake was made of some correct process.
-fn weak_accuracy<K: Gauge>(pairs: &Pairs<K>) -> bool
-    ensures { result ≡ (grid_verdicts K.passed K.seen K.fresh pairs.now).weak_accuracy }
-{
-    let mut found = false;
-    for j in 0..pairs.processes() {
-        found = found || (counts_as_correct(pairs, j) && column_right(pairs, j));
-    }
-    found
-}
-
-/// From which tick on all correct processes trust each other.
-fn eventual_strong_accuracy<K: Gauge>(pairs: &Pairs<K>) -> Option<u32>
-    ensures { result ≡ (grid_verdicts K.passed K.seen K.fresh pairs.now).eventual_strong_accuracy }
-{
-    let mut found = Some(0);
-    for i in 0..pairs.processes() {
-        if counts_as_correct(pairs, i) {
-            found = latest(found, row_trusted(pairs, i));
-        }
-    }
-    found
-}
-
-/// From which tick on some correct process is trusted by all correct ones.
-fn eventual_weak_accuracy<K: Gauge>(pairs: &Pairs<K>) -> Option<u32>
-    ensures { result ≡ (grid_verdicts K.passed K.seen K.fresh pairs.now).eventual_weak_accuracy }
-{
-    let mut found = None;
-    for j in 0..pairs.processes() {
-        if counts_as_correct(pairs, j) {
-            found = earliest(found, column_trusted(pairs, j));
-        }
-    }
-    found
 }
 
 /// All verdicts.
 pub fn grid_verdicts<K: Gauge>(pairs: &Pairs<K>) -> Verdicts
     ensures { result ≡ grid_verdicts K.passed K.seen K.fresh pairs.now }
 {
-    Verdicts {
-        strong_completeness: strong_completeness(pairs),
-        weak_completeness: weak_completeness(pairs),
-        strong_accuracy: strong_accuracy(pairs),
-        weak_accuracy: weak_accuracy(pairs),
-        eventual_strong_accuracy: eventual_strong_accuracy(pairs),
-        eventual_weak_accuracy: eventual_weak_accuracy(pairs),
+    let mut told = Verdicts {
+        strong_completeness: Some(0),
+        weak_completeness: Some(0),
+        strong_accuracy: true,
+        weak_accuracy: false,
+        eventual_strong_accuracy: Some(0),
+        eventual_weak_accuracy: None,
+    };
+    for i in 0..pairs.processes() {
+        let row = row(pairs, i);
+        let column = column(pairs, i);
+        let correct = counts_as_correct(pairs, i);
+        told.strong_completeness = latest_where(correct, told.strong_completeness, row.suspected);
+        told.weak_completeness = latest_where(!correct, told.weak_completeness, column.suspected);
+        told.strong_accuracy &= row.right;
+        told.weak_accuracy |= correct & column.right;
+        told.eventual_strong_accuracy = latest_where(
+            correct,
+            told.eventual_strong_accuracy,
+            row.trusted,
+        );
+        told.eventual_weak_accuracy = earliest_where(
+            correct,
+            told.eventual_weak_accuracy,
+            column.trusted,
+        );
     }
+    told
 }

@@ -1,30 +1,89 @@
--- The measures at the close.
-use Rattle.std.proofs.Common.{◌≡◌, ℕ, suc, ◌+◌, ◌-◌, ◌*◌, ◌<◌, min, Bool, true, false, cond, refl, sym, ap, ◌∙◌, subst, arith, None, Some, List, map, get_or, add-one}
-use Rattle.process_api.specs.Numbers.{others}
+-- Meters, as they open, as they are fed with one more entry, and at the close.
+use Rattle.std.proofs.Common.{◌≡◌, ℕ, Bool, false, inl, inr, arith, ltb, None, Some, ◌≢◌, ◌<◌, ◌≤◌, min, cond, sym, ap, ◌∙◌, List, [], ◌∷◌, ◌++◌, suc, ◌+◌, ◌-◌, ◌*◌, true, refl, subst, map, get_or, add-one}
+use Rattle.std.proofs.lemmas.Bool.{cases_lt, lt-ltb, both_ways, or_right, or_left, false_from_ne_true, cond_both}
+use Rattle.judges.specs.Ticks.{all_from, least_from, before}
+use Rattle.judges.proofs.Below.{all_below-from}
+use Rattle.judges.proofs.Lasting.{least_below-none, least_below-is, all_from-at, last_before}
+use Rattle.reporting.specs.Knows.{IsSince, Knows}
+use Rattle.std.proofs.lemmas.Bool.Decides.{nat_tests}
 use Rattle.process_api.specs.EntryRecord.{EntryRecord}
 use Rattle.scenario_record.specs.Record.{Record}
 use Rattle.judges.specs.Crashes.{crash_tick, end_of}
-use Rattle.judges.specs.Out.{suspects}
-use Rattle.judges.specs.Pair.{opened, kept_at}
-use Rattle.judges.specs.Pairs.{ArePairs, fed}
-use Rattle.judges.specs.Ticks.{least_from}
+use Rattle.judges.specs.Judging.{AreUntil}
+use Rattle.judges.specs.Pair.{all_turned, opened, kept_at}
+use Rattle.judges.specs.Turns.{noted_turns, entry_turns}
 use Rattle.judges.specs.declared.pair.Pair.{Pair}
+use Rattle.judges.proofs.Entering.{fed_more}
+use Rattle.judges.proofs.Turns.{turns_own, turns_late, turns_other, in_order_more}
+use Rattle.reporting.specs.Measures.{is_measured, starts, ends, delay_after, pair_measures, layer_measures}
+use Rattle.reporting.specs.Meter.{crash_between, closed, detected}
+use Rattle.reporting.specs.MeterFed.{IsFed}
+use Rattle.reporting.specs.Tally.{counted, new_tally}
+use Rattle.reporting.specs.declared.meter.Meter.{Meter}
+use Rattle.reporting.specs.declared.tally.Tally.{Tally}
+use Rattle.process_api.specs.Numbers.{others}
+use Rattle.judges.specs.Out.{suspects}
+use Rattle.judges.specs.Pairs.{ArePairs, fed}
 use Rattle.judges.specs.declared.pairs.Pairs.{Pairs}
 use Rattle.judges.proofs.Standing.{IsKnown, fed_known}
 use Rattle.reporting.specs.Distances.{count_below, sum_of_distances, count_of_distances}
-use Rattle.reporting.specs.Measures.{starts, ends, is_measured, delay_after, pair_measures, layer_measures}
-use Rattle.reporting.specs.Knows.{Knows}
-use Rattle.reporting.specs.Tally.{counted, new_tally}
-use Rattle.reporting.specs.Meter.{closed, detected}
-use Rattle.reporting.specs.MeterFed.{IsFed}
 use Rattle.reporting.specs.Panel.{pair, metered, closed_row, closed_rows}
-use Rattle.reporting.specs.declared.meter.Meter.{Meter}
-use Rattle.reporting.specs.declared.tally.Tally.{Tally}
 use Rattle.reporting.specs.declared.pair_measures.Detection.TheVariants.{Na}
-use Rattle.reporting.proofs.Lasting.{least_from-since, least_from-none}
-use Rattle.reporting.proofs.Keeping.{tallies_keep, none_known}
+use Rattle.reporting.proofs.Passes.{tallies_keep, none_known}
 use Rattle.reporting.proofs.EachProcess.{others_same, rows_same}
-use Rattle.reporting.proofs.Entering.{crash_is}
+
+-- ---- the least tick from which suspicion lasts to the end
+
+pub least_from-since : (f : ℕ → Bool) (s t : ℕ) → IsSince f s t → least_from f t ≡ Some s
+least_from-since f s t since =
+    least_below-is (λ u. all_from f u t) t s since.below
+    (all_below-from _ t (λ u l. elim (cases_lt u s) [ inl p ↦ or_left (ltb u s) (f u) (lt-ltb u s p) | inr p ↦ or_right (ltb u s) (f u) (since.on u p l) ]))
+    (λ u l. false_from_ne_true _ (λ e.
+    let last = last_before f s since.not_before u l in
+    both_ways (f last.0) last.3 (all_from-at f u t last.0 e last.1 (omega (arith, since.below, last.2)))))
+
+pub least_from-none : (f : ℕ → Bool) (t : ℕ) → before f t ≡ false → least_from f t ≡ None
+least_from-none f t e =
+    least_below-none (λ u. all_from f u t) t (λ u l. false_from_ne_true _ (λ all.
+    let last = last_before f t e u l in
+    both_ways (f last.0) last.3 (all_from-at f u t last.0 all last.1 last.2)))
+
+-- ---- one more entry
+
+pub crash_is : (S : Record) (q p a b n : ℕ) → a ≡ min (crash_tick S q) S.horizon → b ≡ min (crash_tick S p) S.horizon → n ≡ S.horizon
+    → crash_between a b n ≡ cond (is_measured S q p) (Some (crash_tick S p)) None
+crash_is S q p a b n is_a is_b is_n = grind (arith, nat_tests)
+
+module _ (S : Record) (layer q p : ℕ) (trace : List EntryRecord) (entry : EntryRecord) (m : Meter) (h : IsFed S layer q p trace m) (until : AreUntil trace entry.key.tick) where
+  meter_turned : (pair : Pair Tally) → pair ≡ all_turned counted m.pair (entry_turns layer q p S.horizon entry) → IsFed S layer q p (trace ++ entry ∷ []) (record m { pair = pair })
+  meter_turned pair is = record {
+    same_layer = h.same_layer;
+    observer = h.observer;
+    subject = h.subject;
+    horizon = h.horizon;
+    crash = h.crash;
+    in_order = in_order_more trace 0 entry h.in_order until (omega arith);
+    pair = is ∙ ap (λ x. all_turned counted x (entry_turns layer q p S.horizon entry)) h.pair ∙ fed_more counted S layer q p new_tally trace entry;
+  }
+
+  -- an entry of its observer below the horizon
+  pub meter_fed : entry.key.receiver ≡ m.observer → entry.key.tick < m.horizon → (pair : Pair Tally) → pair ≡ all_turned counted m.pair (noted_turns m.layer m.subject entry.key.tick entry.notes)
+      → IsFed S layer q p (trace ++ entry ∷ []) (record m { pair = pair })
+  meter_fed own below pair is =
+      meter_turned pair
+      (is
+      ∙ ap (λ l. all_turned counted m.pair (noted_turns l m.subject entry.key.tick entry.notes)) h.same_layer
+      ∙ ap (λ w. all_turned counted m.pair (noted_turns layer w entry.key.tick entry.notes)) h.subject
+      ∙ ap (all_turned counted m.pair) (sym (turns_own layer q p S.horizon entry (own ∙ h.observer) (omega (arith, h.horizon)))))
+
+  -- any other
+  pub meter_late : m.horizon ≤ entry.key.tick → IsFed S layer q p (trace ++ entry ∷ []) m
+  meter_late late = meter_turned m.pair (ap (all_turned counted m.pair) (sym (turns_late layer q p S.horizon entry (omega (arith, h.horizon)))))
+
+  pub meter_other : entry.key.receiver ≢ m.observer → IsFed S layer q p (trace ++ entry ∷ []) m
+  meter_other other = meter_turned m.pair (ap (all_turned counted m.pair) (sym (turns_other layer q p S.horizon entry (λ e. other (e ∙ sym h.observer)))))
+
+-- ---- the measures at the close
 
 abbrev pub known_of : (S : Record) (layer q p : ℕ) (trace : List EntryRecord) (horizon : ℕ) → Pair Tally → Type 0
 known_of S layer q p trace horizon = IsKnown counted (λ (t : Tally). t.tick) Knows tallies_keep (suspects layer trace q p) horizon (end_of S q p)
@@ -48,11 +107,8 @@ module _ (S : Record) (layer q p : ℕ) (trace : List EntryRecord) (m : Meter) (
   at_end = omega (arith, at_horizon)
 
   lasting : least_from (suspects layer trace q p) S.horizon ≡ cond t.was t.started None
-  lasting = ap (least_from (suspects layer trace q p)) (sym at_horizon) ∙ go t.was refl
-    where
-      go : (b : Bool) → t.was ≡ b → least_from (suspects layer trace q p) t.tick ≡ cond b t.started None
-      go true e = let s = knows.since e in least_from-since _ s.0 t.tick s.2 ∙ sym s.1
-      go false e = least_from-none _ t.tick (sym knows.was ∙ e)
+  lasting = ap (least_from (suspects layer trace q p)) (sym at_horizon) ∙ cond_both t.was t.started None (λ o. least_from (suspects layer trace q p) t.tick ≡ o)
+      (λ e. let s = knows.since e in least_from-since _ s.0 t.tick s.2 ∙ sym s.1) (λ e. least_from-none _ t.tick (sym knows.was ∙ e))
 
   pub closed_is : closed m ≡ pair_measures S trace layer q p
   unfolding pair_measures
@@ -60,27 +116,19 @@ module _ (S : Record) (layer q p : ℕ) (trace : List EntryRecord) (m : Meter) (
       let f = suspects layer trace q p in
       let s = starts (suspects layer trace q p) in
       let r = ends (suspects layer trace q p) in
-      let mistakes = knows.mistakes ∙ ap (count_below s) at_end in
-      let mistake_ticks = knows.mistake_ticks ∙ ap (count_below f) at_end in
-      let rs = knows.recurrence.sum ∙ ap (sum_of_distances s s) at_end in
-      let rc = knows.recurrence.count ∙ ap (count_of_distances s s) at_end in
-      let ds = knows.duration.sum ∙ ap (sum_of_distances s r) at_end in
-      let dc = knows.duration.count ∙ ap (count_of_distances s r) at_end in
-      let gs = knows.good.sum ∙ ap (sum_of_distances r s) at_end in
-      let gc = knows.good.count ∙ ap (count_of_distances r s) at_end in
       let detection = ap (detected m.crash) (sym lasting) ∙ ap (λ c. detected c (least_from f S.horizon)) h.crash ∙ by_case (is_measured S q p) in
       λ i. record {
         layer = h.same_layer i;
         observer = h.observer i;
         subject = h.subject i;
-        mistakes = mistakes i;
-        mistake_ticks = mistake_ticks i;
-        recurrence_sum = rs i;
-        recurrence_count = rc i;
-        duration_sum = ds i;
-        duration_count = dc i;
-        good_sum = gs i;
-        good_count = gc i;
+        mistakes = (knows.mistakes ∙ ap (count_below s) at_end) i;
+        mistake_ticks = (knows.mistake_ticks ∙ ap (count_below f) at_end) i;
+        recurrence_sum = (knows.recurrence.sum ∙ ap (sum_of_distances s s) at_end) i;
+        recurrence_count = (knows.recurrence.count ∙ ap (count_of_distances s s) at_end) i;
+        duration_sum = (knows.duration.sum ∙ ap (sum_of_distances s r) at_end) i;
+        duration_count = (knows.duration.count ∙ ap (count_of_distances s r) at_end) i;
+        good_sum = (knows.good.sum ∙ ap (sum_of_distances r s) at_end) i;
+        good_count = (knows.good.count ∙ ap (count_of_distances r s) at_end) i;
         detection = detection i;
       }
     where

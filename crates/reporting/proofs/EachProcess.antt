@@ -1,5 +1,5 @@
 -- Lists that are made process by process.
-use Rattle.std.proofs.Common.{◌≡◌, ◌≢◌, ℕ, zero, suc, ◌+◌, ◌<◌, Bool, true, false, cond, not, refl, sym, ap, ◌∙◌, arith, eqb, List, [], ◌∷◌, ◌++◌, map, flat_map, filter, append_assoc, add-one, append-nil}
+use Rattle.std.proofs.Common.{◌≡◌, ◌≢◌, ℕ, zero, suc, ◌+◌, ◌<◌, true, false, cond, not, refl, sym, ap, ◌∙◌, arith, eqb, List, [], ◌∷◌, ◌++◌, map, flat_map, filter, append_assoc, add-one, append-nil}
 use Rattle.std.proofs.lemmas.Bool.{eq-eqb, ne_eqb}
 use Rattle.std.proofs.lemmas.List.{map-append}
 use Rattle.std.proofs.lemmas.List.Elements.{filter-append}
@@ -11,11 +11,7 @@ pub others_more : {X : Type 0} (f : ℕ → X) (k q : ℕ) → map f (others (su
 others_more f k q =
     ap (map f) (filter-append (λ p. not (eqb p q)) (numbers_to k) (suc k ∷ []))
     ∙ map-append f (others k q) (filter (λ p. not (eqb p q)) (suc k ∷ []))
-    ∙ ap (λ ys. map f (others k q) ++ ys) (go (not (eqb (suc k) q)))
-  where
-    go : (b : Bool) → map f (cond b (suc k ∷ []) []) ≡ cond b (f (suc k) ∷ []) []
-    go true = refl
-    go false = refl
+    ∙ ap (λ ys. map f (others k q) ++ ys) (elim (not (eqb (suc k) q)) as (λ b. map f (cond b (suc k ∷ []) []) ≡ cond b (f (suc k) ∷ []) []) [ true ↦ refl | false ↦ refl ])
 
 pub others_same : {X : Type 0} (f g : ℕ → X) (k q : ℕ) → ((j : ℕ) → j < k → f (suc j) ≡ g (suc j)) → map f (others k q) ≡ map g (others k q)
 others_same f g zero q same = refl

@@ -1,5 +1,5 @@
 -- A run from its trace to its texts: what it leaves once it is done, and once it is refused.
-use Rattle.std.proofs.Common.{◌≡◌, ◌≢◌, ℕ, ◌<◌, ◌∙◌, sym, ap, subst, refl, Bool, true, false, true≢false, List, length, Option, Result, Ok, Err, IfOk, IfErr, OnOk}
+use Rattle.std.proofs.Common.{◌≡◌, ◌≢◌, ℕ, ◌<◌, sym, subst, refl, List, length, Option, Result, Ok, Err, IfOk, IfErr, OnOk}
 use Rattle.trace_laws.specs.Effects.{HasCauses, TakesOnce}
 use Rattle.trace_laws.specs.ScenarioSetting.{setting_of}
 use Rattle.trace_laws.specs.World.{IsTrace}
@@ -13,21 +13,6 @@ use Rattle.reporting.specs.Summary.{IsSummary}
 use Rattle.reporting.specs.Writing.{Wrote, WrotePart, WroteNothing}
 use Rattle.print_choice.specs.declared.PrintChoice.{PrintChoice}
 use Rattle.reporting.specs.declared.summary.Summary.{Summary}
-
-abbrev is_limit : RunError → Bool
-is_limit Limit = true
-is_limit Memory = false
-is_limit Spawn = false
-is_limit Write = false
-
-abbrev is_write : RunError → Bool
-is_write Limit = false
-is_write Memory = false
-is_write Spawn = false
-is_write Write = true
-
-apart : (test : RunError → Bool) (a b : RunError) → test a ≡ false → test b ≡ true → a ≢ b
-apart test a b fails passes e = true≢false (sym passes ∙ ap test (sym e) ∙ fails)
 
 module _ (S : Record) (print : PrintChoice) {O : Type 0} (told : O → Option (List ℕ)) (failed : O → ℕ) (old new : O) where
   -- nothing was written yet
@@ -64,9 +49,9 @@ module _ (S : Record) (print : PrintChoice) {O : Type 0} (told : O → Option (L
     refuses_after (Err Spawn) part nothing only = absurd (only.1 refl)
     refuses_after (Err Memory) part nothing only =
         let n = nothing refl in
-        refuses_before Memory (apart is_write Memory Write refl refl) (λ e. absurd (apart is_limit Memory Limit refl refl e)) n.bytes n.failures
+        refuses_before Memory (λ e. cc e) (λ e. absurd (cc e)) n.bytes n.failures
     refuses_after (Err Write) part nothing only = record {
       write = λ _. (trace, within, part refl);
       others = λ other. absurd (other refl);
-      limit = λ e. absurd (apart is_limit Write Limit refl refl e);
+      limit = λ e. absurd (cc e);
     }

@@ -1,17 +1,10 @@
-pub mod Sums
-pub mod Waits
 pub mod Passes
-pub mod Lasting
 pub mod EachProcess
 pub mod Closing
 pub mod Layers
 pub mod Fed
 pub mod Followed
-pub mod Keeping
-pub mod Entering
-pub mod Lengths
 pub mod Listing
-pub mod Caught
 mod Examples
 pub mod Joining
 pub mod Finishing

@@ -1,28 +1,131 @@
--- The lengths that are kept beside a tally: as entries come, and as no entry follows.
-use Rattle.std.proofs.Common.{◌≡◌, ℕ, suc, ◌-◌, ◌<◌, ◌≤◌, min, Bool, true, false, cond, not, ◌&&◌, inl, inr, refl, sym, ap, ◌∙◌, subst, arith, ltb, eqb, Option, None, Some, List, [], ◌∷◌, ◌++◌, length, length-append, append-nil}
+-- The lengths of mistakes, as a tally passes on, as entries come, and as no entry follows.
+use Rattle.std.proofs.Common.{◌≡◌, ℕ, zero, suc, ◌+◌, ◌-◌, ◌<◌, ◌≤◌, min, Bool, true, false, cond, ◌&&◌, inl, inr, refl, sym, ap, ◌∙◌, arith, ltb, Some, List, [], ◌∷◌, ◌++◌, length, sum, length-append, append-nil, not, subst, eqb, Option, None, ◌≢◌, ◌*◌, leb, set, get_or}
+use Rattle.std.proofs.lemmas.Bool.{cases_lt, lt-ltb, le-ltb, cond-true, cond-false, cond_both, cases_eq, le-leb, lt-leb, and_from, and_left, and_right}
+use Rattle.std.proofs.lemmas.List.{nil_from_length, map-set, length-map, length-set, get_or-map, get_or-set_other}
+use Rattle.std.proofs.lemmas.List.Sums.{sum_by-append, fold-append}
+use Rattle.reporting.specs.Distances.{sum_below, list_below, distances, is_next, over_distances, count_of_distances}
+use Rattle.reporting.specs.Durations.{caught, ticks_between, listed, lengths_so_far, lists_in, tally_at, AreCaught, AreFollowing, AreDurations}
+use Rattle.reporting.specs.Knows.{IsWaiting, Knows}
+use Rattle.reporting.specs.declared.tally.Tally.{Tally}
+use Rattle.reporting.proofs.Passes.{ending, ending_none, ending_one, tallies_keep, none_known, t_after, t_at, open_start, knows_moved}
 use mathlib.Core.Bool.{beq}
-use Rattle.std.proofs.lemmas.Bool.{cases_lt, cond_both, lt-ltb, le-ltb, cond-true, cond-false}
-use Rattle.std.proofs.lemmas.List.Sums.{fold-append}
 use Rattle.process_api.specs.EntryRecord.{EntryRecord}
 use Rattle.process_api.specs.declared.action.Note.{Note}
 use Rattle.scenario_record.specs.Record.{Record}
 use Rattle.judges.specs.Crashes.{end_of}
 use Rattle.judges.specs.Out.{suspects}
 use Rattle.judges.specs.Pair.{opened, turned, all_turned, kept_at}
-use Rattle.judges.specs.Pairs.{AreFrom, fed}
+use Rattle.judges.specs.Pairs.{AreFrom, fed, ArePairs}
 use Rattle.judges.specs.Turns.{Turn, turn_of, turns_at, noted_turns, entry_turns, turns}
 use Rattle.judges.specs.declared.pair.Pair.{Pair}
 use Rattle.judges.proofs.Entering.{fed_more}
 use Rattle.judges.proofs.Standing.{IsKeeping, fed_known, shown, shown_all}
-use Rattle.reporting.specs.Distances.{distances}
-use Rattle.reporting.specs.Durations.{caught, listed, lengths_so_far, ticks_between}
-use Rattle.reporting.specs.Knows.{Knows, IsWaiting}
 use Rattle.reporting.specs.Measures.{starts, ends, pair_durations}
 use Rattle.reporting.specs.Tally.{gain, changed, passed, moved, counted, new_tally}
-use Rattle.reporting.specs.declared.tally.Tally.{Tally}
-use Rattle.reporting.proofs.Keeping.{tallies_keep, none_known}
-use Rattle.reporting.proofs.Lengths.{ending_at, length_of_distances, distances_more, new_none, new_one, caught_same, caught_one, caught_new}
-use Rattle.reporting.proofs.Passes.{t_after, t_at, open_start, knows_moved}
+use Rattle.std.specs.Global.{Vec}
+use Rattle.std.proofs.Math.Nat.{mul-le-mul_right, suc-mul}
+use Rattle.std.proofs.lemmas.Bool.Decides.{nat_tests}
+use Rattle.std.proofs.lemmas.Grind.{get_or-set_at}
+use Rattle.std.proofs.lemmas.Nat.{mul-add-lt}
+use Rattle.judges.specs.declared.pairs.Pairs.{Pairs}
+use Rattle.judges.proofs.Turns.{turns_other, turns_quiet}
+use Rattle.reporting.specs.declared.durations.Durations.{Durations}
+
+-- ---- distances one by one: they are what sums and counts of distances are over
+
+-- a measure of lists, as a sum or a length is
+module _ (μ : List ℕ → ℕ) (none : μ [] ≡ 0) (both : (xs ys : List ℕ) → μ (xs ++ ys) ≡ μ xs + μ ys) where
+  measured : (g : ℕ → List ℕ) (n : ℕ) → μ (list_below g n) ≡ sum_below (λ t. μ (g t)) n
+  measured g zero = none
+  measured g (suc t) = both (list_below g t) (g t) ∙ ap (λ m. m + μ (g t)) (measured g t)
+
+  measured_if : (b : Bool) (n : ℕ) → μ (cond b (n ∷ []) []) ≡ cond b (μ (n ∷ [])) 0
+  measured_if true n = refl
+  measured_if false n = none
+
+  module _ (from to : ℕ → Bool) where
+    measured_ending : (t : ℕ) → μ (list_below (λ s. cond (from s && is_next to s t) ((t - s) ∷ []) []) t) ≡ ending from to (λ n. μ (n ∷ [])) t
+    measured_ending t =
+        measured (λ s. cond (from s && is_next to s t) ((t - s) ∷ []) []) t
+        ∙ (λ i. sum_below (λ s. measured_if (from s && is_next to s t) (t - s) i) t)
+
+    pub measured_distances : (end : ℕ) → μ (distances from to end) ≡ over_distances (λ n. μ (n ∷ [])) from to end
+    measured_distances end =
+        measured (λ t. list_below (λ s. cond (from s && is_next to s t) ((t - s) ∷ []) []) t) end
+        ∙ (λ i. sum_below (λ t. measured_ending t i) end)
+
+sum_both : (xs ys : List ℕ) → sum (xs ++ ys) ≡ sum xs + sum ys
+sum_both xs ys = sum_by-append (λ n. n) xs ys
+
+single : (xs : List ℕ) (x : ℕ) → length xs ≡ 1 → sum xs ≡ x → xs ≡ x ∷ []
+single [] x one is = absurd (omega arith)
+single (y ∷ []) x one is = let e : y ≡ x = omega arith in ap (λ n. n ∷ []) e
+single (y ∷ z ∷ xs) x one is = absurd (omega arith)
+
+-- the lists from a to b - 1 are empty
+list_below-flat : (g : ℕ → List ℕ) (a b : ℕ) → a ≤ b → ((u : ℕ) → a ≤ u → u < b → g u ≡ []) → list_below g b ≡ list_below g a
+list_below-flat g a zero l h = let e : a ≡ 0 = omega arith in ap (list_below g) (sym e)
+list_below-flat g a (suc t) l h =
+    elim (cases_lt t a) [
+      | inl m ↦ let e : a ≡ suc t = omega arith in ap (list_below g) (sym e)
+      | inr m ↦
+          ap (λ xs. list_below g t ++ xs) (h t m (omega arith))
+          ∙ append-nil (list_below g t)
+          ∙ list_below-flat g a t m (λ u x y. h u x (omega arith))
+    ]
+
+-- cut at an end: nothing after tick a
+list_below-turn : (g : ℕ → List ℕ) (a b end : ℕ) → a < b → ((u : ℕ) → a < u → u < b → g u ≡ []) → list_below g (min b end) ≡ list_below g (min a end) ++ cond (ltb a end) (g a) []
+list_below-turn g a b end l h =
+    elim (cases_lt a end) [
+      | inl p ↦
+          list_below-flat g (suc a) (min b end) (omega arith) (λ u x y. h u (omega arith) (omega arith))
+          ∙ ap (λ n. list_below g n ++ g a) (let m : a ≡ min a end = omega arith in m)
+          ∙ ap (λ xs. list_below g (min a end) ++ xs) (sym (cond-true _ _ _ (lt-ltb a end p)))
+      | inr p ↦
+          ap (list_below g) (let m : min b end ≡ min a end = omega arith in m)
+          ∙ sym (append-nil (list_below g (min a end)))
+          ∙ ap (λ xs. list_below g (min a end) ++ xs) (sym (cond-false _ _ _ (le-ltb a end p)))
+    ]
+
+module _ (from to : ℕ → Bool) where
+  pub length_of_distances : (end : ℕ) → length (distances from to end) ≡ count_of_distances from to end
+  length_of_distances = measured_distances length refl length-append from to
+
+  abbrev pub ending_at : ℕ → List ℕ
+  ending_at t = list_below (λ s. cond (from s && is_next to s t) ((t - s) ∷ []) []) t
+
+  ends_none : (t : ℕ) → to t ≡ false → ending_at t ≡ []
+  ends_none t quiet = nil_from_length (ending_at t) (measured_ending length refl length-append from to t ∙ ending_none from to (λ n. 1) t quiet)
+
+  ends_one : (t s : ℕ) → to t ≡ true → IsWaiting from to t (Some s) → ending_at t ≡ (t - s) ∷ []
+  ends_one t s ends waits =
+      single (ending_at t) (t - s)
+      (measured_ending length refl length-append from to t ∙ ending_one from to (λ n. 1) t (Some s) ends waits)
+      (measured_ending sum refl sum_both from to t ∙ ending_one from to (λ n. sum (n ∷ [])) t (Some s) ends waits ∙ (let e : sum ((t - s) ∷ []) ≡ t - s = omega arith in e))
+
+  -- nothing ends after tick a; what ends there is new
+  pub distances_more : (a b end : ℕ) → a < b → ((u : ℕ) → a < u → u < b → to u ≡ false) → distances from to (min b end) ≡ distances from to (min a end) ++ cond (ltb a end) (ending_at a) []
+  distances_more a b end l quiet = list_below-turn ending_at a b end l (λ u x y. ends_none u (quiet u x y))
+
+  pub new_none : (a end : ℕ) → to a ≡ false → cond (ltb a end) (ending_at a) [] ≡ []
+  new_none a end quiet = cond_both (ltb a end) (ending_at a) [] (λ xs. xs ≡ []) (λ _. ends_none a quiet) (λ _. refl)
+
+  pub new_one : (a end s : ℕ) → to a ≡ true → IsWaiting from to a (Some s) → cond (ltb a end) (ending_at a) [] ≡ cond (ltb a end) ((a - s) ∷ []) []
+  new_one a end s ends waits = ap (λ xs. cond (ltb a end) xs []) (ends_one a s ends waits)
+
+-- a tally that has counted as many as are listed, or one more
+pub caught_same : (t : Tally) (xs : List ℕ) → t.duration.count ≤ length xs → caught t xs ≡ xs
+caught_same t xs le = cond-false _ _ _ (le-ltb (length xs) t.duration.count le)
+
+pub caught_one : (t : Tally) (xs : List ℕ) → length xs < t.duration.count → caught t xs ≡ xs ++ ticks_between t.started t.ended ∷ []
+caught_one t xs lt = cond-true _ _ _ (lt-ltb (length xs) t.duration.count lt)
+
+pub caught_new : (t : Tally) (xs : List ℕ) (b : Bool) (x : ℕ) → x ≡ ticks_between t.started t.ended → t.duration.count ≡ length (xs ++ cond b (x ∷ []) []) → caught t xs ≡ xs ++ cond b (x ∷ []) []
+caught_new t xs true x is count = caught_one t xs (omega (arith, length-append xs (x ∷ []))) ∙ ap (λ n. xs ++ n ∷ []) (sym is)
+caught_new t xs false x is count = caught_same t xs (omega (arith, length-append xs [])) ∙ sym (append-nil xs)
+
+-- ---- the lengths that are kept beside a tally: as entries come, and as no entry follows
 
 abbrev Listed : Type 0
 Listed = Tally × List ℕ
@@ -35,25 +138,10 @@ strip_all = shown_all listed counted (λ (k : Listed). k.0) (λ until now end k.
 -- ---- a tally counts at most one more at a time, and that one is listed
 
 gain_few : (from : Option ℕ) (to end : ℕ) → gain (λ n. 1) from to end ≤ 1
-gain_few None to end = omega arith
-gain_few (Some s) to end = by (ltb to end)
-  where
-    by : (b : Bool) → cond b 1 0 ≤ 1
-    by true = omega arith
-    by false = omega arith
-
-changed_few : (was now : Bool) (t : Tally) (end : ℕ) → (changed was now t end).duration.count ≤ suc t.duration.count
-changed_few true true t end = omega arith
-changed_few false true t end = omega arith
-changed_few true false t end = omega (arith, gain_few t.started t.tick end)
-changed_few false false t end = omega arith
+gain_few from to end = grind arith
 
 moved_few : (t : Tally) (until : ℕ) (now : Bool) (end : ℕ) → (moved t until now end).duration.count ≤ suc t.duration.count
-moved_few t until now end = by (ltb t.tick until)
-  where
-    by : (b : Bool) → (cond b (passed t until now end) t).duration.count ≤ suc t.duration.count
-    by true = changed_few t.was now t end
-    by false = omega arith
+moved_few t until now end = grind (arith, gain_few)
 
 abbrev IsLevel : Listed → Type 0
 IsLevel k = k.0.duration.count ≤ length k.1
@@ -243,3 +331,152 @@ lengths_closed S layer q p trace order =
     ap (λ (x : Pair Tally). caught (kept_at counted S.horizon x) pair.kept.1) (sym (strip_all (turns layer q p S.horizon trace) (opened (end_of S q p) (new_tally, []))))
     ∙ known.knows.lengths
     ∙ ap (distances (starts f) (ends f)) to_end
+
+-- ---- the lengths of all pairs of a layer, as they are brought up to the panel's tallies
+
+-- ---- place by place
+
+pub caught_none : (pairs : Pairs Tally) (closed : Bool) (from : ℕ) (old : List (List ℕ)) → AreCaught pairs closed from from old old
+caught_none pairs closed from old = record {
+  count = refl;
+  each = λ k l. grind (arith, nat_tests);
+}
+
+module _ (pairs : Pairs Tally) (closed : Bool) (from place : ℕ) (old : List (List ℕ)) (now : List (Vec ℕ)) (h : AreCaught pairs closed from place old (lists_in now)) (low : from ≤ place) (inside : place < length now) where
+  pub caught_next : (v new : Vec ℕ) → new.items ≡ caught (tally_at pairs closed place) (get_or now place v).items → AreCaught pairs closed from (place + 1) old (lists_in (set now place new))
+  caught_next v new is = record {
+    count = ap length moved ∙ length-set (lists_in now) place new.items ∙ h.count;
+    each = λ k l. ap (λ xs. get_or xs k []) moved ∙ elim (cases_eq k place) [ inl e ↦ own k l e | inr n ↦ other k l n ];
+  }
+    where
+      moved : lists_in (set now place new) ≡ set (lists_in now) place new.items
+      moved = map-set (λ (x : Vec ℕ). x.items) now place new
+
+      long : length (lists_in now) ≡ length now
+      long = length-map now (λ (x : Vec ℕ). x.items)
+
+      was : (get_or now place v).items ≡ get_or old place []
+      was =
+          sym (get_or-map (λ (x : Vec ℕ). x.items) now place v [] inside)
+          ∙ h.each place (omega (arith, h.count, long, inside))
+          ∙ cond-false _ _ _ (and_right (leb from place) (ltb place place) (le-ltb place place (omega arith)))
+
+      own : (k : ℕ) → k < length old → k ≡ place
+          → get_or (set (lists_in now) place new.items) k [] ≡ cond (leb from k && ltb k (place + 1)) (caught (tally_at pairs closed k) (get_or old k [])) (get_or old k [])
+      own k l e =
+          get_or-set_at (lists_in now) place k new.items [] e (omega (arith, long, inside))
+          ∙ is
+          ∙ ap (caught (tally_at pairs closed place)) was
+          ∙ ap (λ x. caught (tally_at pairs closed x) (get_or old x [])) (sym e)
+          ∙ sym (cond-true _ _ _ (and_from (leb from k) (ltb k (place + 1)) (le-leb from k (omega (arith, low, e))) (lt-ltb k (place + 1) (omega (arith, e)))))
+
+      same_test : (k : ℕ) → k ≢ place → ltb k place ≡ ltb k (place + 1)
+      same_test k n = grind (arith, nat_tests)
+
+      other : (k : ℕ) → k < length old → k ≢ place
+          → get_or (set (lists_in now) place new.items) k [] ≡ cond (leb from k && ltb k (place + 1)) (caught (tally_at pairs closed k) (get_or old k [])) (get_or old k [])
+      other k l n =
+          get_or-set_other (lists_in now) place k new.items [] n
+          ∙ h.each k l
+          ∙ ap (λ b. cond (leb from k && b) (caught (tally_at pairs closed k) (get_or old k [])) (get_or old k [])) (same_test k n)
+
+-- ---- as they open
+
+pub empty_more : (xs : List (List ℕ)) → ((k : ℕ) → get_or xs k [] ≡ []) → (k : ℕ) → get_or (xs ++ [] ∷ []) k [] ≡ []
+empty_more [] none zero = refl
+empty_more [] none (suc k) = refl
+empty_more (x ∷ xs) none zero = none 0
+empty_more (x ∷ xs) none (suc k) = empty_more xs (λ j. none (suc j)) k
+
+-- ---- one more entry
+
+module _ (S : Record) (layer : ℕ) (trace : List EntryRecord) (d : Durations) (h : AreFollowing S layer trace d) where
+  module _ (entry : EntryRecord) where
+    follows_none : ((i j : ℕ) → i < S.processes → entry_turns layer (suc i) (suc j) S.horizon entry ≡ []) → AreFollowing S layer (trace ++ entry ∷ []) d
+    follows_none none = record {
+      processes = h.processes;
+      count = h.count;
+      each = λ i j l m. h.each i j l m ∙ so_far_same S layer (suc i) (suc j) trace entry (none i j l);
+    }
+
+    pub follows_quiet : entry.notes ≡ [] → AreFollowing S layer (trace ++ entry ∷ []) d
+    follows_quiet none = follows_none (λ i j l. turns_quiet layer (suc i) (suc j) S.horizon entry none)
+
+    module _ (pairs : Pairs Tally) (are : ArePairs counted S layer new_tally (trace ++ entry ∷ []) pairs) where
+      abbrev n : ℕ
+      n = S.processes
+
+      abbrev row : ℕ
+      row = entry.key.receiver - 1
+
+      first_is : row * d.processes ≡ row * n
+      first_is = ap (λ m. row * m) h.processes
+
+      long : length (lists_in d.pairs.items) ≡ n * n
+      long = length-map d.pairs.items (λ (x : Vec ℕ). x.items) ∙ h.count
+
+      -- numbers above n have no pair
+      pub follows_above : min (length d.pairs.items) (pairs.processes * pairs.processes) < row * d.processes + d.processes → AreFollowing S layer (trace ++ entry ∷ []) d
+      follows_above high = follows_none (λ i j l. turns_other layer (suc i) (suc j) S.horizon entry (λ e.
+          let few : suc i * n ≤ n * n = mul-le-mul_right n l in
+          let here : row * d.processes ≡ i * n = first_is ∙ ap (λ r. r * n) (let r : row ≡ i = omega (arith, e) in r) in
+          let places : pairs.processes * pairs.processes ≡ n * n = ap (λ m. m * m) are.processes in
+          absurd (omega (arith, high, few, here, h.count, places, h.processes, suc-mul i n))))
+
+      module _ (new : Durations) (same : new.processes ≡ d.processes)
+          (caught_up : AreCaught pairs false (row * d.processes) (row * d.processes + d.processes) (lists_in d.pairs.items) (lists_in new.pairs.items)) where
+        own : (i j : ℕ) → i < n → j < n → entry.key.receiver ≡ suc i → get_or (lists_in new.pairs.items) (i * n + j) [] ≡ lengths_so_far S layer (trace ++ entry ∷ []) (suc i) (suc j)
+        own i j l m e =
+            let here : row * d.processes ≡ i * n = first_is ∙ ap (λ r. r * n) (let r : row ≡ i = omega (arith, e) in r) in
+            caught_up.each (i * n + j) (omega (arith, long, mul-add-lt i n j n l m))
+            ∙ cond-true _ _ _ (and_from (leb (row * d.processes) (i * n + j)) (ltb (i * n + j) (row * d.processes + d.processes)) (le-leb _ _ (omega (arith, here))) (lt-ltb _ _ (omega (arith, here, m, h.processes))))
+            ∙ ap (caught (tally_at pairs false (i * n + j))) (h.each i j l m)
+            ∙ ap (λ (x : Pair Tally). caught x.kept (lengths_so_far S layer trace (suc i) (suc j))) (are.each i j (opened 0 new_tally) l m)
+            ∙ so_far_more S layer (suc i) (suc j) trace entry
+
+        outside : (i j : ℕ) → j < n → entry.key.receiver ≢ suc i → 1 ≤ entry.key.receiver → (leb (row * d.processes) (i * n + j) && ltb (i * n + j) (row * d.processes + d.processes)) ≡ false
+        outside i j m other some =
+            elim (cases_lt i row) [
+              | inl l ↦
+                  let le : suc i * n ≤ row * n = mul-le-mul_right n l in
+                  and_left (leb (row * d.processes) (i * n + j)) (ltb (i * n + j) (row * d.processes + d.processes)) (lt-leb _ _ (omega (arith, le, first_is, suc-mul i n, m)))
+              | inr l ↦
+                  let le : suc row * n ≤ i * n = mul-le-mul_right n (let m : row < i = omega (arith, l, other, some) in m) in
+                  and_right (leb (row * d.processes) (i * n + j)) (ltb (i * n + j) (row * d.processes + d.processes)) (le-ltb _ _ (omega (arith, le, first_is, suc-mul row n, h.processes)))
+            ]
+
+        pub follows_caught : 1 ≤ entry.key.receiver → AreFollowing S layer (trace ++ entry ∷ []) new
+        follows_caught some = record {
+          processes = same ∙ h.processes;
+          count = sym (length-map new.pairs.items (λ (x : Vec ℕ). x.items)) ∙ caught_up.count ∙ long;
+          each = λ i j l m. elim (cases_eq entry.key.receiver (suc i)) [
+            | inl e ↦ own i j l m e
+            | inr ne ↦
+                caught_up.each (i * n + j) (omega (arith, long, mul-add-lt i n j n l m))
+                ∙ cond-false _ _ _ (outside i j m ne some)
+                ∙ h.each i j l m
+                ∙ so_far_same S layer (suc i) (suc j) trace entry (turns_other layer (suc i) (suc j) S.horizon entry ne)
+          ];
+        }
+
+  -- ---- no entry follows
+
+  pub closes_caught : (pairs : Pairs Tally) → ArePairs counted S layer new_tally trace pairs → (new : Durations) → new.processes ≡ d.processes
+      → AreCaught pairs true 0 (length d.pairs.items) (lists_in d.pairs.items) (lists_in new.pairs.items) → AreDurations S layer trace new
+  closes_caught pairs are new same caught_up = record {
+    processes = same ∙ h.processes;
+    count = sym (length-map new.pairs.items (λ (x : Vec ℕ). x.items)) ∙ caught_up.count ∙ long;
+    each = λ i j l m.
+        let n = S.processes in
+        let inside : i * n + j < n * n = mul-add-lt i n j n l m in
+        caught_up.each (i * n + j) (omega (arith, long, inside))
+        ∙ cond-true _ _ _ (and_from (leb 0 (i * n + j)) (ltb (i * n + j) (length d.pairs.items)) (le-leb _ _ (omega arith)) (lt-ltb _ _ (omega (arith, h.count, inside))))
+        ∙ (λ z. caught (kept_at counted (are.horizon z) (are.each i j (opened 0 new_tally) l m z)) (h.each i j l m z))
+        ∙ lengths_closed S layer (suc i) (suc j) trace are.in_order;
+  }
+    where
+      long : length (lists_in d.pairs.items) ≡ S.processes * S.processes
+      long = length-map d.pairs.items (λ (x : Vec ℕ). x.items) ∙ h.count
+
+pub same_length : (v : Vec (Vec ℕ)) (new : List (Vec ℕ)) → length (lists_in new) ≡ length (lists_in v.items) → length new ≡ v.len
+same_length v new same = omega (arith, length-map new (λ (x : Vec ℕ). x.items), length-map v.items (λ (x : Vec ℕ). x.items), same, v.ok.0)

@@ -1,23 +1,180 @@
 -- A tally that passes on over ticks of one state knows the sums over these too.
-use Rattle.std.proofs.Common.{◌≡◌, ℕ, zero, suc, ◌+◌, ◌-◌, ◌<◌, ◌≤◌, min, Bool, true, false, cond, not, ◌&&◌, inl, inr, refl, sym, ap, ◌∙◌, subst, arith, ltb, Option, None, Some}
-use Rattle.std.proofs.lemmas.Bool.{cases_lt, lt-ltb, le-ltb, cond-true, cond-false, true≢false}
-use Rattle.judges.specs.Ticks.{before}
-use Rattle.reporting.specs.Distances.{sum_below, count_below}
+use Rattle.std.proofs.Common.{◌≡◌, ◌≢◌, ℕ, zero, suc, ◌+◌, ◌-◌, ◌<◌, ◌≤◌, min, cond, inl, inr, refl, sym, ap, arith, ltb, ◌⊎◌, Bool, true, false, not, ◌&&◌, ◌||◌, ◌∙◌, leb, Option, None, Some, subst, unwrap_or}
+use Rattle.std.proofs.lemmas.Bool.{cases_eq, cases_lt, lt-ltb, le-ltb, cond-true, cond-false, ltb-true, leb-true, le-leb, and_parts, and_from, or_cases, or_left, or_right, not-true, not_from_false, false_from_ne_true, both_ways, true≢false}
+use Rattle.reporting.specs.Distances.{sum_below, is_next, count_below, sum_of_distances, count_of_distances}
+use Rattle.judges.specs.Ticks.{all_below, before}
+use Rattle.judges.proofs.Below.{all_below-at, all_below-from}
+use Rattle.reporting.specs.Knows.{Waits, IsWaiting, AreDistances, Knows}
 use Rattle.reporting.specs.Measures.{starts, ends}
-use Rattle.reporting.specs.Knows.{IsWaiting, AreDistances, Knows}
-use Rattle.reporting.specs.Tally.{gain, grown, changed, passed, moved}
+use Rattle.reporting.specs.Tally.{gain, grown, changed, passed, moved, counted, new_tally, tracked}
 use Rattle.reporting.specs.declared.tally.Distances.{Distances}
 use Rattle.reporting.specs.declared.tally.Tally.{Tally}
-use Rattle.reporting.proofs.Sums.{sum_below-turn, sum_below-still, sum_below-run}
-use Rattle.reporting.proofs.Waits.{IsQuiet, waiting_still, waiting_renewed, waiting_begun, waiting_ended, ending, ending_none, ending_one, distance}
+use mathlib.Core.Bool.{beq}
+use Rattle.std.proofs.lemmas.Bool.Decides.{nat_tests}
+use Rattle.judges.specs.Track.{passed as track_passed}
+use Rattle.judges.proofs.Standing.{IsKeeping}
+
+-- ---- sums over ticks, where most terms are 0
+
+pub sum_below-zero : (g : ℕ → ℕ) (n : ℕ) → ((u : ℕ) → u < n → g u ≡ 0) → sum_below g n ≡ 0
+sum_below-zero g zero h = refl
+sum_below-zero g (suc t) h = omega (arith, sum_below-zero g t (λ u l. h u (omega arith)), h t (omega arith))
+
+-- all terms but one are 0
+pub sum_below-one : (g : ℕ → ℕ) (n s : ℕ) → s < n → ((u : ℕ) → u < n → u ≢ s → g u ≡ 0) → sum_below g n ≡ g s
+sum_below-one g zero s l h = absurd (omega arith)
+sum_below-one g (suc t) s l h = elim (cases_eq t s) [
+  | inl e ↦ omega (arith, ap g e, sum_below-zero g t (λ u m. h u (omega arith) (λ f. omega arith)))
+  | inr n ↦ omega (arith, h t (omega arith) n, sum_below-one g t s (omega arith) (λ u m ne. h u (omega arith) ne))
+]
+
+-- the terms from a to b - 1 are 0
+pub sum_below-flat : (g : ℕ → ℕ) (a b : ℕ) → a ≤ b → ((u : ℕ) → a ≤ u → u < b → g u ≡ 0) → sum_below g b ≡ sum_below g a
+sum_below-flat g a zero l h = let e : a ≡ 0 = omega arith in ap (sum_below g) (sym e)
+sum_below-flat g a (suc t) l h = elim (cases_lt t a) [
+  | inl m ↦ let e : a ≡ suc t = omega arith in ap (sum_below g) (sym e)
+  | inr m ↦ omega (arith, h t m (omega arith), sum_below-flat g a t m (λ u x y. h u x (omega arith)))
+]
+
+-- they are 1
+pub sum_below-steady : (g : ℕ → ℕ) (a b : ℕ) → a ≤ b → ((u : ℕ) → a ≤ u → u < b → g u ≡ 1) → sum_below g b ≡ sum_below g a + (b - a)
+sum_below-steady g a zero l h = let e : a ≡ 0 = omega arith in omega (arith, ap (sum_below g) e)
+sum_below-steady g a (suc t) l h = elim (cases_lt t a) [
+  | inl m ↦ let e : a ≡ suc t = omega arith in omega (arith, ap (sum_below g) e)
+  | inr m ↦ omega (arith, h t m (omega arith), sum_below-steady g a t m (λ u x y. h u x (omega arith)))
+]
+
+-- cut at an end: nothing after tick a
+pub sum_below-turn : (g : ℕ → ℕ) (a b end : ℕ) → a < b → ((u : ℕ) → a < u → u < b → g u ≡ 0) → sum_below g (min b end) ≡ sum_below g (min a end) + cond (ltb a end) (g a) 0
+sum_below-turn g a b end l h =
+    elim (cases_lt a end) [
+      | inl p ↦
+          let flat : sum_below g (min b end) ≡ sum_below g (suc a) = sum_below-flat g (suc a) (min b end) (omega arith) (λ u x y. h u (omega arith) (omega arith)) in
+          let m : sum_below g (min a end) ≡ sum_below g a = ap (sum_below g) (omega arith) in
+          let c : cond (ltb a end) (g a) 0 ≡ g a = cond-true _ _ _ (lt-ltb a end p) in
+          omega arith
+      | inr p ↦
+          let m : sum_below g (min b end) ≡ sum_below g (min a end) = ap (sum_below g) (omega arith) in
+          let c : cond (ltb a end) (g a) 0 ≡ 0 = cond-false _ _ _ (le-ltb a end p) in
+          omega arith
+    ]
+
+pub sum_below-still : (g : ℕ → ℕ) (a b end : ℕ) → a ≤ b → ((u : ℕ) → a ≤ u → u < b → g u ≡ 0) → sum_below g (min b end) ≡ sum_below g (min a end)
+sum_below-still g a b end l h = sum_below-flat g (min a end) (min b end) (omega arith) (λ u x y. h u (omega arith) (omega arith))
+
+pub sum_below-run : (g : ℕ → ℕ) (a b end : ℕ) → a ≤ b → ((u : ℕ) → a ≤ u → u < b → g u ≡ 1) → sum_below g (min b end) ≡ sum_below g (min a end) + (min b end - min a end)
+sum_below-run g a b end l h = sum_below-steady g (min a end) (min b end) (omega arith) (λ u x y. h u (omega arith) (omega arith))
+
+-- ---- which tick still waits for its next: what a meter keeps to know the next distance
+
+module _ (from to : ℕ → Bool) where
+  -- nothing passes from a to b - 1
+  abbrev pub IsQuiet : (a b : ℕ) → Type 0
+  IsQuiet a b = (u : ℕ) → a ≤ u → u < b → (from u ≡ false) × (to u ≡ false)
+
+  waits_back : (a b s : ℕ) → a ≤ b → IsQuiet a b → Waits from to b s → Waits from to a s
+  waits_back a b s l quiet w =
+      elim (cases_lt s a) [
+        | inl p ↦ record { below = p; passes = w.passes; none = λ u x y. w.none u x (omega arith) }
+        | inr p ↦ absurd (both_ways (from s) (quiet s p w.below).0 w.passes)
+      ]
+
+  waits_on : (a b s : ℕ) → a ≤ b → IsQuiet a b → Waits from to a s → Waits from to b s
+  waits_on a b s l quiet w = record {
+    below = omega (arith, w.below);
+    passes = w.passes;
+    none = λ u x y. elim (cases_lt u a) [ inl p ↦ w.none u x p | inr p ↦ (quiet u p y).1 ];
+  }
+
+  pub waiting_still : (a b : ℕ) (o : Option ℕ) → a ≤ b → IsQuiet a b → IsWaiting from to a o → IsWaiting from to b o
+  waiting_still a b None l quiet h = λ s w. h s (waits_back a b s l quiet w)
+  waiting_still a b (Some s) l quiet h = (waits_on a b s l quiet h.0, λ r w. h.1 r (waits_back a b r l quiet w))
+
+  -- what waits after tick a: a new one, in place of the old or with none before, or none
+  waits_new : (a b : ℕ) → a < b → IsQuiet (suc a) b → from a ≡ true → Waits from to b a
+  waits_new a b l quiet e = record { below = l; passes = e; none = λ u x y. (quiet u (omega arith) y).1 }
+
+  waits_cases : (a b s : ℕ) → a < b → IsQuiet (suc a) b → Waits from to b s → (s ≡ a) ⊎ Waits from to a s
+  waits_cases a b s l quiet w =
+      elim (cases_lt s a) [
+        | inl p ↦ inr (record { below = p; passes = w.passes; none = λ u x y. w.none u x (omega arith) })
+        | inr p ↦ elim (cases_lt a s) [
+          | inl q ↦ absurd (both_ways (from s) (quiet s q w.below).0 w.passes)
+          | inr q ↦ inl (omega arith)
+        ]
+      ]
+
+  pub waiting_renewed : (a b : ℕ) → a < b → IsQuiet (suc a) b → from a ≡ true → to a ≡ true → IsWaiting from to b (Some a)
+  waiting_renewed a b l quiet e f = (
+    waits_new a b l quiet e,
+    λ r w. elim (waits_cases a b r l quiet w) [ inl s ↦ s | inr v ↦ absurd (both_ways (to a) (w.none a v.below l) f) ],
+  )
+
+  pub waiting_begun : (a b : ℕ) → a < b → IsQuiet (suc a) b → from a ≡ true → IsWaiting from to a None → IsWaiting from to b (Some a)
+  waiting_begun a b l quiet e none =
+      (waits_new a b l quiet e, λ r w. elim (waits_cases a b r l quiet w) [ inl s ↦ s | inr v ↦ absurd (none r v) ])
+
+  pub waiting_ended : (a b : ℕ) → a < b → IsQuiet (suc a) b → from a ≡ false → to a ≡ true → IsWaiting from to b None
+  waiting_ended a b l quiet e f = λ r w.
+      elim (waits_cases a b r l quiet w) [
+        | inl s ↦ both_ways (from a) e (ap from (sym s) ∙ w.passes)
+        | inr v ↦ both_ways (to a) (w.none a v.below l) f
+      ]
+
+  -- the distances that end at tick t
+  abbrev pub ending : (ℕ → ℕ) → ℕ → ℕ
+  ending amount t = sum_below (λ s. cond (from s && is_next to s t) (amount (t - s)) 0) t
+
+  -- a distance from s to t, as the definition tests it
+  meets : (s t : ℕ) → (from s && is_next to s t) ≡ true → Waits from to t s
+  meets s t e =
+      let both = and_parts (from s) (is_next to s t) e in
+      let next = and_parts (ltb s t && to t) (all_below (λ u. leb u s || not (to u)) t) both.1 in
+      let first = and_parts (ltb s t) (to t) next.0 in
+      record {
+        below = ltb-true s t first.0;
+        passes = both.0;
+        none = λ u x y.
+            elim (or_cases (leb u s) (not (to u)) (all_below-at _ t next.1 u y)) [
+              | inl p ↦ absurd (let q : u ≤ s = leb-true u s p in omega arith)
+              | inr p ↦ not-true (to u) p
+            ];
+      }
+
+  met : (s t : ℕ) → Waits from to t s → to t ≡ true → (from s && is_next to s t) ≡ true
+  met s t w f =
+      and_from (from s) (is_next to s t) w.passes
+      (and_from (ltb s t && to t) (all_below (λ u. leb u s || not (to u)) t) (and_from (ltb s t) (to t) (lt-ltb s t w.below) f)
+      (all_below-from _ t (λ u l. elim (cases_lt s u) [
+        | inl p ↦ or_right (leb u s) (not (to u)) (not_from_false (to u) (w.none u p l))
+        | inr p ↦ or_left (leb u s) (not (to u)) (le-leb u s p)
+      ])))
+
+  unmet : (s t : ℕ) → (Waits from to t s → ⊥) ⊎ (to t ≡ false) → (from s && is_next to s t) ≡ false
+  unmet s t (inl n) = false_from_ne_true _ (λ e. n (meets s t e))
+  unmet s t (inr f) = false_from_ne_true _ (λ e.
+      let both = and_parts (from s) (is_next to s t) e in
+      let next = and_parts (ltb s t && to t) (all_below (λ u. leb u s || not (to u)) t) both.1 in
+      both_ways (to t) f (and_parts (ltb s t) (to t) next.0).1)
+
+  pub ending_none : (amount : ℕ → ℕ) (t : ℕ) → to t ≡ false → ending amount t ≡ 0
+  ending_none amount t f = sum_below-zero _ t (λ s l. cond-false _ _ _ (unmet s t (inr f)))
+
+  -- the distance of the one that waits
+  abbrev pub distance : (ℕ → ℕ) → Option ℕ → ℕ → ℕ
+  distance amount None t = 0
+  distance amount (Some s) t = amount (t - s)
+
+  pub ending_one : (amount : ℕ → ℕ) (t : ℕ) (o : Option ℕ) → to t ≡ true → IsWaiting from to t o → ending amount t ≡ distance amount o t
+  ending_one amount t None f h = sum_below-zero _ t (λ s l. cond-false _ _ _ (unmet s t (inl (h s))))
+  ending_one amount t (Some s) f h =
+      sum_below-one _ t s h.0.below (λ u l ne. cond-false _ _ _ (unmet u t (inl (λ w. ne (h.1 u w)))))
+      ∙ cond-true _ _ _ (met s t h.0 f)
+
+-- ---- a tally that passes on
 
 gain_is : (amount : ℕ → ℕ) (o : Option ℕ) (a end : ℕ) → (from to : ℕ → Bool) → gain amount o a end ≡ cond (ltb a end) (distance from to amount o a) 0
-gain_is amount None a end from to = go (ltb a end)
-  where
-    go : (b : Bool) → ◌≡◌ {A = ℕ} 0 (cond b 0 0)
-    go true = refl
-    go false = refl
-gain_is amount (Some s) a end from to = refl
+gain_is amount o a end from to = grind arith
 
 module _ (from to : ℕ → Bool) (a b end : ℕ) (d : Distances) where
   distances_still : a ≤ b → ((u : ℕ) → a ≤ u → u < b → to u ≡ false) → AreDistances from to d (min a end) → AreDistances from to d (min b end)
@@ -40,14 +197,10 @@ module _ (from to : ℕ → Bool) (a b end : ℕ) (d : Distances) where
     distances_grown k = record { sum = more (λ n. n) d.sum k.sum; count = more (λ n. 1) d.count k.count }
 
 and_not : (x y n : Bool) → x ≡ n → y ≡ n → (x && not y) ≡ false
-and_not false y n e f = refl
-and_not true true n e f = refl
-and_not true false n e f = absurd (true≢false (e ∙ sym f))
+and_not x y n e f = grind arith
 
 not_and : (x y n : Bool) → x ≡ n → y ≡ n → (not x && y) ≡ false
-not_and true y n e f = refl
-not_and false false n e f = refl
-not_and false true n e f = absurd (true≢false (f ∙ sym e))
+not_and x y n e f = grind arith
 
 module _ (f : ℕ → Bool) where
   pub before_last : (a b : ℕ) (now : Bool) → a < b → ((u : ℕ) → a ≤ u → u < b → f u ≡ now) → before f b ≡ now
@@ -81,25 +234,12 @@ module _ (f : ℕ → Bool) where
       from_first : (test : ℕ → Bool) → test t.tick ≡ false → ((u : ℕ) → t.tick < u → u < until → test u ≡ false) → (u : ℕ) → t.tick ≤ u → u < until → test u ≡ false
       from_first test e after u x y = elim (cases_lt t.tick u) [ inl p ↦ after u p y | inr p ↦ ap test (let q : u ≡ t.tick = omega arith in q) ∙ e ]
 
-    after_true : ((u : ℕ) → t.tick ≤ u → u < until → f u ≡ true) → t.mistake_ticks + (min until end - min t.tick end) ≡ count_below f (min until end)
-    after_true same =
-        let run : count_below f (min until end) ≡ count_below f (min t.tick end) + (min until end - min t.tick end)
-        = sum_below-run (λ u. cond (f u) 1 0) t.tick until end (omega arith) (λ u x y. cond-true _ _ _ (same u x y)) in
-        let known : t.mistake_ticks ≡ count_below f (min t.tick end) = k.mistake_ticks in
-        omega arith
-
-    after_false : ((u : ℕ) → t.tick ≤ u → u < until → f u ≡ false) → t.mistake_ticks + 0 ≡ count_below f (min until end)
-    after_false same =
-        let still : count_below f (min until end) ≡ count_below f (min t.tick end)
-        = sum_below-still (λ u. cond (f u) 1 0) t.tick until end (omega arith) (λ u x y. cond-false _ _ _ (same u x y)) in
-        let known : t.mistake_ticks ≡ count_below f (min t.tick end) = k.mistake_ticks in
-        omega arith
+    ticks_more : (now : Bool) → ((u : ℕ) → t.tick ≤ u → u < until → f u ≡ now) → t.mistake_ticks + cond now (min until end - min t.tick end) 0 ≡ count_below f (min until end)
+    ticks_more true same = omega (arith, k.mistake_ticks, sum_below-run (λ u. cond (f u) 1 0) t.tick until end (omega arith) (λ u x y. cond-true _ _ _ (same u x y)))
+    ticks_more false same = omega (arith, k.mistake_ticks, sum_below-still (λ u. cond (f u) 1 0) t.tick until end (omega arith) (λ u x y. cond-false _ _ _ (same u x y)))
 
     none_more : ((u : ℕ) → t.tick ≤ u → u < until → starts f u ≡ false) → t.mistakes ≡ count_below (starts f) (min until end)
-    none_more quiet =
-        let still : count_below (starts f) (min until end) ≡ count_below (starts f) (min t.tick end)
-        = sum_below-still (λ u. cond (starts f u) 1 0) t.tick until end (omega arith) (λ u x y. cond-false _ _ _ (quiet u x y)) in
-        k.mistakes ∙ sym still
+    none_more quiet = k.mistakes ∙ sym (sum_below-still (λ u. cond (starts f u) 1 0) t.tick until end (omega arith) (λ u x y. cond-false _ _ _ (quiet u x y)))
 
     one_more : starts f t.tick ≡ true → ((u : ℕ) → t.tick < u → u < until → starts f u ≡ false)
         → t.mistakes + cond (ltb t.tick end) 1 0 ≡ count_below (starts f) (min until end)
@@ -120,6 +260,36 @@ module _ (f : ℕ → Bool) where
     open_end : (was : Bool) → t.was ≡ was → IsWaiting (ends f) (starts f) t.tick (cond was None t.ended)
     open_end was e = subst (λ b. IsWaiting (ends f) (starts f) t.tick (cond b None t.ended)) e k.open_end
 
+    stays : (now : Bool) → t.was ≡ now → ((u : ℕ) → t.tick ≤ u → u < until → f u ≡ now)
+        → Knows f end (record t { was = now; mistake_ticks = t.mistake_ticks + cond now (min until end - min t.tick end) 0; tick = until })
+    stays now e same =
+        let sq = from_first now same (starts f) (s_at now same now e ∙ and_not now now now refl refl) (s_after now same) in
+        let tq = from_first now same (ends f) (t_at now same now e ∙ not_and now now now refl refl) (t_after now same) in
+        let ss : IsQuiet (starts f) (starts f) t.tick until = λ u x y. (sq u x y, sq u x y) in
+        let st : IsQuiet (starts f) (ends f) t.tick until = λ u x y. (sq u x y, tq u x y) in
+        let ts : IsQuiet (ends f) (starts f) t.tick until = λ u x y. (tq u x y, sq u x y) in
+        record {
+          was = sym (before_last t.tick until now l same);
+          mistakes = none_more sq;
+          mistake_ticks = ticks_more now same;
+          recurrence = distances_still (starts f) (starts f) t.tick until end t.recurrence (omega arith) sq k.recurrence;
+          duration = distances_still (starts f) (ends f) t.tick until end t.duration (omega arith) tq k.duration;
+          good = distances_still (ends f) (starts f) t.tick until end t.good (omega arith) sq k.good;
+          last_start = waiting_still (starts f) (starts f) t.tick until t.started (omega arith) ss k.last_start;
+          open_start = waiting_still (starts f) (ends f) t.tick until (cond now t.started None) (omega arith) st (open_start now e);
+          open_end = waiting_still (ends f) (starts f) t.tick until (cond now None t.ended) (omega arith) ts (open_end now e);
+          since = λ on.
+              let long = k.since (e ∙ on) in (
+                long.0,
+                long.1,
+                record {
+                  below = omega (arith, long.2.below);
+                  not_before = long.2.not_before;
+                  on = λ u x y. elim (cases_lt u t.tick) [ inl p ↦ long.2.on u x p | inr p ↦ same u p y ∙ on ];
+                },
+              );
+        }
+
     by_cases : (was now : Bool) → t.was ≡ was → ((u : ℕ) → t.tick ≤ u → u < until → f u ≡ now) → Knows f end (after was now)
     -- suspicion starts
     by_cases false true e same =
@@ -134,7 +304,7 @@ module _ (f : ℕ → Bool) where
         record {
           was = sym (before_last t.tick until true l same);
           mistakes = one_more s1 sa;
-          mistake_ticks = after_true same;
+          mistake_ticks = ticks_more true same;
           recurrence = distances_grown (starts f) (starts f) t.tick until end t.recurrence l sa s1 t.started k.last_start k.recurrence;
           duration = distances_still (starts f) (ends f) t.tick until end t.duration (omega arith) tq k.duration;
           good = distances_grown (ends f) (starts f) t.tick until end t.good l sa s1 t.ended (open_end false e) k.good;
@@ -156,7 +326,7 @@ module _ (f : ℕ → Bool) where
         record {
           was = sym (before_last t.tick until false l same);
           mistakes = none_more sq;
-          mistake_ticks = after_false same;
+          mistake_ticks = ticks_more false same;
           recurrence = distances_still (starts f) (starts f) t.tick until end t.recurrence (omega arith) sq k.recurrence;
           duration = distances_grown (starts f) (ends f) t.tick until end t.duration l ta t1 t.started (open_start true e) k.duration;
           good = distances_still (ends f) (starts f) t.tick until end t.good (omega arith) sq k.good;
@@ -165,53 +335,9 @@ module _ (f : ℕ → Bool) where
           open_end = waiting_begun (ends f) (starts f) t.tick until l ts t1 (open_end true e);
           since = λ x. absurd (true≢false (sym x));
         }
-    -- it goes on
-    by_cases true true e same =
-        let sq = from_first true same (starts f) (s_at true same true e) (s_after true same) in
-        let tq = from_first true same (ends f) (t_at true same true e) (t_after true same) in
-        let ss : IsQuiet (starts f) (starts f) t.tick until = λ u x y. (sq u x y, sq u x y) in
-        let st : IsQuiet (starts f) (ends f) t.tick until = λ u x y. (sq u x y, tq u x y) in
-        let ts : IsQuiet (ends f) (starts f) t.tick until = λ u x y. (tq u x y, sq u x y) in
-        let long = k.since e in
-        record {
-          was = sym (before_last t.tick until true l same);
-          mistakes = none_more sq;
-          mistake_ticks = after_true same;
-          recurrence = distances_still (starts f) (starts f) t.tick until end t.recurrence (omega arith) sq k.recurrence;
-          duration = distances_still (starts f) (ends f) t.tick until end t.duration (omega arith) tq k.duration;
-          good = distances_still (ends f) (starts f) t.tick until end t.good (omega arith) sq k.good;
-          last_start = waiting_still (starts f) (starts f) t.tick until t.started (omega arith) ss k.last_start;
-          open_start = waiting_still (starts f) (ends f) t.tick until t.started (omega arith) st (open_start true e);
-          open_end = waiting_still (ends f) (starts f) t.tick until None (omega arith) ts (open_end true e);
-          since = λ _. (
-            long.0,
-            long.1,
-            record {
-              below = omega (arith, long.2.below);
-              not_before = long.2.not_before;
-              on = λ u x y. elim (cases_lt u t.tick) [ inl p ↦ long.2.on u x p | inr p ↦ same u p y ];
-            },
-          );
-        }
-    -- nothing is suspected
-    by_cases false false e same =
-        let sq = from_first false same (starts f) (s_at false same false e) (s_after false same) in
-        let tq = from_first false same (ends f) (t_at false same false e) (t_after false same) in
-        let ss : IsQuiet (starts f) (starts f) t.tick until = λ u x y. (sq u x y, sq u x y) in
-        let st : IsQuiet (starts f) (ends f) t.tick until = λ u x y. (sq u x y, tq u x y) in
-        let ts : IsQuiet (ends f) (starts f) t.tick until = λ u x y. (tq u x y, sq u x y) in
-        record {
-          was = sym (before_last t.tick until false l same);
-          mistakes = none_more sq;
-          mistake_ticks = after_false same;
-          recurrence = distances_still (starts f) (starts f) t.tick until end t.recurrence (omega arith) sq k.recurrence;
-          duration = distances_still (starts f) (ends f) t.tick until end t.duration (omega arith) tq k.duration;
-          good = distances_still (ends f) (starts f) t.tick until end t.good (omega arith) sq k.good;
-          last_start = waiting_still (starts f) (starts f) t.tick until t.started (omega arith) ss k.last_start;
-          open_start = waiting_still (starts f) (ends f) t.tick until None (omega arith) st (open_start false e);
-          open_end = waiting_still (ends f) (starts f) t.tick until t.ended (omega arith) ts (open_end false e);
-          since = λ x. absurd (true≢false (sym x));
-        }
+    -- it goes on, or nothing is suspected
+    by_cases true true e same = stays true e same
+    by_cases false false e same = stays false e same
 
   pub knows_passed : (end : ℕ) (t : Tally) (until : ℕ) (now : Bool) → t.tick < until → Knows f end t → ((u : ℕ) → t.tick ≤ u → u < until → f u ≡ now) → Knows f end (passed t until now end)
   knows_passed end t until now l k same = by_cases end t until l k t.was now refl same
@@ -222,3 +348,46 @@ module _ (f : ℕ → Bool) where
         | inl l ↦ subst (Knows f end) (sym (cond-true _ _ _ (lt-ltb t.tick until l))) (knows_passed end t until now l k same)
         | inr l ↦ subst (Knows f end) (sym (cond-false _ _ _ (le-ltb t.tick until l))) k
       ]
+
+-- ---- it keeps what a pair asks of what is kept
+
+moved_tick : (t : Tally) (until : ℕ) (now : Bool) (end : ℕ) → t.tick ≤ until → (moved t until now end).tick ≡ until
+moved_tick t until now end l = grind (arith, nat_tests)
+
+pub tallies_keep : IsKeeping counted (λ (t : Tally). t.tick) Knows
+tallies_keep = record { ticks = moved_tick; knows = λ f end t until now k same. knows_moved f end t until now k same }
+
+pub none_known : (f : ℕ → Bool) (end : ℕ) → Knows f end new_tally
+none_known f end =
+    let e : 0 ≡ min 0 end = omega arith in
+    record {
+      was = refl;
+      mistakes = ap (count_below (starts f)) e;
+      mistake_ticks = ap (count_below f) e;
+      recurrence = record { sum = ap (sum_of_distances (starts f) (starts f)) e; count = ap (count_of_distances (starts f) (starts f)) e };
+      duration = record { sum = ap (sum_of_distances (starts f) (ends f)) e; count = ap (count_of_distances (starts f) (ends f)) e };
+      good = record { sum = ap (sum_of_distances (ends f) (starts f)) e; count = ap (count_of_distances (ends f) (starts f)) e };
+      last_start = λ s w. absurd (omega (arith, w.below));
+      open_start = λ s w. absurd (omega (arith, w.below));
+      open_end = λ s w. absurd (omega (arith, w.below));
+      since = λ t. absurd (true≢false (sym t));
+    }
+
+-- ---- as a judge sees it
+
+module _ (t : Tally) (until end : ℕ) where
+  since_is : (was now : Bool) → unwrap_or (cond now (changed was now t end).started (changed was now t end).ended) 0 ≡ cond (beq now was) (unwrap_or (cond was t.started t.ended) 0) t.tick
+  since_is was now = grind arith
+
+  mistaken_is : (now : Bool) → t.tick < until → ltb 0 (t.mistake_ticks + cond now (min until end - min t.tick end) 0) ≡ (ltb 0 t.mistake_ticks || (now && ltb t.tick end))
+  mistaken_is now l = grind (arith, nat_tests)
+
+pub tallies_seen : (until : ℕ) (now : Bool) (end : ℕ) (t : Tally) → tracked (counted until now end t) ≡ track_passed until now end (tracked t)
+tallies_seen until now end t =
+    elim (cases_lt t.tick until) [
+      | inl l ↦
+          ap tracked (cond-true _ _ _ (lt-ltb t.tick until l))
+          ∙ (λ i. record { tick = until; was = now; since = since_is t until end t.was now i; mistaken = mistaken_is t until end now l i })
+          ∙ sym (cond-true _ _ _ (lt-ltb t.tick until l))
+      | inr l ↦ ap tracked (cond-false _ _ _ (le-ltb t.tick until l)) ∙ sym (cond-false _ _ _ (le-ltb t.tick until l))
+    ]

@@ -1,6 +1,8 @@
 -- Every row of layer 2 with a mistake or a detection rests on an earlier suspicion of layer 1.
-use Rattle.std.proofs.Common.{◌≡◌, ℕ, zero, suc, ◌+◌, ◌<◌, ◌≤◌, refl, sym, ap, ◌∙◌, subst, Bool, true, false, cond, arith, true≢false, List, [], ◌∷◌, map, Option, None, Some, is_some, unwrap_or}
+use Rattle.std.proofs.Common.{◌≡◌, inl, inr, ℕ, zero, suc, ◌<◌, ◌≤◌, refl, sym, ap, ◌∙◌, subst, Bool, true, cond, arith, List, [], ◌∷◌, map, Option, None, Some}
 use Rattle.std.specs.List.{All, AllByRecursion, flat_map}
+use Rattle.std.proofs.lemmas.Bool.{cases_Bool, cond-false, cond_both}
+use Rattle.std.proofs.lemmas.Option.{cond_some}
 use Rattle.std.proofs.lemmas.List.Elements.{All-from_recursion}
 use Rattle.process_api.specs.EntryRecord.{EntryRecord}
 use Rattle.process_api.specs.Numbers.{numbers_to, others}
@@ -18,59 +20,38 @@ use Rattle.judges.proofs.Lasting.{all_from-at}
 use Rattle.reporting.specs.Distances.{count_below}
 use Rattle.reporting.specs.Measures.{starts, delay_after, is_measured, detection, measured, pair_measures, layer_measures, layers, all_measures}
 use Rattle.reporting.specs.Resting.{HasBlame, RestsOnBlame}
-use Rattle.reporting.specs.declared.pair_measures.Detection.{Detection}
-use Rattle.reporting.specs.declared.pair_measures.Detection.TheVariants.{Na, NoTick, At}
+use Rattle.reporting.specs.declared.pair_measures.Detection.TheVariants.{Na, At}
 
 -- ---- ticks
 
 some_counted : (test : ℕ → Bool) (end : ℕ) → 1 ≤ count_below test end → (t : ℕ) × (t < end) × (test t ≡ true)
 some_counted test zero h = absurd (omega arith)
-some_counted test (suc t) h = go (test t) refl h (some_counted test t)
-  where
-    go : (b : Bool) → test t ≡ b → 1 ≤ count_below test t + cond b 1 0 → (1 ≤ count_below test t → (u : ℕ) × (u < t) × (test u ≡ true)) → (u : ℕ) × (u < suc t) × (test u ≡ true)
-    go true is h rest = (t, omega arith, is)
-    go false is h rest = let r = rest (omega arith) in (r.0, omega (arith, r.1), r.2)
+some_counted test (suc t) h = elim (cases_Bool (test t)) [
+  | inl is ↦ (t, omega arith, is)
+  | inr is ↦ let r = some_counted test t (omega (arith, h, cond-false {A = ℕ} (test t) 1 0 is)) in (r.0, omega (arith, r.1), r.2)
+]
 
-abbrev Found : (ℕ → Bool) → ℕ → ℕ → Type 0
-Found test end t = (t < end) × (test t ≡ true)
-
-some_same : (s t : ℕ) → Some s ≡ Some t → s ≡ t
-some_same s t e = ap (λ o. unwrap_or o s) e
-
-least_passes : (test : ℕ → Bool) (end t : ℕ) → least_below test end ≡ Some t → Found test end t
-least_passes test zero t e = absurd (true≢false (sym (ap is_some e)))
-least_passes test (suc u) t e = go (least_below test u) (test u) refl refl e (least_passes test u)
-  where
-    here : (b : Bool) → test u ≡ b → cond b (Some u) None ≡ Some t → Found test (suc u) t
-    here true is same = let at = some_same u t same in (omega (arith, at), ap test (sym at) ∙ is)
-    here false is same = absurd (true≢false (sym (ap is_some same)))
-
-    go : (o : Option ℕ) (b : Bool) → least_below test u ≡ o → test u ≡ b → first_of o (cond b (Some u) None) ≡ Some t
-        → ((t : ℕ) → least_below test u ≡ Some t → Found test u t) → Found test (suc u) t
-    go None b none is same rest = here b is same
-    go (Some v) b some is same rest = let r = rest t (some ∙ same) in (omega (arith, r.0), r.1)
-
-abbrev is_number : Detection → Bool
-is_number Na = false
-is_number NoTick = false
-is_number (At ticks) = true
+least_passes : (test : ℕ → Bool) (end t : ℕ) → least_below test end ≡ Some t → (t < end) × (test t ≡ true)
+least_passes test zero t e = absurd (cc)
+least_passes test (suc u) t e =
+    elim (least_below test u) as (λ o. least_below test u ≡ o → first_of o (cond (test u) (Some u) None) ≡ Some t → (t < suc u) × (test t ≡ true)) [
+      | None ↦ λ _ same. let r = cond_some (test u) u t same in (omega (arith, r.1), ap test (sym r.1) ∙ r.0)
+      | Some v ↦ λ is same. let r = least_passes test u t (is ∙ same) in (omega (arith, r.0), r.1)
+    ] refl e
 
 -- a detection is by the suspicion that lasts to the horizon
 detected : (S : Record) (q p : ℕ) (suspected : ℕ → Bool) (ticks : ℕ) → detection S q p suspected ≡ At ticks
     → (t : ℕ) × (least_from suspected S.horizon ≡ Some t) × (suspected t ≡ true)
-detected S q p suspected ticks h = go (is_measured S q p) h
+detected S q p suspected ticks h =
+    cond_both (is_measured S q p) (delay_after (crash_tick S p) (least_from suspected S.horizon)) Na (λ d. d ≡ At ticks → (t : ℕ) × (least_from suspected S.horizon ≡ Some t) × (suspected t ≡ true))
+    (λ _. by (least_from suspected S.horizon) refl) (λ _ f. absurd (cc f)) h
   where
     by : (o : Option ℕ) → least_from suspected S.horizon ≡ o → delay_after (crash_tick S p) o ≡ At ticks
         → (t : ℕ) × (least_from suspected S.horizon ≡ Some t) × (suspected t ≡ true)
-    by None is f = absurd (true≢false (sym (ap is_number f)))
+    by None is f = absurd (cc f)
     by (Some t) is f =
         let r = least_passes (λ t. all_from suspected t S.horizon) S.horizon t is in
         (t, is, all_from-at suspected t S.horizon t r.1 (omega arith) r.0)
-
-    go : (b : Bool) → cond b (delay_after (crash_tick S p) (least_from suspected S.horizon)) Na ≡ At ticks
-        → (t : ℕ) × (least_from suspected S.horizon ≡ Some t) × (suspected t ≡ true)
-    go true f = by (least_from suspected S.horizon) refl f
-    go false f = absurd (true≢false (sym (ap is_number f)))
 
 -- ---- rows
 

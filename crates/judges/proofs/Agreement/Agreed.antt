@@ -1,8 +1,9 @@
 -- The outcomes of every trace of the rotating coordinator agree.
-use Rattle.std.proofs.Common.{◌≡◌, ◌≢◌, ℕ, ◌≤◌, inl, inr, refl, sym, ap, ◌∙◌, subst, Bool, true, false, cond, not, true≢false, List, [], ◌∷◌, map, Option, None, Some, unwrap_or}
+use Rattle.std.proofs.Common.{◌≡◌, ◌≢◌, ℕ, ◌≤◌, inl, inr, refl, sym, ap, ◌∙◌, subst, Bool, true, false, cond, not, List, [], ◌∷◌, map, Option, None, Some, unwrap_or}
 use Rattle.std.specs.List.{filter, find}
 use Rattle.process_api.specs.EntryRecord.{EntryRecord}
 use Rattle.process_api.specs.Numbers.{numbers_to}
+use Rattle.process_api.specs.declared.action.Note.{Note}
 use Rattle.process_api.specs.declared.action.Note.TheVariants.{Decided}
 use Rattle.process_api.proofs.Lists.{numbers_are}
 use Rattle.scenario_record.specs.Numbers.{is_idle}
@@ -16,7 +17,6 @@ use Rattle.trace_laws.proofs.Sound.{setting_sound}
 use Rattle.judges.specs.Agreement.{Agrees, DecidesOnce, answers_of}
 use Rattle.judges.specs.Meaning.{IsProcess}
 use Rattle.judges.specs.Outcomes.{notes_of, is_answer, value_of, outcome, outcomes}
-use Rattle.judges.specs.declared.outcomes.Answer.{Answer}
 use Rattle.judges.specs.declared.outcomes.Answer.TheVariants as answer
 use Rattle.judges.specs.declared.outcomes.Outcome.{Outcome}
 use Rattle.judges.proofs.Agreement.OneValue.{trace_one_value, trace_proposed, trace_once}
@@ -24,7 +24,7 @@ use Rattle.judges.proofs.Agreement.Answering.{answers_by, answers_are, value_in,
 use Rattle.judges.proofs.Instances.{runs_coordinator}
 use Rattle.judges.proofs.Agreement.Joined.{RunsCoordinator}
 use Rattle.judges.proofs.Agreement.Majorities.{there_is}
-use Rattle.judges.proofs.PartsActions.{each_of}
+use Rattle.judges.proofs.Members.{each_of, of_image}
 
 -- ---- what an outcome tells
 
@@ -36,53 +36,26 @@ front (x ∷ xs) = Some x
 found : {X : Type 0} (f : X → Bool) (xs : List X) → find f xs ≡ front (filter f xs)
 unfolding front
 found f [] = refl
-found f (x ∷ xs) = go (f x) (found f xs)
-  where
-    go : (b : Bool) → find f xs ≡ front (filter f xs) → cond b (Some x) (find f xs) ≡ front (cond b (x ∷ filter f xs) (filter f xs))
-    go true rest = refl
-    go false rest = rest
-
-value_is : (trace : List EntryRecord) (p : ℕ) → (outcome trace p).value ≡ value_of (front (answers_of trace p))
-value_is trace p = ap value_of (found (λ n. is_answer n.1) (notes_of trace p))
-
-is_value : Answer → Bool
-is_value answer.None = false
-is_value answer.NoValue = false
-is_value (answer.Value v) = true
-
-is_novalue : Answer → Bool
-is_novalue answer.None = false
-is_novalue answer.NoValue = true
-is_novalue (answer.Value v) = false
-
-value_or : Answer → ℕ
-value_or answer.None = 0
-value_or answer.NoValue = 0
-value_or (answer.Value v) = v
+found f (x ∷ xs) = elim (f x) as (λ b. cond b (Some x) (find f xs) ≡ front (cond b (x ∷ filter f xs) (filter f xs))) [ true ↦ refl | false ↦ found f xs ]
 
 module _ (trace : List EntryRecord) (p : ℕ) where
-  abbrev OneAnswer : Type 0
-  OneAnswer = (tick value : ℕ) × (answers_of trace p ≡ (tick, Decided value) ∷ [])
+  value_is : (answers : List (ℕ × Note)) → answers_of trace p ≡ answers → (outcome trace p).value ≡ value_of (front answers)
+  value_is answers are = ap value_of (found (λ n. is_answer n.1) (notes_of trace p) ∙ ap front are)
 
   -- a value is a decision's
   pub valued : DecidesOnce trace p → (v : ℕ) → (outcome trace p).value ≡ answer.Value v → IsIn (Some v) (answers_by p trace)
-  unfolding front is_value value_or
-  valued (inl none) v is = absurd (true≢false (sym (ap is_value (sym (ap (λ ns. value_of (front ns)) none) ∙ sym (value_is trace p) ∙ is))))
+  unfolding front
+  valued (inl none) v is = absurd (cc (is, value_is [] none))
   valued (inr (tick, w, one)) v is =
-      let same : w ≡ v = ap value_or (sym (ap (λ ns. value_of (front ns)) one) ∙ sym (value_is trace p) ∙ is) in
-      subst (IsIn (Some v)) (ap (map value_in) (sym one) ∙ answers_are p trace) (inl (ap Some (sym same)))
+      let same : v ≡ w = cc (is, value_is ((tick, Decided w) ∷ []) one) in
+      subst (IsIn (Some v)) (ap (map value_in) (sym one) ∙ answers_are p trace) (inl (ap Some same))
 
   pub never_novalue : DecidesOnce trace p → (outcome trace p).value ≢ answer.NoValue
-  unfolding front is_novalue
-  never_novalue (inl none) is = true≢false (ap is_novalue (sym is ∙ value_is trace p ∙ ap (λ ns. value_of (front ns)) none))
-  never_novalue (inr (tick, w, one)) is = true≢false (ap is_novalue (sym is ∙ value_is trace p ∙ ap (λ ns. value_of (front ns)) one))
+  unfolding front
+  never_novalue (inl none) is = cc (is, value_is [] none)
+  never_novalue (inr (tick, w, one)) is = cc (is, value_is ((tick, Decided w) ∷ []) one)
 
 -- ---- of all processes
-
-of_image : {X Y : Type 0} (f : X → Y) (xs : List X) (y : Y) → IsIn y (map f xs) → (x : X) × IsIn x xs × (y ≡ f x)
-of_image f [] y none = absurd none
-of_image f (x ∷ xs) y (inl e) = (x, inl refl, e)
-of_image f (x ∷ xs) y (inr i) = let r = of_image f xs y i in (r.0, inr r.1, r.2)
 
 one_of : (s : Record) (trace : List EntryRecord) (o : Outcome) → IsIn o (outcomes trace s.processes) → (p : ℕ) × IsProcess s p × (o ≡ outcome trace p)
 one_of s trace o i =

@@ -1,222 +1,161 @@
 -- Through a run: what every process knows of itself, and that every letter on its way was sent.
-use Rattle.std.proofs.Common.{◌≡◌, ◌≢◌, ◌⊎◌, ℕ, inl, inr, refl, sym, ap, ◌∙◌, subst, Bool, true, false, cond, ◌==◌, List, [], ◌∷◌, ◌++◌, append_assoc, append-nil, IsTrue}
-use Rattle.std.proofs.lemmas.Bool.{cases_eq, eq-eqb, ne_eqb}
+use Rattle.std.proofs.Common.{◌≡◌, ℕ, inl, inr, refl, sym, ap, ◌∙◌, subst, Bool, true, false, cond, ◌==◌, List, [], ◌∷◌, ◌++◌, append_assoc, append-nil, IsTrue}
+use Rattle.std.proofs.lemmas.Bool.{cases_eq, cond_both, eqb-true, eq-eqb, ne_eqb}
 use Rattle.process_api.specs.Coordinator.{step_coordinator}
 use Rattle.process_api.specs.declared.key.Key.{Key}
 use Rattle.process_api.specs.declared.message.Payload.{Payload}
 use Rattle.process_api.specs.declared.message.Payload.TheVariants as payload
 use Rattle.process_api.specs.declared.message.StepInput.{StepInput}
 use Rattle.process_api.specs.declared.message.StepInput.TheVariants as input
-use Rattle.process_api.specs.declared.action.Note.{Note}
-use Rattle.process_api.specs.declared.action.Note.TheVariants as note
 use Rattle.process_api.specs.declared.action.Action.{Action}
 use Rattle.process_api.specs.declared.action.Action.TheVariants as action
 use Rattle.trace_laws.specs.Setting.{Setting, IsSound, IsProcess, has_crashed}
 use Rattle.process_api.specs.Answer.{Answer}
 use Rattle.process_api.specs.EntryRecord.{EntryRecord}
 use Rattle.process_api.specs.Numbers.{change}
-use Rattle.trace_laws.specs.Step.{Process, Made, noted, dead, made_by}
+use Rattle.trace_laws.specs.Step.{Made, dead, made_by}
 use Rattle.trace_laws.specs.World.{World, Pair, Has, IsWorld, Run, made, taken, opening, entries, IsTrace}
 use Rattle.trace_laws.specs.History.{IsIn}
 use Rattle.trace_laws.proofs.Steps.{in_left, in_right, change_at, change_other}
-use Rattle.trace_laws.proofs.Worlds.{process_at, process_other, taken_cases, taken_world}
+use Rattle.trace_laws.proofs.Worlds.{taken_cases, taken_world}
 use Rattle.trace_laws.proofs.Closed.{opening_world}
 use Rattle.judges.proofs.Agreement.Joined.{RunsCoordinator}
 use Rattle.judges.proofs.Agreement.Answering.{answers_in, answers_by}
-use Rattle.judges.proofs.Agreement.Local.{Local, Fine, next_of, verdicts, verdicts-append}
-use Rattle.judges.proofs.Agreement.MoreSent.{local_more, locked_more}
-use Rattle.judges.proofs.Agreement.Waits.{CameFrom, Meant, step_fits, lower_fits, opening_fits}
+use Rattle.judges.proofs.Agreement.Local.{Local, IsFine, verdicts, verdicts-append}
+use Rattle.judges.proofs.Agreement.Waits.{CameFrom, step_fits, lower_fits, opening_fits}
 use Rattle.judges.proofs.Letters.{added_letter, no_letter_first}
-
-answers_first : (x : Note) (notes : List Note) → answers_in (x ∷ notes) ≡ answers_in (x ∷ []) ++ answers_in notes
-answers_first (note.Suspect layer who) notes = refl
-answers_first (note.Trust layer who) notes = refl
-answers_first (note.Round r) notes = refl
-answers_first (note.Decided v) notes = refl
-answers_first note.NoValue notes = refl
-
-noted_verdicts : (actions : List Action) → answers_in (noted actions) ≡ verdicts actions
-noted_verdicts [] = refl
-noted_verdicts (action.Send to what ∷ actions) = noted_verdicts actions
-noted_verdicts (action.Wake pause tag ∷ actions) = noted_verdicts actions
-noted_verdicts (action.Note x ∷ actions) = answers_first x (noted actions) ∙ ap (λ z. answers_in (x ∷ []) ++ z) (noted_verdicts actions)
+use Rattle.judges.proofs.Members.{each_of}
 
 module _ {Mind : Type 0} (S : Setting Mind) where
-  -- who sent what, by what each process did so far
+  -- who sent what, by what each process did
   abbrev pub Sent : (ℕ → List Action) → ℕ → Payload → Type 0
   Sent acts q y = IsProcess S q × (to : ℕ) × IsIn (action.Send to y) (acts q)
 
-module _ {Mind : Type 0} (S : Setting Mind) (sound : IsSound S) (proposal : ℕ → ℕ) (R : RunsCoordinator S proposal) where
+  abbrev answer : World Mind → Key → StepInput → Answer Mind
+  answer w key x = S.react (w.process key.receiver).mind key.tick x
+
+  abbrev crashed : Key → Bool
+  crashed key = has_crashed (S.crash key.receiver) key.tick
+
+  abbrev done : World Mind → Key → StepInput → List Action
+  done w key x = cond (crashed key) [] (answer w key x).actions
+
+  -- what each process did after one more step, and after a run
+  abbrev acts_next : World Mind → (ℕ → List Action) → Key → StepInput → ℕ → List Action
+  acts_next w acts key x = change acts key.receiver (acts key.receiver ++ done w key x)
+
+  abbrev pub acts_after : List Pair → World Mind → (ℕ → List Action) → ℕ → List Action
+  acts_after [] w acts = acts
+  acts_after (s ∷ rest) w acts = acts_after rest (taken S w s.0.key s.1) (acts_next w acts s.0.key s.1)
+
+  next_has : (w : World Mind) (acts : ℕ → List Action) (key : Key) (x : StepInput) (q : ℕ) (a : Action) → IsIn a (acts q) → IsIn a (acts_next w acts key x q)
+  next_has w acts key x q a i = cond_both (q == key.receiver) (acts key.receiver ++ done w key x) (acts q) (IsIn a)
+      (λ e. in_left a (acts key.receiver) (done w key x) (subst (λ z. IsIn a (acts z)) (eqb-true q key.receiver e) i)) (λ _. i)
+
+  after_has : (history : List Pair) (w : World Mind) (acts : ℕ → List Action) (q : ℕ) (a : Action) → IsIn a (acts q) → IsIn a (acts_after history w acts q)
+  after_has [] w acts q a i = i
+  after_has (s ∷ rest) w acts q a i = after_has rest (taken S w s.0.key s.1) (acts_next w acts s.0.key s.1) q a (next_has w acts s.0.key s.1 q a i)
+
+-- whole is what each process does in the whole run
+module _ {Mind : Type 0} (S : Setting Mind) (sound : IsSound S) (proposal : ℕ → ℕ) (R : RunsCoordinator S proposal) (whole : ℕ → List Action) where
+  -- what process p knows, with what it did so far and its mind: it has a part that runs the coordinator
+  abbrev pub Knows : ℕ → List Action → Mind → Type 0
+  Knows p acts mind = Local S.processes (Sent S whole) p (proposal p) acts (R.part mind) × IsTrue (R.has_part mind)
+
   pub record Known (w : World Mind) (acts : ℕ → List Action) : Type 0 where
     pub is_world : IsWorld S w
-    pub each : (p : ℕ) → IsProcess S p → Local S.processes (Sent S acts) p (proposal p) (acts p) (R.part (w.process p).mind)
+    pub each : (p : ℕ) → IsProcess S p → Knows p (acts p) (w.process p).mind
     pub letters : (key : Key) (q : ℕ) (y : Payload) → Has w.pending key (input.Letter q y) → Sent S acts q y
-    -- each has a part that runs the coordinator, and nobody else does anything
-    pub with_part : (p : ℕ) → IsProcess S p → IsTrue (R.has_part (w.process p).mind)
+    -- nobody else does anything
     pub nobody_else : (p : ℕ) → ¬ (IsProcess S p) → acts p ≡ []
-
-  -- what was sent has its meaning
-  meant : (w : World Mind) (acts : ℕ → List Action) → Known w acts → (q : ℕ) (y : Payload) → Sent S acts q y → Meant S.processes (Sent S acts) q (proposal q) y
-  meant w acts k q y sent = go y ((k.each q sent.0).past.fine sent.1 y sent.2)
-    where
-      go : (y : Payload) → Fine S.processes (Sent S acts) q (proposal q) (k.each q sent.0).past.proposed (k.each q sent.0).past.acked (R.part (w.process q).mind).round (next_of S.processes (Sent S acts) q (proposal q) (R.part (w.process q).mind).phase (R.part (w.process q).mind).round) y
-          → Meant S.processes (Sent S acts) q (proposal q) y
-      go payload.Alive f = tt
-      go (payload.Heartbeat number) f = tt
-      go (payload.Suspects members) f = tt
-      go (payload.Vector round cells) f = tt
-      go (payload.Last cells) f = tt
-      go (payload.Estimate r v t) f = tt
-      go (payload.Proposal r v) f = tt
-      go (payload.Reply r ack) f = tt
-      go (payload.Decide r v) f = f
 
   -- one step
   module _ (w : World Mind) (acts : ℕ → List Action) (k : Known w acts) (key : Key) (x : StepInput) (there : Has w.pending key x) where
-    abbrev answer : Answer Mind
-    answer = S.react (w.process key.receiver).mind key.tick x
-
-    abbrev done_or : Bool → List Action
-    done_or b = cond b [] answer.actions
-
     abbrev made_or : Bool → Made S
-    made_or b = cond b (record { process = w.process key.receiver; entry = dead key; added = [] }) (made_by S (w.process key.receiver) key x answer)
+    made_or b = cond b (record { process = w.process key.receiver; entry = dead key; added = [] }) (made_by S (w.process key.receiver) key x (answer S w key x))
 
-    abbrev crashed : Bool
-    crashed = has_crashed (S.crash key.receiver) key.tick
-
-    abbrev pub acts_next : ℕ → List Action
-    acts_next = change acts key.receiver (acts key.receiver ++ done_or crashed)
+    abbrev next : ℕ → List Action
+    next = acts_next S w acts key x
 
     is_process : IsProcess S key.receiver
     is_process = k.is_world.received key x there
 
-    acts_at : acts_next key.receiver ≡ acts key.receiver ++ done_or crashed
-    acts_at = change_at acts key.receiver (acts key.receiver ++ done_or crashed)
-
-    acts_other : (q : ℕ) → q ≢ key.receiver → acts_next q ≡ acts q
-    acts_other q n = change_other acts key.receiver (acts key.receiver ++ done_or crashed) q n
-
-    up : (q : ℕ) (y : Payload) → Sent S acts q y → Sent S acts_next q y
-    up q y sent = go (cases_eq q key.receiver)
-      where
-        go : (q ≡ key.receiver) ⊎ (q ≡ key.receiver → ⊥) → Sent S acts_next q y
-        go (inl e) = (
-          sent.0,
-          sent.1,
-          subst (λ z. IsIn (action.Send sent.1 y) (acts_next z)) (sym e) (subst (λ z. IsIn (action.Send sent.1 y) z) (sym acts_at)
-              (in_left (action.Send sent.1 y) (acts key.receiver) (done_or crashed) (subst (λ z. IsIn (action.Send sent.1 y) (acts z)) e sent.2))),
-        )
-        go (inr n) = (sent.0, sent.1, subst (λ z. IsIn (action.Send sent.1 y) z) (sym (acts_other q n)) sent.2)
-
     -- of the letters that come
-    came : CameFrom S.processes (Sent S acts_next) key.receiver (proposal key.receiver) x
-    came = go x there
+    came : ((q : ℕ) (a : Action) → IsIn a (acts q) → IsIn a (whole q)) → CameFrom S.processes (Sent S whole) key.receiver (proposal key.receiver) x
+    came within = go x there
       where
-        up_meant : (q : ℕ) (y : Payload) → Meant S.processes (Sent S acts) q (proposal q) y → Meant S.processes (Sent S acts_next) key.receiver (proposal key.receiver) y
-        up_meant q payload.Alive m = tt
-        up_meant q (payload.Heartbeat number) m = tt
-        up_meant q (payload.Suspects members) m = tt
-        up_meant q (payload.Vector round cells) m = tt
-        up_meant q (payload.Last cells) m = tt
-        up_meant q (payload.Estimate r v t) m = tt
-        up_meant q (payload.Proposal r v) m = tt
-        up_meant q (payload.Reply r ack) m = tt
-        up_meant q (payload.Decide r v) m = locked_more S.processes (Sent S acts) (Sent S acts_next) up r v m
+        go : (x : StepInput) → Has w.pending key x → CameFrom S.processes (Sent S whole) key.receiver (proposal key.receiver) x
+        go (input.Letter q (payload.Decide r v)) h =
+            let sent = k.letters key q (payload.Decide r v) h in
+            let l = (k.each q sent.0).0 in
+            each_of (IsFine S.processes (Sent S whole) q (proposal q) l.past.proposed l.past.acked _ _) (acts q) l.past.fine (action.Send sent.1 (payload.Decide r v)) sent.2
+        go (input.Letter q y) h = let sent = k.letters key q y h in (sent.0, sent.1, within q _ sent.2)
+        go x h = tt
 
-        go : (x : StepInput) → Has w.pending key x → CameFrom S.processes (Sent S acts_next) key.receiver (proposal key.receiver) x
-        go input.Start h = tt
-        go (input.Letter q y) h = let sent = k.letters key q y h in (up q y sent, up_meant q y (meant w acts k q y sent))
-        go (input.Wake tag) h = tt
-
-    at_receiver : Local S.processes (Sent S acts_next) key.receiver (proposal key.receiver) (acts key.receiver ++ done_or crashed) (R.part (made S w key x).process.mind)
-    at_receiver = go crashed
+    at_receiver : ((q : ℕ) (a : Action) → IsIn a (acts q) → IsIn a (whole q)) → Knows key.receiver (acts key.receiver ++ done S w key x) (made S w key x).process.mind
+    at_receiver within =
+        elim (crashed S key) as (λ b. Knows key.receiver (acts key.receiver ++ cond b [] (answer S w key x).actions) (made_or b).process.mind) [
+          | true ↦ subst (λ z. Knows key.receiver z (w.process key.receiver).mind) (sym (append-nil (acts key.receiver))) old
+          | false ↦
+              let j = R.joins key.receiver (w.process key.receiver).mind key.tick x is_process (k.is_world.minds key.receiver is_process) old.1 in
+              let low = lower_fits S.processes (Sent S whole) key.receiver (proposal key.receiver) (acts key.receiver) (R.part (w.process key.receiver).mind) old.0 j.lower j.of_lower in
+              let new = step_fits S.processes (Sent S whole) key.receiver (proposal key.receiver) (acts key.receiver ++ j.lower) (R.part (w.process key.receiver).mind) low j.is_suspected j.not_itself x (came within) in
+              let a = step_coordinator S.processes key.receiver j.is_suspected x (R.part (w.process key.receiver).mind) in
+              let all = append_assoc (acts key.receiver) j.lower a.actions ∙ ap (λ z. acts key.receiver ++ z) (sym j.acts) in (
+                subst (λ z. z) (λ i. Local S.processes (Sent S whole) key.receiver (proposal key.receiver) (all i) (sym j.state i)) new,
+                R.keeps (w.process key.receiver).mind key.tick x old.1,
+              )
+        ]
       where
-        old : Local S.processes (Sent S acts_next) key.receiver (proposal key.receiver) (acts key.receiver) (R.part (w.process key.receiver).mind)
-        old = local_more S.processes (Sent S acts) (Sent S acts_next) up key.receiver (proposal key.receiver) (acts key.receiver) _ (k.each key.receiver is_process)
+        old : Knows key.receiver (acts key.receiver) (w.process key.receiver).mind
+        old = k.each key.receiver is_process
 
-        go : (b : Bool) → Local S.processes (Sent S acts_next) key.receiver (proposal key.receiver) (acts key.receiver ++ done_or b) (R.part (made_or b).process.mind)
-        go true = subst (λ z. Local S.processes (Sent S acts_next) key.receiver (proposal key.receiver) z (R.part (w.process key.receiver).mind)) (sym (append-nil (acts key.receiver))) old
-        go false =
-            let j = R.joins key.receiver (w.process key.receiver).mind key.tick x is_process (k.is_world.minds key.receiver is_process) (k.with_part key.receiver is_process) in
-            let low = lower_fits S.processes (Sent S acts_next) key.receiver (proposal key.receiver) (acts key.receiver) (R.part (w.process key.receiver).mind) old j.lower j.of_lower in
-            let new = step_fits S.processes (Sent S acts_next) key.receiver (proposal key.receiver) (acts key.receiver ++ j.lower) (R.part (w.process key.receiver).mind) low j.is_suspected j.not_itself x came in
-            let a = step_coordinator S.processes key.receiver j.is_suspected x (R.part (w.process key.receiver).mind) in
-            let joined = subst (λ z. Local S.processes (Sent S acts_next) key.receiver (proposal key.receiver) z a.state) (append_assoc (acts key.receiver) j.lower a.actions) new in
-            subst (λ z. z) (λ i. Local S.processes (Sent S acts_next) key.receiver (proposal key.receiver) (acts key.receiver ++ sym j.acts i) (sym j.state i)) joined
-
-    each_next : (q : ℕ) → IsProcess S q → Local S.processes (Sent S acts_next) q (proposal q) (acts_next q) (R.part ((taken S w key x).process q).mind)
-    each_next q is = go (cases_eq q key.receiver)
+    letters_next : (l : Key) (q : ℕ) (y : Payload) → Has (taken S w key x).pending l (input.Letter q y) → Sent S next q y
+    letters_next l q y h = elim (taken_cases S w key x l (input.Letter q y) h) [
+      | inl i ↦
+          let r = new (crashed S key) i in (
+            subst (IsProcess S) (sym r.0) is_process,
+            r.1,
+            cond_both (q == key.receiver) (acts key.receiver ++ done S w key x) (acts q) (IsIn (action.Send r.1 y)) (λ _. in_right (action.Send r.1 y) (acts key.receiver) (done S w key x) r.2) (λ other. absurd (cc (other, eq-eqb q key.receiver r.0))),
+          )
+      | inr old ↦ let sent = k.letters l q y old.1 in (sent.0, sent.1, next_has S w acts key x q _ sent.2)
+    ]
       where
-        go : (q ≡ key.receiver) ⊎ (q ≡ key.receiver → ⊥) → Local S.processes (Sent S acts_next) q (proposal q) (acts_next q) (R.part ((taken S w key x).process q).mind)
-        go (inl e) = subst (λ r. Local S.processes (Sent S acts_next) r (proposal r) (acts_next r) (R.part ((taken S w key x).process r).mind)) (sym e)
-            (subst (λ z. z) (λ i. Local S.processes (Sent S acts_next) key.receiver (proposal key.receiver) (sym acts_at i) (R.part (sym (process_at S w key x) i).mind)) at_receiver)
-        go (inr n) = subst (λ z. z) (λ i. Local S.processes (Sent S acts_next) q (proposal q) (sym (acts_other q n) i) (R.part (sym (process_other S w key x q n) i).mind))
-            (local_more S.processes (Sent S acts) (Sent S acts_next) up q (proposal q) (acts q) _ (k.each q is))
-
-    letters_next : (l : Key) (q : ℕ) (y : Payload) → Has (taken S w key x).pending l (input.Letter q y) → Sent S acts_next q y
-    letters_next l q y h = go (taken_cases S w key x l (input.Letter q y) h)
-      where
-        new : (b : Bool) → IsIn (l, input.Letter q y) (made_or b).added → (q ≡ key.receiver) × (to : ℕ) × IsIn (action.Send to y) (done_or b)
+        new : (b : Bool) → IsIn (l, input.Letter q y) (made_or b).added → (q ≡ key.receiver) × (to : ℕ) × IsIn (action.Send to y) (cond b [] (answer S w key x).actions)
         new true i = absurd i
-        new false i = added_letter S key.receiver key.tick (w.process key.receiver).counts answer.actions l q y i
+        new false i = added_letter S key.receiver key.tick (w.process key.receiver).counts (answer S w key x).actions l q y i
 
-        go : IsIn (l, input.Letter q y) (made S w key x).added ⊎ ((l ≢ key) × Has w.pending l (input.Letter q y)) → Sent S acts_next q y
-        go (inl i) =
-            let r = new crashed i in (
-              subst (IsProcess S) (sym r.0) is_process,
-              r.1,
-              subst (λ z. IsIn (action.Send r.1 y) (acts_next z)) (sym r.0)
-                  (subst (λ z. IsIn (action.Send r.1 y) z) (sym acts_at) (in_right (action.Send r.1 y) (acts key.receiver) (done_or crashed) r.2)),
-            )
-        go (inr old) = up q y (k.letters l q y old.1)
+    known_next : ((q : ℕ) (a : Action) → IsIn a (acts q) → IsIn a (whole q)) → Known (taken S w key x) next
+    known_next within = record {
+      is_world = taken_world S w key x sound k.is_world there;
+      each = λ q is. elim (q == key.receiver) as (λ b. (q == key.receiver) ≡ b → Knows q (cond b (acts key.receiver ++ done S w key x) (acts q)) (cond b (made S w key x).process (w.process q)).mind) [
+        | true ↦ λ e. subst (λ z. Knows z (acts key.receiver ++ done S w key x) (made S w key x).process.mind) (sym (eqb-true q key.receiver e)) (at_receiver within)
+        | false ↦ λ _. k.each q is
+      ] refl;
+      letters = letters_next;
+      nobody_else = λ q none. ap (λ b. cond b (acts key.receiver ++ done S w key x) (acts q)) (ne_eqb q key.receiver (λ e. none (subst (IsProcess S) (sym e) is_process))) ∙ k.nobody_else q none;
+    }
 
-    with_part_next : (q : ℕ) → IsProcess S q → IsTrue (R.has_part ((taken S w key x).process q).mind)
-    with_part_next q is = go (cases_eq q key.receiver)
-      where
-        stepped : (b : Bool) → IsTrue (R.has_part (made_or b).process.mind)
-        stepped true = k.with_part key.receiver is_process
-        stepped false = R.keeps (w.process key.receiver).mind key.tick x (k.with_part key.receiver is_process)
-
-        go : (q ≡ key.receiver) ⊎ (q ≡ key.receiver → ⊥) → IsTrue (R.has_part ((taken S w key x).process q).mind)
-        go (inl e) = subst (λ r. IsTrue (R.has_part ((taken S w key x).process r).mind)) (sym e) (subst (λ (z : Process Mind). IsTrue (R.has_part z.mind)) (sym (process_at S w key x)) (stepped crashed))
-        go (inr n) = subst (λ (z : Process Mind). IsTrue (R.has_part z.mind)) (sym (process_other S w key x q n)) (k.with_part q is)
-
-    nobody_else_next : (q : ℕ) → ¬ (IsProcess S q) → acts_next q ≡ []
-    nobody_else_next q none = acts_other q (λ e. none (subst (IsProcess S) (sym e) is_process)) ∙ k.nobody_else q none
-
-    known_next : Known (taken S w key x) acts_next
-    known_next = record { is_world = taken_world S w key x sound k.is_world there; each = each_next; letters = letters_next; with_part = with_part_next; nobody_else = nobody_else_next }
-
-    -- the answers_by of the entry are those of what was done
-    entry_verdicts : answers_in (made S w key x).entry.notes ≡ verdicts (done_or crashed)
-    entry_verdicts = go crashed
-      where
-        go : (b : Bool) → answers_in (made_or b).entry.notes ≡ verdicts (done_or b)
-        go true = refl
-        go false = noted_verdicts answer.actions
-
-    next_verdicts : (q : ℕ) → verdicts (acts_next q) ≡ verdicts (acts q) ++ cond (key.receiver == q) (answers_in (made S w key x).entry.notes) []
-    next_verdicts q = go (cases_eq q key.receiver)
-      where
-        go : (q ≡ key.receiver) ⊎ (q ≡ key.receiver → ⊥) → verdicts (acts_next q) ≡ verdicts (acts q) ++ cond (key.receiver == q) (answers_in (made S w key x).entry.notes) []
-        go (inl e) = subst (λ r. verdicts (acts_next r) ≡ verdicts (acts r) ++ cond (key.receiver == r) (answers_in (made S w key x).entry.notes) []) (sym e)
-            (ap verdicts acts_at ∙ verdicts-append (acts key.receiver) (done_or crashed) ∙ ap (λ z. verdicts (acts key.receiver) ++ z) (sym entry_verdicts)
-            ∙ ap (λ b. verdicts (acts key.receiver) ++ cond b (answers_in (made S w key x).entry.notes) []) (sym (eq-eqb key.receiver key.receiver refl)))
-        go (inr n) = ap verdicts (acts_other q n) ∙ sym (append-nil (verdicts (acts q)))
-            ∙ ap (λ b. verdicts (acts q) ++ cond b (answers_in (made S w key x).entry.notes) []) (sym (ne_eqb key.receiver q (λ e. n (sym e))))
+    -- the answers of the entry are those of what was done
+    next_verdicts : (q : ℕ) → verdicts (next q) ≡ verdicts (acts q) ++ cond (key.receiver == q) (answers_in (made S w key x).entry.notes) []
+    next_verdicts q = elim (cases_eq q key.receiver) [
+      | inl e ↦ subst (λ r. verdicts (next r) ≡ verdicts (acts r) ++ cond (key.receiver == r) (answers_in (made S w key x).entry.notes) []) (sym e)
+          (ap verdicts (change_at acts key.receiver (acts key.receiver ++ done S w key x)) ∙ verdicts-append (acts key.receiver) (done S w key x)
+          ∙ ap (λ z. verdicts (acts key.receiver) ++ z) (elim (crashed S key) as (λ b. verdicts (cond b [] (answer S w key x).actions) ≡ answers_in (made_or b).entry.notes) [ true ↦ refl | false ↦ refl ])
+          ∙ ap (λ b. verdicts (acts key.receiver) ++ cond b (answers_in (made S w key x).entry.notes) []) (sym (eq-eqb key.receiver key.receiver refl)))
+      | inr n ↦ ap verdicts (change_other acts key.receiver (acts key.receiver ++ done S w key x) q n) ∙ sym (append-nil (verdicts (acts q)))
+          ∙ ap (λ b. verdicts (acts q) ++ cond b (answers_in (made S w key x).entry.notes) []) (sym (ne_eqb key.receiver q (λ e. n (sym e))))
+    ]
 
   -- through a run
-  abbrev pub Through : (ℕ → List Action) → List Pair → World Mind → Type 0
-  Through acts history last = (acts2 : ℕ → List Action) × Known last acts2 × ((q : ℕ) → verdicts (acts2 q) ≡ verdicts (acts q) ++ answers_by q (entries history))
-
-  pub run_known : (history : List Pair) (w last : World Mind) (acts : ℕ → List Action) → Known w acts → Run S S.horizon w history last → Through acts history last
-  run_known [] w last acts k run = (acts, subst (λ z. Known z acts) (sym run.1) k, λ q. sym (append-nil (verdicts (acts q))))
-  run_known (s ∷ rest) w last acts k run =
-      let r = run_known rest (taken S w s.0.key s.1) last (acts_next w acts k s.0.key s.1 run.0.there) (known_next w acts k s.0.key s.1 run.0.there) run.3 in (
+  run_known : (history : List Pair) (w last : World Mind) (acts : ℕ → List Action) → Known w acts → Run S S.horizon w history last → ((q : ℕ) (a : Action) → IsIn a (acts_after S history w acts q) → IsIn a (whole q))
+      → Known last (acts_after S history w acts) × ((q : ℕ) → verdicts (acts_after S history w acts q) ≡ verdicts (acts q) ++ answers_by q (entries history))
+  run_known [] w last acts k run within = (subst (λ z. Known z acts) (sym run.1) k, λ q. sym (append-nil (verdicts (acts q))))
+  run_known (s ∷ rest) w last acts k run within =
+      let known = known_next w acts k s.0.key s.1 run.0.there (λ q a i. within q a (after_has S (s ∷ rest) w acts q a i)) in
+      let r = run_known rest (taken S w s.0.key s.1) last (acts_next S w acts s.0.key s.1) known run.3 within in (
         r.0,
-        r.1,
-        λ q. r.2 q ∙ ap (λ z. z ++ answers_by q (entries rest)) (next_verdicts w acts k s.0.key s.1 run.0.there q)
+        λ q. r.1 q ∙ ap (λ z. z ++ answers_by q (entries rest)) (next_verdicts w acts k s.0.key s.1 run.0.there q)
             ∙ append_assoc (verdicts (acts q)) (cond (s.0.key.receiver == q) (answers_in (made S w s.0.key s.1).entry.notes) []) (answers_by q (entries rest))
             ∙ ap (λ (z : EntryRecord). verdicts (acts q) ++ (cond (s.0.key.receiver == q) (answers_in z.notes) [] ++ answers_by q (entries rest))) (sym run.2),
       )
@@ -224,14 +163,15 @@ module _ {Mind : Type 0} (S : Setting Mind) (sound : IsSound S) (proposal : ℕ 
   opening_known : Known (opening S) (λ q. [])
   opening_known = record {
     is_world = opening_world S sound;
-    each = λ p is. subst (λ z. Local S.processes (Sent S (λ q. [])) p (proposal p) [] z) (sym (R.opens p is)) (opening_fits S.processes (Sent S (λ q. [])) p (proposal p));
+    each = λ p is. (subst (λ z. Local S.processes (Sent S whole) p (proposal p) [] z) (sym (R.opens p is)) (opening_fits S.processes (Sent S whole) p (proposal p)), R.opens_with p is);
     letters = λ key q y h. absurd (no_letter_first S.processes key q y h);
-    with_part = R.opens_with;
     nobody_else = λ p none. refl;
   }
 
-  -- at the end of the whole list
-  pub trace_known : (trace : List EntryRecord) → IsTrace S trace → (last : World Mind) × (acts : ℕ → List Action) × Known last acts × ((q : ℕ) → verdicts (acts q) ≡ answers_by q trace)
+-- at the end of the whole list
+module _ {Mind : Type 0} (S : Setting Mind) (sound : IsSound S) (proposal : ℕ → ℕ) (R : RunsCoordinator S proposal) where
+  pub trace_known : (trace : List EntryRecord) → IsTrace S trace → (last : World Mind) × (acts : ℕ → List Action) × Known S sound proposal R acts last acts × ((q : ℕ) → verdicts (acts q) ≡ answers_by q trace)
   trace_known trace (history, last, run, is) =
-      let r = run_known history (opening S) last (λ q. []) opening_known run in
-      (last, r.0, r.1, λ q. r.2 q ∙ ap (answers_by q) (sym is))
+      let acts : ℕ → List Action = acts_after S history (opening S) (λ q. []) in
+      let r = run_known S sound proposal R acts history (opening S) last (λ q. []) (opening_known S sound proposal R acts) run (λ q a i. i) in
+      (last, acts, r.0, λ q. r.1 q ∙ ap (answers_by q) (sym is))

@@ -1,38 +1,30 @@
 -- Machines whose minds have, above lower parts of any kind, the state of a rotating coordinator.
 use Rattle.std.specs.Prelude.{◌≡◌, ℕ, Bool, false, List, ◌++◌, IsTrue}
+use Rattle.std.specs.List.{AllByRecursion}
 use Rattle.process_api.specs.Coordinator.{Coordinator, opening_coordinator, step_coordinator}
 use Rattle.process_api.specs.declared.action.Action.{Action}
 use Rattle.process_api.specs.declared.action.Action.TheVariants.{Send, Wake, Note}
-use Rattle.process_api.specs.declared.action.Note.TheVariants.{Suspect, Trust, Round, Decided, NoValue}
-use Rattle.process_api.specs.declared.message.Payload.TheVariants.{Alive, Heartbeat, Suspects, Vector, Last, Estimate, Proposal, Reply, Decide}
+use Rattle.process_api.specs.declared.action.Note.TheVariants.{Suspect, Trust}
+use Rattle.process_api.specs.declared.message.Payload.TheVariants.{Alive, Heartbeat, Suspects}
 use Rattle.process_api.specs.declared.message.StepInput.{StepInput}
 use Rattle.trace_laws.specs.Setting.{Setting, IsProcess}
-use Rattle.trace_laws.specs.History.{IsIn}
 
 -- what the lower parts may do: they send no letter of the algorithm, and note suspicion and trust alone
 abbrev pub IsOfLower : Action → Type 0
 IsOfLower (Send to Alive) = Unit {0}
 IsOfLower (Send to (Heartbeat number)) = Unit {0}
 IsOfLower (Send to (Suspects shared)) = Unit {0}
-IsOfLower (Send to (Vector round cells)) = ⊥
-IsOfLower (Send to (Last cells)) = ⊥
-IsOfLower (Send to (Estimate round value stamp)) = ⊥
-IsOfLower (Send to (Proposal round value)) = ⊥
-IsOfLower (Send to (Reply round ack)) = ⊥
-IsOfLower (Send to (Decide round value)) = ⊥
 IsOfLower (Wake pause tag) = Unit {0}
 IsOfLower (Note (Suspect layer who)) = Unit {0}
 IsOfLower (Note (Trust layer who)) = Unit {0}
-IsOfLower (Note (Round round)) = ⊥
-IsOfLower (Note (Decided value)) = ⊥
-IsOfLower (Note NoValue) = ⊥
+IsOfLower a = ⊥
 
 -- The answer of process p of n: the lower parts act first, and the coordinator takes the input with the suspects as they are by then, p not among them
 pub record IsJoined (n p : ℕ) (input : StepInput) (before after : Coordinator) (actions : List Action) : Type 0 where
   pub is_suspected : ℕ → Bool
   pub not_itself : is_suspected p ≡ false
   pub lower : List Action
-  pub of_lower : (a : Action) → IsIn a lower → IsOfLower a
+  pub of_lower : AllByRecursion IsOfLower lower
   pub state : after ≡ (step_coordinator n p is_suspected input before).state
   pub acts : actions ≡ lower ++ (step_coordinator n p is_suspected input before).actions
 

@@ -1,7 +1,7 @@
 use Rattle.std.proofs.Common.{◌≡◌, get_or, ap, ◌∙◌, subst, arith}
 use Rattle.std.proofs.lemmas.List.{length-set}
 use Rattle.reporting.specs.Durations.{AreCaught, caught, lists_in}
-use Rattle.reporting.proofs.Caught.{caught_none, caught_next}
+use Rattle.reporting.proofs.Listing.{caught_none, caught_next}
 use Rattle.reporting.proofs.durations.catch_up.Goals as goal
 
 pub loop-place-init : goal.loop-place-init

@@ -1,7 +1,7 @@
-use Rattle.std.proofs.Common.{◌≡◌, true, length, sym, refl, subst, arith}
+use Rattle.std.proofs.Common.{◌≡◌, true, length, refl, arith}
 use Rattle.std.proofs.lemmas.List.{with_items_is}
 use Rattle.reporting.specs.Durations.{AreCaught, lists_in}
-use Rattle.reporting.proofs.Caught.{closes_caught, same_length}
+use Rattle.reporting.proofs.Listing.{closes_caught, same_length}
 use Rattle.reporting.proofs.durations.Durations.close.Goals as goal
 
 pub returns-in_ok-catch_up : goal.returns-in_ok-catch_up
@@ -10,8 +10,5 @@ returns-in_ok-catch_up c = λ S layer trace h metering.
     let pairs = c.args.panel.now in
     let new = c.catch_up.new.pairs in
     let end : c.len-end.result ≡ length d.pairs.items = omega (arith, c.len-end.ensures, d.pairs.ok.0) in
-    let at : AreCaught pairs true 0 (length d.pairs.items) (lists_in d.pairs.items) (lists_in new) =
-    subst (λ n. AreCaught pairs true 0 n (lists_in d.pairs.items) (lists_in new)) end
-    (subst (λ xs. AreCaught pairs true 0 c.len-end.result (lists_in xs) (lists_in new)) c.deref_mut.ensures.value c.in_ok-catch_up.ensures) in
-    closes_caught S layer trace d h pairs metering _ refl
-    (subst (λ xs. AreCaught pairs true 0 (length d.pairs.items) (lists_in d.pairs.items) (lists_in xs)) (sym (with_items_is d.pairs new (same_length d.pairs new at.count))) at)
+    let at : AreCaught pairs true 0 (length d.pairs.items) (lists_in d.pairs.items) (lists_in new) = rw (end, c.deref_mut.ensures.value) at c.in_ok-catch_up.ensures in
+    closes_caught S layer trace d h pairs metering _ refl (rw (with_items_is d.pairs new (same_length d.pairs new at.count)) at)

@@ -1,8 +1,8 @@
-use Rattle.std.proofs.Common.{◌≡◌, ◌+◌, ◌-◌, ◌*◌, false, sym, ap, ◌∙◌, refl, subst, arith}
+use Rattle.std.proofs.Common.{◌≡◌, ◌+◌, ◌-◌, ◌*◌, false, ap, ◌∙◌, refl, arith}
 use Rattle.std.proofs.lemmas.List.{with_items_is}
 use Rattle.process_api.specs.EntryRecord.{EntryRecord}
 use Rattle.reporting.specs.Durations.{AreCaught, lists_in}
-use Rattle.reporting.proofs.Caught.{follows_above, follows_caught, same_length}
+use Rattle.reporting.proofs.Listing.{follows_above, follows_caught, same_length}
 use Rattle.reporting.proofs.durations.Durations.follow.Goals as goal
 
 pub returns-in_ok-catch_up : goal.returns-in_ok-catch_up
@@ -12,17 +12,11 @@ returns-in_ok-catch_up c = λ S layer trace h metering.
     let pairs = c.args.panel.now in
     let receiver : c.number.result ≡ e.key.receiver = c.number.ensures.value ∙ ap (λ (x : EntryRecord). x.key.receiver) c.entry.view_is in
     let number : c.from.result ≡ e.key.receiver = c.from.ensures ∙ receiver in
-    let first : (c.from.result - 1) * c.from-processes.result ≡ (e.key.receiver - 1) * d.processes = (λ i. (number i - 1) * c.from-processes.ensures i) in
-    let old = lists_in d.pairs.items in
     let new = c.catch_up.new.pairs in
-    let given = c.in_ok-catch_up.ensures in
-    let from_own : AreCaught pairs false ((c.from.result - 1) * c.from-processes.result) ((c.from.result - 1) * c.from-processes.result + c.from-processes.result) old (lists_in new) =
-    subst (λ xs. AreCaught pairs false ((c.from.result - 1) * c.from-processes.result) ((c.from.result - 1) * c.from-processes.result + c.from-processes.result) (lists_in xs) (lists_in new)) c.deref_mut.ensures.value given in
-    let at : AreCaught pairs false ((e.key.receiver - 1) * d.processes) ((e.key.receiver - 1) * d.processes + d.processes) old (lists_in new) =
-    subst (λ n. AreCaught pairs false n (n + d.processes) old (lists_in new)) first
-    (subst (λ n. AreCaught pairs false ((c.from.result - 1) * c.from-processes.result) ((c.from.result - 1) * c.from-processes.result + n) old (lists_in new)) c.from-processes.ensures from_own) in
+    let at : AreCaught pairs false ((e.key.receiver - 1) * d.processes) ((e.key.receiver - 1) * d.processes + d.processes) (lists_in d.pairs.items) (lists_in new)
+    = rw (number, c.from-processes.ensures, c.deref_mut.ensures.value) at c.in_ok-catch_up.ensures in
     follows_caught S layer trace d h e pairs metering _ refl
-    (subst (λ xs. AreCaught pairs false ((e.key.receiver - 1) * d.processes) ((e.key.receiver - 1) * d.processes + d.processes) old (lists_in xs)) (sym (with_items_is d.pairs new (same_length d.pairs new at.count))) at)
+    (rw (with_items_is d.pairs new (same_length d.pairs new at.count)) at)
     (omega (arith, c.number.ensures.low, c.number.ensures.value, receiver))
 
 pub returns-else-end-min : goal.returns-else-end-min

@@ -2,7 +2,7 @@ use Rattle.std.proofs.Common.{◌≡◌, ℕ, ◌+◌, ◌*◌, [], ◌∷◌, �
 use Rattle.std.specs.Global.{Vec}
 use Rattle.std.proofs.lemmas.List.{map-append}
 use Rattle.reporting.specs.Durations.{lists_in}
-use Rattle.reporting.proofs.Caught.{empty_more}
+use Rattle.reporting.proofs.Listing.{empty_more}
 use Rattle.reporting.proofs.durations.Durations.open.Goals as goal
 
 pub loop-preserved : goal.loop-preserved

@@ -1,7 +1,7 @@
 use Rattle.std.proofs.Common.{◌∙◌, refl}
 use Rattle.judges.proofs.Closing.{judging_closed}
 use Rattle.reporting.specs.Tally.{counted, new_tally, tracked}
-use Rattle.reporting.proofs.Keeping.{tallies_seen}
+use Rattle.reporting.proofs.Passes.{tallies_seen}
 use Rattle.reporting.proofs.layer.Layer.close.Goals as goal
 
 pub returns-clause-verdicts : goal.returns-clause-verdicts

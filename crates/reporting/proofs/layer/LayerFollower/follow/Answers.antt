@@ -6,7 +6,7 @@ use Rattle.judges.proofs.Entering.{pairs_quiet}
 use Rattle.judges.proofs.Following.{next_followed}
 use Rattle.reporting.specs.Running.{IsLayer}
 use Rattle.reporting.specs.Tally.{counted, new_tally}
-use Rattle.reporting.proofs.Caught.{follows_quiet}
+use Rattle.reporting.proofs.Listing.{follows_quiet}
 use Rattle.reporting.proofs.Fed.{on_ok}
 use Rattle.reporting.proofs.layer.LayerFollower.follow.Goals as goal
 
