@@ -1,10 +1,10 @@
 -- A run whose entries are handed on.
-use Rattle.std.proofs.Common.{◌≡◌, ◌+◌, ℕ, sym, ap, subst, ◌∙◌, List, [], ◌∷◌, ◌++◌, length, append_assoc, length-append, arith}
+use Rattle.std.proofs.Common.{◌≡◌, ℕ, ap, subst, ◌∙◌, List, [], ◌∷◌, ◌++◌, length, append_assoc}
 use Rattle.std.specs.Prelude.{take}
 use Rattle.process_api.specs.EntryRecord.{EntryRecord}
 use Rattle.process_api.specs.Mind.{Mind}
 use Rattle.steps.specs.Posting.{Posted}
-use Rattle.event_list.specs.Following.{WereTaken, IsRecorded}
+use Rattle.event_list.specs.Following.{WereTaken}
 use Rattle.trace_laws.specs.Setting.{Setting}
 use Rattle.event_list.specs.Standing.{Stands}
 use Rattle.trace_laws.specs.Step.{Events, Process}
@@ -24,14 +24,7 @@ pub record Going (S : Setting Mind) (processes : List (Process Mind)) (pending :
 pub taken_next : (old now then : List EntryRecord → Type 0) (trace : List EntryRecord) (entry : EntryRecord) → WereTaken old now trace → ((taken : List EntryRecord) → now taken → then (taken ++ entry ∷ [])) → WereTaken old then (trace ++ entry ∷ [])
 taken_next old now then trace entry was one before had = subst then (append_assoc before trace (entry ∷ [])) (one (before ++ trace) (was before had))
 
-pub longer : (trace : List EntryRecord) (entry : EntryRecord) (count : ℕ) → length trace ≡ count → length (trace ++ entry ∷ []) ≡ count + 1
-longer trace entry count long = omega (arith, long, length-append trace (entry ∷ []))
-
 -- what was taken is a front of every trace
 pub cut_short : (S : Setting Mind) (processes : List (Process Mind)) (pending : Events) (old now : List EntryRecord → Type 0) (told : List Posted → Type 0) (limit : ℕ) → Going S processes pending old now told limit → (whole : List EntryRecord) → IsTrace S whole → WereTaken old now (take limit whole)
 cut_short S processes pending old now told limit is whole whole_is =
     subst (WereTaken old now) (reached_front S is.stands.world is.trace is.stands.reached whole whole_is ∙ ap (λ n. take n whole) is.long) is.taken
-
--- what a follower that keeps entries holds, where it held none
-pub all_kept : (S : Setting Mind) (limit : ℕ) (old new : List EntryRecord) (is : IsRecorded S limit (λ es. old ≡ es) (λ es. new ≡ es)) → old ≡ [] → is.trace ≡ new
-all_kept S limit old new is none = sym (is.taken [] none)

@@ -1,8 +1,10 @@
--- What a run leaves with whoever took its entries.
-use Rattle.std.specs.Prelude.{ℕ, ◌≤◌, List, ◌++◌, length, take, IsTrue}
+-- What a run leaves with whoever took its entries, and when it is refused.
+use Rattle.std.specs.Prelude.{◌≡◌, ◌⊎◌, ℕ, ◌≤◌, ◌<◌, List, ◌++◌, length, take, IsTrue}
 use Rattle.process_api.specs.EntryRecord.{EntryRecord}
 use Rattle.process_api.specs.Mind.{Mind}
 use Rattle.process_api.specs.Order.{is_rising}
+use Rattle.run_error.specs.declared.error.RunError.{RunError}
+use Rattle.run_error.specs.declared.error.RunError.TheVariants.{Limit, Memory}
 use Rattle.trace_laws.specs.Setting.{Setting}
 use Rattle.trace_laws.specs.World.{IsTrace}
 use Rattle.trace_laws.specs.Effects.{HasCauses, TakesOnce}
@@ -25,3 +27,11 @@ pub record IsRecorded (S : Setting Mind) (limit : ℕ) (old new : List EntryReco
 abbrev pub IsCutShort : (S : Setting Mind) (limit : ℕ) (old new : List EntryRecord → Type 0) → Type 0
 IsCutShort S limit old new =
     (whole : List EntryRecord) → IsTrace S whole → WereTaken old new (take limit whole)
+
+-- every trace is longer than so many entries
+abbrev pub IsTooLong : (S : Setting Mind) (limit : ℕ) → Type 0
+IsTooLong S limit = (whole : List EntryRecord) → IsTrace S whole → limit < length whole
+
+-- why a run is refused
+abbrev pub IsRefusal : RunError → Type 0
+IsRefusal e = (e ≡ Limit) ⊎ (e ≡ Memory)

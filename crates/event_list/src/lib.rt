@@ -11,9 +11,9 @@
 //! without any list: it is the only closed history of its scenario, in which each entry but the starts has one cause,
 //! and each event that is added below the horizon is taken once. [`run_list`] says these two of the trace that it
 //! gives. [`run_list_into`] is the same run, which holds no trace: it tells a follower of each entry as it comes
-//! (`specs/Following.antt`). [`run_list_heard`] is the same run too: it also tells a [`Listener`] of each letter between
-//! different processes as it is put on its link (`specs/Posting.antt`), lost ones and late ones too, of which no trace
-//! tells.
+//! (`specs/Following.antt`), and a [`Listener`] of each letter between different processes as it is put on its link
+//! (`specs/Posting.antt` of `steps`), lost ones and late ones too, of which no trace tells. [`Nobody`] listens where
+//! nobody is to.
 //!
 //! What the step of a process does is that of `steps`, and the set of pending events that of `pending_events`; both are
 //! handed on from here.
@@ -27,7 +27,7 @@ mod laws;
 mod list;
 
 pub use laws::law_only_history;
-pub use list::{run_list, run_list_heard, run_list_into};
+pub use list::{run_list, run_list_into};
 pub use pending_events::Pending;
 pub use run_error::RunError;
 pub use steps::{Event, Joins, Listener, Nobody, Seat, kind_of_letter};

@@ -1,14 +1,13 @@
 //! The single event list.
-ghost use Rattle.std.specs.Prelude.{◌≡◌, ◌≤◌, ◌<◌, ◌+◌, ◌-◌, ◌*◌, ◌^◌, [], ◌∷◌, ℕ, List, length, ◌⊎◌, IfErr, IfOk, OnOk, IsErrOf, IsTrue, Some, slice_get, All, map, vec_len};
+ghost use Rattle.std.specs.Prelude.{◌≡◌, ◌≤◌, ◌<◌, ◌+◌, ◌-◌, ◌^◌, [], ℕ, length, IfErr, IfOk, OnOk, IsErrOf, Some, slice_get, All, map, vec_len};
 ghost use Rattle.process_api.specs.Bounds.{most_processes, most_step_actions};
-ghost use Rattle.process_api.specs.EntryRecord.{EntryRecord};
 ghost use Rattle.process_api.specs.Mind.{Mind};
 ghost use Rattle.process_api.specs.Numbers.{numbers_to};
 ghost use Rattle.scenario_record.specs.Record.{opening_mind};
 ghost use Rattle.trace_laws.specs.Effects.{HasCauses, TakesOnce};
 ghost use Rattle.trace_laws.specs.Joins.{HaveJoined};
 ghost use Rattle.steps.specs.Posting.{posted_in, WereHeard};
-ghost use Rattle.event_list.specs.Following.{WereTaken, IsRecorded, IsCutShort};
+ghost use Rattle.event_list.specs.Following.{IsCutShort, IsRecorded, IsRefusal, IsTooLong};
 ghost use Rattle.trace_laws.specs.ScenarioSetting.{setting_of};
 ghost use Rattle.steps.specs.Seat.{process_of, IsMindIn, IsSeated};
 ghost use Rattle.trace_laws.specs.Setting.{IsProcess};
@@ -121,105 +120,22 @@ impl<M: Process> EventList<M> {
         let entry = seat.turn(streams, event, &mut self.actions, pending, listener)?;
         Ok(entry)
     }
-
-    /// Takes the least pending event again and again, until none is left, and hands on the entries and the letters.
-    fn run<F: Follower, L: Listener>(
-        &mut self,
-        scenario: &Scenario,
-        follower: &mut F,
-        listener: &mut L,
-    ) -> Result<(), RunError>
-        requires seated { All (IsSeated M.mind scenario.now 0) self.old.seats.items }
-        requires count { vec_len self.old.seats ≡ scenario.now.processes }
-        requires opening { Stands (setting_of scenario.now)
-            (map (process_of M.mind) self.old.seats.items) self.old.pending [] [] }
-        ensures trace { IfOk result (λ _. (t : List EntryRecord)
-            × IsTrace (setting_of scenario.now) t × (length t ≤ scenario.now.limit)
-            × WereTaken (F.followed follower.old follower.old) (F.followed follower.old follower.new) t) }
-        ensures heard { OnOk result (WereHeard (setting_of scenario.now) L.heard listener.old listener.new) }
-        ensures errors { IfErr result (λ e. (e ≡ RunError.Limit) ⊎ (e ≡ RunError.Memory)) }
-        ensures limit { IsErrOf result RunError.Limit → (whole : List EntryRecord)
-            → IsTrace (setting_of scenario.now) whole → scenario.now.limit < length whole }
-        ensures front { IsErrOf result RunError.Limit → IsCutShort (setting_of scenario.now) scenario.now.limit
-            (F.followed follower.old follower.old) (F.followed follower.old follower.new) }
-    {
-        let streams = Streams::new(scenario);
-        let limit = scenario.limit();
-        let mut taken = 0u64;
-        while let Some(event) = self.pending.take_least()? {
-            if taken >= limit {
-                return Err(RunError::Limit);
-            }
-            let entry = self.take(&streams, event, listener)?;
-            follower.follow(&entry)?;
-            taken += 1;
-        }
-        Ok(())
-    }
 }
 
-/// Runs machines by one event list.
-fn run_machines<M: Process, F: Follower, L: Listener>(
-    alloc: Global,
-    scenario: &Scenario,
-    machines: Vec<M>,
-    follower: &mut F,
-    listener: &mut L,
-) -> Result<(), RunError>
-    requires { map M.mind machines.items ≡ map (opening_mind scenario.now) (numbers_to scenario.now.processes) }
-    ensures recorded { OnOk result (IsRecorded (setting_of scenario.now) scenario.now.limit
-        (F.followed follower.old follower.old) (F.followed follower.old follower.new)) }
-    ensures heard { OnOk result (WereHeard (setting_of scenario.now) L.heard listener.old listener.new) }
-    ensures errors { IfErr result (λ e. (e ≡ RunError.Limit) ⊎ (e ≡ RunError.Memory)) }
-    ensures limit { IsErrOf result RunError.Limit → (whole : List EntryRecord)
-        → IsTrace (setting_of scenario.now) whole → scenario.now.limit < length whole }
-    ensures front { IsErrOf result RunError.Limit → IsCutShort (setting_of scenario.now) scenario.now.limit
-        (F.followed follower.old follower.old) (F.followed follower.old follower.new) }
-{
-    let _horizon = scenario.horizon();
-    let mut list = EventList::open(alloc, scenario, machines)?;
-    list.run(scenario, follower, listener)
-}
-
-/// Runs machines by one event list, up to the horizon, and tells the follower of each entry as it comes: nothing of the
-/// trace is held. There is one machine for each process, of process 1 first, and each opens as the scenario says. What
-/// the follower was told is, after what it had, the scenario's trace, in its order; keys rise, each entry but the starts
-/// has one cause, an earlier entry, and each event that a step adds below the horizon is one entry.
-///
-/// # Errors
-///
-/// `Limit` where the whole trace has more entries than the scenario's limit: the follower was told the first so many of
-/// them. `Memory` where memory was refused; the follower is good for nothing then. The machines are gone.
-pub fn run_list_into<M: Process, F: Follower>(
-    alloc: Global,
-    scenario: &Scenario,
-    machines: Vec<M>,
-    follower: &mut F,
-) -> Result<(), RunError>
-    requires { map M.mind machines.items ≡ map (opening_mind scenario.now) (numbers_to scenario.now.processes) }
-
-    ensures recorded { OnOk result (IsRecorded (setting_of scenario.now) scenario.now.limit
-        (F.followed follower.old follower.old) (F.followed follower.old follower.new)) }
-    ensures errors { IfErr result (λ e. (e ≡ RunError.Limit) ⊎ (e ≡ RunError.Memory)) }
-    ensures limit { IsErrOf result RunError.Limit → (whole : List EntryRecord)
-        → IsTrace (setting_of scenario.now) whole → scenario.now.limit < length whole }
-    ensures front { IsErrOf result RunError.Limit → IsCutShort (setting_of scenario.now) scenario.now.limit
-        (F.followed follower.old follower.old) (F.followed follower.old follower.new) }
-{
-    run_machines(alloc, scenario, machines, follower, &mut Nobody)
-}
-
-/// Runs machines by one event list, as [`run_list_into`] does, and tells a listener of each letter to another process
-/// as it is put on its link. What the listener heard is, after what it had heard, the letters of the scenario's run:
-/// those of its steps in their order, which is that of the tick of sending, then of the sender, and of one step those
-/// of its actions in their order.
+/// Runs machines by one event list, up to the horizon, and tells the follower of each entry as it comes, and the
+/// listener of each letter to another process as it is put on its link: nothing of the trace is held. There is one
+/// machine for each process, of process 1 first, and each opens as the scenario says. What the follower was told is,
+/// after what it had, the scenario's trace, in its order; keys rise, each entry but the starts has one cause, an earlier
+/// entry, and each event that a step adds below the horizon is one entry. What the listener heard is, after what it had
+/// heard, the letters of the scenario's run: those of its steps in their order, which is that of the tick of sending,
+/// then of the sender, and of one step those of its actions in their order.
 ///
 /// # Errors
 ///
 /// `Limit` where the whole trace has more entries than the scenario's limit: the follower was told the first so many of
 /// them. `Memory` where memory was refused; the follower and the listener are good for nothing then. The machines are
 /// gone.
-pub fn run_list_heard<M: Process, F: Follower, L: Listener>(
+pub fn run_list_into<M: Process, F: Follower, L: Listener>(
     alloc: Global,
     scenario: &Scenario,
     machines: Vec<M>,
@@ -231,13 +147,24 @@ pub fn run_list_heard<M: Process, F: Follower, L: Listener>(
     ensures recorded { OnOk result (IsRecorded (setting_of scenario.now) scenario.now.limit
         (F.followed follower.old follower.old) (F.followed follower.old follower.new)) }
     ensures heard { OnOk result (WereHeard (setting_of scenario.now) L.heard listener.old listener.new) }
-    ensures errors { IfErr result (λ e. (e ≡ RunError.Limit) ⊎ (e ≡ RunError.Memory)) }
-    ensures limit { IsErrOf result RunError.Limit → (whole : List EntryRecord)
-        → IsTrace (setting_of scenario.now) whole → scenario.now.limit < length whole }
+    ensures errors { IfErr result IsRefusal }
+    ensures limit { IsErrOf result RunError.Limit → IsTooLong (setting_of scenario.now) scenario.now.limit }
     ensures front { IsErrOf result RunError.Limit → IsCutShort (setting_of scenario.now) scenario.now.limit
         (F.followed follower.old follower.old) (F.followed follower.old follower.new) }
 {
-    run_machines(alloc, scenario, machines, follower, listener)
+    let streams = Streams::new(scenario);
+    let limit = scenario.limit();
+    let mut list = EventList::open(alloc, scenario, machines)?;
+    let mut taken = 0u64;
+    while let Some(event) = list.pending.take_least()? {
+        if taken >= limit {
+            return Err(RunError::Limit);
+        }
+        let entry = list.take(&streams, event, listener)?;
+        follower.follow(&entry)?;
+        taken += 1;
+    }
+    Ok(())
 }
 
 /// Runs machines by one event list, up to the horizon. There is one machine for each process, of process 1 first, and
@@ -259,11 +186,10 @@ pub fn run_list<M: Process>(
     ensures cause { IfOk result (λ t. HasCauses (setting_of scenario.now) t) }
     ensures once { IfOk result (λ t. TakesOnce (setting_of scenario.now) t) }
     ensures within { IfOk result (λ t. length t ≤ scenario.now.limit) }
-    ensures errors { IfErr result (λ e. (e ≡ RunError.Limit) ⊎ (e ≡ RunError.Memory)) }
-    ensures limit { IsErrOf result RunError.Limit → (whole : List EntryRecord)
-        → IsTrace (setting_of scenario.now) whole → scenario.now.limit < length whole }
+    ensures errors { IfErr result IsRefusal }
+    ensures limit { IsErrOf result RunError.Limit → IsTooLong (setting_of scenario.now) scenario.now.limit }
 {
     let mut entries = Vec::new(alloc);
-    run_machines(alloc, scenario, machines, &mut entries, &mut Nobody)?;
+    run_list_into(alloc, scenario, machines, &mut entries, &mut Nobody)?;
     Ok(Trace::new(entries))
 }

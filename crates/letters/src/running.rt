@@ -1,5 +1,6 @@
 //! The letters of a run.
-ghost use Rattle.std.specs.Prelude.{◌≡◌, ◌<◌, ◌⊎◌, List, IfOk, IfErr, IsErrOf, length, map};
+ghost use Rattle.std.specs.Prelude.{◌≡◌, List, IfOk, IfErr, IsErrOf, map};
+ghost use Rattle.event_list.specs.Following.{IsRefusal, IsTooLong};
 ghost use Rattle.process_api.specs.EntryRecord.{EntryRecord};
 ghost use Rattle.process_api.specs.Mind.{Mind};
 ghost use Rattle.process_api.specs.Numbers.{numbers_to};
@@ -11,7 +12,7 @@ ghost use Rattle.letters.specs.Traces.{AreInTrace, AreLostAs, AreNumbered};
 
 use crate::book::LetterBook;
 use crate::letter::Letter;
-use event_list::{RunError, run_list_heard};
+use event_list::{RunError, run_list_into};
 use process_api::Process;
 use scenario_record::Scenario;
 use std::alloc::Global;
@@ -42,12 +43,11 @@ pub fn letters<M: Process>(
     ensures numbers { IfOk result (λ letters. AreNumbered letters.items) }
     ensures lost { IfOk result (λ letters. (trace : List EntryRecord)
         → IsTrace (setting_of scenario.now) trace → AreLostAs trace letters.items) }
-    ensures errors { IfErr result (λ e. (e ≡ RunError.Limit) ⊎ (e ≡ RunError.Memory)) }
-    ensures limit { IsErrOf result RunError.Limit → (whole : List EntryRecord)
-        → IsTrace (setting_of scenario.now) whole → scenario.now.limit < length whole }
+    ensures errors { IfErr result IsRefusal }
+    ensures limit { IsErrOf result RunError.Limit → IsTooLong (setting_of scenario.now) scenario.now.limit }
 {
     let _horizon = scenario.horizon();
     let mut book = LetterBook::new(alloc, scenario);
-    run_list_heard(alloc, scenario, machines, &mut (), &mut book)?;
+    run_list_into(alloc, scenario, machines, &mut (), &mut book)?;
     Ok(book.letters)
 }

@@ -8,7 +8,7 @@ use crate::following::open_recording;
 use crate::outlet::Outlet;
 use crate::summary::Summary;
 use crate::writing::write_recorded;
-use event_list::{RunError, run_list_into};
+use event_list::{Nobody, RunError, run_list_into};
 use print_choice::PrintChoice;
 use process_api::Process;
 use scenario_record::Scenario;
@@ -44,6 +44,6 @@ pub fn bench_list<M: Process, O: Outlet>(
 {
     let _ticks = scenario.horizon();
     let mut recording = open_recording(alloc, scenario, print)?;
-    run_list_into(alloc, scenario, machines, &mut recording)?;
+    run_list_into(alloc, scenario, machines, &mut recording, &mut Nobody)?;
     write_recorded(alloc, scenario, recording, outlet)
 }

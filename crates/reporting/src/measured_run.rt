@@ -1,8 +1,7 @@
 //! A run of which all is measured and no text is formed.
-ghost use Rattle.std.specs.Prelude.{◌≡◌, ◌⊎◌, ◌<◌, List, length, map, IfErr, IfOk, IsErrOf};
+ghost use Rattle.std.specs.Prelude.{◌≡◌, map, IfErr, IfOk, IsErrOf};
+ghost use Rattle.event_list.specs.Following.{IsRefusal, IsTooLong};
 ghost use Rattle.trace_laws.specs.ScenarioSetting.{setting_of};
-ghost use Rattle.trace_laws.specs.World.{IsTrace};
-ghost use Rattle.process_api.specs.EntryRecord.{EntryRecord};
 ghost use Rattle.process_api.specs.Numbers.{numbers_to};
 ghost use Rattle.reporting.specs.Measured.{MeasuresRun};
 ghost use Rattle.scenario_record.specs.Record.{opening_mind};
@@ -11,7 +10,7 @@ use crate::durations::RunDurations;
 use crate::findings::RunFindings;
 use crate::following::open_measuring;
 use crate::telling::find;
-use event_list::{RunError, run_list_into};
+use event_list::{Nobody, RunError, run_list_into};
 use process_api::Process;
 use scenario_record::Scenario;
 use std::alloc::Global;
@@ -36,12 +35,11 @@ pub fn measure_list<M: Process>(
     requires machines { map M.mind machines.items
         ≡ map (opening_mind scenario.now) (numbers_to scenario.now.processes) }
     ensures done { IfOk result (λ told. MeasuresRun scenario.now told.0 told.1) }
-    ensures errors { IfErr result (λ e. (e ≡ RunError.Limit) ⊎ (e ≡ RunError.Memory)) }
-    ensures limit { IsErrOf result RunError.Limit → (whole : List EntryRecord)
-        → IsTrace (setting_of scenario.now) whole → scenario.now.limit < length whole }
+    ensures errors { IfErr result IsRefusal }
+    ensures limit { IsErrOf result RunError.Limit → IsTooLong (setting_of scenario.now) scenario.now.limit }
 {
     let _ticks = scenario.horizon();
     let mut measuring = open_measuring(alloc, scenario, true)?;
-    run_list_into(alloc, scenario, machines, &mut measuring)?;
+    run_list_into(alloc, scenario, machines, &mut measuring, &mut Nobody)?;
     Ok(find(alloc, measuring)?)
 }

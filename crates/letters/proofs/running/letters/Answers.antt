@@ -11,10 +11,10 @@ use Rattle.letters.proofs.running.letters.Goals as goal
 
 pub returns-clause-letters : goal.returns-clause-letters
 returns-clause-letters g c =
-    let heard = c.in_ok-run_list_heard.ensures.heard in
+    let heard = c.in_ok-run_list_into.ensures.heard in
     let opened = c.new-book.result in
     let begun : HasHeard opened [] opened = record { scenario = refl; letters = sym (append-nil opened.letters.items) } in
-    let ended : HasHeard opened heard.0 c.run_list_heard.new.listener = heard.2 opened [] begun in (
+    let ended : HasHeard opened heard.0 c.run_list_into.new.listener = heard.2 opened [] begun in (
       heard.0,
       heard.1,
       ended.letters ∙ (λ i. c.new-book.ensures.none i ++ map (letter_of (setting_of (c.new-book.ensures.scenario i))) heard.0),
