@@ -120,6 +120,3 @@ module _ {T : Type 0} where
           (IsPermutation-append_right o.taken _ _ (flat_more (λ (p : PermitView T). p.taken) ps i d d' (x ∷ []) is lt (ap (λ (p : PermitView T). p.taken) new))),
       flat_has (λ (p : PermitView T). p.known) ps i d is lt x among,
     )
-
-    pub hand_same : d' ≡ d → set ps i d' ≡ ps
-    hand_same e = ap (λ p. set ps i p) (e ∙ is) ∙ set-get_or ps i d

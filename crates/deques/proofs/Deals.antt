@@ -5,11 +5,13 @@ use Rattle.std.specs.List.Sorted.{IsPermutation}
 use Rattle.std.proofs.lemmas.Bool.{cases_eq, eq-eqb, ne_eqb}
 use Rattle.std.proofs.lemmas.List.{length-map, map-append}
 use Rattle.std.proofs.lemmas.List.Concat.{flat_map-append}
-use Rattle.std.proofs.lemmas.List.Elements.{All-nil, All-cons, All-get_or, All-head, All-tail, Contains-append_left, Contains-append_right}
+use Rattle.std.proofs.lemmas.List.Folds.{flat_map-map}
+use Rattle.std.proofs.lemmas.Simd.{map-map}
+use Rattle.std.proofs.lemmas.List.Elements.{All-nil, All-cons, All-get_or, All-head, All-map, All-tail, Contains-append_left, Contains-append_right}
 use Rattle.std.proofs.lemmas.List.Sorted.{IsPermutation-refl, IsPermutation-trans, IsPermutation-append_left, IsPermutation-append_right, IsPermutation-append_comm}
 use Rattle.ledger.specs.Places.{each_with}
 use Rattle.ledger.proofs.Lists.{mixed_at, mixed_more, map_take_more}
-use Rattle.deques.specs.Deques.{DequeId, Dealt, OwnerView, PermitView, HandView, RestView, rest_of, deques_of, dealt_of, all_put, one_out, many_out, blank, one_back, MayTell, HasTold, AreBlank, IsDealt, with_item, share_from, AreShares, CameBack, Popped, TookLast}
+use Rattle.deques.specs.Deques.{DequeId, Dealt, OwnerView, PermitView, HandView, RestView, permit_of, rest_of, deques_of, dealt_of, all_put, one_out, many_out, blank, one_back, MayTell, HasTold, AreBlank, IsDealt, with_item, share_from, AreShares, CameBack, Popped, TookLast}
 use Rattle.deques.proofs.Dealings.{flat_more, map_same_at, hand_at}
 
 any_default : {A : Type 0} (xs : List A) (i : ℕ) (d e : A) → i < length xs → get_or xs i d ≡ get_or xs i e
@@ -33,16 +35,7 @@ module _ {T : Type 0} where
   one_may (suc n) o is = inr refl
 
   pub many_may : (n : ℕ) (os : List (OwnerView T)) → All Untold os → All MayTell (map (many_out n) os)
-  many_may n [] is = All-nil MayTell
-  many_may n (o ∷ os) is = All-cons MayTell (many_out n o) (map (many_out n) os) (one_may n o (All-head Untold o os is)) (many_may n os (All-tail Untold o os is))
-
-  pub many_more : (n : ℕ) (os : List (OwnerView T)) → map one_out (map (many_out n) os) ≡ map (many_out (suc n)) os
-  many_more n [] = refl
-  many_more n (o ∷ os) = ap (λ l. many_out (suc n) o ∷ l) (many_more n os)
-
-  pub none_more : (os : List (OwnerView T)) → os ≡ map (many_out 0) os
-  none_more [] = refl
-  none_more (o ∷ os) = ap (λ l. o ∷ l) (none_more os)
+  many_may n os is = All-map MayTell (many_out n) os (λ k d l. one_may n (get_or os k d) (is k d l))
 
   -- where the owners below a place gave a permit each, the owner at it is as it was, and gives one more
   module _ (hs now : List (OwnerView T)) (i : ℕ) (d : OwnerView T) (value : d ≡ get_or now i d) (so_far : now ≡ map one_out (take i hs) ++ drop i hs) (lt : i < length hs) where
@@ -74,25 +67,18 @@ module _ {T : Type 0} where
     ap (λ (v : HandView T). v.taken) is ∙ (λ i. told.2 i ++ blank.3 i),
   )
 
-  one_blank : (n : ℕ) (o : OwnerView T) → blank (many_out n o) ≡ blank o
-  one_blank zero o = refl
-  one_blank (suc n) o = one_blank n o
+  -- what permits that go out leave as it is
+  same_parts : (n : ℕ) (o : OwnerView T) → ((many_out n o).deque ≡ o.deque) × ((many_out n o).put ≡ o.put) × ((many_out n o).taken ≡ o.taken)
+  same_parts zero o = (refl, refl, refl)
+  same_parts (suc n) o = same_parts n o
 
   pub many_blank : (n : ℕ) (os : List (OwnerView T)) → map blank (map (many_out n) os) ≡ map blank os
   many_blank n [] = refl
-  many_blank n (o ∷ os) = λ i. one_blank n o i ∷ many_blank n os i
-
-  one_dealt : (n : ℕ) (o : OwnerView T) → dealt_of (many_out n o) ≡ dealt_of o
-  one_dealt zero o = refl
-  one_dealt (suc n) o = one_dealt n o
+  many_blank n (o ∷ os) = λ i. permit_of ((same_parts n o).0 i) ((same_parts n o).1 i) [] ∷ many_blank n os i
 
   pub many_dealt : (n : ℕ) (os : List (OwnerView T)) → map dealt_of (map (many_out n) os) ≡ map dealt_of os
   many_dealt n [] = refl
-  many_dealt n (o ∷ os) = λ i. one_dealt n o i ∷ many_dealt n os i
-
-  one_taken : (n : ℕ) (o : OwnerView T) → (many_out n o).taken ≡ o.taken
-  one_taken zero o = refl
-  one_taken (suc n) o = one_taken n o
+  many_dealt n (o ∷ os) = λ i. ((same_parts n o).0 i, (same_parts n o).1 i) ∷ many_dealt n os i
 
   count_out : (n : ℕ) (o : OwnerView T) → o.out ≡ 0 → (many_out n o).out ≡ n
   count_out zero o none = none
@@ -102,21 +88,16 @@ module _ {T : Type 0} where
   one_told zero o some_out = absurd (omega arith)
   one_told (suc n) o some_out = refl
 
-  one_put : (n : ℕ) (o : OwnerView T) → (many_out n o).put ≡ o.put
-  one_put zero o = refl
-  one_put (suc n) o = one_put n o
-
   abbrev pub New : OwnerView T → Type 0
   New o = (o.out ≡ 0) × (o.taken ≡ []) × (o.told ≡ None)
 
   told_all : (n : ℕ) (own : List (Dealt T)) (os : List (OwnerView T)) → 0 < n → All New os → ((x : T) → Contains (all_put (map dealt_of os)) x → Contains (all_put own) x)
       → All (HasTold n own) (map (many_out n) os)
-  told_all n own [] some_out new known = All-nil (HasTold n own)
-  told_all n own (o ∷ os) some_out new known =
-      let is : New o = All-head New o os new in
-      All-cons (HasTold n own) (many_out n o) (map (many_out n) os)
-      (count_out n o is.0, one_told n o some_out, one_taken n o ∙ is.1, λ x here. known x (Contains-append_left o.put (all_put (map dealt_of os)) x (subst (λ l. Contains l x) (one_put n o) here)))
-      (told_all n own os some_out (All-tail New o os new) (λ x here. known x (Contains-append_right o.put (all_put (map dealt_of os)) x here)))
+  told_all n own os some_out new known = All-map (HasTold n own) (many_out n) os (λ k d l.
+      let o = get_or os k d in
+      let is : New o = new k d l in
+      let same = same_parts n o in
+      (count_out n o is.0, one_told n o some_out, same.2 ∙ is.1, λ x here. known x (put_has os k o (any_default os k d o l) l x (subst (λ ys. Contains ys x) same.1 here))))
 
   pub have_told : (os : List (OwnerView T)) (n m : ℕ) (own : List (Dealt T)) → n ≡ length os → m ≡ length os → own ≡ map dealt_of (map (many_out n) os) → All New os → All (HasTold m own) (map (many_out n) os)
   have_told [] n m own len count is new = All-nil (HasTold m own)
@@ -126,14 +107,6 @@ module _ {T : Type 0} where
       subst (λ k. All (HasTold k own) (map (many_out n) (o ∷ os))) (len ∙ sym count)
       (told_all n own (o ∷ os) more new (λ x here. subst (λ l. Contains (all_put l) x) same here))
 
-  blank_deques : (os : List (OwnerView T)) → map (λ (p : PermitView T). p.deque) (map blank os) ≡ deques_of (map dealt_of os)
-  blank_deques [] = refl
-  blank_deques (o ∷ os) = ap (λ l. o.deque ∷ l) (blank_deques os)
-
-  blank_known : (os : List (OwnerView T)) → flat_map (λ (p : PermitView T). p.known) (map blank os) ≡ all_put (map dealt_of os)
-  blank_known [] = refl
-  blank_known (o ∷ os) = ap (λ l. o.put ++ l) (blank_known os)
-
   blank_taken : (os : List (OwnerView T)) → flat_map (λ (p : PermitView T). p.taken) (map blank os) ≡ []
   blank_taken [] = refl
   blank_taken (o ∷ os) = blank_taken os
@@ -141,8 +114,8 @@ module _ {T : Type 0} where
   pub are_blank : (os : List (OwnerView T)) (ps : List (PermitView T)) (m : ℕ) (own : List (Dealt T)) → m ≡ length os → own ≡ map dealt_of os → ps ≡ map blank os → AreBlank m own ps
   are_blank os ps m own count is e = (
     ap length e ∙ length-map os blank ∙ sym count,
-    ap (map (λ (p : PermitView T). p.deque)) e ∙ blank_deques os ∙ ap deques_of (sym is),
-    ap (flat_map (λ (p : PermitView T). p.known)) e ∙ blank_known os ∙ ap all_put (sym is),
+    ap (map (λ (p : PermitView T). p.deque)) e ∙ map-map (λ (p : PermitView T). p.deque) blank os ∙ sym (map-map (λ (d : Dealt T). d.0) dealt_of os) ∙ ap deques_of (sym is),
+    ap (flat_map (λ (p : PermitView T). p.known)) e ∙ flat_map-map (λ (p : PermitView T). p.known) blank os ∙ sym (flat_map-map (λ (d : Dealt T). d.1) dealt_of os) ∙ ap all_put (sym is),
     ap (flat_map (λ (p : PermitView T). p.taken)) e ∙ blank_taken os,
   )
 
@@ -234,8 +207,7 @@ module _ {T : Type 0} where
   from_deque p = p.deque
 
   pub dealt_deques : (os : List (OwnerView T)) → deques_of (map dealt_of os) ≡ map deque_of os
-  dealt_deques [] = refl
-  dealt_deques (o ∷ os) = ap (λ l. o.deque ∷ l) (dealt_deques os)
+  dealt_deques os = map-map (λ (d : Dealt T). d.0) dealt_of os
 
   pub back_dealt : (os : List (OwnerView T)) (rows : List (List T)) → map dealt_of (each_with one_back os rows) ≡ map dealt_of os
   back_dealt [] rows = refl
@@ -267,10 +239,6 @@ module _ {T : Type 0} where
   back_taken (o ∷ os) (row ∷ rows) e =
       IsPermutation-trans _ _ _ (four o.taken (flat_map (λ (x : OwnerView T). x.taken) os) row (flat_map (λ r. r) rows)) (IsPermutation-append_right (o.taken ++ row) _ _ (back_taken os rows (omega arith)))
 
-  flat_rows : (ps : List (PermitView T)) → flat_map (λ r. r) (map stolen_by ps) ≡ flat_map stolen_by ps
-  flat_rows [] = refl
-  flat_rows (p ∷ ps) = ap (λ l. p.taken ++ l) (flat_rows ps)
-
   -- a worker's permits are back
   abbrev pub rest_at : List (OwnerView T) → ℕ → RestView T
   rest_at os out = rest_of (map dealt_of os) out (flat_map (λ o. o.taken) os)
@@ -283,7 +251,7 @@ module _ {T : Type 0} where
   came_back os os' ps out same is = (
     flat_map (λ (o : OwnerView T). o.taken) os',
     (λ i. rest_of ((ap (map dealt_of) is ∙ back_dealt os (map stolen_by ps)) i) (out - 1) (flat_map (λ (o : OwnerView T). o.taken) os')),
-    subst (λ l. IsPermutation (flat_map (λ (o : OwnerView T). o.taken) os ++ l) (flat_map (λ (o : OwnerView T). o.taken) os')) (flat_rows ps)
+    subst (λ l. IsPermutation (flat_map (λ (o : OwnerView T). o.taken) os ++ l) (flat_map (λ (o : OwnerView T). o.taken) os')) (flat_map-map (λ r. r) stolen_by ps)
         (subst (λ l. IsPermutation (flat_map (λ (o : OwnerView T). o.taken) os ++ flat_map (λ r. r) (map stolen_by ps)) (flat_map (λ (o : OwnerView T). o.taken) l)) (sym is) (back_taken os (map stolen_by ps) (same_many os ps same))),
   )
 

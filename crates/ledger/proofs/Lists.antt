@@ -1,20 +1,12 @@
 -- Lists that change at one place, and lists of lists.
 use Rattle.std.proofs.Common.{◌≡◌, ℕ, zero, suc, ◌+◌, ◌<◌, List, [], ◌∷◌, ◌++◌, length, map, take, drop, set, get_or, refl, sym, ap, ◌∙◌, subst, arith}
-use Rattle.std.proofs.lemmas.List.{length-map}
+use Rattle.std.proofs.lemmas.List.{length-map, map-append}
 use Rattle.std.proofs.lemmas.List.Sorted.{IsPermutation-refl, IsPermutation-trans}
 use Rattle.std.specs.List.{AllZip}
 use Rattle.std.specs.List.Sorted.{IsPermutation}
 use Rattle.ledger.specs.Places.{each_with}
 
 module _ {A : Type 0} where
-  pub map_same : (xs : List A) → map (λ x. x) xs ≡ xs
-  map_same [] = refl
-  map_same (x ∷ xs) = ap (λ l. x ∷ l) (map_same xs)
-
-  pub take_all : (n : ℕ) (xs : List A) → n ≡ length xs → take n xs ≡ xs
-  take_all n [] e = ap (λ k. take k []) e
-  take_all n (x ∷ xs) e = ap (λ k. take k (x ∷ xs)) e ∙ ap (λ l. x ∷ l) (take_all (length xs) xs refl)
-
   pub length_more : (xs : List A) (x : A) (n : ℕ) → n ≡ length xs → n + 1 ≡ length (xs ++ x ∷ [])
   length_more [] x n e = ap (λ k. k + 1) e
   length_more (y ∷ ys) x n e = let rest = length_more ys x (length ys) refl in omega arith
@@ -115,3 +107,21 @@ module _ {H R : Type 0} (f : H → R → H) where
   with-more [] rows x d lt = absurd (omega arith)
   with-more (h ∷ hs) [] x d lt = ap (λ l. f h x ∷ l) (sym (with-nil hs))
   with-more (h ∷ hs) (y ∷ rows) x d lt = ap (λ l. f h y ∷ l) (with-more hs rows x d (omega arith))
+
+-- what tickets bring changes the places one after the other: the one at hand is as it was, and then it has the next ticket's
+module _ {H R T : Type 0} (f : H → R → H) (row : T → R) (hs now : List H) (ys : List T) (at : ℕ) (d : H) (value : d ≡ get_or now at d) (so_far : now ≡ each_with f hs (map row ys)) (many : at ≡ length ys) where
+  rows_many : at ≡ length (map row ys)
+  rows_many = many ∙ sym (length-map ys row)
+
+  as_before : d ≡ get_or hs (length (map row ys)) d
+  as_before = value ∙ (λ j. get_or (so_far j) (rows_many j) d) ∙ with-at f hs (map row ys) d
+
+  pub turn_at : d ≡ get_or hs (length ys) d
+  turn_at = as_before ∙ ap (λ k. get_or hs k d) (length-map ys row)
+
+  pub turn_more : (t : T) (new : H) → length ys < length hs → new ≡ f d (row t) → set now at new ≡ each_with f hs (map row (ys ++ t ∷ []))
+  turn_more t new lt is =
+      (λ j. set (so_far j) (rows_many j) (is j))
+      ∙ (λ j. set (each_with f hs (map row ys)) (length (map row ys)) (f (as_before j) (row t)))
+      ∙ with-more f hs (map row ys) (row t) d (subst (λ k. k < length hs) (sym (length-map ys row)) lt)
+      ∙ (λ j. each_with f hs (sym (map-append row ys (t ∷ [])) j))

@@ -27,13 +27,6 @@ pub record IsTaking (tick : ℕ) (first : Part) (all : List Part) (merged : Part
   pub none : length first ≤ length merged
   pub some : SomeBegins tick all → SomeBegins tick rest ⊎ (length first < length merged)
 
-pub taking_starts : (tick : ℕ) (first : Part) (all : List Part) → IsTaking tick first all first [] all
-taking_starts tick first all = record {
-  same = subst (λ xs. IsPermutation (first ++ all_of all) (first ++ xs)) (sym (append-nil (all_of all))) (IsPermutation-refl (first ++ all_of all));
-  none = omega arith;
-  some = λ h. inl h;
-}
-
 module _ (tick : ℕ) (first : Part) (all : List Part) (merged more : Part) (left rest : List Part) (part others : Part) (h : IsTaking tick first all merged left (part ∷ rest)) (moved : more ++ others ≡ merged ++ part) (not_longer : length others ≤ length part) (shorter : BeginsBy tick part → length others < length part) where
   lengths : length more + length others ≡ length merged + length part
   lengths = sym (length-append more others) ∙ (ap length moved ∙ length-append merged part)
@@ -93,9 +86,6 @@ begins_last tick (q ∷ ps) p h = inr (begins_last tick ps p h)
 abbrev pub IsLeastOf : List Part → Option ℕ → Type 0
 IsLeastOf ps least = MatchOption least (all_of ps ≡ []) (λ tick. SomeBegins tick ps)
 
-pub least_of_none : IsLeastOf [] None
-least_of_none = refl
-
 begins_itself : (tick : ℕ) (p : Part) (e : EntryRecord) → 0 < length p → e ≡ slice_index_or p 0 e → e.key.tick ≡ tick → BeginsBy tick p
 begins_itself tick [] e long is at = absurd (omega (arith, long))
 begins_itself tick (f ∷ fs) e long is at = subst (λ g. g.key.tick ≤ tick) is (omega (arith, at))
@@ -112,8 +102,3 @@ least_more ps p (Some t) e h long is = go (cases_lt t e.key.tick)
 pub least_same : (ps : List Part) (p : Part) (least : Option ℕ) → IsLeastOf ps least → p ≡ [] → IsLeastOf (ps ++ p ∷ []) least
 least_same ps p None h none = all_of-push ps p ∙ (ap (λ xs. xs ++ p) h ∙ none)
 least_same ps p (Some t) h none = begins_front t ps (p ∷ []) h
-
--- ---- all ticks
-
-pub all_gathered : (parts merged left : Part) → IsPermutation parts (merged ++ left) → left ≡ [] → IsPermutation parts merged
-all_gathered parts merged left h none = subst (IsPermutation parts) (ap (λ xs. merged ++ xs) none ∙ append-nil merged) h

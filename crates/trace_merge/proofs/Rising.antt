@@ -13,7 +13,11 @@ abbrev pub Rising : List EntryRecord → Type 0
 Rising [] = Unit {0}
 Rising (e ∷ es) = AllByRecursion (Before e) es × Rising es
 
-less_is : (r : Ordering) → is_less r ≡ true → r ≡ Less
+pub weaker : (P Q : EntryRecord → Type 0) → ((x : EntryRecord) → P x → Q x) → (xs : List EntryRecord) → AllByRecursion P xs → AllByRecursion Q xs
+weaker P Q f [] a = tt
+weaker P Q f (x ∷ xs) a = (f x a.0, weaker P Q f xs a.1)
+
+pub less_is : (r : Ordering) → is_less r ≡ true → r ≡ Less
 less_is Less e = refl
 less_is Equal e = absurd (true≢false (sym e))
 less_is Greater e = absurd (true≢false (sym e))
@@ -54,13 +58,3 @@ pub test_of_rising : (es : List EntryRecord) → Rising es → IsTrue (is_rising
 test_of_rising [] h = refl
 test_of_rising (e ∷ es) h =
     subst IsTrue (sym (ap (λ b. b && is_rising es) (true_all (λ f. is_before e.key f.key) es h.0))) (test_of_rising es h.1)
-
--- ---- lists that are joined
-
-pub rising_joined : (xs ys : List EntryRecord) → Rising xs → Rising ys → AllByRecursion (λ x. AllByRecursion (Before x) ys) xs → Rising (xs ++ ys)
-rising_joined [] ys h k before = k
-rising_joined (x ∷ xs) ys h k before = (all_joined _ xs ys h.0 before.0, rising_joined xs ys h.1 k before.1)
-  where
-    all_joined : (P : EntryRecord → Type 0) (xs ys : List EntryRecord) → AllByRecursion P xs → AllByRecursion P ys → AllByRecursion P (xs ++ ys)
-    all_joined P [] ys a b = b
-    all_joined P (x ∷ xs) ys a b = (a.0, all_joined P xs ys a.1 b)

@@ -1,7 +1,7 @@
 -- A run of a berth, event by event.
-use Rattle.std.proofs.Common.{◌≡◌, ℕ, ◌<◌, ◌≤◌, arith, length, length-append, refl, sym, ap, ◌∙◌, subst, List, [], ◌∷◌, ◌++◌, append_assoc, append-nil, true, false, cond, nat_eq, ⊎_elim}
-use Rattle.std.proofs.lemmas.List.{map-append, length-map}
-use borrow.Author.Tests.{eqb-true}
+use Rattle.std.proofs.Common.{◌≡◌, ℕ, ◌<◌, arith, length, refl, sym, ap, ◌∙◌, subst, List, [], ◌∷◌, ◌++◌, append_assoc, append-nil, nat_eq, ⊎_elim}
+use Rattle.std.proofs.lemmas.Bool.{eqb-true}
+use Rattle.std.proofs.lemmas.List.{length-map, map-append}
 use Rattle.std.specs.FinMap as events
 use Rattle.process_api.specs.EntryRecord.{EntryRecord}
 use Rattle.process_api.specs.declared.key.Key.{Key}
@@ -9,103 +9,92 @@ use Rattle.process_api.specs.declared.message.StepInput.{StepInput}
 use Rattle.trace_laws.specs.Setting.{Setting}
 use Rattle.trace_laws.specs.Step.{Event, Events, Process, step}
 use Rattle.trace_laws.specs.World.{Pair, Has, IsLeast, NoneBelow, joined, entries}
-use Rattle.trace_laws.specs.History.{IsIn}
 use Rattle.trace_laws.proofs.Steps.{step_key}
 use Rattle.trace_laws.proofs.Sets.{joined_cases, removed, least_is_one, one_input}
 use Rattle.window_laws.specs.Machine.{for_self, for_others}
 use Rattle.window_laws.specs.Window.{BerthRun}
+use Rattle.window_laws.proofs.Unions.{in_filter}
 
-in_own : (p : ℕ) (es : List Event) (e : Event) → IsIn e (for_self p es) → e.0.receiver ≡ p
-in_own p [] e i = absurd i
-in_own p (x ∷ es) e i =
-    elim (nat_eq x.0.receiver p) as (λ b. nat_eq x.0.receiver p ≡ b → IsIn e (cond b (x ∷ for_self p es) (for_self p es)) → e.0.receiver ≡ p) [
-      | true ↦ λ h j. ⊎_elim (λ (same : e ≡ x). ap (λ (z : Event). z.0.receiver) same ∙ eqb-true x.0.receiver p h) (in_own p es e) j
-      | false ↦ λ h j. in_own p es e j
-    ] refl i
+module _ {Mind : Type 0} (S : Setting Mind) (p end : ℕ) where
+  -- a run of a berth that may not be over yet
+  abbrev pub BerthSoFar : Process Mind → Events → List Pair → Process Mind → Events → List Event → Type 0
+  BerthSoFar before own [] after rest letters = (after ≡ before) × (rest ≡ own) × (letters ≡ [])
+  BerthSoFar before own (s ∷ history) after rest letters =
+      IsLeast own s.0.key s.1 × (s.0.key.tick < end) × (s.0 ≡ (step S before s.0.key s.1).entry)
+      × (more : List Event) × (letters ≡ for_others p (step S before s.0.key s.1).added ++ more)
+      × BerthSoFar (step S before s.0.key s.1).process (joined (events.remove own s.0.key) (for_self p (step S before s.0.key s.1).added)) history after rest more
 
--- from now on a berth's run goes on from here, after these entries and letters
-module _ {Mind : Type 0} (S : Setting Mind) where
-  pub record BerthStands (p end : ℕ) (start : Process Mind) (opened : Events) (now : Process Mind) (pending : Events) (part : List EntryRecord) (letters : List Event) : Type 0 where
-    pub history : List Pair
-    pub part_is : part ≡ entries history
-    pub goes_on : (rest : List Pair) (after : Process Mind) (last : Events) (more : List Event) → BerthRun S p end now pending rest after last more → BerthRun S p end start opened (history ++ rest) after last (letters ++ more)
-    pub comes_by : (all : List Pair) (after : Process Mind) (last : Events) (sent : List Event) → BerthRun S p end start opened all after last sent
-        → (rest : List Pair) × (all ≡ history ++ rest) × ((more : List Event) × BerthRun S p end now pending rest after last more)
-    pub own : (key : Key) (input : StepInput) → Has pending key input → key.receiver ≡ p
+  -- it is over where no event is left below its end
+  so_far_ends : (history : List Pair) (before : Process Mind) (own : Events) (after : Process Mind) (rest : Events) (letters : List Event)
+      → BerthSoFar before own history after rest letters → NoneBelow end rest → BerthRun S p end before own history after rest letters
+  so_far_ends [] before own after rest letters run none = (subst (NoneBelow end) run.1 none, run.0, run.1, run.2)
+  so_far_ends (s ∷ history) before own after rest letters run none = (run.0, run.1, run.2, run.3, run.4, so_far_ends history _ _ after rest run.3 run.5 none)
 
-module _ {Mind : Type 0} (S : Setting Mind) (p end : ℕ) (start : Process Mind) (opened : Events) where
-  pub berth_opens : ((key : Key) (input : StepInput) → Has opened key input → key.receiver ≡ p) → BerthStands S p end start opened start opened [] []
-  berth_opens own = record { history = []; part_is = refl; goes_on = λ rest after last more r. r; comes_by = λ all after last sent r. (all, refl, (sent, r)); own = own }
+  module _ (now : Process Mind) (pending : Events) (key : Key) (input : StepInput) (least : IsLeast pending key input) (due : key.tick < end) where
+    abbrev next : Process Mind
+    next = (step S now key input).process
 
-  module _ (now : Process Mind) (pending : Events) (part : List EntryRecord) (letters : List Event) (was : BerthStands S p end start opened now pending part letters)
-      (key : Key) (input : StepInput) (least : IsLeast pending key input) (due : key.tick < end) where
-    made : Pair
-    made = ((step S now key input).entry, input)
+    abbrev left : Events
+    left = joined (events.remove pending key) (for_self p (step S now key input).added)
 
-    one : (rest : List Pair) (after : Process Mind) (last : Events) (more : List Event) → BerthRun S p end (step S now key input).process (joined (events.remove pending key) (for_self p (step S now key input).added)) rest after last more
-        → BerthRun S p end now pending (((step S now key input).entry, input) ∷ rest) after last (for_others p (step S now key input).added ++ more)
-    one rest after last more r =
-        subst (λ k. IsLeast pending k input × (k.tick < end) × ((step S now key input).entry ≡ (step S now k input).entry)
-        × (others : List Event) × (for_others p (step S now key input).added ++ more ≡ for_others p (step S now k input).added ++ others)
-        × BerthRun S p end (step S now k input).process (joined (events.remove pending k) (for_self p (step S now k input).added)) rest after last others)
-        (sym (step_key S now key input)) (least, due, refl, more, refl, r)
+    abbrev sent : List Event
+    sent = for_others p (step S now key input).added
 
-    -- the next pair of a run from here
-    first_of : (rest : List Pair) (after : Process Mind) (last : Events) (more : List Event) → BerthRun S p end now pending rest after last more
-        → (tail : List Pair) × (rest ≡ ((step S now key input).entry, input) ∷ tail) × ((others : List Event) × BerthRun S p end (step S now key input).process (joined (events.remove pending key) (for_self p (step S now key input).added)) tail after last others)
-    first_of [] after last more r = absurd (below_itself key.tick end due (r.0 key input least.there))
-      where
-        below_itself : (a b : ℕ) → a < b → b ≤ a → ⊥
-        below_itself a b x y = omega arith
-    first_of (s ∷ rest) after last more r =
-        let same_key : s.0.key ≡ key = least_is_one pending s.0.key key s.1 input r.0 least in
-        let same_input : s.1 ≡ input = one_input pending key s.1 input (subst (λ k. Has pending k s.1) same_key r.0.there) least.there in
-        let is : s.0 ≡ (step S now key input).entry = r.2 ∙ (λ i. (step S now (same_key i) (same_input i)).entry) in (
-          rest,
-          (λ i. (is i, same_input i) ∷ rest),
-          (
-            r.3,
-            subst (λ (t : Key × StepInput). BerthRun S p end (step S now t.0 t.1).process (joined (events.remove pending t.0) (for_self p (step S now t.0 t.1).added)) rest after last r.3)
-                (λ i. (same_key i, same_input i)) r.5,
-          ),
-        )
+    one_more : (history : List Pair) (before : Process Mind) (own : Events) (letters : List Event) → BerthSoFar before own history now pending letters
+        → BerthSoFar before own (history ++ ((step S now key input).entry, input) ∷ []) next left (letters ++ sent)
+    one_more [] before own letters (is, was, none) =
+        subst (λ (l : List Event). BerthSoFar before own (((step S now key input).entry, input) ∷ []) next left (l ++ sent)) (sym none)
+        (subst (λ (c : Process Mind × Events). BerthSoFar c.0 c.1 (((step S now key input).entry, input) ∷ []) next left sent) (λ i. (is i, was i))
+        (subst (λ k. IsLeast pending k input × (k.tick < end) × ((step S now key input).entry ≡ (step S now k input).entry)
+        × (more : List Event) × (sent ≡ for_others p (step S now k input).added ++ more)
+        × ((next ≡ (step S now k input).process) × (left ≡ joined (events.remove pending k) (for_self p (step S now k input).added)) × (more ≡ [])))
+        (sym (step_key S now key input)) (least, due, refl, [], sym (append-nil sent), (refl, refl, refl))))
+    one_more (s ∷ history) before own letters run =
+        (run.0, run.1, run.2, run.3 ++ sent, ap (λ l. l ++ sent) run.4 ∙ append_assoc _ run.3 sent, one_more history _ _ run.3 run.5)
 
     -- every run makes one more pair than those so far
-    pub berth_longer : (all : List Pair) (after : Process Mind) (last : Events) (sent : List Event) → BerthRun S p end start opened all after last sent → length part < length all
-    berth_longer all after last sent r =
-        let before = was.comes_by all after last sent r in
-        let next = first_of before.0 after last before.2.0 before.2.1 in
-        let n : length all ≡ length (was.history ++ (((step S now key input).entry, input) ∷ next.0)) = ap length (before.1 ∙ ap (λ h. was.history ++ h) next.1) in
-        let m : length part ≡ length was.history = ap length was.part_is ∙ length-map was.history (λ (t : Pair). t.0) in
-        omega (arith, n, m, length-append was.history (((step S now key input).entry, input) ∷ next.0))
+    longer : (history all : List Pair) (before : Process Mind) (own : Events) (letters : List Event) (after : Process Mind) (rest : Events) (last : List Event)
+        → BerthSoFar before own history now pending letters → BerthRun S p end before own all after rest last → length history < length all
+    longer [] [] before own letters after rest last so_far run = let far = run.0 key input (subst (λ m. Has m key input) so_far.1 least.there) in absurd (omega arith)
+    longer [] (t ∷ all) before own letters after rest last so_far run = omega arith
+    longer (s ∷ history) [] before own letters after rest last so_far run = let far = run.0 s.0.key s.1 so_far.0.there in let near = so_far.1 in absurd (omega arith)
+    longer (s ∷ history) (t ∷ all) before own letters after rest last so_far run =
+        let keys : t.0.key ≡ s.0.key = least_is_one own t.0.key s.0.key t.1 s.1 run.0 so_far.0 in
+        let inputs : t.1 ≡ s.1 = one_input own s.0.key t.1 s.1 (subst (λ k. Has own k t.1) keys run.0.there) so_far.0.there in
+        let more = longer history all _ _ so_far.3 after rest run.3 so_far.5
+        (subst (λ (z : Key × StepInput). BerthRun S p end (step S before z.0 z.1).process (joined (events.remove own z.0) (for_self p (step S before z.0 z.1).added)) all after rest run.3) (λ i. (keys i, inputs i)) run.5) in
+        omega arith
 
-    pub berth_next : (next : Process Mind) (left : Events) (entry : EntryRecord) → next ≡ (step S now key input).process → left ≡ joined (events.remove pending key) (for_self p (step S now key input).added) → entry ≡ (step S now key input).entry
-        → BerthStands S p end start opened next left (part ++ entry ∷ []) (letters ++ for_others p (step S now key input).added)
-    berth_next next left entry next_is left_is entry_is =
-        let s : Pair = ((step S now key input).entry, input) in
-        let lo = for_others p (step S now key input).added in
-        record {
-          history = was.history ++ s ∷ [];
-          part_is = (λ i. was.part_is i ++ entry_is i ∷ []) ∙ sym (map-append (λ (t : Pair). t.0) was.history (s ∷ []));
-          goes_on = λ rest after last more r.
-              let r2 : BerthRun S p end (step S now key input).process (joined (events.remove pending key) (for_self p (step S now key input).added)) rest after last more =
-              subst (λ m. BerthRun S p end (step S now key input).process m rest after last more) left_is (subst (λ q. BerthRun S p end q left rest after last more) next_is r) in
-              subst (λ h. BerthRun S p end start opened h after last ((letters ++ lo) ++ more)) (sym (append_assoc was.history (s ∷ []) rest))
-              (subst (λ ls. BerthRun S p end start opened (was.history ++ (s ∷ rest)) after last ls) (sym (append_assoc letters lo more))
-              (was.goes_on (s ∷ rest) after last (lo ++ more) (one rest after last more r2)));
-          comes_by = λ all after last sent r.
-              let before = was.comes_by all after last sent r in
-              let found = first_of before.0 after last before.2.0 before.2.1 in (
-                found.0,
-                before.1 ∙ (ap (λ h. was.history ++ h) found.1 ∙ sym (append_assoc was.history (s ∷ []) found.0)),
-                (found.2.0, subst (λ m. BerthRun S p end next m found.0 after last found.2.0) (sym left_is) (subst (λ q. BerthRun S p end q (joined (events.remove pending key) (for_self p (step S now key input).added)) found.0 after last found.2.0) (sym next_is) found.2.1)),
-              );
-          own = λ q x h. ⊎_elim (λ i. in_own p (step S now key input).added (q, x) i) (λ old. was.own q x (removed pending key q x old).1)
-              (joined_cases (for_self p (step S now key input).added) (events.remove pending key) q x (subst (λ m. Has m q x) left_is h));
-        }
+  -- a berth came from its opening so far, by these entries and letters, and what is pending is its own
+  pub record BerthStands (start : Process Mind) (opened : Events) (now : Process Mind) (pending : Events) (part : List EntryRecord) (letters : List Event) : Type 0 where
+    pub history : List Pair
+    pub part_is : part ≡ entries history
+    pub so_far : BerthSoFar start opened history now pending letters
+    pub own : (key : Key) (input : StepInput) → Has pending key input → key.receiver ≡ p
 
-  -- a run is over where no event is left below its end
-  pub berth_ends : (now : Process Mind) (pending : Events) (part : List EntryRecord) (letters : List Event) → (was : BerthStands S p end start opened now pending part letters) → NoneBelow end pending → BerthRun S p end start opened was.history now pending letters
-  berth_ends now pending part letters was none =
-      subst (λ h. BerthRun S p end start opened h now pending letters) (append-nil was.history)
-      (subst (λ ls. BerthRun S p end start opened (was.history ++ []) now pending ls) (append-nil letters) (was.goes_on [] now pending [] (none, refl, refl, refl)))
+  module _ (start : Process Mind) (opened : Events) where
+    pub berth_opens : ((key : Key) (input : StepInput) → Has opened key input → key.receiver ≡ p) → BerthStands start opened start opened [] []
+    berth_opens own = record { history = []; part_is = refl; so_far = (refl, refl, refl); own = own }
+
+    pub berth_ends : (now : Process Mind) (pending : Events) (part : List EntryRecord) (letters : List Event) → (was : BerthStands start opened now pending part letters) → NoneBelow end pending → BerthRun S p end start opened was.history now pending letters
+    berth_ends now pending part letters was none = so_far_ends was.history start opened now pending letters was.so_far none
+
+    module _ (now : Process Mind) (pending : Events) (part : List EntryRecord) (letters : List Event) (was : BerthStands start opened now pending part letters)
+        (key : Key) (input : StepInput) (least : IsLeast pending key input) (due : key.tick < end) where
+      pub berth_longer : (all : List Pair) (after : Process Mind) (last : Events) (sent : List Event) → BerthRun S p end start opened all after last sent → length part < length all
+      berth_longer all after last sent run =
+          let more = longer now pending key input least due was.history all start opened letters after last sent was.so_far run in
+          omega (arith, more, ap length was.part_is, length-map was.history (λ (t : Pair). t.0))
+
+      pub berth_next : (now2 : Process Mind) (left2 : Events) (entry : EntryRecord) → now2 ≡ (step S now key input).process → left2 ≡ joined (events.remove pending key) (for_self p (step S now key input).added) → entry ≡ (step S now key input).entry
+          → BerthStands start opened now2 left2 (part ++ entry ∷ []) (letters ++ for_others p (step S now key input).added)
+      berth_next now2 left2 entry now_is left_is entry_is =
+          let made = step S now key input in
+          record {
+            history = was.history ++ (made.entry, input) ∷ [];
+            part_is = (λ i. was.part_is i ++ entry_is i ∷ []) ∙ sym (map-append (λ (t : Pair). t.0) was.history ((made.entry, input) ∷ []));
+            so_far = subst (λ (z : Process Mind × Events). BerthSoFar start opened (was.history ++ (made.entry, input) ∷ []) z.0 z.1 (letters ++ for_others p made.added)) (λ i. (sym now_is i, sym left_is i))
+                (one_more now pending key input least due was.history start opened letters was.so_far);
+            own = λ q x h. ⊎_elim (λ i. eqb-true q.receiver p (in_filter (λ (e : Event). nat_eq e.0.receiver p) (q, x) made.added i).1) (λ old. was.own q x (removed pending key q x old).1)
+                (joined_cases (for_self p made.added) (events.remove pending key) q x (subst (λ m. Has m q x) left_is h));
+          }

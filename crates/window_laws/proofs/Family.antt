@@ -1,6 +1,6 @@
 -- A world split into one world for each process. Inside a window each of these goes its own way, because a letter to another process is due at the end or later.
-use Rattle.std.proofs.Common.{◌≡◌, ◌≢◌, ◌⊎◌, ℕ, ◌+◌, ◌<◌, ◌≤◌, inl, inr, refl, sym, ap, ◌∙◌, subst, List, [], ◌∷◌, arith}
-use Rattle.std.proofs.lemmas.Bool.{cases_eq}
+use Rattle.std.proofs.Common.{◌≡◌, ◌≢◌, ◌⊎◌, ℕ, ◌+◌, ◌<◌, ◌≤◌, inl, inr, refl, sym, ap, ◌∙◌, subst, List, [], ◌∷◌, arith, Bool, true, false, cond, nat_eq}
+use Rattle.std.proofs.lemmas.Bool.{cases_eq, cases_lt, eqb-true, eqb-false}
 use Rattle.process_api.specs.declared.key.Key.{Key}
 use Rattle.process_api.specs.declared.message.StepInput.{StepInput}
 use Rattle.process_api.specs.Numbers.{change}
@@ -12,36 +12,69 @@ use Rattle.trace_laws.proofs.Steps.{change_at, change_other}
 use Rattle.trace_laws.proofs.Worlds.{process_at, process_other, taken_cases, taken_old, taken_new, taken_world, made_sent}
 use Rattle.trace_laws.proofs.Pairs.{pairs_here, pairs_other}
 
+-- by whether q is the place p at which functions change
+pub by_place : (p q : ℕ) (P : Bool → Type 0) → (q ≡ p → P true) → (q ≢ p → P false) → P (nat_eq q p)
+by_place p q P here there = go (nat_eq q p) refl
+  where
+    go : (b : Bool) → nat_eq q p ≡ b → P b
+    go true e = here (eqb-true q p e)
+    go false e = there (eqb-false q p e)
+
 -- what holds of the new value, and of the old ones elsewhere, holds after a change
 pub change_all : {X : Type 0} (f : ℕ → X) (p : ℕ) (v : X) (P : ℕ → X → Type 0) → P p v → ((q : ℕ) → q ≢ p → P q (f q)) → (q : ℕ) → P q (change f p v q)
-change_all f p v P here there q = go (cases_eq q p)
-  where
-    go : (q ≡ p) ⊎ (q ≡ p → ⊥) → P q (change f p v q)
-    go (inl e) = subst (λ r. P r (change f p v r)) (sym e) (subst (P p) (sym (change_at f p v)) here)
-    go (inr n) = subst (P q) (sym (change_other f p v q n)) (there q n)
+change_all f p v P here there q = by_place p q (λ b. P q (cond b v (f q))) (λ e. subst (λ r. P r v) (sym e) here) (there q)
+
+-- the same of two functions that change at one place
+pub change_both : {X Y : Type 0} (f : ℕ → X) (g : ℕ → Y) (p : ℕ) (v : X) (w : Y) (P : ℕ → X → Y → Type 0) → P p v w → ((q : ℕ) → q ≢ p → P q (f q) (g q)) → (q : ℕ) → P q (change f p v q) (change g p w q)
+change_both f g p v w P here there q = by_place p q (λ b. P q (cond b v (f q)) (cond b w (g q))) (λ e. subst (λ r. P r v w) (sym e) here) (there q)
+
+module _ {Mind : Type 0} (S : Setting Mind) where
+  pub is_or_not : (p : ℕ) → IsProcess S p ⊎ ¬ (IsProcess S p)
+  is_or_not p = go (cases_lt 0 p) (cases_lt S.processes p)
+    where
+      go : (0 < p) ⊎ (p ≤ 0) → (S.processes < p) ⊎ (p ≤ S.processes) → IsProcess S p ⊎ ¬ (IsProcess S p)
+      go (inl low) (inr high) = inl (low, high)
+      go (inr low) b = inr (λ is. omega (arith, is.0))
+      go a (inl high) = inr (λ is. omega (arith, is.1))
 
 module _ {Mind : Type 0} (S : Setting Mind) (start end : ℕ) where
+  -- a world of process p alone: what is for another process is due at the end or later
+  pub record IsOwn (p : ℕ) (u : World Mind) : Type 0 where
+    pub world : IsWorld S u
+    pub far : (k : Key) (y : StepInput) → Has u.pending k y → (k.receiver ≡ p) ⊎ (end ≤ k.tick)
+    pub late : (k : Key) (y : StepInput) → Has u.pending k y → start ≤ k.tick
+
   pub record IsFamily (u : World Mind) (v : ℕ → World Mind) : Type 0 where
     pub whole : IsWorld S u
-    pub each : (q : ℕ) → IsWorld S (v q)
+    pub each : (q : ℕ) → IsOwn q (v q)
     pub process : (p : ℕ) → IsProcess S p → (v p).process p ≡ u.process p
     pub union : (k : Key) (y : StepInput) → Has u.pending k y → (q : ℕ) × Has (v q).pending k y
     pub parts : (q : ℕ) (k : Key) (y : StepInput) → Has (v q).pending k y → Has u.pending k y
-    pub far : (q : ℕ) (k : Key) (y : StepInput) → Has (v q).pending k y → (k.receiver ≡ q) ⊎ (end ≤ k.tick)
-    pub late : (k : Key) (y : StepInput) → Has u.pending k y → start ≤ k.tick
 
   -- an event below the end is with its receiver
   pub at_receiver : (u : World Mind) (v : ℕ → World Mind) → IsFamily u v → (k : Key) (y : StepInput) → Has u.pending k y → k.tick < end → Has (v k.receiver).pending k y
   at_receiver u v family k y h early = go (family.union k y h)
     where
       go : (q : ℕ) × Has (v q).pending k y → Has (v k.receiver).pending k y
-      go (q, hq) = by (family.far q k y hq)
+      go (q, hq) = by ((family.each q).far k y hq)
         where
           by : (k.receiver ≡ q) ⊎ (end ≤ k.tick) → Has (v k.receiver).pending k y
           by (inl e) = subst (λ r. Has (v r).pending k y) (sym e) hq
           by (inr l) = absurd (omega arith)
 
   module _ (sound : IsSound S) (reach : end ≤ start + S.lookahead) where
+    -- a world of a process alone stays one
+    pub own_taken : (p : ℕ) (u : World Mind) (k : Key) (x : StepInput) → IsOwn p u → Has u.pending k x → k.receiver ≡ p → IsOwn p (taken S u k x)
+    own_taken p u k x own there to_p = record { world = taken_world S u k x sound own.world there; far = λ z y h. (go z y (taken_cases S u k x z y h)).0; late = λ z y h. (go z y (taken_cases S u k x z y h)).1 }
+      where
+        new : (z : Key) (y : StepInput) → IsIn (z, y) (made S u k x).added → (z.receiver ≡ p) ⊎ (z.receiver ≡ p → ⊥) → (z.receiver ≡ p) ⊎ (end ≤ z.tick)
+        new z y i (inl e) = inl e
+        new z y i (inr n) = inr (omega (arith, (made_sent S u k x sound own.world there (z, y) i).far (λ f. n (f ∙ to_p)), own.late k x there))
+
+        go : (z : Key) (y : StepInput) → IsIn (z, y) (made S u k x).added ⊎ ((z ≢ k) × Has u.pending z y) → ((z.receiver ≡ p) ⊎ (end ≤ z.tick)) × (start ≤ z.tick)
+        go z y (inl i) = (new z y i (cases_eq z.receiver p), omega (arith, (made_sent S u k x sound own.world there (z, y) i).later, own.late k x there))
+        go z y (inr o) = (own.far z y o.1, own.late z y o.1)
+
     -- a step of one process in its own world is a step of it in the whole
     module _ (u : World Mind) (v : ℕ → World Mind) (family : IsFamily u v) (k : Key) (x : StepInput) (there_v : Has (v k.receiver).pending k x) (early : k.tick < end) where
       abbrev pub stepped : ℕ → World Mind
@@ -50,24 +83,29 @@ module _ {Mind : Type 0} (S : Setting Mind) (start end : ℕ) where
       there_u : Has u.pending k x
       there_u = family.parts k.receiver k x there_v
 
-      receiver : IsProcess S k.receiver
-      receiver = family.whole.received k x there_u
-
       same_made : made S (v k.receiver) k x ≡ made S u k x
-      same_made = ap (λ c. step S c k x) (family.process k.receiver receiver)
+      same_made = ap (λ c. step S c k x) (family.process k.receiver (family.whole.received k x there_u))
+
+      pub at_own : (z : Key) (y : StepInput) → Has (taken S (v k.receiver) k x).pending z y → Has (stepped k.receiver).pending z y
+      at_own z y h = subst (λ (w : World Mind). Has w.pending z y) (sym (change_at v k.receiver (taken S (v k.receiver) k x))) h
+
+      -- what isn't taken stays where it is
+      pub kept : (q : ℕ) (z : Key) (y : StepInput) → (q ≡ k.receiver → z ≢ k) → Has (v q).pending z y → Has (stepped q).pending z y
+      kept q z y = change_all v k.receiver _ (λ q w. (q ≡ k.receiver → z ≢ k) → Has (v q).pending z y → Has w.pending z y)
+          (λ n. taken_old S (v k.receiver) k x sound (family.each k.receiver).world there_v z y (n refl)) (λ q m n h. h) q
 
       not_there : (q : ℕ) → q ≢ k.receiver → (z : Key) (y : StepInput) → Has (v q).pending z y → z ≢ k
-      not_there q n z y h e = go (family.far q k y (subst (λ s. Has (v q).pending s y) e h))
+      not_there q n z y h e = go ((family.each q).far k y (subst (λ s. Has (v q).pending s y) e h))
         where
           go : (k.receiver ≡ q) ⊎ (end ≤ k.tick) → ⊥
           go (inl f) = n (sym f)
           go (inr l) = omega arith
 
       pub stepped_family : IsFamily (taken S u k x) stepped
-      stepped_family = record { whole = taken_world S u k x sound family.whole there_u; each = each; process = process; union = union; parts = parts; far = far; late = late }
+      stepped_family = record { whole = taken_world S u k x sound family.whole there_u; each = each; process = process; union = union; parts = parts }
         where
-          each : (q : ℕ) → IsWorld S (stepped q)
-          each = change_all v k.receiver _ (λ q z. IsWorld S z) (taken_world S (v k.receiver) k x sound (family.each k.receiver) there_v) (λ q n. family.each q)
+          each : (q : ℕ) → IsOwn q (stepped q)
+          each = change_all v k.receiver _ (λ q z. IsOwn q z) (own_taken k.receiver (v k.receiver) k x (family.each k.receiver) there_v refl) (λ q n. family.each q)
 
           process : (p : ℕ) → IsProcess S p → (stepped p).process p ≡ (taken S u k x).process p
           process = change_all v k.receiver _ (λ p z. IsProcess S p → z.process p ≡ (taken S u k x).process p)
@@ -83,38 +121,12 @@ module _ {Mind : Type 0} (S : Setting Mind) (start end : ℕ) where
               here z y (inl i) = taken_new S u k x sound family.whole there_u z y (subst (λ (m : Made S). IsIn (z, y) m.added) same_made i)
               here z y (inr h) = taken_old S u k x sound family.whole there_u z y h.0 (family.parts k.receiver z y h.1)
 
-          far : (q : ℕ) (z : Key) (y : StepInput) → Has (stepped q).pending z y → (z.receiver ≡ q) ⊎ (end ≤ z.tick)
-          far = change_all v k.receiver _ (λ q w. (z : Key) (y : StepInput) → Has w.pending z y → (z.receiver ≡ q) ⊎ (end ≤ z.tick))
-              (λ z y h. here z y (taken_cases S (v k.receiver) k x z y h)) (λ q n. family.far q)
-            where
-              new : (z : Key) (y : StepInput) → IsIn (z, y) (made S (v k.receiver) k x).added → (z.receiver ≡ k.receiver) ⊎ (z.receiver ≡ k.receiver → ⊥) → (z.receiver ≡ k.receiver) ⊎ (end ≤ z.tick)
-              new z y i (inl e) = inl e
-              new z y i (inr n) = inr (omega (arith, (made_sent S (v k.receiver) k x sound (family.each k.receiver) there_v (z, y) i).far n, family.late k x there_u))
-
-              here : (z : Key) (y : StepInput) → IsIn (z, y) (made S (v k.receiver) k x).added ⊎ ((z ≢ k) × Has (v k.receiver).pending z y) → (z.receiver ≡ k.receiver) ⊎ (end ≤ z.tick)
-              here z y (inl i) = new z y i (cases_eq z.receiver k.receiver)
-              here z y (inr h) = family.far k.receiver z y h.1
-
           union : (z : Key) (y : StepInput) → Has (taken S u k x).pending z y → (q : ℕ) × Has (stepped q).pending z y
           union z y h = go (taken_cases S u k x z y h)
             where
-              at : Has (taken S (v k.receiver) k x).pending z y → (q : ℕ) × Has (stepped q).pending z y
-              at h2 = (k.receiver, subst (λ (w : World Mind). Has w.pending z y) (sym (change_at v k.receiver (taken S (v k.receiver) k x))) h2)
-
-              old : z ≢ k → (q : ℕ) → Has (v q).pending z y → (q ≡ k.receiver) ⊎ (q ≡ k.receiver → ⊥) → (q : ℕ) × Has (stepped q).pending z y
-              old n q hq (inl e) = at (taken_old S (v k.receiver) k x sound (family.each k.receiver) there_v z y n (subst (λ r. Has (v r).pending z y) e hq))
-              old n q hq (inr m) = (q, subst (λ (w : World Mind). Has w.pending z y) (sym (change_other v k.receiver (taken S (v k.receiver) k x) q m)) hq)
-
               go : IsIn (z, y) (made S u k x).added ⊎ ((z ≢ k) × Has u.pending z y) → (q : ℕ) × Has (stepped q).pending z y
-              go (inl i) = at (taken_new S (v k.receiver) k x sound (family.each k.receiver) there_v z y (subst (λ (m : Made S). IsIn (z, y) m.added) (sym same_made) i))
-              go (inr h2) = let f = family.union z y h2.1 in old h2.0 f.0 f.1 (cases_eq f.0 k.receiver)
-
-          late : (z : Key) (y : StepInput) → Has (taken S u k x).pending z y → start ≤ z.tick
-          late z y h = go (taken_cases S u k x z y h)
-            where
-              go : IsIn (z, y) (made S u k x).added ⊎ ((z ≢ k) × Has u.pending z y) → start ≤ z.tick
-              go (inl i) = omega (arith, (made_sent S u k x sound family.whole there_u (z, y) i).later, family.late k x there_u)
-              go (inr h2) = family.late z y h2.1
+              go (inl i) = (k.receiver, at_own z y (taken_new S (v k.receiver) k x sound (family.each k.receiver).world there_v z y (subst (λ (m : Made S). IsIn (z, y) m.added) (sym same_made) i)))
+              go (inr h2) = let f = family.union z y h2.1 in (f.0, kept f.0 z y (λ _. h2.0) f.1)
 
       -- the least of the whole is the least of its receiver
       pub least_apart : IsLeast u.pending k x → IsLeast (v k.receiver).pending k x

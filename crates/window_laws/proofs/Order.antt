@@ -16,26 +16,12 @@ use Rattle.trace_laws.proofs.Runs.{run_exists, one_run, so_far_over}
 use Rattle.trace_laws.proofs.Pairs.{cause, in_pairs, pairs_in}
 use Rattle.trace_laws.proofs.Closed.{closed_of_run}
 use Rattle.window_laws.specs.Theorems.{IsMerge}
-use Rattle.window_laws.specs.Machine.{StageRecord, Held, Done, Act, Take, Turn, Post, Return, Close, end_of, gathered, closed, Moves, IsRun, StandsFor}
+use Rattle.window_laws.specs.Machine.{StageRecord, Done, Act, Take, Turn, Post, Return, Close, end_of, gathered, closed, Moves, IsRun, StandsFor}
 use Rattle.window_laws.specs.Theorems.{IsListRun, AreAlike}
-use Rattle.window_laws.proofs.Unions.{joined_kept, joined_has, entries_apart, has_entry, entry_has, done_at_first}
+use Rattle.window_laws.proofs.Unions.{in_map, map_in, joined_back, has_entry, entry_has, done_at_first}
 use Rattle.window_laws.proofs.Family.{IsFamily, runs_apart}
-use Rattle.window_laws.proofs.Reached.{IsView, Reached, take_reached, turn_reached, post_reached, return_reached}
-
--- ---- the entries of a history
-
-in_entries : (h : List Pair) (e : EntryRecord) → IsIn e (entries h) → (t : Pair) × IsIn t h × (e ≡ t.0)
-in_entries [] e i = absurd i
-in_entries (s ∷ h) e (inl is) = (s, inl refl, is)
-in_entries (s ∷ h) e (inr i) = let r = in_entries h e i in (r.0, inr r.1, r.2)
-
-entries_in : (h : List Pair) (t : Pair) → IsIn t h → IsIn t.0 (entries h)
-entries_in [] t i = absurd i
-entries_in (s ∷ h) t (inl e) = inl (ap (λ (z : Pair). z.0) e)
-entries_in (s ∷ h) t (inr i) = inr (entries_in h t i)
-
-clash : (a : ℕ) → Held a ≡ Done → ⊥
-clash a e = cc
+use Rattle.window_laws.proofs.Solo.{IsAlone}
+use Rattle.window_laws.proofs.Reached.{clash, IsSomewhere, Reached, take_reached, turn_reached, post_reached, return_reached}
 
 module _ {Mind : Type 0} (S : Setting Mind) (sound : IsSound S) (window : ℕ) (short : window ≤ S.lookahead)
     (w : World Mind) (is_world : IsWorld S w) (g : StageRecord Mind) (stands : StandsFor S window g w) where
@@ -53,60 +39,63 @@ module _ {Mind : Type 0} (S : Setting Mind) (sound : IsSound S) (window : ℕ) (
   first_family = record {
     whole = is_world;
     each = λ q. record {
-      minds = is_world.minds;
-      below = λ k y h. is_world.below k y ((stands.own q k y).0 h).0;
-      received = λ k y h. is_world.received k y ((stands.own q k y).0 h).0;
-      counted = λ k y h. is_world.counted k y ((stands.own q k y).0 h).0;
+      world = record {
+        minds = is_world.minds;
+        below = λ k y h. is_world.below k y ((stands.own q k y).0 h).0;
+        received = λ k y h. is_world.received k y ((stands.own q k y).0 h).0;
+        counted = λ k y h. is_world.counted k y ((stands.own q k y).0 h).0;
+      };
+      far = λ k y h. inl ((stands.own q k y).0 h).1;
+      late = λ k y h. stands.late k y ((stands.own q k y).0 h).0;
     };
     process = λ p is. refl;
     union = λ k y h. (k.receiver, (stands.own k.receiver k y).1 (h, refl));
     parts = λ q k y h. ((stands.own q k y).0 h).0;
-    far = λ q k y h. inl ((stands.own q k y).0 h).1;
-    late = stands.late;
   }
 
-  first_view : IsView S g.start end g alone
-  first_view = record {
-    process = stands.process;
-    own = λ p k y. ((λ h. (h, ((stands.own p k y).0 h).1)), (λ h. h.0));
-    tray = λ a k y h. absurd (stands.tray a k y h);
-    mailbox = λ r k y h. absurd (stands.mailbox r k y h);
-    letters = λ q k y h n. absurd (n ((stands.own q k y).0 h).1);
-    held = λ a k y h. absurd (stands.tray a k y h);
-    done = λ p is. done_at_first end (g.own p) (sym (stands.status p) ∙ is);
+  pub first_alone : (p : ℕ) → IsAlone S g.start end p (alone p) (g.process p) (g.own p)
+  first_alone p = record { is_own = first_family.each p; process = stands.process p; own_is = λ k y. ((λ h. (h, ((stands.own p k y).0 h).1)), (λ h. h.0)) }
+
+  pub first : Reached S g.start end alone w g
+  first = record {
+    v = alone;
+    history = λ p. [];
+    family = first_family;
+    view = record {
+      alone = first_alone;
+      tray = λ a k y h. absurd (stands.tray a k y h);
+      mailbox = λ r k y h. absurd (stands.mailbox r k y h);
+      letters = λ k y out. absurd (out.2 ((stands.own out.0 k y).0 out.1).1);
+      done = λ p is. done_at_first end (g.own p) (sym (stands.status p) ∙ is);
+    };
+    runs = λ p. refl;
+    parts = stands.part;
   }
-
-  pub first : Reached S g.start end alone g
-  first = record { v = alone; u = w; history = λ p. []; family = first_family; view = first_view; runs = λ p. refl; parts = stands.part }
-
-  pub first_whole : first.u ≡ w
-  unfolding first
-  first_whole = refl
 
   -- what a run finds is reached, and there it closes
-  follow : (acts : List Act) (h found left : StageRecord Mind) → Reached S g.start end alone h → IsRun S window end h acts found left
-      → (next : ℕ) × Reached S g.start end alone found × Moves S window end found (Close next) left
-  follow [] h found left r run = absurd run
-  follow (Close next ∷ acts) h found left r run =
-      (next, subst (Reached S g.start end alone) (sym run.1) r, subst (λ z. Moves S window end z (Close next) left) (sym run.1) run.2)
-  follow (Take a p ∷ acts) h found left r (mid, moves, run) =
-      follow acts mid found left (subst (Reached S g.start end alone) (sym moves.3) (take_reached S g.start end alone h r a p moves.0)) run
-  follow (Turn a ∷ acts) h found left r (mid, moves, run) =
-      follow acts mid found left (subst (Reached S g.start end alone) (sym moves.6) (turn_reached S g.start end sound reach alone h r a moves.0 moves.1 moves.2 moves.3 moves.4 moves.5)) run
-  follow (Post a k x ∷ acts) h found left r (mid, moves, run) =
-      follow acts mid found left (subst (Reached S g.start end alone) (sym moves.1) (post_reached S g.start end alone h r a k x moves.0)) run
-  follow (Return a p ∷ acts) h found left r (mid, moves, run) =
-      follow acts mid found left (subst (Reached S g.start end alone) (sym moves.3) (return_reached S g.start end alone h r a p moves.0 moves.1 moves.2)) run
+  follow : (acts : List Act) (u : World Mind) (h found left : StageRecord Mind) → Reached S g.start end alone u h → IsRun S window end h acts found left
+      → (next : ℕ) × (v : World Mind) × Reached S g.start end alone v found × Moves S window end found (Close next) left
+  follow [] u h found left r run = absurd run
+  follow (Close next ∷ acts) u h found left r run =
+      (next, u, subst (Reached S g.start end alone u) (sym run.1) r, subst (λ z. Moves S window end z (Close next) left) (sym run.1) run.2)
+  follow (Take a p ∷ acts) u h found left r (mid, moves, run) =
+      follow acts u mid found left (subst (Reached S g.start end alone u) (sym moves.3) (take_reached S g.start end alone u h r a p moves.0)) run
+  follow (Turn a ∷ acts) u h found left r (mid, moves, run) =
+      follow acts _ mid found left (subst (Reached S g.start end alone _) (sym moves.6) (turn_reached S g.start end sound reach alone u h r a moves.0 moves.1 moves.2 moves.3 moves.4 moves.5)) run
+  follow (Post a k x ∷ acts) u h found left r (mid, moves, run) =
+      follow acts u mid found left (subst (Reached S g.start end alone u) (sym moves.1) (post_reached S g.start end alone u h r a k x moves.0)) run
+  follow (Return a p ∷ acts) u h found left r (mid, moves, run) =
+      follow acts u mid found left (subst (Reached S g.start end alone u) (sym moves.3) (return_reached S g.start end alone u h r a p moves.0 moves.1 moves.2)) run
 
   -- the list's own run, and its parts
-  module _ (found : StageRecord Mind) (r : Reached S g.start end alone found) (all_done : (p : ℕ) → IsProcess S p → found.status p ≡ Done)
+  module _ (found : StageRecord Mind) (u : World Mind) (r : Reached S g.start end alone u found) (all_done : (p : ℕ) → IsProcess S p → found.status p ≡ Done)
       (history : List Pair) (after : World Mind) (run : Run S end w history after)
       (last : ℕ → World Mind) (last_family : IsFamily S g.start end after last) (runs : (p : ℕ) → Run S end (alone p) (pairs_of p history) (last p)) where
     none : (p : ℕ) → NoneBelow end (r.v p).pending
-    none p k y h = go (r.family.far p k y h)
+    none p k y h = go ((r.family.each p).far k y h)
       where
         go : (k.receiver ≡ p) ⊎ (end ≤ k.tick) → end ≤ k.tick
-        go (inl e) = r.view.done p (all_done p (subst (IsProcess S) e ((r.family.each p).received k y h))) k y ((r.view.own p k y).1 (h, e))
+        go (inl e) = r.view.done p (all_done p (subst (IsProcess S) e ((r.family.each p).world.received k y h))) k y (((r.view.alone p).own_is k y).1 (h, e))
         go (inr l) = l
 
     same : (p : ℕ) → (r.history p ≡ pairs_of p history) × (r.v p ≡ last p)
@@ -116,36 +105,33 @@ module _ {Mind : Type 0} (S : Setting Mind) (sound : IsSound S) (window : ℕ) (
     pending q k y h = last_family.parts q k y (subst (λ (z : World Mind). Has z.pending k y) (same q).1 h)
 
     no_tray : (a : ℕ) → IsEmpty (found.tray a)
-    no_tray a k y h = let held = r.view.held a k y h in clash a (sym held.2 ∙ all_done held.0 held.1)
+    no_tray a k y h = let held = (r.view.tray a k y h).1 in clash a (sym held.2 ∙ all_done held.0 held.1)
 
     -- what is pending is in its receiver's set or mailbox
     place : (k : Key) (y : StepInput) → Has after.pending k y → Has (found.own k.receiver) k y ⊎ Has (found.mailbox k.receiver) k y
-    place k y h = go (last_family.union k y h)
+    place k y h = at one.0 (subst (λ (z : World Mind). Has z.pending k y) (sym (same one.0).1) one.1) (cases_eq k.receiver one.0)
       where
-        go : (q : ℕ) × Has (last q).pending k y → Has (found.own k.receiver) k y ⊎ Has (found.mailbox k.receiver) k y
-        go (q, hq) = by (cases_eq k.receiver q)
-          where
-            hv : Has (r.v q).pending k y
-            hv = subst (λ (z : World Mind). Has z.pending k y) (sym (same q).1) hq
+        one : (q : ℕ) × Has (last q).pending k y
+        one = last_family.union k y h
 
-            posted_all : ((a : ℕ) × Has (found.tray a) k y) ⊎ Has (found.mailbox k.receiver) k y → Has (found.own k.receiver) k y ⊎ Has (found.mailbox k.receiver) k y
-            posted_all (inl (a, t)) = absurd (no_tray a k y t)
-            posted_all (inr m) = inr m
+        posted_all : IsSomewhere S g.start end found k y → Has (found.own k.receiver) k y ⊎ Has (found.mailbox k.receiver) k y
+        posted_all (inl (a, t)) = absurd (no_tray a k y t)
+        posted_all (inr m) = inr m
 
-            by : (k.receiver ≡ q) ⊎ (k.receiver ≡ q → ⊥) → Has (found.own k.receiver) k y ⊎ Has (found.mailbox k.receiver) k y
-            by (inl e) = inl (subst (λ p. Has (found.own p) k y) (sym e) ((r.view.own q k y).1 (hv, e)))
-            by (inr n) = posted_all (r.view.letters q k y hv n)
+        at : (q : ℕ) → Has (r.v q).pending k y → (k.receiver ≡ q) ⊎ (k.receiver ≡ q → ⊥) → Has (found.own k.receiver) k y ⊎ Has (found.mailbox k.receiver) k y
+        at q hv (inl e) = inl (subst (λ p. Has (found.own p) k y) (sym e) (((r.view.alone q).own_is k y).1 (hv, e)))
+        at q hv (inr n) = posted_all (r.view.letters k y (q, hv, n))
 
     pub from_own : (p : ℕ) (k : Key) (y : StepInput) → Has (found.own p) k y → Has after.pending k y × (k.receiver ≡ p)
-    from_own p k y h = let f = (r.view.own p k y).0 h in (pending p k y f.0, f.1)
+    from_own p k y h = let f = ((r.view.alone p).own_is k y).0 h in (pending p k y f.0, f.1)
 
     pub from_mailbox : (p : ℕ) (k : Key) (y : StepInput) → Has (found.mailbox p) k y → Has after.pending k y × (k.receiver ≡ p)
     from_mailbox p k y h = let f = r.view.mailbox p k y h in (pending f.1.0 k y f.1.1, f.0)
 
     left_stands : (left : StageRecord Mind) (next : ℕ) → Moves S window end found (Close next) left → StandsFor S window (closed S window next found) after
     left_stands left next moves = record {
-      process = λ p is. r.view.process p is ∙ ap (λ (z : World Mind). z.process p) (same p).1 ∙ last_family.process p is;
-      own = λ p k y. (there p k y, back p k y);
+      process = λ p is. (r.view.alone p).process is ∙ ap (λ (z : World Mind). z.process p) (same p).1 ∙ last_family.process p is;
+      own = λ p k y. ((λ h. there p k y (joined_cases (finmap.entries (found.mailbox p)) (found.own p) k y h)), λ i. subst (λ q. Has (gathered found q) k y) i.1 (back k y i.0));
       late = λ k y h. late k y (place k y h);
       part = λ p. refl;
       status = λ p. refl;
@@ -153,23 +139,20 @@ module _ {Mind : Type 0} (S : Setting Mind) (sound : IsSound S) (window : ℕ) (
       mailbox = λ q k y h. absurd (not_None y (sym (finmap.get-empty key_cmp k) ∙ h));
     }
       where
-        there : (p : ℕ) (k : Key) (y : StepInput) → Has (gathered found p) k y → Has after.pending k y × (k.receiver ≡ p)
-        there p k y h = go (joined_cases (finmap.entries (found.mailbox p)) (found.own p) k y h)
-          where
-            go : IsIn (k, y) (finmap.entries (found.mailbox p)) ⊎ Has (found.own p) k y → Has after.pending k y × (k.receiver ≡ p)
-            go (inl i) = from_mailbox p k y (entry_has (found.mailbox p) k y i)
-            go (inr o) = from_own p k y o
+        there : (p : ℕ) (k : Key) (y : StepInput) → IsIn (k, y) (finmap.entries (found.mailbox p)) ⊎ Has (found.own p) k y → Has after.pending k y × (k.receiver ≡ p)
+        there p k y (inl i) = from_mailbox p k y (entry_has (found.mailbox p) k y i)
+        there p k y (inr o) = from_own p k y o
 
-        back : (p : ℕ) (k : Key) (y : StepInput) → Has after.pending k y × (k.receiver ≡ p) → Has (gathered found p) k y
-        back p k y (h, e) = subst (λ q. Has (gathered found q) k y) e (go (place k y h))
+        back : (k : Key) (y : StepInput) → Has after.pending k y → Has (gathered found k.receiver) k y
+        back k y h = joined_back (finmap.entries (found.mailbox k.receiver)) (found.own k.receiver) k y agree (go (place k y h))
           where
             agree : (f : Event) → IsIn f (finmap.entries (found.mailbox k.receiver)) → f.0 ≡ k → f.1 ≡ y
             agree f i is = one_input after.pending k f.1 y
                 (subst (λ z. Has after.pending z f.1) is (from_mailbox k.receiver f.0 f.1 (entry_has (found.mailbox k.receiver) f.0 f.1 i)).0) h
 
-            go : Has (found.own k.receiver) k y ⊎ Has (found.mailbox k.receiver) k y → Has (gathered found k.receiver) k y
-            go (inl o) = joined_kept (finmap.entries (found.mailbox k.receiver)) (found.own k.receiver) k y agree o
-            go (inr m) = joined_has (finmap.entries (found.mailbox k.receiver)) (found.own k.receiver) (entries_apart (found.mailbox k.receiver)) k y (has_entry (found.mailbox k.receiver) k y m)
+            go : Has (found.own k.receiver) k y ⊎ Has (found.mailbox k.receiver) k y → IsIn (k, y) (finmap.entries (found.mailbox k.receiver)) ⊎ Has (found.own k.receiver) k y
+            go (inl o) = inr o
+            go (inr m) = inl (has_entry (found.mailbox k.receiver) k y m)
 
         late : (k : Key) (y : StepInput) → Has (found.own k.receiver) k y ⊎ Has (found.mailbox k.receiver) k y → next ≤ k.tick
         late k y (inl o) = (moves.3 k.receiver).0 k y o
@@ -193,19 +176,19 @@ module _ {Mind : Type 0} (S : Setting Mind) (sound : IsSound S) (window : ℕ) (
       where
         there : (e : EntryRecord) → IsIn e (entries history) → (p : ℕ) × (1 ≤ p) × (p ≤ S.processes) × IsIn e (found.part p)
         there e i =
-            let t = in_entries history e i in
+            let t = in_map (λ (s : Pair). s.0) history e i in
             let is = taken_by t.0 t.1 in (
               t.0.0.key.receiver,
               is.0,
               is.1,
               subst (IsIn e) (sym (parts t.0.0.key.receiver))
-                  (subst (λ z. IsIn z (entries (pairs_of t.0.0.key.receiver history))) (sym t.2) (entries_in _ t.0 (pairs_in t.0.0.key.receiver history t.0 t.1 refl))),
+                  (subst (λ z. IsIn z (entries (pairs_of t.0.0.key.receiver history))) (sym t.2) (map_in (λ (s : Pair). s.0) _ t.0 (pairs_in t.0.0.key.receiver history t.0 t.1 refl))),
             )
 
         back : (e : EntryRecord) → (p : ℕ) × (1 ≤ p) × (p ≤ S.processes) × IsIn e (found.part p) → IsIn e (entries history)
         back e (p, low, high, i) =
-            let t = in_entries (pairs_of p history) e (subst (IsIn e) (parts p) i) in
-            subst (λ z. IsIn z (entries history)) (sym t.2) (entries_in history t.0 (in_pairs p history t.0 t.1).0)
+            let t = in_map (λ (s : Pair). s.0) (pairs_of p history) e (subst (IsIn e) (parts p) i) in
+            subst (λ z. IsIn z (entries history)) (sym t.2) (map_in (λ (s : Pair). s.0) history t.0 (in_pairs p history t.0 t.1).0)
 
     pub is_list_run : (left : StageRecord Mind) (next : ℕ) → Moves S window end found (Close next) left → IsListRun S window g found left w after history
     is_list_run left next moves = record {
@@ -218,10 +201,10 @@ module _ {Mind : Type 0} (S : Setting Mind) (sound : IsSound S) (window : ℕ) (
 
   pub any_order : (acts : List Act) (found left : StageRecord Mind) → IsRun S window end g acts found left → (history : List Pair) × (after : World Mind) × IsListRun S window g found left w after history
   any_order acts found left run =
-      let f = follow acts g found left first run in
+      let f = follow acts w g found left first run in
       let l = run_exists S sound end w is_world in
       let apart = runs_apart S g.start end sound reach l.0 w l.1 alone first_family l.2 in
-      (l.0, l.1, is_list_run found f.1 f.2.0 l.0 l.1 l.2 apart.0 apart.1 apart.2 left f.0 f.2)
+      (l.0, l.1, is_list_run found f.1 f.2 f.3.0 l.0 l.1 l.2 apart.0 apart.1 apart.2 left f.0 f.3)
 
   pub close_alike : (acts acts2 : List Act) (found left found2 left2 : StageRecord Mind) → IsRun S window end g acts found left → IsRun S window end g acts2 found2 left2 → AreAlike S window found left found2 left2
   close_alike acts acts2 found left found2 left2 run run2 =

@@ -1,5 +1,5 @@
--- Sets that are joined, and the entries of a set.
-use Rattle.std.proofs.Common.{◌≡◌, ◌≢◌, ◌⊎◌, ℕ, ◌≤◌, inl, inr, refl, sym, ap, ◌∙◌, subst, Bool, true, false, cond, List, [], ◌∷◌, Some, T, ◌&&◌, Ordering, Less, Equal, Greater, is_eq, is_lt, true≢false, nat_lt, filter}
+-- Sets that are joined, the entries of a set, and lists that are filtered or mapped.
+use Rattle.std.proofs.Common.{◌≡◌, ◌≢◌, ◌⊎◌, ◌↔◌, ℕ, ◌≤◌, inl, inr, refl, sym, ap, ◌∙◌, subst, Bool, true, false, cond, List, [], ◌∷◌, Some, T, Ordering, Less, Equal, Greater, is_eq, is_lt, true≢false, nat_lt, filter, map}
 use Rattle.std.proofs.lemmas.Bool.{ltb-false, or_parts}
 use Rattle.std.proofs.lemmas.Cmp.{tied_itself}
 use Rattle.std.specs.List.{list_any}
@@ -14,8 +14,29 @@ use Rattle.process_api.proofs.KeyOrder.{keys_total, exact_keys, same_or_not, not
 use Rattle.trace_laws.specs.Step.{Event, Events}
 use Rattle.trace_laws.specs.World.{Has, NoneBelow, joined}
 use Rattle.trace_laws.specs.History.{IsIn}
+use Rattle.trace_laws.proofs.Runs.{first_part, second_part, tie}
 use Rattle.trace_laws.proofs.Sets.{not_None, same_Some, insert_at, insert_other, AreApart, apart}
 use Rattle.window_laws.specs.Machine.{Waiting, Held, Done, has_below, first_status}
+
+module _ {A B C D P Q : Type 0} where
+  pub iff_join : A ↔ (P ⊎ Q) → P ↔ (B ⊎ C) → (C → D) → (Q → D) → (D → C ⊎ Q) → A ↔ (B ⊎ D)
+  iff_join rest here f g h = ((λ a. there (rest.0 a)), (λ d. rest.1 (back d)))
+    where
+      first : B ⊎ C → B ⊎ D
+      first (inl b) = inl b
+      first (inr c) = inr (f c)
+
+      there : P ⊎ Q → B ⊎ D
+      there (inl p) = first (here.0 p)
+      there (inr q) = inr (g q)
+
+      split : C ⊎ Q → P ⊎ Q
+      split (inl c) = inl (here.1 (inr c))
+      split (inr q) = inr q
+
+      back : B ⊎ D → P ⊎ Q
+      back (inl b) = inl (here.1 (inl b))
+      back (inr d) = split (h d)
 
 pub in_filter : {X : Type 0} (t : X → Bool) (x : X) (xs : List X) → IsIn x (filter t xs) → IsIn x xs × (t x ≡ true)
 in_filter t x [] i = absurd i
@@ -36,49 +57,40 @@ filter_in t x (y ∷ ys) i e = go (filter_in t x ys) (t y) refl i
     go later false is (inl f) = absurd (true≢false (sym e ∙ ap t f ∙ is))
     go later false is (inr j) = later j e
 
-pub filter_apart : (t : Event → Bool) (es : List Event) → AreApart es → AreApart (filter t es)
-filter_apart t [] a = tt
-filter_apart t (e ∷ es) a = go (filter_apart t es a.1) (t e)
-  where
-    go : AreApart (filter t es) → (b : Bool) → AreApart (cond b (e ∷ filter t es) (filter t es))
-    go later true = ((λ f i. a.0 f (in_filter t f es i).0), later)
-    go later false = later
+pub in_map : {X Y : Type 0} (f : X → Y) (xs : List X) (y : Y) → IsIn y (map f xs) → (x : X) × IsIn x xs × (y ≡ f x)
+in_map f [] y i = absurd i
+in_map f (x ∷ xs) y (inl e) = (x, inl refl, e)
+in_map f (x ∷ xs) y (inr i) = let r = in_map f xs y i in (r.0, inr r.1, r.2)
 
--- an old event stays where those that join have the same input at its key
-pub joined_kept : (es : List Event) (m : Events) (q : Key) (y : StepInput) → ((e : Event) → IsIn e es → e.0 ≡ q → e.1 ≡ y) → Has m q y → Has (joined m es) q y
-joined_kept [] m q y same h = h
-joined_kept (e ∷ es) m q y same h = joined_kept es (finmap.insert m e.0 e.1) q y (λ f i. same f (inr i)) (here (same_or_not q e.0))
-  where
-    here : (q ≡ e.0) ⊎ (q ≢ e.0) → Has (finmap.insert m e.0 e.1) q y
-    here (inl s) = ap (finmap.get (finmap.insert m e.0 e.1)) s ∙ insert_at m e.0 e.1 ∙ ap Some (same e (inl refl) (sym s))
-    here (inr n) = insert_other m e.0 e.1 q n ∙ h
+pub map_in : {X Y : Type 0} (f : X → Y) (xs : List X) (x : X) → IsIn x xs → IsIn (f x) (map f xs)
+map_in f [] x i = absurd i
+map_in f (y ∷ xs) x (inl e) = inl (ap f e)
+map_in f (y ∷ xs) x (inr i) = inr (map_in f xs x i)
 
-pub joined_has : (es : List Event) (m : Events) → AreApart es → (q : Key) (y : StepInput) → IsIn (q, y) es → Has (joined m es) q y
-joined_has [] m a q y i = absurd i
-joined_has (e ∷ es) m a q y (inl s) =
-    joined_kept es (finmap.insert m e.0 e.1) q y (λ f i k. absurd (a.0 f i (k ∙ ap (λ (z : Event). z.0) s)))
-    (ap (finmap.get (finmap.insert m e.0 e.1)) (ap (λ (z : Event). z.0) s) ∙ insert_at m e.0 e.1 ∙ ap Some (sym (ap (λ (z : Event). z.1) s)))
-joined_has (e ∷ es) m a q y (inr i) = joined_has es (finmap.insert m e.0 e.1) a.1 q y i
+-- an event that joins is there, and an old one, where all that join with its key have its input
+pub joined_back : (es : List Event) (m : Events) (q : Key) (y : StepInput) → ((e : Event) → IsIn e es → e.0 ≡ q → e.1 ≡ y) → IsIn (q, y) es ⊎ Has m q y → Has (joined m es) q y
+joined_back [] m q y same (inl i) = absurd i
+joined_back [] m q y same (inr h) = h
+joined_back (e ∷ es) m q y same c = joined_back es (finmap.insert m e.0 e.1) q y (λ f i. same f (inr i)) (next c)
+  where
+    at : q ≡ e.0 → Has (finmap.insert m e.0 e.1) q y
+    at s = ap (finmap.get (finmap.insert m e.0 e.1)) s ∙ insert_at m e.0 e.1 ∙ ap Some (same e (inl refl) (sym s))
+
+    old : Has m q y → (q ≡ e.0) ⊎ (q ≢ e.0) → Has (finmap.insert m e.0 e.1) q y
+    old h (inl s) = at s
+    old h (inr n) = insert_other m e.0 e.1 q n ∙ h
+
+    next : IsIn (q, y) (e ∷ es) ⊎ Has m q y → IsIn (q, y) es ⊎ Has (finmap.insert m e.0 e.1) q y
+    next (inl (inl s)) = inr (at (ap (λ (z : Event). z.0) s))
+    next (inl (inr i)) = inl i
+    next (inr h) = inr (old h (same_or_not q e.0))
 
 -- ---- the entries of a set
-
-first_part : (a b : Bool) → T (a && b) → T a
-first_part true b h = tt
-first_part false b h = h
-
-second_part : (a b : Bool) → T (a && b) → T b
-second_part true b h = h
-second_part false b h = absurd h
 
 is_less : (r : Ordering) → T (is_lt r) → r ≡ Less
 is_less Less h = refl
 is_less Equal h = absurd h
 is_less Greater h = absurd h
-
-tie : (r : Ordering) → is_eq r ≡ true → r ≡ Equal
-tie Less h = absurd (true≢false (sym h))
-tie Equal h = refl
-tie Greater h = absurd (true≢false (sym h))
 
 above : (k : Key) (es : List Event) → T (below_all key_cmp k es) → (e : Event) → IsIn e es → key_cmp k e.0 ≡ Less
 above k [] t e i = absurd i

@@ -1,6 +1,7 @@
 -- Windows one after the other make the trace.
-use Rattle.std.proofs.Common.{◌≡◌, ℕ, ◌≤◌, inl, inr, refl, sym, ap, ◌∙◌, subst, List, [], ◌∷◌, ◌++◌, arith, true, true≢false, Ordering, Less, Equal, Greater}
+use Rattle.std.proofs.Common.{◌≡◌, ℕ, ◌≤◌, inl, inr, refl, sym, ◌∙◌, subst, List, [], ◌∷◌, ◌++◌, append_assoc, arith, true, true≢false, Ordering, Less, Equal, Greater}
 use Rattle.std.specs.Prelude.{IsTrue}
+use Rattle.std.proofs.lemmas.List.{map-append}
 use Rattle.std.specs.List.{list_all}
 use Rattle.process_api.specs.Order.{key_cmp, is_less, is_before, is_rising}
 use Rattle.process_api.specs.declared.key.Key.{Key}
@@ -64,31 +65,30 @@ pub one_merge : (n : ℕ) (part : ℕ → List EntryRecord) (xs ys : List EntryR
 one_merge n part xs ys a b = one_rising xs ys (are_rising xs a.rising) (are_rising ys b.rising) (λ e i. (b.same e).1 ((a.same e).0 i)) (λ e i. (a.same e).1 ((b.same e).0 i))
 
 module _ {Mind : Type 0} (S : Setting Mind) where
-  entries-append : (h g : List Pair) → entries (h ++ g) ≡ entries h ++ entries g
-  entries-append [] g = refl
-  entries-append (s ∷ h) g = ap (λ l. s.0 ∷ l) (entries-append h g)
-
-  -- a run up to a tick, and steps from there on
-  pub steps_then : (end far : ℕ) → end ≤ far → (h g : List Pair) (w u v : World Mind) → Run S end w h u → RunSoFar S far u g v → RunSoFar S far w (h ++ g) v
-  steps_then end far le [] g w u v a b = subst (λ z. RunSoFar S far z g v) a.1 b
-  steps_then end far le (s ∷ h) g w u v a b = (a.0, omega (arith, a.1), a.2, steps_then end far le h g (taken S w s.0.key s.1) u v a.3 b)
+  -- the steps up to a tick are steps up to a later one
+  steps_of : (end far : ℕ) → end ≤ far → (h : List Pair) (w u : World Mind) → Run S end w h u → RunSoFar S far w h u
+  steps_of end far le [] w u run = run.1
+  steps_of end far le (s ∷ h) w u run = (run.0, omega (arith, run.1), run.2, steps_of end far le h (taken S w s.0.key s.1) u run.3)
 
   -- a run up to a tick, and one from there on
   pub run_on : (end far : ℕ) → end ≤ far → (h g : List Pair) (w u v : World Mind) → Run S end w h u → Run S far u g v → Run S far w (h ++ g) v
-  run_on end far le [] g w u v a b = subst (λ z. Run S far z g v) a.1 b
-  run_on end far le (s ∷ h) g w u v a b = (a.0, omega (arith, a.1), a.2, run_on end far le h g (taken S w s.0.key s.1) u v a.3 b)
+  run_on end far le h g w u v a b = so_far_then S far h g w u v (steps_of end far le h w u a) b
 
   module _ (sound : IsSound S) (window : ℕ) (short : window ≤ S.lookahead) where
+    -- whatever run goes on from the last world
+    abbrev GoesOn : World Mind → List Pair → World Mind → Type 0
+    GoesOn w history last = (rest : List Pair) (v : World Mind) → Run S S.horizon last rest v → Run S S.horizon w (history ++ rest) v
+
     windows_run : (parts : List (List EntryRecord)) (w : World Mind) → IsWorld S w → (g h : StageRecord Mind) → StandsFor S window g w → Windows S window g parts h
-        → (history : List Pair) × (last : World Mind) × RunSoFar S S.horizon w history last × (end_to_end parts ≡ entries history) × IsWorld S last × StandsFor S window h last
-    windows_run [] w is_world g h stands run = ([], w, refl, refl, is_world, subst (λ z. StandsFor S window z w) (sym run) stands)
+        → (history : List Pair) × (last : World Mind) × GoesOn w history last × (end_to_end parts ≡ entries history) × IsWorld S last × StandsFor S window h last
+    windows_run [] w is_world g h stands run = ([], w, (λ rest v r. r), refl, is_world, subst (λ z. StandsFor S window z w) (sym run) stands)
     windows_run (merged ∷ more) w is_world g h stands (acts, found, left, run, is_merge, rest) =
         let r = any_order S sound window short w is_world g stands acts found left run in
         let t = windows_run more r.1 r.2.world left h r.2.stands rest in (
           r.0 ++ t.0,
           t.1,
-          steps_then (end_of S window g.start) S.horizon (omega arith) r.0 t.0 w r.1 t.1 r.2.run t.2,
-          (λ i. one_merge S.processes found.part merged (entries r.0) is_merge r.2.merged i ++ t.3 i) ∙ sym (entries-append r.0 t.0),
+          (λ l v next. subst (λ z. Run S S.horizon w z v) (sym (append_assoc r.0 t.0 l)) (run_on (end_of S window g.start) S.horizon (omega arith) r.0 (t.0 ++ l) w r.1 v r.2.run (t.2 l v next))),
+          (λ i. one_merge S.processes found.part merged (entries r.0) is_merge r.2.merged i ++ t.3 i) ∙ sym (map-append (λ (s : Pair). s.0) r.0 t.0),
           t.4,
           t.5,
         )
@@ -103,8 +103,8 @@ module _ {Mind : Type 0} (S : Setting Mind) where
           r.5,
           (
             entries more.0,
-            (r.0 ++ more.0, more.1, so_far_then S S.horizon r.0 more.0 (opening S) r.1 more.1 r.2 more.2, (λ i. r.3 i ++ entries more.0) ∙ sym (entries-append r.0 more.0)),
-            λ at. over r.1 r.4 r.5 more.0 more.1 more.2 at,
+            (r.0 ++ more.0, more.1, r.2 more.0 more.1 more.2, (λ i. r.3 i ++ entries more.0) ∙ sym (map-append (λ (s : Pair). s.0) r.0 more.0)),
+            over r.1 r.4 r.5 more.0 more.1 more.2,
           ),
         )
       where

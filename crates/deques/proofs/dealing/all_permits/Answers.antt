@@ -1,13 +1,15 @@
 use Rattle.std.proofs.Common.{◌≡◌, [], ◌∷◌, ◌++◌, map, sym, ap, ◌∙◌, subst, add-one, rules}
 use Rattle.std.specs.Global.{Vec}
 use Rattle.std.specs.List.{All}
+use Rattle.std.proofs.lemmas.List.{map-id}
 use Rattle.std.proofs.lemmas.List.Elements.{All-same, All-push}
-use Rattle.deques.specs.Deques.{MayTell, one_out, blank}
-use Rattle.deques.proofs.Deals.{many_may, many_more, none_more, many_blank}
+use Rattle.std.proofs.lemmas.Simd.{map-map}
+use Rattle.deques.specs.Deques.{MayTell, many_out, one_out, blank}
+use Rattle.deques.proofs.Deals.{many_may, many_blank}
 use Rattle.deques.proofs.dealing.all_permits.Goals as goal
 
 pub loop-init : goal.loop-init
-loop-init g c = (none_more c.args.owners.now.items, search rules, search rules, search rules)
+loop-init g c = (sym (map-id c.args.owners.now.items), search rules, search rules, search rules)
 
 pub permits_of-requires : goal.permits_of-requires
 permits_of-requires g c = subst (All MayTell) (sym c.loop.invariant.0) (many_may c.loop.counter c.args.owners.now.items c.requires)
@@ -17,7 +19,7 @@ loop-preserved g c =
     let hs = c.args.owners.now.items in
     let Blank : Vec _ → Type 0 = λ v. v.items ≡ map blank hs in
     rw add-one (
-      c.in_ok-permits_of.ensures.owners ∙ ap (map one_out) c.loop.invariant.0 ∙ many_more c.loop.counter hs,
+      c.in_ok-permits_of.ensures.owners ∙ ap (map one_out) c.loop.invariant.0 ∙ map-map one_out (many_out c.loop.counter) hs,
       All-same Blank c.push_reserved.new.self.items (c.loop.lists.items ++ c.in_ok-permits_of.field-0 ∷ []) c.push_reserved.ensures.items
           (All-push Blank c.loop.lists.items c.in_ok-permits_of.field-0 c.loop.invariant.1 (c.in_ok-permits_of.ensures.permits ∙ ap (map blank) c.loop.invariant.0 ∙ many_blank c.loop.counter hs)),
       search rules,

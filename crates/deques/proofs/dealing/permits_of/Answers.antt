@@ -1,6 +1,6 @@
-use Rattle.std.proofs.Common.{◌≡◌, ◌<◌, length, map, ap, ◌∙◌, rules}
+use Rattle.std.proofs.Common.{◌≡◌, ◌<◌, length, map, ap, ◌∙◌, arith, rules}
 use Rattle.deques.specs.Deques.{blank}
-use Rattle.ledger.proofs.Lists.{take_all}
+use Rattle.std.proofs.lemmas.List.{take_all}
 use Rattle.deques.proofs.Deals.{may_give, one_gave, one_given}
 use Rattle.deques.proofs.dealing.permits_of.Goals as goal
 
@@ -26,4 +26,4 @@ pub returns-clause-permits : goal.returns-clause-permits
 returns-clause-permits g c =
     let hs = c.args.owners.now.items in
     let end : c.loop-at.at ≡ length hs = search rules in
-    c.loop-at.invariant.1 ∙ ap (map blank) (take_all c.loop-at.at hs end)
+    c.loop-at.invariant.1 ∙ ap (map blank) (take_all c.loop-at.at hs (omega (arith, end)))

@@ -1,11 +1,10 @@
 use Rattle.std.proofs.Common.{◌≡◌, ℕ, ◌<◌, ◌∷◌, [], ◌++◌, List, refl, map, length, set, get_or, sym, ap, ◌∙◌, subst, arith}
-use Rattle.std.proofs.lemmas.List.{length-map, map-append}
 use Rattle.std.specs.List.{All}
 use Rattle.std.proofs.lemmas.List.Elements.{All-get_or}
 use Rattle.std.proofs.lemmas.Iterator.Adapters.{YieldsList-from_vec}
 use Rattle.std.proofs.lemmas.Iterator.Consumers.{YieldsList-turn}
 use Rattle.ledger.specs.Places.{each_with}
-use Rattle.ledger.proofs.Lists.{with-nil, with-at, with-more, with-length, parts_agree, below_parts, length_more}
+use Rattle.ledger.proofs.Lists.{with-nil, with-length, parts_agree, below_parts, length_more, turn_at, turn_more}
 use Rattle.deques.specs.Deques.{OwnerView, PermitView, one_back}
 use Rattle.deques.proofs.Deals.{stolen_by, deque_of, from_deque}
 use Rattle.deques.proofs.dealing.take_all_back.Goals as goal
@@ -13,22 +12,10 @@ use Rattle.deques.proofs.dealing.take_all_back.Goals as goal
 pub loop-permit-init : goal.loop-permit-init
 loop-permit-init g c = (tt, tt, refl, sym (with-nil one_back _))
 
-below : (k at n m : ℕ) → k < n → at ≡ k → m ≡ n → at < m
-below k at n m lt e s = omega arith
-
-owners_many : {T : Type 0} (hs owners : List (OwnerView T)) (rows : List (List T)) → owners ≡ each_with one_back hs rows → length owners ≡ length hs
-owners_many hs owners rows so_far = ap length so_far ∙ with-length one_back hs rows
-
 -- which of the owners is at hand
 module _ {T : Type 0} (hs owners : List (OwnerView T)) (ys : List (PermitView T)) (at : ℕ) (d : OwnerView T) (value : d ≡ get_or owners at d) (so_far : owners ≡ each_with one_back hs (map stolen_by ys)) (many : at ≡ length ys) where
-  rows_many : at ≡ length (map stolen_by ys)
-  rows_many = many ∙ sym (length-map ys stolen_by)
-
-  here : d ≡ get_or hs (length (map stolen_by ys)) d
-  here = value ∙ (λ j. get_or (so_far j) (rows_many j) d) ∙ with-at one_back hs (map stolen_by ys) d
-
   here_too : d ≡ get_or hs (length ys) d
-  here_too = here ∙ ap (λ k. get_or hs k d) (length-map ys stolen_by)
+  here_too = turn_at one_back stolen_by hs owners ys at d value so_far many
 
   at_hand : length ys < length hs → All (λ (o : OwnerView T). 0 < o.out) hs → 0 < d.out
   at_hand lt all = subst (λ (o : OwnerView T). 0 < o.out) (sym here_too) (All-get_or (λ (o : OwnerView T). 0 < o.out) hs (length ys) d lt all)
@@ -42,11 +29,7 @@ module _ {T : Type 0} (hs owners : List (OwnerView T)) (ys : List (PermitView T)
     of_deque = ap from_deque turn.1 ∙ parts_agree from_deque deque_of ts hs (length ys) t d turn.0 same ∙ sym (ap deque_of here_too)
 
     one_more : (new : OwnerView T) → new ≡ one_back d t.taken → set owners at new ≡ each_with one_back hs (map stolen_by (ys ++ t ∷ []))
-    one_more new back =
-        (λ j. set (so_far j) (rows_many j) (back j))
-        ∙ (λ j. set (each_with one_back hs (map stolen_by ys)) (length (map stolen_by ys)) (one_back (here j) t.taken))
-        ∙ with-more one_back hs (map stolen_by ys) t.taken d (subst (λ k. k < length hs) (sym (length-map ys stolen_by)) in_reach)
-        ∙ (λ j. each_with one_back hs (sym (map-append stolen_by ys (t ∷ [])) j))
+    one_more new back = turn_more one_back stolen_by hs owners ys at d value so_far many t new in_reach back
 
 pub index_mut-requires : goal.index_mut-requires
 index_mut-requires g c =
@@ -56,8 +39,8 @@ index_mut-requires g c =
     let hs = c.args.owners.now.items in
     let turn : (length ys < length ts) × (c.in-Some.permit ≡ get_or ts (length ys) c.in-Some.permit) =
     YieldsList-turn (YieldsList-from_vec ts b.0 (b.1 ∙ c.args.permits.ok.0)) ys c.loop-permit.permit-iterator c.loop-permit.yielded_by c.next.result c.next.new.self c.in-Some.permit c.in-Some.is c.next.ensures.steps in
-    below (length ys) c.loop-permit.at (length hs) _ (below_parts from_deque deque_of ts hs (length ys) c.requires.deques turn.0) c.loop-permit.invariant.2
-    (c.loop-permit.owners.ok.0 ∙ owners_many hs c.loop-permit.owners.items (map stolen_by ys) c.loop-permit.invariant.3)
+    let lt : length ys < length hs = below_parts from_deque deque_of ts hs (length ys) c.requires.deques turn.0 in
+    omega (arith, lt, c.loop-permit.invariant.2, c.loop-permit.owners.ok.0, ap length c.loop-permit.invariant.3, with-length one_back hs (map stolen_by ys))
 
 pub take_back-requires-clause-deque : goal.take_back-requires-clause-deque
 take_back-requires-clause-deque g c =

@@ -4,7 +4,7 @@ use Rattle.std.proofs.lemmas.Iterator.Adapters.{YieldsList-from_vec}
 use Rattle.std.proofs.lemmas.Iterator.Consumers.{YieldsList-turn, YieldsList-end}
 use Rattle.mailboxes.specs.Mailboxes.{MailboxesView, SlipView}
 use Rattle.mailboxes.proofs.Homes.{fold_back-more, fits-more, turn_mailboxes, turn_out, end_out, end_length, end_posted}
-use Rattle.ledger.proofs.Lists.{map_same}
+use Rattle.std.proofs.lemmas.List.{map-id}
 use Rattle.mailboxes.proofs.mailboxes.Mailboxes.take_back.Goals as goal
 
 pub take_back-requires-clause-homes : goal.take_back-requires-clause-homes
@@ -47,7 +47,7 @@ returns-clause-out c =
     let ss = c.args.slips.items in
     let ys = c.loop-slip.yielded in
     let end = YieldsList-end (YieldsList-from_vec ss b.0 (b.1 ∙ c.args.slips.ok.0)) ys c.loop-slip.slip-iterator c.loop-slip.yielded_by c.next.result c.next.new.self c.in-None.is c.next.ensures.steps in
-    let all : ys ≡ ss = sym (map_same ys) ∙ end.0 in
+    let all : ys ≡ ss = sym (map-id ys) ∙ end.0 in
     end_out c.self.inside.slips c.self.inside.homes.items ys c.loop-slip.homes.items c.self.invariant.1 c.loop-slip.invariant.3 c.loop-slip.invariant.2
     (ap length all ∙ sym c.args.slips.ok.0 ∙ c.requires.all ∙ ap (λ (m : MailboxesView). m.slips) (sym c.self.view_is))
 
@@ -57,6 +57,6 @@ returns-clause-letters c =
     let ss = c.args.slips.items in
     let ys = c.loop-slip.yielded in
     let end = YieldsList-end (YieldsList-from_vec ss b.0 (b.1 ∙ c.args.slips.ok.0)) ys c.loop-slip.slip-iterator c.loop-slip.yielded_by c.next.result c.next.new.self c.in-None.is c.next.ensures.steps in
-    let all : ys ≡ ss = sym (map_same ys) ∙ end.0 in
+    let all : ys ≡ ss = sym (map-id ys) ∙ end.0 in
     λ r. end_posted c.self.inside.slips c.self.inside.homes.items ys c.loop-slip.homes.items c.self.invariant.1 c.loop-slip.invariant.3 c.loop-slip.invariant.2 (r - 1)
     ∙ ap (flat_map (λ (s : SlipView). get_or s.posted (r - 1) [])) all

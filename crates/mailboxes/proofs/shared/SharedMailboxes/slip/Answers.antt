@@ -1,7 +1,8 @@
-use Rattle.std.proofs.Common.{◌≡◌, ◌<◌, List, length, [], ◌∷◌, ◌++◌, map, set, get_or, sym, ap, ◌∙◌, add-one, rules}
+use Rattle.std.proofs.Common.{◌≡◌, ◌<◌, List, length, [], ◌∷◌, ◌++◌, map, set, get_or, sym, ap, ◌∙◌, add-one, arith, rules}
+use Rattle.std.proofs.lemmas.List.{map-id, take_all}
 use Rattle.mailboxes.specs.Mailbox.{MailboxId, one_out}
 use Rattle.mailboxes.specs.Mailboxes.{unused}
-use Rattle.ledger.proofs.Lists.{mixed_at, mixed_more, map_take_more, take_all, parts_agree, map_same}
+use Rattle.ledger.proofs.Lists.{mixed_at, mixed_more, map_take_more, parts_agree}
 use Rattle.mailboxes.proofs.Homes.{blank, blank-slip, slip_with, mailbox_of}
 use Rattle.mailboxes.proofs.shared.SharedMailboxes.slip.Goals as goal
 
@@ -14,7 +15,7 @@ ticket-ticket-requires c =
     let e : MailboxId = c.index.result.now in
     let old : d ≡ get_or hs i d = c.index_mut.ensures.value ∙ ap (λ l. get_or l i d) c.loop-at.invariant.0 ∙ mixed_at one_out hs i d in
     let lt : i < length hs = search rules in
-    ap mailbox_of old ∙ parts_agree mailbox_of (λ q. q) hs boxes i d e lt (sym c.requires ∙ sym c.self.view_is ∙ sym (map_same boxes)) ∙ sym c.index.ensures
+    ap mailbox_of old ∙ parts_agree mailbox_of (λ q. q) hs boxes i d e lt (sym c.requires ∙ sym c.self.view_is ∙ sym (map-id boxes)) ∙ sym c.index.ensures
 
 pub loop-at-preserved : goal.loop-at-preserved
 loop-at-preserved c =
@@ -36,4 +37,4 @@ pub returns-clause-slip : goal.returns-clause-slip
 returns-clause-slip c =
     let hs = c.args.homes.now.items in
     let end : c.loop-at.at ≡ length hs = search rules in
-    ap slip_with (c.loop-at.invariant.1 ∙ ap (map blank) (take_all c.loop-at.at hs end)) ∙ blank-slip hs ∙ ap unused (sym c.requires)
+    ap slip_with (c.loop-at.invariant.1 ∙ ap (map blank) (take_all c.loop-at.at hs (omega (arith, end)))) ∙ blank-slip hs ∙ ap unused (sym c.requires)
