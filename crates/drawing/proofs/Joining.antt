@@ -1,5 +1,5 @@
 -- Lists of shapes that grow piece by piece.
-use Rattle.std.proofs.Common.{◌≡◌, ◌∙◌, ℕ, suc, add-one, ◌+◌, ◌-◌, ◌*◌, ◌≤◌, List, [], ◌∷◌, ◌++◌, ap, arith, append-nil, map, flat_map}
+use Rattle.std.proofs.Common.{◌≡◌, ℕ, suc, add-one, ◌+◌, ◌-◌, ◌*◌, ◌≤◌, List, ◌++◌, arith, append-nil, map, flat_map}
 use Rattle.std.specs.List.{range_with_len}
 use Rattle.std.proofs.lemmas.Grind.{flat_map-append}
 use Rattle.process_api.specs.Numbers.{numbers_to}

@@ -1,5 +1,5 @@
 -- The outcomes of all processes, one after the other.
-use Rattle.std.proofs.Common.{◌≡◌, ◌≤◌, ◌<◌, ◌∙◌, ◌-◌, ◌+◌, ℕ, suc, List, sym, ap, arith, subst, flat_map, get_or, length}
+use Rattle.std.proofs.Common.{◌≡◌, ◌<◌, ◌∙◌, ◌+◌, ℕ, suc, List, sym, ap, arith, flat_map, get_or, length}
 use Rattle.std.proofs.lemmas.List.Folds.{flat_map-map}
 use Rattle.judges.specs.Outcomes.{outcome, outcomes}
 use Rattle.judges.specs.declared.outcomes.Outcome.{Outcome}

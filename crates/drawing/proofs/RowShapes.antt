@@ -1,5 +1,5 @@
 -- The rows of a process, one after the other.
-use Rattle.std.proofs.Common.{◌≡◌, ◌≢◌, ◌∙◌, ℕ, ◌+◌, ◌-◌, Bool, true, false, ◌||◌, cond, not, ap, sym, subst, arith, List, [], ◌∷◌, ◌++◌, filter, flat_map, length, length-append, append-nil, append_assoc}
+use Rattle.std.proofs.Common.{◌≡◌, ◌≢◌, ◌∙◌, ℕ, ◌+◌, ◌-◌, Bool, true, false, ◌||◌, cond, not, ap, sym, subst, arith, List, [], ◌∷◌, ◌++◌, filter, length, length-append, append-nil, append_assoc}
 use Rattle.std.proofs.lemmas.Grind.{flat_map-append}
 use Rattle.std.proofs.lemmas.List.Elements.{filter-append}
 use Rattle.process_api.specs.Numbers.{others}

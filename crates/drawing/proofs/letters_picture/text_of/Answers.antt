@@ -13,8 +13,23 @@ returns c =
       bars = turn_bars c.args.run.now;
       are_bars = λ q p. stretches_are_bars _ _ _;
       text_is =
-          rw (e, c.in_ok-push_all_marks.ensures, c.in_ok-push_arrows.ensures, c.in_ok-push_lines.ensures, c.in_ok-push_axis.ensures, c.in_ok-append.ensures.items,
-          c.in_ok-push_outage_legend.ensures, c.in_ok-push_left_out.ensures, c.in_ok-push_letters_legend.ensures, c.new-shapes.ensures.items, c.deref.ensures.value,
-          c.in_ok-bands.ensures, c.count_others-others.ensures, c.lanes_bottom-bottom.ensures.value, c.processes.ensures.value, c.share.ensures.value) (simp append_assoc);
+          rw (
+            e,
+            c.in_ok-push_all_marks.ensures,
+            c.in_ok-push_arrows.ensures,
+            c.in_ok-push_lines.ensures,
+            c.in_ok-push_axis.ensures,
+            c.in_ok-append.ensures.items,
+            c.in_ok-push_outage_legend.ensures,
+            c.in_ok-push_left_out.ensures,
+            c.in_ok-push_letters_legend.ensures,
+            c.new-shapes.ensures.items,
+            c.deref.ensures.value,
+            c.in_ok-bands.ensures,
+            c.count_others-others.ensures,
+            c.lanes_bottom-bottom.ensures.value,
+            c.processes.ensures.value,
+            c.share.ensures.value,
+          ) (simp append_assoc);
     })
     (λ error h. h)

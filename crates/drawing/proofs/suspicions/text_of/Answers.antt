@@ -15,7 +15,21 @@ returns c =
       bars = bars_in c.args.run.now;
       are_bars = λ layer q p. stretches_are_bars _ _ _;
       text_is =
-          rw (e, c.in_ok-append-2.ensures.items, c.in_ok-push_axis.ensures, c.in_ok-append.ensures.items, c.in_ok-push_left_out.ensures, c.in_ok-push_outage_legend.ensures,
-          c.in_ok-push_legend.ensures, c.new-shapes.ensures.items, c.deref.ensures.value, all.bands, all.left_out, all.top, all.shapes, c.share.ensures.value) (simp append_assoc);
+          rw (
+            e,
+            c.in_ok-append-2.ensures.items,
+            c.in_ok-push_axis.ensures,
+            c.in_ok-append.ensures.items,
+            c.in_ok-push_left_out.ensures,
+            c.in_ok-push_outage_legend.ensures,
+            c.in_ok-push_legend.ensures,
+            c.new-shapes.ensures.items,
+            c.deref.ensures.value,
+            all.bands,
+            all.left_out,
+            all.top,
+            all.shapes,
+            c.share.ensures.value,
+          ) (simp append_assoc);
     })
     (λ error h. h)

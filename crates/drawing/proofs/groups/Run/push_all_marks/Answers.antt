@@ -1,4 +1,4 @@
-use Rattle.std.proofs.Common.{◌∙◌, ◌++◌, arith, ap}
+use Rattle.std.proofs.Common.{◌++◌, arith, ap}
 use Rattle.std.proofs.lemmas.List.{take_all}
 use Rattle.drawing.specs.LettersDrawn.{marks_in}
 use Rattle.drawing.proofs.LineShapes.{all_told, told_at}

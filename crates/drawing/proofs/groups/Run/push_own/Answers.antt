@@ -6,5 +6,17 @@ use Rattle.drawing.proofs.groups.Run.push_own.Goals as goal
 pub returns : goal.returns
 unfolding own_of own_at
 returns c =
-    rw (c.in_ok-push_crash.ensures, c.in_ok-push_decision.ensures, c.in_ok-push-2.ensures.items, c.in_ok-push.ensures.items, c.in_ok-own_name.ensures, c.life_line.ensures,
-    c.row_end-end.ensures, c.shown-decision.ensures, c.decided.ensures, c.shown-crash.ensures, c.crash.ensures.value, c.requires.told) (simp append_assoc)
+    rw (
+      c.in_ok-push_crash.ensures,
+      c.in_ok-push_decision.ensures,
+      c.in_ok-push-2.ensures.items,
+      c.in_ok-push.ensures.items,
+      c.in_ok-own_name.ensures,
+      c.life_line.ensures,
+      c.row_end-end.ensures,
+      c.shown-decision.ensures,
+      c.decided.ensures,
+      c.shown-crash.ensures,
+      c.crash.ensures.value,
+      c.requires.told,
+    ) (simp append_assoc)

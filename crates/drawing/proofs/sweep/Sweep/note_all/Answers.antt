@@ -1,4 +1,4 @@
-use Rattle.std.proofs.Common.{◌∙◌, ◌+◌, arith, take}
+use Rattle.std.proofs.Common.{arith}
 use Rattle.std.proofs.lemmas.List.Sums.{fold-append}
 use Rattle.judges.proofs.Turns.{noted_more}
 use Rattle.drawing.proofs.sweep.Sweep.note_all.Goals as goal
