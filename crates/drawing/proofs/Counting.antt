@@ -1,6 +1,6 @@
 -- How many pairs have a row, and where rows end, process by process.
-use Rattle.std.proofs.Common.{◌≡◌, ◌∙◌, ℕ, zero, suc, add-one, Bool, true, false, cond, not, eqb, refl, ◌+◌, ◌*◌, ◌≤◌, List, [], ◌∷◌, ◌++◌, ap, sym, arith, filter, flat_map, length, length-append, append-nil, append_assoc, sum_by}
-use Rattle.std.proofs.lemmas.Grind.{flat_map-append}
+use Rattle.std.proofs.Common.{◌≡◌, ◌≢◌, ◌∙◌, ℕ, zero, suc, add-one, Bool, true, false, cond, not, eqb, refl, ◌+◌, ◌*◌, ◌≤◌, List, [], ◌∷◌, ◌++◌, ap, arith, filter, length, length-append, append-nil, sum_by}
+use Rattle.std.proofs.lemmas.Bool.{eq-eqb, ne_eqb}
 use Rattle.std.proofs.lemmas.List.Elements.{filter-append}
 use Rattle.std.proofs.lemmas.List.Sums.{count_by-le-length, length-filter, sum_by_push}
 use Rattle.process_api.specs.Numbers.{numbers_to, others}
@@ -18,64 +18,23 @@ pub few : (test : ℕ → Bool) (n q : ℕ) → length (filter test (others n q)
 few test n q =
     omega (arith, kept_few test (others n q), kept_few (λ p. not (eqb p q)) (numbers_to n), length-numbers_to n)
 
--- one process more, where it isn't q itself
-pub kept_more : (test : ℕ → Bool) (n q : ℕ) → filter test (others (n + 1) q)
-    ≡ filter test (others n q) ++ cond (not (eqb (suc n) q)) (cond (test (suc n)) (suc n ∷ []) []) []
-kept_more test n q =
-    ap (λ k. filter test (others k q)) (add-one n)
-    ∙ ap (filter test) (filter-append (λ p. not (eqb p q)) (numbers_to n) (suc n ∷ []))
-    ∙ filter-append test (others n q) (filter (λ p. not (eqb p q)) (suc n ∷ []))
-    ∙ ap (λ t. filter test (others n q) ++ t) (last (not (eqb (suc n) q)))
-  where
-    last : (b : Bool) → filter test (cond b (suc n ∷ []) []) ≡ cond b (cond (test (suc n)) (suc n ∷ []) []) []
-    last true = refl
-    last false = refl
+pub numbers_next : (n : ℕ) → numbers_to (n + 1) ≡ numbers_to n ++ (n + 1) ∷ []
+numbers_next n = rw (add-one n) refl
 
-module _ (test : ℕ → Bool) (n q : ℕ) where
-  pub kept_itself : not (eqb (suc n) q) ≡ false → filter test (others (n + 1) q) ≡ filter test (others n q)
-  kept_itself e =
-      kept_more test n q
-      ∙ ap (λ b. filter test (others n q) ++ cond b (cond (test (suc n)) (suc n ∷ []) []) []) e
-      ∙ append-nil (filter test (others n q))
+-- the processes but q, one more: where it isn't q itself
+others_next : (n q : ℕ) (b : Bool) → eqb (n + 1) q ≡ b → others (n + 1) q ≡ others n q ++ cond (not b) ((n + 1) ∷ []) []
+others_next n q b e =
+    ap (λ xs. filter (λ p. not (eqb p q)) xs) (numbers_next n) ∙ filter-append (λ p. not (eqb p q)) (numbers_to n) ((n + 1) ∷ [])
+    ∙ ap (λ b. others n q ++ cond (not b) ((n + 1) ∷ []) []) e
 
-  module _ (other : not (eqb (suc n) q) ≡ true) where
-    kept : (b : Bool) → test (suc n) ≡ b → filter test (others (n + 1) q) ≡ filter test (others n q) ++ cond b (suc n ∷ []) []
-    kept b e =
-        kept_more test n q
-        ∙ ap (λ c. filter test (others n q) ++ cond c (cond (test (suc n)) (suc n ∷ []) []) []) other
-        ∙ ap (λ c. filter test (others n q) ++ cond c (suc n ∷ []) []) e
+pub others_itself : (n q : ℕ) → n + 1 ≡ q → others (n + 1) q ≡ others n q
+others_itself n q e = others_next n q true (eq-eqb (n + 1) q e) ∙ append-nil (others n q)
 
-    pub kept_yes : test (suc n) ≡ true → filter test (others (n + 1) q) ≡ filter test (others n q) ++ suc n ∷ []
-    kept_yes e = kept true e
+pub others_other : (n q : ℕ) → n + 1 ≢ q → others (n + 1) q ≡ others n q ++ (n + 1) ∷ []
+others_other n q e = others_next n q false (ne_eqb (n + 1) q e)
 
-    pub kept_no : test (suc n) ≡ false → filter test (others (n + 1) q) ≡ filter test (others n q)
-    kept_no e = kept false e ∙ append-nil (filter test (others n q))
-
-    pub length_yes : test (suc n) ≡ true → length (filter test (others (n + 1) q)) ≡ length (filter test (others n q)) + 1
-    length_yes e = ap length (kept_yes e) ∙ length-append (filter test (others n q)) (suc n ∷ [])
-
-    pub mapped_yes : {X : Type 0} (f : ℕ → List X) → test (suc n) ≡ true
-        → flat_map f (filter test (others (n + 1) q)) ≡ flat_map f (filter test (others n q)) ++ f (suc n)
-    mapped_yes f e =
-        ap (flat_map f) (kept_yes e)
-        ∙ flat_map-append f (filter test (others n q)) (suc n ∷ [])
-        ∙ ap (λ t. flat_map f (filter test (others n q)) ++ t) (append-nil (f (suc n)))
-
-    -- a list that grew by the shapes of each that was kept, one process more
-    pub grown_yes : {X : Type 0} (f : ℕ → List X) (first old new here : List X) → test (suc n) ≡ true
-        → new ≡ old ++ cond (test (suc n)) here [] → here ≡ f (suc n) → old ≡ first ++ flat_map f (filter test (others n q))
-        → new ≡ first ++ flat_map f (filter test (others (n + 1) q))
-    grown_yes f first old new here e more same sofar =
-        more ∙ ap (λ b. old ++ cond b here []) e ∙ ap (λ t. old ++ t) same ∙ ap (λ t. t ++ f (suc n)) sofar
-        ∙ append_assoc first (flat_map f (filter test (others n q))) (f (suc n))
-        ∙ ap (λ t. first ++ t) (sym (mapped_yes f e))
-
-    pub grown_no : {X : Type 0} (f : ℕ → List X) (first old new here : List X) → test (suc n) ≡ false
-        → new ≡ old ++ cond (test (suc n)) here [] → old ≡ first ++ flat_map f (filter test (others n q))
-        → new ≡ first ++ flat_map f (filter test (others (n + 1) q))
-    grown_no f first old new here e more sofar =
-        more ∙ ap (λ b. old ++ cond b here []) e ∙ append-nil old ∙ sofar
-        ∙ ap (λ ps. first ++ flat_map f ps) (sym (kept_no e))
+-- a loop over processes, one more
+pub ruleset one_more = (numbers_next, others_itself, others_other)
 
 -- a sum over the processes, one more
 pub sum_more : (f : ℕ → ℕ) (k : ℕ) → sum_by f (numbers_to (k + 1)) ≡ sum_by f (numbers_to k) + f (suc k)
@@ -90,16 +49,11 @@ module _ (has_row : (q p : ℕ) → Bool) (n : ℕ) where
   unfolding groups_bottom
   groups_more k = omega (arith, sum_more (group_height has_row n) k)
 
-  module _ (small : n ≤ 16) where
-    group_low : (q : ℕ) → group_height has_row n q ≤ 282
-    group_low q = omega (arith, few (has_row q) n q)
+  pub groups_low : (k : ℕ) → n ≤ 16 → groups_bottom has_row n k ≤ k * 282 + 80
+  unfolding groups_bottom
+  groups_low k small = omega (arith, sum_low (group_height has_row n) 282 (λ q. omega (arith, few (has_row q) n q)) k)
 
-    pub groups_low : (k : ℕ) → groups_bottom has_row n k ≤ k * 282 + 80
-    unfolding groups_bottom
-    groups_low k = omega (arith, sum_low (group_height has_row n) 282 group_low k)
+  pub absents_low : (k : ℕ) → n ≤ 16 → sum_by (absent has_row n) (numbers_to k) ≤ k * 16
+  absents_low k small = sum_low (absent has_row n) 16 (λ q. omega (arith, few (λ p. not (has_row q p)) n q)) k
 
-    absent_low : (q : ℕ) → absent has_row n q ≤ 16
-    absent_low q = omega (arith, few (λ p. not (has_row q p)) n q)
-
-    pub absents_low : (k : ℕ) → sum_by (absent has_row n) (numbers_to k) ≤ k * 16
-    absents_low k = sum_low (absent has_row n) 16 absent_low k
+pub ruleset low = (few, groups_low, absents_low)

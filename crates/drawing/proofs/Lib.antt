@@ -1,6 +1,5 @@
 pub mod Stretching
 pub mod Sweeping
-pub mod Entries
 pub mod Joining
 pub mod Counting
 pub mod RowShapes

@@ -1,24 +1,26 @@
--- The lines of processes, in a picture of letters.
-use Rattle.std.proofs.Common.{◌≡◌, ◌∙◌, ◌<◌, ℕ, suc, List, ap, get_or}
+-- The outcomes of all processes, one after the other.
+use Rattle.std.proofs.Common.{◌≡◌, ◌<◌, ◌∙◌, ◌+◌, ℕ, suc, List, sym, ap, arith, flat_map, get_or, length}
+use Rattle.std.proofs.lemmas.List.Folds.{flat_map-map}
 use Rattle.judges.specs.Outcomes.{outcome, outcomes}
 use Rattle.judges.specs.declared.outcomes.Outcome.{Outcome}
-use Rattle.judges.proofs.Outcoming.{outcomes-at}
+use Rattle.judges.proofs.Outcoming.{length-outcomes, outcomes-at}
 use Rattle.process_api.specs.EntryRecord.{EntryRecord}
-use Rattle.drawing.specs.Drawn.{own_of}
-use Rattle.drawing.specs.Lanes.{own_top}
-use Rattle.drawing.specs.LettersDrawn.{line_in}
-use Rattle.drawing.specs.LettersPicture.{line_shapes}
-use Rattle.drawing.specs.Suspicions.{own_at}
-use Rattle.drawing.specs.declared.groups.Row.{Row}
-use Rattle.drawing.specs.declared.groups.Run.{Run}
+use Rattle.process_api.specs.Numbers.{numbers_to}
 
-pub own_line : (run : Run) (q : ℕ) (row : Row) → row.observer ≡ q → row.top ≡ own_top run.scenario.now.processes q → own_of run row ≡ line_in run q
-unfolding own_of line_in line_shapes
-own_line run q row e t =
-    ap (λ o. own_at run.scenario.now run.trace.now run.ticks.from run.ticks.until row.top o) e
-    ∙ ap (λ o. own_at run.scenario.now run.trace.now run.ticks.from run.ticks.until o q) t
+module _ (trace : List EntryRecord) (n : ℕ) (xs : List Outcome) (are : xs ≡ outcomes trace n) where
+  -- an item of them
+  pub record IsTold (i : ℕ) (told : Outcome) : Type 0 where
+    pub is : told ≡ outcome trace told.pid
+    pub next : told.pid ≡ i + 1
+    pub within : i < n
 
--- an item of the outcomes
-pub told_at : (trace : List EntryRecord) (n i : ℕ) (told : Outcome) (xs : List Outcome) → i < n → xs ≡ outcomes trace n → told ≡ get_or xs i told
-    → told ≡ outcome trace (suc i)
-told_at trace n i told xs within e is = is ∙ ap (λ xs. get_or xs i told) e ∙ outcomes-at trace n i told within
+  pub told_at : (i : ℕ) (told : Outcome) → i < length xs → told ≡ get_or xs i told → IsTold i told
+  told_at i told below is =
+      let within : i < n = omega (arith, ap length are, length-outcomes trace n) in
+      let same : told ≡ outcome trace (suc i) = is ∙ ap (λ xs. get_or xs i told) are ∙ outcomes-at trace n i told within in
+      let own : told.pid ≡ suc i = ap (λ (o : Outcome). o.pid) same in
+      record { is = same ∙ ap (outcome trace) (sym own); next = omega arith; within = within }
+
+  -- what is drawn of each of them is drawn of each process
+  pub all_told : {X : Type 0} (f : ℕ → List X) → flat_map (λ (o : Outcome). f o.pid) xs ≡ flat_map f (numbers_to n)
+  all_told f = rw are (flat_map-map (λ (o : Outcome). f o.pid) (outcome trace) (numbers_to n))

@@ -46,61 +46,41 @@ module _ (test : ℕ → Bool) (from : ℕ) where
         | inr l ↦ elim (cases_lt b a) [ inl m ↦ absurd (not_later last b a y x m) | inr m ↦ omega arith ]
       ]
 
-  same_bar : (b : Bar) (begin end : ℕ) → b.begin ≡ begin → b.end ≡ end → record { begin = begin; end = end } ≡ b
-  same_bar b begin end x y =
-      let begins : ℕ → Bar = λ t. record { begin = t; end = end } in
-      let ends : ℕ → Bar = λ t. record { begin = b.begin; end = t } in
-      ap begins (sym x) ∙ ap ends (sym y)
+  -- where no stretch ends at a tick, what was found stays
+  unchanged : (last : ℕ) (ended : List Bar) (running then : Option ℕ) → IsFound last ended running → ((b : Bar) → IsStretch b → b.end ≡ last → ⊥)
+      → IsOpen (suc last) then → IsFound (suc last) ended then
+  unchanged last ended running then f none goes_on = record {
+    sound = λ b c. ((f.sound b c).0, omega (arith, (f.sound b c).1));
+    whole = λ b s m. elim (cases_lt b.end last) [ inl x ↦ f.whole b s x | inr x ↦ absurd (none b s (omega arith)) ];
+    in_order = f.in_order;
+    goes_on = goes_on;
+  }
+
+  -- as the test holds there
+  still : (last : ℕ) → test last ≡ true → (b : Bar) → IsStretch b → b.end ≡ last → ⊥
+  still last e b s at = opposite last e (rw (← at) s.ended)
 
   one_more : (last : ℕ) (holds : Bool) → test last ≡ holds → from ≤ last → (ended : List Bar) (running : Option ℕ) → IsFound last ended running
       → IsFound (suc last) (passed_by last holds ended running).ended (passed_by last holds ended running).running
-  one_more last true e l ended None f = record {
-    sound = λ b c. ((f.sound b c).0, omega (arith, (f.sound b c).1));
-    whole = λ b s m. elim (cases_lt b.end last) [
-      | inl x ↦ f.whole b s x
-      | inr x ↦
-          let at : b.end ≡ last = omega arith in
-          absurd (opposite last e (subst (λ t. test t ≡ false) at s.ended))
+  one_more last true e l ended None f = unchanged last ended None (Some last) f (still last e) (record {
+    low = l;
+    some = omega arith;
+    holds = λ t x y. let at : last ≡ t = omega arith in subst (λ t. test t ≡ true) at e;
+    not_before = f.goes_on;
+  })
+  one_more last false e l ended None f = unchanged last ended None None f
+      (λ b s at. opposite (last - 1) (s.runs.holds (last - 1) (omega (arith, s.runs.some)) (omega (arith, s.runs.some)))
+      (f.goes_on (last - 1) (omega (arith, s.runs.some, s.runs.low)) (omega (arith, s.runs.some))))
+      (λ t x y. let at : last ≡ t = omega arith in subst (λ t. test t ≡ false) at e)
+  one_more last true e l ended (Some begin) f = unchanged last ended (Some begin) (Some begin) f (still last e) (record {
+    low = f.goes_on.low;
+    some = omega (arith, f.goes_on.some);
+    holds = λ t x y. elim (cases_lt t last) [
+      | inl z ↦ f.goes_on.holds t x z
+      | inr z ↦ let at : last ≡ t = omega arith in subst (λ t. test t ≡ true) at e
     ];
-    in_order = f.in_order;
-    goes_on = record {
-      low = l;
-      some = omega arith;
-      holds = λ t x y. let at : last ≡ t = omega arith in subst (λ t. test t ≡ true) at e;
-      not_before = f.goes_on;
-    };
-  }
-  one_more last false e l ended None f = record {
-    sound = λ b c. ((f.sound b c).0, omega (arith, (f.sound b c).1));
-    whole = λ b s m. elim (cases_lt b.end last) [
-      | inl x ↦ f.whole b s x
-      | inr x ↦
-          absurd (opposite (last - 1)
-          (s.runs.holds (last - 1) (omega (arith, s.runs.some)) (omega (arith, s.runs.some)))
-          (f.goes_on (last - 1) (omega (arith, s.runs.some, s.runs.low)) (omega (arith, s.runs.some))))
-    ];
-    in_order = f.in_order;
-    goes_on = λ t x y. let at : last ≡ t = omega arith in subst (λ t. test t ≡ false) at e;
-  }
-  one_more last true e l ended (Some begin) f = record {
-    sound = λ b c. ((f.sound b c).0, omega (arith, (f.sound b c).1));
-    whole = λ b s m. elim (cases_lt b.end last) [
-      | inl x ↦ f.whole b s x
-      | inr x ↦
-          let at : b.end ≡ last = omega arith in
-          absurd (opposite last e (subst (λ t. test t ≡ false) at s.ended))
-    ];
-    in_order = f.in_order;
-    goes_on = record {
-      low = f.goes_on.low;
-      some = omega (arith, f.goes_on.some);
-      holds = λ t x y. elim (cases_lt t last) [
-        | inl z ↦ f.goes_on.holds t x z
-        | inr z ↦ let at : last ≡ t = omega arith in subst (λ t. test t ≡ true) at e
-      ];
-      not_before = f.goes_on.not_before;
-    };
-  }
+    not_before = f.goes_on.not_before;
+  })
   one_more last false e l ended (Some begin) f = record {
     sound = λ b c. elim (Contains-push_cases ended (record { begin = begin; end = last }) b c) [
       | inl d ↦ ((f.sound b d).0, omega (arith, (f.sound b d).1))
@@ -110,8 +90,8 @@ module _ (test : ℕ → Bool) (from : ℕ) where
       | inl x ↦ Contains-append_left ended (record { begin = begin; end = last } ∷ []) b (f.whole b s x)
       | inr x ↦
           let at : b.end ≡ last = omega arith in
-          let same : record { begin = begin; end = last } ≡ b
-          = same_bar b begin last (one_begin last b.begin begin (subst (λ t. IsRunning b.begin t) at s.runs) f.goes_on) at in
+          let first = one_begin last b.begin begin (subst (λ t. IsRunning b.begin t) at s.runs) f.goes_on in
+          let same : record { begin = begin; end = last } ≡ b = rw (← first, ← at) refl in
           subst (λ (c : Bar). Contains (ended ++ record { begin = begin; end = last } ∷ []) c) same (Contains-push ended (record { begin = begin; end = last }))
     ];
     in_order = all_pairs_push (λ b c. b.end < c.begin) ended (record { begin = begin; end = last }) f.in_order

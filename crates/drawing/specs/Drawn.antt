@@ -1,13 +1,13 @@
 -- The pieces of a picture, of a run and some ticks of it.
-use Rattle.std.specs.Prelude.{◌≡◌, ℕ, ◌+◌, ◌-◌, ◌*◌, Bool, if◌then◌else◌, List, [], ◌++◌, flat_map, length, sum_by}
+use Rattle.std.specs.Prelude.{◌≡◌, ◌≤◌, ℕ, ◌+◌, ◌-◌, ◌*◌, Bool, not, List, ◌++◌, filter, flat_map, length, sum_by}
 use Rattle.judges.specs.Out.{suspects}
+use Rattle.judges.specs.Outcomes.{outcome}
+use Rattle.judges.specs.declared.outcomes.Outcome.{Outcome}
 use Rattle.process_api.specs.Numbers.{numbers_to}
 use Rattle.svg.specs.declared.shape.Shape.{Shape}
-use Rattle.scenario_record.specs.Record.{outages_on}
-use Rattle.drawing.specs.Bands.{bands}
-use Rattle.drawing.specs.Layout.{subjects, absent, group_height, groups_bottom, row_top}
+use Rattle.drawing.specs.Layout.{absent, groups_bottom, row_top}
 use Rattle.drawing.specs.Sizes.{row_height}
-use Rattle.drawing.specs.Suspicions.{row_end, upper_bars, has_row, pair_at, own_at, group_shapes, row_bands, group_bands, suspicions}
+use Rattle.drawing.specs.Suspicions.{row_end, upper_bars, has_row, pair_at, own_at, group_shapes, row_bands, group_bands}
 use Rattle.drawing.specs.Sweeping.{stretches}
 use Rattle.drawing.specs.declared.bars.Bar.{Bar}
 use Rattle.drawing.specs.declared.groups.Row.{Row}
@@ -32,8 +32,8 @@ has_row_in run q p = has_row run.scenario.now (bars_in run) q p
 unfoldable pub pair_of : Run → Row → List Shape
 pair_of run row = pair_at run.scenario.now run.ticks.from run.ticks.until (bars_in run) row.top row.observer row.subject
 
-unfoldable pub own_of : Run → Row → List Shape
-own_of run row = own_at run.scenario.now run.trace.now run.ticks.from run.ticks.until row.top row.observer
+unfoldable pub own_of : Run → (top q : ℕ) → List Shape
+own_of run top q = own_at run.scenario.now run.trace.now run.ticks.from run.ticks.until top q
 
 -- where the rows of the first k processes end
 abbrev pub groups_end : Run → (k : ℕ) → ℕ
@@ -43,10 +43,6 @@ abbrev pub row_at : Run → (q p : ℕ) → ℕ
 row_at run q p = row_top (has_row_in run) run.scenario.now.processes q p
 
 -- of the row of two processes
-unfoldable pub own_in : Run → (q : ℕ) → List Shape
-own_in run q =
-    own_at run.scenario.now run.trace.now run.ticks.from run.ticks.until (groups_end run (q - 1)) q
-
 unfoldable pub pair_in : Run → (q p : ℕ) → List Shape
 pair_in run q p = pair_at run.scenario.now run.ticks.from run.ticks.until (bars_in run) (row_at run q p) q p
 
@@ -56,38 +52,23 @@ bands_in run q p = row_bands run.scenario.now run.trace.now run.ticks.from run.t
 unfoldable pub group_of : Run → (q : ℕ) → List Shape
 group_of run q = group_shapes run.scenario.now run.trace.now run.ticks.from run.ticks.until (bars_in run) q
 
-unfoldable pub suspicions_of : Run → List Shape
-suspicions_of run = suspicions run.scenario.now run.trace.now run.ticks.from run.ticks.until (bars_in run)
-
 unfoldable pub group_bands_of : Run → (q : ℕ) → List Shape
 group_bands_of run q = group_bands run.scenario.now run.trace.now run.ticks.from run.ticks.until (bars_in run) q
 
 -- ---- rows, as they are drawn
 
--- a pair more: its row, or one more that has none
-pub record IsPairMore (run : Run) (q p : ℕ) (old new : Rows) : Type 0 where
+-- the rows of the processes before q, that of q itself, and those of q and these others
+pub record AreRowsOf (run : Run) (q : ℕ) (ps : List ℕ) (rows : Rows) : Type 0 where
   pub shapes :
-      new.shapes.items ≡ old.shapes.items
-      ++ (if has_row_in run q p then pair_at run.scenario.now run.ticks.from run.ticks.until (bars_in run) old.top q p else [])
+      rows.shapes.items ≡ flat_map (group_of run) (numbers_to (q - 1))
+      ++ (own_of run (groups_end run (q - 1)) q ++ flat_map (pair_in run q) (filter (has_row_in run q) ps))
   pub bands :
-      new.bands.items ≡ old.bands.items
-      ++ (if has_row_in run q p then bands run.ticks.from run.ticks.until old.top (outages_on run.scenario.now p q) else [])
-  pub top : new.top ≡ old.top + (if has_row_in run q p then row_height else 0)
-  pub left_out : new.left_out ≡ old.left_out + (if has_row_in run q p then 0 else 1)
-
--- the pairs of a process with the first n more
-pub record ArePairsMore (run : Run) (q n : ℕ) (old new : Rows) : Type 0 where
-  pub shapes : new.shapes.items ≡ old.shapes.items ++ flat_map (pair_in run q) (subjects (has_row_in run) n q)
-  pub bands : new.bands.items ≡ old.bands.items ++ flat_map (bands_in run q) (subjects (has_row_in run) n q)
-  pub top : new.top ≡ old.top + length (subjects (has_row_in run) n q) * row_height
-  pub left_out : new.left_out ≡ old.left_out + absent (has_row_in run) n q
-
--- a process more
-pub record IsGroupMore (run : Run) (q : ℕ) (old new : Rows) : Type 0 where
-  pub shapes : new.shapes.items ≡ old.shapes.items ++ group_of run q
-  pub bands : new.bands.items ≡ old.bands.items ++ group_bands_of run q
-  pub top : new.top ≡ old.top + group_height (has_row_in run) run.scenario.now.processes q
-  pub left_out : new.left_out ≡ old.left_out + absent (has_row_in run) run.scenario.now.processes q
+      rows.bands.items ≡ flat_map (group_bands_of run) (numbers_to (q - 1))
+      ++ flat_map (bands_in run q) (filter (has_row_in run q) ps)
+  pub top : rows.top ≡ groups_end run (q - 1) + (1 + length (filter (has_row_in run q) ps)) * row_height
+  pub left_out :
+      rows.left_out ≡ sum_by (absent (has_row_in run) run.scenario.now.processes) (numbers_to (q - 1))
+      + length (filter (λ p. not (has_row_in run q p)) ps)
 
 -- the rows of the first k processes
 pub record AreRows (run : Run) (k : ℕ) (rows : Rows) : Type 0 where
@@ -95,3 +76,10 @@ pub record AreRows (run : Run) (k : ℕ) (rows : Rows) : Type 0 where
   pub bands : rows.bands.items ≡ flat_map (group_bands_of run) (numbers_to k)
   pub top : rows.top ≡ groups_end run k
   pub left_out : rows.left_out ≡ sum_by (absent (has_row_in run) run.scenario.now.processes) (numbers_to k)
+
+-- the outcome is that of the process whose rows come next
+pub record IsNext (run : Run) (told : Outcome) (rows : Rows) : Type 0 where
+  pub told_is : told ≡ outcome run.trace.now told.pid
+  pub low : 1 ≤ told.pid
+  pub high : told.pid ≤ run.scenario.now.processes
+  pub before : AreRows run (told.pid - 1) rows

@@ -1,13 +1,12 @@
 -- The pieces of a picture of letters, of a run and some ticks of it.
 use Rattle.std.specs.Prelude.{ℕ, List, flat_map}
 use Rattle.judges.specs.Out.{suspects}
-use Rattle.letters.specs.declared.letter.Letter.{Letter}
 use Rattle.process_api.specs.Numbers.{numbers_to, others}
 use Rattle.svg.specs.declared.shape.Shape.{Shape}
 use Rattle.scenario_record.specs.Record.{outages_on}
 use Rattle.drawing.specs.Bands.{bands}
 use Rattle.drawing.specs.Lanes.{line_of, own_top, remark_of}
-use Rattle.drawing.specs.LettersPicture.{upper_layer, turn_class, line_shapes, line_bands, turns_of, mark_shapes, letters_shapes}
+use Rattle.drawing.specs.LettersPicture.{upper_layer, turn_class, line_shapes, line_bands, turns_of, mark_shapes}
 use Rattle.drawing.specs.Suspicions.{row_end}
 use Rattle.drawing.specs.Sweeping.{stretches}
 use Rattle.drawing.specs.declared.bars.Bar.{Bar}
@@ -57,7 +56,3 @@ marks_in run q = mark_shapes run.scenario.now run.trace.now run.ticks.from run.t
 
 abbrev pub all_marks_in : Run → List Shape
 all_marks_in run = flat_map (marks_in run) (numbers_to run.scenario.now.processes)
-
-unfoldable pub letters_in : Run → (of : List ℕ) → List Letter → List Shape
-letters_in run of letters =
-    letters_shapes run.scenario.now run.trace.now run.ticks.from run.ticks.until (turn_bars run) of letters

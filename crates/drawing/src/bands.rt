@@ -11,16 +11,6 @@ use scenario_record::Outage;
 use std::alloc::{AllocError, Global};
 use svg::{Class, Point, Shape};
 
-/// Appends shapes.
-pub(crate) fn append(shapes: &mut Vec<Shape>, more: Vec<Shape>) -> Result<(), AllocError>
-    ensures { OnOk result (shapes.new.items ≡ shapes.old.items ++ more.items) }
-{
-    for shape in more {
-        shapes.push(shape)?;
-    }
-    Ok(())
-}
-
 /// Whether an outage has one of these ticks.
 fn is_seen(ticks: &Ticks, outage: &Outage) -> bool
     ensures { result ≡ is_seen ticks.now.from ticks.now.until outage.now }
@@ -89,6 +79,7 @@ impl Run<'_> {
     ghost use Rattle.drawing.specs.LettersDrawn.{all_line_bands_in, line_bands_in};
 
     /// Appends the bands of a process: those of the links from it.
+    #[tactic(auto, using(crate::proofs::Counting::one_more), unfolding(crate::specs::LettersDrawn::link_bands_in, crate::specs::LettersDrawn::line_bands_in, crate::specs::LettersPicture::line_bands))]
     fn push_line_bands(&self, shapes: &mut Vec<Shape>, sender: Pid) -> Result<(), AllocError>
         requires { sender ≤ self.now.scenario.now.processes }
         ensures { OnOk result (shapes.new.items ≡ shapes.old.items ++ line_bands_in self.now sender) }
@@ -110,6 +101,7 @@ impl Run<'_> {
     }
 
     /// The bands of all processes.
+    #[tactic(auto, using(crate::proofs::Counting::one_more))]
     pub fn line_bands(&self, alloc: Global) -> Result<Vec<Shape>, AllocError>
         ensures { IfOk result (λ bands. bands.items ≡ all_line_bands_in self.now) }
     {

@@ -1,6 +1,6 @@
 //! The rows of processes: one for each itself, and one for each other process of which it has a bar.
 ghost use Rattle.std.specs.Prelude.{◌≡◌, ◌++◌, ◌+◌, ◌-◌, ◌≤◌, OnOk, IfOk};
-ghost use Rattle.judges.specs.Outcomes.{outcome, outcomes};
+ghost use Rattle.judges.specs.Outcomes.{outcome};
 
 use crate::labels::own_name;
 use crate::layout::{GAP, ROW, TOP, Ticks};
@@ -43,7 +43,7 @@ pub(crate) struct Rows {
 }
 
 impl Run<'_> {
-    ghost use Rattle.drawing.specs.Drawn.{AreRows, ArePairsMore, IsGroupMore, groups_end, own_of};
+    ghost use Rattle.drawing.specs.Drawn.{AreRows, IsNext, own_of};
     ghost use Rattle.drawing.specs.Suspicions.{row_end};
 
     /// The tick at which the rows of a process end.
@@ -53,68 +53,41 @@ impl Run<'_> {
         end_tick(self.scenario, observer).min(self.ticks.until)
     }
 
-    /// Appends the row of a process itself.
+    /// Appends the row of a process itself, which begins at `top`.
+    #[tactic(auto, unfolding(crate::specs::Drawn::own_of, crate::specs::Suspicions::own_at))]
     pub fn push_own(
         &self,
         alloc: Global,
         shapes: &mut Vec<Shape>,
-        row: &Row,
+        top: u32,
         told: &Outcome,
     ) -> Result<(), AllocError>
-        requires { told.now ≡ outcome self.now.trace.now row.now.observer }
-        ensures { OnOk result (shapes.new.items ≡ shapes.old.items ++ own_of self.now row.now) }
+        requires top { top ≤ 1100000 }
+        requires told { told.now ≡ outcome self.now.trace.now told.now.pid }
+        ensures { OnOk result (shapes.new.items ≡ shapes.old.items ++ own_of self.now top told.now.pid) }
     {
         let ticks = &self.ticks;
-        let end = self.row_end(row.observer);
-        shapes.push(own_name(alloc, row.top, row.observer)?)?;
-        shapes.push(life_line(ticks, Class::Life, row.top + 8, end))?;
+        let end = self.row_end(told.pid);
+        shapes.push(own_name(alloc, top, told.pid)?)?;
+        shapes.push(life_line(ticks, Class::Life, top + 8, end))?;
         let decision = ticks.shown(ticks.until, decided(told));
-        push_decision(shapes, ticks, row.top, decision)?;
-        let crash = ticks.shown(ticks.until, self.scenario.crash(row.observer));
-        push_crash(shapes, ticks, row.top, crash)
-    }
-
-    /// Appends the rows of an observer and all others.
-    fn push_pairs(&self, alloc: Global, rows: &mut Rows, observer: Pid) -> Result<(), AllocError>
-        requires top { rows.old.top ≡ groups_end self.now (observer - 1) + 16 }
-        requires high { rows.old.top ≤ 20000 }
-        requires few { rows.old.left_out ≤ 1000 }
-        requires observer { observer ≤ self.now.scenario.now.processes }
-        ensures { OnOk result
-            (ArePairsMore self.now observer self.now.scenario.now.processes rows.old rows.new) }
-    {
-        for before in 0..self.scenario.processes() {
-            let subject = Pid::after(before);
-            if subject != observer {
-                self.push_pair(alloc, rows, observer, subject)?;
-            }
-        }
+        push_decision(shapes, ticks, top, decision)?;
+        let crash = ticks.shown(ticks.until, self.scenario.crash(told.pid));
+        push_crash(shapes, ticks, top, crash)?;
         Ok(())
     }
 
     /// Appends the rows of a process.
-    fn push_group(
-        &self,
-        alloc: Global,
-        rows: &mut Rows,
-        observer: Pid,
-        told: &Outcome,
-    ) -> Result<(), AllocError>
-        requires told { told.now ≡ outcome self.now.trace.now observer }
-        requires top { rows.old.top ≡ groups_end self.now (observer - 1) }
-        requires high { rows.old.top ≤ 10000 }
-        requires few { rows.old.left_out ≤ 1000 }
-        requires observer { observer ≤ self.now.scenario.now.processes }
-        ensures { OnOk result (IsGroupMore self.now observer rows.old rows.new) }
+    #[tactic(auto, using(crate::proofs::Counting::low))]
+    fn push_group(&self, alloc: Global, rows: &mut Rows, told: &Outcome) -> Result<(), AllocError>
+        requires { IsNext self.now told.now rows.old }
+        ensures { OnOk result (AreRows self.now (told.now.pid - 1 + 1) rows.new) }
     {
-        let own = Row {
-            observer,
-            subject: observer,
-            top: rows.top,
-        };
-        self.push_own(alloc, &mut rows.shapes, &own, told)?;
+        self.push_own(alloc, &mut rows.shapes, rows.top, told)?;
         rows.top += ROW;
-        self.push_pairs(alloc, rows, observer)?;
+        for before in 0..self.scenario.processes() {
+            self.push_pair(alloc, rows, told.pid, before)?;
+        }
         rows.top += GAP;
         Ok(())
     }
@@ -132,7 +105,7 @@ impl Run<'_> {
             left_out: 0,
         };
         for outcome in &outcomes {
-            self.push_group(alloc, &mut rows, outcome.pid, outcome)?;
+            self.push_group(alloc, &mut rows, outcome)?;
         }
         Ok(rows)
     }

@@ -91,15 +91,6 @@ impl Ticks {
     pub fn shown(&self, end: u32, tick: Option<u32>) -> Option<u32>
         ensures { result ≡ shown self.now.from end tick }
     {
-        match tick {
-            Some(tick) => {
-                if self.from <= tick && tick < end {
-                    Some(tick)
-                } else {
-                    None
-                }
-            }
-            None => None,
-        }
+        tick.filter(|tick| self.from <= *tick && *tick < end)
     }
 }

@@ -1,6 +1,6 @@
 //! The title of a picture, and what its marks mean.
 ghost use Rattle.std.specs.Prelude.{◌≡◌, ◌++◌, ◌∷◌, ◌≤◌, [], OnOk};
-ghost use Rattle.drawing.specs.Suspicions.{first_legend, left_out_shapes, legend, marks_legend, sample, second_legend};
+ghost use Rattle.drawing.specs.Suspicions.{left_out_shapes, legend, marks_legend, sample, second_legend};
 
 use crate::labels::{text, title, word};
 use crate::layout::{LEFT, Ticks, WIDTH};
@@ -17,15 +17,6 @@ fn sample(class: Class, x: u32) -> Shape
         width: 24,
         height: 6,
     }
-}
-
-/// What the bars of layer 1 mean.
-fn push_first(alloc: Global, shapes: &mut Vec<Shape>) -> Result<(), AllocError>
-    ensures { OnOk result (shapes.new.items ≡ shapes.old.items ++ first_legend) }
-{
-    shapes.push(sample(Class::First, LEFT))?;
-    shapes.push(word(alloc, LEFT + 30, 42, "suspected by the base detector")?)?;
-    Ok(())
 }
 
 /// What the marks mean.
@@ -60,14 +51,11 @@ pub(crate) fn push_marks(
 fn push_second(alloc: Global, shapes: &mut Vec<Shape>, share: Option<u32>) -> Result<(), AllocError>
     ensures { OnOk result (shapes.new.items ≡ shapes.old.items ++ second_legend share) }
 {
-    match share {
-        None => Ok(()),
-        Some(_) => {
-            shapes.push(sample(Class::Second, LEFT + 400))?;
-            shapes.push(word(alloc, LEFT + 430, 42, "suspected by the reduction")?)?;
-            Ok(())
-        }
+    if share.is_some() {
+        shapes.push(sample(Class::Second, LEFT + 400))?;
+        shapes.push(word(alloc, LEFT + 430, 42, "suspected by the reduction")?)?;
     }
+    Ok(())
 }
 
 /// Appends how many are left out, where there are any.
@@ -98,7 +86,9 @@ pub(crate) fn push_legend(
     ensures { OnOk result (shapes.new.items ≡ shapes.old.items ++ legend ticks.now.from ticks.now.until share) }
 {
     shapes.push(title(alloc, "Who suspects whom", ticks.from, ticks.until)?)?;
-    push_first(alloc, shapes)?;
+    shapes.push(sample(Class::First, LEFT))?;
+    shapes.push(word(alloc, LEFT + 30, 42, "suspected by the base detector")?)?;
     push_marks(alloc, shapes, LEFT + 240, 42)?;
-    push_second(alloc, shapes, share)
+    push_second(alloc, shapes, share)?;
+    Ok(())
 }

@@ -1,6 +1,7 @@
 //! The title of a picture of letters, and what its arrows and marks mean.
-ghost use Rattle.std.specs.Prelude.{◌≡◌, ◌++◌, ◌≤◌, OnOk};
-ghost use Rattle.drawing.specs.LettersPicture.{arrow_entry, entry, letters_legend, line_entry, taken_legend, turn_class, turns_legend, untaken_legend};
+ghost use Rattle.std.specs.Prelude.{◌≡◌, ◌+◌, ◌++◌, ◌≤◌, OnOk};
+ghost use Rattle.drawing.specs.Layout.{point};
+ghost use Rattle.drawing.specs.LettersPicture.{entry, letters_legend, taken_legend, turn_class, untaken_legend};
 
 use crate::labels::{title, word};
 use crate::layout::{LEFT, Ticks};
@@ -34,51 +35,36 @@ fn push_entry(
     Ok(())
 }
 
-/// Appends how an arrow is shown, and what it is.
-fn push_arrow(
-    alloc: Global,
-    shapes: &mut Vec<Shape>,
-    class: Class,
-    x: u32,
-    words: &str,
-) -> Result<(), AllocError>
+/// How an arrow is shown.
+fn arrow(class: Class, x: u32) -> Shape
     requires { x ≤ 1000 }
-    ensures { OnOk result (shapes.new.items ≡ shapes.old.items ++ arrow_entry class x words.now) }
+    ensures { result ≡ Shape.Arrow class (point x 34) (point (x + 24) 34) }
 {
     let from = Point { x, y: 34 };
     let to = Point { x: x + 24, y: 34 };
-    push_entry(alloc, shapes, Shape::Arrow { class, from, to }, x, words)
+    Shape::Arrow { class, from, to }
 }
 
-/// Appends how a line is shown, and what it is.
-fn push_line(
-    alloc: Global,
-    shapes: &mut Vec<Shape>,
-    class: Class,
-    x: u32,
-    words: &str,
-) -> Result<(), AllocError>
+/// How a line is shown.
+fn line(class: Class, x: u32) -> Shape
     requires { x ≤ 1000 }
-    ensures { OnOk result (shapes.new.items ≡ shapes.old.items ++ line_entry class x words.now) }
+    ensures { result ≡ Shape.Line class (point x 34) (point (x + 24) 34) }
 {
     let from = Point { x, y: 34 };
     let to = Point { x: x + 24, y: 34 };
-    push_entry(alloc, shapes, Shape::Line { class, from, to }, x, words)
+    Shape::Line { class, from, to }
 }
 
 /// Appends what the arrows of letters mean that are taken.
 fn push_taken(alloc: Global, shapes: &mut Vec<Shape>) -> Result<(), AllocError>
     ensures { OnOk result (shapes.new.items ≡ shapes.old.items ++ taken_legend) }
 {
-    push_arrow(alloc, shapes, Class::Detector, LEFT, "letter of a detector")?;
-    push_arrow(
-        alloc,
-        shapes,
-        Class::Reduction,
-        LEFT + 160,
-        "of the reduction",
-    )?;
-    push_arrow(alloc, shapes, Class::Consensus, LEFT + 300, "of consensus")?;
+    let detector = arrow(Class::Detector, LEFT);
+    push_entry(alloc, shapes, detector, LEFT, "letter of a detector")?;
+    let reduction = arrow(Class::Reduction, LEFT + 160);
+    push_entry(alloc, shapes, reduction, LEFT + 160, "of the reduction")?;
+    let consensus = arrow(Class::Consensus, LEFT + 300);
+    push_entry(alloc, shapes, consensus, LEFT + 300, "of consensus")?;
     Ok(())
 }
 
@@ -91,35 +77,10 @@ fn push_untaken(alloc: Global, shapes: &mut Vec<Shape>) -> Result<(), AllocError
     let to = Point { x: x + 20, y: 34 };
     let class = Class::Lost;
     push_entry(alloc, shapes, Shape::Stub { class, from, to }, x, "lost")?;
-    push_line(
-        alloc,
-        shapes,
-        Class::Dead,
-        LEFT + 500,
-        "to a crashed process",
-    )?;
-    push_line(alloc, shapes, Class::Late, LEFT + 675, "due later")?;
-    Ok(())
-}
-
-/// Appends what the marks of suspicions mean.
-fn push_turns(alloc: Global, shapes: &mut Vec<Shape>, share: Option<u32>) -> Result<(), AllocError>
-    ensures { OnOk result (shapes.new.items ≡ shapes.old.items ++ turns_legend share) }
-{
-    shapes.push(Shape::Disc {
-        class: turn_class(share),
-        center: Point {
-            x: LEFT + 150,
-            y: 50,
-        },
-        radius: 3,
-    })?;
-    shapes.push(word(
-        alloc,
-        LEFT + 162,
-        54,
-        "+2: suspects process 2, -2: trusts it again",
-    )?)?;
+    let dead = line(Class::Dead, LEFT + 500);
+    push_entry(alloc, shapes, dead, LEFT + 500, "to a crashed process")?;
+    let late = line(Class::Late, LEFT + 675);
+    push_entry(alloc, shapes, late, LEFT + 675, "due later")?;
     Ok(())
 }
 
@@ -139,5 +100,15 @@ pub(crate) fn push_letters_legend(
     push_taken(alloc, shapes)?;
     push_untaken(alloc, shapes)?;
     push_marks(alloc, shapes, LEFT, 54)?;
-    push_turns(alloc, shapes, share)
+    shapes.push(Shape::Disc {
+        class: turn_class(share),
+        center: Point {
+            x: LEFT + 150,
+            y: 50,
+        },
+        radius: 3,
+    })?;
+    let words = "+2: suspects process 2, -2: trusts it again";
+    shapes.push(word(alloc, LEFT + 162, 54, words)?)?;
+    Ok(())
 }

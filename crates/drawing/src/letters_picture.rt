@@ -2,14 +2,13 @@
 ghost use Rattle.std.specs.Prelude.{◌≡◌, ◌++◌, IfOk, IfErr, OnOk, MatchOption, Err};
 ghost use Rattle.judges.specs.Outcomes.{outcomes};
 ghost use Rattle.drawing.specs.LettersPicture.{DrawsLetters};
-ghost use Rattle.drawing.specs.LettersDrawn.{letters_in};
 ghost use Rattle.drawing.specs.Refusals.{IsMemory, letters_refusal};
 
 use crate::arrows::{count_others, count_sent};
 use crate::axis::push_axis;
-use crate::bands::{append, push_outage_legend};
+use crate::bands::push_outage_legend;
 use crate::error::DrawError;
-use crate::groups::{Row, Run};
+use crate::groups::Run;
 use crate::lanes::{lanes_bottom, own_top};
 use crate::layout::{BOTTOM, LEFT, MOST_LETTERS, RIGHT, WIDTH};
 use crate::legend::push_left_out;
@@ -23,22 +22,10 @@ use std::alloc::{AllocError, Global};
 use svg::{Picture, Shape, svg_text};
 
 impl Run<'_> {
-    ghost use Rattle.drawing.specs.Lanes.{own_top};
     ghost use Rattle.drawing.specs.LettersDrawn.{all_marks_in, lines_in};
 
-    /// The row in which a process's own line is.
-    fn own_row(&self, process: Pid) -> Row
-        ensures observer { result.observer ≡ process }
-        ensures top { result.top ≡ own_top self.now.scenario.now.processes process }
-    {
-        Row {
-            observer: process,
-            subject: process,
-            top: own_top(self.scenario.processes(), process),
-        }
-    }
-
     /// Appends the lines of all processes.
+    #[tactic(auto, unfolding(crate::specs::Drawn::own_of, crate::specs::LettersDrawn::line_in, crate::specs::LettersPicture::line_shapes))]
     fn push_lines(
         &self,
         alloc: Global,
@@ -49,7 +36,8 @@ impl Run<'_> {
         ensures { OnOk result (shapes.new.items ≡ shapes.old.items ++ lines_in self.now) }
     {
         for outcome in told {
-            self.push_own(alloc, shapes, &self.own_row(outcome.pid), outcome)?;
+            let top = own_top(self.scenario.processes(), outcome.pid);
+            self.push_own(alloc, shapes, top, outcome)?;
         }
         Ok(())
     }
@@ -71,37 +59,6 @@ impl Run<'_> {
     }
 }
 
-/// All shapes of a picture.
-fn shapes_of(
-    alloc: Global,
-    run: &Run<'_>,
-    letters: &[Letter],
-    of: &[Pid],
-) -> Result<Vec<Shape>, AllocError>
-    ensures { IfOk result (λ v. v.items ≡ letters_in run.now of.now letters.now) }
-{
-    let scenario = run.scenario;
-    let told = decisions(alloc, scenario, run.trace)?;
-    let others = count_others(&run.ticks, of, letters);
-    let bands = run.line_bands(alloc)?;
-    let what = "letters of others, left out";
-    let mut shapes = Vec::new(alloc);
-    push_letters_legend(alloc, &mut shapes, &run.ticks, scenario.share())?;
-    push_left_out(alloc, &mut shapes, what, others)?;
-    push_outage_legend(alloc, &mut shapes, LEFT + 440, 54, &bands)?;
-    append(&mut shapes, bands)?;
-    push_axis(
-        alloc,
-        &mut shapes,
-        &run.ticks,
-        lanes_bottom(scenario.processes()),
-    )?;
-    run.push_lines(alloc, &mut shapes, &told)?;
-    run.push_arrows(&mut shapes, of, letters)?;
-    run.push_all_marks(alloc, &mut shapes, &told)?;
-    Ok(shapes)
-}
-
 /// The picture of a run's letters.
 fn text_of(
     alloc: Global,
@@ -112,10 +69,25 @@ fn text_of(
     ensures { IfOk result (λ text. DrawsLetters run.now.scenario.now run.now.trace.now letters.now of.now
         run.now.ticks.from run.now.ticks.until text.items) }
 {
+    let scenario = run.scenario;
+    let told = decisions(alloc, scenario, run.trace)?;
+    let others = count_others(&run.ticks, of, letters);
+    let mut bands = run.line_bands(alloc)?;
+    let what = "letters of others, left out";
+    let bottom = lanes_bottom(scenario.processes());
+    let mut shapes = Vec::new(alloc);
+    push_letters_legend(alloc, &mut shapes, &run.ticks, scenario.share())?;
+    push_left_out(alloc, &mut shapes, what, others)?;
+    push_outage_legend(alloc, &mut shapes, LEFT + 440, 54, &bands)?;
+    shapes.append(&mut bands)?;
+    push_axis(alloc, &mut shapes, &run.ticks, bottom)?;
+    run.push_lines(alloc, &mut shapes, &told)?;
+    run.push_arrows(&mut shapes, of, letters)?;
+    run.push_all_marks(alloc, &mut shapes, &told)?;
     let picture = Picture {
         width: LEFT + WIDTH + RIGHT,
-        height: lanes_bottom(run.scenario.processes()) + BOTTOM,
-        shapes: shapes_of(alloc, run, letters, of)?,
+        height: bottom + BOTTOM,
+        shapes,
     };
     svg_text(alloc, &picture)
 }
@@ -150,21 +122,14 @@ pub fn draw_letters(
     ensures refused { MatchOption (letters_refusal scenario.now letters.now of.now from until)
         (IfErr result IsMemory) (λ e. result ≡ Err e) }
 {
-    match ticks_of(scenario, from, until) {
-        Err(error) => Err(error),
-        Ok(ticks) => {
-            if count_sent(&ticks, of, letters) > MOST_LETTERS {
-                return Err(DrawError::TooManyLetters);
-            }
-            let run = Run {
-                scenario,
-                trace,
-                ticks,
-            };
-            match text_of(alloc, &run, letters, of) {
-                Err(error) => Err(DrawError::Memory(error)),
-                Ok(text) => Ok(text),
-            }
-        }
+    let ticks = ticks_of(scenario, from, until)?;
+    if count_sent(&ticks, of, letters) > MOST_LETTERS {
+        return Err(DrawError::TooManyLetters);
     }
+    let run = Run {
+        scenario,
+        trace,
+        ticks,
+    };
+    text_of(alloc, &run, letters, of).map_err(DrawError::Memory)
 }

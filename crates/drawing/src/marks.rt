@@ -63,21 +63,19 @@ impl Ticks {
         ensures { OnOk result (shapes.new.items ≡ shapes.old.items ++ turn_shapes self.now.from self.now.until
             spot.now.class spot.now.line spot.now.remark sign.now spot.now.subject tick) }
     {
-        match tick {
-            None => Ok(()),
-            Some(tick) => {
-                let x = self.x(tick);
-                let number = spot.subject.number();
-                let words = format!(in alloc; "{sign}{number}")?;
-                shapes.push(Shape::Disc {
-                    class: spot.class,
-                    center: Point { x, y: spot.line },
-                    radius: 3,
-                })?;
-                shapes.push(text(Class::Remark, x, spot.remark, Anchor::Middle, words))?;
-                Ok(())
-            }
-        }
+        let Some(tick) = tick else {
+            return Ok(());
+        };
+        let x = self.x(tick);
+        let number = spot.subject.number();
+        let words = format!(in alloc; "{sign}{number}")?;
+        shapes.push(Shape::Disc {
+            class: spot.class,
+            center: Point { x, y: spot.line },
+            radius: 3,
+        })?;
+        shapes.push(text(Class::Remark, x, spot.remark, Anchor::Middle, words))?;
+        Ok(())
     }
 
     /// Appends the marks of a stretch of suspicion.
@@ -91,21 +89,10 @@ impl Ticks {
         ensures { OnOk result (shapes.new.items ≡ shapes.old.items ++ bar_turns self.now.from self.now.until
             spot.now.class spot.now.line spot.now.remark spot.now.end spot.now.subject bar) }
     {
-        self.push_turn(
-            alloc,
-            shapes,
-            spot,
-            "+",
-            self.shown(spot.end, Some(bar.begin)),
-        )?;
-        self.push_turn(
-            alloc,
-            shapes,
-            spot,
-            "-",
-            self.shown(spot.end, Some(bar.end)),
-        )?;
-        Ok(())
+        let begin = self.shown(spot.end, Some(bar.begin));
+        let end = self.shown(spot.end, Some(bar.end));
+        self.push_turn(alloc, shapes, spot, "+", begin)?;
+        self.push_turn(alloc, shapes, spot, "-", end)
     }
 
     /// Appends what a process decides, if there is that to show.
@@ -121,15 +108,12 @@ impl Ticks {
         ensures { OnOk result (shapes.new.items
             ≡ shapes.old.items ++ value_shapes self.now.from self.now.until line answer tick) }
     {
-        match (answer, tick) {
-            (Answer::Value(value), Some(tick)) => {
-                let x = self.x(tick);
-                let words = format!(in alloc; "decides {value}")?;
-                shapes.push(text(Class::Remark, x, line + 16, side(x), words))?;
-                Ok(())
-            }
-            _ => Ok(()),
+        if let (Answer::Value(value), Some(tick)) = (answer, tick) {
+            let x = self.x(tick);
+            let words = format!(in alloc; "decides {value}")?;
+            shapes.push(text(Class::Remark, x, line + 16, side(x), words))?;
         }
+        Ok(())
     }
 }
 
@@ -169,6 +153,7 @@ impl Run<'_> {
     }
 
     /// Appends the marks of an observer and all others.
+    #[tactic(auto, using(crate::proofs::Counting::one_more))]
     fn push_turns(
         &self,
         alloc: Global,
@@ -201,6 +186,7 @@ impl Run<'_> {
         let tick = self.ticks.shown(self.ticks.until, told.tick);
         self.ticks
             .push_value(alloc, shapes, line, told.value, tick)?;
-        self.push_turns(alloc, shapes, observer)
+        self.push_turns(alloc, shapes, observer)?;
+        Ok(())
     }
 }

@@ -1,5 +1,6 @@
 //! The row of a pair of processes: what one makes of the other.
-ghost use Rattle.std.specs.Prelude.{◌≡◌, ◌≢◌, ◌++◌, ◌||◌, ◌≤◌, IfOk, OnOk};
+ghost use Rattle.std.specs.Prelude.{◌≡◌, ◌+◌, ◌++◌, ◌||◌, ◌≤◌, ◌<◌, IfOk, OnOk};
+ghost use Rattle.process_api.specs.Numbers.{others};
 ghost use Rattle.drawing.specs.Suspicions.{first_top, has_bar};
 
 use crate::bands::push_bands;
@@ -42,7 +43,7 @@ fn first_top(share: Option<u32>) -> u32
 }
 
 impl Run<'_> {
-    ghost use Rattle.drawing.specs.Drawn.{ArePairBars, IsPairMore, bars_in, pair_of};
+    ghost use Rattle.drawing.specs.Drawn.{ArePairBars, AreRowsOf, bars_in, pair_of};
     ghost use Rattle.drawing.specs.Suspicions.{upper_bars};
 
     /// The bars of an observer and a subject on a layer.
@@ -71,15 +72,6 @@ impl Run<'_> {
         }
     }
 
-    /// All their bars.
-    fn pair_bars(&self, alloc: Global, observer: Pid, subject: Pid) -> Result<PairBars, AllocError>
-        ensures { IfOk result (ArePairBars self.now observer subject) }
-    {
-        let first = self.bars(alloc, 1, observer, subject)?;
-        let second = self.upper_bars(alloc, observer, subject)?;
-        Ok(PairBars { first, second })
-    }
-
     /// Appends the row of an observer and another process.
     fn push_row(
         &self,
@@ -104,25 +96,32 @@ impl Run<'_> {
             &bars.second,
         )?;
         let crash = self.ticks.shown(end, self.scenario.crash(row.subject));
-        push_crash(shapes, &self.ticks, row.top, crash)
+        push_crash(shapes, &self.ticks, row.top, crash)?;
+        Ok(())
     }
 
-    /// Appends the row of an observer and another process where they have a bar; else it is left out.
+    /// Appends the row of an observer and the process that comes after so many, where that is another one and they have
+    /// a bar; without a bar it is left out.
+    #[tactic(auto, using(crate::proofs::Counting::low))]
     pub fn push_pair(
         &self,
         alloc: Global,
         rows: &mut Rows,
         observer: Pid,
-        subject: Pid,
+        before: u16,
     ) -> Result<(), AllocError>
-        requires high { rows.old.top ≤ 30000 }
-        requires few { rows.old.left_out ≤ 2000 }
-        requires different { subject ≢ observer }
         requires observer { observer ≤ self.now.scenario.now.processes }
-        requires subject { subject ≤ self.now.scenario.now.processes }
-        ensures { OnOk result (IsPairMore self.now observer subject rows.old rows.new) }
+        requires subject { before < self.now.scenario.now.processes }
+        requires rows { AreRowsOf self.now observer (others before observer) rows.old }
+        ensures { OnOk result (AreRowsOf self.now observer (others (before + 1) observer) rows.new) }
     {
-        let bars = self.pair_bars(alloc, observer, subject)?;
+        let subject = Pid::after(before);
+        if subject == observer {
+            return Ok(());
+        }
+        let first = self.bars(alloc, 1, observer, subject)?;
+        let second = self.upper_bars(alloc, observer, subject)?;
+        let bars = PairBars { first, second };
         if !bars.is_shown() {
             rows.left_out += 1;
             return Ok(());

@@ -50,20 +50,16 @@ pub(crate) fn push_crash(
     ensures { OnOk result (shapes.new.items
         ≡ shapes.old.items ++ crash_shapes ticks.now.from ticks.now.until top crash) }
 {
-    match crash {
-        None => Ok(()),
-        Some(tick) => {
-            let center = Point {
-                x: ticks.x(tick),
-                y: top + 8,
-            };
-            shapes.push(Shape::Cross {
-                class: Class::Crash,
-                center,
-            })?;
-            Ok(())
-        }
-    }
+    let Some(tick) = crash else {
+        return Ok(());
+    };
+    let x = ticks.x(tick);
+    let y = top + 8;
+    shapes.push(Shape::Cross {
+        class: Class::Crash,
+        center: Point { x, y },
+    })?;
+    Ok(())
 }
 
 /// Appends a decision in a row, if there is one to show.
@@ -77,21 +73,17 @@ pub(crate) fn push_decision(
     ensures { OnOk result (shapes.new.items
         ≡ shapes.old.items ++ decision_shapes ticks.now.from ticks.now.until top decision) }
 {
-    match decision {
-        None => Ok(()),
-        Some(tick) => {
-            let center = Point {
-                x: ticks.x(tick),
-                y: top + 8,
-            };
-            shapes.push(Shape::Disc {
-                class: Class::Decision,
-                center,
-                radius: 4,
-            })?;
-            Ok(())
-        }
-    }
+    let Some(tick) = decision else {
+        return Ok(());
+    };
+    let x = ticks.x(tick);
+    let y = top + 8;
+    shapes.push(Shape::Disc {
+        class: Class::Decision,
+        center: Point { x, y },
+        radius: 4,
+    })?;
+    Ok(())
 }
 
 /// A line from the first tick to another.

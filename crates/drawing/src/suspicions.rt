@@ -2,45 +2,36 @@
 ghost use Rattle.std.specs.Prelude.{◌≡◌, ◌++◌, ◌≤◌, ◌<◌, Err, IfOk, IfErr, IsOk, MatchOption, OnOk};
 ghost use Rattle.drawing.specs.Refusals.{IsMemory, refusal};
 ghost use Rattle.drawing.specs.Suspicions.{DrawsSuspicions};
-ghost use Rattle.drawing.specs.Drawn.{AreRows, suspicions_of};
 
 use crate::axis::push_axis;
-use crate::bands::{append, push_outage_legend};
+use crate::bands::push_outage_legend;
 use crate::error::DrawError;
-use crate::groups::{Rows, Run};
+use crate::groups::Run;
 use crate::layout::{BOTTOM, LEFT, MOST_DRAWN, RIGHT, Ticks, WIDTH};
 use crate::legend::{push_left_out, push_legend};
 use process_api::{Pid, Trace};
 use scenario_record::Scenario;
 use std::alloc::{AllocError, Global};
-use svg::{Picture, Shape, svg_text};
-
-/// All shapes of a picture with these rows.
-fn shapes_of(alloc: Global, run: &Run<'_>, rows: Rows) -> Result<Vec<Shape>, AllocError>
-    requires { AreRows run.now run.now.scenario.now.processes rows }
-    ensures { IfOk result (λ v. v.items ≡ suspicions_of run.now) }
-{
-    let mut shapes = Vec::new(alloc);
-    let what = "pairs without a bar, left out";
-    push_legend(alloc, &mut shapes, &run.ticks, run.scenario.share())?;
-    push_outage_legend(alloc, &mut shapes, LEFT + 620, 42, &rows.bands)?;
-    push_left_out(alloc, &mut shapes, what, rows.left_out)?;
-    append(&mut shapes, rows.bands)?;
-    push_axis(alloc, &mut shapes, &run.ticks, rows.top)?;
-    append(&mut shapes, rows.shapes)?;
-    Ok(shapes)
-}
+use svg::{Picture, svg_text};
 
 /// The picture of a run.
 fn text_of(alloc: Global, run: &Run<'_>) -> Result<Vec<u8>, AllocError>
     ensures { IfOk result (λ text. DrawsSuspicions run.now.scenario.now run.now.trace.now run.now.ticks.from
         run.now.ticks.until text.items) }
 {
-    let rows = run.rows(alloc)?;
+    let mut rows = run.rows(alloc)?;
+    let mut shapes = Vec::new(alloc);
+    let what = "pairs without a bar, left out";
+    push_legend(alloc, &mut shapes, &run.ticks, run.scenario.share())?;
+    push_outage_legend(alloc, &mut shapes, LEFT + 620, 42, &rows.bands)?;
+    push_left_out(alloc, &mut shapes, what, rows.left_out)?;
+    shapes.append(&mut rows.bands)?;
+    push_axis(alloc, &mut shapes, &run.ticks, rows.top)?;
+    shapes.append(&mut rows.shapes)?;
     let picture = Picture {
         width: LEFT + WIDTH + RIGHT,
         height: rows.top + BOTTOM,
-        shapes: shapes_of(alloc, run, rows)?,
+        shapes,
     };
     svg_text(alloc, &picture)
 }
@@ -70,10 +61,7 @@ pub(crate) fn ticks_of(scenario: &Scenario, from: u32, until: u32) -> Result<Tic
 pub fn check_ticks(scenario: &Scenario, from: u32, until: u32) -> Result<(), DrawError>
     ensures { MatchOption (refusal scenario.now from until) (IsOk result) (λ e. result ≡ Err e) }
 {
-    match ticks_of(scenario, from, until) {
-        Err(error) => Err(error),
-        Ok(_) => Ok(()),
-    }
+    ticks_of(scenario, from, until).map(|_| ())
 }
 
 /// The picture of who suspects whom at the ticks from `from` to `until - 1` of a run, as an SVG document.
@@ -98,18 +86,11 @@ pub fn draw_suspicions(
     ensures draws { IfOk result (λ text. DrawsSuspicions scenario.now trace.now from until text.items) }
     ensures refused { MatchOption (refusal scenario.now from until) (IfErr result IsMemory) (λ e. result ≡ Err e) }
 {
-    match ticks_of(scenario, from, until) {
-        Err(error) => Err(error),
-        Ok(ticks) => {
-            let run = Run {
-                scenario,
-                trace,
-                ticks,
-            };
-            match text_of(alloc, &run) {
-                Err(error) => Err(DrawError::Memory(error)),
-                Ok(text) => Ok(text),
-            }
-        }
-    }
+    let ticks = ticks_of(scenario, from, until)?;
+    let run = Run {
+        scenario,
+        trace,
+        ticks,
+    };
+    text_of(alloc, &run).map_err(DrawError::Memory)
 }

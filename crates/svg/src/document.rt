@@ -26,7 +26,8 @@ fn push_view_box(out: &mut Vec<u8>, width: u32, height: u32) -> Result<(), Alloc
     push_number(out, width)?;
     out.extend_from_slice(b" ")?;
     push_number(out, height)?;
-    out.extend_from_slice(b"\"")
+    out.extend_from_slice(b"\"")?;
+    Ok(())
 }
 
 /// What stands before the shapes.

@@ -54,7 +54,8 @@ fn push_opening(
     out.extend_from_slice(b" class=\"")?;
     out.extend_from_slice(class.name().as_bytes())?;
     out.extend_from_slice(b"\"")?;
-    push_attributes(out, numbers)
+    push_attributes(out, numbers)?;
+    Ok(())
 }
 
 /// Appends an element with nothing in it.
@@ -100,7 +101,8 @@ fn push_text(
     out.extend_from_slice(anchor.name().as_bytes())?;
     out.extend_from_slice(b"\">")?;
     push_escaped(out, caption.bytes())?;
-    out.extend_from_slice(b"</text>\n")
+    out.extend_from_slice(b"</text>\n")?;
+    Ok(())
 }
 
 /// Appends a shape.

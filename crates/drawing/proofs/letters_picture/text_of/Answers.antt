@@ -1,26 +1,35 @@
-use Rattle.std.proofs.Common.{◌+◌, ◌∙◌, ap}
-use Rattle.judges.specs.Out.{suspects}
-use Rattle.svg.specs.Document.{svg_text}
-use Rattle.drawing.specs.Lanes.{lanes_bottom}
-use Rattle.drawing.specs.LettersDrawn.{turn_bars, letters_in}
-use Rattle.drawing.specs.LettersPicture.{upper_layer}
-use Rattle.drawing.specs.Suspicions.{row_end}
-use Rattle.drawing.specs.Sizes.{left_room, axis_width, right_room, foot_room}
-use Rattle.drawing.proofs.Joining.{if_ok}
+use Rattle.std.proofs.Common.{append_assoc}
+use Rattle.std.proofs.lemmas.Result.{MatchResult-weaker}
+use Rattle.drawing.specs.LettersDrawn.{turn_bars, line_in, line_bands_in, marks_in}
+use Rattle.drawing.specs.LettersPicture.{letters_shapes}
 use Rattle.drawing.proofs.Stretching.{stretches_are_bars}
 use Rattle.drawing.proofs.letters_picture.text_of.Goals as goal
 
 pub returns : goal.returns
-unfolding letters_in
+unfolding letters_shapes line_in line_bands_in marks_in
 returns c =
-    let run = c.args.run.now in
-    let S = run.scenario.now in
-    if_ok c.svg_text.result
+    MatchResult-weaker c.svg_text.result c.svg_text.ensures
     (λ text e. record {
-      bars = turn_bars run;
-      are_bars = λ q p. stretches_are_bars (suspects (upper_layer S.share) run.trace.now q p) 0 (row_end S run.ticks.until q);
+      bars = turn_bars c.args.run.now;
+      are_bars = λ q p. stretches_are_bars _ _ _;
       text_is =
-          e ∙ ap (λ h. svg_text (left_room + axis_width + right_room) (h + foot_room) c.in_ok-shapes_of.field-0.items) (c.lanes_bottom.ensures.value ∙ ap lanes_bottom c.processes.ensures.value)
-          ∙ ap (svg_text (left_room + axis_width + right_room) (lanes_bottom S.processes + foot_room)) c.in_ok-shapes_of.ensures;
+          rw (
+            e,
+            c.in_ok-push_all_marks.ensures,
+            c.in_ok-push_arrows.ensures,
+            c.in_ok-push_lines.ensures,
+            c.in_ok-push_axis.ensures,
+            c.in_ok-append.ensures.items,
+            c.in_ok-push_outage_legend.ensures,
+            c.in_ok-push_left_out.ensures,
+            c.in_ok-push_letters_legend.ensures,
+            c.new-shapes.ensures.items,
+            c.deref.ensures.value,
+            c.in_ok-bands.ensures,
+            c.count_others-others.ensures,
+            c.lanes_bottom-bottom.ensures.value,
+            c.processes.ensures.value,
+            c.share.ensures.value,
+          ) (simp append_assoc);
     })
-    c.svg_text.ensures
+    (λ error h. h)

@@ -1,24 +1,35 @@
-use Rattle.std.proofs.Common.{◌+◌, ◌∙◌, ap}
-use Rattle.judges.specs.Out.{suspects}
-use Rattle.svg.specs.Document.{svg_text}
-use Rattle.drawing.specs.Drawn.{bars_in, has_row_in, groups_end, suspicions_of}
-use Rattle.drawing.specs.Suspicions.{row_end}
-use Rattle.drawing.specs.Sizes.{left_room, axis_width, right_room, foot_room}
-use Rattle.drawing.proofs.Joining.{if_ok}
+use Rattle.std.proofs.Common.{append_assoc}
+use Rattle.std.proofs.lemmas.Result.{MatchResult-weaker}
+use Rattle.drawing.specs.Drawn.{bars_in, has_row_in, group_of, group_bands_of}
+use Rattle.drawing.specs.Layout.{left_out}
+use Rattle.drawing.specs.Suspicions.{suspicions}
 use Rattle.drawing.proofs.Stretching.{stretches_are_bars}
 use Rattle.drawing.proofs.suspicions.text_of.Goals as goal
 
 pub returns : goal.returns
-unfolding suspicions_of has_row_in
+unfolding suspicions group_of group_bands_of has_row_in left_out
 returns c =
-    let run = c.args.run.now in
-    let n = run.scenario.now.processes in
-    if_ok c.svg_text.result
+    let all = c.in_ok-rows.ensures.all in
+    MatchResult-weaker c.svg_text.result c.svg_text.ensures
     (λ text e. record {
-      bars = bars_in run;
-      are_bars = λ layer q p. stretches_are_bars (suspects layer run.trace.now q p) run.ticks.from (row_end run.scenario.now run.ticks.until q);
+      bars = bars_in c.args.run.now;
+      are_bars = λ layer q p. stretches_are_bars _ _ _;
       text_is =
-          e ∙ ap (λ h. svg_text (left_room + axis_width + right_room) (h + foot_room) c.in_ok-shapes_of.field-0.items) c.in_ok-rows.ensures.all.top
-          ∙ ap (svg_text (left_room + axis_width + right_room) (groups_end run n + foot_room)) c.in_ok-shapes_of.ensures;
+          rw (
+            e,
+            c.in_ok-append-2.ensures.items,
+            c.in_ok-push_axis.ensures,
+            c.in_ok-append.ensures.items,
+            c.in_ok-push_left_out.ensures,
+            c.in_ok-push_outage_legend.ensures,
+            c.in_ok-push_legend.ensures,
+            c.new-shapes.ensures.items,
+            c.deref.ensures.value,
+            all.bands,
+            all.left_out,
+            all.top,
+            all.shapes,
+            c.share.ensures.value,
+          ) (simp append_assoc);
     })
-    c.svg_text.ensures
+    (λ error h. h)

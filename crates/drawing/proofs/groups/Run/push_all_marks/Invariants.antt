@@ -1,8 +1,9 @@
-use Rattle.std.proofs.Common.{◌≡◌, ◌++◌, flat_map}
-use Rattle.process_api.specs.Numbers.{numbers_to}
+use Rattle.std.proofs.Common.{◌≡◌, ◌++◌, flat_map, take}
+use Rattle.judges.specs.declared.outcomes.Outcome.{Outcome}
 use Rattle.drawing.specs.LettersDrawn.{marks_in}
 use Rattle.drawing.proofs.groups.Run.push_all_marks.Given as goal
 
 -- the processes so far
 abbrev pub invariant-loop-outcome : goal.invariant-loop-outcome
-invariant-loop-outcome l = l.shapes.items ≡ l.initial.shapes.items ++ flat_map (marks_in l.self) (numbers_to l.outcome-index)
+invariant-loop-outcome l =
+    l.shapes.items ≡ l.initial.shapes.items ++ flat_map (λ (o : Outcome). marks_in l.self o.pid) (take l.outcome-index l.told)

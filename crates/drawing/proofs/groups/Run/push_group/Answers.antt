@@ -1,30 +1,35 @@
-use Rattle.std.proofs.Common.{◌∙◌, ◌++◌, refl, ap, arith, append_assoc, flat_map}
-use Rattle.drawing.specs.Drawn.{has_row_in, own_in, pair_in, group_of, bands_in, group_bands_of}
-use Rattle.drawing.specs.Layout.{subjects}
+use Rattle.std.proofs.Common.{◌≡◌, ◌∙◌, ◌-◌, ◌++◌, suc, sym, ap, subst, arith, append-nil, flat_map}
+use Rattle.process_api.specs.Numbers.{numbers_to, others}
+use Rattle.drawing.specs.Drawn.{AreRowsOf, has_row_in, pair_in, group_of, bands_in, group_bands_of, own_of}
+use Rattle.drawing.specs.Layout.{absent, group_height}
 use Rattle.drawing.specs.Suspicions.{group_shapes, group_bands}
-use Rattle.drawing.proofs.Counting.{few}
-use Rattle.drawing.proofs.RowShapes.{own_row}
+use Rattle.drawing.proofs.Counting.{groups_more, sum_more}
+use Rattle.drawing.proofs.Joining.{numbers_more}
 use Rattle.drawing.proofs.groups.Run.push_group.Goals as goal
 
-pub overflow_add-rows-2 : goal.overflow_add-rows-2
-overflow_add-rows-2 c =
-    let run = c.args.self.now in
-    let n = run.scenario.now.processes in
-    omega (arith, c.in_ok-push_pairs.ensures.top, few (has_row_in run c.args.observer) n c.args.observer, run.few, c.requires.high)
+pub loop-before-init : goal.loop-before-init
+loop-before-init c =
+    let old = c.requires.before in
+    record {
+      shapes = rw (c.in_ok-push_own.ensures, old.shapes, old.top) (simp append-nil);
+      bands = old.bands ∙ sym (append-nil _);
+      top = omega (arith, old.top);
+      left_out = omega (arith, old.left_out);
+    }
 
 pub returns : goal.returns
-unfolding group_of group_shapes group_bands_of group_bands own_in pair_in bands_in has_row_in
+unfolding group_of group_shapes group_bands_of group_bands pair_in bands_in has_row_in own_of
 returns c =
     let run = c.args.self.now in
-    let q = c.args.observer in
+    let q = c.args.told.now.pid in
     let n = run.scenario.now.processes in
-    let old = c.args.rows.now.shapes.items in
-    let p = c.in_ok-push_pairs.ensures in
+    let all : c.loop-before.before ≡ n = omega arith in
+    let p = subst (λ n. AreRowsOf run q (others n q) c.loop-before.rows) all c.loop-before.invariant in
+    let k = q - 1 in
+    let own : suc k ≡ q = omega (arith, c.requires.low) in
     record {
-      shapes =
-          p.shapes ∙ ap (λ t. t ++ flat_map (pair_in run q) (subjects (has_row_in run) n q)) (c.in_ok-push_own.ensures ∙ ap (λ t. old ++ t) (own_row run q _ refl c.requires.top))
-          ∙ append_assoc old (own_in run q) (flat_map (pair_in run q) (subjects (has_row_in run) n q));
-      bands = p.bands;
-      top = omega (arith, p.top);
-      left_out = p.left_out;
+      shapes = p.shapes ∙ sym (numbers_more (group_of run) k ∙ ap (λ q. flat_map (group_of run) (numbers_to k) ++ group_of run q) own);
+      bands = p.bands ∙ sym (numbers_more (group_bands_of run) k ∙ ap (λ q. flat_map (group_bands_of run) (numbers_to k) ++ group_bands_of run q) own);
+      top = omega (arith, p.top, groups_more (has_row_in run) n k, ap (group_height (has_row_in run) n) own);
+      left_out = omega (arith, p.left_out, sum_more (absent (has_row_in run) n) k, ap (absent (has_row_in run) n) own);
     }
