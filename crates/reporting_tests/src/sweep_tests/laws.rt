@@ -1,15 +1,19 @@
-//! The laws at texts that sweeps write: shards one after the other, and the whole.
-ghost use Rattle.std.specs.Prelude.{◌≡◌, ◌≤◌, IfOk};
+//! The laws at work: the points and the texts of shards one after the other, and of the whole; the seeds of runs.
+ghost use Rattle.std.specs.Prelude.{◌≡◌, ◌≤◌, ◌<◌, ◌-◌, ◌==◌, ℕ, [], length, map, IfOk, IfSome};
+ghost use Rattle.std.specs.List.{count_by, flat_map, range_with_len};
 ghost use Rattle.toml.specs.View.{table_view};
+ghost use Rattle.study.specs.Combinations.{combinations};
+ghost use Rattle.study.specs.Grid.{runs, turn};
 ghost use Rattle.sweep.specs.StudyText.{IsStudyText};
 
 use super::studies::seven_points;
 use reporting::MemoryOutlet;
-use std::alloc::Global;
+use std::alloc::{AllocError, Global};
 use std::marker::Sync;
+use std::ops::Range;
 use std::thread::Threads;
 use std::time::Clock;
-use study::{Grid, Shard};
+use study::{Grid, Shard, law_shards};
 use sweep::{Layout, SweepError, Unwatched, law_one_text, law_shard_texts, sweep};
 use toml::Table;
 
@@ -100,4 +104,72 @@ fn shards_make_the_whole(rt: HostRuntime) {
             "{shards} shards, {threads} threads"
         );
     }
+}
+
+/// Which of so many points each of so many shards has, one shard after the other: together they are all points.
+fn points_of_shards(alloc: Global, points: u32, shards: u32) -> Result<Vec<Range<u32>>, AllocError>
+    requires { 1 ≤ shards }
+    ensures { IfOk result
+        (λ v. flat_map (λ r. range_with_len r.start (r.end - r.start)) v.items ≡ range_with_len 0 points) }
+{
+    let mut ranges = Vec::new(alloc);
+    for before in 0..shards {
+        let Some(shard) = Shard::new(before + 1, shards) else {
+            unreachable!()
+        };
+        ranges.push(shard.points(points))?;
+    }
+    law_shards(shards);
+    Ok(ranges)
+}
+
+/// How many points more than another shard of so many a shard has: one at most.
+fn surplus(points: u32, number: u32, another: u32, shards: u32) -> Option<u32>
+    ensures { IfSome result (λ more. more ≤ 1) }
+{
+    let one = Shard::new(number, shards)?;
+    let other = Shard::new(another, shards)?;
+    law_shards(shards);
+    let (these, those) = (one.points(points), other.points(points));
+    Some((these.end - these.start).saturating_sub(those.end - those.start))
+}
+
+/// The seeds of two runs of a point, from 0, where no axis' values are added up: two different runs have different ones.
+fn two_seeds(alloc: Global, grid: &Grid, one: u64, other: u64) -> Result<(u64, u64), AllocError>
+    requires alone { grid.now.over ≡ [] }
+    requires one { one < length (runs grid.now) }
+    requires other { other < length (runs grid.now) }
+    ensures { IfOk result (λ seeds. seeds.0 ≡ seeds.1 → one ≡ other) }
+{
+    let first = grid.run(alloc, one)?;
+    let second = grid.run(alloc, other)?;
+    grid.law_deals();
+    Ok((first.seed, second.seed))
+}
+
+/// To how many seeds each of so many dealt combinations goes, where no axis' values are added up.
+fn seeds_of_each(grid: &Grid, dealt: u64) -> u64
+    requires alone { grid.now.over ≡ [] }
+    requires dealt { dealt ≡ length (combinations grid.now.deal) }
+    requires some { 1 ≤ dealt }
+    ensures { (c : ℕ) → c < dealt
+        → count_by (λ t. t == c) (map (turn grid.now) (range_with_len 0 grid.now.seeds)) ≡ result }
+{
+    grid.law_deals();
+    grid.runs() / dealt
+}
+
+/// Of seven points three shards have two or three each; and of six runs of the one point of a study without axes, each
+/// has its own seed.
+#[test]
+fn shards_share_points_and_runs_have_seeds(rt: HostRuntime) {
+    let alloc = rt.alloc();
+    let ranges = points_of_shards(alloc, 7, 3).expect(&rt, "no memory");
+    let (last, more) = (ranges.last().expect(&rt, "no shard"), surplus(7, 3, 1, 3));
+    assert!(rt; last.start == 4 && last.end == 7 && more == Some(1));
+    let none = || Vec::new(alloc);
+    let grid = Grid::new(alloc, none(), none(), none(), 1, 6).expect(&rt, "no study");
+    assert!(rt; grid.runs() > 5 && seeds_of_each(&grid, 1) == 6);
+    let seeds = two_seeds(alloc, &grid, 0, 5).expect(&rt, "no memory");
+    assert!(rt; seeds == (1, 6));
 }
