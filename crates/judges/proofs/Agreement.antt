@@ -6,22 +6,18 @@
 -- 2. Local: facts of one process, of its state and of all that it did so far. They speak of `Sent`, what anybody has sent
 --    in the whole run, and say nothing else of the others: an estimate stamped t > 0 is round t's proposal; a proposal is the
 --    best of a majority's estimates; who acknowledged round r stamps its later estimates r or more; a Decide has a majority's
---    acknowledgements behind it.
--- 3. Waits: one input keeps these facts, wait by wait.
--- 4. Coordinators: so they are an invariant of the list steps. A ghost log has what each process did so far, and each letter on
+--    acknowledgements behind it. One input keeps these facts, wait by wait.
+-- 3. Coordinators: so they are an invariant of the list steps. A ghost log has what each process did so far, and each letter on
 --    its way is in it. `Sent` is read from the log of the whole run.
--- 5. Locking: what follows for the values. A value that a majority acknowledged in round r is locked. A later proposal is the
---    best of a majority's estimates; two majorities meet (Majorities), so one of these is of a process that acknowledged, its
+-- 4. Locking: what follows for the values. A value that a majority acknowledged in round r is locked. A later proposal is the
+--    best of a majority's estimates; two majorities meet, so one of these is of a process that acknowledged, its
 --    stamp is r or more, and by induction on the round every proposal from r on has the locked value. Hence one locked value;
 --    and by going back from stamp to stamp, it was some process's proposal.
--- 6. OneValue: at the end of a trace every decision is of a locked value, and no process notes two answers.
--- 7. Agreed: this said of the outcomes, whose decisions are those among the notes of the entries (Answering).
-pub mod Majorities
+-- 5. At the end of a trace (Coordinators) every decision is of a locked value, and no process notes two answers.
+-- 6. Agreed: this said of the outcomes, whose decisions are those among the notes of the entries (Answering).
 pub mod Answering
 pub mod Locking
 pub mod Local
 pub mod Joined
-pub mod Waits
 pub mod Coordinators
-pub mod OneValue
 pub mod Agreed

@@ -15,11 +15,10 @@ use Rattle.judges.specs.Track.{Knows, new_track, passed, suspected_from, trusted
 use Rattle.judges.specs.Grid.{pair, place, counts_as_correct, row_suspected, column_suspected, row_trusted, column_trusted, column_right, grid_verdicts}
 use Rattle.judges.specs.declared.pairs.Pairs.{Pairs}
 use Rattle.judges.specs.declared.track.Track.{Track}
-use Rattle.judges.proofs.Judged.{AreTracks, judged}
+use Rattle.judges.proofs.Judging.{AreTracks, judged, verdicts_are}
 use Rattle.judges.proofs.Tracks.{tracks_keep, none_known}
 use Rattle.judges.proofs.Standing.{IsKnown, fed_known, shown, shown_all}
 use Rattle.judges.proofs.Below.{any_below-same}
-use Rattle.judges.proofs.Judging.{verdicts_are}
 
 latest-same : (o r : ℕ → Option ℕ) (n : ℕ) → ((i : ℕ) → i < n → o i ≡ r i) → latest_below o n ≡ latest_below r n
 latest-same o r zero h = refl

@@ -5,9 +5,6 @@ pub mod Turns
 pub mod Standing
 pub mod Entering
 pub mod Tracks
-pub mod Reaching
-pub mod Judged
-pub mod Accuracy
 pub mod Judging
 pub mod Meaning
 pub mod Closing
@@ -15,20 +12,14 @@ pub mod Order
 pub mod Adding
 pub mod Following
 -- the outcomes
-pub mod Noting
 pub mod Outcoming
 -- what the parts of a process do in every run
 pub mod Members
 pub mod Letters
 pub mod Algorithms
-pub mod Suspecting
-pub mod Sharing
 pub mod PartsActions
-pub mod Reacting
 pub mod Instances
 -- the rotating coordinator: its head says the argument
 pub mod Agreement
 -- shared suspicions
-pub mod Gathering
-pub mod Shared
 pub mod Blamed

@@ -1,3 +1,2 @@
-pub mod UnderWay
 pub mod Streamed
 pub mod Breaking

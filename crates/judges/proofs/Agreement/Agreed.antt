@@ -19,11 +19,11 @@ use Rattle.judges.specs.Meaning.{IsProcess}
 use Rattle.judges.specs.Outcomes.{notes_of, is_answer, value_of, outcome, outcomes}
 use Rattle.judges.specs.declared.outcomes.Answer.TheVariants as answer
 use Rattle.judges.specs.declared.outcomes.Outcome.{Outcome}
-use Rattle.judges.proofs.Agreement.OneValue.{trace_one_value, trace_proposed, trace_once}
+use Rattle.judges.proofs.Agreement.Coordinators.{trace_one_value, trace_proposed, trace_once}
 use Rattle.judges.proofs.Agreement.Answering.{answers_by, answers_are, value_in, decides_once}
 use Rattle.judges.proofs.Instances.{runs_coordinator}
 use Rattle.judges.proofs.Agreement.Joined.{RunsCoordinator}
-use Rattle.judges.proofs.Agreement.Majorities.{there_is}
+use Rattle.judges.proofs.Agreement.Locking.{there_is}
 use Rattle.judges.proofs.Members.{each_of, of_image}
 
 -- ---- what an outcome tells

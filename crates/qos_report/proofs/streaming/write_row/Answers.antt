@@ -1,6 +1,6 @@
 use Rattle.std.proofs.Common.{◌∙◌, ◌++◌, ◌∷◌, [], ap, Err}
 use Rattle.windows.proofs.Handed.{on_err}
-use Rattle.qos_report.proofs.UnderWay.{all_gone, part_out, row_kept}
+use Rattle.qos_report.proofs.Streamed.{all_gone, part_out, row_kept}
 use Rattle.qos_report.proofs.streaming.write_row.Goals as goal
 
 pub returns-in_err-write_text-clause-front : goal.returns-in_err-write_text-clause-front

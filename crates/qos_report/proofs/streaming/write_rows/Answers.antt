@@ -4,7 +4,7 @@ use Rattle.windows.proofs.Handed.{on_err}
 use Rattle.qos_report.specs.Streaming.{AreUnderWay, WroteFront}
 use Rattle.reporting.specs.Writing.{WrotePart}
 use Rattle.reporting.proofs.Fed.{err_part, split_at}
-use Rattle.qos_report.proofs.UnderWay.{front_more, part_out}
+use Rattle.qos_report.proofs.Streamed.{front_more, part_out}
 use Rattle.qos_report.proofs.streaming.write_rows.Goals as goal
 
 pub returns-in_err-write_row-clause-front : goal.returns-in_err-write_row-clause-front

@@ -5,7 +5,7 @@ use Rattle.reporting.specs.TraceText.{rows_text}
 use Rattle.reporting.specs.Writing.{Wrote}
 use Rattle.reporting.proofs.Fed.{on_ok}
 use Rattle.qos_report.specs.Streaming.{WroteWhere}
-use Rattle.qos_report.proofs.UnderWay.{where_nothing}
+use Rattle.qos_report.proofs.Streamed.{where_nothing}
 use Rattle.qos_report.proofs.streaming.StreamingSink.part.Goals as goal
 
 -- nothing of a part went out that couldn't be measured
