@@ -1,5 +1,5 @@
 //! Why a scenario's file is refused, and where.
-ghost use Rattle.std.specs.Prelude.{◌≡◌, Some, IfSome};
+ghost use Rattle.std.specs.Prelude.{◌≡◌, Some};
 ghost use Rattle.toml.specs.Data.{Members};
 ghost use Rattle.scenario.specs.Place.{table_of};
 ghost use Rattle.scenario.specs.Ranges.{subject_of};

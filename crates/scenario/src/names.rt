@@ -1,5 +1,5 @@
 //! Names that a scenario's file may give.
-ghost use Rattle.std.specs.Prelude.{◌≡◌, map, Some, IfSome};
+ghost use Rattle.std.specs.Prelude.{◌≡◌, map, Some};
 ghost use Rattle.std.specs.List.{list_any};
 ghost use Rattle.toml.specs.View.{table_view};
 ghost use Rattle.scenario.specs.Table.{same_text};
