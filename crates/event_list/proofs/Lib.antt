@@ -1,4 +1,3 @@
 pub mod Opening
 pub mod Recording
-pub mod Posting
 pub mod Standing

@@ -1,5 +1,6 @@
 -- How a run opens.
-use Rattle.std.proofs.Common.{◌≡◌, ℕ, ◌-◌, refl, sym, ap, ◌∙◌, List, [], ◌∷◌, slice_get, map}
+use Rattle.std.proofs.Common.{◌≡◌, ◌-◌, sym, ap, ◌∙◌, List, [], slice_get, map}
+use Rattle.std.proofs.lemmas.Simd.{map-map}
 use Rattle.process_api.specs.Mind.{Mind}
 use Rattle.process_api.specs.Numbers.{numbers_to}
 use Rattle.scenario_record.specs.Ranges.{IsInRange}
@@ -12,7 +13,7 @@ use Rattle.trace_laws.proofs.Closed.{opening_world}
 use Rattle.trace_laws.proofs.Reaching.{opening_reached}
 use Rattle.trace_laws.proofs.Sound.{setting_sound}
 use Rattle.steps.proofs.Openings.{number_at}
-use Rattle.event_list.proofs.Posting.{opening_posted}
+use Rattle.event_list.proofs.Standing.{opening_posted}
 
 -- machines that open as the scenario says stand at the opening
 pub opening_stands : (s : Record) → IsInRange s → (processes : List (Process Mind)) (pending : Events) → processes ≡ map opened (map (opening_mind s) (numbers_to s.processes)) → pending ≡ starts s.processes → Stands (setting_of s) processes pending [] []
@@ -21,10 +22,6 @@ opening_stands s is processes pending opens firsts = record {
   is_world = opening_world (setting_of s) (setting_sound s is);
   reached = opening_reached (setting_of s);
   posted = opening_posted (setting_of s);
-  process = λ p own. ap (λ ps. slice_get ps (p - 1)) (opens ∙ both_maps (numbers_to s.processes)) ∙ number_at (λ q. opened (opening_mind s q)) s.processes p own.0 own.1;
+  process = λ p own. ap (λ ps. slice_get ps (p - 1)) (opens ∙ map-map opened (opening_mind s) (numbers_to s.processes)) ∙ number_at (λ q. opened (opening_mind s q)) s.processes p own.0 own.1;
   events = sym firsts;
 }
-  where
-    both_maps : (xs : List ℕ) → map opened (map (opening_mind s) xs) ≡ map (λ q. opened (opening_mind s q)) xs
-    both_maps [] = refl
-    both_maps (x ∷ xs) = ap (λ ps. opened (opening_mind s x) ∷ ps) (both_maps xs)

@@ -1,6 +1,7 @@
 -- A run of the list, step by step.
-use Rattle.std.proofs.Common.{◌≡◌, ◌≢◌, ℕ, zero, suc, ◌-◌, ◌<◌, refl, sym, ap, ◌∙◌, subst, List, [], ◌∷◌, ◌++◌, length, Some, arith, cond, true, false, nat_eq, slice_get, slice_set, get_or, map}
-use borrow.Author.Tests.{eqb-true, eqb-false}
+use Rattle.std.proofs.Common.{◌≡◌, ◌≢◌, ℕ, zero, suc, ◌-◌, ◌<◌, refl, sym, ap, ◌∙◌, subst, List, [], ◌∷◌, ◌++◌, append_assoc, append-nil, length, Some, arith, slice_get, slice_set, get_or, map, option_map}
+use Rattle.std.proofs.lemmas.List.{get_or-map, get_or-set_same, length-map, length-set}
+use Rattle.std.proofs.lemmas.Option.{get_or_from_slice_get, slice_get-get_or, slice_get-map, slice_get_read, slice_get_within}
 use Rattle.std.specs.FinMap as events
 use Rattle.process_api.specs.EntryRecord.{EntryRecord}
 use Rattle.process_api.specs.Mind.{Mind}
@@ -11,27 +12,47 @@ use Rattle.scenario_record.specs.Record.{Record, place_in}
 use Rattle.trace_laws.specs.ScenarioSetting.{setting_of}
 use Rattle.pending_events.specs.Pending.{IsEmpty}
 use Rattle.trace_laws.specs.Setting.{Setting, IsSound, IsProcess}
-use Rattle.event_list.specs.Standing.{Stands, IsStepped}
+use Rattle.event_list.specs.Standing.{HasPosted, Stands, IsStepped}
 use Rattle.trace_laws.specs.Reached.{IsReached}
-use Rattle.steps.specs.Posting.{Posted, posted_in, ArePosted}
+use Rattle.steps.specs.Posting.{Posted, posted_in, posted_along, ArePosted}
 use Rattle.trace_laws.specs.Step.{Events, Process, step}
-use Rattle.trace_laws.specs.World.{Has, IsLeast, NoneBelow, taken, joined, IsTrace}
-use Rattle.event_list.proofs.Posting.{posted_next, posted_end}
+use Rattle.trace_laws.specs.World.{World, Has, IsLeast, NoneBelow, opening, made, taken, joined, IsTrace}
 use Rattle.trace_laws.proofs.Reaching.{reached_next, reached_end, reached_longer}
-use Rattle.trace_laws.proofs.Sets.{not_None, same_Some}
-use Rattle.trace_laws.proofs.Worlds.{taken_world}
+use Rattle.trace_laws.proofs.Runs.{again}
+use Rattle.trace_laws.proofs.Steps.{step_key}
+use Rattle.trace_laws.proofs.Sets.{same_Some}
+use Rattle.trace_laws.proofs.Worlds.{by_receiver, taken_world}
 
-none_below : (i : ℕ) → i < 0 → ⊥
-none_below i h = omega arith
+-- ---- the letters of a run, step by step
 
-one_less : (i n : ℕ) → suc i < suc n → i < n
-one_less i n h = omega arith
+module _ {Mind : Type 0} (S : Setting Mind) where
+  -- none yet
+  pub opening_posted : HasPosted S (opening S) []
+  opening_posted rest last r = (rest, r, refl)
+
+  -- one step further
+  pub posted_next : (w : World Mind) (letters : List Posted) (key : Key) (input : StepInput) → IsLeast w.pending key input → key.tick < S.horizon → HasPosted S w letters → HasPosted S (taken S w key input) (letters ++ posted_in S (w.process key.receiver) key input)
+  posted_next w letters key input least due was rest last r =
+      let before = was (((made S w key input).entry, input) ∷ rest) last (again S S.horizon w key input least due rest last r) in
+      let step = posted_in S (w.process key.receiver) key input in (
+        before.0,
+        before.1,
+        before.2
+            ∙ (ap (λ k. letters ++ (posted_in S (w.process k.receiver) k input ++ posted_along S (taken S w k input) rest)) (step_key S (w.process key.receiver) key input)
+            ∙ sym (append_assoc letters step (posted_along S (taken S w key input) rest))),
+      )
+
+  -- where no event is left, these are all
+  pub posted_end : (w : World Mind) (letters : List Posted) → HasPosted S w letters → NoneBelow S.horizon w.pending → ArePosted S letters
+  posted_end w letters was none =
+      let whole = was [] w (none, refl) in
+      (whole.0, w, whole.1, sym (whole.2 ∙ append-nil letters))
+
+-- ---- the processes and the events
 
 -- what stands at a place where a list was changed, and at another one
 set_same : {X : Type 0} (xs : List X) (i : ℕ) (v : X) → i < length xs → slice_get (slice_set xs i v) i ≡ Some v
-set_same [] i v h = absurd (none_below i h)
-set_same (x ∷ xs) zero v h = refl
-set_same (x ∷ xs) (suc i) v h = set_same xs i v (one_less i (length xs) h)
+set_same xs i v inside = slice_get-get_or (slice_set xs i v) i v (omega (arith, inside, length-set xs i v)) ∙ ap Some (get_or-set_same xs i v v inside)
 
 set_other : {X : Type 0} (xs : List X) (i j : ℕ) (v : X) → i ≢ j → slice_get (slice_set xs i v) j ≡ slice_get xs j
 set_other [] i j v apart = refl
@@ -61,16 +82,12 @@ module _ (S : Setting Mind) (processes : List (Process Mind)) (before : Events) 
   module _ (sound : IsSound S) (long : length processes ≡ S.processes) (after : Events) (removed : after ≡ events.remove before key) (later : List (Process Mind)) (joins : Events) (entry : EntryRecord)
       (made : IsStepped {S = S} processes later after joins key entry (step S (is.world.process key.receiver) key input)) where
     next_process : (p : ℕ) → IsProcess S p → slice_get later (p - 1) ≡ Some ((taken S is.world key input).process p)
-    next_process p own =
-        elim (nat_eq p key.receiver) as (λ b. nat_eq p key.receiver ≡ b → slice_get later (p - 1) ≡ Some (cond b (step S (is.world.process key.receiver) key input).process (is.world.process p))) [
-          | true ↦ λ e.
-              let same : p ≡ key.receiver = eqb-true p key.receiver e in
-              ap (λ n. slice_get later (n - 1)) same ∙ (ap (λ ps. slice_get ps (key.receiver - 1)) made.processes
-              ∙ set_same processes (key.receiver - 1) _ (omega (arith, long, first_receiver.0, first_receiver.1)))
-          | false ↦ λ e.
-              let apart : key.receiver - 1 ≢ p - 1 = λ h. eqb-false p key.receiver e (omega (arith, h, own.0, first_receiver.0)) in
-              ap (λ ps. slice_get ps (p - 1)) made.processes ∙ (set_other processes (key.receiver - 1) (p - 1) _ apart ∙ is.process p own)
-        ] refl
+    next_process =
+        by_receiver S is.world key input (λ p process. IsProcess S p → slice_get later (p - 1) ≡ Some process)
+        (λ own. ap (λ ps. slice_get ps (key.receiver - 1)) made.processes ∙ set_same processes (key.receiver - 1) _ (omega (arith, long, own.0, own.1)))
+        (λ p apart own.
+        let other : key.receiver - 1 ≢ p - 1 = λ e. apart (omega (arith, e, own.0, first_receiver.0)) in
+        ap (λ ps. slice_get ps (p - 1)) made.processes ∙ (set_other processes (key.receiver - 1) (p - 1) _ other ∙ is.process p own))
 
     pub stands_next : Stands S later joins (trace ++ entry ∷ []) (letters ++ posted_in S (is.world.process key.receiver) key input)
     stands_next = record {
@@ -101,14 +118,9 @@ stands_end S processes pending trace letters is none = (reached_end S is.world t
 
 -- what a list's images have at a place
 pub place_is : {X Y : Type 0} (f : X → Y) (xs : List X) (i : ℕ) (d : X) (b : Y) → slice_get (map f xs) i ≡ Some b → f (get_or xs i d) ≡ b
-place_is f [] i d b e = absurd (not_None b e)
-place_is f (x ∷ xs) zero d b e = same_Some (f x) b e
-place_is f (x ∷ xs) (suc i) d b e = place_is f xs i d b e
-
-image_there : {X Y : Type 0} (f : X → Y) (xs : List X) (i : ℕ) (d : X) → i < length xs → slice_get (map f xs) i ≡ Some (f (get_or xs i d))
-image_there f [] i d h = absurd (none_below i h)
-image_there f (x ∷ xs) zero d h = refl
-image_there f (x ∷ xs) (suc i) d h = image_there f xs i d (one_less i (length xs) h)
+place_is f xs i d b e =
+    let inside : i < length xs = omega (arith, slice_get_within (map f xs) i b e, length-map xs f) in
+    sym (get_or-map f xs i d b inside) ∙ get_or_from_slice_get (map f xs) i b b e
 
 pub image_at : {X Y : Type 0} (f : X → Y) (xs : List X) (i : ℕ) (x : X) → i < length xs → x ≡ get_or xs i x → slice_get (map f xs) i ≡ Some (f x)
-image_at f xs i x h e = image_there f xs i x h ∙ ap (λ y. Some (f y)) (sym e)
+image_at f xs i x inside is = slice_get-map f xs i ∙ ap (option_map f) (slice_get_read xs (length xs) i x refl inside is)

@@ -19,15 +19,7 @@ module _ {F : Type 0} (followed : F → F → List EntryRecord → Type 0) (told
 
 module _ {X : Type 0} (is : X → Type 0) (asked : Bool) where
   pub there_where : (x : X) → IsWhere asked is (Some x) → (asked ≡ true) × is x
-  there_where x = go asked
-    where
-      go : (b : Bool) → IsWhere b is (Some x) → (b ≡ true) × is x
-      go true h = (refl, h)
-      go false h = absurd h
+  there_where x = elim asked as (λ b. IsWhere b is (Some x) → (b ≡ true) × is x) [ true ↦ λ h. (refl, h) | false ↦ λ h. absurd h ]
 
   pub absent_where : IsWhere asked is None → asked ≡ false
-  absent_where = go asked
-    where
-      go : (b : Bool) → IsWhere b is None → b ≡ false
-      go true h = absurd h
-      go false h = refl
+  absent_where = elim asked as (λ b. IsWhere b is None → b ≡ false) [ true ↦ λ h. absurd h | false ↦ λ h. refl ]

@@ -1,5 +1,5 @@
 -- As many letters are lost as the entries of the trace count.
-use Rattle.std.proofs.Common.{◌≡◌, ℕ, ◌+◌, refl, sym, ap, ◌∙◌, subst, Bool, true, false, cond, List, [], ◌∷◌, ◌++◌, map, nat_le, Option, Some, None, arith, ◌==◌}
+use Rattle.std.proofs.Common.{◌≡◌, ℕ, ◌+◌, refl, sym, ap, ◌∙◌, Bool, true, false, cond, List, [], ◌∷◌, map, nat_le, arith, ◌==◌}
 use Rattle.std.specs.List.{count_by, sum_by}
 use Rattle.std.proofs.lemmas.List.Sums.{sum_by-append, sum_by-cons}
 use Rattle.process_api.specs.EntryRecord.{EntryRecord}
@@ -13,9 +13,10 @@ use Rattle.streams.specs.declared.fate.Fate.TheVariants as link
 use Rattle.steps.specs.Posting.{Posted, posting, posted_by, posted_in, posted_along}
 use Rattle.trace_laws.specs.ScenarioSetting.{setting_of}
 use Rattle.trace_laws.specs.Setting.{Setting, has_crashed}
-use Rattle.trace_laws.specs.Step.{Process, Made, counted, dead, is_lost as loses, lost, lost_by, made_by, step}
+use Rattle.trace_laws.specs.Step.{Process, counted, is_lost as loses, lost, lost_by, step}
 use Rattle.trace_laws.specs.World.{World, Pair, IsTrace, Run, entries, opening, taken}
 use Rattle.trace_laws.proofs.Runs.{one_run}
+use Rattle.letters.proofs.OneStep.{step_cases}
 use Rattle.letters.specs.Letters.{letter_of, due_of, fate_of, AreLetters}
 use Rattle.letters.specs.Traces.{AreLostAs, is_lost}
 use Rattle.letters.specs.declared.letter.Letter.{Letter}
@@ -48,12 +49,8 @@ module _ {Mind : Type 0} (S : Setting Mind) where
       omega (arith, parts, first, rest)
 
   of_step : (before : Process Mind) (key : Key) (x : StepInput) → many (posted_in S before key x) ≡ (step S before key x).entry.lost
-  of_step before key x = go (has_crashed (S.crash key.receiver) key.tick)
-    where
-      go : (b : Bool) → many (cond b [] (posted_by S key.receiver key.tick before.counts (S.react before.mind key.tick x).actions))
-          ≡ (cond b (record { process = before; entry = (dead key); added = [] }) (made_by S before key x (S.react before.mind key.tick x))).entry.lost
-      go true = refl
-      go false = of_actions key.receiver key.tick before.counts (S.react before.mind key.tick x).actions
+  of_step before key x =
+      step_cases S before key x (λ m posted. many posted ≡ m.entry.lost) refl (of_actions key.receiver key.tick before.counts (S.react before.mind key.tick x).actions)
 
   of_run : (end : ℕ) (w new : World Mind) (h : List Pair) → Run S end w h new → many (posted_along S w h) ≡ sum_by (λ e. e.lost) (entries h)
   of_run end w new [] run = refl

@@ -1,6 +1,8 @@
 -- On each link letters are numbered from 1, without a gap.
 use Rattle.std.proofs.Common.{◌≡◌, ◌≢◌, ℕ, ◌+◌, refl, sym, ap, ◌∙◌, subst, Bool, true, false, cond, List, [], ◌∷◌, ◌++◌, filter, length, map, arith, ◌==◌, ◌&&◌}
 use Rattle.std.specs.List.{range_with_len}
+use Rattle.std.proofs.lemmas.List.{length-append, map-append}
+use Rattle.std.proofs.lemmas.List.Elements.{filter-append}
 use Rattle.std.proofs.lemmas.Bool.{eqb-true, eqb-false, eq-eqb, ne_eqb}
 use Rattle.process_api.specs.declared.action.Action.{Action}
 use Rattle.process_api.specs.declared.action.Action.TheVariants.{Send, Wake, Note}
@@ -9,9 +11,10 @@ use Rattle.process_api.specs.declared.message.StepInput.{StepInput}
 use Rattle.scenario_record.specs.Record.{Record}
 use Rattle.steps.specs.Posting.{Posted, posting, posted_by, posted_in, posted_along}
 use Rattle.trace_laws.specs.ScenarioSetting.{setting_of}
-use Rattle.trace_laws.specs.Setting.{Setting, has_crashed}
-use Rattle.trace_laws.specs.Step.{Process, Made, counted, counts_after, raised, dead, made_by, step}
+use Rattle.trace_laws.specs.Setting.{Setting}
+use Rattle.trace_laws.specs.Step.{Process, counted, counts_after, raised, step}
 use Rattle.trace_laws.specs.World.{World, Pair, opening, taken}
+use Rattle.letters.proofs.OneStep.{step_cases}
 use Rattle.letters.specs.Letters.{letter_of, AreLetters}
 use Rattle.letters.specs.Traces.{AreNumbered, numbers_on}
 use Rattle.letters.specs.declared.letter.Letter.{Letter}
@@ -44,13 +47,9 @@ steps_from c d xs ys first rest =
     let same : d + 1 ≡ c + 1 + length xs = omega (arith, first.1) in
     from_append (c + 1) xs ys first.0 (subst (λ k. From k ys) same rest)
 
-length_both : (xs ys : List ℕ) → length (xs ++ ys) ≡ length xs + length ys
-length_both [] ys = omega arith
-length_both (x ∷ xs) ys = let later = length_both xs ys in omega (arith, later)
-
 steps_join : (c d e : ℕ) (xs ys : List ℕ) → Steps c xs d → Steps d ys e → Steps c (xs ++ ys) e
 steps_join c d e xs ys first rest =
-    let long = length_both xs ys in
+    let long = length-append xs ys in
     (steps_from c d xs ys first rest.0, omega (arith, first.1, rest.1, long))
 
 steps_as : (c d e : ℕ) (ns ms : List ℕ) → ns ≡ ms → d ≡ e → Steps c ms e → Steps c ns d
@@ -67,19 +66,8 @@ on p q l = (l.key.sender == p) && (l.key.receiver == q)
 abbrev its : (p q : ℕ) → List Posted → List ℕ
 its p q ls = map (λ l. l.key.number) (filter (on p q) ls)
 
-chosen : (b : Bool) (x : Posted) (us : List Posted) (ys : List ℕ) → map (λ l. l.key.number) (cond b (x ∷ us) us) ++ ys ≡ cond b (x.key.number ∷ (map (λ l. l.key.number) us ++ ys)) (map (λ l. l.key.number) us ++ ys)
-chosen true x us ys = refl
-chosen false x us ys = refl
-
-taken_out : (b : Bool) (x : Posted) (us : List Posted) → map (λ l. l.key.number) (cond b (x ∷ us) us) ≡ cond b (x.key.number ∷ map (λ l. l.key.number) us) (map (λ l. l.key.number) us)
-taken_out true x us = refl
-taken_out false x us = refl
-
 its_append : (p q : ℕ) (xs ys : List Posted) → its p q (xs ++ ys) ≡ its p q xs ++ its p q ys
-its_append p q [] ys = refl
-its_append p q (x ∷ xs) ys =
-    taken_out (on p q x) x (filter (on p q) (xs ++ ys))
-    ∙ (ap (λ l. cond (on p q x) (x.key.number ∷ l) l) (its_append p q xs ys) ∙ sym (chosen (on p q x) x (filter (on p q) xs) (its p q ys)))
+its_append p q xs ys = ap (map (λ l. l.key.number)) (filter-append (on p q) xs ys) ∙ map-append (λ (l : Posted). l.key.number) (filter (on p q) xs) (filter (on p q) ys)
 
 module _ {Mind : Type 0} (S : Setting Mind) where
   -- letters of a process on its link to another
@@ -141,25 +129,14 @@ module _ {Mind : Type 0} (S : Setting Mind) where
         ∙ (ap (λ l. l ++ its p q (posted_by S r now (counted r counts a) actions)) (one_other counts a) ∙ all_other (counted r counts a) actions)
 
   module _ (before : Process Mind) (key : Key) (x : StepInput) where
-    abbrev dead_or : Bool → Made S
-    dead_or b = cond b (record { process = before; entry = (dead key); added = [] }) (made_by S before key x (S.react before.mind key.tick x))
-
-    abbrev sent_or : Bool → List Posted
-    sent_or b = cond b [] (posted_by S key.receiver key.tick before.counts (S.react before.mind key.tick x).actions)
-
     step_own : (q : ℕ) → key.receiver ≢ q → Steps (before.counts q) (its key.receiver q (posted_in S before key x)) ((step S before key x).process.counts q)
-    step_own q apart = go (has_crashed (S.crash key.receiver) key.tick)
-      where
-        go : (b : Bool) → Steps (before.counts q) (its key.receiver q (sent_or b)) ((dead_or b).process.counts q)
-        go true = none (before.counts q)
-        go false = all_own key.receiver q key.tick apart before.counts (S.react before.mind key.tick x).actions
+    step_own q apart =
+        step_cases S before key x (λ m posted. Steps (before.counts q) (its key.receiver q posted) (m.process.counts q)) (none (before.counts q))
+        (all_own key.receiver q key.tick apart before.counts (S.react before.mind key.tick x).actions)
 
     step_other : (p q : ℕ) → key.receiver ≢ p → its p q (posted_in S before key x) ≡ []
-    step_other p q apart = go (has_crashed (S.crash key.receiver) key.tick)
-      where
-        go : (b : Bool) → its p q (sent_or b) ≡ []
-        go true = refl
-        go false = all_other p q key.receiver key.tick apart before.counts (S.react before.mind key.tick x).actions
+    step_other p q apart =
+        step_cases S before key x (λ _ posted. its p q posted ≡ []) refl (all_other p q key.receiver key.tick apart before.counts (S.react before.mind key.tick x).actions)
 
   along : (p q : ℕ) → p ≢ q → (h : List Pair) (w : World Mind) → From ((w.process p).counts q + 1) (its p q (posted_along S w h))
   along p q apart [] w = tt
@@ -196,13 +173,13 @@ module _ {Mind : Type 0} (S : Setting Mind) where
   -- what is told of them
   told_numbers : (p q : ℕ) (ls : List Posted) → numbers_on p q (map (letter_of S) ls) ≡ its p q ls
   told_numbers p q [] = refl
-  told_numbers p q (l ∷ ls) = go (on p q l) (told_numbers p q ls)
-    where
-      go : (b : Bool) → numbers_on p q (map (letter_of S) ls) ≡ its p q ls
-          → map (λ t. t.number) (cond b (letter_of S l ∷ filter (λ t. (t.sender == p) && (t.receiver == q)) (map (letter_of S) ls)) (filter (λ t. (t.sender == p) && (t.receiver == q)) (map (letter_of S) ls)))
-          ≡ map (λ m. m.key.number) (cond b (l ∷ filter (on p q) ls) (filter (on p q) ls))
-      go true rest = ap (λ ns. l.key.number ∷ ns) rest
-      go false rest = rest
+  told_numbers p q (l ∷ ls) =
+      let told = map (letter_of S) ls in
+      let here : Letter → Bool = λ t. (t.sender == p) && (t.receiver == q) in
+      elim (on p q l) as (λ b. map (λ t. t.number) (cond b (letter_of S l ∷ filter here told) (filter here told)) ≡ map (λ m. m.key.number) (cond b (l ∷ filter (on p q) ls) (filter (on p q) ls))) [
+        | true ↦ ap (λ ns. l.key.number ∷ ns) (told_numbers p q ls)
+        | false ↦ told_numbers p q ls
+      ]
 
 pub letters_are_numbered : (s : Record) (letters : List Letter) → AreLetters s letters → AreNumbered letters
 letters_are_numbered s letters (posted, (history, last, run, is), told) = λ p q apart.

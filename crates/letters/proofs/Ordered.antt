@@ -1,8 +1,7 @@
 -- Letters in the order of the steps that send them.
-use Rattle.std.proofs.Common.{◌≡◌, ◌⊎◌, ℕ, ◌+◌, ◌<◌, ◌≤◌, inl, inr, refl, sym, ap, ◌∙◌, subst, Bool, true, false, cond, true≢false, is_gt, nat_cmp, Ordering, Less, Equal, Greater, List, [], ◌∷◌, ◌++◌, map, arith, ◌==◌}
+use Rattle.std.proofs.Common.{◌≡◌, ◌⊎◌, ℕ, ◌+◌, ◌<◌, ◌≤◌, inl, inr, refl, sym, ◌∙◌, subst, Bool, true, false, cond, Less, List, [], ◌∷◌, ◌++◌, map, arith, ◌==◌}
 use Rattle.std.specs.List.{AllByRecursion}
-use Rattle.std.specs.Ordering.{ordering_then}
-use Rattle.std.proofs.lemmas.Cmp.{ranked}
+use Rattle.std.proofs.lemmas.Bool.Decides.{nat_tests}
 use Rattle.std.proofs.lemmas.List.Elements.{All-from_recursion}
 use Rattle.process_api.proofs.Lists.{both, images, weaker}
 use Rattle.process_api.specs.Order.{key_cmp}
@@ -15,31 +14,19 @@ use Rattle.scenario_record.specs.Record.{Record}
 use Rattle.trace_laws.specs.History.{IsIn, Pair}
 use Rattle.steps.specs.Posting.{Posted, posting, posted_by, posted_in, posted_along}
 use Rattle.trace_laws.specs.ScenarioSetting.{setting_of}
-use Rattle.trace_laws.specs.Setting.{Setting, has_crashed}
+use Rattle.trace_laws.specs.Setting.{Setting}
 use Rattle.trace_laws.specs.Step.{Process, counted}
 use Rattle.trace_laws.specs.World.{World, opening, taken}
 use Rattle.trace_laws.proofs.Closed.{trace_is_closed}
 use Rattle.trace_laws.proofs.Rising.{IsRising, rising_pairs}
 use Rattle.trace_laws.proofs.Sound.{setting_sound}
+use Rattle.letters.proofs.OneStep.{step_cases}
 use Rattle.letters.specs.Letters.{letter_of, IsNotAfter, AreInOrder, AreLetters}
 use Rattle.letters.specs.declared.letter.Letter.{Letter}
 
 -- of two keys that rise, the tick rises, or else the receiver doesn't fall
 step_first : (a b : Key) → key_cmp a b ≡ Less → (a.tick < b.tick) ⊎ ((a.tick ≡ b.tick) × (a.receiver ≤ b.receiver))
-step_first a b less = by_tick (nat_cmp a.tick b.tick) refl less
-  where
-    rest : Ordering
-    rest = ordering_then (nat_cmp a.sender b.sender) (nat_cmp a.number b.number)
-
-    by_receiver : (r : Ordering) → r ≡ nat_cmp a.receiver b.receiver → ordering_then r rest ≡ Less → a.receiver ≤ b.receiver
-    by_receiver Less e h = let is : a.receiver < b.receiver = ranked a.receiver b.receiver Less e in omega arith
-    by_receiver Equal e h = let is : a.receiver ≡ b.receiver = ranked a.receiver b.receiver Equal e in omega arith
-    by_receiver Greater e h = absurd (true≢false (ap is_gt h))
-
-    by_tick : (r : Ordering) → r ≡ nat_cmp a.tick b.tick → ordering_then r (ordering_then (nat_cmp a.receiver b.receiver) rest) ≡ Less → (a.tick < b.tick) ⊎ ((a.tick ≡ b.tick) × (a.receiver ≤ b.receiver))
-    by_tick Less e h = inl (ranked a.tick b.tick Less e)
-    by_tick Equal e h = inr (ranked a.tick b.tick Equal e, by_receiver (nat_cmp a.receiver b.receiver) refl h)
-    by_tick Greater e h = absurd (true≢false (ap is_gt h))
+step_first a b less = grind (arith, nat_tests)
 
 -- a letter isn't sent before a step
 abbrev Follows : Key → Posted → Type 0
@@ -84,23 +71,17 @@ module _ {Mind : Type 0} (S : Setting Mind) where
 
   -- the letters of a step are of its receiver at its tick
   step_of : (before : Process Mind) (key : Key) (x : StepInput) → AllByRecursion (IsOf key.receiver key.tick) (posted_in S before key x)
-  step_of before key x = go (has_crashed (S.crash key.receiver) key.tick)
-    where
-      go : (b : Bool) → AllByRecursion (IsOf key.receiver key.tick) (cond b [] (posted_by S key.receiver key.tick before.counts (S.react before.mind key.tick x).actions))
-      go true = tt
-      go false = all_of key.receiver key.tick before.counts (S.react before.mind key.tick x).actions
+  step_of before key x =
+      step_cases S before key x (λ _ posted. AllByRecursion (IsOf key.receiver key.tick) posted) tt (all_of key.receiver key.tick before.counts (S.react before.mind key.tick x).actions)
 
   -- those of later steps follow
   later_follow : (k : Key) (h : List Pair) → ((t : Pair) → IsIn t h → key_cmp k t.0.key ≡ Less) → (w : World Mind) → AllByRecursion (Follows k) (posted_along S w h)
   later_follow k [] after w = tt
   later_follow k (s ∷ h) after w =
       both (Follows k) (posted_in S (w.process s.0.key.receiver) s.0.key s.1) _
-      (weaker (IsOf s.0.key.receiver s.0.key.tick) (Follows k) (λ l is. go l is (step_first k s.0.key (after s (inl refl)))) _ (step_of (w.process s.0.key.receiver) s.0.key s.1))
+      (weaker (IsOf s.0.key.receiver s.0.key.tick) (Follows k) (λ l is. elim (step_first k s.0.key (after s (inl refl))) [ inl h ↦ inl (omega (arith, h, is.0)) | inr h ↦ inr (h.0 ∙ sym is.0, omega (arith, is.1, h.1)) ])
+      _ (step_of (w.process s.0.key.receiver) s.0.key s.1))
       (later_follow k h (λ t i. after t (inr i)) (taken S w s.0.key s.1))
-    where
-      go : (l : Posted) → IsOf s.0.key.receiver s.0.key.tick l → (k.tick < s.0.key.tick) ⊎ ((k.tick ≡ s.0.key.tick) × (k.receiver ≤ s.0.key.receiver)) → Follows k l
-      go l is (inl h) = inl (omega (arith, is.0))
-      go l is (inr h) = inr (h.0 ∙ sym is.0, omega (arith, is.1, h.1))
 
   along_ordered : (h : List Pair) → IsRising h → (w : World Mind) → Ordered (posted_along S w h)
   along_ordered [] rising w = tt

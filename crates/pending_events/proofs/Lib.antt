@@ -2,5 +2,3 @@ pub mod Falling
 pub mod Dealing
 pub mod Nearby
 pub mod Ordered
-pub mod Taken
-pub mod Tree

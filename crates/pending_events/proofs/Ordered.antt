@@ -1,5 +1,5 @@
 -- Pending events in buckets, as a finite set of events.
-use Rattle.std.proofs.Common.{◌≡◌, ◌≢◌, ◌⊎◌, ◌≤◌, ◌<◌, inl, inr, refl, sym, ap, ◌∙◌, subst, arith, Less, Equal, Greater, true, false, cond, List, [], ◌∷◌, ◌++◌, reverse, length, Option, Some, None, is_lt, is_eq, is_gt, true≢false, ℕ, nat_cmp, Ordering, get_or, length-append, ◌+◌, map, MatchOption, Result, Ok, Err, OnErr}
+use Rattle.std.proofs.Common.{◌≡◌, ◌≢◌, ◌⊎◌, ◌≤◌, ◌<◌, inl, inr, refl, sym, ap, ◌∙◌, subst, arith, Less, Equal, true, false, cond, List, [], ◌∷◌, ◌++◌, reverse, length, Option, Some, None, is_lt, is_eq, true≢false, ℕ, nat_cmp, get_or, length-append, ◌+◌, map, MatchOption, Result, Ok, Err, OnErr}
 use Rattle.std.specs.Global.{Vec}
 use Rattle.std.specs.BTreeMap as tree
 use Rattle.std.specs.FinMap as events
@@ -12,10 +12,10 @@ use Rattle.std.specs.Ordering.{eq_by_cmp}
 use Rattle.std.specs.Cmp.{nat_cmp_total}
 use Rattle.std.proofs.lemmas.Map.Views.{All-found}
 use Rattle.pending_events.specs.Pending.{IsEmpty, IsLeastTick}
-use Rattle.trace_laws.specs.World.{Has, IsLeast, NoneBelow}
+use Rattle.trace_laws.specs.World.{Has, IsLeast}
 use Rattle.trace_laws.proofs.Runs.{least_below}
 use Rattle.std.proofs.lemmas.Bool.{cases_eq, cases_lt}
-use Rattle.std.proofs.lemmas.Cmp.{ranked, tied_itself}
+use Rattle.std.proofs.lemmas.Cmp.{tied_itself}
 use Rattle.std.proofs.lemmas.List.Elements.{recursion_from_All}
 use Rattle.std.proofs.lemmas.List.{append-nil}
 use Rattle.process_api.specs.Order.{key_cmp}
@@ -26,26 +26,19 @@ use Rattle.pending_events.specs.Buckets.{latest, Falls, Buckets, bucket, HasTick
 use Rattle.pending_events.specs.Calendar.{near_at, held_at, IsVacant, IsCalendar, HoldsSame, IsAdded, IsFirst, IsTaken, IsInOrder, seen_at, all_held, flat_ring}
 use Rattle.trace_laws.specs.Step.{Event, Events}
 use Rattle.process_api.proofs.KeyOrder.{keys_total, exact_keys, same_or_not, ticks_rise}
-use Rattle.trace_laws.proofs.Sets.{apart, not_None}
-use Rattle.pending_events.proofs.Falling.{held, nat_apart, none_latest, all_weaker, all_front, all_reverse, or_None, find_append, latest_push, found_is, tied, latest_cons}
+use Rattle.trace_laws.proofs.Sets.{apart, not_None, tied}
+use Rattle.process_api.proofs.Lists.{weaker}
+use Rattle.pending_events.proofs.Falling.{all_parts, all_reverse, find_append, found_is, held, latest_cons, latest_push, nat_apart, none_latest, or_None}
 use Rattle.pending_events.proofs.Dealing.{by_found, none_of, latest_append}
-use Rattle.pending_events.proofs.Nearby.{held_own, ring_find, calendar_of, nothing_after}
-
-pub empty_is : (es : List Event) → length es ≡ 0 → es ≡ []
-empty_is [] h = refl
-empty_is (e ∷ es) h = absurd (omega (arith, h))
+use Rattle.pending_events.proofs.Nearby.{held_own, ring_find, calendar_of, nothing_after, other_map}
 
 -- events of another tick are not found
 pub other_tick : (t : ℕ) (q : Key) (es : List Event) → AllByRecursion (λ e. e.0.tick ≡ t) es → q.tick ≢ t → latest q es ≡ None
-other_tick t q es own n = none_latest q es (all_weaker (λ e is s. n (ap (λ (k : Key). k.tick) s ∙ is)) es own)
+other_tick t q es own n = none_latest q es (weaker _ _ (λ e is s. n (ap (λ (k : Key). k.tick) s ∙ is)) es own)
 
-rising : (a b : ℕ) → b ≢ a → is_gt (nat_cmp a b) ≡ false → a < b
-rising a b n h = go (nat_cmp a b) refl
-  where
-    go : (r : Ordering) → r ≡ nat_cmp a b → a < b
-    go Less e = ranked a b Less e
-    go Equal e = absurd (n (sym (ranked a b Equal e)))
-    go Greater e = absurd (true≢false (ap is_gt e ∙ h))
+-- nothing is due
+pub none_due : (tick : ℕ) (c : Calendar) → IsCalendar c → IsInOrder tick [] c
+none_due tick c h = record { calendar = h; due_own = tt; after = λ long t low. absurd (omega (arith, long)); falls = tt }
 
 -- the bucket of the least tick was taken and put in order
 module _ (tick least : ℕ) (m n : Calendar) (b : List Event) (h : IsInOrder tick [] m) (kept : IsCalendar n) (taken : IsTaken m n least b) where
@@ -53,11 +46,10 @@ module _ (tick least : ℕ) (m n : Calendar) (b : List Event) (h : IsInOrder tic
   own_taken = subst (AllByRecursion (λ e. e.0.tick ≡ least)) (sym taken.whole) (held_own m h.calendar least)
 
   none_up_to : (t : ℕ) → t ≤ least → held_at n t ≡ []
-  none_up_to t low = go (cases_eq t least)
-    where
-      go : (t ≡ least) ⊎ (t ≢ least) → held_at n t ≡ []
-      go (inl e) = ap (held_at n) e ∙ taken.gone
-      go (inr other) = taken.others t other ∙ taken.first.none_before t (omega (arith, low, other))
+  none_up_to t low = elim (cases_eq t least) [
+    | inl e ↦ ap (held_at n) e ∙ taken.gone
+    | inr other ↦ taken.others t other ∙ taken.first.none_before t (omega (arith, low, other))
+  ]
 
   module _ (sorted : List Event) (falls : Falls sorted) (as_found : (q : Key) → latest q sorted ≡ latest q b) where
     own_sorted : AllByRecursion (λ e. e.0.tick ≡ least) sorted
@@ -72,34 +64,21 @@ module _ (tick least : ℕ) (m n : Calendar) (b : List Event) (h : IsInOrder tic
     }
 
     pub refilled_same : (q : Key) → seen_at sorted n q ≡ seen_at [] m q
-    refilled_same q = go (cases_eq q.tick least)
-      where
-        go : (q.tick ≡ least) ⊎ (q.tick ≢ least) → seen_at sorted n q ≡ seen_at [] m q
-        go (inl e) =
-            ap (λ es. option_or (latest q sorted) (latest q es)) (ap (held_at n) e ∙ taken.gone)
-            ∙ (or_None (latest q sorted) ∙ (as_found q ∙ ap (latest q) (taken.whole ∙ sym (ap (held_at m) e))))
-        go (inr other) =
-            ap (λ o. option_or o (latest q (held_at n q.tick))) (other_tick least q sorted own_sorted other)
-            ∙ ap (latest q) (taken.others q.tick other)
+    refilled_same q = elim (cases_eq q.tick least) [
+      | inl e ↦
+          ap (λ es. option_or (latest q sorted) (latest q es)) (ap (held_at n) e ∙ taken.gone)
+          ∙ (or_None (latest q sorted) ∙ (as_found q ∙ ap (latest q) (taken.whole ∙ sym (ap (held_at m) e))))
+      | inr other ↦
+          ap (λ o. option_or o (latest q (held_at n q.tick))) (other_tick least q sorted own_sorted other)
+          ∙ ap (latest q) (taken.others q.tick other)
+    ]
 
     pub refilled_some : sorted ≡ [] → ⊥
     refilled_some none =
         let long : 0 < length b = subst (λ es. 0 < length es) (sym taken.whole) taken.first.some in
         omega (arith, long, none_of b (λ q. sym (as_found q) ∙ ap (latest q) none))
 
--- with nothing due, once the bucket was not put in order
-pub emptied : (tick : ℕ) (m n : Calendar) → IsInOrder tick [] m → IsCalendar n → IsInOrder tick [] n
-emptied tick m n h kept = record {
-  calendar = kept;
-  due_own = tt;
-  after = λ long t low. absurd (omega (arith, long));
-  falls = tt;
-}
-
 -- ---- as a set
-
-IsOwn : Buckets → Type 0
-IsOwn m = (t : ℕ) → AllByRecursion (λ e. e.0.tick ≡ t) (bucket m t)
 
 abbrev Row : Type 0
 Row = ℕ × Vec Event
@@ -121,21 +100,17 @@ flat_find : (ps : List Row) → IsStrictlySortedBy nat_cmp (tree_keys ps) → Al
 unfolding IsStrictlySortedBy
 flat_find [] sorted own q = refl
 flat_find (p ∷ ps) sorted own q =
-    find_append q (reverse p.1.items) (flat ps) ∙ (ap (option_or (latest q p.1.items)) (flat_find ps sorted.1 own.1 q) ∙ go (cases_eq q.tick p.0))
-  where
-    rest : Option (Vec Event)
-    rest = lookup (tree.is_at (nat_cmp q.tick)) ps
+    let rest : Option (Vec Event) = lookup (tree.is_at (nat_cmp q.tick)) ps in
+    find_append q (reverse p.1.items) (flat ps) ∙ (ap (option_or (latest q p.1.items)) (flat_find ps sorted.1 own.1 q) ∙ elim (cases_eq q.tick p.0) [
+      | inl e ↦
+          ap (λ o. option_or (latest q p.1.items) (latest q (held o))) (not_above q.tick ps (subst (λ t. AllByRecursion (λ y. nat_cmp t y ≡ Less) (tree_keys ps)) (sym e) sorted.0))
+          ∙ (or_None (latest q p.1.items) ∙ ap (λ b. latest q (held (cond b (Some p.1) rest))) (sym (same_tick q.tick p.0 e)))
+      | inr other ↦
+          ap (λ o. option_or o (latest q (held rest))) (other_tick p.0 q p.1.items own.0 other)
+          ∙ ap (λ b. latest q (held (cond b (Some p.1) rest))) (sym (nat_apart q.tick p.0 (λ e. other (sym e))))
+    ])
 
-    go : (q.tick ≡ p.0) ⊎ (q.tick ≢ p.0) → option_or (latest q p.1.items) (latest q (held rest)) ≡ latest q (held (cond (is_eq (nat_cmp q.tick p.0)) (Some p.1) rest))
-    go (inl e) =
-        ap (λ o. option_or (latest q p.1.items) (latest q (held o))) (not_above q.tick ps (subst (λ t. AllByRecursion (λ y. nat_cmp t y ≡ Less) (tree_keys ps)) (sym e) sorted.0))
-        ∙ (or_None (latest q p.1.items) ∙ ap (λ b. latest q (held (cond b (Some p.1) rest))) (sym (same_tick q.tick p.0 e)))
-    go (inr other) =
-        ap (λ o. option_or o (latest q (held rest))) (other_tick p.0 q p.1.items own.0 other)
-        ∙ ap (λ b. latest q (held (cond b (Some p.1) rest))) (sym (nat_apart q.tick p.0 (λ e. other (sym e))))
-
-own_rows : (m : Buckets) → tree.IsOrdered nat_cmp m → IsOwn m → AllByRecursion IsOwnRow m.entries
-unfolding IsOwn
+own_rows : (m : Buckets) → tree.IsOrdered nat_cmp m → ((t : ℕ) → AllByRecursion (λ e. e.0.tick ≡ t) (bucket m t)) → AllByRecursion IsOwnRow m.entries
 own_rows m ordered own = recursion_from_All IsOwnRow m.entries (λ k d h.
     let p = get_or m.entries k d in
     subst (AllByRecursion (λ e. e.0.tick ≡ p.0)) (ap held (All-found nat_cmp_total m ordered k d h)) (own p.0))
@@ -143,15 +118,11 @@ own_rows m ordered own = recursion_from_All IsOwnRow m.entries (λ k d h.
 abbrev pub seen : List Event → Calendar → Events
 seen due later = events.from_entries (reverse due ++ all_held later)
 
-own_is : (m : Buckets) → ((t : ℕ) → AllByRecursion (λ e. e.0.tick ≡ t) (bucket m t)) → IsOwn m
-unfolding IsOwn
-own_is m h = h
-
 all_find : (c : Calendar) → IsCalendar c → (q : Key) → find key_cmp q (all_held c) ≡ latest q (held_at c q.tick)
 all_find c h q =
     find_append q (flat_ring c.ring.items) (flat c.map.entries)
     ∙ (ap (λ o. option_or o (find key_cmp q (flat c.map.entries))) (ring_find c.from c.ring.items h.placed q)
-    ∙ (ap (option_or (latest q (near_at c.from c.ring.items q.tick))) (flat_find c.map.entries h.ordered (own_rows c.map h.ordered (own_is c.map h.own)) q)
+    ∙ (ap (option_or (latest q (near_at c.from c.ring.items q.tick))) (flat_find c.map.entries h.ordered (own_rows c.map h.ordered h.own) q)
     ∙ sym (latest_append q (bucket c.map q.tick) (near_at c.from c.ring.items q.tick))))
 
 get_seen : (tick : ℕ) (due : List Event) (later : Calendar) → IsInOrder tick due later → (q : Key) → events.get (seen due later) q ≡ seen_at due later q
@@ -165,23 +136,23 @@ seen_same tick tick2 due due2 later later2 h h2 same =
     events.same_map keys_total exact_keys (seen due2 later2) (seen due later) (λ q. get_seen tick2 due2 later2 h2 q ∙ (same q ∙ sym (get_seen tick due later h q)))
 
 -- a new set
-pub vacant_order : (c : Calendar) → IsCalendar c → IsInOrder 0 [] c
-vacant_order c h = record { calendar = h; due_own = tt; after = λ long t low. absurd (omega (arith, long)); falls = tt }
-
 pub vacant_seen : (c : Calendar) → IsCalendar c → IsVacant c → seen [] c ≡ events.empty
 vacant_seen c h none =
-    events.same_map keys_total exact_keys (seen [] c) events.empty (λ q. get_seen 0 [] c (vacant_order c h) q ∙ (ap (latest q) (none q.tick) ∙ sym (events.get-empty key_cmp q)))
+    events.same_map keys_total exact_keys (seen [] c) events.empty (λ q. get_seen 0 [] c (none_due 0 c h) q ∙ (ap (latest q) (none q.tick) ∙ sym (events.get-empty key_cmp q)))
+
+or_cases : (a b : Option StepInput) (y : StepInput) → option_or a b ≡ Some y → (a ≡ Some y) ⊎ (b ≡ Some y)
+or_cases (Some x) b y is = inl is
+or_cases None b y is = inr is
 
 -- an event is found where there is one
 found_some : (q : Key) (y : StepInput) (es : List Event) → latest q es ≡ Some y → es ≡ [] → ⊥
 found_some q y es h none = not_None y (sym (ap (latest q) none) ∙ h)
 
 after_due : (tick t : ℕ) (due : List Event) (later : Calendar) (q : Key) (y : StepInput) → IsInOrder tick due later → 0 < length due → latest q (held_at later t) ≡ Some y → tick < t
-after_due tick t due later q y h long found = go (cases_lt tick t)
-  where
-    go : (tick < t) ⊎ (t ≤ tick) → tick < t
-    go (inl less) = less
-    go (inr low) = absurd (found_some q y (held_at later t) found (h.after long t low))
+after_due tick t due later q y h long found = elim (cases_lt tick t) [
+  | inl less ↦ less
+  | inr low ↦ absurd (found_some q y (held_at later t) found (h.after long t low))
+]
 
 -- an event joins
 module _ (tick : ℕ) (due : List Event) (later new : Calendar) (key : Key) (x : StepInput) (h : IsInOrder tick due later) (behind : 0 < length due → tick < key.tick) (added : IsAdded later new key.tick (key, x)) (kept : IsCalendar new) where
@@ -217,47 +188,27 @@ none_of_tick tick due later h long there =
     omega (arith, h.calendar.full tick there, length-append (bucket later.map tick) (near_at later.from later.ring.items tick), ap length (h.after long tick (omega arith)))
 
 module _ (tick : ℕ) (due : List Event) (later : Calendar) (new : Buckets) (h : IsInOrder tick due later) (long : 0 < length due) (stowed : IsStowed later.map new tick due) where
-  stowed_calendar : IsCalendar (calendar_of later.from later.ring new)
-  stowed_calendar = record {
-    ordered = stowed.ordered;
-    full = λ t there. full t there (cases_eq t tick);
-    own = λ t. own t (cases_eq t tick);
-    placed = h.calendar.placed;
-    room = h.calendar.room;
-  }
-    where
-      own : (t : ℕ) → (t ≡ tick) ⊎ (t ≢ tick) → AllByRecursion (λ e. e.0.tick ≡ t) (bucket new t)
-      own t (inl e) = subst (AllByRecursion (λ f. f.0.tick ≡ t)) (sym (ap (bucket new) e ∙ stowed.here)) (subst (λ u. AllByRecursion (λ f. f.0.tick ≡ u) due) (sym e) h.due_own)
-      own t (inr other) = subst (AllByRecursion (λ f. f.0.tick ≡ t)) (sym (stowed.others t other)) (h.calendar.own t)
-
-      full : (t : ℕ) → HasTick new t → (t ≡ tick) ⊎ (t ≢ tick) → 0 < length (bucket new t)
-      full t there (inl e) = subst (λ es. 0 < length es) (sym (ap (bucket new) e ∙ stowed.here)) long
-      full t there (inr other) = subst (λ es. 0 < length es) (sym (stowed.others t other)) (h.calendar.full t (stowed.has t there other))
-
   pub stow_order : IsInOrder tick [] (calendar_of later.from later.ring new)
-  stow_order = record {
-    calendar = stowed_calendar;
-    due_own = tt;
-    after = λ short t low. absurd (omega (arith, short));
-    falls = tt;
-  }
+  stow_order =
+      none_due tick (calendar_of later.from later.ring new)
+      (other_map later h.calendar new stowed.ordered tick (subst (AllByRecursion (λ e. e.0.tick ≡ tick)) (sym stowed.here) h.due_own)
+      (λ _. subst (λ es. 0 < length es) (sym stowed.here) long) stowed.others stowed.has)
 
   none_near : near_at later.from later.ring.items tick ≡ []
   none_near = nothing_after (bucket later.map tick) (near_at later.from later.ring.items tick) (h.after long tick (omega arith))
 
   pub stow_same : (q : Key) → seen_at [] (calendar_of later.from later.ring new) q ≡ seen_at due later q
-  stow_same q = go q (cases_eq q.tick tick)
-    where
-      go : (q : Key) → (q.tick ≡ tick) ⊎ (q.tick ≢ tick) → seen_at [] (calendar_of later.from later.ring new) q ≡ seen_at due later q
-      go q (inl e) =
-          ap (λ t. latest q (held_at (calendar_of later.from later.ring new) t)) e
-          ∙ (ap (λ es. latest q (es ++ near_at later.from later.ring.items tick)) stowed.here
-          ∙ (ap (λ es. latest q (due ++ es)) none_near
-          ∙ (ap (latest q) (append-nil due)
-          ∙ sym (ap (λ es. option_or (latest q due) (latest q es)) (ap (held_at later) e ∙ h.after long tick (omega arith)) ∙ or_None (latest q due)))))
-      go q (inr other) =
-          ap (λ es. latest q (es ++ near_at later.from later.ring.items q.tick)) (stowed.others q.tick other)
-          ∙ sym (ap (λ o. option_or o (latest q (held_at later q.tick))) (other_tick tick q due h.due_own other))
+  stow_same q = elim (cases_eq q.tick tick) [
+    | inl e ↦
+        ap (λ t. latest q (held_at (calendar_of later.from later.ring new) t)) e
+        ∙ (ap (λ es. latest q (es ++ near_at later.from later.ring.items tick)) stowed.here
+        ∙ (ap (λ es. latest q (due ++ es)) none_near
+        ∙ (ap (latest q) (append-nil due)
+        ∙ sym (ap (λ es. option_or (latest q due) (latest q es)) (ap (held_at later) e ∙ h.after long tick (omega arith)) ∙ or_None (latest q due)))))
+    | inr other ↦
+        ap (λ es. latest q (es ++ near_at later.from later.ring.items q.tick)) (stowed.others q.tick other)
+        ∙ sym (ap (λ o. option_or o (latest q (held_at later q.tick))) (other_tick tick q due h.due_own other))
+  ]
 
 pub on_err : {X Y : Type 0} (r : Result X Y) (P : Type 0) → P → OnErr r P
 on_err (Ok x) P p = tt
@@ -287,16 +238,13 @@ module _ (tick : ℕ) (due new : List Event) (later : Calendar) (e : Event) (h :
   at_tick = found_is (λ k. k.tick ≡ tick) e.0 e.1 (reverse due) (all_reverse (λ f. f.0.tick ≡ tick) due h.due_own) popped.there
 
   some_due : 0 < length due
-  some_due = go due popped.there
-    where
-      go : (es : List Event) → latest e.0 es ≡ Some e.1 → 0 < length es
-      go [] f = absurd (not_None e.1 f)
-      go (f ∷ fs) g = omega arith
+  some_due =
+      elim due as (λ es. latest e.0 es ≡ Some e.1 → 0 < length es) [ [] ↦ λ f. absurd (not_None e.1 f) | f ∷ fs ↦ λ _. omega arith ] popped.there
 
   pub pop_order : IsInOrder tick new later
   pop_order = record {
     calendar = h.calendar;
-    due_own = all_front (λ f. f.0.tick ≡ tick) new popped.more (subst (AllByRecursion (λ f. f.0.tick ≡ tick)) popped.front h.due_own);
+    due_own = (all_parts _ new popped.more (subst (AllByRecursion (λ f. f.0.tick ≡ tick)) popped.front h.due_own)).0;
     after = λ long. h.after some_due;
     falls = popped.falls;
   }
@@ -304,17 +252,11 @@ module _ (tick : ℕ) (due new : List Event) (later : Calendar) (e : Event) (h :
   pub pop_least_is : IsLeast (seen due later) e.0 e.1
   pop_least_is = record {
     there = get_seen tick due later h e.0 ∙ ap (λ o. option_or o (latest e.0 (held_at later e.0.tick))) popped.there;
-    none_before = λ q y there. before q y (latest q due) refl (sym (get_seen tick due later h q) ∙ there);
+    none_before = λ q y there less. elim (or_cases (latest q due) _ y (sym (get_seen tick due later h q) ∙ there)) [
+      | inl found ↦ true≢false (sym (ap is_lt less) ∙ found_is (λ k. is_lt (key_cmp k e.0) ≡ false) q y (reverse due) (all_reverse (λ f. is_lt (key_cmp f.0 e.0) ≡ false) due popped.least) found)
+      | inr found ↦ omega (arith, after_due tick q.tick due later q y h some_due found, ticks_rise q e.0 less, at_tick)
+    ];
   }
-    where
-      before : (q : Key) (y : StepInput) (o : Option StepInput) → latest q due ≡ o → seen_at due later q ≡ Some y → key_cmp q e.0 ≢ Less
-      before q y (Some z) is there less =
-          true≢false (sym (ap is_lt less) ∙ found_is (λ k. is_lt (key_cmp k e.0) ≡ false) q z (reverse due) (all_reverse (λ f. is_lt (key_cmp f.0 e.0) ≡ false) due popped.least) is)
-      before q y None is there less =
-          let found : latest q (held_at later q.tick) ≡ Some y = sym (ap (λ o. option_or o (latest q (held_at later q.tick))) is) ∙ there in
-          let far = after_due tick q.tick due later q y h some_due found in
-          let near = ticks_rise q e.0 less in
-          omega (arith, far, near, at_tick)
 
   pub pop_same : seen new later ≡ events.remove (seen due later) e.0
   pop_same = events.same_map keys_total exact_keys (seen new later) (events.remove (seen due later) e.0) (λ q.
@@ -352,44 +294,38 @@ taken_removed (Some e) tick old new later h is = pop_same tick old new later e h
 
 last_found : (es : List Event) → 0 < length es → (k : Key) × (y : StepInput) × (latest k es ≡ Some y)
 last_found [] long = absurd (omega (arith, long))
-last_found (e ∷ es) long = go (latest e.0 es) refl
-  where
-    go : (o : Option StepInput) → latest e.0 es ≡ o → (k : Key) × (y : StepInput) × (latest k (e ∷ es) ≡ Some y)
-    go (Some y) is = (e.0, y, latest_cons e.0 e es ∙ ap (λ o. option_or o (cond (eq_by_cmp key_cmp e.0 e.0) (Some e.1) None)) is)
-    go None is = (e.0, e.1, latest_cons e.0 e es ∙ (ap (λ o. option_or o (cond (eq_by_cmp key_cmp e.0 e.0) (Some e.1) None)) is ∙ ap (λ b. cond b (Some e.1) None) (tied e.0 e.0 refl)))
+last_found (e ∷ es) long = elim (latest e.0 es) as (λ o. latest e.0 es ≡ o → (k : Key) × (y : StepInput) × (latest k (e ∷ es) ≡ Some y)) [
+  | Some y ↦ λ is. (e.0, y, latest_cons e.0 e es ∙ ap (λ o. option_or o (cond (eq_by_cmp key_cmp e.0 e.0) (Some e.1) None)) is)
+  | None ↦ λ is. (e.0, e.1, latest_cons e.0 e es ∙ (ap (λ o. option_or o (cond (eq_by_cmp key_cmp e.0 e.0) (Some e.1) None)) is ∙ ap (λ b. cond b (Some e.1) None) (tied e.0 e.0 refl)))
+] refl
 
 -- an event of the tick is there, and none is below it
 least_at : (m : Events) (t : ℕ) (k : Key) (y : StepInput) → Has m k y → k.tick ≡ t → ((q : Key) (z : StepInput) → Has m q z → t ≤ q.tick) → IsLeastTick m t
-least_at m t k y there at low = go (least_below (k.tick + 1) m)
-  where
-    go : NoneBelow (k.tick + 1) m ⊎ ((l : Key) × (x : StepInput) × IsLeast m l x × (l.tick < k.tick + 1)) → IsLeastTick m t
-    go (inl none) = let far = none k y there in absurd (omega (arith, far))
-    go (inr l) = let below = l.3 in let above = low l.0 l.1 l.2.there in (l.0, l.1, l.2, omega (arith, below, above, at))
+least_at m t k y there at low = elim (least_below (k.tick + 1) m) [
+  | inl none ↦ absurd (omega (arith, none k y there))
+  | inr (l, x, least, below) ↦ (l, x, least, omega (arith, below, low l x least.there, at))
+]
 
 pub tick_of_due : (tick : ℕ) (due : List Event) (later : Calendar) → IsInOrder tick due later → 0 < length due → IsLeastTick (seen due later) tick
 tick_of_due tick due later h long =
+    let own = all_reverse (λ g. g.0.tick ≡ tick) due h.due_own in
     let f = last_found due long in
-    let at : f.0.tick ≡ tick = found_is (λ k. k.tick ≡ tick) f.0 f.1 (reverse due) (all_reverse (λ g. g.0.tick ≡ tick) due h.due_own) f.2 in
+    let at : f.0.tick ≡ tick = found_is (λ k. k.tick ≡ tick) f.0 f.1 (reverse due) own f.2 in
     least_at (seen due later) tick f.0 f.1 (get_seen tick due later h f.0 ∙ ap (λ o. option_or o (latest f.0 (held_at later f.0.tick))) f.2) at
-    (λ q z there. low q z (latest q due) refl (sym (get_seen tick due later h q) ∙ there))
-  where
-    low : (q : Key) (z : StepInput) (o : Option StepInput) → latest q due ≡ o → seen_at due later q ≡ Some z → tick ≤ q.tick
-    low q z (Some w) is there = let at = found_is (λ k. k.tick ≡ tick) q w (reverse due) (all_reverse (λ g. g.0.tick ≡ tick) due h.due_own) is in omega (arith, at)
-    low q z None is there =
-        let found : latest q (held_at later q.tick) ≡ Some z = sym (ap (λ o. option_or o (latest q (held_at later q.tick))) is) ∙ there in
-        let far = after_due tick q.tick due later q z h long found in
-        omega (arith, far)
+    (λ q z there. elim (or_cases (latest q due) _ z (sym (get_seen tick due later h q) ∙ there)) [
+      | inl found ↦ omega (arith, found_is (λ k. k.tick ≡ tick) q z (reverse due) own found)
+      | inr found ↦ omega (arith, after_due tick q.tick due later q z h long found)
+    ])
 
 pub tick_of_later : (tick : ℕ) (later : Calendar) (least : ℕ) → IsInOrder tick [] later → IsFirst later least → IsLeastTick (seen [] later) least
 tick_of_later tick later least h first =
     let f = last_found (held_at later least) first.some in
     let at : f.0.tick ≡ least = found_is (λ k. k.tick ≡ least) f.0 f.1 (reverse (held_at later least)) (all_reverse (λ g. g.0.tick ≡ least) (held_at later least) (held_own later h.calendar least)) f.2 in
     least_at (seen [] later) least f.0 f.1 (get_seen tick [] later h f.0 ∙ (ap (λ t. latest f.0 (held_at later t)) at ∙ f.2)) at
-    (λ q z there. low q z (cases_lt q.tick least) (sym (get_seen tick [] later h q) ∙ there))
-  where
-    low : (q : Key) (z : StepInput) → (q.tick < least) ⊎ (least ≤ q.tick) → latest q (held_at later q.tick) ≡ Some z → least ≤ q.tick
-    low q z (inl less) found = absurd (found_some q z (held_at later q.tick) found (first.none_before q.tick less))
-    low q z (inr is) found = is
+    (λ q z there. elim (cases_lt q.tick least) [
+      | inl less ↦ absurd (found_some q z (held_at later q.tick) (sym (get_seen tick [] later h q) ∙ there) (first.none_before q.tick less))
+      | inr is ↦ is
+    ])
 
 pub tick_of : (o : Option ℕ) (tick : ℕ) (later : Calendar) → IsInOrder tick [] later → MatchOption o (IsVacant later) (IsFirst later) → MatchOption o (IsEmpty (seen [] later)) (λ t. IsLeastTick (seen [] later) t)
 tick_of None tick later h is = seen_none tick later h is

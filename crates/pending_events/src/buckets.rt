@@ -58,22 +58,15 @@ fn drop_last(bucket: &mut Vec<Event>)
     bucket.pop();
 }
 
-/// An empty bucket: one that was kept for reuse, or a new one.
-fn empty_bucket(alloc: Global, spare: &mut Vec<Vec<Event>>) -> Vec<Event>
-    ensures { result.items ≡ [] }
+/// Gives an empty bucket the memory of one that was kept for reuse.
+pub(crate) fn furnish(spare: &mut Vec<Vec<Event>>, bucket: &mut Vec<Event>)
+    requires { bucket.old.items ≡ [] }
+    ensures { bucket.new.items ≡ [] }
 {
-    match spare.pop() {
-        Some(mut bucket) => {
-            bucket.clear();
-            bucket
-        }
-        None => Vec::new(alloc),
+    if let Some(mut kept) = spare.pop() {
+        kept.clear();
+        *bucket = kept;
     }
-}
-
-/// Keeps a bucket for reuse, or lets it go where there is no room.
-fn keep_bucket(spare: &mut Vec<Vec<Event>>, bucket: Vec<Event>) {
-    drop(spare.push(bucket));
 }
 
 /// Adds an event to the bucket of a tick.
@@ -93,7 +86,8 @@ pub(crate) fn file(
         bucket.push(event)?;
         return Ok(());
     }
-    let mut bucket = empty_bucket(alloc, spare);
+    let mut bucket = Vec::new(alloc);
+    furnish(spare, &mut bucket);
     bucket.push(event)?;
     later.insert(tick, bucket)?;
     Ok(())
@@ -156,7 +150,8 @@ pub(crate) fn refill(
     }
     if let Some((least, mut bucket)) = later.take_first()? {
         put_in_order(lanes, &mut bucket)?;
-        keep_bucket(spare, mem::replace(due, bucket));
+        // kept for reuse, or let go where there is no room
+        drop(spare.push(mem::replace(due, bucket)));
         *tick = least;
     }
     Ok(())

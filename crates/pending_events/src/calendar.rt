@@ -6,7 +6,7 @@ ghost use Rattle.pending_events.specs.Buckets.{HasTick, bucket};
 ghost use Rattle.pending_events.specs.Calendar.{HoldsSame, IsAdded, IsCalendar, IsFirst, IsNear, IsTaken, IsVacant, NoneAhead, near_at, year};
 ghost use Rattle.pending_events.specs.Lanes.{lane};
 
-use crate::buckets::file;
+use crate::buckets::{file, furnish};
 use crate::lanes::open_lanes;
 use std::alloc::{AllocError, Global};
 use std::collections::BTreeMap;
@@ -128,10 +128,7 @@ fn take_listed(alloc: Global, map: &mut BTreeMap<u32, Vec<Event>>, tick: u32) ->
     ensures others { (t : ℕ) → t ≢ tick → get nat_cmp map.new t ≡ get nat_cmp map.old t }
     ensures ordered { IsOrdered nat_cmp map.new }
 {
-    match map.remove(&tick) {
-        Some(bucket) => bucket,
-        None => Vec::new(alloc),
-    }
+    map.remove(&tick).unwrap_or(Vec::new(alloc))
 }
 
 /// Takes the events of a tick out of the ring, if the tick is in the year.
@@ -158,17 +155,6 @@ fn followed_by(mut early: Vec<Event>, mut late: Vec<Event>) -> Result<Vec<Event>
     }
     early.append(&mut late)?;
     Ok(early)
-}
-
-/// Gives an empty bucket the memory of one that was kept for reuse.
-fn furnish(spare: &mut Vec<Vec<Event>>, bucket: &mut Vec<Event>)
-    requires { bucket.old.items ≡ [] }
-    ensures { bucket.new.items ≡ [] }
-{
-    if let Some(mut kept) = spare.pop() {
-        kept.clear();
-        *bucket = kept;
-    }
 }
 
 /// Adds an event to the end of a bucket.

@@ -45,34 +45,17 @@ fn due_after(horizon: u32, sent: Key, ticks: u32) -> Option<Key>
     None
 }
 
-/// A count of 0 for each process, and one for place 0.
-fn zeros(alloc: Global, processes: u16) -> Result<Vec<u64>, AllocError>
-    ensures { IfOk result (λ v. v.items ≡ replicate (processes + 1) 0) }
-{
-    let mut counts = Vec::new(alloc);
-    for _k in 0..usize::from(processes) + 1 {
-        counts.push(0)?;
-    }
-    Ok(counts)
-}
-
-/// No words yet of the link to any process.
-fn no_words(alloc: Global, processes: u16) -> Result<Vec<LinkWords>, AllocError> {
-    let mut words = Vec::new(alloc);
-    for _k in 0..usize::from(processes) + 1 {
-        words.push(LinkWords::new())?;
-    }
-    Ok(words)
-}
-
 impl Links {
     /// The links of a process that put nothing on any of them.
     pub fn new(alloc: Global, horizon: u32, processes: u16) -> Result<Links, AllocError>
         ensures horizon { IfOk result (λ l. l.horizon ≡ horizon) }
         ensures counts { IfOk result (λ l. l.counts.items ≡ replicate (processes + 1) 0) }
     {
-        let counts = zeros(alloc, processes)?;
-        let words = no_words(alloc, processes)?;
+        // one for each process, and one for place 0
+        let places = usize::from(processes) + 1;
+        let counts = vec![in alloc; 0; places]?;
+        let mut words = Vec::new(alloc);
+        words.resize_with(places, LinkWords::new)?;
         Ok(Links {
             horizon,
             counts,

@@ -30,26 +30,18 @@ pub record ActAlike {A B : Type 0} (react : A → ℕ → StepInput → Answer A
   pub stay : (a : A) (b : B) (now : ℕ) (x : StepInput) → Alike a b → Alike (react a now x).state (its b now x).state
 
 module _ {A B : Type 0} (S : Setting A) (opening : ℕ → B) (its : B → ℕ → StepInput → Answer B) (Alike : A → B → Type 0) (alike : ActAlike S.react its Alike) where
-  T : Setting B
-  T = with_minds S opening its
+  -- one action, and all of a step
+  same_one : (p now : ℕ) (counts : ℕ → ℕ) (a : Action) → (lost_by S p now counts a ≡ lost_by (with_minds S opening its) p now counts a) × (joining S p now counts a ≡ joining (with_minds S opening its) p now counts a)
+  same_one p now counts (Send to what) = (refl, refl)
+  same_one p now counts (Wake pause for) = (refl, refl)
+  same_one p now counts (Note note) = (refl, refl)
 
-  same_lost_by : (p now : ℕ) (counts : ℕ → ℕ) (a : Action) → lost_by S p now counts a ≡ lost_by (with_minds S opening its) p now counts a
-  same_lost_by p now counts (Send to what) = refl
-  same_lost_by p now counts (Wake pause for) = refl
-  same_lost_by p now counts (Note note) = refl
-
-  same_lost : (p now : ℕ) (counts : ℕ → ℕ) (actions : List Action) → lost S p now counts actions ≡ lost (with_minds S opening its) p now counts actions
-  same_lost p now counts [] = refl
-  same_lost p now counts (a ∷ actions) = λ i. same_lost_by p now counts a i + same_lost p now (counted p counts a) actions i
-
-  same_joining : (p now : ℕ) (counts : ℕ → ℕ) (a : Action) → joining S p now counts a ≡ joining (with_minds S opening its) p now counts a
-  same_joining p now counts (Send to what) = refl
-  same_joining p now counts (Wake pause for) = refl
-  same_joining p now counts (Note note) = refl
-
-  same_added : (p now : ℕ) (counts : ℕ → ℕ) (actions : List Action) → added S p now counts actions ≡ added (with_minds S opening its) p now counts actions
-  same_added p now counts [] = refl
-  same_added p now counts (a ∷ actions) = λ i. same_joining p now counts a i ++ same_added p now (counted p counts a) actions i
+  same_all : (p now : ℕ) (counts : ℕ → ℕ) (actions : List Action) → (lost S p now counts actions ≡ lost (with_minds S opening its) p now counts actions) × (added S p now counts actions ≡ added (with_minds S opening its) p now counts actions)
+  same_all p now counts [] = (refl, refl)
+  same_all p now counts (a ∷ actions) =
+      let one = same_one p now counts a in
+      let rest = same_all p now (counted p counts a) actions in
+      ((λ i. one.0 i + rest.0 i), (λ i. one.1 i ++ rest.1 i))
 
   abbrev pub AreAlike : Process A → Process B → Type 0
   AreAlike a b = Alike a.mind b.mind × (a.counts ≡ b.counts)
@@ -61,32 +53,19 @@ module _ {A B : Type 0} (S : Setting A) (opening : ℕ → B) (its : B → ℕ �
     added : m.added ≡ n.added
 
   same_step : (a : Process A) (b : Process B) → AreAlike a b → (key : Key) (x : StepInput) → SameMade (step S a key x) (step (with_minds S opening its) b key x)
-  same_step a b same key x = go (has_crashed (S.crash key.receiver) key.tick)
-    where
-      acts : (S.react a.mind key.tick x).actions ≡ (its b.mind key.tick x).actions
-      acts = alike.same a.mind b.mind key.tick x same.0
-
-      go : (down : Bool) → SameMade (cond down (record { process = a; entry = dead key; added = [] }) (made_by S a key x (S.react a.mind key.tick x)))
-          (cond down (record { process = b; entry = dead key; added = [] }) (made_by (with_minds S opening its) b key x (its b.mind key.tick x)))
-      go true = record { process = same; entry = refl; added = refl }
-      go false = record {
-        process = (alike.stay a.mind b.mind key.tick x same.0, λ i. counts_after key.receiver (same.1 i) (acts i));
-        entry = (λ i. record {
-          key = key;
-          kind = kind_of x;
-          sent = sent (acts i);
-          lost = lost S key.receiver key.tick (same.1 i) (acts i);
-          notes = noted (acts i);
-        })
-            ∙ (λ i. record {
-              key = key;
-              kind = kind_of x;
-              sent = sent (its b.mind key.tick x).actions;
-              lost = same_lost key.receiver key.tick b.counts (its b.mind key.tick x).actions i;
-              notes = noted (its b.mind key.tick x).actions;
-            });
-        added = (λ i. added S key.receiver key.tick (same.1 i) (acts i)) ∙ same_added key.receiver key.tick b.counts (its b.mind key.tick x).actions;
-      }
+  same_step a b same key x =
+      let acts : (S.react a.mind key.tick x).actions ≡ (its b.mind key.tick x).actions = alike.same a.mind b.mind key.tick x same.0 in
+      let all = same_all key.receiver key.tick b.counts (its b.mind key.tick x).actions in
+      let lost_is = (λ i. lost S key.receiver key.tick (same.1 i) (acts i)) ∙ all.0 in
+      elim (has_crashed (S.crash key.receiver) key.tick) as (λ down. SameMade (cond down (record { process = a; entry = dead key; added = [] }) (made_by S a key x (S.react a.mind key.tick x)))
+      (cond down (record { process = b; entry = dead key; added = [] }) (made_by (with_minds S opening its) b key x (its b.mind key.tick x)))) [
+        | true ↦ record { process = same; entry = refl; added = refl }
+        | false ↦ record {
+          process = (alike.stay a.mind b.mind key.tick x same.0, λ i. counts_after key.receiver (same.1 i) (acts i));
+          entry = λ i. record { key = key; kind = kind_of x; sent = sent (acts i); lost = lost_is i; notes = noted (acts i) };
+          added = (λ i. added S key.receiver key.tick (same.1 i) (acts i)) ∙ all.1;
+        }
+      ]
 
   -- the plain program of both
   pub same_plain : (n : ℕ) (processes : ℕ → Process A) (others : ℕ → Process B) → ((p : ℕ) → AreAlike (processes p) (others p)) → (es : List Event)

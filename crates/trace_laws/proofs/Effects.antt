@@ -1,5 +1,5 @@
 -- In a trace each entry but the starts has one cause, and each event that is added is taken once.
-use Rattle.std.proofs.Common.{◌≡◌, inl, inr, sym, ap, subst, List, [], ◌∷◌, Less}
+use Rattle.std.proofs.Common.{◌≡◌, sym, ap, subst, List, Less}
 use Rattle.process_api.specs.EntryRecord.{EntryRecord}
 use Rattle.process_api.specs.Order.{key_cmp}
 use Rattle.process_api.specs.declared.key.Key.{Key}
@@ -9,18 +9,14 @@ use Rattle.trace_laws.specs.World.{Pair, entries, IsTrace}
 use Rattle.trace_laws.specs.History.{IsIn, IsOnly, IsClosed}
 use Rattle.trace_laws.specs.Effects.{IsHistoryOf, IsEffect, Causes, IsStartKey, HasCauses, TakesOnce}
 use Rattle.trace_laws.proofs.Causes.{has_one_cause, one_cause, is_taken_once}
+use Rattle.trace_laws.proofs.Steps.{in_images, of_images}
 use Rattle.trace_laws.proofs.Closed.{one_history, trace_is_closed}
 
 -- an entry is that of a pair
 pair_of : (e : EntryRecord) (h : List Pair) → IsIn e (entries h) → (input : StepInput) × IsIn (e, input) h
-pair_of e [] i = absurd i
-pair_of e (s ∷ h) (inl is) = (s.1, inl (λ k. (is k, s.1)))
-pair_of e (s ∷ h) (inr i) = let r = pair_of e h i in (r.0, inr r.1)
-
-entry_of : (c : Pair) (h : List Pair) → IsIn c h → IsIn c.0 (entries h)
-entry_of c [] i = absurd i
-entry_of c (s ∷ h) (inl is) = inl (ap (λ (z : Pair). z.0) is)
-entry_of c (s ∷ h) (inr i) = inr (entry_of c h i)
+pair_of e h i =
+    let m = of_images (λ (s : Pair). s.0) e h i in
+    (m.0.1, subst (λ c. IsIn (c, m.0.1) h) (sym m.2) m.1)
 
 module _ {Mind : Type 0} (S : Setting Mind) (sound : IsSound S) where
   -- the history of a trace
@@ -30,37 +26,33 @@ module _ {Mind : Type 0} (S : Setting Mind) (sound : IsSound S) where
       (h, ((closed, sym is), λ g other. one_history S sound h g closed other.0))
 
   module _ (history : List Pair) (closed : IsClosed S history) where
-    IsCaused : (e : EntryRecord) (trace : List EntryRecord) → Type 0
+    abbrev IsCaused : (e : EntryRecord) (trace : List EntryRecord) → Type 0
     IsCaused e trace = (c : EntryRecord) × IsIn c trace × (key_cmp c.key e.key ≡ Less) × IsOnly (λ d. Causes S history d e.key) c
 
     caused : (e : EntryRecord) → IsIn e (entries history) → ¬ (IsStartKey S e.key) → IsCaused e (entries history)
-    unfolding IsCaused
     caused e there not_start =
         let at = pair_of e history there in
         let found = has_one_cause S sound history closed (e, at.0) at.1 (λ start. not_start (start.0, start.1)) in
         let c = found.0 in
         let is = found.3.0 in
-        (c.0, entry_of c history found.1, found.2, ((at.0, (c.1, is)), λ d other. ap (λ (z : Pair). z.0) (one_cause S sound history closed c (d, other.1.0) e.key at.0 other.0 is other.1.1)))
+        (c.0, in_images (λ (s : Pair). s.0) c history found.1, found.2, ((at.0, (c.1, is)), λ d other. ap (λ (z : Pair). z.0) (one_cause S sound history closed c (d, other.1.0) e.key at.0 other.0 is other.1.1)))
 
-    IsTakenByOne : (key : Key) (input : StepInput) (trace : List EntryRecord) → Type 0
+    abbrev IsTakenByOne : (key : Key) (input : StepInput) (trace : List EntryRecord) → Type 0
     IsTakenByOne key input trace = (e : EntryRecord) × IsIn (e, input) history × IsOnly (λ f. IsIn f trace × (f.key ≡ key)) e
 
     taken_by_one : (c : EntryRecord) (key : Key) (input : StepInput) → IsEffect S history c key input → IsTakenByOne key input (entries history)
-    unfolding IsTakenByOne
     taken_by_one c key input (took, is) =
         let found = is_taken_once S sound history closed (c, took) key input is in
         let t = found.0 in
         let there = found.2.0 in
-        (t.0, subst (λ i. IsIn (t.0, i) history) found.1 there.0, ((entry_of t history there.0, there.1), λ f other. let at = pair_of f history other.0 in ap (λ (z : Pair). z.0) (found.2.1 (f, at.0) (at.1, other.1))))
+        (t.0, subst (λ i. IsIn (t.0, i) history) found.1 there.0, ((in_images (λ (s : Pair). s.0) t history there.0, there.1), λ f other. let at = pair_of f history other.0 in ap (λ (z : Pair). z.0) (found.2.1 (f, at.0) (at.1, other.1))))
 
   pub trace_has_causes : (trace : List EntryRecord) → IsTrace S trace → HasCauses S trace
-  unfolding IsCaused
   trace_has_causes trace is =
       let h = history_of trace is in
       (h.0, h.1, λ e there not_start. subst (IsCaused h.0 h.1.0.0 e) h.1.0.1 (caused h.0 h.1.0.0 e (subst (IsIn e) (sym h.1.0.1) there) not_start))
 
   pub trace_takes_once : (trace : List EntryRecord) → IsTrace S trace → TakesOnce S trace
-  unfolding IsTakenByOne
   trace_takes_once trace is =
       let h = history_of trace is in
       (h.0, h.1, λ c key input effect. subst (IsTakenByOne h.0 h.1.0.0 key input) h.1.0.1 (taken_by_one h.0 h.1.0.0 c key input effect))

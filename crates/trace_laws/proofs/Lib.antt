@@ -10,7 +10,6 @@ pub mod Runs
 pub mod Sets
 pub mod Simulate
 pub mod Sound
-pub mod Steady
 pub mod Steps
 pub mod Watching
 pub mod Worked

@@ -1,5 +1,5 @@
 -- Worlds that the list comes by.
-use Rattle.std.proofs.Common.{◌≡◌, ℕ, ◌<◌, ◌≤◌, refl, sym, ap, ◌∙◌, subst, List, [], ◌∷◌, ◌++◌, length, append_assoc, append-nil, length-append, arith}
+use Rattle.std.proofs.Common.{◌≡◌, ◌<◌, refl, sym, ap, ◌∙◌, subst, List, [], ◌∷◌, ◌++◌, length, append_assoc, append-nil, length-append, arith}
 use Rattle.std.specs.Prelude.{take}
 use Rattle.std.proofs.Math.Seq.{take-append_seam}
 use Rattle.std.proofs.lemmas.List.{map-append, length-map}
@@ -7,34 +7,14 @@ use Rattle.process_api.specs.declared.key.Key.{Key}
 use Rattle.process_api.specs.declared.message.StepInput.{StepInput}
 use Rattle.process_api.specs.EntryRecord.{EntryRecord}
 use Rattle.trace_laws.specs.Setting.{Setting}
-use Rattle.trace_laws.specs.World.{World, Has, IsLeast, NoneBelow, Run, opening, made, taken, entries, IsTrace}
+use Rattle.trace_laws.specs.World.{World, IsLeast, NoneBelow, Run, opening, made, taken, entries, IsTrace}
 use Rattle.trace_laws.specs.History.{Pair}
 use Rattle.trace_laws.specs.Reached.{IsReached}
-use Rattle.trace_laws.proofs.Sets.{one_input, least_is_one}
-use Rattle.trace_laws.proofs.Steps.{step_key}
+use Rattle.trace_laws.proofs.Runs.{again, next}
 
 module _ {Mind : Type 0} (S : Setting Mind) where
   pub opening_reached : IsReached S (opening S) []
   opening_reached = record { history = []; trace_is = refl; goes_on = λ rest last r. r; comes_by = λ all last r. (all, refl, r) }
-
-  -- the next pair of a run from a world whose least event is this
-  next : (w : World Mind) (key : Key) (input : StepInput) → IsLeast w.pending key input → key.tick < S.horizon → (rest : List Pair) (last : World Mind) → Run S S.horizon w rest last
-      → (left : List Pair) × (rest ≡ ((made S w key input).entry, input) ∷ left) × Run S S.horizon (taken S w key input) left last
-  next w key input least due [] last r = absurd (below_itself key.tick S.horizon due (r.0 key input least.there))
-    where
-      below_itself : (a b : ℕ) → a < b → b ≤ a → ⊥
-      below_itself a b p q = omega arith
-  next w key input least due (s ∷ rest) last r =
-      let same_key : s.0.key ≡ key = least_is_one w.pending s.0.key key s.1 input r.0 least in
-      let same_input : s.1 ≡ input = one_input w.pending key s.1 input (subst (λ k. Has w.pending k s.1) same_key r.0.there) least.there in
-      let is : s.0 ≡ (made S w key input).entry = r.2 ∙ (λ i. (made S w (same_key i) (same_input i)).entry) in
-      (rest, (λ i. (is i, same_input i) ∷ rest), subst (λ v. Run S S.horizon v rest last) (λ i. taken S w (same_key i) (same_input i)) r.3)
-
-  -- a run from the world after the least event's step is the rest of one from the world before
-  pub again : (w : World Mind) (key : Key) (input : StepInput) → IsLeast w.pending key input → key.tick < S.horizon → (rest : List Pair) (last : World Mind) → Run S S.horizon (taken S w key input) rest last → Run S S.horizon w (((made S w key input).entry, input) ∷ rest) last
-  again w key input least due rest last r =
-      subst (λ k. IsLeast w.pending k input × (k.tick < S.horizon) × ((made S w key input).entry ≡ (made S w k input).entry) × Run S S.horizon (taken S w k input) rest last)
-      (sym (step_key S (w.process key.receiver) key input)) (least, due, refl, r)
 
   -- one step further
   pub reached_next : (w : World Mind) (trace : List EntryRecord) (key : Key) (input : StepInput) → IsLeast w.pending key input → key.tick < S.horizon → IsReached S w trace → IsReached S (taken S w key input) (trace ++ (made S w key input).entry ∷ [])
@@ -44,10 +24,10 @@ module _ {Mind : Type 0} (S : Setting Mind) where
         history = was.history ++ s ∷ [];
         trace_is = ap (λ es. es ++ s.0 ∷ []) was.trace_is ∙ sym (map-append (λ (t : Pair). t.0) was.history (s ∷ []));
         goes_on = λ rest last r. subst (λ h. Run S S.horizon (opening S) h last) (sym (append_assoc was.history (s ∷ []) rest))
-            (was.goes_on (s ∷ rest) last (again w key input least due rest last r));
+            (was.goes_on (s ∷ rest) last (again S S.horizon w key input least due rest last r));
         comes_by = λ all last r.
             let before = was.comes_by all last r in
-            let after = next w key input least due before.0 last before.2 in
+            let after = next S S.horizon w key input least due before.0 last before.2 in
             (after.0, before.1 ∙ (ap (λ h. was.history ++ h) after.1 ∙ sym (append_assoc was.history (s ∷ []) after.0)), after.2);
       }
 
@@ -59,7 +39,7 @@ module _ {Mind : Type 0} (S : Setting Mind) where
   pub reached_longer : (w : World Mind) (trace : List EntryRecord) (key : Key) (input : StepInput) → IsReached S w trace → IsLeast w.pending key input → key.tick < S.horizon → (whole : List EntryRecord) → IsTrace S whole → length trace < length whole
   reached_longer w trace key input was least due whole is =
       let before = was.comes_by is.0 is.1 is.2 in
-      let after = next w key input least due before.0 is.1 before.2 in
+      let after = next S S.horizon w key input least due before.0 is.1 before.2 in
       let long : whole ≡ entries (was.history ++ (((made S w key input).entry, input) ∷ after.0)) = is.3 ∙ ap (entries) (before.1 ∙ ap (λ h. was.history ++ h) after.1) in
       let n : length whole ≡ length (was.history ++ (((made S w key input).entry, input) ∷ after.0)) = ap length long ∙ length-map _ _ in
       let m : length trace ≡ length was.history = ap length was.trace_is ∙ length-map _ _ in

@@ -1,5 +1,5 @@
 -- Keys that rise strictly, pair by pair.
-use Rattle.std.proofs.Common.{◌≡◌, inl, inr, refl, sym, subst, List, [], ◌∷◌, true, true≢false, Ordering, Less, Equal, Greater, ap}
+use Rattle.std.proofs.Common.{◌≡◌, inl, inr, refl, sym, subst, List, [], ◌∷◌, true, Ordering, Less, ap, arith}
 use Rattle.std.specs.Prelude.{IsTrue}
 use Rattle.std.specs.List.{list_all}
 use Rattle.process_api.specs.Order.{key_cmp, is_less, is_before, is_rising}
@@ -13,10 +13,8 @@ abbrev pub IsRising : List Pair → Type 0
 IsRising [] = Unit {0}
 IsRising (s ∷ rest) = ((t : Pair) → IsIn t rest → key_cmp s.0.key t.0.key ≡ Less) × IsRising rest
 
-less_is : (r : Ordering) → is_less r ≡ true → r ≡ Less
-less_is Less h = refl
-less_is Equal h = absurd (true≢false (sym h))
-less_is Greater h = absurd (true≢false (sym h))
+pub less_is : (r : Ordering) → is_less r ≡ true → r ≡ Less
+less_is r h = grind arith
 
 front_there : (k : Key) (h : List Pair) → list_all (λ f. is_before k f.key) (entries h) ≡ true → (t : Pair) → IsIn t h → key_cmp k t.0.key ≡ Less
 front_there k [] all t i = absurd i

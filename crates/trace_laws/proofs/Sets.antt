@@ -1,36 +1,30 @@
 -- Finite sets of events, by what is in them.
-use Rattle.std.proofs.Common.{◌≡◌, ◌≢◌, ◌⊎◌, inl, inr, refl, sym, ap, ◌∙◌, subst, Ordering, Less, Equal, Greater, true, false, cond, List, [], ◌∷◌, Option, Some, None, is_eq, true≢false, is_some, unwrap_or}
+use Rattle.std.proofs.Common.{◌≡◌, ◌≢◌, ◌≤◌, ◌⊎◌, inl, inr, refl, sym, ap, ◌∙◌, subst, Ordering, Equal, true, false, cond, List, [], ◌∷◌, Option, Some, None, is_eq, arith}
 use Rattle.std.specs.Ordering.{eq_by_cmp}
 use Rattle.std.specs.FinMap as map
+use Rattle.std.proofs.lemmas.Bool.{cases_lt, false_from_ne_true}
 use Rattle.std.proofs.lemmas.Cmp.{tied_itself}
+pub use Rattle.std.proofs.lemmas.Option.{none-some as not_None, same_Some}
 use Rattle.process_api.specs.Order.{key_cmp}
 use Rattle.process_api.specs.declared.key.Key.{Key}
 use Rattle.process_api.specs.declared.message.StepInput.{StepInput}
 use Rattle.trace_laws.specs.Step.{Event, Events}
 use Rattle.trace_laws.specs.World.{Has, IsLeast, joined}
 use Rattle.trace_laws.specs.History.{IsIn}
-use Rattle.process_api.proofs.KeyOrder.{keys_total, exact_keys, same_or_not, before_or_not}
-
-pub same_Some : {X : Type 0} (x y : X) → Some x ≡ Some y → x ≡ y
-same_Some x y e = ap (λ o. unwrap_or o x) e
-
-pub not_None : {X : Type 0} (x : X) → None ≢ Some x
-not_None x e = true≢false (ap is_some (sym e))
+use Rattle.process_api.proofs.KeyOrder.{keys_total, exact_keys, same_or_not, before_or_not, before_by_tick}
 
 -- one input at a key
 pub one_input : (m : Events) (k : Key) (x y : StepInput) → Has m k x → Has m k y → x ≡ y
 one_input m k x y a b = same_Some x y (sym a ∙ b)
 
-tied : (a b : Key) → a ≡ b → eq_by_cmp key_cmp a b ≡ true
+pub tie : (r : Ordering) → is_eq r ≡ true → r ≡ Equal
+tie r h = grind arith
+
+pub tied : (a b : Key) → a ≡ b → eq_by_cmp key_cmp a b ≡ true
 tied a b e = ap is_eq (subst (λ x. key_cmp a x ≡ Equal) e (tied_itself keys_total a))
 
 pub apart : (a b : Key) → a ≢ b → eq_by_cmp key_cmp a b ≡ false
-apart a b n = go (key_cmp a b) refl
-  where
-    go : (r : Ordering) → key_cmp a b ≡ r → is_eq (key_cmp a b) ≡ false
-    go Less e = ap is_eq e
-    go Equal e = absurd (n (exact_keys a b e))
-    go Greater e = ap is_eq e
+apart a b n = false_from_ne_true _ (λ h. n (exact_keys a b (tie _ h)))
 
 module _ (m : Events) (k : Key) where
   pub insert_at : (x : StepInput) → map.get (map.insert m k x) k ≡ Some x
@@ -47,21 +41,19 @@ module _ (m : Events) (k : Key) where
 
   -- what is left was there, at another key
   pub removed : (q : Key) (y : StepInput) → Has (map.remove m k) q y → (q ≢ k) × Has m q y
-  removed q y h = go (same_or_not q k)
-    where
-      go : (q ≡ k) ⊎ (q ≢ k) → (q ≢ k) × Has m q y
-      go (inl e) = absurd (not_None y (sym (subst (λ z. map.get (map.remove m k) z ≡ None) (sym e) remove_at) ∙ h))
-      go (inr n) = (n, sym (remove_other q n) ∙ h)
+  removed q y h = elim (same_or_not q k) [
+    | inl e ↦ absurd (not_None y (sym (ap (map.get (map.remove m k)) e ∙ remove_at) ∙ h))
+    | inr n ↦ (n, sym (remove_other q n) ∙ h)
+  ]
 
   pub removed_back : (q : Key) (y : StepInput) → q ≢ k → Has m q y → Has (map.remove m k) q y
   removed_back q y n h = remove_other q n ∙ h
 
   pub inserted : (x : StepInput) (q : Key) (y : StepInput) → Has (map.insert m k x) q y → ((q ≡ k) × (y ≡ x)) ⊎ ((q ≢ k) × Has m q y)
-  inserted x q y h = go (same_or_not q k)
-    where
-      go : (q ≡ k) ⊎ (q ≢ k) → ((q ≡ k) × (y ≡ x)) ⊎ ((q ≢ k) × Has m q y)
-      go (inl e) = inl (e, same_Some y x (sym h ∙ ap (map.get (map.insert m k x)) e ∙ insert_at x))
-      go (inr n) = inr (n, sym (insert_other x q n) ∙ h)
+  inserted x q y h = elim (same_or_not q k) [
+    | inl e ↦ inl (e, same_Some y x (sym h ∙ ap (map.get (map.insert m k x)) e ∙ insert_at x))
+    | inr n ↦ inr (n, sym (insert_other x q n) ∙ h)
+  ]
 
 -- sets with the same events are equal
 pub same_events : (m n : Events) → ((k : Key) (x : StepInput) → Has m k x → Has n k x) → ((k : Key) (x : StepInput) → Has n k x → Has m k x) → m ≡ n
@@ -84,22 +76,14 @@ AreNew m es = (e : Event) → IsIn e es → (y : StepInput) → ¬ (Has m e.0 y)
 -- what is in a set after events joined
 pub joined_cases : (es : List Event) (m : Events) (q : Key) (y : StepInput) → Has (joined m es) q y → IsIn (q, y) es ⊎ Has m q y
 joined_cases [] m q y h = inr h
-joined_cases (e ∷ es) m q y h = go (joined_cases es (map.insert m e.0 e.1) q y h)
-  where
-    go2 : ((q ≡ e.0) × (y ≡ e.1)) ⊎ ((q ≢ e.0) × Has m q y) → IsIn (q, y) (e ∷ es) ⊎ Has m q y
-    go2 (inl p) = inl (inl (λ i. (p.0 i, p.1 i)))
-    go2 (inr p) = inr p.1
-
-    go : IsIn (q, y) es ⊎ Has (map.insert m e.0 e.1) q y → IsIn (q, y) (e ∷ es) ⊎ Has m q y
-    go (inl i) = inl (inr i)
-    go (inr h2) = go2 (inserted m e.0 e.1 q y h2)
+joined_cases (e ∷ es) m q y h = elim (joined_cases es (map.insert m e.0 e.1) q y h) [
+  | inl i ↦ inl (inr i)
+  | inr there ↦ elim (inserted m e.0 e.1 q y there) [ inl p ↦ inl (inl (λ i. (p.0 i, p.1 i))) | inr p ↦ inr p.1 ]
+]
 
 new_after : (e : Event) (es : List Event) (m : Events) → AreApart (e ∷ es) → AreNew m (e ∷ es) → AreNew (map.insert m e.0 e.1) es
-new_after e es m apart new f i y h = go (inserted m e.0 e.1 f.0 y h)
-  where
-    go : ((f.0 ≡ e.0) × (y ≡ e.1)) ⊎ ((f.0 ≢ e.0) × Has m f.0 y) → ⊥
-    go (inl p) = apart.0 f i p.0
-    go (inr p) = new f (inr i) y p.1
+new_after e es m apart new f i y h =
+    elim (inserted m e.0 e.1 f.0 y h) [ inl p ↦ apart.0 f i p.0 | inr p ↦ new f (inr i) y p.1 ]
 
 pub joined_old : (es : List Event) (m : Events) → AreApart es → AreNew m es → (q : Key) (y : StepInput) → Has m q y → Has (joined m es) q y
 joined_old [] m apart new q y h = h
@@ -117,9 +101,15 @@ joined_new (e ∷ es) m apart new q y (inr i) =
 
 -- the least event is one
 pub least_is_one : (m : Events) (k l : Key) (x y : StepInput) → IsLeast m k x → IsLeast m l y → k ≡ l
-least_is_one m k l x y a b = go (before_or_not k l)
-  where
-    go : (key_cmp k l ≡ Less) ⊎ ((k ≡ l) ⊎ (key_cmp l k ≡ Less)) → k ≡ l
-    go (inl h) = absurd (b.none_before k x a.there h)
-    go (inr (inl e)) = e
-    go (inr (inr h)) = absurd (a.none_before l y b.there h)
+least_is_one m k l x y a b = elim (before_or_not k l) [
+  | inl h ↦ absurd (b.none_before k x a.there h)
+  | inr (inl e) ↦ e
+  | inr (inr h) ↦ absurd (a.none_before l y b.there h)
+]
+
+-- none is of a tick before the least event's
+pub least_first : (m : Events) (k q : Key) (x y : StepInput) → IsLeast m k x → Has m q y → k.tick ≤ q.tick
+least_first m k q x y least there = elim (cases_lt q.tick k.tick) [
+  | inl less ↦ absurd (least.none_before q y there (before_by_tick q k less))
+  | inr up ↦ up
+]

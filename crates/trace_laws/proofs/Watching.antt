@@ -98,10 +98,14 @@ module _ (w : Watcher) (s : Processes) (h : Holds s w.suspects) (now : ℕ) wher
   nothing : SameStep (record { state = before; actions = [] }) (record { state = w; actions = [] })
   nothing = record { suspects = s; state = refl; place = refl; numbers = refl; holds = h; actions = refl }
 
+  -- two steps by the same test
+  same_cond : {a c : Answer TimeoutState} {b d : Answer Watcher} (test its : Bool) → test ≡ its → SameStep a b → SameStep c d → SameStep (cond test a c) (cond its b d)
+  same_cond {a = a} {b = b} {d = d} true its is f g = subst (λ t. SameStep a (cond t b d)) is f
+  same_cond {c = c} {b = b} {d = d} false its is f g = subst (λ t. SameStep c (cond t b d)) is g
+
   same_once : (x : StepInput) → SameStep (step_timeout w.place w.numbers before now x) (watch_once w now x)
   same_once input.Start = record { suspects = s; state = refl; place = refl; numbers = refl; holds = h; actions = refl }
   same_once (input.Wake tag.Beat) = record { suspects = s; state = refl; place = refl; numbers = refl; holds = h; actions = refl }
-  same_once (input.Wake tag.Share) = nothing
   same_once (input.Wake tag.Check) = record {
     suspects = insert_all s (overdue w.place w.numbers before now);
     state = refl;
@@ -110,55 +114,19 @@ module _ (w : Watcher) (s : Processes) (h : Holds s w.suspects) (now : ℕ) wher
     holds = λ q. holds_all (overdue w.place w.numbers before now) s w.suspects h q ∙ ap (λ qs. with_all w.suspects qs q) same_overdue;
     actions = ap (λ qs. map (λ q. action.Note (note.Suspect 1 q)) qs ++ next_check w.place w.numbers) same_overdue;
   }
-  same_once (input.Letter sender payload.Alive) = by_watch (watches w.place w.numbers sender)
-    where
-      again : Answer TimeoutState
-      again = record {
-        state = record {
-          last_heard = change w.last_heard sender now;
-          bound = change w.bound sender (max (w.bound sender) (min (w.bound sender + w.numbers.grow) w.place.horizon));
-          suspects = set.remove s sender;
-        };
-        actions = action.Note (note.Trust 1 sender) ∷ [];
-      }
-
-      noticed_only : Answer TimeoutState
-      noticed_only = record { state = record { last_heard = change w.last_heard sender now; bound = w.bound; suspects = s }; actions = [] }
-
-      by_test : (b : Bool) → w.suspects sender ≡ b → SameStep (cond b again noticed_only) (cond b
-          (record {
-            state = record w {
-              last_heard = change w.last_heard sender now;
-              bound = change w.bound sender (max (w.bound sender) (min (w.bound sender + w.numbers.grow) w.place.horizon));
-              suspects = λ p. not (eq_by_cmp nat_cmp p sender) && w.suspects p;
-            };
-            actions = action.Note (note.Trust 1 sender) ∷ [];
-          })
-          (record { state = record w { last_heard = change w.last_heard sender now }; actions = [] }))
-      by_test true is = record {
+  same_once (input.Letter sender payload.Alive) =
+      same_cond (watches w.place w.numbers sender) _ refl
+      (same_cond (set.contains s sender) _ (h sender)
+      (record {
         suspects = set.remove s sender;
         state = refl;
         place = refl;
         numbers = refl;
         holds = λ q. set.contains-remove nat_cmp_total s sender q ∙ ap (λ b. not (eq_by_cmp nat_cmp q sender) && b) (h q);
         actions = refl;
-      }
-      by_test false is = record { suspects = s; state = refl; place = refl; numbers = refl; holds = h; actions = refl }
-
-      heard_same : SameStep (cond (set.contains s sender) again noticed_only) (hear w now sender)
-      heard_same = subst (λ b. SameStep (cond b again noticed_only) (hear w now sender)) (sym (h sender)) (by_test (w.suspects sender) refl)
-
-      by_watch : (b : Bool) → SameStep (cond b (cond (set.contains s sender) again noticed_only) (record { state = before; actions = [] })) (cond b (hear w now sender) (record { state = w; actions = [] }))
-      by_watch true = heard_same
-      by_watch false = nothing
-  same_once (input.Letter sender (payload.Heartbeat number)) = nothing
-  same_once (input.Letter sender (payload.Suspects members)) = nothing
-  same_once (input.Letter sender (payload.Vector round cells)) = nothing
-  same_once (input.Letter sender (payload.Last cells)) = nothing
-  same_once (input.Letter sender (payload.Estimate round value stamp)) = nothing
-  same_once (input.Letter sender (payload.Proposal round value)) = nothing
-  same_once (input.Letter sender (payload.Reply round ack)) = nothing
-  same_once (input.Letter sender (payload.Decide round value)) = nothing
+      })
+      (record { suspects = s; state = refl; place = refl; numbers = refl; holds = h; actions = refl })) nothing
+  same_once x = nothing
 
   same_actions : (x : StepInput) → (react (mind_with w s) now x).actions ≡ (watch w now x).actions
   unfolding react react_lower react_algorithm step_detector

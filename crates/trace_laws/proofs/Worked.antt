@@ -1,31 +1,164 @@
--- Worked traces: what the definitions give for small scenarios, by computing.
-use Rattle.std.proofs.Common.{◌≡◌, ℕ, lit≤, ◌+◌, ◌≤◌, refl, ap, Bool, true, false, List, [], ◌∷◌, length, map, filter, None, Some, unwrap_or, arith}
+-- Worked traces: what the definitions give for small scenarios of the time-out detector alone whose links lose nothing
+-- and all take the same delay. There the plain program computes the trace.
+use Rattle.std.proofs.Common.{◌≡◌, ℕ, zero, suc, ◌+◌, ◌-◌, ◌*◌, ◌%◌, ◌≤◌, refl, sym, ap, ◌∙◌, subst, false, cond, nat_lt, nat_cmp, List, [], ◌∷◌, replicate, get_or, length, Option, None, Some, arith, lit≤, Bool, true, map, filter, inl, inr}
+use Rattle.std.specs.FinSet as set
+use Rattle.std.specs.List.{AllByRecursion}
 use Rattle.std.specs.Option.{ForSome}
+use Rattle.std.proofs.lemmas.List.{get_or-replicate, get_or_past, length-replicate}
+use Rattle.std.proofs.lemmas.Nat.{mul-add-lt}
+use Rattle.process_api.specs.Bounds.{most_processes}
 use Rattle.process_api.specs.EntryRecord.{EntryRecord}
+use Rattle.process_api.specs.Mind.{Mind}
+use Rattle.process_api.specs.declared.numbers.DetectorNumbers.TheVariants as kinds
+use Rattle.process_api.specs.declared.numbers.TimeoutNumbers.{TimeoutNumbers}
+use Rattle.scenario_record.specs.Numbers.{AreTimeoutInRange}
+use Rattle.scenario_record.specs.Ranges.{IsInRange, IsLink}
+use Rattle.scenario_record.specs.Record.{Record, no_link, link, place_in}
+use Rattle.scenario_record.specs.declared.algorithm.AlgorithmKind.TheVariants as algorithms
+use Rattle.scenario_record.specs.declared.link.Link.{Link}
+use Rattle.streams.specs.Fate.{fate_of, fate_by, word}
+use Rattle.streams.specs.declared.fate.Fate.TheVariants.{Lost, Delay}
+use Rattle.trace_laws.specs.Plain.{plain_starts, plain_steps, plain_left}
+use Rattle.trace_laws.specs.ScenarioSetting.{setting_of}
+use Rattle.trace_laws.specs.Setting.{Setting, IsSound}
+use Rattle.trace_laws.specs.World.{opening_process, entries, IsTrace}
+use Rattle.trace_laws.proofs.Alike.{with_minds, same_plain}
+use Rattle.trace_laws.proofs.Sets.{not_None, same_Some}
+use Rattle.trace_laws.proofs.Simulate.{plain_trace}
+use Rattle.trace_laws.proofs.Sound.{setting_sound}
+use Rattle.trace_laws.proofs.Watching.{Watcher, watch, IsMindOf, watchers_alike}
 use Rattle.process_api.specs.declared.action.Note.{Note}
 use Rattle.process_api.specs.declared.action.Note.TheVariants.{Suspect, Trust}
 use Rattle.process_api.specs.declared.entry.Kind.{Kind}
 use Rattle.process_api.specs.declared.entry.Kind.TheVariants as kind
-use Rattle.process_api.specs.declared.numbers.TimeoutNumbers.{TimeoutNumbers}
 use Rattle.process_api.specs.declared.numbers.Watch.TheVariants.{All}
-use Rattle.scenario_record.specs.Numbers.{AreTimeoutInRange}
-use Rattle.trace_laws.specs.ScenarioSetting.{setting_of}
-use Rattle.trace_laws.specs.World.{IsTrace}
 use Rattle.trace_laws.specs.History.{IsIn}
-use Rattle.trace_laws.proofs.Steady.{steady, computed, computed_trace}
-use Rattle.std.proofs.Common.{inl, inr}
+
+abbrev steady_link : ℕ → Link
+steady_link delay = record { min = delay; max = delay; loss = 0 }
+
+abbrev pub steady : (processes horizon delay : ℕ) → TimeoutNumbers → (crashes : List (Option ℕ)) → Record
+steady processes horizon delay numbers crashes = record {
+  processes = processes;
+  horizon = horizon;
+  lookahead = delay;
+  limit = 1000000;
+  seed = 1;
+  algorithm = algorithms.Idle;
+  detector = kinds.Timeout numbers;
+  share = None;
+  proposals = [];
+  crashes = crashes;
+  links = replicate (processes * processes) (steady_link delay);
+  outages = [];
+}
+
+-- ---- its fates
+
+none_below_zero : (a : ℕ) → nat_lt a 0 ≡ false
+none_below_zero a = grind arith
+
+rest_by_one : (b : ℕ) → b % 1 ≡ 0
+rest_by_one b = grind arith
+
+loses_nothing : (l : Link) → l.max ≡ l.min → l.loss ≡ 0 → (a b : ℕ) → fate_by l a b ≡ Delay l.min
+loses_nothing l same none a b =
+    ap (λ c. cond c Lost (Delay (l.min + b % (l.max - l.min + 1)))) (ap (nat_lt (a % 1000)) none ∙ none_below_zero (a % 1000))
+    ∙ ap Delay (delay (ap (λ n. b % n) one ∙ rest_by_one b))
+  where
+    one : l.max - l.min + 1 ≡ 1
+    one = omega (arith, same)
+
+    delay : b % (l.max - l.min + 1) ≡ 0 → l.min + b % (l.max - l.min + 1) ≡ l.min
+    delay e = omega (arith, e)
+
+is_steady : (n delay i : ℕ) → ((get_or (replicate n (steady_link delay)) i no_link).max ≡ (get_or (replicate n (steady_link delay)) i no_link).min) × ((get_or (replicate n (steady_link delay)) i no_link).loss ≡ 0)
+is_steady zero delay i = (refl, refl)
+is_steady (suc n) delay zero = (refl, refl)
+is_steady (suc n) delay (suc i) = is_steady n delay i
+
+crash_in : (crashes : List (Option ℕ)) → AllByRecursion (λ o. ForSome o (λ at. at ≤ 10000000)) crashes → (i : ℕ) → ForSome (get_or crashes i None) (λ at. at ≤ 10000000)
+crash_in [] all i = λ at e. absurd (not_None at e)
+crash_in (o ∷ os) all zero = all.0
+crash_in (o ∷ os) all (suc i) = crash_in os all.1 i
+
+module _ (processes horizon delay : ℕ) (numbers : TimeoutNumbers) (crashes : List (Option ℕ)) where
+  abbrev s : Record
+  s = steady processes horizon delay numbers crashes
+
+  steady_fate : (from to number sent_at : ℕ) → fate_of s from to number sent_at ≡ Delay (link s from to).min
+  unfolding fate_of
+  steady_fate from to number sent_at =
+      let is = is_steady (processes * processes) delay ((from - 1) * processes + (to - 1)) in
+      loses_nothing (link s from to) is.0 is.1 (word 1 from to (2 * (number - 1))) (word 1 from to (2 * (number - 1) + 1))
+
+  -- the scenario's setting, with its fates as they come out
+  abbrev plainly : Setting Mind
+  plainly = record (setting_of s) { fate = λ from to number sent_at. Delay (link s from to).min }
+
+  same_setting : setting_of s ≡ plainly
+  same_setting = λ i. record (setting_of s) { fate = λ from to number sent_at. steady_fate from to number sent_at i }
+
+  abbrev watcher : ℕ → Watcher
+  watcher p = record { place = place_in s p; numbers = numbers; last_heard = λ q. 0; bound = λ q. numbers.timeout; suspects = λ q. false }
+
+  abbrev watchers : Setting Watcher
+  watchers = with_minds plainly watcher watch
+
+  -- what the plain program makes with watchers, and whether it has come to an end
+  abbrev pub computed : ℕ → List EntryRecord
+  computed n = entries (plain_steps watchers n (opening_process watchers) (plain_starts processes))
+
+  abbrev pub IsOver : ℕ → Type 0
+  IsOver n = plain_left watchers n (opening_process watchers) (plain_starts processes) ≡ []
+
+  module _ (few : (1 ≤ processes) × (processes ≤ most_processes)) (lasts : (1 ≤ horizon) × (horizon ≤ 10000000)) (ahead : (1 ≤ delay) × (delay ≤ 1000000)) (in_range : AreTimeoutInRange numbers)
+      (one_each : length crashes ≡ processes) (crash_ticks : AllByRecursion (λ o. ForSome o (λ at. at ≤ 10000000)) crashes) where
+    at_link : (from to : ℕ) → 1 ≤ from → from ≤ processes → 1 ≤ to → to ≤ processes → link s from to ≡ steady_link delay
+    at_link from to a b c d = get_or-replicate (processes * processes) _ (steady_link delay) no_link (mul-add-lt (from - 1) processes (to - 1) processes (omega arith) (omega arith))
+
+    steady_in_range : IsInRange s
+    steady_in_range = record {
+      processes_low = few.0;
+      processes_high = few.1;
+      horizon_low = lasts.0;
+      horizon_high = lasts.1;
+      lookahead_low = ahead.0;
+      lookahead_high = ahead.1;
+      limit_low = omega arith;
+      limit_high = omega arith;
+      seed_high = omega arith;
+      numbers = in_range;
+      share = λ period e. absurd (not_None _ e);
+      proposals = λ p value e. absurd (not_None _ e);
+      proposed = λ p low high. refl;
+      crashes = λ p. crash_in crashes crash_ticks (p - 1);
+      proposed_above = λ p above. refl;
+      crashed_above = λ p above. get_or_past crashes (p - 1) None (omega (arith, one_each, above));
+      linked = length-replicate (processes * processes) (steady_link delay);
+      links = λ from to a b c d. subst IsLink (sym (at_link from to a b c d)) (record { min_low = ahead.0; min_high = omega arith; max_high = ahead.1; loss_high = omega arith });
+      outages = λ from to a b c d. tt;
+      ahead = λ from to a b c d apart. subst (λ (l : Link). delay ≤ l.min) (sym (at_link from to a b c d)) (omega arith);
+    }
+
+    -- what was computed up to the end is the trace
+    pub computed_trace : (n : ℕ) → IsOver n → IsTrace (setting_of s) (computed n)
+    computed_trace n over =
+        let sound : IsSound plainly = subst IsSound same_setting (setting_sound s steady_in_range) in
+        let same = same_plain plainly watcher watch IsMindOf watchers_alike n (opening_process plainly) (opening_process watchers) (λ p. ((set.empty, refl, λ q. set.contains-empty nat_cmp q), refl)) (plain_starts processes) in
+        let trace = plain_trace plainly sound n (same.1 ∙ over) in
+        subst (λ S. IsTrace S (computed n)) (sym same_setting) (subst (IsTrace plainly) (ap entries same.0) trace)
+
+-- ---- worked traces
 
 abbrev entry : (tick receiver sender number : ℕ) → Kind → (sent lost : ℕ) → List Note → EntryRecord
 entry tick receiver sender number kind sent lost notes = record { key = record { tick = tick; receiver = receiver; sender = sender; number = number }; kind = kind; sent = sent; lost = lost; notes = notes }
 
 no_crash : ForSome {T = ℕ} None (λ at. at ≤ 10000000)
-no_crash = λ at e. absurd (none_is at e)
-  where
-    none_is : (at : ℕ) → None ≡ Some at → ⊥
-    none_is at e = cc
+no_crash = λ at e. absurd (not_None at e)
 
 crash_at : (at : ℕ) → at ≤ 10000000 → ForSome (Some at) (λ tick. tick ≤ 10000000)
-crash_at at h = λ tick e. let same : at ≡ tick = ap (λ o. unwrap_or o at) e in omega (arith, h, same)
+crash_at at h = λ tick e. omega (arith, h, same_Some at tick e)
 
 -- ---- two processes that beat every 4 ticks, check every 3, and wait for 5
 
@@ -33,16 +166,7 @@ abbrev patient : TimeoutNumbers
 patient = record { period = 4; check = 3; timeout = 5; grow = 1; watch = All }
 
 patient_in_range : AreTimeoutInRange patient
-patient_in_range = record {
-  period_low = lit≤ tt;
-  period_high = lit≤ tt;
-  check_low = lit≤ tt;
-  check_high = lit≤ tt;
-  timeout_low = lit≤ tt;
-  timeout_high = lit≤ tt;
-  grow_low = lit≤ tt;
-  grow_high = lit≤ tt;
-}
+patient_in_range = omega arith
 
 -- one process, for one tick: its start is all
 one_process : IsTrace (setting_of (steady 1 1 1 patient (None ∷ []))) (entry 0 1 1 0 kind.Start 0 0 [] ∷ [])
@@ -112,16 +236,7 @@ abbrev hasty : TimeoutNumbers
 hasty = record { period = 100; check = 2; timeout = 2; grow = 5; watch = All }
 
 hasty_in_range : AreTimeoutInRange hasty
-hasty_in_range = record {
-  period_low = lit≤ tt;
-  period_high = lit≤ tt;
-  check_low = lit≤ tt;
-  check_high = lit≤ tt;
-  timeout_low = lit≤ tt;
-  timeout_high = lit≤ tt;
-  grow_low = lit≤ tt;
-  grow_high = lit≤ tt;
-}
+hasty_in_range = omega arith
 
 abbrev false_suspicion : List EntryRecord
 false_suspicion = computed 2 8 2 hasty (None ∷ None ∷ []) 10

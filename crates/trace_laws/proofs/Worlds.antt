@@ -1,6 +1,6 @@
 -- What a taken event does to a world.
-use Rattle.std.proofs.Common.{◌≡◌, ◌≢◌, ◌⊎◌, ℕ, ◌<◌, ◌≤◌, inl, inr, sym, ap, ◌∙◌, subst, arith, IsTrue}
-use Rattle.std.proofs.lemmas.Bool.{cases_eq}
+use Rattle.std.proofs.Common.{◌≡◌, ◌≢◌, ◌⊎◌, ℕ, ◌≤◌, inl, inr, sym, subst, arith, IsTrue, ◌==◌}
+use Rattle.std.proofs.lemmas.Bool.{cond_both, eqb-false, eqb-true}
 use Rattle.std.specs.FinMap as map
 use Rattle.process_api.specs.declared.key.Key.{Key}
 use Rattle.process_api.specs.declared.message.StepInput.{StepInput}
@@ -19,11 +19,13 @@ module _ {Mind : Type 0} (S : Setting Mind) (w : World Mind) (k : Key) (x : Step
   process_other q n = change_other w.process k.receiver (made S w k x).process q n
 
   pub taken_cases : (q : Key) (y : StepInput) → Has (taken S w k x).pending q y → IsIn (q, y) (made S w k x).added ⊎ ((q ≢ k) × Has w.pending q y)
-  taken_cases q y h = go (joined_cases (made S w k x).added (map.remove w.pending k) q y h)
-    where
-      go : IsIn (q, y) (made S w k x).added ⊎ Has (map.remove w.pending k) q y → IsIn (q, y) (made S w k x).added ⊎ ((q ≢ k) × Has w.pending q y)
-      go (inl i) = inl i
-      go (inr h2) = inr (removed w.pending k q y h2)
+  taken_cases q y h =
+      elim (joined_cases (made S w k x).added (map.remove w.pending k) q y h) [ inl i ↦ inl i | inr old ↦ inr (removed w.pending k q y old) ]
+
+  -- a process afterwards: the receiver by its step, each other one as it was
+  pub by_receiver : (P : ℕ → Process Mind → Type 0) → P k.receiver (made S w k x).process → ((p : ℕ) → p ≢ k.receiver → P p (w.process p)) → (p : ℕ) → P p ((taken S w k x).process p)
+  by_receiver P here there p =
+      cond_both (p == k.receiver) _ _ (P p) (λ is. subst (λ r. P r (made S w k x).process) (sym (eqb-true p k.receiver is)) here) (λ is. there p (eqb-false p k.receiver is))
 
   module _ (sound : IsSound S) (is_world : IsWorld S w) (there : Has w.pending k x) where
     receiver : IsProcess S k.receiver
@@ -53,50 +55,19 @@ module _ {Mind : Type 0} (S : Setting Mind) (w : World Mind) (k : Key) (x : Step
 
     -- counts only rise
     pub taken_counts : (p q : ℕ) → (w.process p).counts q ≤ ((taken S w k x).process p).counts q
-    taken_counts p q = go (cases_eq p k.receiver)
-      where
-        go : (p ≡ k.receiver) ⊎ (p ≡ k.receiver → ⊥) → (w.process p).counts q ≤ ((taken S w k x).process p).counts q
-        go (inl e) =
-            let up : (w.process k.receiver).counts q ≤ (made S w k x).process.counts q = step_counts S sound (w.process k.receiver) k x receiver mind q in
-            let here : ((taken S w k x).process p).counts q ≡ (made S w k x).process.counts q = ap (λ (c : Process Mind). c.counts q) (ap (taken S w k x).process e ∙ process_at) in
-            let there2 : (w.process p).counts q ≡ (w.process k.receiver).counts q = ap (λ (r : ℕ). (w.process r).counts q) e in
-            omega arith
-        go (inr n) =
-            let here : ((taken S w k x).process p).counts q ≡ (w.process p).counts q = ap (λ (c : Process Mind). c.counts q) (process_other p n) in
-            omega arith
+    taken_counts p q = by_receiver (λ r c. (w.process r).counts q ≤ c.counts q) (step_counts S sound (w.process k.receiver) k x receiver mind q) (λ r _. omega arith) p
 
     -- a world stays one
     pub taken_world : IsWorld S (taken S w k x)
-    taken_world = record { minds = minds; below = below; received = received; counted = counted }
-      where
-        minds : (p : ℕ) → IsProcess S p → IsTrue (S.is_mind p ((taken S w k x).process p).mind)
-        minds p is = go (cases_eq p k.receiver)
-          where
-            go : (p ≡ k.receiver) ⊎ (p ≡ k.receiver → ⊥) → IsTrue (S.is_mind p ((taken S w k x).process p).mind)
-            go (inl e) = subst (λ r. IsTrue (S.is_mind r ((taken S w k x).process r).mind)) (sym e)
-                (subst (λ (c : Process Mind). IsTrue (S.is_mind k.receiver c.mind)) (sym process_at) (step_mind S sound (w.process k.receiver) k x receiver mind))
-            go (inr n) = subst (λ (c : Process Mind). IsTrue (S.is_mind p c.mind)) (sym (process_other p n)) (is_world.minds p is)
-
-        below : (q : Key) (y : StepInput) → Has (taken S w k x).pending q y → q.tick < S.horizon
-        below q y h = go (taken_cases q y h)
-          where
-            go : IsIn (q, y) (made S w k x).added ⊎ ((q ≢ k) × Has w.pending q y) → q.tick < S.horizon
-            go (inl i) = (made_sent (q, y) i).below
-            go (inr p) = is_world.below q y p.1
-
-        received : (q : Key) (y : StepInput) → Has (taken S w k x).pending q y → IsProcess S q.receiver
-        received q y h = go (taken_cases q y h)
-          where
-            go : IsIn (q, y) (made S w k x).added ⊎ ((q ≢ k) × Has w.pending q y) → IsProcess S q.receiver
-            go (inl i) = (made_sent (q, y) i).receiver
-            go (inr p) = is_world.received q y p.1
-
-        counted : (q : Key) (y : StepInput) → Has (taken S w k x).pending q y → q.number ≤ ((taken S w k x).process q.sender).counts q.receiver
-        counted q y h = go (taken_cases q y h)
-          where
-            go : IsIn (q, y) (made S w k x).added ⊎ ((q ≢ k) × Has w.pending q y) → q.number ≤ ((taken S w k x).process q.sender).counts q.receiver
-            go (inl i) =
-                let s = made_sent (q, y) i in
-                subst (λ p. q.number ≤ ((taken S w k x).process p).counts q.receiver) (sym s.sender)
-                (subst (λ (c : Process Mind). q.number ≤ c.counts q.receiver) (sym process_at) s.within)
-            go (inr p) = omega (arith, is_world.counted q y p.1, taken_counts q.sender q.receiver)
+    taken_world = record {
+      minds = by_receiver (λ r c. IsProcess S r → IsTrue (S.is_mind r c.mind)) (λ _. step_mind S sound (w.process k.receiver) k x receiver mind) (λ r _. is_world.minds r);
+      below = λ q y h. elim (taken_cases q y h) [ inl i ↦ (made_sent (q, y) i).below | inr p ↦ is_world.below q y p.1 ];
+      received = λ q y h. elim (taken_cases q y h) [ inl i ↦ (made_sent (q, y) i).receiver | inr p ↦ is_world.received q y p.1 ];
+      counted = λ q y h. elim (taken_cases q y h) [
+        | inl i ↦
+            let s = made_sent (q, y) i in
+            subst (λ p. q.number ≤ ((taken S w k x).process p).counts q.receiver) (sym s.sender)
+            (subst (λ (c : Process Mind). q.number ≤ c.counts q.receiver) (sym process_at) s.within)
+        | inr p ↦ omega (arith, is_world.counted q y p.1, taken_counts q.sender q.receiver)
+      ];
+    }

@@ -1,7 +1,7 @@
-use Rattle.std.proofs.Common.{◌≡◌, ◌∷◌, [], ◌++◌, List, map, ap, sym, subst, ◌∙◌, append_assoc, append-nil, length, refl, arith}
+use Rattle.std.proofs.Common.{◌≡◌, ◌∷◌, [], ◌++◌, List, map, ap, sym, subst, ◌∙◌, append_assoc, append-nil}
 use Rattle.std.specs.List.{All}
 use Rattle.std.specs.Vec.Iter.{into_iter_items}
-use Rattle.std.proofs.lemmas.List.{map-append}
+use Rattle.std.proofs.lemmas.List.{map-append, nil_from_length}
 use Rattle.std.proofs.lemmas.List.Elements.{All-nil, All-push, All-rest, All-same}
 use Rattle.process_api.specs.Mind.{Mind}
 use Rattle.steps.specs.Seat.{process_of, IsMindIn, IsSeated}
@@ -44,16 +44,12 @@ loop-machine-init g c =
       left = subst (All (λ m. IsMindIn s (mind m))) (sym all) c.requires;
     }
 
-none_left : {A : Type 0} (xs : List A) → length xs ≡ 0 → xs ≡ []
-none_left [] e = refl
-none_left (x ∷ xs) e = absurd (omega arith)
-
 pub returns : goal.returns
 returns g c =
     let mind = g.M.Process.mind in
     let made = map (process_of mind) c.loop-machine.seats.items in
     let rest = into_iter_items c.loop-machine.machine-iterator in
-    let none : rest ≡ [] = none_left rest (sym c.loop-machine.machine-iterator.rest.ok.0 ∙ c.in-None.ensures.steps.0) in
+    let none : rest ≡ [] = nil_from_length rest (sym c.loop-machine.machine-iterator.rest.ok.0 ∙ c.in-None.ensures.steps.0) in
     record {
       processes = sym (append-nil made) ∙ ap (λ xs. made ++ map opened (map mind xs)) (sym none) ∙ c.loop-machine.invariant.made;
       seated = c.loop-machine.invariant.seated;

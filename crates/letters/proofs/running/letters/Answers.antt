@@ -2,10 +2,9 @@ use Rattle.std.proofs.Common.{◌++◌, [], map, refl, sym, ◌∙◌, append-ni
 use Rattle.trace_laws.specs.ScenarioSetting.{setting_of}
 use Rattle.letters.specs.Book.{HasHeard}
 use Rattle.letters.specs.Letters.{letter_of}
-use Rattle.letters.proofs.Coming.{letters_in_trace}
+use Rattle.letters.proofs.Coming.{letters_in_trace, only_letters}
 use Rattle.letters.proofs.Losing.{letters_lost}
 use Rattle.letters.proofs.Numbered.{letters_are_numbered}
-use Rattle.letters.proofs.Only.{only_letters}
 use Rattle.letters.proofs.Ordered.{letters_in_order}
 use Rattle.letters.proofs.running.letters.Goals as goal
 

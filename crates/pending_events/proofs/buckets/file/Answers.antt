@@ -10,4 +10,4 @@ returns-clause-ok c =
     let none : tree.get nat_cmp m c.args.tick ≡ None = search rules in
     let same : m ≡ c.args.later.now = c.get_mut.follows.holds-at-none in
     subst (λ o. IsFiled o c.insert.new.self c.args.tick c.args.event) same
-    (filed_new m c.insert.new.self c.args.tick c.args.event c.push-2.new.self c.in_ok-insert.ensures.updates none (c.in_ok-push-2.ensures.items ∙ ap (λ xs. xs ++ c.args.event ∷ []) c.empty_bucket-bucket.ensures))
+    (filed_new m c.insert.new.self c.args.tick c.args.event c.push-2.new.self c.in_ok-insert.ensures.updates none (c.in_ok-push-2.ensures.items ∙ ap (λ xs. xs ++ c.args.event ∷ []) c.furnish.ensures))

@@ -1,4 +1,4 @@
-use Rattle.std.proofs.Common.{[], refl, ◌≡◌, ◌+◌, ◌-◌, ◌<◌, length, get_or, slice_get, slice_set, map, ap, sym, subst, ◌∙◌, arith}
+use Rattle.std.proofs.Common.{[], refl, ◌≡◌, ◌+◌, ◌-◌, ◌<◌, length, get_or, slice_get, slice_set, Some, map, ap, sym, subst, ◌∙◌, arith}
 use Rattle.std.proofs.lemmas.List.{map-set}
 use Rattle.std.proofs.lemmas.List.Elements.{All-set, All-weaker, All-get_or}
 use Rattle.trace_laws.specs.Joins.{HaveJoined}
@@ -6,7 +6,8 @@ use Rattle.steps.specs.Posting.{posted_in}
 use Rattle.trace_laws.specs.ScenarioSetting.{setting_of}
 use Rattle.steps.specs.Seat.{process_of, IsSeated}
 use Rattle.event_list.specs.Standing.{IsStepped}
-use Rattle.trace_laws.specs.Step.{step}
+use Rattle.process_api.specs.Mind.{Mind}
+use Rattle.trace_laws.specs.Step.{Process, step}
 use Rattle.event_list.proofs.Standing.{place_is, image_at}
 use Rattle.event_list.proofs.list.EventList.take.Goals as goal
 use Rattle.process_api.specs.Bounds.{most_step_actions}
@@ -18,55 +19,37 @@ turn-requires-clause-own g c κs within =
     let i = c.from-place.result - 1 in
     let old = c.index_mut-seat.result.now in
     let at : i ≡ c.args.event.0.receiver - 1 = ap (λ n. n - 1) (c.from-place.ensures ∙ (c.number.ensures.value ∙ ap (λ k. k.receiver) c.key.ensures)) in
-    let inside : i < length xs = omega (arith, c.from-place.ensures, c.number.ensures.value, ap (λ k. k.receiver) c.key.ensures, c.requires.receiver.0, c.requires.receiver.1, c.requires.count, c.args.self.now.seats.ok.0) in
-    let there : old ≡ get_or xs i old = c.index_mut-seat.ensures.value in
-    sym (c.requires.own (f old) (ap (slice_get (map f xs)) (sym at) ∙ image_at f xs i old inside there))
+    let inside : i < length xs = omega (arith, at, c.requires.receiver.0, c.requires.receiver.1, c.requires.count, c.args.self.now.seats.ok.0) in
+    sym (c.requires.own (f old) (ap (slice_get (map f xs)) (sym at) ∙ image_at f xs i old inside c.index_mut-seat.ensures.value))
 
-pub returns-clause-seated : goal.returns-clause-seated
-returns-clause-seated g c =
-    let mind = g.M.Process.mind in
-    let s = c.args.streams.now in
-    let xs = c.args.self.now.seats.items in
-    let i = c.from-place.result - 1 in
-    let old = c.index_mut-seat.result.now in
-    let inside : i < length xs = omega (arith, c.from-place.ensures, c.number.ensures.value, ap (λ k. k.receiver) c.key.ensures, c.requires.receiver.0, c.requires.receiver.1, c.requires.count, c.args.self.now.seats.ok.0) in
-    let there : old ≡ get_or xs i old = c.index_mut-seat.ensures.value in
-    λ most all.
-    let was : IsSeated mind s most old = subst (IsSeated mind s most) (sym there) (All-get_or (IsSeated mind s most) xs i old inside all) in
-    All-set (IsSeated mind s (most + most_step_actions)) xs i c.turn.new.self (c.in_ok-entry.ensures.seated most was)
-    (All-weaker (IsSeated mind s most) (IsSeated mind s (most + most_step_actions)) (λ x h. record { low = h.low; high = h.high; is_mind = h.is_mind; horizon = h.horizon; crash = h.crash; places = h.places; counts = λ q. omega (arith, h.counts q) }) xs all)
-
-pub returns-clause-stepped : goal.returns-clause-stepped
-returns-clause-stepped g c =
+pub returns : goal.returns
+returns g c =
     let mind = g.M.Process.mind in
     let f = process_of mind in
-    let S = setting_of c.args.streams.now in
+    let s = c.args.streams.now in
+    let S = setting_of s in
     let key = c.args.event.0 in
     let xs = c.args.self.now.seats.items in
     let i = c.from-place.result - 1 in
     let old = c.index_mut-seat.result.now in
-    let made = step S (f old) key c.args.event.1 in
+    let new = c.turn.new.self in
+    let done = c.in_ok-entry.ensures in
     let at : i ≡ key.receiver - 1 = ap (λ n. n - 1) (c.from-place.ensures ∙ (c.number.ensures.value ∙ ap (λ k. k.receiver) c.key.ensures)) in
+    let inside : i < length xs = omega (arith, at, c.requires.receiver.0, c.requires.receiver.1, c.requires.count, c.args.self.now.seats.ok.0) in
     let there : old ≡ get_or xs i old = c.index_mut-seat.ensures.value in
-    λ before is.
-    let same : f old ≡ before = ap f there ∙ place_is f xs i old before (ap (λ n. slice_get (map f xs) n) at ∙ is) in
-    subst (λ b. IsStepped {S = S} (map f xs) (map f (slice_set xs i c.turn.new.self)) c.args.self.now.pending c.turn.new.added key c.in_ok-entry.entry (step S b key c.args.event.1)) same
-    (record {
-      processes = map-set f xs i c.turn.new.self ∙ (λ k. slice_set (map f xs) (at k) (c.in_ok-entry.ensures.process k));
-      entry_is = c.in_ok-entry.ensures.entry;
-      pending = c.in_ok-entry.ensures.added c.args.self.now.pending [] refl;
-    })
-
-pub returns-clause-heard : goal.returns-clause-heard
-returns-clause-heard g c =
-    let f = process_of g.M.Process.mind in
-    let S = setting_of c.args.streams.now in
-    let key = c.args.event.0 in
-    let xs = c.args.self.now.seats.items in
-    let i = c.from-place.result - 1 in
-    let old = c.index_mut-seat.result.now in
-    let at : i ≡ key.receiver - 1 = ap (λ n. n - 1) (c.from-place.ensures ∙ (c.number.ensures.value ∙ ap (λ k. k.receiver) c.key.ensures)) in
-    let there : old ≡ get_or xs i old = c.index_mut-seat.ensures.value in
-    λ before is.
-    let same : f old ≡ before = ap f there ∙ place_is f xs i old before (ap (λ n. slice_get (map f xs) n) at ∙ is) in
-    subst (λ b. HaveJoined g.L.Listener.heard c.args.listener.now c.turn.new.listener (posted_in S b key c.args.event.1)) same c.in_ok-entry.ensures.heard
+    let same : (before : Process Mind) → slice_get (map f xs) (key.receiver - 1) ≡ Some before → f old ≡ before =
+    λ before is. ap f there ∙ place_is f xs i old before (ap (slice_get (map f xs)) at ∙ is) in
+    record {
+      count = refl;
+      seated = λ most all.
+          All-set (IsSeated mind s (most + most_step_actions)) xs i new (done.seated most (subst (IsSeated mind s most) (sym there) (All-get_or (IsSeated mind s most) xs i old inside all)))
+          (All-weaker (IsSeated mind s most) (IsSeated mind s (most + most_step_actions)) (λ x h. record { low = h.low; high = h.high; is_mind = h.is_mind; horizon = h.horizon; crash = h.crash; places = h.places; counts = λ q. omega (arith, h.counts q) }) xs all);
+      stepped = λ before is.
+          subst (λ b. IsStepped {S = S} (map f xs) (map f (slice_set xs i new)) c.args.self.now.pending c.turn.new.added key c.in_ok-entry.entry (step S b key c.args.event.1)) (same before is)
+          (record {
+            processes = map-set f xs i new ∙ (λ k. slice_set (map f xs) (at k) (done.process k));
+            entry_is = done.entry;
+            pending = done.added c.args.self.now.pending [] refl;
+          });
+      heard = λ before is. subst (λ b. HaveJoined g.L.Listener.heard c.args.listener.now c.turn.new.listener (posted_in S b key c.args.event.1)) (same before is) done.heard;
+    }

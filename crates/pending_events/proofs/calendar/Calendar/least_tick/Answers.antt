@@ -1,4 +1,4 @@
-use Rattle.std.proofs.Common.{◌≡◌, ◌∙◌, ◌<◌, ◌%◌, ◌+◌, List, [], ◌∷◌, refl, arith, ap, sym, subst, length, min, rules}
+use Rattle.std.proofs.Common.{◌∙◌, ◌<◌, ◌%◌, ◌+◌, ap, sym, subst, length, min}
 use Rattle.pending_events.specs.Calendar.{NoneAhead}
 use Rattle.pending_events.specs.Lanes.{lane}
 use Rattle.pending_events.proofs.Nearby.{first_listed, first_near, sooner_than, within_end}

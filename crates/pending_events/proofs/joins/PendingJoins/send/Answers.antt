@@ -1,4 +1,4 @@
-use Rattle.std.proofs.Common.{ap, sym, ◌∙◌}
+use Rattle.std.proofs.Common.{sym, ◌∙◌}
 use Rattle.std.specs.FinMap as events
 use Rattle.trace_laws.specs.Taken.{event_of}
 use Rattle.trace_laws.proofs.Joining.{joined_one}

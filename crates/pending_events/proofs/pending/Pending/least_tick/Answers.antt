@@ -1,7 +1,8 @@
 use Rattle.std.proofs.Common.{◌≡◌, ◌<◌, ◌∙◌, ap, sym, subst, length, [], rules, MatchOption}
+use Rattle.std.proofs.lemmas.List.{nil_from_length}
 use Rattle.pending_events.specs.Calendar.{IsInOrder}
 use Rattle.pending_events.specs.Pending.{IsEmpty, IsLeastTick}
-use Rattle.pending_events.proofs.Ordered.{empty_is, seen, tick_of, tick_of_due}
+use Rattle.pending_events.proofs.Ordered.{seen, tick_of, tick_of_due}
 use Rattle.pending_events.proofs.pending.Pending.least_tick.Goals as goal
 
 pub returns-then-not-is_empty : goal.returns-then-not-is_empty
@@ -13,7 +14,7 @@ returns-then-not-is_empty c =
 pub returns : goal.returns
 returns c =
     let f = c.self.inside in
-    let none : f.due.items ≡ [] = empty_is _ (search rules) in
+    let none : f.due.items ≡ [] = nil_from_length _ (search rules) in
     let h = subst (λ es. IsInOrder f.tick es f.later) none c.self.invariant in
     subst (λ m. MatchOption c.least_tick.result (IsEmpty m) (λ tick. IsLeastTick m tick)) (ap (λ es. seen es f.later) (sym none) ∙ c.self.view_is)
     (tick_of c.least_tick.result f.tick f.later h c.least_tick.ensures)

@@ -8,19 +8,16 @@ use Rattle.pending_events.proofs.pending.Pending.take_least.Goals as goal
 pub invariant_of-self-2 : goal.invariant_of-self-2
 invariant_of-self-2 c = taken_order c.pop_least.result c.refill.new.tick c.refill.new.due.items c.pop_least.new.bucket.items c.refill.new.later c.in_ok-refill.ensures.in_order c.pop_least.ensures
 
-pub returns-clause-least : goal.returns-clause-least
-returns-clause-least c =
+pub returns : goal.returns
+returns c =
     let f = c.self.inside in
     let n = c.refill.new in
-    let is = seen_same f.tick n.tick f.due.items n.due.items f.later n.later c.self.invariant c.in_ok-refill.ensures.in_order c.in_ok-refill.ensures.same ∙ c.self.view_is in
-    subst (λ m. MatchOption c.pop_least.result (IsEmpty m) (λ e. IsLeast m e.0 e.1)) is
-    (taken_least c.pop_least.result n.tick n.due.items c.pop_least.new.bucket.items n.later c.in_ok-refill.ensures.in_order c.in_ok-refill.ensures.left c.pop_least.ensures)
-
-pub returns-clause-removed : goal.returns-clause-removed
-returns-clause-removed c =
-    let f = c.self.inside in
-    let n = c.refill.new in
-    let is = seen_same f.tick n.tick f.due.items n.due.items f.later n.later c.self.invariant c.in_ok-refill.ensures.in_order c.in_ok-refill.ensures.same ∙ c.self.view_is in
+    let r = c.pop_least.result in
+    let popped = c.pop_least.ensures in
+    let order = c.in_ok-refill.ensures.in_order in
     let after = seen c.pop_least.new.bucket.items n.later in
-    subst (λ m. MatchOption c.pop_least.result (after ≡ m) (λ e. after ≡ events.remove m e.0)) is
-    (taken_removed c.pop_least.result n.tick n.due.items c.pop_least.new.bucket.items n.later c.in_ok-refill.ensures.in_order c.pop_least.ensures)
+    let is = seen_same f.tick n.tick f.due.items n.due.items f.later n.later c.self.invariant order c.in_ok-refill.ensures.same ∙ c.self.view_is in
+    record {
+      least = subst (λ m. MatchOption r (IsEmpty m) (λ e. IsLeast m e.0 e.1)) is (taken_least r n.tick n.due.items c.pop_least.new.bucket.items n.later order c.in_ok-refill.ensures.left popped);
+      removed = subst (λ m. MatchOption r (after ≡ m) (λ e. after ≡ events.remove m e.0)) is (taken_removed r n.tick n.due.items c.pop_least.new.bucket.items n.later order popped);
+    }

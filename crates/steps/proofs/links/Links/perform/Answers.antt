@@ -3,12 +3,12 @@ use Rattle.std.specs.Prelude.{drop}
 use Rattle.process_api.specs.declared.action.Action.{Action}
 use Rattle.process_api.specs.Actions.{IsAllowed}
 use Rattle.trace_laws.specs.ScenarioSetting.{setting_of}
-use Rattle.steps.specs.Posting.{posted_by}
+use Rattle.steps.specs.Posting.{posted_by, posting}
 use Rattle.steps.specs.Seat.{count_of}
-use Rattle.trace_laws.specs.Step.{added, lost, noted, sent}
+use Rattle.trace_laws.specs.Step.{added, joining, lost, noted, sent}
 use Rattle.trace_laws.proofs.Joining.{joined_init, all_joined}
-use Rattle.std.proofs.lemmas.List.{length-set}
-use Rattle.steps.proofs.Performing.{one_counted, one_added, one_posted, one_lost, one_sent, one_noted, one_sent_few, one_lost_few, one_room, one_allowed, drop_at, drop_none, sent_all, noted_all, counted_all, lost_all}
+use Rattle.std.proofs.lemmas.List.{drop_all, length-set}
+use Rattle.steps.proofs.Performing.{one_counted, one_joined, one_lost, one_sent, one_noted, one_sent_few, one_lost_few, one_room, one_allowed, drop_at, sent_all, noted_all, counted_all, lost_all}
 use Rattle.steps.proofs.links.Links.perform.Goals as goal
 
 pub loop-place-preserved : goal.loop-place-preserved
@@ -37,8 +37,8 @@ loop-place-preserved h c =
       horizon = done.horizon ∙ i.horizon;
       room = one_room all rest left a e p before f g done.counts i.room;
       serves = λ first own n h. done_serves first own n (i.serves first own n h);
-      added = one_added all rest left a e p before f g done.counts S now c.args.added.now c.loop-place.added c.act.new.added h.J.Joins.grown done.added i.added;
-      heard = one_posted all rest left a e p before f g done.counts S now c.args.listener.now c.loop-place.listener c.act.new.listener h.L.Listener.heard done.heard i.heard;
+      added = one_joined all rest left a e p before f g done.counts h.J.Joins.grown (added S p now) (joining S p now f a) refl c.args.added.now c.loop-place.added c.act.new.added done.added i.added;
+      heard = one_joined all rest left a e p before f g done.counts h.L.Listener.heard (posted_by S p now) (posting S p now f a) refl c.args.listener.now c.loop-place.listener c.act.new.listener done.heard i.heard;
       sent = one_sent all rest left a e c.loop-place.sent letters.0 done.sent i.sent;
       lost = one_lost all rest left a e p before f g done.counts S now c.loop-place.lost letters.1 done.lost i.lost;
       notes = one_noted all rest left a e c.loop-place.notes.items c.act.new.notes.items done.notes i.notes;
@@ -81,7 +81,7 @@ returns h c =
     let rest = drop c.loop-place.place c.loop-place.actions.items in
     let f = count_of c.loop-place.self.counts.items in
     let i = c.loop-place.invariant in
-    let none : rest ≡ [] = drop_none c.loop-place.actions.items c.loop-place.place (omega (arith, c.loop-place-test.false, c.len-place-end.ensures, i.many)) in
+    let none : rest ≡ [] = drop_all c.loop-place.place c.loop-place.actions.items (omega (arith, c.loop-place-test.false, c.len-place-end.ensures, i.many)) in
     let sent_is : c.loop-place.sent ≡ sent all = sent_all all rest none c.loop-place.sent i.sent in
     let lost_is : c.loop-place.lost ≡ lost S p now before all = lost_all all rest none p before f S now c.loop-place.lost i.lost in
     let notes_are : c.loop-place.notes.items ≡ noted all = noted_all all rest none c.loop-place.notes.items i.notes in

@@ -1,10 +1,7 @@
 use Rattle.std.proofs.Common.{◌≡◌, ◌+◌, ◌∙◌, ℕ, zero, suc, ap, refl, replicate, length, arith}
-use Rattle.process_api.specs.Mind.{Mind}
 use Rattle.std.proofs.lemmas.List.{length-replicate}
 use Rattle.scenario_record.specs.Record.{crash}
 use Rattle.steps.specs.Seat.{count_of}
-use Rattle.trace_laws.specs.Step.{Process}
-use Rattle.trace_laws.specs.World.{opened}
 use Rattle.steps.proofs.seat.Seat.new.Goals as goal
 
 zero_at : (n q : ℕ) → count_of (replicate n 0) q ≡ 0
@@ -14,12 +11,8 @@ zero_at (suc n) (suc q) = zero_at n q
 
 pub returns-clause-process : goal.returns-clause-process
 returns-clause-process g c =
-    let mind : Mind = g.M.Process.mind c.args.machine in
-    let before : Process Mind = record { mind = mind; counts = count_of c.in_ok-links.links.counts.items } in
-    let zeros : Process Mind = record { mind = mind; counts = count_of (replicate (c.processes.result + 1) 0) } in
-    let made : before ≡ zeros = ap (λ xs. record { mind = mind; counts = count_of xs }) c.in_ok-links.ensures.counts in
-    let none : zeros ≡ opened mind = λ i. record { mind = mind; counts = λ q. zero_at (c.processes.result + 1) q i } in
-    made ∙ none
+    let zeros = c.in_ok-links.ensures.counts in
+    λ i. record { mind = g.M.Process.mind c.args.machine; counts = λ q. (ap (λ xs. count_of xs q) zeros ∙ zero_at (c.processes.result + 1) q) i }
 
 pub returns-clause-seated : goal.returns-clause-seated
 returns-clause-seated g c =

@@ -1,44 +1,50 @@
 use Rattle.std.proofs.Common.{[], ◌++◌, cond, false, ◌≡◌, ◌≤◌, ap, sym, subst, ◌∙◌, arith, vec_len}
-use Rattle.std.specs.Prelude.{IfOk, IsTrue}
+use Rattle.std.specs.Prelude.{IfOk, IsTrue, ℕ}
+use Rattle.std.proofs.lemmas.Result.{IfOk-weaker}
 use Rattle.process_api.specs.Mind.{Mind, is_mind_at}
 use Rattle.process_api.proofs.Minds.{mind_place, same_own}
 use Rattle.process_api.proofs.Keeping.{react_keeps}
-use Rattle.scenario_record.specs.Record.{crash, place_in}
+use Rattle.process_api.specs.React.{react}
+use Rattle.process_api.specs.declared.message.StepInput.{StepInput}
+use Rattle.scenario_record.specs.Record.{Record, crash, place_in}
 use Rattle.trace_laws.specs.ScenarioSetting.{setting_of}
 use Rattle.steps.specs.Seat.{process_of, own_of, IsSeated}
 use Rattle.trace_laws.specs.Setting.{has_crashed}
 use Rattle.trace_laws.specs.Step.{Event, dead, lost, made_by, noted, sent, step}
-use Rattle.steps.proofs.Performing.{if_ok_then, on_ok_of, on_ok_three}
+use Rattle.steps.proofs.Performing.{on_ok_of, on_ok_three}
 use Rattle.steps.proofs.seat.Seat.turn.Goals as goal
+
+-- a process's mind stays one, of the same process
+kept : (s : Record) (p now : ℕ) (x : StepInput) (before after : Mind) → after ≡ (react before now x).state → 1 ≤ s.processes → IsTrue (is_mind_at (place_in s p) before)
+    → IsTrue (is_mind_at (place_in s p) after) × (after.lower.place.own ≡ p)
+kept s p now x before after is some was =
+    let still = subst (λ m. IsTrue (is_mind_at (place_in s p) m)) (sym is) (react_keeps (place_in s p) before now x some was) in
+    (still, same_own after.lower.place (place_in s p) (mind_place (place_in s p) after still))
 
 pub returns-clause-own : goal.returns-clause-own
 returns-clause-own g c =
     let mind = g.M.Process.mind in
-    let s = c.args.streams.now in
-    let seat = c.args.self.now in
+    let key = c.into_parts-key.result in
     let was = c.requires.seated.1 in
-    let p = own_of mind seat in
-    let after : Mind = mind c.on_input.new.self in
-    let is_mind : IsTrue (is_mind_at (place_in s p) after) = subst (λ m. IsTrue (is_mind_at (place_in s p) m)) (sym c.in_ok-on_input.ensures.mind)
-    (react_keeps (place_in s p) (mind seat.machine) c.into_parts-key.result.0.tick c.into_parts-key.result.1 (omega (arith, was.low, was.high)) was.is_mind) in
-    on_ok_of c.perform.result (same_own after.lower.place (place_in s p) (mind_place (place_in s p) after is_mind))
+    on_ok_of c.perform.result
+    (kept c.args.streams.now (own_of mind c.args.self.now) key.0.tick key.1 (mind c.args.self.now.machine) (mind c.on_input.new.self) c.in_ok-on_input.ensures.mind (omega (arith, was.low, was.high)) was.is_mind).1
 
 pub returns-clause-seated : goal.returns-clause-seated
 returns-clause-seated g c =
     let mind = g.M.Process.mind in
     let s = c.args.streams.now in
     let seat = c.args.self.now in
+    let key = c.into_parts-key.result in
     let was = c.requires.seated.1 in
     let p = own_of mind seat in
     let after : Mind = mind c.on_input.new.self in
-    let is_mind : IsTrue (is_mind_at (place_in s p) after) = subst (λ m. IsTrue (is_mind_at (place_in s p) m)) (sym c.in_ok-on_input.ensures.mind)
-    (react_keeps (place_in s p) (mind seat.machine) c.into_parts-key.result.0.tick c.into_parts-key.result.1 (omega (arith, was.low, was.high)) was.is_mind) in
-    let stays : p ≡ after.lower.place.own = sym (same_own after.lower.place (place_in s p) (mind_place (place_in s p) after is_mind)) in
+    let still = kept s p key.0.tick key.1 (mind seat.machine) after c.in_ok-on_input.ensures.mind (omega (arith, was.low, was.high)) was.is_mind in
+    let stays : p ≡ after.lower.place.own = sym still.1 in
     on_ok_three c.perform.result
     (λ (places : vec_len c.perform.new.self.counts ≡ vec_len seat.links.counts) (horizon : c.perform.new.self.horizon ≡ seat.links.horizon) room most (h : IsSeated mind s most seat). record {
       low = subst (λ q. 1 ≤ q) stays h.low;
       high = subst (λ q. q ≤ s.processes) stays h.high;
-      is_mind = subst (λ q. IsTrue (is_mind_at (place_in s q) after)) stays is_mind;
+      is_mind = subst (λ q. IsTrue (is_mind_at (place_in s q) after)) stays still.0;
       horizon = horizon ∙ h.horizon;
       crash = h.crash ∙ ap (crash s) stays;
       places = sym c.perform.new.self.counts.ok.0 ∙ (places ∙ (seat.links.counts.ok.0 ∙ h.places));
@@ -59,7 +65,7 @@ returns-clause-entry g c =
     let up : has_crashed (crash s key.receiver) key.tick ≡ false = ap (λ k. has_crashed k key.tick) (sym crash_is) ∙ (sym c.is_down.ensures ∙ c.if-is_down.false) in
     let does : c.on_input.new.out.items ≡ answer.actions = c.in_ok-on_input.ensures.actions ∙ ap (λ xs. xs ++ answer.actions) c.clear.ensures.items in
     subst (λ (z : Event). IfOk c.perform.result (λ e. e ≡ (step S before z.0 z.1).entry)) is
-    (if_ok_then c.perform.result (λ e h. h ∙ ((λ i. record {
+    (IfOk-weaker c.perform.result _ _ (λ e h. h ∙ ((λ i. record {
       key = key;
       kind = c.kind_of-kind.ensures i;
       sent = sent (does i);
