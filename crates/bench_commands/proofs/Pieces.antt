@@ -13,25 +13,8 @@ pair_line begin name from to e p q is named first second =
 
 -- and of no other refusal
 after_other : (e : ScenarioError) → ((p q : ℕ) → e ≡ error.BelowLookahead p q → ⊥) → after_name e ≡ codes "\n"
-after_other error.NotToml other = refl
-after_other error.UnknownKey other = refl
-after_other error.MissingKey other = refl
-after_other error.WrongKind other = refl
-after_other error.Version other = refl
-after_other error.Processes other = refl
-after_other error.Horizon other = refl
-after_other error.Lookahead other = refl
-after_other error.Limit other = refl
-after_other error.Seed other = refl
-after_other error.AlgorithmName other = refl
-after_other error.Proposals other = refl
-after_other error.DetectorNumbers other = refl
-after_other error.Share other = refl
-after_other error.LinkNumbers other = refl
 after_other (error.BelowLookahead p q) other = absurd (other p q refl)
-after_other error.CrashLine other = refl
-after_other error.OutageLine other = refl
-after_other (error.Memory m) other = refl
+after_other _ other = refl
 
 pub name_line : (begin name : List ℕ) (e : ScenarioError) → ((p q : ℕ) → e ≡ error.BelowLookahead p q → ⊥) → name ≡ name_of e
     → begin ++ (name ++ codes "\n") ≡ begin ++ (name_of e ++ after_name e)

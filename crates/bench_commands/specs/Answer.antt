@@ -6,6 +6,8 @@ use Rattle.trace_laws.specs.ScenarioSetting.{setting_of}
 use Rattle.trace_laws.specs.World.{IsTrace}
 use Rattle.bench_commands.specs.Fault.{end_of}
 use Rattle.bench_commands.specs.Scenario.{IsScenarioAt}
+use Rattle.bench_commands.specs.declared.bench.Mode.{Mode}
+use Rattle.bench_commands.specs.declared.bench.Mode.TheVariants as mode
 use Rattle.bench_commands.specs.declared.fault.Fault.{Fault}
 use Rattle.print_choice.specs.declared.PrintChoice.{PrintChoice}
 use Rattle.process_api.specs.EntryRecord.{EntryRecord}
@@ -69,11 +71,20 @@ module _ (s : Record) where
       NoneApplies s.lookahead workers window × IsRunFront print piece
   LeavesOver _ piece = ⊥
 
-  -- what went out for a run by windows: its texts, or what is left where it stops
-  abbrev pub GoesByWindows : {O A : Type 0} (told : O → Option (List ℕ)) (failed : O → ℕ) (old new : O) → PrintChoice
+  -- what a run in a mode writes as long as nothing fails, and what it leaves where it is refused: nothing by the list
+  abbrev pub WritesBy : Mode → PrintChoice → List ℕ → Type 0
+  WritesBy mode.List print piece = IsListAnswer print piece
+  WritesBy (mode.Windows plan) print piece = IsRunText print piece
+
+  abbrev pub LeavesBy : Mode → PrintChoice → List ℕ → Type 0
+  LeavesBy mode.List print piece = ⊥
+  LeavesBy (mode.Windows plan) print piece = IsRunFront print piece
+
+  -- what went out for a run in a mode: its texts, or what is left where it stops
+  abbrev pub GoesBy : {O A : Type 0} (told : O → Option (List ℕ)) (failed : O → ℕ) (old new : O) → Mode → PrintChoice
       → Result A Fault → Type 0
-  GoesByWindows told failed old new print outcome =
-      Goes end_of told failed old new (IsListAnswer print) (IsRunText print) (IsRunFront print) outcome
+  GoesBy told failed old new by print outcome =
+      Goes end_of told failed old new (IsListAnswer print) (WritesBy by print) (LeavesBy by print) outcome
 
   -- what went out for the order: what it asks for, or what is left where it stops
   abbrev pub GoesOver : {O A : Type 0} (told : O → Option (List ℕ)) (failed : O → ℕ) (old new : O) → Order

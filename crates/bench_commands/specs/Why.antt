@@ -6,6 +6,8 @@ use Rattle.run_error.specs.declared.error.RunError.{RunError}
 use Rattle.run_error.specs.declared.error.RunError.TheVariants as run
 use Rattle.bench_commands.specs.Answer.{path_of}
 use Rattle.bench_commands.specs.Scenario.{IsScenarioAt, IsTooLong}
+use Rattle.bench_commands.specs.declared.bench.Mode.{Mode}
+use Rattle.bench_commands.specs.declared.bench.Mode.TheVariants as mode
 use Rattle.bench_commands.specs.declared.fault.Fault.{Fault}
 use Rattle.bench_commands.specs.declared.fault.Fault.TheVariants.{Plan, Run, Scenario, TooLong, Unreadable}
 use Rattle.scenario.specs.Refusals.{Refuses, is_memory}
@@ -47,6 +49,11 @@ module _ (s : Record) where
   abbrev pub StopsWindows : Fault → Type 0
   StopsWindows (Run reason) = IsReason reason
   StopsWindows _ = ⊥
+
+  -- a run in a mode stops for this fault
+  abbrev pub StopsBy : Mode → Fault → Type 0
+  StopsBy mode.List fault = StopsList fault
+  StopsBy (mode.Windows plan) fault = StopsWindows fault
 
   -- the plan is refused for the first reason that applies, or where there is none the run is
   abbrev pub StopsPlanned : (workers window : ℕ) → Fault → Type 0

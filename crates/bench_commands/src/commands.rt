@@ -1,8 +1,9 @@
 //! What an order asks for, over its scenario.
 ghost use Rattle.std.specs.Prelude.{◌≡◌, ◌^◌, ◌-◌, ◌<◌, codes, IfOk, IfErr, OnOk, true};
-ghost use Rattle.bench_commands.specs.Answer.{GoesByWindows, GoesOver, IsCompareAnswer, IsListAnswer};
+ghost use Rattle.bench_commands.specs.Answer.{GoesBy, GoesOver, IsCompareAnswer};
 ghost use Rattle.bench_commands.specs.Fault.{IsFirstFault, end_of};
-ghost use Rattle.bench_commands.specs.Why.{StopsList, StopsOver, StopsWindows};
+ghost use Rattle.bench_commands.specs.Mode.{IsModeFor};
+ghost use Rattle.bench_commands.specs.Why.{StopsBy, StopsOver, StopsWindows};
 ghost use Rattle.reporting.specs.Writing.{Wrote, WrotePart};
 ghost use Rattle.shell.specs.Ending.{Puts};
 ghost use Rattle.windows.specs.Plan.{IsPlanFor, NoneApplies, plan_of};
@@ -21,20 +22,23 @@ use std::sync::Wait;
 use std::thread::Threads;
 use windows::{Gate, Plan};
 
-/// Answers `list`: the texts of the run.
-fn list<R: Threads + Wait + Sync, G: Gate, O: Outlet>(
+/// Answers `list` and `run`: the texts of the run, which are the same in each mode. By windows rows of the trace go out
+/// as windows close.
+fn texts<R: Threads + Wait + Sync, G: Gate, O: Outlet>(
     rt: &R,
     alloc: Global,
     scenario: &Scenario,
+    mode: Mode,
     print: PrintChoice,
     gate: &G,
     outlet: &mut O,
 ) -> Result<(), Fault>
-    requires { O.failed outlet.old < 2 ^ 64 - 1 }
-    ensures text { Puts end_of O.told O.failed outlet.old outlet.new (IsListAnswer scenario.now print) result }
-    ensures why { IfErr result (StopsList scenario.now) }
+    requires failures { O.failed outlet.old < 2 ^ 64 - 1 }
+    requires mode { IsModeFor scenario.now mode }
+    ensures text { GoesBy scenario.now O.told O.failed outlet.old outlet.new mode print result }
+    ensures why { IfErr result (StopsBy scenario.now mode) }
 {
-    match bench(rt, alloc, scenario, Mode::List, gate, print, outlet) {
+    match bench(rt, alloc, scenario, mode, gate, print, outlet) {
         Ok(_) => Ok(()),
         Err(error) => Err(Fault::Run(error)),
     }
@@ -47,39 +51,7 @@ fn plan_for(scenario: &Scenario, workers: u64, window: u64) -> Result<Plan, Faul
     ensures ok { OnOk result (NoneApplies scenario.now.lookahead workers window) }
     ensures refused { IfErr result (IsFirstFault scenario.now.lookahead workers window) }
 {
-    match Plan::new(scenario, workers, window) {
-        Ok(plan) => Ok(plan),
-        Err(error) => Err(Fault::Plan(error)),
-    }
-}
-
-/// Answers `run`: the texts of the run, which are those that `list` writes. Rows of the trace go out as windows close.
-fn run<R: Threads + Wait + Sync, G: Gate, O: Outlet>(
-    rt: &R,
-    alloc: Global,
-    scenario: &Scenario,
-    plan: Plan,
-    print: PrintChoice,
-    gate: &G,
-    outlet: &mut O,
-) -> Result<(), Fault>
-    requires failures { O.failed outlet.old < 2 ^ 64 - 1 }
-    requires plan { IsPlanFor scenario.now plan }
-    ensures text { GoesByWindows scenario.now O.told O.failed outlet.old outlet.new print result }
-    ensures why { IfErr result (StopsWindows scenario.now) }
-{
-    match bench(
-        rt,
-        alloc,
-        scenario,
-        Mode::Windows(plan),
-        gate,
-        print,
-        outlet,
-    ) {
-        Ok(_) => Ok(()),
-        Err(error) => Err(Fault::Run(error)),
-    }
+    Plan::new(scenario, workers, window).map_err(Fault::Plan)
 }
 
 /// Says whether both runs wrote the same: `same` or `different`, and a line feed.
@@ -132,7 +104,9 @@ pub(crate) fn answer<R: Threads + Wait + Sync, G: Gate, O: Outlet>(
 {
     match order {
         Order::Check { .. } => put_bytes(b"ok\n", outlet),
-        Order::List { print, .. } => list(rt, alloc, scenario, *print, gate, outlet),
+        Order::List { print, .. } => {
+            texts(rt, alloc, scenario, Mode::List, *print, gate, outlet)
+        }
         Order::Run {
             workers,
             window,
@@ -140,7 +114,8 @@ pub(crate) fn answer<R: Threads + Wait + Sync, G: Gate, O: Outlet>(
             ..
         } => {
             let plan = plan_for(scenario, *workers, *window)?;
-            run(rt, alloc, scenario, plan, *print, gate, outlet)
+            let mode = Mode::Windows(plan);
+            texts(rt, alloc, scenario, mode, *print, gate, outlet)
         }
         Order::Compare {
             workers,

@@ -25,60 +25,40 @@ pub none_read : {E : Type 0} (gives : Text → Result ℕ E → Type 0) (o : Opt
 none_read gives o None value none t there = value t there
 none_read gives o (Some n) value none t there = let bad : true ≡ false = none in cc
 
-pub some_weaker : {A : Type 0} (o : Option A) (P Q : A → Type 0) → ((x : A) → P x → Q x) → IfSome o P → IfSome o Q
-some_weaker None P Q f h = tt
-some_weaker (Some x) P Q f h = f x h
-
 module _ (rows : List Row) where
   -- without its workers `run` or `compare` asks for nothing, nor without its window
   pub run_lacks_workers : ((n : ℕ) → IsNumberAt (codes "workers") rows n → ⊥) → (asked : Order) → StatesRun rows asked → ⊥
   run_lacks_workers none (order.Run path workers window print) h = none workers h.1
-  run_lacks_workers none (order.Check path) h = h
-  run_lacks_workers none (order.List path print) h = h
-  run_lacks_workers none (order.Compare path workers window) h = h
+  run_lacks_workers none _ h = h
 
   pub run_lacks_window : ((n : ℕ) → IsNumberAt (codes "window") rows n → ⊥) → (asked : Order) → StatesRun rows asked → ⊥
   run_lacks_window none (order.Run path workers window print) h = none window h.2
-  run_lacks_window none (order.Check path) h = h
-  run_lacks_window none (order.List path print) h = h
-  run_lacks_window none (order.Compare path workers window) h = h
+  run_lacks_window none _ h = h
 
   pub compare_lacks_workers : ((n : ℕ) → IsNumberAt (codes "workers") rows n → ⊥) → (asked : Order) → StatesCompare rows asked → ⊥
   compare_lacks_workers none (order.Compare path workers window) h = none workers h.1
-  compare_lacks_workers none (order.Check path) h = h
-  compare_lacks_workers none (order.List path print) h = h
-  compare_lacks_workers none (order.Run path workers window print) h = h
+  compare_lacks_workers none _ h = h
 
   pub compare_lacks_window : ((n : ℕ) → IsNumberAt (codes "window") rows n → ⊥) → (asked : Order) → StatesCompare rows asked → ⊥
   compare_lacks_window none (order.Compare path workers window) h = none window h.2
-  compare_lacks_window none (order.Check path) h = h
-  compare_lacks_window none (order.List path print) h = h
-  compare_lacks_window none (order.Run path workers window print) h = h
+  compare_lacks_window none _ h = h
 
   module _ (name : Text) where
     pub check_asks_nothing : name ≡ codes "check" → ((asked : Order) → StatesCheck rows asked → ⊥) → StatesNothingIn name rows
     check_asks_nothing is nothing (order.Check path) h = nothing (order.Check path) h.1
-    check_asks_nothing is nothing (order.List path print) h = let bad : codes "check" ≡ codes "list" = sym is ∙ h.0 in search rules
-    check_asks_nothing is nothing (order.Run path workers window print) h = let bad : codes "check" ≡ codes "run" = sym is ∙ h.0 in search rules
-    check_asks_nothing is nothing (order.Compare path workers window) h = let bad : codes "check" ≡ codes "compare" = sym is ∙ h.0 in search rules
+    check_asks_nothing is nothing _ h = let bad = sym is ∙ h.0 in search rules
 
     pub list_asks_nothing : name ≡ codes "list" → ((asked : Order) → StatesList rows asked → ⊥) → StatesNothingIn name rows
     list_asks_nothing is nothing (order.List path print) h = nothing (order.List path print) h.1
-    list_asks_nothing is nothing (order.Check path) h = let bad : codes "list" ≡ codes "check" = sym is ∙ h.0 in search rules
-    list_asks_nothing is nothing (order.Run path workers window print) h = let bad : codes "list" ≡ codes "run" = sym is ∙ h.0 in search rules
-    list_asks_nothing is nothing (order.Compare path workers window) h = let bad : codes "list" ≡ codes "compare" = sym is ∙ h.0 in search rules
+    list_asks_nothing is nothing _ h = let bad = sym is ∙ h.0 in search rules
 
     pub run_asks_nothing : name ≡ codes "run" → ((asked : Order) → StatesRun rows asked → ⊥) → StatesNothingIn name rows
     run_asks_nothing is nothing (order.Run path workers window print) h = nothing (order.Run path workers window print) h.1
-    run_asks_nothing is nothing (order.Check path) h = let bad : codes "run" ≡ codes "check" = sym is ∙ h.0 in search rules
-    run_asks_nothing is nothing (order.List path print) h = let bad : codes "run" ≡ codes "list" = sym is ∙ h.0 in search rules
-    run_asks_nothing is nothing (order.Compare path workers window) h = let bad : codes "run" ≡ codes "compare" = sym is ∙ h.0 in search rules
+    run_asks_nothing is nothing _ h = let bad = sym is ∙ h.0 in search rules
 
     pub compare_asks_nothing : name ≡ codes "compare" → ((asked : Order) → StatesCompare rows asked → ⊥) → StatesNothingIn name rows
     compare_asks_nothing is nothing (order.Compare path workers window) h = nothing (order.Compare path workers window) h.1
-    compare_asks_nothing is nothing (order.Check path) h = let bad : codes "compare" ≡ codes "check" = sym is ∙ h.0 in search rules
-    compare_asks_nothing is nothing (order.List path print) h = let bad : codes "compare" ≡ codes "list" = sym is ∙ h.0 in search rules
-    compare_asks_nothing is nothing (order.Run path workers window print) h = let bad : codes "compare" ≡ codes "run" = sym is ∙ h.0 in search rules
+    compare_asks_nothing is nothing _ h = let bad = sym is ∙ h.0 in search rules
 
 -- what a command doesn't ask for, its name doesn't
 pub ruleset asks_nothing = (check_asks_nothing, list_asks_nothing, run_asks_nothing, compare_asks_nothing)

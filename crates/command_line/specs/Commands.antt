@@ -27,15 +27,18 @@ abbrev pub check_app : App
 check_app = with_path (codes "check")
 
 -- the parser is that of what can be printed
+abbrev pub with_print : App → (prints : ValueParser) → App
+with_print app prints = with_rule app (option_rule (codes "print") prints)
+
 abbrev pub list_app : ValueParser → App
-list_app prints = with_rule (with_path (codes "list")) (option_rule (codes "print") prints)
+list_app = with_print (with_path (codes "list"))
 
 -- how the windows of a run are planned
 abbrev pub with_plan : App → App
 with_plan app = with_rule (with_rule app (option_rule (codes "workers") number)) (option_rule (codes "window") number)
 
 abbrev pub run_app : ValueParser → App
-run_app prints = with_rule (with_plan (with_path (codes "run"))) (option_rule (codes "print") prints)
+run_app = with_print (with_plan (with_path (codes "run")))
 
 abbrev pub compare_app : App
 compare_app = with_plan (with_path (codes "compare"))
@@ -66,16 +69,11 @@ pub record IsPrintOption (a : Arg) : Type 0 where
   pub takes : TakesPrints prints
   pub rule : rule_of a ≡ option_rule (codes "print") prints
 
-pub record IsList (c : Command) : Type 0 where
+-- the command takes such an option too
+pub record IsPrinting (app : ValueParser → App) (c : Command) : Type 0 where
   pub prints : ValueParser
   pub takes : TakesPrints prints
-  pub app : app_of c ≡ list_app prints
-  pub local : IsLocal c
-
-pub record IsRun (c : Command) : Type 0 where
-  pub prints : ValueParser
-  pub takes : TakesPrints prints
-  pub app : app_of c ≡ run_app prints
+  pub app_is : app_of c ≡ app prints
   pub local : IsLocal c
 
 -- the parsers of what `list` prints, and of what `run` prints
@@ -104,22 +102,4 @@ pub record Adds {E : Type 0} (old added : Result Command E) (new : Command) : Ty
   pub sub : Command
   pub is : added ≡ Ok sub
   pub app : app_of new ≡ with_subcommand (app_of before) (app_of sub).top
-  pub local : IsLocal new
-
--- the command has `check` and `list` beside what it had
-pub record AddsListCommands {E : Type 0} (old : Result Command E) (new : Command) : Type 0 where
-  pub before : Command
-  pub was : old ≡ Ok before
-  pub prints : ValueParser
-  pub takes : TakesPrints prints
-  pub app : app_of new ≡ with_list (app_of before) prints
-  pub local : IsLocal new
-
--- the command has `run` and `compare` beside what it had
-pub record AddsWindowCommands {E : Type 0} (old : Result Command E) (new : Command) : Type 0 where
-  pub before : Command
-  pub was : old ≡ Ok before
-  pub prints : ValueParser
-  pub takes : TakesPrints prints
-  pub app : app_of new ≡ with_windows (app_of before) prints
   pub local : IsLocal new

@@ -1,7 +1,7 @@
 //! The command line, with its help.
 ghost use Rattle.std.specs.Prelude.{◌≡◌, IfOk, codes, false};
 ghost use Rattle.clap.specs.Words.{App, rule_of, with_rule};
-ghost use Rattle.command_line.specs.Commands.{Adds, AddsListCommands, AddsWindowCommands, IsCommand, IsList, IsLocal, IsPrintOption, IsRun, Makes, check_app, compare_app, number, option_rule, path_rule, with_path, with_plan};
+ghost use Rattle.command_line.specs.Commands.{Adds, IsCommand, IsLocal, IsPrintOption, IsPrinting, Makes, check_app, compare_app, list_app, number, option_rule, path_rule, run_app, with_path, with_plan, with_print};
 
 use clap::builder::ValueParser;
 use clap::{Arg, Command, value_parser};
@@ -151,12 +151,18 @@ fn check_command<'a>(alloc: Global) -> Made<'a>
     path_command(alloc, "check", CHECK, CHECK_EXAMPLE)
 }
 
+/// A command with the option that says what is printed.
+fn with_print_option<'a>(alloc: Global, command: Made<'a>) -> Made<'a>
+    ensures { (app : App) → Makes app command.entry → IfOk result (IsPrinting (with_print app)) }
+{
+    with_argument(command, print_option(alloc))
+}
+
 /// `list PATH [--print WHAT]`
 fn list_command<'a>(alloc: Global) -> Made<'a>
-    ensures { IfOk result IsList }
+    ensures { IfOk result (IsPrinting list_app) }
 {
-    let command = path_command(alloc, "list", LIST, LIST_EXAMPLE);
-    with_argument(command, print_option(alloc))
+    with_print_option(alloc, path_command(alloc, "list", LIST, LIST_EXAMPLE))
 }
 
 /// A command with the options that plan its windows.
@@ -176,10 +182,9 @@ fn plan_command<'a>(alloc: Global, name: &'a str, about: &'a str, example: &'a s
 
 /// `run PATH --workers N --window N [--print WHAT]`
 fn run_command<'a>(alloc: Global) -> Made<'a>
-    ensures { IfOk result IsRun }
+    ensures { IfOk result (IsPrinting run_app) }
 {
-    let planned = plan_command(alloc, "run", RUN, RUN_EXAMPLE);
-    with_argument(planned, print_option(alloc))
+    with_print_option(alloc, plan_command(alloc, "run", RUN, RUN_EXAMPLE))
 }
 
 /// `compare PATH --workers N --window N`
@@ -189,24 +194,6 @@ fn compare_command<'a>(alloc: Global) -> Made<'a>
     plan_command(alloc, "compare", COMPARE, COMPARE_EXAMPLE)
 }
 
-/// A command with `check` and `list` added.
-fn with_list_commands<'a>(alloc: Global, command: Made<'a>) -> Made<'a>
-    requires local { IfOk command IsLocal }
-    ensures { IfOk result (AddsListCommands command.entry) }
-{
-    let command = with_command(command, check_command(alloc));
-    with_command(command, list_command(alloc))
-}
-
-/// A command with `run` and `compare` added.
-fn with_window_commands<'a>(alloc: Global, command: Made<'a>) -> Made<'a>
-    requires local { IfOk command IsLocal }
-    ensures { IfOk result (AddsWindowCommands command.entry) }
-{
-    let command = with_command(command, run_command(alloc));
-    with_command(command, compare_command(alloc))
-}
-
 /// The command line.
 pub(crate) fn command<'a>(alloc: Global) -> Made<'a>
     ensures { IfOk result IsCommand }
@@ -214,6 +201,8 @@ pub(crate) fn command<'a>(alloc: Global) -> Made<'a>
     let command = Command::new(alloc, "fdbench")
         .about(ABOUT)
         .after_help(EXAMPLE);
-    let command = with_list_commands(alloc, Ok(command));
-    with_window_commands(alloc, command)
+    let checking = with_command(Ok(command), check_command(alloc));
+    let listing = with_command(checking, list_command(alloc));
+    let running = with_command(listing, run_command(alloc));
+    with_command(running, compare_command(alloc))
 }

@@ -102,10 +102,8 @@ fn read_check<'a>(found: &ArgMatches<'a>) -> Option<Order<'a>>
     ensures stated { IfSome result (StatesCheck (rows_of (found_of found.now))) }
     ensures missing { IsNone result → (asked : Asked) → StatesCheck (rows_of (found_of found.now)) asked → ⊥ }
 {
-    match text_at(found, "path") {
-        Some(path) => Some(Order::Check { path }),
-        None => None,
-    }
+    let path = text_at(found, "path")?;
+    Some(Order::Check { path })
 }
 
 /// What `list` asks for, if its path is there.
@@ -113,9 +111,7 @@ fn read_list<'a>(found: &ArgMatches<'a>) -> Option<Order<'a>>
     ensures stated { IfSome result (StatesList (rows_of (found_of found.now))) }
     ensures missing { IsNone result → (asked : Asked) → StatesList (rows_of (found_of found.now)) asked → ⊥ }
 {
-    let Some(path) = text_at(found, "path") else {
-        return None;
-    };
+    let path = text_at(found, "path")?;
     let print = read_print(found);
     Some(Order::List { path, print })
 }
@@ -125,15 +121,9 @@ fn read_run<'a>(found: &ArgMatches<'a>) -> Option<Order<'a>>
     ensures stated { IfSome result (StatesRun (rows_of (found_of found.now))) }
     ensures missing { IsNone result → (asked : Asked) → StatesRun (rows_of (found_of found.now)) asked → ⊥ }
 {
-    let Some(path) = text_at(found, "path") else {
-        return None;
-    };
-    let Some(workers) = number_at(found, "workers") else {
-        return None;
-    };
-    let Some(window) = number_at(found, "window") else {
-        return None;
-    };
+    let path = text_at(found, "path")?;
+    let workers = number_at(found, "workers")?;
+    let window = number_at(found, "window")?;
     let print = read_print(found);
     Some(Order::Run {
         path,
@@ -148,15 +138,9 @@ fn read_compare<'a>(found: &ArgMatches<'a>) -> Option<Order<'a>>
     ensures stated { IfSome result (StatesCompare (rows_of (found_of found.now))) }
     ensures missing { IsNone result → (asked : Asked) → StatesCompare (rows_of (found_of found.now)) asked → ⊥ }
 {
-    let Some(path) = text_at(found, "path") else {
-        return None;
-    };
-    let Some(workers) = number_at(found, "workers") else {
-        return None;
-    };
-    let Some(window) = number_at(found, "window") else {
-        return None;
-    };
+    let path = text_at(found, "path")?;
+    let workers = number_at(found, "workers")?;
+    let window = number_at(found, "window")?;
     Some(Order::Compare {
         path,
         workers,
@@ -188,10 +172,8 @@ fn read_matches<'a>(matches: &ArgMatches<'a>) -> Option<Order<'a>>
     ensures stated { IfSome result (StatesFound (subcommand_rows_of matches.now)) }
     ensures missing { IsNone result → StatesNothingFound (subcommand_rows_of matches.now) }
 {
-    match matches.subcommand() {
-        Some((name, found)) => read_found(name, found),
-        None => None,
-    }
+    let (name, found) = matches.subcommand()?;
+    read_found(name, found)
 }
 
 /// What the words ask for, the program's name first.

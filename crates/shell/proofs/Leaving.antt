@@ -1,44 +1,28 @@
 -- What a run leaves of its outlets and which line it tells, status by status, where it ended as `ended` says.
-use Rattle.std.proofs.Common.{◌≡◌, ◌≢◌, ◌⊎◌, ◌≤◌, sym, subst, inl, inr, ℕ, List, Option, Result, Ok, Err, IfErr, OnOk, arith}
+use Rattle.std.proofs.Common.{◌≡◌, ◌≢◌, ◌⊎◌, ◌≤◌, sym, subst, inl, ℕ, List, Option, Result, Ok, Err, IfErr, OnOk, arith}
 use Rattle.reporting.specs.Writing.{WroteNothing}
 use Rattle.shell.specs.Ending.{End, Goes, HasStatus, IsWhy, LeftAt, MayHaveGone, Tells, Went, WentPart, begun, cut, untouched}
 use Rattle.shell.proofs.Going.{tells_as}
 
 -- ---- what a status says of the end
 
-at_zero : (end : End) (n : ℕ) → HasStatus end n → n ≡ 0 → ⊥
-at_zero untouched n (inl is) zero = omega (arith, is, zero)
-at_zero untouched n (inr (inl is)) zero = omega (arith, is, zero)
-at_zero untouched n (inr (inr is)) zero = omega (arith, is, zero)
-at_zero begun n is zero = omega (arith, is, zero)
-at_zero cut n is zero = omega (arith, is, zero)
-
-at_most_four : (end : End) (n : ℕ) → HasStatus end n → n ≤ 4
-at_most_four untouched n (inl is) = omega (arith, is)
-at_most_four untouched n (inr (inl is)) = omega (arith, is)
-at_most_four untouched n (inr (inr is)) = omega (arith, is)
-at_most_four begun n is = omega (arith, is)
-at_most_four cut n is = omega (arith, is)
+one_to_four : (end : End) (n : ℕ) → HasStatus end n → (1 ≤ n) × (n ≤ 4)
+one_to_four untouched n is = omega arith
+one_to_four _ n is = omega arith
 
 module _ {O : Type 0} (told : O → Option (List ℕ)) (failed : O → ℕ) (old new : O) (IsWritten IsLeft : List ℕ → Type 0) (n : ℕ) where
   left_four : (end : End) → HasStatus end n → LeftAt told failed old new IsWritten IsLeft end → n ≡ 4 → WentPart told failed old new IsWritten
-  left_four untouched (inl is) left four = absurd (omega (arith, is, four))
-  left_four untouched (inr (inl is)) left four = absurd (omega (arith, is, four))
-  left_four untouched (inr (inr is)) left four = absurd (omega (arith, is, four))
-  left_four begun is left four = absurd (omega (arith, is, four))
   left_four cut is left four = left
+  left_four _ is left four = absurd (omega arith)
 
   left_three : (end : End) → HasStatus end n → LeftAt told failed old new IsWritten IsLeft end → n ≡ 3 → MayHaveGone told failed old new IsLeft
   left_three untouched is left three = inl left
   left_three begun is left three = left
-  left_three cut is left three = absurd (omega (arith, is, three))
+  left_three cut is left three = absurd (omega arith)
 
   left_low : (end : End) → HasStatus end n → LeftAt told failed old new IsWritten IsLeft end → (n ≡ 1) ⊎ (n ≡ 2) → WroteNothing told failed old new
   left_low untouched is left low = left
-  left_low begun is left (inl one) = absurd (omega (arith, one, is))
-  left_low begun is left (inr two) = absurd (omega (arith, two, is))
-  left_low cut is left (inl one) = absurd (omega (arith, one, is))
-  left_low cut is left (inr two) = absurd (omega (arith, two, is))
+  left_low _ is left low = absurd (omega arith)
 
 -- ---- what a run leaves
 
@@ -61,29 +45,25 @@ module _ {F : Type 0} (status_of : F → ℕ) (line_of : F → List ℕ) (end_of
       → IfErr r (λ failure. (n ≡ status_of failure) × Tells told_of failed_of before after (λ line. line ≡ line_of failure))
       → Goes end_of told failed old new IsWanted IsWritten IsLeft r → IfErr r IsReason → Ends
   ends (Ok a) ok err went reason = record {
-    few = omega (arith, ok.0);
+    few = omega arith;
     done = λ zero. went;
-    broken = λ four. absurd (omega (arith, four, ok.0));
-    refused = λ low. absurd (neither low);
-    left = λ three. absurd (omega (arith, three, ok.0));
+    broken = λ four. absurd (omega arith);
+    refused = λ low. absurd (omega arith);
+    left = λ three. absurd (omega arith);
     silent = λ zero. ok.1;
     why = λ other. absurd (other ok.0);
     stopped = λ other. absurd (other ok.0);
   }
-    where
-      neither : (n ≡ 1) ⊎ (n ≡ 2) → ⊥
-      neither (inl one) = omega (arith, one, ok.0)
-      neither (inr two) = omega (arith, two, ok.0)
   ends (Err failure) ok err left reason =
       let end = end_of failure in
       let has : HasStatus end n = subst (HasStatus end) (sym err.0) (statuses failure) in
       record {
-        few = at_most_four end n has;
-        done = λ zero. absurd (at_zero end n has zero);
+        few = (one_to_four end n has).1;
+        done = λ zero. absurd (omega (arith, one_to_four end n has));
         broken = left_four told failed old new IsWritten IsLeft n end has left;
         refused = left_low told failed old new IsWritten IsLeft n end has left;
         left = left_three told failed old new IsWritten IsLeft n end has left;
-        silent = λ zero. absurd (at_zero end n has zero);
+        silent = λ zero. absurd (omega (arith, one_to_four end n has));
         why = λ other.
             tells_as told_of failed_of before after (λ line. line ≡ line_of failure) (IsWhy status_of line_of IsReason n)
             (λ line is. record { failure = failure; reason = reason; status_is = err.0; line_is = is }) err.1;

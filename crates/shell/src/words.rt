@@ -34,9 +34,5 @@ pub fn words_of<R: Env + AllocGlobal>(rt: &R) -> Result<Vec<String>, NoWords> {
 ///
 /// `AllocError` where memory was refused.
 pub fn lent<'a>(alloc: Global, words: &'a [String]) -> Result<Vec<&'a str>, AllocError> {
-    let mut texts = Vec::new(alloc);
-    for word in words {
-        texts.push(word.as_str())?;
-    }
-    Ok(texts)
+    words.iter().map(|word| word.as_str()).collect(alloc)
 }

@@ -1,6 +1,7 @@
 use Rattle.std.proofs.Common.{ap, refl, Err, codes}
+use Rattle.std.proofs.lemmas.Result.{MatchResult-weaker}
 use Rattle.bench_commands.specs.Answer.{IsCompareAnswer}
-use Rattle.bench_commands.proofs.Stopping.{compare_why, put_why, stops_unwritten}
+use Rattle.bench_commands.proofs.Stopping.{compare_why, stops_unwritten}
 use Rattle.bench_commands.specs.Fault.{end_of}
 use Rattle.bench_commands.specs.declared.fault.Fault.TheVariants.{Run}
 use Rattle.run_error.specs.declared.error.RunError.TheVariants.{Write}
@@ -16,7 +17,7 @@ returns-in-Ok-clause-text g c =
 
 pub returns-in-Ok-clause-why : goal.returns-in-Ok-clause-why
 returns-in-Ok-clause-why g c =
-    put_why _ _ _ _ c.args.scenario.now c.put_verdict.result (codes "same\n") (c.put_verdict.ensures.part c.in-Ok.ensures.same.0)
+    MatchResult-weaker c.put_verdict.result (c.put_verdict.ensures.part c.in-Ok.ensures.same.0) (λ done is. is) (λ fault part. rw part.0 tt)
 
 pub returns-in-Err-clause-text : goal.returns-in-Err-clause-text
 returns-in-Err-clause-text g c = stops_unwritten _ _ _ _ _ _ c.in-Err.error c.in-Err.ensures.other (record { bytes = refl; failures = refl })

@@ -1,29 +1,27 @@
-use Rattle.std.proofs.Common.{◌≡◌, ◌∙◌, ap, sym, subst, refl, inr, suc, ℕ, List, [], ◌++◌, flat_map, take, drop, Bor}
-use Rattle.reporting.specs.Writing.{WrotePart}
+use Rattle.std.proofs.Common.{◌≡◌, ◌∙◌, ◌<◌, ap, sym, refl, inr, ℕ, suc, List, [], ◌++◌, flat_map, length, take, drop, get_or, Bor}
+use Rattle.std.proofs.lemmas.Grind.{flat_map-append}
+use Rattle.std.proofs.lemmas.List.{take-append-drop}
+use Rattle.std.proofs.Math.Seq.{drop-cons}
 use Rattle.reporting.proofs.Written.{part_of_more, wrote_then_part}
-use Rattle.shell.proofs.Pieces.{text_about}
 use Rattle.shell.proofs.writing.tell_pieces.Goals as goal
+
+-- the whole text, about one piece
+text_about : {X : Type 0} (f : X → List ℕ) (ps : List X) (i : ℕ) (none : X) → i < length ps
+    → flat_map f ps ≡ flat_map f (take i ps) ++ (f (get_or ps i none) ++ flat_map f (drop (suc i) ps))
+text_about f ps i none in_range =
+    sym (ap (flat_map f) (take-append-drop i ps))
+    ∙ (flat_map-append f (take i ps) (drop i ps)
+    ∙ ap (λ t. flat_map f (take i ps) ++ t) (ap (flat_map f) (drop-cons ps i none in_range)))
 
 pub returns-then-not-put_all : goal.returns-then-not-put_all
 returns-then-not-put_all g c =
-    let told = g.O.Outlet.told in
-    let failed = g.O.Outlet.failed in
     let f : Bor (List ℕ) → List ℕ = λ p. p.now in
-    let ps = c.args.pieces.now in
-    let i = c.loop-piece.piece-index in
     let none : Bor (List ℕ) = record { ref_ptr = (0, 0); now = [] } in
-    let piece = c.as_bytes.result.now in
-    let first = flat_map f (take i ps) in
-    let rest = flat_map f (drop (suc i) ps) in
-    let whole : flat_map f ps ≡ first ++ (piece ++ rest) =
-    text_about f ps i none c.loop-piece-test.true ∙ ap (λ t. first ++ (t ++ rest)) (sym c.as_bytes.ensures.value) in
     let failing = c.if-not-put_all.ensures in
-    let part : WrotePart told failed c.loop-piece.outlet c.put_all.new.outlet piece = record { bytes = failing.part; failures = failing.count } in
     inr (record {
-      piece = flat_map f ps;
+      piece = flat_map f c.args.pieces.now;
       is_wanted = refl;
       written =
-          subst (WrotePart told failed c.args.outlet.now c.put_all.new.outlet) (sym whole)
-          (wrote_then_part told failed c.args.outlet.now c.loop-piece.outlet c.put_all.new.outlet first (piece ++ rest) c.loop-piece.invariant
-          (part_of_more told failed c.loop-piece.outlet c.put_all.new.outlet piece rest part));
+          rw (text_about f c.args.pieces.now c.loop-piece.piece-index none c.loop-piece-test.true, ← c.as_bytes.ensures.value)
+          (wrote_then_part _ _ _ _ _ _ _ c.loop-piece.invariant (part_of_more _ _ _ _ _ _ (record { bytes = failing.part; failures = failing.count })));
     })
