@@ -21,7 +21,8 @@ use Rattle.sweep.specs.declared.layout.Rows.{Rows}
 use Rattle.sweep.specs.declared.layout.Rows.TheVariants as kind
 use Rattle.sweep.specs.declared.run_numbers.RunNumbers.{RunNumbers}
 use Rattle.sweep.proofs.Numbered.{run_is, point_is, runs_length}
-use Rattle.sweep.proofs.Zipped.{zip_length, zip_push, range_more}
+use Rattle.sweep.proofs.Zipped.{zip_push, range_more}
+use Rattle.std.proofs.lemmas.Slice.Zip.{AllZip-long}
 
 module _ (file : Members) (g : GridRecord) (layout : LayoutRecord) where
   abbrev pub AreFirst : (unit run : ℕ) → List Trial → Type 0
@@ -44,7 +45,7 @@ module _ (file : Members) (g : GridRecord) (layout : LayoutRecord) where
   trials_length unit run trials first low =
       let all : List RunRecord = unit_runs layout.rows g unit in
       let R : RunRecord → Trial → Type 0 = IsTrialOf file (point_at g (unit_point layout.rows g unit)) in
-      let same : length (take run all) ≡ length trials = zip_length R (take run all) trials first in
+      let same : length trials ≡ length (take run all) = AllZip-long R (take run all) trials first in
       let len : length (take run all) ≡ min run (length all) = length-take run all in
       let each : length all ≡ runs_each layout.rows g = runs_length layout.rows g unit in
       omega (arith, same, len, each, low)

@@ -58,9 +58,6 @@ counted es = sum_by (λ e. e.1) es
 counted-cons : (e : ℕ × ℕ) (es : List (ℕ × ℕ)) → counted (e ∷ es) ≡ e.1 + counted es
 counted-cons e es = sum_by-cons (λ x. x.1) e es
 
-pub all_passing : (es : List (ℕ × ℕ)) → passing (λ _. true) es ≡ counted es
-all_passing es = refl
-
 abbrev Above : ℕ → List (ℕ × ℕ) → Type 0
 Above k es = AllByRecursion (λ y. nat_cmp k y ≡ Less) (keys_of es)
 

@@ -16,12 +16,12 @@ use Rattle.sweep.specs.Numbering.{unit_count, HasScenarioAt, IsFirstRefusal}
 use Rattle.sweep.specs.Outcome.{IsBefore, HasScenario, IsFirstRefused, HaveScenarios, CantBeRun, WroteStudy, BreaksOff}
 use Rattle.sweep.specs.Progress.{WroteUpTo, StopsBelow, HeaderFails}
 use Rattle.sweep.specs.RowText.{Text}
-use Rattle.sweep.specs.StudyText.{header_of, numbers_of, units_in, units_of, HasRowsOf}
+use Rattle.sweep.specs.StudyText.{header_of, numbers_of, units_in, units_of, HasRowsOf, IsTextOf}
 use Rattle.sweep.specs.declared.error.SweepError.{SweepError}
 use Rattle.sweep.specs.declared.error.SweepError.TheVariants as error
 use Rattle.sweep.proofs.Numbered.{point_is, run_is, number_below}
-use Rattle.sweep.proofs.Units.{unit_range, unit_count-sub}
 use Rattle.sweep.proofs.Zipped.{range_taken}
+use Rattle.sweep.proofs.Units.{unit_range, unit_count-sub}
 
 module _ (file : Members) (g : GridRecord) (shard : ShardRecord) (layout : LayoutRecord)
     {O : Type 0} (told : O → Option Text) (failed : O → ℕ) where
@@ -151,26 +151,24 @@ module _ (file : Members) (g : GridRecord) (shard : ShardRecord) (begin end : �
             wrote = wrote_both told failed old mid new (header_of g shard layout) up.text header up.wrote;
           }
 
-      first_units : (unit : ℕ) → unit ≤ last → take (unit - first) (units_of layout.rows g shard) ≡ range_with_len first (unit - first)
-      first_units unit le =
-          ap (λ l. take (unit - first) l) units_are ∙ range_taken first (last - first) (unit - first) (omega (arith, le))
+      first_text : (unit : ℕ) (text : Text) → unit ≤ last → HasRowsOf file g layout (range_with_len first (unit - first)) text
+          → IsTextOf file g shard layout (take (unit - first) (units_of layout.rows g shard)) (header_of g shard layout ++ text)
+      first_text unit text le has =
+          let units = ap (λ l. take (unit - first) l) units_are ∙ range_taken first (last - first) (unit - first) (omega (arith, le)) in
+          record { rows = text; has = subst (λ l. HasRowsOf file g layout l text) (sym units) has; text_is = refl }
 
       pub breaks_at_points : (e : SweepError) → StopsBelow file g layout told failed mid new first last e
           → BreaksOff file g shard layout told failed old new e
       breaks_at_points (error.Refused point run reason) stops = absurd stops
-      breaks_at_points error.Memory (unit, le, up) =
-          let P : List ℕ → Type 0 = λ l. HasRowsOf file g layout l up.text in
-          inr (record {
-            count = unit - first;
-            text = header_of g shard layout ++ up.text;
-            is_text = record { rows = up.text; has = subst P (sym (first_units unit le)) up.has; text_is = refl };
-            wrote = wrote_both told failed old mid new (header_of g shard layout) up.text header up.wrote;
-          })
-      breaks_at_points error.Write (unit, le, up) =
-          let P : List ℕ → Type 0 = λ l. HasRowsOf file g layout l up.text in
-          record {
-            count = unit - first;
-            text = header_of g shard layout ++ up.text;
-            is_text = record { rows = up.text; has = subst P (sym (first_units unit le)) up.has; text_is = refl };
-            wrote = wrote_then_part told failed old mid new (header_of g shard layout) up.text header up.wrote;
-          }
+      breaks_at_points error.Memory (unit, le, up) = inr (record {
+        count = unit - first;
+        text = header_of g shard layout ++ up.text;
+        is_text = first_text unit up.text le up.has;
+        wrote = wrote_both told failed old mid new (header_of g shard layout) up.text header up.wrote;
+      })
+      breaks_at_points error.Write (unit, le, up) = record {
+        count = unit - first;
+        text = header_of g shard layout ++ up.text;
+        is_text = first_text unit up.text le up.has;
+        wrote = wrote_then_part told failed old mid new (header_of g shard layout) up.text header up.wrote;
+      }

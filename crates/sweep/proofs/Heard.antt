@@ -1,10 +1,10 @@
 -- What a watcher has heard: one more number, one more point, and nothing more.
-use Rattle.std.proofs.Common.{◌≡◌, ◌≢◌, ℕ, ◌-◌, ◌*◌, ◌<◌, ◌≤◌, ◌==◌, ⊎_elim, Bool, true, false, not, cond, eq-eqb, List, [], ◌∷◌, ◌++◌, refl, sym, ap, ◌∙◌, subst, map, append-nil, arith, inr, length, take}
+use Rattle.std.proofs.Common.{◌≡◌, ℕ, ◌-◌, ◌*◌, ◌<◌, ◌≤◌, ◌==◌, Bool, true, false, not, cond, eq-eqb, List, [], ◌∷◌, ◌++◌, refl, sym, ap, ◌∙◌, subst, map, append-nil, arith, inr, length, take}
 use Rattle.std.proofs.Math.Nat.{mul-sub, mul_comm}
 use Rattle.std.proofs.lemmas.List.{map-append}
 use Rattle.std.proofs.lemmas.List.Elements.{filter-append, filter_map-append}
 use Rattle.std.specs.List.{AllZip, filter, filter_map, range_with_len}
-use Rattle.std.proofs.lemmas.Bool.Decides.{eqb_tells}
+use Rattle.std.proofs.lemmas.Bool.{ne_eqb}
 use Rattle.std.proofs.lemmas.List.FromFn.{length-range_with_len}
 use Rattle.trace_laws.specs.Joins.{HaveJoined}
 use Rattle.trace_laws.proofs.Joining.{joined_then}
@@ -15,28 +15,31 @@ use Rattle.sweep.specs.StudyText.{numbers_of}
 use Rattle.sweep.specs.Watching.{News, stands, limits, standing_in, limit_in, said_of, Rise, AreLimited, HeardReading, HeardRunning, HeardOfReading, HeardOfAllReading, HeardAll, HeardSome}
 use Rattle.sweep.specs.declared.watcher.Pass.TheVariants.{Reading, Running}
 use Rattle.sweep.specs.declared.watcher.Standing.{Standing}
-use Rattle.sweep.proofs.Zipped.{zip_push, range_taken}
+use Rattle.sweep.proofs.Zipped.{zip_append, range_taken}
 
-rise_more : (first last more : ℕ) (ns : List ℕ) → Rise first last ns → last < more → Rise first more (ns ++ more ∷ [])
-rise_more first last more [] is lt = (subst (λ n. n < more) (sym is) lt, refl)
-rise_more first last more (n ∷ ns) is lt = (is.0, rise_more n last more ns is.1 lt)
+rise_both : (first mid last : ℕ) (ns ms : List ℕ) → Rise first mid ns → Rise mid last ms → Rise first last (ns ++ ms)
+rise_both first mid last [] ms is up = subst (λ n. Rise n last ms) (sym is) up
+rise_both first mid last (n ∷ ns) ms is up = (is.0, rise_both n mid last ns ms is.1 up)
 
 -- a point of whose runs some passed the limit
 abbrev is_told : ℕ × ℕ → Bool
 is_told entry = not (entry.1 == 0)
 
-said_by : (point count : ℕ) (b : Bool) → (count == 0) ≡ b → said_of point count ≡ cond b [] (limits point count ∷ [])
-said_by point count b is = ap (λ c. cond c [] (limits point count ∷ [])) is
-
 pub said_none : (point count : ℕ) → count ≡ 0 → said_of point count ≡ []
-said_none point count is = said_by point count true (eq-eqb count 0 is)
+said_none point count is = ap (λ c. cond c [] (limits point count ∷ [])) (eq-eqb count 0 is)
 
 pub said_some : (point count : ℕ) → (count ≡ 0 → ⊥) → said_of point count ≡ limits point count ∷ []
-said_some point count not_none =
-    ⊎_elim
-    (λ (y : ((count == 0) ≡ true) × (count ≡ 0)). absurd (not_none y.1))
-    (λ (n : ((count == 0) ≡ false) × (count ≢ 0)). said_by point count false n.0)
-    (eqb_tells count 0)
+said_some point count not_none = ap (λ c. cond c [] (limits point count ∷ [])) (ne_eqb count 0 not_none)
+
+-- what is said of a point is its limit, where that is told, and no standing
+said_limit : (point count : ℕ) → (filter_map standing_in (said_of point count) ≡ [])
+    × (filter_map limit_in (said_of point count) ≡ filter is_told ((point, count) ∷ []))
+said_limit point count = by (count == 0)
+  where
+    by : (b : Bool) → (filter_map standing_in (cond b [] (limits point count ∷ [])) ≡ [])
+        × (filter_map limit_in (cond b [] (limits point count ∷ [])) ≡ cond (not b) ((point, count) ∷ []) [])
+    by true = (refl, refl)
+    by false = (refl, refl)
 
 module _ {W : Type 0} (heard : W → List News → W → Type 0) (points runs : ℕ) where
   -- ---- of the reading
@@ -47,25 +50,23 @@ module _ {W : Type 0} (heard : W → List News → W → Type 0) (points runs : 
   pub reading_begin : (old new : W) → HaveJoined heard old new (read 0 ∷ []) → HeardReading heard old new points runs 0
   reading_begin old new is = record { numbers = []; rise = refl; heard_each = is }
 
-  -- nothing more
-  pub reading_same : (old now new : W) (done : ℕ) → HeardReading heard old now points runs done → HaveJoined heard now new []
-      → HeardReading heard old new points runs done
-  reading_same old now new done was same = record {
-    numbers = was.numbers;
-    rise = was.rise;
-    heard_each = subst (HaveJoined heard old new) (append-nil (map read (0 ∷ was.numbers)))
-        (joined_then heard old now new (map read (0 ∷ was.numbers)) [] was.heard_each same);
+  -- more numbers, if any
+  reading_with : (old now new : W) (done more : ℕ) (numbers : List ℕ) → HeardReading heard old now points runs done → Rise done more numbers
+      → HaveJoined heard now new (map read numbers) → HeardReading heard old new points runs more
+  reading_with old now new done more numbers was up is = record {
+    numbers = was.numbers ++ numbers;
+    rise = rise_both 0 done more was.numbers numbers was.rise up;
+    heard_each = subst (HaveJoined heard old new) (sym (map-append read (0 ∷ was.numbers) numbers))
+        (joined_then heard old now new (map read (0 ∷ was.numbers)) (map read numbers) was.heard_each is);
   }
 
-  -- one more number
+  pub reading_same : (old now new : W) (done : ℕ) → HeardReading heard old now points runs done → HaveJoined heard now new []
+      → HeardReading heard old new points runs done
+  reading_same old now new done was same = reading_with old now new done done [] was refl same
+
   pub reading_more : (old now new : W) (done more : ℕ) → HeardReading heard old now points runs done → done < more
       → HaveJoined heard now new (read more ∷ []) → HeardReading heard old new points runs more
-  reading_more old now new done more was lt is = record {
-    numbers = was.numbers ++ more ∷ [];
-    rise = rise_more 0 done more was.numbers was.rise lt;
-    heard_each = subst (HaveJoined heard old new) (sym (map-append read (0 ∷ was.numbers) (more ∷ [])))
-        (joined_then heard old now new (map read (0 ∷ was.numbers)) (read more ∷ []) was.heard_each is);
-  }
+  reading_more old now new done more was lt is = reading_with old now new done more (more ∷ []) was (lt, refl) is
 
   -- ---- of the running
 
@@ -87,80 +88,45 @@ module _ {W : Type 0} (heard : W → List News → W → Type 0) (points runs : 
     }
 
     module _ (old now new : W) (done : ℕ) (complete : List ℕ) (was : HeardRunning heard old now file g points runs done complete) where
-      -- nothing more
-      pub running_same : HaveJoined heard now new [] → HeardRunning heard old new file g points runs done complete
-      running_same same = record {
-        news = was.news;
-        heard_all = subst (HaveJoined heard old new) (append-nil was.news) (joined_then heard old now new was.news [] was.heard_all same);
-        numbers = was.numbers;
-        rise = was.rise;
-        standings = was.standings;
-        counts = was.counts;
-        counted = was.counted;
-        limited = was.limited;
+      abbrev AreTold : List ℕ → List (ℕ × ℕ) → Type 0
+      AreTold = AllZip (λ point entry. (entry.0 ≡ point) × AreLimited file g point entry.1)
+
+      -- more news, of more numbers and points, if any
+      running_with : (news : List News) (more : ℕ) (numbers : List ℕ) (others : List ℕ) (counts : List (ℕ × ℕ)) → HaveJoined heard now new news
+          → Rise done more numbers → filter_map standing_in news ≡ map run numbers → AreTold others counts
+          → filter_map limit_in news ≡ filter is_told counts → HeardRunning heard old new file g points runs more (complete ++ others)
+      running_with news more numbers others counts is up standings counted limited = record {
+        news = was.news ++ news;
+        heard_all = joined_then heard old now new was.news news was.heard_all is;
+        numbers = was.numbers ++ numbers;
+        rise = rise_both 0 done more was.numbers numbers was.rise up;
+        standings = filter_map-append standing_in was.news news
+            ∙ (λ i. was.standings i ++ standings i) ∙ sym (map-append run (0 ∷ was.numbers) numbers);
+        counts = was.counts ++ counts;
+        counted = zip_append (λ point entry. (entry.0 ≡ point) × AreLimited file g point entry.1) complete was.counts others counts was.counted counted;
+        limited = filter_map-append limit_in was.news news
+            ∙ (λ i. was.limited i ++ limited i) ∙ sym (filter-append is_told was.counts counts);
       }
+
+      -- no more points
+      running_on : (news : List News) (more : ℕ) (numbers : List ℕ) → HaveJoined heard now new news → Rise done more numbers
+          → filter_map standing_in news ≡ map run numbers → filter_map limit_in news ≡ [] → HeardRunning heard old new file g points runs more complete
+      running_on news more numbers is up standings limited =
+          subst (HeardRunning heard old new file g points runs more) (append-nil complete) (running_with news more numbers [] [] is up standings tt limited)
+
+      pub running_same : HaveJoined heard now new [] → HeardRunning heard old new file g points runs done complete
+      running_same same = running_on [] done [] same refl refl refl
 
       -- one more number
       pub running_more : (more : ℕ) → done < more → HaveJoined heard now new (stands (run more) ∷ [])
           → HeardRunning heard old new file g points runs more complete
-      running_more more lt is = record {
-        news = was.news ++ stands (run more) ∷ [];
-        heard_all = joined_then heard old now new was.news (stands (run more) ∷ []) was.heard_all is;
-        numbers = was.numbers ++ more ∷ [];
-        rise = rise_more 0 done more was.numbers was.rise lt;
-        standings = filter_map-append standing_in was.news (stands (run more) ∷ [])
-            ∙ ap (λ l. l ++ run more ∷ []) was.standings
-            ∙ sym (map-append run (0 ∷ was.numbers) (more ∷ []));
-        counts = was.counts;
-        counted = was.counted;
-        limited = filter_map-append limit_in was.news (stands (run more) ∷ []) ∙ append-nil (filter_map limit_in was.news) ∙ was.limited;
-      }
+      running_more more lt is = running_on (stands (run more) ∷ []) more (more ∷ []) is (lt, refl) refl refl
 
       -- one more point
       pub running_point : (point count : ℕ) → AreLimited file g point count → HaveJoined heard now new (said_of point count)
           → HeardRunning heard old new file g points runs done (complete ++ point ∷ [])
       running_point point count are said =
-          ⊎_elim
-          (λ (y : ((count == 0) ≡ true) × (count ≡ 0)). none y.0)
-          (λ (n : ((count == 0) ≡ false) × (count ≢ 0)). some n.0)
-          (eqb_tells count 0)
-        where
-          told_by : (b : Bool) → (count == 0) ≡ b
-              → filter is_told (was.counts ++ (point, count) ∷ []) ≡ filter is_told was.counts ++ cond (not b) ((point, count) ∷ []) []
-          told_by b is =
-              filter-append is_told was.counts ((point, count) ∷ [])
-              ∙ ap (λ c. filter is_told was.counts ++ cond (not c) ((point, count) ∷ []) []) is
-
-          counted : AllZip (λ p entry. (entry.0 ≡ p) × AreLimited file g p entry.1) (complete ++ point ∷ []) (was.counts ++ (point, count) ∷ [])
-          counted = zip_push (λ p entry. (entry.0 ≡ p) × AreLimited file g p entry.1) complete was.counts point (point, count) was.counted (refl, are)
-
-          none : (count == 0) ≡ true → HeardRunning heard old new file g points runs done (complete ++ point ∷ [])
-          none is = record {
-            news = was.news;
-            heard_all = subst (HaveJoined heard old new) (append-nil was.news)
-                (joined_then heard old now new was.news [] was.heard_all (subst (HaveJoined heard now new) (said_by point count true is) said));
-            numbers = was.numbers;
-            rise = was.rise;
-            standings = was.standings;
-            counts = was.counts ++ (point, count) ∷ [];
-            counted = counted;
-            limited = was.limited ∙ sym (append-nil (filter is_told was.counts)) ∙ sym (told_by true is);
-          }
-
-          some : (count == 0) ≡ false → HeardRunning heard old new file g points runs done (complete ++ point ∷ [])
-          some is = record {
-            news = was.news ++ limits point count ∷ [];
-            heard_all = joined_then heard old now new was.news (limits point count ∷ []) was.heard_all
-                (subst (HaveJoined heard now new) (said_by point count false is) said);
-            numbers = was.numbers;
-            rise = was.rise;
-            standings = filter_map-append standing_in was.news (limits point count ∷ [])
-                ∙ append-nil (filter_map standing_in was.news) ∙ was.standings;
-            counts = was.counts ++ (point, count) ∷ [];
-            counted = counted;
-            limited = filter_map-append limit_in was.news (limits point count ∷ [])
-                ∙ ap (λ l. l ++ (point, count) ∷ []) was.limited ∙ sym (told_by false is);
-          }
+          running_with (said_of point count) done [] (point ∷ []) ((point, count) ∷ []) said refl (said_limit point count).0 ((refl, are), tt) (said_limit point count).1
 
 pub sub_mul : (a b n : ℕ) → (a - b) * n ≡ a * n - b * n
 sub_mul a b n = mul_comm (a - b) n ∙ mul-sub n a b ∙ ap (λ m. m - n * b) (mul_comm n a) ∙ ap (λ m. a * n - m) (mul_comm n b)

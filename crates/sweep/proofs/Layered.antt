@@ -98,33 +98,23 @@ module _ (layer : ℕ) (xs ys : List Trial) (a b : LayerSums) (few : length xs +
   few_of_layer : length (on_layer layer xs) + length (on_layer layer ys) < 2 ^ 64
   few_of_layer = omega (arith, few_on layer xs, few_on layer ys)
 
+  abbrev A : ℕ
+  A = most_of (length xs)
+
+  abbrev B : ℕ
+  B = most_of (length ys)
+
   verdicts_added : AreVerdictCounts layer (done_on layer xs ++ done_on layer ys) (layer_plus a b).verdicts
   verdicts_added =
-      let rs = done_on layer xs in
-      let qs = done_on layer ys in
       let u = p.sums.done.verdicts in
       let v = q.sums.done.verdicts in
-      record {
-        strong_completeness = counted (λ r. is_some (verdicts r.scenario r.trace layer).strong_completeness) rs qs _ _ few_finished u.strong_completeness v.strong_completeness;
-        weak_completeness = counted (λ r. is_some (verdicts r.scenario r.trace layer).weak_completeness) rs qs _ _ few_finished u.weak_completeness v.weak_completeness;
-        strong_accuracy = counted (λ r. (verdicts r.scenario r.trace layer).strong_accuracy) rs qs _ _ few_finished u.strong_accuracy v.strong_accuracy;
-        weak_accuracy = counted (λ r. (verdicts r.scenario r.trace layer).weak_accuracy) rs qs _ _ few_finished u.weak_accuracy v.weak_accuracy;
-        eventual_strong_accuracy = counted (λ r. is_some (verdicts r.scenario r.trace layer).eventual_strong_accuracy) rs qs _ _ few_finished u.eventual_strong_accuracy v.eventual_strong_accuracy;
-        eventual_weak_accuracy = counted (λ r. is_some (verdicts r.scenario r.trace layer).eventual_weak_accuracy) rs qs _ _ few_finished u.eventual_weak_accuracy v.eventual_weak_accuracy;
-      }
+      search (counted, few_finished)
 
   counts_added : AreRunCounts layer (done_on layer xs ++ done_on layer ys) (layer_plus a b).counts
   counts_added =
-      let rs = done_on layer xs in
-      let qs = done_on layer ys in
       let u = p.sums.done.counts in
       let v = q.sums.done.counts in
-      record {
-        with_mistakes = counted (has_mistake layer) rs qs _ _ few_finished u.with_mistakes v.with_mistakes;
-        all_decided = counted (λ r. do_all_decide (deciding r)) rs qs _ _ few_finished u.all_decided v.all_decided;
-        undecided = counted (λ r. is_undecided (deciding r)) rs qs _ _ few_finished u.undecided v.undecided;
-        disagreements = counted (λ r. do_disagree (run_outcomes r)) rs qs _ _ few_finished u.disagreements v.disagreements;
-      }
+      search (counted, few_finished)
 
   done_added : AreDoneSums layer (done_on layer xs ++ done_on layer ys) (layer_plus a b)
   done_added =
@@ -133,25 +123,19 @@ module _ (layer : ℕ) (xs ys : List Trial) (a b : LayerSums) (few : length xs +
       let d = p.sums.done in
       let e = q.sums.done in
       record {
-        traces = traces_added rs qs a.traces b.traces (most_of (length xs)) (most_of (length ys)) (omega arith) p.within.traces q.within.traces d.traces e.traces;
-        pair_ticks = added (pair_ticks layer) rs qs a.pair_ticks b.pair_ticks (most_of (length xs)) (most_of (length ys)) (omega arith) d.pair_ticks e.pair_ticks p.within.pair_ticks q.within.pair_ticks;
+        traces = traces_added rs qs a.traces b.traces A B (omega arith) p.within.traces q.within.traces d.traces e.traces;
+        pair_ticks = added (pair_ticks layer) rs qs a.pair_ticks b.pair_ticks A B (omega arith) d.pair_ticks e.pair_ticks p.within.pair_ticks q.within.pair_ticks;
         pairs = subst (λ ms. ArePairSums ms (layer_plus a b).pairs) (sym (pairs_both layer xs ys rs qs))
-            (pairs_added (all_pairs layer rs) (all_pairs layer qs) a.pairs b.pairs (most_of (length xs)) (most_of (length ys)) (omega arith) p.within.pairs q.within.pairs d.pairs e.pairs);
-        mistakes_squared_sum = added (λ r. mistakes layer r * mistakes layer r) rs qs a.mistakes_squared_sum b.mistakes_squared_sum (most_of (length xs)) (most_of (length ys)) (omega arith) d.mistakes_squared_sum e.mistakes_squared_sum p.within.mistakes_squared_sum q.within.mistakes_squared_sum;
+            (pairs_added (all_pairs layer rs) (all_pairs layer qs) a.pairs b.pairs A B (omega arith) p.within.pairs q.within.pairs d.pairs e.pairs);
+        mistakes_squared_sum = added (λ r. mistakes layer r * mistakes layer r) rs qs a.mistakes_squared_sum b.mistakes_squared_sum A B (omega arith) d.mistakes_squared_sum e.mistakes_squared_sum p.within.mistakes_squared_sum q.within.mistakes_squared_sum;
         verdicts = verdicts_added;
         decisions = subst (λ os. AreDecisionSums os (layer_plus a b).decisions) (sym (flat_map-append deciding rs qs))
-            (decisions_added (flat_map deciding rs) (flat_map deciding qs) a.decisions b.decisions (most_of (length xs)) (most_of (length ys)) (omega arith) p.within.decisions q.within.decisions d.decisions e.decisions);
+            (decisions_added (flat_map deciding rs) (flat_map deciding qs) a.decisions b.decisions A B (omega arith) p.within.decisions q.within.decisions d.decisions e.decisions);
         counts = counts_added;
       }
 
-  within_both : IsLayerWithin (most_of (length xs) + most_of (length ys)) (layer_plus a b)
-  within_both = record {
-    traces = traces_within (done_on layer xs) (done_on layer ys) a.traces b.traces (most_of (length xs)) (most_of (length ys)) (omega arith) p.within.traces q.within.traces;
-    pair_ticks = within a.pair_ticks b.pair_ticks (most_of (length xs)) (most_of (length ys)) p.within.pair_ticks q.within.pair_ticks;
-    pairs = pairs_within (all_pairs layer (done_on layer xs)) (all_pairs layer (done_on layer ys)) a.pairs b.pairs (most_of (length xs)) (most_of (length ys)) (omega arith) p.within.pairs q.within.pairs;
-    mistakes_squared_sum = within a.mistakes_squared_sum b.mistakes_squared_sum (most_of (length xs)) (most_of (length ys)) p.within.mistakes_squared_sum q.within.mistakes_squared_sum;
-    decisions = decisions_within (flat_map deciding (done_on layer xs)) (flat_map deciding (done_on layer ys)) a.decisions b.decisions (most_of (length xs)) (most_of (length ys)) (omega arith) p.within.decisions q.within.decisions;
-  }
+  within_both : IsLayerWithin (A + B) (layer_plus a b)
+  within_both = search arith
 
   pub layer_added : AreFitting layer (xs ++ ys) (layer_plus a b)
   layer_added =

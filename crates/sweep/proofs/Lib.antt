@@ -15,7 +15,7 @@ mod Advancing
 mod OneRow
 pub mod Places
 mod OneText
-mod Shards
+pub mod Shards
 mod Ending
 mod Placed
 mod Heard

@@ -21,7 +21,7 @@ use Rattle.sweep.specs.declared.layout.Rows.TheVariants as kind
 use Rattle.sweep.specs.declared.limits.Limits.{Limits}
 use Rattle.sweep.specs.declared.run_numbers.RunNumbers.{RunNumbers}
 use Rattle.sweep.proofs.Advancing.{more_trials}
-use Rattle.sweep.proofs.Heard.{run, running_begin, running_same, running_more, running_point}
+use Rattle.sweep.proofs.Heard.{within_all, run, running_begin, running_same, running_more, running_point}
 use Rattle.sweep.proofs.Layered.{has_first}
 use Rattle.sweep.proofs.Zipped.{range_more}
 
@@ -131,7 +131,12 @@ way_begin file g heard old new points each begin l is at first none said =
       counting = record { trials = []; each = subst R (sym first) tt; counted = none };
     }
 
-pub point_at_most : (point run each number end : ℕ) → run < each → point * each + run ≡ number → number ≤ end * each → point ≤ end
-point_at_most point run each number end low is le =
-    let up : point < end + 1 = lt_of_mul-lt-mul_right each {m = point} {n = end + 1} (omega (arith, low, is, le)) in
-    omega (arith, up)
+-- what was heard where it breaks off
+pub heard_up_to : (file : Members) (g : GridRecord) {W : Type 0} (heard : W → List News → W → Type 0) (old new : W) (begin end next : ℕ) (l : Limits)
+    → l.run < length (runs g) → l.point * length (runs g) + l.run ≤ end * length (runs g) → next ≤ end * length (runs g)
+    → AreUnderWay file g heard old new (end - begin) (next - begin * length (runs g)) begin l
+    → (done count : ℕ) × (done ≤ (end - begin) * length (runs g)) × (count ≤ end - begin)
+    × HeardRunning heard old new file g (end - begin) (length (runs g)) done (range_with_len begin count)
+heard_up_to file g heard old new begin end next l low le high way =
+    let up : l.point < end + 1 = lt_of_mul-lt-mul_right (length (runs g)) {m = l.point} {n = end + 1} (omega (arith, low, le)) in
+    (next - begin * length (runs g), l.point - begin, within_all begin end (length (runs g)) next high, omega (arith, up), way.told)

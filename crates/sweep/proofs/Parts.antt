@@ -121,19 +121,6 @@ module _ (S : Record) (trace : List EntryRecord) (ranges : IsInRange S) (layer :
       let le : (pair_measures S trace layer q p).mistake_ticks ≤ end_of S q p = below_end (suspects layer trace q p) (end_of S q p) in
       omega (arith, le, ranges.horizon_high)
 
-  -- a pair has a mistake at most at each tick
-  few_mistakes : All (λ m. m.mistakes ≤ 10000000) (layer_measures S trace layer)
-  unfolding layer_measures
-  few_mistakes =
-      all_flat (λ m. m.mistakes ≤ 10000000) (λ q. map (pair_measures S trace layer q) (others S.processes q)) (numbers_to S.processes)
-      (λ q. All-map (λ m. m.mistakes ≤ 10000000) (pair_measures S trace layer q) (others S.processes q) (λ k d lt. pair_mistakes q (get_or (others S.processes q) k d)))
-
-  few_ticks : All (λ m. m.mistake_ticks ≤ 10000000) (layer_measures S trace layer)
-  unfolding layer_measures
-  few_ticks =
-      all_flat (λ m. m.mistake_ticks ≤ 10000000) (λ q. map (pair_measures S trace layer q) (others S.processes q)) (numbers_to S.processes)
-      (λ q. All-map (λ m. m.mistake_ticks ≤ 10000000) (pair_measures S trace layer q) (others S.processes q) (λ k d lt. pair_mistake_ticks q (get_or (others S.processes q) k d)))
-
   abbrev pub counts : PairMeasures → Bool
   counts m = counts_on layer S m.observer m.subject
 
@@ -141,19 +128,24 @@ module _ (S : Record) (trace : List EntryRecord) (ranges : IsInRange S) (layer :
   few_counted =
       omega (arith, length-filter counts (layer_measures S trace layer), count_by-le-length counts (layer_measures S trace layer), few_pairs S trace ranges layer)
 
-  run_mistakes : sum_by (λ m. m.mistakes) (counted_of layer S (layer_measures S trace layer)) ≤ most_mistakes 1
-  run_mistakes =
+  -- a sum over the pairs that count, each of which gives at most one for each tick
+  few_each : (f : PairMeasures → ℕ) → ((q p : ℕ) → f (pair_measures S trace layer q p) ≤ 10000000)
+      → sum_by f (counted_of layer S (layer_measures S trace layer)) ≤ most_mistakes 1
+  unfolding layer_measures
+  few_each f each =
       let all = layer_measures S trace layer in
-      let sum : sum_by (λ m. m.mistakes) (counted_of layer S all) ≤ length (counted_of layer S all) * 10000000 =
-      sum_by-le (λ m. m.mistakes) 10000000 (counted_of layer S all) (All-filter counts (λ m. m.mistakes ≤ 10000000) all few_mistakes) in
+      let low : All (λ m. f m ≤ 10000000) all =
+      all_flat (λ m. f m ≤ 10000000) (λ q. map (pair_measures S trace layer q) (others S.processes q)) (numbers_to S.processes)
+      (λ q. All-map (λ m. f m ≤ 10000000) (pair_measures S trace layer q) (others S.processes q) (λ k d lt. each q (get_or (others S.processes q) k d))) in
+      let sum : sum_by f (counted_of layer S all) ≤ length (counted_of layer S all) * 10000000 =
+      sum_by-le f 10000000 (counted_of layer S all) (All-filter counts (λ m. f m ≤ 10000000) all low) in
       omega (arith, sum, few_counted)
 
+  run_mistakes : sum_by (λ m. m.mistakes) (counted_of layer S (layer_measures S trace layer)) ≤ most_mistakes 1
+  run_mistakes = few_each (λ m. m.mistakes) pair_mistakes
+
   run_ticks : sum_by (λ m. m.mistake_ticks) (counted_of layer S (layer_measures S trace layer)) ≤ most_mistakes 1
-  run_ticks =
-      let all = layer_measures S trace layer in
-      let sum : sum_by (λ m. m.mistake_ticks) (counted_of layer S all) ≤ length (counted_of layer S all) * 10000000 =
-      sum_by-le (λ m. m.mistake_ticks) 10000000 (counted_of layer S all) (All-filter counts (λ m. m.mistake_ticks ≤ 10000000) all few_ticks) in
-      omega (arith, sum, few_counted)
+  run_ticks = few_each (λ m. m.mistake_ticks) pair_mistake_ticks
 
 square_high : (m : ℕ) → m ≤ 2 ^ 41 → m * m ≤ 2 ^ 82
 square_high m le =
@@ -163,19 +155,7 @@ square_high m le =
 -- ---- a run that is done, alone
 
 pub pairs_raised : (A B : ℕ) (s : PairSums) → A ≤ B → ArePairsWithin A s → ArePairsWithin B s
-pairs_raised A B s le w = record {
-  mistakes = le_trans w.mistakes le;
-  mistake_ticks = le_trans w.mistake_ticks le;
-  recurrence_sum = le_trans w.recurrence_sum le;
-  recurrence_count = le_trans w.recurrence_count le;
-  duration_sum = le_trans w.duration_sum le;
-  duration_count = le_trans w.duration_count le;
-  good_sum = le_trans w.good_sum le;
-  good_count = le_trans w.good_count le;
-  undetected = le_trans w.undetected le;
-  at_once = le_trans w.at_once le;
-  detection_sum = le_trans w.detection_sum le;
-}
+pairs_raised A B s le w = search arith
 
 -- the counts of a run of which these were the pairs that count, these the outcomes of all processes, and these those of
 -- the processes that are to decide

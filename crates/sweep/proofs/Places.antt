@@ -1,10 +1,8 @@
 -- Places of names, the nearest name, and fields by their places.
-use Rattle.std.proofs.Common.{◌≡◌, ℕ, zero, suc, ◌+◌, ◌<◌, ◌≤◌, Bool, true, false, cond, Option, None, Some, is_some, List, [], ◌∷◌, ◌++◌, length, map, take, drop, get_or, refl, sym, ap, ◌∙◌, subst, arith, string_bytes, String, Bor, below_more}
+use Rattle.std.proofs.Common.{◌≡◌, ℕ, zero, suc, ◌+◌, ◌<◌, ◌≤◌, Bool, true, false, cond, Option, None, Some, is_some, not, List, [], ◌∷◌, ◌++◌, length, map, take, drop, get_or, refl, sym, ap, ◌∙◌, subst, arith, string_bytes, String, Bor}
 use Rattle.std.specs.List.{All, position, position_or_len}
 use Rattle.std.specs.Prelude.{IsSome}
-use Rattle.std.proofs.lemmas.Bool.{lt-ltb, le-ltb}
 use Rattle.std.proofs.lemmas.List.{drop_more, get_or-map, get_or_default, length-map, map_more, map_push, take-append-drop}
-use Rattle.std.proofs.lemmas.List.Sums.{position_or_len_is}
 use Rattle.std.proofs.Math.Dec.{ltb}
 use Rattle.std.specs.Global.{Global}
 use Rattle.csv.specs.Records.{field_at}
@@ -28,32 +26,18 @@ at_none [] i is = refl
 at_none (x ∷ fs) zero is = cc
 at_none (x ∷ fs) (suc i) is = at_none fs i is
 
--- ---- the first place that passes
-
-module _ {X : Type 0} (p : X → Bool) (xs : List X) (d : X) where
-  pub found : (i : ℕ) → i < length xs → ((k : ℕ) → k < i → p (get_or xs k d) ≡ false) → p (get_or xs i d) ≡ true
-      → position p xs ≡ Some i
-  found i lt before here =
-      let at : position_or_len p xs ≡ i = position_or_len_is p xs i d (omega (arith, lt)) before (λ within. here) in
-      let P : ℕ → Type 0 = λ n. cond (ltb n (length xs)) (Some n) None ≡ Some i in
-      subst P (sym at) (ap (λ b. cond b (Some i) None) (lt-ltb i (length xs) lt))
-
-  pub found_none : (i : ℕ) → length xs ≤ i → ((k : ℕ) → k < i → p (get_or xs k d) ≡ false) → position p xs ≡ None
-  found_none i past before =
-      let n : ℕ = length xs in
-      let at : position_or_len p xs ≡ n = position_or_len_is p xs n d (omega arith) (λ k lt. before k (omega (arith, lt, past))) (λ within. absurd (omega (arith, within))) in
-      let P : ℕ → Type 0 = λ m. cond (ltb m n) (Some m) None ≡ None in
-      subst P (sym at) (ap (λ b. cond b (Some n) None) (le-ltb n n (omega arith)))
-
 -- a name by its place
 pub named : (names : List (String Global)) (k : ℕ) (name : String Global) → k < length names → name ≡ get_or names k name
     → get_or (map string_bytes names) k [] ≡ string_bytes name
 named names k name lt is = get_or-map string_bytes names k name [] lt ∙ ap string_bytes (sym is)
 
--- one more name that isn't the word
-pub fails_more : (p : Text → Bool) (xs : List Text) (i : ℕ) → ((k : ℕ) → k < i → p (get_or xs k []) ≡ false)
-    → p (get_or xs i []) ≡ false → (k : ℕ) → k < i + 1 → p (get_or xs k []) ≡ false
-fails_more p xs i before here = below_more (λ k. p (get_or xs k []) ≡ false) i before here
+-- the first name that passes, by the names or by their texts
+pub position_map : (p : Text → Bool) (names : List (String Global)) → position p (map string_bytes names) ≡ position (λ n. p (string_bytes n)) names
+position_map p names = (λ i. cond (ltb (until names i) (length-map names string_bytes i)) (Some (until names i)) None)
+  where
+    until : (ns : List (String Global)) → position_or_len p (map string_bytes ns) ≡ position_or_len (λ n. p (string_bytes n)) ns
+    until [] = refl
+    until (n ∷ ns) = ap (λ k. cond (not (p (string_bytes n))) (1 + k) 0) (until ns)
 
 -- ---- the nearest name
 
@@ -108,7 +92,3 @@ refusal_of names words i places (error.Unknown name near) lt known unknown tells
       near_is = tells.1;
     })
 refusal_of names words i places error.Memory lt known unknown tells = absurd tells
-
-pub no_memory : (names : List Text) (columns : Option Text) → IsNoLayout names columns error.Memory
-no_memory names None = refl
-no_memory names (Some columns) = tt

@@ -1,6 +1,6 @@
 -- The texts of shards, one after the other.
-use Rattle.std.proofs.Common.{◌≡◌, ℕ, zero, suc, ◌+◌, ◌≤◌, ◌++◌, List, [], ◌∷◌, length, refl, sym, ap, ◌∙◌, subst, arith, append_assoc, append-nil, Bool, true, false, cond, eqb, ◌≢◌, ⊎_elim}
-use Rattle.std.proofs.lemmas.Bool.Decides.{eqb_tells}
+use Rattle.std.proofs.Common.{◌≡◌, ℕ, zero, suc, ◌+◌, ◌≤◌, ◌++◌, List, [], ◌∷◌, length, refl, sym, ap, ◌∙◌, subst, arith, append_assoc, append-nil, cond}
+use Rattle.std.proofs.lemmas.Bool.{ne_eqb}
 use Rattle.std.specs.List.{AllZip, flat_map, range_with_len}
 use Rattle.std.proofs.lemmas.Grind.{flat_map-append}
 use Rattle.toml.specs.Data.{Members}
@@ -11,13 +11,7 @@ use Rattle.sweep.specs.Layout.{LayoutRecord}
 use Rattle.sweep.specs.RowText.{Text, header_text}
 use Rattle.sweep.specs.StudyText.{header_of, names_of, numbers_of, units_in, units_of, AreRowsOf, HasRowsOf, IsStudyText, ShardsMakeWhole}
 use Rattle.sweep.proofs.Units.{units_joined}
-
-zip_append : {A B : Type 0} (R : A → B → Type 0) (xs : List A) (ys : List B) (us : List A) (vs : List B)
-    → AllZip R xs ys → AllZip R us vs → AllZip R (xs ++ us) (ys ++ vs)
-zip_append R [] [] us vs a b = b
-zip_append R [] (y ∷ ys) us vs a b = absurd a
-zip_append R (x ∷ xs) [] us vs a b = absurd a
-zip_append R (x ∷ xs) (y ∷ ys) us vs a b = (a.0, zip_append R xs ys us vs a.1 b)
+use Rattle.sweep.proofs.Zipped.{zip_append}
 
 module _ (file : Members) (g : GridRecord) (layout : LayoutRecord) where
   no_rows : HasRowsOf file g layout [] []
@@ -36,12 +30,7 @@ module _ (file : Members) (g : GridRecord) (layout : LayoutRecord) where
     shard number = record { number = number; of = of }
 
     no_header : (number : ℕ) → 2 ≤ number → header_of g (shard number) layout ≡ []
-    no_header number high =
-        let P : Bool → Type 0 = λ b. cond b (header_text layout.picks (names_of layout.rows g)) [] ≡ [] in
-        ⊎_elim
-        (λ (y : (eqb number 1 ≡ true) × (number ≡ 1)). absurd (omega (arith, y.1, high)))
-        (λ (n : (eqb number 1 ≡ false) × (number ≢ 1)). subst P (sym n.0) refl)
-        (eqb_tells number 1)
+    no_header number high = ap (λ b. cond b (header_text layout.picks (names_of layout.rows g)) []) (ne_eqb number 1 (λ e. omega (arith, e, high)))
 
     -- the texts of shards that aren't the first have rows alone
     later : (a n : ℕ) (texts : List Text) → 2 ≤ a → AllZip (λ number text. IsStudyText file g (shard number) layout text) (range_with_len a n) texts

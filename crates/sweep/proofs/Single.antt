@@ -1,19 +1,19 @@
 -- What one element of a list adds.
-use Rattle.std.proofs.Common.{◌≡◌, ℕ, suc, ◌+◌, ◌*◌, ◌^◌, ◌<◌, ◌≤◌, Bool, true, false, cond, not, ◌&&◌, ◌==◌, ◌||◌, Option, None, Some, List, [], ◌∷◌, ◌++◌, length, take, get_or, sum, sym, ap, ◌∙◌, refl, subst, arith, append-nil, true≢false}
-use Rattle.std.specs.List.{cons_option, count_by, filter, filter_map, list_all, list_any}
-use Rattle.std.proofs.lemmas.Bool.{eqb-true, eq-eqb, ne_eqb}
+use Rattle.std.proofs.Common.{◌≡◌, ℕ, suc, ◌+◌, ◌*◌, ◌^◌, ◌<◌, ◌≤◌, Bool, true, false, cond, not, ◌&&◌, ◌==◌, ◌||◌, Option, None, Some, List, [], ◌∷◌, ◌++◌, length, take, get_or, sum, sym, ap, ◌∙◌, refl, subst, arith}
+use Rattle.std.specs.List.{cons_option, count_by, filter_map, list_all, list_any}
+use Rattle.std.specs.Option.{option_map_or}
+use Rattle.std.proofs.lemmas.Bool.{ne_eqb}
 use Rattle.std.proofs.lemmas.Bool.Decides.{nat_tests}
 use Rattle.std.proofs.lemmas.List.{take_more}
-use Rattle.std.proofs.lemmas.List.Elements.{filter_map-append, filter_more}
-use Rattle.std.proofs.lemmas.List.Folds.{list_any_none, list_any_at, list_any-append}
+use Rattle.std.proofs.lemmas.List.Elements.{filter_map-append}
+use Rattle.std.proofs.lemmas.List.Folds.{list_any_none}
 use Rattle.std.proofs.lemmas.List.Sums.{sum_by-cons, count_by-le-length}
 use Rattle.judges.specs.declared.outcomes.Outcome.{Outcome}
-use Rattle.sweep.specs.Adding.{decisions_plus, of_outcome, tick_or_zero, with_value}
+use Rattle.sweep.specs.Adding.{decisions_plus, of_outcome, tick_or_zero, differ}
 use Rattle.sweep.specs.Columns.{AreDecisionSums}
 use Rattle.sweep.specs.Fitting.{AreDecisionsWithin}
 use Rattle.sweep.specs.OneRun.{decision_tick, do_differ}
 use Rattle.sweep.specs.declared.columns.DecisionSums.{DecisionSums}
-use Rattle.sweep.specs.declared.decisions.Values.{Values}
 use Rattle.sweep.proofs.Added.{decisions_added, decisions_within}
 use Rattle.sweep.proofs.Greatest.{greatest_one}
 
@@ -21,9 +21,6 @@ use Rattle.sweep.proofs.Greatest.{greatest_one}
 pub gathered_more : {X Y : Type 0} (h : X → Option Y) (xs : List X) (i : ℕ) (x : X) → i < length xs → x ≡ get_or xs i x → filter_map h (take (i + 1) xs) ≡ filter_map h (take i xs) ++ cons_option (h x) []
 gathered_more h xs i x lt is =
     ap (filter_map h) (take_more xs i x lt) ∙ filter_map-append h (take i xs) (get_or xs i x ∷ []) ∙ ap (λ y. filter_map h (take i xs) ++ cons_option (h y) []) (sym is)
-
-pub filtered_more : {X : Type 0} (p : X → Bool) (xs : List X) (i : ℕ) (x : X) → i < length xs → x ≡ get_or xs i x → filter p (take (i + 1) xs) ≡ filter p (take i xs) ++ cond (p x) (x ∷ []) []
-filtered_more p xs i x lt is = filter_more p xs i x lt ∙ ap (λ y. filter p (take i xs) ++ cond (p y) (y ∷ []) []) (sym is)
 
 one_tick : (o : Option ℕ) → tick_or_zero o ≡ sum (cons_option o [])
 one_tick None = refl
@@ -62,57 +59,29 @@ all_counted {X} p (x ∷ xs) = ap (λ n. n == length (x ∷ xs)) (sum_by-cons (�
 
 -- ---- values that differ
 
--- the first of them, and whether one differs from it
-abbrev pub IsTold : List ℕ → Option ℕ → Bool → Type 0
-IsTold values None differ = (values ≡ []) × (differ ≡ false)
-IsTold values (Some v) differ = (rest : List ℕ) × (values ≡ v ∷ rest) × (differ ≡ list_any (λ w. not (v == w)) values)
+module _ {X : Type 0} (h : X → Option ℕ) where
+  -- one of the values that are there passes
+  any_of : (p : ℕ → Bool) (xs : List X) → list_any (λ x. option_map_or p (h x) false) xs ≡ list_any p (filter_map h xs)
+  any_of p [] = refl
+  any_of p (x ∷ xs) = by (h x) (any_of p xs)
+    where
+      by : (o : Option ℕ) → list_any (λ y. option_map_or p (h y) false) xs ≡ list_any p (filter_map h xs)
+          → (option_map_or p o false || list_any (λ y. option_map_or p (h y) false) xs) ≡ list_any p (cons_option o (filter_map h xs))
+      by None later = later
+      by (Some v) later = ap (λ b. p v || b) later
 
-abbrev pub AreTold : List ℕ → Values → Type 0
-AreTold values t = IsTold values t.first t.differ
+  -- and one of them differs from a value, if that is there
+  differ_from : (o : Option ℕ) (xs : List X) → list_any (λ x. differ o (h x)) xs ≡ option_map_or (λ v. list_any (λ w. not (v == w)) (filter_map h xs)) o false
+  differ_from None xs = list_any_none (λ x. differ None (h x)) xs (λ k d lt. by (h (get_or xs k d)))
+    where
+      by : (o : Option ℕ) → differ None o ≡ false
+      by None = refl
+      by (Some w) = refl
+  differ_from (Some v) xs = (λ i. list_any (λ x. by (h x) i) xs) ∙ any_of (λ w. not (v == w)) xs
+    where
+      by : (o : Option ℕ) → differ (Some v) o ≡ option_map_or (λ w. not (v == w)) o false
+      by None = refl
+      by (Some w) = refl
 
-same_self : (v : ℕ) (b : Bool) → not (v == v) ≡ b → b ≡ false
-same_self v b p = sym p ∙ ap not (eq-eqb v v refl)
-
-or_false : (b : Bool) → (b || false) ≡ b
-or_false true = refl
-or_false false = refl
-
-pub told_more : (values : List ℕ) (t : Values) (o : Option ℕ) → AreTold values t → AreTold (values ++ cons_option o []) (with_value t o)
-told_more values t None h = subst (λ vs. AreTold vs t) (sym (append-nil values)) h
-told_more values t (Some v) h = by t.first t.differ h
-  where
-    by : (first : Option ℕ) (differ : Bool) → IsTold values first differ
-        → AreTold (values ++ v ∷ []) (with_value (record { first = first; differ = differ }) (Some v))
-    by None differ g = ([], ap (λ vs. vs ++ v ∷ []) g.0, g.1 ∙ sym (ap (list_any (λ w. not (v == w))) (ap (λ vs. vs ++ v ∷ []) g.0) ∙ or_false (not (v == v)) ∙ same_self v (not (v == v)) refl))
-    by (Some w) differ g = (
-      g.0 ++ v ∷ [],
-      ap (λ vs. vs ++ v ∷ []) g.1,
-      ap (λ b. b || not (w == v)) g.2 ∙ ap (λ b. list_any (λ x. not (w == x)) values || b) (sym (or_false (not (w == v)))) ∙ sym (list_any-append (λ x. not (w == x)) values (v ∷ [])),
-    )
-
--- two of the values differ just where one differs from the first
-same_as : (b : Bool) → not b ≡ false → b ≡ true
-same_as true p = refl
-same_as false p = sym p
-
--- no element passes
-none_passes : (p : ℕ → Bool) (xs : List ℕ) (k d : ℕ) → list_any p xs ≡ false → k < length xs → p (get_or xs k d) ≡ false
-none_passes p xs k d none lt = by (p (get_or xs k d)) refl
-  where
-    by : (b : Bool) → p (get_or xs k d) ≡ b → p (get_or xs k d) ≡ false
-    by true q = absurd (true≢false (sym (list_any_at p xs k d lt q) ∙ none))
-    by false q = q
-
-head_tells : (v : ℕ) (rest : List ℕ) (b : Bool) → list_any (λ w. not (v == w)) (v ∷ rest) ≡ b → do_differ (v ∷ rest) ≡ b
-head_tells v rest true p = ap (λ b. b || list_any (λ x. list_any (λ w. not (x == w)) (v ∷ rest)) rest) p
-head_tells v rest false p =
-    list_any_none (λ x. list_any (λ w. not (x == w)) (v ∷ rest)) (v ∷ rest)
-    (λ k d lt. let same : v ≡ get_or (v ∷ rest) k d = eqb-true v (get_or (v ∷ rest) k d) (same_as (v == get_or (v ∷ rest) k d) (none_passes (λ w. not (v == w)) (v ∷ rest) k d p lt)) in
-    ap (λ x. list_any (λ w. not (x == w)) (v ∷ rest)) (sym same) ∙ p)
-
-pub told_all : (values : List ℕ) (t : Values) → AreTold values t → t.differ ≡ do_differ values
-told_all values t h = by t.first t.differ h
-  where
-    by : (first : Option ℕ) (differ : Bool) → IsTold values first differ → differ ≡ do_differ values
-    by None differ g = g.1 ∙ sym (ap do_differ g.0)
-    by (Some v) differ g = g.2 ∙ ap (list_any (λ w. not (v == w))) g.1 ∙ sym (head_tells v g.0 (list_any (λ w. not (v == w)) (v ∷ g.0)) refl) ∙ sym (ap do_differ g.1)
+  pub differ_any : (xs : List X) → list_any (λ x. list_any (λ y. differ (h x) (h y)) xs) xs ≡ do_differ (filter_map h xs)
+  differ_any xs = (λ i. list_any (λ x. differ_from (h x) xs i) xs) ∙ any_of (λ v. list_any (λ w. not (v == w)) (filter_map h xs)) xs

@@ -1,21 +1,19 @@
 -- Two lists in step.
-use Rattle.std.proofs.Common.{◌≡◌, ℕ, zero, suc, ◌+◌, ◌≤◌, List, [], ◌∷◌, ◌++◌, length, take, arith, refl, ap, ◌∙◌, add-one}
+use Rattle.std.proofs.Common.{◌≡◌, ℕ, zero, suc, ◌+◌, ◌≤◌, refl, take, List, [], ◌∷◌, ◌++◌, arith, ap, ◌∙◌, add-one}
 use Rattle.std.specs.List.{AllZip, range_with_len}
 
 module _ {A B : Type 0} (R : A → B → Type 0) where
-  pub zip_length : (xs : List A) (ys : List B) → AllZip R xs ys → length xs ≡ length ys
-  zip_length [] [] z = refl
-  zip_length [] (y ∷ ys) z = absurd z
-  zip_length (x ∷ xs) [] z = absurd z
-  zip_length (x ∷ xs) (y ∷ ys) z = let r : length xs ≡ length ys = zip_length xs ys z.1 in ap suc r
+  pub zip_append : (xs : List A) (ys : List B) (us : List A) (vs : List B) → AllZip R xs ys → AllZip R us vs
+      → AllZip R (xs ++ us) (ys ++ vs)
+  zip_append [] [] us vs a b = b
+  zip_append [] (y ∷ ys) us vs a b = absurd a
+  zip_append (x ∷ xs) [] us vs a b = absurd a
+  zip_append (x ∷ xs) (y ∷ ys) us vs a b = (a.0, zip_append xs ys us vs a.1 b)
 
   -- one more of both
   pub zip_push : (xs : List A) (ys : List B) (x : A) (y : B) → AllZip R xs ys → R x y
       → AllZip R (xs ++ x ∷ []) (ys ++ y ∷ [])
-  zip_push [] [] x y z r = (r, tt)
-  zip_push [] (b ∷ ys) x y z r = absurd z
-  zip_push (a ∷ xs) [] x y z r = absurd z
-  zip_push (a ∷ xs) (b ∷ ys) x y z r = (z.0, zip_push xs ys x y z.1 r)
+  zip_push xs ys x y z r = zip_append xs ys (x ∷ []) (y ∷ []) z (r, tt)
 
 -- numbers that follow one another, with one more
 range_push : (a n : ℕ) → range_with_len a (suc n) ≡ range_with_len a n ++ (a + n) ∷ []

@@ -1,5 +1,5 @@
 -- Sums of sums. They stay at the greatest number of their types, should they reach it.
-use Rattle.std.specs.Prelude.{ℕ, ◌+◌, ◌-◌, ◌^◌, min, ◌==◌, ◌||◌, Bool, true, false, not, nat_lt, Option, None, Some, if◌then◌else◌, is_some}
+use Rattle.std.specs.Prelude.{ℕ, ◌+◌, ◌-◌, ◌^◌, min, ◌==◌, Bool, true, false, not, nat_lt, Option, None, Some, if◌then◌else◌, is_some}
 use Rattle.judges.specs.declared.outcomes.Outcome.{Outcome}
 use Rattle.judges.specs.declared.verdicts.Verdicts.{Verdicts}
 use Rattle.reporting.specs.declared.pair_measures.PairMeasures.{PairMeasures}
@@ -12,7 +12,6 @@ use Rattle.sweep.specs.declared.columns.PairSums.{PairSums}
 use Rattle.sweep.specs.declared.columns.RunCounts.{RunCounts}
 use Rattle.sweep.specs.declared.columns.TraceSums.{TraceSums}
 use Rattle.sweep.specs.declared.columns.VerdictCounts.{VerdictCounts}
-use Rattle.sweep.specs.declared.decisions.Values.{Values}
 
 -- of 128 bits, and of 64
 abbrev pub plus : ℕ → ℕ → ℕ
@@ -121,13 +120,10 @@ of_outcome o = record {
   decision_tick_max = decision_tick o;
 }
 
--- the first of some values with one more, and whether one differs from it
-abbrev pub with_value : Values → Option ℕ → Values
-with_value values None = values
-with_value values (Some v) = elim values.first [
-  | None ↦ record { first = Some v; differ = values.differ }
-  | Some w ↦ record { first = Some w; differ = values.differ || not (w == v) }
-]
+-- whether two values are there that differ
+abbrev pub differ : Option ℕ → Option ℕ → Bool
+differ (Some v) (Some w) = not (v == w)
+differ _ _ = false
 
 -- ---- the first run
 

@@ -1,18 +1,9 @@
 -- The fields of a line, and lines, as they are formed.
-use Rattle.std.specs.Prelude.{◌≡◌, ℕ, List, [], ◌++◌, false}
-use Rattle.csv.specs.Records.{fields_of, partial_of}
+use Rattle.std.specs.Prelude.{◌≡◌, ℕ, List, ◌++◌, false}
 use Rattle.csv.specs.Writing.{default_writer, writer_setup, fields_written, has_written, writer_under, writer_pending}
 use Rattle.sweep.specs.RowText.{trace_fields, mistake_fields, period_fields, detection_fields, verdict_fields, decision_fields, last_fields, run_fields}
 use Rattle.sweep.specs.declared.columns.Columns.{Columns}
-use Rattle.sweep.specs.declared.fields.Fields.{Fields}
 use Rattle.sweep.specs.declared.table.Table.{Table}
-
--- no field is half written
-abbrev pub AreWhole : Fields → Type 0
-AreWhole f = partial_of f.row ≡ []
-
-abbrev pub texts_of : Fields → List (List ℕ)
-texts_of f = fields_of f.row
 
 -- what is told of runs that are done, before the verdicts and from them on
 abbrev pub pair_fields : Columns → List (List ℕ)

@@ -109,12 +109,13 @@ fn check_runs<R: Threads + Sync + Clock, W: Watcher>(
     let points = end - begin;
     let mut batches = Batches::new(threads);
     let mut next = begin * runs;
-    watcher.hear(Standing {
+    let begun = Standing {
         pass: Pass::Reading,
         points,
         runs,
         done: 0,
-    });
+    };
+    watcher.hear(begun);
     while next < end * runs {
         let are_read = batches.run(
             rt,
@@ -127,12 +128,8 @@ fn check_runs<R: Threads + Sync + Clock, W: Watcher>(
             return Err(refusal(alloc, file, grid, next + place as u64));
         }
         next += are_read.len() as u64;
-        watcher.hear(Standing {
-            pass: Pass::Reading,
-            points,
-            runs,
-            done: next - begin * runs,
-        });
+        let done = next - begin * runs;
+        watcher.hear(Standing { done, ..begun });
     }
     Ok(())
 }

@@ -1,7 +1,7 @@
 //! What the processes of a run decided.
 ghost use Rattle.std.specs.Prelude.{◌≡◌, ◌≤◌, ◌*◌, ◌^◌, List, length, IfOk};
-ghost use Rattle.std.specs.List.{list_all};
-ghost use Rattle.sweep.specs.Adding.{of_outcome};
+ghost use Rattle.std.specs.List.{list_all, list_any};
+ghost use Rattle.sweep.specs.Adding.{of_outcome, differ};
 ghost use Rattle.sweep.specs.Columns.{AreDecisionSums};
 ghost use Rattle.sweep.specs.Fitting.{AreDecisionsWithin};
 ghost use Rattle.sweep.specs.OneRun.{decided_value, deciding_of, decision_tick, do_disagree, has_decided, is_to_decide, last_decision, noted_round, top_round};
@@ -34,13 +34,11 @@ pub(crate) fn deciding_of(
 ) -> Result<Vec<Outcome>, AllocError>
     ensures { IfOk result (λ deciding. deciding.items ≡ deciding_of scenario.now outcomes.now) }
 {
-    let mut deciding = Vec::new(alloc);
-    for outcome in outcomes {
-        if is_to_decide(scenario, outcome.pid) {
-            deciding.push(*outcome)?;
-        }
-    }
-    Ok(deciding)
+    outcomes
+        .iter()
+        .copied()
+        .filter(|outcome| is_to_decide(scenario, outcome.pid))
+        .collect(alloc)
 }
 
 /// The tick at which a process decided a value.
@@ -67,10 +65,7 @@ fn of_outcome(outcome: &Outcome) -> DecisionSums
         to_decide: 1,
         decided,
         decision_tick_sum: u128::from(tick.unwrap_or(0)),
-        decision_tick_max: match tick {
-            None => None,
-            Some(tick) => Some(u64::from(tick)),
-        },
+        decision_tick_max: tick.map(u64::from),
     }
 }
 
@@ -108,11 +103,7 @@ pub(crate) fn last_decision(sums: DecisionSums) -> Option<u64>
 fn noted_round(outcome: &Outcome) -> Option<u64>
     ensures { result ≡ noted_round outcome.now }
 {
-    if outcome.rounds == 0 {
-        None
-    } else {
-        Some(outcome.rounds)
-    }
+    (outcome.rounds != 0).then_some(outcome.rounds)
 }
 
 /// The greatest round that some process noted.
@@ -126,54 +117,26 @@ pub(crate) fn top_round(outcomes: &[Outcome]) -> Option<u64>
     top
 }
 
-/// The value that a process decided.
-fn decided_value(answer: Answer) -> Option<u32>
-    ensures { result ≡ decided_value answer }
+/// Whether two processes decided values, and not the same.
+fn differ(one: &Outcome, other: &Outcome) -> bool
+    ensures { result ≡ differ (decided_value one.now.value) (decided_value other.now.value) }
 {
-    match answer {
-        Answer::None | Answer::NoValue => None,
-        Answer::Value(value) => Some(value),
+    match (one.value, other.value) {
+        (Answer::Value(value), Answer::Value(another)) => value != another,
+        _ => false,
     }
 }
 
-/// The first value of some, and whether another one differs from it.
-#[derive(Clone, Copy)]
-struct Values {
-    first: Option<u32>,
-    differ: bool,
-}
-
-impl Values {
-    ghost use Rattle.sweep.specs.Adding.{with_value};
-
-    /// With one more, if there is one.
-    fn with(self, value: Option<u32>) -> Values
-        ensures { result ≡ with_value self value }
-    {
-        match (self.first, value) {
-            (_, None) => self,
-            (None, Some(_)) => Values {
-                first: value,
-                differ: self.differ,
-            },
-            (Some(first), Some(value)) => Values {
-                first: self.first,
-                differ: self.differ || first != value,
-            },
-        }
-    }
+/// Whether a process decided another value than this one.
+fn is_contradicted(outcomes: &[Outcome], one: &Outcome) -> bool
+    ensures { result ≡ list_any (λ o. differ (decided_value one.now.value) (decided_value o.value)) outcomes.now }
+{
+    outcomes.iter().any(|other| differ(one, other))
 }
 
 /// Whether two processes decided different values.
 pub(crate) fn do_disagree(outcomes: &[Outcome]) -> bool
     ensures { result ≡ do_disagree outcomes.now }
 {
-    let mut values = Values {
-        first: None,
-        differ: false,
-    };
-    for outcome in outcomes {
-        values = values.with(decided_value(outcome.value));
-    }
-    values.differ
+    outcomes.iter().any(|one| is_contradicted(outcomes, one))
 }

@@ -14,6 +14,7 @@ pub fn law_one_text(file: &Table, grid: &Grid, shard: Shard, layout: &Layout)
 {}
 
 /// The texts of a number of shards, one after the other, are the text of the whole study.
+#[tactic(auto, using(crate::proofs::Shards::shards_make_whole))]
 pub fn law_shard_texts(file: &Table, grid: &Grid, layout: &Layout, shards: u32)
     requires { 1 ≤ shards }
     ensures { ShardsMakeWhole (table_view file.now) grid.now layout.now shards }

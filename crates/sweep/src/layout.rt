@@ -41,12 +41,7 @@ impl Model for Layout {
 fn place_of(names: &[String], word: &str) -> Option<usize>
     ensures { result ≡ place_in (map string_bytes names.now) word.now }
 {
-    for (place, name) in names.iter().enumerate() {
-        if word == name.as_str() {
-            return Some(place);
-        }
-    }
-    None
+    names.iter().position(|name| word == name.as_str())
 }
 
 /// The first of the names that are nearest to a word.

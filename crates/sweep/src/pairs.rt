@@ -46,13 +46,11 @@ pub(crate) fn counted_of(
 ) -> Result<Vec<PairMeasures>, AllocError>
     ensures { IfOk result (λ counted. counted.items ≡ counted_of layer scenario.now pairs.now) }
 {
-    let mut counted = Vec::new(alloc);
-    for pair in pairs {
-        if counts_on(scenario, layer, pair) {
-            counted.push(*pair)?;
-        }
-    }
-    Ok(counted)
+    pairs
+        .iter()
+        .copied()
+        .filter(|pair| counts_on(scenario, layer, pair))
+        .collect(alloc)
 }
 
 /// For how many ticks the pairs are watched: each up to the first crash of the two, or the horizon.
@@ -138,14 +136,10 @@ fn detection_time(detection: Detection) -> Option<u32>
 pub(crate) fn detection_times(alloc: Global, pairs: &[PairMeasures]) -> Result<Vec<u32>, AllocError>
     ensures { IfOk result (λ times. times.items ≡ times_of pairs.now) }
 {
-    let mut times = Vec::new(alloc);
-    for pair in pairs {
-        match detection_time(pair.detection) {
-            None => {}
-            Some(ticks) => times.push(ticks)?,
-        }
-    }
-    Ok(times)
+    pairs
+        .iter()
+        .filter_map(|pair| detection_time(pair.detection))
+        .collect(alloc)
 }
 
 /// How long each mistake of these pairs was that ended, in ticks.

@@ -1,33 +1,31 @@
 //! Fields of a row that are put into another.
 ghost use Rattle.std.specs.Prelude.{◌≡◌, ◌++◌, [], get_or, OnOk};
-ghost use Rattle.sweep.specs.Fields.{AreWhole, texts_of};
+ghost use Rattle.csv.specs.Records.{fields_of};
 ghost use Rattle.sweep.specs.RowText.{picked};
 
-use crate::fields::Fields;
+use csv::StringRecord;
 use std::alloc::AllocError;
 
 /// The field at a place, from 0; where there is none it is empty.
-fn field_of(fields: &Fields, place: usize) -> &[u8]
-    ensures { result.now ≡ get_or (texts_of fields.now) place [] }
+fn field_of(fields: &StringRecord, place: usize) -> &str
+    ensures { result.now ≡ get_or (fields_of fields.now) place [] }
 {
-    match fields.row.get(place) {
+    match fields.get(place) {
         Some(field) => field,
-        None => b"",
+        None => "",
     }
 }
 
 /// Adds the fields at these places of a row.
 pub(crate) fn push_picked(
-    fields: &mut Fields,
-    all: &Fields,
+    fields: &mut StringRecord,
+    all: &StringRecord,
     places: &[usize],
 ) -> Result<(), AllocError>
-    requires { AreWhole fields.old }
-    ensures whole { OnOk result (AreWhole fields.new) }
-    ensures fields { OnOk result (texts_of fields.new ≡ texts_of fields.old ++ picked places.now (texts_of all.now)) }
+    ensures { OnOk result (fields_of fields.new ≡ fields_of fields.old ++ picked places.now (fields_of all.now)) }
 {
     for place in places {
-        fields.push(field_of(all, *place))?;
+        fields.push_field(field_of(all, *place))?;
     }
     Ok(())
 }

@@ -177,6 +177,7 @@ impl PointSums {
     }
 
     /// Whether some run has a reduction, whose output is layer 2.
+    #[tactic(auto, using(crate::proofs::Layered::any_shared))]
     pub fn has_second(&self) -> bool
         ensures { (first : ℕ) (trials : List Trial) → AreSums first trials self.now
             → result ≡ list_any (λ t. is_some t.scenario.share) trials }

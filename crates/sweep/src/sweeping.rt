@@ -64,24 +64,21 @@ fn write_points<R: Threads + Sync + Clock, O: Outlet, W: Watcher>(
     let mut limits = Limits::at(begin);
     let mut progress = Progress::at(alloc, grid, layout, layout.unit_count(grid, begin));
     let mut next = begin * runs;
-    watcher.hear(Standing {
+    let begun = Standing {
         pass: Pass::Running,
         points,
         runs,
         done: 0,
-    });
+    };
+    watcher.hear(begun);
     while next < end * runs {
         let numbers = measure_batch(rt, alloc, file, grid, next, end * runs, &mut batches)?;
         watcher.make_way();
         limits.add_all(file, grid, &numbers, watcher);
         progress.take_all(alloc, grid, layout, &numbers, outlet)?;
         next += numbers.len() as u64;
-        watcher.hear(Standing {
-            pass: Pass::Running,
-            points,
-            runs,
-            done: next - begin * runs,
-        });
+        let done = next - begin * runs;
+        watcher.hear(Standing { done, ..begun });
     }
     Ok(())
 }

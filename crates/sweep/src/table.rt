@@ -1,22 +1,22 @@
 //! The text of a study, as its rows are formed.
 ghost use Rattle.std.specs.Prelude.{◌≡◌, ℕ, ◌<◌, ◌++◌, ◌∷◌, [], List, length, map, decimal, string_bytes, IfOk, OnOk};
 ghost use Rattle.study.specs.Grid.{points};
-ghost use Rattle.study.specs.Settings.{chosen};
-ghost use Rattle.sweep.specs.Fields.{AreWhole, texts_of, pair_fields, outcome_fields};
+ghost use Rattle.csv.specs.Records.{fields_of};
+ghost use Rattle.sweep.specs.Fields.{pair_fields, outcome_fields};
 ghost use Rattle.sweep.specs.Results.{Trial};
-ghost use Rattle.sweep.specs.RowText.{Text, column_names, column_fields, trace_fields, mistake_fields, period_fields, detection_fields, verdict_fields, decision_fields, last_fields, run_fields, told_fields, header_text, layer_text, line_text, picked, AreRowsFor};
-ghost use Rattle.sweep.specs.StudyText.{names_of as names_in, unit_point, lead_of, values};
+ghost use Rattle.sweep.specs.RowText.{Text, column_names, column_fields, number_text, done_fields, told_fields, header_text, layer_text, line_text, picked, AreRowsFor};
+ghost use Rattle.sweep.specs.StudyText.{names_of as names_in, unit_point, lead_of};
 
-use crate::columns::{Columns, LayerSums, VerdictCounts};
-use crate::fields::Fields;
+use crate::columns::Columns;
+use crate::fields::{push_numbers, push_settings, push_texts};
 use crate::layout::{Layout, Rows};
 use crate::names::{names_of, push_names};
 use crate::picking::push_picked;
 use crate::point_sums::PointSums;
 use crate::value_counts::wide;
-use csv::Writer;
+use csv::{StringRecord, Writer};
 use std::alloc::{AllocError, Global};
-use study::{Choice, Grid};
+use study::Grid;
 
 /// The names of the columns, in order.
 const COLUMN_NAMES: [&str; 50] = [
@@ -80,98 +80,60 @@ pub(crate) fn push_column_names(alloc: Global, names: &mut Vec<String>) -> Resul
     push_names(alloc, names, &COLUMN_NAMES)
 }
 
-/// The sums of traces, and what is told of mistakes.
-fn push_mistakes(fields: &mut Fields, columns: &Columns) -> Result<(), AllocError>
-    requires { AreWhole fields.old }
-    ensures whole { OnOk result (AreWhole fields.new) }
-    ensures fields { OnOk result (texts_of fields.new
-        ≡ texts_of fields.old ++ (trace_fields columns.now.sums.traces ++ mistake_fields columns.now)) }
+/// What is told of pairs, from the entries on.
+fn pair_numbers(columns: &Columns) -> [Option<u128>; 26]
+    ensures { map number_text result ≡ pair_fields columns.now }
 {
     let sums = &columns.sums;
-    fields.push_options(&[
+    let (pairs, detections) = (&sums.pairs, &columns.detections);
+    [
         Some(sums.traces.entries),
         Some(sums.traces.sent),
         Some(sums.traces.lost),
         Some(sums.pair_ticks),
-        Some(sums.pairs.mistakes),
-        Some(sums.pairs.mistake_ticks),
+        Some(pairs.mistakes),
+        Some(pairs.mistake_ticks),
         columns.mistake_recurrence,
         columns.mistaken_ppm,
         Some(sums.mistakes_squared_sum),
         Some(u128::from(sums.counts.with_mistakes)),
-    ])
-}
-
-/// The times between mistakes and those of mistakes, and the detections.
-fn push_times(fields: &mut Fields, columns: &Columns) -> Result<(), AllocError>
-    requires { AreWhole fields.old }
-    ensures whole { OnOk result (AreWhole fields.new) }
-    ensures fields { OnOk result (texts_of fields.new
-        ≡ texts_of fields.old ++ (period_fields columns.now.sums.pairs columns.now.durations
-        ++ detection_fields columns.now.sums.pairs columns.now.detections)) }
-{
-    let sums = &columns.sums.pairs;
-    let detections = &columns.detections;
-    fields.push_options(&[
-        Some(sums.recurrence_sum),
-        Some(sums.recurrence_count),
-        Some(sums.duration_sum),
-        Some(sums.duration_count),
+        Some(pairs.recurrence_sum),
+        Some(pairs.recurrence_count),
+        Some(pairs.duration_sum),
+        Some(pairs.duration_count),
         columns.durations.p99,
         columns.durations.greatest,
-        Some(sums.good_sum),
-        Some(sums.good_count),
+        Some(pairs.good_sum),
+        Some(pairs.good_count),
         Some(detections.count),
-        Some(sums.undetected),
-        Some(sums.at_once),
-        Some(sums.detection_sum),
+        Some(pairs.undetected),
+        Some(pairs.at_once),
+        Some(pairs.detection_sum),
         detections.p50,
         detections.p90,
         detections.p99,
         detections.greatest,
-    ])
+    ]
 }
 
-/// The verdicts.
-fn push_verdicts(fields: &mut Fields, verdicts: &VerdictCounts) -> Result<(), AllocError>
-    requires { AreWhole fields.old }
-    ensures whole { OnOk result (AreWhole fields.new) }
-    ensures fields { OnOk result (texts_of fields.new ≡ texts_of fields.old ++ verdict_fields verdicts.now) }
+/// The verdicts, and what is told of decisions and runs.
+fn outcome_numbers(columns: &Columns) -> [Option<u128>; 22]
+    ensures { map number_text result ≡ outcome_fields columns.now }
 {
-    fields.push_numbers(&[
-        u128::from(verdicts.strong_completeness),
-        u128::from(verdicts.weak_completeness),
-        u128::from(verdicts.strong_accuracy),
-        u128::from(verdicts.weak_accuracy),
-        u128::from(verdicts.eventual_strong_accuracy),
-        u128::from(verdicts.eventual_weak_accuracy),
-    ])
-}
-
-/// The decisions.
-fn push_decisions(fields: &mut Fields, sums: &LayerSums) -> Result<(), AllocError>
-    requires { AreWhole fields.old }
-    ensures whole { OnOk result (AreWhole fields.new) }
-    ensures fields { OnOk result (texts_of fields.new ≡ texts_of fields.old ++ decision_fields sums.now) }
-{
-    fields.push_options(&[
+    let sums = &columns.sums;
+    let verdicts = &sums.verdicts;
+    [
+        Some(u128::from(verdicts.strong_completeness)),
+        Some(u128::from(verdicts.weak_completeness)),
+        Some(u128::from(verdicts.strong_accuracy)),
+        Some(u128::from(verdicts.weak_accuracy)),
+        Some(u128::from(verdicts.eventual_strong_accuracy)),
+        Some(u128::from(verdicts.eventual_weak_accuracy)),
         Some(sums.decisions.to_decide),
         Some(sums.decisions.decided),
         Some(sums.decisions.decision_tick_sum),
         wide(sums.decisions.decision_tick_max),
         Some(u128::from(sums.counts.all_decided)),
-    ])
-}
-
-/// The last decisions, the rounds, and the numbers of runs.
-fn push_runs(fields: &mut Fields, columns: &Columns) -> Result<(), AllocError>
-    requires { AreWhole fields.old }
-    ensures whole { OnOk result (AreWhole fields.new) }
-    ensures fields { OnOk result (texts_of fields.new
-        ≡ texts_of fields.old ++ (last_fields columns.now.last_decisions columns.now.rounds
-        ++ run_fields columns.now.sums.counts.disagreements columns.now.first_runs)) }
-{
-    fields.push_options(&[
         columns.last_decisions.p50,
         columns.last_decisions.p90,
         columns.last_decisions.p99,
@@ -179,86 +141,55 @@ fn push_runs(fields: &mut Fields, columns: &Columns) -> Result<(), AllocError>
         columns.rounds.p50,
         columns.rounds.p99,
         columns.rounds.greatest,
-        Some(u128::from(columns.sums.counts.disagreements)),
+        Some(u128::from(sums.counts.disagreements)),
         columns.first_runs.mistake,
         columns.first_runs.detection_max,
         columns.first_runs.disagreement,
-    ])
+    ]
 }
 
-/// What is told of pairs.
-fn push_pairs(fields: &mut Fields, columns: &Columns) -> Result<(), AllocError>
-    requires { AreWhole fields.old }
-    ensures whole { OnOk result (AreWhole fields.new) }
-    ensures fields { OnOk result (texts_of fields.new ≡ texts_of fields.old ++ pair_fields columns.now) }
+/// What is told of the runs that are done.
+fn push_told(fields: &mut StringRecord, columns: &Columns) -> Result<(), AllocError>
+    ensures { OnOk result (fields_of fields.new ≡ fields_of fields.old ++ done_fields columns.now) }
 {
-    push_mistakes(fields, columns)?;
-    push_times(fields, columns)
+    push_numbers(fields, &pair_numbers(columns))?;
+    push_numbers(fields, &outcome_numbers(columns))
 }
 
-/// The verdicts, and what is told of decisions and runs.
-fn push_outcomes(fields: &mut Fields, columns: &Columns) -> Result<(), AllocError>
-    requires { AreWhole fields.old }
-    ensures whole { OnOk result (AreWhole fields.new) }
-    ensures fields { OnOk result (texts_of fields.new ≡ texts_of fields.old ++ outcome_fields columns.now) }
-{
-    push_verdicts(fields, &columns.sums.verdicts)?;
-    push_decisions(fields, &columns.sums)?;
-    push_runs(fields, columns)
-}
-
-/// What is told of the runs that are done: nothing where none is.
-fn push_done(fields: &mut Fields, columns: &Columns) -> Result<(), AllocError>
-    requires { AreWhole fields.old }
-    ensures whole { OnOk result (AreWhole fields.new) }
-    ensures fields { OnOk result (texts_of fields.new ≡ texts_of fields.old ++ told_fields columns.now) }
+/// The same: nothing where none is.
+fn push_done(fields: &mut StringRecord, columns: &Columns) -> Result<(), AllocError>
+    ensures { OnOk result (fields_of fields.new ≡ fields_of fields.old ++ told_fields columns.now) }
 {
     if columns.sums.limited == columns.sums.runs {
-        return fields.push_empty(48);
+        return push_numbers(fields, &[None; 48]);
     }
-    push_pairs(fields, columns)?;
-    push_outcomes(fields, columns)
+    push_told(fields, columns)
 }
 
 /// The layer and the columns.
-fn push_columns(fields: &mut Fields, layer: u8, columns: &Columns) -> Result<(), AllocError>
-    requires { AreWhole fields.old }
-    ensures whole { OnOk result (AreWhole fields.new) }
-    ensures fields { OnOk result (texts_of fields.new
-        ≡ texts_of fields.old ++ decimal layer ∷ column_fields columns.now) }
+fn push_columns(fields: &mut StringRecord, layer: u8, columns: &Columns) -> Result<(), AllocError>
+    ensures { OnOk result (fields_of fields.new
+        ≡ fields_of fields.old ++ decimal layer ∷ column_fields columns.now) }
 {
-    fields.push_numbers(&[
-        u128::from(layer),
-        u128::from(columns.sums.runs),
-        u128::from(columns.sums.limited),
-    ])?;
+    let head = [
+        Some(u128::from(layer)),
+        Some(u128::from(columns.sums.runs)),
+        Some(u128::from(columns.sums.limited)),
+    ];
+    push_numbers(fields, &head)?;
     push_done(fields, columns)
-}
-
-/// What the keys are set to.
-fn push_settings(fields: &mut Fields, settings: &[Choice<'_>]) -> Result<(), AllocError>
-    requires { AreWhole fields.old }
-    ensures whole { OnOk result (AreWhole fields.new) }
-    ensures fields { OnOk result (texts_of fields.new ≡ texts_of fields.old ++ values (map chosen settings.now)) }
-{
-    for choice in settings {
-        fields.push_setting(choice.value)?;
-    }
-    Ok(())
 }
 
 /// What a unit's rows begin with.
 fn push_lead(
     alloc: Global,
-    fields: &mut Fields,
+    fields: &mut StringRecord,
     grid: &Grid,
     rows: Rows,
     unit: u64,
 ) -> Result<(), AllocError>
-    requires whole { AreWhole fields.old }
-    requires within { unit_point rows grid.now unit < length (points grid.now) }
-    ensures whole { OnOk result (AreWhole fields.new) }
-    ensures fields { OnOk result (texts_of fields.new ≡ texts_of fields.old ++ lead_of rows grid.now unit) }
+    requires { unit_point rows grid.now unit < length (points grid.now) }
+    ensures { OnOk result (fields_of fields.new ≡ fields_of fields.old ++ lead_of rows grid.now unit) }
 {
     match rows {
         Rows::Points => {
@@ -271,7 +202,11 @@ fn push_lead(
             let run = grid.run(alloc, unit % runs)?;
             push_settings(fields, &point)?;
             push_settings(fields, &run.settings)?;
-            fields.push_numbers(&[u128::from(run.seed), u128::from(unit % runs + 1)])
+            let numbers = [
+                Some(u128::from(run.seed)),
+                Some(u128::from(unit % runs + 1)),
+            ];
+            push_numbers(fields, &numbers)
         }
     }
 }
@@ -296,12 +231,12 @@ impl Table {
         }
     }
 
-    fn push_line(&mut self, fields: &Fields) -> Result<(), AllocError>
+    fn push_line(&mut self, fields: &StringRecord) -> Result<(), AllocError>
         requires { IsBetweenLines self.old }
         ensures between { OnOk result (IsBetweenLines self.new) }
-        ensures text { OnOk result (text_of self.new ≡ text_of self.old ++ line_text (texts_of fields.now)) }
+        ensures text { OnOk result (text_of self.new ≡ text_of self.old ++ line_text (fields_of fields.now)) }
     {
-        match self.writer.write_byte_record(&fields.row) {
+        match self.writer.write_byte_record(fields.as_byte_record()) {
             Ok(()) => Ok(()),
             Err(_) => Err(AllocError),
         }
@@ -312,14 +247,14 @@ impl Table {
         &mut self,
         alloc: Global,
         layout: &Layout,
-        all: &Fields,
+        all: &StringRecord,
     ) -> Result<(), AllocError>
         requires { IsBetweenLines self.old }
         ensures between { OnOk result (IsBetweenLines self.new) }
         ensures text { OnOk result (text_of self.new
-            ≡ text_of self.old ++ line_text (picked layout.now.picks (texts_of all.now))) }
+            ≡ text_of self.old ++ line_text (picked layout.now.picks (fields_of all.now))) }
     {
-        let mut fields = Fields::new(alloc);
+        let mut fields = StringRecord::new(alloc);
         push_picked(&mut fields, all, layout.picks())?;
         self.push_line(&fields)
     }
@@ -342,8 +277,8 @@ impl Table {
             ≡ text_of self.old ++ header_text layout.now.picks (names_in layout.now.rows grid.now)) }
     {
         let names = names_of(alloc, grid, layout.rows())?;
-        let mut all = Fields::new(alloc);
-        all.push_names(&names)?;
+        let mut all = StringRecord::new(alloc);
+        push_texts(&mut all, &names)?;
         self.push_fields(alloc, layout, &all)
     }
 
@@ -363,7 +298,7 @@ impl Table {
         ensures text { OnOk result (text_of self.new ≡ text_of self.old
             ++ layer_text layout.now.picks (lead_of layout.now.rows grid.now unit) layer columns.now) }
     {
-        let mut all = Fields::new(alloc);
+        let mut all = StringRecord::new(alloc);
         push_lead(alloc, &mut all, grid, layout.rows(), unit)?;
         push_columns(&mut all, layer, columns)?;
         self.push_fields(alloc, layout, &all)

@@ -22,8 +22,7 @@ pub(crate) fn header_of(alloc: Global, grid: &Grid, layout: &Layout) -> Result<V
 {
     let mut table = Table::new(alloc);
     table.push_header(alloc, grid, layout)?;
-    let text = table.into_text()?;
-    Ok(text)
+    table.into_text()
 }
 
 /// The rows of a unit, whose runs were added up.

@@ -35,10 +35,7 @@ pub(crate) fn is_above(first: Option<u64>, second: Option<u64>) -> bool
 pub(crate) fn wide(number: Option<u64>) -> Option<u128>
     ensures { result ≡ number }
 {
-    match number {
-        None => None,
-        Some(number) => Some(u128::from(number)),
-    }
+    number.map(u128::from)
 }
 
 /// Values, each with how often it came. Memory grows with how many different values there are.

@@ -1,4 +1,4 @@
-use Rattle.std.proofs.Common.{rules, ◌≡◌, ◌≤◌, ◌<◌, ◌+◌, ◌-◌, ◌*◌, ℕ, Bool, true, length, ap, arith, subst}
+use Rattle.std.proofs.Common.{rules, ◌≡◌, ◌≤◌, ◌<◌, ◌+◌, ◌-◌, ◌*◌, ℕ, Bool, true, length, arith, subst}
 use Rattle.std.specs.Prelude.{slice_index_or}
 use Rattle.std.proofs.Math.Nat.{mul-le-mul_right}
 use Rattle.toml.specs.View.{table_view}
@@ -63,39 +63,22 @@ returns-clause-ok g c =
 
 pub returns-clause-heard : goal.returns-clause-heard
 returns-clause-heard g c =
-    let inv = c.loop-next.invariant in
-    let w : ℕ = length (runs c.args.grid.now) in
-    let begin : ℕ = c.args.begin in
-    let end : ℕ = c.args.end in
-    let e : end * c.runs-runs.result ≡ end * w = ap (λ n. end * n) c.runs-runs.ensures.value in
-    let whole : c.loop-next.next ≡ end * w = omega (arith, e, inv.high, c.loop-next-test.false) in
-    let P : ℕ → Type 0 = λ n. HeardReading g.W.Watcher.heard c.args.watcher.now c.loop-next.watcher (end - begin) n (c.loop-next.next - begin * n) in
-    let Q : ℕ → Type 0 = λ n. HeardReading g.W.Watcher.heard c.args.watcher.now c.loop-next.watcher (end - begin) w n in
-    subst Q (all_done begin end w c.loop-next.next whole) (subst P c.runs-runs.ensures.value inv.heard)
+    let told = rw c.runs-runs.ensures.value at c.loop-next.invariant.heard in
+    let high = rw c.runs-runs.ensures.value at c.loop-next.invariant.high in
+    let past = rw c.runs-runs.ensures.value at c.loop-next-test.false in
+    rw (← all_done c.args.begin c.args.end (length (runs c.args.grid.now)) c.loop-next.next (omega (arith, high, past))) told
 
 pub returns-in_err-are_read-clause-heard_some : goal.returns-in_err-are_read-clause-heard_some
 returns-in_err-are_read-clause-heard_some g c =
-    let inv = c.loop-next.invariant in
-    let w : ℕ = length (runs c.args.grid.now) in
-    let begin : ℕ = c.args.begin in
-    let end : ℕ = c.args.end in
-    let e : end * c.runs-runs.result ≡ end * w = ap (λ n. end * n) c.runs-runs.ensures.value in
-    let P : ℕ → Type 0 = λ n. HeardReading g.W.Watcher.heard c.args.watcher.now c.loop-next.watcher (end - begin) n (c.loop-next.next - begin * n) in
-    if_any_err c.from_residual.result _ (
-      c.loop-next.next - begin * w,
-      within_all begin end w c.loop-next.next (omega (arith, inv.high, e)),
-      subst P c.runs-runs.ensures.value inv.heard,
-    )
+    let told = rw c.runs-runs.ensures.value at c.loop-next.invariant.heard in
+    let high = rw c.runs-runs.ensures.value at c.loop-next.invariant.high in
+    if_any_err c.from_residual.result _ (_, within_all c.args.begin c.args.end _ c.loop-next.next high, told)
 
 pub returns-in-Some-clause-heard_some : goal.returns-in-Some-clause-heard_some
 returns-in-Some-clause-heard_some g c =
-    let inv = c.loop-next.invariant in
-    let w : ℕ = length (runs c.args.grid.now) in
-    let begin : ℕ = c.args.begin in
-    let end : ℕ = c.args.end in
-    let e : end * c.runs-runs.result ≡ end * w = ap (λ n. end * n) c.runs-runs.ensures.value in
-    let P : ℕ → Type 0 = λ n. HeardReading g.W.Watcher.heard c.args.watcher.now c.loop-next.watcher (end - begin) n (c.loop-next.next - begin * n) in (
-      c.loop-next.next - begin * w,
-      within_all begin end w c.loop-next.next (omega (arith, inv.high, e)),
-      subst P c.runs-runs.ensures.value inv.heard,
+    let told = rw c.runs-runs.ensures.value at c.loop-next.invariant.heard in
+    let high = rw c.runs-runs.ensures.value at c.loop-next.invariant.high in (
+      _,
+      within_all c.args.begin c.args.end _ c.loop-next.next high,
+      told,
     )

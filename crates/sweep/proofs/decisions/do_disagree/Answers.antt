@@ -1,19 +1,15 @@
-use Rattle.std.proofs.Common.{◌+◌, take, ap, sym, ◌∙◌, subst}
-use Rattle.std.specs.List.{filter_map}
+use Rattle.std.proofs.Common.{◌∙◌, rules, tests}
+use Rattle.std.specs.List.{list_any}
+use Rattle.std.proofs.lemmas.Iterator.{YieldsList-from_slice}
+use Rattle.std.proofs.lemmas.Iterator.Search.{any_from_yields_List}
 use Rattle.judges.specs.declared.outcomes.Outcome.{Outcome}
-use Rattle.sweep.specs.Adding.{with_value}
+use Rattle.sweep.specs.Adding.{differ}
 use Rattle.sweep.specs.OneRun.{decided_value}
-use Rattle.sweep.proofs.Single.{AreTold, gathered_more, told_more}
+use Rattle.sweep.proofs.Single.{differ_any}
 use Rattle.sweep.proofs.decisions.do_disagree.Goals as goal
 
-pub loop-outcome-preserved : goal.loop-outcome-preserved
-loop-outcome-preserved c =
-    let os = c.args.outcomes.now in
-    let i = c.loop-outcome.outcome-index in
-    let o = c.outcome-item.result in
-    let t = c.loop-outcome.values in
-    let next = c.with-values.ensures ∙ ap (with_value t) c.decided_value.ensures in
-    let more = gathered_more (λ (x : Outcome). decided_value x.value) os i o c.loop-outcome-test.true c.outcome-item.is in
-    let told : AreTold (filter_map (λ (x : Outcome). decided_value x.value) (take (i + 1) os)) (with_value t (decided_value o.value)) =
-    subst (λ vs. AreTold vs (with_value t (decided_value o.value))) (sym more) (told_more (filter_map (λ (x : Outcome). decided_value x.value) (take i os)) t (decided_value o.value) c.loop-outcome.invariant) in
-    subst (AreTold (filter_map (λ (x : Outcome). decided_value x.value) (take (i + 1) os))) (sym next) told
+pub returns : goal.returns
+returns c =
+    any_from_yields_List (λ (o : Outcome). list_any (λ (p : Outcome). differ (decided_value o.value) (decided_value p.value)) c.args.outcomes.now) _ _ c.any.result
+    c.any.ensures.ran (YieldsList-from_slice c.args.outcomes.now cc) (λ x b q k. search (rules, tests))
+    ∙ differ_any (λ (o : Outcome). decided_value o.value) c.args.outcomes.now

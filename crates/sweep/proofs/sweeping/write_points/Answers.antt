@@ -13,8 +13,8 @@ use Rattle.sweep.specs.declared.error.SweepError.TheVariants.{Memory}
 use Rattle.sweep.proofs.Reading.{if_err, if_any_err}
 use Rattle.sweep.proofs.Numbered.{point_at_end, point_below, count_each, some_each}
 use Rattle.sweep.proofs.Advancing.{wrote_none}
-use Rattle.sweep.proofs.Heard.{all_done, within_all}
-use Rattle.sweep.proofs.Limiting.{way_begin, way_same, way_more, point_at_most}
+use Rattle.sweep.proofs.Heard.{all_done}
+use Rattle.sweep.proofs.Limiting.{way_begin, way_same, way_more, heard_up_to}
 use Rattle.sweep.proofs.sweeping.write_points.Goals as goal
 
 pub loop-next-init : goal.loop-next-init
@@ -151,64 +151,40 @@ returns-clause-done g c =
 
 pub returns-in_err-numbers-clause-heard_some : goal.returns-in_err-numbers-clause-heard_some
 returns-in_err-numbers-clause-heard_some g c =
-    let grid = c.args.grid.now in
     let inv = c.loop-next.invariant in
-    let w : ℕ = length (runs grid) in
-    let begin : ℕ = c.args.begin in
-    let end : ℕ = c.args.end in
-    let e : end * c.runs-runs.result ≡ end * w = ap (λ n. end * n) c.runs-runs.ensures.value in
-    let P : ℕ → Type 0 = λ n. HeardRunning g.W.Watcher.heard c.args.watcher.now c.loop-next.watcher (table_view c.args.file.now) grid (end - begin) w (c.loop-next.next - begin * n)
-    (range_with_len begin (c.loop-next.limits.point - begin)) in
-    let most = point_at_most c.loop-next.limits.point c.loop-next.limits.run w c.loop-next.next end inv.limits_low inv.limits_number (omega (arith, inv.high, e)) in
-    if_any_err c.from_residual.result _ (
-      c.loop-next.next - begin * w,
-      c.loop-next.limits.point - begin,
-      within_all begin end w c.loop-next.next (omega (arith, inv.high, e)),
-      omega (arith, most),
-      subst P c.runs-runs.ensures.value inv.heard.told,
-    )
+    let way = rw c.runs-runs.ensures.value at inv.heard in
+    let high = rw c.runs-runs.ensures.value at inv.high in
+    if_any_err c.from_residual.result _ (heard_up_to (table_view c.args.file.now) c.args.grid.now g.W.Watcher.heard c.args.watcher.now c.loop-next.watcher
+    c.args.begin c.args.end c.loop-next.next c.loop-next.limits inv.limits_low (omega (arith, inv.limits_number, high)) high way)
 
 pub returns-in_err-take_all-clause-heard_some : goal.returns-in_err-take_all-clause-heard_some
 returns-in_err-take_all-clause-heard_some g c =
     let file = table_view c.args.file.now in
     let grid = c.args.grid.now in
     let inv = c.loop-next.invariant in
-    let w : ℕ = length (runs grid) in
-    let begin : ℕ = c.args.begin in
-    let end : ℕ = c.args.end in
-    let e : end * c.runs-runs.result ≡ end * w = ap (λ n. end * n) c.runs-runs.ensures.value in
     let F : ℕ → Type 0 = λ n. AreNumbersFrom file grid n c.in_ok-numbers.numbers.items in
-    let R : List _ → Type 0 = λ l. AreNumbersFrom file grid (c.loop-next.limits.point * w + c.loop-next.limits.run) l in
-    let way = way_same file grid g.W.Watcher.heard c.args.watcher.now c.loop-next.watcher c.make_way.new.self (end - begin) _ begin c.loop-next.limits inv.heard c.make_way.ensures in
-    let added = c.add_all.ensures.heard c.args.watcher.now (end - begin) _ begin
+    let R : List _ → Type 0 = λ l. AreNumbersFrom file grid (c.loop-next.limits.point * length (runs grid) + c.loop-next.limits.run) l in
+    let high = rw c.runs-runs.ensures.value at inv.high in
+    let within = rw c.runs-runs.ensures.value at c.in_ok-numbers.ensures.within in
+    let way = way_same file grid g.W.Watcher.heard c.args.watcher.now c.loop-next.watcher c.make_way.new.self (c.args.end - c.args.begin) _ c.args.begin c.loop-next.limits
+    (rw c.runs-runs.ensures.value at inv.heard) c.make_way.ensures in
+    let added = c.add_all.ensures.heard c.args.watcher.now (c.args.end - c.args.begin) _ c.args.begin
     (subst R (sym c.deref.ensures.value) (subst F (sym inv.limits_number) c.in_ok-numbers.ensures.numbers)) way in
     let len : length c.deref.result.now ≡ length c.in_ok-numbers.numbers.items = ap length c.deref.ensures.value in
-    let P : ℕ → Type 0 = λ n. HeardRunning g.W.Watcher.heard c.args.watcher.now c.add_all.new.watcher file grid (end - begin) w (c.loop-next.next - begin * n)
-    (range_with_len begin (c.add_all.new.self.point - begin)) in
-    let most = point_at_most c.add_all.new.self.point c.add_all.new.self.run w _ end c.add_all.ensures.run c.add_all.ensures.number
-    (omega (arith, inv.limits_number, c.in_ok-numbers.ensures.within, e, len)) in
-    if_any_err c.from_residual-in_err-take_all.result _ (
-      c.loop-next.next - begin * w,
-      c.add_all.new.self.point - begin,
-      within_all begin end w c.loop-next.next (omega (arith, inv.high, e)),
-      omega (arith, most),
-      subst P c.runs-runs.ensures.value added.told,
-    )
+    if_any_err c.from_residual-in_err-take_all.result _ (heard_up_to file grid g.W.Watcher.heard c.args.watcher.now c.add_all.new.watcher
+    c.args.begin c.args.end c.loop-next.next c.add_all.new.self c.add_all.ensures.run (omega (arith, c.add_all.ensures.number, inv.limits_number, within, len)) high added)
 
 pub returns-clause-heard : goal.returns-clause-heard
 returns-clause-heard g c =
-    let grid = c.args.grid.now in
     let inv = c.loop-next.invariant in
-    let w : ℕ = length (runs grid) in
+    let w : ℕ = length (runs c.args.grid.now) in
     let begin : ℕ = c.args.begin in
     let end : ℕ = c.args.end in
-    let e : end * c.runs-runs.result ≡ end * w = ap (λ n. end * n) c.runs-runs.ensures.value in
-    let whole : c.loop-next.next ≡ end * w = omega (arith, e, inv.high, c.loop-next-test.false) in
+    let told = rw c.runs-runs.ensures.value at inv.heard.told in
+    let high = rw c.runs-runs.ensures.value at inv.high in
+    let past = rw c.runs-runs.ensures.value at c.loop-next-test.false in
+    let whole : c.loop-next.next ≡ end * w = omega (arith, high, past) in
     let last = point_at_end c.loop-next.limits.point c.loop-next.limits.run w c.loop-next.next inv.limits_low inv.limits_number end whole in
-    let P : ℕ → Type 0 = λ n. HeardRunning g.W.Watcher.heard c.args.watcher.now c.loop-next.watcher (table_view c.args.file.now) grid (end - begin) w (c.loop-next.next - begin * n)
-    (range_with_len begin (c.loop-next.limits.point - begin)) in
-    let Q : ℕ → Type 0 = λ n. HeardRunning g.W.Watcher.heard c.args.watcher.now c.loop-next.watcher (table_view c.args.file.now) grid (end - begin) w n
-    (range_with_len begin (c.loop-next.limits.point - begin)) in
-    let R : ℕ → Type 0 = λ n. HeardRunning g.W.Watcher.heard c.args.watcher.now c.loop-next.watcher (table_view c.args.file.now) grid (end - begin) w ((end - begin) * w)
+    let R : ℕ → ℕ → Type 0 = λ m n. HeardRunning g.W.Watcher.heard c.args.watcher.now c.loop-next.watcher (table_view c.args.file.now) c.args.grid.now (end - begin) w m
     (range_with_len begin (n - begin)) in
-    subst R last (subst Q (all_done begin end w c.loop-next.next whole) (subst P c.runs-runs.ensures.value inv.heard.told))
+    subst (R _) last (subst (λ m. R m c.loop-next.limits.point) (all_done begin end w c.loop-next.next whole) told)

@@ -1,0 +1,8 @@
+use Rattle.std.proofs.Common.{◌≡◌, ◌++◌, map, take}
+use Rattle.csv.specs.Records.{fields_of}
+use Rattle.study.specs.Settings.{chosen}
+use Rattle.sweep.specs.StudyText.{values}
+use Rattle.sweep.proofs.fields.push_settings.Given as goal
+
+abbrev pub invariant-loop-choice : goal.invariant-loop-choice
+invariant-loop-choice l = fields_of l.fields ≡ fields_of l.initial.fields ++ values (map chosen (take l.choice-index l.settings))

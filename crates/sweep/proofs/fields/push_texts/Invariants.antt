@@ -1,0 +1,6 @@
+use Rattle.std.proofs.Common.{◌≡◌, ◌++◌, map, take, string_bytes}
+use Rattle.csv.specs.Records.{fields_of}
+use Rattle.sweep.proofs.fields.push_texts.Given as goal
+
+abbrev pub invariant-loop-text : goal.invariant-loop-text
+invariant-loop-text l = fields_of l.fields ≡ fields_of l.initial.fields ++ map string_bytes (take l.text-index l.texts)
