@@ -113,8 +113,3 @@ module _ (m : Events) (xs : List Letter) where
           let r = at_tick b xs m k.1 in
           subst (IsLeastTick (joined m (map event_of xs))) is
           (least_at (joined m (map event_of xs)) b r.0 r.1 r.2 r.3 (low b (λ q y there. let far = from_least m a h q y there in omega (arith, far, more)) k.0))
-
--- letters after letters
-pub joined_both : (m : Events) (xs ys : List Event) → joined (joined m xs) ys ≡ joined m (xs ++ ys)
-joined_both m [] ys = refl
-joined_both m (x ∷ xs) ys = joined_both (events.insert m x.0 x.1) xs ys

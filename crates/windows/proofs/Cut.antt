@@ -43,11 +43,6 @@ module _ {Mind : Type 0} (S : Setting Mind) where
         All-cons (λ (e : EntryRecord). tick ≤ e.key.tick) s.0 (entries rest) (none s.0.key s.1 there)
         (run_after end rest (taken S w s.0.key s.1) last (taken_world S w s.0.key s.1 sound is there) (none_earlier w s.0.key s.1 is none there) r.3)
 
--- every tick is from 0 on
-pub all_from_zero : (es : List EntryRecord) → All (λ (e : EntryRecord). 0 ≤ e.key.tick) es
-all_from_zero [] = All-nil (λ (e : EntryRecord). 0 ≤ e.key.tick)
-all_from_zero (e ∷ es) = All-cons (λ (e : EntryRecord). 0 ≤ e.key.tick) e es (omega arith) (all_from_zero es)
-
 -- every trace has the entries so far at its front, and no other below the tick at which the next window starts
 pub stage_cut : {M : Type 0} (mind : M → Mind) (stage : Stage M) (trace : List EntryRecord) → IsStageAfter mind trace stage → (s : Record) → stage.scenario.now ≡ s → IsInRange s → (whole : List EntryRecord) → IsTrace (setting_of s) whole
     → (rest : List EntryRecord) × (whole ≡ trace ++ rest) × All (λ (e : EntryRecord). stage.start ≤ e.key.tick) rest

@@ -2,9 +2,12 @@
 use Rattle.std.proofs.Common.{◌≡◌, ◌⊎◌, ◌↔◌, ℕ, zero, suc, ◌-◌, ◌<◌, ◌≤◌, inl, inr, List, [], ◌∷◌, ◌++◌, length, map, replicate, set, get_or, refl, sym, ap, ◌∙◌, subst, append_assoc, append-nil, vec_len, arith}
 use Rattle.std.specs.List.{All, swap}
 use Rattle.std.specs.List.Sorted.{IsPermutation, IsNonDecreasingBy, apply_swaps, SwapsInRange}
-use Rattle.std.proofs.lemmas.List.{map-append, map-set, length-map, length-set}
+use Rattle.std.proofs.Math.Seq.{take-append_seam, drop-append_seam}
+use Rattle.std.proofs.lemmas.Bool.{cases_eq}
+use Rattle.std.proofs.lemmas.Grind.{get_or-set_at}
+use Rattle.std.proofs.lemmas.List.{map-append, map-set, length-map, length-set, length-replicate, get_or-set_other, get_or-map}
 use Rattle.std.proofs.lemmas.List.Concat.{flat_map-append}
-use Rattle.std.proofs.lemmas.List.Elements.{All-nil, All-cons, All-head, All-tail, All-append, Contains-append_left}
+use Rattle.std.proofs.lemmas.List.Elements.{All-nil, All-cons, All-append, All-map, All-take, All-drop, Contains-append_left}
 use Rattle.std.proofs.lemmas.List.Sorted.{IsPermutation-refl, IsPermutation-trans, IsPermutation-sym, IsPermutation-middle, IsPermutation-append_left, IsPermutation-append_right, IsPermutation-push_more, IsPermutation-map, All-permutation, Contains-permutation}
 use Rattle.process_api.specs.Mind.{Mind}
 use Rattle.process_api.specs.declared.message.Letter.{Letter}
@@ -14,8 +17,8 @@ use Rattle.mailboxes.specs.Mailboxes.{SlipView, IsSlipOf, unused, with_letter, l
 use Rattle.trace_laws.specs.History.{IsIn}
 use Rattle.steps.specs.Seat.{own_of}
 use Rattle.trace_laws.specs.World.{NoneBelow}
-use Rattle.windows.proofs.Members.{contains_in, in_contains}
-use Rattle.windows.proofs.Ranked.{rises_same, sorted_is}
+use Rattle.window_laws.proofs.Unions.{iff_join}
+use Rattle.windows.proofs.Ranked.{in_permutation, rises_same, sorted_is}
 use Rattle.trace_laws.proofs.Steps.{in_append, in_left, in_right}
 use Rattle.windows.specs.Berth.{IsBerth, with_letters}
 use Rattle.deques.specs.Deques.{DequeId, RestView, all_put}
@@ -62,50 +65,24 @@ module _ {M : Type 0} (mind : M → Mind) (s : Record) (end : ℕ) (mailboxes : 
 
 -- ---- which letters the slips have
 
-module _ {A B C D : Type 0} where
-  iff_or : A ↔ (B ⊎ C) → (C → D) → (D → C) → A ↔ (B ⊎ D)
-  iff_or iff f g = ((λ a. there (iff.0 a)), (λ d. iff.1 (back d)))
-    where
-      there : B ⊎ C → B ⊎ D
-      there (inl b) = inl b
-      there (inr c) = inr (f c)
-
-      back : B ⊎ D → B ⊎ C
-      back (inl b) = inl b
-      back (inr d) = inr (g d)
-
-module _ {A B C D P Q : Type 0} where
-  iff_join : A ↔ (P ⊎ Q) → P ↔ (B ⊎ C) → (C → D) → (Q → D) → (D → C ⊎ Q) → A ↔ (B ⊎ D)
-  iff_join rest here f g h = ((λ a. there (rest.0 a)), (λ d. rest.1 (back d)))
-    where
-      first : B ⊎ C → B ⊎ D
-      first (inl b) = inl b
-      first (inr c) = inr (f c)
-
-      there : P ⊎ Q → B ⊎ D
-      there (inl p) = first (here.0 p)
-      there (inr q) = inr (g q)
-
-      split : C ⊎ Q → P ⊎ Q
-      split (inl c) = inl (here.1 (inr c))
-      split (inr q) = inr q
-
-      back : B ⊎ D → P ⊎ Q
-      back (inl b) = inl (here.1 (inl b))
-      back (inr d) = split (h d)
+iff_none : {A C : Type 0} → (C → ⊥) → A ↔ (A ⊎ C)
+iff_none {A} {C} none = ((λ a. inl a), back)
+  where
+    back : A ⊎ C → A
+    back (inl a) = a
+    back (inr c) = absurd (none c)
 
 none_there : (x : Letter) (n k : ℕ) → IsIn x (get_or (replicate n []) k []) → ⊥
 none_there x zero k i = absurd i
 none_there x (suc n) zero i = absurd i
 none_there x (suc n) (suc k) i = none_there x n k i
 
-length_replicate : (n : ℕ) → length (replicate {A = List Letter} n []) ≡ n
-length_replicate zero = refl
-length_replicate (suc n) = let rest = length_replicate n in omega arith
-
 long_letters : (slip : SlipView) (letters : List Letter) → length (with_letters slip letters).posted ≡ length slip.posted
 long_letters slip [] = refl
 long_letters slip (y ∷ letters) = long_letters (with_letter slip y) letters ∙ length-set slip.posted (y.key.receiver - 1) (list_of slip.posted y.key.receiver ++ y ∷ [])
+
+all_of_map : {X Y : Type 0} (P : Y → Type 0) (f : X → Y) (xs : List X) → All P (map f xs) → All (λ x. P (f x)) xs
+all_of_map P f xs h k d lt = subst P (get_or-map f xs k d (f d) lt) (h k (f d) (subst (λ n. k < n) (sym (length-map xs f)) lt))
 
 -- ---- permutations lift through a function
 
@@ -127,121 +104,84 @@ module _ {X Y : Type 0} (f : X → Y) where
   lifted : (xs : List X) (ys : List Y) → IsPermutation (map f xs) ys → (zs : List X) × IsPermutation xs zs × (map f zs ≡ ys)
   lifted xs ys p = (apply_swaps xs p.moves, record { moves = p.moves; below = subst (λ n. SwapsInRange n p.moves) (length-map xs f) p.below; is = refl }, map_swaps xs p.moves ∙ sym p.is)
 
+-- runs together
+module _ {M : Type 0} (stays more : List (Stay M)) (r : ℕ) (x : Letter) where
+  sent_left : IsSent stays r x → IsSent (stays ++ more) r x
+  sent_left (t, i, j, to) = (t, in_left t stays more i, j, to)
+
+  sent_right : IsSent more r x → IsSent (stays ++ more) r x
+  sent_right (t, i, j, to) = (t, in_right t stays more i, j, to)
+
+  sent_split : IsSent (stays ++ more) r x → IsSent stays r x ⊎ IsSent more r x
+  sent_split (t, i, j, to) = go (in_append t stays more i)
+    where
+      go : IsIn t stays ⊎ IsIn t more → IsSent stays r x ⊎ IsSent more r x
+      go (inl i) = inl (t, i, j, to)
+      go (inr i) = inr (t, i, j, to)
+
 module _ (x : Letter) where
+  in_both : (xs ys : List Letter) → IsIn x (xs ++ ys) ↔ (IsIn x xs ⊎ IsIn x ys)
+  in_both xs ys = (in_append x xs ys, back)
+    where
+      back : IsIn x xs ⊎ IsIn x ys → IsIn x (xs ++ ys)
+      back (inl i) = in_left x xs ys i
+      back (inr i) = in_right x xs ys i
+
   in_row : (rows : List (List Letter)) (i k : ℕ) (y : Letter) → k < length rows → IsIn x (get_or (set rows i (get_or rows i [] ++ y ∷ [])) k []) ↔ (IsIn x (get_or rows k []) ⊎ ((x ≡ y) × (i ≡ k)))
-  in_row [] i k y lt = absurd (omega arith)
-  in_row (row ∷ rows) zero zero y lt = (there, back)
+  in_row rows i k y lt = go (cases_eq k i)
     where
-      one : IsIn x row ⊎ IsIn x (y ∷ []) → IsIn x row ⊎ ((x ≡ y) × (zero ≡ zero))
-      one (inl i) = inl i
-      one (inr (inl e)) = inr (e, refl)
-      one (inr (inr n)) = absurd n
+      one : k ≡ i → IsIn x (y ∷ []) → (x ≡ y) × (i ≡ k)
+      one e (inl same) = (same, sym e)
+      one e (inr none) = absurd none
 
-      there : IsIn x (row ++ y ∷ []) → IsIn x row ⊎ ((x ≡ y) × (zero ≡ zero))
-      there i = one (in_append x row (y ∷ []) i)
-
-      back : IsIn x row ⊎ ((x ≡ y) × (zero ≡ zero)) → IsIn x (row ++ y ∷ [])
-      back (inl i) = in_left x row (y ∷ []) i
-      back (inr e) = in_right x row (y ∷ []) (inl e.0)
-  in_row (row ∷ rows) zero (suc k) y lt = ((λ i. inl i), back)
-    where
-      back : IsIn x (get_or rows k []) ⊎ ((x ≡ y) × (zero ≡ suc k)) → IsIn x (get_or rows k [])
-      back (inl i) = i
-      back (inr e) = let no = e.1 in absurd (omega arith)
-  in_row (row ∷ rows) (suc i) zero y lt = ((λ h. inl h), back)
-    where
-      back : IsIn x row ⊎ ((x ≡ y) × (suc i ≡ zero)) → IsIn x row
-      back (inl h) = h
-      back (inr e) = let no = e.1 in absurd (omega arith)
-  in_row (row ∷ rows) (suc i) (suc k) y lt = iff_or (in_row rows i k y (omega arith)) up down
-    where
-      up : (x ≡ y) × (i ≡ k) → (x ≡ y) × (suc i ≡ suc k)
-      up e = (e.0, ap suc e.1)
-
-      down : (x ≡ y) × (suc i ≡ suc k) → (x ≡ y) × (i ≡ k)
-      down e = (e.0, omega (arith, e.1))
+      go : (k ≡ i) ⊎ (k ≡ i → ⊥) → IsIn x (get_or (set rows i (get_or rows i [] ++ y ∷ [])) k []) ↔ (IsIn x (get_or rows k []) ⊎ ((x ≡ y) × (i ≡ k)))
+      go (inl e) = subst (λ l. IsIn x l ↔ (IsIn x (get_or rows k []) ⊎ ((x ≡ y) × (i ≡ k)))) (sym (get_or-set_at rows i k (get_or rows i [] ++ y ∷ []) [] e (omega arith)))
+          (subst (λ j. IsIn x (get_or rows j [] ++ y ∷ []) ↔ (IsIn x (get_or rows k []) ⊎ ((x ≡ y) × (i ≡ k)))) e
+          (iff_join (in_both (get_or rows k []) (y ∷ [])) (iff_none (λ (never : ⊥). never)) (λ never. absurd never) (one e) (λ d. inr (inl d.0))))
+      go (inr n) = subst (λ l. IsIn x l ↔ (IsIn x (get_or rows k []) ⊎ ((x ≡ y) × (i ≡ k)))) (sym (get_or-set_other rows i k (get_or rows i [] ++ y ∷ []) [] n)) (iff_none (λ d. n (sym d.1)))
 
   module _ (r : ℕ) where
     in_letters : (slip : SlipView) (letters : List Letter) → r - 1 < length slip.posted
         → IsIn x (list_of (with_letters slip letters).posted r) ↔ (IsIn x (list_of slip.posted r) ⊎ (IsIn x letters × (x.key.receiver - 1 ≡ r - 1)))
-    in_letters slip [] lt = ((λ h. inl h), back)
-      where
-        back : IsIn x (list_of slip.posted r) ⊎ (IsIn x [] × (x.key.receiver - 1 ≡ r - 1)) → IsIn x (list_of slip.posted r)
-        back (inl h) = h
-        back (inr e) = absurd e.0
+    in_letters slip [] lt = iff_none (λ e. e.0)
     in_letters slip (y ∷ letters) lt =
         iff_join (in_letters (with_letter slip y) letters (subst (λ n. r - 1 < n) (sym (length-set slip.posted (y.key.receiver - 1) (list_of slip.posted y.key.receiver ++ y ∷ []))) lt))
         (in_row slip.posted (y.key.receiver - 1) (r - 1) y lt)
-        mine others (λ e. split e.0 e.1)
+        (λ e. (inl e.0, ap (λ (z : Letter). z.key.receiver - 1) e.0 ∙ e.1)) (λ e. (inr e.0, e.1)) (λ e. split e.0 e.1)
       where
-        mine : (x ≡ y) × (y.key.receiver - 1 ≡ r - 1) → IsIn x (y ∷ letters) × (x.key.receiver - 1 ≡ r - 1)
-        mine e = (inl e.0, ap (λ (z : Letter). z.key.receiver - 1) e.0 ∙ e.1)
-
-        others : IsIn x letters × (x.key.receiver - 1 ≡ r - 1) → IsIn x (y ∷ letters) × (x.key.receiver - 1 ≡ r - 1)
-        others e = (inr e.0, e.1)
-
         split : (x ≡ y) ⊎ IsIn x letters → x.key.receiver - 1 ≡ r - 1 → ((x ≡ y) × (y.key.receiver - 1 ≡ r - 1)) ⊎ (IsIn x letters × (x.key.receiver - 1 ≡ r - 1))
         split (inl e) to = inl (e, ap (λ (z : Letter). z.key.receiver - 1) (sym e) ∙ to)
         split (inr i) to = inr (i, to)
 
     module _ {M : Type 0} where
       in_stays : (slip : SlipView) (stays : List (Stay M)) → r - 1 < length slip.posted → IsIn x (list_of (with_stays slip stays).posted r) ↔ (IsIn x (list_of slip.posted r) ⊎ IsSent stays r x)
-      in_stays slip [] lt = ((λ h. inl h), back)
-        where
-          back : IsIn x (list_of slip.posted r) ⊎ IsSent {M = M} [] r x → IsIn x (list_of slip.posted r)
-          back (inl h) = h
-          back (inr e) = absurd e.1
+      in_stays slip [] lt = iff_none (λ (e : IsSent {M = M} [] r x). e.1)
       in_stays slip (t ∷ stays) lt =
           iff_join (in_stays (with_letters slip t.letters) stays (subst (λ n. r - 1 < n) (sym (long_letters slip t.letters)) lt)) (in_letters slip t.letters lt)
-          mine others apart
+          (λ e. (t, inl refl, e.0, e.1)) (sent_right (t ∷ []) stays r x) (λ e. apart (sent_split (t ∷ []) stays r x e))
         where
-          mine : IsIn x t.letters × (x.key.receiver - 1 ≡ r - 1) → IsSent (t ∷ stays) r x
-          mine e = (t, inl refl, e.0, e.1)
-
-          others : IsSent stays r x → IsSent (t ∷ stays) r x
-          others (u, i, j, to) = (u, inr i, j, to)
-
-          split : (u : Stay M) → (u ≡ t) ⊎ IsIn u stays → IsIn x u.letters → x.key.receiver - 1 ≡ r - 1 → (IsIn x t.letters × (x.key.receiver - 1 ≡ r - 1)) ⊎ IsSent stays r x
-          split u (inl e) j to = inl (subst (λ (v : Stay M). IsIn x v.letters) e j, to)
-          split u (inr i) j to = inr (u, i, j, to)
-
-          apart : IsSent (t ∷ stays) r x → (IsIn x t.letters × (x.key.receiver - 1 ≡ r - 1)) ⊎ IsSent stays r x
-          apart (u, i, j, to) = split u i j to
+          apart : IsSent (t ∷ []) r x ⊎ IsSent stays r x → (IsIn x t.letters × (x.key.receiver - 1 ≡ r - 1)) ⊎ IsSent stays r x
+          apart (inl (u, inl e, j, to)) = inl (subst (λ (v : Stay M). IsIn x v.letters) e j, to)
+          apart (inl (u, inr none, j, to)) = absurd none
+          apart (inr e) = inr e
 
       slips_step : (mailboxes : List MailboxId) → r - 1 < length mailboxes → (stays : List (Stay M)) (all : List (List (Stay M)))
           → IsIn x (posted_to (map (with_stays (unused mailboxes)) all) r) ↔ IsSent (all_stays all) r x
           → IsIn x (posted_to (map (with_stays (unused mailboxes)) (stays ∷ all)) r) ↔ IsSent (all_stays (stays ∷ all)) r x
-      slips_step mailboxes lt stays all rest = (there, back)
+      slips_step mailboxes lt stays all rest = ((λ i. now (both.0 i)), (λ e. both.1 (inr e)))
         where
-          slip : SlipView
-          slip = with_stays (unused mailboxes) stays
+          later : IsSent stays r x ⊎ IsSent (all_stays all) r x → IsSent stays r x ⊎ IsIn x (posted_to (map (with_stays (unused mailboxes)) all) r)
+          later (inl e) = inl e
+          later (inr e) = inr (rest.1 e)
 
-          more : List Letter
-          more = posted_to (map (with_stays (unused mailboxes)) all) r
+          both : IsIn x (posted_to (map (with_stays (unused mailboxes)) (stays ∷ all)) r) ↔ (IsIn x (list_of (unused mailboxes).posted r) ⊎ IsSent (stays ++ all_stays all) r x)
+          both = iff_join (in_both (list_of (with_stays (unused mailboxes) stays).posted r) (posted_to (map (with_stays (unused mailboxes)) all) r))
+              (in_stays (unused mailboxes) stays (subst (λ n. r - 1 < n) (sym (length-replicate (length mailboxes) [])) lt))
+              (sent_left stays (all_stays all) r x) (λ i. sent_right stays (all_stays all) r x (rest.0 i)) (λ e. later (sent_split stays (all_stays all) r x e))
 
-          here : IsIn x (list_of slip.posted r) ↔ (IsIn x (list_of (unused mailboxes).posted r) ⊎ IsSent stays r x)
-          here = in_stays (unused mailboxes) stays (subst (λ n. r - 1 < n) (sym (length_replicate (length mailboxes))) lt)
-
-          mine : IsIn x (list_of (unused mailboxes).posted r) ⊎ IsSent stays r x → IsSent (stays ++ all_stays all) r x
-          mine (inl i) = absurd (none_there x (length mailboxes) (r - 1) i)
-          mine (inr (t, i, j, to)) = (t, in_left t stays (all_stays all) i, j, to)
-
-          others : IsSent (all_stays all) r x → IsSent (stays ++ all_stays all) r x
-          others (t, i, j, to) = (t, in_right t stays (all_stays all) i, j, to)
-
-          one : IsIn x (list_of slip.posted r) ⊎ IsIn x more → IsSent (stays ++ all_stays all) r x
-          one (inl i) = mine (here.0 i)
-          one (inr i) = others (rest.0 i)
-
-          there : IsIn x (list_of slip.posted r ++ more) → IsSent (stays ++ all_stays all) r x
-          there i = one (in_append x (list_of slip.posted r) more i)
-
-          split : (t : Stay M) → IsIn t stays ⊎ IsIn t (all_stays all) → IsIn x t.letters → x.key.receiver - 1 ≡ r - 1 → IsIn x (list_of slip.posted r ++ more)
-          split t (inl i) j to = in_left x (list_of slip.posted r) more (here.1 (inr (t, i, j, to)))
-          split t (inr i) j to = in_right x (list_of slip.posted r) more (rest.1 (t, i, j, to))
-
-          back : IsSent (stays ++ all_stays all) r x → IsIn x (list_of slip.posted r ++ more)
-          back (t, i, j, to) = split t (in_append t stays (all_stays all) i) j to
+          now : IsIn x (list_of (unused mailboxes).posted r) ⊎ IsSent (stays ++ all_stays all) r x → IsSent (stays ++ all_stays all) r x
+          now (inl i) = absurd (none_there x (length mailboxes) (r - 1) i)
+          now (inr e) = e
 
       -- each list of stays has its slip
       pub in_slips : (mailboxes : List MailboxId) → r - 1 < length mailboxes → (all : List (List (Stay M))) → IsIn x (posted_to (map (with_stays (unused mailboxes)) all) r) ↔ IsSent (all_stays all) r x
@@ -281,13 +221,9 @@ module _ {M : Type 0} (mind : M → Mind) (s : Record) (end : ℕ) (mailboxes : 
   abbrev idle : List (Berth M) → List (Stay M)
   idle bs = map (λ b. stay b b []) bs
 
-  idle_taken : (bs : List (Berth M)) → taken_in (idle bs) ≡ bs
-  idle_taken [] = refl
-  idle_taken (b ∷ bs) = ap (λ l. b ∷ l) (idle_taken bs)
-
-  idle_left : (bs : List (Berth M)) → left_in (idle bs) ≡ bs
-  idle_left [] = refl
-  idle_left (b ∷ bs) = ap (λ l. b ∷ l) (idle_left bs)
+  idle_map : (f : Stay M → Berth M) → ((b : Berth M) → f (stay b b []) ≡ b) → (bs : List (Berth M)) → map f (idle bs) ≡ bs
+  idle_map f same [] = refl
+  idle_map f same (b ∷ bs) = λ i. same b i ∷ idle_map f same bs i
 
   idle_silent : (bs : List (Berth M)) (t : Stay M) (x : Letter) → IsIn t (idle bs) → IsIn x t.letters → ⊥
   idle_silent [] t x i j = absurd i
@@ -301,45 +237,27 @@ module _ {M : Type 0} (mind : M → Mind) (s : Record) (end : ℕ) (mailboxes : 
         λ p most is. subst (λ n. IsBerth mind s p n b) (omega (arith, len)) is,
       )
 
-  idle_all : (left : ℕ) (bs : List (Berth M)) → All (IsReady mind s left) bs → All (λ b. NoneBelow end b.pending) bs → All (IsStay mind s end) (idle bs)
-  idle_all left [] ready none = All-nil (IsStay mind s end)
-  idle_all left (b ∷ bs) ready none =
-      All-cons (IsStay mind s end) (stay b b []) (idle bs) (idle_stay left b (All-head (IsReady mind s left) b bs ready) (All-head (λ (z : Berth M). NoneBelow end z.pending) b bs none))
-      (idle_all left bs (All-tail (IsReady mind s left) b bs ready) (All-tail (λ (z : Berth M). NoneBelow end z.pending) b bs none))
-
   -- those with nothing to run join
   pub run_with_idle : (left : ℕ) (olds put rest done news : List (Berth M)) (slips : List SlipView) → AreRun mind s end mailboxes put done slips → IsPermutation olds (put ++ rest)
       → All (IsReady mind s left) rest → All (λ b. NoneBelow end b.pending) rest → news ≡ done ++ rest → AreRun mind s end mailboxes olds news slips
   run_with_idle left olds put rest done news slips run same ready none is = record {
     stays = run.stays ++ idle rest;
-    each = All-append (IsStay mind s end) run.stays (idle rest) run.each (idle_all left rest ready none);
-    olds_are = subst (λ l. IsPermutation l olds) (sym (map-append (λ (t : Stay M). t.before) run.stays (idle rest) ∙ ap (λ l. taken_in run.stays ++ l) (idle_taken rest)))
+    each = All-append (IsStay mind s end) run.stays (idle rest) run.each (All-map (IsStay mind s end) (λ b. stay b b []) rest (λ k d l. idle_stay left (get_or rest k d) (ready k d l) (none k d l)));
+    olds_are = subst (λ l. IsPermutation l olds) (sym (map-append (λ (t : Stay M). t.before) run.stays (idle rest) ∙ ap (λ l. taken_in run.stays ++ l) (idle_map (λ t. t.before) (λ b. refl) rest)))
         (IsPermutation-trans _ _ _ (IsPermutation-append_left rest _ _ run.olds_are) (IsPermutation-sym olds (put ++ rest) same));
-    news_are = map-append (λ (t : Stay M). t.after) run.stays (idle rest) ∙ (λ i. run.news_are i ++ idle_left rest i) ∙ sym is;
+    news_are = map-append (λ (t : Stay M). t.after) run.stays (idle rest) ∙ (λ i. run.news_are i ++ idle_map (λ t. t.after) (λ b. refl) rest i) ∙ sym is;
     of_mailboxes = run.of_mailboxes;
-    posted = λ r low high x. ((λ i. wider r x ((run.posted r low high x).0 i)), (λ e. (run.posted r low high x).1 (narrower r x e)));
+    posted = λ r low high x. ((λ i. sent_left run.stays (idle rest) r x ((run.posted r low high x).0 i)), (λ e. (run.posted r low high x).1 (narrower r x (sent_split run.stays (idle rest) r x e))));
   }
     where
-      wider : (r : ℕ) (x : Letter) → IsSent run.stays r x → IsSent (run.stays ++ idle rest) r x
-      wider r x (t, i, j, to) = (t, in_left t run.stays (idle rest) i, j, to)
-
-      by : (r : ℕ) (x : Letter) (t : Stay M) → IsIn t run.stays ⊎ IsIn t (idle rest) → IsIn x t.letters → x.key.receiver - 1 ≡ r - 1 → IsSent run.stays r x
-      by r x t (inl i) j to = (t, i, j, to)
-      by r x t (inr i) j to = absurd (idle_silent rest t x i j)
-
-      narrower : (r : ℕ) (x : Letter) → IsSent (run.stays ++ idle rest) r x → IsSent run.stays r x
-      narrower r x (t, i, j, to) = by r x t (in_append t run.stays (idle rest) i) j to
+      narrower : (r : ℕ) (x : Letter) → IsSent run.stays r x ⊎ IsSent (idle rest) r x → IsSent run.stays r x
+      narrower r x (inl e) = e
+      narrower r x (inr (t, i, j, to)) = absurd (idle_silent rest t x i j)
 
   -- ---- in the order of the processes
 
   same_owner : (left : ℕ) (t : Stay M) → IsReady mind s left t.before → IsStay mind s end t → own_of mind t.after.seat ≡ own_of mind t.before.seat
   same_owner left t ready ran = let was : IsBerth mind s ready.0.0 ready.0.1 t.before = ready.0.2 in (ran.1 ready.0.0 ready.0.1 was).is ∙ sym was.is
-
-  owners : (left : ℕ) (stays : List (Stay M)) → All (IsReady mind s left) (taken_in stays) → All (IsStay mind s end) stays → All (λ t. own_of mind t.after.seat ≡ own_of mind t.before.seat) stays
-  owners left [] ready ran = All-nil (λ (t : Stay M). own_of mind t.after.seat ≡ own_of mind t.before.seat)
-  owners left (t ∷ stays) ready ran =
-      All-cons (λ (u : Stay M). own_of mind u.after.seat ≡ own_of mind u.before.seat) t stays (same_owner left t (All-head (IsReady mind s left) t.before (taken_in stays) ready) (All-head (IsStay mind s end) t stays ran))
-      (owners left stays (All-tail (IsReady mind s left) t.before (taken_in stays) ready) (All-tail (IsStay mind s end) t stays ran))
 
   pub outcome : (left : ℕ) (olds done news : List (Berth M)) (slips : List SlipView) (lists : List (List Letter)) → AreRun mind s end mailboxes olds done slips
       → All (IsReady mind s left) olds → RiseBy (λ b. own_of mind b.seat) olds → IsPermutation done news → IsNonDecreasingBy (λ b. own_of mind b.seat) news
@@ -350,7 +268,9 @@ module _ {M : Type 0} (mind : M → Mind) (s : Record) (end : ℕ) (mailboxes : 
       let each : All (IsStay mind s end) stays = All-permutation (IsStay mind s end) run.stays stays l.1 run.each in
       let own : Berth M → ℕ = λ b. own_of mind b.seat in
       let front : RiseBy own (taken_in stays) = subst (RiseBy own) (sym l.2) rises in
-      let same : All (λ (t : Stay M). own t.after ≡ own t.before) stays = owners left stays (subst (All (IsReady mind s left)) (sym l.2) ready) each in
+      let before : Stay M → Berth M = λ t. t.before in
+      let mine : All (λ t. IsReady mind s left t.before) stays = all_of_map (IsReady mind s left) before stays (subst (All (IsReady mind s left)) (sym l.2) ready) in
+      let same : All (λ (t : Stay M). own t.after ≡ own t.before) stays = λ k d lt. same_owner left (get_or stays k d) (mine k d lt) (each k d lt) in
       let back : RiseBy own (left_in stays) = rises_same own (λ (t : Stay M). t.after) (λ (t : Stay M). t.before) stays same front in
       let mixed : IsPermutation (left_in stays) done = subst (IsPermutation (left_in stays)) run.news_are (IsPermutation-sym _ _ (IsPermutation-map (λ (t : Stay M). t.after) run.stays stays l.1)) in
       let is : news ≡ left_in stays = sorted_is own (left_in stays) news back (IsPermutation-trans _ _ _ mixed order) up in
@@ -361,36 +281,25 @@ module _ {M : Type 0} (mind : M → Mind) (s : Record) (end : ℕ) (mailboxes : 
         news_are = sym is;
         count = count;
         letters = λ r low high x. (
-          (λ i. moved run.stays stays l.1 r x ((run.posted r low high x).0 (in_other _ _ x (IsPermutation-sym _ _ (gives r low high)) i))),
-          (λ e. in_other _ _ x (gives r low high) ((run.posted r low high x).1 (moved stays run.stays (IsPermutation-sym _ _ l.1) r x e))),
+          (λ i. moved run.stays stays l.1 r x ((run.posted r low high x).0 (in_permutation _ _ (IsPermutation-sym _ _ (gives r low high)) x i))),
+          (λ e. in_permutation _ _ (gives r low high) x ((run.posted r low high x).1 (moved stays run.stays (IsPermutation-sym _ _ l.1) r x e))),
         );
       }
     where
-      in_other : (xs ys : List Letter) (x : Letter) → IsPermutation xs ys → IsIn x xs → IsIn x ys
-      in_other xs ys x p i = contains_in ys x (Contains-permutation xs ys x p (in_contains xs x i))
-
       moved : (ts us : List (Stay M)) → IsPermutation ts us → (r : ℕ) (x : Letter) → IsSent ts r x → IsSent us r x
-      moved ts us p r x (t, i, j, to) = (t, contains_in us t (Contains-permutation ts us t p (in_contains ts t i)), j, to)
+      moved ts us p r x (t, i, j, to) = (t, in_permutation ts us p t i, j, to)
 
 -- ---- for the code
 
 module _ {X : Type 0} (P : X → Type 0) where
   pub all_front : (xs ys : List X) → All P (xs ++ ys) → All P xs
-  all_front [] ys h = All-nil P
-  all_front (x ∷ xs) ys h = All-cons P x xs (All-head P x (xs ++ ys) h) (all_front xs ys (All-tail P x (xs ++ ys) h))
+  all_front xs ys h = subst (All P) (take-append_seam xs ys) (All-take P (length xs) (xs ++ ys) h)
 
   pub all_back : (xs ys : List X) → All P (xs ++ ys) → All P ys
-  all_back [] ys h = h
-  all_back (x ∷ xs) ys h = all_back xs ys (All-tail P x (xs ++ ys) h)
+  all_back xs ys h = subst (All P) (drop-append_seam xs ys) (All-drop P (length xs) (xs ++ ys) h)
 
   pub all_dealt : (olds put rest : List X) → IsPermutation olds (put ++ rest) → All P olds → All P put × All P rest
   all_dealt olds put rest same h = let all = All-permutation P olds (put ++ rest) same h in (all_front put rest all, all_back put rest all)
-
-module _ {X : Type 0} (P Q R : X → Type 0) (join : (x : X) → P x → Q x → R x) where
-  pub all_both : (xs : List X) → All P xs → All Q xs → All R xs
-  all_both [] p q = All-nil R
-  all_both (x ∷ xs) p q =
-      All-cons R x xs (join x (All-head P x xs p) (All-head Q x xs q)) (all_both xs (All-tail P x xs p) (All-tail Q x xs q))
 
 pub fresh_at : {M : Type 0} (deques deques' : List DequeId) (m m' : List MailboxId) (starts : List (Start M)) → All (λ b. IsFresh deques m b.hand b.slip) starts → deques ≡ deques' → m ≡ m'
     → All (λ b. IsFresh deques' m' b.hand b.slip) starts

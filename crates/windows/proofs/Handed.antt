@@ -1,6 +1,5 @@
 -- What a sink took, part by part.
-use Rattle.std.proofs.Common.{◌≡◌, ◌≤◌, ℕ, refl, sym, ap, ◌∙◌, subst, List, [], ◌∷◌, ◌++◌, length, append_assoc, append-nil, arith, Bool, true, nat_eq, Result, Ok, Err, OnErr}
-use Rattle.std.proofs.lemmas.Bool.{eqb-true}
+use Rattle.std.proofs.Common.{◌≡◌, ◌≤◌, ℕ, refl, sym, ap, ◌∙◌, subst, List, [], ◌∷◌, ◌++◌, length, append_assoc, append-nil, arith, Result, Ok, Err, OnErr}
 use Rattle.process_api.specs.EntryRecord.{EntryRecord}
 use Rattle.scenario_record.specs.Record.{Record}
 use Rattle.trace_laws.specs.ScenarioSetting.{setting_of}
@@ -22,10 +21,6 @@ end_to_end_more (x ∷ parts) part = ap (λ es. x ++ es) (end_to_end_more parts 
 pub on_err : {A E : Type 0} (r : Result A E) (P : Type 0) → P → OnErr r P
 on_err (Ok x) P p = tt
 on_err (Err e) P p = p
-
--- two numbers that were found equal
-pub found_equal : (b : Bool) (m n : ℕ) → b ≡ nat_eq m n → b ≡ true → m ≡ n
-found_equal b m n e is = eqb-true m n (sym e ∙ is)
 
 -- where one trace is no longer than this, each is
 pub trace_within : (s : Record) (trace : List EntryRecord) (limit : ℕ) → IsTrace (setting_of s) trace → length trace ≤ limit → (whole : List EntryRecord) → IsTrace (setting_of s) whole → length whole ≤ limit

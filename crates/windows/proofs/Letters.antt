@@ -1,6 +1,7 @@
 -- Events that a process causes in a window, as they are handed on.
-use Rattle.std.proofs.Common.{◌≡◌, ◌≢◌, ℕ, refl, ap, Bool, true, false, cond, not, List, [], ◌∷◌, ◌++◌, nat_eq, length}
+use Rattle.std.proofs.Common.{◌≡◌, ◌≢◌, ℕ, refl, ap, sym, ◌∙◌, cond, not, List, [], ◌∷◌, ◌++◌, nat_eq, length}
 use Rattle.std.proofs.lemmas.Bool.{eq-eqb, ne_eqb}
+use Rattle.std.proofs.lemmas.List.Elements.{filter-append}
 use Rattle.std.specs.FinMap as events
 use Rattle.process_api.specs.declared.message.Letter.{Letter}
 use Rattle.trace_laws.specs.Joins.{HaveJoined, Serves, StillServes}
@@ -12,26 +13,17 @@ use Rattle.windows.specs.Outbox.{HandedOn, IsFor}
 use Rattle.windows.specs.declared.outbox.Outbox.{Outbox}
 use Rattle.window_laws.specs.Machine.{for_self, for_others}
 
+-- events after events
+pub joined_both : (m : Events) (xs ys : List Event) → joined (joined m xs) ys ≡ joined m (xs ++ ys)
+joined_both m [] ys = refl
+joined_both m (x ∷ xs) ys = joined_both (events.insert m x.0 x.1) xs ys
+
 -- what was handed on with one event more
 pub self_then : (p : ℕ) (es : List Event) (x : Event) (m : Events) → joined m (for_self p (es ++ x ∷ [])) ≡ joined (joined m (for_self p es)) (for_self p (x ∷ []))
-self_then p [] x m = refl
-self_then p (y ∷ es) x m = go (nat_eq y.0.receiver p) (self_then p es x (events.insert m y.0 y.1)) (self_then p es x m)
-  where
-    go : (b : Bool)
-        → joined (events.insert m y.0 y.1) (for_self p (es ++ x ∷ [])) ≡ joined (joined (events.insert m y.0 y.1) (for_self p es)) (for_self p (x ∷ []))
-        → joined m (for_self p (es ++ x ∷ [])) ≡ joined (joined m (for_self p es)) (for_self p (x ∷ []))
-        → joined m (cond b (y ∷ for_self p (es ++ x ∷ [])) (for_self p (es ++ x ∷ []))) ≡ joined (joined m (cond b (y ∷ for_self p es) (for_self p es))) (for_self p (x ∷ []))
-    go true own other = own
-    go false own other = other
+self_then p es x m = ap (joined m) (filter-append (λ (e : Event). nat_eq e.0.receiver p) es (x ∷ [])) ∙ sym (joined_both m (for_self p es) (for_self p (x ∷ [])))
 
 pub others_then : (p : ℕ) (es : List Event) (x : Event) → for_others p (es ++ x ∷ []) ≡ for_others p es ++ for_others p (x ∷ [])
-others_then p [] x = refl
-others_then p (y ∷ es) x = go (not (nat_eq y.0.receiver p)) (others_then p es x)
-  where
-    go : (b : Bool) → for_others p (es ++ x ∷ []) ≡ for_others p es ++ for_others p (x ∷ [])
-        → cond b (y ∷ for_others p (es ++ x ∷ [])) (for_others p (es ++ x ∷ [])) ≡ cond b (y ∷ for_others p es) (for_others p es) ++ for_others p (x ∷ [])
-    go true rest = ap (λ zs. y ∷ zs) rest
-    go false rest = rest
+others_then p es x = filter-append (λ (e : Event). not (nat_eq e.0.receiver p)) es (x ∷ [])
 
 -- one event, for the process itself or for another
 module _ (p : ℕ) (x : Event) where

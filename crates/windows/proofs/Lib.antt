@@ -8,8 +8,6 @@ pub mod Work
 pub mod Gathered
 pub mod Joined
 pub mod Ranked
-pub mod Settled
-pub mod Taken
 pub mod Turns
 pub mod Handed
 pub mod Starts

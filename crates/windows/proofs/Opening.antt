@@ -2,7 +2,6 @@
 use Rattle.std.proofs.Common.{◌≡◌, ◌≢◌, ◌⊎◌, ℕ, zero, suc, ◌-◌, ◌*◌, ◌<◌, ◌≤◌, inl, inr, refl, sym, ap, ◌∙◌, subst, List, [], ◌∷◌, Some, length, map, slice_get, arith}
 use Rattle.std.specs.FinMap as finmap
 use Rattle.std.specs.List.{All}
-use Rattle.std.proofs.lemmas.Bool.{cases_lt}
 use Rattle.std.proofs.lemmas.List.{length-map}
 use Rattle.std.proofs.lemmas.List.Elements.{All-nil}
 use Rattle.process_api.specs.Bounds.{most_step_actions}
@@ -31,7 +30,8 @@ use Rattle.window_laws.specs.Machine.{StageRecord, StandsFor}
 use Rattle.windows.specs.Stage.{of_process, stage_of, start_event, IsOpened, AreHome, IsStageAfter}
 use Rattle.windows.specs.declared.berth.Berth.{Berth}
 use Rattle.windows.specs.declared.stage.Stage.{Stage}
-use Rattle.windows.proofs.Places.{there_map, from_map, at_process, at_nobody, all_place}
+use Rattle.window_laws.proofs.Family.{is_or_not}
+use Rattle.windows.proofs.Places.{there_map, from_map, at_index, at_nobody, all_place, before_suc, by_place}
 
 none_there : (k : Key) (x : StepInput) → Has finmap.empty k x → ⊥
 none_there k x h = not_None x (sym (finmap.get-empty key_cmp k) ∙ h)
@@ -78,42 +78,38 @@ module _ {M : Type 0} (mind : M → Mind) (stage : Stage M) (ranges : IsInRange 
   sound : IsSound S
   sound = setting_sound s ranges
 
+  -- the berth of the process at a place
   abbrev IsFirst : ℕ → Berth M → Type 0
-  IsFirst p b = (slice_get stage.berths.items (p - 1) ≡ Some b) × (process_of mind b.seat ≡ opened (opening_mind s p)) × (own_of mind b.seat ≡ p) × IsOpened mind s b
+  IsFirst i b = (slice_get stage.berths.items i ≡ Some b) × (process_of mind b.seat ≡ opened (opening_mind s (suc i))) × (own_of mind b.seat ≡ suc i) × IsOpened mind s b
 
-  first : (p : ℕ) → IsProcess S p → (b : Berth M) × IsFirst p b
-  first p own =
-      let there = ap (λ ps. slice_get ps (p - 1)) (processes ∙ opened_all s (numbers_to s.processes)) ∙ number_at (λ q. opened (opening_mind s q)) s.processes p own.0 own.1 in
-      let b = from_map (λ (z : Berth M). process_of mind z.seat) stage.berths.items (p - 1) (opened (opening_mind s p)) there in
-      let mine : (opening_mind s p).lower.place.own ≡ p = same_own (opening_mind s p).lower.place (place_in s p) (mind_place (place_in s p) (opening_mind s p) (opens_with_mind s ranges p)) in
-      (b.0, (b.1, b.2, ap (λ (q : Process Mind). q.mind.lower.place.own) b.2 ∙ mine, all_place (IsOpened mind s) stage.berths.items berths (p - 1) b.0 b.1))
+  first : (i : ℕ) → i < s.processes → (b : Berth M) × IsFirst i b
+  first i inside =
+      let mind_is = opening_mind s (suc i) in
+      let there = ap (λ ps. slice_get ps i) (processes ∙ opened_all s (numbers_to s.processes)) ∙ ap (slice_get (map (λ q. opened (opening_mind s q)) (numbers_to s.processes))) (sym (before_suc i))
+      ∙ number_at (λ q. opened (opening_mind s q)) s.processes (suc i) (omega arith) (omega arith) in
+      let b = from_map (λ (z : Berth M). process_of mind z.seat) stage.berths.items i (opened mind_is) there in
+      let mine : mind_is.lower.place.own ≡ suc i = same_own mind_is.lower.place (place_in s (suc i)) (mind_place (place_in s (suc i)) mind_is (opens_with_mind s ranges (suc i))) in
+      (b.0, (b.1, b.2, ap (λ (q : Process Mind). q.mind.lower.place.own) b.2 ∙ mine, all_place (IsOpened mind s) stage.berths.items berths i b.0 b.1))
 
   count : length stage.berths.items ≡ s.processes
   count = sym (length-map stage.berths.items (λ b. process_of mind b.seat)) ∙ (ap length (processes ∙ opened_all s (numbers_to s.processes)) ∙ (length-map (numbers_to s.processes) (λ q. opened (opening_mind s q)) ∙ length-numbers_to s.processes))
-
-  is_or_not : (p : ℕ) → IsProcess S p ⊎ ¬ (IsProcess S p)
-  is_or_not p = go (cases_lt 0 p) (cases_lt S.processes p)
-    where
-      go : (0 < p) ⊎ (p ≤ 0) → (S.processes < p) ⊎ (p ≤ S.processes) → IsProcess S p ⊎ ¬ (IsProcess S p)
-      go (inl low) (inr high) = inl (low, high)
-      go (inr low) b = inr (λ is. omega (arith, is.0))
-      go a (inl high) = inr (λ is. omega (arith, is.1))
 
   module _ (window : ℕ) where
     abbrev g : StageRecord Mind
     g = stage_of mind window stage
 
     own_first : (p : ℕ) → IsProcess S p → g.own p ≡ start_event p
-    own_first p own = let b = first p own in at_process p _ b.0.pending finmap.empty own.0 (there_map (λ z. z.pending) stage.berths.items (p - 1) b.0 b.1.0) ∙ (b.1.3.1 ∙ ap start_event b.1.2)
+    own_first = by_place s.processes (λ p. g.own p ≡ start_event p)
+        (λ i inside. let b = first i inside in at_index i _ b.0.pending finmap.empty (there_map (λ z. z.pending) stage.berths.items i b.0 b.1.0) ∙ (b.1.3.1 ∙ ap start_event b.1.2))
 
     nobody : {X : Type 0} (f : Berth M → X) (none : X) (p : ℕ) → ¬ (IsProcess S p) → of_process p (map f stage.berths.items) none ≡ none
     nobody f none p not = at_nobody p (map f stage.berths.items) none (λ i. not (i.0, omega (arith, i.1, length-map stage.berths.items f, count)))
 
     to_world : (p : ℕ) (k : Key) (x : StepInput) → Has (g.own p) k x → Has (opening S).pending k x × (k.receiver ≡ p)
-    to_world p k x h = go (is_or_not p)
+    to_world p k x h = go (is_or_not S p)
       where
         by : IsProcess S p → (k ≡ start_of p) × (x ≡ Start) → Has (opening S).pending k x × (k.receiver ≡ p)
-        by own e = (subst (λ z. Has (starts S.processes) k z) (sym e.1) (subst (λ z. Has (starts S.processes) z Start) (sym e.0) (starts_there S.processes p own.0 own.1)), ap (λ (z : Key). z.receiver) e.0)
+        by own e = (subst (λ (t : Key × StepInput). Has (starts S.processes) t.0 t.1) (λ i. (sym e.0 i, sym e.1 i)) (starts_there S.processes p own.0 own.1), ap (λ (z : Key). z.receiver) e.0)
 
         go : IsProcess S p ⊎ ¬ (IsProcess S p) → Has (opening S).pending k x × (k.receiver ≡ p)
         go (inl own) = by own (start_is p k x (subst (λ m. Has m k x) (own_first p own) h))
@@ -123,19 +119,19 @@ module _ {M : Type 0} (mind : M → Mind) (stage : Stage M) (ranges : IsInRange 
     from_world p k x (h, to) =
         let e = starts_are S.processes k x h in
         let own : IsProcess S p = subst (IsProcess S) to ((opening_world S sound).received k x h) in
-        let at : k ≡ start_of p = e.0 ∙ ap start_of to in
-        subst (λ m. Has m k x) (sym (own_first p own)) (subst (λ z. Has (start_event p) k z) (sym e.1) (subst (λ z. Has (start_event p) z Start) (sym at) (insert_at finmap.empty (start_of p) Start)))
+        subst (λ m. Has m k x) (sym (own_first p own)) (subst (λ (t : Key × StepInput). Has (start_event p) t.0 t.1) (λ i. (sym (e.0 ∙ ap start_of to) i, sym e.1 i)) (insert_at finmap.empty (start_of p) Start))
 
     no_part : (p : ℕ) → g.part p ≡ []
-    no_part p = go (is_or_not p)
+    no_part p = go (is_or_not S p)
       where
         go : IsProcess S p ⊎ ¬ (IsProcess S p) → g.part p ≡ []
-        go (inl own) = let b = first p own in at_process p (map (λ z. z.part.items) stage.berths.items) b.0.part.items [] own.0 (there_map (λ z. z.part.items) stage.berths.items (p - 1) b.0 b.1.0) ∙ b.1.3.2
+        go (inl own) = by_place s.processes (λ p. g.part p ≡ []) (λ i inside. let b = first i inside in at_index i (map (λ z. z.part.items) stage.berths.items) b.0.part.items [] (there_map (λ z. z.part.items) stage.berths.items i b.0 b.1.0) ∙ b.1.3.2) p own
         go (inr not) = nobody (λ z. z.part.items) [] p not
 
     pub opening_stands : StandsFor S window g (opening S)
     opening_stands = record {
-      process = λ p own. let b = first p own in at_process p _ (process_of mind b.0.seat) (opening_process S p) own.0 (there_map (λ z. process_of mind z.seat) stage.berths.items (p - 1) b.0 b.1.0) ∙ b.1.1;
+      process = by_place s.processes (λ p. g.process p ≡ opening_process S p)
+          (λ i inside. let b = first i inside in at_index i _ (process_of mind b.0.seat) (opening_process S (suc i)) (there_map (λ z. process_of mind z.seat) stage.berths.items i b.0 b.1.0) ∙ b.1.1);
       own = λ p k x. (to_world p k x, from_world p k x);
       late = λ k x h. omega (arith, at_start);
       part = no_part;
@@ -145,13 +141,16 @@ module _ {M : Type 0} (mind : M → Mind) (stage : Stage M) (ranges : IsInRange 
     }
 
   home : AreHome mind s (stage.so_far) stage.berths.items
-  home = record { berth = λ p own. let b = first p own in (b.0, b.1.0, at_home p b.0 b.1) }
+  home = record {
+    berth = by_place s.processes (λ p. (b : Berth M) × (slice_get stage.berths.items (p - 1) ≡ Some b) × IsBerth mind s p (most_step_actions * stage.so_far) b)
+        (λ i inside. let b = first i inside in (b.0, subst (λ n. slice_get stage.berths.items n ≡ Some b.0) (sym (before_suc i)) b.1.0, at_home i b.0 b.1));
+  }
     where
-      at_home : (p : ℕ) (b : Berth M) → IsFirst p b → IsBerth mind s p (most_step_actions * stage.so_far) b
-      at_home p b f = record {
+      at_home : (i : ℕ) (b : Berth M) → IsFirst i b → IsBerth mind s (suc i) (most_step_actions * stage.so_far) b
+      at_home i b f = record {
         seated = subst (λ n. IsSeated mind s n b.seat) (omega (arith, no_entries)) f.3.0;
         is = f.2;
-        own = λ k x h. ap (λ (z : Key). z.receiver) (start_is p k x (subst (λ m. Has m k x) (f.3.1 ∙ ap start_event f.2) h)).0;
+        own = λ k x h. ap (λ (z : Key). z.receiver) (start_is (suc i) k x (subst (λ m. Has m k x) (f.3.1 ∙ ap start_event f.2) h)).0;
       }
 
   pub opening_stage : IsStageAfter mind [] stage

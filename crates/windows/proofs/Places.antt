@@ -3,6 +3,7 @@ use Rattle.std.proofs.Common.{◌≡◌, ◌≢◌, ◌⊎◌, ℕ, zero, suc, �
 use Rattle.std.specs.List.{All, AllByRecursion}
 use Rattle.std.proofs.lemmas.Bool.{eqb-true, cases_lt}
 use Rattle.std.proofs.lemmas.List.{get_or_past, length-map, length-append}
+use Rattle.std.proofs.lemmas.List.Filters.{length-filter_both}
 use Rattle.std.proofs.lemmas.List.Elements.{All-from_recursion, All-get_or}
 use Rattle.std.proofs.lemmas.Option.{slice_get-map, slice_get_within, get_or_from_slice_get}
 use Rattle.process_api.specs.EntryRecord.{EntryRecord}
@@ -47,9 +48,22 @@ in_place [] x i = absurd i
 in_place (y ∷ ys) x (inl e) = (0, ap Some (sym e))
 in_place (y ∷ ys) x (inr i) = let r = in_place ys x i in (suc r.0, r.1)
 
-pub at_process : {X : Type 0} (p : ℕ) (xs : List X) (x none : X) → 1 ≤ p → slice_get xs (p - 1) ≡ Some x → of_process p xs none ≡ x
-at_process zero xs x none low h = absurd (omega arith)
-at_process (suc q) xs x none low h = get_or_from_slice_get xs q x none (subst (λ i. slice_get xs i ≡ Some x) (omega arith) h)
+pub place_in : {X : Type 0} (xs : List X) (i : ℕ) (x : X) → slice_get xs i ≡ Some x → IsIn x xs
+place_in [] i x at = absurd (not_None x at)
+place_in (y ∷ ys) zero x at = inl (sym (same_Some y x at))
+place_in (y ∷ ys) (suc i) x at = inr (place_in ys i x at)
+
+-- process 1 is at place 0
+pub at_index : {X : Type 0} (i : ℕ) (xs : List X) (x none : X) → slice_get xs i ≡ Some x → of_process (suc i) xs none ≡ x
+at_index i xs x none h = get_or_from_slice_get xs i x none h
+
+pub before_suc : (i : ℕ) → suc i - 1 ≡ i
+before_suc i = omega arith
+
+-- what holds at each place holds of each process
+pub by_place : (n : ℕ) (P : ℕ → Type 0) → ((i : ℕ) → i < n → P (suc i)) → (p : ℕ) → (1 ≤ p) × (p ≤ n) → P p
+by_place n P each zero own = let low = own.0 in absurd (omega arith)
+by_place n P each (suc i) own = each i (omega (arith, own.1))
 
 pub at_nobody : {X : Type 0} (p : ℕ) (xs : List X) (none : X) → ¬ ((1 ≤ p) × (p ≤ length xs)) → of_process p xs none ≡ none
 at_nobody zero xs none h = refl
@@ -120,14 +134,6 @@ module _ where
   abbrev others : ℕ → List Pair → List Pair
   others p list = filter (λ s. not (nat_eq s.0.key.receiver p)) list
 
-  split : (p : ℕ) (list : List Pair) → length list ≡ length (pairs_of p list) + length (others p list)
-  split p [] = refl
-  split p (s ∷ list) = go (nat_eq s.0.key.receiver p) (split p list)
-    where
-      go : (b : Bool) → length list ≡ length (pairs_of p list) + length (others p list) → suc (length list) ≡ length (cond b (s ∷ pairs_of p list) (pairs_of p list)) + length (cond (not b) (s ∷ others p list) (others p list))
-      go true h = omega (arith, h)
-      go false h = omega (arith, h)
-
   still : (p q : ℕ) → q ≢ p → (list : List Pair) → pairs_of q (others p list) ≡ pairs_of q list
   still p q n [] = refl
   still p q n (s ∷ list) = go (nat_eq s.0.key.receiver p) refl (still p q n list)
@@ -149,7 +155,7 @@ module _ where
   no_more k (part ∷ parts) list each =
       let first : length part ≡ length (pairs_of k list) = ap length (each 0 part refl) ∙ length-map (pairs_of (k + 0) list) (λ s. s.0) ∙ ap (λ n. length (pairs_of n list)) (omega arith) in
       let rest : length (all_of parts) ≤ length (others k list) = no_more (suc k) parts (others k list) later_parts in
-      omega (arith, first, rest, split k list, length-append part (all_of parts))
+      omega (arith, first, rest, length-filter_both (λ (s : Pair). nat_eq s.0.key.receiver k) (λ (s : Pair). not (nat_eq s.0.key.receiver k)) (λ _. refl) list, length-append part (all_of parts))
     where
       later_parts : (i : ℕ) (q : List EntryRecord) → slice_get parts i ≡ Some q → q ≡ entries (pairs_of (suc k + i) (others k list))
       later_parts i q h =

@@ -1,5 +1,5 @@
--- What a window's processes come to where their letters are known as slips posted them.
-use Rattle.std.proofs.Common.{◌≡◌, ℕ, ◌+◌, ◌-◌, ◌≤◌, ◌<◌, sym, ◌∙◌, subst, List, [], ◌++◌, length, map}
+-- What a window's processes come to where their letters are known as slips posted them, and facts of values that are equal.
+use Rattle.std.proofs.Common.{◌≡◌, ℕ, ◌+◌, ◌-◌, ◌≤◌, ◌<◌, sym, ◌∙◌, subst, List, [], ◌++◌, length, map, arith}
 use Rattle.std.specs.List.{All}
 use Rattle.std.specs.List.Sorted.{IsPermutation}
 use Rattle.std.specs.Prelude.{IsTrue}
@@ -24,7 +24,7 @@ use Rattle.windows.specs.Stage.{IsStageAfter, IsWindowRun}
 use Rattle.windows.specs.Workers.{IsOutcome}
 use Rattle.windows.specs.declared.berth.Berth.{Berth}
 use Rattle.windows.specs.declared.stage.Stage.{Stage}
-use Rattle.windows.proofs.Settled.{outcome_many, outcome_rising, outcome_disjoint, outcome_limit, outcome_next}
+use Rattle.windows.proofs.Closing.{outcome_many, outcome_rising, outcome_disjoint, outcome_limit, outcome_next}
 
 -- the letters to each receiver in the order of the slips
 abbrev posted_lists : List SlipView → ℕ → List (List Letter)
@@ -37,11 +37,6 @@ posted_are slips n = record {
       let here : list_of (posted_lists slips n) r ≡ posted_to slips r = get_or_from_slice_get (posted_lists slips n) (r - 1) (posted_to slips r) [] (number_at (posted_to slips) n r low high) in
       subst (IsPermutation (posted_to slips r)) (sym here) (IsPermutation-refl (posted_to slips r));
 }
-
-pub outcome_by : {M : Type 0} (mind : M → Mind) (s s' : Record) (e e' : ℕ) (bs bs' news : List (Berth M)) (slips : List SlipView) → s ≡ s' → e ≡ e' → bs ≡ bs'
-    → IsOutcomeBy mind s e bs news slips → IsOutcomeBy mind s' e' bs' news slips
-outcome_by mind s s' e e' bs bs' news slips p q r o =
-    subst (λ z. IsOutcomeBy mind z e' bs' news slips) p (subst (λ z. IsOutcomeBy mind s z bs' news slips) q (subst (λ z. IsOutcomeBy mind s e z news slips) r o))
 
 module _ {M : Type 0} (mind : M → Mind) (old : Stage M) (ranges : IsInRange old.scenario.now) (trace_so_far : List EntryRecord) (is : IsStageAfter mind trace_so_far old)
     (window : ℕ) (short : window ≤ old.scenario.now.lookahead) (news : List (Berth M)) (slips : List SlipView)
@@ -72,3 +67,12 @@ module _ {M : Type 0} (mind : M → Mind) (old : Stage M) (ranges : IsInRange ol
   next_by new same left sum merged closed =
       let o = by closed.0 (subst (λ n. AreLettersOf slips n closed.0) many_by closed.1) in
       outcome_next mind old ranges trace_so_far is window short news closed.0 o new same left sum merged closed.2
+
+-- ---- for the code: the same facts of values that are equal
+
+pub sum_of : (limit most n : ℕ) → limit ≡ most → n ≤ most → (limit - n) + n ≡ most
+sum_of limit most n a le = omega arith
+
+-- what holds of three things holds of those that equal them
+pub of_same : {A B C : Type 0} (P : A → B → C → Type 0) (a a2 : A) (b b2 : B) (c c2 : C) → a ≡ a2 → b ≡ b2 → c ≡ c2 → P a b c → P a2 b2 c2
+of_same {A} {B} {C} P a a2 b b2 c c2 p q r = subst (λ (t : A × B × C). P t.0 t.1 t.2) (λ i. (p i, q i, r i))

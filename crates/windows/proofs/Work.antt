@@ -1,5 +1,5 @@
 -- A worker's work grows by one berth at a time.
-use Rattle.std.proofs.Common.{◌≡◌, ◌≤◌, ℕ, List, [], ◌∷◌, ◌++◌, refl, sym, ap, ◌∙◌, subst}
+use Rattle.std.proofs.Common.{◌≡◌, ℕ, List, [], ◌∷◌, ◌++◌, refl, sym, ap, ◌∙◌, subst}
 use Rattle.std.proofs.lemmas.List.{map-append}
 use Rattle.std.specs.List.Sorted.{IsPermutation}
 use Rattle.std.proofs.lemmas.List.Elements.{All-nil, All-push}
@@ -13,23 +13,6 @@ use Rattle.windows.specs.Berth.{with_letters}
 use Rattle.deques.specs.Deques.{DequeId, HandView, TookOne}
 use Rattle.windows.specs.Workers.{Stay, stay, with_stays, IsStay, AreRunBy, IsWork, IsFresh}
 use Rattle.windows.specs.declared.berth.Berth.{Berth}
-
--- one more behind a list that stayed
-pub pushed : {X : Type 0} (old mid new : List X) (x : X) → new ≡ mid ++ x ∷ [] → mid ≡ old → new ≡ old ++ x ∷ []
-pushed old mid new x adds same = adds ∙ ap (λ l. l ++ x ∷ []) same
-
--- what fits still fits where the room stayed
-pub still_fits : (n room room' : ℕ) → room' ≡ room → n ≤ room → n ≤ room'
-still_fits n room room' same fits = subst (λ r. n ≤ r) (sym same) fits
-
-module _ {T : Type 0} (hand hand' : HandView T) (x : T) (took : TookOne hand hand' x) where
-  -- what the hand knows
-  pub took_known : (known : List T) → hand.known ≡ known → hand'.known ≡ known
-  took_known known is = ap (λ (h : HandView T). h.known) took.1 ∙ is
-
-  -- the deque that is its own
-  pub took_own : (start : HandView T) → hand.own ≡ start.own → hand'.own ≡ start.own
-  took_own start is = ap (λ (h : HandView T). h.own) took.1 ∙ is
 
 module _ {M : Type 0} where
   pub with_stays-append : (slip : SlipView) (xs ys : List (Stay M)) → with_stays slip (xs ++ ys) ≡ with_stays (with_stays slip xs) ys

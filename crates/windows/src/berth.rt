@@ -28,8 +28,8 @@ use trace_laws::Event;
 pub struct Berth<M> {
     pub(crate) seat: Seat<M>,
     pub(crate) pending: Agenda,
-    /// The entries of the open window, in the order of their keys.
-    pub part: Vec<Entry>,
+    // the entries of the open window, in the order of their keys
+    pub(crate) part: Vec<Entry>,
     // room for what a machine answers
     actions: Vec<Action>,
 }
@@ -66,6 +66,13 @@ impl<M: Process> Berth<M> {
         ensures { result ≡ own_of M.mind self.now.seat }
     {
         self.seat.pid()
+    }
+
+    /// The entries of the open window, in the order of their keys.
+    pub fn part(&self) -> &[Entry]
+        ensures { result.now ≡ self.now.part.items }
+    {
+        &self.part
     }
 
     /// Makes the step of an event that was taken from the pending ones: the machine's turn, which hands on what it

@@ -47,7 +47,6 @@ fn empty_all<R: Threads + Wait + Sync>(
     requires few { threads < vec_len slips }
     requires all { vec_len slips ≡ mailboxes.slips }
     requires slips { All (IsSlipOf mailboxes.mailboxes) slips.items }
-    ensures count { IfOk result (λ r. vec_len r.1 ≡ length mailboxes.mailboxes) }
     ensures letters { IfOk result (λ r.
         AreLettersOf slips.items (length mailboxes.mailboxes) (letters_in r.1.items)) }
     ensures errors { IfErr result (λ e. e ≡ Memory) }
@@ -79,7 +78,6 @@ pub(crate) fn empty_and_merge<R: Threads + Wait + Sync>(
 
     ensures rising { IfOk result (λ r. IsTrue (is_rising r.0.items)) }
     ensures same { IfOk result (λ r. IsPermutation (all_of (map (λ v. v.items) parts.items)) r.0.items) }
-    ensures count { IfOk result (λ r. vec_len r.1.1 ≡ length mailboxes.mailboxes) }
     ensures letters { IfOk result (λ r.
         AreLettersOf slips.items (length mailboxes.mailboxes) (letters_in r.1.1.items)) }
     ensures errors { IfErr result (λ e. e ≡ Memory) }
@@ -101,7 +99,6 @@ pub(crate) fn empty_and_merge<R: Threads + Wait + Sync>(
         || -> Result<Emptied, RunError>
             requires { (others < vec_len slips) × (vec_len slips ≡ mailboxes.slips)
                 × All (IsSlipOf mailboxes.mailboxes) slips.items }
-            ensures count { IfOk result (λ r. vec_len r.1 ≡ length mailboxes.mailboxes) }
             ensures letters { IfOk result (λ r.
                 AreLettersOf slips.items (length mailboxes.mailboxes) (letters_in r.1.items)) }
             ensures errors { IfErr result (λ e. e ≡ Memory) }

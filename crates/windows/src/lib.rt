@@ -6,18 +6,10 @@
 //! and run each by itself (conservative windows, as in textbooks: R. M. Fujimoto, Parallel and Distributed Simulation
 //! Systems, Wiley, 2000). A [`Plan`] says how many workers there are and how long a window is.
 //!
-//! The definition is a machine over single acts, in `window_laws`. A worker *takes* a process that waits; it makes
-//! a *turn*, the step of the least pending event of the process that it holds, whose letters to others go to the
-//! worker's tray; it *posts* a letter from its tray to the mailbox of the receiver; and it *returns* a process that has
-//! no event below the window's end. When all processes are done the window *closes*: each mailbox moves into its
-//! receiver's pending events, and the next window opens. A run is any list of allowed acts whose one close is the last.
-//!
-//! [`law_any_order`] says that the order of the acts means nothing, as `window_laws` proves. From a stage that stands
-//! for a world of the event list, each run closes on a stage that stands for the world after exactly the list's steps
-//! below the window's end; the processes' parts of the trace, merged, are these steps' entries; any two runs close
-//! alike; and one of them makes its turns in the list's own order. Windows one after the other, from the opening up to
-//! the horizon, make the trace. What each process makes of a window by itself is what some run makes, so it is enough
-//! to run each process to the window's end, wherever and whenever that happens.
+//! The definition is a machine over single acts of the workers, in `window_laws`: a run is any list of allowed acts
+//! whose one close is the last. [`law_any_order`] says that the order of the acts means nothing. What each process makes
+//! of a window by itself is what some run makes, so it is enough to run each process to the window's end, wherever and
+//! whenever that happens.
 //!
 //! The code runs it so. A [`Stage`] has a [`Berth`] for each process: its machine, its pending events, and its part of
 //! the trace. [`run_window`] takes a worker for each process that has an event below the window's end, but no more

@@ -23,41 +23,6 @@ use std::marker::Sync;
 use std::sync::Wait;
 use std::thread::Threads;
 
-/// Runs machines window by window up to the horizon. Each window's part of the trace is handed on once it is closed.
-fn run_machines<M: Process, G: Gate, K: Sink, R: Threads + Wait + Sync>(
-    rt: &R,
-    alloc: Global,
-    scenario: &Scenario,
-    machines: Vec<M>,
-    plan: &Plan,
-    gate: &G,
-    sink: &mut K,
-) -> Result<(), RunError>
-    requires machines { map M.mind machines.items
-        ≡ map (opening_mind scenario.now) (numbers_to scenario.now.processes) }
-    requires plan { IsPlanFor scenario.now plan.now }
-    requires failures { K.failed sink.old < 2 ^ 64 - 1 }
-    ensures trace { OnOk result (TookTrace K.took (setting_of scenario.now) sink.old sink.new) }
-    ensures within { OnOk result ((whole : List EntryRecord)
-        → IsTrace (setting_of scenario.now) whole → length whole ≤ scenario.now.limit) }
-    ensures front { OnErr result (TookFront K.took (setting_of scenario.now) K.took_front sink.old sink.new) }
-    ensures closed { IsErrOf result RunError.Limit ⊎ IsErrOf result RunError.Spawn
-        → TookClosed K.took (setting_of scenario.now) sink.old sink.new }
-    ensures count { K.failed sink.new ≡ K.failed sink.old + writes_of result }
-    ensures limit { IsErrOf result RunError.Limit → (whole : List EntryRecord)
-        → IsTrace (setting_of scenario.now) whole → scenario.now.limit < length whole }
-{
-    // Readers say that a window has a tick at least, and that the scenario's fields are in their ranges.
-    let _window = plan.window();
-    let _horizon = scenario.horizon();
-    let mut stage = Stage::open(alloc, scenario, machines)?;
-    while !stage.finished() {
-        let part = run_window(rt, alloc, &mut stage, plan, gate)?;
-        sink.part(part)?;
-    }
-    Ok(())
-}
-
 /// Runs machines by windows of the plan's length, each shared by the plan's workers, up to the horizon. There is one
 /// machine for each process, of process 1 first, and each opens as the scenario says; the plan's window is no longer
 /// than the scenario's lookahead. When a window is closed, its part of the trace goes to the sink. The sink takes the
@@ -92,7 +57,15 @@ pub fn run_windows_into<M: Process, G: Gate, K: Sink, R: Threads + Wait + Sync>(
     ensures limit { IsErrOf result RunError.Limit → (whole : List EntryRecord)
         → IsTrace (setting_of scenario.now) whole → scenario.now.limit < length whole }
 {
-    run_machines(rt, alloc, scenario, machines, plan, gate, sink)
+    // Readers say that a window has a tick at least, and that the scenario's fields are in their ranges.
+    let _window = plan.window();
+    let _horizon = scenario.horizon();
+    let mut stage = Stage::open(alloc, scenario, machines)?;
+    while !stage.finished() {
+        let part = run_window(rt, alloc, &mut stage, plan, gate)?;
+        sink.part(part)?;
+    }
+    Ok(())
 }
 
 /// The same, where the whole trace is kept, and answered.
@@ -122,7 +95,7 @@ pub fn run_windows<M: Process, G: Gate, R: Threads + Wait + Sync>(
     let mut kept = Kept {
         entries: Vec::new(alloc),
     };
-    run_machines(rt, alloc, scenario, machines, plan, gate, &mut kept)?;
+    run_windows_into(rt, alloc, scenario, machines, plan, gate, &mut kept)?;
     let Kept { entries } = kept;
     Ok(Trace::new(entries))
 }

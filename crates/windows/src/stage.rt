@@ -1,8 +1,6 @@
 //! All processes between two windows.
 ghost use Rattle.std.specs.Prelude.{◌≡◌, ◌≤◌, ◌<◌, ◌+◌, ◌^◌, ◌++◌, [], ℕ, List, map, vec_len, length, IfErr, IfOk, OnOk, IsErrOf, IsTrue, IsPermutation, nat_eq};
 ghost use Rattle.std.specs.List.{All};
-ghost use Rattle.process_api.specs.EntryRecord.{EntryRecord};
-ghost use Rattle.process_api.specs.Mind.{Mind};
 ghost use Rattle.process_api.specs.Numbers.{numbers_to};
 ghost use Rattle.process_api.specs.Order.{is_rising};
 ghost use Rattle.scenario_record.specs.Record.{opening_mind};
@@ -33,13 +31,12 @@ use trace_laws::Event;
 /// how many entries the trace has so far. The parameter has no bound here, so that machines may be boxed.
 #[derive(Drop)]
 pub struct Stage<'s, M> {
-    /// The scenario that is run.
-    pub scenario: &'s Scenario,
-    /// Of each process, of process 1 first.
-    pub berths: Vec<Berth<M>>,
+    pub(crate) scenario: &'s Scenario,
+    // of each process, of process 1 first
+    pub(crate) berths: Vec<Berth<M>>,
     pub(crate) start: u32,
-    /// How many entries the windows so far have.
-    pub so_far: u64,
+    // how many entries the windows so far have
+    pub(crate) so_far: u64,
     /// How many workers ran the window before, and 0 where there was none.
     pub(crate) workers: usize,
     // those of the window before, if there was one, to be used again
@@ -52,6 +49,8 @@ pub(crate) struct Ran<M> {
     pub berths: Vec<Berth<M>>,
     pub mailboxes: Mailboxes,
     pub slips: Vec<Slip>,
+    /// How many workers there were. No more threads may close the window.
+    pub workers: usize,
 }
 
 /// The start of a process, alone.
@@ -183,6 +182,28 @@ impl<'s, M: Process> Stage<'s, M> {
         })
     }
 
+    /// The scenario that is run.
+    pub fn scenario(&self) -> &'s Scenario
+        ensures { result.now ≡ self.now.scenario.now }
+    {
+        self.scenario
+    }
+
+    /// How many entries the windows so far have.
+    pub fn so_far(&self) -> u64
+        ensures { result ≡ self.now.so_far }
+    {
+        self.so_far
+    }
+
+    /// The berths, of process 1 first.
+    pub fn into_berths(self) -> Vec<Berth<M>>
+        ensures { result.items ≡ self.entry.berths.items }
+    {
+        let Stage { berths, .. } = self;
+        berths
+    }
+
     /// The first tick of the next window, 0 to the horizon.
     pub fn start(&self) -> u32
         ensures { result ≡ self.now.start }
@@ -213,7 +234,7 @@ impl<'s, M: Process> Stage<'s, M> {
         ran: Ran<M>,
         left: u64,
     ) -> Result<Vec<Entry>, RunError>
-        requires starter { 0 < vec_len ran.slips }
+        requires few { ran.workers + 1 ≡ vec_len ran.slips }
         requires all { vec_len ran.slips ≡ ran.mailboxes.slips }
         requires slips { All (IsSlipOf ran.mailboxes.mailboxes) ran.slips.items }
         requires boxes { length ran.mailboxes.mailboxes ≡ vec_len ran.berths }
@@ -224,7 +245,7 @@ impl<'s, M: Process> Stage<'s, M> {
         ensures scenario { self.new.scenario.now ≡ self.old.scenario.now }
         ensures closed { IfOk result (λ merged. IsClosedBy M.mind left self.old.so_far ran.berths.items
             ran.slips.items merged.items self.new) }
-        ensures workers { IfOk result (λ _. self.new.workers + 1 ≡ vec_len ran.slips) }
+        ensures workers { IfOk result (λ _. self.new.workers ≡ ran.workers) }
         ensures errors { IfErr result IsRefusalOfOne }
         ensures limit { IsErrOf result RunError.Limit
             → left < length (all_of (map (λ b. b.part.items) ran.berths.items)) }
@@ -233,8 +254,8 @@ impl<'s, M: Process> Stage<'s, M> {
             berths,
             mailboxes,
             slips,
+            workers,
         } = ran;
-        let workers = slips.len() - 1;
         let (berths, parts) = take_parts(alloc, berths)?;
         let threads = threads_for(workers, &parts);
         let (merged, emptied) = empty_and_merge(rt, alloc, threads, parts, mailboxes, slips)?;

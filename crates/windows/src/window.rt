@@ -1,7 +1,6 @@
 //! One window: workers share the processes that have something to do in it, and what they leave is put in order.
 ghost use Rattle.std.specs.Prelude.{◌≡◌, ◌≤◌, ◌<◌, ◌+◌, ◌++◌, ℕ, List, length, map, min, IfOk, IfErr, OnOk, IsErrOf, vec_len, IsPermutation};
 ghost use Rattle.std.specs.List.{All};
-ghost use Rattle.std.specs.List.Sorted.{IsNonDecreasingBy};
 ghost use Rattle.std.specs.Thread.{IsSync};
 ghost use Rattle.process_api.specs.EntryRecord.{EntryRecord};
 ghost use Rattle.trace_laws.specs.ScenarioSetting.{setting_of};
@@ -153,15 +152,6 @@ fn run_berths_of<M: Process, G: Gate, R: Threads + Wait + Sync>(
     Ok((done, slips))
 }
 
-/// The berths by rising number of their processes.
-pub(crate) fn in_order<M: Process>(mut berths: Vec<Berth<M>>) -> Vec<Berth<M>>
-    ensures same { IsPermutation berths.items result.items }
-    ensures rising { IsNonDecreasingBy (λ b. own_of M.mind b.seat) result.items }
-{
-    berths.sort_unstable_by_key(|berth| berth.pid().number());
-    berths
-}
-
 /// The mailboxes for so many processes: those that are kept, or new ones.
 fn mailboxes_for(
     alloc: Global,
@@ -197,27 +187,30 @@ fn run_all<M: Process, G: Gate, R: Threads + Wait + Sync>(
 
     ensures boxes { IfOk result (λ r. length r.mailboxes.mailboxes ≡ window.now.streams.processes) }
     ensures all { IfOk result (λ r. vec_len r.slips ≡ r.mailboxes.slips) }
-    ensures workers { IfOk result (λ r. (started : ℕ)
-        × IsCountOfWorkers window.now.end workers berths.items started × (vec_len r.slips ≡ started + 1)) }
+    ensures workers { IfOk result (λ r. IsCountOfWorkers window.now.end workers berths.items r.workers) }
+    ensures few { IfOk result (λ r. r.workers + 1 ≡ vec_len r.slips) }
     ensures slips { IfOk result (λ r. All (IsSlipOf r.mailboxes.mailboxes) r.slips.items) }
     ensures outcome { IfOk result (λ r.
         IsOutcomeBy M.mind window.now.streams window.now.end berths.items r.berths.items r.slips.items) }
     ensures errors { IfErr result IsRefusal }
     ensures limit { IsErrOf result RunError.Limit → IsOneTooLong M.mind window.now berths.items }
 {
-    let (done, slips) = run_berths_of(rt, alloc, gate, workers, &mut mailboxes, window, berths)?;
+    let (mut done, slips) = run_berths_of(
+        rt,
+        alloc,
+        gate,
+        workers,
+        &mut mailboxes,
+        window,
+        berths,
+    )?;
+    done.sort_unstable_by_key(|berth| berth.pid().number());
     Ok(Ran {
-        berths: in_order(done),
+        berths: done,
         mailboxes,
+        workers: slips.len() - 1,
         slips,
     })
-}
-
-/// The end of a window, which is cut at the horizon.
-pub(crate) fn cut_at(end: u32, horizon: u32) -> u32
-    ensures { result ≡ min end horizon }
-{
-    end.min(horizon)
 }
 
 /// Runs the next window of a stage. The smaller of the plan's workers and the number of processes with an event below
@@ -257,7 +250,7 @@ pub fn run_window<M: Process, G: Gate, R: Threads + Wait + Sync>(
     let scenario = stage.scenario;
     let processes = scenario.processes();
     let mailboxes = mailboxes_for(alloc, stage.mailboxes.take(), processes)?;
-    let end = cut_at(stage.start + plan.window(), scenario.horizon());
+    let end = (stage.start + plan.window()).min(scenario.horizon());
     let left = scenario.limit() - stage.so_far;
     let streams = Streams::new(scenario);
     let window = Window { streams, end, left };

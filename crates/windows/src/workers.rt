@@ -9,8 +9,8 @@ ghost use Rattle.run_error.specs.declared.error.RunError.TheVariants.{Memory, Sp
 ghost use Rattle.windows.specs.Berth.{IsLong, with_letters};
 ghost use Rattle.windows.specs.Plan.{most_workers};
 ghost use Rattle.windows.specs.Refusals.{rank_of, AreThere, IsFirstRefusal, IsRefusalOfOne};
-ghost use Rattle.windows.specs.Shared.{AreReady, IsStart, IsWorkBy, IsAnswerTo, IsOneTooLong, AreAnswers};
-ghost use Rattle.windows.specs.Workers.{IsFresh, IsReady, IsStay, stay};
+ghost use Rattle.windows.specs.Shared.{IsStart, IsAnswerTo, AreAnswers};
+ghost use Rattle.windows.specs.Workers.{IsReady, IsStay, stay};
 
 use crate::berth::{Berth, run_berth};
 use crate::gate::Gate;
@@ -68,38 +68,12 @@ pub(crate) fn run_taken<M: Process, G: Gate, R: Wait>(
     run_berth(rt, berth, window.end, streams, mailboxes, slip, window.left)
 }
 
-/// Takes berths until every deque was found empty, and runs each. It holds no lock. Answers them.
+/// The work of one worker, which has the number `worker` in this window: it takes berths until every deque was found
+/// empty, and runs each. It holds no lock.
 ///
 /// Nothing is put into a deque once the workers have begun, so one that was found empty stays empty. That a worker goes
 /// on until then stands in no clause, since an empty deque leaves no record: a test shows that the starter finds
 /// nothing left.
-fn run_all_taken<M: Process, G: Gate, R: Wait>(
-    rt: &R,
-    shared: &Shared<'_, M, G>,
-    worker: u16,
-    hand: &mut Hand<Berth<M>>,
-    slip: &mut Slip,
-) -> Result<Vec<Berth<M>>, RunError>
-    requires fresh { IsFresh shared.now.fronts.now.items shared.now.mailboxes.now hand.old slip.old }
-    requires ready { AreReady M.mind shared.now.window.now hand.old.known }
-    ensures own { IfOk result (λ _. hand.new.own ≡ hand.old.own) }
-    ensures work { IfOk result (λ done. IsWorkBy M.mind shared.now hand.new slip.new done.items) }
-    ensures errors { IfErr result IsRefusalOfOne }
-    ensures limit { IsErrOf result RunError.Limit → IsOneTooLong M.mind shared.now.window.now hand.old.known }
-{
-    let mut done = Vec::new(shared.alloc);
-    for _ in rt.forever() {
-        done.reserve(1)?;
-        let Some(mut berth) = hand.take(rt, shared.fronts) else {
-            break;
-        };
-        run_taken(rt, shared, worker, &mut berth, slip)?;
-        done.push_reserved(berth);
-    }
-    Ok(done)
-}
-
-/// The work of one worker, which has the number `worker` in this window.
 ///
 /// # Errors
 ///
@@ -115,7 +89,15 @@ pub(crate) fn run_berths<M: Process, G: Gate, R: Wait>(
     ensures { IsAnswerTo M.mind shared.now start result }
 {
     let Start { mut hand, mut slip } = start;
-    let done = run_all_taken(rt, shared, worker, &mut hand, &mut slip)?;
+    let mut done = Vec::new(shared.alloc);
+    for _ in rt.forever() {
+        done.reserve(1)?;
+        let Some(mut berth) = hand.take(rt, shared.fronts) else {
+            break;
+        };
+        run_taken(rt, shared, worker, &mut berth, &mut slip)?;
+        done.push_reserved(berth);
+    }
     Ok(Work { hand, slip, done })
 }
 

@@ -103,17 +103,12 @@ pub fn call_window<M: Process, R: Wait>(
 ) -> Result<(Vec<Berth<M>>, usize), RunError>
     requires { IsStage M.mind stage }
 {
-    let Stage {
-        scenario,
-        berths,
-        so_far,
-        ..
-    } = stage;
-    let left = room.min(scenario.limit() - so_far);
+    let scenario = stage.scenario();
+    let left = room.min(scenario.limit() - stage.so_far());
     let mut mailboxes = Mailboxes::new(alloc, scenario.processes())?;
     let mut slip = mailboxes.slip(alloc)?;
     let streams = Streams::new(scenario);
-    let berths = in_given_order(berths, order);
+    let berths = in_given_order(stage.into_berths(), order);
     let shared = mailboxes.shared();
     let berths = call_berths(rt, alloc, &streams, end, left, shared, &mut slip, berths)?;
     let letters = mailboxes.collect(rt, alloc, vec![in alloc; slip]?)?;

@@ -36,7 +36,7 @@ fn called<R: Threads + Wait + Sync>(
 fn count(berths: &[Berth<Machine>]) -> usize {
     let mut entries: usize = 0;
     for berth in berths {
-        entries = entries.saturating_add(berth.part.len());
+        entries = entries.saturating_add(berth.part().len());
     }
     entries
 }
@@ -90,13 +90,13 @@ fn is_as_listed(berth: &Berth<Machine>, list: &[Entry], start: u32, end: u32) ->
     for entry in list {
         let key = &entry.key;
         if key.receiver == own && start <= key.tick && key.tick < end {
-            match berth.part.get(count) {
+            match berth.part().get(count) {
                 Some(made) if is_same(made, entry) => count = count.saturating_add(1),
                 _ => return false,
             }
         }
     }
-    count == berth.part.len()
+    count == berth.part().len()
 }
 
 /// The berths are called in the given order, and whatever it is, each process does in each window of one tick or two

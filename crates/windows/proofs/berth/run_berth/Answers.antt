@@ -9,7 +9,6 @@ use Rattle.window_laws.specs.Window.{BerthRun}
 use Rattle.window_laws.proofs.Berths.{BerthStands, berth_opens, berth_longer, berth_ends}
 use Rattle.windows.proofs.Letters.{with_more}
 use Rattle.windows.proofs.Turns.{one_longer, stands_next}
-use Rattle.windows.proofs.Taken.{below_of, removed_of, none_below_of, kept_of}
 use Rattle.windows.proofs.berth.run_berth.Goals as goal
 
 pub loop-event-init : goal.loop-event-init
@@ -47,8 +46,8 @@ loop-event-preserved g c =
     let i = c.loop-event.invariant in
     let old = c.loop-event.berth in
     let new = c.take.new.self in
-    let taken = below_of c.args.end old.pending c.in_ok-event.field-0 c.in-Some.event c.in-Some.is c.in_ok-event.ensures.least in
-    let removed = removed_of old.pending c.take_below.new.self c.in_ok-event.field-0 c.in-Some.event c.in-Some.is c.in_ok-event.ensures.removed in
+    let taken = rw c.in-Some.is at c.in_ok-event.ensures.least in
+    let removed = rw c.in-Some.is at c.in_ok-event.ensures.removed in
     let done = c.in_ok-take.ensures in
     let longer : length new.part.items ≡ length old.part.items + 1 = one_longer old.part.items new.part.items _ done.part in
     record {
@@ -68,7 +67,7 @@ loop-event-preserved g c =
 pub take-requires-clause-own : goal.take-requires-clause-own
 take-requires-clause-own g c κs within =
     let i = c.loop-event.invariant in
-    let taken = below_of c.args.end c.loop-event.berth.pending c.in_ok-event.field-0 c.in-Some.event c.in-Some.is c.in_ok-event.ensures.least in
+    let taken = rw c.in-Some.is at c.in_ok-event.ensures.least in
     i.stands.2.own c.in-Some.event.0 c.in-Some.event.1 taken.0.there ∙ sym i.own
 
 pub loop-event-smaller : goal.loop-event-smaller
@@ -85,7 +84,7 @@ returns-then-len-left-clause-limit g c is history after rest letters run =
     let b = c.args.berth.now in
     let i = c.loop-event.invariant in
     let old = c.loop-event.berth in
-    let taken = below_of c.args.end old.pending c.in_ok-event.field-0 c.in-Some.event c.in-Some.is c.in_ok-event.ensures.least in
+    let taken = rw c.in-Some.is at c.in_ok-event.ensures.least in
     let longer : length old.part.items < length history =
     berth_longer (setting_of c.args.streams.now) (own_of mind b.seat) c.args.end (process_of mind b.seat) b.pending (process_of mind old.seat) old.pending old.part.items (map event_of i.stands.0) i.stands.2
     c.in-Some.event.0 c.in-Some.event.1 taken.0 taken.1 history after rest letters run in
@@ -105,12 +104,12 @@ returns-clause-ran g c =
     let i = c.loop-event.invariant in
     let old = c.loop-event.berth in
     let was = i.stands.2 in
-    let run = berth_ends S (own_of mind b.seat) c.args.end (process_of mind b.seat) b.pending (process_of mind old.seat) old.pending old.part.items (map event_of i.stands.0) was (none_below_of c.args.end c.loop-event.berth.pending c.in_ok-event.field-0 c.in_default.is c.in_ok-event.ensures.least) in
+    let run = berth_ends S (own_of mind b.seat) c.args.end (process_of mind b.seat) b.pending (process_of mind old.seat) old.pending old.part.items (map event_of i.stands.0) was (rw c.in_default.is at c.in_ok-event.ensures.least) in
     λ p is. (
       i.stands.0,
       record {
         history = was.history;
-        run = subst (λ m. BerthRun S p c.args.end (process_of mind b.seat) b.pending was.history (process_of mind old.seat) m (map event_of i.stands.0)) (sym (kept_of c.loop-event.berth.pending c.take_below.new.self c.in_ok-event.field-0 c.in_default.is c.in_ok-event.ensures.removed))
+        run = subst (λ m. BerthRun S p c.args.end (process_of mind b.seat) b.pending was.history (process_of mind old.seat) m (map event_of i.stands.0)) (sym (rw c.in_default.is at c.in_ok-event.ensures.removed))
             (subst (λ q. BerthRun S q c.args.end (process_of mind b.seat) b.pending was.history (process_of mind old.seat) old.pending (map event_of i.stands.0)) is run);
         part = was.part_is;
       },
@@ -123,5 +122,5 @@ returns-clause-berth g c =
     λ p most h. record {
       seated = i.seated most h.seated;
       is = i.own ∙ h.is;
-      own = λ key x there. i.stands.2.own key x (subst (λ m. Has m key x) (kept_of c.loop-event.berth.pending c.take_below.new.self c.in_ok-event.field-0 c.in_default.is c.in_ok-event.ensures.removed) there) ∙ h.is;
+      own = λ key x there. i.stands.2.own key x (subst (λ m. Has m key x) (rw c.in_default.is at c.in_ok-event.ensures.removed) there) ∙ h.is;
     }

@@ -1,4 +1,4 @@
-use Rattle.std.proofs.Common.{◌≡◌, ◌+◌, ◌∷◌, ◌++◌, [], length, map, refl, sym, ap, ◌∙◌, subst, append-nil, vec_len, vec_capacity, arith}
+use Rattle.std.proofs.Common.{◌≡◌, ◌∷◌, ◌++◌, [], length, map, refl, sym, ap, ◌∙◌, subst, append-nil, vec_len, arith}
 use Rattle.std.specs.List.{All, flat_map}
 use Rattle.std.specs.List.Sorted.{IsPermutation}
 use Rattle.std.specs.Vec.Iter.{into_iter_items}
@@ -9,8 +9,6 @@ use Rattle.windows.specs.Workers.{IsWork}
 use Rattle.windows.specs.declared.workers.Work.{Work}
 use Rattle.deques.proofs.Deals.{map_turn, flat_push, none_left}
 use Rattle.windows.proofs.Gathered.{works_none, works_more, works_taken}
-use Rattle.windows.proofs.Work.{still_fits}
-use Rattle.windows.proofs.Refused.{holds_of_none}
 use Rattle.windows.proofs.gather.gather.Goals as goal
 
 pub loop-work-init : goal.loop-work-init
@@ -60,9 +58,8 @@ loop-work-preserved g c =
       of_all = All-same OfAll _ _ more (All-push OfAll hands work.hand inv.of_all of_all);
       left = All-tail WorkOfAll work left (subst (All WorkOfAll) e inv.left);
       count = omega (arith, inv.count, ap length e, c.push_reserved-in-loop-work.ensures.len);
-      room = still_fits (vec_len c.push_reserved.new.self + length left) (vec_capacity c.loop-work.hands) (vec_capacity c.push_reserved.new.self) c.push_reserved.ensures.capacity (omega (arith, inv.room, ap length e, c.push_reserved.ensures.len));
-      space = still_fits (vec_len c.push_reserved-in-loop-work.new.self + length left) (vec_capacity c.loop-work.slips) (vec_capacity c.push_reserved-in-loop-work.new.self) c.push_reserved-in-loop-work.ensures.capacity
-          (omega (arith, inv.space, ap length e, c.push_reserved-in-loop-work.ensures.len));
+      room = omega (arith, inv.room, ap length e, c.push_reserved.ensures.len, c.push_reserved.ensures.capacity);
+      space = omega (arith, inv.space, ap length e, c.push_reserved-in-loop-work.ensures.len, c.push_reserved-in-loop-work.ensures.capacity);
       works = λ s end m is.
           let W : Work _ → Type 0 = λ w. IsWork mind s end (deques_of dealt) m w.hand w.slip w.done.items in
           let r = inv.works s end m is in
@@ -90,15 +87,3 @@ returns-clause-own g c =
 
 pub returns-clause-works : goal.returns-clause-works
 returns-clause-works g c = λ s end m is. works_taken g.M.Process.mind s end m _ _ _ _ (c.loop-work.invariant.works s end m is).1 c.in_ok-of_hands.ensures.taken
-
-pub returns-in_err-hands : goal.returns-in_err-hands
-returns-in_err-hands g c = let no = holds_of_none c.from_residual.result c.from_residual.ensures.0 in record { own = no _; out = no _; count = no _; works = no _ }
-
-pub returns-in_err-slips : goal.returns-in_err-slips
-returns-in_err-slips g c = let no = holds_of_none c.from_residual-in_err-slips.result c.from_residual-in_err-slips.ensures.0 in record { own = no _; out = no _; count = no _; works = no _ }
-
-pub returns-in_err-append : goal.returns-in_err-append
-returns-in_err-append g c = let no = holds_of_none c.from_residual-in_err-append.result c.from_residual-in_err-append.ensures.0 in record { own = no _; out = no _; count = no _; works = no _ }
-
-pub returns-in_err-of_hands : goal.returns-in_err-of_hands
-returns-in_err-of_hands g c = let no = holds_of_none c.from_residual-in_err-of_hands.result c.from_residual-in_err-of_hands.ensures.0 in record { own = no _; out = no _; count = no _; works = no _ }

@@ -3,11 +3,10 @@ use Rattle.std.specs.List.Sorted.{IsPermutation}
 use Rattle.std.proofs.lemmas.List.Elements.{All-push, All-same}
 use Rattle.std.proofs.lemmas.Iterator.Adapters.{YieldsList-from_vec}
 use Rattle.std.proofs.lemmas.Iterator.Consumers.{YieldsList-end}
-use Rattle.ledger.proofs.Lists.{map_same}
+use Rattle.std.proofs.lemmas.List.{map-id}
 use Rattle.trace_laws.specs.World.{NoneBelow}
 use Rattle.windows.specs.declared.berth.Berth.{Berth}
 use Rattle.windows.proofs.Gathered.{one_put, one_idle}
-use Rattle.windows.proofs.Refused.{holds_of_none}
 use Rattle.windows.proofs.gather.part.Goals as goal
 
 pub loop-berth-preserved-in-Continue-branch-2 : goal.loop-berth-preserved-in-Continue-branch-2
@@ -40,14 +39,5 @@ returns-clause-same g c =
     let bs = c.args.berths.items in
     let ys = c.loop-berth.yielded in
     let end = YieldsList-end (YieldsList-from_vec bs b.0 (b.1 ∙ c.args.berths.ok.0)) ys c.loop-berth.berth-iterator c.loop-berth.yielded_by c.next.result c.next.new.self c.in-None.is c.next.ensures.steps in
-    let same : ys ≡ bs = sym (map_same ys) ∙ end.0 in
+    let same : ys ≡ bs = sym (map-id ys) ∙ end.0 in
     subst (λ l. IsPermutation l (c.loop-berth.waiting.items ++ c.loop-berth.idle.items)) same c.loop-berth.invariant.2
-
-pub returns-in_err-waiting : goal.returns-in_err-waiting
-returns-in_err-waiting g c = let no = holds_of_none c.from_residual.result c.from_residual.ensures.0 in record { same = no _; waiting = no _; idle = no _ }
-
-pub returns-in_err-push : goal.returns-in_err-push
-returns-in_err-push g c = let no = holds_of_none c.from_residual-in_err-push.result c.from_residual-in_err-push.ensures.0 in record { same = no _; waiting = no _; idle = no _ }
-
-pub returns-in_err-push-2 : goal.returns-in_err-push-2
-returns-in_err-push-2 g c = let no = holds_of_none c.from_residual-in_err-push-2.result c.from_residual-in_err-push-2.ensures.0 in record { same = no _; waiting = no _; idle = no _ }

@@ -5,8 +5,7 @@ use Rattle.std.proofs.lemmas.List.Elements.{All-contains}
 use Rattle.std.proofs.lemmas.List.Sorted.{IsPermutation-refl, IsPermutation-trans, IsPermutation-append_left}
 use Rattle.deques.specs.Deques.{RestView, all_put}
 use Rattle.windows.specs.Workers.{IsReady}
-use Rattle.windows.proofs.Work.{pushed, run_begins, run_more, same_run}
-use Rattle.windows.proofs.Refused.{holds_of_none}
+use Rattle.windows.proofs.Work.{run_begins, run_more, same_run}
 use Rattle.windows.proofs.gather.run_rest.Goals as goal
 use Rattle.windows.proofs.gather.run_rest.Goals.{in-None, in-Some+in_ok-reserve+in_default}
 
@@ -43,7 +42,7 @@ loop-preserved g c =
     let old = c.args.rest.now.taken in (
       inv.0 ++ b ∷ [],
       run_more g.M.Process.mind c.args.shared.now.window.now.streams c.args.shared.now.window.now.end c.args.shared.now.mailboxes.now inv.0 (inv.0 ++ b ∷ []) c.loop.slip c.run_taken.new.slip
-          c.loop.done.items c.push_reserved.new.self.items b c.run_taken.new.berth ran.0 inv.1 ran.1 (IsPermutation-refl (inv.0 ++ b ∷ [])) c.run_taken.ensures.slip ran.2 (pushed c.loop.done.items c.reserve.new.self.items c.push_reserved.new.self.items c.run_taken.new.berth c.push_reserved.ensures.items c.in_ok-reserve.ensures.items),
+          c.loop.done.items c.push_reserved.new.self.items b c.run_taken.new.berth ran.0 inv.1 ran.1 (IsPermutation-refl (inv.0 ++ b ∷ [])) c.run_taken.ensures.slip ran.2 (c.push_reserved.ensures.items ∙ ap (λ l. l ++ c.run_taken.new.berth ∷ []) c.in_ok-reserve.ensures.items),
       ap (λ (r : RestView _). r.own) took.1 ∙ inv.2,
       ap (λ (r : RestView _). r.out) took.1,
       subst (IsPermutation (old ++ (inv.0 ++ b ∷ []))) (sym (ap (λ (r : RestView _). r.taken) took.1))
@@ -65,9 +64,3 @@ returns-clause-rest g c =
                 (subst (λ (r : RestView _). IsPermutation (all_put c.loop.rest.own) r.taken) (sym last) w.in_default.ensures.1);
           }
     ]
-
-pub returns-in_err-reserve : goal.returns-in_err-reserve
-returns-in_err-reserve g c = let no = holds_of_none c.from_residual.result c.from_residual.ensures.0 in record { rest = no _; errors = search rules; limit = search rules }
-
-pub returns-in_err-run_taken-clause-rest : goal.returns-in_err-run_taken-clause-rest
-returns-in_err-run_taken-clause-rest g c = holds_of_none c.from_residual-in_err-run_taken.result c.from_residual-in_err-run_taken.ensures.0 _

@@ -1,4 +1,4 @@
-use Rattle.std.proofs.Common.{ℕ, List, ◌≡◌, ◌+◌, ◌∷◌, ◌++◌, [], length, map, refl, ap, sym, ◌∙◌, subst, vec_len, vec_capacity, arith}
+use Rattle.std.proofs.Common.{ℕ, List, ◌≡◌, ◌+◌, ◌∷◌, ◌++◌, [], length, map, refl, ap, sym, ◌∙◌, subst, vec_len, arith}
 use Rattle.std.specs.List.{All}
 use Rattle.std.specs.Vec.Iter.{into_iter_items}
 use Rattle.std.proofs.lemmas.List.Elements.{All-nil, All-push, All-same, All-head, All-tail}
@@ -8,8 +8,6 @@ use Rattle.deques.specs.Deques.{HandView, deques_of, all_put, IsDealt}
 use Rattle.windows.specs.Workers.{IsFresh}
 use Rattle.windows.specs.declared.workers.Start.{Start}
 use Rattle.deques.proofs.Deals.{map_turn}
-use Rattle.windows.proofs.Work.{still_fits}
-use Rattle.windows.proofs.Refused.{holds_of_none}
 use Rattle.windows.proofs.gather.starts_of.Goals as goal
 
 slip_more : (old new : MailboxesView) (ids : List MailboxId) (before n n' : ℕ) → new ≡ mailboxes_of old.mailboxes (old.slips + 1) → old ≡ mailboxes_of ids (before + n) → n' ≡ n + 1 → new ≡ mailboxes_of ids (before + n')
@@ -57,14 +55,5 @@ loop-hand-preserved g c =
       fresh = All-same Fresh _ _ more (All-push Fresh starts _ inv.fresh (record { of_deques = is.0; none_taken = is.2; none_posted = c.in_ok-slip.ensures.slip ∙ ap unused same }));
       known = All-same Knows _ _ more (All-push Knows starts _ inv.known is.1);
       left = All-tail (IsDealt all) h left (subst (All (IsDealt all)) e inv.left);
-      room = still_fits (vec_len c.push_reserved.new.self + length left) (vec_capacity c.loop-hand.starts) (vec_capacity c.push_reserved.new.self) c.push_reserved.ensures.capacity (omega (arith, inv.room, ap length e, c.push_reserved.ensures.len));
+      room = omega (arith, inv.room, ap length e, c.push_reserved.ensures.len, c.push_reserved.ensures.capacity);
     }
-
-pub returns-in_err-hands : goal.returns-in_err-hands
-returns-in_err-hands g c = let no = holds_of_none c.from_residual.result c.from_residual.ensures.0 in record { own = no _; mailboxes = no _; fresh = no _; known = no _ }
-
-pub returns-in_err-starts : goal.returns-in_err-starts
-returns-in_err-starts g c = let no = holds_of_none c.from_residual-in_err-starts.result c.from_residual-in_err-starts.ensures.0 in record { own = no _; mailboxes = no _; fresh = no _; known = no _ }
-
-pub returns-in_err-slip : goal.returns-in_err-slip
-returns-in_err-slip g c = let no = holds_of_none c.from_residual-in_err-slip.result c.from_residual-in_err-slip.ensures.0 in record { own = no _; mailboxes = no _; fresh = no _; known = no _ }

@@ -23,4 +23,5 @@ returns-clause-windows c = windows_trace (setting_of c.args.scenario.now) (setti
 
 pub returns-clause-berths : goal.returns-clause-berths
 returns-clause-berths c w is_world stage stands history rest letters h berths =
-    berths_run (setting_of c.args.scenario.now) (setting_sound c.args.scenario.now c.horizon-horizon.ensures.ranges) c.args.plan.now.window c.requires.window w is_world stage stands history rest letters h berths
+    let r = berths_run (setting_of c.args.scenario.now) (setting_sound c.args.scenario.now c.horizon-horizon.ensures.ranges) c.args.plan.now.window c.requires.window w is_world stage stands history rest letters h berths in
+    (r.0, r.1, r.2, r.3, r.4, r.5)

@@ -1,15 +1,14 @@
-use Rattle.std.proofs.Common.{◌≡◌, ◌∷◌, [], ◌++◌, List, map, ap, sym, subst, ◌∙◌, append_assoc}
+use Rattle.std.proofs.Common.{◌≡◌, ◌∷◌, [], ◌++◌, map, ap, sym, subst, ◌∙◌}
 use Rattle.std.specs.List.{All}
 use Rattle.std.specs.Vec.Iter.{into_iter_items}
-use Rattle.std.proofs.lemmas.List.{map-append}
 use Rattle.std.proofs.lemmas.List.Elements.{All-push, All-rest}
 use Rattle.process_api.specs.Mind.{Mind}
+use Rattle.deques.proofs.Deals.{map_turn}
 use Rattle.steps.specs.Seat.{process_of, own_of, IsMindIn}
 use Rattle.trace_laws.specs.Step.{Process}
 use Rattle.trace_laws.specs.World.{opened}
 use Rattle.windows.specs.Stage.{start_event, IsOpened}
 use Rattle.windows.specs.declared.berth.Berth.{Berth}
-use Rattle.windows.proofs.Refused.{holds_of_none}
 use Rattle.windows.proofs.stage.berths_of.Goals as goal
 
 pub loop-machine-preserved : goal.loop-machine-preserved
@@ -24,25 +23,10 @@ loop-machine-preserved g c =
     let b = c.in_ok-new.field-0 in
     let more : c.push.new.self.items ≡ old ++ b ∷ [] = c.in_ok-push.ensures.items in
     let made : process_of mind b.seat ≡ opened (mind c.in-Some.machine) = c.in_ok-new.ensures.process in
-    let after : List (Process Mind) = map opened (map mind left) in
     let own : own_of mind b.seat ≡ c.pid.result = ap (λ (q : Process Mind). q.mind.lower.place.own) made ∙ sym c.pid.ensures in
     let is : IsOpened mind s b = (c.in_ok-new.ensures.seated, c.in_ok-new.ensures.pending ∙ (c.in_ok-pending.ensures ∙ ap start_event (sym own)), c.in_ok-new.ensures.part) in
     record {
-      made = ap (λ xs. map f xs ++ after) more
-          ∙ (ap (λ xs. xs ++ after) (map-append f old (b ∷ []))
-          ∙ (append_assoc (map f old) (f b ∷ []) after
-          ∙ (ap (λ p. map f old ++ (p ∷ after)) made
-          ∙ (ap (λ xs. map f old ++ map opened (map mind xs)) (sym e)
-          ∙ c.loop-machine.invariant.made))));
+      made = map_turn f opened old c.push.new.self.items b (map mind rest) (map mind left) (mind c.in-Some.machine) _ more (ap (map mind) e) made c.loop-machine.invariant.made;
       berths = subst (All (IsOpened mind s)) (sym more) (All-push (IsOpened mind s) old b c.loop-machine.invariant.berths is);
       left = All-rest (λ m. IsMindIn s (mind m)) c.in-Some.machine left rest e c.loop-machine.invariant.left;
     }
-
-pub returns-in_err-pending : goal.returns-in_err-pending
-returns-in_err-pending g c = let no = holds_of_none c.from_residual.result c.from_residual.ensures.0 in record { processes = no _; berths = no _ }
-
-pub returns-in_err-new : goal.returns-in_err-new
-returns-in_err-new g c = let no = holds_of_none c.from_residual-in_err-new.result c.from_residual-in_err-new.ensures.0 in record { processes = no _; berths = no _ }
-
-pub returns-in_err-push : goal.returns-in_err-push
-returns-in_err-push g c = let no = holds_of_none c.from_residual-in_err-push.result c.from_residual-in_err-push.ensures.0 in record { processes = no _; berths = no _ }

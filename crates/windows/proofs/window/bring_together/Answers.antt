@@ -5,7 +5,6 @@ use Rattle.windows.specs.Shared.{AreReady, IsOneTooLong, IsWorkIn}
 use Rattle.windows.specs.Workers.{given_to, BringsTogether}
 use Rattle.windows.specs.declared.workers.Work.{Work}
 use Rattle.windows.proofs.Gathered.{run_of_parts}
-use Rattle.windows.proofs.Refused.{holds_of_none}
 use Rattle.windows.proofs.window.bring_together.Goals as goal
 
 pub gather-requires : goal.gather-requires
@@ -30,18 +29,3 @@ returns-clause-run g c =
     run_of_parts g.M.Process.mind w.window.now.streams w.window.now.end w.mailboxes.now _ _ c.in_ok-rest.rest c.run_rest.new.rest (given_to c.args.works.items)
     c.in_ok-rest.done.items c.in_ok-last.last.items c.append.new.self.items c.in_ok-rest.slips.items c.push.new.self.items c.in_ok-last.slip
     are c.in_ok-last.ensures.rest (search rules) (search rules) put c.in_ok-append.ensures.items c.in_ok-push.ensures.items w.boxes
-
-pub returns-in_err-rest : goal.returns-in_err-rest
-returns-in_err-rest g c = let no = holds_of_none c.from_residual.result c.from_residual.ensures.0 in record { slips = no _; run = no _; errors = search rules; limit = search rules }
-
-pub returns-in_err-last-clause-slips : goal.returns-in_err-last-clause-slips
-returns-in_err-last-clause-slips g c = holds_of_none c.from_residual-in_err-last.result c.from_residual-in_err-last.ensures.0 _
-
-pub returns-in_err-last-clause-run : goal.returns-in_err-last-clause-run
-returns-in_err-last-clause-run g c = holds_of_none c.from_residual-in_err-last.result c.from_residual-in_err-last.ensures.0 _
-
-pub returns-in_err-append : goal.returns-in_err-append
-returns-in_err-append g c = let no = holds_of_none c.from_residual-in_err-append.result c.from_residual-in_err-append.ensures.0 in record { slips = no _; run = no _; errors = search rules; limit = search rules }
-
-pub returns-in_err-push : goal.returns-in_err-push
-returns-in_err-push g c = let no = holds_of_none c.from_residual-in_err-push.result c.from_residual-in_err-push.ensures.0 in record { slips = no _; run = no _; errors = search rules; limit = search rules }

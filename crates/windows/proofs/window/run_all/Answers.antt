@@ -1,6 +1,10 @@
-use Rattle.std.proofs.Common.{rules, length, sym, ap, ◌∙◌, subst}
+use Rattle.std.proofs.Common.{rules, arith, length, sym, ap, ◌∙◌, subst}
 use Rattle.std.specs.List.{All}
+use Rattle.std.proofs.lemmas.List.Sorted.{IsNonDecreasingBy-from_sort_by_key}
+use Rattle.steps.specs.Seat.{own_of}
 use Rattle.mailboxes.specs.Mailboxes.{IsSlipOf}
+use Rattle.windows.specs.declared.berth.Berth.{Berth}
+use Rattle.windows.specs.Shared.{IsCountOfWorkers}
 use Rattle.windows.proofs.Gathered.{outcome}
 use Rattle.windows.proofs.window.run_all.Goals as goal
 
@@ -16,7 +20,8 @@ returns-clause-slips g c = subst (λ m. All (IsSlipOf m) c.in_ok-done.slips.item
 pub returns-clause-outcome : goal.returns-clause-outcome
 returns-clause-outcome g c lists are =
     outcome g.M.Process.mind c.args.window.now.streams c.args.window.now.end _ c.args.window.now.left c.args.berths.items c.in_ok-done.done.items _ c.in_ok-done.slips.items lists c.in_ok-done.ensures.run
-    c.requires.ready c.requires.rising c.in_order.ensures.same c.in_order.ensures.rising are.count are.each
+    c.requires.ready c.requires.rising c.sort_unstable_by_key.ensures.permutation
+    (IsNonDecreasingBy-from_sort_by_key (λ (b : Berth _). own_of g.M.Process.mind b.seat) _ c.sort_unstable_by_key.ensures.sorted (λ a r q k. search rules)) are.count are.each
 
 pub returns-clause-workers : goal.returns-clause-workers
-returns-clause-workers g c = c.in_ok-done.ensures.workers
+returns-clause-workers g c = let w = c.in_ok-done.ensures.workers in subst (IsCountOfWorkers c.args.window.now.end c.args.workers c.args.berths.items) (omega (arith, w.2, c.len.ensures)) w.1

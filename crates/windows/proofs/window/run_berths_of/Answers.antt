@@ -6,7 +6,6 @@ use Rattle.windows.specs.Shared.{AreReady, IsOneTooLong}
 use Rattle.windows.specs.Workers.{IsReady, dealt_to}
 use Rattle.windows.specs.declared.workers.Start.{Start}
 use Rattle.windows.proofs.Gathered.{all_dealt, fresh_at, long_dealt, run_at, run_with_idle}
-use Rattle.windows.proofs.Refused.{holds_of_none}
 use Rattle.windows.proofs.window.run_berths_of.Goals as goal
 
 pub run_dealt-requires-clause-ready : goal.run_dealt-requires-clause-ready
@@ -43,30 +42,3 @@ returns-clause-run g c =
     let run = run_at g.M.Process.mind w.streams w.end _ c.args.mailboxes.now.mailboxes waiting _ (all_put c.in_ok-fronts.dealer) _ _ c.in_ok-done.ensures.run (search rules) put c.in_ok-fronts.ensures.all in
     run_with_idle g.M.Process.mind w.streams w.end c.args.mailboxes.now.mailboxes w.left c.args.berths.items waiting c.in_ok-waiting.idle.items c.in_ok-done.done.items c.append.new.self.items
     c.in_ok-done.slips.items run c.in_ok-waiting.ensures.same rest c.in_ok-waiting.ensures.idle c.in_ok-append.ensures.items
-
-pub returns-in_err-waiting : goal.returns-in_err-waiting
-returns-in_err-waiting g c = let no = holds_of_none c.from_residual.result c.from_residual.ensures.0 in record { mailboxes = no _; slips = no _; workers = no _; run = no _; errors = search rules; limit = search rules }
-
-pub returns-in_err-fronts : goal.returns-in_err-fronts
-returns-in_err-fronts g c = let no = holds_of_none c.from_residual-in_err-fronts.result c.from_residual-in_err-fronts.ensures.0 in record { mailboxes = no _; slips = no _; workers = no _; run = no _; errors = search rules; limit = search rules }
-
-pub returns-in_err-slip : goal.returns-in_err-slip
-returns-in_err-slip g c = let no = holds_of_none c.from_residual-in_err-slip.result c.from_residual-in_err-slip.ensures.0 in record { mailboxes = no _; slips = no _; workers = no _; run = no _; errors = search rules; limit = search rules }
-
-pub returns-in_err-starts : goal.returns-in_err-starts
-returns-in_err-starts g c = let no = holds_of_none c.from_residual-in_err-starts.result c.from_residual-in_err-starts.ensures.0 in record { mailboxes = no _; slips = no _; workers = no _; run = no _; errors = search rules; limit = search rules }
-
-pub returns-in_err-done-clause-mailboxes : goal.returns-in_err-done-clause-mailboxes
-returns-in_err-done-clause-mailboxes g c = holds_of_none c.from_residual-in_err-done.result c.from_residual-in_err-done.ensures.0 _
-
-pub returns-in_err-done-clause-slips : goal.returns-in_err-done-clause-slips
-returns-in_err-done-clause-slips g c = holds_of_none c.from_residual-in_err-done.result c.from_residual-in_err-done.ensures.0 _
-
-pub returns-in_err-done-clause-workers : goal.returns-in_err-done-clause-workers
-returns-in_err-done-clause-workers g c = holds_of_none c.from_residual-in_err-done.result c.from_residual-in_err-done.ensures.0 _
-
-pub returns-in_err-done-clause-run : goal.returns-in_err-done-clause-run
-returns-in_err-done-clause-run g c = holds_of_none c.from_residual-in_err-done.result c.from_residual-in_err-done.ensures.0 _
-
-pub returns-in_err-append : goal.returns-in_err-append
-returns-in_err-append g c = let no = holds_of_none c.from_residual-in_err-append.result c.from_residual-in_err-append.ensures.0 in record { mailboxes = no _; slips = no _; workers = no _; run = no _; errors = search rules; limit = search rules }

@@ -1,19 +1,14 @@
-use Rattle.std.proofs.Common.{rules, ◌≡◌, sym, ap, ◌∙◌, subst}
+use Rattle.std.proofs.Common.{rules, sym, ap, ◌∙◌, subst}
+use Rattle.std.proofs.lemmas.Result.{IfOk-weaker}
 use Rattle.deques.specs.Deques.{deques_of, all_put}
-use Rattle.windows.specs.Shared.{AreReady, IsOneTooLong, IsFreshIn, IsStart, HadWindow}
+use Rattle.windows.specs.Shared.{AreReady, IsOneTooLong, HadWindow}
 use Rattle.windows.specs.Workers.{dealt_to}
-use Rattle.windows.specs.declared.workers.Start.{Start}
-use Rattle.windows.proofs.Gathered.{all_both}
-use Rattle.windows.proofs.Refused.{holds_of_none, one_refused}
-use Rattle.windows.proofs.Settled.{if_ok}
+use Rattle.windows.proofs.Refused.{one_refused}
 use Rattle.windows.proofs.window.run_dealt.Goals as goal
 
 pub in_threads-requires-clause-starts : goal.in_threads-requires-clause-starts
 in_threads-requires-clause-starts g c κs within =
-    let w = c.args.shared.now in
-    let Knows : Start _ → Type 0 = λ s. s.hand.known ≡ dealt_to c.args.starts.items in
-    all_both (IsFreshIn w) Knows (IsStart g.M.Process.mind w) (λ s f k. (f, subst (AreReady g.M.Process.mind w.window.now) (sym k) c.requires.ready))
-    c.args.starts.items c.requires.fresh c.requires.known
+    λ k d lt. (c.requires.fresh k d lt, subst (AreReady g.M.Process.mind c.args.shared.now.window.now) (sym (c.requires.known k d lt)) c.requires.ready)
 
 pub bring_together-requires-clause-deques : goal.bring_together-requires-clause-deques
 bring_together-requires-clause-deques g c κs within = c.requires.deques ∙ ap deques_of (sym c.in_ok-works.ensures.own)
@@ -28,7 +23,7 @@ bring_together-requires-clause-works g c κs within = c.in_ok-works.ensures.work
 pub returns-clause-run : goal.returns-clause-run
 returns-clause-run g c =
     let w = c.args.shared.now in
-    if_ok c.bring_together.result _ _ (λ r run. subst (λ l. HadWindow g.M.Process.mind w.window.now w.mailboxes.now (all_put l) r.0.items r.1.items) c.in_ok-works.ensures.own run) c.bring_together.ensures.run
+    IfOk-weaker c.bring_together.result _ _ (λ r run. subst (λ l. HadWindow g.M.Process.mind w.window.now w.mailboxes.now (all_put l) r.0.items r.1.items) c.in_ok-works.ensures.own run) c.bring_together.ensures.run
 
 pub returns-clause-errors : goal.returns-clause-errors
 returns-clause-errors g c = one_refused c.bring_together.result c.bring_together.ensures.errors
@@ -39,9 +34,3 @@ returns-clause-limit g c is =
 
 pub returns-in_err-works-clause-limit : goal.returns-in_err-works-clause-limit
 returns-in_err-works-clause-limit g c is = c.in_threads.ensures.limit (search rules) (dealt_to c.args.starts.items) c.requires.known
-
-pub returns-in_err-works-clause-slips : goal.returns-in_err-works-clause-slips
-returns-in_err-works-clause-slips g c = holds_of_none c.from_residual.result c.from_residual.ensures.0 _
-
-pub returns-in_err-works-clause-run : goal.returns-in_err-works-clause-run
-returns-in_err-works-clause-run g c = holds_of_none c.from_residual.result c.from_residual.ensures.0 _

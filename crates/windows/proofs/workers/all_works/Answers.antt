@@ -1,5 +1,5 @@
 use Rattle.std.proofs.Common.{rules}
-use Rattle.windows.proofs.Refused.{holds_of_none, first_of, last_of}
+use Rattle.windows.proofs.Refused.{first_of, last_of}
 use Rattle.windows.proofs.workers.all_works.Goals as goal
 
 pub returns-clause-ok : goal.returns-clause-ok
@@ -8,14 +8,8 @@ returns-clause-ok g c = (c.in_ok-works.works, c.in_ok-works.work, c.in_ok-works.
 pub returns-clause-err : goal.returns-clause-err
 returns-clause-err g c = tt
 
-pub returns-in_err-works-clause-ok : goal.returns-in_err-works-clause-ok
-returns-in_err-works-clause-ok g c = holds_of_none c.from_residual.result c.from_residual.ensures.0 _
-
 pub returns-in_err-works-clause-err : goal.returns-in_err-works-clause-err
 returns-in_err-works-clause-err g c = first_of c.args.before c.args.mine c.from_residual.result (search rules)
-
-pub returns-in_err-push-clause-ok : goal.returns-in_err-push-clause-ok
-returns-in_err-push-clause-ok g c = holds_of_none c.from_residual-in_err-push.result c.from_residual-in_err-push.ensures.0 _
 
 pub returns-in_err-push-clause-err : goal.returns-in_err-push-clause-err
 returns-in_err-push-clause-err g c =

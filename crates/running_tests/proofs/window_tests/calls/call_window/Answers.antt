@@ -6,7 +6,8 @@ use Rattle.process_api.specs.Mind.{Mind}
 use Rattle.scenario_record.specs.Record.{Record}
 use Rattle.windows.specs.Workers.{IsReady}
 use Rattle.windows.specs.declared.berth.Berth.{Berth}
-use Rattle.windows.proofs.Settled.{sum_of, stage_ready}
+use Rattle.windows.proofs.Closing.{stage_ready}
+use Rattle.windows.proofs.Posted.{sum_of}
 use Rattle.running_tests.proofs.window_tests.calls.call_window.Goals as goal
 
 -- what is ready for so many entries is ready for fewer

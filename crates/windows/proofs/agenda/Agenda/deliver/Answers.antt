@@ -3,7 +3,8 @@ use Rattle.std.proofs.lemmas.List.{map-append}
 use Rattle.trace_laws.specs.World.{joined}
 use Rattle.trace_laws.specs.Taken.{event_of}
 use Rattle.windows.specs.Agenda.{IsSoonestOf}
-use Rattle.windows.proofs.Agendas.{soonest_both, joined_both}
+use Rattle.windows.proofs.Agendas.{soonest_both}
+use Rattle.windows.proofs.Letters.{joined_both}
 use Rattle.windows.proofs.agenda.Agenda.deliver.Goals as goal
 
 pub invariant_of-self-2 : goal.invariant_of-self-2

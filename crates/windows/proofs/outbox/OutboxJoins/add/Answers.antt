@@ -1,4 +1,4 @@
-use Rattle.std.proofs.Common.{◌≡◌, ◌∷◌, ◌++◌, ◌∙◌, [], ap, sym, append-nil}
+use Rattle.std.proofs.Common.{◌++◌, ◌∙◌, ap, sym, append-nil}
 use Rattle.std.specs.FinMap as events
 use Rattle.std.proofs.lemmas.Result.{on_ok_weaker}
 use Rattle.trace_laws.specs.World.{joined}

@@ -1,4 +1,4 @@
-use Rattle.std.proofs.Common.{◌≡◌, ◌∷◌, ◌++◌, ◌∙◌, [], ap, sym, Result, Ok, Err, OnOk, Bool, false, is_err, true≢false}
+use Rattle.std.proofs.Common.{◌≡◌, ◌∷◌, ◌++◌, ◌∙◌, [], ap, sym, Result, Ok, Err, OnOk, false, is_err, true≢false}
 use Rattle.std.proofs.lemmas.List.{map-append}
 use Rattle.trace_laws.specs.Taken.{event_of}
 use Rattle.trace_laws.specs.World.{joined}

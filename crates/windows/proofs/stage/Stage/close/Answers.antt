@@ -9,7 +9,6 @@ use Rattle.windows.specs.Closing.{AreLettersOf}
 use Rattle.windows.specs.Stage.{delivered}
 use Rattle.windows.specs.declared.berth.Berth.{Berth}
 use Rattle.windows.proofs.Places.{all_at, all_place, same_at}
-use Rattle.windows.proofs.Refused.{holds_of_none}
 use Rattle.windows.proofs.stage.Stage.close.Goals as goal
 
 pub empty_and_merge-requires-clause-rising : goal.empty_and_merge-requires-clause-rising
@@ -21,9 +20,19 @@ empty_and_merge-requires-clause-rising g c κs within =
 pub deliver_all-requires-after_bounds : goal.deliver_all-requires-after_bounds
 deliver_all-requires-after_bounds g c κs within =
     let seat_of = λ (z : Berth _). z.seat in
-    let same : length c.in_ok-berths.berths.items ≡ length c.args.ran.berths.items =
-    sym (length-map c.in_ok-berths.berths.items seat_of) ∙ (ap length c.in_ok-berths.ensures.seats ∙ length-map c.args.ran.berths.items seat_of) in
-    c.in_ok-merged.ensures.count ∙ (c.requires.boxes ∙ (c.args.ran.berths.ok.0 ∙ (sym same ∙ sym c.in_ok-berths.berths.ok.0)))
+    let lists = c.in_ok-merged.emptied.1 in
+    omega (
+      arith,
+      lists.ok.0,
+      length-map lists.items (λ v. v.items),
+      c.in_ok-merged.ensures.letters.count,
+      c.requires.boxes,
+      c.args.ran.berths.ok.0,
+      length-map c.args.ran.berths.items seat_of,
+      ap length c.in_ok-berths.ensures.seats,
+      length-map c.in_ok-berths.berths.items seat_of,
+      c.in_ok-berths.berths.ok.0,
+    )
 
 pub returns-then-made-left-clause-limit : goal.returns-then-made-left-clause-limit
 returns-then-made-left-clause-limit g c =
@@ -50,12 +59,3 @@ returns-clause-closed g c =
         start = search rules;
       },
     )
-
-pub returns-in_err-berths : goal.returns-in_err-berths
-returns-in_err-berths g c = let no = holds_of_none c.from_residual.result c.from_residual.ensures.0 in record { scenario = search rules; closed = no _; workers = no _; errors = search rules; limit = search rules }
-
-pub returns-in_err-merged : goal.returns-in_err-merged
-returns-in_err-merged g c = let no = holds_of_none c.from_residual-in_err-merged.result c.from_residual-in_err-merged.ensures.0 in record { scenario = search rules; closed = no _; workers = no _; errors = search rules; limit = search rules }
-
-pub returns-in_err-berths-2 : goal.returns-in_err-berths-2
-returns-in_err-berths-2 g c = let no = holds_of_none c.from_residual-in_err-berths-2.result c.from_residual-in_err-berths-2.ensures.0 in record { scenario = search rules; closed = no _; workers = no _; errors = search rules; limit = search rules }

@@ -1,15 +1,16 @@
 use Rattle.std.proofs.Common.{rules, ◌≡◌, ◌<◌, ◌≤◌, [], ◌++◌, ◌∷◌, List, inl, inr, refl, length, subst, sym, ap, ◌∙◌, true, arith, append-nil, ⊎_elim}
+use Rattle.std.proofs.lemmas.Bool.{eqb-true}
 use Rattle.std.proofs.lemmas.List.Elements.{All-nil}
 use Rattle.process_api.specs.EntryRecord.{EntryRecord}
 use Rattle.trace_laws.specs.ScenarioSetting.{setting_of}
 use Rattle.trace_laws.specs.World.{IsTrace}
 use Rattle.windows.specs.Stage.{IsStageAfter}
 use Rattle.window_laws.specs.Theorems.{end_to_end}
-use Rattle.windows.proofs.Closing.{stage_trace, stage_front}
-use Rattle.windows.proofs.Handed.{took_more, end_to_end_more, on_err, found_equal, trace_within}
-use Rattle.windows.proofs.Cut.{all_from_zero, stage_cut, not_of_sink}
-use Rattle.windows.proofs.Refused.{holds_of_none, not_err}
-use Rattle.windows.proofs.run.run_machines.Goals as goal
+use Rattle.windows.proofs.Closing.{stage_trace}
+use Rattle.windows.proofs.Handed.{took_more, end_to_end_more, on_err, trace_within}
+use Rattle.windows.proofs.Cut.{stage_cut, not_of_sink}
+use Rattle.windows.proofs.Refused.{not_err}
+use Rattle.windows.proofs.run.run_windows_into.Goals as goal
 
 pub returns-in_err-stage-clause-front : goal.returns-in_err-stage-clause-front
 returns-in_err-stage-clause-front g c =
@@ -26,7 +27,7 @@ returns-in_err-part-clause-front g c =
       last = [];
       ended = inl (refl, refl);
       front = λ whole t.
-          let r = stage_front mind c.loop-alloc.stage (end_to_end parts.0) parts.2 whole (subst (λ s. IsTrace (setting_of s) whole) (sym c.loop-alloc.invariant.scenario) t) in
+          let r = stage_cut mind c.loop-alloc.stage (end_to_end parts.0) parts.2 c.args.scenario.now c.loop-alloc.invariant.scenario c.horizon-horizon.ensures.ranges whole t in
           (r.0, r.1 ∙ ap (λ es. es ++ r.0) (sym (append-nil (end_to_end parts.0))));
     })
 
@@ -34,7 +35,7 @@ pub returns-clause-closed : goal.returns-clause-closed
 returns-clause-closed g c = λ is. ⊎_elim (λ e. absurd (not_err _ _ e)) (λ e. absurd (not_err _ _ e)) is
 
 pub returns-in_err-stage-clause-closed : goal.returns-in_err-stage-clause-closed
-returns-in_err-stage-clause-closed g c = λ is. record { parts = []; took_all = refl; tick = 0; before = All-nil (λ e. e.key.tick < 0); after = λ whole t. (whole, refl, all_from_zero whole) }
+returns-in_err-stage-clause-closed g c = λ is. record { parts = []; took_all = refl; tick = 0; before = All-nil (λ e. e.key.tick < 0); after = λ whole t. (whole, refl, λ k d l. omega arith) }
 
 pub returns-in_err-part-clause-closed : goal.returns-in_err-part-clause-closed
 returns-in_err-part-clause-closed g c = λ is.
@@ -84,8 +85,8 @@ returns-in_err-part-2-clause-front g c =
       last = part;
       ended = inr (search rules);
       front = λ whole t.
-          stage_front mind c.run_window.new.stage (end_to_end was.parts.0 ++ part) (c.in_ok-part.ensures.stage (end_to_end was.parts.0) was.parts.2) whole
-          (subst (λ s. IsTrace (setting_of s) whole) (sym scenario) t);
+          let r = stage_cut mind c.run_window.new.stage (end_to_end was.parts.0 ++ part) (c.in_ok-part.ensures.stage (end_to_end was.parts.0) was.parts.2) c.args.scenario.now scenario c.horizon-horizon.ensures.ranges whole t in
+          (r.0, r.1);
     })
 
 pub returns-clause-trace : goal.returns-clause-trace
@@ -93,7 +94,7 @@ returns-clause-trace g c =
     let stage = c.loop-alloc.stage in
     let was = c.loop-alloc.invariant in
     let over : c.finished.result ≡ true = search rules in
-    let at : stage.start ≡ stage.scenario.now.horizon = found_equal c.finished.result stage.start stage.scenario.now.horizon c.finished.ensures over in
+    let at : stage.start ≡ stage.scenario.now.horizon = eqb-true _ _ (sym c.finished.ensures ∙ over) in
     record {
       parts = was.parts.0;
       took_all = was.parts.1;
@@ -101,29 +102,8 @@ returns-clause-trace g c =
     }
 
 pub returns-clause-within : goal.returns-clause-within
+unfolding returns-clause-trace
 returns-clause-within g c =
-    let stage = c.loop-alloc.stage in
     let was = c.loop-alloc.invariant in
-    let over : c.finished.result ≡ true = search rules in
-    let at : stage.start ≡ stage.scenario.now.horizon = found_equal c.finished.result stage.start stage.scenario.now.horizon c.finished.ensures over in
-    let is : IsTrace (setting_of c.args.scenario.now) (end_to_end was.parts.0) = subst (λ s. IsTrace (setting_of s) (end_to_end was.parts.0)) was.scenario (stage_trace g.M.Process.mind stage (end_to_end was.parts.0) was.parts.2 at) in
     let few : length (end_to_end was.parts.0) ≤ c.args.scenario.now.limit = subst (λ s. length (end_to_end was.parts.0) ≤ s.limit) was.scenario (omega (arith, was.parts.2.within, was.parts.2.so_far)) in
-    trace_within c.args.scenario.now (end_to_end was.parts.0) c.args.scenario.now.limit is few
-
-pub returns-in_err-stage-clause-trace : goal.returns-in_err-stage-clause-trace
-returns-in_err-stage-clause-trace g c = holds_of_none c.from_residual.result c.from_residual.ensures.0 _
-
-pub returns-in_err-stage-clause-within : goal.returns-in_err-stage-clause-within
-returns-in_err-stage-clause-within g c = holds_of_none c.from_residual.result c.from_residual.ensures.0 _
-
-pub returns-in_err-part-clause-trace : goal.returns-in_err-part-clause-trace
-returns-in_err-part-clause-trace g c = holds_of_none c.from_residual-in_err-part.result c.from_residual-in_err-part.ensures.0 _
-
-pub returns-in_err-part-clause-within : goal.returns-in_err-part-clause-within
-returns-in_err-part-clause-within g c = holds_of_none c.from_residual-in_err-part.result c.from_residual-in_err-part.ensures.0 _
-
-pub returns-in_err-part-2-clause-trace : goal.returns-in_err-part-2-clause-trace
-returns-in_err-part-2-clause-trace g c = holds_of_none c.from_residual-in_err-part-2.result c.from_residual-in_err-part-2.ensures.0 _
-
-pub returns-in_err-part-2-clause-within : goal.returns-in_err-part-2-clause-within
-returns-in_err-part-2-clause-within g c = holds_of_none c.from_residual-in_err-part-2.result c.from_residual-in_err-part-2.ensures.0 _
+    trace_within c.args.scenario.now (end_to_end was.parts.0) c.args.scenario.now.limit (returns-clause-trace g c).is_trace few

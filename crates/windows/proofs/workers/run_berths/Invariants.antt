@@ -1,6 +1,6 @@
 use Rattle.std.proofs.Common.{◌≡◌}
 use Rattle.windows.specs.Shared.{IsWorkBy}
-use Rattle.windows.proofs.workers.run_all_taken.Given as goal
+use Rattle.windows.proofs.workers.run_berths.Given as goal
 
 abbrev pub invariant-loop : goal.invariant-loop
 invariant-loop g l =

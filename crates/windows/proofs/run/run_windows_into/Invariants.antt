@@ -3,7 +3,7 @@ use Rattle.process_api.specs.EntryRecord.{EntryRecord}
 use Rattle.windows.specs.Sink.{TookAll}
 use Rattle.windows.specs.Stage.{IsStageAfter}
 use Rattle.window_laws.specs.Theorems.{end_to_end}
-use Rattle.windows.proofs.run.run_machines.Given as goal
+use Rattle.windows.proofs.run.run_windows_into.Given as goal
 
 abbrev pub invariant-loop-alloc : goal.invariant-loop-alloc
 invariant-loop-alloc g l = record {
