@@ -1,6 +1,6 @@
 -- What the parts of a process do at an input: a base detector of any kind, a reduction above it, and above that an algorithm
 -- of any kind.
-use Rattle.std.specs.List.{AllByRecursion}
+use Rattle.std.specs.List.{AllByRecursion, filter}
 use Rattle.std.specs.FinSet as set
 use Rattle.process_api.specs.Sets.{Processes, up_to, gone, changes}
 use Rattle.process_api.specs.declared.action.Action.{Action}
@@ -21,7 +21,7 @@ use Rattle.process_api.specs.Place.{Place}
 use Rattle.process_api.specs.Reduction.{ReductionState, gathered, next_share, step_reduction}
 use Rattle.process_api.specs.declared.action.Note.{Note}
 use Rattle.process_api.specs.declared.message.Tag.TheVariants as tag
-use Rattle.process_api.proofs.Lists.{both, images, always, passed}
+use Rattle.process_api.proofs.Lists.{both, images, always}
 use Rattle.judges.proofs.Algorithms.{all_sent, IsOfAlgorithm}
 use Rattle.process_api.specs.Actions.{of_layer, notes_of_layer}
 use Rattle.process_api.specs.BaseDetector.{IsDetectorStep, IsOfDetector}
@@ -48,6 +48,15 @@ pub record RunsReduction {Mind : Type 0} (S : Setting Mind) : Type 0 where
   pub suspects : Mind → Processes
   pub opens : (p : ℕ) → IsProcess S p → (q : ℕ) → set.contains (suspects (S.opening p)) q ≡ false
   pub joins : (mind : Mind) (now : ℕ) (x : StepInput) → IsShared x (suspects mind) (suspects (S.react mind now x).state) (S.react mind now x).actions
+
+-- what a filter lets through passes its test
+passed : {X : Type 0} (P : X → Type 0) (p : X → Bool) → ((x : X) → p x ≡ true → P x) → (xs : List X) → AllByRecursion P (filter p xs)
+passed P p f [] = tt
+passed P p f (x ∷ xs) =
+    elim (p x) as (λ b. p x ≡ b → AllByRecursion P (cond b (x ∷ filter p xs) (filter p xs))) [
+      | true ↦ λ e. (f x e, passed P p f xs)
+      | false ↦ λ e. passed P p f xs
+    ] refl
 
 -- ---- a reduction: it notes on layer 2 only whom a letter's set has, and sends only whom the detector below suspects.
 

@@ -1,5 +1,5 @@
 -- Sets that are joined, the entries of a set, and lists that are filtered or mapped.
-use Rattle.std.proofs.Common.{◌≡◌, ◌≢◌, ◌⊎◌, ◌↔◌, ℕ, ◌≤◌, inl, inr, refl, sym, ap, ◌∙◌, subst, Bool, true, false, cond, List, [], ◌∷◌, Some, T, Ordering, Less, Equal, Greater, is_eq, is_lt, true≢false, nat_lt, filter, map}
+use Rattle.std.proofs.Common.{◌≡◌, ◌≢◌, ◌⊎◌, ◌↔◌, ℕ, ◌≤◌, inl, inr, refl, sym, ap, ◌∙◌, subst, Bool, true, false, cond, ◌&&◌, arith, List, [], ◌∷◌, Some, T, Ordering, Less, Equal, Greater, is_eq, is_lt, true≢false, nat_lt, filter, map}
 use Rattle.std.proofs.lemmas.Bool.{ltb-false, or_parts}
 use Rattle.std.proofs.lemmas.Cmp.{tied_itself}
 use Rattle.std.specs.List.{list_any}
@@ -14,8 +14,7 @@ use Rattle.process_api.proofs.KeyOrder.{keys_total, exact_keys, same_or_not, not
 use Rattle.trace_laws.specs.Step.{Event, Events}
 use Rattle.trace_laws.specs.World.{Has, NoneBelow, joined}
 use Rattle.trace_laws.specs.History.{IsIn}
-use Rattle.trace_laws.proofs.Runs.{first_part, second_part, tie}
-use Rattle.trace_laws.proofs.Sets.{not_None, same_Some, insert_at, insert_other, AreApart, apart}
+use Rattle.trace_laws.proofs.Sets.{not_None, same_Some, insert_at, insert_other, AreApart, apart, tie}
 use Rattle.window_laws.specs.Machine.{Waiting, Held, Done, has_below, first_status}
 
 module _ {A B C D P Q : Type 0} where
@@ -91,6 +90,12 @@ is_less : (r : Ordering) → T (is_lt r) → r ≡ Less
 is_less Less h = refl
 is_less Equal h = absurd h
 is_less Greater h = absurd h
+
+first_part : (a b : Bool) → T (a && b) → T a
+first_part a b h = grind arith
+
+second_part : (a b : Bool) → T (a && b) → T b
+second_part a b h = grind arith
 
 above : (k : Key) (es : List Event) → T (below_all key_cmp k es) → (e : Event) → IsIn e es → key_cmp k e.0 ≡ Less
 above k [] t e i = absurd i
