@@ -45,6 +45,11 @@ impl Proposals {
     pub fn drop_before(&mut self, round: u64)
         ensures { of_round self.new ≡ since_round round (of_round self.old) }
     {
-        self.by_round.retain(|kept, _| *kept >= round);
+        while let Some((first, _)) = self.by_round.first_key_value() {
+            if *first >= round {
+                break;
+            }
+            let _ = self.by_round.pop_first();
+        }
     }
 }

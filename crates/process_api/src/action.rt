@@ -53,6 +53,7 @@ pub fn send_to(out: &mut Vec<Action>, to: Pid, payload: Payload) -> Result<(), A
 /// # Errors
 ///
 /// `AllocError` where memory was refused; `out` may hold a part of the letters.
+#[inline(always)]
 pub fn send_to_all(
     out: &mut Vec<Action>,
     processes: u16,
@@ -72,6 +73,7 @@ pub fn send_to_all(
 /// # Errors
 ///
 /// `AllocError` where memory was refused; `out` may hold a part of the letters.
+#[inline(always)]
 pub fn send_to_others(
     out: &mut Vec<Action>,
     processes: u16,

@@ -78,6 +78,11 @@ impl<T: Drop> Letters<T> {
     pub fn drop_before(&mut self, round: u64)
         ensures { by_sender self.new ≡ since round (by_sender self.old) }
     {
-        self.rows.retain(|kept, _| *kept >= round);
+        while let Some((first, _)) = self.rows.first_key_value() {
+            if *first >= round {
+                break;
+            }
+            let _ = self.rows.pop_first();
+        }
     }
 }

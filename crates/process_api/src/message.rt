@@ -48,6 +48,7 @@ impl Payload {
     /// # Errors
     ///
     /// `AllocError` where memory was refused.
+    #[inline(always)]
     pub fn copy(&self) -> Result<Payload, AllocError>
         ensures { IfOk result (λ copied. copied ≡ self.now) }
     {

@@ -23,6 +23,7 @@ fn change_of(begins: bool, layer: u8, who: Pid) -> Note
 
 /// Notes of each process that is in one set and not in another, of 1 to `processes`, in order, that the suspicion
 /// begins, or that it ends.
+#[inline(always)]
 fn note_gone(
     out: &mut Vec<Action>,
     begins: bool,
@@ -48,6 +49,7 @@ fn note_gone(
 /// # Errors
 ///
 /// `AllocError` where memory was refused; `out` may hold a part of the notes.
+#[inline(always)]
 pub fn note_changes(
     out: &mut Vec<Action>,
     layer: u8,
