@@ -20,7 +20,8 @@ impl Joins for Pending {
 
     #[inline(always)]
     fn send(&mut self, letter: Letter) -> Result<(), AllocError> {
-        self.join(Event::letter(letter))?;
+        let event = Event::letter(self.alloc, letter)?;
+        self.join(event)?;
         Ok(())
     }
 }

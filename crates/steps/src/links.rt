@@ -152,7 +152,8 @@ impl Links {
             let Some(key) = due_after(self.horizon, sent, 1) else {
                 return Ok(0);
             };
-            added.add(Event::letter(Letter { key, payload }))?;
+            let alloc = *self.counts.allocator();
+            added.add(Event::letter(alloc, Letter { key, payload })?)?;
             return Ok(0);
         }
         let fate = self.fate(streams, own, to, number, key.tick);

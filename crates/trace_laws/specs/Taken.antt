@@ -1,17 +1,24 @@
 -- What the code's events and letters are.
 use Rattle.process_api.specs.declared.message.Letter.{Letter}
+use Rattle.process_api.specs.declared.message.Payload.TheVariants as payload
 use Rattle.process_api.specs.declared.message.StepInput.{StepInput}
 use Rattle.process_api.specs.declared.message.StepInput.TheVariants as input
 use Rattle.trace_laws.specs.Step.{Event}
 use Rattle.trace_laws.specs.declared.event.Taken.{Taken}
 use Rattle.trace_laws.specs.declared.event.Taken.TheVariants as taken
-use Rattle.std.specs.Prelude.{ℕ}
+use Rattle.std.specs.Prelude.{ℕ, ◌-◌}
 
 -- what a process takes, where this one is the sender
 abbrev pub input_of : ℕ → Taken → StepInput
 input_of sender taken.Start = input.Start
 input_of sender (taken.Wake tag) = input.Wake tag
-input_of sender (taken.Letter payload) = input.Letter sender payload
+input_of sender taken.Alive = input.Letter sender payload.Alive
+input_of sender (taken.Heartbeat number) = input.Letter sender (payload.Heartbeat number)
+input_of sender (taken.Estimate round value age) = input.Letter sender (payload.Estimate round value (round - age))
+input_of sender (taken.Proposal round value) = input.Letter sender (payload.Proposal round value)
+input_of sender (taken.Reply round ack) = input.Letter sender (payload.Reply round ack)
+input_of sender (taken.Decide round value) = input.Letter sender (payload.Decide round value)
+input_of sender (taken.Aside what) = input.Letter sender what.value
 
 -- the event that a letter becomes
 abbrev pub event_of : Letter → Event

@@ -1,17 +1,91 @@
 //! Events: what waits for a process.
-ghost use Rattle.std.specs.Prelude.{◌≡◌};
+ghost use Rattle.std.specs.Prelude.{◌≡◌, ◌+◌, ℕ, IfOk, MatchOption, ⊤};
 ghost use Rattle.trace_laws.specs.World.{start_of};
-ghost use Rattle.trace_laws.specs.Taken.{event_of};
+ghost use Rattle.trace_laws.specs.Taken.{event_of, input_of};
 
 use process_api::{Key, Letter, Payload, Pid, StepInput, Tag};
+use std::alloc::{AllocError, Global};
 use std::marker::Model;
 
-/// What the receiver of an event takes. Who sent a letter stands in the event's key alone.
+/// What the receiver of an event takes, in 24 bytes. Who sent a letter stands in the event's key alone. What few bytes
+/// don't hold lies aside.
 #[derive(Drop)]
 enum Taken {
     Start,
     Wake(Tag),
-    Letter(Payload),
+    Alive,
+    Heartbeat { number: u64 },
+    // the stamp is so many rounds before the round
+    Estimate { round: u64, value: u32, age: u32 },
+    Proposal { round: u64, value: u32 },
+    Reply { round: u64, ack: bool },
+    Decide { round: u64, value: u32 },
+    Aside(Box<Payload>),
+}
+
+/// How many rounds a stamp is before its round, where it is, and not by too many for 32 bits.
+#[inline(always)]
+fn age_of(round: u64, stamp: u64) -> Option<u32>
+    ensures { MatchOption result ⊤ (λ age. stamp + age ≡ round) }
+{
+    let age = round.checked_sub(stamp)?;
+    u32::try_from(age).ok()
+}
+
+impl Taken {
+    /// What a letter says.
+    #[inline(always)]
+    fn letter(alloc: Global, payload: Payload) -> Result<Taken, AllocError>
+        ensures { IfOk result (λ taken. (sender : ℕ) → input_of sender taken ≡ StepInput.Letter sender payload) }
+    {
+        let taken = match payload {
+            Payload::Alive => Taken::Alive,
+            Payload::Heartbeat { number } => Taken::Heartbeat { number },
+            Payload::Proposal { round, value } => Taken::Proposal { round, value },
+            Payload::Reply { round, ack } => Taken::Reply { round, ack },
+            Payload::Decide { round, value } => Taken::Decide { round, value },
+            Payload::Estimate {
+                round,
+                value,
+                stamp,
+            } => match age_of(round, stamp) {
+                Some(age) => Taken::Estimate { round, value, age },
+                None => Taken::Aside(Box::new(
+                    alloc,
+                    Payload::Estimate {
+                        round,
+                        value,
+                        stamp,
+                    },
+                )?),
+            },
+            large => Taken::Aside(Box::new(alloc, large)?),
+        };
+        Ok(taken)
+    }
+
+    /// The same, as the receiver's machine takes it.
+    #[inline(always)]
+    fn into_input(self, sender: Pid) -> StepInput
+        ensures { result ≡ input_of sender self }
+    {
+        let payload = match self {
+            Taken::Start => return StepInput::Start,
+            Taken::Wake(tag) => return StepInput::Wake(tag),
+            Taken::Alive => Payload::Alive,
+            Taken::Heartbeat { number } => Payload::Heartbeat { number },
+            Taken::Estimate { round, value, age } => Payload::Estimate {
+                round,
+                value,
+                stamp: round.saturating_sub(u64::from(age)),
+            },
+            Taken::Proposal { round, value } => Payload::Proposal { round, value },
+            Taken::Reply { round, ack } => Payload::Reply { round, ack },
+            Taken::Decide { round, value } => Payload::Decide { round, value },
+            Taken::Aside(payload) => Box::into_inner(payload),
+        };
+        StepInput::Letter { sender, payload }
+    }
 }
 
 /// An event: its key, and what its receiver takes. Contracts see the pair of its key and the receiver's input.
@@ -65,15 +139,18 @@ impl Event {
     }
 
     /// The event that a letter becomes: its sender is that of its key.
+    ///
+    /// # Errors
+    ///
+    /// `AllocError` where memory was refused, for a letter with a set, with cells, or with a stamp that is after its
+    /// round or 2^32 rounds before it. The letter is gone then.
     #[inline(always)]
-    pub fn letter(letter: Letter) -> Event
-        ensures { result ≡ event_of letter }
+    pub fn letter(alloc: Global, letter: Letter) -> Result<Event, AllocError>
+        ensures { IfOk result (λ event. event ≡ event_of letter) }
     {
         let Letter { key, payload } = letter;
-        Event {
-            key,
-            taken: Taken::Letter(payload),
-        }
+        let taken = Taken::letter(alloc, payload)?;
+        Ok(Event { key, taken })
     }
 
     /// When, by whom and from whom it is taken, and its number on its link.
@@ -90,14 +167,6 @@ impl Event {
         ensures { result ≡ self }
     {
         let Event { key, taken } = self;
-        let input = match taken {
-            Taken::Start => StepInput::Start,
-            Taken::Wake(tag) => StepInput::Wake(tag),
-            Taken::Letter(payload) => StepInput::Letter {
-                sender: key.sender,
-                payload,
-            },
-        };
-        (key, input)
+        (key, taken.into_input(key.sender))
     }
 }

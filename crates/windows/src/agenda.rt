@@ -119,8 +119,9 @@ fn append(letters: &mut Vec<Letter>, mut more: Vec<Letter>) -> Result<(), AllocE
 fn join_all(pending: &mut Pending, letters: Vec<Letter>) -> Result<(), AllocError>
     ensures { OnOk result (pending.new ≡ joined pending.old (map event_of letters.items)) }
 {
+    let alloc = *letters.allocator();
     for letter in letters {
-        pending.join(Event::letter(letter))?;
+        pending.join(Event::letter(alloc, letter)?)?;
     }
     Ok(())
 }
