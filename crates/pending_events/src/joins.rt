@@ -20,8 +20,7 @@ impl Joins for Pending {
 
     #[inline(always)]
     fn send(&mut self, letter: Letter) -> Result<(), AllocError> {
-        let event = Event::letter(self.alloc, letter)?;
-        self.join(event)?;
+        self.join(Event::letter(self.alloc, letter)?)?;
         Ok(())
     }
 }
