@@ -54,6 +54,7 @@ impl Detector for BaseDetector {
       | Freshness its ↦ ⟦<FreshnessDetector as Detector>⟧.has_failed its
     ] };
 
+    #[inline(always)]
     fn take(
         &mut self,
         now: u32,
@@ -113,6 +114,7 @@ impl Detector for AnyDetector {
       | Reduced its ↦ ⟦<Reduced<BaseDetector> as Detector>⟧.has_failed its
     ] };
 
+    #[inline(always)]
     fn take(
         &mut self,
         now: u32,
