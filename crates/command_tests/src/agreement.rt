@@ -30,16 +30,12 @@ fn agree<R: Abort>(rt: &R, outcomes: &[Outcome], seed: u32) -> u32 {
 #[test]
 fn hundred_seeds(rt: HostRuntime) -> Result<(), Fail> {
     let alloc = rt.alloc();
-    let (old, new) = ("check = 3\ntimeout = 12\n", "check = 1\ntimeout = 1\n");
+    let (old, new) = ("check = 3, timeout = 12", "check = 1, timeout = 1");
     let hasty = changed(alloc, FIVE, old, new)?;
     let second = changed(alloc, FIVE, "version = 1\n", "version = 2\n")?;
-    let old = "period = 5\ncheck = 3\ntimeout = 12\ngrow = 2\n";
-    let fresh = changed(
-        alloc,
-        &second,
-        old,
-        "kind = \"freshness\"\neta = 5\ndelta = 3\n",
-    )?;
+    let old = "period = 5, check = 3, timeout = 12, grow = 2";
+    let new = "kind = \"freshness\", eta = 5, delta = 3";
+    let fresh = changed(alloc, &second, old, new)?;
     for file in [hasty.as_str(), fresh.as_str()] {
         let mut decided = 0u32;
         for seed in 1..101u32 {

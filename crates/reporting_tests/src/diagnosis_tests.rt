@@ -10,20 +10,9 @@ horizon = 10
 lookahead = 2
 seed = 1
 algorithm = \"none\"
-
-[detector]
-period = 4
-check = 3
-timeout = 5
-grow = 1
-
-[link]
-min = 2
-max = 2
-
-[[crash]]
-process = 2
-at = 3
+detector = { period = 4, check = 3, timeout = 5, grow = 1 }
+link = { min = 2, max = 2 }
+crash = [{ process = 2, at = 3 }]
 ";
 
 /// Bytes that are no text, and the table of the crash file: of each of its two processes 1 start, 3 beats, 4 checks and

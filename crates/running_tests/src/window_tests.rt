@@ -26,17 +26,9 @@ horizon = 10
 lookahead = 2
 seed = 1
 algorithm = \"none\"
-[detector]
-period = 4
-check = 3
-timeout = 5
-grow = 1
-[link]
-min = 2
-max = 2
-[[crash]]
-process = 2
-at = 3
+detector = { period = 4, check = 3, timeout = 5, grow = 1 }
+link = { min = 2, max = 2 }
+crash = [{ process = 2, at = 3 }]
 ";
 
 /// The scenario of `ONE_CRASH`.
@@ -52,14 +44,8 @@ lookahead = 2
 seed = 1
 algorithm = \"es\"
 proposals = [10, 20, 30]
-[detector]
-period = 100
-check = 100
-timeout = 100
-grow = 1
-[link]
-min = 2
-max = 2
+detector = { period = 100, check = 100, timeout = 100, grow = 1 }
+link = { min = 2, max = 2 }
 ";
 
 /// The scenario of `COORDINATORS`.
@@ -74,14 +60,8 @@ horizon = 2
 lookahead = 2
 seed = 1
 algorithm = \"none\"
-[detector]
-period = 100
-check = 100
-timeout = 100
-grow = 1
-[link]
-min = 2
-max = 2
+detector = { period = 100, check = 100, timeout = 100, grow = 1 }
+link = { min = 2, max = 2 }
 ";
 
 /// Whether two entries are the same.
