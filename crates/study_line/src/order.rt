@@ -124,6 +124,7 @@ pub enum WordsError {
 }
 
 /// The text of an argument, if it is there.
+#[tactic(auto, using(crate::proofs::Words::in_rows))]
 fn text_if_at<'a>(found: &ArgMatches<'a>, id: &str) -> Option<&'a str>
     ensures { MayBeTextAt id.now (rows_of (found_of found.now)) result }
 {
@@ -135,27 +136,24 @@ fn text_at<'a>(found: &ArgMatches<'a>, id: &str) -> Result<&'a str, WordsError>
     ensures stated { IfOk result (λ t. IsTextAt id.now (rows_of (found_of found.now)) t.now) }
     ensures refused { IfErr result (Lacks (IsTextAt id.now (rows_of (found_of found.now)))) }
 {
-    match text_if_at(found, id) {
-        Some(text) => Ok(text),
-        None => Err(WordsError::Form),
-    }
+    text_if_at(found, id).ok_or(WordsError::Form)
 }
 
 /// The text of an argument, or another one where there is none.
 fn text_or<'a>(found: &ArgMatches<'a>, id: &str, other: &'a str) -> &'a str
     ensures { result.now ≡ text_or_else id.now (rows_of (found_of found.now)) other.now }
 {
-    match text_if_at(found, id) {
-        Some(text) => text,
-        None => other,
-    }
+    text_if_at(found, id).unwrap_or(other)
 }
 
 /// Whether an argument is missing.
 fn lacks(found: &ArgMatches<'_>, id: &str) -> bool
     ensures { result ≡ is_missing (rows_of (found_of found.now)) id.now }
 {
-    text_if_at(found, id).is_none()
+    match text_if_at(found, id) {
+        Some(_) => false,
+        None => true,
+    }
 }
 
 /// The texts of all uses of an argument.
@@ -164,9 +162,7 @@ fn texts_of<'a>(alloc: Global, found: &ArgMatches<'a>, id: &str) -> Result<Vec<&
     ensures refused { IfErr result (λ e. e ≡ WordsError.Memory) }
 {
     let mut texts = Vec::new(alloc);
-    let Some(all) = found.get_strs(id) else {
-        return Ok(texts);
-    };
+    let all = found.get_strs(id).unwrap_or(&[]);
     match texts.extend_from_slice(all) {
         Ok(()) => Ok(texts),
         Err(_) => Err(WordsError::Memory),
@@ -185,10 +181,7 @@ fn number_at(found: &ArgMatches<'_>, id: &str) -> Result<u64, WordsError>
     ensures stated { IfOk result (IsNumberAt id.now (rows_of (found_of found.now))) }
     ensures refused { IfErr result (Lacks (IsNumberAt id.now (rows_of (found_of found.now)))) }
 {
-    match number_if_at(found, id) {
-        Some(number) => Ok(number),
-        None => Err(WordsError::Form),
-    }
+    number_if_at(found, id).ok_or(WordsError::Form)
 }
 
 /// The tick of an argument, if it is there.
@@ -198,26 +191,19 @@ fn tick_if_at(found: &ArgMatches<'_>, id: &str) -> Option<u32>
     found.get_one::<u32>(id)
 }
 
-/// A copy of a word that is told of.
-fn copy_of(alloc: Global, word: &str) -> Result<String, WordsError>
-    ensures { IfErr result (λ e. e ≡ WordsError.Memory) }
-{
-    String::from_str(alloc, word).map_err(|_| WordsError::Memory)
-}
-
 /// The picture that an argument names.
 fn picture_at(alloc: Global, found: &ArgMatches<'_>, id: &str) -> Result<Picture, WordsError>
     ensures stated { IfOk result (IsPictureAt id.now (rows_of (found_of found.now))) }
     ensures refused { IfErr result (Lacks (IsPictureAt id.now (rows_of (found_of found.now)))) }
 {
-    let word = text_at(found, id)?;
-    if word == "suspicions" {
-        return Ok(Picture::Suspicions);
+    match text_at(found, id)? {
+        "suspicions" => Ok(Picture::Suspicions),
+        "letters" => Ok(Picture::Letters),
+        word => Err(String::from_str(alloc, word).map_or(
+            WordsError::Memory,
+            WordsError::NoPicture,
+        )),
     }
-    if word == "letters" {
-        return Ok(Picture::Letters);
-    }
-    Err(WordsError::NoPicture(copy_of(alloc, word)?))
 }
 
 /// What a row tells of, as an argument names it; a point where there is none.
@@ -225,14 +211,11 @@ fn each_at(alloc: Global, found: &ArgMatches<'_>, id: &str) -> Result<Each, Word
     ensures stated { IfOk result (IsEachAt id.now (rows_of (found_of found.now))) }
     ensures refused { IfErr result (Lacks (IsEachAt id.now (rows_of (found_of found.now)))) }
 {
-    let word = text_or(found, id, "point");
-    if word == "point" {
-        return Ok(Each::Point);
+    match text_or(found, id, "point") {
+        "point" => Ok(Each::Point),
+        "run" => Ok(Each::Run),
+        word => Err(String::from_str(alloc, word).map_or(WordsError::Memory, WordsError::NoEach)),
     }
-    if word == "run" {
-        return Ok(Each::Run);
-    }
-    Err(WordsError::NoEach(copy_of(alloc, word)?))
 }
 
 /// Which runs a study has.
@@ -391,22 +374,14 @@ fn read_matches<'a>(alloc: Global, matches: &ArgMatches<'a>) -> Result<Order<'a>
     }
 }
 
-/// Words as they are printed, each on one line.
-fn shown_words(alloc: Global, words: &[&str]) -> Result<Vec<String>, AllocError> {
-    let mut shown = Vec::new(alloc);
-    for word in words {
-        let word = Printable(word);
-        shown.push(format!(in alloc; "{word}")?)?;
-    }
-    Ok(shown)
-}
-
 /// What `clap` tells of words that it answers with this error. The words that it quotes are told without control
 /// characters: it reads them once more, as they are printed.
 fn text_of(alloc: Global, words: &[&str], error: &clap::Error) -> Result<String, AllocError> {
-    let shown = shown_words(alloc, words)?;
-    let again = command(alloc)?.try_get_matches_from(&shown);
-    match again {
+    let shown: Vec<String> = words
+        .iter()
+        .map(|word| Printable(word).to_string(alloc))
+        .try_collect(alloc)?;
+    match command(alloc)?.try_get_matches_from(&shown) {
         Ok(_) => error.to_string(alloc),
         Err(error) => error.to_string(alloc),
     }

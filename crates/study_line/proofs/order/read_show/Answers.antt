@@ -1,19 +1,19 @@
 use Rattle.std.proofs.Common.{rules, codes}
 use Rattle.clap.specs.Words.{found_of, rows_of}
 use Rattle.study_line.specs.Order.{IsNumberAt, StatesIn}
-use Rattle.study_line.proofs.Words.{lacks_part, show_has_point, show_has_run}
+use Rattle.study_line.proofs.Words.{lacks_part, show_has_numbers}
 use Rattle.study_line.proofs.order.read_show.Goals as goal
 
 pub returns-in_err-point-clause-refused : goal.returns-in_err-point-clause-refused
 returns-in_err-point-clause-refused c =
     let rows = rows_of (found_of c.args.found.now) in
-    let lacks = lacks_part (IsNumberAt (codes "point") rows) (StatesIn (codes "show") rows) (show_has_point rows)
+    let lacks = lacks_part (IsNumberAt (codes "point") rows) (StatesIn (codes "show") rows) (λ asked h. (show_has_numbers rows asked h).0)
     c.in_err-point.field-0.0 c.in_err-point.ensures.refused in
     search rules
 
 pub returns-in_err-run-clause-refused : goal.returns-in_err-run-clause-refused
 returns-in_err-run-clause-refused c =
     let rows = rows_of (found_of c.args.found.now) in
-    let lacks = lacks_part (IsNumberAt (codes "run") rows) (StatesIn (codes "show") rows) (show_has_run rows)
+    let lacks = lacks_part (IsNumberAt (codes "run") rows) (StatesIn (codes "show") rows) (λ asked h. (show_has_numbers rows asked h).1)
     c.in_err-run.field-0.0 c.in_err-run.ensures.refused in
     search rules
