@@ -1,12 +1,12 @@
 -- Combinations, counted and picked by their numbers.
-use Rattle.std.proofs.Common.{◌≡◌, ℕ, zero, suc, ◌+◌, ◌*◌, ◌/◌, ◌%◌, ◌≤◌, ◌<◌, min, List, [], ◌∷◌, ◌++◌, length, vec_len, length-append, map, get_or, drop, refl, sym, ◌∙◌, ap, inl, inr, arith}
+use Rattle.std.proofs.Common.{◌≡◌, ℕ, zero, suc, ◌+◌, ◌*◌, ◌/◌, ◌%◌, ◌≤◌, ◌<◌, min, List, [], ◌∷◌, ◌++◌, length, vec_len, length-append, map, get_or, take, drop, refl, sym, ◌∙◌, ap, inl, inr, arith}
 use Rattle.std.specs.Global.{Vec}
 use Rattle.std.specs.List.{All, flat_map}
-use Rattle.std.proofs.Math.Dec.{ltb}
 use Rattle.std.proofs.Math.Nat.{suc-mul, zero-mul, zero-add, one-le-mul, mul-div_cancel_left, div-lt_iff_lt-mul, mod-lt, mul_assoc, le-mul_of_pos_right, mul-le-mul_right}
-use Rattle.std.proofs.lemmas.Bool.{cases_Bool, ltb-true, ltb-false}
+use Rattle.std.proofs.lemmas.Bool.{cases_lt}
 use Rattle.std.proofs.lemmas.Nat.{div-add-mod'}
-use Rattle.std.proofs.lemmas.List.{length-map, get_or-map, get_or_append_left, get_or-append-add, drop_more, map-append}
+use Rattle.std.proofs.lemmas.List.{length-map, length-take-le, get_or-map, drop_more, map-append}
+use Rattle.std.proofs.lemmas.List.Concat.{get_or-flat_map}
 use Rattle.study.specs.Combinations.{combinations}
 use Rattle.study.specs.Settings.{Path, Given, Chosen, choices, path_of, settings_in, set_to}
 use Rattle.study.specs.Grid.{paths_of}
@@ -16,82 +16,106 @@ use Rattle.study.specs.declared.setting.Setting.{Setting}
 module _ {X Y : Type 0} (f : X → List Y) (n : ℕ) (wide : (x : X) → length (f x) ≡ n) where
   pub pieces_length : (xs : List X) → length (flat_map f xs) ≡ length xs * n
   pieces_length [] = sym (zero-mul n)
-  pieces_length (x ∷ xs) =
-      let here : length (f x) ≡ n = wide x in
-      let rest : length (flat_map f xs) ≡ length xs * n = pieces_length xs in
-      let more : suc (length xs) * n ≡ length xs * n + n = suc-mul (length xs) n in
-      let both : length (f x ++ flat_map f xs) ≡ length (f x) + length (flat_map f xs) = length-append (f x) (flat_map f xs) in
-      omega arith
+  pieces_length (x ∷ xs) = omega (arith, wide x, pieces_length xs, suc-mul (length xs) n, length-append (f x) (flat_map f xs))
 
   -- the r-th of the d-th piece
-  pub piece_at : (xs : List X) (d r : ℕ) (x : X) (y : Y) → d < length xs → r < n → get_or (flat_map f xs) (d * n + r) y ≡ get_or (f (get_or xs d x)) r y
-  piece_at [] d r x y within inside = absurd (omega arith)
-  piece_at (z ∷ xs) zero r x y within inside =
-      let width : length (f z) ≡ n = wide z in
-      let place : zero * n + r ≡ r = simp (zero-mul, zero-add) in
-      ap (λ i. get_or (f z ++ flat_map f xs) i y) place ∙ get_or_append_left (f z) (flat_map f xs) y r (omega arith)
-  piece_at (z ∷ xs) (suc d) r x y within inside =
-      let width : length (f z) ≡ n = wide z in
-      let more : suc d * n ≡ d * n + n = suc-mul d n in
-      let place : suc d * n + r ≡ length (f z) + (d * n + r) = omega arith in
-      ap (λ i. get_or (f z ++ flat_map f xs) i y) place
-      ∙ (get_or-append-add (f z) (flat_map f xs) (d * n + r) y ∙ piece_at xs d r x y (omega arith) inside)
+  pub piece_at : (xs : List X) (d r : ℕ) (x : X) (y : Y) → d < length xs → r < n
+      → get_or (flat_map f xs) (d * n + r) y ≡ get_or (f (get_or xs d x)) r y
+  piece_at xs d r x y within inside =
+      let before : length (flat_map f (take d xs)) ≡ d * n =
+      pieces_length (take d xs) ∙ ap (λ k. k * n) (length-take-le d xs (omega arith)) in
+      ap (λ k. get_or (flat_map f xs) (k + r) y) (sym before)
+      ∙ get_or-flat_map f xs d r x y within (omega (arith, wide (get_or xs d x)))
 
-module _ {X : Type 0} where
-  wide_at : (rest : List (List (List X))) (x : List X) → length (map (λ others. x ++ others) (combinations rest)) ≡ length (combinations rest)
-  wide_at rest x = length-map (combinations rest) (λ others. x ++ others)
+module _ {X : Type 0} (xs : List (List X)) (rest : List (List (List X))) where
+  abbrev with_first : List X → List (List X)
+  with_first x = map (λ others. x ++ others) (combinations rest)
+
+  wide : (x : List X) → length (with_first x) ≡ length (combinations rest)
+  wide x = length-map (combinations rest) (λ others. x ++ others)
 
   -- one more list
-  pub more_combinations : (xs : List (List X)) (rest : List (List (List X))) → length (combinations (xs ∷ rest)) ≡ length xs * length (combinations rest)
-  more_combinations xs rest = pieces_length (λ x. map (λ others. x ++ others) (combinations rest)) (length (combinations rest)) (wide_at rest) xs
+  more_combinations : length (combinations (xs ∷ rest)) ≡ length xs * length (combinations rest)
+  more_combinations = pieces_length with_first (length (combinations rest)) wide xs
 
   -- the combination of a number, by its first choice and the rest
-  pub combination_at : (xs : List (List X)) (rest : List (List (List X))) (d r : ℕ) (x : List X) → d < length xs → r < length (combinations rest)
+  combination_at : (d r : ℕ) (x : List X) → d < length xs → r < length (combinations rest)
       → get_or (combinations (xs ∷ rest)) (d * length (combinations rest) + r) [] ≡ get_or xs d x ++ get_or (combinations rest) r []
-  combination_at xs rest d r x within inside =
-      piece_at (λ y. map (λ others. y ++ others) (combinations rest)) (length (combinations rest)) (wide_at rest) xs d r x [] within inside
+  combination_at d r x within inside =
+      piece_at with_first (length (combinations rest)) wide xs d r x [] within inside
       ∙ get_or-map (λ others. get_or xs d x ++ others) (combinations rest) r [] [] inside
 
--- the combinations of the axes from one on
-pub combinations_from : (axes : List Axis) (i : ℕ) (a : Axis) → i < length axes → a ≡ get_or axes i a
-    → combinations (map choices (drop i axes)) ≡ combinations (choices a ∷ map choices (drop (i + 1) axes))
-combinations_from axes i a within is = ap (λ rest. combinations (map choices rest)) (drop_more axes i a within) ∙ ap (λ b. combinations (choices b ∷ map choices (drop (i + 1) axes))) (sym is)
+-- all combinations of the axes' choices
+abbrev pub ways : List Axis → List (List Chosen)
+ways axes = combinations (map choices axes)
 
 abbrev choice_of : Axis → Vec Setting → List Chosen
 choice_of a v = set_to (map path_of a.keys.items) (settings_in v)
 
-pub choices-length : (a : Axis) → length (choices a) ≡ vec_len a.values
+choices-length : (a : Axis) → length (choices a) ≡ vec_len a.values
 choices-length a = length-map a.values.items (choice_of a) ∙ sym a.values.ok.0
 
-pub length_from : (axes : List Axis) (i : ℕ) (a : Axis) → i < length axes → a ≡ get_or axes i a
-    → length (combinations (map choices (drop i axes))) ≡ vec_len a.values * length (combinations (map choices (drop (i + 1) axes)))
-length_from axes i a within is =
-    ap length (combinations_from axes i a within is)
-    ∙ (more_combinations (choices a) (map choices (drop (i + 1) axes)) ∙ ap (λ n. n * length (combinations (map choices (drop (i + 1) axes)))) (choices-length a))
+pub axis_some : (a : Axis) → 1 ≤ vec_len a.values
+axis_some a = omega (arith, a.some, a.values.ok.0)
 
-pub some_combinations : (axes : List Axis) → 1 ≤ length (combinations (map choices axes))
-some_combinations [] = omega arith
-some_combinations (a ∷ axes) =
-    let rest : 1 ≤ length (combinations (map choices axes)) = some_combinations axes in
-    let here : length (choices a) ≡ length a.values.items = length-map a.values.items (choice_of a) in
-    let more : length (combinations (choices a ∷ map choices axes)) ≡ length (choices a) * length (combinations (map choices axes)) = more_combinations (choices a) (map choices axes) in
-    let some : 1 ≤ length a.values.items = a.some in
-    let both : 1 ≤ length (choices a) * length (combinations (map choices axes)) = one-le-mul (omega arith) rest in
-    omega arith
+pub some_ways : (axes : List Axis) → 1 ≤ length (ways axes)
+some_ways [] = omega arith
+some_ways (a ∷ axes) =
+    let some : 1 ≤ length (choices a) = omega (arith, choices-length a, axis_some a) in
+    omega (arith, more_combinations (choices a) (map choices axes), one-le-mul some (some_ways axes))
+
+-- ---- the axes from one on
+
+module _ (axes : List Axis) (i : ℕ) (a : Axis) (within : i < length axes) (is : a ≡ get_or axes i a) where
+  from_one : drop i axes ≡ a ∷ drop (i + 1) axes
+  from_one = drop_more axes i a within ∙ ap (λ b. b ∷ drop (i + 1) axes) (sym is)
+
+  pub length_from : length (ways (drop i axes)) ≡ vec_len a.values * length (ways (drop (i + 1) axes))
+  length_from =
+      ap (λ xs. length (ways xs)) from_one
+      ∙ (more_combinations (choices a) (map choices (drop (i + 1) axes))
+      ∙ ap (λ n. n * length (ways (drop (i + 1) axes))) (choices-length a))
+
+  -- how many begin with one value of the axis
+  pub block_from : (alike n : ℕ) → n ≡ vec_len a.values → alike ≡ length (ways (drop i axes))
+      → alike / n ≡ length (ways (drop (i + 1) axes))
+  block_from alike n values all =
+      ap (λ k. k / n) (all ∙ length_from)
+      ∙ (ap (λ k. vec_len a.values * length (ways (drop (i + 1) axes)) / k) values
+      ∙ mul-div_cancel_left (length (ways (drop (i + 1) axes))) (omega (arith, axis_some a)))
+
+  pub place_within : (left : ℕ) → left < length (ways (drop i axes)) → left / length (ways (drop (i + 1) axes)) < vec_len a.values
+  place_within left inside =
+      let some : 0 < length (ways (drop (i + 1) axes)) = omega (arith, some_ways (drop (i + 1) axes)) in
+      (div-lt_iff_lt-mul {k = length (ways (drop (i + 1) axes))} {x = left} {y = vec_len a.values} some).1 (omega (arith, length_from))
+
+  -- one more choice is picked
+  pub picked_more : (left : ℕ) (v : Vec Setting) → left < length (ways (drop i axes))
+      → v ≡ get_or a.values.items (left / length (ways (drop (i + 1) axes))) v
+      → get_or (ways (drop i axes)) left []
+      ≡ choice_of a v ++ get_or (ways (drop (i + 1) axes)) (left % length (ways (drop (i + 1) axes))) []
+  picked_more left v inside read =
+      let n = length (ways (drop (i + 1) axes)) in
+      let place = place_within left inside in
+      ap (λ xs. get_or (ways xs) left []) from_one
+      ∙ (ap (λ k. get_or (ways (a ∷ drop (i + 1) axes)) k []) (sym (div-add-mod' left n))
+      ∙ (combination_at (choices a) (map choices (drop (i + 1) axes)) (left / n) (left % n) (choice_of a v)
+      (omega (arith, place, choices-length a)) (mod-lt left (omega (arith, some_ways (drop (i + 1) axes))))
+      ∙ ap (λ x. x ++ get_or (ways (drop (i + 1) axes)) (left % n) [])
+      (get_or-map (choice_of a) a.values.items (left / n) v (choice_of a v) (omega (arith, place, a.values.ok.0))
+      ∙ ap (choice_of a) (sym read))))
 
 -- ---- counts that stay at a greatest number
 
-pub capped : (m a b : ℕ) → 1 ≤ b → min (min a m * b) m ≡ min (a * b) m
-capped m a b some = elim (cases_Bool (ltb m a)) [
+capped : (m a b : ℕ) → 1 ≤ b → min (min a m * b) m ≡ min (a * b) m
+capped m a b some = elim (cases_lt m a) [
   | inl high ↦
-      let over : m < a = ltb-true m a high in
       let least : min a m ≡ m = omega arith in
       let left : m ≤ m * b = le-mul_of_pos_right m (omega arith) in
       let right : m * b ≤ a * b = mul-le-mul_right b (omega arith) in
       let both : min (m * b) m ≡ min (a * b) m = omega arith in
       ap (λ n. min (n * b) m) least ∙ both
   | inr low ↦
-      let below : a ≤ m = ltb-false m a low in
       let least : min a m ≡ a = omega arith in
       ap (λ n. min (n * b) m) least
 ]
@@ -101,43 +125,6 @@ pub counted : (m count n rest from whole : ℕ) → min (count * from) m ≡ who
     → min (min (count * n) m * rest) m ≡ whole
 counted m count n rest from whole is e some =
     capped m (count * n) rest some ∙ (ap (λ k. min k m) (mul_assoc count n rest ∙ ap (λ k. count * k) (sym e)) ∙ is)
-
-pub axis_some : (a : Axis) → 1 ≤ vec_len a.values
-axis_some a = let some : 1 ≤ length a.values.items = a.some in omega (arith, a.values.ok.0)
-
--- the block of combinations that begin with one value of an axis
-pub block_from : (axes : List Axis) (i : ℕ) (a : Axis) → i < length axes → a ≡ get_or axes i a
-    → length (combinations (map choices (drop i axes))) / vec_len a.values ≡ length (combinations (map choices (drop (i + 1) axes)))
-block_from axes i a within is =
-    ap (λ n. n / vec_len a.values) (length_from axes i a within is)
-    ∙ mul-div_cancel_left (length (combinations (map choices (drop (i + 1) axes)))) (let some : 1 ≤ vec_len a.values = axis_some a in omega arith)
-
-pub place_within : (axes : List Axis) (i left : ℕ) (a : Axis) → i < length axes → a ≡ get_or axes i a
-    → left < length (combinations (map choices (drop i axes))) → left / length (combinations (map choices (drop (i + 1) axes))) < vec_len a.values
-place_within axes i left a within is inside =
-    let rest : 1 ≤ length (combinations (map choices (drop (i + 1) axes))) = some_combinations (drop (i + 1) axes) in
-    let from : length (combinations (map choices (drop i axes))) ≡ vec_len a.values * length (combinations (map choices (drop (i + 1) axes))) = length_from axes i a within is in
-    (div-lt_iff_lt-mul {k = length (combinations (map choices (drop (i + 1) axes)))} {x = left} {y = vec_len a.values} (omega arith)).1 (omega arith)
-
--- one more choice is picked
-pub picked_more : (axes : List Axis) (i left : ℕ) (a : Axis) (v : Vec Setting) → i < length axes → a ≡ get_or axes i a
-    → left < length (combinations (map choices (drop i axes)))
-    → v ≡ get_or a.values.items (left / length (combinations (map choices (drop (i + 1) axes)))) v
-    → get_or (combinations (map choices (drop i axes))) left []
-    ≡ set_to (map path_of a.keys.items) (settings_in v) ++ get_or (combinations (map choices (drop (i + 1) axes))) (left % length (combinations (map choices (drop (i + 1) axes)))) []
-picked_more axes i left a v within is inside read =
-    let rest : 1 ≤ length (combinations (map choices (drop (i + 1) axes))) = some_combinations (drop (i + 1) axes) in
-    let place : left / length (combinations (map choices (drop (i + 1) axes))) < vec_len a.values = place_within axes i left a within is inside in
-    let whole : left / length (combinations (map choices (drop (i + 1) axes))) * length (combinations (map choices (drop (i + 1) axes))) + left % length (combinations (map choices (drop (i + 1) axes))) ≡ left = div-add-mod' left (length (combinations (map choices (drop (i + 1) axes)))) in
-    let in_list : left / length (combinations (map choices (drop (i + 1) axes))) < length a.values.items = omega (arith, a.values.ok.0) in
-    let in_choices : left / length (combinations (map choices (drop (i + 1) axes))) < length (choices a) = omega (arith, choices-length a) in
-    let after : left % length (combinations (map choices (drop (i + 1) axes))) < length (combinations (map choices (drop (i + 1) axes))) = mod-lt left (omega arith) in
-    ap (λ cs. get_or cs left []) (combinations_from axes i a within is)
-    ∙ (ap (λ k. get_or (combinations (choices a ∷ map choices (drop (i + 1) axes))) k []) (sym whole)
-    ∙ (combination_at (choices a) (map choices (drop (i + 1) axes)) (left / length (combinations (map choices (drop (i + 1) axes)))) (left % length (combinations (map choices (drop (i + 1) axes)))) (choice_of a v) in_choices after
-    ∙ ap (λ x. x ++ get_or (combinations (map choices (drop (i + 1) axes))) (left % length (combinations (map choices (drop (i + 1) axes)))) [])
-    (get_or-map (choice_of a) a.values.items (left / length (combinations (map choices (drop (i + 1) axes)))) v (choice_of a v) in_list
-    ∙ ap (choice_of a) (sym read))))
 
 -- ---- keys with their settings
 
@@ -160,17 +147,15 @@ first_paths ps n (v ∷ vs) long some matched =
     let same : length (settings_in v) ≡ length v.items = length-map v.items _ in
     paths_set ps (settings_in v) (omega arith)
 
-pub first_keys : (axes : List Axis) → map (λ c. c.path) (get_or (combinations (map choices axes)) 0 []) ≡ paths_of axes
+pub first_keys : (axes : List Axis) → map (λ c. c.path) (get_or (ways axes) 0 []) ≡ paths_of axes
 first_keys [] = refl
 first_keys (a ∷ axes) =
-    let some : 1 ≤ length (combinations (map choices axes)) = some_combinations axes in
-    let here : 1 ≤ vec_len a.values = axis_some a in
-    let within : 0 < length (choices a) = omega (arith, choices-length a) in
-    let at = combination_at (choices a) (map choices axes) 0 0 [] within some in
-    let place : 0 ≡ 0 * length (combinations (map choices axes)) + 0 = simp (zero-mul, zero-add) in
-    ap (λ k. map (λ c. c.path) (get_or (combinations (choices a ∷ map choices axes)) k [])) place
+    let within : 0 < length (choices a) = omega (arith, choices-length a, axis_some a) in
+    let at = combination_at (choices a) (map choices axes) 0 0 [] within (some_ways axes) in
+    let place : 0 ≡ 0 * length (ways axes) + 0 = simp (zero-mul, zero-add) in
+    ap (λ k. map (λ c. c.path) (get_or (ways (a ∷ axes)) k [])) place
     ∙ (ap (λ cs. map (λ c. c.path) cs) at
-    ∙ (map-append (λ c. c.path) (get_or (choices a) 0 []) (get_or (combinations (map choices axes)) 0 [])
-    ∙ (ap (λ ps. ps ++ map (λ c. c.path) (get_or (combinations (map choices axes)) 0 []))
+    ∙ (map-append (λ c. c.path) (get_or (choices a) 0 []) (get_or (ways axes) 0 [])
+    ∙ (ap (λ ps. ps ++ map (λ c. c.path) (get_or (ways axes) 0 []))
     (first_paths (map path_of a.keys.items) (length a.keys.items) a.values.items (length-map a.keys.items path_of) a.some a.matched)
     ∙ ap (λ ps. map path_of a.keys.items ++ ps) (first_keys axes))))

@@ -97,22 +97,10 @@ module _ (k : List ℕ) (d : Data) where
       ∙ (ap (λ r. after done (then r (λ n. then rest (λ es. Ok (item (table (put k d n)) es))))) (sym there)
       ∙ (ap (after done) (sym (each_from vs i v within is)) ∙ so_far))
 
-  pub put_fails : (vs : List Value) (i : ℕ) (v : Value) (done : List Value) (e : PlaceError) (all : Result Items PlaceError)
-      → i < length vs → v ≡ get_or vs i v → table_of (view v) ≡ Err e
-      → after done (put_in_each k d (items_view (drop i vs))) ≡ all → all ≡ Err e
-  put_fails vs i v done e all within is fault so_far =
-      let rest : Result Items PlaceError = put_in_each k d (items_view (drop (i + 1) vs)) in
-      sym so_far
-      ∙ (ap (after done) (each_from vs i v within is) ∙ ap (λ r. after done (then r (λ n. then rest (λ es. Ok (item (table (put k d n)) es))))) fault)
-
   pub put_all : (vs : List Value) (i : ℕ) (done : List Value) (all : Result Items PlaceError) → length vs ≤ i
       → after done (put_in_each k d (items_view (drop i vs))) ≡ all → all ≡ Ok (items_view done)
   put_all vs i done all past so_far =
       sym so_far ∙ (ap (λ rest. after done (put_in_each k d (items_view rest))) (drop_of_length-le vs past) ∙ ap Ok (prepend_all done))
-
-  pub none_in_all : (vs : List Value) → length vs ≡ 0 → put_in_all k d (items_view vs) ≡ Err error.NoElement
-  none_in_all [] none = refl
-  none_in_all (v ∷ vs) none = absurd (omega arith)
 
   pub some_in_all : (vs : List Value) → 1 ≤ length vs → put_in_all k d (items_view vs) ≡ put_in_each k d (items_view vs)
   some_in_all [] some = absurd (omega arith)

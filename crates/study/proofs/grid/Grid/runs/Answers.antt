@@ -1,6 +1,6 @@
 use Rattle.std.proofs.Common.{◌∙◌, ap, sym, subst, ℕ, ◌*◌, ◌≤◌, map, length}
 use Rattle.std.proofs.Math.Nat.{one-le-mul}
-use Rattle.study.proofs.Combos.{some_combinations}
+use Rattle.study.proofs.Combos.{some_ways}
 use Rattle.study.specs.Settings.{choices}
 use Rattle.study.specs.Grid.{GridRecord, runs}
 use Rattle.study.proofs.Points.{runs_length}
@@ -15,4 +15,4 @@ returns-clause-value c =
 pub returns-clause-low : goal.returns-clause-low
 returns-clause-low c =
     let P : ℕ → Type 0 = λ n. 1 ≤ n in
-    one-le-mul (subst P (sym c.self.invariant.mixes) (some_combinations c.self.inside.over.items)) c.self.invariant.seeds_low
+    one-le-mul (subst P (sym c.self.invariant.mixes) (some_ways c.self.inside.over.items)) c.self.invariant.seeds_low
