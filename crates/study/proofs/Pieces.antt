@@ -1,20 +1,58 @@
--- What words say of an axis' values, one after the other.
-use Rattle.std.proofs.Common.{◌≡◌, ℕ, suc, ◌+◌, ◌-◌, ◌≤◌, ◌<◌, List, [], ◌∷◌, ◌++◌, append_assoc, map, length, length-append, get_or, drop, Bor, Bool, true, false, ◌==◌, nat_lt, Option, Some, None, Result, Ok, Err, OnOk, IfOk, IfErr, if◌then◌else◌, refl, sym, ◌∙◌, ap, subst, arith}
+-- What words say of a range, and of an axis' values, one after the other.
+use Rattle.std.proofs.Common.{◌≡◌, ℕ, ◌+◌, ◌-◌, ◌≤◌, ◌<◌, List, [], ◌∷◌, ◌++◌, append_assoc, map, length, length-append, get_or, drop, Bor, Bool, true, false, ◌==◌, nat_lt, Option, Some, None, if◌then◌else◌, refl, sym, ◌∙◌, ap, subst, arith, ◌*◌, ◌/◌, ℤ, pos, ◌≤ℤ◌, ◌-ℤ◌, ◌&&◌}
 use Rattle.std.proofs.Math.Dec.{ltb}
-use Rattle.std.proofs.lemmas.Bool.{le-ltb, lt-ltb, ltb-false, eqb-true, eq-eqb}
+use Rattle.std.proofs.lemmas.Bool.{le-ltb, lt-ltb, ltb-false, eqb-true}
 use Rattle.std.proofs.lemmas.List.{length-map, get_or-map, at_drop_more, at_drop_all, map_push, append-nil}
 use Rattle.std.proofs.lemmas.List.Elements.{All-nil, All-cons, All-append, All-map}
 use Rattle.std.proofs.lemmas.Option.{none-some}
 use Rattle.std.proofs.lemmas.List.FromFn.{length-map-range_with_len, map-range_with_len_more}
 use Rattle.std.specs.Global.{Vec}
 use Rattle.std.specs.List.{All, flat_map, range_with_len}
-use Rattle.std.specs.Option.{option_or}
+use Rattle.std.specs.Option.{option_or, option_and_then}
 use Rattle.study.specs.Settings.{Given, number, given_by, settings_in}
 use Rattle.study.specs.declared.setting.Setting.{Setting}
-use Rattle.study.specs.Words.{Word, between}
-use Rattle.study.specs.AxisWords.{RangeRecord, range_fault, steps, number_after, Piece, one, range, word, piece_said, values, part_fault, parts_fault, Entry, single, tied, entry_said, entries_said, rows, entry_fault, fault_within, first_fault, Adds, is_memory}
+use Rattle.study.specs.Words.{Word, between, is_integer, integer, bounds}
+use Rattle.study.specs.AxisWords.{RangeRecord, range_fault, steps, number_after, Piece, range, piece_said, values, part_fault, parts_fault, Entry, single, tied, entry_said, entries_said, rows, entry_fault, fault_within, first_fault, Adds, high_word, step_word, range_between, range_said}
 use Rattle.study.specs.declared.error.AxisError.{AxisError}
 use Rattle.study.specs.declared.error.AxisError.TheVariants as error
+use Rattle.std.proofs.Math.Nat.{mul-le-mul_left, div-mul-le_self}
+use Rattle.std.proofs.lemmas.Int.{ints}
+use Rattle.std.specs.Int.RustNames.{unsigned_abs}
+
+-- ---- words of a range
+
+abbrev made : Word → Word → Word → Option RangeRecord
+made low high step = if is_integer low && (is_integer high && is_integer step) then Some (record { low = integer low; high = integer high; step = integer step }) else None
+
+said_made : (w low rest high step : Word) → Some (low, rest) ≡ bounds w → high ≡ high_word rest → step ≡ step_word rest → range_said w ≡ made low high step
+said_made w low rest high step e same_high same_step =
+    ap (λ b. option_and_then range_between b) (sym e)
+    ∙ (ap (λ h. made low h (step_word rest)) (sym same_high) ∙ ap (λ s. made low high s) (sym same_step))
+
+pub range_found : (w low rest high step : Word) → Some (low, rest) ≡ bounds w → high ≡ high_word rest → step ≡ step_word rest
+    → (is_integer low && (is_integer high && is_integer step)) ≡ true → range_said w ≡ Some (record { low = integer low; high = integer high; step = integer step })
+range_found w low rest high step e same_high same_step all =
+    let there : Option RangeRecord = Some (record { low = integer low; high = integer high; step = integer step }) in
+    said_made w low rest high step e same_high same_step ∙ ap (λ b. if b then there else None) all
+
+pub range_missing : (w low rest high step : Word) → Some (low, rest) ≡ bounds w → high ≡ high_word rest → step ≡ step_word rest
+    → (is_integer low && (is_integer high && is_integer step)) ≡ false → range_said w ≡ None
+range_missing w low rest high step e same_high same_step some =
+    let there : Option RangeRecord = Some (record { low = integer low; high = integer high; step = integer step }) in
+    said_made w low rest high step e same_high same_step ∙ ap (λ b. if b then there else None) some
+
+-- ---- numbers of a range
+
+pub reached : (low high step : ℤ) (k : ℕ) → pos 1 ≤ℤ step → low ≤ℤ high → k ≤ unsigned_abs (high -ℤ low) / unsigned_abs step
+    → pos (k * unsigned_abs step) ≤ℤ (high -ℤ low)
+reached low high step k rises some within =
+    let s : ℕ = unsigned_abs step in
+    let d : ℕ = unsigned_abs (high -ℤ low) in
+    let span : pos d ≡ high -ℤ low = omega (arith, ints) in
+    let up : s * k ≤ s * (d / s) = mul-le-mul_left s within in
+    let down : d / s * s ≤ d = div-mul-le_self d s in
+    let all : k * s ≤ d = omega arith in
+    omega (arith, ints)
 
 -- ---- why an entry is refused
 

@@ -105,6 +105,7 @@ pub(crate) fn count_points(vary: &[Axis]) -> Result<u64, GridError>
 }
 
 /// How many combinations are dealt to so many seeds.
+#[tactic(auto, using(crate::proofs::Points::uneven_deal))]
 pub(crate) fn count_deals(deal: &[Axis], seeds: u64) -> Result<u64, GridError>
     requires some { 1 ≤ seeds }
     requires high { seeds ≤ 2 ^ 63 }

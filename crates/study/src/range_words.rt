@@ -26,6 +26,7 @@ fn are_integers(low: &str, high: &str, step: &str) -> bool
 }
 
 /// The words of a range: `A..=B` or `A..=B:STEP`.
+#[tactic(auto, using(crate::proofs::Pieces::range_found, crate::proofs::Pieces::range_missing))]
 pub(crate) fn range_words(word: &str) -> Option<RangeWords<'_>>
     ensures { MatchOption result (range_said word.now ≡ None) (λ r. range_said word.now ≡ Some (range_by r)) }
 {

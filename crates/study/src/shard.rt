@@ -71,6 +71,7 @@ impl Shard {
 
 /// The blocks of a number of shards, one after the other, are all points, each once and in order; and no block has two
 /// points more than another.
+#[tactic(auto, using(crate::proofs::Blocks::all_blocks, crate::proofs::Blocks::even_blocks))]
 pub fn law_shards(shards: u32)
     requires { 1 ≤ shards }
     ensures whole { AreAll shards }

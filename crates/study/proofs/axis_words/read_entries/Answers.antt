@@ -1,4 +1,4 @@
-use Rattle.std.proofs.Common.{◌≡◌, [], List, ℕ, Bor, Some, false, map, length, arith}
+use Rattle.std.proofs.Common.{[], List, ℕ, Bor, map, arith}
 use Rattle.std.proofs.lemmas.List.{length-map}
 use Rattle.study.specs.Settings.{settings_in}
 use Rattle.study.specs.AxisWords.{IsFault, first_fault, entries_said}

@@ -1,8 +1,7 @@
 use Rattle.std.proofs.Common.{◌≡◌, [], ◌∷◌, ◌++◌, List, ℕ, Bor, ap, false, map, length, length-append, arith, rules}
-use Rattle.study.proofs.KeyNames.{carried}
+use Rattle.study.proofs.KeyNames.{carried, key_more, key_fails}
 use Rattle.study.specs.Settings.{path_of}
 use Rattle.study.specs.KeyWords.{SayNoKeys, is_memory}
-use Rattle.study.proofs.KeyRows.{key_more, key_fails}
 use Rattle.study.proofs.axis_words.read_key_words.Goals as goal
 
 abbrev nothing : Bor (List ℕ)

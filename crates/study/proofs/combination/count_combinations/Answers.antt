@@ -1,6 +1,6 @@
 use Rattle.std.proofs.Common.{◌≡◌, ◌∙◌, ap, sym, ◌+◌, ◌*◌, ◌-◌, ◌^◌, ◌≤◌, min, length, drop, arith}
 use Rattle.std.proofs.Math.Nat.{one-le-mul}
-use Rattle.study.proofs.Combos.{ways, length_from, axis_some, some_ways, counted}
+use Rattle.study.proofs.Points.{ways, length_from, axis_some, some_ways, counted}
 use Rattle.study.proofs.combination.count_combinations.Goals as goal
 
 pub loop-axis-preserved : goal.loop-axis-preserved

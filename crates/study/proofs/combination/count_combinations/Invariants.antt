@@ -1,5 +1,5 @@
 use Rattle.std.proofs.Common.{◌≡◌, ◌*◌, ◌-◌, ◌^◌, ◌≤◌, min, length, drop}
-use Rattle.study.proofs.Combos.{ways}
+use Rattle.study.proofs.Points.{ways}
 use Rattle.study.proofs.combination.count_combinations.Given as goal
 
 abbrev pub invariant-loop-axis : goal.invariant-loop-axis

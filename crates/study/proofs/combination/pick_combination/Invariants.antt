@@ -1,6 +1,6 @@
 use Rattle.std.proofs.Common.{◌≡◌, ◌<◌, ◌++◌, [], length, map, drop, get_or}
 use Rattle.study.specs.Settings.{chosen}
-use Rattle.study.proofs.Combos.{ways}
+use Rattle.study.proofs.Points.{ways}
 use Rattle.study.proofs.combination.pick_combination.Given as goal
 
 abbrev pub invariant-loop-axis : goal.invariant-loop-axis

@@ -2,7 +2,7 @@ use Rattle.std.proofs.Common.{◌≡◌, ◌++◌, [], map, drop, length, min, s
 use Rattle.std.proofs.lemmas.List.{length-map, append-nil}
 use Rattle.std.proofs.lemmas.Slice.Zip.{zip_end}
 use Rattle.study.specs.Settings.{chosen, path_of, given_by, set_to}
-use Rattle.study.proofs.Combos.{none_set}
+use Rattle.study.proofs.Points.{none_set}
 use Rattle.study.proofs.combination.push_choices.Goals as goal
 
 pub returns : goal.returns

@@ -1,9 +1,8 @@
 use Rattle.std.proofs.Common.{◌∙◌, ap, sym, subst, ℕ, ◌*◌, ◌≤◌, map, length}
 use Rattle.std.proofs.Math.Nat.{one-le-mul}
-use Rattle.study.proofs.Combos.{some_ways}
+use Rattle.study.proofs.Points.{some_ways, runs_length}
 use Rattle.study.specs.Settings.{choices}
 use Rattle.study.specs.Grid.{GridRecord, runs}
-use Rattle.study.proofs.Points.{runs_length}
 use Rattle.study.proofs.grid.Grid.runs.Goals as goal
 
 pub returns-clause-value : goal.returns-clause-value
