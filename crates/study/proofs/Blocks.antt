@@ -60,7 +60,8 @@ blocks_from : (points : List ℕ) (of a m : ℕ) → 0 < of
     → flat_map (λ number. block points (record { number = number; of = of })) (range_with_len (a + 1) m)
     ≡ drop (before (length points) a of) (take (before (length points) (a + m) of) points)
 blocks_from points of a zero some =
-    let same : before (length points) (a + 0) of ≡ before (length points) a of = ap (λ k. before (length points) k of) (omega arith) in
+    let same : before (length points) (a + 0) of ≡ before (length points) a of =
+    ap (λ k. before (length points) k of) (omega arith) in
     sym (drop_all (before (length points) a of) (take (before (length points) (a + 0) of) points)
     (omega (arith, length-take (before (length points) (a + 0) of) points)))
 blocks_from points of a (suc m) some =

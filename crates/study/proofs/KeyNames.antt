@@ -55,8 +55,10 @@ decimal_place : (n : ℕ) → 1 ≤ n → n < 2 ^ 64 → is_place (decimal n) �
 decimal_place n low small =
     let first : 48 < get_or (decimal n) 0 0 = first_decimal n (omega arith) small in
     let some : 0 < length (decimal n) = decimal_nonempty n small in
-    and_from (not (get_or (decimal n) 0 0 == 48)) (is_natural (decimal n)) (ap not (ne_eqb (get_or (decimal n) 0 0) 48 (omega arith)))
-    (and_from (not (length (decimal n) == 0)) (list_all is_ascii_digit (decimal n)) (ap not (ne_eqb (length (decimal n)) 0 (omega arith)))
+    and_from (not (get_or (decimal n) 0 0 == 48)) (is_natural (decimal n))
+    (ap not (ne_eqb (get_or (decimal n) 0 0) 48 (omega arith)))
+    (and_from (not (length (decimal n) == 0)) (list_all is_ascii_digit (decimal n))
+    (ap not (ne_eqb (length (decimal n)) 0 (omega arith)))
     (digits_decimal own n small))
 
 -- no place stands before a closing bracket
@@ -100,23 +102,29 @@ joined : (v w : Word) → Lacks 46 v → Lacks 46 w → Lacks 46 (v ++ w)
 joined = All-append (λ b. b ≢ 46)
 
 -- a word that a key is written as, split at its first dot
-split_named : (w : Word) (p : Path) (r : Option (Bor (List ℕ) × Bor (List ℕ))) → IsSplitOnceResult 46 w r → HasNames p → w ≡ key_text p
+split_named : (w : Word) (p : Path) (r : Option (Bor (List ℕ) × Bor (List ℕ))) → IsSplitOnceResult 46 w r → HasNames p
+    → w ≡ key_text p
     → MatchOption r (is_name w ≡ true) (λ x. IsOwner x.0.now × (is_name x.1.now ≡ true))
 split_named w (top k) None split names e = ap is_name e ∙ names
 split_named w (top k) (Some x) split names e =
-    absurd (found 46 w x.0.now x.1.now (subst (Lacks 46) (sym e) (name_lacks 46 refl k names)) (split_parts 46 w (Some x) split (lit< tt)).0)
+    absurd (found 46 w x.0.now x.1.now (subst (Lacks 46) (sym e) (name_lacks 46 refl k names))
+    (split_parts 46 w (Some x) split (lit< tt)).0)
 split_named w (inner t k) r split names e =
-    at_some (is_name w ≡ true) r (split_after 46 w t k r split (lit< tt) (e ∙ append_assoc t (codes ".") k) (λ i. name_lacks 46 refl t names.0 i 0))
+    at_some (is_name w ≡ true) r (split_after 46 w t k r split (lit< tt) (e ∙ append_assoc t (codes ".") k)
+    (λ i. name_lacks 46 refl t names.0 i 0))
     (λ x h. (of_table (ap is_name h.0 ∙ names.0), ap is_name h.1 ∙ names.1))
 split_named w (element a i k) r split names e =
     let lacks = joined a (91 ∷ (decimal i ++ codes "]")) (name_lacks 46 refl a names.0)
     (joined (91 ∷ []) (decimal i ++ codes "]") (no_dot (91 ∷ []) refl)
-    (joined (decimal i) (codes "]") (lacks_from is_ascii_digit 46 refl (decimal i) (digits_decimal own i names.2)) (no_dot (codes "]") refl))) in
-    at_some (is_name w ≡ true) r (split_after 46 w (a ++ (91 ∷ (decimal i ++ codes "]"))) k r split (lit< tt) (e ∙ element_split a (decimal i) k) (λ i. lacks i 0))
+    (joined (decimal i) (codes "]") (lacks_from is_ascii_digit 46 refl (decimal i) (digits_decimal own i names.2))
+    (no_dot (codes "]") refl))) in
+    at_some (is_name w ≡ true) r (split_after 46 w (a ++ (91 ∷ (decimal i ++ codes "]"))) k r split (lit< tt)
+    (e ∙ element_split a (decimal i) k) (λ i. lacks i 0))
     (λ x h. (of_element a i names.0 names.1 names.2 h.0, ap is_name h.1 ∙ names.3))
 split_named w (every a k) r split names e =
     let lacks = joined a (91 ∷ codes "*]") (name_lacks 46 refl a names.0) (no_dot (91 ∷ codes "*]") refl) in
-    at_some (is_name w ≡ true) r (split_after 46 w (a ++ (91 ∷ codes "*]")) k r split (lit< tt) (e ∙ every_split a k) (λ i. lacks i 0))
+    at_some (is_name w ≡ true) r (split_after 46 w (a ++ (91 ∷ codes "*]")) k r split (lit< tt) (e ∙ every_split a k)
+    (λ i. lacks i 0))
     (λ x h. (of_every a names.0 h.0, ap is_name h.1 ∙ names.1))
 
 -- what may stand after an array's bracket
@@ -130,7 +138,8 @@ split_owner w None split (of_table name) = name
 split_owner w (Some x) split (of_table name) =
     absurd (found 91 w x.0.now x.1.now (name_lacks 91 refl w name) (split_parts 91 w (Some x) split (lit< tt)).0)
 split_owner w r split (of_element a i name low small e) =
-    at_some (is_name w ≡ true) r (split_after 91 w a (decimal i ++ codes "]") r split (lit< tt) e (λ k. name_lacks 91 refl a name k 0))
+    at_some (is_name w ≡ true) r (split_after 91 w a (decimal i ++ codes "]") r split (lit< tt) e
+    (λ k. name_lacks 91 refl a name k 0))
     (λ x h. (ap is_name h.0 ∙ name, inl (i, low, small, h.1)))
 split_owner w r split (of_every a name e) =
     at_some (is_name w ≡ true) r (split_after 91 w a (codes "*]") r split (lit< tt) e (λ k. name_lacks 91 refl a name k 0))
@@ -156,7 +165,8 @@ module _ (w : Word) (array place : Bor (List ℕ)) (split : IsSplitOnceResult 91
   ]
 
 -- a word that is refused as no key says none
-no_key : (w : Word) (e : KeyError) → (is_memory e ≡ false → (e ≡ error.NoKey) × ((p : Path) → HasNames p → w ≢ key_text p)) → SaysNoKey w e
+no_key : (w : Word) (e : KeyError)
+    → (is_memory e ≡ false → (e ≡ error.NoKey) × ((p : Path) → HasNames p → w ≢ key_text p)) → SaysNoKey w e
 no_key w (error.Memory m) refused = tt
 no_key w error.NoKey refused = (refused refl).1
 no_key w error.Seed refused = absurd (let both : error.Seed ≡ error.NoKey = (refused refl).0 in cc)
@@ -170,8 +180,11 @@ pub owned_refused : {A : Type 0} (w : Word) (owner key : Bor (List ℕ)) (r : Re
     → IsSplitOnceResult 46 w (Some (owner, key))
     → IfErr r (λ e. is_memory e ≡ false → (e ≡ error.NoKey) × (IsOwner owner.now → is_name key.now ≡ false)) → IfErr r (SaysNoKey w)
 owned_refused w owner key (Ok k) split refused = tt
-owned_refused w owner key (Err e) split refused = no_key w e (λ other. let none = refused other in
-    (none.0, λ p names is. let parts = split_named w p (Some (owner, key)) split names is in false≢true (sym (none.1 parts.0) ∙ parts.1)))
+owned_refused w owner key (Err e) split refused = no_key w e (λ other. let none = refused other in (
+  none.0,
+  λ p names is. let parts = split_named w p (Some (owner, key)) split names is in
+      false≢true (sym (none.1 parts.0) ∙ parts.1),
+))
 
 pub every_written : (owner key array place a k : Word) → owner ≡ array ++ (91 ∷ place) → place ≡ codes "*]" → a ≡ array → k ≡ key
     → owner ++ (46 ∷ key) ≡ a ++ codes "[*]." ++ k

@@ -74,7 +74,8 @@ minus_read n A B r a b h =
     (λ none. elim (cases_lt (2 ^ 63) n) [ inl below ↦ fits_below n below | inr above ↦ absurd (none (a, b, above)) ])
     (λ holds. (fits_minus n holds.2, refl))
 
-pub integer_read : {E : Type 0} (r : Result ℤ E) (w : Word) → ParsesSigned w64 10 w r → is_integer w ≡ true → IsRead r (integer w)
+pub integer_read : {E : Type 0} (r : Result ℤ E) (w : Word) → ParsesSigned w64 10 w r → is_integer w ≡ true
+    → MatchOption (result_ok r) (fits (integer w) ≡ false) (λ z. (fits z ≡ true) × (z ≡ integer w))
 integer_read {E} r w h is = split (starts_with_minus w) refl
   where
     split : (b : Bool) → starts_with_minus w ≡ b → IsRead r (integer w)
@@ -89,4 +90,5 @@ integer_read {E} r w h is = split (starts_with_minus w) refl
         let digits : is_natural w ≡ true = ap (λ b. is_natural (drop (cond b 1 0) w)) (sym plain) ∙ is in
         let number : integer w ≡ pos (natural w) = ap (λ b. cond b (neg_ℤ (pos (natural (drop 1 w)))) (pos (natural w))) plain in
         subst (IsRead r) (sym number)
-        (plain_read (natural w) (0 < length w) r (natural_some w digits) (parse_signed_digits own w64 w r h (natural_digits w digits)))
+        (plain_read (natural w) (0 < length w) r (natural_some w digits)
+        (parse_signed_digits own w64 w r h (natural_digits w digits)))

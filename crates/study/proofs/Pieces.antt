@@ -21,25 +21,16 @@ use Rattle.std.specs.Int.RustNames.{unsigned_abs}
 
 -- ---- words of a range
 
-abbrev made : Word → Word → Word → Option RangeRecord
-made low high step = if is_integer low && (is_integer high && is_integer step) then Some (record { low = integer low; high = integer high; step = integer step }) else None
+abbrev pub made : Word → Word → Word → Option RangeRecord
+made low high step =
+    if is_integer low && (is_integer high && is_integer step)
+    then Some (record { low = integer low; high = integer high; step = integer step }) else None
 
-said_made : (w low rest high step : Word) → Some (low, rest) ≡ bounds w → high ≡ high_word rest → step ≡ step_word rest → range_said w ≡ made low high step
+pub said_made : (w low rest high step : Word) → Some (low, rest) ≡ bounds w → high ≡ high_word rest
+    → step ≡ step_word rest → range_said w ≡ made low high step
 said_made w low rest high step e same_high same_step =
     ap (λ b. option_and_then range_between b) (sym e)
     ∙ (ap (λ h. made low h (step_word rest)) (sym same_high) ∙ ap (λ s. made low high s) (sym same_step))
-
-pub range_found : (w low rest high step : Word) → Some (low, rest) ≡ bounds w → high ≡ high_word rest → step ≡ step_word rest
-    → (is_integer low && (is_integer high && is_integer step)) ≡ true → range_said w ≡ Some (record { low = integer low; high = integer high; step = integer step })
-range_found w low rest high step e same_high same_step all =
-    let there : Option RangeRecord = Some (record { low = integer low; high = integer high; step = integer step }) in
-    said_made w low rest high step e same_high same_step ∙ ap (λ b. if b then there else None) all
-
-pub range_missing : (w low rest high step : Word) → Some (low, rest) ≡ bounds w → high ≡ high_word rest → step ≡ step_word rest
-    → (is_integer low && (is_integer high && is_integer step)) ≡ false → range_said w ≡ None
-range_missing w low rest high step e same_high same_step some =
-    let there : Option RangeRecord = Some (record { low = integer low; high = integer high; step = integer step }) in
-    said_made w low rest high step e same_high same_step ∙ ap (λ b. if b then there else None) some
 
 -- ---- numbers of a range
 
@@ -101,7 +92,9 @@ none_room false none = refl
 none_room true none = absurd (none-some error.TooManyValues (sym none))
 
 within_room : (room : ℕ) (e : Entry) → fault_within room e ≡ None → length (rows e) ≤ room
-within_room room e none = ltb-false room (length (rows e)) (none_room (ltb room (length (rows e))) (or_none (entry_fault e) (if nat_lt room (length (rows e)) then Some error.TooManyValues else None) none).1)
+within_room room e none =
+    ltb-false room (length (rows e)) (none_room (ltb room (length (rows e)))
+    (or_none (entry_fault e) (if nat_lt room (length (rows e)) then Some error.TooManyValues else None) none).1)
 
 some_row : (e : Entry) → 1 ≤ length (rows e)
 some_row (single (range r)) = omega (arith, range_length r)
@@ -187,7 +180,8 @@ module _ (keys : ℕ) where
   entry_fits p ps true is fine = All-map Fits (λ v. v ∷ []) (values p) (λ k d within. sym (eqb-true keys 1 is))
   entry_fits p ps false is fine = tied_fit ps (length ps == keys) refl fine
 
-  rows_fit : (ws : List Word) (room : ℕ) → first_fault room (entries_said keys ws) ≡ None → All Fits (flat_map rows (entries_said keys ws))
+  rows_fit : (ws : List Word) (room : ℕ) → first_fault room (entries_said keys ws) ≡ None
+      → All Fits (flat_map rows (entries_said keys ws))
   unfolding first_fault
   rows_fit [] room fine = All-nil Fits
   rows_fit (w ∷ ws) room fine =
@@ -195,11 +189,13 @@ module _ (keys : ℕ) where
       let both = or_none (fault_within room e) (first_fault (room - length (rows e)) (entries_said keys ws)) fine in
       let here = or_none (entry_fault e) (if nat_lt room (length (rows e)) then Some error.TooManyValues else None) both.0 in
       All-append Fits (rows e) (flat_map rows (entries_said keys ws))
-      (entry_fits (piece_said w) (map piece_said (between 58 w)) (keys == 1) refl here.0) (rows_fit ws (room - length (rows e)) both.1)
+      (entry_fits (piece_said w) (map piece_said (between 58 w)) (keys == 1) refl here.0)
+      (rows_fit ws (room - length (rows e)) both.1)
 
   pub matched : (vs : List (Vec Setting)) (ws : List Word) → first_fault 1000000 (entries_said keys ws) ≡ None
       → map settings_in vs ≡ flat_map rows (entries_said keys ws) → All (λ v. length v.items ≡ keys) vs
   matched vs ws fine is k d within =
       let fit = subst (All Fits) (sym is) (rows_fit ws 1000000 fine) in
       sym (length-map (get_or vs k d).items given_by)
-      ∙ subst Fits (get_or-map settings_in vs k d (settings_in d) within) (fit k (settings_in d) (omega (arith, length-map vs settings_in)))
+      ∙ subst Fits (get_or-map settings_in vs k d (settings_in d) within)
+      (fit k (settings_in d) (omega (arith, length-map vs settings_in)))

@@ -89,7 +89,8 @@ module _ (axes : List Axis) (i : ℕ) (a : Axis) (within : i < length axes) (is 
   pub place_within : (left : ℕ) → left < length (ways (drop i axes)) → left / length (ways (drop (i + 1) axes)) < vec_len a.values
   place_within left inside =
       let some : 0 < length (ways (drop (i + 1) axes)) = omega (arith, some_ways (drop (i + 1) axes)) in
-      (div-lt_iff_lt-mul {k = length (ways (drop (i + 1) axes))} {x = left} {y = vec_len a.values} some).1 (omega (arith, length_from))
+      (div-lt_iff_lt-mul {k = length (ways (drop (i + 1) axes))} {x = left} {y = vec_len a.values} some).1
+      (omega (arith, length_from))
 
   -- one more choice is picked
   pub picked_more : (left : ℕ) (v : Vec Setting) → left < length (ways (drop i axes))
@@ -164,6 +165,11 @@ first_keys (a ∷ axes) =
 
 -- ---- runs
 
+-- a grid of these axes and seeds
+abbrev pub shown : (vary over deal : List Axis) (first seeds : ℕ) → GridRecord
+shown vary over deal first seeds =
+    record { vary = map choices vary; over = map choices over; deal = map choices deal; first_seed = first; seeds = seeds }
+
 abbrev run_with : GridRecord → List Chosen → ℕ → RunRecord
 run_with g settings k = record { settings = settings ++ dealt_to g k; seed = g.first_seed + k }
 
@@ -174,7 +180,8 @@ pub runs_length : (g : GridRecord) → length (runs g) ≡ length (combinations 
 runs_length g = pieces_length (runs_with g) g.seeds (all_seeds g) (combinations g.over)
 
 -- the combination and the seed of a run
-pub mix_within : (g : GridRecord) (number : ℕ) → 1 ≤ g.seeds → number < length (runs g) → number / g.seeds < length (combinations g.over)
+pub mix_within : (g : GridRecord) (number : ℕ) → 1 ≤ g.seeds → number < length (runs g)
+    → number / g.seeds < length (combinations g.over)
 mix_within g number some within =
     (div-lt_iff_lt-mul {k = g.seeds} {x = number} {y = length (combinations g.over)} some).1 (omega (arith, runs_length g))
 
@@ -236,8 +243,11 @@ module _ (d c : ℕ) (within : c < d) where
       ap times place ∙ (next (q * d + r) ∙ ap (λ k. times (q * d + r) + cond (k == c) 1 0) rest) in
       elim (cases_Bool (r == c)) [
         | inl same ↦
-            let is : r ≡ c = eqb-true r c same in
-            (λ less. absurd (omega arith), λ more. step ∙ (ap (λ b. times (q * d + r) + cond b 1 0) same ∙ omega (arith, before.0 (omega arith))))
+            let is : r ≡ c = eqb-true r c same in (
+              λ less. absurd (omega arith),
+              λ more. step
+                  ∙ (ap (λ b. times (q * d + r) + cond b 1 0) same ∙ omega (arith, before.0 (omega arith))),
+            )
         | inr differs ↦
             let other : r ≢ c = eqb-false r c differs in
             let none : times (q * d + suc r) ≡ times (q * d + r) + 0 = step ∙ ap (λ b. times (q * d + r) + cond b 1 0) differs in
@@ -270,7 +280,8 @@ told_rest seeds n small = elim (cases_Bool (ltb (2 ^ 64 - 1) n)) [
       ap (λ m. seeds % m) least
 ]
 
-pub uneven_deal : (seeds n dealt : ℕ) → seeds < 2 ^ 64 - 1 → dealt ≡ told n → (seeds % dealt ≡ 0 → ⊥) → deal_refusal seeds n ≡ Some (uneven seeds dealt)
+pub uneven_deal : (seeds n dealt : ℕ) → seeds < 2 ^ 64 - 1 → dealt ≡ told n → (seeds % dealt ≡ 0 → ⊥)
+    → deal_refusal seeds n ≡ Some (uneven seeds dealt)
 uneven_deal seeds n dealt small is odd =
     let P : Bool → Option Refusal = λ b. if b then None else Some (uneven seeds (told n)) in
     let same : seeds % dealt ≡ seeds % n = ap (λ m. seeds % m) is ∙ told_rest seeds n small in

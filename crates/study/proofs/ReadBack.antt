@@ -170,7 +170,8 @@ module _ (name : List ℕ) (i : ℕ) (k : List ℕ) (d : Data) (old : Members) (
   element_beside (element m at l) apart = element_kept at l apart.1 ∙ sym (ap (λ o. in_table l (in_array at o)) all)
   element_beside _ apart = absurd apart
 
-  element_put : (new : Members) → new ≡ put name (array (put_item i (table (put k d ms)) ds)) old → Sets (element name (suc i) k) d old new
+  element_put : (new : Members) → new ≡ put name (array (put_item i (table (put k d ms)) ds)) old
+      → Sets (element name (suc i) k) d old new
   element_put = by_first (element name (suc i) k) d (array (put_item i (table (put k d ms)) ds)) old
       (ap (in_table k) (read_item i (table (put k d ms)) (table ms) ds there) ∙ read_put k d ms) element_beside
 

@@ -83,10 +83,10 @@ pub(crate) fn check_keys(alloc: Global, vary: &[Axis], over: &[Axis], deal: &[Ax
     let keys = all_keys(alloc, vary, over, deal).map_err(GridError::Memory)?;
     match first_again(&keys) {
         None => Ok(()),
-        Some(key) => match key.text(alloc) {
-            Ok(text) => Err(GridError::KeyTwice(text)),
-            Err(error) => Err(GridError::Memory(error)),
-        },
+        Some(key) => Err(
+            key.text(alloc)
+                .map_or_else(GridError::Memory, GridError::KeyTwice),
+        ),
     }
 }
 

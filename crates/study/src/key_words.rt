@@ -9,18 +9,11 @@ use crate::key::Key;
 use crate::words::{is_natural_word, natural_in};
 use std::alloc::Global;
 
-/// Whether a byte may stand in a name: a letter, a digit, `_` or `-`.
-fn is_byte_of_name(byte: u8) -> bool
-    ensures { result ≡ is_name_byte byte }
-{
-    byte.is_ascii_alphanumeric() || byte == b'_' || byte == b'-'
-}
-
-/// Whether all bytes may stand in a name.
+/// Whether all bytes may stand in a name: letters, digits, `_` and `-`.
 fn are_bytes_of_name(bytes: &[u8]) -> bool
     ensures { result ≡ list_all is_name_byte bytes.now }
 {
-    bytes.iter().all(|byte| is_byte_of_name(*byte))
+    bytes.iter().all(|byte| byte.is_ascii_alphanumeric() || *byte == b'_' || *byte == b'-')
 }
 
 /// Whether a word is a name: a key that needs no quotes in TOML.

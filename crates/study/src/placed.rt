@@ -35,6 +35,7 @@ fn value_at<'a>(table: &'a Table, key: &str) -> Option<&'a Value>
 }
 
 /// Puts a value at a key of a table.
+#[tactic(auto, using(crate::proofs::Placing::inserted))]
 pub(crate) fn put(alloc: Global, table: &mut Table, key: &str, value: Value) -> Done
     ensures ok { OnOk result (table_view table.new ≡ put_member key.now (view value) (table_view table.old)) }
     ensures err { IfErr result (λ e. is_memory e ≡ true) }
@@ -95,6 +96,7 @@ fn copy_of_items(table: &Table, name: &str) -> Result<Vec<Value>, PlaceError>
 }
 
 /// A copy of the table at a place of an array, from 1.
+#[tactic(auto, using(crate::proofs::Placing::elements))]
 fn copy_of_element(items: &[Value], place: u64) -> Result<Table, PlaceError>
     ensures ok { IfOk result (λ t. element_of place (items_view items.now) ≡ Ok (table_view t)) }
     ensures within { OnOk result ((1 ≤ place) × (place ≤ length items.now)) }
@@ -103,10 +105,12 @@ fn copy_of_element(items: &[Value], place: u64) -> Result<Table, PlaceError>
     if place == 0 || place > items.len() as u64 {
         return Err(PlaceError::NoElement);
     }
-    copy_of_table(&items[place as usize - 1])
+    let table = copy_of_table(&items[place as usize - 1])?;
+    Ok(table)
 }
 
 /// Puts a table at a place of an array, from 0.
+#[tactic(auto, using(crate::proofs::Placing::writing))]
 fn write_table(items: &mut Vec<Value>, index: usize, inner: Table)
     requires { index < length items.old.items }
     ensures { array_view items.new ≡ put_item index (table (table_view inner)) (array_view items.old) }

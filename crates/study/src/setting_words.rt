@@ -1,7 +1,7 @@
 //! What a key is set to, as a word of a command line.
 ghost use Rattle.std.specs.Prelude.{◌≡◌, ◌∷◌, [], None, IfOk, IfErr, MatchOption};
 ghost use Rattle.study.specs.Settings.{given_by};
-ghost use Rattle.study.specs.AxisWords.{range_by, range, word as text_piece, piece_said, piece_fault, part_fault, values, IsFault};
+ghost use Rattle.study.specs.AxisWords.{range_by, range, piece_said, piece_fault, part_fault, values, IsFault};
 
 use crate::error::AxisError;
 use crate::range::RangeWords;
@@ -9,19 +9,6 @@ use crate::range_words::range_words;
 use crate::setting::Setting;
 use crate::words::{integer_in, is_integer_word};
 use std::alloc::Global;
-
-/// The text that a word is, if it isn't empty.
-fn read_text(alloc: Global, word: &str) -> Result<Setting, AxisError>
-    ensures ok { IfOk result (λ s. (piece_fault (text_piece word.now) ≡ None)
-        × (values (text_piece word.now) ≡ given_by s ∷ [])) }
-    ensures err { IfErr result (IsFault (piece_fault (text_piece word.now))) }
-{
-    if word.is_empty() {
-        return Err(AxisError::NoValue);
-    }
-    let text = String::from_str(alloc, word).map_err(AxisError::Memory)?;
-    Ok(Setting::Text(text))
-}
 
 /// The words of the range that a word says, if it says one.
 pub(crate) fn range_in(word: &str) -> Option<RangeWords<'_>>
@@ -47,8 +34,12 @@ pub(crate) fn read_setting(alloc: Global, word: &str) -> Result<Setting, AxisErr
             None => Err(AxisError::NumberTooLarge),
         };
     }
-    match range_words(word) {
-        Some(_) => Err(AxisError::TiedRange),
-        None => read_text(alloc, word),
+    if range_words(word).is_some() {
+        return Err(AxisError::TiedRange);
     }
+    if word.is_empty() {
+        return Err(AxisError::NoValue);
+    }
+    let text = String::from_str(alloc, word).map_err(AxisError::Memory)?;
+    Ok(Setting::Text(text))
 }

@@ -53,6 +53,7 @@ impl Shard {
     }
 
     /// The block's points, of so many points from 0.
+    #[tactic(auto, using(crate::proofs::Blocks::block_of_range))]
     pub fn points(self, points: u32) -> Range<u32>
         ensures begin { result.start ≡ begin_of points self }
         ensures end { result.end ≡ end_of points self }

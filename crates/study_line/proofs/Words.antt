@@ -26,8 +26,10 @@ abbrev gives : (bits : ℕ) → Text → Result ℕ ParseIntError → Type 0
 gives bits text r = ParsesUnsigned bits 10 text r × ExplainsUnsignedError 10 text r × HasUnsignedDigitsIfOk text r
 
 -- what was read is the number of the text that is there; where nothing was, there is none
-number_of_text : (bits : ℕ) (id : Text) (rows : List Row) (there : Option Text) → there ≡ one_of id rows → (r : Option ℕ)
-    → (there ≡ None → r ≡ None) → ((t : Text) → there ≡ Some t → ReadsOne (gives bits) t r) → MayBeUnsignedAt bits id rows r
+number_of_text : (bits : ℕ) (id : Text) (rows : List Row) (there : Option Text) → there ≡ one_of id rows
+    → (r : Option ℕ)
+    → (there ≡ None → r ≡ None) → ((t : Text) → there ≡ Some t → ReadsOne (gives bits) t r)
+    → MayBeUnsignedAt bits id rows r
 number_of_text bits id rows (Some t) at (Some n) none value = (t, sym at, (value t refl).0)
 number_of_text bits id rows None at (Some n) none value = let bad : Some n ≡ None = none refl in cc
 number_of_text bits id rows (Some t) at None none value = λ n stated.
@@ -39,10 +41,12 @@ number_of_text bits id rows None at None none value = λ n stated. let bad : Non
 pub read_number : (bits : ℕ) (m : ArgMatches) (id : Text) (r : Option ℕ) → (one_text (found_of m) id ≡ None → r ≡ None)
     → ((t : Text) → one_text (found_of m) id ≡ Some t → ReadsOne (gives bits) t r)
     → MayBeUnsignedAt bits id (rows_of (found_of m)) r
-read_number bits m id = number_of_text bits id (rows_of (found_of m)) (one_text (found_of m) id) (one_text-rows (found_of m) id)
+read_number bits m id =
+    number_of_text bits id (rows_of (found_of m)) (one_text (found_of m) id) (one_text-rows (found_of m) id)
 
 -- the texts of all uses of an argument, of which there may be none
-pub all_texts : (found : Option (Bor (List (Bor Text)))) (all : Option (List Text)) (none : Bor (List (Bor Text))) → none.now ≡ []
+pub all_texts : (found : Option (Bor (List (Bor Text)))) (all : Option (List Text)) (none : Bor (List (Bor Text)))
+    → none.now ≡ []
     → option_map (λ s. map (λ v. v.now) s.now) found ≡ all
     → map (λ t. t.now) (unwrap_or found none).now ≡ option_map_or (λ ts. ts) all []
 all_texts None all none is at = ap (map (λ (t : Bor Text). t.now)) is ∙ ap (λ o. option_map_or (λ ts. ts) o []) at

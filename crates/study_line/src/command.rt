@@ -199,16 +199,14 @@ fn axis_option<'a>(alloc: Global, name: &'a str, help: &'a str) -> Arg<'a>
 fn point_option<'a>(alloc: Global) -> Arg<'a>
     ensures { HasRule point_rule result }
 {
-    let values = value_parser!(u64).range(1..);
-    parsed_option(alloc, "point", "K", POINT, values).required(true)
+    parsed_option(alloc, "point", "K", POINT, value_parser!(u64).range(1..)).required(true)
 }
 
 /// The option for the run.
 fn run_option<'a>(alloc: Global) -> Arg<'a>
     ensures { HasRule run_rule result }
 {
-    let values = value_parser!(u64).range(1..);
-    parsed_option(alloc, "run", "J", RUN, values).default_value("1")
+    parsed_option(alloc, "run", "J", RUN, value_parser!(u64).range(1..)).default_value("1")
 }
 
 /// The option for the number of threads.

@@ -3,7 +3,7 @@ ghost use Rattle.std.specs.Prelude.{◌≡◌, List, IfOk, IfErr, map, codes};
 ghost use Rattle.std.specs.List.{list_all};
 ghost use Rattle.clap.specs.Words.{Text, rows_of, found_of, subcommand_rows_of, fault_of, HasKind};
 ghost use Rattle.study_line.specs.Commands.{whole_app};
-ghost use Rattle.study_line.specs.Order.{Explains, IsEachAt, IsGridAt, IsNumberAt, IsPictureAt, IsStudyAt, IsTextAt, Lacks, MayBeNumberAt, MayBeStudyAt, MayBeTextAt, MayBeTickAt, States, StatesFound, StatesIn, is_missing, study_options, text_or_else, texts_at};
+ghost use Rattle.study_line.specs.Order.{Explains, IsEachAt, IsGridAt, IsNumberAt, IsPictureAt, IsStudyAt, IsTextAt, Lacks, MayBeNumberAt, MayBeStudyAt, MayBeTextAt, MayBeTickAt, Reads, States, StatesFound, StatesIn, is_missing, study_options, texts_at};
 
 use crate::command::command;
 use clap::ArgMatches;
@@ -139,13 +139,6 @@ fn text_at<'a>(found: &ArgMatches<'a>, id: &str) -> Result<&'a str, WordsError>
     text_if_at(found, id).ok_or(WordsError::Form)
 }
 
-/// The text of an argument, or another one where there is none.
-fn text_or<'a>(found: &ArgMatches<'a>, id: &str, other: &'a str) -> &'a str
-    ensures { result.now ≡ text_or_else id.now (rows_of (found_of found.now)) other.now }
-{
-    text_if_at(found, id).unwrap_or(other)
-}
-
 /// Whether an argument is missing.
 fn lacks(found: &ArgMatches<'_>, id: &str) -> bool
     ensures { result ≡ is_missing (rows_of (found_of found.now)) id.now }
@@ -178,8 +171,7 @@ fn number_if_at(found: &ArgMatches<'_>, id: &str) -> Option<u64>
 
 /// The number of an argument.
 fn number_at(found: &ArgMatches<'_>, id: &str) -> Result<u64, WordsError>
-    ensures stated { IfOk result (IsNumberAt id.now (rows_of (found_of found.now))) }
-    ensures refused { IfErr result (Lacks (IsNumberAt id.now (rows_of (found_of found.now)))) }
+    ensures { Reads (IsNumberAt id.now (rows_of (found_of found.now))) result }
 {
     number_if_at(found, id).ok_or(WordsError::Form)
 }
@@ -193,8 +185,7 @@ fn tick_if_at(found: &ArgMatches<'_>, id: &str) -> Option<u32>
 
 /// The picture that an argument names.
 fn picture_at(alloc: Global, found: &ArgMatches<'_>, id: &str) -> Result<Picture, WordsError>
-    ensures stated { IfOk result (IsPictureAt id.now (rows_of (found_of found.now))) }
-    ensures refused { IfErr result (Lacks (IsPictureAt id.now (rows_of (found_of found.now)))) }
+    ensures { Reads (IsPictureAt id.now (rows_of (found_of found.now))) result }
 {
     match text_at(found, id)? {
         "suspicions" => Ok(Picture::Suspicions),
@@ -208,10 +199,9 @@ fn picture_at(alloc: Global, found: &ArgMatches<'_>, id: &str) -> Result<Picture
 
 /// What a row tells of, as an argument names it; a point where there is none.
 fn each_at(alloc: Global, found: &ArgMatches<'_>, id: &str) -> Result<Each, WordsError>
-    ensures stated { IfOk result (IsEachAt id.now (rows_of (found_of found.now))) }
-    ensures refused { IfErr result (Lacks (IsEachAt id.now (rows_of (found_of found.now)))) }
+    ensures { Reads (IsEachAt id.now (rows_of (found_of found.now))) result }
 {
-    match text_or(found, id, "point") {
+    match text_if_at(found, id).unwrap_or("point") {
         "point" => Ok(Each::Point),
         "run" => Ok(Each::Run),
         word => Err(String::from_str(alloc, word).map_or(WordsError::Memory, WordsError::NoEach)),
@@ -220,8 +210,7 @@ fn each_at(alloc: Global, found: &ArgMatches<'_>, id: &str) -> Result<Each, Word
 
 /// Which runs a study has.
 fn read_grid<'a>(alloc: Global, found: &ArgMatches<'a>) -> Result<GridTexts<'a>, WordsError>
-    ensures stated { IfOk result (IsGridAt (rows_of (found_of found.now))) }
-    ensures refused { IfErr result (Lacks (IsGridAt (rows_of (found_of found.now)))) }
+    ensures { Reads (IsGridAt (rows_of (found_of found.now))) result }
 {
     Ok(GridTexts {
         seeds: text_at(found, "seeds")?,
@@ -233,8 +222,7 @@ fn read_grid<'a>(alloc: Global, found: &ArgMatches<'a>) -> Result<GridTexts<'a>,
 
 /// A study.
 fn read_study<'a>(alloc: Global, found: &ArgMatches<'a>) -> Result<StudyTexts<'a>, WordsError>
-    ensures stated { IfOk result (IsStudyAt (rows_of (found_of found.now))) }
-    ensures refused { IfErr result (Lacks (IsStudyAt (rows_of (found_of found.now)))) }
+    ensures { Reads (IsStudyAt (rows_of (found_of found.now))) result }
 {
     let each = each_at(alloc, found, "each")?;
     Ok(StudyTexts {
@@ -265,8 +253,7 @@ fn study_if_at<'a>(
     alloc: Global,
     found: &ArgMatches<'a>,
 ) -> Result<Option<StudyTexts<'a>>, WordsError>
-    ensures stated { IfOk result (MayBeStudyAt (rows_of (found_of found.now))) }
-    ensures refused { IfErr result (Lacks (MayBeStudyAt (rows_of (found_of found.now)))) }
+    ensures { Reads (MayBeStudyAt (rows_of (found_of found.now))) result }
 {
     if lacks_study(found) {
         return Ok(None);
@@ -276,8 +263,7 @@ fn study_if_at<'a>(
 
 /// What `check` asks for.
 fn read_check<'a>(alloc: Global, found: &ArgMatches<'a>) -> Result<Order<'a>, WordsError>
-    ensures stated { IfOk result (StatesIn (codes "check") (rows_of (found_of found.now))) }
-    ensures refused { IfErr result (Lacks (StatesIn (codes "check") (rows_of (found_of found.now)))) }
+    ensures { Reads (StatesIn (codes "check") (rows_of (found_of found.now))) result }
 {
     let path = text_at(found, "path")?;
     let study = study_if_at(alloc, found)?;
@@ -286,8 +272,7 @@ fn read_check<'a>(alloc: Global, found: &ArgMatches<'a>) -> Result<Order<'a>, Wo
 
 /// What `letters` asks for.
 fn read_letters<'a>(found: &ArgMatches<'a>) -> Result<Order<'a>, WordsError>
-    ensures stated { IfOk result (StatesIn (codes "letters") (rows_of (found_of found.now))) }
-    ensures refused { IfErr result (Lacks (StatesIn (codes "letters") (rows_of (found_of found.now)))) }
+    ensures { Reads (StatesIn (codes "letters") (rows_of (found_of found.now))) result }
 {
     let path = text_at(found, "path")?;
     Ok(Order::Letters { path })
@@ -295,44 +280,32 @@ fn read_letters<'a>(found: &ArgMatches<'a>) -> Result<Order<'a>, WordsError>
 
 /// What `draw` asks for.
 fn read_draw<'a>(alloc: Global, found: &ArgMatches<'a>) -> Result<Order<'a>, WordsError>
-    ensures stated { IfOk result (StatesIn (codes "draw") (rows_of (found_of found.now))) }
-    ensures refused { IfErr result (Lacks (StatesIn (codes "draw") (rows_of (found_of found.now)))) }
+    ensures { Reads (StatesIn (codes "draw") (rows_of (found_of found.now))) result }
 {
-    let path = text_at(found, "path")?;
-    let picture = picture_at(alloc, found, "as")?;
-    let from = tick_if_at(found, "from");
-    let until = tick_if_at(found, "until");
-    let of = text_if_at(found, "of");
     Ok(Order::Draw {
-        path,
-        picture,
-        from,
-        until,
-        of,
+        path: text_at(found, "path")?,
+        picture: picture_at(alloc, found, "as")?,
+        from: tick_if_at(found, "from"),
+        until: tick_if_at(found, "until"),
+        of: text_if_at(found, "of"),
     })
 }
 
 /// What `show` asks for.
 fn read_show<'a>(alloc: Global, found: &ArgMatches<'a>) -> Result<Order<'a>, WordsError>
-    ensures stated { IfOk result (StatesIn (codes "show") (rows_of (found_of found.now))) }
-    ensures refused { IfErr result (Lacks (StatesIn (codes "show") (rows_of (found_of found.now)))) }
+    ensures { Reads (StatesIn (codes "show") (rows_of (found_of found.now))) result }
 {
-    let path = text_at(found, "path")?;
-    let grid = read_grid(alloc, found)?;
-    let point = number_at(found, "point")?;
-    let run = number_at(found, "run")?;
     Ok(Order::Show {
-        path,
-        grid,
-        point,
-        run,
+        path: text_at(found, "path")?,
+        grid: read_grid(alloc, found)?,
+        point: number_at(found, "point")?,
+        run: number_at(found, "run")?,
     })
 }
 
 /// What `sweep` asks for.
 fn read_sweep<'a>(alloc: Global, found: &ArgMatches<'a>) -> Result<Order<'a>, WordsError>
-    ensures stated { IfOk result (StatesIn (codes "sweep") (rows_of (found_of found.now))) }
-    ensures refused { IfErr result (Lacks (StatesIn (codes "sweep") (rows_of (found_of found.now)))) }
+    ensures { Reads (StatesIn (codes "sweep") (rows_of (found_of found.now))) result }
 {
     let path = text_at(found, "path")?;
     let study = read_study(alloc, found)?;
@@ -345,8 +318,7 @@ fn read_found<'a>(
     name: &str,
     found: &ArgMatches<'a>,
 ) -> Result<Order<'a>, WordsError>
-    ensures stated { IfOk result (StatesIn name.now (rows_of (found_of found.now))) }
-    ensures refused { IfErr result (Lacks (StatesIn name.now (rows_of (found_of found.now)))) }
+    ensures { Reads (StatesIn name.now (rows_of (found_of found.now))) result }
 {
     if name == "check" {
         read_check(alloc, found)
@@ -365,8 +337,7 @@ fn read_found<'a>(
 
 /// What the matches ask for.
 fn read_matches<'a>(alloc: Global, matches: &ArgMatches<'a>) -> Result<Order<'a>, WordsError>
-    ensures stated { IfOk result (StatesFound (subcommand_rows_of matches.now)) }
-    ensures refused { IfErr result (Lacks (StatesFound (subcommand_rows_of matches.now))) }
+    ensures { Reads (StatesFound (subcommand_rows_of matches.now)) result }
 {
     match matches.subcommand() {
         Some((name, found)) => read_found(alloc, name, found),

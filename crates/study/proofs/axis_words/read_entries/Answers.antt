@@ -14,7 +14,8 @@ returns-in_err-push_entry-clause-err c =
     carried (IsFault (first_fault 1000000 (entries_said c.args.keys (map (λ x. x.now) c.args.words.now)))) c.from_residual.result
     c.in_err-push_entry.field-0.0 c.from_residual.ensures.1
     (λ other. fault_at c.args.keys c.args.words.now c.loop-word.word-index nothing c.loop-word-test.true
-    (map settings_in c.loop-word.values.items) c.in_err-push_entry.field-0.0 c.loop-word.invariant.read (c.in_err-push_entry.ensures.err other))
+    (map settings_in c.loop-word.values.items) c.in_err-push_entry.field-0.0 c.loop-word.invariant.read
+    (c.in_err-push_entry.ensures.err other))
 
 pub loop-word-preserved : goal.loop-word-preserved
 loop-word-preserved c =

@@ -9,10 +9,17 @@ use Rattle.study.proofs.axis_words.words_between.Goals as goal
 pub returns-clause-value : goal.returns-clause-value
 returns-clause-value c =
     map_from_collect _ c.collect.ensures.ran
-    (YieldsList-from_str_split c.args.mark c.args.words.now c.requires c.split.ensures.text c.split.ensures.has_more c.split.ensures.pattern)
+    (YieldsList-from_str_split c.args.mark c.args.words.now c.requires c.split.ensures.text c.split.ensures.has_more
+    c.split.ensures.pattern)
 
 pub returns-clause-some : goal.returns-clause-some
 returns-clause-some c =
     IfOk-weaker c.collect.result _ _
-    (λ v is. omega (arith, length-map v.items (λ x. x.now), ap length is, length-slice_split (λ b. b == c.args.mark) c.args.words.now))
+    (λ v is. omega (
+      arith,
+      length-map v.items (λ x. x.now),
+      ap length is,
+      length-slice_split (λ b. b == c.args.mark)
+          c.args.words.now,
+    ))
     (returns-clause-value c)

@@ -16,7 +16,8 @@ loop-axis-preserved c =
     record {
       whole =
           ap (λ n. min (n * rest) (2 ^ 64 - 1)) is
-          ∙ counted (2 ^ 64 - 1) c.loop-axis.count c.len.result rest (length (ways (drop i axes))) (min (length (ways axes)) (2 ^ 64 - 1))
+          ∙ counted (2 ^ 64 - 1) c.loop-axis.count c.len.result rest (length (ways (drop i axes)))
+          (min (length (ways axes)) (2 ^ 64 - 1))
           c.loop-axis.invariant.whole from (some_ways (drop (i + 1) axes));
       low = omega arith;
       high = omega arith;

@@ -38,7 +38,9 @@ loop-axis-preserved c =
     let rest = ways (drop (i + 1) c.args.axes.now) in
     let alike = block_from c.args.axes.now i c.axis-item.result c.loop-axis-test.true c.axis-item.is c.loop-axis.alike c.len.result
     c.len.ensures c.loop-axis.invariant.alike in
-    let read = subst (λ n. c.index-value.result.now ≡ get_or c.axis-item.result.values.items (c.loop-axis.left / n) c.index-value.result.now)
+    let read =
+    subst (λ n. c.index-value.result.now ≡ get_or c.axis-item.result.values.items (c.loop-axis.left / n)
+    c.index-value.result.now)
     alike c.index-value.ensures in
     let more = picked_more c.args.axes.now i c.axis-item.result c.loop-axis-test.true c.axis-item.is c.loop-axis.left
     c.index-value.result.now (omega arith) read in
@@ -50,7 +52,8 @@ loop-axis-preserved c =
           ∙ (ap (λ p. p ++ get_or rest (c.loop-axis.left % length rest) [])
           (c.in_ok-push_choices.ensures
           ∙ (ap (λ ks. old ++ set_to (map path_of ks) (map given_by c.deref-in-loop-axis.result.now)) c.deref.ensures.value
-          ∙ ap (λ vs. old ++ set_to (map path_of c.axis-item.result.keys.items) (map given_by vs)) c.deref-in-loop-axis.ensures.value))
+          ∙ ap (λ vs. old ++ set_to (map path_of c.axis-item.result.keys.items) (map given_by vs))
+          c.deref-in-loop-axis.ensures.value))
           ∙ (append_assoc old (set_to (map path_of c.axis-item.result.keys.items) (settings_in c.index-value.result.now)) _
           ∙ (ap (λ ys. old ++ ys) (sym more) ∙ c.loop-axis.invariant.same)));
     }

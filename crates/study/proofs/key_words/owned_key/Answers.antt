@@ -44,7 +44,8 @@ returns-then-eq-clause-ok c =
     let key = c.in_ok-key.ensures.ok in
     let star : c.in-Some.place.now ≡ codes "*]" = search rules in
     let split = split_parts 91 c.args.owner.now (Some (c.in-Some.array, c.in-Some.place)) c.in-Some.ensures.cases (lit< tt) in (
-      every_written c.args.owner.now c.args.key.now c.in-Some.array.now c.in-Some.place.now (string_bytes c.in_ok-array-in-Some.array)
+      every_written c.args.owner.now c.args.key.now c.in-Some.array.now c.in-Some.place.now
+          (string_bytes c.in_ok-array-in-Some.array)
           (string_bytes c.in_ok-key.key) split.0 star array.0 key.0,
       (ap is_name array.0 ∙ array.1, ap is_name key.0 ∙ key.1),
     )
