@@ -27,8 +27,7 @@ gives bits text r = ParsesUnsigned bits 10 text r × ExplainsUnsignedError 10 te
 
 -- what was read is the number of the text that is there; where nothing was, there is none
 number_of_text : (bits : ℕ) (id : Text) (rows : List Row) (there : Option Text) → there ≡ one_of id rows
-    → (r : Option ℕ)
-    → (there ≡ None → r ≡ None) → ((t : Text) → there ≡ Some t → ReadsOne (gives bits) t r)
+    → (r : Option ℕ) → (there ≡ None → r ≡ None) → ((t : Text) → there ≡ Some t → ReadsOne (gives bits) t r)
     → MayBeUnsignedAt bits id rows r
 number_of_text bits id rows (Some t) at (Some n) none value = (t, sym at, (value t refl).0)
 number_of_text bits id rows None at (Some n) none value = let bad : Some n ≡ None = none refl in cc
@@ -46,16 +45,14 @@ read_number bits m id =
 
 -- the texts of all uses of an argument, of which there may be none
 pub all_texts : (found : Option (Bor (List (Bor Text)))) (all : Option (List Text)) (none : Bor (List (Bor Text)))
-    → none.now ≡ []
-    → option_map (λ s. map (λ v. v.now) s.now) found ≡ all
+    → none.now ≡ [] → option_map (λ s. map (λ v. v.now) s.now) found ≡ all
     → map (λ t. t.now) (unwrap_or found none).now ≡ option_map_or (λ ts. ts) all []
 all_texts None all none is at = ap (map (λ (t : Bor Text). t.now)) is ∙ ap (λ o. option_map_or (λ ts. ts) o []) at
 all_texts (Some s) all none is at = ap (λ o. option_map_or (λ ts. ts) o []) at
 
 -- what lacks a part isn't there
 pub lacks_part : {X Y : Type 0} (Part : X → Type 0) (Whole : Y → Type 0)
-    → ((y : Y) → Whole y → (x : X) × Part x) → (e : WordsError)
-    → Lacks Part e → Lacks Whole e
+    → ((y : Y) → Whole y → (x : X) × Part x) → (e : WordsError) → Lacks Part e → Lacks Whole e
 lacks_part Part Whole parts (refusal.Help text) h = h
 lacks_part Part Whole parts (refusal.Mistake text) h = h
 lacks_part Part Whole parts refusal.Memory h = tt

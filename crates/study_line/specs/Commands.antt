@@ -29,7 +29,8 @@ axis_rule name = record (option_rule name) { action = Some Append }
 
 abbrev pub with_axes : App → App
 with_axes app =
-    with_rule (with_rule (with_rule app (axis_rule (codes "vary"))) (axis_rule (codes "over"))) (axis_rule (codes "deal"))
+    with_rule (with_rule (with_rule app (axis_rule (codes "vary"))) (axis_rule (codes "over")))
+    (axis_rule (codes "deal"))
 
 -- the runs of a study
 abbrev pub with_grid : (needed : Bool) → App → App

@@ -11,8 +11,7 @@ returns c =
     let telling = with_subcommand checking letters_app.top in
     let drawing = with_subcommand telling draw_app.top in
     c.with_command.ensures (with_subcommand drawing show_app.top) sweep_app
-    (c.with_command-command-4.ensures drawing show_app
-    (c.with_command-command-3.ensures telling draw_app
+    (c.with_command-command-4.ensures drawing show_app (c.with_command-command-3.ensures telling draw_app
     (c.with_command-command-2.ensures checking letters_app
     (c.with_command-command.ensures top_app check_app (begun, local) c.study_command-check.ensures)
     c.path_command-letters.ensures)
