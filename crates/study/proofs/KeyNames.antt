@@ -10,7 +10,7 @@ use Rattle.std.specs.Char.{is_ascii_digit}
 use Rattle.std.specs.List.{All, list_all, AllZip}
 use Rattle.study.specs.Settings.{Path, top, inner, element, every, key_text, path_of}
 use Rattle.study.specs.Words.{Word, is_natural, natural}
-use Rattle.study.specs.KeyWords.{is_name_byte, is_name, is_place, IsOwner, of_table, of_element, of_every, HasNames, SaysNoKey, is_memory, SaysKey, SayNoKeys}
+use Rattle.study.specs.KeyWords.{is_name_byte, is_name, is_place, IsPlaceOf, HasNoPlace, IsOwner, of_table, of_element, of_every, HasNames, SaysNoKey, is_memory, SaysKey, SayNoKeys}
 use Rattle.study.specs.declared.error.KeyError.{KeyError}
 use Rattle.study.specs.declared.error.KeyError.TheVariants as error
 use Rattle.study.proofs.Numerals.{own, natural_digits, natural_some}
@@ -58,22 +58,17 @@ decimal_place n low small =
     and_from (not (get_or (decimal n) 0 0 == 48)) (is_natural (decimal n))
     (ap not (ne_eqb (get_or (decimal n) 0 0) 48 (omega arith)))
     (and_from (not (length (decimal n) == 0)) (list_all is_ascii_digit (decimal n))
-    (ap not (ne_eqb (length (decimal n)) 0 (omega arith)))
-    (digits_decimal own n small))
-
--- no place stands before a closing bracket
-abbrev NoPlace : Word → Type 0
-NoPlace word = (place : ℕ) → 1 ≤ place → place < 2 ^ 64 → word ≢ decimal place ++ codes "]"
+    (ap not (ne_eqb (length (decimal n)) 0 (omega arith))) (digits_decimal own n small))
 
 -- a word with a bracket at its end, by what stands before it
-pub place_none : (word digits : Word) → word ≡ digits ++ codes "]" → is_place digits ≡ false → NoPlace word
+pub place_none : (word digits : Word) → word ≡ digits ++ codes "]" → is_place digits ≡ false → HasNoPlace word
 place_none word digits is none place low small e =
     let same : digits ≡ decimal place = append_cancel_right digits (decimal place) (codes "]") (sym is ∙ e) in
     false≢true (sym none ∙ (ap is_place same ∙ decimal_place place low small))
 
 pub read_place : (word digits : Word) (r : Option ℕ) → word ≡ digits ++ codes "]" → is_place digits ≡ true
     → MatchOption r (2 ^ 64 ≤ natural digits) (λ n. (n ≡ natural digits) × (n < 2 ^ 64))
-    → MatchOption r (NoPlace word) (λ place. (1 ≤ place) × (place < 2 ^ 64) × (word ≡ decimal place ++ codes "]"))
+    → MatchOption r (HasNoPlace word) (IsPlaceOf word)
 read_place word digits None is place large = λ n low small e.
     let same : digits ≡ decimal n = append_cancel_right digits (decimal n) (codes "]") (sym is ∙ e) in
     let value : natural digits ≡ n = ap natural same ∙ digits_value-decimal own n small in
@@ -85,7 +80,8 @@ read_place word digits (Some n) is place number =
 
 -- ---- splits of a key
 
-at_some : {X : Type 0} {Q R : X → Type 0} (P : Type 0) (r : Option X) → MatchOption r ⊥ Q → ((x : X) → Q x → R x) → MatchOption r P R
+at_some : {X : Type 0} {Q R : X → Type 0} (P : Type 0) (r : Option X) → MatchOption r ⊥ Q → ((x : X) → Q x → R x)
+    → MatchOption r P R
 at_some P None h more = absurd h
 at_some P (Some x) h more = more x h
 
@@ -103,16 +99,14 @@ joined = All-append (λ b. b ≢ 46)
 
 -- a word that a key is written as, split at its first dot
 split_named : (w : Word) (p : Path) (r : Option (Bor (List ℕ) × Bor (List ℕ))) → IsSplitOnceResult 46 w r → HasNames p
-    → w ≡ key_text p
-    → MatchOption r (is_name w ≡ true) (λ x. IsOwner x.0.now × (is_name x.1.now ≡ true))
+    → w ≡ key_text p → MatchOption r (is_name w ≡ true) (λ x. IsOwner x.0.now × (is_name x.1.now ≡ true))
 split_named w (top k) None split names e = ap is_name e ∙ names
 split_named w (top k) (Some x) split names e =
     absurd (found 46 w x.0.now x.1.now (subst (Lacks 46) (sym e) (name_lacks 46 refl k names))
     (split_parts 46 w (Some x) split (lit< tt)).0)
 split_named w (inner t k) r split names e =
     at_some (is_name w ≡ true) r (split_after 46 w t k r split (lit< tt) (e ∙ append_assoc t (codes ".") k)
-    (λ i. name_lacks 46 refl t names.0 i 0))
-    (λ x h. (of_table (ap is_name h.0 ∙ names.0), ap is_name h.1 ∙ names.1))
+    (λ i. name_lacks 46 refl t names.0 i 0)) (λ x h. (of_table (ap is_name h.0 ∙ names.0), ap is_name h.1 ∙ names.1))
 split_named w (element a i k) r split names e =
     let lacks = joined a (91 ∷ (decimal i ++ codes "]")) (name_lacks 46 refl a names.0)
     (joined (91 ∷ []) (decimal i ++ codes "]") (no_dot (91 ∷ []) refl)
@@ -124,12 +118,11 @@ split_named w (element a i k) r split names e =
 split_named w (every a k) r split names e =
     let lacks = joined a (91 ∷ codes "*]") (name_lacks 46 refl a names.0) (no_dot (91 ∷ codes "*]") refl) in
     at_some (is_name w ≡ true) r (split_after 46 w (a ++ (91 ∷ codes "*]")) k r split (lit< tt) (e ∙ every_split a k)
-    (λ i. lacks i 0))
-    (λ x h. (of_every a names.0 h.0, ap is_name h.1 ∙ names.1))
+    (λ i. lacks i 0)) (λ x h. (of_every a names.0 h.0, ap is_name h.1 ∙ names.1))
 
 -- what may stand after an array's bracket
 abbrev IsPlace : Word → Type 0
-IsPlace w = ((place : ℕ) × (1 ≤ place) × (place < 2 ^ 64) × (w ≡ decimal place ++ codes "]")) ⊎ (w ≡ codes "*]")
+IsPlace w = ((place : ℕ) × IsPlaceOf w place) ⊎ (w ≡ codes "*]")
 
 -- what stands before a key's dot, split at its first bracket
 split_owner : (w : Word) (r : Option (Bor (List ℕ) × Bor (List ℕ))) → IsSplitOnceResult 91 w r → IsOwner w
@@ -139,8 +132,7 @@ split_owner w (Some x) split (of_table name) =
     absurd (found 91 w x.0.now x.1.now (name_lacks 91 refl w name) (split_parts 91 w (Some x) split (lit< tt)).0)
 split_owner w r split (of_element a i name low small e) =
     at_some (is_name w ≡ true) r (split_after 91 w a (decimal i ++ codes "]") r split (lit< tt) e
-    (λ k. name_lacks 91 refl a name k 0))
-    (λ x h. (ap is_name h.0 ∙ name, inl (i, low, small, h.1)))
+    (λ k. name_lacks 91 refl a name k 0)) (λ x h. (ap is_name h.0 ∙ name, inl (i, (low, small, h.1))))
 split_owner w r split (of_every a name e) =
     at_some (is_name w ≡ true) r (split_after 91 w a (codes "*]") r split (lit< tt) e (λ k. name_lacks 91 refl a name k 0))
     (λ x h. (ap is_name h.0 ∙ name, inr h.1))
@@ -158,9 +150,9 @@ module _ (w : Word) (array place : Bor (List ℕ)) (split : IsSplitOnceResult 91
   pub no_array : is_name array.now ≡ false → IsOwner w → ⊥
   no_array none owner = false≢true (sym none ∙ (split_owner w (Some (array, place)) split owner).0)
 
-  pub no_place : place.now ≢ codes "*]" → NoPlace place.now → IsOwner w → ⊥
+  pub no_place : place.now ≢ codes "*]" → HasNoPlace place.now → IsOwner w → ⊥
   no_place other none owner = elim (split_owner w (Some (array, place)) split owner).1 [
-    | inl at ↦ none at.0 at.1 at.2 at.3
+    | inl at ↦ none at.0 at.1.0 at.1.1 at.1.2
     | inr all ↦ other all
   ]
 
@@ -178,7 +170,8 @@ top_refused w e split refused = no_key w e (λ other. let none = refused other i
 
 pub owned_refused : {A : Type 0} (w : Word) (owner key : Bor (List ℕ)) (r : Result A KeyError)
     → IsSplitOnceResult 46 w (Some (owner, key))
-    → IfErr r (λ e. is_memory e ≡ false → (e ≡ error.NoKey) × (IsOwner owner.now → is_name key.now ≡ false)) → IfErr r (SaysNoKey w)
+    → IfErr r (λ e. is_memory e ≡ false → (e ≡ error.NoKey) × (IsOwner owner.now → is_name key.now ≡ false))
+    → IfErr r (SaysNoKey w)
 owned_refused w owner key (Ok k) split refused = tt
 owned_refused w owner key (Err e) split refused = no_key w e (λ other. let none = refused other in (
   none.0,
@@ -188,7 +181,8 @@ owned_refused w owner key (Err e) split refused = no_key w e (λ other. let none
 
 pub every_written : (owner key array place a k : Word) → owner ≡ array ++ (91 ∷ place) → place ≡ codes "*]" → a ≡ array → k ≡ key
     → owner ++ (46 ∷ key) ≡ a ++ codes "[*]." ++ k
-every_written owner key array place a k e star same_array same_key = rw (e, star, same_array, same_key) (sym (every_split array key))
+every_written owner key array place a k e star same_array same_key =
+    rw (e, star, same_array, same_key) (sym (every_split array key))
 
 pub element_written : (owner key array place : Word) (n : ℕ) (a k : Word) → owner ≡ array ++ (91 ∷ place)
     → place ≡ decimal n ++ codes "]" → a ≡ array → k ≡ key → owner ++ (46 ∷ key) ≡ a ++ codes "[" ++ decimal n ++ codes "]." ++ k

@@ -89,6 +89,5 @@ integer_read {E} r w h is = split (starts_with_minus w) refl
     split false plain =
         let digits : is_natural w ≡ true = ap (λ b. is_natural (drop (cond b 1 0) w)) (sym plain) ∙ is in
         let number : integer w ≡ pos (natural w) = ap (λ b. cond b (neg_ℤ (pos (natural (drop 1 w)))) (pos (natural w))) plain in
-        subst (IsRead r) (sym number)
-        (plain_read (natural w) (0 < length w) r (natural_some w digits)
+        subst (IsRead r) (sym number) (plain_read (natural w) (0 < length w) r (natural_some w digits)
         (parse_signed_digits own w64 w r h (natural_digits w digits)))

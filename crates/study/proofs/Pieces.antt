@@ -133,7 +133,8 @@ module _ (keys : ℕ) where
         let most : length (rows e) ≤ 1000000 - length old = within_room (1000000 - length old) e added.no_fault in
         let all : length new ≡ length old + length (rows e) = ap length added.rows ∙ length-append old (rows e) in
         let room : 1000000 - length new ≡ 1000000 - length old - length (rows e) = omega arith in
-        let step : first_fault (1000000 - length old) (e ∷ left ws (i + 1)) ≡ first_fault (1000000 - length new) (left ws (i + 1)) =
+        let step : first_fault (1000000 - length old) (e ∷ left ws (i + 1)) ≡ first_fault (1000000 - length new)
+        (left ws (i + 1)) =
         rw (added.no_fault, room) in
         record {
           fault = sym step ∙ (ap (first_fault (1000000 - length old)) (sym (left_more ws i d within)) ∙ read.fault);
@@ -172,10 +173,12 @@ module _ (keys : ℕ) where
 
   tied_fit : (ps : List Piece) (b : Bool) → (length ps == keys) ≡ b
       → (if b then parts_fault ps else Some error.PartsPerKey) ≡ None → All Fits (flat_map values ps ∷ [])
-  tied_fit ps true is fine = All-cons Fits (flat_map values ps) [] (all_parts ps fine ∙ eqb-true (length ps) keys is) (All-nil Fits)
+  tied_fit ps true is fine =
+      All-cons Fits (flat_map values ps) [] (all_parts ps fine ∙ eqb-true (length ps) keys is) (All-nil Fits)
   tied_fit ps false is fine = absurd (cc fine)
 
-  entry_fits : (p : Piece) (ps : List Piece) (b : Bool) → (keys == 1) ≡ b → entry_fault (if b then single p else tied keys ps) ≡ None
+  entry_fits : (p : Piece) (ps : List Piece) (b : Bool) → (keys == 1) ≡ b
+      → entry_fault (if b then single p else tied keys ps) ≡ None
       → All Fits (rows (if b then single p else tied keys ps))
   entry_fits p ps true is fine = All-map Fits (λ v. v ∷ []) (values p) (λ k d within. sym (eqb-true keys 1 is))
   entry_fits p ps false is fine = tied_fit ps (length ps == keys) refl fine

@@ -99,7 +99,8 @@ module _ (k : List ℕ) (d : Data) where
   shift (Ok es) done w e same = ap Ok (prepend_push done w es ∙ ap (λ x. prepend done (item x es)) same)
   shift (Err f) done w e same = refl
 
-  pub put_more : (vs : List Value) (i : ℕ) (v : Value) (done : List Value) (w : Value) (ms : Members) (all : Result Items PlaceError)
+  pub put_more : (vs : List Value) (i : ℕ) (v : Value) (done : List Value) (w : Value) (ms : Members)
+      (all : Result Items PlaceError)
       → i < length vs → v ≡ get_or vs i v → table_of (view v) ≡ Ok ms → view w ≡ table (put k d ms)
       → after done (put_in_each k d (items_view (drop i vs))) ≡ all
       → after (done ++ (w ∷ [])) (put_in_each k d (items_view (drop (i + 1) vs))) ≡ all

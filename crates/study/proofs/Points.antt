@@ -42,7 +42,8 @@ module _ {X : Type 0} (xs : List (List X)) (rest : List (List (List X))) where
 
   -- the combination of a number, by its first choice and the rest
   combination_at : (d r : ℕ) (x : List X) → d < length xs → r < length (combinations rest)
-      → get_or (combinations (xs ∷ rest)) (d * length (combinations rest) + r) [] ≡ get_or xs d x ++ get_or (combinations rest) r []
+      → get_or (combinations (xs ∷ rest)) (d * length (combinations rest) + r) []
+      ≡ get_or xs d x ++ get_or (combinations rest) r []
   combination_at d r x within inside =
       piece_at with_first (length (combinations rest)) wide xs d r x [] within inside
       ∙ get_or-map (λ others. get_or xs d x ++ others) (combinations rest) r [] [] inside
@@ -74,16 +75,14 @@ module _ (axes : List Axis) (i : ℕ) (a : Axis) (within : i < length axes) (is 
 
   pub length_from : length (ways (drop i axes)) ≡ vec_len a.values * length (ways (drop (i + 1) axes))
   length_from =
-      ap (λ xs. length (ways xs)) from_one
-      ∙ (more_combinations (choices a) (map choices (drop (i + 1) axes))
+      ap (λ xs. length (ways xs)) from_one ∙ (more_combinations (choices a) (map choices (drop (i + 1) axes))
       ∙ ap (λ n. n * length (ways (drop (i + 1) axes))) (choices-length a))
 
   -- how many begin with one value of the axis
   pub block_from : (alike n : ℕ) → n ≡ vec_len a.values → alike ≡ length (ways (drop i axes))
       → alike / n ≡ length (ways (drop (i + 1) axes))
   block_from alike n values all =
-      ap (λ k. k / n) (all ∙ length_from)
-      ∙ (ap (λ k. vec_len a.values * length (ways (drop (i + 1) axes)) / k) values
+      ap (λ k. k / n) (all ∙ length_from) ∙ (ap (λ k. vec_len a.values * length (ways (drop (i + 1) axes)) / k) values
       ∙ mul-div_cancel_left (length (ways (drop (i + 1) axes))) (omega (arith, axis_some a)))
 
   pub place_within : (left : ℕ) → left < length (ways (drop i axes)) → left / length (ways (drop (i + 1) axes)) < vec_len a.values
@@ -94,8 +93,7 @@ module _ (axes : List Axis) (i : ℕ) (a : Axis) (within : i < length axes) (is 
 
   -- one more choice is picked
   pub picked_more : (left : ℕ) (v : Vec Setting) → left < length (ways (drop i axes))
-      → v ≡ get_or a.values.items (left / length (ways (drop (i + 1) axes))) v
-      → get_or (ways (drop i axes)) left []
+      → v ≡ get_or a.values.items (left / length (ways (drop (i + 1) axes))) v → get_or (ways (drop i axes)) left []
       ≡ choice_of a v ++ get_or (ways (drop (i + 1) axes)) (left % length (ways (drop (i + 1) axes))) []
   picked_more left v inside read =
       let n = length (ways (drop (i + 1) axes)) in
@@ -142,8 +140,8 @@ none_set (p ∷ ps) [] none = refl
 none_set (p ∷ ps) (g ∷ gs) none = absurd (omega arith)
 
 -- the keys of the first choice, and of the first combination
-first_paths : (ps : List Path) (n : ℕ) (vs : List (Vec Setting)) → length ps ≡ n → 1 ≤ length vs → All (λ v. length v.items ≡ n) vs
-    → map (λ c. c.path) (get_or (map (λ v. set_to ps (settings_in v)) vs) 0 []) ≡ ps
+first_paths : (ps : List Path) (n : ℕ) (vs : List (Vec Setting)) → length ps ≡ n → 1 ≤ length vs
+    → All (λ v. length v.items ≡ n) vs → map (λ c. c.path) (get_or (map (λ v. set_to ps (settings_in v)) vs) 0 []) ≡ ps
 first_paths ps n [] long some matched = absurd (omega arith)
 first_paths ps n (v ∷ vs) long some matched =
     let here : length v.items ≡ n = matched 0 v (omega arith) in
@@ -156,12 +154,11 @@ first_keys (a ∷ axes) =
     let within : 0 < length (choices a) = omega (arith, choices-length a, axis_some a) in
     let at = combination_at (choices a) (map choices axes) 0 0 [] within (some_ways axes) in
     let place : 0 ≡ 0 * length (ways axes) + 0 = simp (zero-mul, zero-add) in
-    ap (λ k. map (λ c. c.path) (get_or (ways (a ∷ axes)) k [])) place
-    ∙ (ap (λ cs. map (λ c. c.path) cs) at
+    ap (λ k. map (λ c. c.path) (get_or (ways (a ∷ axes)) k [])) place ∙ (ap (λ cs. map (λ c. c.path) cs) at
     ∙ (map-append (λ c. c.path) (get_or (choices a) 0 []) (get_or (ways axes) 0 [])
     ∙ (ap (λ ps. ps ++ map (λ c. c.path) (get_or (ways axes) 0 []))
-    (first_paths (map path_of a.keys.items) (length a.keys.items) a.values.items (length-map a.keys.items path_of) a.some a.matched)
-    ∙ ap (λ ps. map path_of a.keys.items ++ ps) (first_keys axes))))
+    (first_paths (map path_of a.keys.items) (length a.keys.items) a.values.items (length-map a.keys.items path_of)
+    a.some a.matched) ∙ ap (λ ps. map path_of a.keys.items ++ ps) (first_keys axes))))
 
 -- ---- runs
 
@@ -245,8 +242,7 @@ module _ (d c : ℕ) (within : c < d) where
         | inl same ↦
             let is : r ≡ c = eqb-true r c same in (
               λ less. absurd (omega arith),
-              λ more. step
-                  ∙ (ap (λ b. times (q * d + r) + cond b 1 0) same ∙ omega (arith, before.0 (omega arith))),
+              λ more. step ∙ (ap (λ b. times (q * d + r) + cond b 1 0) same ∙ omega (arith, before.0 (omega arith))),
             )
         | inr differs ↦
             let other : r ≢ c = eqb-false r c differs in

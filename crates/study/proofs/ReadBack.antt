@@ -141,10 +141,12 @@ top_set k d old = by_first (top k) d d old refl beside (put k d old) refl
     beside (top l) apart = absurd apart
     beside _ apart = absurd apart
 
-inner_set : (name k : List ℕ) (d : Data) (old new : Members) → set_at (inner name k) d old ≡ Ok new → Sets (inner name k) d old new
+inner_set : (name k : List ℕ) (d : Data) (old new : Members) → set_at (inner name k) d old ≡ Ok new
+    → Sets (inner name k) d old new
 inner_set name k d old new is =
     let found = then_ok (table_or_new (get_member name old)) _ new is in
-    by_first (inner name k) d (table (put k d found.0)) old (read_put k d found.0) (beside found.0 found.1) new (ok_is _ new found.2)
+    by_first (inner name k) d (table (put k d found.0)) old (read_put k d found.0) (beside found.0 found.1) new
+    (ok_is _ new found.2)
   where
     beside : (ms : Members) → table_or_new (get_member name old) ≡ Ok ms → (other : Path) → AreBeside (inner name k) other
         → below other (Some (table (put k d ms))) ≡ below other (get_member name old)
@@ -192,13 +194,15 @@ module _ (k : List ℕ) (d : Data) where
   Each ds es = (j : ℕ) → ((there : Data) → get_item j es ≡ Some there → in_table k (get_item j es) ≡ Some d)
       × ((l : List ℕ) → k ≢ l → in_table l (get_item j es) ≡ in_table l (get_item j ds))
 
-  each_more : (e : Data) (ds fs : Items) (ms : Members) → e ≡ table ms → Each ds fs → Each (item e ds) (item (table (put k d ms)) fs)
+  each_more : (e : Data) (ds fs : Items) (ms : Members) → e ≡ table ms → Each ds fs
+      → Each (item e ds) (item (table (put k d ms)) fs)
   each_more e ds fs ms at later zero =
       ((λ there h. read_put k d ms), (λ l other. keep_put k l d ms other ∙ sym (ap (λ x. in_table l (Some x)) at)))
   each_more e ds fs ms at later (suc j) = later j
 
   each_set : (ds es : Items) → put_in_each k d ds ≡ Ok es → Each ds es
-  each_set no_items es is = subst (Each no_items) (sym (ok_is no_items es is)) (λ j. ((λ there h. absurd (cc h)), (λ l other. refl)))
+  each_set no_items es is =
+      subst (Each no_items) (sym (ok_is no_items es is)) (λ j. ((λ there h. absurd (cc h)), (λ l other. refl)))
   each_set (item e ds) es is =
       let found = then_ok (table_of e) _ es is in
       let later = then_ok (put_in_each k d ds) _ es found.2 in
@@ -209,7 +213,8 @@ module _ (k : List ℕ) (d : Data) where
   all_set no_items es is = absurd (cc is)
   all_set (item e ds) es is = each_set (item e ds) es is
 
-every_set : (name k : List ℕ) (d : Data) (old new : Members) → set_at (every name k) d old ≡ Ok new → Sets (every name k) d old new
+every_set : (name k : List ℕ) (d : Data) (old new : Members) → set_at (every name k) d old ≡ Ok new
+    → Sets (every name k) d old new
 every_set name k d old new is =
     let found = then_ok (items_of (get_member name old)) _ new is in
     let all = then_ok (put_in_all k d found.0) _ new found.2 in
@@ -230,7 +235,8 @@ every_set name k d old new is =
     beside : (ds es : Items) → get_member name old ≡ Some (array ds)
         → ((j : ℕ) (l : List ℕ) → k ≢ l → in_table l (get_item j es) ≡ in_table l (get_item j ds))
         → (other : Path) → AreBeside (every name k) other → below other (Some (array es)) ≡ below other (get_member name old)
-    beside ds es found each (element m at l) apart = kept ds es each at l apart.1 ∙ sym (ap (λ o. in_table l (in_array at o)) found)
+    beside ds es found each (element m at l) apart =
+        kept ds es each at l apart.1 ∙ sym (ap (λ o. in_table l (in_array at o)) found)
     beside ds es found each _ apart = absurd apart
 
 pub are_set : AreSet

@@ -4,7 +4,7 @@ ghost use Rattle.std.specs.List.{flat_map, AllZip};
 ghost use Rattle.study.specs.Settings.{given_by, settings_in, path_of};
 ghost use Rattle.study.specs.Words.{between};
 ghost use Rattle.study.specs.KeyWords.{SaysKey, SayNoKeys, is_memory as is_key_memory};
-ghost use Rattle.study.specs.AxisWords.{range_by, range_of, steps as steps_between, range as as_range, piece_said, values as values_of, parts_fault, single, tied, entry_said, rows, first_fault, entries, entries_said, SaysAxis, SaysNoAxis, is_memory, IsFault, AddsTo, CannotAdd};
+ghost use Rattle.study.specs.AxisWords.{range_by, range_of, steps as steps_between, range as as_range, piece_said, values as values_of, parts_fault, single, tied, entry_said, rows, first_fault, entries, entries_said, SaysAxis, SaysNoAxis, is_memory, IsFault, AreOfParts, AreOfEntries, AddsValue, AddsTo, CannotAdd};
 
 use crate::axis::Axis;
 use crate::error::{AxisError, KeyError};
@@ -23,8 +23,7 @@ type Added = Result<(), AxisError>;
 
 /// Adds a value, if there is room for it.
 fn push_value(values: &mut Vec<Vec<Setting>>, value: Vec<Setting>) -> Added
-    ensures ok { OnOk result ((length (map settings_in values.old.items) < 1000000)
-        × (map settings_in values.new.items ≡ map settings_in values.old.items ++ (settings_in value ∷ []))) }
+    ensures ok { OnOk result (AddsValue (settings_in value) values.old values.new) }
     ensures err { IfErr result (λ e. is_memory e ≡ false
         → (e ≡ AxisError.TooManyValues) × (1000000 ≤ length (map settings_in values.old.items))) }
 {
@@ -103,8 +102,7 @@ fn words_between(alloc: Global, words: &str, mark: char) -> Result<Vec<&str>, Al
 
 /// The settings of the parts of a value.
 fn read_parts(alloc: Global, words: &[&str]) -> Result<Vec<Setting>, AxisError>
-    ensures ok { IfOk result (λ v. (parts_fault (map piece_said (map (λ x. x.now) words.now)) ≡ None)
-        × (settings_in v ≡ flat_map values_of (map piece_said (map (λ x. x.now) words.now)))) }
+    ensures ok { IfOk result (λ v. AreOfParts (map piece_said (map (λ x. x.now) words.now)) (settings_in v)) }
     ensures err { IfErr result (IsFault (parts_fault (map piece_said (map (λ x. x.now) words.now)))) }
 {
     let mut settings = Vec::new(alloc);
@@ -145,8 +143,8 @@ fn push_entry(alloc: Global, values: &mut Vec<Vec<Setting>>, keys: usize, word: 
 
 /// The values of so many keys that some words say.
 fn read_entries(alloc: Global, keys: usize, words: &[&str]) -> Result<Vec<Vec<Setting>>, AxisError>
-    ensures ok { IfOk result (λ v. (first_fault 1000000 (entries_said keys (map (λ x. x.now) words.now)) ≡ None)
-        × (map settings_in v.items ≡ flat_map rows (entries_said keys (map (λ x. x.now) words.now)))) }
+    ensures ok { IfOk result (λ v.
+        AreOfEntries (entries_said keys (map (λ x. x.now) words.now)) (map settings_in v.items)) }
     ensures some { IfOk result (λ v. length words.now ≤ length v.items) }
     ensures err { IfErr result (IsFault (first_fault 1000000 (entries_said keys (map (λ x. x.now) words.now)))) }
 {
@@ -159,8 +157,7 @@ fn read_entries(alloc: Global, keys: usize, words: &[&str]) -> Result<Vec<Vec<Se
 
 /// The values of so many keys between commas, at least one.
 fn read_values(alloc: Global, keys: usize, words: &str) -> Result<Vec<Vec<Setting>>, AxisError>
-    ensures ok { IfOk result (λ v. (first_fault 1000000 (entries keys words.now) ≡ None)
-        × (map settings_in v.items ≡ flat_map rows (entries keys words.now))) }
+    ensures ok { IfOk result (λ v. AreOfEntries (entries keys words.now) (map settings_in v.items)) }
     ensures some { IfOk result (λ v. 1 ≤ length v.items) }
     ensures err { IfErr result (IsFault (first_fault 1000000 (entries keys words.now))) }
 {

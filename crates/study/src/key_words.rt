@@ -2,7 +2,7 @@
 ghost use Rattle.std.specs.Prelude.{◌≡◌, ◌≢◌, ◌≤◌, ◌<◌, ◌^◌, ◌++◌, ◌∷◌, ℕ, false, codes, decimal, string_bytes, true, IfOk, IfErr, MatchOption};
 ghost use Rattle.std.specs.List.{list_all};
 ghost use Rattle.study.specs.Settings.{path_of, key_text};
-ghost use Rattle.study.specs.KeyWords.{is_name_byte, is_name, is_place, IsOwner, HasNames, SaysKey, SaysNoKey, is_memory};
+ghost use Rattle.study.specs.KeyWords.{is_name_byte, is_name, is_place, IsPlaceOf, HasNoPlace, IsOwner, HasNames, SaysKey, SaysNoKey, is_memory};
 
 use crate::error::KeyError;
 use crate::key::Key;
@@ -32,9 +32,7 @@ fn is_place_word(word: &str) -> bool
 
 /// The place of a table before a closing bracket.
 fn place_in(word: &str) -> Option<u64>
-    ensures { MatchOption result
-        ((place : ℕ) → 1 ≤ place → place < 2 ^ 64 → word.now ≢ decimal place ++ codes "]")
-        (λ place. (1 ≤ place) × (place < 2 ^ 64) × (word.now ≡ decimal place ++ codes "]")) }
+    ensures { MatchOption result (HasNoPlace word.now) (IsPlaceOf word.now) }
 {
     let digits = word.strip_suffix(']')?;
     if is_place_word(digits) {

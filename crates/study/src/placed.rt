@@ -146,7 +146,8 @@ fn changed_items(
 ) -> Result<Vec<Value>, PlaceError>
     ensures ok { IfOk result (λ v. put_in_each key.now (data_of (given_by setting.now)) (items_view items.now)
         ≡ Ok (array_view v)) }
-    ensures err { IfErr result (IsRefused (put_in_each key.now (data_of (given_by setting.now)) (items_view items.now))) }
+    ensures err { IfErr result (IsRefused
+        (put_in_each key.now (data_of (given_by setting.now)) (items_view items.now))) }
 {
     let mut changed = Vec::new(alloc);
     for item in items {

@@ -1,7 +1,6 @@
 //! Seeds, as words of a command line.
-ghost use Rattle.std.specs.Prelude.{◌≡◌, true, None, Some, IfOk, IfErr, MatchOption};
-ghost use Rattle.study.specs.SeedWords.{seeds_said, seeds_fault};
-ghost use Rattle.study.specs.Words.{is_natural, natural};
+ghost use Rattle.std.specs.Prelude.{◌≡◌, None, Some, IfOk, IfErr, MatchOption};
+ghost use Rattle.study.specs.SeedWords.{seeds_said, seeds_fault, AreEnds};
 
 use crate::error::SeedsError;
 use crate::words::{bounds_in, is_natural_word, natural_up_to};
@@ -21,8 +20,7 @@ pub struct Seeds {
 /// The words of the first seed and the last.
 fn ends_in(word: &str) -> Option<(&str, &str)>
     ensures { MatchOption result (seeds_said word.now ≡ None) (λ ends.
-        (is_natural ends.0.now ≡ true) × (is_natural ends.1.now ≡ true)
-        × (seeds_said word.now ≡ Some (natural ends.0.now, natural ends.1.now))) }
+        AreEnds word.now ends.0.now ends.1.now) }
 {
     if is_natural_word(word) {
         return Some((word, word));

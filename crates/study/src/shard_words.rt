@@ -16,19 +16,17 @@ impl Shard {
         ensures ok { IfOk result (λ s. (shard_said word.now ≡ Some s) × (shard_fault (shard_said word.now) ≡ None)) }
         ensures err { IfErr result (λ e. shard_fault (shard_said word.now) ≡ Some e) }
     {
-        let (number, of) = match word.split_once('/') {
-            Some(parts) => parts,
-            None => return Err(ShardError::NoShard),
+        let Some((number, of)) = word.split_once('/') else {
+            return Err(ShardError::NoShard);
         };
         if !is_natural_word(number) || !is_natural_word(of) {
             return Err(ShardError::NoShard);
         }
         let most = u64::from(u32::MAX);
         match (natural_up_to(number, most), natural_up_to(of, most)) {
-            (Some(number), Some(of)) => match Shard::new(number as u32, of as u32) {
-                Some(shard) => Ok(shard),
-                None => Err(ShardError::OutOfRange),
-            },
+            (Some(number), Some(of)) => {
+                Shard::new(number as u32, of as u32).ok_or(ShardError::OutOfRange)
+            }
             _ => Err(ShardError::OutOfRange),
         }
     }

@@ -32,10 +32,7 @@ pub(crate) fn natural_up_to(word: &str, most: u64) -> Option<u64>
     requires { is_natural word.now ≡ true }
     ensures { MatchOption result (most < natural word.now) (λ n. (n ≡ natural word.now) × (n ≤ most)) }
 {
-    match natural_in(word) {
-        Some(number) if number <= most => Some(number),
-        _ => None,
-    }
+    natural_in(word).filter(|number| *number <= most)
 }
 
 /// Whether a word is an integer: a natural number, after a minus sign or none.

@@ -14,12 +14,10 @@ returns-clause-value c =
 
 pub returns-clause-some : goal.returns-clause-some
 returns-clause-some c =
-    IfOk-weaker c.collect.result _ _
-    (λ v is. omega (
+    IfOk-weaker c.collect.result _ _ (λ v is. omega (
       arith,
       length-map v.items (λ x. x.now),
       ap length is,
       length-slice_split (λ b. b == c.args.mark)
           c.args.words.now,
-    ))
-    (returns-clause-value c)
+    )) (returns-clause-value c)

@@ -10,7 +10,8 @@ loop-axis-preserved c =
     let rest = length (ways (drop (i + 1) axes)) in
     let from : length (ways (drop i axes)) ≡ c.len.result * rest =
     length_from axes i c.axis-item.result c.loop-axis-test.true c.axis-item.is ∙ ap (λ n. n * rest) (sym c.len.ensures) in
-    let is : c.saturating_mul-count.result ≡ min (c.loop-axis.count * c.len.result) (2 ^ 64 - 1) = c.saturating_mul-count.ensures in
+    let is : c.saturating_mul-count.result ≡ min (c.loop-axis.count * c.len.result) (2 ^ 64 - 1) =
+    c.saturating_mul-count.ensures in
     let some : 1 ≤ c.len.result = omega (arith, axis_some c.axis-item.result, c.len.ensures) in
     let more : 1 ≤ c.loop-axis.count * c.len.result = one-le-mul c.loop-axis.invariant.low some in
     record {

@@ -36,7 +36,8 @@ loop-axis-preserved c =
     let i = c.loop-axis.axis-index in
     let old = map chosen c.loop-axis.picked.items in
     let rest = ways (drop (i + 1) c.args.axes.now) in
-    let alike = block_from c.args.axes.now i c.axis-item.result c.loop-axis-test.true c.axis-item.is c.loop-axis.alike c.len.result
+    let alike =
+    block_from c.args.axes.now i c.axis-item.result c.loop-axis-test.true c.axis-item.is c.loop-axis.alike c.len.result
     c.len.ensures c.loop-axis.invariant.alike in
     let read =
     subst (λ n. c.index-value.result.now ≡ get_or c.axis-item.result.values.items (c.loop-axis.left / n)
@@ -49,8 +50,7 @@ loop-axis-preserved c =
       left = mod-lt c.loop-axis.left (omega (arith, alike, some_ways (drop (i + 1) c.args.axes.now)));
       same =
           ap (λ k. map chosen c.push_choices.new.picked.items ++ get_or rest (c.loop-axis.left % k) []) alike
-          ∙ (ap (λ p. p ++ get_or rest (c.loop-axis.left % length rest) [])
-          (c.in_ok-push_choices.ensures
+          ∙ (ap (λ p. p ++ get_or rest (c.loop-axis.left % length rest) []) (c.in_ok-push_choices.ensures
           ∙ (ap (λ ks. old ++ set_to (map path_of ks) (map given_by c.deref-in-loop-axis.result.now)) c.deref.ensures.value
           ∙ ap (λ vs. old ++ set_to (map path_of c.axis-item.result.keys.items) (map given_by vs))
           c.deref-in-loop-axis.ensures.value))

@@ -13,8 +13,7 @@ returns c =
     c.loop-key.key-iterator c.next.new.self c.next.result (search rules) (search rules) c.loop-key.yielded_by
     c.in-None.is c.next.ensures.steps in
     let none : set_to (map path_of (drop n c.args.keys.now)) (map given_by (drop n c.args.settings.now)) ≡ [] =
-    none_set (map path_of (drop n c.args.keys.now)) (map given_by (drop n c.args.settings.now))
-    (omega (
+    none_set (map path_of (drop n c.args.keys.now)) (map given_by (drop n c.args.settings.now)) (omega (
       arith,
       length-map (drop n c.args.keys.now) path_of,
       length-map (drop n c.args.settings.now) given_by,

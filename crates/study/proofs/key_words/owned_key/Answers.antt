@@ -16,8 +16,11 @@ pub returns-in_err-array-in-Some-clause-err : goal.returns-in_err-array-in-Some-
 returns-in_err-array-in-Some-clause-err c =
     carried (λ e. is_memory e ≡ false → (e ≡ error.NoKey) × (IsOwner c.args.owner.now → is_name c.args.key.now ≡ false))
     c.from_residual-in_err-array-in-Some.result c.in_err-array-in-Some.field-0.0 c.from_residual-in_err-array-in-Some.ensures.1
-    (λ other. let refused = c.in_err-array-in-Some.ensures.err other in
-    (refused.0, λ owner. absurd (no_array c.args.owner.now c.in-Some.array c.in-Some.place c.in-Some.ensures.cases refused.1 owner)))
+    (λ other. let refused = c.in_err-array-in-Some.ensures.err other in (
+      refused.0,
+      λ owner. absurd (no_array c.args.owner.now c.in-Some.array c.in-Some.place c.in-Some.ensures.cases
+          refused.1 owner),
+    ))
 
 pub returns-in-Some-place_in-clause-ok : goal.returns-in-Some-place_in-clause-ok
 returns-in-Some-place_in-clause-ok c =
@@ -45,7 +48,6 @@ returns-then-eq-clause-ok c =
     let star : c.in-Some.place.now ≡ codes "*]" = search rules in
     let split = split_parts 91 c.args.owner.now (Some (c.in-Some.array, c.in-Some.place)) c.in-Some.ensures.cases (lit< tt) in (
       every_written c.args.owner.now c.args.key.now c.in-Some.array.now c.in-Some.place.now
-          (string_bytes c.in_ok-array-in-Some.array)
-          (string_bytes c.in_ok-key.key) split.0 star array.0 key.0,
+          (string_bytes c.in_ok-array-in-Some.array) (string_bytes c.in_ok-key.key) split.0 star array.0 key.0,
       (ap is_name array.0 ∙ array.1, ap is_name key.0 ∙ key.1),
     )

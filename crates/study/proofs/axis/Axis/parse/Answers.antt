@@ -20,7 +20,8 @@ returns-in_err-values-clause-err c =
     let split = split_has 61 c.args.words.now c.in-Some.parts c.in-Some.ensures.cases (lit< tt) in
     let paths = map path_of c.in-Ok.keys.items in
     let error = c.in_err-values.field-0.0 in
-    let number : c.len.result ≡ length paths = c.len.ensures ∙ (c.in-Ok.keys.ok.0 ∙ sym (length-map c.in-Ok.keys.items path_of)) in
+    let number : c.len.result ≡ length paths =
+    c.len.ensures ∙ (c.in-Ok.keys.ok.0 ∙ sym (length-map c.in-Ok.keys.items path_of)) in
     carried (λ e. is_memory e ≡ false → SaysNoAxis c.args.words.now e) c.from_residual.result error c.from_residual.ensures.1
     (λ other. no_values paths split.0 (subst (λ k. AllZip SaysKey (between 44 k) paths) split.1 c.in-Ok.ensures.ok)
     (subst (λ n. first_fault 1000000 (entries n (after 61 c.args.words.now)) ≡ Some error) number
@@ -38,5 +39,6 @@ invariant_of-result c =
       keyed = c.in-Ok.ensures.some;
       some = c.in_ok-values.ensures.some;
       matched = subst (λ n. All (λ v. length v.items ≡ n) values) (c.len.ensures ∙ c.in-Ok.keys.ok.0)
-          (matched c.len.result values (between 44 c.in-Some.parts.1.now) c.in_ok-values.ensures.ok.0 c.in_ok-values.ensures.ok.1);
+          (matched c.len.result values (between 44 c.in-Some.parts.1.now) c.in_ok-values.ensures.ok.0
+          c.in_ok-values.ensures.ok.1);
     }
