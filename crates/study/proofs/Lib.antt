@@ -1,13 +1,9 @@
 pub mod Blocks
-pub mod Combos
 pub mod Points
-pub mod Refusing
 pub mod Placing
 pub mod ReadBack
 pub mod Texts
 pub mod Numerals
 pub mod KeyNames
-pub mod KeyRows
 pub mod Parts
 pub mod Pieces
-pub mod Ranges

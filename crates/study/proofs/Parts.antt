@@ -1,22 +1,23 @@
 -- Parts of a word.
-use Rattle.std.proofs.Common.{◌≡◌, ◌≢◌, ℕ, suc, ◌<◌, [], ◌∷◌, ◌++◌, length, get_or, Bool, true, false, ◌==◌, ◌||◌, inl, inr, refl, ◌∙◌, ap, arith}
-use Rattle.std.proofs.lemmas.Bool.{cases_Bool, eqb-true, eq-eqb}
-use Rattle.study.specs.Words.{Word, has}
+use Rattle.std.proofs.Common.{◌≡◌, ◌≢◌, ℕ, ◌<◌, List, ◌∷◌, length, get_or, Bor, Some, true, false, ◌==◌, refl, ◌∙◌, ap}
+use Rattle.std.proofs.Math.Bool.{or-true}
+use Rattle.std.proofs.lemmas.Bool.{eq-eqb, ne_eqb}
+use Rattle.std.proofs.lemmas.List.{get_or_default}
+use Rattle.std.proofs.lemmas.List.Folds.{list_any-append, list_any_none}
+use Rattle.std.proofs.lemmas.Str.Pattern.{IsSplitOnceResult, split_parts, split_once_first}
+use Rattle.study.specs.Words.{Word, has, before, after}
 
 pub has_not : (c : ℕ) (w : Word) → ((i : ℕ) → i < length w → get_or w i 0 ≢ c) → has c w ≡ false
-has_not c [] lacks = refl
-has_not c (b ∷ w) lacks = elim (cases_Bool (b == c)) [
-  | inl same ↦ absurd (lacks 0 (omega arith) (eqb-true b c same))
-  | inr differs ↦ ap (λ x. x || has c w) differs ∙ has_not c w (λ i within. lacks (suc i) (omega arith))
-]
+has_not c w lacks =
+    list_any_none (λ b. b == c) w
+    (λ i d within. ne_eqb (get_or w i d) c (λ e. lacks i within (get_or_default w i 0 d within ∙ e)))
 
-or_true : (x : Bool) → (x || true) ≡ true
-or_true true = refl
-or_true false = refl
-
-has_joined : (c : ℕ) (v w : Word) → has c (v ++ (c ∷ w)) ≡ true
-has_joined c [] w = ap (λ x. x || has c w) (eq-eqb c c refl)
-has_joined c (b ∷ v) w = ap (λ x. (b == c) || x) (has_joined c v w) ∙ or_true (b == c)
-
-pub has_between : (c : ℕ) (u v w : Word) → u ≡ v ++ (c ∷ w) → has c u ≡ true
-has_between c u v w e = ap (has c) e ∙ has_joined c v w
+pub split_has : (c : ℕ) (w : Word) (x : Bor (List ℕ) × Bor (List ℕ)) → IsSplitOnceResult c w (Some x) → c < 128
+    → (has c w ≡ true) × (x.0.now ≡ before c w) × (x.1.now ≡ after c w)
+split_has c w x split low =
+    let first = split_once_first c w (Some x) split low in (
+      ap (has c) (split_parts c w (Some x) split low).0
+          ∙ (list_any-append (λ b. b == c) x.0.now (c ∷ x.1.now) ∙ rw (eq-eqb c c refl) (or-true (has c x.0.now))),
+      first.1,
+      first.2,
+    )

@@ -9,19 +9,21 @@ use Rattle.std.specs.String.{string_cmp}
 use Rattle.toml.specs.Data.{Data, Items, no_items, item, table, array, Members, get_member}
 use Rattle.toml.specs.View.{view, members_view, items_view, table_view}
 use Rattle.toml.specs.declared.value.Value.{Value}
-use Rattle.toml.proofs.Views.{Entry, get_item_within, get_item_past}
+use Rattle.toml.proofs.Views.{Entry, get_item_within, get_item_past, view-Table}
 use Rattle.study.specs.Settings.{every}
 use Rattle.study.specs.Placed.{put, put_item, put_in_each, put_in_all, set_at, items_of, table_of, table_there, element_of, then}
 use Rattle.study.specs.declared.error.PlaceError.{PlaceError}
 use Rattle.study.specs.declared.error.PlaceError.TheVariants as error
 
-by_order : (o : Ordering) (a b c : List Entry) → members_view (match_ordering o a b c) ≡ match_ordering o (members_view a) (members_view b) (members_view c)
+by_order : (o : Ordering) (a b c : List Entry)
+    → members_view (match_ordering o a b c) ≡ match_ordering o (members_view a) (members_view b) (members_view c)
 by_order Less a b c = refl
 by_order Equal a b c = refl
 by_order Greater a b c = refl
 
 -- an insert into a map
-pub inserted : (es : List Entry) (k : String Global) (v : Value) → members_view (insert_entry string_cmp es k v) ≡ put (string_bytes k) (view v) (members_view es)
+pub inserted : (es : List Entry) (k : String Global) (v : Value)
+    → members_view (insert_entry string_cmp es k v) ≡ put (string_bytes k) (view v) (members_view es)
 inserted [] k v = refl
 inserted (e ∷ es) k v = by_order (string_cmp k e.0) _ _ _ ∙ rw (inserted es k v)
 
@@ -32,7 +34,8 @@ written (w ∷ vs) zero v = refl
 written (w ∷ vs) (suc i) v = ap (item (view w)) (written vs i v)
 
 -- entries that are clones of others
-pub cloned : (es fs : List Entry) → AllZip (λ p q. (string_bytes q.0 ≡ string_bytes p.0) × (view q.1 ≡ view p.1)) es fs → members_view fs ≡ members_view es
+pub cloned : (es fs : List Entry) → AllZip (λ p q. (string_bytes q.0 ≡ string_bytes p.0) × (view q.1 ≡ view p.1)) es fs
+    → members_view fs ≡ members_view es
 cloned [] [] all = refl
 cloned [] (f ∷ fs) all = absurd all
 cloned (e ∷ es) [] all = absurd all
@@ -46,11 +49,18 @@ pub element_past : (vs : List Value) (place : ℕ) → length vs < place → ele
 element_past vs zero past = refl
 element_past vs (suc i) past = ap table_there (sym (get_item_past vs i (omega arith)))
 
-pub element_at : (vs : List Value) (place : ℕ) (v : Value) → 1 ≤ place → place ≤ length vs → v ≡ get_or vs (place - 1) v → element_of place (items_view vs) ≡ table_of (view v)
+pub element_at : (vs : List Value) (place : ℕ) (v : Value) → 1 ≤ place → place ≤ length vs → v ≡ get_or vs (place - 1) v
+    → element_of place (items_view vs) ≡ table_of (view v)
 element_at vs zero v low high is = absurd (omega arith)
 element_at vs (suc i) v low high is =
     let same : suc i - 1 ≡ i = omega arith in
-    ap table_there (sym (get_item_within vs i v (omega arith))) ∙ ap (λ w. table_of (view w)) (sym (is ∙ ap (λ k. get_or vs k v) same))
+    ap table_there (sym (get_item_within vs i v (omega arith)))
+    ∙ ap (λ w. table_of (view w)) (sym (is ∙ ap (λ k. get_or vs k v) same))
+
+-- a table at a place of an array, and one that is written there
+pub ruleset elements = (element_zero, element_past, element_at)
+
+pub ruleset writing = (written, view-Table)
 
 -- a clone of a map
 pub on_clone : {E : Type 0} (m : BTreeMap (String Global) Value) (r : Result (BTreeMap (String Global) Value) E) (N : E → Type 0)
@@ -80,14 +90,17 @@ after done r = then r (λ es. Ok (prepend done es))
 module _ (k : List ℕ) (d : Data) where
   each_from : (vs : List Value) (i : ℕ) (v : Value) → i < length vs → v ≡ get_or vs i v
       → put_in_each k d (items_view (drop i vs)) ≡ put_in_each k d (item (view v) (items_view (drop (i + 1) vs)))
-  each_from vs i v within is = ap (λ rest. put_in_each k d (items_view rest)) (drop_more vs i v within) ∙ ap (λ w. put_in_each k d (item (view w) (items_view (drop (i + 1) vs)))) (sym is)
+  each_from vs i v within is =
+      ap (λ rest. put_in_each k d (items_view rest)) (drop_more vs i v within)
+      ∙ ap (λ w. put_in_each k d (item (view w) (items_view (drop (i + 1) vs)))) (sym is)
 
   shift : (r : Result Items PlaceError) (done : List Value) (w : Value) (e : Data) → view w ≡ e
       → after (done ++ (w ∷ [])) r ≡ after done (then r (λ es. Ok (item e es)))
   shift (Ok es) done w e same = ap Ok (prepend_push done w es ∙ ap (λ x. prepend done (item x es)) same)
   shift (Err f) done w e same = refl
 
-  pub put_more : (vs : List Value) (i : ℕ) (v : Value) (done : List Value) (w : Value) (ms : Members) (all : Result Items PlaceError)
+  pub put_more : (vs : List Value) (i : ℕ) (v : Value) (done : List Value) (w : Value) (ms : Members)
+      (all : Result Items PlaceError)
       → i < length vs → v ≡ get_or vs i v → table_of (view v) ≡ Ok ms → view w ≡ table (put k d ms)
       → after done (put_in_each k d (items_view (drop i vs))) ≡ all
       → after (done ++ (w ∷ [])) (put_in_each k d (items_view (drop (i + 1) vs))) ≡ all
@@ -97,29 +110,20 @@ module _ (k : List ℕ) (d : Data) where
       ∙ (ap (λ r. after done (then r (λ n. then rest (λ es. Ok (item (table (put k d n)) es))))) (sym there)
       ∙ (ap (after done) (sym (each_from vs i v within is)) ∙ so_far))
 
-  pub put_fails : (vs : List Value) (i : ℕ) (v : Value) (done : List Value) (e : PlaceError) (all : Result Items PlaceError)
-      → i < length vs → v ≡ get_or vs i v → table_of (view v) ≡ Err e
-      → after done (put_in_each k d (items_view (drop i vs))) ≡ all → all ≡ Err e
-  put_fails vs i v done e all within is fault so_far =
-      let rest : Result Items PlaceError = put_in_each k d (items_view (drop (i + 1) vs)) in
-      sym so_far
-      ∙ (ap (after done) (each_from vs i v within is) ∙ ap (λ r. after done (then r (λ n. then rest (λ es. Ok (item (table (put k d n)) es))))) fault)
-
   pub put_all : (vs : List Value) (i : ℕ) (done : List Value) (all : Result Items PlaceError) → length vs ≤ i
       → after done (put_in_each k d (items_view (drop i vs))) ≡ all → all ≡ Ok (items_view done)
   put_all vs i done all past so_far =
-      sym so_far ∙ (ap (λ rest. after done (put_in_each k d (items_view rest))) (drop_of_length-le vs past) ∙ ap Ok (prepend_all done))
-
-  pub none_in_all : (vs : List Value) → length vs ≡ 0 → put_in_all k d (items_view vs) ≡ Err error.NoElement
-  none_in_all [] none = refl
-  none_in_all (v ∷ vs) none = absurd (omega arith)
+      sym so_far ∙ (ap (λ rest. after done (put_in_each k d (items_view rest))) (drop_of_length-le vs past)
+      ∙ ap Ok (prepend_all done))
 
   pub some_in_all : (vs : List Value) → 1 ≤ length vs → put_in_all k d (items_view vs) ≡ put_in_each k d (items_view vs)
   some_in_all [] some = absurd (omega arith)
   some_in_all (v ∷ vs) some = refl
 
-pub every_set : (k a : List ℕ) (d : Data) (t new : Members) (vs done : List Value) → items_of (get_member a t) ≡ Ok (items_view vs) → 1 ≤ length vs
-    → put_in_each k d (items_view vs) ≡ Ok (items_view done) → new ≡ put a (array (items_view done)) t → set_at (every a k) d t ≡ Ok new
+pub every_set : (k a : List ℕ) (d : Data) (t new : Members) (vs done : List Value)
+    → items_of (get_member a t) ≡ Ok (items_view vs) → 1 ≤ length vs
+    → put_in_each k d (items_view vs) ≡ Ok (items_view done) → new ≡ put a (array (items_view done)) t
+    → set_at (every a k) d t ≡ Ok new
 every_set k a d t new vs done there some each is =
     ap (λ r. then r (λ ds. then (put_in_all k d ds) (λ es. Ok (put a (array es) t)))) there
     ∙ (ap (λ r. then r (λ es. Ok (put a (array es) t))) (some_in_all k d vs some ∙ each) ∙ ap Ok (sym is))

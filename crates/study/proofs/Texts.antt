@@ -27,7 +27,10 @@ text_of t text back = record {
 }
   where
     same : (t : Members) (s : Record) (accepts : Accepts text s) → accepts.table ≡ t → IsScenarioOf (Ok t) s
-    same t s accepts e = subst (λ u. Passes table_rules (Some u) × (s ≡ record_of u)) e (accepted_passes accepts.table accepts.no_rule, accepts.stands_for)
+    same t s accepts e =
+        subst (λ u. Passes table_rules (Some u) × (s ≡ record_of u)) e
+        (accepted_passes accepts.table accepts.no_rule, accepts.stands_for)
 
-pub run_text : (r : Result Members PlaceError) (t : Members) (text : List ℕ) → r ≡ Ok t → (members_depth t ≤ 80 → parse_document text ≡ Some t) → IsRunText r text
+pub run_text : (r : Result Members PlaceError) (t : Members) (text : List ℕ) → r ≡ Ok t
+    → (members_depth t ≤ 80 → parse_document text ≡ Some t) → IsRunText r text
 run_text r t text is back = subst (λ q. IsRunText q text) (sym is) (text_of t text back)

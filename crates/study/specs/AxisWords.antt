@@ -1,5 +1,6 @@
 -- Which words say which axes.
-use Rattle.std.specs.Prelude.{◌≡◌, ℕ, ◌+◌, ◌-◌, ◌*◌, ◌/◌, nat_lt, ℤ, pos, unsigned_abs, int_lt, ◌+ℤ◌, ◌-ℤ◌, List, [], ◌∷◌, ◌++◌, map, length, Bool, true, false, not, ◌&&◌, ◌==◌, codes, Option, Some, None, if◌then◌else◌}
+use Rattle.std.specs.Prelude.{◌≡◌, ◌<◌, ℕ, ◌+◌, ◌-◌, ◌*◌, ◌/◌, nat_lt, ℤ, pos, unsigned_abs, int_lt, ◌+ℤ◌, ◌-ℤ◌, List, [], ◌∷◌, ◌++◌, map, length, Bool, true, false, not, ◌&&◌, ◌==◌, codes, Option, Some, None, if◌then◌else◌}
+use Rattle.std.specs.Global.{Vec}
 use Rattle.std.specs.List.{flat_map, range_with_len, AllZip}
 use Rattle.std.specs.Option.{option_and_then, option_or}
 use Rattle.study.specs.KeyWords.{SaysKey, SayNoKeys, is_memory as is_key_memory}
@@ -8,6 +9,7 @@ use Rattle.study.specs.Words.{Word, has, before, after, between, is_integer, int
 use Rattle.study.specs.declared.axis.Axis.{Axis}
 use Rattle.study.specs.declared.range.Range.{Range as RangeNumbers}
 use Rattle.study.specs.declared.range.RangeWords.{RangeWords}
+use Rattle.study.specs.declared.setting.Setting.{Setting}
 use Rattle.study.specs.declared.error.AxisError.{AxisError}
 use Rattle.study.specs.declared.error.AxisError.TheVariants as error
 use Rattle.study.specs.declared.error.KeyError.{KeyError}
@@ -167,3 +169,30 @@ abbrev pub is_memory : AxisError → Bool
 is_memory (error.Key e) = is_key_memory e
 is_memory (error.Memory m) = true
 is_memory _ = false
+
+-- ---- what is asked of the code
+
+-- the error is want of memory, or why what words say is refused
+abbrev pub IsFault : Option AxisError → AxisError → Type 0
+IsFault fault e = is_memory e ≡ false → fault ≡ Some e
+
+-- the values are those of parts that some words say
+abbrev pub AreOfParts : List Piece → List Given → Type 0
+AreOfParts ps got = (parts_fault ps ≡ None) × (got ≡ flat_map values ps)
+
+-- the values are those of entries that some words say
+abbrev pub AreOfEntries : List Entry → List (List Given) → Type 0
+AreOfEntries es got = (first_fault 1000000 es ≡ None) × (got ≡ flat_map rows es)
+
+-- the new values are the old ones, for which there was room, with this one after them
+abbrev pub AddsValue : List Given → (old new : Vec (Vec Setting)) → Type 0
+AddsValue row old new = (length (map settings_in old.items) < 1000000)
+    × (map settings_in new.items ≡ map settings_in old.items ++ (row ∷ []))
+
+-- the new values are the old ones with the entry's after them
+abbrev pub AddsTo : Entry → (old new : Vec (Vec Setting)) → Type 0
+AddsTo e old new = Adds (map settings_in old.items) (map settings_in new.items) e
+
+-- the error is want of memory, or why the entry's values can't stand after these
+abbrev pub CannotAdd : Entry → Vec (Vec Setting) → AxisError → Type 0
+CannotAdd e old = IsFault (fault_within (1000000 - length (map settings_in old.items)) e)

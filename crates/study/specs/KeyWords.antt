@@ -19,6 +19,13 @@ is_name w = not (length w == 0) && list_all is_name_byte w
 abbrev pub is_place : Word → Bool
 is_place w = not (slice_index w 0 == 48) && is_natural w
 
+-- a place that stands before a closing bracket, and no place stands before one
+abbrev pub IsPlaceOf : Word → ℕ → Type 0
+IsPlaceOf w place = (1 ≤ place) × (place < 2 ^ 64) × (w ≡ decimal place ++ codes "]")
+
+abbrev pub HasNoPlace : Word → Type 0
+HasNoPlace w = (place : ℕ) → 1 ≤ place → place < 2 ^ 64 → w ≢ decimal place ++ codes "]"
+
 -- what may stand before a key's dot: a table's name, or an array's with the place of a table, or with a star for all,
 -- in brackets
 pub data IsOwner (w : Word) : Type 0 where

@@ -1,10 +1,15 @@
 -- A scenario's file with a value at a path, in place of the one that is there.
-use Rattle.std.specs.Prelude.{ℕ, ◌-◌, zero, suc, List, [], ◌∷◌, Option, Some, None, Result, Ok, Err, pos, codes, Bool, true, false}
+use Rattle.std.specs.Prelude.{◌≡◌, ℕ, ◌-◌, zero, suc, List, [], ◌∷◌, Option, Some, None, Result, Ok, Err, pos, codes, Bool, true, false, String}
+use Rattle.std.specs.BTreeMap.{BTreeMap}
+use Rattle.std.specs.declared.alloc.Global.{Global}
 use Rattle.std.specs.Ordering.{nat_cmp, match_ordering}
 use Rattle.std.specs.Cmp.Lexicographic.{slice_cmp}
 use Rattle.toml.specs.Data.{Data, integer, string, array, table, Items, no_items, item, Members, no_members, member, get_member, get_item}
-use Rattle.study.specs.Settings.{Path, top, inner, element, every, Given, number, text, Chosen}
+use Rattle.toml.specs.View.{table_view}
+use Rattle.toml.specs.declared.value.Value.{Value}
+use Rattle.study.specs.Settings.{Path, top, inner, element, every, Given, number, text, given_by, Chosen}
 use Rattle.study.specs.Grid.{RunRecord}
+use Rattle.study.specs.declared.setting.Setting.{Setting}
 use Rattle.study.specs.declared.error.PlaceError.{PlaceError}
 use Rattle.study.specs.declared.error.PlaceError.TheVariants as error
 
@@ -89,3 +94,20 @@ table_of_run point run t =
 abbrev pub is_memory : PlaceError → Bool
 is_memory (error.Memory m) = true
 is_memory _ = false
+
+-- ---- what is asked of the code
+
+-- the error is want of memory, or why there is no such value
+abbrev pub IsRefused : {A : Type 0} → Result A PlaceError → PlaceError → Type 0
+IsRefused meant e = is_memory e ≡ false → meant ≡ Err e
+
+abbrev pub Table : Type 0
+Table = BTreeMap (String Global) Value
+
+-- with the setting at the path the one table is the other
+abbrev pub Puts : Path → Setting → (old new : Table) → Type 0
+Puts path setting old new = set_at path (data_of (given_by setting)) (table_view old) ≡ Ok (table_view new)
+
+-- the error is want of memory, or why the table can't have the setting at the path
+abbrev pub CannotPut : Path → Setting → Table → PlaceError → Type 0
+CannotPut path setting old = IsRefused (set_at path (data_of (given_by setting)) (table_view old))

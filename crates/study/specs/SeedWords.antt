@@ -1,5 +1,5 @@
 -- Which words say which seeds.
-use Rattle.std.specs.Prelude.{ℕ, ◌^◌, nat_lt, not, ◌&&◌, Option, Some, None, if◌then◌else◌}
+use Rattle.std.specs.Prelude.{◌≡◌, true, ℕ, ◌^◌, nat_lt, not, ◌&&◌, Option, Some, None, if◌then◌else◌}
 use Rattle.std.specs.Option.{option_and_then}
 use Rattle.study.specs.Words.{Word, is_natural, natural, bounds}
 use Rattle.study.specs.declared.error.SeedsError.{SeedsError}
@@ -12,6 +12,12 @@ seeds_between ends =
 -- the first seed and the last: A and B of A..=B, or both A
 abbrev pub seeds_said : Word → Option (ℕ × ℕ)
 seeds_said w = if is_natural w then Some (natural w, natural w) else option_and_then seeds_between (bounds w)
+
+-- the words of the first seed and the last
+pub record AreEnds (w first last : Word) : Type 0 where
+  pub first_natural : is_natural first ≡ true
+  pub last_natural : is_natural last ≡ true
+  pub said : seeds_said w ≡ Some (natural first, natural last)
 
 -- why there are no such seeds
 abbrev pub seeds_fault : Option (ℕ × ℕ) → Option SeedsError

@@ -1,10 +1,10 @@
 //! Axes, as words of a command line.
-ghost use Rattle.std.specs.Prelude.{◌≡◌, ◌<◌, ◌≤◌, ◌-◌, ◌++◌, ◌∷◌, [], false, None, Some, IfOk, OnOk, IfErr, map, length};
+ghost use Rattle.std.specs.Prelude.{◌≡◌, ◌<◌, ◌≤◌, ◌++◌, ◌∷◌, [], false, None, IfOk, OnOk, IfErr, map, length};
 ghost use Rattle.std.specs.List.{flat_map, AllZip};
 ghost use Rattle.study.specs.Settings.{given_by, settings_in, path_of};
 ghost use Rattle.study.specs.Words.{between};
 ghost use Rattle.study.specs.KeyWords.{SaysKey, SayNoKeys, is_memory as is_key_memory};
-ghost use Rattle.study.specs.AxisWords.{range_by, range_of, steps as steps_between, range as as_range, piece_said, values as values_of, parts_fault, single, tied, entry_said, rows, fault_within, first_fault, Adds, entries, entries_said, SaysAxis, SaysNoAxis, is_memory};
+ghost use Rattle.study.specs.AxisWords.{range_by, range_of, steps as steps_between, range as as_range, piece_said, values as values_of, parts_fault, single, tied, entry_said, rows, first_fault, entries, entries_said, SaysAxis, SaysNoAxis, is_memory, IsFault, AreOfParts, AreOfEntries, AddsValue, AddsTo, CannotAdd};
 
 use crate::axis::Axis;
 use crate::error::{AxisError, KeyError};
@@ -18,10 +18,12 @@ use std::alloc::{AllocError, Global};
 /// How many values an axis may have that words say.
 const MOST_VALUES: usize = 1_000_000;
 
+/// Values that were added, unless they can't be.
+type Added = Result<(), AxisError>;
+
 /// Adds a value, if there is room for it.
-fn push_value(values: &mut Vec<Vec<Setting>>, value: Vec<Setting>) -> Result<(), AxisError>
-    ensures ok { OnOk result ((length (map settings_in values.old.items) < 1000000)
-        × (map settings_in values.new.items ≡ map settings_in values.old.items ++ (settings_in value ∷ []))) }
+fn push_value(values: &mut Vec<Vec<Setting>>, value: Vec<Setting>) -> Added
+    ensures ok { OnOk result (AddsValue (settings_in value) values.old values.new) }
     ensures err { IfErr result (λ e. is_memory e ≡ false
         → (e ≡ AxisError.TooManyValues) × (1000000 ≤ length (map settings_in values.old.items))) }
 {
@@ -60,22 +62,12 @@ fn push_numbers(
 }
 
 /// Adds the numbers of a range, if there is room for them.
-fn push_range(
-    alloc: Global,
-    values: &mut Vec<Vec<Setting>>,
-    words: RangeWords<'_>,
-) -> Result<(), AxisError>
+fn push_range(alloc: Global, values: &mut Vec<Vec<Setting>>, words: RangeWords<'_>) -> Added
     requires { length values.old.items ≤ 1000000 }
-    ensures ok { OnOk result (Adds (map settings_in values.old.items) (map settings_in values.new.items)
-        (single (as_range (range_by words.entry)))) }
-    ensures err { IfErr result (λ e. is_memory e ≡ false
-        → fault_within (1000000 - length (map settings_in values.old.items)) (single (as_range (range_by words.entry)))
-        ≡ Some e) }
+    ensures ok { OnOk result (AddsTo (single (as_range (range_by words.entry))) values.old values.new) }
+    ensures err { IfErr result (CannotAdd (single (as_range (range_by words.entry))) values.old) }
 {
-    let range = match read_range(words) {
-        Ok(range) => range,
-        Err(error) => return Err(error),
-    };
+    let range = read_range(words)?;
     if range.steps() >= (MOST_VALUES - values.len()) as u64 {
         return Err(AxisError::TooManyValues);
     }
@@ -86,38 +78,32 @@ fn push_range(
 }
 
 /// Adds the values of one key that a word says, if there is room for them.
-fn push_single(alloc: Global, values: &mut Vec<Vec<Setting>>, word: &str) -> Result<(), AxisError>
+fn push_single(alloc: Global, values: &mut Vec<Vec<Setting>>, word: &str) -> Added
     requires { length values.old.items ≤ 1000000 }
-    ensures ok { OnOk result (Adds (map settings_in values.old.items) (map settings_in values.new.items)
-        (single (piece_said word.now))) }
-    ensures err { IfErr result (λ e. is_memory e ≡ false
-        → fault_within (1000000 - length (map settings_in values.old.items)) (single (piece_said word.now))
-        ≡ Some e) }
+    ensures ok { OnOk result (AddsTo (single (piece_said word.now)) values.old values.new) }
+    ensures err { IfErr result (CannotAdd (single (piece_said word.now)) values.old) }
 {
     if let Some(words) = range_in(word) {
         return push_range(alloc, values, words);
     }
     let setting = read_setting(alloc, word)?;
-    match value_of(alloc, setting) {
-        Ok(value) => push_value(values, value),
-        Err(error) => Err(AxisError::Memory(error)),
-    }
+    let value = value_of(alloc, setting).map_err(AxisError::Memory)?;
+    push_value(values, value)
 }
 
 /// The words between all places at which this character stands, which is one of ASCII.
 fn words_between(alloc: Global, words: &str, mark: char) -> Result<Vec<&str>, AllocError>
     requires { mark < 128 }
-    ensures { IfOk result (λ v. map (λ x. x.now) v.items ≡ between mark words.now) }
+    ensures value { IfOk result (λ v. map (λ x. x.now) v.items ≡ between mark words.now) }
+    ensures some { IfOk result (λ v. 1 ≤ length v.items) }
 {
     words.split(mark).collect(alloc)
 }
 
 /// The settings of the parts of a value.
 fn read_parts(alloc: Global, words: &[&str]) -> Result<Vec<Setting>, AxisError>
-    ensures ok { IfOk result (λ v. (parts_fault (map piece_said (map (λ x. x.now) words.now)) ≡ None)
-        × (settings_in v ≡ flat_map values_of (map piece_said (map (λ x. x.now) words.now)))) }
-    ensures err { IfErr result (λ e. is_memory e ≡ false
-        → parts_fault (map piece_said (map (λ x. x.now) words.now)) ≡ Some e) }
+    ensures ok { IfOk result (λ v. AreOfParts (map piece_said (map (λ x. x.now) words.now)) (settings_in v)) }
+    ensures err { IfErr result (IsFault (parts_fault (map piece_said (map (λ x. x.now) words.now)))) }
 {
     let mut settings = Vec::new(alloc);
     for word in words {
@@ -130,22 +116,11 @@ fn read_parts(alloc: Global, words: &[&str]) -> Result<Vec<Setting>, AxisError>
 }
 
 /// Adds a value of tied keys, if there is room for it.
-fn push_tied(
-    alloc: Global,
-    values: &mut Vec<Vec<Setting>>,
-    keys: usize,
-    word: &str,
-) -> Result<(), AxisError>
-    ensures ok { OnOk result (Adds (map settings_in values.old.items) (map settings_in values.new.items)
-        (tied keys (map piece_said (between 58 word.now)))) }
-    ensures err { IfErr result (λ e. is_memory e ≡ false
-        → fault_within (1000000 - length (map settings_in values.old.items))
-        (tied keys (map piece_said (between 58 word.now))) ≡ Some e) }
+fn push_tied(alloc: Global, values: &mut Vec<Vec<Setting>>, keys: usize, word: &str) -> Added
+    ensures ok { OnOk result (AddsTo (tied keys (map piece_said (between 58 word.now))) values.old values.new) }
+    ensures err { IfErr result (CannotAdd (tied keys (map piece_said (between 58 word.now))) values.old) }
 {
-    let words = match words_between(alloc, word, ':') {
-        Ok(words) => words,
-        Err(error) => return Err(AxisError::Memory(error)),
-    };
+    let words = words_between(alloc, word, ':').map_err(AxisError::Memory)?;
     if words.len() != keys {
         return Err(AxisError::PartsPerKey);
     }
@@ -154,17 +129,10 @@ fn push_tied(
 }
 
 /// Adds the values of so many keys that a word says, if there is room for them.
-fn push_entry(
-    alloc: Global,
-    values: &mut Vec<Vec<Setting>>,
-    keys: usize,
-    word: &str,
-) -> Result<(), AxisError>
+fn push_entry(alloc: Global, values: &mut Vec<Vec<Setting>>, keys: usize, word: &str) -> Added
     requires { length values.old.items ≤ 1000000 }
-    ensures ok { OnOk result (Adds (map settings_in values.old.items) (map settings_in values.new.items)
-        (entry_said keys word.now)) }
-    ensures err { IfErr result (λ e. is_memory e ≡ false
-        → fault_within (1000000 - length (map settings_in values.old.items)) (entry_said keys word.now) ≡ Some e) }
+    ensures ok { OnOk result (AddsTo (entry_said keys word.now) values.old values.new) }
+    ensures err { IfErr result (CannotAdd (entry_said keys word.now) values.old) }
 {
     if keys == 1 {
         push_single(alloc, values, word)
@@ -175,11 +143,10 @@ fn push_entry(
 
 /// The values of so many keys that some words say.
 fn read_entries(alloc: Global, keys: usize, words: &[&str]) -> Result<Vec<Vec<Setting>>, AxisError>
-    ensures ok { IfOk result (λ v. (first_fault 1000000 (entries_said keys (map (λ x. x.now) words.now)) ≡ None)
-        × (map settings_in v.items ≡ flat_map rows (entries_said keys (map (λ x. x.now) words.now)))) }
+    ensures ok { IfOk result (λ v.
+        AreOfEntries (entries_said keys (map (λ x. x.now) words.now)) (map settings_in v.items)) }
     ensures some { IfOk result (λ v. length words.now ≤ length v.items) }
-    ensures err { IfErr result (λ e. is_memory e ≡ false
-        → first_fault 1000000 (entries_said keys (map (λ x. x.now) words.now)) ≡ Some e) }
+    ensures err { IfErr result (IsFault (first_fault 1000000 (entries_said keys (map (λ x. x.now) words.now)))) }
 {
     let mut values = Vec::new(alloc);
     for word in words {
@@ -190,20 +157,18 @@ fn read_entries(alloc: Global, keys: usize, words: &[&str]) -> Result<Vec<Vec<Se
 
 /// The values of so many keys between commas, at least one.
 fn read_values(alloc: Global, keys: usize, words: &str) -> Result<Vec<Vec<Setting>>, AxisError>
-    ensures ok { IfOk result (λ v. (first_fault 1000000 (entries keys words.now) ≡ None)
-        × (map settings_in v.items ≡ flat_map rows (entries keys words.now))) }
+    ensures ok { IfOk result (λ v. AreOfEntries (entries keys words.now) (map settings_in v.items)) }
     ensures some { IfOk result (λ v. 1 ≤ length v.items) }
-    ensures err { IfErr result (λ e. is_memory e ≡ false → first_fault 1000000 (entries keys words.now) ≡ Some e) }
+    ensures err { IfErr result (IsFault (first_fault 1000000 (entries keys words.now))) }
 {
-    match words_between(alloc, words, ',') {
-        Ok(words) => read_entries(alloc, keys, &words),
-        Err(error) => Err(AxisError::Memory(error)),
-    }
+    let words = words_between(alloc, words, ',').map_err(AxisError::Memory)?;
+    read_entries(alloc, keys, &words)
 }
 
 /// The keys that some words say.
 fn read_key_words(alloc: Global, words: &[&str]) -> Result<Vec<Key>, KeyError>
     ensures ok { IfOk result (λ v. AllZip SaysKey (map (λ x. x.now) words.now) (map path_of v.items)) }
+    ensures some { IfOk result (λ v. length words.now ≤ length v.items) }
     ensures err { IfErr result (λ e. is_key_memory e ≡ false → SayNoKeys (map (λ x. x.now) words.now) e) }
 {
     let mut keys = Vec::new(alloc);
@@ -220,10 +185,8 @@ fn read_keys(alloc: Global, words: &str) -> Result<Vec<Key>, KeyError>
     ensures some { IfOk result (λ v. 1 ≤ length v.items) }
     ensures err { IfErr result (λ e. is_key_memory e ≡ false → SayNoKeys (between 44 words.now) e) }
 {
-    match words_between(alloc, words, ',') {
-        Ok(words) => read_key_words(alloc, &words),
-        Err(error) => Err(KeyError::Memory(error)),
-    }
+    let words = words_between(alloc, words, ',').map_err(KeyError::Memory)?;
+    read_key_words(alloc, &words)
 }
 
 impl Axis {

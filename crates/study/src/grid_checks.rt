@@ -16,8 +16,11 @@ const MOST_POINTS: u64 = 1_000_000;
 /// How many runs a point may have. Sums of numbers of 64 bits over the pairs and the runs of a point fit into 128 bits.
 const MOST_RUNS: u64 = 1_000_000_000_000;
 
+/// Nothing, unless a rule applies.
+type Checked = Result<(), GridError>;
+
 /// Why there can't be these seeds, where there can't.
-pub(crate) fn check_seeds(first_seed: u64, last_seed: u64) -> Result<(), GridError>
+pub(crate) fn check_seeds(first_seed: u64, last_seed: u64) -> Checked
     ensures ok { OnOk result (seeds_refusal first_seed last_seed ≡ None) }
     ensures order { OnOk result (first_seed ≤ last_seed) }
     ensures high { OnOk result (last_seed < 2 ^ 63) }
@@ -72,26 +75,18 @@ fn all_keys<'a>(
 }
 
 /// Why all keys of three kinds of axes can't be set together, where they can't.
-pub(crate) fn check_keys(
-    alloc: Global,
-    vary: &[Axis],
-    over: &[Axis],
-    deal: &[Axis],
-) -> Result<(), GridError>
+pub(crate) fn check_keys(alloc: Global, vary: &[Axis], over: &[Axis], deal: &[Axis]) -> Checked
     ensures ok { OnOk result (keys_refusal (paths_of vary.now ++ (paths_of over.now ++ paths_of deal.now)) ≡ None) }
     ensures err { IfErr result (λ e. is_memory e ≡ false
         → keys_refusal (paths_of vary.now ++ (paths_of over.now ++ paths_of deal.now)) ≡ reason_of e) }
 {
-    let keys = match all_keys(alloc, vary, over, deal) {
-        Ok(keys) => keys,
-        Err(error) => return Err(GridError::Memory(error)),
-    };
+    let keys = all_keys(alloc, vary, over, deal).map_err(GridError::Memory)?;
     match first_again(&keys) {
         None => Ok(()),
-        Some(key) => match key.text(alloc) {
-            Ok(text) => Err(GridError::KeyTwice(text)),
-            Err(error) => Err(GridError::Memory(error)),
-        },
+        Some(key) => Err(
+            key.text(alloc)
+                .map_or_else(GridError::Memory, GridError::KeyTwice),
+        ),
     }
 }
 
@@ -110,6 +105,7 @@ pub(crate) fn count_points(vary: &[Axis]) -> Result<u64, GridError>
 }
 
 /// How many combinations are dealt to so many seeds.
+#[tactic(auto, using(crate::proofs::Points::uneven_deal))]
 pub(crate) fn count_deals(deal: &[Axis], seeds: u64) -> Result<u64, GridError>
     requires some { 1 ≤ seeds }
     requires high { seeds ≤ 2 ^ 63 }

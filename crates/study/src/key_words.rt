@@ -2,25 +2,18 @@
 ghost use Rattle.std.specs.Prelude.{◌≡◌, ◌≢◌, ◌≤◌, ◌<◌, ◌^◌, ◌++◌, ◌∷◌, ℕ, false, codes, decimal, string_bytes, true, IfOk, IfErr, MatchOption};
 ghost use Rattle.std.specs.List.{list_all};
 ghost use Rattle.study.specs.Settings.{path_of, key_text};
-ghost use Rattle.study.specs.KeyWords.{is_name_byte, is_name, is_place, IsOwner, HasNames, SaysKey, SaysNoKey, is_memory};
+ghost use Rattle.study.specs.KeyWords.{is_name_byte, is_name, is_place, IsPlaceOf, HasNoPlace, IsOwner, HasNames, SaysKey, SaysNoKey, is_memory};
 
 use crate::error::KeyError;
 use crate::key::Key;
 use crate::words::{is_natural_word, natural_in};
 use std::alloc::Global;
 
-/// Whether a byte may stand in a name: a letter, a digit, `_` or `-`.
-fn is_byte_of_name(byte: u8) -> bool
-    ensures { result ≡ is_name_byte byte }
-{
-    byte.is_ascii_alphanumeric() || byte == b'_' || byte == b'-'
-}
-
-/// Whether all bytes may stand in a name.
+/// Whether all bytes may stand in a name: letters, digits, `_` and `-`.
 fn are_bytes_of_name(bytes: &[u8]) -> bool
     ensures { result ≡ list_all is_name_byte bytes.now }
 {
-    bytes.iter().all(|byte| is_byte_of_name(*byte))
+    bytes.iter().all(|byte| byte.is_ascii_alphanumeric() || *byte == b'_' || *byte == b'-')
 }
 
 /// Whether a word is a name: a key that needs no quotes in TOML.
@@ -39,9 +32,7 @@ fn is_place_word(word: &str) -> bool
 
 /// The place of a table before a closing bracket.
 fn place_in(word: &str) -> Option<u64>
-    ensures { MatchOption result
-        ((place : ℕ) → 1 ≤ place → place < 2 ^ 64 → word.now ≢ decimal place ++ codes "]")
-        (λ place. (1 ≤ place) × (place < 2 ^ 64) × (word.now ≡ decimal place ++ codes "]")) }
+    ensures { MatchOption result (HasNoPlace word.now) (IsPlaceOf word.now) }
 {
     let digits = word.strip_suffix(']')?;
     if is_place_word(digits) {

@@ -1,10 +1,10 @@
 //! A scenario's file with values at keys, in place of those that are there.
-ghost use Rattle.std.specs.Prelude.{◌≡◌, ◌<◌, ◌≤◌, false, true, IfOk, OnOk, IfErr, Ok, Err, map, length, option_map};
+ghost use Rattle.std.specs.Prelude.{◌≡◌, ◌<◌, ◌≤◌, true, IfOk, OnOk, IfErr, Ok, map, length, option_map};
 ghost use Rattle.toml.specs.Data.{get_member, table};
 ghost use Rattle.toml.specs.View.{view, table_view, array_view, items_view};
 ghost use Rattle.study.specs.Settings.{path_of, given_by, chosen, inner, element, every};
-ghost use Rattle.study.specs.Reading.{AreSet, Sets};
-ghost use Rattle.study.specs.Placed.{data_of, put as put_member, put_item, put_in_each, set_at, set_all, table_of, table_or_new, items_of, element_of, is_memory};
+ghost use Rattle.study.specs.Reading.{AreSet};
+ghost use Rattle.study.specs.Placed.{data_of, put as put_member, put_item, put_in_each, set_all, table_of, table_or_new, items_of, element_of, is_memory, IsRefused, Puts, CannotPut};
 
 use crate::axis::Choice;
 use crate::error::PlaceError;
@@ -12,6 +12,9 @@ use crate::key::Key;
 use crate::setting::Setting;
 use std::alloc::{AllocError, Global};
 use toml::{Table, Value};
+
+/// A change of a table, unless it can't be.
+type Done = Result<(), PlaceError>;
 
 /// The value that the file has for a setting.
 fn value_of(alloc: Global, setting: &Setting) -> Result<Value, AllocError>
@@ -24,55 +27,40 @@ fn value_of(alloc: Global, setting: &Setting) -> Result<Value, AllocError>
 }
 
 /// The value at a key of a table, if there is one.
+#[tactic(auto, using(toml::proofs::Views::table_get))]
 fn value_at<'a>(table: &'a Table, key: &str) -> Option<&'a Value>
     ensures { option_map (λ v. view v.now) result ≡ get_member key.now (table_view table.now) }
 {
     table.get(key)
 }
 
-/// Inserts a value at a key of a table.
-fn insert(alloc: Global, table: &mut Table, key: &str, value: Value) -> Result<(), AllocError>
-    ensures { OnOk result (table_view table.new ≡ put_member key.now (view value) (table_view table.old)) }
-{
-    let name = String::from_str(alloc, key)?;
-    table.insert(name, value)?;
-    Ok(())
-}
-
 /// Puts a value at a key of a table.
-pub(crate) fn put(
-    alloc: Global,
-    table: &mut Table,
-    key: &str,
-    value: Value,
-) -> Result<(), PlaceError>
+#[tactic(auto, using(crate::proofs::Placing::inserted))]
+pub(crate) fn put(alloc: Global, table: &mut Table, key: &str, value: Value) -> Done
     ensures ok { OnOk result (table_view table.new ≡ put_member key.now (view value) (table_view table.old)) }
     ensures err { IfErr result (λ e. is_memory e ≡ true) }
 {
-    insert(alloc, table, key, value).map_err(PlaceError::Memory)
+    let name = String::from_str(alloc, key).map_err(PlaceError::Memory)?;
+    match table.insert(name, value) {
+        Ok(_) => Ok(()),
+        Err(_) => Err(PlaceError::Memory(AllocError)),
+    }
 }
 
 /// Sets a key of a table.
-fn set_here(
-    alloc: Global,
-    table: &mut Table,
-    key: &str,
-    setting: &Setting,
-) -> Result<(), PlaceError>
+fn set_here(alloc: Global, table: &mut Table, key: &str, setting: &Setting) -> Done
     ensures ok { OnOk result (table_view table.new
         ≡ put_member key.now (data_of (given_by setting.now)) (table_view table.old)) }
     ensures err { IfErr result (λ e. is_memory e ≡ true) }
 {
-    match value_of(alloc, setting) {
-        Ok(value) => put(alloc, table, key, value),
-        Err(error) => Err(PlaceError::Memory(error)),
-    }
+    let value = value_of(alloc, setting).map_err(PlaceError::Memory)?;
+    put(alloc, table, key, value)
 }
 
 /// A copy of a value that is a table.
 fn copy_of_table(value: &Value) -> Result<Table, PlaceError>
     ensures ok { IfOk result (λ t. table_of (view value.now) ≡ Ok (table_view t)) }
-    ensures err { IfErr result (λ e. is_memory e ≡ false → table_of (view value.now) ≡ Err e) }
+    ensures err { IfErr result (IsRefused (table_of (view value.now))) }
 {
     match value.clone() {
         Ok(Value::Table(inner)) => Ok(inner),
@@ -84,8 +72,7 @@ fn copy_of_table(value: &Value) -> Result<Table, PlaceError>
 /// A copy of the table at a key of a table, or an empty one where there is nothing.
 fn copy_of_inner(alloc: Global, table: &Table, name: &str) -> Result<Table, PlaceError>
     ensures ok { IfOk result (λ t. table_or_new (get_member name.now (table_view table.now)) ≡ Ok (table_view t)) }
-    ensures err { IfErr result (λ e. is_memory e ≡ false
-        → table_or_new (get_member name.now (table_view table.now)) ≡ Err e) }
+    ensures err { IfErr result (IsRefused (table_or_new (get_member name.now (table_view table.now)))) }
 {
     match value_at(table, name) {
         Some(value) => copy_of_table(value),
@@ -96,8 +83,7 @@ fn copy_of_inner(alloc: Global, table: &Table, name: &str) -> Result<Table, Plac
 /// A copy of the array at a key of a table.
 fn copy_of_items(table: &Table, name: &str) -> Result<Vec<Value>, PlaceError>
     ensures ok { IfOk result (λ v. items_of (get_member name.now (table_view table.now)) ≡ Ok (array_view v)) }
-    ensures err { IfErr result (λ e. is_memory e ≡ false
-        → items_of (get_member name.now (table_view table.now)) ≡ Err e) }
+    ensures err { IfErr result (IsRefused (items_of (get_member name.now (table_view table.now)))) }
 {
     let Some(value) = value_at(table, name) else {
         return Err(PlaceError::NoElement);
@@ -110,18 +96,21 @@ fn copy_of_items(table: &Table, name: &str) -> Result<Vec<Value>, PlaceError>
 }
 
 /// A copy of the table at a place of an array, from 1.
+#[tactic(auto, using(crate::proofs::Placing::elements))]
 fn copy_of_element(items: &[Value], place: u64) -> Result<Table, PlaceError>
     ensures ok { IfOk result (λ t. element_of place (items_view items.now) ≡ Ok (table_view t)) }
     ensures within { OnOk result ((1 ≤ place) × (place ≤ length items.now)) }
-    ensures err { IfErr result (λ e. is_memory e ≡ false → element_of place (items_view items.now) ≡ Err e) }
+    ensures err { IfErr result (IsRefused (element_of place (items_view items.now))) }
 {
     if place == 0 || place > items.len() as u64 {
         return Err(PlaceError::NoElement);
     }
-    copy_of_table(&items[place as usize - 1])
+    let table = copy_of_table(&items[place as usize - 1])?;
+    Ok(table)
 }
 
 /// Puts a table at a place of an array, from 0.
+#[tactic(auto, using(crate::proofs::Placing::writing))]
 fn write_table(items: &mut Vec<Value>, index: usize, inner: Table)
     requires { index < length items.old.items }
     ensures { array_view items.new ≡ put_item index (table (table_view inner)) (array_view items.old) }
@@ -137,11 +126,9 @@ fn set_in_element(
     place: u64,
     key: &str,
     setting: &Setting,
-) -> Result<(), PlaceError>
-    ensures ok { OnOk result (set_at (element array.now place key.now) (data_of (given_by setting.now))
-        (table_view table.old) ≡ Ok (table_view table.new)) }
-    ensures err { IfErr result (λ e. is_memory e ≡ false
-        → set_at (element array.now place key.now) (data_of (given_by setting.now)) (table_view table.old) ≡ Err e) }
+) -> Done
+    ensures ok { OnOk result (Puts (element array.now place key.now) setting.now table.old table.new) }
+    ensures err { IfErr result (CannotPut (element array.now place key.now) setting.now table.old) }
 {
     let mut items = copy_of_items(table, array)?;
     let mut inner = copy_of_element(&items, place)?;
@@ -159,8 +146,8 @@ fn changed_items(
 ) -> Result<Vec<Value>, PlaceError>
     ensures ok { IfOk result (λ v. put_in_each key.now (data_of (given_by setting.now)) (items_view items.now)
         ≡ Ok (array_view v)) }
-    ensures err { IfErr result (λ e. is_memory e ≡ false
-        → put_in_each key.now (data_of (given_by setting.now)) (items_view items.now) ≡ Err e) }
+    ensures err { IfErr result (IsRefused
+        (put_in_each key.now (data_of (given_by setting.now)) (items_view items.now))) }
 {
     let mut changed = Vec::new(alloc);
     for item in items {
@@ -174,17 +161,9 @@ fn changed_items(
 }
 
 /// Sets a key of every table of an array of tables.
-fn set_in_every(
-    alloc: Global,
-    table: &mut Table,
-    array: &str,
-    key: &str,
-    setting: &Setting,
-) -> Result<(), PlaceError>
-    ensures ok { OnOk result (set_at (every array.now key.now) (data_of (given_by setting.now)) (table_view table.old)
-        ≡ Ok (table_view table.new)) }
-    ensures err { IfErr result (λ e. is_memory e ≡ false
-        → set_at (every array.now key.now) (data_of (given_by setting.now)) (table_view table.old) ≡ Err e) }
+fn set_in_every(alloc: Global, table: &mut Table, array: &str, key: &str, setting: &Setting) -> Done
+    ensures ok { OnOk result (Puts (every array.now key.now) setting.now table.old table.new) }
+    ensures err { IfErr result (CannotPut (every array.now key.now) setting.now table.old) }
 {
     let items = copy_of_items(table, array)?;
     if items.is_empty() {
@@ -195,72 +174,36 @@ fn set_in_every(
 }
 
 /// Sets a key of a table of a table.
-fn set_in_inner(
-    alloc: Global,
-    table: &mut Table,
-    name: &str,
-    key: &str,
-    setting: &Setting,
-) -> Result<(), PlaceError>
-    ensures ok { OnOk result (set_at (inner name.now key.now) (data_of (given_by setting.now)) (table_view table.old)
-        ≡ Ok (table_view table.new)) }
-    ensures err { IfErr result (λ e. is_memory e ≡ false
-        → set_at (inner name.now key.now) (data_of (given_by setting.now)) (table_view table.old) ≡ Err e) }
+fn set_in_inner(alloc: Global, table: &mut Table, name: &str, key: &str, setting: &Setting) -> Done
+    ensures ok { OnOk result (Puts (inner name.now key.now) setting.now table.old table.new) }
+    ensures err { IfErr result (CannotPut (inner name.now key.now) setting.now table.old) }
 {
     let mut changed = copy_of_inner(alloc, table, name)?;
     set_here(alloc, &mut changed, key, setting)?;
     put(alloc, table, name, Value::Table(changed))
 }
 
-/// Sets a key of a file's table, as it is of its kind.
-fn set_by_kind(
-    alloc: Global,
-    table: &mut Table,
-    key: &Key,
-    setting: &Setting,
-) -> Result<(), PlaceError>
-    ensures ok { OnOk result (set_at (path_of key.now) (data_of (given_by setting.now)) (table_view table.old)
-        ≡ Ok (table_view table.new)) }
-    ensures err { IfErr result (λ e. is_memory e ≡ false
-        → set_at (path_of key.now) (data_of (given_by setting.now)) (table_view table.old) ≡ Err e) }
+/// Sets a key of a file's table, as it is of its kind. The setting is what the table then has there, and each key apart
+/// from it has what it had.
+fn set(alloc: Global, table: &mut Table, key: &Key, setting: &Setting) -> Done
+    ensures ok { OnOk result (Puts (path_of key.now) setting.now table.old table.new) }
+    ensures err { IfErr result (CannotPut (path_of key.now) setting.now table.old) }
 {
+    law_settings();
     match key {
-        Key::Top(key) => set_here(alloc, table, key.as_str(), setting),
-        Key::Inner { table: name, key } => {
-            set_in_inner(alloc, table, name.as_str(), key.as_str(), setting)
-        }
+        Key::Top(key) => set_here(alloc, table, key, setting),
+        Key::Inner { table: name, key } => set_in_inner(alloc, table, name, key, setting),
         Key::Element { array, place, key } => {
-            set_in_element(alloc, table, array.as_str(), *place, key.as_str(), setting)
+            set_in_element(alloc, table, array, *place, key, setting)
         }
-        Key::Every { array, key } => {
-            set_in_every(alloc, table, array.as_str(), key.as_str(), setting)
-        }
+        Key::Every { array, key } => set_in_every(alloc, table, array, key, setting),
     }
 }
 
-/// Sets a key of a file's table. The setting is what the table then has there, and each key apart from it has what it
-/// had.
-fn set(alloc: Global, table: &mut Table, key: &Key, setting: &Setting) -> Result<(), PlaceError>
-    ensures ok { OnOk result (set_at (path_of key.now) (data_of (given_by setting.now)) (table_view table.old)
-        ≡ Ok (table_view table.new)) }
-    ensures sets { OnOk result (Sets (path_of key.now) (data_of (given_by setting.now)) (table_view table.old)
-        (table_view table.new)) }
-    ensures err { IfErr result (λ e. is_memory e ≡ false
-        → set_at (path_of key.now) (data_of (given_by setting.now)) (table_view table.old) ≡ Err e) }
-{
-    law_settings();
-    set_by_kind(alloc, table, key, setting)
-}
-
 /// Sets the keys of some choices, one after the other.
-pub(crate) fn set_choices(
-    alloc: Global,
-    table: &mut Table,
-    choices: &[Choice<'_>],
-) -> Result<(), PlaceError>
+pub(crate) fn set_choices(alloc: Global, table: &mut Table, choices: &[Choice<'_>]) -> Done
     ensures ok { OnOk result (set_all (map chosen choices.now) (table_view table.old) ≡ Ok (table_view table.new)) }
-    ensures err { IfErr result (λ e. is_memory e ≡ false
-        → set_all (map chosen choices.now) (table_view table.old) ≡ Err e) }
+    ensures err { IfErr result (IsRefused (set_all (map chosen choices.now) (table_view table.old))) }
 {
     for choice in choices {
         set(alloc, table, choice.key, choice.value)?;

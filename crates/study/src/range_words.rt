@@ -18,20 +18,14 @@ fn end_and_step(words: &str) -> (&str, &str)
     }
 }
 
-/// Whether three words are integers.
-fn are_integers(low: &str, high: &str, step: &str) -> bool
-    ensures { result ≡ (is_integer low.now && (is_integer high.now && is_integer step.now)) }
-{
-    is_integer_word(low) && is_integer_word(high) && is_integer_word(step)
-}
-
 /// The words of a range: `A..=B` or `A..=B:STEP`.
+#[tactic(auto, using(crate::proofs::Pieces::said_made))]
 pub(crate) fn range_words(word: &str) -> Option<RangeWords<'_>>
     ensures { MatchOption result (range_said word.now ≡ None) (λ r. range_said word.now ≡ Some (range_by r)) }
 {
     let (low, rest) = bounds_in(word)?;
     let (high, step) = end_and_step(rest);
-    if are_integers(low, high, step) {
+    if is_integer_word(low) && is_integer_word(high) && is_integer_word(step) {
         Some(RangeWords { low, high, step })
     } else {
         None

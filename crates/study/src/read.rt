@@ -37,10 +37,7 @@ pub fn run_table(
     ensures err { IfErr result (λ e. is_place_memory e ≡ false
         → table_of_run (map chosen point.now) (run_of run.now) (table_view file.now) ≡ Err e) }
 {
-    let mut table = match copy_of_file(file) {
-        Ok(copy) => copy,
-        Err(error) => return Err(PlaceError::Memory(error)),
-    };
+    let mut table = copy_of_file(file).map_err(PlaceError::Memory)?;
     set_choices(alloc, &mut table, point)?;
     set_choices(alloc, &mut table, &run.settings)?;
     put(alloc, &mut table, "seed", Value::Integer(run.seed as i64))?;
@@ -64,10 +61,7 @@ pub fn read_run(
     ensures err { IfErr result (λ e. is_memory e ≡ false
         → IsRefusedFor (table_of_run (map chosen point.now) (run_of run.now) (table_view file.now)) e) }
 {
-    let table = match run_table(alloc, file, point, run) {
-        Ok(table) => table,
-        Err(error) => return Err(ReadError::Place(error)),
-    };
+    let table = run_table(alloc, file, point, run).map_err(ReadError::Place)?;
     match read_table(alloc, &table) {
         Ok(scenario) => Ok(scenario),
         Err(error) => Err(ReadError::Scenario(error)),

@@ -1,10 +1,12 @@
 //! Seeds, as words of a command line.
-ghost use Rattle.std.specs.Prelude.{◌≡◌, ◌^◌, ◌<◌, ◌≤◌, true, None, Some, IfOk, IfErr, MatchOption};
-ghost use Rattle.study.specs.SeedWords.{seeds_said, seeds_fault};
-ghost use Rattle.study.specs.Words.{is_natural, natural};
+ghost use Rattle.std.specs.Prelude.{◌≡◌, None, Some, IfOk, IfErr, MatchOption};
+ghost use Rattle.study.specs.SeedWords.{seeds_said, seeds_fault, AreEnds};
 
 use crate::error::SeedsError;
-use crate::words::{bounds_in, is_natural_word, natural_in};
+use crate::words::{bounds_in, is_natural_word, natural_up_to};
+
+/// The greatest seed.
+const MOST: u64 = i64::MAX as u64;
 
 /// The seeds of a study: all from a first to a last.
 #[derive(Clone, Copy, Debug, PartialEq, Eq)]
@@ -18,8 +20,7 @@ pub struct Seeds {
 /// The words of the first seed and the last.
 fn ends_in(word: &str) -> Option<(&str, &str)>
     ensures { MatchOption result (seeds_said word.now ≡ None) (λ ends.
-        (is_natural ends.0.now ≡ true) × (is_natural ends.1.now ≡ true)
-        × (seeds_said word.now ≡ Some (natural ends.0.now, natural ends.1.now))) }
+        AreEnds word.now ends.0.now ends.1.now) }
 {
     if is_natural_word(word) {
         return Some((word, word));
@@ -29,17 +30,6 @@ fn ends_in(word: &str) -> Option<(&str, &str)>
         Some((first, last))
     } else {
         None
-    }
-}
-
-/// A seed, if it isn't too high.
-fn seed_in(word: &str) -> Option<u64>
-    requires { is_natural word.now ≡ true }
-    ensures { MatchOption result (2 ^ 63 ≤ natural word.now) (λ n. (n ≡ natural word.now) × (n < 2 ^ 63)) }
-{
-    match natural_in(word) {
-        Some(seed) if seed <= i64::MAX as u64 => Some(seed),
-        _ => None,
     }
 }
 
@@ -56,7 +46,7 @@ impl Seeds {
     {
         match ends_in(word) {
             None => Err(SeedsError::NoSeeds),
-            Some((first, last)) => match (seed_in(first), seed_in(last)) {
+            Some((first, last)) => match (natural_up_to(first, MOST), natural_up_to(last, MOST)) {
                 (Some(first), Some(last)) if first <= last => Ok(Seeds { first, last }),
                 (Some(_), Some(_)) => Err(SeedsError::EmptyRange),
                 _ => Err(SeedsError::SeedTooHigh),

@@ -1,8 +1,7 @@
 //! What a key is set to, as a word of a command line.
-ghost use Rattle.std.specs.Prelude.{◌≡◌, ◌∷◌, [], true, false, None, Some, IfOk, IfErr, MatchOption};
+ghost use Rattle.std.specs.Prelude.{◌≡◌, ◌∷◌, [], None, IfOk, IfErr, MatchOption};
 ghost use Rattle.study.specs.Settings.{given_by};
-ghost use Rattle.study.specs.Words.{is_integer, integer};
-ghost use Rattle.study.specs.AxisWords.{range_by, one, range, word as text_piece, piece_said, piece_fault, part_fault, values, is_memory};
+ghost use Rattle.study.specs.AxisWords.{range_by, range, piece_said, piece_fault, part_fault, values, IsFault};
 
 use crate::error::AxisError;
 use crate::range::RangeWords;
@@ -10,34 +9,6 @@ use crate::range_words::range_words;
 use crate::setting::Setting;
 use crate::words::{integer_in, is_integer_word};
 use std::alloc::Global;
-
-/// The integer that a word says.
-fn read_integer(word: &str) -> Result<Setting, AxisError>
-    requires { is_integer word.now ≡ true }
-    ensures ok { IfOk result (λ s. (piece_fault (one (integer word.now)) ≡ None)
-        × (values (one (integer word.now)) ≡ given_by s ∷ [])) }
-    ensures err { IfErr result (λ e. piece_fault (one (integer word.now)) ≡ Some e) }
-{
-    match integer_in(word) {
-        Some(number) => Ok(Setting::Integer(number)),
-        None => Err(AxisError::NumberTooLarge),
-    }
-}
-
-/// The text that a word is, if it isn't empty.
-fn read_text(alloc: Global, word: &str) -> Result<Setting, AxisError>
-    ensures ok { IfOk result (λ s. (piece_fault (text_piece word.now) ≡ None)
-        × (values (text_piece word.now) ≡ given_by s ∷ [])) }
-    ensures err { IfErr result (λ e. is_memory e ≡ false → piece_fault (text_piece word.now) ≡ Some e) }
-{
-    if word.is_empty() {
-        return Err(AxisError::NoValue);
-    }
-    match String::from_str(alloc, word) {
-        Ok(text) => Ok(Setting::Text(text)),
-        Err(error) => Err(AxisError::Memory(error)),
-    }
-}
 
 /// The words of the range that a word says, if it says one.
 pub(crate) fn range_in(word: &str) -> Option<RangeWords<'_>>
@@ -55,13 +26,20 @@ pub(crate) fn range_in(word: &str) -> Option<RangeWords<'_>>
 pub(crate) fn read_setting(alloc: Global, word: &str) -> Result<Setting, AxisError>
     ensures ok { IfOk result (λ s. (part_fault (piece_said word.now) ≡ None)
         × (values (piece_said word.now) ≡ given_by s ∷ [])) }
-    ensures err { IfErr result (λ e. is_memory e ≡ false → part_fault (piece_said word.now) ≡ Some e) }
+    ensures err { IfErr result (IsFault (part_fault (piece_said word.now))) }
 {
     if is_integer_word(word) {
-        return read_integer(word);
+        return match integer_in(word) {
+            Some(number) => Ok(Setting::Integer(number)),
+            None => Err(AxisError::NumberTooLarge),
+        };
     }
-    match range_words(word) {
-        Some(_) => Err(AxisError::TiedRange),
-        None => read_text(alloc, word),
+    if range_words(word).is_some() {
+        return Err(AxisError::TiedRange);
     }
+    if word.is_empty() {
+        return Err(AxisError::NoValue);
+    }
+    let text = String::from_str(alloc, word).map_err(AxisError::Memory)?;
+    Ok(Setting::Text(text))
 }

@@ -53,6 +53,7 @@ impl Shard {
     }
 
     /// The block's points, of so many points from 0.
+    #[tactic(auto, using(crate::proofs::Blocks::block_of_range))]
     pub fn points(self, points: u32) -> Range<u32>
         ensures begin { result.start ≡ begin_of points self }
         ensures end { result.end ≡ end_of points self }
@@ -71,6 +72,7 @@ impl Shard {
 
 /// The blocks of a number of shards, one after the other, are all points, each once and in order; and no block has two
 /// points more than another.
+#[tactic(auto, using(crate::proofs::Blocks::all_blocks, crate::proofs::Blocks::even_blocks))]
 pub fn law_shards(shards: u32)
     requires { 1 ≤ shards }
     ensures whole { AreAll shards }

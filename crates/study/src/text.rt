@@ -19,6 +19,7 @@ use toml::Table;
 ///
 /// The reason for which a key can't be set, or `Date` where the file has a date that TOML can't say, which no file that
 /// was read has; memory, as [`PlaceError`], at any point.
+#[tactic(auto, using(crate::proofs::Texts::run_text))]
 pub fn scenario_text(
     alloc: Global,
     file: &Table,
@@ -30,10 +31,7 @@ pub fn scenario_text(
     ensures err { IfErr result (λ e. is_text_memory e ≡ false
         → HasNoText (table_of_run (map chosen point.now) (run_of run.now) (table_view file.now)) e) }
 {
-    let table = match run_table(alloc, file, point, run) {
-        Ok(table) => table,
-        Err(error) => return Err(TextError::Place(error)),
-    };
+    let table = run_table(alloc, file, point, run).map_err(TextError::Place)?;
     match toml::table_to_string(alloc, &table) {
         Ok(text) => Ok(text),
         Err(toml::ser::Error::DateInvalid) => Err(TextError::Date),

@@ -19,11 +19,20 @@ pub(crate) fn is_natural_word(word: &str) -> bool
 }
 
 /// A natural number, if 64 bits hold it.
+#[tactic(auto, using(crate::proofs::Numerals::natural_read))]
 pub(crate) fn natural_in(word: &str) -> Option<u64>
     requires { is_natural word.now ≡ true }
     ensures { MatchOption result (2 ^ 64 ≤ natural word.now) (λ n. (n ≡ natural word.now) × (n < 2 ^ 64)) }
 {
     word.parse::<u64>().ok()
+}
+
+/// A natural number, if it is at most this one.
+pub(crate) fn natural_up_to(word: &str, most: u64) -> Option<u64>
+    requires { is_natural word.now ≡ true }
+    ensures { MatchOption result (most < natural word.now) (λ n. (n ≡ natural word.now) × (n ≤ most)) }
+{
+    natural_in(word).filter(|number| *number <= most)
 }
 
 /// Whether a word is an integer: a natural number, after a minus sign or none.

@@ -1,10 +1,15 @@
 -- The command line, as clap sees it.
 use Rattle.std.specs.Prelude.{◌≡◌, [], ◌∷◌, Bool, IfOk, Result, Some, codes, false, true}
-use Rattle.clap.specs.Words.{App, Rule, Text, app_of, new_app, new_rule, with_rule, with_subcommand}
+use Rattle.clap.specs.Words.{App, Rule, Text, app_of, new_app, new_rule, rule_of, with_rule, with_subcommand}
+use Rattle.clap.specs.declared.builder.arg.Arg.{Arg}
 use Rattle.clap.specs.declared.builder.action.ArgAction.TheVariants.{Append}
 use Rattle.clap.specs.declared.builder.command.Command.TheViews.{out-Command}
 use Rattle.clap.specs.declared.builder.command.Command.{Command}
 use Rattle.clap.specs.declared.builder.value_parser.ValueParser.TheVariants as parser
+
+-- the argument has this rule, and isn't one of each subcommand too
+abbrev pub HasRule : Rule → Arg → Type 0
+HasRule rule a = (rule_of a ≡ rule) × (a.global ≡ false)
 
 -- help shows one name for the value
 abbrev pub path_rule : Rule
@@ -24,7 +29,8 @@ axis_rule name = record (option_rule name) { action = Some Append }
 
 abbrev pub with_axes : App → App
 with_axes app =
-    with_rule (with_rule (with_rule app (axis_rule (codes "vary"))) (axis_rule (codes "over"))) (axis_rule (codes "deal"))
+    with_rule (with_rule (with_rule app (axis_rule (codes "vary"))) (axis_rule (codes "over")))
+    (axis_rule (codes "deal"))
 
 -- the runs of a study
 abbrev pub with_grid : (needed : Bool) → App → App

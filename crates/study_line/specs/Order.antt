@@ -1,6 +1,6 @@
 -- What the words of a command line state.
 use Rattle.std.specs.Prelude.{◌≡◌, ◌≢◌, [], ◌∷◌, ℕ, Bool, List, Ok, Option, Some, None, true}
-use Rattle.std.specs.Prelude.{codes, is_some, map, not, option_map, unwrap_or}
+use Rattle.std.specs.Prelude.{IfErr, IfOk, Result, codes, is_some, map, not, option_map, unwrap_or}
 use Rattle.std.specs.Borrow.{Bor}
 use Rattle.std.specs.List.{list_all}
 use Rattle.std.specs.Option.{option_map_or}
@@ -158,3 +158,7 @@ Lacks {X} IsStated (refusal.NoEach word) = (stated : X) → IsStated stated → 
 Lacks {X} IsStated refusal.Form = (stated : X) → IsStated stated → ⊥
 Lacks IsStated refusal.Memory = Unit {0}
 Lacks IsStated _ = ⊥
+
+-- what may be stated was read, or why it wasn't
+abbrev pub Reads : {X : Type 0} → (X → Type 0) → Result X WordsError → Type 0
+Reads IsStated read = IfOk read IsStated × IfErr read (Lacks IsStated)

@@ -1,7 +1,7 @@
 //! The command line, with its help.
 ghost use Rattle.std.specs.Prelude.{◌≡◌, Some, false};
-ghost use Rattle.clap.specs.Words.{App, app_of, rule_of, with_rule, with_subcommand};
-ghost use Rattle.study_line.specs.Commands.{IsLocal, Makes, axis_rule, check_app, draw_app, letters_app, option_rule, path_rule, picture_rule, point_rule, run_rule, seeds_rule, show_app, study_app, sweep_app, threads_rule, tick_rule, top_app, whole_app, with_axes, with_grid, with_path, with_scenario, with_study, with_table, with_ticks};
+ghost use Rattle.clap.specs.Words.{App, rule_of, with_rule, with_subcommand};
+ghost use Rattle.study_line.specs.Commands.{HasRule, Makes, axis_rule, check_app, draw_app, letters_app, option_rule, path_rule, point_rule, run_rule, show_app, study_app, sweep_app, threads_rule, tick_rule, whole_app, with_grid, with_path, with_table};
 
 use clap::builder::ValueParser;
 use clap::{Arg, ArgAction, Command, value_parser};
@@ -156,8 +156,7 @@ fn with_command<'a>(command: Made<'a>, added: Made<'a>) -> Made<'a>
 
 /// The scenario file.
 fn path_argument<'a>(alloc: Global) -> Arg<'a>
-    ensures rule { rule_of result ≡ path_rule }
-    ensures local { result.global ≡ false }
+    ensures { HasRule path_rule result }
 {
     Arg::new(alloc, "path")
         .value_name("SCENARIO")
@@ -165,15 +164,15 @@ fn path_argument<'a>(alloc: Global) -> Arg<'a>
         .required(true)
 }
 
-/// An option that takes a value.
-fn option<'a>(alloc: Global, name: &'a str, value: &'a str, help: &'a str) -> Arg<'a>
-    ensures rule { rule_of result ≡ option_rule name.now }
-    ensures local { result.global ≡ false }
+/// An option that takes a value, which may have to be there.
+fn option<'a>(alloc: Global, name: &'a str, value: &'a str, help: &'a str, needed: bool) -> Arg<'a>
+    ensures { HasRule (record (option_rule name.now) { required = needed }) result }
 {
     Arg::new(alloc, name)
         .long(name)
         .value_name(value)
         .help(help)
+        .required(needed)
 }
 
 /// An option that takes a value that a parser takes.
@@ -184,94 +183,46 @@ fn parsed_option<'a>(
     help: &'a str,
     values: ValueParser<'a>,
 ) -> Arg<'a>
-    ensures rule { rule_of result ≡ record (option_rule name.now) { parser = Some values.entry } }
-    ensures local { result.global ≡ false }
+    ensures { HasRule (record (option_rule name.now) { parser = Some values.entry }) result }
 {
-    option(alloc, name, value, help).value_parser(values)
-}
-
-/// The option for the seeds.
-fn seeds_option<'a>(alloc: Global, needed: bool) -> Arg<'a>
-    ensures rule { rule_of result ≡ seeds_rule needed }
-    ensures local { result.global ≡ false }
-{
-    option(alloc, "seeds", "A..=B", SEEDS).required(needed)
+    option(alloc, name, value, help, false).value_parser(values)
 }
 
 /// An option for axes, which may be there several times.
 fn axis_option<'a>(alloc: Global, name: &'a str, help: &'a str) -> Arg<'a>
-    ensures rule { rule_of result ≡ axis_rule name.now }
-    ensures local { result.global ≡ false }
+    ensures { HasRule (axis_rule name.now) result }
 {
-    option(alloc, name, "KEY=VALUE,..", help).action(ArgAction::Append)
-}
-
-/// A command with the options for axes.
-fn with_axis_options<'a>(alloc: Global, command: Made<'a>) -> Made<'a>
-    ensures { (app : App) → Makes app command.entry → Makes (with_axes app) result }
-{
-    let command = with_argument(command, axis_option(alloc, "vary", VARY));
-    let command = with_argument(command, axis_option(alloc, "over", OVER));
-    with_argument(command, axis_option(alloc, "deal", DEAL))
-}
-
-/// A command with the options that say which runs a study has.
-fn with_grid_options<'a>(alloc: Global, command: Made<'a>, needed: bool) -> Made<'a>
-    ensures { (app : App) → Makes app command.entry → Makes (with_grid needed app) result }
-{
-    with_axis_options(alloc, with_argument(command, seeds_option(alloc, needed)))
+    option(alloc, name, "KEY=VALUE,..", help, false).action(ArgAction::Append)
 }
 
 /// The option for the point.
 fn point_option<'a>(alloc: Global) -> Arg<'a>
-    ensures rule { rule_of result ≡ point_rule }
-    ensures local { result.global ≡ false }
+    ensures { HasRule point_rule result }
 {
-    let values = value_parser!(u64).range(1..);
-    parsed_option(alloc, "point", "K", POINT, values).required(true)
+    parsed_option(alloc, "point", "K", POINT, value_parser!(u64).range(1..)).required(true)
 }
 
 /// The option for the run.
 fn run_option<'a>(alloc: Global) -> Arg<'a>
-    ensures rule { rule_of result ≡ run_rule }
-    ensures local { result.global ≡ false }
+    ensures { HasRule run_rule result }
 {
-    let values = value_parser!(u64).range(1..);
-    parsed_option(alloc, "run", "J", RUN, values).default_value("1")
+    parsed_option(alloc, "run", "J", RUN, value_parser!(u64).range(1..)).default_value("1")
 }
 
 /// The option for the number of threads.
 fn threads_option<'a>(alloc: Global) -> Arg<'a>
-    ensures rule { rule_of result ≡ threads_rule }
-    ensures local { result.global ≡ false }
+    ensures { HasRule threads_rule result }
 {
     let values = value_parser!(u64).range(1..=64);
     parsed_option(alloc, "threads", "N", THREADS, values)
 }
 
-/// The option for the picture.
-fn picture_option<'a>(alloc: Global) -> Arg<'a>
-    ensures rule { rule_of result ≡ picture_rule }
-    ensures local { result.global ≡ false }
-{
-    option(alloc, "as", "PICTURE", PICTURE).required(true)
-}
-
 /// An option for a tick, of 32 bits.
 fn tick_option<'a>(alloc: Global, name: &'a str, help: &'a str) -> Arg<'a>
-    ensures rule { rule_of result ≡ tick_rule name.now }
-    ensures local { result.global ≡ false }
+    ensures { HasRule (tick_rule name.now) result }
 {
     let values = value_parser!(u64).range(0..=4294967295);
     parsed_option(alloc, name, "T", help, values)
-}
-
-/// A command with the options that say which ticks are drawn.
-fn with_tick_options<'a>(alloc: Global, command: Made<'a>) -> Made<'a>
-    ensures { (app : App) → Makes app command.entry → Makes (with_ticks app) result }
-{
-    let command = with_argument(command, tick_option(alloc, "from", FROM));
-    with_argument(command, tick_option(alloc, "until", UNTIL))
 }
 
 /// A command that takes a scenario file.
@@ -292,15 +243,19 @@ fn grid_command<'a>(
 ) -> Made<'a>
     ensures { Makes (with_grid needed (with_path name.now)) result }
 {
-    with_grid_options(alloc, path_command(alloc, name, about, example), needed)
+    let command = path_command(alloc, name, about, example);
+    let command = with_argument(command, option(alloc, "seeds", "A..=B", SEEDS, needed));
+    let command = with_argument(command, axis_option(alloc, "vary", VARY));
+    let command = with_argument(command, axis_option(alloc, "over", OVER));
+    with_argument(command, axis_option(alloc, "deal", DEAL))
 }
 
 /// A command with the options that say what the table of a study has.
 fn with_table_options<'a>(alloc: Global, command: Made<'a>) -> Made<'a>
     ensures { (app : App) → Makes app command.entry → Makes (with_table app) result }
 {
-    let command = with_argument(command, option(alloc, "columns", "NAME,..", COLUMNS));
-    with_argument(command, option(alloc, "each", "WHAT", EACH))
+    let command = with_argument(command, option(alloc, "columns", "NAME,..", COLUMNS, false));
+    with_argument(command, option(alloc, "each", "WHAT", EACH, false))
 }
 
 /// A command that takes a scenario file and the options that say a study.
@@ -314,23 +269,8 @@ fn study_command<'a>(
     ensures { Makes (study_app needed name.now) result }
 {
     let command = grid_command(alloc, name, about, example, needed);
-    let command = with_argument(command, option(alloc, "shard", "K/N", SHARD));
-    let command = with_argument(command, threads_option(alloc));
-    with_table_options(alloc, command)
-}
-
-/// `check SCENARIO [--seeds A..=B] ..`, with the options of a study
-fn check_command<'a>(alloc: Global) -> Made<'a>
-    ensures { Makes check_app result }
-{
-    study_command(alloc, "check", CHECK, CHECK_EXAMPLE, false)
-}
-
-/// `letters SCENARIO`
-fn letters_command<'a>(alloc: Global) -> Made<'a>
-    ensures { Makes letters_app result }
-{
-    path_command(alloc, "letters", LETTERS, LETTERS_EXAMPLE)
+    let command = with_argument(command, option(alloc, "shard", "K/N", SHARD, false));
+    with_table_options(alloc, with_argument(command, threads_option(alloc)))
 }
 
 /// `draw SCENARIO --as PICTURE [--from T] [--until T] [--of P,Q]`
@@ -338,9 +278,10 @@ fn draw_command<'a>(alloc: Global) -> Made<'a>
     ensures { Makes draw_app result }
 {
     let command = path_command(alloc, "draw", DRAW, DRAW_EXAMPLE);
-    let command = with_argument(command, picture_option(alloc));
-    let command = with_tick_options(alloc, command);
-    with_argument(command, option(alloc, "of", "P,Q", OF))
+    let command = with_argument(command, option(alloc, "as", "PICTURE", PICTURE, true));
+    let command = with_argument(command, tick_option(alloc, "from", FROM));
+    let command = with_argument(command, tick_option(alloc, "until", UNTIL));
+    with_argument(command, option(alloc, "of", "P,Q", OF, false))
 }
 
 /// `show SCENARIO --seeds A..=B .. --point K [--run J]`, with the options that say which runs a study has
@@ -352,45 +293,20 @@ fn show_command<'a>(alloc: Global) -> Made<'a>
     with_argument(command, run_option(alloc))
 }
 
-/// `sweep SCENARIO --seeds A..=B ..`, with the options of a study
-fn sweep_command<'a>(alloc: Global) -> Made<'a>
-    ensures { Makes sweep_app result }
-{
-    study_command(alloc, "sweep", SWEEP, SWEEP_EXAMPLE, true)
-}
-
-/// The command line with no command yet.
-fn top_command<'a>(alloc: Global) -> Command<'a>
-    ensures app { app_of result ≡ top_app }
-    ensures local { IsLocal result }
-{
-    Command::new(alloc, "fdstudy")
-        .about(ABOUT)
-        .after_help(EXAMPLE)
-        .subcommand_required(true)
-}
-
-/// A command with those that are about one scenario.
-fn with_scenario_commands<'a>(alloc: Global, command: Made<'a>) -> Made<'a>
-    ensures { (app : App) → Makes app command.entry → Makes (with_scenario app) result }
-{
-    let command = with_command(command, check_command(alloc));
-    let command = with_command(command, letters_command(alloc));
-    with_command(command, draw_command(alloc))
-}
-
-/// A command with those that are about a study.
-fn with_study_commands<'a>(alloc: Global, command: Made<'a>) -> Made<'a>
-    ensures { (app : App) → Makes app command.entry → Makes (with_study app) result }
-{
-    let command = with_command(command, show_command(alloc));
-    with_command(command, sweep_command(alloc))
-}
-
-/// The command line.
+/// The command line: `check` and `sweep` with the options of a study, and `letters`, `draw` and `show`.
 pub(crate) fn command<'a>(alloc: Global) -> Made<'a>
     ensures { Makes whole_app result }
 {
-    let command = with_scenario_commands(alloc, Ok(top_command(alloc)));
-    with_study_commands(alloc, command)
+    let command = Command::new(alloc, "fdstudy")
+        .about(ABOUT)
+        .after_help(EXAMPLE)
+        .subcommand_required(true);
+    let check = study_command(alloc, "check", CHECK, CHECK_EXAMPLE, false);
+    let letters = path_command(alloc, "letters", LETTERS, LETTERS_EXAMPLE);
+    let sweep = study_command(alloc, "sweep", SWEEP, SWEEP_EXAMPLE, true);
+    let command = with_command(Ok(command), check);
+    let command = with_command(command, letters);
+    let command = with_command(command, draw_command(alloc));
+    let command = with_command(command, show_command(alloc));
+    with_command(command, sweep)
 }

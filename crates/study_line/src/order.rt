@@ -3,7 +3,7 @@ ghost use Rattle.std.specs.Prelude.{◌≡◌, List, IfOk, IfErr, map, codes};
 ghost use Rattle.std.specs.List.{list_all};
 ghost use Rattle.clap.specs.Words.{Text, rows_of, found_of, subcommand_rows_of, fault_of, HasKind};
 ghost use Rattle.study_line.specs.Commands.{whole_app};
-ghost use Rattle.study_line.specs.Order.{Explains, IsEachAt, IsGridAt, IsNumberAt, IsPictureAt, IsStudyAt, IsTextAt, Lacks, MayBeNumberAt, MayBeStudyAt, MayBeTextAt, MayBeTickAt, States, StatesFound, StatesIn, is_missing, study_options, text_or_else, texts_at};
+ghost use Rattle.study_line.specs.Order.{Explains, IsEachAt, IsGridAt, IsNumberAt, IsPictureAt, IsStudyAt, IsTextAt, Lacks, MayBeNumberAt, MayBeStudyAt, MayBeTextAt, MayBeTickAt, Reads, States, StatesFound, StatesIn, is_missing, study_options, texts_at};
 
 use crate::command::command;
 use clap::ArgMatches;
@@ -124,6 +124,7 @@ pub enum WordsError {
 }
 
 /// The text of an argument, if it is there.
+#[tactic(auto, using(crate::proofs::Words::in_rows))]
 fn text_if_at<'a>(found: &ArgMatches<'a>, id: &str) -> Option<&'a str>
     ensures { MayBeTextAt id.now (rows_of (found_of found.now)) result }
 {
@@ -135,27 +136,17 @@ fn text_at<'a>(found: &ArgMatches<'a>, id: &str) -> Result<&'a str, WordsError>
     ensures stated { IfOk result (λ t. IsTextAt id.now (rows_of (found_of found.now)) t.now) }
     ensures refused { IfErr result (Lacks (IsTextAt id.now (rows_of (found_of found.now)))) }
 {
-    match text_if_at(found, id) {
-        Some(text) => Ok(text),
-        None => Err(WordsError::Form),
-    }
-}
-
-/// The text of an argument, or another one where there is none.
-fn text_or<'a>(found: &ArgMatches<'a>, id: &str, other: &'a str) -> &'a str
-    ensures { result.now ≡ text_or_else id.now (rows_of (found_of found.now)) other.now }
-{
-    match text_if_at(found, id) {
-        Some(text) => text,
-        None => other,
-    }
+    text_if_at(found, id).ok_or(WordsError::Form)
 }
 
 /// Whether an argument is missing.
 fn lacks(found: &ArgMatches<'_>, id: &str) -> bool
     ensures { result ≡ is_missing (rows_of (found_of found.now)) id.now }
 {
-    text_if_at(found, id).is_none()
+    match text_if_at(found, id) {
+        Some(_) => false,
+        None => true,
+    }
 }
 
 /// The texts of all uses of an argument.
@@ -164,9 +155,7 @@ fn texts_of<'a>(alloc: Global, found: &ArgMatches<'a>, id: &str) -> Result<Vec<&
     ensures refused { IfErr result (λ e. e ≡ WordsError.Memory) }
 {
     let mut texts = Vec::new(alloc);
-    let Some(all) = found.get_strs(id) else {
-        return Ok(texts);
-    };
+    let all = found.get_strs(id).unwrap_or(&[]);
     match texts.extend_from_slice(all) {
         Ok(()) => Ok(texts),
         Err(_) => Err(WordsError::Memory),
@@ -182,13 +171,9 @@ fn number_if_at(found: &ArgMatches<'_>, id: &str) -> Option<u64>
 
 /// The number of an argument.
 fn number_at(found: &ArgMatches<'_>, id: &str) -> Result<u64, WordsError>
-    ensures stated { IfOk result (IsNumberAt id.now (rows_of (found_of found.now))) }
-    ensures refused { IfErr result (Lacks (IsNumberAt id.now (rows_of (found_of found.now)))) }
+    ensures { Reads (IsNumberAt id.now (rows_of (found_of found.now))) result }
 {
-    match number_if_at(found, id) {
-        Some(number) => Ok(number),
-        None => Err(WordsError::Form),
-    }
+    number_if_at(found, id).ok_or(WordsError::Form)
 }
 
 /// The tick of an argument, if it is there.
@@ -198,47 +183,34 @@ fn tick_if_at(found: &ArgMatches<'_>, id: &str) -> Option<u32>
     found.get_one::<u32>(id)
 }
 
-/// A copy of a word that is told of.
-fn copy_of(alloc: Global, word: &str) -> Result<String, WordsError>
-    ensures { IfErr result (λ e. e ≡ WordsError.Memory) }
-{
-    String::from_str(alloc, word).map_err(|_| WordsError::Memory)
-}
-
 /// The picture that an argument names.
 fn picture_at(alloc: Global, found: &ArgMatches<'_>, id: &str) -> Result<Picture, WordsError>
-    ensures stated { IfOk result (IsPictureAt id.now (rows_of (found_of found.now))) }
-    ensures refused { IfErr result (Lacks (IsPictureAt id.now (rows_of (found_of found.now)))) }
+    ensures { Reads (IsPictureAt id.now (rows_of (found_of found.now))) result }
 {
-    let word = text_at(found, id)?;
-    if word == "suspicions" {
-        return Ok(Picture::Suspicions);
+    match text_at(found, id)? {
+        "suspicions" => Ok(Picture::Suspicions),
+        "letters" => Ok(Picture::Letters),
+        word => Err(String::from_str(alloc, word).map_or(
+            WordsError::Memory,
+            WordsError::NoPicture,
+        )),
     }
-    if word == "letters" {
-        return Ok(Picture::Letters);
-    }
-    Err(WordsError::NoPicture(copy_of(alloc, word)?))
 }
 
 /// What a row tells of, as an argument names it; a point where there is none.
 fn each_at(alloc: Global, found: &ArgMatches<'_>, id: &str) -> Result<Each, WordsError>
-    ensures stated { IfOk result (IsEachAt id.now (rows_of (found_of found.now))) }
-    ensures refused { IfErr result (Lacks (IsEachAt id.now (rows_of (found_of found.now)))) }
+    ensures { Reads (IsEachAt id.now (rows_of (found_of found.now))) result }
 {
-    let word = text_or(found, id, "point");
-    if word == "point" {
-        return Ok(Each::Point);
+    match text_if_at(found, id).unwrap_or("point") {
+        "point" => Ok(Each::Point),
+        "run" => Ok(Each::Run),
+        word => Err(String::from_str(alloc, word).map_or(WordsError::Memory, WordsError::NoEach)),
     }
-    if word == "run" {
-        return Ok(Each::Run);
-    }
-    Err(WordsError::NoEach(copy_of(alloc, word)?))
 }
 
 /// Which runs a study has.
 fn read_grid<'a>(alloc: Global, found: &ArgMatches<'a>) -> Result<GridTexts<'a>, WordsError>
-    ensures stated { IfOk result (IsGridAt (rows_of (found_of found.now))) }
-    ensures refused { IfErr result (Lacks (IsGridAt (rows_of (found_of found.now)))) }
+    ensures { Reads (IsGridAt (rows_of (found_of found.now))) result }
 {
     Ok(GridTexts {
         seeds: text_at(found, "seeds")?,
@@ -250,8 +222,7 @@ fn read_grid<'a>(alloc: Global, found: &ArgMatches<'a>) -> Result<GridTexts<'a>,
 
 /// A study.
 fn read_study<'a>(alloc: Global, found: &ArgMatches<'a>) -> Result<StudyTexts<'a>, WordsError>
-    ensures stated { IfOk result (IsStudyAt (rows_of (found_of found.now))) }
-    ensures refused { IfErr result (Lacks (IsStudyAt (rows_of (found_of found.now)))) }
+    ensures { Reads (IsStudyAt (rows_of (found_of found.now))) result }
 {
     let each = each_at(alloc, found, "each")?;
     Ok(StudyTexts {
@@ -282,8 +253,7 @@ fn study_if_at<'a>(
     alloc: Global,
     found: &ArgMatches<'a>,
 ) -> Result<Option<StudyTexts<'a>>, WordsError>
-    ensures stated { IfOk result (MayBeStudyAt (rows_of (found_of found.now))) }
-    ensures refused { IfErr result (Lacks (MayBeStudyAt (rows_of (found_of found.now)))) }
+    ensures { Reads (MayBeStudyAt (rows_of (found_of found.now))) result }
 {
     if lacks_study(found) {
         return Ok(None);
@@ -293,8 +263,7 @@ fn study_if_at<'a>(
 
 /// What `check` asks for.
 fn read_check<'a>(alloc: Global, found: &ArgMatches<'a>) -> Result<Order<'a>, WordsError>
-    ensures stated { IfOk result (StatesIn (codes "check") (rows_of (found_of found.now))) }
-    ensures refused { IfErr result (Lacks (StatesIn (codes "check") (rows_of (found_of found.now)))) }
+    ensures { Reads (StatesIn (codes "check") (rows_of (found_of found.now))) result }
 {
     let path = text_at(found, "path")?;
     let study = study_if_at(alloc, found)?;
@@ -303,8 +272,7 @@ fn read_check<'a>(alloc: Global, found: &ArgMatches<'a>) -> Result<Order<'a>, Wo
 
 /// What `letters` asks for.
 fn read_letters<'a>(found: &ArgMatches<'a>) -> Result<Order<'a>, WordsError>
-    ensures stated { IfOk result (StatesIn (codes "letters") (rows_of (found_of found.now))) }
-    ensures refused { IfErr result (Lacks (StatesIn (codes "letters") (rows_of (found_of found.now)))) }
+    ensures { Reads (StatesIn (codes "letters") (rows_of (found_of found.now))) result }
 {
     let path = text_at(found, "path")?;
     Ok(Order::Letters { path })
@@ -312,44 +280,32 @@ fn read_letters<'a>(found: &ArgMatches<'a>) -> Result<Order<'a>, WordsError>
 
 /// What `draw` asks for.
 fn read_draw<'a>(alloc: Global, found: &ArgMatches<'a>) -> Result<Order<'a>, WordsError>
-    ensures stated { IfOk result (StatesIn (codes "draw") (rows_of (found_of found.now))) }
-    ensures refused { IfErr result (Lacks (StatesIn (codes "draw") (rows_of (found_of found.now)))) }
+    ensures { Reads (StatesIn (codes "draw") (rows_of (found_of found.now))) result }
 {
-    let path = text_at(found, "path")?;
-    let picture = picture_at(alloc, found, "as")?;
-    let from = tick_if_at(found, "from");
-    let until = tick_if_at(found, "until");
-    let of = text_if_at(found, "of");
     Ok(Order::Draw {
-        path,
-        picture,
-        from,
-        until,
-        of,
+        path: text_at(found, "path")?,
+        picture: picture_at(alloc, found, "as")?,
+        from: tick_if_at(found, "from"),
+        until: tick_if_at(found, "until"),
+        of: text_if_at(found, "of"),
     })
 }
 
 /// What `show` asks for.
 fn read_show<'a>(alloc: Global, found: &ArgMatches<'a>) -> Result<Order<'a>, WordsError>
-    ensures stated { IfOk result (StatesIn (codes "show") (rows_of (found_of found.now))) }
-    ensures refused { IfErr result (Lacks (StatesIn (codes "show") (rows_of (found_of found.now)))) }
+    ensures { Reads (StatesIn (codes "show") (rows_of (found_of found.now))) result }
 {
-    let path = text_at(found, "path")?;
-    let grid = read_grid(alloc, found)?;
-    let point = number_at(found, "point")?;
-    let run = number_at(found, "run")?;
     Ok(Order::Show {
-        path,
-        grid,
-        point,
-        run,
+        path: text_at(found, "path")?,
+        grid: read_grid(alloc, found)?,
+        point: number_at(found, "point")?,
+        run: number_at(found, "run")?,
     })
 }
 
 /// What `sweep` asks for.
 fn read_sweep<'a>(alloc: Global, found: &ArgMatches<'a>) -> Result<Order<'a>, WordsError>
-    ensures stated { IfOk result (StatesIn (codes "sweep") (rows_of (found_of found.now))) }
-    ensures refused { IfErr result (Lacks (StatesIn (codes "sweep") (rows_of (found_of found.now)))) }
+    ensures { Reads (StatesIn (codes "sweep") (rows_of (found_of found.now))) result }
 {
     let path = text_at(found, "path")?;
     let study = read_study(alloc, found)?;
@@ -362,8 +318,7 @@ fn read_found<'a>(
     name: &str,
     found: &ArgMatches<'a>,
 ) -> Result<Order<'a>, WordsError>
-    ensures stated { IfOk result (StatesIn name.now (rows_of (found_of found.now))) }
-    ensures refused { IfErr result (Lacks (StatesIn name.now (rows_of (found_of found.now)))) }
+    ensures { Reads (StatesIn name.now (rows_of (found_of found.now))) result }
 {
     if name == "check" {
         read_check(alloc, found)
@@ -382,8 +337,7 @@ fn read_found<'a>(
 
 /// What the matches ask for.
 fn read_matches<'a>(alloc: Global, matches: &ArgMatches<'a>) -> Result<Order<'a>, WordsError>
-    ensures stated { IfOk result (StatesFound (subcommand_rows_of matches.now)) }
-    ensures refused { IfErr result (Lacks (StatesFound (subcommand_rows_of matches.now))) }
+    ensures { Reads (StatesFound (subcommand_rows_of matches.now)) result }
 {
     match matches.subcommand() {
         Some((name, found)) => read_found(alloc, name, found),
@@ -391,22 +345,14 @@ fn read_matches<'a>(alloc: Global, matches: &ArgMatches<'a>) -> Result<Order<'a>
     }
 }
 
-/// Words as they are printed, each on one line.
-fn shown_words(alloc: Global, words: &[&str]) -> Result<Vec<String>, AllocError> {
-    let mut shown = Vec::new(alloc);
-    for word in words {
-        let word = Printable(word);
-        shown.push(format!(in alloc; "{word}")?)?;
-    }
-    Ok(shown)
-}
-
 /// What `clap` tells of words that it answers with this error. The words that it quotes are told without control
 /// characters: it reads them once more, as they are printed.
 fn text_of(alloc: Global, words: &[&str], error: &clap::Error) -> Result<String, AllocError> {
-    let shown = shown_words(alloc, words)?;
-    let again = command(alloc)?.try_get_matches_from(&shown);
-    match again {
+    let shown: Vec<String> = words
+        .iter()
+        .map(|word| Printable(word).to_string(alloc))
+        .try_collect(alloc)?;
+    match command(alloc)?.try_get_matches_from(&shown) {
         Ok(_) => error.to_string(alloc),
         Err(error) => error.to_string(alloc),
     }

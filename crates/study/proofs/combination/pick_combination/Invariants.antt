@@ -1,12 +1,12 @@
 use Rattle.std.proofs.Common.{◌≡◌, ◌<◌, ◌++◌, [], length, map, drop, get_or}
-use Rattle.study.specs.Combinations.{combinations}
-use Rattle.study.specs.Settings.{choices, chosen}
+use Rattle.study.specs.Settings.{chosen}
+use Rattle.study.proofs.Points.{ways}
 use Rattle.study.proofs.combination.pick_combination.Given as goal
 
 abbrev pub invariant-loop-axis : goal.invariant-loop-axis
 invariant-loop-axis l = record {
-  alike : l.alike ≡ length (combinations (map choices (drop l.axis-index l.axes)));
+  alike : l.alike ≡ length (ways (drop l.axis-index l.axes));
   left : l.left < l.alike;
-  same : map chosen l.picked.items ++ get_or (combinations (map choices (drop l.axis-index l.axes))) l.left []
-      ≡ map chosen l.initial.picked.items ++ get_or (combinations (map choices l.axes)) l.fn.number [];
+  same : map chosen l.picked.items ++ get_or (ways (drop l.axis-index l.axes)) l.left []
+      ≡ map chosen l.initial.picked.items ++ get_or (ways l.axes) l.fn.number [];
 }

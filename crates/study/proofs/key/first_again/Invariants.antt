@@ -4,4 +4,6 @@ use Rattle.study.specs.Grid.{first_again}
 use Rattle.study.proofs.key.first_again.Given as goal
 
 abbrev pub invariant-loop-i : goal.invariant-loop-i
-invariant-loop-i l = first_again [] (map (λ k. path_of k.now) l.keys) ≡ first_again (map (λ k. path_of k.now) (take l.i l.keys)) (map (λ k. path_of k.now) (drop l.i l.keys))
+invariant-loop-i l =
+    first_again [] (map (λ k. path_of k.now) l.keys) ≡ first_again (map (λ k. path_of k.now) (take l.i l.keys))
+    (map (λ k. path_of k.now) (drop l.i l.keys))

@@ -8,5 +8,5 @@ returns c =
     let app = new_app c.args.name.now in
     let begun : app_of c.after_help-command.result ≡ app = search rules in
     let local : IsLocal c.after_help-command.result = search rules in
-    subst (λ r. Makes (with_rule app r) c.with_argument.result) c.path_argument.ensures.rule
+    subst (λ r. Makes (with_rule app r) c.with_argument.result) c.path_argument.ensures.0
     (c.with_argument.ensures app (begun, local))

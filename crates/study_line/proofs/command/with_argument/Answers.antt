@@ -7,8 +7,7 @@ use Rattle.study_line.proofs.command.with_argument.Goals as goal
 pub returns : goal.returns
 returns c app made =
     let old = IfOk-at_ok (λ m. (app_of m ≡ app) × IsLocal m) c.in_ok-command.was made in
-    IfOk-weaker c.arg.result _ _
-    (λ r adds. (
+    IfOk-weaker c.arg.result _ _ (λ r adds. (
       adds.shape c.requires.local ∙ ap (λ a. with_rule a (rule_of c.args.argument)) old.0,
       adds.globals ∙ ap (λ b. b || c.args.argument.global) old.1 ∙ c.requires.local,
     ))

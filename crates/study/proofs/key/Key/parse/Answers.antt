@@ -4,7 +4,11 @@ use Rattle.study.proofs.key.Key.parse.Goals as goal
 
 pub returns-in_err-key-in-None-clause-err : goal.returns-in_err-key-in-None-clause-err
 returns-in_err-key-in-None-clause-err c =
-    carried (SaysNoKey c.args.word.now) c.from_residual.result c.in_err-key-in-None.field-0.0 c.from_residual.ensures.1 (top_refused c.args.word.now c.in_err-key-in-None.field-0.0 c.in-None.ensures.cases c.in_err-key-in-None.ensures.err)
+    carried (SaysNoKey c.args.word.now) c.from_residual.result c.in_err-key-in-None.field-0.0 c.from_residual.ensures.1
+    (top_refused c.args.word.now c.in_err-key-in-None.field-0.0 c.in-None.ensures.cases
+    c.in_err-key-in-None.ensures.err)
 
 pub returns-in-Some-clause-err : goal.returns-in-Some-clause-err
-returns-in-Some-clause-err c = owned_refused c.args.word.now c.in-Some.owner c.in-Some.key c.owned_key.result c.in-Some.ensures.cases c.owned_key.ensures.err
+returns-in-Some-clause-err c =
+    owned_refused c.args.word.now c.in-Some.owner c.in-Some.key c.owned_key.result c.in-Some.ensures.cases
+    c.owned_key.ensures.err

@@ -1,23 +1,29 @@
 use Rattle.std.proofs.Common.{◌≡◌, ◌*◌, pos, ◌∙◌, ap, arith, w64, rules}
 use Rattle.std.proofs.lemmas.Int.{ints, to_z-of_z}
 use Rattle.std.specs.Int.RustNames.{FitsSigned, unsigned_abs}
-use Rattle.study.proofs.Ranges.{reached}
+use Rattle.study.proofs.Pieces.{reached}
 use Rattle.study.proofs.range.Range.number.Goals as goal
 
 pub overflow_cast-result : goal.overflow_cast-result
 overflow_cast-result c =
-    let step : FitsSigned w64 c.args.self.step = search rules in
-    let moved : c.from-2.result ≡ pos (c.args.step * unsigned_abs c.args.self.step) = c.from-2.ensures ∙ (ap (λ n. pos (c.args.step * n)) c.unsigned_abs.ensures.value ∙ ap (λ z. pos (c.args.step * unsigned_abs z)) (to_z-of_z w64 c.args.self.step step)) in
-    let within = reached c.args.self.low c.args.self.high c.args.self.step c.args.step c.args.self.rises c.args.self.some c.requires in
-    let low : FitsSigned w64 c.args.self.low = search rules in
-    let high : FitsSigned w64 c.args.self.high = search rules in
+    let r = c.args.self in
+    let step : FitsSigned w64 r.step = search rules in
+    let moved : c.from-2.result ≡ pos (c.args.step * unsigned_abs r.step) =
+    c.from-2.ensures ∙ (ap (λ n. pos (c.args.step * n)) c.unsigned_abs.ensures.value
+    ∙ ap (λ z. pos (c.args.step * unsigned_abs z)) (to_z-of_z w64 r.step step)) in
+    let within = reached r.low r.high r.step c.args.step r.rises r.some c.requires in
+    let low : FitsSigned w64 r.low = search rules in
+    let high : FitsSigned w64 r.high = search rules in
     omega (arith, ints, c.from.ensures)
 
 pub returns : goal.returns
 returns c =
-    let step : FitsSigned w64 c.args.self.step = search rules in
-    let moved : c.from-2.result ≡ pos (c.args.step * unsigned_abs c.args.self.step) = c.from-2.ensures ∙ (ap (λ n. pos (c.args.step * n)) c.unsigned_abs.ensures.value ∙ ap (λ z. pos (c.args.step * unsigned_abs z)) (to_z-of_z w64 c.args.self.step step)) in
-    let within = reached c.args.self.low c.args.self.high c.args.self.step c.args.step c.args.self.rises c.args.self.some c.requires in
-    let low : FitsSigned w64 c.args.self.low = search rules in
-    let high : FitsSigned w64 c.args.self.high = search rules in
+    let r = c.args.self in
+    let step : FitsSigned w64 r.step = search rules in
+    let moved : c.from-2.result ≡ pos (c.args.step * unsigned_abs r.step) =
+    c.from-2.ensures ∙ (ap (λ n. pos (c.args.step * n)) c.unsigned_abs.ensures.value
+    ∙ ap (λ z. pos (c.args.step * unsigned_abs z)) (to_z-of_z w64 r.step step)) in
+    let within = reached r.low r.high r.step c.args.step r.rises r.some c.requires in
+    let low : FitsSigned w64 r.low = search rules in
+    let high : FitsSigned w64 r.high = search rules in
     omega (arith, ints, c.from.ensures)
