@@ -1,21 +1,7 @@
 -- What a row tells is told by the runs alone.
-use Rattle.std.proofs.Common.{◌≡◌, ℕ, ◌*◌, ◌≤◌, ◌++◌, List, [], Option, None, Some, is_some, cond, refl, sym, ap, ◌∙◌, subst, arith}
-use Rattle.std.specs.List.{list_any}
-use Rattle.judges.specs.declared.outcomes.Outcome.{Outcome}
-use Rattle.reporting.specs.declared.pair_measures.PairMeasures.{PairMeasures}
-use Rattle.sweep.specs.Columns.{over, all_detections, last_decisions, IsDistribution, AreTraceSums, ArePairSums, AreDecisionSums, AreVerdictCounts, AreRunCounts, AreLayerSums, AreFirstRuns, AreColumns}
-use Rattle.sweep.specs.OneRun.{Finished}
-use Rattle.sweep.specs.Percentile.{IsPercentile}
-use Rattle.sweep.specs.Results.{Trial}
-use Rattle.sweep.specs.RowText.{Text, layer_text, AreRowsFor}
+use Rattle.sweep.proofs.Words.{◌≡◌, ℕ, ◌*◌, ◌≤◌, ◌++◌, List, [], Option, None, Some, is_some, cond, refl, sym, ap, ◌∙◌, subst, arith, list_any, Outcome, PairMeasures, over, all_detections, last_decisions, IsDistribution, AreTraceSums, ArePairSums, AreDecisionSums, AreVerdictCounts, AreRunCounts, AreLayerSums, AreFirstRuns, AreColumns, Finished, IsPercentile, Trial, Text, layer_text, AreRowsFor, DecisionSums, FirstRuns, LayerSums, PairSums, RunCounts, TraceSums}
 use Rattle.sweep.specs.declared.columns.Columns.{Columns}
-use Rattle.sweep.specs.declared.columns.DecisionSums.{DecisionSums}
 use Rattle.sweep.specs.declared.columns.Distribution.{Distribution}
-use Rattle.sweep.specs.declared.columns.FirstRuns.{FirstRuns}
-use Rattle.sweep.specs.declared.columns.LayerSums.{LayerSums}
-use Rattle.sweep.specs.declared.columns.PairSums.{PairSums}
-use Rattle.sweep.specs.declared.columns.RunCounts.{RunCounts}
-use Rattle.sweep.specs.declared.columns.TraceSums.{TraceSums}
 use Rattle.sweep.specs.declared.columns.VerdictCounts.{VerdictCounts}
 
 module _ (p : ℕ) (values : List ℕ) (infinite : ℕ) where
