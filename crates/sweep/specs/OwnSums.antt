@@ -1,5 +1,5 @@
 -- What a run that is done adds up to alone, by its summary, its verdicts and the measures of its pairs that count.
-use Rattle.std.specs.Prelude.{◌≡◌, ℕ, ◌-◌, ◌*◌, ◌^◌, ◌≤◌, ◌&&◌, min, not, nat_lt, if◌then◌else◌, List, length}
+use Rattle.std.specs.Prelude.{◌≡◌, ◌-◌, ◌*◌, ◌^◌, ◌≤◌, ◌&&◌, min, not, nat_lt, if◌then◌else◌, List, length}
 use Rattle.std.specs.List.{list_all, sum_by}
 use Rattle.judges.specs.Crashes.{end_of}
 use Rattle.judges.specs.declared.outcomes.Outcome.{Outcome}

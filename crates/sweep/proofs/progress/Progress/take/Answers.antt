@@ -1,4 +1,4 @@
-use Rattle.sweep.proofs.Words.{rules, ℕ, ◌+◌, [], arith, refl, ap, ◌*◌, sym, subst, runs_each, WroteUpTo}
+use Rattle.sweep.proofs.Words.{rules, ℕ, ◌+◌, arith, refl, ap, ◌*◌, sym, subst, runs_each, WroteUpTo}
 use Rattle.sweep.specs.declared.error.SweepError.TheVariants.{Memory, Write}
 use Rattle.sweep.proofs.Numbered.{unit_below, point_below}
 use Rattle.sweep.proofs.Reading.{if_err}
