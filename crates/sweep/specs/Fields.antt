@@ -44,4 +44,5 @@ AreRowsOfSums layout g unit sums rows = (first : ℕ) (trials : List Trial) → 
 -- they are added to a text
 abbrev pub AddsRowsOfSums : LayoutRecord → GridRecord → (unit : ℕ) → PointSums → (old new : Table) → Type 0
 AddsRowsOfSums layout g unit sums old new = (first : ℕ) (trials : List Trial) → AreSums first trials sums
-    → (rows : Text) × AreRowsFor layout.picks (lead_of layout.rows g unit) first trials rows × (text_of new ≡ text_of old ++ rows)
+    → (rows : Text) × AreRowsFor layout.picks (lead_of layout.rows g unit) first trials rows
+    × (text_of new ≡ text_of old ++ rows)

@@ -30,8 +30,8 @@ module _ (file : Members) (g : GridRecord) where
       pub order : begin ≤ l.point
       pub counting : AreCounted l
 
--- with these runs, which come next, a watcher that was told of all points before one place, of whatever file, is told of
--- all before another
+-- with these runs, which come next, a watcher that was told of all points before one place, of whatever file, is told
+-- of all before another
 abbrev pub TellsOn : GridRecord → {W : Type 0} (heard : W → List News → W → Type 0) (old new : W) → List RunNumbers
     → (from to : Limits) → Type 0
 TellsOn g {W} heard old new all from to = (file : Members) (start : W) (points done begin : ℕ)

@@ -16,8 +16,8 @@ use Rattle.sweep.specs.declared.columns.LayerSums.{LayerSums}
 use Rattle.sweep.specs.declared.columns.PairSums.{PairSums}
 use Rattle.sweep.specs.declared.columns.RunCounts.{RunCounts}
 
--- the counts of a run of which these were the pairs that count, these the decisions and the outcomes of the processes that
--- are to decide, and these the outcomes of all
+-- the counts of a run of which these were the pairs that count, these the decisions and the outcomes of the processes
+-- that are to decide, and these the outcomes of all
 pub record AreOwnCounts (pairs : PairSums) (decisions : DecisionSums) (deciding all : List Outcome) (c : RunCounts)
     : Type 0 where
   pub with_mistakes : c.with_mistakes ≡ (if nat_lt 0 pairs.mistakes then 1 else 0)

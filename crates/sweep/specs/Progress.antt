@@ -54,17 +54,20 @@ module _ (file : Members) (g : GridRecord) (layout : LayoutRecord) where
     StopsBelow end error.Memory = (unit : ℕ) × (unit ≤ end) × WroteUpTo unit
     StopsBelow end error.Write = (unit : ℕ) × (unit ≤ end) × WroteFrontUpTo unit
 
-module _ (g : GridRecord) (layout : LayoutRecord) {O : Type 0} (told : O → Option Text) (failed : O → ℕ) (old new : O) where
+module _ (g : GridRecord) (layout : LayoutRecord) {O : Type 0} (told : O → Option Text) (failed : O → ℕ)
+    (old new : O) where
   -- with these runs, which come next, a sweep that was under way, of whatever file, goes on from one place to another
   abbrev pub GoesOn : List RunNumbers → (from to : Progress) → Type 0
   GoesOn all from to = (file : Members) (start : O) (begin : ℕ) → AreNumbersFrom file g (next_run g layout from) all
-      → IsUnderWay file g layout told failed start old begin from → IsUnderWay file g layout told failed start new begin to
+      → IsUnderWay file g layout told failed start old begin from
+      → IsUnderWay file g layout told failed start new begin to
 
   -- or it comes to no end, below the unit whose runs aren't yet all there
   abbrev pub StopsAt : List RunNumbers → (from : Progress) → SweepError → Type 0
   StopsAt all from e = (file : Members) (start : O) (begin end : ℕ)
-      → next_run g layout from + length all ≤ end * runs_each layout.rows g → AreNumbersFrom file g (next_run g layout from) all
-      → IsUnderWay file g layout told failed start old begin from → StopsBelow file g layout told failed start new begin end e
+      → next_run g layout from + length all ≤ end * runs_each layout.rows g
+      → AreNumbersFrom file g (next_run g layout from) all → IsUnderWay file g layout told failed start old begin from
+      → StopsBelow file g layout told failed start new begin end e
 
   -- the rows of the points from one up to another went out, or a sweep of them stopped
   abbrev pub WrotePoints : Members → (begin end : ℕ) → Type 0

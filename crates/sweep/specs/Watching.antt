@@ -77,8 +77,8 @@ module _ {W : Type 0} (heard : W → List News → W → Type 0) (old new : W) w
       ((end - begin) * length (runs g)) (range_with_len begin (end - begin))
 
   abbrev pub HeardSomeRunning : Members → GridRecord → (begin end : ℕ) → Type 0
-  HeardSomeRunning file g begin end = (done count : ℕ) × (done ≤ (end - begin) * length (runs g)) × (count ≤ end - begin)
-      × HeardRunning heard old new file g (end - begin) (length (runs g)) done (range_with_len begin count)
+  HeardSomeRunning file g begin end = (done count : ℕ) × (done ≤ (end - begin) * length (runs g))
+      × (count ≤ end - begin) × HeardRunning heard old new file g (end - begin) (length (runs g)) done (range_with_len begin count)
 
   -- of all that they are read
   abbrev pub HeardOfAllReading : GridRecord → ShardRecord → Type 0
