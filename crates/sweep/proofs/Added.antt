@@ -1,18 +1,5 @@
 -- Sums over two lists, one after the other.
-use Rattle.std.proofs.Common.{◌≡◌, ℕ, ◌+◌, ◌^◌, ◌<◌, ◌≤◌, Bool, cond, List, ◌++◌, length, length-append, sum, sym, ap, ◌∙◌, arith}
-use Rattle.std.specs.List.{count_by, filter_map, sum_by}
-use Rattle.std.proofs.lemmas.List.Elements.{filter_map-append}
-use Rattle.std.proofs.lemmas.List.Sums.{sum_by-append, count_by-le-length}
-use Rattle.judges.specs.declared.outcomes.Outcome.{Outcome}
-use Rattle.reporting.specs.declared.pair_measures.PairMeasures.{PairMeasures}
-use Rattle.sweep.specs.Adding.{plus, plus_few, pairs_plus, decisions_plus, traces_plus}
-use Rattle.sweep.specs.Columns.{ArePairSums, AreDecisionSums, AreTraceSums}
-use Rattle.sweep.specs.Fitting.{ArePairsWithin, AreDecisionsWithin, AreTracesWithin}
-use Rattle.sweep.specs.OneRun.{Finished, detection_ticks, is_undetected, is_at_once, has_decided, decision_tick}
-use Rattle.sweep.specs.Percentile.{greater, greatest}
-use Rattle.sweep.specs.declared.columns.DecisionSums.{DecisionSums}
-use Rattle.sweep.specs.declared.columns.PairSums.{PairSums}
-use Rattle.sweep.specs.declared.columns.TraceSums.{TraceSums}
+use Rattle.sweep.proofs.Words.{◌≡◌, ℕ, ◌+◌, ◌^◌, ◌<◌, ◌≤◌, Bool, cond, List, ◌++◌, length, length-append, sum, sym, ap, ◌∙◌, arith, count_by, filter_map, sum_by, filter_map-append, sum_by-append, count_by-le-length, Outcome, PairMeasures, plus, plus_few, pairs_plus, decisions_plus, traces_plus, ArePairSums, AreDecisionSums, AreTraceSums, ArePairsWithin, AreDecisionsWithin, AreTracesWithin, Finished, has_decided, decision_tick, greater, greatest, DecisionSums, PairSums, TraceSums}
 use Rattle.sweep.proofs.Greatest.{greatest_both}
 
 pub added : {X : Type 0} (f : X → ℕ) (xs ys : List X) (a b A B : ℕ) → A + B < 2 ^ 128 → a ≡ sum_by f xs → b ≡ sum_by f ys → a ≤ A → b ≤ B → plus a b ≡ sum_by f (xs ++ ys)

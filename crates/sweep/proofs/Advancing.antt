@@ -1,64 +1,80 @@
 -- How a sweep comes on: one more run is in, and one more unit's rows went out.
-use Rattle.std.proofs.Common.{◌≡◌, ℕ, ◌+◌, ◌-◌, ◌*◌, ◌/◌, ◌%◌, ◌≤◌, ◌<◌, List, [], ◌∷◌, ◌++◌, length, take, Option, refl, sym, ap, ◌∙◌, subst, arith, min, append-nil}
-use Rattle.std.specs.List.{AllZip, flat_map, range_with_len}
-use Rattle.std.proofs.Math.Seq.{take-length}
-use Rattle.std.proofs.lemmas.Grind.{flat_map-append}
-use Rattle.std.proofs.lemmas.List.{take_more, length-take}
-use Rattle.toml.specs.Data.{Members}
-use Rattle.reporting.specs.Writing.{Wrote, WrotePart}
-use Rattle.reporting.proofs.Written.{wrote_both, wrote_then_part}
-use Rattle.study.specs.Grid.{GridRecord, RunRecord, runs}
-use Rattle.sweep.specs.Layout.{LayoutRecord}
-use Rattle.sweep.specs.Numbering.{runs_each, AreNumbersAt}
-use Rattle.sweep.specs.Results.{Trial}
-use Rattle.sweep.specs.RowText.{Text, AreRowsFor}
-use Rattle.sweep.specs.StudyText.{point_at, run_at, unit_point, unit_run, unit_runs, unit_first, lead_of, IsTrialOf, AreRowsOf, HasRowsOf}
-use Rattle.sweep.specs.Progress.{WroteUpTo, WroteFrontUpTo, StopsBelow}
-use Rattle.sweep.specs.Sums.{AreNumbers}
-use Rattle.sweep.specs.declared.error.SweepError.{SweepError}
-use Rattle.sweep.specs.declared.error.SweepError.TheVariants as error
-use Rattle.sweep.specs.declared.layout.Rows.{Rows}
+use Rattle.sweep.proofs.Words.{◌≡◌, ℕ, zero, suc, ◌+◌, ◌-◌, ◌*◌, ◌/◌, ◌%◌, ◌≤◌, ◌<◌, List, [], ◌∷◌, ◌++◌, length, take, get_or, Option, refl, sym, ap, ◌∙◌, subst, arith, append-nil, AllZip, flat_map, range_with_len, take-length, flat_map-append, take_more, length-take, Members, Wrote, WrotePart, wrote_both, wrote_then_part, GridRecord, RunRecord, runs, LayoutRecord, runs_each, AreNumbersAt, AreNumbersFrom, Trial, Text, point_at, run_at, unit_point, unit_run, unit_runs, unit_first, IsTrialOf, AreRowsOf, HasRowsOf, AreAdded, WroteUpTo, WroteFrontUpTo, next_run, AreNumbers, AreSums, AddsOneMore, Rows, RunNumbers}
+use Rattle.sweep.specs.Fields.{AreRowsOfSums}
 use Rattle.sweep.specs.declared.layout.Rows.TheVariants as kind
-use Rattle.sweep.specs.declared.run_numbers.RunNumbers.{RunNumbers}
+use Rattle.sweep.specs.declared.point_sums.PointSums.{PointSums}
+use Rattle.sweep.specs.declared.progress.Progress.{Progress}
 use Rattle.sweep.proofs.Numbered.{run_is, point_is, runs_length}
 use Rattle.sweep.proofs.Zipped.{zip_push, range_more}
 use Rattle.std.proofs.lemmas.Slice.Zip.{AllZip-long}
 
 module _ (file : Members) (g : GridRecord) (layout : LayoutRecord) where
+  -- what became of the run of a number
+  pub trial_here : (unit run number : ℕ) (n : RunNumbers) → run < runs_each layout.rows g
+      → unit * runs_each layout.rows g + run ≡ number → AreNumbersAt file g number n
+      → (t : Trial) × IsTrialOf file (point_at g (unit_point layout.rows g unit)) (unit_run layout.rows g unit run) t × AreNumbers t n
+  trial_here unit run number n low is at = (at.trial, by layout.rows low is, at.numbers)
+    where
+      by : (k : Rows) → run < runs_each k g → unit * runs_each k g + run ≡ number
+          → IsTrialOf file (point_at g (unit_point k g unit)) (unit_run k g unit run) at.trial
+      by kind.Points low is =
+          let P : ℕ → Type 0 = λ k. IsTrialOf file (point_at g k) (run_at g (number % length (runs g))) at.trial in
+          let Q : ℕ → Type 0 = λ k. IsTrialOf file (point_at g unit) (run_at g k) at.trial in
+          subst Q (run_is unit run (length (runs g)) number low is)
+          (subst P (point_is unit run (length (runs g)) number low is) at.is_trial)
+      by kind.Runs low is =
+          let P : ℕ → Type 0 = λ k. IsTrialOf file (point_at g (k / length (runs g))) (run_at g (k % length (runs g))) at.trial in
+          let Q : ℕ → Type 0 = λ k. IsTrialOf file (point_at g (unit_point kind.Runs g unit)) (unit_run kind.Runs g unit k) at.trial in
+          let here : number ≡ unit = omega (arith, low, is) in
+          let first : 0 ≡ run = omega (arith, low) in
+          subst Q first (subst P here at.is_trial)
+
   abbrev pub AreFirst : (unit run : ℕ) → List Trial → Type 0
   AreFirst unit run trials =
       AllZip (IsTrialOf file (point_at g (unit_point layout.rows g unit))) (take run (unit_runs layout.rows g unit)) trials
 
-  pub more_trials : (unit run : ℕ) (trials : List Trial) (t : Trial) → AreFirst unit run trials → run < runs_each layout.rows g
-      → IsTrialOf file (point_at g (unit_point layout.rows g unit)) (unit_run layout.rows g unit run) t
-      → AreFirst unit (run + 1) (trials ++ t ∷ [])
-  more_trials unit run trials t first low is =
+  -- what became of the next run joins what became of the first of its unit
+  pub next_trial : (unit run : ℕ) (trials : List Trial) (n : RunNumbers) → AreFirst unit run trials → run < runs_each layout.rows g
+      → AreNumbersFrom file g (unit * runs_each layout.rows g + run) (n ∷ [])
+      → (t : Trial) × AreNumbers t n × AreFirst unit (run + 1) (trials ++ t ∷ [])
+  next_trial unit run trials n first low numbers =
       let all : List RunRecord = unit_runs layout.rows g unit in
       let R : RunRecord → Trial → Type 0 = IsTrialOf file (point_at g (unit_point layout.rows g unit)) in
-      let P : List RunRecord → Type 0 = λ l. AllZip R l (trials ++ t ∷ []) in
-      let len : length all ≡ runs_each layout.rows g = runs_length layout.rows g unit in
-      subst P (sym (take_more all run (record { settings = []; seed = 0 }) (omega (arith, low, len))))
-      (zip_push R (take run all) trials (unit_run layout.rows g unit run) t first is)
+      let (t, is, are) = trial_here unit run (unit * runs_each layout.rows g + run + 0) n low (omega arith) (numbers 0 n (omega arith)) in
+      let P : List RunRecord → Type 0 = λ l. AllZip R l (trials ++ t ∷ []) in (
+        t,
+        are,
+        subst P (sym (take_more all run (record { settings = []; seed = 0 }) (omega (arith, low, runs_length layout.rows g unit))))
+            (zip_push R (take run all) trials (unit_run layout.rows g unit run) t first is),
+      )
 
-  pub trials_length : (unit run : ℕ) (trials : List Trial) → AreFirst unit run trials → run < runs_each layout.rows g
-      → length trials ≡ run
-  trials_length unit run trials first low =
-      let all : List RunRecord = unit_runs layout.rows g unit in
-      let R : RunRecord → Trial → Type 0 = IsTrialOf file (point_at g (unit_point layout.rows g unit)) in
-      let same : length trials ≡ length (take run all) = AllZip-long R (take run all) trials first in
-      let len : length (take run all) ≡ min run (length all) = length-take run all in
-      let each : length all ≡ runs_each layout.rows g = runs_length layout.rows g unit in
-      omega (arith, same, len, each, low)
+  -- the next run is added up with the first of its unit
+  pub record IsAddedTo (p : Progress) (sums : PointSums) : Type 0 where
+    pub trials : List Trial
+    pub each : AreFirst p.unit (p.run + 1) trials
+    pub summed : AreSums (unit_first layout.rows g p.unit) trials sums
 
-  pub all_trials : (unit run : ℕ) (trials : List Trial) (rows : Text) → AreFirst unit run trials → run ≡ runs_each layout.rows g
-      → AreRowsFor layout.picks (lead_of layout.rows g unit) (unit_first layout.rows g unit) trials rows → AreRowsOf file g layout unit rows
-  all_trials unit run trials rows first is told =
-      let all : List RunRecord = unit_runs layout.rows g unit in
-      let R : RunRecord → Trial → Type 0 = IsTrialOf file (point_at g (unit_point layout.rows g unit)) in
-      let P : ℕ → Type 0 = λ n. AllZip R (take n all) trials in
-      let Q : List RunRecord → Type 0 = λ l. AllZip R l trials in
-      let whole : run ≡ length all = is ∙ sym (runs_length layout.rows g unit) in
-      record { trials = trials; each = subst Q (take-length all) (subst P whole first); told = told }
+  pub added_to : (p : Progress) (n : RunNumbers) (sums : PointSums) → AddsOneMore n p.sums sums → runs_each layout.rows g ≤ 1000000000000
+      → AreNumbersFrom file g (next_run g layout p) (n ∷ []) → AreAdded file g layout p → IsAddedTo p sums
+  added_to p n sums more high numbers was =
+      let all : List RunRecord = unit_runs layout.rows g p.unit in
+      let t = next_trial p.unit p.run was.trials n was.each was.run_low numbers in
+      let few : length was.trials < 1000000000000 =
+      omega (arith, AllZip-long (IsTrialOf file (point_at g (unit_point layout.rows g p.unit))) (take p.run all) was.trials was.each, length-take p.run all, runs_length layout.rows g p.unit, was.run_low, high) in
+      record { trials = was.trials ++ t.0 ∷ []; each = t.2; summed = more (unit_first layout.rows g p.unit) was.trials t.0 few was.summed t.1 }
+
+  -- and that is the unit's last
+  pub rows_added : (p : Progress) (sums : PointSums) (rows : Text) → IsAddedTo p sums → p.run + 1 ≡ runs_each layout.rows g
+      → AreRowsOfSums layout g p.unit sums rows → AreRowsOf file g layout p.unit rows
+  rows_added p sums rows added is told =
+      let all : List RunRecord = unit_runs layout.rows g p.unit in
+      let P : List RunRecord → Type 0 = λ l. AllZip (IsTrialOf file (point_at g (unit_point layout.rows g p.unit))) l added.trials in
+      let whole : p.run + 1 ≡ length all = is ∙ sym (runs_length layout.rows g p.unit) in
+      record {
+        trials = added.trials;
+        each = subst P (take-length all) (subst (λ n. P (take n all)) whole added.each);
+        told = told (unit_first layout.rows g p.unit) added.trials added.summed;
+      }
 
   rows_none : (begin : ℕ) → HasRowsOf file g layout (range_with_len begin 0) []
   rows_none begin = record { parts = []; each = tt; text_is = refl }
@@ -110,28 +126,10 @@ module _ (file : Members) (g : GridRecord) (layout : LayoutRecord) where
         order = omega (arith, out.order);
       }
 
-    pub stops_below : (start new : O) (begin low high : ℕ) (e : SweepError) → low ≤ high
-        → StopsBelow file g layout told failed start new begin low e → StopsBelow file g layout told failed start new begin high e
-    stops_below start new begin low high (error.Refused point run reason) le stops = stops
-    stops_below start new begin low high error.Memory le stops = (stops.0, omega (arith, stops.1, le), stops.2)
-    stops_below start new begin low high error.Write le stops = (stops.0, omega (arith, stops.1, le), stops.2)
-
-  -- what became of the run of a number
-  pub trial_here : (unit run number : ℕ) (n : RunNumbers) → run < runs_each layout.rows g
-      → unit * runs_each layout.rows g + run ≡ number → AreNumbersAt file g number n
-      → (t : Trial) × IsTrialOf file (point_at g (unit_point layout.rows g unit)) (unit_run layout.rows g unit run) t × AreNumbers t n
-  trial_here unit run number n low is at = (at.trial, by layout.rows low is, at.numbers)
-    where
-      by : (k : Rows) → run < runs_each k g → unit * runs_each k g + run ≡ number
-          → IsTrialOf file (point_at g (unit_point k g unit)) (unit_run k g unit run) at.trial
-      by kind.Points low is =
-          let P : ℕ → Type 0 = λ k. IsTrialOf file (point_at g k) (run_at g (number % length (runs g))) at.trial in
-          let Q : ℕ → Type 0 = λ k. IsTrialOf file (point_at g unit) (run_at g k) at.trial in
-          subst Q (run_is unit run (length (runs g)) number low is)
-          (subst P (point_is unit run (length (runs g)) number low is) at.is_trial)
-      by kind.Runs low is =
-          let P : ℕ → Type 0 = λ k. IsTrialOf file (point_at g (k / length (runs g))) (run_at g (k % length (runs g))) at.trial in
-          let Q : ℕ → Type 0 = λ k. IsTrialOf file (point_at g (unit_point kind.Runs g unit)) (unit_run kind.Runs g unit k) at.trial in
-          let here : number ≡ unit = omega (arith, low, is) in
-          let first : 0 ≡ run = omega (arith, low) in
-          subst Q first (subst P here at.is_trial)
+-- of some numbers that follow one another one alone
+pub one_of : (file : Members) (g : GridRecord) (first : ℕ) (all : List RunNumbers) (i : ℕ) (n : RunNumbers) (next : ℕ) → i < length all
+    → n ≡ get_or all i n → next ≡ first + i → AreNumbersFrom file g first all → AreNumbersFrom file g next (n ∷ [])
+one_of file g first all i n next lt is same numbers zero d low =
+    let P : ℕ → Type 0 = λ m. AreNumbersAt file g m n in
+    subst P (omega (arith, same)) (subst (AreNumbersAt file g (first + i)) (sym is) (numbers i n lt))
+one_of file g first all i n next lt is same numbers (suc k) d low = absurd (omega (arith, low))

@@ -1,23 +1,7 @@
 -- How a sweep ends: what went out, and which run was refused.
-use Rattle.std.proofs.Common.{◌≡◌, ℕ, ◌+◌, ◌-◌, ◌*◌, ◌/◌, ◌%◌, ◌<◌, ◌≤◌, ⊎_elim, inl, inr, List, [], ◌++◌, length, take, Option, refl, sym, ap, ◌∙◌, subst, arith, append-nil}
-use Rattle.std.specs.List.{Contains, range_with_len}
-use Rattle.std.specs.Prelude.{slice_index_or}
-use Rattle.std.proofs.Math.Nat.{lt_of_mul-lt-mul_right, mul-le-mul_right}
-use Rattle.std.proofs.lemmas.List.FromFn.{length-range_with_len, get_or-range_with_len}
-use Rattle.std.proofs.lemmas.Nat.{div-add-mod', mod_below}
-use Rattle.toml.specs.Data.{Members}
-use Rattle.reporting.specs.Writing.{Wrote, WrotePart}
-use Rattle.reporting.proofs.Written.{wrote_both, wrote_then_part}
-use Rattle.study.specs.Grid.{GridRecord, runs}
-use Rattle.study.specs.Shard.{ShardRecord}
+use Rattle.sweep.proofs.Words.{◌≡◌, ℕ, ◌+◌, ◌-◌, ◌*◌, ◌/◌, ◌%◌, ◌<◌, ◌≤◌, ⊎_elim, inl, inr, List, [], ◌++◌, length, take, Option, refl, sym, ap, ◌∙◌, subst, arith, append-nil, Contains, range_with_len, slice_index_or, lt_of_mul-lt-mul_right, mul-le-mul_right, length-range_with_len, get_or-range_with_len, div-add-mod', mod_below, Members, Wrote, WrotePart, wrote_both, wrote_then_part, GridRecord, runs, ShardRecord, LayoutRecord, unit_count, HasScenarioAt, IsFirstRefusal, WroteUpTo, StopsBelow, HeaderFails, Text, header_of, numbers_of, units_in, units_of, HasRowsOf, IsTextOf, SweepError}
 use Rattle.study.specs.declared.error.ReadError.{ReadError}
-use Rattle.sweep.specs.Layout.{LayoutRecord}
-use Rattle.sweep.specs.Numbering.{unit_count, HasScenarioAt, IsFirstRefusal}
 use Rattle.sweep.specs.Outcome.{IsBefore, HasScenario, IsFirstRefused, HaveScenarios, CantBeRun, WroteStudy, BreaksOff}
-use Rattle.sweep.specs.Progress.{WroteUpTo, StopsBelow, HeaderFails}
-use Rattle.sweep.specs.RowText.{Text}
-use Rattle.sweep.specs.StudyText.{header_of, numbers_of, units_in, units_of, HasRowsOf, IsTextOf}
-use Rattle.sweep.specs.declared.error.SweepError.{SweepError}
 use Rattle.sweep.specs.declared.error.SweepError.TheVariants as error
 use Rattle.sweep.proofs.Numbered.{point_is, run_is, number_below}
 use Rattle.sweep.proofs.Zipped.{range_taken}

@@ -1,16 +1,5 @@
 -- The numbers of the first runs in which something is so.
-use Rattle.std.proofs.Common.{◌≡◌, ℕ, ◌+◌, ◌<◌, ◌≤◌, max, Bool, true, false, cond, is_some, Option, None, Some, List, [], ◌∷◌, ◌++◌, length, refl, sym, ap, ◌∙◌, arith, nat_lt, ◌||◌, ◌==◌, true≢false, zero-add}
-use Rattle.std.specs.List.{count_by, flat_map, list_any}
-use Rattle.std.proofs.lemmas.Bool.{lt-ltb, ltb-true, ltb-false}
-use Rattle.std.proofs.lemmas.List.Folds.{list_any-append}
-use Rattle.std.proofs.lemmas.List.Sums.{sum_by-cons}
-use Rattle.sweep.specs.Adding.{first_of, first_with, is_above}
-use Rattle.sweep.specs.Columns.{first_number, done_on, all_detections, does, first_after, AreFirstRuns, AreRunCounts}
-use Rattle.sweep.specs.OneRun.{Finished, detections, has_mistake, do_disagree, run_outcomes}
-use Rattle.sweep.specs.Percentile.{greater, greatest}
-use Rattle.sweep.specs.Results.{Trial}
-use Rattle.sweep.specs.declared.columns.FirstRuns.{FirstRuns}
-use Rattle.sweep.specs.declared.columns.RunCounts.{RunCounts}
+use Rattle.sweep.proofs.Words.{◌≡◌, ℕ, ◌+◌, ◌<◌, ◌≤◌, max, Bool, true, false, cond, is_some, Option, None, Some, List, [], ◌∷◌, ◌++◌, length, refl, sym, ap, ◌∙◌, arith, nat_lt, ◌||◌, ◌==◌, true≢false, zero-add, count_by, flat_map, list_any, lt-ltb, ltb-true, ltb-false, list_any-append, sum_by-cons, first_of, first_with, is_above, first_number, done_on, all_detections, does, first_after, AreFirstRuns, AreRunCounts, Finished, detections, has_mistake, do_disagree, run_outcomes, greater, greatest, Trial, FirstRuns, RunCounts}
 use Rattle.sweep.proofs.Greatest.{greatest_both, has, has_greatest, has_none_above}
 use Rattle.sweep.proofs.Layered.{detections_both}
 

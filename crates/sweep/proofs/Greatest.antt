@@ -1,10 +1,7 @@
 -- The greatest of some values.
-use Rattle.std.proofs.Common.{◌≡◌, ◌⊎◌, inl, inr, ℕ, ◌<◌, ◌≤◌, max, Bool, true, false, Option, None, Some, List, [], ◌∷◌, ◌++◌, refl, ap, ◌∙◌, arith, ◌==◌, ◌||◌}
-use Rattle.std.specs.List.{cons_option, list_any}
+use Rattle.sweep.proofs.Words.{◌≡◌, ◌⊎◌, inl, inr, ℕ, ◌<◌, ◌≤◌, max, Bool, true, false, Option, None, Some, List, [], ◌∷◌, ◌++◌, refl, ap, ◌∙◌, arith, ◌==◌, ◌||◌, cons_option, list_any, ne_eqb, ltb-true, lt-ltb, is_above, greater, greatest}
 use Rattle.std.proofs.Math.Bool.{or-true}
-use Rattle.std.proofs.lemmas.Bool.{eq-eqb, ne_eqb, ltb-true, lt-ltb}
-use Rattle.sweep.specs.Adding.{is_above}
-use Rattle.sweep.specs.Percentile.{greater, greatest}
+use Rattle.std.proofs.lemmas.Bool.{eq-eqb}
 
 greater_assoc : (a b c : Option ℕ) → greater a (greater b c) ≡ greater (greater a b) c
 greater_assoc None b c = refl

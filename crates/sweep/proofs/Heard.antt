@@ -1,18 +1,6 @@
 -- What a watcher has heard: one more number, one more point, and nothing more.
-use Rattle.std.proofs.Common.{◌≡◌, ℕ, ◌-◌, ◌*◌, ◌<◌, ◌≤◌, ◌==◌, Bool, true, false, not, cond, eq-eqb, List, [], ◌∷◌, ◌++◌, refl, sym, ap, ◌∙◌, subst, map, append-nil, arith, inr, length, take}
-use Rattle.std.proofs.Math.Nat.{mul-sub, mul_comm}
-use Rattle.std.proofs.lemmas.List.{map-append}
-use Rattle.std.proofs.lemmas.List.Elements.{filter-append, filter_map-append}
-use Rattle.std.specs.List.{AllZip, filter, filter_map, range_with_len}
-use Rattle.std.proofs.lemmas.Bool.{ne_eqb}
-use Rattle.std.proofs.lemmas.List.FromFn.{length-range_with_len}
-use Rattle.trace_laws.specs.Joins.{HaveJoined}
-use Rattle.trace_laws.proofs.Joining.{joined_then}
-use Rattle.toml.specs.Data.{Members}
-use Rattle.study.specs.Grid.{GridRecord, runs}
-use Rattle.study.specs.Shard.{ShardRecord}
-use Rattle.sweep.specs.StudyText.{numbers_of}
-use Rattle.sweep.specs.Watching.{News, stands, limits, standing_in, limit_in, said_of, Rise, AreLimited, HeardReading, HeardRunning, HeardOfReading, HeardOfAllReading, HeardAll, HeardSome}
+use Rattle.sweep.proofs.Words.{◌≡◌, ℕ, ◌-◌, ◌*◌, ◌<◌, ◌≤◌, ◌==◌, Bool, true, false, not, cond, List, [], ◌∷◌, ◌++◌, refl, sym, ap, ◌∙◌, subst, map, append-nil, arith, inr, length, take, mul-sub, mul_comm, map-append, filter-append, filter_map-append, AllZip, filter, filter_map, range_with_len, ne_eqb, length-range_with_len, HaveJoined, joined_then, Members, GridRecord, runs, ShardRecord, numbers_of, News, stands, limits, standing_in, limit_in, said_of, Rise, AreLimited, HeardReading, HeardRunning, HeardOfReading, HeardOfAllReading, HeardAll, HeardSome}
+use Rattle.std.proofs.Common.{eq-eqb}
 use Rattle.sweep.specs.declared.watcher.Pass.TheVariants.{Reading, Running}
 use Rattle.sweep.specs.declared.watcher.Standing.{Standing}
 use Rattle.sweep.proofs.Zipped.{zip_append, range_taken}

@@ -1,20 +1,6 @@
 -- The runs that have a layer, and what is added up of them.
-use Rattle.std.proofs.Common.{◌≡◌, ℕ, ◌+◌, ◌*◌, ◌^◌, ◌<◌, ◌≤◌, Bool, true, false, cond, is_some, Option, Some, None, List, [], ◌∷◌, ◌++◌, length, sym, ap, ◌∙◌, refl, subst, arith, nat_lt, ◌||◌, ◌==◌, length-append}
-use Rattle.std.specs.List.{cons_option, count_by, filter_map, flat_map, list_any}
-use Rattle.std.proofs.lemmas.Bool.{lt-ltb}
-use Rattle.std.proofs.lemmas.Grind.{flat_map-append}
-use Rattle.std.proofs.lemmas.List.Elements.{filter-append, filter_map-append}
-use Rattle.std.proofs.lemmas.List.Sums.{count_by-le-length, length-filter}
-use Rattle.judges.specs.Verdicts.{verdicts}
-use Rattle.scenario_record.specs.Record.{Record}
-use Rattle.sweep.specs.Adding.{layer_plus}
-use Rattle.sweep.specs.Columns.{has_layer, on_layer, finished_of, finish_of, done_on, all_pairs, all_durations, all_detections, last_decisions, top_rounds, is_limited, AreDoneSums, AreRunCounts, AreVerdictCounts, ArePairSums, AreDecisionSums}
-use Rattle.sweep.specs.Fitting.{most_runs, most_of, IsLayerWithin}
-use Rattle.sweep.specs.OneRun.{Finished, counted_pairs, pair_ticks, mistakes, has_mistake, durations, detections, run_outcomes, deciding, do_disagree, do_all_decide, is_undecided, last_decision, top_round}
-use Rattle.sweep.specs.Results.{Trial}
-use Rattle.sweep.specs.Sums.{AreFitting}
-use Rattle.sweep.specs.declared.columns.LayerSums.{LayerSums}
-use Rattle.sweep.proofs.Added.{added, within, counted, traces_added, traces_within, pairs_added, pairs_within, decisions_added, decisions_within}
+use Rattle.sweep.proofs.Words.{◌≡◌, ℕ, ◌+◌, ◌*◌, ◌^◌, ◌<◌, ◌≤◌, Bool, true, false, cond, is_some, Option, Some, None, List, [], ◌∷◌, ◌++◌, length, sym, ap, ◌∙◌, refl, subst, arith, nat_lt, ◌||◌, ◌==◌, length-append, cons_option, count_by, filter_map, flat_map, list_any, lt-ltb, flat_map-append, filter-append, filter_map-append, count_by-le-length, length-filter, Record, layer_plus, has_layer, on_layer, finished_of, finish_of, done_on, all_pairs, all_durations, all_detections, last_decisions, top_rounds, is_limited, AreDoneSums, AreRunCounts, AreVerdictCounts, ArePairSums, AreDecisionSums, most_runs, most_of, IsLayerWithin, Finished, counted_pairs, pair_ticks, mistakes, durations, detections, run_outcomes, deciding, last_decision, top_round, Trial, AreFitting, LayerSums}
+use Rattle.sweep.proofs.Added.{added, counted, traces_added, pairs_added, decisions_added}
 
 -- ---- layers
 

@@ -1,3 +1,4 @@
+pub mod Words
 pub mod Greatest
 pub mod Added
 pub mod Counting

@@ -1,26 +1,10 @@
 -- How the count of runs that passed their limit comes on.
-use Rattle.std.proofs.Common.{◌≡◌, ℕ, ◌+◌, ◌-◌, ◌*◌, ◌<◌, ◌≤◌, Bool, true, false, cond, Result, Ok, IfOk, List, [], ◌∷◌, ◌++◌, length, map, take, get_or, sym, ap, ◌∙◌, subst, arith}
-use Rattle.std.specs.List.{AllZip, count_by, range_with_len}
-use Rattle.std.specs.Prelude.{slice_index_or}
-use Rattle.std.proofs.Math.Nat.{lt_of_mul-lt-mul_right}
-use Rattle.std.proofs.Math.Seq.{take-length}
-use Rattle.std.proofs.lemmas.List.{get_or-map, length-map}
-use Rattle.std.proofs.lemmas.List.Sums.{sum_by-append}
-use Rattle.trace_laws.specs.Joins.{HaveJoined}
-use Rattle.toml.specs.Data.{Members}
-use Rattle.study.specs.Grid.{GridRecord, RunRecord, runs}
-use Rattle.sweep.specs.Columns.{is_limited, on_layer}
-use Rattle.sweep.specs.Layout.{LayoutRecord}
-use Rattle.sweep.specs.Limits.{AreCounted, AreUnderWay}
-use Rattle.sweep.specs.Numbering.{IsAnswerAt, AreNumbersAt, AreNumbersFrom}
-use Rattle.sweep.specs.Results.{Trial}
-use Rattle.sweep.specs.StudyText.{point_at, run_at, IsTrialOf}
-use Rattle.sweep.specs.Sums.{AreNumbers}
-use Rattle.sweep.specs.Watching.{News, stands, said_of, AreLimited, HeardRunning}
+use Rattle.sweep.proofs.Words.{◌≡◌, ℕ, ◌+◌, ◌-◌, ◌*◌, ◌<◌, ◌≤◌, Bool, true, false, cond, Result, Ok, IfOk, List, [], ◌∷◌, ◌++◌, length, map, min, take, get_or, sym, ap, ◌∙◌, subst, arith, AllZip, count_by, range_with_len, slice_index_or, lt_of_mul-lt-mul_right, take-length, length-map, sum_by-append, HaveJoined, Members, GridRecord, RunRecord, runs, is_limited, on_layer, LayoutRecord, AreUnderWay, next_counted, IsAnswerAt, AreNumbersAt, AreNumbersFrom, Trial, point_at, IsTrialOf, AreNumbers, News, stands, said_of, AreLimited, HeardRunning, HeardSomeRunning, RunNumbers}
+use Rattle.std.proofs.lemmas.List.{get_or-map}
+use Rattle.sweep.specs.Limits.{AreCounted}
 use Rattle.sweep.specs.declared.layout.Rows.TheVariants as kind
 use Rattle.sweep.specs.declared.limits.Limits.{Limits}
-use Rattle.sweep.specs.declared.run_numbers.RunNumbers.{RunNumbers}
-use Rattle.sweep.proofs.Advancing.{more_trials}
+use Rattle.sweep.proofs.Advancing.{next_trial}
 use Rattle.sweep.proofs.Heard.{within_all, run, running_begin, running_same, running_more, running_point}
 use Rattle.sweep.proofs.Layered.{has_first}
 use Rattle.sweep.proofs.Zipped.{range_more}
@@ -31,12 +15,12 @@ use Rattle.sweep.proofs.Zipped.{range_more}
 alone : (t : Trial) → on_layer 1 (t ∷ []) ≡ t ∷ []
 alone t = ap (λ b. cond b (t ∷ []) []) (has_first t.scenario)
 
-pub limited_alone : (t : Trial) (n : RunNumbers) → AreNumbers t n → n.first.sums.limited ≡ cond (is_limited t.result) 1 0
+limited_alone : (t : Trial) (n : RunNumbers) → AreNumbers t n → n.first.sums.limited ≡ cond (is_limited t.result) 1 0
 limited_alone t n are =
     let one : count_by (λ u. is_limited u.result) (t ∷ []) ≡ cond (is_limited t.result) 1 0 = omega arith in
     are.first.fitting.sums.limited ∙ ap (λ l. count_by (λ u. is_limited u.result) l) (alone t) ∙ one
 
-pub at_most_one : (t : Trial) → cond (is_limited t.result) 1 0 ≤ 1
+at_most_one : (t : Trial) → cond (is_limited t.result) 1 0 ≤ 1
 at_most_one t = by (is_limited t.result)
   where
     by : (b : Bool) → cond b 1 0 ≤ 1
@@ -52,24 +36,20 @@ count_more trials t n m is one = omega (arith, sum_by-append (λ u. cond (is_lim
 abbrev pub points_layout : LayoutRecord
 points_layout = record { rows = kind.Points; picks = [] }
 
-module _ (file : Members) (g : GridRecord) (l : Limits) (t : Trial) (one : ℕ)
-    (low : l.run < length (runs g)) (is : IsTrialOf file (point_at g l.point) (run_at g l.run) t)
-    (limited : one ≡ cond (is_limited t.result) 1 0) (was : AreCounted file g l) where
-  abbrev trials : List Trial
-  trials = was.trials ++ t ∷ []
+module _ (file : Members) (g : GridRecord) (l : Limits) (n : RunNumbers) (one : ℕ) (low : l.run < length (runs g))
+    (is : one ≡ min n.first.sums.limited 1) (numbers : AreNumbersFrom file g (next_counted g l) (n ∷ [])) (was : AreCounted file g l) where
+  -- with the run that comes next
+  pub counted_to : (trials : List Trial) × AllZip (IsTrialOf file (point_at g l.point)) (take (l.run + 1) (runs g)) trials
+      × (l.count + one ≡ count_by (λ t. is_limited t.result) trials)
+  counted_to =
+      let t = next_trial file g points_layout l.point l.run was.trials n was.each low numbers in
+      (was.trials ++ t.0 ∷ [], t.2, count_more was.trials t.0 l.count one was.counted (omega (arith, is, limited_alone t.0 n t.1, at_most_one t.0)))
 
-  pub more_counted : AllZip (IsTrialOf file (point_at g l.point)) (take (l.run + 1) (runs g)) trials
-  more_counted = more_trials file g points_layout l.point l.run was.trials t was.each low is
-
-  pub count_is : l.count + one ≡ count_by (λ u. is_limited u.result) trials
-  count_is = count_more was.trials t l.count one was.counted limited
-
+  -- and that is the point's last
   pub all_counted : l.run + 1 ≡ length (runs g) → AreLimited file g l.point (l.count + one)
   all_counted whole =
-      let R : RunRecord → Trial → Type 0 = IsTrialOf file (point_at g l.point) in
-      let P : ℕ → Type 0 = λ n. AllZip R (take n (runs g)) trials in
-      let Q : List RunRecord → Type 0 = λ rs. AllZip R rs trials in
-      record { trials = trials; each = subst Q (take-length (runs g)) (subst P whole more_counted); counted = count_is }
+      let P : List RunRecord → Type 0 = λ rs. AllZip (IsTrialOf file (point_at g l.point)) rs counted_to.0 in
+      record { trials = counted_to.0; each = subst P (take-length (runs g)) (subst (λ k. P (take k (runs g))) whole counted_to.1); counted = counted_to.2 }
 
 -- the next point
 module _ {W : Type 0} (heard : W → List News → W → Type 0) (file : Members) (g : GridRecord) (start old new : W)
@@ -118,25 +98,23 @@ module _ (file : Members) (g : GridRecord) {W : Type 0} (heard : W → List News
   }
 
 pub way_begin : (file : Members) (g : GridRecord) {W : Type 0} (heard : W → List News → W → Type 0) (old new : W) (points each begin : ℕ) (l : Limits)
-    → each ≡ length (runs g) → l.point ≡ begin → l.run ≡ 0 → l.count ≡ 0
+    → each ≡ length (runs g) → l.point ≡ begin → AreCounted file g l
     → HaveJoined heard old new (stands (run heard points each 0) ∷ []) → AreUnderWay file g heard old new points 0 begin l
-way_begin file g heard old new points each begin l is at first none said =
-    let R : ℕ → Type 0 = λ n. AllZip (IsTrialOf file (point_at g l.point)) (take n (runs g)) [] in
-    let zero_len : 0 ≡ l.point - begin = omega (arith, at) in
+way_begin file g heard old new points each begin l is at counting said =
     let P : ℕ → Type 0 = λ n. HeardRunning heard old new file g points (length (runs g)) 0 (range_with_len begin n) in
+    let none : 0 ≡ l.point - begin = omega (arith, at) in
     record {
-      told = subst P zero_len (running_begin heard points (length (runs g)) file g old new
+      told = subst P none (running_begin heard points (length (runs g)) file g old new
           (subst (λ n. HaveJoined heard old new (stands (run heard points n 0) ∷ [])) is said));
       order = omega (arith, at);
-      counting = record { trials = []; each = subst R (sym first) tt; counted = none };
+      counting = counting;
     }
 
 -- what was heard where it breaks off
 pub heard_up_to : (file : Members) (g : GridRecord) {W : Type 0} (heard : W → List News → W → Type 0) (old new : W) (begin end next : ℕ) (l : Limits)
     → l.run < length (runs g) → l.point * length (runs g) + l.run ≤ end * length (runs g) → next ≤ end * length (runs g)
     → AreUnderWay file g heard old new (end - begin) (next - begin * length (runs g)) begin l
-    → (done count : ℕ) × (done ≤ (end - begin) * length (runs g)) × (count ≤ end - begin)
-    × HeardRunning heard old new file g (end - begin) (length (runs g)) done (range_with_len begin count)
+    → HeardSomeRunning heard old new file g begin end
 heard_up_to file g heard old new begin end next l low le high way =
     let up : l.point < end + 1 = lt_of_mul-lt-mul_right (length (runs g)) {m = l.point} {n = end + 1} (omega (arith, low, le)) in
     (next - begin * length (runs g), l.point - begin, within_all begin end (length (runs g)) next high, omega (arith, up), way.told)

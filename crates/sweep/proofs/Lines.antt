@@ -1,5 +1,5 @@
 -- Fields that were added one after the other.
-use Rattle.std.proofs.Common.{◌≡◌, ℕ, Result, Ok, Err, List, ◌++◌, OnOk, ap, ◌∙◌, append_assoc}
+use Rattle.sweep.proofs.Words.{◌≡◌, ℕ, Result, Ok, Err, List, ◌++◌, OnOk, ap, ◌∙◌, append_assoc}
 
 pub on_ok : {T E P Q : Type 0} (r : Result T E) → (P → Q) → OnOk r P → OnOk r Q
 on_ok (Ok x) f p = f p

@@ -1,11 +1,5 @@
 -- A run's number, its point and its place there, and its unit.
-use Rattle.std.proofs.Common.{◌≡◌, ℕ, zero, suc, ◌+◌, ◌*◌, ◌/◌, ◌%◌, ◌<◌, ◌≤◌, arith, refl, subst, length}
-use Rattle.std.proofs.Math.Nat.{lt_of_mul-lt-mul_right}
-use Rattle.std.proofs.lemmas.Nat.{mod-mul-add, div-add-mod'}
-use Rattle.study.specs.Grid.{GridRecord, runs}
-use Rattle.sweep.specs.Numbering.{runs_each, unit_count}
-use Rattle.sweep.specs.StudyText.{unit_point, unit_runs}
-use Rattle.sweep.specs.declared.layout.Rows.{Rows}
+use Rattle.sweep.proofs.Words.{◌≡◌, ℕ, zero, suc, ◌+◌, ◌*◌, ◌/◌, ◌%◌, ◌<◌, ◌≤◌, arith, refl, subst, length, lt_of_mul-lt-mul_right, mod-mul-add, div-add-mod', GridRecord, runs, runs_each, unit_count, unit_point, unit_runs, Rows}
 use Rattle.sweep.specs.declared.layout.Rows.TheVariants as kind
 
 -- two numbers with one remainder

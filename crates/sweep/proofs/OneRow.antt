@@ -1,21 +1,7 @@
 -- What a row tells is told by the runs alone.
-use Rattle.std.proofs.Common.{◌≡◌, ℕ, ◌*◌, ◌≤◌, ◌++◌, List, [], Option, None, Some, is_some, cond, refl, sym, ap, ◌∙◌, subst, arith}
-use Rattle.std.specs.List.{list_any}
-use Rattle.judges.specs.declared.outcomes.Outcome.{Outcome}
-use Rattle.reporting.specs.declared.pair_measures.PairMeasures.{PairMeasures}
-use Rattle.sweep.specs.Columns.{over, all_detections, last_decisions, IsDistribution, AreTraceSums, ArePairSums, AreDecisionSums, AreVerdictCounts, AreRunCounts, AreLayerSums, AreFirstRuns, AreColumns}
-use Rattle.sweep.specs.OneRun.{Finished}
-use Rattle.sweep.specs.Percentile.{IsPercentile}
-use Rattle.sweep.specs.Results.{Trial}
-use Rattle.sweep.specs.RowText.{Text, layer_text, AreRowsFor}
+use Rattle.sweep.proofs.Words.{rules, ◌≡◌, ℕ, ◌*◌, ◌≤◌, ◌++◌, List, [], Option, None, Some, is_some, cond, refl, sym, ap, ◌∙◌, subst, arith, list_any, Outcome, PairMeasures, over, all_detections, last_decisions, IsDistribution, AreTraceSums, ArePairSums, AreDecisionSums, AreVerdictCounts, AreRunCounts, AreLayerSums, AreFirstRuns, AreColumns, Finished, IsPercentile, Trial, Text, layer_text, AreRowsFor, DecisionSums, FirstRuns, LayerSums, PairSums, RunCounts, TraceSums}
 use Rattle.sweep.specs.declared.columns.Columns.{Columns}
-use Rattle.sweep.specs.declared.columns.DecisionSums.{DecisionSums}
 use Rattle.sweep.specs.declared.columns.Distribution.{Distribution}
-use Rattle.sweep.specs.declared.columns.FirstRuns.{FirstRuns}
-use Rattle.sweep.specs.declared.columns.LayerSums.{LayerSums}
-use Rattle.sweep.specs.declared.columns.PairSums.{PairSums}
-use Rattle.sweep.specs.declared.columns.RunCounts.{RunCounts}
-use Rattle.sweep.specs.declared.columns.TraceSums.{TraceSums}
 use Rattle.sweep.specs.declared.columns.VerdictCounts.{VerdictCounts}
 
 module _ (p : ℕ) (values : List ℕ) (infinite : ℕ) where
@@ -37,55 +23,22 @@ one_distribution values infinite s t a b =
     λ i. record { count = (a.many ∙ sym b.many) i; p50 = half i; p90 = most i; p99 = all i; greatest = (a.highest ∙ sym b.highest) i }
 
 one_trace_sums : (runs : List Finished) (s t : TraceSums) → AreTraceSums runs s → AreTraceSums runs t → s ≡ t
-one_trace_sums runs s t a b = λ i. record {
-  entries = (a.entries ∙ sym b.entries) i;
-  sent = (a.sent ∙ sym b.sent) i;
-  lost = (a.lost ∙ sym b.lost) i;
-}
+one_trace_sums runs s t a b = search rules
 
 one_pair_sums : (pairs : List PairMeasures) (s t : PairSums) → ArePairSums pairs s → ArePairSums pairs t → s ≡ t
-one_pair_sums pairs s t a b = λ i. record {
-  mistakes = (a.mistakes ∙ sym b.mistakes) i;
-  mistake_ticks = (a.mistake_ticks ∙ sym b.mistake_ticks) i;
-  recurrence_sum = (a.recurrence_sum ∙ sym b.recurrence_sum) i;
-  recurrence_count = (a.recurrence_count ∙ sym b.recurrence_count) i;
-  duration_sum = (a.duration_sum ∙ sym b.duration_sum) i;
-  duration_count = (a.duration_count ∙ sym b.duration_count) i;
-  good_sum = (a.good_sum ∙ sym b.good_sum) i;
-  good_count = (a.good_count ∙ sym b.good_count) i;
-  undetected = (a.undetected ∙ sym b.undetected) i;
-  at_once = (a.at_once ∙ sym b.at_once) i;
-  detection_sum = (a.detection_sum ∙ sym b.detection_sum) i;
-}
+one_pair_sums pairs s t a b = search rules
 
 one_decision_sums : (outcomes : List Outcome) (s t : DecisionSums) → AreDecisionSums outcomes s → AreDecisionSums outcomes t
     → s ≡ t
-one_decision_sums outcomes s t a b = λ i. record {
-  to_decide = (a.to_decide ∙ sym b.to_decide) i;
-  decided = (a.decided ∙ sym b.decided) i;
-  decision_tick_sum = (a.decision_tick_sum ∙ sym b.decision_tick_sum) i;
-  decision_tick_max = (a.decision_tick_max ∙ sym b.decision_tick_max) i;
-}
+one_decision_sums outcomes s t a b = search rules
 
 module _ (layer : ℕ) where
   one_verdict_counts : (runs : List Finished) (s t : VerdictCounts) → AreVerdictCounts layer runs s
       → AreVerdictCounts layer runs t → s ≡ t
-  one_verdict_counts runs s t a b = λ i. record {
-    strong_completeness = (a.strong_completeness ∙ sym b.strong_completeness) i;
-    weak_completeness = (a.weak_completeness ∙ sym b.weak_completeness) i;
-    strong_accuracy = (a.strong_accuracy ∙ sym b.strong_accuracy) i;
-    weak_accuracy = (a.weak_accuracy ∙ sym b.weak_accuracy) i;
-    eventual_strong_accuracy = (a.eventual_strong_accuracy ∙ sym b.eventual_strong_accuracy) i;
-    eventual_weak_accuracy = (a.eventual_weak_accuracy ∙ sym b.eventual_weak_accuracy) i;
-  }
+  one_verdict_counts runs s t a b = search rules
 
   one_run_counts : (runs : List Finished) (s t : RunCounts) → AreRunCounts layer runs s → AreRunCounts layer runs t → s ≡ t
-  one_run_counts runs s t a b = λ i. record {
-    with_mistakes = (a.with_mistakes ∙ sym b.with_mistakes) i;
-    all_decided = (a.all_decided ∙ sym b.all_decided) i;
-    undecided = (a.undecided ∙ sym b.undecided) i;
-    disagreements = (a.disagreements ∙ sym b.disagreements) i;
-  }
+  one_run_counts runs s t a b = search rules
 
   one_layer_sums : (trials : List Trial) (s t : LayerSums) → AreLayerSums layer trials s → AreLayerSums layer trials t → s ≡ t
   one_layer_sums trials s t a b = λ i. record {
@@ -102,11 +55,7 @@ module _ (layer : ℕ) where
 
   module _ (first : ℕ) (trials : List Trial) where
     one_first_runs : (s t : FirstRuns) → AreFirstRuns layer first trials s → AreFirstRuns layer first trials t → s ≡ t
-    one_first_runs s t a b = λ i. record {
-      mistake = (a.mistake ∙ sym b.mistake) i;
-      detection_max = (a.detection_max ∙ sym b.detection_max) i;
-      disagreement = (a.disagreement ∙ sym b.disagreement) i;
-    }
+    one_first_runs s t a b = search rules
 
     one_columns : (c d : Columns) → AreColumns layer first trials c → AreColumns layer first trials d → c ≡ d
     one_columns c d a b =

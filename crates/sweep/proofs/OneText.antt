@@ -1,20 +1,10 @@
 -- A study has one text: the runs have one result each, and the rows are told by them.
-use Rattle.std.proofs.Common.{◌≡◌, ℕ, ◌<◌, ◌++◌, List, [], ◌∷◌, length, Result, Ok, Err, refl, sym, ap, ◌∙◌, subst, arith}
-use Rattle.std.specs.List.{AllZip, flat_map}
-use Rattle.toml.specs.Data.{Members}
+use Rattle.sweep.proofs.Words.{◌≡◌, ℕ, ◌<◌, ◌++◌, List, [], ◌∷◌, length, Result, Ok, Err, refl, sym, ap, ◌∙◌, subst, arith, AllZip, flat_map, Members, Record, Chosen, GridRecord, RunRecord, ShardRecord, RunResult, finished, limited, IsResult, Trial, LayoutRecord, Text, AreRowsFor, point_at, unit_point, unit_runs, unit_first, lead_of, header_of, units_of, IsTrialOf, AreRowsOf, HasRowsOf, HasOneText}
 use Rattle.trace_laws.specs.ScenarioSetting.{setting_of}
 use Rattle.trace_laws.proofs.Closed.{one_trace}
-use Rattle.scenario_record.specs.Record.{Record}
-use Rattle.study.specs.Settings.{Chosen}
-use Rattle.study.specs.Grid.{GridRecord, RunRecord}
 use Rattle.study.specs.Placed.{table_of_run}
 use Rattle.study.specs.Runs.{IsScenarioOf}
-use Rattle.study.specs.Shard.{ShardRecord}
 use Rattle.study.specs.declared.error.PlaceError.{PlaceError}
-use Rattle.sweep.specs.Results.{RunResult, finished, limited, IsResult, Trial}
-use Rattle.sweep.specs.Layout.{LayoutRecord}
-use Rattle.sweep.specs.RowText.{Text, AreRowsFor}
-use Rattle.sweep.specs.StudyText.{point_at, unit_point, unit_runs, unit_first, lead_of, header_of, units_of, IsTrialOf, AreRowsOf, HasRowsOf, HasOneText}
 use Rattle.sweep.proofs.OneRow.{one_rows_for}
 
 -- lists in step with one list are one, where what stands in step with anything is one

@@ -1,39 +1,15 @@
 -- What one run gives, layer by layer.
-use Rattle.std.proofs.Common.{◌≡◌, ℕ, zero, suc, ◌+◌, ◌-◌, ◌*◌, ◌/◌, ◌^◌, ◌≤◌, Bool, true, false, not, ◌&&◌, cond, is_some, None, Some, List, [], ◌∷◌, ◌++◌, length, get_or, min, sym, ap, ◌∙◌, refl, subst, arith, append-nil, length-append, map, unwrap_or, true≢false, le_trans, zero-add, nat_lt}
-use Rattle.std.specs.List.{All, cons_option, count_by, filter_map, flat_map, list_all, sum_by}
-use Rattle.std.proofs.Math.Nat.{mul-le-mul_right}
-use Rattle.std.proofs.lemmas.List.{length-map}
+use Rattle.sweep.proofs.Words.{◌≡◌, ℕ, zero, suc, ◌+◌, ◌*◌, ◌/◌, ◌^◌, ◌≤◌, Bool, true, false, ◌&&◌, cond, is_some, None, Some, List, [], ◌∷◌, ◌++◌, length, sym, ap, ◌∙◌, refl, subst, arith, append-nil, length-append, map, unwrap_or, true≢false, le_trans, zero-add, nat_lt, All, cons_option, count_by, filter_map, flat_map, list_all, sum_by, mul-le-mul_right, length-map, All-filter, sum_by-le, length-filter, count_by-le-length, end_of, verdicts, Verdicts, EntryRecord, numbers_to, others, AreFindings, RunFindings, Record, IsInRange, PairMeasures, of_verdicts, has_layer, on_layer, finished_of, done_on, all_durations, all_detections, last_decisions, top_rounds, is_limited, AreDoneSums, AreRunCounts, AreVerdictCounts, AreTraceSums, ArePairSums, AreDecisionSums, most_of, most_mistakes, IsLayerWithin, AreTracesWithin, ArePairsWithin, AreDecisionsWithin, Finished, counts_on, counted_of, counted_pairs, pair_ticks, mistakes, has_mistake, durations, detections, detection_time, is_undetected, has_decided, do_disagree, is_to_decide, deciding_of, do_all_decide, is_undecided, last_decision, top_round, run_outcomes, deciding, Trial, done_run, AreFitting, AreLayerFindings, DecisionSums, LayerSums, PairSums}
 use Rattle.std.proofs.lemmas.List.Concat.{length-flat_map}
-use Rattle.std.proofs.lemmas.List.Elements.{All-append, All-map, All-filter}
-use Rattle.std.proofs.lemmas.List.Sums.{sum_by-le, length-filter, count_by-le-length}
-use Rattle.judges.specs.Crashes.{end_of}
 use Rattle.judges.specs.Out.{suspects}
 use Rattle.judges.specs.Outcomes.{outcome, outcomes}
-use Rattle.judges.specs.Verdicts.{verdicts}
-use Rattle.judges.specs.declared.outcomes.Outcome.{Outcome}
-use Rattle.judges.specs.declared.verdicts.Verdicts.{Verdicts}
-use Rattle.process_api.specs.EntryRecord.{EntryRecord}
-use Rattle.process_api.specs.Numbers.{numbers_to, others}
 use Rattle.process_api.proofs.Numbering.{length-numbers_to, length-filter_to}
 use Rattle.reporting.specs.Distances.{count_below}
-use Rattle.reporting.specs.Measured.{AreFindings}
 use Rattle.reporting.specs.Measures.{layer_measures, pair_measures, starts}
-use Rattle.reporting.specs.declared.findings.RunFindings.{RunFindings}
 use Rattle.reporting.proofs.Layers.{one_layer, two_layers}
-use Rattle.scenario_record.specs.Record.{Record}
-use Rattle.scenario_record.specs.Ranges.{IsInRange}
-use Rattle.reporting.specs.declared.pair_measures.PairMeasures.{PairMeasures}
 use Rattle.reporting.specs.declared.summary.Summary.{Summary}
-use Rattle.sweep.specs.Adding.{of_verdicts}
-use Rattle.sweep.specs.Columns.{has_layer, on_layer, finished_of, done_on, all_durations, all_detections, last_decisions, top_rounds, is_limited, AreDoneSums, AreRunCounts, AreVerdictCounts, AreTraceSums, ArePairSums, AreDecisionSums}
-use Rattle.sweep.specs.Fitting.{most_of, most_mistakes, IsLayerWithin, AreTracesWithin, ArePairsWithin, AreDecisionsWithin}
-use Rattle.sweep.specs.OneRun.{Finished, counts_on, counted_of, counted_pairs, pair_ticks, mistakes, has_mistake, durations, detections, detection_time, is_undetected, has_decided, do_disagree, is_to_decide, deciding_of, do_all_decide, is_undecided, last_decision, top_round, run_outcomes, deciding}
-use Rattle.sweep.specs.Results.{Trial, finished}
-use Rattle.sweep.specs.Sums.{AreFitting, AreLayerFindings}
-use Rattle.sweep.specs.declared.columns.DecisionSums.{DecisionSums}
-use Rattle.sweep.specs.declared.columns.LayerSums.{LayerSums}
-use Rattle.sweep.specs.declared.columns.PairSums.{PairSums}
-use Rattle.sweep.specs.declared.columns.RunCounts.{RunCounts}
+use Rattle.sweep.specs.OwnSums.{AreOwnSums}
+use Rattle.sweep.proofs.Lasted.{each_measure}
 use Rattle.sweep.proofs.Layered.{few_mapped}
 
 module _ (S : Record) (trace : List EntryRecord) where
@@ -83,17 +59,6 @@ module _ (S : Record) (trace : List EntryRecord) where
     half v some =
         omega (arith, ap length (both_layers v some), length-append (layer_measures S trace 1) (layer_measures S trace 2), pairs_of 1, pairs_of 2)
 
-    -- those of layer 1 come first, and those of layer 2 follow, if there are any
-    pub parts : (rest : List PairMeasures) × (found.measures.items ≡ layer_measures S trace 1 ++ rest)
-        × ((v : Verdicts) → found.second ≡ Some v → rest ≡ layer_measures S trace 2)
-    parts = by (is_some S.share) refl
-      where
-        by : (b : Bool) → is_some S.share ≡ b
-            → (rest : List PairMeasures) × (found.measures.items ≡ layer_measures S trace 1 ++ rest)
-            × ((v : Verdicts) → found.second ≡ Some v → rest ≡ layer_measures S trace 2)
-        by true p = (layer_measures S trace 2, are.measures ∙ sym (two_layers S trace p), λ v some. refl)
-        by false p = ([], are.measures ∙ sym (one_layer S trace p) ∙ sym (append-nil (layer_measures S trace 1)), λ v some. absurd (true≢false (sym (shared v some).0 ∙ p)))
-
 -- ---- mistakes
 
 below_end : (test : ℕ → Bool) (end : ℕ) → count_below test end ≤ end
@@ -103,10 +68,6 @@ below_end test (suc t) = by (test t) (below_end test t)
     by : (b : Bool) → count_below test t ≤ t → count_below test t + cond b 1 0 ≤ suc t
     by true le = omega arith
     by false le = omega arith
-
-all_flat : {A X : Type 0} (P : X → Type 0) (f : A → List X) (items : List A) → ((a : A) → All P (f a)) → All P (flat_map f items)
-all_flat P f [] each = λ k d lt. absurd (omega (arith, lt))
-all_flat P f (a ∷ items) each = All-append P (f a) (flat_map f items) (each a) (all_flat P f items each)
 
 module _ (S : Record) (trace : List EntryRecord) (ranges : IsInRange S) (layer : ℕ) where
   pair_mistakes : (q p : ℕ) → (pair_measures S trace layer q p).mistakes ≤ 10000000
@@ -131,12 +92,9 @@ module _ (S : Record) (trace : List EntryRecord) (ranges : IsInRange S) (layer :
   -- a sum over the pairs that count, each of which gives at most one for each tick
   few_each : (f : PairMeasures → ℕ) → ((q p : ℕ) → f (pair_measures S trace layer q p) ≤ 10000000)
       → sum_by f (counted_of layer S (layer_measures S trace layer)) ≤ most_mistakes 1
-  unfolding layer_measures
   few_each f each =
       let all = layer_measures S trace layer in
-      let low : All (λ m. f m ≤ 10000000) all =
-      all_flat (λ m. f m ≤ 10000000) (λ q. map (pair_measures S trace layer q) (others S.processes q)) (numbers_to S.processes)
-      (λ q. All-map (λ m. f m ≤ 10000000) (pair_measures S trace layer q) (others S.processes q) (λ k d lt. each q (get_or (others S.processes q) k d))) in
+      let low : All (λ m. f m ≤ 10000000) all = each_measure S trace layer (λ m. f m ≤ 10000000) (λ q p _ _ _ _. each q p) in
       let sum : sum_by f (counted_of layer S all) ≤ length (counted_of layer S all) * 10000000 =
       sum_by-le f 10000000 (counted_of layer S all) (All-filter counts (λ m. f m ≤ 10000000) all low) in
       omega (arith, sum, few_counted)
@@ -157,35 +115,12 @@ square_high m le =
 pub pairs_raised : (A B : ℕ) (s : PairSums) → A ≤ B → ArePairsWithin A s → ArePairsWithin B s
 pairs_raised A B s le w = search arith
 
--- the counts of a run of which these were the pairs that count, these the outcomes of all processes, and these those of
--- the processes that are to decide
-pub record AreOwnCounts (pairs : PairSums) (decisions : DecisionSums) (all deciding : List Outcome) (c : RunCounts) : Type 0 where
-  pub with_mistakes : c.with_mistakes ≡ cond (nat_lt 0 pairs.mistakes) 1 0
-  pub all_decided : c.all_decided ≡ cond (nat_lt 0 decisions.to_decide && list_all has_decided deciding) 1 0
-  pub undecided : c.undecided ≡ cond (not (list_all has_decided deciding)) 1 0
-  pub disagreements : c.disagreements ≡ cond (do_disagree all) 1 0
-
--- what is added up of such a run
-pub record AreOwnSums (S : Record) (summary : Summary) (found : Verdicts) (counted : List PairMeasures) (sums : LayerSums) : Type 0 where
-  pub runs : sums.runs ≡ 1
-  pub limited : sums.limited ≡ 0
-  pub traces : sums.traces ≡ record { entries = summary.entries; sent = summary.sent; lost = summary.lost }
-  pub pair_ticks : sums.pair_ticks ≡ sum_by (λ m. end_of S m.observer m.subject) counted
-  pub pair_ticks_high : sums.pair_ticks ≤ length counted * 2 ^ 32
-  pub pairs : ArePairSums counted sums.pairs
-  pub pairs_high : ArePairsWithin (length counted * 2 ^ 64) sums.pairs
-  pub squared : sums.mistakes_squared_sum ≡ min (sums.pairs.mistakes * sums.pairs.mistakes) (2 ^ 128 - 1)
-  pub verdicts : sums.verdicts ≡ of_verdicts found
-  pub decisions : AreDecisionSums (deciding_of S summary.outcomes.items) sums.decisions
-  pub decisions_high : AreDecisionsWithin (length (deciding_of S summary.outcomes.items) * 2 ^ 64) sums.decisions
-  pub counts : AreOwnCounts sums.pairs sums.decisions summary.outcomes.items (deciding_of S summary.outcomes.items) sums.counts
-
 module _ (layer : ℕ) (S : Record) (trace : List EntryRecord) (has : has_layer layer S ≡ true) where
   abbrev pub one : Finished
   one = record { scenario = S; trace = trace }
 
   abbrev pub trial : Trial
-  trial = record { scenario = S; result = finished trace }
+  trial = done_run S trace
 
   on_one : on_layer layer (trial ∷ []) ≡ trial ∷ []
   on_one = ap (λ b. cond b (trial ∷ []) []) has
@@ -206,7 +141,10 @@ module _ (layer : ℕ) (S : Record) (trace : List EntryRecord) (has : has_layer 
   rounds_one = ap (filter_map (λ r. top_round (run_outcomes r))) done_one
 
   module _ (summary : Summary) (v : Verdicts) (pairs counted : List PairMeasures) (sums : LayerSums)
-      (found : AreLayerFindings layer S trace summary v pairs) (is : counted ≡ counted_of layer S pairs) (own : AreOwnSums S summary v counted sums) where
+      (found : AreLayerFindings layer S trace summary v pairs) (is : counted ≡ counted_of layer S pairs)
+      (decisions : DecisionSums) (own : AreOwnSums S summary v counted (deciding_of S summary.outcomes.items) decisions sums)
+      (decided : AreDecisionSums (deciding_of S summary.outcomes.items) decisions)
+      (d : AreDecisionsWithin (length (deciding_of S summary.outcomes.items) * 2 ^ 64) decisions) where
     counted_is : counted ≡ counted_pairs layer one
     counted_is = is ∙ ap (counted_of layer S) found.measured
 
@@ -244,7 +182,7 @@ module _ (layer : ℕ) (S : Record) (trace : List EntryRecord) (has : has_layer 
         let c = own.counts in
         record {
           with_mistakes = c.with_mistakes ∙ ap (λ n. cond (nat_lt 0 n) 1 0) mistakes_is ∙ sym (zero-add (cond (has_mistake layer one) 1 0));
-          all_decided = c.all_decided ∙ ap (λ n. cond (nat_lt 0 n && list_all has_decided (deciding_of S summary.outcomes.items)) 1 0) own.decisions.to_decide
+          all_decided = c.all_decided ∙ ap (λ n. cond (nat_lt 0 n && list_all has_decided (deciding_of S summary.outcomes.items)) 1 0) decided.to_decide
               ∙ ap (λ os. cond (do_all_decide os) 1 0) deciding_is ∙ sym (zero-add (cond (do_all_decide (deciding one)) 1 0));
           undecided = c.undecided ∙ ap (λ os. cond (is_undecided os) 1 0) deciding_is ∙ sym (zero-add (cond (is_undecided (deciding one)) 1 0));
           disagreements = c.disagreements ∙ ap (λ os. cond (do_disagree os) 1 0) found.summed.decided ∙ sym (zero-add (cond (do_disagree (run_outcomes one)) 1 0));
@@ -257,7 +195,7 @@ module _ (layer : ℕ) (S : Record) (trace : List EntryRecord) (has : has_layer 
       pairs = subst (λ ms. ArePairSums ms sums.pairs) (counted_is ∙ sym (append-nil (counted_pairs layer one))) own.pairs;
       mistakes_squared_sum = squared_is ∙ ap (λ m. m * m) mistakes_is ∙ sym (zero-add (mistakes layer one * mistakes layer one));
       verdicts = verdicts_one;
-      decisions = subst (λ os. AreDecisionSums os sums.decisions) (deciding_is ∙ sym (append-nil (deciding one))) own.decisions;
+      decisions = rw own.decisions (subst (λ os. AreDecisionSums os decisions) (deciding_is ∙ sym (append-nil (deciding one))) decided);
       counts = counts_one;
     }
 
@@ -277,7 +215,6 @@ module _ (layer : ℕ) (S : Record) (trace : List EntryRecord) (has : has_layer 
     within_one : IsLayerWithin (most_of 1) sums
     within_one =
         let short : length trace ≤ 100000000 = le_trans found.within found.ranges.limit_high in
-        let d = own.decisions_high in
         record {
           traces = subst (AreTracesWithin (most_of 1)) (sym own.traces) (record {
             entries = omega (arith, found.summed.entries, short);
@@ -287,11 +224,11 @@ module _ (layer : ℕ) (S : Record) (trace : List EntryRecord) (has : has_layer 
           pair_ticks = omega (arith, own.pair_ticks_high, few);
           pairs = pairs_raised (length counted * 2 ^ 64) (most_of 1) sums.pairs (omega (arith, few)) own.pairs_high;
           mistakes_squared_sum = omega (arith, squared_is, square_high sums.pairs.mistakes mistakes_high);
-          decisions = record {
+          decisions = rw own.decisions (record {
             to_decide = omega (arith, d.to_decide, fewer);
             decided = omega (arith, d.decided, fewer);
             decision_tick_sum = omega (arith, d.decision_tick_sum, fewer);
-          };
+          });
         }
 
     pub fitting_one : AreFitting layer (trial ∷ []) sums

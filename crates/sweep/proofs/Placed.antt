@@ -1,16 +1,7 @@
 -- Places: what answers that are put into them change, and that what is there was given for its number.
-use Rattle.std.proofs.Common.{◌≡◌, ◌≢◌, ◌⊎◌, inl, inr, ℕ, zero, suc, ◌+◌, ◌<◌, List, [], ◌∷◌, ◌++◌, length, refl, set, map, Option, Some, None, Result, Ok, IfOk, sym, ap, subst, ◌∙◌, arith}
-use Rattle.std.specs.Prelude.{slice_index_or}
-use Rattle.std.specs.List.{All}
+use Rattle.sweep.proofs.Words.{◌≡◌, ◌≢◌, ◌⊎◌, inl, inr, ℕ, zero, suc, ◌+◌, ◌<◌, List, [], ◌∷◌, ◌++◌, length, refl, set, map, Option, Some, None, Result, Ok, IfOk, sym, ap, subst, ◌∙◌, arith, slice_index_or, All, FnReturns, Vec, get_or-append_seam, cases_eq, length-set, get_or-set_same, get_or-set_other, get_or_append_left, All-head, All-rest, IsPlaced, ArePlaces, with_answers, with_columns}
 use denote.Param.Members.{Shared}
-use Rattle.std.specs.Fn.{FnReturns}
-use Rattle.std.specs.Global.{Vec}
 use Rattle.std.proofs.Math.ListN.{get_or-map}
-use Rattle.std.proofs.Math.Seq.{get_or-append_seam}
-use Rattle.std.proofs.lemmas.Bool.{cases_eq}
-use Rattle.std.proofs.lemmas.List.{length-set, get_or-set_same, get_or-set_other, get_or_append_left}
-use Rattle.std.proofs.lemmas.List.Elements.{All-head, All-rest}
-use Rattle.sweep.specs.Parallel.{IsPlaced, ArePlaces, with_answers, with_columns}
 
 module _ {T : Type 0} where
   pub length_answers : (places : List (Option T)) (answers : List (ℕ × T))

@@ -1,14 +1,8 @@
 -- Places of names, the nearest name, and fields by their places.
-use Rattle.std.proofs.Common.{◌≡◌, ℕ, zero, suc, ◌+◌, ◌<◌, ◌≤◌, Bool, true, false, cond, Option, None, Some, is_some, not, List, [], ◌∷◌, ◌++◌, length, map, take, drop, get_or, refl, sym, ap, ◌∙◌, subst, arith, string_bytes, String, Bor}
-use Rattle.std.specs.List.{All, position, position_or_len}
-use Rattle.std.specs.Prelude.{IsSome}
-use Rattle.std.proofs.lemmas.List.{drop_more, get_or-map, get_or_default, length-map, map_more, map_push, take-append-drop}
+use Rattle.sweep.proofs.Words.{◌≡◌, ℕ, zero, suc, ◌+◌, ◌<◌, ◌≤◌, Bool, cond, Option, None, Some, is_some, not, List, [], ◌∷◌, ◌++◌, length, map, take, drop, get_or, refl, sym, ap, ◌∙◌, subst, arith, string_bytes, String, Bor, All, position, position_or_len, IsSome, drop_more, get_or_default, length-map, map_more, map_push, take-append-drop, Global, edits, place_of, IsNearest, IsUnknown, TellsOf, IsRefusal, Text}
+use Rattle.std.proofs.lemmas.List.{get_or-map}
 use Rattle.std.proofs.Math.Dec.{ltb}
-use Rattle.std.specs.Global.{Global}
 use Rattle.csv.specs.Records.{field_at}
-use Rattle.diagnosis.specs.Likeness.{edits}
-use Rattle.sweep.specs.Layout.{place_of, IsNearest, IsUnknown, TellsOf, IsRefusal, IsNoLayout}
-use Rattle.sweep.specs.RowText.{Text}
 use Rattle.sweep.specs.declared.error.LayoutError.{LayoutError}
 use Rattle.sweep.specs.declared.error.LayoutError.TheVariants as error
 

@@ -1,11 +1,5 @@
 -- Runs whose scenarios were read, one number after the other.
-use Rattle.std.proofs.Common.{◌≡◌, ℕ, ◌+◌, ◌-◌, ◌≤◌, ◌<◌, ⊎_elim, List, Bool, true, Result, Ok, Err, IfErr, arith, sym, subst}
-use Rattle.std.specs.Prelude.{slice_index_or}
-use Rattle.std.proofs.lemmas.Bool.{cases_lt}
-use Rattle.toml.specs.Data.{Members}
-use Rattle.study.specs.Grid.{GridRecord}
-use Rattle.sweep.specs.Numbering.{HasScenarioAt, IsRefusalAt, IsFirstRefusal}
-use Rattle.sweep.specs.declared.error.SweepError.{SweepError}
+use Rattle.sweep.proofs.Words.{◌≡◌, ℕ, ◌+◌, ◌-◌, ◌≤◌, ◌<◌, ⊎_elim, List, Bool, true, Result, Ok, Err, IfErr, arith, sym, subst, slice_index_or, cases_lt, Members, GridRecord, HasScenarioAt, IsRefusalAt, IsFirstRefusal, SweepError}
 use Rattle.sweep.specs.declared.error.SweepError.TheVariants as error
 
 -- what is said of an error's reason

@@ -1,15 +1,6 @@
 -- The texts of shards, one after the other.
-use Rattle.std.proofs.Common.{◌≡◌, ℕ, zero, suc, ◌+◌, ◌≤◌, ◌++◌, List, [], ◌∷◌, length, refl, sym, ap, ◌∙◌, subst, arith, append_assoc, append-nil, cond}
-use Rattle.std.proofs.lemmas.Bool.{ne_eqb}
-use Rattle.std.specs.List.{AllZip, flat_map, range_with_len}
-use Rattle.std.proofs.lemmas.Grind.{flat_map-append}
-use Rattle.toml.specs.Data.{Members}
-use Rattle.study.specs.Grid.{GridRecord, points}
-use Rattle.study.specs.Shard.{ShardRecord}
+use Rattle.sweep.proofs.Words.{◌≡◌, ℕ, zero, suc, ◌+◌, ◌≤◌, ◌++◌, List, [], ◌∷◌, length, refl, sym, ap, ◌∙◌, subst, arith, append_assoc, append-nil, cond, ne_eqb, AllZip, flat_map, range_with_len, flat_map-append, Members, GridRecord, points, ShardRecord, LayoutRecord, Text, header_text, header_of, names_of, numbers_of, units_in, units_of, AreRowsOf, HasRowsOf, IsStudyText, ShardsMakeWhole}
 use Rattle.study.proofs.Blocks.{all_blocks}
-use Rattle.sweep.specs.Layout.{LayoutRecord}
-use Rattle.sweep.specs.RowText.{Text, header_text}
-use Rattle.sweep.specs.StudyText.{header_of, names_of, numbers_of, units_in, units_of, AreRowsOf, HasRowsOf, IsStudyText, ShardsMakeWhole}
 use Rattle.sweep.proofs.Units.{units_joined}
 use Rattle.sweep.proofs.Zipped.{zip_append}
 

@@ -1,19 +1,6 @@
 -- What one element of a list adds.
-use Rattle.std.proofs.Common.{◌≡◌, ℕ, suc, ◌+◌, ◌*◌, ◌^◌, ◌<◌, ◌≤◌, Bool, true, false, cond, not, ◌&&◌, ◌==◌, ◌||◌, Option, None, Some, List, [], ◌∷◌, ◌++◌, length, take, get_or, sum, sym, ap, ◌∙◌, refl, subst, arith}
-use Rattle.std.specs.List.{cons_option, count_by, filter_map, list_all, list_any}
-use Rattle.std.specs.Option.{option_map_or}
-use Rattle.std.proofs.lemmas.Bool.{ne_eqb}
+use Rattle.sweep.proofs.Words.{◌≡◌, ℕ, suc, ◌+◌, ◌*◌, ◌^◌, ◌<◌, ◌≤◌, Bool, true, false, cond, not, ◌&&◌, ◌==◌, ◌||◌, Option, None, Some, List, [], ◌∷◌, ◌++◌, length, take, drop, get_or, sum, sym, ap, ◌∙◌, refl, subst, arith, true≢false, cons_option, count_by, filter_map, list_all, list_any, eqb-true, ne_eqb, drop_more, take-append-drop, take_more, filter_map-append, list_any_at, list_any_none, sum_by-cons, count_by-le-length, Outcome, decisions_plus, of_outcome, tick_or_zero, differ, AreDecisionSums, AreDecisionsWithin, decision_tick, do_differ, DecisionSums}
 use Rattle.std.proofs.lemmas.Bool.Decides.{nat_tests}
-use Rattle.std.proofs.lemmas.List.{take_more}
-use Rattle.std.proofs.lemmas.List.Elements.{filter_map-append}
-use Rattle.std.proofs.lemmas.List.Folds.{list_any_none}
-use Rattle.std.proofs.lemmas.List.Sums.{sum_by-cons, count_by-le-length}
-use Rattle.judges.specs.declared.outcomes.Outcome.{Outcome}
-use Rattle.sweep.specs.Adding.{decisions_plus, of_outcome, tick_or_zero, differ}
-use Rattle.sweep.specs.Columns.{AreDecisionSums}
-use Rattle.sweep.specs.Fitting.{AreDecisionsWithin}
-use Rattle.sweep.specs.OneRun.{decision_tick, do_differ}
-use Rattle.sweep.specs.declared.columns.DecisionSums.{DecisionSums}
 use Rattle.sweep.proofs.Added.{decisions_added, decisions_within}
 use Rattle.sweep.proofs.Greatest.{greatest_one}
 
@@ -59,29 +46,37 @@ all_counted {X} p (x ∷ xs) = ap (λ n. n == length (x ∷ xs)) (sum_by-cons (�
 
 -- ---- values that differ
 
+-- where one of them differs from the first, two do
+module _ (v : ℕ) (rest : List ℕ) where
+  same_head : list_any (λ w. not (v == w)) (v ∷ rest) ≡ false → (k d : ℕ) → k < length (v ∷ rest) → v ≡ get_or (v ∷ rest) k d
+  same_head none k d lt = by (v == get_or (v ∷ rest) k d) refl
+    where
+      by : (b : Bool) → (v == get_or (v ∷ rest) k d) ≡ b → v ≡ get_or (v ∷ rest) k d
+      by true p = eqb-true v (get_or (v ∷ rest) k d) p
+      by false p = absurd (true≢false (sym (list_any_at (λ w. not (v == w)) (v ∷ rest) k d lt (ap not p)) ∙ none))
+
+  head_tells : (b : Bool) → list_any (λ w. not (v == w)) (v ∷ rest) ≡ b → do_differ (v ∷ rest) ≡ b
+  head_tells true p = ap (λ b. b || list_any (λ x. list_any (λ w. not (x == w)) (v ∷ rest)) rest) p
+  head_tells false p =
+      list_any_none (λ x. list_any (λ w. not (x == w)) (v ∷ rest)) (v ∷ rest)
+      (λ k d lt. ap (λ x. list_any (λ w. not (x == w)) (v ∷ rest)) (sym (same_head p k d lt)) ∙ p)
+
 module _ {X : Type 0} (h : X → Option ℕ) where
-  -- one of the values that are there passes
-  any_of : (p : ℕ → Bool) (xs : List X) → list_any (λ x. option_map_or p (h x) false) xs ≡ list_any p (filter_map h xs)
-  any_of p [] = refl
-  any_of p (x ∷ xs) = by (h x) (any_of p xs)
+  -- one of the values that are there differs from this one
+  differ_from : (v : ℕ) (xs : List X) → list_any (λ x. differ (Some v) (h x)) xs ≡ list_any (λ w. not (v == w)) (filter_map h xs)
+  differ_from v [] = refl
+  differ_from v (x ∷ xs) = by (h x) (differ_from v xs)
     where
-      by : (o : Option ℕ) → list_any (λ y. option_map_or p (h y) false) xs ≡ list_any p (filter_map h xs)
-          → (option_map_or p o false || list_any (λ y. option_map_or p (h y) false) xs) ≡ list_any p (cons_option o (filter_map h xs))
+      by : (o : Option ℕ) → list_any (λ y. differ (Some v) (h y)) xs ≡ list_any (λ w. not (v == w)) (filter_map h xs)
+          → (differ (Some v) o || list_any (λ y. differ (Some v) (h y)) xs) ≡ list_any (λ w. not (v == w)) (cons_option o (filter_map h xs))
       by None later = later
-      by (Some v) later = ap (λ b. p v || b) later
+      by (Some w) later = ap (λ b. not (v == w) || b) later
 
-  -- and one of them differs from a value, if that is there
-  differ_from : (o : Option ℕ) (xs : List X) → list_any (λ x. differ o (h x)) xs ≡ option_map_or (λ v. list_any (λ w. not (v == w)) (filter_map h xs)) o false
-  differ_from None xs = list_any_none (λ x. differ None (h x)) xs (λ k d lt. by (h (get_or xs k d)))
-    where
-      by : (o : Option ℕ) → differ None o ≡ false
-      by None = refl
-      by (Some w) = refl
-  differ_from (Some v) xs = (λ i. list_any (λ x. by (h x) i) xs) ∙ any_of (λ w. not (v == w)) xs
-    where
-      by : (o : Option ℕ) → differ (Some v) o ≡ option_map_or (λ w. not (v == w)) o false
-      by None = refl
-      by (Some w) = refl
-
-  pub differ_any : (xs : List X) → list_any (λ x. list_any (λ y. differ (h x) (h y)) xs) xs ≡ do_differ (filter_map h xs)
-  differ_any xs = (λ i. list_any (λ x. differ_from (h x) xs i) xs) ∙ any_of (λ v. list_any (λ w. not (v == w)) (filter_map h xs)) xs
+  pub first_differs : (xs : List X) (i : ℕ) (x : X) (v : ℕ) → i < length xs → x ≡ get_or xs i x → h x ≡ Some v → filter_map h (take i xs) ≡ []
+      → list_any (λ y. differ (Some v) (h y)) xs ≡ do_differ (filter_map h xs)
+  first_differs xs i x v lt is at none =
+      let rest = filter_map h (drop (i + 1) xs) in
+      let split : xs ≡ take i xs ++ x ∷ drop (i + 1) xs = sym (take-append-drop i xs) ∙ ap (λ l. take i xs ++ l) (drop_more xs i x lt ∙ ap (λ y. y ∷ drop (i + 1) xs) (sym is)) in
+      let values : filter_map h xs ≡ v ∷ rest =
+      ap (filter_map h) split ∙ filter_map-append h (take i xs) (x ∷ drop (i + 1) xs) ∙ ap (λ l. l ++ cons_option (h x) rest) none ∙ ap (λ o. cons_option o rest) at in
+      differ_from v xs ∙ ap (list_any (λ w. not (v == w))) values ∙ sym (head_tells v rest (list_any (λ w. not (v == w)) (v ∷ rest)) refl) ∙ sym (ap do_differ values)

@@ -1,12 +1,6 @@
 -- The units of points that follow one another, and of points in parts.
-use Rattle.std.proofs.Common.{◌≡◌, ℕ, zero, suc, ◌+◌, ◌-◌, ◌*◌, List, [], ◌∷◌, ◌++◌, length, refl, sym, ap, ◌∙◌, arith}
-use Rattle.std.specs.List.{flat_map, range_with_len}
-use Rattle.std.proofs.lemmas.Grind.{flat_map-append}
-use Rattle.study.specs.Grid.{GridRecord, runs}
-use Rattle.sweep.specs.Numbering.{unit_count}
-use Rattle.sweep.specs.StudyText.{units_in}
+use Rattle.sweep.proofs.Words.{◌≡◌, ℕ, zero, suc, ◌+◌, ◌-◌, ◌*◌, List, [], ◌∷◌, ◌++◌, length, refl, sym, ap, ◌∙◌, arith, flat_map, range_with_len, flat_map-append, GridRecord, runs, unit_count, units_in, Rows}
 use Rattle.sweep.proofs.Heard.{sub_mul}
-use Rattle.sweep.specs.declared.layout.Rows.{Rows}
 use Rattle.sweep.specs.declared.layout.Rows.TheVariants as kind
 
 -- numbers that follow one another, in two parts

@@ -1,6 +1,5 @@
 -- Two lists in step.
-use Rattle.std.proofs.Common.{◌≡◌, ℕ, zero, suc, ◌+◌, ◌≤◌, refl, take, List, [], ◌∷◌, ◌++◌, arith, ap, ◌∙◌, add-one}
-use Rattle.std.specs.List.{AllZip, range_with_len}
+use Rattle.sweep.proofs.Words.{◌≡◌, ℕ, zero, suc, ◌+◌, ◌≤◌, refl, take, List, [], ◌∷◌, ◌++◌, arith, ap, ◌∙◌, add-one, AllZip, range_with_len}
 
 module _ {A B : Type 0} (R : A → B → Type 0) where
   pub zip_append : (xs : List A) (ys : List B) (us : List A) (vs : List B) → AllZip R xs ys → AllZip R us vs

@@ -6,6 +6,7 @@ pub mod RowText
 pub mod Adding
 pub mod Fitting
 pub mod Counted
+pub mod OwnSums
 pub mod Sums
 pub mod Fields
 pub mod Parallel

@@ -1,12 +1,12 @@
 -- How far a sweep has come.
-use Rattle.std.specs.Prelude.{ℕ, ◌-◌, ◌≤◌, ◌<◌, List, take, Option}
+use Rattle.std.specs.Prelude.{ℕ, ◌+◌, ◌-◌, ◌*◌, ◌≤◌, ◌<◌, List, length, take, Option}
 use Rattle.std.specs.List.{AllZip, range_with_len}
 use Rattle.toml.specs.Data.{Members}
 use Rattle.reporting.specs.Writing.{Wrote, WrotePart, WroteNothing}
 use Rattle.study.specs.Grid.{GridRecord}
 use Rattle.study.specs.Shard.{ShardRecord}
 use Rattle.sweep.specs.Layout.{LayoutRecord}
-use Rattle.sweep.specs.Numbering.{runs_each}
+use Rattle.sweep.specs.Numbering.{runs_each, unit_count, AreNumbersFrom}
 use Rattle.sweep.specs.Results.{Trial}
 use Rattle.sweep.specs.RowText.{Text}
 use Rattle.sweep.specs.StudyText.{point_at, unit_point, unit_runs, unit_first, header_of, IsTrialOf, HasRowsOf}
@@ -14,6 +14,11 @@ use Rattle.sweep.specs.Sums.{AreSums}
 use Rattle.sweep.specs.declared.error.SweepError.{SweepError}
 use Rattle.sweep.specs.declared.error.SweepError.TheVariants as error
 use Rattle.sweep.specs.declared.progress.Progress.{Progress}
+use Rattle.sweep.specs.declared.run_numbers.RunNumbers.{RunNumbers}
+
+-- the number of the run that comes next
+abbrev pub next_run : GridRecord → LayoutRecord → Progress → ℕ
+next_run g layout p = p.unit * runs_each layout.rows g + p.run
 
 module _ (file : Members) (g : GridRecord) (layout : LayoutRecord) where
   -- the first runs of a unit are added up
@@ -48,6 +53,30 @@ module _ (file : Members) (g : GridRecord) (layout : LayoutRecord) where
     StopsBelow end (error.Refused point run reason) = ⊥
     StopsBelow end error.Memory = (unit : ℕ) × (unit ≤ end) × WroteUpTo unit
     StopsBelow end error.Write = (unit : ℕ) × (unit ≤ end) × WroteFrontUpTo unit
+
+module _ (g : GridRecord) (layout : LayoutRecord) {O : Type 0} (told : O → Option Text) (failed : O → ℕ)
+    (old new : O) where
+  -- with these runs, which come next, a sweep that was under way, of whatever file, goes on from one place to another
+  abbrev pub GoesOn : List RunNumbers → (from to : Progress) → Type 0
+  GoesOn all from to = (file : Members) (start : O) (begin : ℕ) → AreNumbersFrom file g (next_run g layout from) all
+      → IsUnderWay file g layout told failed start old begin from
+      → IsUnderWay file g layout told failed start new begin to
+
+  -- or it comes to no end, below the unit whose runs aren't yet all there
+  abbrev pub StopsAt : List RunNumbers → (from : Progress) → SweepError → Type 0
+  StopsAt all from e = (file : Members) (start : O) (begin end : ℕ)
+      → next_run g layout from + length all ≤ end * runs_each layout.rows g
+      → AreNumbersFrom file g (next_run g layout from) all → IsUnderWay file g layout told failed start old begin from
+      → StopsBelow file g layout told failed start new begin end e
+
+  -- the rows of the points from one up to another went out, or a sweep of them stopped
+  abbrev pub WrotePoints : Members → (begin end : ℕ) → Type 0
+  WrotePoints file begin end =
+      WroteUpTo file g layout told failed old new (unit_count layout.rows g begin) (unit_count layout.rows g end)
+
+  abbrev pub StopsInPoints : Members → (begin end : ℕ) → SweepError → Type 0
+  StopsInPoints file begin end e =
+      StopsBelow file g layout told failed old new (unit_count layout.rows g begin) (unit_count layout.rows g end) e
 
 -- the header of a shard could not be written whole
 abbrev pub HeaderFails : GridRecord → ShardRecord → LayoutRecord → {O : Type 0} (told : O → Option Text)

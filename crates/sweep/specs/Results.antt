@@ -21,5 +21,9 @@ pub record Trial : Type 0 where
   pub scenario : Record
   pub result : RunResult
 
+-- a run that is done, with this trace
+abbrev pub done_run : Record → List EntryRecord → Trial
+done_run S trace = record { scenario = S; result = finished trace }
+
 abbrev pub IsTrial : Trial → Type 0
 IsTrial t = IsResult t.scenario t.result

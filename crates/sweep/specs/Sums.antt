@@ -1,19 +1,21 @@
 -- What it is that runs were added up.
-use Rattle.std.specs.Prelude.{◌≡◌, ℕ, ◌+◌, ◌*◌, ◌^◌, ◌<◌, ◌≤◌, List, [], ◌∷◌, length}
+use Rattle.std.specs.Prelude.{◌≡◌, ℕ, ◌+◌, ◌*◌, ◌^◌, ◌<◌, ◌≤◌, List, [], ◌∷◌, ◌++◌, length, true}
 use Rattle.std.specs.List.{cons_option}
 use Rattle.judges.specs.Verdicts.{verdicts}
 use Rattle.judges.specs.declared.verdicts.Verdicts.{Verdicts}
 use Rattle.process_api.specs.EntryRecord.{EntryRecord}
+use Rattle.reporting.specs.Durations.{AreDurations}
 use Rattle.reporting.specs.Measures.{layer_measures}
 use Rattle.reporting.specs.Summary.{IsSummary}
+use Rattle.reporting.specs.declared.durations.Durations.{Durations}
 use Rattle.reporting.specs.declared.pair_measures.PairMeasures.{PairMeasures}
 use Rattle.reporting.specs.declared.summary.Summary.{Summary}
 use Rattle.scenario_record.specs.Ranges.{IsInRange}
 use Rattle.scenario_record.specs.Record.{Record}
-use Rattle.sweep.specs.Columns.{AreLayerSums, AreFirstRuns, all_durations, all_detections, last_decisions, top_rounds}
+use Rattle.sweep.specs.Columns.{has_layer, AreLayerSums, AreFirstRuns, all_durations, all_detections, last_decisions, top_rounds}
 use Rattle.sweep.specs.Counted.{AreCounted}
 use Rattle.sweep.specs.Fitting.{IsLayerWithin, most_runs, most_of, most_pairs, most_mistakes}
-use Rattle.sweep.specs.Results.{Trial}
+use Rattle.sweep.specs.Results.{Trial, done_run}
 use Rattle.sweep.specs.declared.columns.LayerSums.{LayerSums}
 use Rattle.sweep.specs.declared.point_sums.LayerTotals.{LayerTotals}
 use Rattle.sweep.specs.declared.point_sums.LayerValues.{LayerValues}
@@ -74,3 +76,29 @@ pub record AreSums (first : ℕ) (trials : List Trial) (s : PointSums) : Type 0 
   pub on_second : AreLayerTotals 2 trials first s.second
   pub first_high : first < 2 ^ 64
   pub next : s.next ≡ first + length trials
+
+-- ---- one more run
+
+-- of a run that is done these are the numbers on a layer, if the rest was found of its trace
+abbrev pub AreOfFindings : (layer : ℕ) → Record → Summary → Verdicts → List PairMeasures → Durations → LayerNumbers
+    → Type 0
+AreOfFindings layer S summary found pairs lasted n = (trace : List EntryRecord) → has_layer layer S ≡ true
+    → AreLayerFindings layer S trace summary found pairs → AreDurations S layer trace lasted
+    → AreLayerNumbers layer (done_run S trace ∷ []) n
+
+-- what was counted of any runs, as long as they aren't too many, is then counted of them and of one more
+abbrev pub CountsOneMore : LayerNumbers → (old new : LayerValues) → Type 0
+CountsOneMore run old new = (layer : ℕ) (trials : List Trial) (trial : Trial) → length trials < most_runs
+    → length (all_detections layer trials) ≤ most_pairs (length trials) → AreLayerValues layer trials old
+    → AreLayerNumbers layer (trial ∷ []) run → AreLayerValues layer (trials ++ trial ∷ []) new
+
+-- what was added up on a layer, where the one more has this number
+abbrev pub TotalsOneMore : (number : ℕ) → LayerNumbers → (old new : LayerTotals) → Type 0
+TotalsOneMore number run old new = (layer first : ℕ) (trials : List Trial) (trial : Trial) → length trials < most_runs
+    → number ≡ first + length trials → AreLayerTotals layer trials first old → AreLayerNumbers layer (trial ∷ []) run
+    → AreLayerTotals layer (trials ++ trial ∷ []) first new
+
+-- and on both
+abbrev pub AddsOneMore : RunNumbers → (old new : PointSums) → Type 0
+AddsOneMore numbers old new = (first : ℕ) (trials : List Trial) (trial : Trial) → length trials < most_runs
+    → AreSums first trials old → AreNumbers trial numbers → AreSums first (trials ++ trial ∷ []) new

@@ -1,6 +1,6 @@
 -- What a watcher hears of a sweep.
-use Rattle.std.specs.Prelude.{◌≡◌, ◌⊎◌, ◌<◌, ◌≤◌, ◌*◌, ◌==◌, ℕ, if◌then◌else◌, not, Option, None, Some, List, [], ◌∷◌, length, map, take}
-use Rattle.std.specs.List.{AllZip, count_by, filter, filter_map}
+use Rattle.std.specs.Prelude.{◌≡◌, ◌⊎◌, ◌-◌, ◌<◌, ◌≤◌, ◌*◌, ◌==◌, ℕ, if◌then◌else◌, not, Option, None, Some, List, [], ◌∷◌, length, map, take}
+use Rattle.std.specs.List.{AllZip, count_by, filter, filter_map, range_with_len}
 use Rattle.trace_laws.specs.Joins.{HaveJoined}
 use Rattle.toml.specs.Data.{Members}
 use Rattle.study.specs.Grid.{GridRecord, runs}
@@ -63,10 +63,22 @@ module _ {W : Type 0} (heard : W → List News → W → Type 0) (old new : W) w
     pub limited : filter_map limit_in news ≡ filter (λ entry. not (entry.1 == 0)) counts
 
 module _ {W : Type 0} (heard : W → List News → W → Type 0) (old new : W) where
-  -- of some of the shard's runs that they are read
+  -- of some of the runs of so many points that they are read
+  abbrev pub HeardSomeReading : (points runs : ℕ) → Type 0
+  HeardSomeReading points runs = (done : ℕ) × (done ≤ points * runs) × HeardReading heard old new points runs done
+
+  -- of some of the shard's
   abbrev pub HeardOfReading : GridRecord → ShardRecord → Type 0
-  HeardOfReading g shard = (done : ℕ) × (done ≤ length (numbers_of g shard) * length (runs g))
-      × HeardReading heard old new (length (numbers_of g shard)) (length (runs g)) done
+  HeardOfReading g shard = HeardSomeReading (length (numbers_of g shard)) (length (runs g))
+
+  -- of all runs of the points from one up to another that they are run, and of some
+  abbrev pub HeardAllRunning : Members → GridRecord → (begin end : ℕ) → Type 0
+  HeardAllRunning file g begin end = HeardRunning heard old new file g (end - begin) (length (runs g))
+      ((end - begin) * length (runs g)) (range_with_len begin (end - begin))
+
+  abbrev pub HeardSomeRunning : Members → GridRecord → (begin end : ℕ) → Type 0
+  HeardSomeRunning file g begin end = (done count : ℕ) × (done ≤ (end - begin) * length (runs g))
+      × (count ≤ end - begin) × HeardRunning heard old new file g (end - begin) (length (runs g)) done (range_with_len begin count)
 
   -- of all that they are read
   abbrev pub HeardOfAllReading : GridRecord → ShardRecord → Type 0

@@ -1,18 +1,14 @@
 //! Sums of sums. They stay at the greatest number of their types, should they reach it.
 ghost use Rattle.std.specs.Prelude.{◌≡◌};
-ghost use Rattle.sweep.specs.Adding.{traces_plus, pairs_plus, verdicts_plus, decisions_plus, counts_plus, layer_plus};
+ghost use Rattle.sweep.specs.Adding.{traces_plus, pairs_plus, verdicts_plus, decisions_plus, counts_plus};
+ghost use Rattle.sweep.specs.Adding.{layer_plus, first_with};
 
-use crate::columns::{DecisionSums, LayerSums, PairSums, RunCounts, TraceSums, VerdictCounts};
+use crate::columns::{
+    DecisionSums, FirstRuns, LayerSums, PairSums, RunCounts, TraceSums, VerdictCounts,
+};
 use crate::value_counts::greater;
 
 impl TraceSums {
-    /// Nothing is added up.
-    pub(crate) const NONE: TraceSums = TraceSums {
-        entries: 0,
-        sent: 0,
-        lost: 0,
-    };
-
     fn plus(self, more: TraceSums) -> TraceSums
         ensures { result ≡ traces_plus self more }
     {
@@ -25,21 +21,6 @@ impl TraceSums {
 }
 
 impl PairSums {
-    /// Nothing is added up.
-    pub(crate) const NONE: PairSums = PairSums {
-        mistakes: 0,
-        mistake_ticks: 0,
-        recurrence_sum: 0,
-        recurrence_count: 0,
-        duration_sum: 0,
-        duration_count: 0,
-        good_sum: 0,
-        good_count: 0,
-        undetected: 0,
-        at_once: 0,
-        detection_sum: 0,
-    };
-
     pub(crate) fn plus(self, more: PairSums) -> PairSums
         ensures { result ≡ pairs_plus self more }
     {
@@ -60,47 +41,26 @@ impl PairSums {
 }
 
 impl VerdictCounts {
-    /// No run is counted.
-    pub(crate) const NONE: VerdictCounts = VerdictCounts {
-        strong_completeness: 0,
-        weak_completeness: 0,
-        strong_accuracy: 0,
-        weak_accuracy: 0,
-        eventual_strong_accuracy: 0,
-        eventual_weak_accuracy: 0,
-    };
-
     fn plus(self, more: VerdictCounts) -> VerdictCounts
         ensures { result ≡ verdicts_plus self more }
     {
+        let (a, b) = (self, more);
         VerdictCounts {
-            strong_completeness: self
-                .strong_completeness
-                .saturating_add(more.strong_completeness),
-            weak_completeness: self
-                .weak_completeness
-                .saturating_add(more.weak_completeness),
-            strong_accuracy: self.strong_accuracy.saturating_add(more.strong_accuracy),
-            weak_accuracy: self.weak_accuracy.saturating_add(more.weak_accuracy),
-            eventual_strong_accuracy: self
+            strong_completeness: a.strong_completeness.saturating_add(b.strong_completeness),
+            weak_completeness: a.weak_completeness.saturating_add(b.weak_completeness),
+            strong_accuracy: a.strong_accuracy.saturating_add(b.strong_accuracy),
+            weak_accuracy: a.weak_accuracy.saturating_add(b.weak_accuracy),
+            eventual_strong_accuracy: a
                 .eventual_strong_accuracy
-                .saturating_add(more.eventual_strong_accuracy),
-            eventual_weak_accuracy: self
+                .saturating_add(b.eventual_strong_accuracy),
+            eventual_weak_accuracy: a
                 .eventual_weak_accuracy
-                .saturating_add(more.eventual_weak_accuracy),
+                .saturating_add(b.eventual_weak_accuracy),
         }
     }
 }
 
 impl DecisionSums {
-    /// Nothing is added up.
-    pub(crate) const NONE: DecisionSums = DecisionSums {
-        to_decide: 0,
-        decided: 0,
-        decision_tick_sum: 0,
-        decision_tick_max: None,
-    };
-
     pub(crate) fn plus(self, more: DecisionSums) -> DecisionSums
         ensures { result ≡ decisions_plus self more }
     {
@@ -116,14 +76,6 @@ impl DecisionSums {
 }
 
 impl RunCounts {
-    /// No run is counted.
-    pub(crate) const NONE: RunCounts = RunCounts {
-        with_mistakes: 0,
-        all_decided: 0,
-        undecided: 0,
-        disagreements: 0,
-    };
-
     fn plus(self, more: RunCounts) -> RunCounts
         ensures { result ≡ counts_plus self more }
     {
@@ -137,19 +89,6 @@ impl RunCounts {
 }
 
 impl LayerSums {
-    /// No run is added up.
-    pub(crate) const NONE: LayerSums = LayerSums {
-        runs: 0,
-        limited: 0,
-        traces: TraceSums::NONE,
-        pair_ticks: 0,
-        pairs: PairSums::NONE,
-        mistakes_squared_sum: 0,
-        verdicts: VerdictCounts::NONE,
-        decisions: DecisionSums::NONE,
-        counts: RunCounts::NONE,
-    };
-
     pub(crate) fn plus(self, more: LayerSums) -> LayerSums
         ensures { result ≡ layer_plus self more }
     {
@@ -165,6 +104,22 @@ impl LayerSums {
             verdicts: self.verdicts.plus(more.verdicts),
             decisions: self.decisions.plus(more.decisions),
             counts: self.counts.plus(more.counts),
+        }
+    }
+}
+
+impl FirstRuns {
+    /// With one more run of this number, which alone counts so. Its longest detection is longer than those before, or
+    /// it isn't.
+    pub(crate) fn with(self, number: u128, run: RunCounts, is_longest: bool) -> FirstRuns
+        ensures { result ≡ first_with self number run is_longest }
+    {
+        let mistake = (run.with_mistakes > 0).then_some(number);
+        let disagreement = (run.disagreements > 0).then_some(number);
+        FirstRuns {
+            mistake: self.mistake.or(mistake),
+            detection_max: is_longest.then_some(number).or(self.detection_max),
+            disagreement: self.disagreement.or(disagreement),
         }
     }
 }

@@ -1,11 +1,12 @@
 //! Reads every run's scenario, before the first run starts.
-ghost use Rattle.std.specs.Prelude.{◌≡◌, ℕ, ◌-◌, ◌*◌, ◌^◌, ◌<◌, ◌≤◌, true, false, length, slice_index_or, OnOk, IfErr, IfNone, IfSome};
+ghost use Rattle.std.specs.Prelude.{◌≡◌, ℕ, ◌-◌, ◌*◌, ◌^◌, ◌<◌, ◌≤◌, true, false, length, slice_index_or};
+ghost use Rattle.std.specs.Prelude.{OnOk, IfErr, IfNone, IfSome};
 ghost use Rattle.toml.specs.View.{table_view};
 ghost use Rattle.study.specs.Grid.{points, runs};
 ghost use Rattle.study.specs.Runs.{is_memory};
 ghost use Rattle.sweep.specs.Numbering.{point_of, HasScenarioAt, IsRefusalAt, IsFirstRefusal};
 ghost use Rattle.sweep.specs.Outcome.{HaveScenarios, CantBeRun};
-ghost use Rattle.sweep.specs.Watching.{HeardReading, HeardOfReading, HeardOfAllReading};
+ghost use Rattle.sweep.specs.Watching.{HeardReading, HeardSomeReading, HeardOfReading, HeardOfAllReading};
 
 use crate::batches::Batches;
 use crate::error::SweepError;
@@ -68,12 +69,7 @@ fn first_false(all: &[bool]) -> Option<usize>
     ensures some { IfSome result (λ k. (k < length all.now)
         × ((i : ℕ) (d : _) → i < k → slice_index_or all.now i d ≡ true)) }
 {
-    for (i, is_true) in all.iter().enumerate() {
-        if !*is_true {
-            return Some(i);
-        }
-    }
-    None
+    all.iter().position(|is_true| !is_true)
 }
 
 /// Reads the scenarios of all runs of the points from one number up to another, by so many threads. The watcher hears
@@ -102,8 +98,8 @@ fn check_runs<R: Threads + Sync + Clock, W: Watcher>(
         (begin * length (runs grid.now)) (end * length (runs grid.now))) }
     ensures heard { OnOk result (HeardReading W.heard watcher.old watcher.new (end - begin) (length (runs grid.now))
         ((end - begin) * length (runs grid.now))) }
-    ensures heard_some { IfErr result (λ _. (done : ℕ) × (done ≤ (end - begin) * length (runs grid.now))
-        × HeardReading W.heard watcher.old watcher.new (end - begin) (length (runs grid.now)) done) }
+    ensures heard_some { IfErr result
+        (λ _. HeardSomeReading W.heard watcher.old watcher.new (end - begin) (length (runs grid.now))) }
 {
     let runs = grid.runs();
     let points = end - begin;

@@ -4,7 +4,8 @@ ghost use Rattle.std.specs.List.{list_all, list_any};
 ghost use Rattle.sweep.specs.Adding.{of_outcome, differ};
 ghost use Rattle.sweep.specs.Columns.{AreDecisionSums};
 ghost use Rattle.sweep.specs.Fitting.{AreDecisionsWithin};
-ghost use Rattle.sweep.specs.OneRun.{decided_value, deciding_of, decision_tick, do_disagree, has_decided, is_to_decide, last_decision, noted_round, top_round};
+ghost use Rattle.sweep.specs.OneRun.{decided_value, deciding_of, decision_tick, do_disagree, has_decided};
+ghost use Rattle.sweep.specs.OneRun.{is_to_decide, last_decision, noted_round, top_round};
 ghost use Rattle.judges.specs.declared.outcomes.Outcome.{Outcome as OutcomeRecord};
 
 use crate::columns::DecisionSums;
@@ -74,7 +75,7 @@ pub(crate) fn sum_decisions(outcomes: &[Outcome]) -> DecisionSums
     ensures sums { AreDecisionSums outcomes.now result }
     ensures within { AreDecisionsWithin (length outcomes.now * 2 ^ 64) result }
 {
-    let mut sums = DecisionSums::NONE;
+    let mut sums = DecisionSums::default();
     for outcome in outcomes {
         sums = sums.plus(of_outcome(outcome));
     }
@@ -134,9 +135,14 @@ fn is_contradicted(outcomes: &[Outcome], one: &Outcome) -> bool
     outcomes.iter().any(|other| differ(one, other))
 }
 
-/// Whether two processes decided different values.
+/// Whether two processes decided different values: one of them another than the first that decided.
 pub(crate) fn do_disagree(outcomes: &[Outcome]) -> bool
     ensures { result ≡ do_disagree outcomes.now }
 {
-    outcomes.iter().any(|one| is_contradicted(outcomes, one))
+    for one in outcomes {
+        if let Answer::Value(_) = one.value {
+            return is_contradicted(outcomes, one);
+        }
+    }
+    false
 }

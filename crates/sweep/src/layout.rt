@@ -2,7 +2,8 @@
 ghost use Rattle.std.specs.Prelude.{◌≡◌, ◌*◌, ◌<◌, ◌≤◌, ◌^◌, length, map, string_bytes, option_map, Some, IfOk, IfErr};
 ghost use Rattle.std.specs.List.{range_with_len};
 ghost use Rattle.study.specs.Grid.{runs};
-ghost use Rattle.sweep.specs.Layout.{place_of as place_in, between_commas, ArePicks, IsNearest, TellsOf, IsRefusal, IsNoLayout};
+ghost use Rattle.sweep.specs.Layout.{place_of as place_in, between_commas};
+ghost use Rattle.sweep.specs.Layout.{ArePicks, IsNearest, TellsOf, IsRefusal, IsNoLayout};
 ghost use Rattle.sweep.specs.Numbering.{runs_each as runs_of_unit, unit_count};
 ghost use Rattle.sweep.specs.StudyText.{names_of as names_in, unit_first};
 
@@ -74,7 +75,7 @@ fn unknown(alloc: Global, names: &[String], word: &str) -> Result<LayoutError, A
 }
 
 /// The words between commas.
-fn words_between(alloc: Global, columns: &str) -> Result<Vec<&str>, AllocError>
+pub(crate) fn words_between(alloc: Global, columns: &str) -> Result<Vec<&str>, AllocError>
     ensures { IfOk result (λ v. map (λ x. x.now) v.items ≡ between_commas columns.now) }
 {
     columns.split(',').collect(alloc)
@@ -103,11 +104,7 @@ fn places_of(alloc: Global, names: &[String], words: &[&str]) -> Result<Vec<usiz
 fn all_places(alloc: Global, count: usize) -> Result<Vec<usize>, AllocError>
     ensures { IfOk result (λ v. v.items ≡ range_with_len 0 count) }
 {
-    let mut places = Vec::with_capacity(alloc, count)?;
-    for place in 0..count {
-        places.push(place)?;
-    }
-    Ok(places)
+    (0..count).collect(alloc)
 }
 
 impl Layout {

@@ -27,7 +27,6 @@ mod columns;
 mod decisions;
 mod error;
 mod fields;
-mod first_runs;
 mod laws;
 mod layout;
 mod limits;

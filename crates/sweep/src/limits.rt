@@ -1,27 +1,14 @@
 //! How many runs of each point passed their limit, which the watcher is told.
-ghost use Rattle.std.specs.Prelude.{◌≡◌, ℕ, ◌+◌, ◌*◌, ◌^◌, ◌<◌, ◌≤◌, if◌then◌else◌, length};
+ghost use Rattle.std.specs.Prelude.{◌≡◌, ◌+◌, ◌*◌, ◌^◌, ◌<◌, ◌≤◌, [], ◌∷◌, length};
 ghost use Rattle.trace_laws.specs.Joins.{HaveJoined};
-ghost use Rattle.toml.specs.View.{table_view};
-ghost use Rattle.study.specs.Grid.{points, runs};
-ghost use Rattle.sweep.specs.Columns.{is_limited};
-ghost use Rattle.sweep.specs.Numbering.{AreNumbersFrom};
-ghost use Rattle.sweep.specs.Results.{Trial};
-ghost use Rattle.sweep.specs.StudyText.{point_at, run_at, IsTrialOf};
-ghost use Rattle.sweep.specs.Sums.{AreNumbers};
+ghost use Rattle.toml.specs.Data.{Members};
+ghost use Rattle.study.specs.Grid.{GridRecord, points, runs};
 ghost use Rattle.sweep.specs.Watching.{said_of};
 
 use crate::run_numbers::RunNumbers;
 use crate::watcher::Watcher;
 use study::Grid;
 use toml::Table;
-
-/// One for a run that passed its limit.
-fn limited_of(numbers: &RunNumbers) -> u64
-    ensures count { (t : Trial) → AreNumbers t numbers.now → result ≡ (if is_limited t.result then 1 else 0) }
-    ensures few { result ≤ 1 }
-{
-    numbers.first.sums.limited.min(1)
-}
 
 /// Says of a point, whose runs are in, how many of them passed their limit, if one did.
 fn say<W: Watcher>(file: &Table, grid: &Grid, point: u64, count: u64, watcher: &mut W)
@@ -44,13 +31,13 @@ pub(crate) struct Limits {
 }
 
 impl Limits {
-    ghost use Rattle.sweep.specs.Limits.{AreUnderWay};
+    ghost use Rattle.sweep.specs.Limits.{AreCounted, TellsOn, next_counted};
 
     /// No run of the point is in.
     pub fn at(point: u64) -> Limits
         ensures point { result.point ≡ point }
         ensures run { result.run ≡ 0 }
-        ensures count { result.count ≡ 0 }
+        ensures counted { (file : Members) (g : GridRecord) → AreCounted file g result }
     {
         Limits {
             point,
@@ -65,18 +52,13 @@ impl Limits {
         requires point { self.old.point < length (points grid.now) }
         requires run { self.old.run < length (runs grid.now) }
         requires few { length (points grid.now) < 2 ^ 64 }
-        ensures number { self.new.point * length (runs grid.now) + self.new.run
-            ≡ self.old.point * length (runs grid.now) + self.old.run + 1 }
+        ensures number { next_counted grid.now self.new ≡ next_counted grid.now self.old + 1 }
         ensures run { self.new.run < length (runs grid.now) }
-        ensures heard { (t : Trial) (start : W) (points done begin : ℕ)
-            → IsTrialOf (table_view file.now) (point_at grid.now self.old.point) (run_at grid.now self.old.run) t
-            → AreNumbers t numbers.now
-            → AreUnderWay (table_view file.now) grid.now W.heard start watcher.old points done begin self.old
-            → AreUnderWay (table_view file.now) grid.now W.heard start watcher.new points done begin self.new }
+        ensures heard { TellsOn grid.now W.heard watcher.old watcher.new (numbers.now ∷ []) self.old self.new }
     {
         let runs = grid.runs();
         self.run += 1;
-        self.count += limited_of(numbers);
+        self.count += numbers.first.sums.limited.min(1);
         if self.run < runs {
             return;
         }
@@ -93,17 +75,12 @@ impl Limits {
         watcher: &mut W,
     )
         requires run { self.old.run < length (runs grid.now) }
-        requires within { self.old.point * length (runs grid.now) + self.old.run + length numbers.now
+        requires within { next_counted grid.now self.old + length numbers.now
             ≤ length (points grid.now) * length (runs grid.now) }
         requires few { length (points grid.now) < 2 ^ 64 }
-        ensures number { self.new.point * length (runs grid.now) + self.new.run
-            ≡ self.old.point * length (runs grid.now) + self.old.run + length numbers.now }
+        ensures number { next_counted grid.now self.new ≡ next_counted grid.now self.old + length numbers.now }
         ensures run { self.new.run < length (runs grid.now) }
-        ensures heard { (start : W) (points done begin : ℕ)
-            → AreNumbersFrom (table_view file.now) grid.now
-            (self.old.point * length (runs grid.now) + self.old.run) numbers.now
-            → AreUnderWay (table_view file.now) grid.now W.heard start watcher.old points done begin self.old
-            → AreUnderWay (table_view file.now) grid.now W.heard start watcher.new points done begin self.new }
+        ensures heard { TellsOn grid.now W.heard watcher.old watcher.new numbers.now self.old self.new }
     {
         for each in numbers {
             self.add(file, grid, each, watcher);

@@ -4,19 +4,19 @@ ghost use Rattle.study.specs.Grid.{paths_of};
 ghost use Rattle.study.specs.Settings.{chosen, path_of, key_text};
 ghost use Rattle.sweep.specs.StudyText.{lead_names, names_of as names_in};
 
-use crate::layout::Rows;
-use crate::table::push_column_names;
+use crate::layout::{Rows, words_between};
 use std::alloc::{AllocError, Global};
 use study::{Axis, Choice, Grid, Key};
 
-/// Adds a copy of a name.
-fn push_name(alloc: Global, names: &mut Vec<String>, name: &str) -> Result<(), AllocError>
-    ensures { OnOk result (map string_bytes names.new.items ≡ map string_bytes names.old.items ++ name.now ∷ []) }
-{
-    let name = String::from_str(alloc, name)?;
-    names.push(name)?;
-    Ok(())
-}
+/// The names of the columns from the layer on, in order, between commas.
+const COLUMN_NAMES: &str = "layer,runs,limited,entries,sent,lost,pair_ticks,mistakes,mistake_ticks,\
+mistake_recurrence,mistaken_ppm,mistakes_squared_sum,runs_with_mistakes,recurrence_sum,recurrence_count,\
+duration_sum,duration_count,duration_p99,duration_max,good_sum,good_count,detections,undetected,at_once,\
+detection_sum,detection_p50,detection_p90,detection_p99,detection_max,strong_completeness,\
+weak_completeness,strong_accuracy,weak_accuracy,eventual_strong_accuracy,eventual_weak_accuracy,to_decide,\
+decided,decision_tick_sum,decision_tick_max,all_decided,last_decision_p50,last_decision_p90,\
+last_decision_p99,last_decision_max,rounds_p50,rounds_p99,rounds_max,disagreements,mistake_run,\
+detection_max_run,disagreement_run";
 
 /// Adds copies of names.
 pub(crate) fn push_names(
@@ -28,7 +28,7 @@ pub(crate) fn push_names(
         ≡ map string_bytes names.old.items ++ map (λ n. n.now) more.now) }
 {
     for name in more {
-        push_name(alloc, names, name)?;
+        names.push(String::from_str(alloc, name)?)?;
     }
     Ok(())
 }
@@ -99,7 +99,6 @@ pub(crate) fn names_of(alloc: Global, grid: &Grid, rows: Rows) -> Result<Vec<Str
 {
     let mut names = Vec::new(alloc);
     push_lead_names(alloc, &mut names, grid, rows)?;
-    push_names(alloc, &mut names, &["layer"])?;
-    push_column_names(alloc, &mut names)?;
+    push_names(alloc, &mut names, &words_between(alloc, COLUMN_NAMES)?)?;
     Ok(names)
 }

@@ -36,14 +36,8 @@ pub(crate) fn scenario_of(
         → IsRefusedFor (table_at (table_view file.now) grid.now number) e) }
 {
     let runs = grid.runs();
-    let point = match grid.point(alloc, number / runs) {
-        Ok(point) => point,
-        Err(error) => return Err(want_of_memory(error)),
-    };
-    let run = match grid.run(alloc, number % runs) {
-        Ok(run) => run,
-        Err(error) => return Err(want_of_memory(error)),
-    };
+    let point = grid.point(alloc, number / runs).map_err(want_of_memory)?;
+    let run = grid.run(alloc, number % runs).map_err(want_of_memory)?;
     read_run(alloc, file, &point, &run)
 }
 

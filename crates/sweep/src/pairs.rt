@@ -6,7 +6,8 @@ ghost use Rattle.reporting.specs.Durations.{lengths_of};
 ghost use Rattle.sweep.specs.Adding.{of_pair};
 ghost use Rattle.sweep.specs.Columns.{ArePairSums};
 ghost use Rattle.sweep.specs.Fitting.{ArePairsWithin};
-ghost use Rattle.sweep.specs.OneRun.{counted_of, counts_on, detection_ticks, detection_time, is_at_once, times_of, watch_of};
+ghost use Rattle.sweep.specs.OneRun.{counted_of, counts_on, detection_ticks, detection_time, is_at_once};
+ghost use Rattle.sweep.specs.OneRun.{times_of, watch_of};
 
 use crate::columns::PairSums;
 use judges::end_tick;
@@ -115,7 +116,7 @@ pub(crate) fn sum_pairs(pairs: &[PairMeasures]) -> PairSums
     ensures sums { ArePairSums pairs.now result }
     ensures within { ArePairsWithin (length pairs.now * 2 ^ 64) result }
 {
-    let mut sums = PairSums::NONE;
+    let mut sums = PairSums::default();
     for pair in pairs {
         sums = sums.plus(of_pair(pair));
     }

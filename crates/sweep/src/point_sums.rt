@@ -1,8 +1,7 @@
 //! The sums of a point.
-ghost use Rattle.std.specs.Prelude.{◌≡◌, ◌<◌, ◌≤◌, ◌+◌, ◌++◌, ◌∷◌, [], ℕ, List, is_some, length, OnOk};
+ghost use Rattle.std.specs.Prelude.{◌≡◌, [], ℕ, List, is_some, OnOk};
 ghost use Rattle.std.specs.List.{list_any};
 ghost use Rattle.sweep.specs.Columns.{AreColumns, over};
-ghost use Rattle.sweep.specs.Fitting.{most_runs};
 ghost use Rattle.sweep.specs.Results.{Trial};
 
 use crate::columns::{Columns, FirstRuns, LayerSums};
@@ -31,9 +30,7 @@ pub(crate) struct LayerValues {
 }
 
 impl LayerValues {
-    ghost use Rattle.sweep.specs.Columns.{all_detections};
-    ghost use Rattle.sweep.specs.Fitting.{most_pairs};
-    ghost use Rattle.sweep.specs.Sums.{AreLayerNumbers, AreLayerValues};
+    ghost use Rattle.sweep.specs.Sums.{AreLayerValues, CountsOneMore};
 
     /// No run is counted.
     fn new(alloc: Global) -> LayerValues
@@ -49,10 +46,7 @@ impl LayerValues {
 
     /// One more run.
     fn add(&mut self, run: &LayerNumbers) -> Result<(), AllocError>
-        ensures { OnOk result ((layer : ℕ) (trials : List Trial) (trial : Trial) → length trials < most_runs
-            → length (all_detections layer trials) ≤ most_pairs (length trials)
-            → AreLayerValues layer trials self.old → AreLayerNumbers layer (trial ∷ []) run.now
-            → AreLayerValues layer (trials ++ trial ∷ []) self.new) }
+        ensures { OnOk result (CountsOneMore run.now self.old self.new) }
     {
         self.durations.add_all(&run.durations)?;
         self.detections.add_all(&run.detections)?;
@@ -70,25 +64,22 @@ pub(crate) struct LayerTotals {
 }
 
 impl LayerTotals {
-    ghost use Rattle.sweep.specs.Sums.{AreLayerNumbers, AreLayerTotals};
+    ghost use Rattle.sweep.specs.Sums.{AreLayerTotals, TotalsOneMore};
 
     /// No run is added up.
     fn new(alloc: Global) -> LayerTotals
         ensures { (layer first : ℕ) → AreLayerTotals layer [] first result }
     {
         LayerTotals {
-            sums: LayerSums::NONE,
+            sums: LayerSums::default(),
             values: LayerValues::new(alloc),
-            first_runs: FirstRuns::NONE,
+            first_runs: FirstRuns::default(),
         }
     }
 
     /// One more run, of this number.
     fn add(&mut self, number: u128, run: &LayerNumbers) -> Result<(), AllocError>
-        ensures { OnOk result ((layer first : ℕ) (trials : List Trial) (trial : Trial) → length trials < most_runs
-            → number ≡ first + length trials → AreLayerTotals layer trials first self.old
-            → AreLayerNumbers layer (trial ∷ []) run.now
-            → AreLayerTotals layer (trials ++ trial ∷ []) first self.new) }
+        ensures { OnOk result (TotalsOneMore number run.now self.old self.new) }
     {
         let longest = self.values.detections.greatest;
         self.values.add(run)?;
@@ -131,7 +122,7 @@ pub struct PointSums {
 }
 
 impl PointSums {
-    ghost use Rattle.sweep.specs.Sums.{AreNumbers, AreSums};
+    ghost use Rattle.sweep.specs.Sums.{AreSums, AddsOneMore};
 
     /// No run was added. The first run that is has this number.
     pub fn new(alloc: Global, first: u64) -> PointSums
@@ -150,9 +141,7 @@ impl PointSums {
     ///
     /// `AllocError` where memory was refused. Then the sums are to be dropped: a part of the run may be added.
     pub fn add(&mut self, numbers: &RunNumbers) -> Result<(), AllocError>
-        ensures { OnOk result ((first : ℕ) (trials : List Trial) (trial : Trial) → length trials < most_runs
-            → AreSums first trials self.old → AreNumbers trial numbers.now
-            → AreSums first (trials ++ trial ∷ []) self.new) }
+        ensures { OnOk result (AddsOneMore numbers.now self.old self.new) }
     {
         let number = self.next;
         self.next = number.saturating_add(1);

@@ -1,8 +1,8 @@
 //! How far a sweep has come: the unit whose runs are added up, and which of them are in.
-ghost use Rattle.std.specs.Prelude.{◌≡◌, ℕ, ◌+◌, ◌-◌, ◌*◌, ◌^◌, ◌<◌, ◌≤◌, [], length, OnOk, IfErr};
+ghost use Rattle.std.specs.Prelude.{◌≡◌, ◌+◌, ◌-◌, ◌*◌, ◌^◌, ◌<◌, ◌≤◌, [], ◌∷◌, length, OnOk, IfErr};
 ghost use Rattle.toml.specs.Data.{Members};
 ghost use Rattle.study.specs.Grid.{points, runs};
-ghost use Rattle.sweep.specs.Numbering.{runs_each, AreNumbersFrom};
+ghost use Rattle.sweep.specs.Numbering.{runs_each};
 
 use crate::error::SweepError;
 use crate::layout::Layout;
@@ -22,16 +22,14 @@ pub(crate) struct Progress {
 }
 
 impl Progress {
-    ghost use Rattle.sweep.specs.Results.{Trial};
-    ghost use Rattle.sweep.specs.StudyText.{point_at, unit_point, unit_run, unit_first, IsTrialOf};
-    ghost use Rattle.sweep.specs.Sums.{AreNumbers, AreSums};
-    ghost use Rattle.sweep.specs.Progress.{IsUnderWay, StopsBelow};
+    ghost use Rattle.sweep.specs.Progress.{AreAdded, GoesOn, StopsAt, next_run};
 
     /// No run of the unit is in.
     pub fn at(alloc: Global, grid: &Grid, layout: &Layout, unit: u64) -> Progress
         ensures unit { result.unit ≡ unit }
         ensures run { result.run ≡ 0 }
-        ensures sums { AreSums (unit_first layout.now.rows grid.now result.unit) [] result.sums }
+        ensures added { (file : Members) → 1 ≤ runs_each layout.now.rows grid.now
+            → AreAdded file grid.now layout.now result }
     {
         Progress {
             unit,
@@ -52,24 +50,15 @@ impl Progress {
         requires failures { O.failed outlet.old < 2 ^ 64 - 1 }
         requires room { length (points grid.now) * length (runs grid.now) < 2 ^ 64 }
         requires run { self.old.run < runs_each layout.now.rows grid.now }
-        requires within { self.old.unit * runs_each layout.now.rows grid.now + self.old.run
-            < length (points grid.now) * length (runs grid.now) }
-        ensures done { OnOk result ((file : Members) (start : O) (begin : ℕ) (t : Trial)
-            → IsTrialOf file (point_at grid.now (unit_point layout.now.rows grid.now self.old.unit))
-            (unit_run layout.now.rows grid.now self.old.unit self.old.run) t
-            → AreNumbers t numbers.now
-            → IsUnderWay file grid.now layout.now O.told O.failed start outlet.old begin self.old
-            → IsUnderWay file grid.now layout.now O.told O.failed start outlet.new begin self.new) }
-        ensures number { OnOk result (self.new.unit * runs_each layout.now.rows grid.now + self.new.run
-            ≡ self.old.unit * runs_each layout.now.rows grid.now + self.old.run + 1) }
+        requires within { next_run grid.now layout.now self.old < length (points grid.now) * length (runs grid.now) }
+        ensures done { OnOk result (GoesOn grid.now layout.now O.told O.failed outlet.old outlet.new
+            (numbers.now ∷ []) self.old self.new) }
+        ensures number { OnOk result (next_run grid.now layout.now self.new
+            ≡ next_run grid.now layout.now self.old + 1) }
         ensures run { OnOk result (self.new.run < runs_each layout.now.rows grid.now) }
         ensures failures { OnOk result (O.failed outlet.new ≡ O.failed outlet.old) }
-        ensures stops { IfErr result (λ e. (file : Members) (start : O) (begin : ℕ) (t : Trial)
-            → IsTrialOf file (point_at grid.now (unit_point layout.now.rows grid.now self.old.unit))
-            (unit_run layout.now.rows grid.now self.old.unit self.old.run) t
-            → AreNumbers t numbers.now
-            → IsUnderWay file grid.now layout.now O.told O.failed start outlet.old begin self.old
-            → StopsBelow file grid.now layout.now O.told O.failed start outlet.new begin (self.old.unit + 1) e) }
+        ensures stops { IfErr result (StopsAt grid.now layout.now O.told O.failed outlet.old outlet.new
+            (numbers.now ∷ []) self.old) }
     {
         let runs = layout.runs_each(grid);
         self.sums.add(numbers)?;
@@ -95,24 +84,16 @@ impl Progress {
         requires failures { O.failed outlet.old < 2 ^ 64 - 1 }
         requires room { length (points grid.now) * length (runs grid.now) < 2 ^ 64 }
         requires run { self.old.run < runs_each layout.now.rows grid.now }
-        requires within { self.old.unit * runs_each layout.now.rows grid.now + self.old.run + length numbers.now
+        requires within { next_run grid.now layout.now self.old + length numbers.now
             ≤ length (points grid.now) * length (runs grid.now) }
-        ensures done { OnOk result ((file : Members) (start : O) (begin : ℕ)
-            → AreNumbersFrom file grid.now
-            (self.old.unit * runs_each layout.now.rows grid.now + self.old.run) numbers.now
-            → IsUnderWay file grid.now layout.now O.told O.failed start outlet.old begin self.old
-            → IsUnderWay file grid.now layout.now O.told O.failed start outlet.new begin self.new) }
-        ensures number { OnOk result (self.new.unit * runs_each layout.now.rows grid.now + self.new.run
-            ≡ self.old.unit * runs_each layout.now.rows grid.now + self.old.run + length numbers.now) }
+        ensures done { OnOk result (GoesOn grid.now layout.now O.told O.failed outlet.old outlet.new
+            numbers.now self.old self.new) }
+        ensures number { OnOk result (next_run grid.now layout.now self.new
+            ≡ next_run grid.now layout.now self.old + length numbers.now) }
         ensures run { OnOk result (self.new.run < runs_each layout.now.rows grid.now) }
         ensures failures { OnOk result (O.failed outlet.new ≡ O.failed outlet.old) }
-        ensures stops { IfErr result (λ e. (file : Members) (start : O) (begin end : ℕ)
-            → self.old.unit * runs_each layout.now.rows grid.now + self.old.run + length numbers.now
-            ≤ end * runs_each layout.now.rows grid.now
-            → AreNumbersFrom file grid.now
-            (self.old.unit * runs_each layout.now.rows grid.now + self.old.run) numbers.now
-            → IsUnderWay file grid.now layout.now O.told O.failed start outlet.old begin self.old
-            → StopsBelow file grid.now layout.now O.told O.failed start outlet.new begin end e) }
+        ensures stops { IfErr result (StopsAt grid.now layout.now O.told O.failed outlet.old outlet.new
+            numbers.now self.old) }
     {
         for each in numbers {
             self.take(alloc, grid, layout, each, outlet)?;

@@ -1,18 +1,13 @@
 //! What one run gives to the sums of its point.
-ghost use Rattle.std.specs.Prelude.{◌≡◌, ◌≤◌, ◌*◌, ◌^◌, ◌∷◌, [], ℕ, List, length, IfOk, is_some, None, true, false};
-ghost use Rattle.process_api.specs.EntryRecord.{EntryRecord};
-ghost use Rattle.reporting.specs.Durations.{AreDurations};
-ghost use Rattle.reporting.specs.Measured.{AreFindings, MeasuresRun};
-ghost use Rattle.reporting.specs.Measures.{layer_measures};
-ghost use Rattle.reporting.specs.declared.pair_measures.PairMeasures.{PairMeasures as PairRecord};
+ghost use Rattle.std.specs.Prelude.{◌≡◌, ◌∷◌, [], ℕ, List, IfOk, is_some, true, false};
+ghost use Rattle.judges.specs.declared.outcomes.Outcome.{Outcome as OutcomeRecord};
+ghost use Rattle.reporting.specs.Measured.{MeasuresRun};
 ghost use Rattle.scenario_record.specs.Ranges.{IsInRange};
 ghost use Rattle.scenario_record.specs.Record.{Record};
 ghost use Rattle.sweep.specs.Adding.{of_verdicts};
 ghost use Rattle.sweep.specs.Columns.{AreDecisionSums, has_layer};
-ghost use Rattle.sweep.specs.Fitting.{AreDecisionsWithin};
-ghost use Rattle.sweep.specs.OneRun.{counted_of, deciding_of};
-ghost use Rattle.sweep.specs.Results.{Trial, finished, limited};
-ghost use Rattle.sweep.specs.Sums.{AreFitting, AreLayerFindings};
+ghost use Rattle.sweep.specs.OwnSums.{AreOwnSums};
+ghost use Rattle.sweep.specs.Results.{Trial, limited as limited_result, done_run};
 
 use crate::columns::{DecisionSums, LayerSums, RunCounts, TraceSums, VerdictCounts};
 use crate::decisions::{
@@ -47,12 +42,8 @@ fn sums_of_run(
     counted: &[PairMeasures],
     decisions: DecisionSums,
 ) -> LayerSums
-    ensures { (layer : ℕ) (trace : List EntryRecord) (pairs : List PairRecord) → has_layer layer scenario.now ≡ true
-        → AreLayerFindings layer scenario.now trace summary.now verdicts.now pairs
-        → counted.now ≡ counted_of layer scenario.now pairs
-        → AreDecisionSums (deciding_of scenario.now summary.now.outcomes.items) decisions
-        → AreDecisionsWithin (length (deciding_of scenario.now summary.now.outcomes.items) * 2 ^ 64) decisions
-        → AreFitting layer (record { scenario = scenario.now; result = finished trace } ∷ []) result }
+    ensures { (os : List OutcomeRecord) → AreDecisionSums os decisions
+        → AreOwnSums scenario.now summary.now verdicts.now counted.now os decisions result }
 {
     let pairs = sum_pairs(counted);
     let are_all = do_all_decide(decisions);
@@ -93,44 +84,26 @@ pub(crate) struct LayerNumbers {
 }
 
 impl LayerNumbers {
-    ghost use Rattle.sweep.specs.Sums.{AreLayerNumbers};
+    ghost use Rattle.sweep.specs.Sums.{AreLayerNumbers, AreOfFindings};
 
-    /// Of a run of which nothing is counted value by value.
-    fn of_sums(alloc: Global, sums: LayerSums) -> LayerNumbers
-        ensures sums { result.sums ≡ sums }
-        ensures durations { result.durations.items ≡ [] }
-        ensures detections { result.detections.items ≡ [] }
-        ensures last_decision { result.last_decision ≡ None }
-        ensures top_round { result.top_round ≡ None }
+    /// Of a run that adds nothing: it passed its limit, which is counted, or it hasn't this layer.
+    fn of_nothing(alloc: Global, limited: u64) -> LayerNumbers
+        ensures limited { limited ≡ 1 → (layer : ℕ) (S : Record) → has_layer layer S ≡ true
+            → AreLayerNumbers layer (record { scenario = S; result = limited_result } ∷ []) result }
+        ensures none { limited ≡ 0 → (layer : ℕ) (trial : Trial) → has_layer layer trial.scenario ≡ false
+            → AreLayerNumbers layer (trial ∷ []) result }
     {
         LayerNumbers {
-            sums,
+            sums: LayerSums {
+                runs: limited,
+                limited,
+                ..LayerSums::default()
+            },
             durations: Vec::new(alloc),
             detections: Vec::new(alloc),
             last_decision: None,
             top_round: None,
         }
-    }
-
-    /// Of a run without this layer.
-    fn of_none(alloc: Global) -> LayerNumbers
-        ensures { (layer : ℕ) (trial : Trial) → has_layer layer trial.scenario ≡ false
-            → AreLayerNumbers layer (trial ∷ []) result }
-    {
-        LayerNumbers::of_sums(alloc, LayerSums::NONE)
-    }
-
-    /// Of a run that passed its limit.
-    fn of_limited(alloc: Global) -> LayerNumbers
-        ensures { (layer : ℕ) (S : Record) → has_layer layer S ≡ true
-            → AreLayerNumbers layer (record { scenario = S; result = limited } ∷ []) result }
-    {
-        let sums = LayerSums {
-            runs: 1,
-            limited: 1,
-            ..LayerSums::NONE
-        };
-        LayerNumbers::of_sums(alloc, sums)
     }
 
     /// Of a run that is done: its summary, and its verdicts, its measures and how long its mistakes were on this layer.
@@ -143,10 +116,8 @@ impl LayerNumbers {
         pairs: &[PairMeasures],
         durations: &Durations,
     ) -> Result<LayerNumbers, AllocError>
-        ensures { IfOk result (λ n. (trace : List EntryRecord) → has_layer layer scenario.now ≡ true
-            → AreLayerFindings layer scenario.now trace summary.now verdicts.now pairs.now
-            → AreDurations scenario.now layer trace durations.now
-            → AreLayerNumbers layer (record { scenario = scenario.now; result = finished trace } ∷ []) n) }
+        ensures { IfOk result
+            (AreOfFindings layer scenario.now summary.now verdicts.now pairs.now durations.now) }
     {
         let counted = counted_of(alloc, scenario, layer, pairs)?;
         let deciding = deciding_of(alloc, scenario, &summary.outcomes)?;
@@ -171,19 +142,6 @@ fn is_shared(scenario: &Scenario) -> bool
     scenario.share().is_some()
 }
 
-/// How many pairs of a run's measures are those of layer 1, which come first.
-fn pairs_on_first(findings: &RunFindings) -> usize
-    ensures high { result ≤ length findings.now.measures.items }
-    ensures value { (S : Record) (trace : List EntryRecord) → AreFindings S trace findings.now
-        → result ≡ length (layer_measures S trace 1) }
-{
-    let pairs = findings.measures.len();
-    match findings.second {
-        None => pairs,
-        Some(_) => pairs / 2,
-    }
-}
-
 /// What one run gives to the sums of its point.
 #[derive(Drop)]
 pub struct RunNumbers {
@@ -206,42 +164,33 @@ impl RunNumbers {
         durations: &RunDurations,
     ) -> Result<RunNumbers, AllocError>
         ensures { IfOk result (λ n. (found : MeasuresRun scenario.now findings.now durations.now)
-            → AreNumbers (record { scenario = scenario.now; result = finished found.trace }) n) }
+            → AreNumbers (done_run scenario.now found.trace) n) }
     {
         let _shared = is_shared(scenario);
-        let summary = &findings.summary;
-        let (first, second) = findings.measures.split_at(pairs_on_first(findings));
-        Ok(RunNumbers {
-            first: LayerNumbers::of_run(
-                alloc,
-                scenario,
-                1,
-                summary,
-                &findings.first,
-                first,
-                &durations.first,
-            )?,
-            second: match &findings.second {
-                None => LayerNumbers::of_none(alloc),
-                Some(verdicts) => {
-                    let lasted = &durations.second;
-                    LayerNumbers::of_run(alloc, scenario, 2, summary, verdicts, second, lasted)?
-                }
-            },
-        })
+        let (summary, pairs) = (&findings.summary, &findings.measures);
+        let (own, lasted) = (&findings.first, &durations.first);
+        let verdicts = match &findings.second {
+            Some(verdicts) => verdicts,
+            None => {
+                let first = LayerNumbers::of_run(alloc, scenario, 1, summary, own, pairs, lasted)?;
+                let second = LayerNumbers::of_nothing(alloc, 0);
+                return Ok(RunNumbers { first, second });
+            }
+        };
+        let (first, second) = pairs.split_at(pairs.len() / 2);
+        let first = LayerNumbers::of_run(alloc, scenario, 1, summary, own, first, lasted)?;
+        let lasted = &durations.second;
+        let second = LayerNumbers::of_run(alloc, scenario, 2, summary, verdicts, second, lasted)?;
+        Ok(RunNumbers { first, second })
     }
 
     /// What a run gives that passed its limit: it is counted, and adds nothing else.
     pub fn of_limited(alloc: Global, scenario: &Scenario) -> RunNumbers
-        ensures { AreNumbers (record { scenario = scenario.now; result = limited }) result }
+        ensures { AreNumbers (record { scenario = scenario.now; result = limited_result }) result }
     {
         RunNumbers {
-            first: LayerNumbers::of_limited(alloc),
-            second: if is_shared(scenario) {
-                LayerNumbers::of_limited(alloc)
-            } else {
-                LayerNumbers::of_none(alloc)
-            },
+            first: LayerNumbers::of_nothing(alloc, 1),
+            second: LayerNumbers::of_nothing(alloc, u64::from(is_shared(scenario))),
         }
     }
 }

@@ -1,12 +1,10 @@
 //! Sweeps: all runs of a study's points, and the rows that tell of them.
-ghost use Rattle.std.specs.Prelude.{◌≡◌, ℕ, ◌^◌, ◌-◌, ◌*◌, ◌<◌, ◌≤◌, false, length, OnOk, IfErr};
-ghost use Rattle.std.specs.List.{range_with_len};
+ghost use Rattle.std.specs.Prelude.{◌≡◌, ◌^◌, ◌-◌, ◌*◌, ◌<◌, ◌≤◌, false, length, OnOk, IfErr};
 ghost use Rattle.toml.specs.View.{table_view};
 ghost use Rattle.study.specs.Grid.{points, runs};
-ghost use Rattle.sweep.specs.Numbering.{unit_count};
 ghost use Rattle.sweep.specs.Outcome.{WroteStudy, BreaksOff};
-ghost use Rattle.sweep.specs.Progress.{WroteUpTo, StopsBelow};
-ghost use Rattle.sweep.specs.Watching.{HeardRunning, HeardAll, HeardSome};
+ghost use Rattle.sweep.specs.Progress.{WrotePoints, StopsInPoints};
+ghost use Rattle.sweep.specs.Watching.{HeardAllRunning, HeardSomeRunning, HeardAll, HeardSome};
 
 use crate::batches::Batches;
 use crate::checking::check_study;
@@ -45,18 +43,14 @@ fn write_points<R: Threads + Sync + Clock, O: Outlet, W: Watcher>(
     requires order { begin ≤ end }
     requires within { end ≤ length (points grid.now) }
     requires room { length (points grid.now) * length (runs grid.now) < 2 ^ 64 }
-    ensures done { OnOk result
-        (WroteUpTo (table_view file.now) grid.now layout.now O.told O.failed outlet.old outlet.new
-        (unit_count layout.now.rows grid.now begin) (unit_count layout.now.rows grid.now end)) }
-    ensures stops { IfErr result
-        (StopsBelow (table_view file.now) grid.now layout.now O.told O.failed outlet.old outlet.new
-        (unit_count layout.now.rows grid.now begin) (unit_count layout.now.rows grid.now end)) }
-    ensures heard { OnOk result (HeardRunning W.heard watcher.old watcher.new (table_view file.now) grid.now
-        (end - begin) (length (runs grid.now)) ((end - begin) * length (runs grid.now))
-        (range_with_len begin (end - begin))) }
-    ensures heard_some { IfErr result (λ _. (done count : ℕ) × (done ≤ (end - begin) * length (runs grid.now))
-        × (count ≤ end - begin) × HeardRunning W.heard watcher.old watcher.new (table_view file.now) grid.now
-        (end - begin) (length (runs grid.now)) done (range_with_len begin count)) }
+    ensures done { OnOk result (WrotePoints grid.now layout.now O.told O.failed outlet.old outlet.new
+        (table_view file.now) begin end) }
+    ensures stops { IfErr result (StopsInPoints grid.now layout.now O.told O.failed outlet.old outlet.new
+        (table_view file.now) begin end) }
+    ensures heard { OnOk result
+        (HeardAllRunning W.heard watcher.old watcher.new (table_view file.now) grid.now begin end) }
+    ensures heard_some { IfErr result
+        (λ _. HeardSomeRunning W.heard watcher.old watcher.new (table_view file.now) grid.now begin end) }
 {
     let runs = grid.runs();
     let points = end - begin;

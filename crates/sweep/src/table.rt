@@ -1,84 +1,20 @@
 //! The text of a study, as its rows are formed.
-ghost use Rattle.std.specs.Prelude.{◌≡◌, ℕ, ◌<◌, ◌++◌, ◌∷◌, [], List, length, map, decimal, string_bytes, IfOk, OnOk};
+ghost use Rattle.std.specs.Prelude.{◌≡◌, ◌<◌, ◌++◌, ◌∷◌, [], length, map, decimal, IfOk, OnOk};
 ghost use Rattle.study.specs.Grid.{points};
 ghost use Rattle.csv.specs.Records.{fields_of};
 ghost use Rattle.sweep.specs.Fields.{pair_fields, outcome_fields};
-ghost use Rattle.sweep.specs.Results.{Trial};
-ghost use Rattle.sweep.specs.RowText.{Text, column_names, column_fields, number_text, done_fields, told_fields, header_text, layer_text, line_text, picked, AreRowsFor};
+ghost use Rattle.sweep.specs.RowText.{column_fields, number_text, header_text, layer_text, line_text, picked};
 ghost use Rattle.sweep.specs.StudyText.{names_of as names_in, unit_point, lead_of};
 
 use crate::columns::Columns;
 use crate::fields::{push_numbers, push_settings, push_texts};
 use crate::layout::{Layout, Rows};
-use crate::names::{names_of, push_names};
+use crate::names::names_of;
 use crate::picking::push_picked;
 use crate::point_sums::PointSums;
-use crate::value_counts::wide;
 use csv::{StringRecord, Writer};
 use std::alloc::{AllocError, Global};
 use study::Grid;
-
-/// The names of the columns, in order.
-const COLUMN_NAMES: [&str; 50] = [
-    "runs",
-    "limited",
-    "entries",
-    "sent",
-    "lost",
-    "pair_ticks",
-    "mistakes",
-    "mistake_ticks",
-    "mistake_recurrence",
-    "mistaken_ppm",
-    "mistakes_squared_sum",
-    "runs_with_mistakes",
-    "recurrence_sum",
-    "recurrence_count",
-    "duration_sum",
-    "duration_count",
-    "duration_p99",
-    "duration_max",
-    "good_sum",
-    "good_count",
-    "detections",
-    "undetected",
-    "at_once",
-    "detection_sum",
-    "detection_p50",
-    "detection_p90",
-    "detection_p99",
-    "detection_max",
-    "strong_completeness",
-    "weak_completeness",
-    "strong_accuracy",
-    "weak_accuracy",
-    "eventual_strong_accuracy",
-    "eventual_weak_accuracy",
-    "to_decide",
-    "decided",
-    "decision_tick_sum",
-    "decision_tick_max",
-    "all_decided",
-    "last_decision_p50",
-    "last_decision_p90",
-    "last_decision_p99",
-    "last_decision_max",
-    "rounds_p50",
-    "rounds_p99",
-    "rounds_max",
-    "disagreements",
-    "mistake_run",
-    "detection_max_run",
-    "disagreement_run",
-];
-
-/// Adds the names of the columns.
-#[tactic(auto, unfolding(crate::specs::RowText::column_names))]
-pub(crate) fn push_column_names(alloc: Global, names: &mut Vec<String>) -> Result<(), AllocError>
-    ensures { OnOk result (map string_bytes names.new.items ≡ map string_bytes names.old.items ++ column_names) }
-{
-    push_names(alloc, names, &COLUMN_NAMES)
-}
 
 /// What is told of pairs, from the entries on.
 fn pair_numbers(columns: &Columns) -> [Option<u128>; 26]
@@ -132,7 +68,7 @@ fn outcome_numbers(columns: &Columns) -> [Option<u128>; 22]
         Some(sums.decisions.to_decide),
         Some(sums.decisions.decided),
         Some(sums.decisions.decision_tick_sum),
-        wide(sums.decisions.decision_tick_max),
+        sums.decisions.decision_tick_max.map(u128::from),
         Some(u128::from(sums.counts.all_decided)),
         columns.last_decisions.p50,
         columns.last_decisions.p90,
@@ -148,25 +84,7 @@ fn outcome_numbers(columns: &Columns) -> [Option<u128>; 22]
     ]
 }
 
-/// What is told of the runs that are done.
-fn push_told(fields: &mut StringRecord, columns: &Columns) -> Result<(), AllocError>
-    ensures { OnOk result (fields_of fields.new ≡ fields_of fields.old ++ done_fields columns.now) }
-{
-    push_numbers(fields, &pair_numbers(columns))?;
-    push_numbers(fields, &outcome_numbers(columns))
-}
-
-/// The same: nothing where none is.
-fn push_done(fields: &mut StringRecord, columns: &Columns) -> Result<(), AllocError>
-    ensures { OnOk result (fields_of fields.new ≡ fields_of fields.old ++ told_fields columns.now) }
-{
-    if columns.sums.limited == columns.sums.runs {
-        return push_numbers(fields, &[None; 48]);
-    }
-    push_told(fields, columns)
-}
-
-/// The layer and the columns.
+/// The layer and the columns, of which nothing is told of runs that are done where none is.
 fn push_columns(fields: &mut StringRecord, layer: u8, columns: &Columns) -> Result<(), AllocError>
     ensures { OnOk result (fields_of fields.new
         ≡ fields_of fields.old ++ decimal layer ∷ column_fields columns.now) }
@@ -177,7 +95,11 @@ fn push_columns(fields: &mut StringRecord, layer: u8, columns: &Columns) -> Resu
         Some(u128::from(columns.sums.limited)),
     ];
     push_numbers(fields, &head)?;
-    push_done(fields, columns)
+    if columns.sums.limited == columns.sums.runs {
+        return push_numbers(fields, &[None; 48]);
+    }
+    push_numbers(fields, &pair_numbers(columns))?;
+    push_numbers(fields, &outcome_numbers(columns))
 }
 
 /// What a unit's rows begin with.
@@ -218,8 +140,7 @@ pub struct Table {
 }
 
 impl Table {
-    ghost use Rattle.sweep.specs.Fields.{IsBetweenLines, text_of};
-    ghost use Rattle.sweep.specs.Sums.{AreSums};
+    ghost use Rattle.sweep.specs.Fields.{AddsRowsOfSums, IsBetweenLines, text_of};
 
     /// No line yet.
     pub fn new(alloc: Global) -> Table
@@ -228,17 +149,6 @@ impl Table {
     {
         Table {
             writer: Writer::from_writer(Vec::new(alloc)),
-        }
-    }
-
-    fn push_line(&mut self, fields: &StringRecord) -> Result<(), AllocError>
-        requires { IsBetweenLines self.old }
-        ensures between { OnOk result (IsBetweenLines self.new) }
-        ensures text { OnOk result (text_of self.new ≡ text_of self.old ++ line_text (fields_of fields.now)) }
-    {
-        match self.writer.write_byte_record(fields.as_byte_record()) {
-            Ok(()) => Ok(()),
-            Err(_) => Err(AllocError),
         }
     }
 
@@ -256,7 +166,10 @@ impl Table {
     {
         let mut fields = StringRecord::new(alloc);
         push_picked(&mut fields, all, layout.picks())?;
-        self.push_line(&fields)
+        match self.writer.write_byte_record(fields.as_byte_record()) {
+            Ok(()) => Ok(()),
+            Err(_) => Err(AllocError),
+        }
     }
 
     /// Adds the first line, which names the columns.
@@ -321,10 +234,7 @@ impl Table {
         requires between { IsBetweenLines self.old }
         requires within { unit_point layout.now.rows grid.now unit < length (points grid.now) }
         ensures between { OnOk result (IsBetweenLines self.new) }
-        ensures text { OnOk result ((first : ℕ) (trials : List Trial) → AreSums first trials sums.now
-            → (rows : Text)
-            × AreRowsFor layout.now.picks (lead_of layout.now.rows grid.now unit) first trials rows
-            × (text_of self.new ≡ text_of self.old ++ rows)) }
+        ensures text { OnOk result (AddsRowsOfSums layout.now grid.now unit sums.now self.old self.new) }
     {
         let (first, second) = (sums.first(), sums.second());
         self.push_layer(alloc, grid, layout, unit, 1, &first)?;

@@ -1,12 +1,11 @@
 //! The texts that go out.
-ghost use Rattle.std.specs.Prelude.{◌≡◌, ℕ, ◌^◌, ◌-◌, ◌<◌, List, length, Err, IfOk, IfErr, OnOk};
+ghost use Rattle.std.specs.Prelude.{◌≡◌, ◌^◌, ◌-◌, ◌<◌, length, IfOk, IfErr, OnOk};
 ghost use Rattle.reporting.specs.Writing.{Wrote, WrotePart};
 ghost use Rattle.study.specs.Grid.{points};
-ghost use Rattle.sweep.specs.Results.{Trial};
-ghost use Rattle.sweep.specs.RowText.{header_text, AreRowsFor};
+ghost use Rattle.sweep.specs.Fields.{AreRowsOfSums};
+ghost use Rattle.sweep.specs.RowText.{header_text};
 ghost use Rattle.sweep.specs.Progress.{HeaderFails};
-ghost use Rattle.sweep.specs.StudyText.{names_of, unit_point, lead_of, header_of as shard_header};
-ghost use Rattle.sweep.specs.Sums.{AreSums};
+ghost use Rattle.sweep.specs.StudyText.{names_of, unit_point, header_of as shard_header};
 
 use crate::error::SweepError;
 use crate::layout::Layout;
@@ -34,8 +33,7 @@ pub(crate) fn rows_of(
     sums: &PointSums,
 ) -> Result<Vec<u8>, AllocError>
     requires { unit_point layout.now.rows grid.now unit < length (points grid.now) }
-    ensures { IfOk result (λ t. (first : ℕ) (trials : List Trial) → AreSums first trials sums.now
-        → AreRowsFor layout.now.picks (lead_of layout.now.rows grid.now unit) first trials t.items) }
+    ensures { IfOk result (λ t. AreRowsOfSums layout.now grid.now unit sums.now t.items) }
 {
     let mut table = Table::new(alloc);
     table.push_unit(alloc, grid, layout, unit, sums)?;

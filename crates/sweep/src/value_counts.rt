@@ -24,18 +24,7 @@ pub(crate) fn greater(first: Option<u64>, second: Option<u64>) -> Option<u64>
 pub(crate) fn is_above(first: Option<u64>, second: Option<u64>) -> bool
     ensures { result ≡ is_above first second }
 {
-    match (first, second) {
-        (None, _) => false,
-        (Some(_), None) => true,
-        (Some(first), Some(second)) => first > second,
-    }
-}
-
-/// A number of 64 bits in 128, if there is one.
-pub(crate) fn wide(number: Option<u64>) -> Option<u128>
-    ensures { result ≡ number }
-{
-    number.map(u128::from)
+    first > second
 }
 
 /// Values, each with how often it came. Memory grows with how many different values there are.
@@ -131,7 +120,7 @@ impl ValueCounts {
             p50: self.percentile(50, infinite),
             p90: self.percentile(90, infinite),
             p99: self.percentile(99, infinite),
-            greatest: wide(self.greatest),
+            greatest: self.greatest.map(u128::from),
         }
     }
 }

@@ -1,10 +1,4 @@
-use Rattle.std.proofs.Common.{rules, ◌≡◌, ◌≤◌, ◌<◌, ◌+◌, ◌-◌, ◌*◌, ℕ, Bool, true, length, arith, subst}
-use Rattle.std.specs.Prelude.{slice_index_or}
-use Rattle.std.proofs.Math.Nat.{mul-le-mul_right}
-use Rattle.toml.specs.View.{table_view}
-use Rattle.study.specs.Grid.{runs}
-use Rattle.sweep.specs.Numbering.{HasScenarioAt, IsFirstRefusal}
-use Rattle.sweep.specs.Watching.{HeardReading}
+use Rattle.sweep.proofs.Words.{rules, ◌≡◌, ◌≤◌, ◌<◌, ◌+◌, ◌-◌, ◌*◌, ℕ, Bool, true, length, arith, subst, slice_index_or, mul-le-mul_right, table_view, runs, HasScenarioAt, IsFirstRefusal, HeardReading}
 use Rattle.sweep.proofs.Heard.{reading_begin, reading_more, all_done, within_all}
 use Rattle.sweep.proofs.Reading.{if_any_err, read_more, first_refusal}
 use Rattle.sweep.proofs.checking.check_runs.Goals as goal

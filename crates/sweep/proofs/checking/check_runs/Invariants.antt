@@ -1,7 +1,4 @@
-use Rattle.std.proofs.Common.{◌≤◌, ◌<◌, ◌-◌, ◌*◌, ℕ}
-use Rattle.toml.specs.View.{table_view}
-use Rattle.sweep.specs.Numbering.{HasScenarioAt}
-use Rattle.sweep.specs.Watching.{HeardReading}
+use Rattle.sweep.proofs.Words.{◌≤◌, ◌<◌, ◌-◌, ◌*◌, ℕ, table_view, HasScenarioAt, HeardReading}
 use Rattle.sweep.proofs.checking.check_runs.Given as goal
 
 abbrev pub invariant-loop-next : goal.invariant-loop-next

@@ -1,7 +1,4 @@
-use Rattle.std.proofs.Common.{◌≤◌, length, arith}
-use Rattle.std.proofs.lemmas.Result.{IfOk-weaker, MatchResult-weaker}
-use Rattle.toml.specs.View.{table_view}
-use Rattle.study.specs.Grid.{runs}
+use Rattle.sweep.proofs.Words.{◌≤◌, length, arith, IfOk-weaker, MatchResult-weaker, table_view, runs}
 use Rattle.sweep.proofs.Ending.{cant_be_run, have_scenarios}
 use Rattle.sweep.proofs.Heard.{read_all, read_some}
 use Rattle.sweep.proofs.checking.check_study.Goals as goal

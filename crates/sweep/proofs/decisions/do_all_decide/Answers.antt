@@ -1,6 +1,4 @@
-use Rattle.std.proofs.Common.{ap, ◌∙◌, ◌==◌}
-use Rattle.std.specs.List.{count_by}
-use Rattle.sweep.specs.OneRun.{has_decided}
+use Rattle.sweep.proofs.Words.{ap, ◌∙◌, ◌==◌, count_by, has_decided}
 use Rattle.sweep.proofs.Single.{all_counted}
 use Rattle.sweep.proofs.decisions.do_all_decide.Goals as goal
 

@@ -1,6 +1,4 @@
-use Rattle.std.proofs.Common.{◌^◌, ◌<◌, length, ap, ◌∙◌, subst, arith}
-use Rattle.sweep.specs.Adding.{decisions_plus, of_outcome}
-use Rattle.sweep.specs.Fitting.{AreDecisionsWithin}
+use Rattle.sweep.proofs.Words.{◌^◌, ◌<◌, length, ap, ◌∙◌, subst, arith, decisions_plus, of_outcome, AreDecisionsWithin}
 use Rattle.sweep.proofs.Single.{outcome_added, outcome_within}
 use Rattle.sweep.proofs.decisions.sum_decisions.Goals as goal
 

@@ -1,6 +1,4 @@
-use Rattle.std.proofs.Common.{◌*◌, ◌^◌, take}
-use Rattle.sweep.specs.Columns.{AreDecisionSums}
-use Rattle.sweep.specs.Fitting.{AreDecisionsWithin}
+use Rattle.sweep.proofs.Words.{◌*◌, ◌^◌, take, AreDecisionSums, AreDecisionsWithin}
 use Rattle.sweep.proofs.decisions.sum_decisions.Given as goal
 
 abbrev pub invariant-loop-outcome : goal.invariant-loop-outcome

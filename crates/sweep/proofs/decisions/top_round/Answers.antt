@@ -1,7 +1,4 @@
-use Rattle.std.proofs.Common.{[], take, sym, ap, ◌∙◌}
-use Rattle.std.specs.List.{cons_option, filter_map}
-use Rattle.sweep.specs.OneRun.{noted_round}
-use Rattle.sweep.specs.Percentile.{greater, greatest}
+use Rattle.sweep.proofs.Words.{[], take, sym, ap, ◌∙◌, cons_option, filter_map, noted_round, greater, greatest}
 use Rattle.sweep.proofs.Greatest.{greatest_both, greatest_one}
 use Rattle.sweep.proofs.Single.{gathered_more}
 use Rattle.sweep.proofs.decisions.top_round.Goals as goal

@@ -1,5 +1,4 @@
-use Rattle.std.proofs.Common.{◌≡◌, take}
-use Rattle.sweep.specs.OneRun.{top_round}
+use Rattle.sweep.proofs.Words.{◌≡◌, take, top_round}
 use Rattle.sweep.proofs.decisions.top_round.Given as goal
 
 abbrev pub invariant-loop-outcome : goal.invariant-loop-outcome

@@ -1,6 +1,4 @@
-use Rattle.std.proofs.Common.{◌≡◌, ◌++◌, map, take}
-use Rattle.csv.specs.Records.{fields_of}
-use Rattle.sweep.specs.RowText.{number_text}
+use Rattle.sweep.proofs.Words.{◌≡◌, ◌++◌, map, take, fields_of, number_text}
 use Rattle.sweep.proofs.fields.push_numbers.Given as goal
 
 abbrev pub invariant-loop-number : goal.invariant-loop-number

@@ -1,7 +1,4 @@
-use Rattle.std.proofs.Common.{◌≡◌, ◌++◌, map, take}
-use Rattle.csv.specs.Records.{fields_of}
-use Rattle.study.specs.Settings.{chosen}
-use Rattle.sweep.specs.StudyText.{values}
+use Rattle.sweep.proofs.Words.{◌≡◌, ◌++◌, map, take, fields_of, chosen, values}
 use Rattle.sweep.proofs.fields.push_settings.Given as goal
 
 abbrev pub invariant-loop-choice : goal.invariant-loop-choice

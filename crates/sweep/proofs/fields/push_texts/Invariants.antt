@@ -1,5 +1,4 @@
-use Rattle.std.proofs.Common.{◌≡◌, ◌++◌, map, take, string_bytes}
-use Rattle.csv.specs.Records.{fields_of}
+use Rattle.sweep.proofs.Words.{◌≡◌, ◌++◌, map, take, string_bytes, fields_of}
 use Rattle.sweep.proofs.fields.push_texts.Given as goal
 
 abbrev pub invariant-loop-text : goal.invariant-loop-text

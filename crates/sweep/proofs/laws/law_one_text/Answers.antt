@@ -1,4 +1,4 @@
-use Rattle.toml.specs.View.{table_view}
+use Rattle.sweep.proofs.Words.{table_view}
 use Rattle.sweep.proofs.OneText.{one_text}
 use Rattle.sweep.proofs.laws.law_one_text.Goals as goal
 

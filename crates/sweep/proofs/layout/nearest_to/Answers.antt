@@ -1,6 +1,4 @@
-use Rattle.std.proofs.Common.{◌≡◌, ◌≤◌, [], map, get_or, string_bytes, length, sym, ap, ◌∙◌, arith, below_more}
-use Rattle.std.proofs.lemmas.List.{length-map}
-use Rattle.diagnosis.specs.Likeness.{edits}
+use Rattle.sweep.proofs.Words.{◌≡◌, ◌≤◌, [], map, get_or, string_bytes, length, sym, ap, ◌∙◌, arith, below_more, length-map, edits}
 use Rattle.sweep.proofs.Places.{named, nearest_is}
 use Rattle.sweep.proofs.layout.nearest_to.Goals as goal
 use Rattle.sweep.proofs.layout.nearest_to.Goals.{then-edits-least, else-edits-least}

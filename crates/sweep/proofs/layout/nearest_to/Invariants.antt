@@ -1,5 +1,4 @@
-use Rattle.std.proofs.Common.{◌≡◌, ◌<◌, ◌≤◌, ℕ, [], map, get_or, length, string_bytes}
-use Rattle.diagnosis.specs.Likeness.{edits}
+use Rattle.sweep.proofs.Words.{◌≡◌, ◌<◌, ◌≤◌, ℕ, [], map, get_or, length, string_bytes, edits}
 use Rattle.sweep.proofs.layout.nearest_to.Given as goal
 
 abbrev pub invariant-loop-place : goal.invariant-loop-place

@@ -1,7 +1,5 @@
-use Rattle.std.proofs.Common.{rules, ◌≡◌, ◌++◌, ◌∷◌, [], Some, None, true, map, get_or, length, string_bytes, sym, ap, ◌∙◌, subst, arith}
-use Rattle.std.proofs.lemmas.List.{length-map}
+use Rattle.sweep.proofs.Words.{rules, ◌≡◌, ◌++◌, ◌∷◌, [], Some, None, true, map, get_or, length, string_bytes, sym, ap, ◌∙◌, subst, arith, length-map, place_of, TellsOf}
 use Rattle.std.specs.Result.{is_ok}
-use Rattle.sweep.specs.Layout.{place_of, TellsOf}
 use Rattle.sweep.proofs.Places.{word_at, one_more, refusal_of}
 use Rattle.sweep.proofs.layout.places_of.Goals as goal
 

@@ -1,5 +1,4 @@
-use Rattle.std.proofs.Common.{◌≡◌, map, take, string_bytes, Some}
-use Rattle.sweep.specs.Layout.{place_of}
+use Rattle.sweep.proofs.Words.{◌≡◌, map, take, string_bytes, Some, place_of}
 use Rattle.sweep.proofs.layout.places_of.Given as goal
 
 abbrev pub invariant-loop-word : goal.invariant-loop-word

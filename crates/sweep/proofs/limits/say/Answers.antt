@@ -1,6 +1,4 @@
-use Rattle.std.proofs.Common.{sym, subst}
-use Rattle.trace_laws.specs.Joins.{HaveJoined}
-use Rattle.trace_laws.proofs.Joining.{none_joined}
+use Rattle.sweep.proofs.Words.{sym, subst, HaveJoined, none_joined}
 use Rattle.sweep.proofs.Heard.{said_none, said_some}
 use Rattle.sweep.proofs.limits.say.Goals as goal
 

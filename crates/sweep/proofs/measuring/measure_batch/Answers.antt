@@ -1,6 +1,4 @@
-use Rattle.std.proofs.Common.{rules}
-use Rattle.std.proofs.lemmas.Result.{IfOk-weaker}
-use Rattle.toml.specs.View.{table_view}
+use Rattle.sweep.proofs.Words.{rules, IfOk-weaker, table_view}
 use Rattle.sweep.proofs.Limiting.{numbers_from}
 use Rattle.sweep.proofs.measuring.measure_batch.Goals as goal
 

@@ -1,5 +1,4 @@
-use Rattle.std.proofs.Common.{rules}
-use Rattle.std.proofs.lemmas.Result.{IfOk-weaker}
+use Rattle.sweep.proofs.Words.{rules, IfOk-weaker}
 use Rattle.sweep.proofs.measuring.measure_run.Goals as goal
 
 pub returns : goal.returns

@@ -1,7 +1,5 @@
-use Rattle.std.proofs.Common.{rules}
-use Rattle.reporting.specs.Measured.{MeasuresRun}
+use Rattle.sweep.proofs.Words.{rules, MeasuresRun, finished, limited}
 use Rattle.reporting.specs.Printed.{IsLonger}
-use Rattle.sweep.specs.Results.{finished, limited}
 use Rattle.sweep.proofs.measuring.measure_scenario.Goals as goal
 
 pub returns-in_ok-numbers-in-Ok : goal.returns-in_ok-numbers-in-Ok

@@ -1,6 +1,4 @@
-use Rattle.std.proofs.Common.{◌≡◌, ◌++◌, map, take, string_bytes}
-use Rattle.study.specs.Grid.{paths_of}
-use Rattle.study.specs.Settings.{key_text}
+use Rattle.sweep.proofs.Words.{◌≡◌, ◌++◌, map, take, string_bytes, paths_of, key_text}
 use Rattle.sweep.proofs.names.push_all_keys.Given as goal
 
 abbrev pub invariant-loop-axis : goal.invariant-loop-axis

@@ -1,5 +1,4 @@
-use Rattle.std.proofs.Common.{◌≡◌, ◌++◌, map, take, string_bytes}
-use Rattle.study.specs.Settings.{path_of, key_text}
+use Rattle.sweep.proofs.Words.{◌≡◌, ◌++◌, map, take, string_bytes, path_of, key_text}
 use Rattle.sweep.proofs.names.push_keys.Given as goal
 
 abbrev pub invariant-loop-key : goal.invariant-loop-key

@@ -1,4 +1,4 @@
-use Rattle.std.proofs.Common.{◌≡◌, ◌++◌, map, take, string_bytes}
+use Rattle.sweep.proofs.Words.{◌≡◌, ◌++◌, map, take, string_bytes}
 use Rattle.sweep.proofs.names.push_names.Given as goal
 
 abbrev pub invariant-loop-name : goal.invariant-loop-name

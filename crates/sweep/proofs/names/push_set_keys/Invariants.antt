@@ -1,5 +1,4 @@
-use Rattle.std.proofs.Common.{◌≡◌, ◌++◌, map, take, string_bytes}
-use Rattle.study.specs.Settings.{chosen, key_text}
+use Rattle.sweep.proofs.Words.{◌≡◌, ◌++◌, map, take, string_bytes, chosen, key_text}
 use Rattle.sweep.proofs.names.push_set_keys.Given as goal
 
 abbrev pub invariant-loop-choice : goal.invariant-loop-choice

@@ -1,6 +1,4 @@
-use Rattle.std.proofs.Common.{◌≡◌, take}
-use Rattle.std.specs.List.{flat_map}
-use Rattle.reporting.specs.Durations.{lengths_of}
+use Rattle.sweep.proofs.Words.{◌≡◌, take, flat_map, lengths_of}
 use Rattle.sweep.proofs.pairs.durations_of.Given as goal
 
 abbrev pub invariant-loop-pair : goal.invariant-loop-pair

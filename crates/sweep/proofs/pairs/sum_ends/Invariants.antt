@@ -1,6 +1,4 @@
-use Rattle.std.proofs.Common.{◌≡◌, ◌≤◌, ◌*◌, ◌^◌, take}
-use Rattle.std.specs.List.{sum_by}
-use Rattle.judges.specs.Crashes.{end_of}
+use Rattle.sweep.proofs.Words.{◌≡◌, ◌≤◌, ◌*◌, ◌^◌, take, sum_by, end_of}
 use Rattle.sweep.proofs.pairs.sum_ends.Given as goal
 
 abbrev pub invariant-loop-pair : goal.invariant-loop-pair

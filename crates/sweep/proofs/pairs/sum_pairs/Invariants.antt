@@ -1,6 +1,4 @@
-use Rattle.std.proofs.Common.{◌*◌, ◌^◌, take}
-use Rattle.sweep.specs.Columns.{ArePairSums}
-use Rattle.sweep.specs.Fitting.{ArePairsWithin}
+use Rattle.sweep.proofs.Words.{◌*◌, ◌^◌, take, ArePairSums, ArePairsWithin}
 use Rattle.sweep.proofs.pairs.sum_pairs.Given as goal
 
 abbrev pub invariant-loop-pair : goal.invariant-loop-pair

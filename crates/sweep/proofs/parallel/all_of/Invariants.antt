@@ -1,4 +1,4 @@
-use Rattle.std.proofs.Common.{◌≡◌, Ok, map}
+use Rattle.sweep.proofs.Words.{◌≡◌, Ok, map}
 use Rattle.sweep.proofs.parallel.all_of.Given as goal
 
 abbrev pub invariant-loop-answer : goal.invariant-loop-answer

@@ -1,5 +1,4 @@
-use Rattle.std.specs.List.{All}
-use Rattle.sweep.specs.Parallel.{IsPlaced}
+use Rattle.sweep.proofs.Words.{All, IsPlaced}
 use Rattle.sweep.proofs.parallel.answer_some.Given as goal
 
 abbrev pub invariant-loop : goal.invariant-loop

@@ -1,5 +1,4 @@
-use Rattle.std.proofs.Common.{◌≡◌, None, vec_len}
-use Rattle.std.specs.List.{All}
+use Rattle.sweep.proofs.Words.{◌≡◌, None, vec_len, All}
 use Rattle.sweep.proofs.parallel.empty_places.Given as goal
 
 abbrev pub invariant-loop : goal.invariant-loop

@@ -1,7 +1,4 @@
-use Rattle.std.proofs.Common.{rules, ◌≡◌, ◌+◌, ℕ, suc, ◌∷◌, None, ap, subst, ◌∙◌, vec_len, arith}
-use Rattle.std.specs.Prelude.{slice_index_or}
-use Rattle.std.specs.Fn.{FnReturns}
-use Rattle.std.specs.Vec.Iter.{into_iter_items}
+use Rattle.sweep.proofs.Words.{rules, ◌≡◌, ◌+◌, ℕ, suc, ◌∷◌, None, ap, subst, ◌∙◌, vec_len, arith, slice_index_or, FnReturns, into_iter_items}
 use Rattle.sweep.proofs.Placed.{one_more}
 use Rattle.sweep.proofs.parallel.filled.Goals.{in-Some-place, in-None-place}
 use Rattle.sweep.proofs.parallel.filled.Goals as goal

@@ -1,8 +1,4 @@
-use Rattle.std.proofs.Common.{◌≡◌, ◌<◌, ◌+◌, ℕ, vec_len, length}
-use Rattle.std.specs.Prelude.{slice_index_or}
-use Rattle.std.specs.Fn.{FnReturns}
-use Rattle.std.specs.Vec.Iter.{into_iter_items}
-use Rattle.sweep.specs.Parallel.{ArePlaces}
+use Rattle.sweep.proofs.Words.{◌≡◌, ◌<◌, ◌+◌, ℕ, vec_len, length, slice_index_or, FnReturns, into_iter_items, ArePlaces}
 use Rattle.sweep.proofs.parallel.filled.Given as goal
 
 abbrev pub invariant-loop-place : goal.invariant-loop-place

@@ -1,8 +1,4 @@
-use Rattle.std.proofs.Common.{rules, ◌≡◌, ◌<◌, ℕ, Ok, IfOk, length, sym, ap, subst, ◌∙◌, vec_len, arith}
-use Rattle.std.specs.Prelude.{slice_index_or}
-use Rattle.std.specs.List.{All}
-use Rattle.std.proofs.lemmas.List.{length-map}
-use Rattle.sweep.specs.Parallel.{IsPlaced, ArePlaces, AreAnswers}
+use Rattle.sweep.proofs.Words.{rules, ◌≡◌, ◌<◌, ℕ, Ok, IfOk, length, sym, ap, subst, ◌∙◌, vec_len, arith, slice_index_or, All, length-map, IsPlaced, ArePlaces, AreAnswers}
 use Rattle.sweep.proofs.Placed.{all_columns, columns_put, nothing_at, length_columns}
 use Rattle.sweep.proofs.parallel.in_parallel.Goals as goal
 

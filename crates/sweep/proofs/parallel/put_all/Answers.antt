@@ -1,8 +1,4 @@
-use Rattle.std.proofs.Common.{◌≡◌, ◌<◌, [], ◌∷◌, sym, ap, ◌∙◌, vec_len}
-use Rattle.std.specs.Vec.Iter.{into_iter_items}
-use Rattle.std.proofs.lemmas.List.{nil_from_length}
-use Rattle.std.proofs.lemmas.List.Elements.{All-rest}
-use Rattle.sweep.specs.Parallel.{with_answers}
+use Rattle.sweep.proofs.Words.{◌≡◌, ◌<◌, [], ◌∷◌, sym, ap, ◌∙◌, vec_len, into_iter_items, nil_from_length, All-rest, with_answers}
 use Rattle.sweep.proofs.parallel.put_all.Goals as goal
 
 pub loop-place-preserved-in-Some : goal.loop-place-preserved-in-Some

@@ -1,7 +1,4 @@
-use Rattle.std.proofs.Common.{◌≡◌, ◌<◌, vec_len}
-use Rattle.std.specs.List.{All}
-use Rattle.std.specs.Vec.Iter.{into_iter_items}
-use Rattle.sweep.specs.Parallel.{with_answers}
+use Rattle.sweep.proofs.Words.{◌≡◌, ◌<◌, vec_len, All, into_iter_items, with_answers}
 use Rattle.sweep.proofs.parallel.put_all.Given as goal
 
 abbrev pub invariant-loop-place : goal.invariant-loop-place

@@ -1,9 +1,4 @@
-use Rattle.std.proofs.Common.{◌≡◌, ◌<◌, [], ◌∷◌, length, sym, ap, ◌∙◌, vec_len}
-use Rattle.std.specs.List.{All}
-use Rattle.std.specs.Vec.Iter.{into_iter_items}
-use Rattle.std.proofs.lemmas.List.{nil_from_length}
-use Rattle.std.proofs.lemmas.List.Elements.{All-rest}
-use Rattle.sweep.specs.Parallel.{with_columns}
+use Rattle.sweep.proofs.Words.{◌≡◌, ◌<◌, [], ◌∷◌, length, sym, ap, ◌∙◌, vec_len, All, into_iter_items, nil_from_length, All-rest, with_columns}
 use Rattle.sweep.proofs.Placed.{length_answers}
 use Rattle.sweep.proofs.parallel.put_columns.Goals as goal
 

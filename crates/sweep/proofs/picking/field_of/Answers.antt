@@ -1,4 +1,4 @@
-use Rattle.csv.specs.Records.{fields_of}
+use Rattle.sweep.proofs.Words.{fields_of}
 use Rattle.sweep.proofs.Places.{at_some, at_none}
 use Rattle.sweep.proofs.picking.field_of.Goals as goal
 

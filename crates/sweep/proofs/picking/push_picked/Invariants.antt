@@ -1,6 +1,4 @@
-use Rattle.std.proofs.Common.{◌≡◌, ◌++◌, take}
-use Rattle.csv.specs.Records.{fields_of}
-use Rattle.sweep.specs.RowText.{picked}
+use Rattle.sweep.proofs.Words.{◌≡◌, ◌++◌, take, fields_of, picked}
 use Rattle.sweep.proofs.picking.push_picked.Given as goal
 
 abbrev pub invariant-loop-place : goal.invariant-loop-place

@@ -1,8 +1,4 @@
-use Rattle.std.proofs.Common.{rules, ◌*◌, inl, length, arith}
-use Rattle.std.proofs.lemmas.Result.{IfOk-weaker, MatchResult-weaker}
-use Rattle.toml.specs.View.{table_view}
-use Rattle.study.specs.Grid.{runs}
-use Rattle.sweep.specs.StudyText.{numbers_of}
+use Rattle.sweep.proofs.Words.{rules, ◌*◌, inl, length, arith, IfOk-weaker, MatchResult-weaker, table_view, runs, numbers_of}
 use Rattle.sweep.proofs.Reading.{if_err, if_any_err}
 use Rattle.sweep.proofs.Heard.{run_all, run_some}
 use Rattle.sweep.proofs.Ending.{breaks_at_check, breaks_at_header, wrote_study, breaks_at_points}

@@ -1,7 +1,4 @@
-use Rattle.std.proofs.Common.{◌≡◌, ◌∷◌, ◌++◌, [], ap, sym, ◌∙◌, subst, arith}
-use Rattle.sweep.specs.Adding.{first_with, is_above}
-use Rattle.sweep.specs.Columns.{AreFirstRuns, all_detections}
-use Rattle.sweep.specs.Percentile.{greatest}
+use Rattle.sweep.proofs.Words.{◌≡◌, ◌∷◌, ◌++◌, [], ap, sym, ◌∙◌, subst, arith, first_with, is_above, AreFirstRuns, all_detections, greatest}
 use Rattle.sweep.proofs.FirstNumbers.{first_runs_more}
 use Rattle.sweep.proofs.Layered.{layer_added}
 use Rattle.sweep.proofs.point_sums.LayerTotals.add.Goals as goal

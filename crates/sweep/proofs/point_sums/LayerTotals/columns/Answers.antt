@@ -1,7 +1,4 @@
-use Rattle.std.proofs.Common.{◌≡◌, ◌*◌, ◌^◌, ◌<◌, ap, ◌∙◌, subst, arith}
-use Rattle.std.proofs.lemmas.List.Sums.{count_by-le-length}
-use Rattle.sweep.specs.Columns.{IsDistribution, all_durations, all_detections, last_decisions, top_rounds, done_on, over}
-use Rattle.sweep.specs.OneRun.{deciding, is_undecided}
+use Rattle.sweep.proofs.Words.{◌≡◌, ◌*◌, ◌^◌, ◌<◌, ap, ◌∙◌, subst, arith, count_by-le-length, IsDistribution, all_durations, all_detections, last_decisions, top_rounds, done_on, over, deciding, is_undecided}
 use Rattle.sweep.proofs.Layered.{few_done, few_decisions, few_rounds}
 use Rattle.sweep.proofs.point_sums.LayerTotals.columns.Goals as goal
 

@@ -1,9 +1,9 @@
-use Rattle.std.proofs.Common.{rules, refl}
+use Rattle.sweep.proofs.Words.{rules}
 use Rattle.sweep.proofs.point_sums.LayerTotals.new.Goals as goal
 
 pub returns : goal.returns
 returns c layer first = record {
   fitting = search rules;
   values = c.new.ensures layer;
-  first_runs = record { mistake = refl; detection_max = refl; disagreement = refl };
+  first_runs = record { mistake = search rules; detection_max = search rules; disagreement = search rules };
 }

@@ -1,4 +1,4 @@
-use Rattle.std.proofs.Common.{arith}
+use Rattle.sweep.proofs.Words.{arith}
 use Rattle.sweep.proofs.point_sums.PointSums.new.Goals as goal
 
 pub returns : goal.returns

@@ -1,11 +1,6 @@
-use Rattle.std.proofs.Common.{◌≡◌, ◌*◌, ◌^◌, [], length, ap, sym, ◌∙◌, subst}
-use Rattle.std.specs.List.{cons_option, flat_map}
-use Rattle.reporting.specs.Durations.{lengths_of}
-use Rattle.sweep.specs.Columns.{AreDecisionSums}
-use Rattle.sweep.specs.Fitting.{AreDecisionsWithin}
-use Rattle.sweep.specs.OneRun.{counted_of, deciding_of, last_decision, times_of, top_round}
+use Rattle.sweep.proofs.Words.{◌≡◌, ◌*◌, ◌^◌, [], length, ap, sym, ◌∙◌, subst, cons_option, flat_map, lengths_of, AreDecisionSums, AreDecisionsWithin, counted_of, deciding_of, last_decision, times_of, top_round}
 use Rattle.sweep.proofs.Lasted.{lasted_of}
-use Rattle.sweep.proofs.Parts.{durations_one, detections_one, decisions_one, rounds_one}
+use Rattle.sweep.proofs.Parts.{durations_one, detections_one, decisions_one, rounds_one, fitting_one}
 use Rattle.sweep.proofs.run_numbers.LayerNumbers.of_run.Goals as goal
 
 pub returns : goal.returns
@@ -19,7 +14,8 @@ returns c trace has found lasted =
     let within : AreDecisionsWithin (length (deciding_of S os) * 2 ^ 64) c.sum_decisions-decisions.result =
     subst (λ l. AreDecisionsWithin (length l * 2 ^ 64) c.sum_decisions-decisions.result) deciding c.sum_decisions-decisions.ensures.within in
     record {
-      fitting = c.sums_of_run.ensures layer trace c.args.pairs.now has found (c.deref-5.ensures.value ∙ counted) decisions within;
+      fitting = fitting_one layer S trace has c.args.summary.now c.args.verdicts.now c.args.pairs.now c.deref-5.result.now c.sums_of_run.result found (c.deref-5.ensures.value ∙ counted)
+          c.sum_decisions-decisions.result (c.sums_of_run.ensures (deciding_of S os) decisions) decisions within;
       durations = c.in_ok-durations.ensures
           ∙ ap (flat_map (λ m. lengths_of c.args.durations.now m.observer m.subject)) (c.deref-2.ensures.value ∙ counted ∙ ap (counted_of layer S) found.measured)
           ∙ lasted_of S trace layer c.args.durations.now lasted

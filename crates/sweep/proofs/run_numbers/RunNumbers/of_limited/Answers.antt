@@ -1,16 +1,21 @@
-use Rattle.std.proofs.Common.{sym, ◌∙◌}
-use Rattle.sweep.specs.Results.{limited}
+use Rattle.sweep.proofs.Words.{◌≡◌, ℕ, Bool, true, false, is_some, cond, refl, sym, ◌∙◌, [], ◌∷◌, Record, has_layer, Trial, limited, rules}
+use Rattle.sweep.specs.Sums.{AreLayerNumbers}
+use Rattle.sweep.specs.declared.run_numbers.LayerNumbers.{LayerNumbers}
 use Rattle.sweep.proofs.Layered.{has_first, has_second}
-use Rattle.sweep.proofs.run_numbers.RunNumbers.of_limited.Goals.{then-is_shared, else-is_shared}
 use Rattle.sweep.proofs.run_numbers.RunNumbers.of_limited.Goals as goal
+
+second : (S : Record) (n : LayerNumbers) (b : Bool) (count : ℕ) → b ≡ is_some S.share → count ≡ cond b 1 0
+    → (count ≡ 1 → (layer : ℕ) (T : Record) → has_layer layer T ≡ true → AreLayerNumbers layer (record { scenario = T; result = limited } ∷ []) n)
+    → (count ≡ 0 → (layer : ℕ) (t : Trial) → has_layer layer t.scenario ≡ false → AreLayerNumbers layer (t ∷ []) n)
+    → AreLayerNumbers 2 (record { scenario = S; result = limited } ∷ []) n
+second S n true count is one some none = some one 2 S (has_second S ∙ sym is)
+second S n false count is zero some none = none zero 2 (record { scenario = S; result = limited }) (has_second S ∙ sym is)
 
 pub returns : goal.returns
 returns c =
     let S = c.args.scenario.now in
+    let count : c.from.result ≡ cond c.is_shared.result 1 0 = search rules in
     record {
-      first = c.of_limited.ensures 1 S (has_first S);
-      second = elim c.if-is_shared.branch [
-        | then-is_shared w ↦ rw w.result-is (w.of_limited-then-is_shared.ensures 2 S (has_second S ∙ sym c.is_shared.ensures.value ∙ w.if-is_shared.true))
-        | else-is_shared w ↦ rw w.result-is (w.of_none.ensures 2 (record { scenario = S; result = limited }) (has_second S ∙ sym c.is_shared.ensures.value ∙ w.if-is_shared.false))
-      ];
+      first = c.of_nothing.ensures.limited refl 1 S (has_first S);
+      second = second S c.of_nothing-2.result c.is_shared.result c.from.result c.is_shared.ensures.value count c.of_nothing-2.ensures.limited c.of_nothing-2.ensures.none;
     }

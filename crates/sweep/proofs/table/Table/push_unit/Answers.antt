@@ -1,6 +1,4 @@
-use Rattle.std.proofs.Common.{◌++◌, [], cond, ap, sym, ◌∙◌, append_assoc, append-nil}
-use Rattle.sweep.specs.StudyText.{lead_of}
-use Rattle.sweep.specs.RowText.{layer_text}
+use Rattle.sweep.proofs.Words.{◌++◌, [], cond, ap, sym, ◌∙◌, append_assoc, append-nil, lead_of, layer_text}
 use Rattle.sweep.proofs.table.Table.push_unit.Goals as goal
 
 pub returns-in_ok-push_layer-2-clause-text : goal.returns-in_ok-push_layer-2-clause-text

@@ -1,11 +1,4 @@
-use Rattle.std.proofs.Common.{◌≡◌, ◌+◌, ◌∷◌, [], Some, cond, ap, sym, ◌∙◌, arith, unwrap_or}
-use Rattle.std.specs.BTreeMap.{is_at}
-use Rattle.std.specs.Map.{lookup}
-use Rattle.std.specs.Ordering.{nat_cmp}
-use Rattle.std.proofs.lemmas.List.{length_push}
-use Rattle.std.proofs.lemmas.List.Sums.{sum_by_push}
-use Rattle.sweep.specs.Counted.{passing}
-use Rattle.sweep.specs.Percentile.{greater}
+use Rattle.sweep.proofs.Words.{◌≡◌, ◌+◌, ◌∷◌, [], Some, cond, ap, sym, ◌∙◌, arith, unwrap_or, is_at, lookup, nat_cmp, length_push, sum_by_push, passing, greater}
 use Rattle.sweep.proofs.Counting.{passing_more, lookup_le, total_of}
 use Rattle.sweep.proofs.Greatest.{greatest_both}
 use Rattle.sweep.proofs.value_counts.ValueCounts.add.Goals as goal

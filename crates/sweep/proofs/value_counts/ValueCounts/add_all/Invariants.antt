@@ -1,6 +1,5 @@
-use Rattle.std.proofs.Common.{ℕ, ◌+◌, ◌<◌, ◌++◌, List, length, take}
+use Rattle.sweep.proofs.Words.{ℕ, ◌+◌, ◌<◌, ◌++◌, List, length, take, most_values}
 use Rattle.sweep.specs.Counted.{AreCounted}
-use Rattle.sweep.specs.Fitting.{most_values}
 use Rattle.sweep.proofs.value_counts.ValueCounts.add_all.Given as goal
 
 abbrev pub invariant-loop-value : goal.invariant-loop-value

@@ -1,5 +1,4 @@
-use Rattle.std.proofs.Common.{◌≡◌, ◌*◌, ◌-◌, ◌^◌, ◌<◌, ◌++◌, map, min}
-use Rattle.std.specs.Map.Iter.{deref_pair}
+use Rattle.sweep.proofs.Words.{◌≡◌, ◌*◌, ◌-◌, ◌^◌, ◌<◌, ◌++◌, map, min, deref_pair}
 use Rattle.sweep.proofs.Counting.{counted}
 use Rattle.sweep.proofs.value_counts.ValueCounts.percentile.Given as goal
 
