@@ -17,7 +17,8 @@ returns-in_ok-text_of-in_default-clause-text g c =
     let order = c.args.order.now in
     text_goes g.O.Outlet.told g.O.Outlet.failed _ _ (g.I.Read.remaining c.args.input.now) order
     (no_sweep order c.in_default.not-Sweep) c.put_bytes.result c.deref.result.now
-    (rw c.deref.ensures.value c.in_ok-text_of-in_default.ensures.text) c.put_bytes.ensures.whole c.put_bytes.ensures.part
+    (rw c.deref.ensures.value c.in_ok-text_of-in_default.ensures.text) c.put_bytes.ensures.whole
+    c.put_bytes.ensures.part
 
 pub returns-in_ok-text_of-in_default-clause-why : goal.returns-in_ok-text_of-in_default-clause-why
 returns-in_ok-text_of-in_default-clause-why g c =

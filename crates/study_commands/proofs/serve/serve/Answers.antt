@@ -13,8 +13,8 @@ returns g c =
     let outcome = c.answer_words-outcome in
     let all =
     ends status_of line_of end_of has_status g.F.Outlet.told g.F.Outlet.failed _ _ g.O.Outlet.told g.O.Outlet.failed _ _
-    (Serves input words) (ServesFor input words) (LeftOf input words) (IsReason input words) c.ended.result outcome.result
-    c.ended.ensures.done c.ended.ensures.failed outcome.ensures.text outcome.ensures.why in
+    (Serves input words) (ServesFor input words) (LeftOf input words) (IsReason input words) c.ended.result
+    outcome.result c.ended.ensures.done c.ended.ensures.failed outcome.ensures.text outcome.ensures.why in
     record {
       statuses = all.few;
       done = all.done;

@@ -1,4 +1,4 @@
-use Rattle.std.proofs.Common.{◌≡◌, ◌∙◌, ◌-◌, ◌++◌, ap, sym, rules, length}
+use Rattle.std.proofs.Common.{◌≡◌, ◌∙◌, ◌-◌, ◌++◌, ap, rules, length, string_bytes}
 use Rattle.std.specs.List.{range_with_len}
 use Rattle.std.proofs.lemmas.List.FromFn.{length-range_with_len}
 use Rattle.study.specs.Grid.{runs}
@@ -13,7 +13,6 @@ returns g c =
     let count = c.points-its.result.end - c.points-its.result.start in
     let is : its ≡ range_with_len c.points-its.result.start count = search rules in
     let counted : length its ≡ count = ap length is ∙ length-range_with_len c.points-its.result.start count in
-    let all : study_begin count c.runs-runs.result ≡ study_begin (length its) (length (runs grid)) =
-    ap (λ n. study_begin n c.runs-runs.result) (sym counted) ∙ ap (study_begin (length its)) c.runs-runs.ensures.value in
-    let begin = c.in_ok-text.ensures.ok ∙ all in
+    let begin : string_bytes c.in_ok-text.text ≡ study_begin (length its) (length (runs grid)) =
+    rw (counted, ← c.runs-runs.ensures.value) c.in_ok-text.ensures.ok in
     (c.as_str.result.now, c.in_ok-push_str.ensures.bytes ∙ ap (λ t. t ++ c.as_str.result.now) begin)
