@@ -2,4 +2,4 @@ pub mod Axes
 pub mod Stopping
 pub mod Reasons
 pub mod Refusing
-pub mod Answered
+pub mod Swept

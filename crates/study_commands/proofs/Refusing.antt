@@ -1,12 +1,14 @@
 -- Pictures and their runs that are refused.
-use Rattle.std.proofs.Common.{◌≡◌, ◌⊎◌, inl, inr, sym, ℕ, List, Option, None, Some, Result, Ok, Err, IfErr, MatchOption, subst}
+use Rattle.std.proofs.Common.{◌≡◌, ◌⊎◌, inl, inr, sym, ℕ, List, Option, None, Some, Result, Ok, Err, IfErr, MatchOption}
+use Rattle.std.proofs.Common.{subst}
 use Rattle.drawing.specs.Refusals.{IsMemory, letters_refusal}
 use Rattle.drawing.specs.declared.error.DrawError.{DrawError}
 use Rattle.study.specs.Words.{Word}
 use Rattle.study_commands.specs.Draw.{AreNamed, IsOfPicture, IsRefused, StopsPicture, TellsOf, end_of_ticks, first_tick}
+use Rattle.study_commands.specs.Fault.{IsBefore}
 use Rattle.study_commands.specs.File.{IsScenario}
 use Rattle.study_commands.specs.declared.fault.Fault.{Fault}
-use Rattle.study_commands.specs.declared.fault.Fault.TheVariants.{Form, Limit, Memory, NotDrawn, Refused, Words, WordsMemory, Write}
+use Rattle.study_commands.specs.declared.fault.Fault.TheVariants.{Limit, Memory, NotDrawn}
 use Rattle.letters.specs.Letters.{AreLetters}
 use Rattle.letters.specs.declared.letter.Letter.{Letter}
 use Rattle.scenario_record.specs.Record.{Record}
@@ -17,48 +19,32 @@ use Rattle.study_line.specs.declared.order.Picture.TheVariants as picture
 pub memory_or_refused : {T : Type 0} (r : Result T DrawError) (error : DrawError) (o : Option DrawError)
     → MatchOption o (IfErr r IsMemory) (λ e. r ≡ Err e) → r ≡ Err error → IsMemory error ⊎ (o ≡ Some error)
 memory_or_refused (Ok x) error None tells is = absurd (cc is)
-memory_or_refused (Err e) error None tells is =
-    let same : e ≡ error = cc is in
-    inl (subst IsMemory same tells)
+memory_or_refused (Err e) error None tells is = let same : e ≡ error = cc is in inl (subst IsMemory same tells)
 memory_or_refused r error (Some e) tells is = inr (cc (tells, is))
 
 -- of the letters of the run
-pub letters_why : (s : Record) (letters : List Letter) (of : List ℕ) (from until : ℕ) (error : DrawError) → AreLetters s letters
-    → IsMemory error ⊎ (letters_refusal s letters of from until ≡ Some error) → IsMemory error ⊎ IsRefused picture.Letters s of from until error
+pub letters_why : (s : Record) (letters : List Letter) (of : List ℕ) (from until : ℕ) (error : DrawError)
+    → AreLetters s letters → IsMemory error ⊎ (letters_refusal s letters of from until ≡ Some error)
+    → IsMemory error ⊎ IsRefused picture.Letters s of from until error
 letters_why s letters of from until error are (inl memory) = inl memory
 letters_why s letters of from until error are (inr refused) = inr (inr (letters, are, refused))
 
-module _ (named : Picture) (s : Record) (of : List ℕ) (from until : ℕ) where
-  -- the fault that tells of it
-  pub told_as : (error : DrawError) (f : Fault) → IsMemory error ⊎ IsRefused named s of from until error → TellsOf error f
-      → IsOfPicture named s of from until f
-  told_as error Form why tells = absurd tells
-  told_as error WordsMemory why tells = absurd tells
-  told_as error (Words line) why tells = absurd tells
-  told_as error (Refused line) why tells = absurd tells
-  told_as error (NotDrawn told line) (inl memory) tells = absurd (tells.1 memory)
-  told_as error (NotDrawn told line) (inr refused) tells = subst (IsRefused named s of from until) (sym tells.0) refused
-  told_as error Limit why tells = absurd tells
-  told_as error Memory why tells = tt
-  told_as error Write why tells = absurd tells
+-- the fault that tells of it
+pub told_as : (named : Picture) (s : Record) (of : List ℕ) (from until : ℕ) (error : DrawError) (f : Fault)
+    → IsMemory error ⊎ IsRefused named s of from until error → TellsOf error f → IsOfPicture named s of from until f
+told_as named s of from until error (NotDrawn told line) (inl memory) tells = absurd (tells.1 memory)
+told_as named s of from until error (NotDrawn told line) (inr refused) tells =
+    subst (IsRefused named s of from until) (sym tells.0) refused
+told_as named s of from until error Memory why tells = tt
+told_as named s of from until error _ why tells = absurd tells
 
-module _ (input : Option (List ℕ)) (path : List ℕ) (named : Picture) (from until : Option ℕ) (word : Option Word) where
-  stops_at : (s : Record) (of : List ℕ) (f : Fault) → IsScenario input path s → AreNamed named word of
-      → IsOfPicture named s of (first_tick from) (end_of_ticks s until) f → StopsPicture input path named from until word f
-  stops_at s of Form at are is = absurd is
-  stops_at s of WordsMemory at are is = absurd is
-  stops_at s of (Words line) at are is = absurd is
-  stops_at s of (Refused line) at are is = absurd is
-  stops_at s of (NotDrawn error line) at are is =
-      record { of = of; are_named = are; scenario = s; is_scenario = at; refused = is }
-  stops_at s of Limit at are is = (s, at, is.0, is.1)
-  stops_at s of Memory at are is = tt
-  stops_at s of Write at are is = absurd is
-
-  -- the fault of a picture of the file's scenario
-  pub picture_stops : (s : Record) (of : List ℕ) (f : Fault) (first end : ℕ) → IsScenario input path s → AreNamed named word of
-      → first ≡ first_tick from → end ≡ end_of_ticks s until → IsOfPicture named s of first end f
-      → StopsPicture input path named from until word f
-  picture_stops s of f first end at are is_first is_end is =
-      let Of : ℕ → ℕ → Type 0 = λ a b. IsOfPicture named s of a b f in
-      stops_at s of f at are (subst (λ a. Of a (end_of_ticks s until)) is_first (subst (Of first) is_end is))
+-- the fault of a picture of the file's scenario
+pub picture_stops : (input : Option (List ℕ)) (path : List ℕ) (named : Picture) (from until : Option ℕ)
+    (word : Option Word) (s : Record) (of : List ℕ) (f : Fault) → IsScenario input path s → AreNamed named word of
+    → IsOfPicture named s of (first_tick from) (end_of_ticks s until) f
+    → IsBefore (StopsPicture input path named from until word) f
+picture_stops input path named from until word s of (NotDrawn error line) at are is =
+    record { of = of; are_named = are; scenario = s; is_scenario = at; refused = is }
+picture_stops input path named from until word s of Limit at are is = (s, at, is.0, is.1)
+picture_stops input path named from until word s of Memory at are is = tt
+picture_stops input path named from until word s of _ at are is = absurd is

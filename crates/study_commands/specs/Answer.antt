@@ -26,14 +26,15 @@ Answers input (order.Draw path named from until of) piece =
 Answers input (order.Show path grid point run) piece = IsShowAnswer input path.now grid point run piece
 Answers input (order.Sweep path study) piece = IsSweepAnswer input path.now study piece
 
+-- the order asks for one text, and not for a sweep
+abbrev pub IsNoSweep : Order → Type 0
+IsNoSweep (order.Sweep path study) = ⊥
+IsNoSweep _ = Unit {0}
+
 -- the piece is what is written for the order, as far as it comes: of a sweep the rows of the first points
 abbrev pub Writes : Option (List ℕ) → Order → List ℕ → Type 0
-Writes input (order.Check path study) piece = IsChecked input path.now study piece
-Writes input (order.Letters path) piece = IsLettersAnswer input path.now piece
-Writes input (order.Draw path named from until of) piece =
-    IsDrawAnswer input path.now named from until (option_map (λ w. w.now) of) piece
-Writes input (order.Show path grid point run) piece = IsShowAnswer input path.now grid point run piece
 Writes input (order.Sweep path study) piece = IsSweepFront input path.now study piece
+Writes input asked piece = Answers input asked piece
 
 -- the piece is what the order has left where memory ended it: only a sweep leaves anything
 abbrev pub Leaves : Option (List ℕ) → Order → List ℕ → Type 0
@@ -41,8 +42,8 @@ Leaves input (order.Sweep path study) piece = IsSweepFront input path.now study 
 Leaves input _ piece = ⊥
 
 -- what went out for an order: what it asks for, or what is left where it stops
-abbrev pub GoesFor : {O A : Type 0} (told : O → Option (List ℕ)) (failed : O → ℕ) (old new : O) → Option (List ℕ) → Order
-    → Result A Fault → Type 0
+abbrev pub GoesFor : {O A : Type 0} (told : O → Option (List ℕ)) (failed : O → ℕ) (old new : O) → Option (List ℕ)
+    → Order → Result A Fault → Type 0
 GoesFor told failed old new input asked outcome =
     Goes end_of told failed old new (Answers input asked) (Writes input asked) (Leaves input asked) outcome
 

@@ -16,13 +16,13 @@ use Rattle.scenario.specs.Refusals.{Accepts}
 -- that a run of about so many entries may have more than its limit, where that is so
 abbrev pub limit_text : (limit entries : ℕ) → List ℕ
 limit_text limit entries =
-    if nat_lt limit entries then codes "limit " ++ decimal limit ++ codes " may stop the run\n" else []
+    if nat_lt limit entries then codes "limit " ++ (decimal limit ++ codes " may stop the run\n") else []
 
 -- an accepted file's line, and what is told behind it
 abbrev pub told_size : (processes horizon entries seconds : ℕ) → List ℕ → List ℕ
 told_size processes horizon entries seconds more =
-    codes "ok: " ++ decimal processes ++ codes " processes, horizon " ++ decimal horizon ++ codes ", about "
-    ++ decimal entries ++ codes " entries in " ++ decimal seconds ++ codes " s\n" ++ more
+    codes "ok: " ++ (decimal processes ++ (codes " processes, horizon " ++ (decimal horizon ++ (codes ", about "
+    ++ (decimal entries ++ (codes " entries in " ++ (decimal seconds ++ (codes " s\n" ++ more))))))))
 
 -- what is told of an accepted file
 abbrev pub accepted_text : (processes horizon limit entries seconds : ℕ) → List ℕ
@@ -44,7 +44,8 @@ pub record IsCheckAnswer (input : Option (List ℕ)) (path : List ℕ) (piece : 
 
 -- the begin of the text of a study whose runs are all accepted
 abbrev pub study_begin : (points runs : ℕ) → List ℕ
-study_begin points runs = codes "ok: " ++ decimal points ++ codes " points of " ++ decimal runs ++ codes " runs each"
+study_begin points runs =
+    codes "ok: " ++ (decimal points ++ (codes " points of " ++ (decimal runs ++ codes " runs each")))
 
 -- all runs of the study that can be swept have a scenario, of the shard's points where one is named, and the text
 -- begins with how many points and runs these are. What is reckoned of them, and of their limits, isn't said

@@ -1,5 +1,6 @@
 -- What `draw` answers.
-use Rattle.std.specs.Prelude.{◌≡◌, ◌⊎◌, ℕ, List, [], map, nat_le, ◌&&◌, Contains, Option, None, Some, if◌then◌else◌, unwrap_or}
+use Rattle.std.specs.Prelude.{◌≡◌, ◌⊎◌, ℕ, List, [], map, nat_le, ◌&&◌, Contains, Option, None, Some, unwrap_or}
+use Rattle.std.specs.Prelude.{if◌then◌else◌}
 use Rattle.process_api.specs.Bounds.{most_processes}
 use Rattle.study.specs.Words.{Word, between, is_natural, natural}
 use Rattle.drawing.specs.LettersPicture.{DrawsLetters}

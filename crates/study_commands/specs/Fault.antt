@@ -1,7 +1,8 @@
 -- The exit status of a fault, its line, and what it leaves of what was to be written.
 use Rattle.std.specs.Prelude.{ℕ, List, Some, None, codes, string_bytes}
 use Rattle.study_commands.specs.declared.fault.Fault.{Fault}
-use Rattle.study_commands.specs.declared.fault.Fault.TheVariants.{Form, Limit, Memory, NotDrawn, Refused, Words, WordsMemory, Write}
+use Rattle.study_commands.specs.declared.fault.Fault.TheVariants.{Form, Limit, Memory, NotDrawn, Refused, Words}
+use Rattle.study_commands.specs.declared.fault.Fault.TheVariants.{WordsMemory, Write}
 use Rattle.shell.specs.Ending.{End, begun, cut, untouched}
 
 -- 1: the file, a run's scenario or a picture is refused, 2: the words are, 3: a run is or memory was, 4: writing failed
@@ -34,12 +35,10 @@ line_of Limit = codes "fdstudy: run: Limit\n"
 line_of Memory = codes "fdstudy: run: Memory\n"
 line_of Write = codes "fdstudy: run: Write\n"
 
--- the fault comes before anything is written, and isn't that of a run or a picture
-abbrev pub IsBefore : Fault → Type 0
-IsBefore Write = ⊥
-IsBefore (NotDrawn error line) = ⊥
-IsBefore Limit = ⊥
-IsBefore _ = Unit {0}
+-- the fault comes before anything is written, for a reason that holds
+abbrev pub IsBefore : (Holds : Fault → Type 0) → Fault → Type 0
+IsBefore Holds Write = ⊥
+IsBefore Holds fault = Holds fault
 
 -- the fault is that a file or a run is refused
 abbrev pub IsRefusal : Fault → Type 0

@@ -37,7 +37,7 @@ refusal_text (broken r) = refused_text r
 module _ (path : List ℕ) where
   -- what is told of a file, behind its path
   abbrev pub line_with : List ℕ → List ℕ
-  line_with text = printable path ++ codes ": " ++ text ++ codes "\n"
+  line_with text = printable path ++ (codes ": " ++ (text ++ codes "\n"))
 
   -- the fault is that the file is refused, and its line says so
   abbrev pub IsToldWith : List ℕ → Fault → Type 0

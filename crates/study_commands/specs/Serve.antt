@@ -33,7 +33,7 @@ GoesForWords told failed old new input words outcome =
 
 -- what is told of a word that isn't one of those for its option
 abbrev pub other_word_line : (name word : List ℕ) → List ℕ
-other_word_line name word = codes "fdstudy: words: " ++ name ++ codes ": " ++ printable word ++ codes "\n"
+other_word_line name word = codes "fdstudy: words: " ++ (name ++ (codes ": " ++ (printable word ++ codes "\n")))
 
 -- the fault tells this of words, or that there was no memory for it
 abbrev pub TellsLine : List ℕ → Fault → Type 0

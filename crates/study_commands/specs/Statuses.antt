@@ -3,7 +3,8 @@ use Rattle.std.proofs.Common.{inl, inr, refl}
 use Rattle.shell.specs.Ending.{HasStatus}
 use Rattle.study_commands.specs.Fault.{end_of, status_of}
 use Rattle.study_commands.specs.declared.fault.Fault.{Fault}
-use Rattle.study_commands.specs.declared.fault.Fault.TheVariants.{Form, Limit, Memory, NotDrawn, Refused, Words, WordsMemory, Write}
+use Rattle.study_commands.specs.declared.fault.Fault.TheVariants.{Form, Limit, Memory, NotDrawn, Refused, Words}
+use Rattle.study_commands.specs.declared.fault.Fault.TheVariants.{WordsMemory, Write}
 
 pub has_status : (fault : Fault) → HasStatus (end_of fault) (status_of fault)
 has_status Form = inr (inl refl)

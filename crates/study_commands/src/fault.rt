@@ -62,6 +62,16 @@ impl Fault {
     }
 }
 
+impl From<AllocError> for Fault {
+    ghost use Rattle.study_commands.specs.declared.fault.Fault.TheVariants.{Memory};
+
+    ghost from_gives = { λ _ fault. fault ≡ Memory };
+
+    fn from(_error: AllocError) -> Fault {
+        Fault::Memory
+    }
+}
+
 impl Failure for Fault {
     ghost use Rattle.std.specs.Prelude.{refl};
     ghost use Rattle.study_commands.specs.Fault.{end_of, line_of, status_of};

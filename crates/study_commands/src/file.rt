@@ -2,7 +2,6 @@
 ghost use Rattle.std.specs.Prelude.{◌≡◌, ◌≢◌, ◌+◌, ℕ, List, IfOk, IfErr};
 ghost use Rattle.diagnosis.specs.Diagnosis.{RefusesFor};
 ghost use Rattle.toml.specs.View.{table_view};
-ghost use Rattle.study_commands.specs.Fault.{IsBefore};
 ghost use Rattle.study_commands.specs.File.{AreBytes, IsScenario, IsTable};
 ghost use Rattle.study_commands.specs.Refusal.{IsOfBytes, IsOfFile, IsOfTable, IsToldWith, IsUnread};
 ghost use Rattle.sources.specs.Input.{TakesAtMost, input_path, most_bytes};
@@ -22,10 +21,7 @@ fn told_with(alloc: Global, path: &str, text: &str) -> Fault
     ensures { IsToldWith path.now text.now result }
 {
     let path = Printable(path);
-    match format!(in alloc; "{path}: {text}\n") {
-        Ok(line) => Fault::Refused(Some(line)),
-        Err(_) => Fault::Refused(None),
-    }
+    Fault::Refused(format!(in alloc; "{path}: {text}\n").ok())
 }
 
 /// The bytes of the file at a path; `-` is the input.
@@ -36,7 +32,6 @@ pub(crate) fn bytes_of<R: Files, I: Read>(
     input: &mut I,
 ) -> Result<Vec<u8>, Fault>
     ensures bytes { IfOk result (λ v. AreBytes (I.remaining input.old) path.now v.items) }
-    ensures refused { IfErr result IsBefore }
     ensures why { IfErr result (IsUnread (I.remaining input.old) path.now) }
     ensures taken { TakesAtMost (most_bytes + 1) (I.remaining input.old) (I.remaining input.new) }
     ensures untouched { path.now ≢ input_path → input.new ≡ input.old }
@@ -55,10 +50,7 @@ pub(crate) fn fault_of(alloc: Global, path: &str, refused: &Refused) -> Fault
     ensures { (bytes : List ℕ) → RefusesFor bytes refused.now → IsOfBytes path.now bytes result }
 {
     let path = Printable(path);
-    match format!(in alloc; "{path}: {refused}\n") {
-        Ok(line) => Fault::Refused(Some(line)),
-        Err(_) => Fault::Refused(None),
-    }
+    Fault::Refused(format!(in alloc; "{path}: {refused}\n").ok())
 }
 
 /// Why a file's bytes are refused. Where they aren't, memory was refused before.
@@ -79,7 +71,6 @@ pub(crate) fn table_of<R: Files, I: Read>(
     input: &mut I,
 ) -> Result<Table, Fault>
     ensures table { IfOk result (λ t. IsTable (I.remaining input.old) path.now (table_view t)) }
-    ensures refused { IfErr result IsBefore }
     ensures why { IfErr result (IsOfTable (I.remaining input.old) path.now) }
     ensures taken { TakesAtMost (most_bytes + 1) (I.remaining input.old) (I.remaining input.new) }
     ensures untouched { path.now ≢ input_path → input.new ≡ input.old }
@@ -100,7 +91,6 @@ pub(crate) fn scenario_at<R: Files, I: Read>(
     input: &mut I,
 ) -> Result<Scenario, Fault>
     ensures scenario { IfOk result (IsScenario (I.remaining input.old) path.now) }
-    ensures refused { IfErr result IsBefore }
     ensures why { IfErr result (IsOfFile (I.remaining input.old) path.now) }
     ensures taken { TakesAtMost (most_bytes + 1) (I.remaining input.old) (I.remaining input.new) }
     ensures untouched { path.now ≢ input_path → input.new ≡ input.old }

@@ -3,7 +3,7 @@ ghost use Rattle.std.specs.Prelude.{◌<◌, length};
 ghost use Rattle.study.specs.Grid.{points};
 
 use crate::reckoning::{Reckoned, reckon_point};
-use crate::run_name::PointName;
+use crate::run_name::name_of_point;
 use diagnosis::HIGHEST_LIMIT;
 use printable::Printable;
 use std::alloc::{AllocError, Global};
@@ -32,11 +32,7 @@ pub(crate) fn line_of_limited(
     requires { point < length (points grid.now) }
 {
     let runs = grid.runs();
-    let name = PointName {
-        number: point.saturating_add(1),
-        settings: grid.point(alloc, point)?,
-    };
-    let name = format!(in alloc; "{name}")?;
+    let name = name_of_point(alloc, grid, point)?;
     let name = Printable(name.as_str());
     match next_limit(&reckon_point(alloc, file, grid, point, MOST_RECKONED)?) {
         Some(limit) => format!(in alloc;

@@ -5,7 +5,7 @@ ghost use Rattle.std.specs.List.{list_all};
 ghost use Rattle.study.specs.Words.{between, is_natural, natural};
 ghost use Rattle.study_commands.specs.Draw.{process_said};
 
-use process_api::{MOST_PROCESSES, Pid};
+use process_api::Pid;
 use std::alloc::{AllocError, Global};
 
 /// What stands between the commas of a word.
@@ -44,9 +44,5 @@ pub(crate) fn process_of(word: &str) -> Option<Pid>
     if !is_natural_word(word) {
         return None;
     }
-    let number = natural_in(word)?;
-    if number > u64::from(MOST_PROCESSES) {
-        return None;
-    }
-    Pid::new(number as u16)
+    Pid::new(u16::try_from(natural_in(word)?).ok()?)
 }

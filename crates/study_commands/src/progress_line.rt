@@ -28,14 +28,10 @@ fn seconds_left(gone: Duration, done: u64, all: u64) -> u64
 
 /// The time in words: seconds below a minute, then minutes, and hours with minutes.
 pub(crate) fn time_of(alloc: Global, seconds: u64) -> Result<String, AllocError> {
-    let minutes = seconds / 60;
-    let hours = minutes / 60;
-    if minutes == 0 {
-        Ok(format!(in alloc; "{seconds} s")?)
-    } else if hours == 0 {
-        Ok(format!(in alloc; "{minutes} min")?)
-    } else {
-        Ok(format!(in alloc; "{hours} h {} min", minutes % 60)?)
+    match (seconds / 3600, seconds / 60) {
+        (0, 0) => format!(in alloc; "{seconds} s"),
+        (0, minutes) => format!(in alloc; "{minutes} min"),
+        (hours, minutes) => format!(in alloc; "{hours} h {} min", minutes % 60),
     }
 }
 
@@ -61,7 +57,7 @@ fn text_of(alloc: Global, standing: &Standing, gone: Duration) -> Result<String,
     }
     let all = standing.points.saturating_mul(standing.runs);
     let left = time_of(alloc, seconds_left(gone, standing.done, all))?;
-    Ok(format!(in alloc; "{share}, {left} left")?)
+    format!(in alloc; "{share}, {left} left")
 }
 
 /// Tells of a point of which runs passed their limit, in a line of its own; and where standard error is a terminal,
@@ -82,8 +78,8 @@ pub struct ProgressLine<'a, C: Clock, W: Write + Drop> {
 }
 
 impl<'a, C: Clock, W: Write + Drop> ProgressLine<'a, C, W> {
-    /// A line of which nothing is shown yet, on standard error: on a terminal that the rows may share, or on none, where
-    /// it never is.
+    /// A line of which nothing is shown yet, on standard error: on a terminal that the rows may share, or on none,
+    /// where it never is.
     pub fn new(
         clock: &'a C,
         alloc: Global,
@@ -107,10 +103,8 @@ impl<'a, C: Clock, W: Write + Drop> ProgressLine<'a, C, W> {
 
     /// Whether the line stands there, drawn so short a time ago that it stays as it is.
     fn is_fresh(&self, now: Instant) -> bool {
-        match self.drawn {
-            Some(drawn) => self.columns > 0 && now.duration_since(drawn).as_millis() < PAUSE,
-            None => false,
-        }
+        let is_new = |drawn: Instant| now.duration_since(drawn).as_millis() < PAUSE;
+        self.columns > 0 && self.drawn.is_some_and(is_new)
     }
 
     /// Draws a text, over the one that stands there.

@@ -1,5 +1,5 @@
 //! About how much a study will be, by the estimates of its runs. No proof says how near this comes.
-ghost use Rattle.std.specs.Prelude.{◌-◌, ◌<◌, ◌^◌};
+ghost use Rattle.std.specs.Prelude.{◌≤◌};
 
 use diagnosis::{HIGHEST_LIMIT, estimate_of};
 use scenario::Scenario;
@@ -66,54 +66,14 @@ impl Reckoned {
     }
 }
 
-/// Which runs of a point differ in more than their seeds, and for how many each of them stands.
-#[derive(Clone, Copy)]
-struct Kinds {
-    /// How many combinations of the values in `over` there are.
-    mixes: u64,
-    /// How many combinations are dealt to the seeds.
-    dealt: u64,
-    /// How many seeds there are.
-    seeds: u64,
-}
-
 /// How many combinations of the values of axes there are.
-fn combinations(axes: &[Axis]) -> u64 {
-    let mut count = 1u64;
-    for axis in axes {
-        count = count.saturating_mul(axis.values.len() as u64);
-    }
-    count
-}
-
-impl Kinds {
-    /// Those of a grid.
-    fn of(grid: &Grid) -> Kinds {
-        let mixes = combinations(grid.over()).max(1);
-        Kinds {
-            mixes,
-            dealt: combinations(grid.dealt()).max(1),
-            seeds: grid.runs() / mixes,
-        }
-    }
-
-    /// How many there are.
-    fn count(&self) -> u64 {
-        self.mixes.saturating_mul(self.dealt)
-    }
-
-    /// The first run of a kind, from 0.
-    fn first(&self, kind: u64) -> u64 {
-        let dealt = self.dealt.max(1);
-        (kind / dealt)
-            .saturating_mul(self.seeds)
-            .saturating_add(kind % dealt)
-    }
-
-    /// For how many runs each kind stands.
-    fn share(&self) -> u64 {
-        self.seeds / self.dealt.max(1)
-    }
+fn combinations(axes: &[Axis]) -> u64
+    ensures { 1 ≤ result }
+{
+    let values = axes.iter().map(|axis| axis.values.len() as u64);
+    values
+        .fold(1u64, |count, its| count.saturating_mul(its))
+        .max(1)
 }
 
 /// The scenario of a run of a point, both from 0. As it was read before, there is one but for want of memory.
@@ -128,8 +88,7 @@ fn scenario_of(
         return Err(AllocError);
     }
     let settings = grid.point(alloc, point)?;
-    let its = grid.run(alloc, run)?;
-    match read_run(alloc, file, &settings, &its) {
+    match read_run(alloc, file, &settings, &grid.run(alloc, run)?) {
         Ok(scenario) => Ok(scenario),
         Err(_) => Err(AllocError),
     }
@@ -138,8 +97,7 @@ fn scenario_of(
 /// What is reckoned of so many runs like one, of a point, both from 0.
 fn reckon_run(scenario: &Scenario, point: u64, run: u64, share: u64) -> Reckoned {
     let estimate = estimate_of(scenario);
-    let limit = scenario.limit();
-    let entries = estimate.entries;
+    let (entries, limit) = (estimate.entries, scenario.limit());
     let above = Above {
         point,
         run,
@@ -154,8 +112,8 @@ fn reckon_run(scenario: &Scenario, point: u64, run: u64, share: u64) -> Reckoned
     }
 }
 
-/// What is reckoned of the runs of a point, from 0: of so many that differ in more than their seeds, and of those like
-/// them.
+/// What is reckoned of the runs of a point, from 0: of so many that differ in more than their seeds, the first of each
+/// kind, which stands for all of its kind.
 pub(crate) fn reckon_point(
     alloc: Global,
     file: &Table,
@@ -163,12 +121,15 @@ pub(crate) fn reckon_point(
     point: u64,
     most: u64,
 ) -> Result<Reckoned, AllocError> {
-    let kinds = Kinds::of(grid);
+    let (mixes, dealt) = (combinations(grid.over()), combinations(grid.dealt()));
+    let seeds = grid.runs() / mixes;
     let mut all = Reckoned::none();
-    for kind in 0..kinds.count().min(most) {
-        let run = kinds.first(kind);
+    for kind in 0..mixes.saturating_mul(dealt).min(most) {
+        let run = (kind / dealt)
+            .saturating_mul(seeds)
+            .saturating_add(kind % dealt);
         let scenario = scenario_of(alloc, file, grid, point, run)?;
-        all.join(&reckon_run(&scenario, point, run, kinds.share()));
+        all.join(&reckon_run(&scenario, point, run, seeds / dealt));
     }
     Ok(all)
 }
@@ -181,25 +142,15 @@ pub(crate) fn reckon<R: Threads + Sync>(
     grid: &Grid,
     points: Range<u64>,
     threads: u8,
-) -> Result<Reckoned, AllocError>
-    requires { points.end < 2 ^ 64 - 1 }
-{
+) -> Result<Reckoned, AllocError> {
     let mut all = Reckoned::none();
-    let mut next = points.start;
-    while next < points.end {
-        let count = BATCH.min(points.end - next);
-        let each = in_parallel(
-            rt,
-            alloc,
-            next,
-            count,
-            threads,
-            &|point| { reckon_point(alloc, file, grid, point, u64::MAX) },
-        )?;
-        for reckoned in each {
+    for batch in 0..points.end.saturating_sub(points.start).div_ceil(BATCH) {
+        let first = points.start.saturating_add(batch.saturating_mul(BATCH));
+        let count = BATCH.min(points.end.saturating_sub(first));
+        let reckon_one = |point: u64| reckon_point(alloc, file, grid, point, u64::MAX);
+        for reckoned in in_parallel(rt, alloc, first, count, threads, &reckon_one)? {
             all.join(&reckoned?);
         }
-        next += count;
     }
     Ok(all)
 }

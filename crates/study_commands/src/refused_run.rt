@@ -2,7 +2,7 @@
 ghost use Rattle.std.specs.Prelude.{◌<◌, length};
 ghost use Rattle.study.specs.Grid.{points, runs};
 
-use crate::run_name::RunName;
+use crate::run_name::name_of_run;
 use diagnosis::{Diagnosis, diagnose_table};
 use printable::Printable;
 use std::alloc::{AllocError, Global};
@@ -42,12 +42,7 @@ pub(crate) fn line_of_run(
     let settings = grid.point(alloc, point)?;
     let its = grid.run(alloc, run)?;
     let why = reason_of(alloc, file, &settings, &its)?;
-    let name = RunName {
-        point: point.saturating_add(1),
-        settings,
-        number: run.saturating_add(1),
-        run: its,
-    };
+    let name = name_of_run(alloc, grid, point, run)?;
     let text = format!(in alloc; "{path}: {name}: {why}")?;
     let text = Printable(text.as_str());
     format!(in alloc; "{text}\n")

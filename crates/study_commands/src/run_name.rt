@@ -1,73 +1,57 @@
 //! Points and runs of a study, named by their numbers and settings.
+ghost use Rattle.std.specs.Prelude.{◌<◌, length};
+ghost use Rattle.study.specs.Grid.{points, runs};
 
-use std::fmt;
-use study::{Choice, Run, Setting};
+use std::alloc::{AllocError, Global};
+use study::{Choice, Grid, Setting};
 
-/// A run, with the settings of its point and its own.
-#[derive(Drop)]
-pub(crate) struct RunName<'a> {
-    /// Which point, from 1.
-    pub point: u64,
-    /// What the varied keys are set to.
-    pub settings: Vec<Choice<'a>>,
-    /// Which run of the point, from 1.
-    pub number: u64,
-    /// What is set besides.
-    pub run: Run<'a>,
-}
-
-/// A point, with its settings.
-#[derive(Drop)]
-pub(crate) struct PointName<'a> {
-    /// Which point, from 1.
-    pub number: u64,
-    /// What the varied keys are set to.
-    pub settings: Vec<Choice<'a>>,
-}
-
-/// Writes a key and what it is set to.
-fn write_choice<W: fmt::Write>(f: &mut fmt::Formatter<W>, choice: Choice<'_>) -> fmt::Result {
-    let key = choice.key;
-    match choice.value {
-        Setting::Integer(value) => write!(f, "{key}={value}"),
-        Setting::Text(value) => {
-            let value = value.as_str();
-            write!(f, "{key}={value}")
-        }
-    }
-}
-
-/// Writes keys and what they are set to, each with a comma and a space after it.
-fn write_choices<W: fmt::Write>(f: &mut fmt::Formatter<W>, choices: &[Choice<'_>]) -> fmt::Result {
+/// Adds keys and what they are set to, this before the first of them. Answers what stands before a further one.
+fn push_choices(
+    name: &mut String,
+    mut before: &'static str,
+    choices: &[Choice<'_>],
+) -> Result<&'static str, AllocError> {
     for choice in choices {
-        write_choice(f, *choice)?;
-        f.write_str(", ")?;
-    }
-    Ok(())
-}
-
-impl fmt::Display for PointName<'_> {
-    /// Writes `point 2 with detector.timeout=8, link.loss=0`, and without settings `point 1`.
-    fn fmt<W: fmt::Write>(&self, f: &mut fmt::Formatter<W>) -> fmt::Result {
-        let number = self.number;
-        write!(f, "point {number}")?;
-        let mut before = " with ";
-        for choice in &self.settings {
-            f.write_str(before)?;
-            write_choice(f, *choice)?;
-            before = ", ";
+        let key = choice.key;
+        match choice.value {
+            Setting::Integer(value) => write!(name, "{before}{key}={value}")?,
+            Setting::Text(value) => {
+                let value = value.as_str();
+                write!(name, "{before}{key}={value}")?;
+            }
         }
-        Ok(())
+        before = ", ";
     }
+    Ok(before)
 }
 
-impl fmt::Display for RunName<'_> {
-    /// Writes `run 3 of point 2 with detector.timeout=8, crash[1].at=4, seed=2`.
-    fn fmt<W: fmt::Write>(&self, f: &mut fmt::Formatter<W>) -> fmt::Result {
-        let (point, number, seed) = (self.point, self.number, self.run.seed);
-        write!(f, "run {number} of point {point} with ")?;
-        write_choices(f, &self.settings)?;
-        write_choices(f, &self.run.settings)?;
-        write!(f, "seed={seed}")
-    }
+/// A point, from 0, with its settings, as `point 2 with detector.timeout=8, link.loss=0`, and without any as `point 1`.
+pub(crate) fn name_of_point(alloc: Global, grid: &Grid, point: u64) -> Result<String, AllocError>
+    requires { point < length (points grid.now) }
+{
+    let number = point.saturating_add(1);
+    let mut name = format!(in alloc; "point {number}")?;
+    push_choices(&mut name, " with ", &grid.point(alloc, point)?)?;
+    Ok(name)
+}
+
+/// A run of a point, both from 0, with the settings of its point and its own, as
+/// `run 3 of point 2 with detector.timeout=8, crash[1].at=4, seed=2`.
+pub(crate) fn name_of_run(
+    alloc: Global,
+    grid: &Grid,
+    point: u64,
+    run: u64,
+) -> Result<String, AllocError>
+    requires point { point < length (points grid.now) }
+    requires run { run < length (runs grid.now) }
+{
+    let (number, place) = (run.saturating_add(1), point.saturating_add(1));
+    let its = grid.run(alloc, run)?;
+    let seed = its.seed;
+    let mut name = format!(in alloc; "run {number} of point {place}")?;
+    let before = push_choices(&mut name, " with ", &grid.point(alloc, point)?)?;
+    let before = push_choices(&mut name, before, &its.settings)?;
+    write!(name, "{before}seed={seed}")?;
+    Ok(name)
 }

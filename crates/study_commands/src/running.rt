@@ -28,10 +28,7 @@ pub(crate) fn trace_of(alloc: Global, scenario: &Scenario) -> Result<Trace, Faul
     ensures trace { IfOk result (λ t. IsTrace (setting_of scenario.now) t) }
     ensures refused { IfErr result (IsOfRun scenario.now) }
 {
-    let Ok(machines) = machines_of(alloc, scenario) else {
-        return Err(Fault::Memory);
-    };
-    match run_list(alloc, scenario, machines) {
+    match run_list(alloc, scenario, machines_of(alloc, scenario)?) {
         Ok(trace) => Ok(trace),
         Err(error) => Err(fault_of(error)),
     }
@@ -42,11 +39,5 @@ pub(crate) fn letters_of(alloc: Global, scenario: &Scenario) -> Result<Vec<Lette
     ensures letters { IfOk result (λ v. AreLetters scenario.now v.items) }
     ensures refused { IfErr result (IsOfRun scenario.now) }
 {
-    let Ok(machines) = machines_of(alloc, scenario) else {
-        return Err(Fault::Memory);
-    };
-    match letters(alloc, scenario, machines) {
-        Ok(letters) => Ok(letters),
-        Err(error) => Err(fault_of(error)),
-    }
+    letters(alloc, scenario, machines_of(alloc, scenario)?).map_err(fault_of)
 }

@@ -1,11 +1,11 @@
 //! One run of the program.
-ghost use Rattle.std.specs.Prelude.{◌≡◌, ◌≢◌, ◌⊎◌, ◌^◌, ◌-◌, ◌+◌, ◌<◌, ◌≤◌, false, IfErr, OnOk, map};
-ghost use Rattle.study_commands.specs.Answer.{GoesFor, IsChecked, path_of};
-ghost use Rattle.study_commands.specs.Fault.{end_of};
-ghost use Rattle.study_commands.specs.Serve.{GoesForWords, IsAsked, IsHelp, IsReason, IsWhy, LeftOf, NamesNoInput, Serves, ServesFor};
-ghost use Rattle.study_commands.specs.Serve.{TellsLine, TellsOf, other_word_line};
+ghost use Rattle.std.specs.Prelude.{◌≡◌, ◌≢◌, ◌⊎◌, ◌^◌, ◌-◌, ◌+◌, ◌<◌, ◌≤◌, false, IfErr, IfOk, OnOk, map};
+ghost use Rattle.study_commands.specs.Answer.{Answers, GoesFor, IsNoSweep, path_of};
+ghost use Rattle.study_commands.specs.Fault.{IsBefore, end_of};
+ghost use Rattle.study_commands.specs.Serve.{GoesForWords, IsAsked, IsHelp, IsReason, IsWhy, LeftOf};
+ghost use Rattle.study_commands.specs.Serve.{NamesNoInput, Serves, ServesFor, TellsLine, TellsOf, other_word_line};
 ghost use Rattle.printable.specs.Printable.{printable_lines};
-ghost use Rattle.study_commands.specs.Why.{StopsChecked, StopsFor};
+ghost use Rattle.study_commands.specs.Why.{StopsFor};
 ghost use Rattle.reporting.specs.Writing.{WroteNothing};
 ghost use Rattle.shell.specs.Ending.{MayHaveGone, Puts, Tells, Went, WentPart};
 ghost use Rattle.sources.specs.Input.{TakesAtMost, input_path, most_bytes};
@@ -19,7 +19,7 @@ use crate::study_check::serve_study_check;
 use crate::sweeping::serve_sweep;
 use printable::{Printable, PrintableLines};
 use reporting::Outlet;
-use shell::{ended, put_text};
+use shell::{ended, put_bytes, put_text};
 use std::alloc::Global;
 use std::io::Read;
 use std::marker::Sync;
@@ -29,27 +29,41 @@ use std::time::Clock;
 use study_line::{Order, StudyTexts, WordsError, read_words};
 use sweep::Watcher;
 
-/// Answers `check`, of the file or of a study over it.
-fn check<R: Files + Threads + Sync + Clock, I: Read, O: Outlet, W: Watcher>(
+/// The text that an order asks for, of all but a sweep.
+fn text_of<R: Files + Threads + Sync + Clock, I: Read, W: Watcher>(
     rt: &R,
     alloc: Global,
-    path: &str,
-    study: &Option<StudyTexts<'_>>,
+    order: &Order<'_>,
     input: &mut I,
-    outlet: &mut O,
     watcher: &mut W,
-) -> Result<(), Fault>
-    requires { O.failed outlet.old < 2 ^ 64 - 1 }
-    ensures text { let wanted = IsChecked (I.remaining input.old) path.now study.now in
-        Puts end_of O.told O.failed outlet.old outlet.new wanted result }
-    ensures why { IfErr result (StopsChecked (I.remaining input.old) path.now study.now) }
+) -> Result<Vec<u8>, Fault>
+    requires { IsNoSweep order.now }
+    ensures text { IfOk result (λ text. Answers (I.remaining input.old) order.now text.items) }
+    ensures why { IfErr result (IsBefore (StopsFor (I.remaining input.old) order.now)) }
     ensures taken { TakesAtMost (most_bytes + 1) (I.remaining input.old) (I.remaining input.new) }
-    ensures untouched { path.now ≢ input_path → input.new ≡ input.old }
+    ensures untouched { path_of order.now ≢ input_path → input.new ≡ input.old }
     ensures hidden { W.shows watcher.old ≡ false → W.shows watcher.new ≡ false }
 {
-    match study {
-        None => serve_check(rt, alloc, path, input, outlet),
-        Some(study) => serve_study_check(rt, alloc, path, study, input, outlet, watcher),
+    match order {
+        Order::Check { path, study } => match study {
+            None => serve_check(rt, alloc, path, input),
+            Some(study) => serve_study_check(rt, alloc, path, study, input, watcher),
+        },
+        Order::Letters { path } => serve_letters(rt, alloc, path, input),
+        Order::Draw {
+            path,
+            picture,
+            from,
+            until,
+            of,
+        } => serve_draw(rt, alloc, path, *picture, *from, *until, *of, input),
+        Order::Show {
+            path,
+            grid,
+            point,
+            run,
+        } => serve_show(rt, alloc, path, grid, *point, *run, input),
+        Order::Sweep { .. } => unreachable!(),
     }
 }
 
@@ -70,24 +84,10 @@ fn carry_out<R: Files + Threads + Sync + Clock, I: Read, O: Outlet, W: Watcher>(
     ensures hidden { W.shows watcher.old ≡ false → W.shows watcher.new ≡ false }
 {
     match order {
-        Order::Check { path, study } => check(rt, alloc, path, study, input, outlet, watcher),
-        Order::Letters { path } => serve_letters(rt, alloc, path, input, outlet),
-        Order::Draw {
-            path,
-            picture,
-            from,
-            until,
-            of,
-        } => serve_draw(rt, alloc, path, *picture, *from, *until, *of, input, outlet),
-        Order::Show {
-            path,
-            grid,
-            point,
-            run,
-        } => serve_show(rt, alloc, path, grid, *point, *run, input, outlet),
         Order::Sweep { path, study } => {
             serve_sweep(rt, alloc, path, study, input, outlet, watcher)
         }
+        _ => put_bytes(&text_of(rt, alloc, order, input, watcher)?, outlet),
     }
 }
 
@@ -96,10 +96,7 @@ fn other_word(alloc: Global, name: &str, word: &str) -> Fault
     ensures { TellsLine (other_word_line name.now word.now) result }
 {
     let word = Printable(word);
-    match format!(in alloc; "fdstudy: words: {name}: {word}\n") {
-        Ok(line) => Fault::Words(line),
-        Err(_) => Fault::WordsMemory,
-    }
+    Fault::of_words(format!(in alloc; "fdstudy: words: {name}: {word}\n"))
 }
 
 /// The fault of words that `clap` refuses with this text.

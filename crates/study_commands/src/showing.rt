@@ -1,11 +1,10 @@
 //! The command `show`: the scenario file of one run of a study.
-ghost use Rattle.std.specs.Prelude.{◌≡◌, ◌≢◌, ◌^◌, ◌-◌, ◌+◌, ◌<◌, OnOk, IfOk, IfErr, length, string_bytes};
+ghost use Rattle.std.specs.Prelude.{◌≡◌, ◌≢◌, ◌+◌, ◌<◌, IfOk, IfErr, length, string_bytes};
 ghost use Rattle.toml.specs.View.{table_view};
-ghost use Rattle.study_commands.specs.Fault.{IsOfWordsFor, end_of};
+ghost use Rattle.study_commands.specs.Fault.{IsBefore, IsOfWordsFor};
 ghost use Rattle.study_commands.specs.Show.{IsPlace, IsShowAnswer};
 ghost use Rattle.study_commands.specs.Why.{IsOfText, StopsShow};
 ghost use Rattle.study_commands.specs.WordRefusals.{IsOutside};
-ghost use Rattle.shell.specs.Ending.{Puts};
 ghost use Rattle.sources.specs.Input.{TakesAtMost, input_path, most_bytes};
 ghost use Rattle.study.specs.Grid.{points, runs};
 ghost use Rattle.study.specs.Placed.{table_of_run};
@@ -16,8 +15,6 @@ use crate::fault::Fault;
 use crate::file::table_of;
 use crate::refused_run::line_of_run;
 use crate::study_words::grid_of;
-use reporting::Outlet;
-use shell::put_text;
 use std::alloc::Global;
 use std::io::Read;
 use std::rt::Files;
@@ -54,9 +51,8 @@ fn text_of_run(
     ensures refused { IfErr result (IsOfText
         (table_of_run (point_at grid.now point) (run_at grid.now run) (table_view file.now))) }
 {
-    let (Ok(settings), Ok(its)) = (grid.point(alloc, point), grid.run(alloc, run)) else {
-        return Err(Fault::Memory);
-    };
+    let settings = grid.point(alloc, point)?;
+    let its = grid.run(alloc, run)?;
     match scenario_text(alloc, file, &settings, &its) {
         Ok(text) => Ok(text),
         Err(TextError::Place(PlaceError::Memory(_))) => Err(Fault::Memory),
@@ -65,7 +61,7 @@ fn text_of_run(
 }
 
 /// Answers `show`: the scenario file of a run of a point, both from 1.
-pub(crate) fn serve_show<R: Files, I: Read, O: Outlet>(
+pub(crate) fn serve_show<R: Files, I: Read>(
     rt: &R,
     alloc: Global,
     path: &str,
@@ -73,12 +69,9 @@ pub(crate) fn serve_show<R: Files, I: Read, O: Outlet>(
     point: u64,
     run: u64,
     input: &mut I,
-    outlet: &mut O,
-) -> Result<(), Fault>
-    requires { O.failed outlet.old < 2 ^ 64 - 1 }
-    ensures text { let wanted = IsShowAnswer (I.remaining input.old) path.now words.now point run in
-        Puts end_of O.told O.failed outlet.old outlet.new wanted result }
-    ensures why { IfErr result (StopsShow (I.remaining input.old) path.now words.now point run) }
+) -> Result<Vec<u8>, Fault>
+    ensures text { IfOk result (λ text. IsShowAnswer (I.remaining input.old) path.now words.now point run text.items) }
+    ensures why { IfErr result (IsBefore (StopsShow (I.remaining input.old) path.now words.now point run)) }
     ensures taken { TakesAtMost (most_bytes + 1) (I.remaining input.old) (I.remaining input.new) }
     ensures untouched { path.now ≢ input_path → input.new ≡ input.old }
 {
@@ -87,5 +80,5 @@ pub(crate) fn serve_show<R: Files, I: Read, O: Outlet>(
     let run_place = place_of(alloc, "NoRun", run, grid.runs())?;
     let file = table_of(rt, alloc, path, input)?;
     let text = text_of_run(alloc, path, &file, &grid, point_place, run_place)?;
-    put_text(text.as_str(), outlet)
+    Ok(text.into_bytes())
 }

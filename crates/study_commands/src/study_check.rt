@@ -1,27 +1,19 @@
 //! The command `check` with a study: how many points and runs there are, and about how much they will be.
-ghost use Rattle.std.specs.Prelude.{◌≡◌, ◌≢◌, ◌^◌, ◌-◌, ◌+◌, ◌<◌, ◌++◌, ℕ, List, false, IfOk, IfErr, OnOk, length, string_bytes};
+ghost use Rattle.std.specs.Prelude.{◌≡◌, ◌≢◌, ◌+◌, ◌++◌, ℕ, List, false, IfOk, IfErr, length, string_bytes};
 ghost use Rattle.study.specs.Grid.{runs};
 ghost use Rattle.study_commands.specs.Check.{IsStudyCheck, study_begin};
-ghost use Rattle.study_commands.specs.Sweep.{IsFaultOf};
 ghost use Rattle.study_commands.specs.Why.{StopsSweep};
-ghost use Rattle.study_commands.specs.Fault.{end_of};
-ghost use Rattle.shell.specs.Ending.{Puts};
+ghost use Rattle.study_commands.specs.Fault.{IsBefore};
 ghost use Rattle.sources.specs.Input.{TakesAtMost, input_path, most_bytes};
-ghost use Rattle.sweep.specs.Outcome.{CantBeRun, HaveScenarios};
 ghost use Rattle.sweep.specs.StudyText.{numbers_of};
-ghost use Rattle.toml.specs.View.{table_view};
 
 use crate::fault::Fault;
-use crate::file::table_of;
 use crate::progress_line::time_of;
 use crate::reckoning::{Above, Reckoned, reckon};
-use crate::run_name::RunName;
-use crate::study_words::{grid_of, shard_of};
-use crate::sweeping::{fault_of, layout_of, threads_for};
+use crate::run_name::name_of_run;
+use crate::sweeping::{fault_of, said_over, threads_for};
 use diagnosis::ENTRIES_A_SECOND;
 use printable::Printable;
-use reporting::Outlet;
-use shell::put_text;
 use std::alloc::{AllocError, Global};
 use std::io::Read;
 use std::marker::Sync;
@@ -30,7 +22,7 @@ use std::thread::Threads;
 use std::time::Clock;
 use study::{Grid, Shard};
 use study_line::StudyTexts;
-use sweep::{SweepError, Watcher, check_study};
+use sweep::{Watcher, check_study};
 use toml::Table;
 
 /// About how many entries the runs have, and how long they take by so many threads.
@@ -52,13 +44,7 @@ fn limit_text(
     if above.point >= grid.points() || above.run >= grid.runs() {
         return Ok(String::new(alloc));
     }
-    let name = RunName {
-        point: above.point.saturating_add(1),
-        settings: grid.point(alloc, above.point)?,
-        number: above.run.saturating_add(1),
-        run: grid.run(alloc, above.run)?,
-    };
-    let name = format!(in alloc; "{name}")?;
+    let name = name_of_run(alloc, grid, above.point, above.run)?;
     let name = Printable(name.as_str());
     let (entries, its) = (above.entries, above.limit);
     let text = format!(in alloc; "limit {its} may stop {name}, which has about {entries} entries")?;
@@ -104,55 +90,27 @@ fn text_of<R: Threads + Sync>(
     Ok(text)
 }
 
-/// Reads the scenarios of all runs.
-fn read_runs<R: Threads + Sync + Clock, W: Watcher>(
-    rt: &R,
-    alloc: Global,
-    path: &str,
-    file: &Table,
-    grid: &Grid,
-    shard: Shard,
-    threads: u8,
-    watcher: &mut W,
-) -> Result<(), Fault>
-    ensures read { OnOk result (HaveScenarios (table_view file.now) grid.now shard) }
-    ensures refused { IfErr result (λ f. (e : SweepError) × CantBeRun (table_view file.now) grid.now shard e × IsFaultOf e f) }
-    ensures hidden { W.shows watcher.new ≡ false }
-{
-    match check_study(rt, alloc, file, grid, shard, threads, watcher) {
-        Ok(()) => Ok(()),
-        Err(error) => Err(fault_of(alloc, path, file, grid, &error)),
-    }
-}
-
 /// Answers `check` with a study: how many points and runs there are, of the shard where one is named, about how many
 /// entries they have, how long that takes, and of a run that its limit may stop. The scenario of each run is read. It
 /// is refused where `sweep` is before the first run.
-pub(crate) fn serve_study_check<R: Files + Threads + Sync + Clock, I: Read, O: Outlet, W: Watcher>(
+pub(crate) fn serve_study_check<R: Files + Threads + Sync + Clock, I: Read, W: Watcher>(
     rt: &R,
     alloc: Global,
     path: &str,
     study: &StudyTexts<'_>,
     input: &mut I,
-    outlet: &mut O,
     watcher: &mut W,
-) -> Result<(), Fault>
-    requires { O.failed outlet.old < 2 ^ 64 - 1 }
-    ensures text { let wanted = IsStudyCheck (I.remaining input.old) path.now study.now in
-        Puts end_of O.told O.failed outlet.old outlet.new wanted result }
-    ensures why { IfErr result (StopsSweep (I.remaining input.old) path.now study.now) }
+) -> Result<Vec<u8>, Fault>
+    ensures text { IfOk result (λ text. IsStudyCheck (I.remaining input.old) path.now study.now text.items) }
+    ensures why { IfErr result (IsBefore (StopsSweep (I.remaining input.old) path.now study.now)) }
     ensures taken { TakesAtMost (most_bytes + 1) (I.remaining input.old) (I.remaining input.new) }
     ensures untouched { path.now ≢ input_path → input.new ≡ input.old }
     ensures hidden { W.shows watcher.old ≡ false → W.shows watcher.new ≡ false }
 {
-    let grid = grid_of(alloc, &study.grid)?;
-    let shard = shard_of(alloc, study.shard)?;
-    layout_of(alloc, &grid, study.each, study.columns)?;
-    let file = table_of(rt, alloc, path, input)?;
+    let (file, grid, shard, _layout) = said_over(rt, alloc, path, study, input)?;
     let threads = threads_for(rt, study.threads);
-    read_runs(rt, alloc, path, &file, &grid, shard, threads, watcher)?;
-    match text_of(rt, alloc, &file, &grid, shard, threads) {
-        Ok(text) => put_text(text.as_str(), outlet),
-        Err(_) => Err(Fault::Memory),
+    match check_study(rt, alloc, &file, &grid, shard, threads, watcher) {
+        Ok(()) => Ok(text_of(rt, alloc, &file, &grid, shard, threads)?.into_bytes()),
+        Err(error) => Err(fault_of(alloc, path, &file, &grid, &error)),
     }
 }

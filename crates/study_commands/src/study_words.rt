@@ -67,10 +67,7 @@ fn seeds_of(alloc: Global, word: &str) -> Result<Seeds, Fault>
     ensures seeds { IfOk result (λ s. seeds_said word.now ≡ Some (s.first, s.last)) }
     ensures refused { IfErr result (IsOfWordsFor (SaysNoSeeds word.now)) }
 {
-    match Seeds::parse(word) {
-        Ok(seeds) => Ok(seeds),
-        Err(error) => Err(seeds_fault(alloc, word, error)),
-    }
+    Seeds::parse(word).map_err(|error| seeds_fault(alloc, word, error))
 }
 
 /// The fault of axes and seeds that make no grid, with the key or the numbers for which they don't.
@@ -78,8 +75,9 @@ fn grid_fault(alloc: Global, error: &GridError) -> Fault
     ensures { IsOfWords result }
 {
     let line = match error {
-        GridError::NoSeed => format!(in alloc; "fdstudy: words: NoSeed\n"),
-        GridError::SeedTooHigh => format!(in alloc; "fdstudy: words: SeedTooHigh\n"),
+        GridError::NoSeed | GridError::SeedTooHigh => format!(in alloc;
+            "fdstudy: words: {error:?}\n"
+        ),
         GridError::KeyTwice(key) => {
             let key = Printable(key.as_str());
             format!(in alloc; "fdstudy: words: KeyTwice: {key}\n")
@@ -122,8 +120,5 @@ pub(crate) fn shard_of(alloc: Global, word: Option<&str>) -> Result<Shard, Fault
     let Some(word) = word else {
         return Ok(Shard::whole());
     };
-    match Shard::parse(word) {
-        Ok(shard) => Ok(shard),
-        Err(error) => Err(refused_word(alloc, word, &error)),
-    }
+    Shard::parse(word).map_err(|error| refused_word(alloc, word, &error))
 }

@@ -1,10 +1,11 @@
 //! The command `sweep`: the table of a study.
 ghost use Rattle.std.specs.Prelude.{◌≡◌, ◌≢◌, ◌^◌, ◌-◌, ◌+◌, ◌<◌, ◌≤◌, false, IfOk, IfErr, IfSome, OnOk, option_map};
-ghost use Rattle.study_commands.specs.Fault.{IsOfWords, IsOfWordsFor};
+ghost use Rattle.study_commands.specs.Fault.{IsBefore, IsOfWordsFor};
 ghost use Rattle.study_commands.specs.Study.{IsLayout, rows_for};
-ghost use Rattle.study_commands.specs.Sweep.{GoesForSweep, IsFaultOf, IsOfRun};
+ghost use Rattle.study_commands.specs.Sweep.{GoesForSweep, IsFaultOf, IsOfRun, IsSaid};
 ghost use Rattle.study_commands.specs.Why.{StopsSweep};
 ghost use Rattle.study_commands.specs.WordRefusals.{LacksColumn, is_layout_memory};
+ghost use Rattle.toml.specs.View.{table_view};
 ghost use Rattle.sources.specs.Input.{TakesAtMost, input_path, most_bytes};
 
 use crate::fault::Fault;
@@ -19,7 +20,7 @@ use std::marker::Sync;
 use std::rt::Files;
 use std::thread::{Threads, available_parallelism};
 use std::time::Clock;
-use study::Grid;
+use study::{Grid, Shard};
 use study_line::{Each, StudyTexts};
 use sweep::{Layout, LayoutError, Rows, SweepError, Watcher, sweep};
 use toml::Table;
@@ -85,19 +86,32 @@ fn layout_fault(alloc: Global, error: &LayoutError) -> Fault
 }
 
 /// The layout of the rows that words ask for.
-pub(crate) fn layout_of(
-    alloc: Global,
-    grid: &Grid,
-    each: Each,
-    columns: Option<&str>,
-) -> Result<Layout, Fault>
+fn layout_of(alloc: Global, grid: &Grid, each: Each, columns: Option<&str>) -> Result<Layout, Fault>
     ensures layout { IfOk result (IsLayout each (option_map (λ w. w.now) columns.entry) grid.now) }
     ensures refused { IfErr result (IsOfWordsFor (LacksColumn each (option_map (λ w. w.now) columns.entry) grid.now)) }
 {
-    match Layout::new(alloc, grid, rows_of(each), columns) {
-        Ok(layout) => Ok(layout),
-        Err(error) => Err(layout_fault(alloc, &error)),
-    }
+    Layout::new(alloc, grid, rows_of(each), columns).map_err(|error| layout_fault(alloc, &error))
+}
+
+/// The study that words say of the file at a path, `-` being the input: the file's table, the grid, the shard and the
+/// layout of its rows.
+pub(crate) fn said_over<R: Files, I: Read>(
+    rt: &R,
+    alloc: Global,
+    path: &str,
+    study: &StudyTexts<'_>,
+    input: &mut I,
+) -> Result<(Table, Grid, Shard, Layout), Fault>
+    ensures said { IfOk result (λ s. IsSaid (I.remaining input.old) path.now study.now (table_view s.0) s.1 s.2 s.3) }
+    ensures why { IfErr result (IsBefore (StopsSweep (I.remaining input.old) path.now study.now)) }
+    ensures taken { TakesAtMost (most_bytes + 1) (I.remaining input.old) (I.remaining input.new) }
+    ensures untouched { path.now ≢ input_path → input.new ≡ input.old }
+{
+    let grid = grid_of(alloc, &study.grid)?;
+    let shard = shard_of(alloc, study.shard)?;
+    let layout = layout_of(alloc, &grid, study.each, study.columns)?;
+    let file = table_of(rt, alloc, path, input)?;
+    Ok((file, grid, shard, layout))
 }
 
 /// Answers `sweep`: the rows of the study's points, or of their runs; of the shard's where one is named.
@@ -111,16 +125,14 @@ pub(crate) fn serve_sweep<R: Files + Threads + Sync + Clock, I: Read, O: Outlet,
     watcher: &mut W,
 ) -> Result<(), Fault>
     requires { O.failed outlet.old < 2 ^ 64 - 1 }
-    ensures text { GoesForSweep O.told O.failed outlet.old outlet.new (I.remaining input.old) path.now study.now result }
+    ensures text { GoesForSweep O.told O.failed outlet.old outlet.new (I.remaining input.old) path.now
+        study.now result }
     ensures why { IfErr result (StopsSweep (I.remaining input.old) path.now study.now) }
     ensures taken { TakesAtMost (most_bytes + 1) (I.remaining input.old) (I.remaining input.new) }
     ensures untouched { path.now ≢ input_path → input.new ≡ input.old }
     ensures hidden { W.shows watcher.old ≡ false → W.shows watcher.new ≡ false }
 {
-    let grid = grid_of(alloc, &study.grid)?;
-    let shard = shard_of(alloc, study.shard)?;
-    let layout = layout_of(alloc, &grid, study.each, study.columns)?;
-    let file = table_of(rt, alloc, path, input)?;
+    let (file, grid, shard, layout) = said_over(rt, alloc, path, study, input)?;
     let threads = threads_for(rt, study.threads);
     match sweep(
         rt, alloc, &file, &grid, shard, &layout, threads, outlet, watcher,

@@ -10,9 +10,11 @@ returns-in-Err-NoSuchFile-clause-why g c =
 
 pub returns-in-Err-Unreadable-clause-why : goal.returns-in-Err-Unreadable-clause-why
 returns-in-Err-Unreadable-clause-why g c =
-    unread_told (g.I.Read.remaining c.args.input.now) c.args.path.now unreadable c.told_with-in-Err-Unreadable.result tt tt c.told_with-in-Err-Unreadable.ensures
+    unread_told (g.I.Read.remaining c.args.input.now) c.args.path.now unreadable _ tt tt
+    c.told_with-in-Err-Unreadable.ensures
 
 pub returns-in-Err-TooLong-clause-why : goal.returns-in-Err-TooLong-clause-why
 returns-in-Err-TooLong-clause-why g c =
-    unread_told (g.I.Read.remaining c.args.input.now) c.args.path.now too_long c.told_with-in-Err-TooLong.result tt
-    (λ named. c.in-Err-TooLong.ensures.long named (ap Err c.in-Err-TooLong.field-0-is)) c.told_with-in-Err-TooLong.ensures
+    unread_told (g.I.Read.remaining c.args.input.now) c.args.path.now too_long _ tt
+    (λ named. c.in-Err-TooLong.ensures.long named (ap Err c.in-Err-TooLong.field-0-is))
+    c.told_with-in-Err-TooLong.ensures

@@ -1,8 +1,9 @@
-use Rattle.study_commands.proofs.Reasons.{told_line}
+use Rattle.std.proofs.Common.{rules}
+use Rattle.study_commands.specs.Refusal.{Says, line_with}
+use Rattle.diagnosis.specs.Text.{refused_text}
 use Rattle.study_commands.proofs.file.fault_of.Goals as goal
 
-pub returns-in-Ok : goal.returns-in-Ok
-returns-in-Ok c = λ bytes refuses. record { diagnosed = c.args.refused.now; refuses = refuses; says = told_line _ _ _ c.in-Ok.ensures.ok }
-
-pub returns-in-Err : goal.returns-in-Err
-returns-in-Err c = λ bytes refuses. record { diagnosed = c.args.refused.now; refuses = refuses; says = tt }
+pub returns : goal.returns
+returns c =
+    let says : Says c.ok.result (line_with c.args.path.now (refused_text c.args.refused.now)) = search rules in
+    λ bytes refuses. record { diagnosed = c.args.refused.now; refuses = refuses; says = says }

@@ -4,4 +4,7 @@ use Rattle.std.proofs.lemmas.Iterator.Splits.{YieldsList-from_str_split}
 use Rattle.study_commands.proofs.processes.pieces_of.Goals as goal
 
 pub returns : goal.returns
-returns c = map_from_collect _ c.collect.ensures.ran (YieldsList-from_str_split 44 c.args.word.now (lit< tt) c.split.ensures.text c.split.ensures.has_more c.split.ensures.pattern)
+returns c =
+    let split = c.split.ensures in
+    map_from_collect _ c.collect.ensures.ran
+    (YieldsList-from_str_split 44 c.args.word.now (lit< tt) split.text split.has_more split.pattern)

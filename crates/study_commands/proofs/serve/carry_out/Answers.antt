@@ -1,16 +1,10 @@
+use Rattle.std.proofs.Common.{rules}
+use Rattle.std.proofs.lemmas.Result.{IfErr-weaker}
+use Rattle.study_commands.proofs.Stopping.{no_sweep, stops_at_write, text_goes}
 use Rattle.study_commands.proofs.serve.carry_out.Goals as goal
 
-pub returns-in-Check-clause-text : goal.returns-in-Check-clause-text
-returns-in-Check-clause-text g c = rw c.in-Check.is c.check.ensures.text
-
-pub returns-in-Check-clause-why : goal.returns-in-Check-clause-why
-returns-in-Check-clause-why g c = rw c.in-Check.is c.check.ensures.why
-
-pub returns-in-Show-clause-text : goal.returns-in-Show-clause-text
-returns-in-Show-clause-text g c = rw c.in-Show.is c.serve_show.ensures.text
-
-pub returns-in-Show-clause-why : goal.returns-in-Show-clause-why
-returns-in-Show-clause-why g c = rw c.in-Show.is c.serve_show.ensures.why
+pub text_of-requires : goal.text_of-requires
+text_of-requires g c = let none = no_sweep c.args.order.now c.in_default.not-Sweep in search rules
 
 pub returns-in-Sweep-clause-text : goal.returns-in-Sweep-clause-text
 returns-in-Sweep-clause-text g c = rw c.in-Sweep.is c.serve_sweep.ensures.text
@@ -18,8 +12,15 @@ returns-in-Sweep-clause-text g c = rw c.in-Sweep.is c.serve_sweep.ensures.text
 pub returns-in-Sweep-clause-why : goal.returns-in-Sweep-clause-why
 returns-in-Sweep-clause-why g c = rw c.in-Sweep.is c.serve_sweep.ensures.why
 
-pub returns-in-Letters-clause-text : goal.returns-in-Letters-clause-text
-returns-in-Letters-clause-text g c = rw c.in-Letters.is c.serve_letters.ensures.text
+pub returns-in_ok-text_of-in_default-clause-text : goal.returns-in_ok-text_of-in_default-clause-text
+returns-in_ok-text_of-in_default-clause-text g c =
+    let order = c.args.order.now in
+    text_goes g.O.Outlet.told g.O.Outlet.failed _ _ (g.I.Read.remaining c.args.input.now) order
+    (no_sweep order c.in_default.not-Sweep) c.put_bytes.result c.deref.result.now
+    (rw c.deref.ensures.value c.in_ok-text_of-in_default.ensures.text) c.put_bytes.ensures.whole
+    c.put_bytes.ensures.part
 
-pub returns-in-Draw-clause-text : goal.returns-in-Draw-clause-text
-returns-in-Draw-clause-text g c = rw c.in-Draw.is c.serve_draw.ensures.text
+pub returns-in_ok-text_of-in_default-clause-why : goal.returns-in_ok-text_of-in_default-clause-why
+returns-in_ok-text_of-in_default-clause-why g c =
+    IfErr-weaker c.put_bytes.result _ _ (λ fault part. rw part.0 (stops_at_write _ c.args.order.now))
+    c.put_bytes.ensures.part

@@ -1,4 +1,4 @@
-use Rattle.std.proofs.Common.{◌≡◌, ◌≢◌, ◌⊎◌, inl, inr, ℕ, map, subst, arith}
+use Rattle.std.proofs.Common.{map, subst, ◌≡◌, ◌⊎◌, ℕ, arith}
 use Rattle.study_commands.specs.Fault.{end_of, line_of, status_of}
 use Rattle.study_commands.specs.Serve.{IsReason, LeftOf, Serves, ServesFor}
 use Rattle.study_commands.specs.Statuses.{has_status}
@@ -6,20 +6,15 @@ use Rattle.study_commands.proofs.Stopping.{asked_so}
 use Rattle.shell.proofs.Leaving.{ends}
 use Rattle.study_commands.proofs.serve.serve.Goals as goal
 
-not_zero : (n : ℕ) → (n ≡ 1) ⊎ (n ≡ 3) → n ≢ 0
-not_zero n (inl one) zero = omega (arith, one, zero)
-not_zero n (inr three) zero = omega (arith, three, zero)
-
 pub returns : goal.returns
 returns g c =
     let input = g.I.Read.remaining c.args.input.now in
     let words = map (λ w. w.now) c.args.words.now in
     let outcome = c.answer_words-outcome in
-    let n = c.ended.result in
     let all =
     ends status_of line_of end_of has_status g.F.Outlet.told g.F.Outlet.failed _ _ g.O.Outlet.told g.O.Outlet.failed _ _
-    (Serves input words) (ServesFor input words) (LeftOf input words) (IsReason input words) n outcome.result
-    c.ended.ensures.done c.ended.ensures.failed outcome.ensures.text outcome.ensures.why in
+    (Serves input words) (ServesFor input words) (LeftOf input words) (IsReason input words) c.ended.result
+    outcome.result c.ended.ensures.done c.ended.ensures.failed outcome.ensures.text outcome.ensures.why in
     record {
       statuses = all.few;
       done = all.done;
@@ -27,7 +22,7 @@ returns g c =
       refused = all.refused;
       left = all.left;
       asked = λ at.
-          let so = all.stopped (not_zero n at) in
+          let so = all.stopped (λ zero. omega (arith, at, zero)) in
           let P : ℕ → Type 0 = λ m. (m ≡ 1) ⊎ (m ≡ 3) in
           asked_so input words so.0 so.2 (subst P so.1 at);
       silent = all.silent;

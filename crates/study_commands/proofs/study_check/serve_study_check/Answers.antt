@@ -1,29 +1,25 @@
-use Rattle.std.proofs.Common.{rules, subst, sym, List, ℕ, ◌++◌, ◌≡◌, length, refl}
 use Rattle.toml.specs.View.{table_view}
-use Rattle.study.specs.Grid.{runs}
-use Rattle.sweep.specs.StudyText.{numbers_of}
-use Rattle.study_commands.specs.Check.{study_begin}
-use Rattle.study_commands.proofs.Answered.{checked_why, study_answer}
-use Rattle.study_commands.specs.Fault.{end_of}
-use Rattle.study_commands.specs.declared.fault.Fault.TheVariants.{Write}
-use Rattle.shell.proofs.Going.{put_goes}
+use Rattle.study_commands.proofs.Swept.{cant_of_run, cant_stop}
 use Rattle.study_commands.proofs.study_check.serve_study_check.Goals as goal
 
-pub returns-in_err-read_runs-clause-why : goal.returns-in_err-read_runs-clause-why
-returns-in_err-read_runs-clause-why g c =
-    let is = c.in_err-read_runs.ensures.refused in
-    let why = checked_why (g.I.Read.remaining c.args.input.now) c.args.path.now c.args.study.now (table_view c.in_ok-file.file)
-    c.in_ok-grid.grid c.in_ok-shard.shard c.in_ok-layout_of.field-0
-    (record { is_file = c.in_ok-file.ensures.table; is_grid = c.in_ok-grid.ensures.grid; is_shard = c.in_ok-shard.ensures.shard; is_layout = c.in_ok-layout_of.ensures.layout })
-    is.0 c.in_err-read_runs.field-0.0 is.2 is.1 in
-    search rules
+pub fault_of-requires : goal.fault_of-requires
+fault_of-requires g c =
+    cant_of_run (table_view c.in_ok-file.file) c.in_ok-file.grid c.in_ok-file.shard c.in-Err.error c.in-Err.ensures.err
 
 pub returns-in-Ok-clause-text : goal.returns-in-Ok-clause-text
 returns-in-Ok-clause-text g c =
-    let P : List ℕ → Type 0 = λ t. (reckoned : List ℕ) × (t ≡ study_begin (length (numbers_of c.in_ok-grid.grid c.in_ok-shard.shard)) (length (runs c.in_ok-grid.grid)) ++ reckoned) in
-    let wanted = study_answer (g.I.Read.remaining c.args.input.now) c.args.path.now c.args.study.now (table_view c.in_ok-file.file)
-    c.in_ok-grid.grid c.in_ok-shard.shard c.in_ok-layout_of.field-0
-    (record { is_file = c.in_ok-file.ensures.table; is_grid = c.in_ok-grid.ensures.grid; is_shard = c.in_ok-shard.ensures.shard; is_layout = c.in_ok-layout_of.ensures.layout })
-    c.as_str.result.now c.in_ok-read_runs.ensures.read
-    (subst P (sym c.as_str.ensures.value) c.in-Ok.ensures) in
-    put_goes _ _ _ _ _ end_of Write refl c.put_text.result _ wanted c.put_text.ensures.whole c.put_text.ensures.part
+    let text = c.in_ok-text_of-in-Ok.ensures in
+    record {
+      file = table_view c.in_ok-file.file;
+      grid = c.in_ok-file.grid;
+      shard = c.in_ok-file.shard;
+      layout = c.in_ok-file._layout;
+      said = c.in_ok-file.ensures.said;
+      each = c.in-Ok.ensures.ok;
+      reckoned = text.0;
+      text = rw c.into_bytes.ensures.value text.1;
+    }
+
+pub returns-clause-why : goal.returns-clause-why
+returns-clause-why g c =
+    cant_stop c.in_ok-file.ensures.said c.in-Err.error c.fault_of.result c.in-Err.ensures.err c.fault_of.ensures

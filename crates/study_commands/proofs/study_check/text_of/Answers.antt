@@ -1,4 +1,4 @@
-use Rattle.std.proofs.Common.{◌≡◌, ◌∙◌, ◌-◌, ◌++◌, ap, sym, rules, append_assoc, length, string_bytes}
+use Rattle.std.proofs.Common.{◌≡◌, ◌∙◌, ◌-◌, ◌++◌, ap, rules, length, string_bytes}
 use Rattle.std.specs.List.{range_with_len}
 use Rattle.std.proofs.lemmas.List.FromFn.{length-range_with_len}
 use Rattle.study.specs.Grid.{runs}
@@ -11,9 +11,8 @@ returns g c =
     let grid = c.args.grid.now in
     let its = numbers_of grid c.args.shard in
     let count = c.points-its.result.end - c.points-its.result.start in
-    let is : numbers_of grid c.args.shard ≡ range_with_len c.points-its.result.start (c.points-its.result.end - c.points-its.result.start) = search rules in
+    let is : its ≡ range_with_len c.points-its.result.start count = search rules in
     let counted : length its ≡ count = ap length is ∙ length-range_with_len c.points-its.result.start count in
-    let text : string_bytes c.in_ok-text.text ≡ study_begin count c.runs-runs.result = simp append_assoc c.in_ok-text.ensures.ok in
-    let all : study_begin count c.runs-runs.result ≡ study_begin (length its) (length (runs grid)) =
-    ap (λ n. study_begin n c.runs-runs.result) (sym counted) ∙ ap (study_begin (length its)) c.runs-runs.ensures.value in
-    (c.as_str.result.now, c.in_ok-push_str.ensures.bytes ∙ ap (λ t. t ++ c.as_str.result.now) (text ∙ all))
+    let begin : string_bytes c.in_ok-text.text ≡ study_begin (length its) (length (runs grid)) =
+    rw (counted, ← c.runs-runs.ensures.value) c.in_ok-text.ensures.ok in
+    (c.as_str.result.now, c.in_ok-push_str.ensures.bytes ∙ ap (λ t. t ++ c.as_str.result.now) begin)

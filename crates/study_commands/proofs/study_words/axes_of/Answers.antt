@@ -1,5 +1,6 @@
 use Rattle.std.proofs.Common.{rules, Bor, List, ℕ, [], get_or}
-use Rattle.study_commands.proofs.Axes.{one_more, word_there}
+use Rattle.scenario.proofs.Elements.{contains_image}
+use Rattle.study_commands.proofs.Axes.{one_more}
 use Rattle.study_commands.proofs.Reasons.{words_as}
 use Rattle.study_commands.proofs.study_words.axes_of.Goals as goal
 
@@ -8,13 +9,14 @@ nothing = record { ref_ptr = (0, 0); now = [] }
 
 pub loop-word-preserved : goal.loop-word-preserved
 loop-word-preserved c =
-    one_more c.args.words.now c.loop-word.word-index nothing _ _ c.in-Ok.axis c.loop-word-test.true c.in-Ok.ensures.ok (search rules) c.loop-word.invariant
+    one_more c.args.words.now c.loop-word.word-index nothing c.loop-word-test.true _ _ c.in-Ok.axis c.in-Ok.ensures.ok
+    (search rules) c.loop-word.invariant
 
 pub returns-in-Err-clause-refused : goal.returns-in-Err-clause-refused
 returns-in-Err-clause-refused c =
     words_as _ _ c.axis_fault.result c.axis_fault.ensures (λ other. record {
       word = (get_or c.args.words.now c.loop-word.word-index nothing).now;
-      there = word_there c.args.words.now c.loop-word.word-index nothing c.loop-word-test.true;
+      there = contains_image (λ w. w.now) c.args.words.now c.loop-word.word-index nothing c.loop-word-test.true;
       reason = c.in-Err.error;
       other = other;
       says = c.in-Err.ensures.err other;

@@ -1,0 +1,113 @@
+-- Where a study stops, and what a sweep leaves.
+use Rattle.std.proofs.Common.{ℕ, ◌<◌, ◌⊎◌, inl, inr, List, length, take, Option, arith}
+use Rattle.std.specs.List.{All, Contains, range_with_len}
+use Rattle.std.proofs.lemmas.List.Elements.{All-contains, All-drop, All-take}
+use Rattle.std.proofs.lemmas.List.FromFn.{length-range_with_len, get_or-range_with_len}
+use Rattle.shell.specs.Ending.{LeftAt, MayHaveGone, Went}
+use Rattle.study_commands.specs.Fault.{IsBefore, IsRefusal, end_of}
+use Rattle.study_commands.specs.Sweep.{IsFaultOf, IsOfRun, IsSaid, IsSweepAnswer, IsSweepFront}
+use Rattle.study_commands.specs.Why.{StopsSweep}
+use Rattle.study_commands.specs.declared.fault.Fault.{Fault}
+use Rattle.study_commands.specs.declared.fault.Fault.TheVariants.{Refused}
+use Rattle.study_commands.proofs.Reasons.{stops_so}
+use Rattle.reporting.specs.Writing.{WroteNothing}
+use Rattle.study.specs.Grid.{GridRecord, points}
+use Rattle.study.specs.Shard.{ShardRecord, end_of as shard_end}
+use Rattle.study.specs.declared.error.ReadError.{ReadError}
+use Rattle.study_line.specs.declared.order.StudyTexts.{StudyTexts}
+use Rattle.sweep.specs.Layout.{LayoutRecord}
+use Rattle.sweep.specs.Outcome.{BreaksOff, CantBeRun, IsFirstRefused, WroteStudy, WroteFirst}
+use Rattle.sweep.specs.StudyText.{IsTextOf, numbers_of, units_of}
+use Rattle.sweep.specs.declared.error.SweepError.{SweepError}
+use Rattle.sweep.specs.declared.error.SweepError.TheVariants as error
+use Rattle.toml.specs.Data.{Members}
+
+-- a point of a shard is one of the study's
+point_within : (g : GridRecord) (shard : ShardRecord) (point : ℕ) → Contains (numbers_of g shard) point
+    → point < length (points g)
+point_within g shard point =
+    let n = length (points g) in
+    let below : All (λ p. p < n) (range_with_len 0 n) = λ k d within.
+    let low : k < n = omega (arith, within, length-range_with_len 0 n) in
+    omega (arith, get_or-range_with_len 0 n k d low, low) in
+    let till = shard_end (length (range_with_len 0 n)) shard in
+    let low = All-take (λ p. p < n) till (range_with_len 0 n) below in
+    All-contains (λ p. p < n) (numbers_of g shard) point (All-drop (λ p. p < n) _ (take till (range_with_len 0 n)) low)
+
+-- and a run of the shard that is refused
+pub cant_of_run : (file : Members) (g : GridRecord) (shard : ShardRecord) (e : SweepError) → CantBeRun file g shard e
+    → IsOfRun g e
+cant_of_run file g shard (error.Refused point run reason) cant = (point_within g shard point cant.point_in, cant.run_in)
+cant_of_run file g shard _ cant = tt
+
+module _ {input : Option (List ℕ)} {path : List ℕ} {study : StudyTexts} {file : Members} {g : GridRecord}
+    {shard : ShardRecord} {layout : LayoutRecord} (said : IsSaid input path study file g shard layout) where
+  -- a run of the study is refused
+  run_stops : (point run : ℕ) (reason : ReadError) (f : Fault) → IsFirstRefused file g shard point run reason
+      → IsRefusal f → IsBefore (StopsSweep input path study) f
+  run_stops point run reason (Refused line) first is = inr (record {
+    file = file;
+    is_file = said.is_file;
+    grid = g;
+    is_grid = said.is_grid;
+    shard = shard;
+    is_shard = said.is_shard;
+    point = point;
+    run = run;
+    reason = reason;
+    first = first;
+  })
+  run_stops point run reason _ first is = absurd is
+
+  -- a study can't be run
+  pub cant_stop : (e : SweepError) (f : Fault) → CantBeRun file g shard e → IsFaultOf e f
+      → IsBefore (StopsSweep input path study) f
+  cant_stop (error.Refused point run reason) f cant is = run_stops point run reason f cant is
+  cant_stop error.Memory f cant is = rw is tt
+  cant_stop error.Write f cant is = absurd cant
+
+  front : (count : ℕ) (piece : List ℕ) → IsTextOf file g shard layout (take count (units_of layout.rows g shard)) piece
+      → IsSweepFront input path study piece
+  front count piece text =
+      record { file = file; grid = g; shard = shard; layout = layout; said = said; count = count; text = text }
+
+  module _ {O : Type 0} (told : O → Option (List ℕ)) (failed : O → ℕ) (old new : O) where
+    pub swept : WroteStudy file g shard layout told failed old new
+        → Went told failed old new (IsSweepAnswer input path study)
+    swept wrote = record {
+      piece = wrote.text;
+      is_wanted = record { file = file; grid = g; shard = shard; layout = layout; said = said; text = wrote.is_text };
+      written = wrote.wrote;
+    }
+
+    left : WroteNothing told failed old new ⊎ WroteFirst file g shard layout told failed old new
+        → MayHaveGone told failed old new (IsSweepFront input path study)
+    left (inl nothing) = inl nothing
+    left (inr first) = inr (record {
+      piece = first.text;
+      is_wanted = front first.count first.text first.is_text;
+      written = first.wrote;
+    })
+
+    pub breaks_of_run : (e : SweepError) → BreaksOff file g shard layout told failed old new e → IsOfRun g e
+    breaks_of_run (error.Refused point run reason) broke =
+        cant_of_run file g shard (error.Refused point run reason) broke.0
+    breaks_of_run _ broke = tt
+
+    pub sweep_why : (e : SweepError) (f : Fault) → BreaksOff file g shard layout told failed old new e
+        → IsFaultOf e f → StopsSweep input path study f
+    sweep_why (error.Refused point run reason) f broke is =
+        stops_so (StopsSweep input path study) f (run_stops point run reason f broke.0 is)
+    sweep_why _ f broke is = rw is tt
+
+    pub sweep_leaves : (e : SweepError) (f : Fault) → BreaksOff file g shard layout told failed old new e
+        → IsFaultOf e f → LeftAt told failed old new (IsSweepFront input path study)
+        (IsSweepFront input path study) (end_of f)
+    sweep_leaves (error.Refused point run reason) (Refused line) broke is = broke.1
+    sweep_leaves (error.Refused point run reason) _ broke is = absurd is
+    sweep_leaves error.Memory f broke is = rw is (left broke)
+    sweep_leaves error.Write f broke is = rw is (record {
+      piece = broke.text;
+      is_wanted = front broke.count broke.text broke.is_text;
+      written = broke.wrote;
+    })
