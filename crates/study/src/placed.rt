@@ -3,7 +3,7 @@ ghost use Rattle.std.specs.Prelude.{◌≡◌, ◌<◌, ◌≤◌, true, IfOk, O
 ghost use Rattle.toml.specs.Data.{get_member, table};
 ghost use Rattle.toml.specs.View.{view, table_view, array_view, items_view};
 ghost use Rattle.study.specs.Settings.{path_of, given_by, chosen, inner, element, every};
-ghost use Rattle.study.specs.Reading.{AreSet};
+ghost use Rattle.study.specs.Reading.{AreSet, Sets};
 ghost use Rattle.study.specs.Placed.{data_of, put as put_member, put_item, put_in_each, set_all, table_of, table_or_new, items_of, element_of, is_memory, IsRefused, Puts, CannotPut};
 
 use crate::axis::Choice;
@@ -183,13 +183,11 @@ fn set_in_inner(alloc: Global, table: &mut Table, name: &str, key: &str, setting
     put(alloc, table, name, Value::Table(changed))
 }
 
-/// Sets a key of a file's table, as it is of its kind. The setting is what the table then has there, and each key apart
-/// from it has what it had.
-fn set(alloc: Global, table: &mut Table, key: &Key, setting: &Setting) -> Done
+/// Sets a key of a file's table, as it is of its kind.
+fn set_by_kind(alloc: Global, table: &mut Table, key: &Key, setting: &Setting) -> Done
     ensures ok { OnOk result (Puts (path_of key.now) setting.now table.old table.new) }
     ensures err { IfErr result (CannotPut (path_of key.now) setting.now table.old) }
 {
-    law_settings();
     match key {
         Key::Top(key) => set_here(alloc, table, key, setting),
         Key::Inner { table: name, key } => set_in_inner(alloc, table, name, key, setting),
@@ -198,6 +196,18 @@ fn set(alloc: Global, table: &mut Table, key: &Key, setting: &Setting) -> Done
         }
         Key::Every { array, key } => set_in_every(alloc, table, array, key, setting),
     }
+}
+
+/// Sets a key of a file's table. The setting is what the table then has there, and each key apart from it has what it
+/// had.
+fn set(alloc: Global, table: &mut Table, key: &Key, setting: &Setting) -> Done
+    ensures ok { OnOk result (Puts (path_of key.now) setting.now table.old table.new) }
+    ensures sets { OnOk result
+        (Sets (path_of key.now) (data_of (given_by setting.now)) (table_view table.old) (table_view table.new)) }
+    ensures err { IfErr result (CannotPut (path_of key.now) setting.now table.old) }
+{
+    law_settings();
+    set_by_kind(alloc, table, key, setting)
 }
 
 /// Sets the keys of some choices, one after the other.
