@@ -4,7 +4,7 @@ use Rattle.std.specs.Global.{Vec}
 use Rattle.std.specs.Vec.Iter.{into_iter_items}
 use Rattle.std.proofs.lemmas.List.Elements.{All-nil, All-push, All-same, All-head, All-tail}
 use Rattle.deques.specs.Deques.{OwnerView, HandView, dealt_of, HasTold, AreBlank, IsDealt}
-use Rattle.deques.proofs.Deals.{hand_dealt, hand_own, map_turn}
+use Rattle.deques.proofs.Deals.{hand_dealt, map_turn}
 use Rattle.deques.proofs.dealing.hands_of.Goals as goal
 
 low : (place rest left n len many : ℕ) → place + rest ≡ n → rest ≡ suc left → many ≡ n → len ≡ many → place < len
@@ -31,18 +31,8 @@ loop-owner-init g c =
       room = search rules;
     }
 
-pub new-requires-clause-place : goal.new-requires-clause-place
-new-requires-clause-place g c =
-    let inv = c.loop-owner.invariant in
-    let own = map dealt_of c.args.owners.items in
-    let n = vec_len c.args.owners in
-    let ps = c.in-Some-next.permits in
-    let Q : Vec _ → Type 0 = λ v. AreBlank n own v.items in
-    let blank : Q ps = All-head Q ps (into_iter_items c.next-in-loop-owner.new.self) (subst (All Q) c.in-Some-next.ensures.items inv.blank) in
-    low c.loop-owner.place (length (into_iter_items c.loop-owner.owner-iterator)) (length (into_iter_items c.next.new.self)) n ps.len (length ps.items) inv.place (ap length c.in-Some.ensures.steps.0) blank.0 ps.ok.0
-
-pub new-requires-clause-out : goal.new-requires-clause-out
-new-requires-clause-out g c =
+pub new-requires : goal.new-requires
+new-requires g c =
     let inv = c.loop-owner.invariant in
     let own = map dealt_of c.args.owners.items in
     let n = vec_len c.args.owners in
@@ -50,25 +40,12 @@ new-requires-clause-out g c =
     let P : OwnerView _ → Type 0 = HasTold n own in
     let Q : Vec _ → Type 0 = λ v. AreBlank n own v.items in
     let told : P c.in-Some.owner = All-head P c.in-Some.owner (into_iter_items c.next.new.self) (subst (All P) c.in-Some.ensures.steps.0 inv.owners) in
-    let blank : Q ps = All-head Q ps (into_iter_items c.next-in-loop-owner.new.self) (subst (All Q) c.in-Some-next.ensures.items inv.blank) in
-    told.0 ∙ sym blank.0 ∙ sym ps.ok.0
-
-pub new-requires-clause-told : goal.new-requires-clause-told
-new-requires-clause-told g c =
-    let P : OwnerView _ → Type 0 = HasTold (vec_len c.args.owners) (map dealt_of c.args.owners.items) in
-    (All-head P c.in-Some.owner (into_iter_items c.next.new.self) (subst (All P) c.in-Some.ensures.steps.0 c.loop-owner.invariant.owners)).1
-
-pub new-requires-clause-known : goal.new-requires-clause-known
-new-requires-clause-known g c =
-    let inv = c.loop-owner.invariant in
-    let own = map dealt_of c.args.owners.items in
-    let n = vec_len c.args.owners in
-    let ps = c.in-Some-next.permits in
-    let P : OwnerView _ → Type 0 = HasTold n own in
-    let Q : Vec _ → Type 0 = λ v. AreBlank n own v.items in
-    let told : P c.in-Some.owner = All-head P c.in-Some.owner (into_iter_items c.next.new.self) (subst (All P) c.in-Some.ensures.steps.0 inv.owners) in
-    let blank : Q ps = All-head Q ps (into_iter_items c.next-in-loop-owner.new.self) (subst (All Q) c.in-Some-next.ensures.items inv.blank) in
-    λ x here. subst (λ l. Contains l x) (sym blank.2) (told.3 x here)
+    let blank : Q ps = All-head Q ps (into_iter_items c.next-in-loop-owner.new.self) (subst (All Q) c.in-Some-next.ensures.items inv.blank) in (
+      low c.loop-owner.place (length (into_iter_items c.loop-owner.owner-iterator)) (length (into_iter_items c.next.new.self)) n ps.len (length ps.items) inv.place (ap length c.in-Some.ensures.steps.0) blank.0 ps.ok.0,
+      told.0 ∙ sym blank.0 ∙ sym ps.ok.0,
+      told.1,
+      λ x here. subst (λ l. Contains l x) (sym blank.2) (told.3 x here),
+    )
 
 pub loop-owner-preserved : goal.loop-owner-preserved
 loop-owner-preserved g c =
@@ -90,7 +67,7 @@ loop-owner-preserved g c =
     let h = c.new.result in
     let more : c.push_reserved.new.self.items ≡ hands ++ h ∷ [] = c.push_reserved.ensures.items in
     record {
-      own = map_turn own_of dealt_of hands c.push_reserved.new.self.items h (into_iter_items c.loop-owner.owner-iterator) left o own more e (hand_own o ps.items h c.new.ensures) inv.own;
+      own = map_turn own_of dealt_of hands c.push_reserved.new.self.items h (into_iter_items c.loop-owner.owner-iterator) left o own more e (ap own_of c.new.ensures) inv.own;
       hands = All-same (IsDealt own) c.push_reserved.new.self.items (hands ++ h ∷ []) more (All-push (IsDealt own) hands h inv.hands (hand_dealt n own o ps.items h c.new.ensures told blank));
       owners = All-tail P o left (subst (All P) e inv.owners);
       blank = All-tail Q ps lists_left (subst (All Q) f inv.blank);
