@@ -9,7 +9,7 @@ use Rattle.std.proofs.Math.Seq.{map-set_same}
 use Rattle.std.proofs.lemmas.List.Concat.{flat_map-append}
 use Rattle.std.proofs.lemmas.List.Folds.{flat_map-map}
 use Rattle.std.proofs.lemmas.Simd.{map-map}
-use Rattle.std.proofs.lemmas.List.Elements.{All-nil, All-cons, All-get_or, All-head, All-map, All-tail, Contains-append_left, Contains-append_right}
+use Rattle.std.proofs.lemmas.List.Elements.{All-nil, All-cons, All-get_or, All-head, All-map, All-tail}
 use Rattle.std.proofs.lemmas.List.Sorted.{IsPermutation-refl, IsPermutation-trans, IsPermutation-append_left, IsPermutation-append_right, IsPermutation-append_comm}
 use Rattle.ledger.specs.Places.{each_with}
 use Rattle.ledger.proofs.Lists.{mixed_at, with-map}
@@ -47,6 +47,9 @@ module _ {T : Type 0} where
     pub one_given : (given given' : List (PermitView T)) (p : PermitView T) → given ≡ map blank (take i hs) → p ≡ blank d → given' ≡ given ++ p ∷ [] → given' ≡ map blank (take (i + 1) hs)
     one_given given given' p was made more =
         more ∙ (λ j. was j ++ made j ∷ []) ∙ (λ j. map blank (take i hs) ++ blank (as_it_was j) ∷ []) ∙ sym (map_more blank hs i d lt)
+
+  pub hand_own : (o : OwnerView T) (ps : List (PermitView T)) (h : HandView T) → h ≡ hand_at o ps → h.own ≡ dealt_of o
+  hand_own o ps h is = ap (λ (v : HandView T). v.own) is
 
   -- a hand of a deque that told, with blank permits
   pub hand_dealt : (n : ℕ) (own : List (Dealt T)) (o : OwnerView T) (ps : List (PermitView T)) (h : HandView T) → h ≡ hand_at o ps → HasTold n own o → AreBlank n own ps → IsDealt own h

@@ -4,7 +4,7 @@ use Rattle.std.specs.Global.{Vec}
 use Rattle.std.specs.Vec.Iter.{into_iter_items}
 use Rattle.std.proofs.lemmas.List.Elements.{All-nil, All-push, All-same, All-head, All-tail}
 use Rattle.deques.specs.Deques.{OwnerView, HandView, dealt_of, HasTold, AreBlank, IsDealt}
-use Rattle.deques.proofs.Deals.{hand_dealt, map_turn}
+use Rattle.deques.proofs.Deals.{hand_dealt, hand_own, map_turn}
 use Rattle.deques.proofs.dealing.hands_of.Goals as goal
 
 low : (place rest left n len many : ℕ) → place + rest ≡ n → rest ≡ suc left → many ≡ n → len ≡ many → place < len
@@ -67,7 +67,7 @@ loop-owner-preserved g c =
     let h = c.new.result in
     let more : c.push_reserved.new.self.items ≡ hands ++ h ∷ [] = c.push_reserved.ensures.items in
     record {
-      own = map_turn own_of dealt_of hands c.push_reserved.new.self.items h (into_iter_items c.loop-owner.owner-iterator) left o own more e (ap own_of c.new.ensures) inv.own;
+      own = map_turn own_of dealt_of hands c.push_reserved.new.self.items h (into_iter_items c.loop-owner.owner-iterator) left o own more e (hand_own o ps.items h c.new.ensures) inv.own;
       hands = All-same (IsDealt own) c.push_reserved.new.self.items (hands ++ h ∷ []) more (All-push (IsDealt own) hands h inv.hands (hand_dealt n own o ps.items h c.new.ensures told blank));
       owners = All-tail P o left (subst (All P) e inv.owners);
       blank = All-tail Q ps lists_left (subst (All Q) f inv.blank);
