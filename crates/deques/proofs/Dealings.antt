@@ -2,11 +2,10 @@
 use Rattle.std.proofs.Common.{◌≡◌, ◌≢◌, inl, inr, ℕ, zero, suc, ◌-◌, ◌<◌, ◌≤◌, List, [], ◌∷◌, ◌++◌, length, map, set, get_or, Option, Some, None, MatchOption, refl, sym, ap, ◌∙◌, subst, append_assoc, append-nil, arith}
 use Rattle.std.specs.List.{Contains, flat_map}
 use Rattle.std.specs.List.Sorted.{IsPermutation}
-use Rattle.std.proofs.lemmas.List.{map-set, set-get_or, get_or-map}
+use Rattle.std.proofs.Math.Seq.{map-set_same}
 use Rattle.std.proofs.lemmas.List.Elements.{All-head, Contains-append_left, Contains-append_right}
 use Rattle.std.proofs.lemmas.List.Sorted.{IsPermutation-append_right, IsPermutation-append_comm}
-use mathlib.Core.Option.{some}
-use lib.ListN.{get_elem?}
+use Rattle.crossbeam_deque.proofs.Lists.{at_index}
 use Rattle.crossbeam_deque.specs.Tasks.{Takes}
 use Rattle.crossbeam_deque.specs.Steals.{MatchSteal}
 use Rattle.crossbeam_deque.specs.declared.steal.Steal.{Steal}
@@ -62,28 +61,17 @@ module _ {T : Type 0} where
 
 -- ---- lists that are put together
 
-module _ {A : Type 0} where
-  place_of : (xs : List A) (i : ℕ) (d : A) → d ≡ get_or xs i d → i < length xs → get_elem? xs i ≡ some d
-  place_of [] i d is lt = absurd (omega arith)
-  place_of (x ∷ xs) zero d is lt = ap some (sym is)
-  place_of (x ∷ xs) (suc i) d is lt = place_of xs i d is (omega arith)
-
 module _ {A B : Type 0} (f : A → List B) where
   pub flat_same : (xs : List A) (i : ℕ) (d new : A) → d ≡ get_or xs i d → i < length xs → f new ≡ f d → flat_map f (set xs i new) ≡ flat_map f xs
-  flat_same xs i d new is lt same = gather_same f xs i d new (place_of xs i d is lt) same
+  flat_same xs i d new is lt same = gather_same f xs i d new (at_index xs i d lt is) same
 
   pub flat_more : (xs : List A) (i : ℕ) (d new : A) (ys : List B) → d ≡ get_or xs i d → i < length xs → f new ≡ f d ++ ys → IsPermutation (flat_map f xs ++ ys) (flat_map f (set xs i new))
-  flat_more xs i d new ys is lt more = gather_more f xs i d new ys (place_of xs i d is lt) more
+  flat_more xs i d new ys is lt more = gather_more f xs i d new ys (at_index xs i d lt is) more
 
   pub flat_has : (xs : List A) (i : ℕ) (d : A) → d ≡ get_or xs i d → i < length xs → (y : B) → Contains (f d) y → Contains (flat_map f xs) y
   flat_has [] i d is lt y has = absurd (omega arith)
   flat_has (x ∷ xs) zero d is lt y has = Contains-append_left (f x) (flat_map f xs) y (subst (λ z. Contains (f z) y) is has)
   flat_has (x ∷ xs) (suc i) d is lt y has = Contains-append_right (f x) (flat_map f xs) y (flat_has xs i d is (omega arith) y has)
-
-module _ {A B : Type 0} (f : A → B) where
-  pub map_same_at : (xs : List A) (i : ℕ) (d new : A) → d ≡ get_or xs i d → i < length xs → f new ≡ f d → map f (set xs i new) ≡ map f xs
-  map_same_at xs i d new is lt same =
-      map-set f xs i new ∙ ap (λ q. set (map f xs) i q) (same ∙ ap f is ∙ sym (get_or-map f xs i d (f d) lt)) ∙ set-get_or (map f xs) i (f d)
 
 -- ---- a worker's hand
 
@@ -107,7 +95,7 @@ module _ {T : Type 0} where
 
   module _ (o : OwnerView T) (ps : List (PermitView T)) (i : ℕ) (d d' : PermitView T) (is : d ≡ get_or ps i d) (lt : i < length ps) where
     deques_same : d'.deque ≡ d.deque → map (λ (p : PermitView T). p.deque) (set ps i d') ≡ map (λ (p : PermitView T). p.deque) ps
-    deques_same e = map_same_at (λ (p : PermitView T). p.deque) ps i d d' is lt e
+    deques_same e = map-set_same (λ (p : PermitView T). p.deque) ps i d' d (e ∙ ap (λ (p : PermitView T). p.deque) is)
 
     pub known_same : d'.known ≡ d.known → flat_map (λ (p : PermitView T). p.known) (set ps i d') ≡ flat_map (λ (p : PermitView T). p.known) ps
     known_same e = flat_same (λ (p : PermitView T). p.known) ps i d d' is lt e

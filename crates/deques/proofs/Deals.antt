@@ -3,27 +3,23 @@ use Rattle.std.proofs.Common.{◌≡◌, ◌⊎◌, inl, inr, ℕ, zero, suc, �
 use Rattle.std.specs.List.{All, Contains, flat_map}
 use Rattle.std.specs.List.Sorted.{IsPermutation}
 use Rattle.std.proofs.lemmas.Bool.{cases_eq, eq-eqb, ne_eqb}
-use Rattle.std.proofs.lemmas.List.{length-map, map-append}
+use Rattle.std.proofs.lemmas.List.{length-map, map-append, map_more, get_or_default, nil_from_length}
+use Rattle.std.proofs.lemmas.List.Edits.{map_over_more}
+use Rattle.std.proofs.Math.Seq.{map-set_same}
 use Rattle.std.proofs.lemmas.List.Concat.{flat_map-append}
 use Rattle.std.proofs.lemmas.List.Folds.{flat_map-map}
 use Rattle.std.proofs.lemmas.Simd.{map-map}
-use Rattle.std.proofs.lemmas.List.Elements.{All-nil, All-cons, All-get_or, All-head, All-map, All-tail, Contains-append_left, Contains-append_right}
+use Rattle.std.proofs.lemmas.List.Elements.{All-nil, All-cons, All-get_or, All-head, All-map, All-tail}
 use Rattle.std.proofs.lemmas.List.Sorted.{IsPermutation-refl, IsPermutation-trans, IsPermutation-append_left, IsPermutation-append_right, IsPermutation-append_comm}
 use Rattle.ledger.specs.Places.{each_with}
-use Rattle.ledger.proofs.Lists.{mixed_at, mixed_more, map_take_more}
-use Rattle.deques.specs.Deques.{DequeId, Dealt, OwnerView, PermitView, HandView, RestView, permit_of, rest_of, deques_of, dealt_of, all_put, one_out, many_out, blank, one_back, MayTell, HasTold, AreBlank, IsDealt, with_item, share_from, AreShares, CameBack, Popped, TookLast}
-use Rattle.deques.proofs.Dealings.{flat_more, map_same_at, hand_at}
-
-any_default : {A : Type 0} (xs : List A) (i : ℕ) (d e : A) → i < length xs → get_or xs i d ≡ get_or xs i e
-any_default [] i d e lt = absurd (omega arith)
-any_default (x ∷ xs) zero d e lt = refl
-any_default (x ∷ xs) (suc i) d e lt = any_default xs i d e (omega arith)
+use Rattle.ledger.proofs.Lists.{mixed_at, with-map}
+use Rattle.deques.specs.Deques.{DequeId, Dealt, OwnerView, PermitView, HandView, RestView, permit_of, rest_of, deques_of, dealt_of, all_put, one_out, many_out, blank, one_back, MayTell, HasTold, AreBlank, CanHold, IsDealt, with_item, share_from, AreShares, CameBack, Popped, TookLast}
+use Rattle.deques.proofs.Dealings.{flat_more, flat_has, hand_at}
 
 module _ {T : Type 0} where
   put_has : (os : List (OwnerView T)) (i : ℕ) (o : OwnerView T) → o ≡ get_or os i o → i < length os → (x : T) → Contains o.put x → Contains (all_put (map dealt_of os)) x
-  put_has [] i o is lt x has = absurd (omega arith)
-  put_has (y ∷ os) zero o is lt x has = Contains-append_left y.put (all_put (map dealt_of os)) x (subst (λ (v : OwnerView T). Contains v.put x) is has)
-  put_has (y ∷ os) (suc i) o is lt x has = Contains-append_right y.put (all_put (map dealt_of os)) x (put_has os i o is (omega arith) x has)
+  put_has os i o is lt x has =
+      subst (λ l. Contains l x) (sym (flat_map-map (λ (d : Dealt T). d.1) dealt_of os)) (flat_has (λ (v : OwnerView T). v.put) os i o is lt x has)
 
   -- ---- permits go out
 
@@ -46,15 +42,11 @@ module _ {T : Type 0} where
     may_give all = subst MayTell (sym as_it_was) (All-get_or MayTell hs i d lt all)
 
     pub one_gave : (new : OwnerView T) → new ≡ one_out d → set now i new ≡ map one_out (take (i + 1) hs) ++ drop (i + 1) hs
-    one_gave new gave =
-        let next : suc i ≡ i + 1 = omega arith in
-        (λ j. set (so_far j) i (gave j)) ∙ (λ j. set (map one_out (take i hs) ++ drop i hs) i (one_out (as_it_was j))) ∙ mixed_more one_out hs i d lt
-        ∙ (λ j. map one_out (take (next j) hs) ++ drop (next j) hs)
+    one_gave new gave = ap (λ o. set now i o) gave ∙ map_over_more one_out hs now i d lt so_far value
 
     pub one_given : (given given' : List (PermitView T)) (p : PermitView T) → given ≡ map blank (take i hs) → p ≡ blank d → given' ≡ given ++ p ∷ [] → given' ≡ map blank (take (i + 1) hs)
     one_given given given' p was made more =
-        let next : suc i ≡ i + 1 = omega arith in
-        more ∙ (λ j. was j ++ made j ∷ []) ∙ (λ j. map blank (take i hs) ++ blank (as_it_was j) ∷ []) ∙ sym (map_take_more blank hs i d lt) ∙ (λ j. map blank (take (next j) hs))
+        more ∙ (λ j. was j ++ made j ∷ []) ∙ (λ j. map blank (take i hs) ++ blank (as_it_was j) ∷ []) ∙ sym (map_more blank hs i d lt)
 
   pub hand_own : (o : OwnerView T) (ps : List (PermitView T)) (h : HandView T) → h ≡ hand_at o ps → h.own ≡ dealt_of o
   hand_own o ps h is = ap (λ (v : HandView T). v.own) is
@@ -97,7 +89,7 @@ module _ {T : Type 0} where
       let o = get_or os k d in
       let is : New o = new k d l in
       let same = same_parts n o in
-      (count_out n o is.0, one_told n o some_out, same.2 ∙ is.1, λ x here. known x (put_has os k o (any_default os k d o l) l x (subst (λ ys. Contains ys x) same.1 here))))
+      (count_out n o is.0, one_told n o some_out, same.2 ∙ is.1, λ x here. known x (put_has os k o (get_or_default os k d o l) l x (subst (λ ys. Contains ys x) same.1 here))))
 
   pub have_told : (os : List (OwnerView T)) (n m : ℕ) (own : List (Dealt T)) → n ≡ length os → m ≡ length os → own ≡ map dealt_of (map (many_out n) os) → All New os → All (HasTold m own) (map (many_out n) os)
   have_told [] n m own len count is new = All-nil (HasTold m own)
@@ -121,15 +113,13 @@ module _ {T : Type 0} where
 
   -- ---- items are dealt
 
-  pub with_length : (ds : List (Dealt T)) (at : ℕ) (x : T) → length (with_item ds at x) ≡ length ds
-  with_length [] at x = refl
-  with_length (d ∷ ds) zero x = refl
-  with_length (d ∷ ds) (suc at) x = ap suc (with_length ds at x)
-
   pub with_deques : (ds : List (Dealt T)) (at : ℕ) (x : T) → deques_of (with_item ds at x) ≡ deques_of ds
   with_deques [] at x = refl
   with_deques (d ∷ ds) zero x = refl
   with_deques (d ∷ ds) (suc at) x = ap (λ l. d.0 ∷ l) (with_deques ds at x)
+
+  pub with_length : (ds : List (Dealt T)) (at : ℕ) (x : T) → length (with_item ds at x) ≡ length ds
+  with_length ds at x = sym (length-map (with_item ds at x) (λ (d : Dealt T). d.0)) ∙ ap length (with_deques ds at x) ∙ length-map ds (λ (d : Dealt T). d.0)
 
   pub with_all : (ds : List (Dealt T)) (at : ℕ) (x : T) → at < length ds → IsPermutation (all_put ds ++ x ∷ []) (all_put (with_item ds at x))
   with_all [] at x lt = absurd (omega arith)
@@ -210,9 +200,7 @@ module _ {T : Type 0} where
   dealt_deques os = map-map (λ (d : Dealt T). d.0) dealt_of os
 
   pub back_dealt : (os : List (OwnerView T)) (rows : List (List T)) → map dealt_of (each_with one_back os rows) ≡ map dealt_of os
-  back_dealt [] rows = refl
-  back_dealt (o ∷ os) [] = refl
-  back_dealt (o ∷ os) (row ∷ rows) = ap (λ l. dealt_of o ∷ l) (back_dealt os rows)
+  back_dealt os rows = with-map one_back dealt_of (λ o row. refl) os rows
 
   -- all permits of a deque are told, and so many are out
   abbrev pub Counts : ℕ → OwnerView T → Type 0
@@ -292,7 +280,7 @@ module _ {T : Type 0} where
     where
       go : (i ≡ n) ⊎ (i ≡ n → ⊥) → IsPermutation (get_or os i d).put (get_or os i d).taken
       go (inl same) =
-          let at : get_or os i d ≡ e = ap (λ k. get_or os k d) same ∙ any_default os n d e (subst (λ k. k < length os) same below) ∙ sym is in
+          let at : get_or os i d ≡ e = ap (λ k. get_or os k d) same ∙ get_or_default os n d e (subst (λ k. k < length os) same below) ∙ sym is in
           subst (λ (o : OwnerView T). IsPermutation o.put o.taken) (sym at) empty
       go (inr other) = so_far i d (omega arith) below
 
@@ -300,7 +288,7 @@ module _ {T : Type 0} where
       → TookLast (rest_at os out) (rest_at os' out) x
   took_last os os' out i o o' x none is lt told (new, among) set_is = (
     flat_map (λ (v : OwnerView T). v.taken) os',
-    (λ j. rest_of ((ap (map dealt_of) set_is ∙ map_same_at dealt_of os i o o' is lt (ap dealt_of new)) j) (none j) (flat_map (λ (v : OwnerView T). v.taken) os')),
+    (λ j. rest_of ((ap (map dealt_of) set_is ∙ map-set_same dealt_of os i o' o (ap dealt_of new ∙ ap dealt_of is)) j) (none j) (flat_map (λ (v : OwnerView T). v.taken) os')),
     subst (λ l. IsPermutation (flat_map (λ (v : OwnerView T). v.taken) os ++ x ∷ []) (flat_map (λ (v : OwnerView T). v.taken) l)) (sym set_is)
         (flat_more (λ (v : OwnerView T). v.taken) os i o o' (x ∷ []) is lt (ap (λ (v : OwnerView T). v.taken) new)),
     put_has os i o is lt x (among o.put told),
@@ -318,10 +306,7 @@ module _ {T : Type 0} where
   abbrev pub known_in : List (PermitView T) → List T
   known_in ps = flat_map (λ p. p.known) ps
 
-  abbrev pub HandHolds : ℕ → OwnerView T → ℕ → List (PermitView T) → Type 0
-  HandHolds place o n ps = (place < n) × (o.out ≡ n) × (o.told ≡ Some o.put) × ((x : T) → Contains o.put x → Contains (known_in ps) x)
-
-  pub holds_still : (place place' n n' : ℕ) (o o' : OwnerView T) (ps ps' : List (PermitView T)) → place' ≡ place → n' ≡ n → o' ≡ o → known_in ps' ≡ known_in ps → HandHolds place o n ps → HandHolds place' o' n' ps'
+  pub holds_still : (place place' n n' : ℕ) (o o' : OwnerView T) (ps ps' : List (PermitView T)) → place' ≡ place → n' ≡ n → o' ≡ o → known_in ps' ≡ known_in ps → CanHold place n o ps → CanHold place' n' o' ps'
   holds_still place place' n n' o o' ps ps' p e w k (low, out, told, known) = (
     subst (λ m. place' < m) (sym e) (subst (λ m. m < n) (sym p) low),
     ap (λ (v : OwnerView T). v.out) w ∙ out ∙ sym e,
@@ -334,8 +319,7 @@ module _ {T : Type 0} where
       out ∙ many ∙ sym (length-map ps from_deque) ∙ ap (λ (v : HandView T). length v.deques) view ∙ ap length same ∙ length-map all (λ (d : Dealt T). d.0) ∙ count
 
 pub none_left : {A : Type 0} (xs : List A) → length xs ≡ 0 → xs ≡ []
-none_left [] e = refl
-none_left (x ∷ xs) e = absurd (omega arith)
+none_left xs e = nil_from_length xs e
 
 module _ {A B : Type 0} where
   pub map_push : (f : A → B) (xs xs' : List A) (x : A) → xs' ≡ xs ++ x ∷ [] → map f xs' ≡ map f xs ++ f x ∷ []

@@ -112,6 +112,12 @@ module _ {T : Type 0} where
       (length permits ≡ count) × (map (λ p. p.deque) permits ≡ deques_of own)
       × (flat_map (λ p. p.known) permits ≡ all_put own) × (flat_map (λ p. p.taken) permits ≡ [])
 
+  -- a hand has a place among its permits, its deque has told, all permits of that are out, and they tell what it told
+  abbrev pub CanHold : (place count : ℕ) → OwnerView T → List (PermitView T) → Type 0
+  CanHold place count o permits =
+      (place < count) × (o.out ≡ count) × (o.told ≡ Some o.put)
+      × ((x : T) → Contains o.put x → Contains (flat_map (λ p. p.known) permits) x)
+
   -- the hand of a worker that has not begun
   abbrev pub IsDealt : List (Dealt T) → HandView T → Type 0
   IsDealt own h = (h.deques ≡ deques_of own) × (h.known ≡ all_put own) × (h.taken ≡ [])

@@ -3,6 +3,7 @@ use Rattle.std.proofs.Common.{◌≡◌, ◌≢◌, inl, inr, ℕ, zero, suc, �
 use Rattle.std.specs.List.{Contains, flat_map, sum_by}
 use Rattle.std.specs.List.Sorted.{IsPermutation}
 use Rattle.std.proofs.lemmas.Option.{none-some}
+use Rattle.std.proofs.lemmas.List.{nil_from_length}
 use Rattle.std.proofs.lemmas.List.Elements.{All-nil, All-cons}
 use Rattle.std.proofs.lemmas.List.Sums.{sum_by-cons, sum_by-append}
 use Rattle.std.proofs.lemmas.List.Concat.{flat_map-append}
@@ -11,7 +12,7 @@ use mathlib.Core.Option.{some, some-injective, some-ne-none}
 use lib.ListN.{get_elem?}
 use Rattle.crossbeam_queue.proofs.Lists.{at_set, at_snoc, set_else}
 use Rattle.ledger.specs.declared.account.Account.{Account}
-use Rattle.ledger.specs.Ledger.{first_pass, has_put, has_taken, one_made, new_pass, both_of, given_back, tells, forgets, told_in, MayTell, AreTold, IsBalanced, FirstCounts, IdleIsEmpty, AreToldAlike, IsToldRight, put_by_all, taken_by_all, EachOnce}
+use Rattle.ledger.specs.Ledger.{account, first_pass, has_put, has_taken, one_made, new_pass, both_of, given_back, tells, forgets, told_in, MayTell, AreTold, IsBalanced, FirstCounts, IdleIsEmpty, AreToldAlike, IsToldRight, put_by_all, taken_by_all, EachOnce}
 use Rattle.ledger.proofs.Totals.{total_set, total_none, none_total, gather_same, gather_more, gather_none, set_commutes}
 
 module _ {T : Type 0} where
@@ -38,21 +39,31 @@ module _ {T : Type 0} where
       let two : IsPermutation (flat_map g less ++ g w) (flat_map g (set less port both)) = gather_more g less port v both (g w) (set_else views other port spent (λ s. apart (sym s)) ∙ at) e in
       subst (λ (l : List (Account T)). IsPermutation (flat_map g views) (flat_map g l)) (sym (set_commutes views port other both spent apart)) (IsPermutation-trans _ _ _ (IsPermutation-sym _ _ one) two)
 
-  last_part : (g : Account T → List T) (vs : List (Account T)) (u : Account T) → g u ≡ [] → flat_map g (vs ++ u ∷ []) ≡ flat_map g vs
-  last_part g vs u e = flat_map-append g vs (u ∷ []) ∙ ap (λ l. flat_map g vs ++ l) ((λ i. e i ++ []) ∙ refl) ∙ append-nil (flat_map g vs)
+  -- what the new pass lacks, and the first keeps, is the same in all
+  grown_same : (g : Account T → List T) (views : List (Account T)) (port : ℕ) (v l r : Account T) → get_elem? views port ≡ some v → g l ≡ g v → g r ≡ [] → flat_map g (set views port l ++ r ∷ []) ≡ flat_map g views
+  grown_same g views port v l r at e z =
+      flat_map-append g (set views port l) (r ∷ []) ∙ ap (λ ys. flat_map g (set views port l) ++ ys) ((λ i. z i ++ []) ∙ refl) ∙ append-nil (flat_map g (set views port l)) ∙ gather_same g views port v l at e
 
-  alone : (g : Account T → List T) (x : Account T) (xs : List (Account T)) → ((j : ℕ) (u : Account T) → get_elem? xs j ≡ some u → g u ≡ []) → flat_map g (x ∷ xs) ≡ g x
-  alone g x xs z = ap (λ l. g x ++ l) (gather_none g xs z) ∙ append-nil (g x)
+  alone : (g : Account T → List T) (views : List (Account T)) (v : Account T) → get_elem? views 0 ≡ some v → ((j : ℕ) (u : Account T) → get_elem? views j ≡ some u → j ≢ 0 → g u ≡ []) → flat_map g views ≡ g v
+  alone g [] v at z = absurd (some-ne-none v (sym at))
+  alone g (x ∷ xs) v at z = (λ i. g (some-injective x v at i) ++ gather_none g xs (λ j u here. z (suc j) u here (λ e. absurd (omega arith))) i) ∙ append-nil (g v)
 
   -- ---- the rule's parts
 
-  one_set : (views : List (Account T)) (port : ℕ) (v w : Account T) → get_elem? views port ≡ some v → w.made ≡ v.made → FirstCounts views → FirstCounts (set views port w)
-  one_set views port v w at e one j u here n = ⊎_elim (λ (x : (j ≡ port) × (w ≡ u)). ap (λ (y : Account T). y.made) (sym x.1) ∙ e ∙ one port v at (λ z. n (x.0 ∙ z)))
-      (λ (x : (j ≢ port) × (get_elem? views j ≡ some u)). one j u x.1 n) (at_set views port j w u here)
+  -- what holds of the pass that is set and of each other one, and of each old pass and the new one
+  set_each : (P : ℕ → Account T → Type 0) (views : List (Account T)) (port : ℕ) (w : Account T) → P port w → ((j : ℕ) (u : Account T) → j ≢ port → get_elem? views j ≡ some u → P j u)
+      → (j : ℕ) (u : Account T) → get_elem? (set views port w) j ≡ some u → P j u
+  set_each P views port w mine others j u here =
+      ⊎_elim (λ (x : (j ≡ port) × (w ≡ u)). subst (λ k. P k u) (sym x.0) (subst (P port) x.1 mine)) (λ (x : (j ≢ port) × (get_elem? views j ≡ some u)). others j u x.0 x.1) (at_set views port j w u here)
+
+  new_each : (P : ℕ → Account T → Type 0) (views : List (Account T)) (r : Account T) → ((j : ℕ) → P j r) → ((j : ℕ) (u : Account T) → get_elem? views j ≡ some u → P j u) → (j : ℕ) (u : Account T) → get_elem? (views ++ r ∷ []) j ≡ some u → P j u
+  new_each P views r mine old j u here = ⊎_elim (old j u) (λ (new : r ≡ u). subst (P j) new (mine j)) (at_snoc views r u j here)
+
+  first_set : (views : List (Account T)) (port : ℕ) (w : Account T) → (port ≢ 0 → w.made ≡ 0) → FirstCounts views → FirstCounts (set views port w)
+  first_set views port w mine first = set_each (λ j u. j ≢ 0 → u.made ≡ 0) views port w mine (λ j u _. first j u)
 
   idle_set : (views : List (Account T)) (port : ℕ) (w : Account T) → (w.parts ≡ 0 → (w.put ≡ []) × (w.taken ≡ [])) → IdleIsEmpty views → IdleIsEmpty (set views port w)
-  idle_set views port w mine idle j u here none = ⊎_elim (λ (x : (j ≡ port) × (w ≡ u)). subst (λ (y : Account T). (y.put ≡ []) × (y.taken ≡ [])) x.1 (mine (ap (λ (y : Account T). y.parts) x.1 ∙ none)))
-      (λ (x : (j ≢ port) × (get_elem? views j ≡ some u)). idle j u x.1 none) (at_set views port j w u here)
+  idle_set views port w mine idle = set_each (λ _ u. u.parts ≡ 0 → (u.put ≡ []) × (u.taken ≡ [])) views port w mine (λ j u _. idle j u)
 
   -- among these passes one that isn't given back was told this
   abbrev Knows : List (Account T) → Option (List T) → Type 0
@@ -62,17 +73,11 @@ module _ {T : Type 0} where
   abbrev Follow : List (Account T) → List (Account T) → Type 0
   Follow news olds = (j : ℕ) (u : Account T) → get_elem? news j ≡ some u → u.parts ≢ 0 → Knows olds u.told
 
-  follow_set : (views : List (Account T)) (port : ℕ) (v w : Account T) → get_elem? views port ≡ some v → v.parts ≢ 0 → w.told ≡ v.told → Follow (set views port w) views
-  follow_set views port v w at live e j u here lives = ⊎_elim (λ (x : (j ≡ port) × (w ≡ u)). (port, v, at, live, sym e ∙ ap (λ (y : Account T). y.told) x.1))
-      (λ (x : (j ≢ port) × (get_elem? views j ≡ some u)). (j, u, x.1, lives, refl)) (at_set views port j w u here)
-
-  follow_spent : (views : List (Account T)) (port : ℕ) (w : Account T) → w.parts ≡ 0 → Follow (set views port w) views
-  follow_spent views port w none j u here lives = ⊎_elim (λ (x : (j ≡ port) × (w ≡ u)). absurd (lives (ap (λ (y : Account T). y.parts) (sym x.1) ∙ none)))
-      (λ (x : (j ≢ port) × (get_elem? views j ≡ some u)). (j, u, x.1, lives, refl)) (at_set views port j w u here)
+  follow_set : (views : List (Account T)) (port : ℕ) (w : Account T) → (w.parts ≢ 0 → Knows views w.told) → Follow (set views port w) views
+  follow_set views port w mine = set_each (λ _ u. u.parts ≢ 0 → Knows views u.told) views port w mine (λ j u _ here lives. (j, u, here, lives, refl))
 
   follow_new : (views : List (Account T)) (r : Account T) → Knows views r.told → Follow (views ++ r ∷ []) views
-  follow_new views r knows j u here lives = ⊎_elim (λ (old : get_elem? views j ≡ some u). (j, u, old, lives, refl))
-      (λ (new : r ≡ u). subst (λ (y : Account T). Knows views y.told) new knows) (at_snoc views r u j here)
+  follow_new views r knows = new_each (λ _ u. u.parts ≢ 0 → Knows views u.told) views r (λ _ _. knows) (λ j u here lives. (j, u, here, lives, refl))
 
   follow_both : (a b c : List (Account T)) → Follow a b → Follow b c → Follow a c
   follow_both a b c f g j u here lives = let o = f j u here lives in subst (Knows c) o.4 (g o.0 o.1 o.2 o.3)
@@ -105,10 +110,10 @@ module _ {T : Type 0} where
       let whole = total_set (λ (u : Account T). u.made) views port v w at in
       let before = b.counted in
       let taken : taken_by_all (set views port w) ≡ taken_by_all views = gather_same (λ (u : Account T). u.taken) views port v w at refl in
-      let alike : AreToldAlike (set views port w) = alike_kept _ _ (follow_set views port v w at live refl) b.alike in
+      let alike : AreToldAlike (set views port w) = alike_kept _ _ (follow_set views port w (λ _. (port, v, at, live, refl))) b.alike in
       record {
         counted = omega arith;
-        first = one_set views port v w at refl b.first;
+        first = first_set views port w (b.first port v at) b.first;
         idle = idle_set views port w (λ none. absurd (live none)) b.idle;
         alike = alike;
         told = λ j u all here lives is. absurd (none-some all (sym untold ∙ alike port j w u (there views port w v at) here live lives ∙ is));
@@ -124,14 +129,14 @@ module _ {T : Type 0} where
       let parts = total_set (λ (u : Account T). u.parts) views port v w at in
       let whole = total_set (λ (u : Account T). u.made) views port v w at in
       let before = b.counted in
-      let follow = follow_set views port v w at live refl in
+      let follow = follow_set views port w (λ _. (port, v, at, live, refl)) in
       let put : put_by_all (set views port w) ≡ put_by_all views = gather_same (λ (u : Account T). u.put) views port v w at refl in
       let more : IsPermutation (taken_by_all views ++ xs) (taken_by_all (set views port w)) = gather_more (λ (u : Account T). u.taken) views port v w xs at refl in
       let moved : IsPermutation (put_by_all views) (taken_by_all (set views port w) ++ items) =
       IsPermutation-trans _ _ _ (subst (IsPermutation (put_by_all views)) (sym (append_assoc (taken_by_all views) xs items)) b.same) (IsPermutation-append_left items _ _ more) in
       record {
         counted = omega arith;
-        first = one_set views port v w at refl b.first;
+        first = first_set views port w (b.first port v at) b.first;
         idle = idle_set views port w (λ none. absurd (live none)) b.idle;
         alike = alike_kept _ _ follow b.alike;
         told = told_kept _ _ follow (by_same _ _ (sym put)) b.told;
@@ -148,124 +153,90 @@ module _ {T : Type 0} where
       (All-nil (Contains all))
 
   -- Where the first pass has every part, the others have none
-  others_idle : (views : List (Account T)) (port : ℕ) (v : Account T) → port ≡ 0 → v.parts ≡ v.made → sum_by (λ (u : Account T). u.parts) views ≡ sum_by (λ (u : Account T). u.made) views → FirstCounts views
-      → get_elem? views port ≡ some v → (x : Account T) (xs : List (Account T)) → views ≡ x ∷ xs → (x ≡ v) × ((j : ℕ) (u : Account T) → get_elem? xs j ≡ some u → u.parts ≡ 0)
-  others_idle views port v first all counted one at x xs is =
-      let at0 : get_elem? (x ∷ xs) 0 ≡ some v = ap (λ (l : List (Account T)). get_elem? l 0) (sym is) ∙ ap (λ (k : ℕ). get_elem? views k) (sym first) ∙ at in
-      let here : x ≡ v = some-injective x v at0 in
-      let parts : x.parts ≡ x.made = ap (λ (y : Account T). y.parts) here ∙ all ∙ sym (ap (λ (y : Account T). y.made) here) in
-      let none : sum_by (λ (u : Account T). u.made) xs ≡ 0 = total_none (λ (u : Account T). u.made) xs (λ j u e. one (suc j) u (ap (λ (l : List (Account T)). get_elem? l (suc j)) is ∙ e) (λ z. absurd (omega arith))) in
-      let sums : sum_by (λ (u : Account T). u.parts) (x ∷ xs) ≡ sum_by (λ (u : Account T). u.made) (x ∷ xs) = subst (λ (l : List (Account T)). sum_by (λ (u : Account T). u.parts) l ≡ sum_by (λ (u : Account T). u.made) l) is counted in
-      (here, none_total (λ (u : Account T). u.parts) xs (omega (arith, sum_by-cons (λ (u : Account T). u.parts) x xs, sum_by-cons (λ (u : Account T). u.made) x xs)))
+  others_idle : (views : List (Account T)) (v : Account T) → v.parts ≡ v.made → (items : List T) → EachOnce items views → get_elem? views 0 ≡ some v → (j : ℕ) (u : Account T) → get_elem? views j ≡ some u → j ≢ 0 → u.parts ≡ 0
+  others_idle [] v all items b at j u here n = absurd (some-ne-none v (sym at))
+  others_idle (x ∷ xs) v all items b at zero u here n = absurd (n refl)
+  others_idle (x ∷ xs) v all items b at (suc j) u here n =
+      let is : x ≡ v = some-injective x v at in
+      let parts : x.parts ≡ x.made = ap (λ (y : Account T). y.parts) is ∙ all ∙ sym (ap (λ (y : Account T). y.made) is) in
+      let none : sum_by (λ (y : Account T). y.made) xs ≡ 0 = total_none (λ (y : Account T). y.made) xs (λ k y e. b.first (suc k) y e (λ z. absurd (omega arith))) in
+      none_total (λ (y : Account T). y.parts) xs (omega (arith, parts, none, b.counted, sum_by-cons (λ (y : Account T). y.parts) x xs, sum_by-cons (λ (y : Account T). y.made) x xs)) j u here
+
+  others_empty : (views : List (Account T)) (v : Account T) → v.parts ≡ v.made → (items : List T) → EachOnce items views → get_elem? views 0 ≡ some v → (j : ℕ) (u : Account T) → get_elem? views j ≡ some u → j ≢ 0 → (u.put ≡ []) × (u.taken ≡ [])
+  others_empty views v all items b at j u here n = b.idle j u here (others_idle views v all items b at j u here n)
 
   -- of the others none is left but what was told what the first has put, and that is all that was put
   abbrev Settled : List (Account T) → Account T → Type 0
   Settled views v = ((j : ℕ) (u : Account T) → get_elem? views j ≡ some u → j ≢ 0 → u.parts ≢ 0 → u.told ≡ Some v.put) × IsPermutation v.put (put_by_all views)
 
   settled : (v : Account T) → v.parts ≢ 0 → MayTell v → (items : List T) (views : List (Account T)) → EachOnce items views → get_elem? views 0 ≡ some v → Settled views v
-  settled v live may items [] b at = absurd (some-ne-none v (sym at))
-  settled v live (inr told) items (x ∷ xs) b at = ((λ j u here n lives. b.alike j 0 u v here at lives live ∙ told), b.told 0 v v.put at live told)
-  settled v live (inl all) items (x ∷ xs) b at =
-      let r = others_idle (x ∷ xs) 0 v refl all b.counted b.first at x xs refl in
-      let put : put_by_all (x ∷ xs) ≡ v.put = alone (λ (u : Account T). u.put) x xs (λ j u e. (b.idle (suc j) u e (r.1 j u e)).0) ∙ ap (λ (y : Account T). y.put) r.0 in
-      (none_left x xs r.1, by_same _ _ (sym put))
-    where
-      none_left : (x : Account T) (xs : List (Account T)) → ((j : ℕ) (u : Account T) → get_elem? xs j ≡ some u → u.parts ≡ 0)
-          → (j : ℕ) (u : Account T) → get_elem? (x ∷ xs) j ≡ some u → j ≢ 0 → u.parts ≢ 0 → u.told ≡ Some v.put
-      none_left x xs none zero u here n lives = absurd (n refl)
-      none_left x xs none (suc j) u here n lives = absurd (lives (none j u here))
+  settled v live (inr told) items views b at = ((λ j u here n lives. b.alike j 0 u v here at lives live ∙ told), b.told 0 v v.put at live told)
+  settled v live (inl all) items views b at = (
+    (λ j u here n lives. absurd (lives (others_idle views v all items b at j u here n))),
+    by_same _ _ (sym (alone (λ (u : Account T). u.put) views v at (λ j u e n. (others_empty views v all items b at j u e n).0))),
+  )
 
-  -- The first pass makes one more: its own part of the rule, whatever the two are told
-  module _ (v l r : Account T) (live : v.parts ≢ 0) (l_made : l.made ≡ v.made + 1) (l_parts : l.parts ≡ v.parts) (l_put : l.put ≡ v.put) (l_taken : l.taken ≡ v.taken)
-      (r_made : r.made ≡ 0) (r_parts : r.parts ≡ 1) (r_put : r.put ≡ []) (r_taken : r.taken ≡ []) where
-    one_more : (port : ℕ) → port ≡ 0 → (items : List T) (views : List (Account T)) → EachOnce items views → get_elem? views port ≡ some v
-        → AreToldAlike (set views port l ++ r ∷ []) → ((put_by_all (set views port l ++ r ∷ []) ≡ put_by_all views) → IsToldRight (set views port l ++ r ∷ [])) → EachOnce items (set views port l ++ r ∷ [])
-    one_more port first items views b at alike told =
-        let vs : List (Account T) = set views port l in
-        let parts = total_set (λ (u : Account T). u.parts) views port v l at in
-        let whole = total_set (λ (u : Account T). u.made) views port v l at in
-        let before = b.counted in
-        let put : put_by_all (vs ++ r ∷ []) ≡ put_by_all views = last_part (λ (u : Account T). u.put) vs r r_put ∙ gather_same (λ (u : Account T). u.put) views port v l at l_put in
-        let taken : taken_by_all (vs ++ r ∷ []) ≡ taken_by_all views = last_part (λ (u : Account T). u.taken) vs r r_taken ∙ gather_same (λ (u : Account T). u.taken) views port v l at l_taken in
-        record {
-          counted = omega (arith, sum_by-append (λ (u : Account T). u.parts) vs (r ∷ []), sum_by-append (λ (u : Account T). u.made) vs (r ∷ []), sum_by-cons (λ (u : Account T). u.parts) r [], sum_by-cons (λ (u : Account T). u.made) r []);
-          first = λ j u here n. ⊎_elim
-              (λ (old : get_elem? vs j ≡ some u). ⊎_elim (λ (x : (j ≡ port) × (l ≡ u)). absurd (n (x.0 ∙ first)))
-              (λ (x : (j ≢ port) × (get_elem? views j ≡ some u)). b.first j u x.1 n) (at_set views port j l u old))
-              (λ (new : r ≡ u). ap (λ (y : Account T). y.made) (sym new) ∙ r_made) (at_snoc vs r u j here);
-          idle = λ j u here none. ⊎_elim (λ (old : get_elem? vs j ≡ some u). idle_set views port l (λ z. absurd (live (sym l_parts ∙ z))) b.idle j u old none)
-              (λ (new : r ≡ u). (ap (λ (y : Account T). y.put) (sym new) ∙ r_put, ap (λ (y : Account T). y.taken) (sym new) ∙ r_taken)) (at_snoc vs r u j here);
-          alike = alike;
-          told = told put;
-          same = subst (λ (p : List T × List T). IsPermutation p.0 (p.1 ++ items)) (λ i. (sym put i, sym taken i)) b.same;
-        }
+  -- The first pass makes one more: its own part of the rule, whatever the two have and are told
+  one_more : (port : ℕ) (v : Account T) (put taken : List T) (told told' : Option (List T)) → port ≡ 0 → v.parts ≢ 0 → (items : List T) (views : List (Account T)) → EachOnce items views → get_elem? views port ≡ some v
+      → let news = set views port (account (v.made + 1) v.parts put taken told) ++ new_pass told' ∷ [] in
+      AreToldAlike news → IsToldRight news → IsPermutation (put_by_all news) (taken_by_all news ++ items) → EachOnce items news
+  one_more port v put taken told told' first live items views b at alike right same =
+      let l : Account T = account (v.made + 1) v.parts put taken told in
+      let r : Account T = new_pass told' in
+      let vs : List (Account T) = set views port l in
+      let parts = total_set (λ (u : Account T). u.parts) views port v l at in
+      let whole = total_set (λ (u : Account T). u.made) views port v l at in
+      let before = b.counted in
+      record {
+        counted = omega (arith, sum_by-append (λ (u : Account T). u.parts) vs (r ∷ []), sum_by-append (λ (u : Account T). u.made) vs (r ∷ []), sum_by-cons (λ (u : Account T). u.parts) r [], sum_by-cons (λ (u : Account T). u.made) r []);
+        first = new_each (λ j u. j ≢ 0 → u.made ≡ 0) vs r (λ _ _. refl) (first_set views port l (λ n. absurd (n first)) b.first);
+        idle = new_each (λ _ u. u.parts ≡ 0 → (u.put ≡ []) × (u.taken ≡ [])) vs r (λ _ _. (refl, refl)) (idle_set views port l (λ none. absurd (live none)) b.idle);
+        alike = alike;
+        told = right;
+        same = same;
+      }
+
+  -- what it and the others are told where it makes one more that is told what it was told
+  follow_one : (views : List (Account T)) (port : ℕ) (v l : Account T) → get_elem? views port ≡ some v → v.parts ≢ 0 → l.parts ≡ v.parts → l.told ≡ v.told → Follow (set views port l ++ new_pass v.told ∷ []) views
+  follow_one views port v l at live parts e =
+      follow_both _ (set views port l) _ (follow_new (set views port l) (new_pass v.told) (port, l, there views port l v at, (λ z. live (sym parts ∙ z)), e)) (follow_set views port l (λ _. (port, v, at, live, sym e)))
 
   -- the first pass makes one more, which is told what it was told
   pub splits : (port : ℕ) (v : Account T) → port ≡ 0 → v.parts ≢ 0 → (items : List T) (views : List (Account T)) → EachOnce items views → get_elem? views port ≡ some v
       → EachOnce items (set views port (one_made v) ++ new_pass v.told ∷ [])
   splits port v first live items views b at =
-      let l : Account T = one_made v in
-      let r : Account T = new_pass v.told in
-      let follow : Follow (set views port l ++ r ∷ []) views =
-      follow_both _ (set views port l) _ (follow_new (set views port l) r (port, l, there views port l v at, live, refl)) (follow_set views port v l at live refl) in
-      one_more v l r live refl refl refl refl refl refl refl refl port first items views b at (alike_kept _ _ follow b.alike) (λ put. told_kept _ _ follow (by_same _ _ (sym put)) b.told)
+      let follow = follow_one views port v (one_made v) at live refl refl in
+      let put = grown_same (λ (u : Account T). u.put) views port v (one_made v) (new_pass v.told) at refl refl in
+      let taken = grown_same (λ (u : Account T). u.taken) views port v (one_made v) (new_pass v.told) at refl refl in
+      one_more port v v.put v.taken v.told v.told first live items views b at (alike_kept _ _ follow b.alike) (told_kept _ _ follow (by_same _ _ (sym put)) b.told)
+      (subst (λ (p : List T × List T). IsPermutation p.0 (p.1 ++ items)) (λ i. (sym put i, sym taken i)) b.same)
 
   -- the first pass, where it stands for all, knows that what was put is what was taken and what is there
   pub learns : (port : ℕ) (v : Account T) → port ≡ 0 → v.parts ≡ v.made → (items : List T) (views : List (Account T)) → EachOnce items views → get_elem? views port ≡ some v → IsBalanced v items
-  learns port v first all items [] b at = absurd (some-ne-none v (sym at))
-  learns port v first all items (x ∷ xs) b at =
-      let r = others_idle (x ∷ xs) port v first all b.counted b.first at x xs refl in
-      let idle : (j : ℕ) (u : Account T) → get_elem? xs j ≡ some u → (u.put ≡ []) × (u.taken ≡ []) = λ j u e. b.idle (suc j) u e (r.1 j u e) in
-      let put : put_by_all (x ∷ xs) ≡ v.put = alone (λ (u : Account T). u.put) x xs (λ j u e. (idle j u e).0) ∙ ap (λ (y : Account T). y.put) r.0 in
-      let taken : taken_by_all (x ∷ xs) ≡ v.taken = alone (λ (u : Account T). u.taken) x xs (λ j u e. (idle j u e).1) ∙ ap (λ (y : Account T). y.taken) r.0 in
+  learns port v first all items views b at =
+      let at' : get_elem? views 0 ≡ some v = ap (λ (k : ℕ). get_elem? views k) (sym first) ∙ at in
+      let empty = others_empty views v all items b at' in
+      let put = alone (λ (u : Account T). u.put) views v at' (λ j u e n. (empty j u e n).0) in
+      let taken = alone (λ (u : Account T). u.taken) views v at' (λ j u e n. (empty j u e n).1) in
       subst (λ (p : List T × List T). IsPermutation p.0 (p.1 ++ items)) (λ i. (put i, taken i)) b.same
 
   -- the first pass, where it stands for all and has taken all that was put, makes one more and forgets that
   pub settles : (port : ℕ) (v : Account T) → port ≡ 0 → v.parts ≢ 0 → v.parts ≡ v.made → v.told ≡ None → IsPermutation v.put v.taken → (items : List T) (views : List (Account T)) → EachOnce items views
       → get_elem? views port ≡ some v → EachOnce items (set views port (one_made (forgets v)) ++ new_pass v.told ∷ [])
-  settles port v first live all untold same items [] b at = absurd (some-ne-none v (sym at))
-  settles port v first live all untold same items (x ∷ xs) b at =
-      let views : List (Account T) = x ∷ xs in
+  settles port v first live all untold same items views b at =
       let l : Account T = one_made (forgets v) in
       let r : Account T = new_pass v.told in
       let vs : List (Account T) = set views port l in
-      let parts = total_set (λ (u : Account T). u.parts) views port v l at in
-      let whole = total_set (λ (u : Account T). u.made) views port v l at in
-      let before = b.counted in
-      let others = (others_idle views port v first all b.counted b.first at x xs refl).1 in
-      let follow : Follow (vs ++ r ∷ []) views = follow_both (vs ++ r ∷ []) vs views (follow_new vs r (port, l, there views port l v at, live, refl)) (follow_set views port v l at live refl) in
-      let idle : IdleIsEmpty (vs ++ r ∷ []) = λ j u here none. ⊎_elim (λ (old : get_elem? vs j ≡ some u). idle_set views port l (λ z. absurd (live z)) b.idle j u old none)
-      (λ (new : r ≡ u). (ap (λ (y : Account T). y.put) (sym new), ap (λ (y : Account T). y.taken) (sym new))) (at_snoc vs r u j here) in
-      let nothing : (j : ℕ) (u : Account T) → get_elem? (vs ++ r ∷ []) j ≡ some u → (u.put ≡ []) × (u.taken ≡ []) = λ j u here. ⊎_elim
-      (λ (old : get_elem? vs j ≡ some u). ⊎_elim (λ (e : (j ≡ port) × (l ≡ u)). (ap (λ (y : Account T). y.put) (sym e.1), ap (λ (y : Account T). y.taken) (sym e.1)))
-      (λ (e : (j ≢ port) × (get_elem? views j ≡ some u)). emptied x xs others b.idle j u e.1 (λ z. e.0 (z ∙ sym first))) (at_set views port j l u old))
-      (λ (new : r ≡ u). (ap (λ (y : Account T). y.put) (sym new), ap (λ (y : Account T). y.taken) (sym new))) (at_snoc vs r u j here) in
+      let follow = follow_one views port v l at live refl refl in
+      let nothing : (j : ℕ) (u : Account T) → get_elem? (vs ++ r ∷ []) j ≡ some u → (u.put ≡ []) × (u.taken ≡ []) =
+      new_each (λ _ u. (u.put ≡ []) × (u.taken ≡ [])) vs r (λ _. (refl, refl)) (set_each (λ _ u. (u.put ≡ []) × (u.taken ≡ [])) views port l (refl, refl)
+      (λ j u n here. others_empty views v all items b (ap (λ (k : ℕ). get_elem? views k) (sym first) ∙ at) j u here (λ z. n (z ∙ sym first)))) in
       let put : put_by_all (vs ++ r ∷ []) ≡ [] = gather_none (λ (u : Account T). u.put) (vs ++ r ∷ []) (λ j u here. (nothing j u here).0) in
       let taken : taken_by_all (vs ++ r ∷ []) ≡ [] = gather_none (λ (u : Account T). u.taken) (vs ++ r ∷ []) (λ j u here. (nothing j u here).1) in
-      let gone : items ≡ [] = none_left_over v.put v.taken items same (learns port v first all items views b at) in
-      record {
-        counted = omega (arith, sum_by-append (λ (u : Account T). u.parts) vs (r ∷ []), sum_by-append (λ (u : Account T). u.made) vs (r ∷ []), sum_by-cons (λ (u : Account T). u.parts) r [], sum_by-cons (λ (u : Account T). u.made) r []);
-        first = λ j u here n. ⊎_elim
-            (λ (old : get_elem? vs j ≡ some u). ⊎_elim (λ (e : (j ≡ port) × (l ≡ u)). absurd (n (e.0 ∙ first)))
-            (λ (e : (j ≢ port) × (get_elem? views j ≡ some u)). b.first j u e.1 n) (at_set views port j l u old))
-            (λ (new : r ≡ u). ap (λ (y : Account T). y.made) (sym new)) (at_snoc vs r u j here);
-        idle = idle;
-        alike = alike_kept (vs ++ r ∷ []) views follow b.alike;
-        told = λ j u whole here lives is. let k = follow j u here lives in absurd (none-some whole (sym untold ∙ b.alike port k.0 v k.1 at k.2 live k.3 ∙ k.4 ∙ is));
-        same = subst (λ (p : List T × List T × List T). IsPermutation p.0 (p.1 ++ p.2)) (λ i. (sym put i, sym taken i, sym gone i)) (IsPermutation-refl []);
-      }
-    where
-      emptied : (x : Account T) (xs : List (Account T)) → ((j : ℕ) (u : Account T) → get_elem? xs j ≡ some u → u.parts ≡ 0) → IdleIsEmpty (x ∷ xs)
-          → (j : ℕ) (u : Account T) → get_elem? (x ∷ xs) j ≡ some u → j ≢ 0 → (u.put ≡ []) × (u.taken ≡ [])
-      emptied x xs none idle zero u here n = absurd (n refl)
-      emptied x xs none idle (suc j) u here n = idle (suc j) u here (none j u here)
-
-      none_left_over : (put taken items : List T) → IsPermutation put taken → IsPermutation put (taken ++ items) → items ≡ []
-      none_left_over put taken [] p q = refl
-      none_left_over put taken (y ∷ ys) p q =
-          let a = length_permutation put taken p in
-          let b = length_permutation put (taken ++ y ∷ ys) q in
-          absurd (omega (arith, a, b, length-append taken (y ∷ ys)))
+      let gone : items ≡ [] = nil_from_length items (omega (arith, length_permutation _ _ same, length_permutation _ _ (learns port v first all items views b at), length-append v.taken items)) in
+      one_more port v [] [] v.told v.told first live items views b at (alike_kept (vs ++ r ∷ []) views follow b.alike)
+      (λ j u whole here lives is. let k = follow j u here lives in absurd (none-some whole (sym untold ∙ b.alike port k.0 v k.1 at k.2 live k.3 ∙ k.4 ∙ is)))
+      (subst (λ (p : List T × List T × List T). IsPermutation p.0 (p.1 ++ p.2)) (λ i. (sym put i, sym taken i, sym gone i)) (IsPermutation-refl []))
 
   -- the first pass makes one more, and tells it what was put
   pub told : (port : ℕ) (v : Account T) → port ≡ 0 → v.parts ≢ 0 → MayTell v → (items : List T) (views : List (Account T)) → EachOnce items views → get_elem? views port ≡ some v
@@ -273,15 +244,15 @@ module _ {T : Type 0} where
   told port v first live may items views b at =
       let l : Account T = one_made (tells v) in
       let r : Account T = new_pass (Some v.put) in
-      let vs : List (Account T) = set views port l in
       let s = settled v live may items views b (ap (λ (k : ℕ). get_elem? views k) (sym first) ∙ at) in
-      let is : (j : ℕ) (u : Account T) → get_elem? (vs ++ r ∷ []) j ≡ some u → u.parts ≢ 0 → u.told ≡ Some v.put =
-      λ j u here lives. ⊎_elim
-      (λ (old : get_elem? vs j ≡ some u). ⊎_elim (λ (x : (j ≡ port) × (l ≡ u)). ap (λ (y : Account T). y.told) (sym x.1))
-      (λ (x : (j ≢ port) × (get_elem? views j ≡ some u)). s.0 j u x.1 (λ z. x.0 (z ∙ sym first)) lives) (at_set views port j l u old))
-      (λ (new : r ≡ u). ap (λ (y : Account T). y.told) (sym new)) (at_snoc vs r u j here) in
-      one_more v l r live refl refl refl refl refl refl refl refl port first items views b at (λ i j a c at' at'' la lc. is i a at' la ∙ sym (is j c at'' lc))
-      (λ put i a all here lives e. subst (λ l. IsPermutation l (put_by_all (vs ++ r ∷ []))) (ap told_in (sym (is i a here lives) ∙ e)) (subst (IsPermutation v.put) (sym put) s.1))
+      let put = grown_same (λ (u : Account T). u.put) views port v l r at refl refl in
+      let taken = grown_same (λ (u : Account T). u.taken) views port v l r at refl refl in
+      let is : (j : ℕ) (u : Account T) → get_elem? (set views port l ++ r ∷ []) j ≡ some u → u.parts ≢ 0 → u.told ≡ Some v.put =
+      new_each (λ _ u. u.parts ≢ 0 → u.told ≡ Some v.put) (set views port l) r (λ _ _. refl)
+      (set_each (λ _ u. u.parts ≢ 0 → u.told ≡ Some v.put) views port l (λ _. refl) (λ j u n here. s.0 j u here (λ z. n (z ∙ sym first)))) in
+      one_more port v v.put v.taken (Some v.put) (Some v.put) first live items views b at (λ i j a c at' at'' la lc. is i a at' la ∙ sym (is j c at'' lc))
+      (λ i a all here lives e. subst (λ ys. IsPermutation ys (put_by_all (set views port l ++ r ∷ []))) (ap told_in (sym (is i a here lives) ∙ e)) (subst (IsPermutation v.put) (sym put) s.1))
+      (subst (λ (p : List T × List T). IsPermutation p.0 (p.1 ++ items)) (λ i. (sym put i, sym taken i)) b.same)
 
   -- the first pass takes another back
   pub merges : (port : ℕ) (v : Account T) (other : ℕ) (w : Account T) → port ≡ 0 → v.parts ≢ 0 → (items : List T) (views : List (Account T)) → EachOnce items views → get_elem? views port ≡ some v
@@ -298,12 +269,10 @@ module _ {T : Type 0} where
       let before = b.counted in
       let put : IsPermutation (put_by_all views) (put_by_all (set vs other spent)) = handed (λ (u : Account T). u.put) views port other v w both spent at at' apart refl refl in
       let taken : IsPermutation (taken_by_all views) (taken_by_all (set vs other spent)) = handed (λ (u : Account T). u.taken) views port other v w both spent at at' apart refl refl in
-      let follow : Follow (set vs other spent) views = follow_both _ vs _ (follow_spent vs other spent refl) (follow_set views port v both at live refl) in
+      let follow : Follow (set vs other spent) views = follow_both _ vs _ (follow_set vs other spent (λ lives. absurd (lives refl))) (follow_set views port both (λ _. (port, v, at, live, refl))) in
       record {
         counted = omega arith;
-        first = λ j u here n. ⊎_elim (λ (x : (j ≡ other) × (spent ≡ u)). ap (λ (y : Account T). y.made) (sym x.1))
-            (λ (x : (j ≢ other) × (get_elem? vs j ≡ some u)). ⊎_elim (λ (y : (j ≡ port) × (both ≡ u)). absurd (n (y.0 ∙ first)))
-            (λ (y : (j ≢ port) × (get_elem? views j ≡ some u)). b.first j u y.1 n) (at_set views port j both u x.1)) (at_set vs other j spent u here);
+        first = first_set vs other spent (λ _. refl) (first_set views port both (λ n. absurd (n first)) b.first);
         idle = idle_set vs other spent (λ _. (refl, refl)) (idle_set views port both (λ none. absurd (live (omega arith))) b.idle);
         alike = alike_kept _ _ follow b.alike;
         told = told_kept _ _ follow put b.told;

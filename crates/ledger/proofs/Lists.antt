@@ -1,6 +1,6 @@
 -- Lists that change at one place, and lists of lists.
-use Rattle.std.proofs.Common.{◌≡◌, ℕ, zero, suc, ◌+◌, ◌<◌, List, [], ◌∷◌, ◌++◌, length, map, take, drop, set, get_or, refl, sym, ap, ◌∙◌, subst, arith}
-use Rattle.std.proofs.lemmas.List.{length-map, map-append}
+use Rattle.std.proofs.Common.{◌≡◌, ℕ, zero, suc, ◌+◌, ◌<◌, List, [], ◌∷◌, ◌++◌, length, map, take, drop, set, get_or, refl, sym, ap, ◌∙◌, subst, add-one, arith}
+use Rattle.std.proofs.lemmas.List.{length-map, map-append, map_more}
 use Rattle.std.proofs.lemmas.List.Sorted.{IsPermutation-refl, IsPermutation-trans}
 use Rattle.std.specs.List.{AllZip}
 use Rattle.std.specs.List.Sorted.{IsPermutation}
@@ -24,14 +24,7 @@ module _ {A : Type 0} where
   mixed_more f (x ∷ xs) (suc i) d lt = ap (λ l. f x ∷ l) (mixed_more f xs i d (omega arith))
 
   pub map_take_more : {B : Type 0} (g : A → B) (xs : List A) (i : ℕ) (d : A) → i < length xs → map g (take (suc i) xs) ≡ map g (take i xs) ++ g (get_or xs i d) ∷ []
-  map_take_more g [] i d lt = absurd (omega arith)
-  map_take_more g (x ∷ xs) zero d lt = refl
-  map_take_more g (x ∷ xs) (suc i) d lt = ap (λ l. g x ∷ l) (map_take_more g xs i d (omega arith))
-
-module _ {A : Type 0} where
-  pub get_or-middle : (xs ys : List A) (y d : A) → get_or (xs ++ y ∷ ys) (length xs) d ≡ y
-  get_or-middle [] ys y d = refl
-  get_or-middle (x ∷ xs) ys y d = get_or-middle xs ys y d
+  map_take_more g xs i d lt = ap (λ k. map g (take k xs)) (sym (add-one i)) ∙ map_more g xs i d lt
 
 -- two lists whose elements agree in one part
 module _ {A B C : Type 0} (f : A → C) (g : B → C) where
@@ -58,12 +51,6 @@ module _ {A : Type 0} where
   Shuffled-next [] (f ∷ fs) rest y z h p = absurd h
   Shuffled-next (x ∷ xs) [] rest y z h p = (IsPermutation-trans x y z h.0 p, h.1)
   Shuffled-next (x ∷ xs) (f ∷ fs) rest y z h p = (h.0, Shuffled-next xs fs rest y z h.1 p)
-
-  pub Shuffled-more : (xs ys : List (List A)) (x y : List A) → Shuffled xs ys → IsPermutation x y → Shuffled (xs ++ x ∷ []) (ys ++ y ∷ [])
-  Shuffled-more [] [] x y h p = (p, tt)
-  Shuffled-more [] (z ∷ zs) x y h p = absurd h
-  Shuffled-more (z ∷ zs) [] x y h p = absurd h
-  Shuffled-more (a ∷ as') (b ∷ bs) x y h p = (h.0, Shuffled-more as' bs x y h.1 p)
 
   pub Shuffled-append : (as' bs xs ys : List (List A)) → Shuffled as' xs → Shuffled bs ys → Shuffled (as' ++ bs) (xs ++ ys)
   Shuffled-append [] bs [] ys h k = k

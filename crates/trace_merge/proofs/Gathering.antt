@@ -1,16 +1,25 @@
 -- Entries that are moved from the fronts of parts, tick by tick.
-use Rattle.std.proofs.Common.{◌≡◌, ◌⊎◌, ◌≤◌, ◌<◌, ◌+◌, ℕ, inl, inr, refl, sym, ap, ◌∙◌, subst, List, [], ◌∷◌, ◌++◌, length, length-append, append_assoc, arith, Option, Some, None, MatchOption, min, slice_index_or}
+use Rattle.std.proofs.Common.{◌≡◌, ◌⊎◌, ◌≤◌, ◌<◌, ◌+◌, ℕ, inl, inr, refl, sym, ap, ◌∙◌, subst, List, [], ◌∷◌, ◌++◌, length, length-append, append_assoc, map, arith, Option, Some, None, MatchOption, min, slice_index_or}
+use Rattle.std.specs.Global.{Global}
 use Rattle.std.specs.Option.{unwrap_or}
+use Rattle.std.specs.declared.collections.VecDeque.{VecDeque}
 use Rattle.std.specs.List.Sorted.{IsPermutation}
 use Rattle.std.proofs.lemmas.List.{append-nil}
 use Rattle.std.proofs.lemmas.List.Sorted.{IsPermutation-refl, IsPermutation-trans, IsPermutation-append_right, IsPermutation-append_comm, length_permutation}
 use Rattle.std.proofs.lemmas.Bool.{cases_lt}
 use Rattle.process_api.specs.EntryRecord.{EntryRecord}
+use Rattle.process_api.specs.declared.entry.Entry.{Entry}
 use Rattle.trace_merge.specs.Parts.{all_of}
 use Rattle.trace_merge.specs.Ticks.{BeginsBy, SomeBegins}
 
 abbrev Part : Type 0
 Part = List EntryRecord
+
+abbrev pub items_of : VecDeque Entry Global → Part
+items_of v = v.items
+
+abbrev pub lists_of : List (VecDeque Entry Global) → List Part
+lists_of vs = map items_of vs
 
 pub all_of-append : (ps qs : List Part) → all_of (ps ++ qs) ≡ all_of ps ++ all_of qs
 all_of-append [] qs = refl
@@ -59,16 +68,13 @@ module _ (tick : ℕ) (first : Part) (all : List Part) (merged more : Part) (lef
       goes (inr longer) = inr (omega (arith, longer, lengths, not_longer))
 
 module _ (tick : ℕ) (first : Part) (all : List Part) (merged : Part) (left : List Part) (h : IsTaking tick first all merged left []) where
-  pub taken_same : IsPermutation (first ++ all_of all) (merged ++ all_of left)
-  taken_same = h.same
-
   pub taken_fewer : SomeBegins tick all → length (all_of left) < length (all_of all)
   taken_fewer b = go (h.some b)
     where
       go : ⊥ ⊎ (length first < length merged) → length (all_of left) < length (all_of all)
       go (inl never) = absurd never
       go (inr longer) =
-          let e = length_permutation _ _ taken_same in
+          let e = length_permutation _ _ h.same in
           omega (arith, longer, e, length-append first (all_of all), length-append merged (all_of left))
 
 -- ---- the tick at which the first part begins

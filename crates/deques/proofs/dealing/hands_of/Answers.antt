@@ -31,18 +31,8 @@ loop-owner-init g c =
       room = search rules;
     }
 
-pub new-requires-clause-place : goal.new-requires-clause-place
-new-requires-clause-place g c =
-    let inv = c.loop-owner.invariant in
-    let own = map dealt_of c.args.owners.items in
-    let n = vec_len c.args.owners in
-    let ps = c.in-Some-next.permits in
-    let Q : Vec _ → Type 0 = λ v. AreBlank n own v.items in
-    let blank : Q ps = All-head Q ps (into_iter_items c.next-in-loop-owner.new.self) (subst (All Q) c.in-Some-next.ensures.items inv.blank) in
-    low c.loop-owner.place (length (into_iter_items c.loop-owner.owner-iterator)) (length (into_iter_items c.next.new.self)) n ps.len (length ps.items) inv.place (ap length c.in-Some.ensures.steps.0) blank.0 ps.ok.0
-
-pub new-requires-clause-out : goal.new-requires-clause-out
-new-requires-clause-out g c =
+pub new-requires : goal.new-requires
+new-requires g c =
     let inv = c.loop-owner.invariant in
     let own = map dealt_of c.args.owners.items in
     let n = vec_len c.args.owners in
@@ -50,25 +40,12 @@ new-requires-clause-out g c =
     let P : OwnerView _ → Type 0 = HasTold n own in
     let Q : Vec _ → Type 0 = λ v. AreBlank n own v.items in
     let told : P c.in-Some.owner = All-head P c.in-Some.owner (into_iter_items c.next.new.self) (subst (All P) c.in-Some.ensures.steps.0 inv.owners) in
-    let blank : Q ps = All-head Q ps (into_iter_items c.next-in-loop-owner.new.self) (subst (All Q) c.in-Some-next.ensures.items inv.blank) in
-    told.0 ∙ sym blank.0 ∙ sym ps.ok.0
-
-pub new-requires-clause-told : goal.new-requires-clause-told
-new-requires-clause-told g c =
-    let P : OwnerView _ → Type 0 = HasTold (vec_len c.args.owners) (map dealt_of c.args.owners.items) in
-    (All-head P c.in-Some.owner (into_iter_items c.next.new.self) (subst (All P) c.in-Some.ensures.steps.0 c.loop-owner.invariant.owners)).1
-
-pub new-requires-clause-known : goal.new-requires-clause-known
-new-requires-clause-known g c =
-    let inv = c.loop-owner.invariant in
-    let own = map dealt_of c.args.owners.items in
-    let n = vec_len c.args.owners in
-    let ps = c.in-Some-next.permits in
-    let P : OwnerView _ → Type 0 = HasTold n own in
-    let Q : Vec _ → Type 0 = λ v. AreBlank n own v.items in
-    let told : P c.in-Some.owner = All-head P c.in-Some.owner (into_iter_items c.next.new.self) (subst (All P) c.in-Some.ensures.steps.0 inv.owners) in
-    let blank : Q ps = All-head Q ps (into_iter_items c.next-in-loop-owner.new.self) (subst (All Q) c.in-Some-next.ensures.items inv.blank) in
-    λ x here. subst (λ l. Contains l x) (sym blank.2) (told.3 x here)
+    let blank : Q ps = All-head Q ps (into_iter_items c.next-in-loop-owner.new.self) (subst (All Q) c.in-Some-next.ensures.items inv.blank) in (
+      low c.loop-owner.place (length (into_iter_items c.loop-owner.owner-iterator)) (length (into_iter_items c.next.new.self)) n ps.len (length ps.items) inv.place (ap length c.in-Some.ensures.steps.0) blank.0 ps.ok.0,
+      told.0 ∙ sym blank.0 ∙ sym ps.ok.0,
+      told.1,
+      λ x here. subst (λ l. Contains l x) (sym blank.2) (told.3 x here),
+    )
 
 pub loop-owner-preserved : goal.loop-owner-preserved
 loop-owner-preserved g c =

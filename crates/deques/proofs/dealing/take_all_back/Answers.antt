@@ -34,47 +34,26 @@ module _ {T : Type 0} (hs owners : List (OwnerView T)) (ys : List (PermitView T)
 pub index_mut-requires : goal.index_mut-requires
 index_mut-requires g c =
     let b = c.into_iter-permit-iterator.ensures.into_iter_gives in
-    let ts = c.args.permits.items in
-    let ys = c.loop-permit.yielded in
-    let hs = c.args.owners.now.items in
-    let turn : (length ys < length ts) × (c.in-Some.permit ≡ get_or ts (length ys) c.in-Some.permit) =
-    YieldsList-turn (YieldsList-from_vec ts b.0 (b.1 ∙ c.args.permits.ok.0)) ys c.loop-permit.permit-iterator c.loop-permit.yielded_by c.next.result c.next.new.self c.in-Some.permit c.in-Some.is c.next.ensures.steps in
-    let lt : length ys < length hs = below_parts from_deque deque_of ts hs (length ys) c.requires.deques turn.0 in
-    omega (arith, lt, c.loop-permit.invariant.2, c.loop-permit.owners.ok.0, ap length c.loop-permit.invariant.3, with-length one_back hs (map stolen_by ys))
+    let turn = YieldsList-turn (YieldsList-from_vec c.args.permits.items b.0 (b.1 ∙ c.args.permits.ok.0)) c.loop-permit.yielded c.loop-permit.permit-iterator c.loop-permit.yielded_by c.next.result c.next.new.self c.in-Some.permit c.in-Some.is c.next.ensures.steps in
+    let lt = below_parts from_deque deque_of c.args.permits.items c.args.owners.now.items (length c.loop-permit.yielded) c.requires.deques turn.0 in
+    omega (arith, lt, c.loop-permit.invariant.2, c.loop-permit.owners.ok.0, ap length c.loop-permit.invariant.3, with-length one_back c.args.owners.now.items (map stolen_by c.loop-permit.yielded))
 
 pub take_back-requires-clause-deque : goal.take_back-requires-clause-deque
 take_back-requires-clause-deque g c =
     let b = c.into_iter-permit-iterator.ensures.into_iter_gives in
-    let ts = c.args.permits.items in
-    let ys = c.loop-permit.yielded in
-    let hs = c.args.owners.now.items in
-    let d = c.index_mut.result.now in
-    let p = c.in-Some.permit in
-    let turn : (length ys < length ts) × (p ≡ get_or ts (length ys) p) =
-    YieldsList-turn (YieldsList-from_vec ts b.0 (b.1 ∙ c.args.permits.ok.0)) ys c.loop-permit.permit-iterator c.loop-permit.yielded_by c.next.result c.next.new.self p c.in-Some.is c.next.ensures.steps in
-    of_deque hs c.loop-permit.owners.items ys c.loop-permit.at d c.index_mut.ensures.value c.loop-permit.invariant.3 c.loop-permit.invariant.2 ts p turn c.requires.deques
+    let turn = YieldsList-turn (YieldsList-from_vec c.args.permits.items b.0 (b.1 ∙ c.args.permits.ok.0)) c.loop-permit.yielded c.loop-permit.permit-iterator c.loop-permit.yielded_by c.next.result c.next.new.self c.in-Some.permit c.in-Some.is c.next.ensures.steps in
+    of_deque c.args.owners.now.items c.loop-permit.owners.items c.loop-permit.yielded c.loop-permit.at c.index_mut.result.now c.index_mut.ensures.value c.loop-permit.invariant.3 c.loop-permit.invariant.2 c.args.permits.items c.in-Some.permit turn c.requires.deques
 
 pub take_back-requires-clause-out : goal.take_back-requires-clause-out
 take_back-requires-clause-out g c =
     let b = c.into_iter-permit-iterator.ensures.into_iter_gives in
-    let ts = c.args.permits.items in
-    let ys = c.loop-permit.yielded in
-    let hs = c.args.owners.now.items in
-    let d = c.index_mut.result.now in
-    let turn : (length ys < length ts) × (c.in-Some.permit ≡ get_or ts (length ys) c.in-Some.permit) =
-    YieldsList-turn (YieldsList-from_vec ts b.0 (b.1 ∙ c.args.permits.ok.0)) ys c.loop-permit.permit-iterator c.loop-permit.yielded_by c.next.result c.next.new.self c.in-Some.permit c.in-Some.is c.next.ensures.steps in
-    let lt : length ys < length hs = below_parts from_deque deque_of ts hs (length ys) c.requires.deques turn.0 in
-    at_hand hs c.loop-permit.owners.items ys c.loop-permit.at d c.index_mut.ensures.value c.loop-permit.invariant.3 c.loop-permit.invariant.2 lt c.requires.out
+    let turn = YieldsList-turn (YieldsList-from_vec c.args.permits.items b.0 (b.1 ∙ c.args.permits.ok.0)) c.loop-permit.yielded c.loop-permit.permit-iterator c.loop-permit.yielded_by c.next.result c.next.new.self c.in-Some.permit c.in-Some.is c.next.ensures.steps in
+    let lt = below_parts from_deque deque_of c.args.permits.items c.args.owners.now.items (length c.loop-permit.yielded) c.requires.deques turn.0 in
+    at_hand c.args.owners.now.items c.loop-permit.owners.items c.loop-permit.yielded c.loop-permit.at c.index_mut.result.now c.index_mut.ensures.value c.loop-permit.invariant.3 c.loop-permit.invariant.2 lt c.requires.out
 
 pub loop-permit-preserved : goal.loop-permit-preserved
 loop-permit-preserved g c =
     let b = c.into_iter-permit-iterator.ensures.into_iter_gives in
-    let ts = c.args.permits.items in
-    let ys = c.loop-permit.yielded in
-    let hs = c.args.owners.now.items in
-    let d = c.index_mut.result.now in
-    let t = c.in-Some.permit in
-    let turn : (length ys < length ts) × (t ≡ get_or ts (length ys) t) =
-    YieldsList-turn (YieldsList-from_vec ts b.0 (b.1 ∙ c.args.permits.ok.0)) ys c.loop-permit.permit-iterator c.loop-permit.yielded_by c.next.result c.next.new.self t c.in-Some.is c.next.ensures.steps in
-    let more = one_more hs c.loop-permit.owners.items ys c.loop-permit.at d c.index_mut.ensures.value c.loop-permit.invariant.3 c.loop-permit.invariant.2 ts t turn c.requires.deques c.take_back.new.self c.take_back.ensures in
-    (tt, tt, length_more ys t c.loop-permit.at c.loop-permit.invariant.2, more)
+    let turn = YieldsList-turn (YieldsList-from_vec c.args.permits.items b.0 (b.1 ∙ c.args.permits.ok.0)) c.loop-permit.yielded c.loop-permit.permit-iterator c.loop-permit.yielded_by c.next.result c.next.new.self c.in-Some.permit c.in-Some.is c.next.ensures.steps in
+    let more = one_more c.args.owners.now.items c.loop-permit.owners.items c.loop-permit.yielded c.loop-permit.at c.index_mut.result.now c.index_mut.ensures.value c.loop-permit.invariant.3 c.loop-permit.invariant.2 c.args.permits.items c.in-Some.permit turn c.requires.deques c.take_back.new.self c.take_back.ensures in
+    (tt, tt, length_more c.loop-permit.yielded c.in-Some.permit c.loop-permit.at c.loop-permit.invariant.2, more)

@@ -1,19 +1,10 @@
-use Rattle.std.proofs.Common.{◌≡◌, ◌+◌, ◌<◌, ◌++◌, ◌∷◌, [], List, map, take, ap, ◌∙◌, sym, subst, rules, length, refl, arith, min, Some, true≢false}
+use Rattle.std.proofs.Common.{◌≡◌, ◌+◌, ◌<◌, ◌++◌, ◌∷◌, [], List, take, ap, ◌∙◌, sym, subst, rules, length, refl, arith, min, Some, true≢false}
 use Rattle.std.specs.Option.{unwrap_or}
-use Rattle.std.specs.Global.{Global}
-use Rattle.std.specs.declared.collections.VecDeque.{VecDeque}
 use Rattle.std.proofs.lemmas.List.{take_more, map-append}
 use Rattle.process_api.specs.EntryRecord.{EntryRecord}
-use Rattle.process_api.specs.declared.entry.Entry.{Entry}
-use Rattle.trace_merge.proofs.Gathering.{IsLeastOf, least_more, least_same}
+use Rattle.trace_merge.proofs.Gathering.{items_of, lists_of, IsLeastOf, least_more, least_same}
 use Rattle.trace_merge.proofs.by_tick.least_tick.Goals.{in-Some, in_default}
 use Rattle.trace_merge.proofs.by_tick.least_tick.Goals as goal
-
-abbrev items_of : VecDeque Entry Global → List EntryRecord
-items_of v = v.items
-
-abbrev lists_of : List (VecDeque Entry Global) → List (List EntryRecord)
-lists_of vs = map items_of vs
 
 none_there : (es : List EntryRecord) → (0 < length es → ⊥) → es ≡ []
 none_there [] none = refl

@@ -1,22 +1,8 @@
-use Rattle.std.proofs.Common.{◌≡◌, ◌++◌, ◌∷◌, [], List, map, ap, ◌∙◌, sym, subst, length, refl, arith}
+use Rattle.std.proofs.Common.{◌≡◌, ◌++◌, ◌∷◌, [], ap, ◌∙◌, sym, subst}
 use Rattle.std.specs.Vec.Iter.{into_iter_items}
-use Rattle.std.specs.Global.{Global}
-use Rattle.std.specs.declared.collections.VecDeque.{VecDeque}
-use Rattle.std.proofs.lemmas.List.{map-append}
-use Rattle.process_api.specs.EntryRecord.{EntryRecord}
-use Rattle.process_api.specs.declared.entry.Entry.{Entry}
-use Rattle.trace_merge.proofs.Gathering.{IsTaking, taking_goes, taken_fewer}
+use Rattle.std.proofs.lemmas.List.{map-append, nil_from_length}
+use Rattle.trace_merge.proofs.Gathering.{items_of, lists_of, IsTaking, taking_goes, taken_fewer}
 use Rattle.trace_merge.proofs.by_tick.take_tick.Goals as goal
-
-abbrev items_of : VecDeque Entry Global → List EntryRecord
-items_of v = v.items
-
-abbrev lists_of : List (VecDeque Entry Global) → List (List EntryRecord)
-lists_of vs = map items_of vs
-
-none_left : (vs : List (VecDeque Entry Global)) → length vs ≡ 0 → vs ≡ []
-none_left [] e = refl
-none_left (v ∷ vs) e = absurd (omega (arith, e))
 
 pub loop-part-preserved : goal.loop-part-preserved
 loop-part-preserved c =
@@ -36,7 +22,7 @@ loop-part-preserved c =
 
 pub returns-clause-fewer : goal.returns-clause-fewer
 returns-clause-fewer c =
-    let none : into_iter_items c.loop-part.part-iterator ≡ [] = none_left _ (sym c.loop-part.part-iterator.rest.ok.0 ∙ c.in-None.ensures.steps.0) in
+    let none : into_iter_items c.loop-part.part-iterator ≡ [] = nil_from_length _ (sym c.loop-part.part-iterator.rest.ok.0 ∙ c.in-None.ensures.steps.0) in
     let h : IsTaking c.args.tick c.args.merged.now.items (lists_of c.args.parts.items) c.loop-part.merged.items (lists_of c.loop-part.left.items) [] =
     subst (λ vs. IsTaking c.args.tick c.args.merged.now.items (lists_of c.args.parts.items) c.loop-part.merged.items (lists_of c.loop-part.left.items) (lists_of vs)) none c.loop-part.invariant in
     taken_fewer c.args.tick c.args.merged.now.items (lists_of c.args.parts.items) c.loop-part.merged.items (lists_of c.loop-part.left.items) h

@@ -1,13 +1,15 @@
-use Rattle.std.proofs.Common.{◌≡◌, ◌<◌, ◌+◌, ◌%◌, ℕ, sym, ap, ◌∙◌, subst, length, set, arith}
+use Rattle.std.proofs.Common.{◌≡◌, ◌<◌, ◌+◌, ◌%◌, ℕ, List, sym, ap, ◌∙◌, subst, length, set, arith}
 use Rattle.std.proofs.lemmas.Nat.{mod_below}
 use Rattle.std.proofs.lemmas.List.{length-map}
-use Rattle.deques.specs.Deques.{HandView, PermitView, TookOne}
+use Rattle.deques.specs.Deques.{OwnerView, HandView, PermitView, TookOne}
 use Rattle.deques.proofs.Dealings.{hand_at, hand_stole, known_same}
 use Rattle.deques.proofs.Deals.{holds_still, known_in}
 use Rattle.deques.proofs.hand.Hand.steal.Goals as goal
 
-some_place : (at n count : ℕ) → at < n → count ≡ n → 0 < count
-some_place at n count lt e = omega arith
+next_place : {T : Type 0} (o : OwnerView T) (ps now : List (PermitView T)) (h : HandView T) (at count : ℕ) → hand_at o ps ≡ h → count ≡ length h.deques → now ≡ ps → at < length now → (at + 1) % count < length now
+next_place o ps now h at count view e same lt =
+    let many : count ≡ length now = e ∙ ap (λ (v : HandView _). length v.deques) (sym view) ∙ length-map ps (λ (p : PermitView _). p.deque) ∙ ap length (sym same) in
+    subst (λ n. (at + 1) % count < n) many (mod_below (at + 1) count (omega (arith, lt, many)))
 
 pub invariant_of-self : goal.invariant_of-self
 invariant_of-self g c =
@@ -21,11 +23,9 @@ invariant_of-self-in-Some g c =
     let now = c.loop.self-inside in
     let old = c.self.inside in
     let inv = c.loop.invariant in
-    let count = c.len-count.result in
-    let at = (c.loop.at + 1) % count in
-    let many : count ≡ length now.permits.items =
-    c.len-count.ensures ∙ c.args.fronts.now.ok.0 ∙ ap length c.requires ∙ ap (λ (h : HandView _). length h.deques) (sym c.self.view_is) ∙ length-map c.self.inside.permits.items (λ (p : PermitView _). p.deque) ∙ ap length (sym inv.1) in
-    let lt : at < length now.permits.items = subst (λ n. at < n) many (mod_below (c.loop.at + 1) count (some_place c.loop.at _ count inv.0 many)) in
+    let at = (c.loop.at + 1) % c.len-count.result in
+    let lt : at < length now.permits.items =
+    next_place c.self.inside.owner c.self.inside.permits.items now.permits.items _ c.loop.at c.len-count.result c.self.view_is (c.len-count.ensures ∙ c.args.fronts.now.ok.0 ∙ ap length c.requires) inv.1 inv.0 in
     holds_still old.place now.place old.permits.len now.permits.len old.owner now.owner old.permits.items (set now.permits.items at c.steal.new.permit) inv.3 (now.permits.ok.0 ∙ ap length inv.1 ∙ sym old.permits.ok.0) inv.2
     (known_same now.owner now.permits.items at c.index_mut.result.now c.steal.new.permit c.index_mut.ensures.value lt (ap (λ p. p.known) c.in-Some.ensures.0) ∙ ap known_in inv.1) c.self.invariant
 
@@ -33,10 +33,8 @@ pub returns-in-Some : goal.returns-in-Some
 returns-in-Some g c =
     let now = c.loop.self-inside in
     let inv = c.loop.invariant in
-    let count = c.len-count.result in
-    let at = (c.loop.at + 1) % count in
-    let many : count ≡ length now.permits.items =
-    c.len-count.ensures ∙ c.args.fronts.now.ok.0 ∙ ap length c.requires ∙ ap (λ (h : HandView _). length h.deques) (sym c.self.view_is) ∙ length-map c.self.inside.permits.items (λ (p : PermitView _). p.deque) ∙ ap length (sym inv.1) in
-    let lt : at < length now.permits.items = subst (λ n. at < n) many (mod_below (c.loop.at + 1) count (some_place c.loop.at _ count inv.0 many)) in
+    let at = (c.loop.at + 1) % c.len-count.result in
+    let lt : at < length now.permits.items =
+    next_place c.self.inside.owner c.self.inside.permits.items now.permits.items _ c.loop.at c.len-count.result c.self.view_is (c.len-count.ensures ∙ c.args.fronts.now.ok.0 ∙ ap length c.requires) inv.1 inv.0 in
     subst (λ h. TookOne h (hand_at now.owner (set now.permits.items at c.steal.new.permit)) c.in-Some.item) ((λ i. hand_at (inv.2 i) (inv.1 i)) ∙ c.self.view_is)
     (hand_stole now.owner now.permits.items at c.index_mut.result.now c.steal.new.permit c.index_mut.ensures.value lt c.in-Some.item c.in-Some.ensures)
