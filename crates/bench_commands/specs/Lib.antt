@@ -1,8 +1,8 @@
 pub mod Compare
 pub mod Mode
 pub mod Fault
-pub mod Statuses
 pub mod Scenario
 pub mod Answer
 pub mod Why
 pub mod Serve
+pub mod Inside

@@ -2,5 +2,5 @@ pub mod Kept
 pub mod Rounds
 pub mod State
 pub mod Orderly
-pub mod Whole
 pub mod Laws
+pub mod Inside

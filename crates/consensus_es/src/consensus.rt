@@ -52,7 +52,7 @@ impl EsConsensus {
 }
 
 impl Algorithm for EsConsensus {
-    ghost use Rattle.consensus_es.specs.Whole.{algorithm_of, answered_err};
+    ghost use Rattle.consensus_es.specs.Inside.Whole.{algorithm_of, answered_err};
 
     ghost state = { algorithm_of };
 

@@ -5,7 +5,7 @@ use Rattle.std.proofs.lemmas.List.Elements.{filter-append}
 use Rattle.process_api.specs.Numbers.{others}
 use Rattle.scenario_record.specs.Record.{outages_on}
 use Rattle.drawing.specs.Bands.{bands}
-use Rattle.drawing.specs.Drawn.{AreRowsOf, pair_in, bands_in, row_at, bars_in, has_row_in}
+use Rattle.drawing.specs.Inside.Drawn.{AreRowsOf, pair_in, bands_in, row_at, bars_in, has_row_in}
 use Rattle.drawing.specs.Layout.{row_top, subjects}
 use Rattle.drawing.specs.Suspicions.{pair_at, has_bar, has_row, row_bands, upper_bars}
 use Rattle.drawing.specs.declared.bars.Bar.{Bar}

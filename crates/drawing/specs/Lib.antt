@@ -7,5 +7,4 @@ pub mod Suspicions
 pub mod Lanes
 pub mod LettersPicture
 pub mod Refusals
-pub mod Drawn
-pub mod LettersDrawn
+pub mod Inside

@@ -43,7 +43,7 @@ pub(crate) struct Rows {
 }
 
 impl Run<'_> {
-    ghost use Rattle.drawing.specs.Drawn.{AreRows, IsNext, own_of};
+    ghost use Rattle.drawing.specs.Inside.Drawn.{AreRows, IsNext, own_of};
     ghost use Rattle.drawing.specs.Suspicions.{row_end};
 
     /// The tick at which the rows of a process end.
@@ -54,7 +54,7 @@ impl Run<'_> {
     }
 
     /// Appends the row of a process itself, which begins at `top`.
-    #[tactic(auto, unfolding(crate::specs::Drawn::own_of, crate::specs::Suspicions::own_at))]
+    #[tactic(auto, unfolding(crate::specs::Inside::Drawn::own_of, crate::specs::Suspicions::own_at))]
     pub fn push_own(
         &self,
         alloc: Global,

@@ -22,10 +22,10 @@ use std::alloc::{AllocError, Global};
 use svg::{Picture, Shape, svg_text};
 
 impl Run<'_> {
-    ghost use Rattle.drawing.specs.LettersDrawn.{all_marks_in, lines_in};
+    ghost use Rattle.drawing.specs.Inside.LettersDrawn.{all_marks_in, lines_in};
 
     /// Appends the lines of all processes.
-    #[tactic(auto, unfolding(crate::specs::Drawn::own_of, crate::specs::LettersDrawn::line_in, crate::specs::LettersPicture::line_shapes))]
+    #[tactic(auto, unfolding(crate::specs::Inside::Drawn::own_of, crate::specs::Inside::LettersDrawn::line_in, crate::specs::LettersPicture::line_shapes))]
     fn push_lines(
         &self,
         alloc: Global,

@@ -118,7 +118,7 @@ impl Ticks {
 }
 
 impl Run<'_> {
-    ghost use Rattle.drawing.specs.LettersDrawn.{marks_in, spot_of, turns_in, turns_of_others};
+    ghost use Rattle.drawing.specs.Inside.LettersDrawn.{marks_in, spot_of, turns_in, turns_of_others};
 
     /// Where the marks of an observer and a subject stand.
     fn spot(&self, observer: Pid, subject: Pid) -> Spot

@@ -43,7 +43,7 @@ fn first_top(share: Option<u32>) -> u32
 }
 
 impl Run<'_> {
-    ghost use Rattle.drawing.specs.Drawn.{ArePairBars, AreRowsOf, bars_in, pair_of};
+    ghost use Rattle.drawing.specs.Inside.Drawn.{ArePairBars, AreRowsOf, bars_in, pair_of};
     ghost use Rattle.drawing.specs.Suspicions.{upper_bars};
 
     /// The bars of an observer and a subject on a layer.

@@ -6,7 +6,7 @@ use Rattle.process_api.specs.Numbers.{numbers_to}
 use Rattle.scenario_record.specs.Ranges.{IsInRange}
 use Rattle.scenario_record.specs.Record.{Record, opening_mind}
 use Rattle.trace_laws.specs.ScenarioSetting.{setting_of}
-use Rattle.event_list.specs.Standing.{Stands}
+use Rattle.event_list.specs.Inside.Standing.{Stands}
 use Rattle.trace_laws.specs.Step.{Events, Process}
 use Rattle.trace_laws.specs.World.{starts, opening, opened}
 use Rattle.trace_laws.proofs.Closed.{opening_world}

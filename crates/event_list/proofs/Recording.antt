@@ -6,7 +6,7 @@ use Rattle.process_api.specs.Mind.{Mind}
 use Rattle.steps.specs.Posting.{Posted}
 use Rattle.event_list.specs.Following.{WereTaken}
 use Rattle.trace_laws.specs.Setting.{Setting}
-use Rattle.event_list.specs.Standing.{Stands}
+use Rattle.event_list.specs.Inside.Standing.{Stands}
 use Rattle.trace_laws.specs.Step.{Events, Process}
 use Rattle.trace_laws.specs.World.{IsTrace}
 use Rattle.trace_laws.proofs.Reaching.{reached_front}

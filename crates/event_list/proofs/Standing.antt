@@ -12,7 +12,7 @@ use Rattle.scenario_record.specs.Record.{Record, place_in}
 use Rattle.trace_laws.specs.ScenarioSetting.{setting_of}
 use Rattle.pending_events.specs.Pending.{IsEmpty}
 use Rattle.trace_laws.specs.Setting.{Setting, IsSound, IsProcess}
-use Rattle.event_list.specs.Standing.{HasPosted, Stands, IsStepped}
+use Rattle.event_list.specs.Inside.Standing.{HasPosted, Stands, IsStepped}
 use Rattle.trace_laws.specs.Reached.{IsReached}
 use Rattle.steps.specs.Posting.{Posted, posted_in, posted_along, ArePosted}
 use Rattle.trace_laws.specs.Step.{Events, Process, step}

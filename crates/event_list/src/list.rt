@@ -11,7 +11,7 @@ ghost use Rattle.event_list.specs.Following.{IsCutShort, IsRecorded, IsRefusal, 
 ghost use Rattle.trace_laws.specs.ScenarioSetting.{setting_of};
 ghost use Rattle.steps.specs.Seat.{process_of, IsMindIn, IsSeated};
 ghost use Rattle.trace_laws.specs.Setting.{IsProcess};
-ghost use Rattle.event_list.specs.Standing.{Stands, IsStepped};
+ghost use Rattle.event_list.specs.Inside.Standing.{Stands, IsStepped};
 ghost use Rattle.trace_laws.specs.Step.{Process, step};
 ghost use Rattle.trace_laws.specs.World.{starts, opened, IsTrace};
 

@@ -7,7 +7,7 @@ use Rattle.process_api.specs.Freshness.{heard}
 use Rattle.process_api.specs.Numbers.{change}
 use Rattle.process_api.specs.Place.{Place}
 use Rattle.process_api.specs.declared.numbers.FreshnessNumbers.{FreshnessNumbers}
-use Rattle.freshness_detector.specs.Tables.{state_by}
+use Rattle.freshness_detector.specs.Inside.Tables.{state_by}
 
 module _ (latest : List (Option ℕ)) (q j : ℕ) (g : Option ℕ) (inside : q < length latest)
     (is : (i : ℕ) → option_map_or (nat_le i) g false ≡ (nat_le i j || option_map_or (nat_le i) (slice_index_or latest q None) false)) where

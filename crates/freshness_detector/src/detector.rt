@@ -5,7 +5,7 @@ ghost use Rattle.process_api.specs.Detector.{is_freshness};
 ghost use Rattle.process_api.specs.declared.numbers.DetectorNumbers.TheVariants.{Freshness};
 ghost use Rattle.scenario_record.specs.Numbers.{AreFreshnessInRange};
 ghost use Rattle.scenario_record.specs.Opening.{base_of};
-ghost use Rattle.freshness_detector.specs.Tables.{state_by, AreSuspects};
+ghost use Rattle.freshness_detector.specs.Inside.Tables.{state_by, AreSuspects};
 
 use crate::count::{greatest, has_come, next};
 use process_api::{
@@ -39,7 +39,7 @@ pub struct FreshnessDetector {
 }
 
 impl FreshnessDetector {
-    ghost use Rattle.freshness_detector.specs.View.{state_of, is_watched, is_stale_at, suspected_at, checked_by, heard_by, noted_by, next_check_of, answer_of};
+    ghost use Rattle.freshness_detector.specs.Inside.View.{state_of, is_watched, is_stale_at, suspected_at, checked_by, heard_by, noted_by, next_check_of, answer_of};
 
     /// The detector with which a process opens that has the numbers of this kind: it sent no heartbeat, reached no
     /// point and suspects nobody. Its table has a place for each process, and nothing else in it needs memory.
@@ -187,7 +187,7 @@ impl FreshnessDetector {
 }
 
 impl Detector for FreshnessDetector {
-    ghost use Rattle.freshness_detector.specs.View.{lower_of};
+    ghost use Rattle.freshness_detector.specs.Inside.View.{lower_of};
 
     ghost lower = { lower_of };
 

@@ -8,7 +8,7 @@ use Rattle.process_api.specs.declared.action.Note.TheVariants.{Round, Decided, N
 use Rattle.process_api.specs.EntryRecord.{EntryRecord}
 use Rattle.judges.specs.declared.outcomes.Outcome.{Outcome}
 use Rattle.judges.specs.Outcomes.{timed, notes_of, is_answer, answer_of, round_of, first_answer, value_of, tick_of, greatest_round, outcome_of, outcome, outcomes}
-use Rattle.judges.specs.Noting.{answered, noted, all_noted}
+use Rattle.judges.specs.Inside.Noting.{answered, noted, all_noted}
 use Rattle.std.proofs.lemmas.List.{length-map, map-append, get_or-set_same, get_or-set_other, length-set, get_or_append_left, get_or-append_right, same_lists}
 use Rattle.process_api.specs.Numbers.{numbers_to}
 

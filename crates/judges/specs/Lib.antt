@@ -4,7 +4,6 @@ pub mod Out
 pub mod Verdicts
 pub mod Meaning
 pub mod Outcomes
-pub mod Noting
 pub mod Turns
 pub mod Pair
 pub mod Ends
@@ -14,3 +13,4 @@ pub mod Grid
 pub mod Judging
 pub mod Agreement
 pub mod Blame
+pub mod Inside

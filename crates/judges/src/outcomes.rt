@@ -4,7 +4,7 @@ ghost use Rattle.process_api.specs.EntryRecord.{EntryRecord};
 ghost use Rattle.scenario_record.specs.Ranges.{IsInRange};
 ghost use Rattle.judges.specs.Agreement.{Agree, DecidesOnce, IsCoordinated};
 ghost use Rattle.judges.specs.Outcomes.{outcome, outcomes};
-ghost use Rattle.judges.specs.Noting.{all_noted, noted};
+ghost use Rattle.judges.specs.Inside.Noting.{all_noted, noted};
 
 use followers::{Follower, follow_all};
 use process_api::{Entry, Note, Pid, Trace};

@@ -1,4 +1,4 @@
 pub mod Letters
 pub mod Traces
 pub mod LettersText
-pub mod Book
+pub mod Inside

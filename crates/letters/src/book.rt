@@ -74,7 +74,7 @@ impl<'a> LetterBook<'a> {
 }
 
 impl Listener for LetterBook<'_> {
-    ghost use Rattle.letters.specs.Book.{HasHeard};
+    ghost use Rattle.letters.specs.Inside.Book.{HasHeard};
 
     ghost heard = { HasHeard };
 

@@ -7,7 +7,7 @@ use Rattle.std.proofs.lemmas.List.Elements.{All-append, All-take, All-drop}
 use Rattle.process_api.specs.declared.message.Letter.{Letter}
 use Rattle.mailboxes.specs.Mailbox.{MailboxId, HomeView}
 use Rattle.mailboxes.specs.Mailboxes.{SlipView, posted_to, list_of, letters_in}
-use Rattle.mailboxes.specs.Emptying.{AreToEmpty, AreEmptied}
+use Rattle.mailboxes.specs.Inside.Emptying.{AreToEmpty, AreEmptied}
 use Rattle.mailboxes.proofs.Homes.{mailbox_of, back_of, Even}
 use Rattle.ledger.proofs.Lists.{Shuffled, Shuffled-append, Shuffled-at}
 

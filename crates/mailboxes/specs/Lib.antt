@@ -1,3 +1,3 @@
 pub mod Mailbox
 pub mod Mailboxes
-pub mod Emptying
+pub mod Inside

@@ -1,7 +1,7 @@
 //! The emptying of the mailboxes: one after the other, or by several threads.
 ghost use Rattle.std.specs.Prelude.{◌≡◌, ◌++◌, IfOk};
 ghost use Rattle.std.specs.Thread.{IsSync};
-ghost use Rattle.mailboxes.specs.Emptying.{AreToEmpty, AreEmptied};
+ghost use Rattle.mailboxes.specs.Inside.Emptying.{AreToEmpty, AreEmptied};
 
 use crate::mailbox::{Home, Mailbox};
 use process_api::Letter;

@@ -12,9 +12,9 @@ use Rattle.std.proofs.lemmas.List.{append-nil}
 use Rattle.process_api.specs.Order.{key_cmp}
 use Rattle.process_api.specs.declared.key.Key.{Key}
 use Rattle.pending_events.specs.declared.calendar.Calendar.{Calendar}
-use Rattle.pending_events.specs.Buckets.{latest, Buckets, bucket, HasTick, IsFiled}
-use Rattle.pending_events.specs.Calendar.{IsNear, near_at, held_at, IsVacant, IsCalendar, HoldsSame, IsAdded, IsFirst, IsTaken, NoneAhead, flat_ring}
-use Rattle.pending_events.specs.Lanes.{lane}
+use Rattle.pending_events.specs.Inside.Buckets.{latest, Buckets, bucket, HasTick, IsFiled}
+use Rattle.pending_events.specs.Inside.Calendar.{IsNear, near_at, held_at, IsVacant, IsCalendar, HoldsSame, IsAdded, IsFirst, IsTaken, NoneAhead, flat_ring}
+use Rattle.pending_events.specs.Inside.Lanes.{lane}
 use Rattle.trace_laws.specs.Step.{Event}
 use Rattle.process_api.proofs.Lists.{both, weaker}
 use Rattle.pending_events.proofs.Falling.{find_append, held, none_latest, or_None}

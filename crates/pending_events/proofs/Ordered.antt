@@ -22,8 +22,8 @@ use Rattle.process_api.specs.Order.{key_cmp}
 use Rattle.process_api.specs.declared.key.Key.{Key}
 use Rattle.process_api.specs.declared.message.StepInput.{StepInput}
 use Rattle.pending_events.specs.declared.calendar.Calendar.{Calendar}
-use Rattle.pending_events.specs.Buckets.{latest, Falls, Buckets, bucket, HasTick, IsStowed, IsPopped, flat}
-use Rattle.pending_events.specs.Calendar.{near_at, held_at, IsVacant, IsCalendar, HoldsSame, IsAdded, IsFirst, IsTaken, IsInOrder, seen_at, all_held, flat_ring}
+use Rattle.pending_events.specs.Inside.Buckets.{latest, Falls, Buckets, bucket, HasTick, IsStowed, IsPopped, flat}
+use Rattle.pending_events.specs.Inside.Calendar.{near_at, held_at, IsVacant, IsCalendar, HoldsSame, IsAdded, IsFirst, IsTaken, IsInOrder, seen_at, all_held, flat_ring}
 use Rattle.trace_laws.specs.Step.{Event, Events}
 use Rattle.process_api.proofs.KeyOrder.{keys_total, exact_keys, same_or_not, ticks_rise}
 use Rattle.trace_laws.proofs.Sets.{apart, not_None, tied}

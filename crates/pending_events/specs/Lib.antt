@@ -1,4 +1,2 @@
-pub mod Buckets
-pub mod Calendar
-pub mod Lanes
 pub mod Pending
+pub mod Inside

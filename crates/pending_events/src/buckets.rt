@@ -4,8 +4,8 @@ ghost use Rattle.std.specs.List.Sorted.{IsPermutation};
 ghost use Rattle.std.specs.BTreeMap.{IsOrdered};
 ghost use Rattle.std.specs.Ordering.{nat_cmp};
 ghost use Rattle.process_api.specs.declared.key.Key.{Key as KeyValue};
-ghost use Rattle.pending_events.specs.Buckets.{EndsAt, Falls, HasTick, IsFiled, IsPopped, IsSame, IsStowed, latest};
-ghost use Rattle.pending_events.specs.Calendar.{IsInOrder, IsVacant, seen_at};
+ghost use Rattle.pending_events.specs.Inside.Buckets.{EndsAt, Falls, HasTick, IsFiled, IsPopped, IsSame, IsStowed, latest};
+ghost use Rattle.pending_events.specs.Inside.Calendar.{IsInOrder, IsVacant, seen_at};
 
 use crate::calendar::Calendar;
 use crate::lanes::put_in_order;

@@ -2,9 +2,9 @@
 ghost use Rattle.std.specs.Prelude.{◌≡◌, ◌≢◌, ◌++◌, ◌<◌, ◌≤◌, ◌%◌, ◌⊎◌, ℕ, [], ◌∷◌, IfOk, MatchOption, OnErr, OnOk, false, length, true, vec_len};
 ghost use Rattle.std.specs.BTreeMap.{IsLowerBound, IsOrdered, get};
 ghost use Rattle.std.specs.Ordering.{nat_cmp};
-ghost use Rattle.pending_events.specs.Buckets.{HasTick, bucket};
-ghost use Rattle.pending_events.specs.Calendar.{HoldsSame, IsAdded, IsCalendar, IsFirst, IsNear, IsTaken, IsVacant, NoneAhead, near_at, year};
-ghost use Rattle.pending_events.specs.Lanes.{lane};
+ghost use Rattle.pending_events.specs.Inside.Buckets.{HasTick, bucket};
+ghost use Rattle.pending_events.specs.Inside.Calendar.{HoldsSame, IsAdded, IsCalendar, IsFirst, IsNear, IsTaken, IsVacant, NoneAhead, near_at, year};
+ghost use Rattle.pending_events.specs.Inside.Lanes.{lane};
 
 use crate::buckets::{file, furnish};
 use crate::lanes::open_lanes;

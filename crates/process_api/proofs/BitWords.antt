@@ -10,7 +10,7 @@ use Rattle.std.proofs.lemmas.Bool.Decides.{nat_tests}
 use Rattle.std.proofs.lemmas.List.{get_or-set_same, get_or-set_other}
 use Rattle.std.proofs.lemmas.Nat.{pow_pos, mod-pow-add, mod_below, ones_cat}
 use Rattle.std.proofs.lemmas.Nat.Bits.{bit_at-zero, bit_at-lt, bit_at_or, bit_at_and, bit_at_xor, bit_at_ones, bit_at_ones_above, bit_at_set_same, bit_at_set_other, bit_at_clear_same, bit_at_clear_other, bit_at-trailing_zeros}
-use Rattle.process_api.specs.Bits.{is_set, members}
+use Rattle.process_api.specs.Inside.Bits.{is_set, members}
 use Rattle.process_api.proofs.Told.{len-more}
 
 -- the place of a bit in its word

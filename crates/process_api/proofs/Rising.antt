@@ -7,7 +7,7 @@ use Rattle.std.specs.Iterator.{YieldsFirst, MakesProgress, item_count}
 use borrow.Author.Tests.{eq-eqb, ne_eqb}
 use Rattle.std.specs.Cmp.{nat_cmp_total}
 use Rattle.std.proofs.lemmas.Bool.Decides.{nat_tests}
-use Rattle.process_api.specs.Bits.{members}
+use Rattle.process_api.specs.Inside.Bits.{members}
 use Rattle.process_api.specs.Bounds.{most_processes}
 use Rattle.process_api.specs.InOrder.{in_order}
 use Rattle.process_api.specs.Numbers.{numbers_to}

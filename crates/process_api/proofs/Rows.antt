@@ -8,7 +8,7 @@ use Rattle.std.proofs.lemmas.List.{get_or-set_same, get_or-set_other}
 use Rattle.std.proofs.lemmas.Cmp.{tied_itself, nat_cmp_total}
 use Rattle.std.proofs.lemmas.Bool.{cases_eq, eq-eqb, ne_eqb, eqb-true}
 use Rattle.std.proofs.lemmas.Bool.Decides.{nat_tests}
-use Rattle.process_api.specs.Bits.{members}
+use Rattle.process_api.specs.Inside.Bits.{members}
 use Rattle.process_api.specs.Coordinator.{keep}
 use Rattle.process_api.specs.Letters.{by_number, by_row, in_row, of_sender}
 use Rattle.process_api.specs.Rounds.{count_to}

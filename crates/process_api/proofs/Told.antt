@@ -4,7 +4,7 @@ use Rattle.std.specs.FinSet as set
 use Rattle.std.specs.Cmp.{nat_cmp_total}
 use Rattle.std.proofs.lemmas.Bool.Decides.{nat_tests}
 use Rattle.process_api.specs.Sets.{Processes, up_to}
-use Rattle.process_api.specs.Bits.{members}
+use Rattle.process_api.specs.Inside.Bits.{members}
 use Rattle.process_api.proofs.Contains.{contains-insert_is, contains-remove_is, contains-up_to, same_members}
 
 -- q is among 1 to n, and told

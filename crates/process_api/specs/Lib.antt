@@ -3,7 +3,6 @@ pub mod Order
 pub mod EntryRecord
 pub mod Numbers
 pub mod Sets
-pub mod Bits
 pub mod InOrder
 pub mod Cells
 pub mod Rows
@@ -24,3 +23,4 @@ pub mod Coordinator
 pub mod Mind
 pub mod React
 pub mod Letters
+pub mod Inside

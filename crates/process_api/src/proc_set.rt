@@ -20,7 +20,7 @@ impl Model for ProcSet {
     ghost use Rattle.std.specs.Coded.{coded_ℕ};
     ghost use Rattle.std.specs.FinSet as set;
     ghost use Rattle.process_api.specs.Sets.{Processes};
-    ghost use Rattle.process_api.specs.Bits.{is_set, members};
+    ghost use Rattle.process_api.specs.Inside.Bits.{is_set, members};
     ghost use Rattle.process_api.specs.Bounds.{most_processes};
 
     ghost Value = { Processes };
@@ -137,7 +137,7 @@ pub struct Members {
 
 impl Model for Members {
     ghost use Rattle.std.specs.Prelude.{ℕ, List};
-    ghost use Rattle.process_api.specs.Bits.{is_set, members};
+    ghost use Rattle.process_api.specs.Inside.Bits.{is_set, members};
     ghost use Rattle.process_api.specs.Bounds.{most_processes};
     ghost use Rattle.process_api.specs.InOrder.{in_order};
 

@@ -2,7 +2,7 @@
 ghost use Rattle.std.specs.Prelude.{◌≡◌, ◌≢◌, ℕ, ◌*◌, ◌<◌, ◌&&◌, ◌||◌, not, true, false, nat_lt, cond, IsNone, IfSome, slice_index};
 ghost use Rattle.std.specs.FinSet as set;
 ghost use Rattle.std.specs.Int.{bit_at};
-ghost use Rattle.process_api.specs.Bits.{is_set, members};
+ghost use Rattle.process_api.specs.Inside.Bits.{is_set, members};
 ghost use Rattle.process_api.specs.Bounds.{most_processes};
 
 use crate::pid::MOST_PROCESSES;

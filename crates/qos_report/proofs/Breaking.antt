@@ -15,7 +15,7 @@ use Rattle.reporting.specs.Printed.{BreaksOff, WroteRows, items_of, printed, pri
 use Rattle.reporting.specs.ReportText.{report_text}
 use Rattle.reporting.specs.Running.{IsTextWhere}
 use Rattle.reporting.specs.Printed.{IsLonger}
-use Rattle.qos_report.specs.Streaming.{WroteFirst, WroteFront, WroteWhere}
+use Rattle.qos_report.specs.Inside.Streaming.{WroteFirst, WroteFront, WroteWhere}
 use Rattle.reporting.specs.TraceText.{rows_text, trace_header, trace_text}
 use Rattle.reporting.specs.Writing.{Wrote, WrotePart, WroteNothing}
 use Rattle.reporting.proofs.Written.{part_of_more, wrote_both, wrote_then_part}

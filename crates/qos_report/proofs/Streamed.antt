@@ -2,7 +2,7 @@
 use Rattle.std.proofs.Common.{◌≡◌, ℕ, inl, inr, refl, sym, ap, ◌∙◌, subst, Bool, true, false, true≢false, Option, List, [], ◌∷◌, ◌++◌, append_assoc, append-nil, ◌≤◌, length, Result, Ok, Err, OnOk, OnErr}
 use Rattle.process_api.specs.EntryRecord.{EntryRecord}
 use Rattle.rows.specs.Rows.{row_of}
-use Rattle.qos_report.specs.Streaming.{AreUnderWay, WroteFront, WroteWhere, StreamedFront, StreamedTrace, TookFrontOfPart, TookPart}
+use Rattle.qos_report.specs.Inside.Streaming.{AreUnderWay, WroteFront, WroteWhere, StreamedFront, StreamedTrace, TookFrontOfPart, TookPart}
 use Rattle.reporting.specs.TraceText.{fields_of, rows_text}
 use Rattle.reporting.specs.Writing.{Wrote, WrotePart}
 use Rattle.reporting.proofs.Written.{part_of_more, rows_both, rows_one, wrote_both, wrote_nothing, wrote_then_part}

@@ -7,7 +7,7 @@
 //! and nothing of the report (`BreaksOff`); only for want of memory at the opening nothing went out.
 //!
 //! The trace goes out piece by piece: its header before the first window, and the rows of a window's entries once the
-//! window is closed (`specs/Streaming.antt`). No entry is held of a window that was closed.
+//! window is closed (`specs/Inside/Streaming.antt`). No entry is held of a window that was closed.
 //!
 //! Measures, texts and outlets are those of `reporting`, and are handed on from here.
 //!

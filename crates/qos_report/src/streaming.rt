@@ -4,7 +4,7 @@ ghost use Rattle.process_api.specs.EntryRecord.{EntryRecord};
 ghost use Rattle.process_api.specs.Numbers.{numbers_to};
 ghost use Rattle.scenario_record.specs.Record.{opening_mind};
 ghost use Rattle.reporting.specs.Printed.{IsLonger};
-ghost use Rattle.qos_report.specs.Streaming.{AreUnderWay, StreamedFront, StreamedTrace, WroteFront, WroteWhere};
+ghost use Rattle.qos_report.specs.Inside.Streaming.{AreUnderWay, StreamedFront, StreamedTrace, WroteFront, WroteWhere};
 ghost use Rattle.reporting.specs.TraceText.{rows_text, trace_header};
 ghost use Rattle.reporting.specs.Writing.{Wrote, WrotePart};
 ghost use Rattle.windows.specs.Plan.{IsPlanFor};
@@ -76,7 +76,7 @@ pub(crate) struct Streaming<'a, O: Outlet> {
 }
 
 impl<'a, O: Outlet> Sink for Streaming<'a, O> {
-    ghost use Rattle.qos_report.specs.Streaming.{TookFrontOfPart, TookPart};
+    ghost use Rattle.qos_report.specs.Inside.Streaming.{TookFrontOfPart, TookPart};
 
     ghost took = { TookPart O.told O.failed };
 

@@ -23,7 +23,7 @@ pub struct Gathering {
 }
 
 impl Gathering {
-    ghost use Rattle.reduction.specs.Parts.{state_of, gathered_by, answer_of};
+    ghost use Rattle.reduction.specs.Inside.Parts.{state_of, gathered_by, answer_of};
 
     /// Whom the process suspects once it has the suspects of a sender, which is alive.
     fn gathered(&self, sender: Pid, shared: &ProcSet) -> ProcSet

@@ -48,7 +48,7 @@ impl<D: Detector> Reduced<D> {
 
 impl<D: Detector> Detector for Reduced<D> {
     ghost use Rattle.std.specs.Prelude.{Some};
-    ghost use Rattle.reduction.specs.Parts.{state_of};
+    ghost use Rattle.reduction.specs.Inside.Parts.{state_of};
 
     ghost lower = { λ s. record (D.lower s.detector) { reduction = Some (state_of s.gathering) } };
 

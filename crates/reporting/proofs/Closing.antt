@@ -4,7 +4,7 @@ use Rattle.std.proofs.lemmas.Bool.{cases_lt, lt-ltb, both_ways, or_right, or_lef
 use Rattle.judges.specs.Ticks.{all_from, least_from, before}
 use Rattle.judges.proofs.Below.{all_below-from}
 use Rattle.judges.proofs.Lasting.{least_below-none, least_below-is, all_from-at, last_before}
-use Rattle.reporting.specs.Knows.{IsSince, Knows}
+use Rattle.reporting.specs.Inside.Knows.{IsSince, Knows}
 use Rattle.std.proofs.lemmas.Bool.Decides.{nat_tests}
 use Rattle.process_api.specs.EntryRecord.{EntryRecord}
 use Rattle.scenario_record.specs.Record.{Record}

@@ -10,7 +10,7 @@ use Rattle.process_api.specs.EntryRecord.{EntryRecord}
 use Rattle.scenario_record.specs.Record.{Record}
 use Rattle.judges.specs.Outcomes.{outcomes}
 use Rattle.judges.specs.Verdicts.{verdicts}
-use Rattle.reporting.specs.Findings.{second_text, found_text}
+use Rattle.reporting.specs.Inside.Findings.{second_text, found_text}
 use Rattle.reporting.specs.Measured.{AreFindings, second_verdicts}
 use Rattle.reporting.specs.Measures.{layers, all_measures}
 use Rattle.reporting.specs.Printed.{items_of}

@@ -4,7 +4,7 @@ use Rattle.std.proofs.lemmas.Bool.{cases_eq, cases_lt, lt-ltb, le-ltb, cond-true
 use Rattle.reporting.specs.Distances.{sum_below, is_next, count_below, sum_of_distances, count_of_distances}
 use Rattle.judges.specs.Ticks.{all_below, before}
 use Rattle.judges.proofs.Below.{all_below-at, all_below-from}
-use Rattle.reporting.specs.Knows.{Waits, IsWaiting, AreDistances, Knows}
+use Rattle.reporting.specs.Inside.Knows.{Waits, IsWaiting, AreDistances, Knows}
 use Rattle.reporting.specs.Measures.{starts, ends}
 use Rattle.reporting.specs.Tally.{gain, grown, changed, passed, moved, counted, new_tally, tracked}
 use Rattle.reporting.specs.declared.tally.Distances.{Distances}

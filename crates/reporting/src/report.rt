@@ -1,7 +1,7 @@
 //! The text of a report.
 ghost use Rattle.std.specs.Prelude.{◌≡◌, ◌++◌, IfOk, OnOk};
 ghost use Rattle.std.specs.List.{flat_map};
-ghost use Rattle.reporting.specs.Findings.{found_text, layers_text};
+ghost use Rattle.reporting.specs.Inside.Findings.{found_text, layers_text};
 ghost use Rattle.reporting.specs.ReportText.{pair_text, decision_text, decisions_text};
 ghost use Rattle.rows.specs.Rows.{IsBetweenRows, text_of};
 
@@ -75,7 +75,7 @@ fn push_decisions(
 /// # Errors
 ///
 /// `AllocError` where memory was refused.
-#[tactic(auto, unfolding(crate::specs::Findings::found_text, crate::specs::ReportText::report_header))]
+#[tactic(auto, unfolding(crate::specs::Inside::Findings::found_text, crate::specs::ReportText::report_header))]
 pub(crate) fn text_of_report(
     alloc: Global,
     algorithm: AlgorithmKind,

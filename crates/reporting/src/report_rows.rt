@@ -2,7 +2,7 @@
 ghost use Rattle.std.specs.Prelude.{◌≡◌, ◌++◌, map, OnOk};
 ghost use Rattle.reporting.specs.ReportText.{report_row, report_rows, run_text, verdict_text, pair_text, decision_text};
 ghost use Rattle.rows.specs.Rows.{IsBetweenRows, text_of};
-ghost use Rattle.reporting.specs.Values.{value_text};
+ghost use Rattle.reporting.specs.Inside.Values.{value_text};
 
 use crate::pair_measures::PairMeasures;
 use crate::summary::Summary;

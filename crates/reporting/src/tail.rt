@@ -16,7 +16,7 @@ pub(crate) struct Tail {
 }
 
 impl Tail {
-    ghost use Rattle.reporting.specs.Tail.{text_of};
+    ghost use Rattle.reporting.specs.Inside.Tail.{text_of};
 
     /// Nothing yet.
     pub(crate) fn new() -> Tail

@@ -2,7 +2,7 @@
 ghost use Rattle.std.specs.Prelude.{◌≡◌, ◌≤◌, ◌++◌, ◌∷◌, [], length, OnOk, IfOk};
 ghost use Rattle.std.specs.List.{flat_map};
 ghost use Rattle.rows.specs.Rows.{row_of, with_commas};
-ghost use Rattle.reporting.specs.Tail.{text_of};
+ghost use Rattle.reporting.specs.Inside.Tail.{text_of};
 ghost use Rattle.reporting.specs.TraceText.{notes_text, fields_of, first_fields_of, note_text, trace_text};
 
 use crate::tail::Tail;

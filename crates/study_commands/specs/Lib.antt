@@ -1,5 +1,4 @@
 pub mod Fault
-pub mod Statuses
 pub mod File
 pub mod Study
 pub mod Refusal
@@ -13,3 +12,4 @@ pub mod Sweep
 pub mod Why
 pub mod Answer
 pub mod Serve
+pub mod Inside

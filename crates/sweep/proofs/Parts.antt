@@ -8,7 +8,7 @@ use Rattle.reporting.specs.Distances.{count_below}
 use Rattle.reporting.specs.Measures.{layer_measures, pair_measures, starts}
 use Rattle.reporting.proofs.Layers.{one_layer, two_layers}
 use Rattle.reporting.specs.declared.summary.Summary.{Summary}
-use Rattle.sweep.specs.OwnSums.{AreOwnSums}
+use Rattle.sweep.specs.Inside.OwnSums.{AreOwnSums}
 use Rattle.sweep.proofs.Lasted.{each_measure}
 use Rattle.sweep.proofs.Layered.{few_mapped}
 

@@ -43,17 +43,17 @@ pub use Rattle.toml.specs.Data.{Members}
 pub use Rattle.toml.specs.View.{table_view}
 pub use Rattle.trace_laws.proofs.Joining.{joined_then, none_joined}
 pub use Rattle.trace_laws.specs.Joins.{HaveJoined}
-pub use Rattle.sweep.specs.Adding.{decisions_plus, differ, first_of, first_with, is_above, layer_plus, of_outcome, of_verdicts, pairs_plus, plus, plus_few, tick_or_zero, traces_plus}
+pub use Rattle.sweep.specs.Inside.Adding.{decisions_plus, differ, first_of, first_with, is_above, layer_plus, of_outcome, of_verdicts, pairs_plus, plus, plus_few, tick_or_zero, traces_plus}
 pub use Rattle.sweep.specs.Columns.{AreColumns, AreDecisionSums, AreDoneSums, AreFirstRuns, AreLayerSums, ArePairSums, AreRunCounts, AreTraceSums, AreVerdictCounts, IsDistribution, all_detections, all_durations, all_pairs, does, done_on, finish_of, finished_of, first_after, first_number, has_layer, is_limited, last_decisions, on_layer, over, top_rounds}
 pub use Rattle.sweep.specs.Counted.{passing}
 pub use Rattle.sweep.specs.Fitting.{AreDecisionsWithin, ArePairsWithin, AreTracesWithin, IsLayerWithin, most_mistakes, most_of, most_runs, most_values}
 pub use Rattle.sweep.specs.Layout.{IsNearest, IsNoLayout, IsRefusal, IsUnknown, LayoutRecord, TellsOf, place_of}
-pub use Rattle.sweep.specs.Limits.{AreUnderWay, TellsOn, next_counted}
-pub use Rattle.sweep.specs.Numbering.{AreNumbersAt, AreNumbersFrom, HasScenarioAt, IsAnswerAt, IsFirstRefusal, IsRefusalAt, runs_each, unit_count}
+pub use Rattle.sweep.specs.Inside.Limits.{AreUnderWay, TellsOn, next_counted}
+pub use Rattle.sweep.specs.Inside.Numbering.{AreNumbersAt, AreNumbersFrom, HasScenarioAt, IsAnswerAt, IsFirstRefusal, IsRefusalAt, runs_each, unit_count}
 pub use Rattle.sweep.specs.OneRun.{Finished, counted_of, counted_pairs, counts_on, decided_value, deciding, deciding_of, decision_tick, detection_ticks, detection_time, detections, do_all_decide, do_differ, do_disagree, durations, has_decided, has_mistake, is_at_once, is_to_decide, is_undecided, is_undetected, last_decision, mistakes, noted_round, pair_ticks, run_outcomes, times_of, top_round}
 pub use Rattle.sweep.specs.Parallel.{AreAnswers, ArePlaces, IsPlaced, with_answers, with_columns}
 pub use Rattle.sweep.specs.Percentile.{IsPercentile, IsRanked, at_most, greater, greatest}
-pub use Rattle.sweep.specs.Progress.{AreAdded, GoesOn, HeaderFails, IsUnderWay, StopsBelow, WroteFrontUpTo, WroteUpTo, next_run}
+pub use Rattle.sweep.specs.Inside.Progress.{AreAdded, GoesOn, HeaderFails, IsUnderWay, StopsBelow, WroteFrontUpTo, WroteUpTo, next_run}
 pub use Rattle.sweep.specs.Results.{IsResult, RunResult, Trial, done_run, finished, limited}
 pub use Rattle.sweep.specs.RowText.{AreRowsFor, Text, done_fields, header_text, layer_text, number_text, picked}
 pub use Rattle.sweep.specs.StudyText.{AreRowsOf, HasOneText, HasRowsOf, IsStudyText, IsTextOf, IsTrialOf, ShardsMakeWhole, header_of, lead_of, names_of, numbers_of, point_at, run_at, unit_first, unit_point, unit_run, unit_runs, units_in, units_of, values}

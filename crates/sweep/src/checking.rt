@@ -4,7 +4,7 @@ ghost use Rattle.std.specs.Prelude.{OnOk, IfErr, IfNone, IfSome};
 ghost use Rattle.toml.specs.View.{table_view};
 ghost use Rattle.study.specs.Grid.{points, runs};
 ghost use Rattle.study.specs.Runs.{is_memory};
-ghost use Rattle.sweep.specs.Numbering.{point_of, HasScenarioAt, IsRefusalAt, IsFirstRefusal};
+ghost use Rattle.sweep.specs.Inside.Numbering.{point_of, HasScenarioAt, IsRefusalAt, IsFirstRefusal};
 ghost use Rattle.sweep.specs.Outcome.{HaveScenarios, CantBeRun};
 ghost use Rattle.sweep.specs.Watching.{HeardReading, HeardSomeReading, HeardOfReading, HeardOfAllReading};
 

@@ -1,7 +1,7 @@
 //! What the processes of a run decided.
 ghost use Rattle.std.specs.Prelude.{◌≡◌, ◌≤◌, ◌*◌, ◌^◌, List, length, IfOk};
 ghost use Rattle.std.specs.List.{list_all, list_any};
-ghost use Rattle.sweep.specs.Adding.{of_outcome, differ};
+ghost use Rattle.sweep.specs.Inside.Adding.{of_outcome, differ};
 ghost use Rattle.sweep.specs.Columns.{AreDecisionSums};
 ghost use Rattle.sweep.specs.Fitting.{AreDecisionsWithin};
 ghost use Rattle.sweep.specs.OneRun.{decided_value, deciding_of, decision_tick, do_disagree, has_decided};

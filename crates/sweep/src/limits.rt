@@ -31,7 +31,7 @@ pub(crate) struct Limits {
 }
 
 impl Limits {
-    ghost use Rattle.sweep.specs.Limits.{AreCounted, TellsOn, next_counted};
+    ghost use Rattle.sweep.specs.Inside.Limits.{AreCounted, TellsOn, next_counted};
 
     /// No run of the point is in.
     pub fn at(point: u64) -> Limits

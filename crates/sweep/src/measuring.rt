@@ -2,7 +2,7 @@
 ghost use Rattle.std.specs.Prelude.{◌≡◌, ◌+◌, ◌*◌, ◌^◌, ◌<◌, ◌≤◌, length, IfOk};
 ghost use Rattle.toml.specs.View.{table_view};
 ghost use Rattle.study.specs.Grid.{points, runs};
-ghost use Rattle.sweep.specs.Numbering.{point_of, IsAnswerAt, AreNumbersFrom};
+ghost use Rattle.sweep.specs.Inside.Numbering.{point_of, IsAnswerAt, AreNumbersFrom};
 ghost use Rattle.sweep.specs.Results.{RunResult, IsResult};
 ghost use Rattle.sweep.specs.Sums.{AreNumbers};
 

@@ -3,7 +3,7 @@ ghost use Rattle.std.specs.Prelude.{◌≡◌, ◌≤◌, ◌*◌, ◌^◌, leng
 ghost use Rattle.std.specs.List.{flat_map, sum_by};
 ghost use Rattle.judges.specs.Crashes.{end_of};
 ghost use Rattle.reporting.specs.Durations.{lengths_of};
-ghost use Rattle.sweep.specs.Adding.{of_pair};
+ghost use Rattle.sweep.specs.Inside.Adding.{of_pair};
 ghost use Rattle.sweep.specs.Columns.{ArePairSums};
 ghost use Rattle.sweep.specs.Fitting.{ArePairsWithin};
 ghost use Rattle.sweep.specs.OneRun.{counted_of, counts_on, detection_ticks, detection_time, is_at_once};

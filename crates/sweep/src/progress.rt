@@ -2,7 +2,7 @@
 ghost use Rattle.std.specs.Prelude.{◌≡◌, ◌+◌, ◌-◌, ◌*◌, ◌^◌, ◌<◌, ◌≤◌, [], ◌∷◌, length, OnOk, IfErr};
 ghost use Rattle.toml.specs.Data.{Members};
 ghost use Rattle.study.specs.Grid.{points, runs};
-ghost use Rattle.sweep.specs.Numbering.{runs_each};
+ghost use Rattle.sweep.specs.Inside.Numbering.{runs_each};
 
 use crate::error::SweepError;
 use crate::layout::Layout;
@@ -22,7 +22,7 @@ pub(crate) struct Progress {
 }
 
 impl Progress {
-    ghost use Rattle.sweep.specs.Progress.{AreAdded, GoesOn, StopsAt, next_run};
+    ghost use Rattle.sweep.specs.Inside.Progress.{AreAdded, GoesOn, StopsAt, next_run};
 
     /// No run of the unit is in.
     pub fn at(alloc: Global, grid: &Grid, layout: &Layout, unit: u64) -> Progress

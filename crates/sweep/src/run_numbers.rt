@@ -4,9 +4,9 @@ ghost use Rattle.judges.specs.declared.outcomes.Outcome.{Outcome as OutcomeRecor
 ghost use Rattle.reporting.specs.Measured.{MeasuresRun};
 ghost use Rattle.scenario_record.specs.Ranges.{IsInRange};
 ghost use Rattle.scenario_record.specs.Record.{Record};
-ghost use Rattle.sweep.specs.Adding.{of_verdicts};
+ghost use Rattle.sweep.specs.Inside.Adding.{of_verdicts};
 ghost use Rattle.sweep.specs.Columns.{AreDecisionSums, has_layer};
-ghost use Rattle.sweep.specs.OwnSums.{AreOwnSums};
+ghost use Rattle.sweep.specs.Inside.OwnSums.{AreOwnSums};
 ghost use Rattle.sweep.specs.Results.{Trial, limited as limited_result, done_run};
 
 use crate::columns::{DecisionSums, LayerSums, RunCounts, TraceSums, VerdictCounts};

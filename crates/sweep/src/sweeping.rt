@@ -3,7 +3,7 @@ ghost use Rattle.std.specs.Prelude.{◌≡◌, ◌^◌, ◌-◌, ◌*◌, ◌<�
 ghost use Rattle.toml.specs.View.{table_view};
 ghost use Rattle.study.specs.Grid.{points, runs};
 ghost use Rattle.sweep.specs.Outcome.{WroteStudy, BreaksOff};
-ghost use Rattle.sweep.specs.Progress.{WrotePoints, StopsInPoints};
+ghost use Rattle.sweep.specs.Inside.Progress.{WrotePoints, StopsInPoints};
 ghost use Rattle.sweep.specs.Watching.{HeardAllRunning, HeardSomeRunning, HeardAll, HeardSome};
 
 use crate::batches::Batches;

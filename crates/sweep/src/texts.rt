@@ -4,7 +4,7 @@ ghost use Rattle.reporting.specs.Writing.{Wrote, WrotePart};
 ghost use Rattle.study.specs.Grid.{points};
 ghost use Rattle.sweep.specs.Fields.{AreRowsOfSums};
 ghost use Rattle.sweep.specs.RowText.{header_text};
-ghost use Rattle.sweep.specs.Progress.{HeaderFails};
+ghost use Rattle.sweep.specs.Inside.Progress.{HeaderFails};
 ghost use Rattle.sweep.specs.StudyText.{names_of, unit_point, header_of as shard_header};
 
 use crate::error::SweepError;

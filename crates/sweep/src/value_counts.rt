@@ -1,7 +1,7 @@
 //! Values, each with how often it came.
 ghost use Rattle.std.specs.Prelude.{◌≡◌, ◌<◌, ◌≤◌, ◌^◌, ◌+◌, ◌++◌, ◌∷◌, [], ℕ, List, length, OnOk};
 ghost use Rattle.std.specs.List.{cons_option};
-ghost use Rattle.sweep.specs.Adding.{is_above};
+ghost use Rattle.sweep.specs.Inside.Adding.{is_above};
 ghost use Rattle.sweep.specs.Columns.{IsDistribution};
 ghost use Rattle.sweep.specs.Fitting.{most_values};
 ghost use Rattle.sweep.specs.Percentile.{IsPercentile, greater};

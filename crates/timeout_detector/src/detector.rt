@@ -34,7 +34,7 @@ pub struct TimeoutDetector {
 }
 
 impl TimeoutDetector {
-    ghost use Rattle.timeout_detector.specs.View.{state_of, is_watched, is_overdue, checked_by, heard_by, beats_of, answer_of};
+    ghost use Rattle.timeout_detector.specs.Inside.View.{state_of, is_watched, is_overdue, checked_by, heard_by, beats_of, answer_of};
 
     /// The detector with which a process opens that has the numbers of this kind: it suspects nobody, and has heard of
     /// nobody since tick 0. Its tables have a place for each process, and nothing else in it needs memory.
@@ -173,7 +173,7 @@ impl TimeoutDetector {
 }
 
 impl Detector for TimeoutDetector {
-    ghost use Rattle.timeout_detector.specs.View.{lower_of};
+    ghost use Rattle.timeout_detector.specs.Inside.View.{lower_of};
 
     ghost lower = { lower_of };
 

@@ -10,7 +10,7 @@ use Rattle.std.proofs.lemmas.Bool.{cases_lt}
 use Rattle.process_api.specs.EntryRecord.{EntryRecord}
 use Rattle.process_api.specs.declared.entry.Entry.{Entry}
 use Rattle.trace_merge.specs.Parts.{all_of}
-use Rattle.trace_merge.specs.Ticks.{BeginsBy, SomeBegins}
+use Rattle.trace_merge.specs.Inside.Ticks.{BeginsBy, SomeBegins}
 
 abbrev Part : Type 0
 Part = List EntryRecord

@@ -1,7 +1,7 @@
 //! The entries of all parts, tick by tick.
 ghost use Rattle.std.specs.Prelude.{◌≡◌, ◌≤◌, ◌<◌, ◌++◌, [], map, length, IfOk, OnOk, IfErr, MatchOption, IsPermutation};
 ghost use Rattle.trace_merge.specs.Parts.{all_of};
-ghost use Rattle.trace_merge.specs.Ticks.{BeginsBy, SomeBegins};
+ghost use Rattle.trace_merge.specs.Inside.Ticks.{BeginsBy, SomeBegins};
 
 use process_api::Entry;
 use run_error::RunError;

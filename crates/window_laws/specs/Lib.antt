@@ -1,4 +1,4 @@
 pub mod Machine
 pub mod Window
 pub mod Theorems
-pub mod Alternation
+pub mod Inside

@@ -40,7 +40,7 @@ use Rattle.window_laws.specs.Machine.{StageRecord, Act, StandsFor, IsRun, end_of
 use Rattle.window_laws.specs.Theorems.{IsMerge}
 use Rattle.windows.specs.Stage.{of_process, stage_of, AreHome, IsStageAfter, IsClosed, IsNextStart, IsWindowRun}
 use Rattle.window_laws.specs.Window.{BerthRun, IsPosted, AreBerths, IsSameStage}
-use Rattle.windows.specs.Workers.{Stay, IsReady, IsStay, HasLong, IsOutcome, RiseBy}
+use Rattle.windows.specs.Inside.Workers.{Stay, IsReady, IsStay, HasLong, IsOutcome, RiseBy}
 use Rattle.windows.specs.declared.berth.Berth.{Berth}
 use Rattle.windows.specs.declared.stage.Stage.{Stage}
 use Rattle.window_laws.proofs.Family.{is_or_not}

@@ -22,7 +22,7 @@ use Rattle.windows.proofs.Ranked.{in_permutation, rises_same, sorted_is}
 use Rattle.trace_laws.proofs.Steps.{in_append, in_left, in_right}
 use Rattle.windows.specs.Berth.{IsBerth, with_letters}
 use Rattle.deques.specs.Deques.{DequeId, RestView, all_put}
-use Rattle.windows.specs.Workers.{Stay, stay, taken_in, left_in, all_stays, with_stays, IsSent, IsStay, IsReady, IsFresh, AreRunBy, AreWorks, AreRun, IsRest, HasLong, IsOutcome, RiseBy}
+use Rattle.windows.specs.Inside.Workers.{Stay, stay, taken_in, left_in, all_stays, with_stays, IsSent, IsStay, IsReady, IsFresh, AreRunBy, AreWorks, AreRun, IsRest, HasLong, IsOutcome, RiseBy}
 use Rattle.windows.specs.declared.workers.Start.{Start}
 use Rattle.windows.specs.declared.berth.Berth.{Berth}
 

@@ -9,7 +9,7 @@ use Rattle.trace_laws.specs.Step.{Event, Events}
 use Rattle.trace_laws.specs.World.{joined}
 use Rattle.mailboxes.specs.Mailboxes.{IsSlipOf, SlipView, with_letter}
 use Rattle.windows.specs.Berth.{with_letters}
-use Rattle.windows.specs.Outbox.{HandedOn, IsFor}
+use Rattle.windows.specs.Inside.Outbox.{HandedOn, IsFor}
 use Rattle.windows.specs.declared.outbox.Outbox.{Outbox}
 use Rattle.window_laws.specs.Machine.{for_self, for_others}
 

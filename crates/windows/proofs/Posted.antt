@@ -18,10 +18,10 @@ use Rattle.trace_laws.specs.World.{IsTrace}
 use Rattle.steps.proofs.Openings.{number_at, length-numbers_to}
 use Rattle.mailboxes.specs.Mailboxes.{SlipView, list_of, posted_to}
 use Rattle.trace_merge.specs.Parts.{all_of, AreDisjoint}
-use Rattle.windows.specs.Closing.{AreLettersOf, IsOutcomeBy, IsClosedBy}
+use Rattle.windows.specs.Inside.Closing.{AreLettersOf, IsOutcomeBy, IsClosedBy}
 use Rattle.window_laws.specs.Machine.{end_of}
 use Rattle.windows.specs.Stage.{IsStageAfter, IsWindowRun}
-use Rattle.windows.specs.Workers.{IsOutcome}
+use Rattle.windows.specs.Inside.Workers.{IsOutcome}
 use Rattle.windows.specs.declared.berth.Berth.{Berth}
 use Rattle.windows.specs.declared.stage.Stage.{Stage}
 use Rattle.windows.proofs.Closing.{outcome_many, outcome_rising, outcome_disjoint, outcome_limit, outcome_next}

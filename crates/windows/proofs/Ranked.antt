@@ -8,7 +8,7 @@ use Rattle.std.proofs.lemmas.List.Elements.{All-head, All-tail}
 use Rattle.std.proofs.lemmas.List.Sorted.{Contains-permutation, IsPermutation-map, IsPermutation-sym}
 use Rattle.std.proofs.lemmas.Map.Keys.{IsDistinct-IsPermutation}
 use Rattle.trace_laws.specs.History.{IsIn}
-use Rattle.windows.specs.Workers.{AllAbove, RiseBy}
+use Rattle.windows.specs.Inside.Workers.{AllAbove, RiseBy}
 use Rattle.windows.proofs.Members.{contains_in, in_contains}
 
 flips : (a b : ℕ) → nat_eq a b ≡ nat_eq b a

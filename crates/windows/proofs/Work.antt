@@ -11,7 +11,7 @@ use Rattle.mailboxes.specs.Mailbox.{MailboxId}
 use Rattle.mailboxes.specs.Mailboxes.{SlipView, IsSlipOf, unused}
 use Rattle.windows.specs.Berth.{with_letters}
 use Rattle.deques.specs.Deques.{DequeId, HandView, TookOne}
-use Rattle.windows.specs.Workers.{Stay, stay, with_stays, IsStay, AreRunBy, IsWork, IsFresh}
+use Rattle.windows.specs.Inside.Workers.{Stay, stay, with_stays, IsStay, AreRunBy, IsWork, IsFresh}
 use Rattle.windows.specs.declared.berth.Berth.{Berth}
 
 module _ {M : Type 0} where

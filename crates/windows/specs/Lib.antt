@@ -1,10 +1,7 @@
 pub mod Plan
 pub mod Agenda
 pub mod Berth
-pub mod Outbox
 pub mod Stage
-pub mod Workers
 pub mod Refusals
-pub mod Shared
 pub mod Sink
-pub mod Closing
+pub mod Inside

@@ -6,7 +6,7 @@ ghost use Rattle.process_api.specs.Order.{is_rising};
 ghost use Rattle.run_error.specs.declared.error.RunError.TheVariants.{Memory};
 ghost use Rattle.mailboxes.specs.Mailboxes.{IsSlipOf, letters_in};
 ghost use Rattle.trace_merge.specs.Parts.{all_of, AreDisjoint};
-ghost use Rattle.windows.specs.Closing.{AreLettersOf};
+ghost use Rattle.windows.specs.Inside.Closing.{AreLettersOf};
 
 use mailboxes::{Mailboxes, Slip};
 use process_api::{Entry, Letter};

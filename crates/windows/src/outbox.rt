@@ -19,7 +19,7 @@ pub(crate) struct Outbox<'a, R> {
 }
 
 impl<R: Wait> Joins for Outbox<'_, R> {
-    ghost use Rattle.windows.specs.Outbox.{HandedOn, IsFor};
+    ghost use Rattle.windows.specs.Inside.Outbox.{HandedOn, IsFor};
 
     ghost serves = { IsFor };
 

@@ -9,8 +9,8 @@ ghost use Rattle.run_error.specs.declared.error.RunError.TheVariants.{Memory, Sp
 ghost use Rattle.windows.specs.Berth.{IsLong, with_letters};
 ghost use Rattle.windows.specs.Plan.{most_workers};
 ghost use Rattle.windows.specs.Refusals.{rank_of, AreThere, IsFirstRefusal, IsRefusalOfOne};
-ghost use Rattle.windows.specs.Shared.{IsStart, IsAnswerTo, AreAnswers};
-ghost use Rattle.windows.specs.Workers.{IsReady, IsStay, stay};
+ghost use Rattle.windows.specs.Inside.Shared.{IsStart, IsAnswerTo, AreAnswers};
+ghost use Rattle.windows.specs.Inside.Workers.{IsReady, IsStay, stay};
 
 use crate::berth::{Berth, run_berth};
 use crate::gate::Gate;
@@ -109,7 +109,7 @@ struct WorkAt<'s, M, G> {
 }
 
 impl<'s, M: Process, G: Gate> Promise<Result<Work<M>, RunError>> for WorkAt<'s, M, G> {
-    ghost use Rattle.windows.specs.Shared.{IsAnswerTo};
+    ghost use Rattle.windows.specs.Inside.Shared.{IsAnswerTo};
 
     ghost kept_by = { λ p r. IsAnswerTo M.mind p.shared.value p.start.value r };
 }

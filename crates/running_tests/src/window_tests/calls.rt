@@ -4,7 +4,7 @@ ghost use Rattle.std.specs.List.{All};
 ghost use Rattle.mailboxes.specs.Mailboxes.{IsSlipOf};
 ghost use Rattle.windows.specs.Plan.{IsPlanFor};
 ghost use Rattle.windows.specs.Stage.{IsStage};
-ghost use Rattle.windows.specs.Workers.{IsReady};
+ghost use Rattle.windows.specs.Inside.Workers.{IsReady};
 
 use event_list::RunError;
 use mailboxes::{Mailboxes, SharedMailboxes, Slip};

@@ -1,7 +1,7 @@
 use Rattle.std.proofs.Common.{◌∙◌, map, sym, arith}
 use Rattle.bench_commands.specs.Fault.{end_of, line_of, status_of}
 use Rattle.bench_commands.specs.Serve.{IsReason, LeftOf, Serves, ServesFor}
-use Rattle.bench_commands.specs.Statuses.{has_status}
+use Rattle.bench_commands.specs.Inside.Statuses.{has_status}
 use Rattle.bench_commands.proofs.Stopping.{asked_at_one, run_asked}
 use Rattle.shell.proofs.Leaving.{ends}
 use Rattle.bench_commands.proofs.serve.serve.Goals as goal

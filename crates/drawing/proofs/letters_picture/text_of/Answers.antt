@@ -1,6 +1,6 @@
 use Rattle.std.proofs.Common.{append_assoc}
 use Rattle.std.proofs.lemmas.Result.{MatchResult-weaker}
-use Rattle.drawing.specs.LettersDrawn.{turn_bars, line_in, line_bands_in, marks_in}
+use Rattle.drawing.specs.Inside.LettersDrawn.{turn_bars, line_in, line_bands_in, marks_in}
 use Rattle.drawing.specs.LettersPicture.{letters_shapes}
 use Rattle.drawing.proofs.Stretching.{stretches_are_bars}
 use Rattle.drawing.proofs.letters_picture.text_of.Goals as goal

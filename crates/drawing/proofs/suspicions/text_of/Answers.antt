@@ -1,6 +1,6 @@
 use Rattle.std.proofs.Common.{append_assoc}
 use Rattle.std.proofs.lemmas.Result.{MatchResult-weaker}
-use Rattle.drawing.specs.Drawn.{bars_in, has_row_in, group_of, group_bands_of}
+use Rattle.drawing.specs.Inside.Drawn.{bars_in, has_row_in, group_of, group_bands_of}
 use Rattle.drawing.specs.Layout.{left_out}
 use Rattle.drawing.specs.Suspicions.{suspicions}
 use Rattle.drawing.proofs.Stretching.{stretches_are_bars}

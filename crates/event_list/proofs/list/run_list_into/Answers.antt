@@ -9,7 +9,7 @@ use Rattle.steps.specs.Posting.{posted_in}
 use Rattle.trace_laws.specs.ScenarioSetting.{setting_of}
 use Rattle.steps.specs.Seat.{process_of, IsSeated}
 use Rattle.trace_laws.specs.Setting.{IsProcess}
-use Rattle.event_list.specs.Standing.{IsStepped}
+use Rattle.event_list.specs.Inside.Standing.{IsStepped}
 use Rattle.trace_laws.specs.Step.{Process, step}
 use Rattle.trace_laws.proofs.Closed.{trace_rises}
 use Rattle.trace_laws.proofs.Effects.{trace_has_causes, trace_takes_once}

@@ -1,6 +1,6 @@
 use Rattle.std.proofs.Common.{◌++◌, [], map, refl, sym, ◌∙◌, append-nil}
 use Rattle.trace_laws.specs.ScenarioSetting.{setting_of}
-use Rattle.letters.specs.Book.{HasHeard}
+use Rattle.letters.specs.Inside.Book.{HasHeard}
 use Rattle.letters.specs.Letters.{letter_of}
 use Rattle.letters.proofs.Coming.{letters_in_trace, only_letters}
 use Rattle.letters.proofs.Losing.{letters_lost}

@@ -1,6 +1,6 @@
 use Rattle.std.proofs.Common.{rules, ◌≡◌, ◌++◌}
 use Rattle.std.proofs.lemmas.Result.{IfOk-weaker}
-use Rattle.mailboxes.specs.Emptying.{AreToEmpty, AreEmptied}
+use Rattle.mailboxes.specs.Inside.Emptying.{AreToEmpty, AreEmptied}
 use Rattle.mailboxes.proofs.Emptied.{front_to_empty, back_to_empty, both_emptied}
 use Rattle.mailboxes.proofs.emptying.+empty_by+fn-empty_by-join+arg2+fn-empty_by-join+arg3.Goals as goal
 

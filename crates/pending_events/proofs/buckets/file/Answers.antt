@@ -1,6 +1,6 @@
 use Rattle.std.proofs.Common.{◌≡◌, ◌∙◌, ◌++◌, ◌∷◌, [], ap, rules, subst, None, nat_cmp}
 use Rattle.std.specs.BTreeMap as tree
-use Rattle.pending_events.specs.Buckets.{IsFiled}
+use Rattle.pending_events.specs.Inside.Buckets.{IsFiled}
 use Rattle.pending_events.proofs.Falling.{filed_new}
 use Rattle.pending_events.proofs.buckets.file.Goals as goal
 

@@ -1,5 +1,5 @@
 use Rattle.std.proofs.Common.{◌≡◌, ◌-◌, sym, ap, ◌∙◌, take, length, true≢false, arith, vec_len, rules, subst, false}
-use Rattle.pending_events.specs.Buckets.{EndsAt}
+use Rattle.pending_events.specs.Inside.Buckets.{EndsAt}
 use Rattle.pending_events.proofs.Falling.{back_first, back_more, none_left, popped}
 use Rattle.pending_events.proofs.buckets.pop_least.Goals as goal
 

@@ -1,7 +1,7 @@
 use Rattle.std.proofs.Common.{◌≡◌, sym, subst, ◌∙◌, ap, [], rules}
 use Rattle.std.proofs.lemmas.List.{nil_from_length}
 use Rattle.std.proofs.lemmas.Option.{MatchOption-at_some}
-use Rattle.pending_events.specs.Calendar.{IsInOrder, IsTaken, seen_at}
+use Rattle.pending_events.specs.Inside.Calendar.{IsInOrder, IsTaken, seen_at}
 use Rattle.pending_events.proofs.Ordered.{own_taken, refilled, refilled_same, refilled_some}
 use Rattle.pending_events.proofs.buckets.refill.Goals as goal
 

@@ -1,5 +1,5 @@
 use Rattle.std.proofs.Common.{◌<◌, ◌∙◌, ap, length, rules}
-use Rattle.pending_events.specs.Calendar.{seen_at}
+use Rattle.pending_events.specs.Inside.Calendar.{seen_at}
 use Rattle.pending_events.proofs.Nearby.{calendar_of}
 use Rattle.pending_events.proofs.Ordered.{none_of_tick, stow_same}
 use Rattle.pending_events.proofs.buckets.settle.Goals as goal

@@ -1,6 +1,6 @@
 use Rattle.std.proofs.Common.{◌≡◌, ◌∙◌, sym, arith, [], true≢false}
 use Rattle.std.proofs.lemmas.Result.{on_err_weaker, on_ok_weaker}
-use Rattle.pending_events.specs.Calendar.{near_at}
+use Rattle.pending_events.specs.Inside.Calendar.{near_at}
 use Rattle.pending_events.proofs.Nearby.{in_result, near_calendar, near_added, near_same, near_out, near_past, listed_added}
 use Rattle.pending_events.proofs.calendar.add.Goals as goal
 use Rattle.pending_events.proofs.calendar.add.Goals.{else-place-len-via-then-place-len+else-is_near, else-place-len-via-else-place-len}

@@ -1,7 +1,7 @@
 use Rattle.std.proofs.Common.{◌≡◌, ◌<◌, ◌%◌, ◌∙◌, ℕ, Bool, true, false, not, nat_eq, length, ap, sym, arith}
 use Rattle.std.proofs.lemmas.Bool.Decides.{nat_tests}
 use Rattle.std.proofs.lemmas.List.{nil_from_length}
-use Rattle.pending_events.specs.Lanes.{lane}
+use Rattle.pending_events.specs.Inside.Lanes.{lane}
 use Rattle.pending_events.proofs.Dealing.{lane_there, lane_past}
 use Rattle.pending_events.proofs.calendar.is_filled.Goals as goal
 

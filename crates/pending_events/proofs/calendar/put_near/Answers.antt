@@ -1,6 +1,6 @@
 use Rattle.std.proofs.Common.{◌≡◌, ◌<◌, ◌++◌, ◌∷◌, ◌∙◌, length, ap, arith, []}
 use Rattle.std.proofs.lemmas.Result.{on_err_weaker, on_ok_weaker}
-use Rattle.pending_events.specs.Lanes.{lane}
+use Rattle.pending_events.specs.Inside.Lanes.{lane}
 use Rattle.pending_events.proofs.Dealing.{lane_set, lane_kept, lane_there}
 use Rattle.pending_events.proofs.calendar.put_near.Goals as goal
 

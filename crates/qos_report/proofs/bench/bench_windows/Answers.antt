@@ -12,7 +12,7 @@ use Rattle.reporting.proofs.Fed.{if_reason}
 use Rattle.reporting.proofs.Finishing.{finishes}
 use Rattle.reporting.specs.ReportText.{report_text}
 use Rattle.reporting.specs.Running.{IsTextWhere, Running}
-use Rattle.qos_report.specs.Streaming.{WroteFront, WroteWhere}
+use Rattle.qos_report.specs.Inside.Streaming.{WroteFront, WroteWhere}
 use Rattle.reporting.specs.TraceText.{rows_text, trace_header}
 use Rattle.qos_report.proofs.bench.bench_windows.Goals as goal
 

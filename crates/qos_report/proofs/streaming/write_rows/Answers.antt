@@ -1,7 +1,7 @@
 use Rattle.std.proofs.Common.{◌∙◌, ◌++◌, ◌∷◌, [], suc, sym, ap, subst, true, take, drop, arith}
 use Rattle.std.proofs.lemmas.List.{take_all, take_more}
 use Rattle.windows.proofs.Handed.{on_err}
-use Rattle.qos_report.specs.Streaming.{AreUnderWay, WroteFront}
+use Rattle.qos_report.specs.Inside.Streaming.{AreUnderWay, WroteFront}
 use Rattle.reporting.specs.Writing.{WrotePart}
 use Rattle.reporting.proofs.Fed.{err_part, split_at}
 use Rattle.qos_report.proofs.Streamed.{front_more, part_out}

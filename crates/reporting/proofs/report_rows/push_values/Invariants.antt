@@ -1,7 +1,7 @@
 use Rattle.std.proofs.Common.{◌≡◌, ◌++◌, map, take}
 use Rattle.reporting.specs.ReportText.{report_rows}
 use Rattle.rows.specs.Rows.{IsBetweenRows, text_of}
-use Rattle.reporting.specs.Values.{value_text}
+use Rattle.reporting.specs.Inside.Values.{value_text}
 use Rattle.reporting.proofs.report_rows.push_values.Given as goal
 
 -- the rows so far

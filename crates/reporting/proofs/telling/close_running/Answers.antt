@@ -1,7 +1,7 @@
 use Rattle.std.proofs.Common.{◌∙◌, Some, None, ap, sym, subst, false}
 use Rattle.followers.specs.Following.{IsWhere}
 use Rattle.followers.proofs.Where.{absent_where, there_where}
-use Rattle.reporting.specs.Findings.{found_text}
+use Rattle.reporting.specs.Inside.Findings.{found_text}
 use Rattle.reporting.specs.ReportText.{report_text}
 use Rattle.reporting.specs.Running.{AreLayers, IsTextWhere}
 use Rattle.reporting.proofs.Fed.{found_is}

@@ -1,7 +1,7 @@
 use Rattle.std.proofs.Common.{map, subst, ◌≡◌, ◌⊎◌, ℕ, arith}
 use Rattle.study_commands.specs.Fault.{end_of, line_of, status_of}
 use Rattle.study_commands.specs.Serve.{IsReason, LeftOf, Serves, ServesFor}
-use Rattle.study_commands.specs.Statuses.{has_status}
+use Rattle.study_commands.specs.Inside.Statuses.{has_status}
 use Rattle.study_commands.proofs.Stopping.{asked_so}
 use Rattle.shell.proofs.Leaving.{ends}
 use Rattle.study_commands.proofs.serve.serve.Goals as goal

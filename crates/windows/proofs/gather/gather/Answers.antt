@@ -5,7 +5,7 @@ use Rattle.std.specs.Vec.Iter.{into_iter_items}
 use Rattle.std.proofs.lemmas.List.Elements.{All-nil, All-push, All-same, All-head, All-tail}
 use Rattle.std.proofs.lemmas.List.Sorted.{IsPermutation-refl}
 use Rattle.deques.specs.Deques.{HandView, deques_of}
-use Rattle.windows.specs.Workers.{IsWork}
+use Rattle.windows.specs.Inside.Workers.{IsWork}
 use Rattle.windows.specs.declared.workers.Work.{Work}
 use Rattle.deques.proofs.Deals.{map_turn, flat_push, none_left}
 use Rattle.windows.proofs.Gathered.{works_none, works_more, works_taken}

@@ -4,7 +4,7 @@ use Rattle.std.specs.Vec.Iter.{into_iter_items}
 use Rattle.scenario_record.specs.Record.{Record}
 use Rattle.mailboxes.specs.Mailbox.{MailboxId}
 use Rattle.deques.specs.Deques.{deques_of}
-use Rattle.windows.specs.Workers.{IsWork, AreWorks}
+use Rattle.windows.specs.Inside.Workers.{IsWork, AreWorks}
 use Rattle.windows.proofs.gather.gather.Given as goal
 
 abbrev pub invariant-loop-work : goal.invariant-loop-work

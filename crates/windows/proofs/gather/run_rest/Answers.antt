@@ -4,7 +4,7 @@ use Rattle.std.specs.List.Sorted.{IsPermutation}
 use Rattle.std.proofs.lemmas.List.Elements.{All-contains}
 use Rattle.std.proofs.lemmas.List.Sorted.{IsPermutation-refl, IsPermutation-trans, IsPermutation-append_left}
 use Rattle.deques.specs.Deques.{RestView, all_put}
-use Rattle.windows.specs.Workers.{IsReady}
+use Rattle.windows.specs.Inside.Workers.{IsReady}
 use Rattle.windows.proofs.Work.{run_begins, run_more, same_run}
 use Rattle.windows.proofs.gather.run_rest.Goals as goal
 use Rattle.windows.proofs.gather.run_rest.Goals.{in-None, in-Some+in_ok-reserve+in_default}

@@ -1,6 +1,6 @@
 use Rattle.std.proofs.Common.{◌≡◌, ◌++◌, List}
 use Rattle.std.specs.List.Sorted.{IsPermutation}
-use Rattle.windows.specs.Workers.{AreRunBy}
+use Rattle.windows.specs.Inside.Workers.{AreRunBy}
 use Rattle.windows.specs.declared.berth.Berth.{Berth}
 use Rattle.windows.proofs.gather.run_rest.Given as goal
 

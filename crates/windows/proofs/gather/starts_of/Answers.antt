@@ -5,7 +5,7 @@ use Rattle.std.proofs.lemmas.List.Elements.{All-nil, All-push, All-same, All-hea
 use Rattle.mailboxes.specs.Mailbox.{MailboxId}
 use Rattle.mailboxes.specs.Mailboxes.{MailboxesView, mailboxes_of, unused}
 use Rattle.deques.specs.Deques.{HandView, deques_of, all_put, IsDealt}
-use Rattle.windows.specs.Workers.{IsFresh}
+use Rattle.windows.specs.Inside.Workers.{IsFresh}
 use Rattle.windows.specs.declared.workers.Start.{Start}
 use Rattle.deques.proofs.Deals.{map_turn}
 use Rattle.windows.proofs.gather.starts_of.Goals as goal

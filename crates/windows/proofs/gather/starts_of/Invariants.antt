@@ -3,7 +3,7 @@ use Rattle.std.specs.List.{All}
 use Rattle.std.specs.Vec.Iter.{into_iter_items}
 use Rattle.mailboxes.specs.Mailboxes.{mailboxes_of}
 use Rattle.deques.specs.Deques.{deques_of, all_put, IsDealt}
-use Rattle.windows.specs.Workers.{IsFresh}
+use Rattle.windows.specs.Inside.Workers.{IsFresh}
 use Rattle.windows.proofs.gather.starts_of.Given as goal
 
 abbrev pub invariant-loop-hand : goal.invariant-loop-hand

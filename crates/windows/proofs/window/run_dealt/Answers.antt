@@ -1,8 +1,8 @@
 use Rattle.std.proofs.Common.{rules, sym, ap, ◌∙◌, subst}
 use Rattle.std.proofs.lemmas.Result.{IfOk-weaker}
 use Rattle.deques.specs.Deques.{deques_of, all_put}
-use Rattle.windows.specs.Shared.{AreReady, IsOneTooLong, HadWindow}
-use Rattle.windows.specs.Workers.{dealt_to}
+use Rattle.windows.specs.Inside.Shared.{AreReady, IsOneTooLong, HadWindow}
+use Rattle.windows.specs.Inside.Workers.{dealt_to}
 use Rattle.windows.proofs.Refused.{one_refused}
 use Rattle.windows.proofs.window.run_dealt.Goals as goal
 

@@ -6,9 +6,9 @@ use Rattle.scenario_record.specs.Record.{Record}
 use Rattle.trace_laws.specs.ScenarioSetting.{setting_of}
 use Rattle.steps.specs.Seat.{own_of}
 use Rattle.window_laws.specs.Machine.{end_of}
-use Rattle.windows.specs.Closing.{IsOutcomeBy}
-use Rattle.windows.specs.Shared.{IsCountOfWorkers}
-use Rattle.windows.specs.Workers.{IsReady, RiseBy, HasLong}
+use Rattle.windows.specs.Inside.Closing.{IsOutcomeBy}
+use Rattle.windows.specs.Inside.Shared.{IsCountOfWorkers}
+use Rattle.windows.specs.Inside.Workers.{IsReady, RiseBy, HasLong}
 use Rattle.windows.specs.declared.berth.Berth.{Berth}
 use Rattle.windows.proofs.Closing.{stage_ready, stage_rises, long_limit}
 use Rattle.windows.proofs.Posted.{sum_of, of_same, many_by, rising_by, disjoint_by, limit_by, next_by}

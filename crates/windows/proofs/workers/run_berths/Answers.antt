@@ -2,7 +2,7 @@ use Rattle.std.proofs.Common.{rules, ◌≡◌, ◌∷◌, ◌++◌, [], refl, a
 use Rattle.std.specs.List.{Contains}
 use Rattle.std.proofs.lemmas.List.Elements.{All-contains}
 use Rattle.deques.specs.Deques.{HandView}
-use Rattle.windows.specs.Workers.{IsReady}
+use Rattle.windows.specs.Inside.Workers.{IsReady}
 use Rattle.windows.specs.declared.berth.Berth.{Berth}
 use Rattle.windows.proofs.Work.{work_begins, work_more, same_work}
 use Rattle.windows.proofs.Refused.{holds_of_none, not_err}

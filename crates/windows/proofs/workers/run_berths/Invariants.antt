@@ -1,5 +1,5 @@
 use Rattle.std.proofs.Common.{◌≡◌}
-use Rattle.windows.specs.Shared.{IsWorkBy}
+use Rattle.windows.specs.Inside.Shared.{IsWorkBy}
 use Rattle.windows.proofs.workers.run_berths.Given as goal
 
 abbrev pub invariant-loop : goal.invariant-loop

@@ -6,7 +6,7 @@ use Rattle.process_api.specs.Mind.{Coordinating}
 use Rattle.process_api.specs.React.{react_algorithm}
 use Rattle.consensus_es.specs.Orderly.{IsOrderly}
 use Rattle.consensus_es.specs.State.{state_of}
-use Rattle.consensus_es.specs.Whole.{place_of, algorithm_of}
+use Rattle.consensus_es.specs.Inside.Whole.{place_of, algorithm_of}
 use Rattle.std.proofs.lemmas.Bool.{not-true}
 use Rattle.consensus_es.proofs.Bound.{same_itself, step_few, within}
 use Rattle.consensus_es.proofs.consensus.EsConsensusAlgorithm.take.Goals as goal

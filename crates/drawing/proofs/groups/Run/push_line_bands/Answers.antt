@@ -1,5 +1,5 @@
 use Rattle.std.proofs.Common.{rules}
-use Rattle.drawing.specs.LettersDrawn.{line_bands_in, link_bands_in}
+use Rattle.drawing.specs.Inside.LettersDrawn.{line_bands_in, link_bands_in}
 use Rattle.drawing.specs.LettersPicture.{line_bands}
 use Rattle.drawing.proofs.groups.Run.push_line_bands.Goals as goal
 

@@ -1,6 +1,6 @@
 use Rattle.std.proofs.Common.{◌++◌, arith, ap}
 use Rattle.std.proofs.lemmas.List.{take_all}
-use Rattle.drawing.specs.LettersDrawn.{line_in}
+use Rattle.drawing.specs.Inside.LettersDrawn.{line_in}
 use Rattle.drawing.proofs.LineShapes.{all_told, told_at}
 use Rattle.drawing.proofs.groups.Run.push_lines.Goals as goal
 

@@ -1,6 +1,6 @@
 use Rattle.std.proofs.Common.{◌≡◌, ◌++◌, flat_map, take}
 use Rattle.judges.specs.declared.outcomes.Outcome.{Outcome}
-use Rattle.drawing.specs.LettersDrawn.{line_in}
+use Rattle.drawing.specs.Inside.LettersDrawn.{line_in}
 use Rattle.drawing.proofs.groups.Run.push_lines.Given as goal
 
 -- the processes so far

@@ -1,5 +1,5 @@
 use Rattle.std.proofs.Common.{append_assoc}
-use Rattle.drawing.specs.LettersDrawn.{marks_in, turns_in}
+use Rattle.drawing.specs.Inside.LettersDrawn.{marks_in, turns_in}
 use Rattle.drawing.specs.LettersPicture.{mark_shapes}
 use Rattle.drawing.proofs.groups.Run.push_marks.Goals as goal
 

@@ -1,5 +1,5 @@
 use Rattle.std.proofs.Common.{append_assoc}
-use Rattle.drawing.specs.Drawn.{own_of}
+use Rattle.drawing.specs.Inside.Drawn.{own_of}
 use Rattle.drawing.specs.Suspicions.{own_at}
 use Rattle.drawing.proofs.groups.Run.push_own.Goals as goal
 

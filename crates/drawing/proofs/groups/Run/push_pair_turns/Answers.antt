@@ -1,6 +1,6 @@
 use Rattle.std.proofs.Common.{◌≡◌, refl, arith, take}
 use Rattle.std.proofs.lemmas.List.{take_all}
-use Rattle.drawing.specs.LettersDrawn.{turns_in}
+use Rattle.drawing.specs.Inside.LettersDrawn.{turns_in}
 use Rattle.drawing.specs.LettersPicture.{turns_of}
 use Rattle.drawing.proofs.groups.Run.push_pair_turns.Goals as goal
 

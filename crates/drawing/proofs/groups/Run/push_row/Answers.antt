@@ -1,5 +1,5 @@
 use Rattle.std.proofs.Common.{append_assoc}
-use Rattle.drawing.specs.Drawn.{pair_of}
+use Rattle.drawing.specs.Inside.Drawn.{pair_of}
 use Rattle.drawing.specs.Suspicions.{pair_at}
 use Rattle.drawing.proofs.groups.Run.push_row.Goals as goal
 

@@ -1,6 +1,6 @@
 use Rattle.std.proofs.Common.{◌≡◌, ◌∙◌, ◌+◌, ◌-◌, refl, subst, arith, ap, length}
 use Rattle.judges.proofs.Outcoming.{length-outcomes}
-use Rattle.drawing.specs.Drawn.{AreRows, has_row_in}
+use Rattle.drawing.specs.Inside.Drawn.{AreRows, has_row_in}
 use Rattle.drawing.specs.Layout.{groups_bottom}
 use Rattle.drawing.proofs.Counting.{groups_low}
 use Rattle.drawing.proofs.LineShapes.{told_at}

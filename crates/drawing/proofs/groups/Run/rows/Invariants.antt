@@ -1,4 +1,4 @@
-use Rattle.drawing.specs.Drawn.{AreRows}
+use Rattle.drawing.specs.Inside.Drawn.{AreRows}
 use Rattle.drawing.proofs.groups.Run.rows.Given as goal
 
 -- the processes so far

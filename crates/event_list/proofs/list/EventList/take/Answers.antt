@@ -5,7 +5,7 @@ use Rattle.trace_laws.specs.Joins.{HaveJoined}
 use Rattle.steps.specs.Posting.{posted_in}
 use Rattle.trace_laws.specs.ScenarioSetting.{setting_of}
 use Rattle.steps.specs.Seat.{process_of, IsSeated}
-use Rattle.event_list.specs.Standing.{IsStepped}
+use Rattle.event_list.specs.Inside.Standing.{IsStepped}
 use Rattle.process_api.specs.Mind.{Mind}
 use Rattle.trace_laws.specs.Step.{Process, step}
 use Rattle.event_list.proofs.Standing.{place_is, image_at}

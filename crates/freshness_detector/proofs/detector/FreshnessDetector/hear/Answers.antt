@@ -7,9 +7,9 @@ use Rattle.process_api.specs.Freshness.{suspected}
 use Rattle.process_api.specs.Numbers.{is_process}
 use Rattle.process_api.specs.Watching.{is_other}
 use Rattle.scenario_record.specs.Opening.{place_of}
-use Rattle.freshness_detector.specs.Tables.{state_by}
+use Rattle.freshness_detector.specs.Inside.Tables.{state_by}
 use Rattle.freshness_detector.specs.declared.detector.FreshnessDetector.{FreshnessDetector}
-use Rattle.freshness_detector.specs.View.{state_of, heard_by}
+use Rattle.freshness_detector.specs.Inside.View.{state_of, heard_by}
 use Rattle.freshness_detector.proofs.Points.{left_members, left_notes, kept_members, kept_notes}
 use Rattle.freshness_detector.proofs.Tables.{heard_tables}
 use Rattle.freshness_detector.proofs.detector.FreshnessDetector.hear.Goals as goal

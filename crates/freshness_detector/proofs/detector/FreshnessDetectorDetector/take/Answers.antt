@@ -5,7 +5,7 @@ use Rattle.process_api.specs.Detector.{ByFreshness, opening_detector, has_pauses
 use Rattle.process_api.specs.Freshness.{suspected}
 use Rattle.scenario_record.proofs.DetectorFacts.{opens_paced}
 use Rattle.scenario_record.specs.Opening.{place_of}
-use Rattle.freshness_detector.specs.View.{state_of}
+use Rattle.freshness_detector.specs.Inside.View.{state_of}
 use Rattle.freshness_detector.proofs.detector.FreshnessDetectorDetector.take.Goals as goal
 
 pub returns-clause-allowed : goal.returns-clause-allowed

@@ -1,6 +1,6 @@
 use Rattle.std.proofs.Common.{◌∙◌, ◌<◌, ◌%◌, ◌+◌, ap, sym, subst, length, min}
-use Rattle.pending_events.specs.Calendar.{NoneAhead}
-use Rattle.pending_events.specs.Lanes.{lane}
+use Rattle.pending_events.specs.Inside.Calendar.{NoneAhead}
+use Rattle.pending_events.specs.Inside.Lanes.{lane}
 use Rattle.pending_events.proofs.Nearby.{first_listed, first_near, sooner_than, within_end}
 use Rattle.pending_events.proofs.calendar.Calendar.least_tick.Goals as goal
 

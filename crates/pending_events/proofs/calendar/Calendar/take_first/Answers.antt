@@ -1,5 +1,5 @@
 use Rattle.std.proofs.Common.{◌≤◌, ◌<◌, ◌+◌, ◌^◌, ◌++◌, ◌∙◌, ap, arith}
-use Rattle.pending_events.specs.Buckets.{bucket}
+use Rattle.pending_events.specs.Inside.Buckets.{bucket}
 use Rattle.pending_events.proofs.Nearby.{next_calendar, next_taken}
 use Rattle.pending_events.proofs.calendar.Calendar.take_first.Goals as goal
 

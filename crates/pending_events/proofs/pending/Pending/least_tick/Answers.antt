@@ -1,6 +1,6 @@
 use Rattle.std.proofs.Common.{◌≡◌, ◌<◌, ◌∙◌, ap, sym, subst, length, [], rules, MatchOption}
 use Rattle.std.proofs.lemmas.List.{nil_from_length}
-use Rattle.pending_events.specs.Calendar.{IsInOrder}
+use Rattle.pending_events.specs.Inside.Calendar.{IsInOrder}
 use Rattle.pending_events.specs.Pending.{IsEmpty, IsLeastTick}
 use Rattle.pending_events.proofs.Ordered.{seen, tick_of, tick_of_due}
 use Rattle.pending_events.proofs.pending.Pending.least_tick.Goals as goal

@@ -1,6 +1,6 @@
 use Rattle.std.proofs.Common.{◌/◌, arith, replicate}
 use Rattle.std.proofs.lemmas.List.{get_or-replicate}
-use Rattle.process_api.specs.Bits.{is_set}
+use Rattle.process_api.specs.Inside.Bits.{is_set}
 use Rattle.process_api.specs.Bounds.{most_processes}
 use Rattle.process_api.specs.declared.words.TheConstants.{WORDS}
 use Rattle.process_api.proofs.BitWords.{none_set}

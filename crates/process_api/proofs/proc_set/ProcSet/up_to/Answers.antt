@@ -1,5 +1,5 @@
 use Rattle.std.proofs.Common.{◌∙◌, ap, nat_lt, ◌&&◌}
-use Rattle.process_api.specs.Bits.{is_set}
+use Rattle.process_api.specs.Inside.Bits.{is_set}
 use Rattle.process_api.specs.Bounds.{most_processes}
 use Rattle.process_api.specs.Sets.{up_to}
 use Rattle.process_api.proofs.Told.{members-up_to}

@@ -4,7 +4,7 @@ use Rattle.reporting.specs.Running.{RunningFollowed}
 use Rattle.reporting.specs.TraceText.{rows_text}
 use Rattle.reporting.specs.Writing.{Wrote}
 use Rattle.reporting.proofs.Fed.{on_ok}
-use Rattle.qos_report.specs.Streaming.{WroteWhere}
+use Rattle.qos_report.specs.Inside.Streaming.{WroteWhere}
 use Rattle.qos_report.proofs.Streamed.{where_nothing}
 use Rattle.qos_report.proofs.streaming.StreamingSink.part.Goals as goal
 

@@ -1,6 +1,6 @@
 use Rattle.std.proofs.Common.{◌≡◌, ◌∙◌, ◌-◌, ◌<◌, ap, sym, arith, ℕ, suc, ◌∷◌, ◌++◌, length, drop, get_or}
 use Rattle.std.proofs.Math.Seq.{drop-cons}
-use Rattle.reporting.specs.Tail.{text_of}
+use Rattle.reporting.specs.Inside.Tail.{text_of}
 use Rattle.reporting.proofs.tail.Tail.put_word.Goals as goal
 
 -- one byte more of the word stands before the others

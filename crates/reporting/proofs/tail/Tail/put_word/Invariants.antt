@@ -1,5 +1,5 @@
 use Rattle.std.proofs.Common.{◌≡◌, ◌+◌, ◌≤◌, ◌++◌, length, drop}
-use Rattle.reporting.specs.Tail.{text_of}
+use Rattle.reporting.specs.Inside.Tail.{text_of}
 use Rattle.reporting.proofs.tail.Tail.put_word.Given as goal
 
 abbrev pub invariant-loop-left : goal.invariant-loop-left

@@ -1,7 +1,7 @@
 use Rattle.std.proofs.Common.{sym, subst}
 use Rattle.std.specs.List.{All}
 use Rattle.std.proofs.lemmas.List.Elements.{All-head, All-tail}
-use Rattle.windows.specs.Workers.{IsReady}
+use Rattle.windows.specs.Inside.Workers.{IsReady}
 use Rattle.running_tests.proofs.window_tests.calls.call_berths.Goals as goal
 
 pub loop-berth-init : goal.loop-berth-init

@@ -1,7 +1,7 @@
 use Rattle.std.specs.List.{All}
 use Rattle.std.specs.Vec.Iter.{into_iter_items}
 use Rattle.mailboxes.specs.Mailboxes.{IsSlipOf}
-use Rattle.windows.specs.Workers.{IsReady}
+use Rattle.windows.specs.Inside.Workers.{IsReady}
 use Rattle.running_tests.proofs.window_tests.calls.call_berths.Given as goal
 
 abbrev pub invariant-loop-berth : goal.invariant-loop-berth

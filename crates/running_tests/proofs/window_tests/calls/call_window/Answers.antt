@@ -6,7 +6,7 @@ use Rattle.std.proofs.lemmas.List.Sorted.{All-permutation}
 use Rattle.process_api.specs.Mind.{Mind}
 use Rattle.scenario_record.specs.Ranges.{IsInRange}
 use Rattle.scenario_record.specs.Record.{Record}
-use Rattle.windows.specs.Workers.{IsReady}
+use Rattle.windows.specs.Inside.Workers.{IsReady}
 use Rattle.windows.specs.declared.berth.Berth.{Berth}
 use Rattle.windows.proofs.Closing.{stage_ready}
 use Rattle.windows.proofs.Posted.{sum_of}

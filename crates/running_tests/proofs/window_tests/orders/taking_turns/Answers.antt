@@ -1,4 +1,4 @@
-use Rattle.window_laws.specs.Alternation.{alternating, one_by_one}
+use Rattle.window_laws.specs.Inside.Alternation.{alternating, one_by_one}
 use Rattle.running_tests.proofs.window_tests.orders.taking_turns.Goals as goal
 
 pub returns-clause-list : goal.returns-clause-list

@@ -7,7 +7,7 @@ use Rattle.process_api.specs.declared.action.Action.TheVariants.{Note}
 use Rattle.process_api.specs.Timeout.{next_check}
 use Rattle.process_api.proofs.Changes.{notes-joined}
 use Rattle.scenario_record.specs.Opening.{place_of}
-use Rattle.timeout_detector.specs.View.{state_of, is_watched, is_overdue}
+use Rattle.timeout_detector.specs.Inside.View.{state_of, is_watched, is_overdue}
 use Rattle.timeout_detector.proofs.detector.TimeoutDetector.check.Goals as goal
 
 pub returns-clause-actions : goal.returns-clause-actions

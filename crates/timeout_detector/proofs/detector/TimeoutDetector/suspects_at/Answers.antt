@@ -2,7 +2,7 @@ use Rattle.std.proofs.Common.{◌≡◌, ℕ, ◌+◌, Bool, sym, ap, ◌∙◌}
 use Rattle.std.proofs.lemmas.Bool.{cond-true, cond-false}
 use Rattle.std.specs.FinSet as set
 use Rattle.process_api.proofs.Contains.{insert_all-next, without_after_insert}
-use Rattle.timeout_detector.specs.View.{is_overdue}
+use Rattle.timeout_detector.specs.Inside.View.{is_overdue}
 use Rattle.timeout_detector.proofs.detector.TimeoutDetector.suspects_at.Goals as goal
 use Rattle.timeout_detector.proofs.detector.TimeoutDetector.suspects_at.Goals.{then-is_overdue, else-is_overdue}
 

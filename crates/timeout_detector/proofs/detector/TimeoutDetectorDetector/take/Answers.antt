@@ -4,7 +4,7 @@ use Rattle.process_api.proofs.DetectorLaws.{base_allowed, base_few, base_changes
 use Rattle.process_api.specs.Detector.{ByTimeout, opening_detector, has_pauses, step_detector}
 use Rattle.scenario_record.proofs.DetectorFacts.{opens_paced}
 use Rattle.scenario_record.specs.Opening.{place_of}
-use Rattle.timeout_detector.specs.View.{state_of}
+use Rattle.timeout_detector.specs.Inside.View.{state_of}
 use Rattle.timeout_detector.proofs.detector.TimeoutDetectorDetector.take.Goals as goal
 
 pub returns-clause-allowed : goal.returns-clause-allowed

@@ -5,7 +5,7 @@ use Rattle.std.proofs.lemmas.List.Sorted.{length_permutation}
 use Rattle.process_api.specs.Order.{is_rising}
 use Rattle.mailboxes.specs.Mailboxes.{letters_in}
 use Rattle.trace_merge.specs.Parts.{all_of}
-use Rattle.windows.specs.Closing.{AreLettersOf}
+use Rattle.windows.specs.Inside.Closing.{AreLettersOf}
 use Rattle.windows.specs.Stage.{delivered}
 use Rattle.windows.specs.declared.berth.Berth.{Berth}
 use Rattle.windows.proofs.Places.{all_at, all_place, same_at}

@@ -11,7 +11,7 @@ use Rattle.mailboxes.specs.Mailbox.{MailboxId}
 use Rattle.mailboxes.specs.Mailboxes.{SlipView}
 use Rattle.deques.specs.Deques.{HandView, RestView}
 use Rattle.windows.specs.Refusals.{IsRefusal}
-use Rattle.windows.specs.Workers.{IsFresh, IsReady, IsWork, IsAnswer, IsRest, AreRun, HasLong, HaveLong}
+use Rattle.windows.specs.Inside.Workers.{IsFresh, IsReady, IsWork, IsAnswer, IsRest, AreRun, HasLong, HaveLong}
 use Rattle.windows.specs.declared.berth.Berth.{Berth}
 use Rattle.windows.specs.declared.shared.Shared.{Shared}
 use Rattle.windows.specs.declared.shared.Window.{Window}

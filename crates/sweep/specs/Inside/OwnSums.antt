@@ -7,7 +7,7 @@ use Rattle.judges.specs.declared.verdicts.Verdicts.{Verdicts}
 use Rattle.reporting.specs.declared.pair_measures.PairMeasures.{PairMeasures}
 use Rattle.reporting.specs.declared.summary.Summary.{Summary}
 use Rattle.scenario_record.specs.Record.{Record}
-use Rattle.sweep.specs.Adding.{of_verdicts}
+use Rattle.sweep.specs.Inside.Adding.{of_verdicts}
 use Rattle.sweep.specs.Columns.{ArePairSums}
 use Rattle.sweep.specs.Fitting.{ArePairsWithin}
 use Rattle.sweep.specs.OneRun.{do_disagree, has_decided}

@@ -6,7 +6,7 @@ use Rattle.reporting.specs.Writing.{Wrote, WrotePart, WroteNothing}
 use Rattle.study.specs.Grid.{GridRecord}
 use Rattle.study.specs.Shard.{ShardRecord}
 use Rattle.sweep.specs.Layout.{LayoutRecord}
-use Rattle.sweep.specs.Numbering.{runs_each, unit_count, AreNumbersFrom}
+use Rattle.sweep.specs.Inside.Numbering.{runs_each, unit_count, AreNumbersFrom}
 use Rattle.sweep.specs.Results.{Trial}
 use Rattle.sweep.specs.RowText.{Text}
 use Rattle.sweep.specs.StudyText.{point_at, unit_point, unit_runs, unit_first, header_of, IsTrialOf, HasRowsOf}

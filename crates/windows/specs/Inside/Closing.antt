@@ -7,7 +7,7 @@ use Rattle.process_api.specs.declared.message.Letter.{Letter}
 use Rattle.scenario_record.specs.Record.{Record}
 use Rattle.mailboxes.specs.Mailboxes.{SlipView, list_of, posted_to}
 use Rattle.windows.specs.Stage.{IsClosed}
-use Rattle.windows.specs.Workers.{IsOutcome}
+use Rattle.windows.specs.Inside.Workers.{IsOutcome}
 use Rattle.windows.specs.declared.berth.Berth.{Berth}
 use Rattle.windows.specs.declared.stage.Stage.{Stage}
 

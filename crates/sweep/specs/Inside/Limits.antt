@@ -4,7 +4,7 @@ use Rattle.std.specs.List.{AllZip, count_by, range_with_len}
 use Rattle.toml.specs.Data.{Members}
 use Rattle.study.specs.Grid.{GridRecord, runs}
 use Rattle.sweep.specs.Columns.{is_limited}
-use Rattle.sweep.specs.Numbering.{AreNumbersFrom}
+use Rattle.sweep.specs.Inside.Numbering.{AreNumbersFrom}
 use Rattle.sweep.specs.Results.{Trial}
 use Rattle.sweep.specs.StudyText.{point_at, IsTrialOf}
 use Rattle.sweep.specs.Watching.{News, HeardRunning}

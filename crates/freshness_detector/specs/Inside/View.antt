@@ -8,7 +8,7 @@ use Rattle.process_api.specs.Sets.{Processes}
 use Rattle.process_api.specs.declared.action.Action.{Action}
 use Rattle.process_api.specs.declared.message.StepInput.{StepInput}
 use Rattle.scenario_record.specs.Opening.{place_of, base_of}
-use Rattle.freshness_detector.specs.Tables.{state_by}
+use Rattle.freshness_detector.specs.Inside.Tables.{state_by}
 use Rattle.freshness_detector.specs.declared.detector.FreshnessDetector.{FreshnessDetector}
 
 abbrev pub state_of : FreshnessDetector → FreshnessState
