@@ -11,8 +11,8 @@ use Rattle.crossbeam_deque.specs.Steals.{MatchSteal}
 use Rattle.crossbeam_deque.specs.declared.steal.Steal.{Steal}
 use Rattle.crossbeam_deque.specs.declared.steal.Steal.TheVariants.{Empty, Success, Retry}
 use Rattle.ledger.specs.declared.account.Account.{Account}
-use Rattle.ledger.specs.Inside.Ledger.{has_taken, new_pass, told_in, AreTold, IsBalanced, EachOnce}
-use Rattle.ledger.specs.Inside.Ledger as ledger
+use Rattle.ledger.specs.Ledger.{has_taken, new_pass, told_in, AreTold, IsBalanced, EachOnce}
+use Rattle.ledger.specs.Ledger as ledger
 use Rattle.ledger.proofs.Ledgers.{takes, among}
 use Rattle.ledger.proofs.Totals.{gather_same, gather_more}
 use Rattle.deques.specs.Deques.{DequeId, OwnerView, PermitView, HandView, owner_of, permit_of, hand_of, MayTell, Popped, Stole, TookOne}

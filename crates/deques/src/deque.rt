@@ -47,7 +47,7 @@ pub(crate) struct Permit<T> {
 impl<T> Model for Permit<T> {
     ghost use Rattle.std.specs.Prelude.{◌≡◌, None, Some};
     ghost use Rattle.crossbeam_deque.specs.Handles as handles;
-    ghost use Rattle.ledger.specs.Inside.Ledger.{has_taken, new_pass, told_in};
+    ghost use Rattle.ledger.specs.Ledger.{has_taken, new_pass, told_in};
     ghost use Rattle.deques.specs.Deques.{PermitView, permit_of};
 
     ghost Value = { PermitView T };

@@ -6,7 +6,7 @@ use ledger::Account;
 pub(crate) struct EachOnce;
 
 impl<T> Protocol<T, Account<T>> for EachOnce {
-    ghost use Rattle.ledger.specs.Inside.Ledger.{first_pass, given_back, EachOnce};
+    ghost use Rattle.ledger.specs.Ledger.{first_pass, given_back, EachOnce};
 
     ghost holds = { EachOnce };
 
@@ -20,7 +20,7 @@ pub(crate) struct Push;
 
 impl<T> Outcome<T, Account<T>> for Push {
     ghost use Rattle.std.specs.Prelude.{◌≡◌};
-    ghost use Rattle.ledger.specs.Inside.Ledger.{has_put};
+    ghost use Rattle.ledger.specs.Ledger.{has_put};
 
     ghost then = { λ a xs b. b ≡ has_put a xs };
 }
@@ -31,7 +31,7 @@ pub(crate) struct Pop;
 
 impl<T> Outcome<T, Account<T>> for Pop {
     ghost use Rattle.std.specs.Prelude.{◌≡◌, []};
-    ghost use Rattle.ledger.specs.Inside.Ledger.{has_taken, IsBalanced, AreTold};
+    ghost use Rattle.ledger.specs.Ledger.{has_taken, IsBalanced, AreTold};
 
     ghost then = { λ a xs b. (b ≡ has_taken a xs) × AreTold a xs };
 
@@ -43,7 +43,7 @@ pub(crate) struct Steals;
 
 impl<T> Outcome<T, Account<T>> for Steals {
     ghost use Rattle.std.specs.Prelude.{◌≡◌};
-    ghost use Rattle.ledger.specs.Inside.Ledger.{has_taken, AreTold};
+    ghost use Rattle.ledger.specs.Ledger.{has_taken, AreTold};
 
     ghost then = { λ a xs b. (b ≡ has_taken a xs) × AreTold a xs };
 }

@@ -12,7 +12,7 @@ use mathlib.Core.Option.{some, some-injective, some-ne-none}
 use lib.ListN.{get_elem?}
 use Rattle.crossbeam_queue.proofs.Lists.{at_set, at_snoc, set_else}
 use Rattle.ledger.specs.declared.account.Account.{Account}
-use Rattle.ledger.specs.Inside.Ledger.{account, first_pass, has_put, has_taken, one_made, new_pass, both_of, given_back, tells, forgets, told_in, MayTell, AreTold, IsBalanced, FirstCounts, IdleIsEmpty, AreToldAlike, IsToldRight, put_by_all, taken_by_all, EachOnce}
+use Rattle.ledger.specs.Ledger.{account, first_pass, has_put, has_taken, one_made, new_pass, both_of, given_back, tells, forgets, told_in, MayTell, AreTold, IsBalanced, FirstCounts, IdleIsEmpty, AreToldAlike, IsToldRight, put_by_all, taken_by_all, EachOnce}
 use Rattle.ledger.proofs.Totals.{total_set, total_none, none_total, gather_same, gather_more, gather_none, set_commutes}
 
 module _ {T : Type 0} where

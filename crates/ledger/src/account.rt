@@ -22,7 +22,7 @@ pub struct Account<T> {
 pub struct Ticketing;
 
 impl<T> Split<Account<T>> for Ticketing {
-    ghost use Rattle.ledger.specs.Inside.Ledger.{one_made, new_pass};
+    ghost use Rattle.ledger.specs.Ledger.{one_made, new_pass};
 
     ghost left = { one_made };
 
@@ -30,7 +30,7 @@ impl<T> Split<Account<T>> for Ticketing {
 }
 
 impl<T> Join<Account<T>> for Ticketing {
-    ghost use Rattle.ledger.specs.Inside.Ledger.{both_of, given_back};
+    ghost use Rattle.ledger.specs.Ledger.{both_of, given_back};
 
     ghost both = { both_of };
 
@@ -42,7 +42,7 @@ impl<T> Join<Account<T>> for Ticketing {
 pub struct Settling;
 
 impl<T> Split<Account<T>> for Settling {
-    ghost use Rattle.ledger.specs.Inside.Ledger.{one_made, new_pass, forgets};
+    ghost use Rattle.ledger.specs.Ledger.{one_made, new_pass, forgets};
 
     ghost left = { λ a. one_made (forgets a) };
 
@@ -54,7 +54,7 @@ pub struct Telling;
 
 impl<T> Split<Account<T>> for Telling {
     ghost use Rattle.std.specs.Prelude.{Some};
-    ghost use Rattle.ledger.specs.Inside.Ledger.{one_made, tells, new_pass};
+    ghost use Rattle.ledger.specs.Ledger.{one_made, tells, new_pass};
 
     ghost left = { λ a. one_made (tells a) };
 

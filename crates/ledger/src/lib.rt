@@ -6,7 +6,7 @@
 //! of them then has a copy, and knows of an item that it takes that it is one of these.
 //!
 //! Which steps there are is the user's: each kind of step, be it a push, a pop or a steal, is a type of its own whose
-//! outcome is stated by `has_put` or `has_taken` (`specs/Inside/Ledger.antt`), and that it keeps the rule is one fact of
+//! outcome is stated by `has_put` or `has_taken` (`specs/Ledger.antt`), and that it keeps the rule is one fact of
 //! `proofs/Ledgers.antt`. The moves of a pass are here.
 //!
 //! For example, of a queue into which one pass put a and b and from which another took a, both know once they are back

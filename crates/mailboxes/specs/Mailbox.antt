@@ -4,7 +4,7 @@ use Rattle.std.specs.Prelude.{ℕ, ◌+◌, ◌-◌, List, ◌++◌, refl}
 use Rattle.std.specs.Global.{Global}
 use Rattle.crossbeam_queue.specs.SegTies.{SegId}
 use Rattle.process_api.specs.declared.message.Letter.{Letter}
-use Rattle.ledger.specs.Inside.Places.{each_with}
+use Rattle.ledger.specs.Places.{each_with}
 
 -- which mailbox it is
 abbrev pub MailboxId : Type 0

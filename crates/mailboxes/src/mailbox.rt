@@ -2,7 +2,7 @@
 ghost use Rattle.std.specs.Prelude.{◌≡◌, ◌≢◌, ◌<◌, ◌+◌, [], ◌∷◌, ◌++◌, None, IfOk, IfErr, OnOk, OnErr};
 ghost use Rattle.std.specs.List.Sorted.{IsPermutation};
 ghost use Rattle.crossbeam_queue.specs.SegTies.{IsSegPassOf};
-ghost use Rattle.ledger.specs.Inside.Ledger.{account, has_taken};
+ghost use Rattle.ledger.specs.Ledger.{account, has_taken};
 ghost use Rattle.mailboxes.specs.Mailbox.{ticket_of, home_of, one_out, one_back};
 
 use crate::rule::{EachOnce, Pop, Push};
@@ -48,7 +48,7 @@ impl Model for Ticket {
     ghost use Rattle.process_api.specs.contracts.message.Letter as letter;
     ghost use Rattle.mailboxes.specs.contracts.mailbox.Mailbox as mailbox;
     ghost use Rattle.mailboxes.specs.Mailbox.{TicketView, ticket_code, ticket_of};
-    ghost use Rattle.ledger.specs.Inside.Ledger.{new_pass, has_put};
+    ghost use Rattle.ledger.specs.Ledger.{new_pass, has_put};
 
     ghost Value = { TicketView };
 

@@ -7,7 +7,7 @@ use ledger::Account;
 pub(crate) struct EachOnce;
 
 impl<T> Protocol<T, Account<T>> for EachOnce {
-    ghost use Rattle.ledger.specs.Inside.Ledger.{first_pass, EachOnce};
+    ghost use Rattle.ledger.specs.Ledger.{first_pass, EachOnce};
 
     ghost holds = { EachOnce };
 
@@ -19,7 +19,7 @@ pub(crate) struct Push;
 
 impl<T> Outcome<T, Account<T>> for Push {
     ghost use Rattle.std.specs.Prelude.{◌≡◌, [], ◌∷◌};
-    ghost use Rattle.ledger.specs.Inside.Ledger.{has_put};
+    ghost use Rattle.ledger.specs.Ledger.{has_put};
 
     ghost then = { λ a x b. b ≡ has_put a (x ∷ []) };
 }
@@ -35,14 +35,14 @@ pub(crate) struct Pop;
 
 impl<T> Outcome<T, Account<T>> for Pop {
     ghost use Rattle.std.specs.Prelude.{◌≡◌, [], ◌∷◌};
-    ghost use Rattle.ledger.specs.Inside.Ledger.{has_taken};
+    ghost use Rattle.ledger.specs.Ledger.{has_taken};
 
     ghost then = { λ a x b. b ≡ has_taken a (x ∷ []) };
 }
 
 /// A pop that finds the queue empty, by a pass that stands for all: what was put is what was taken and what is there.
 impl<T> Lesson<T, Account<T>> for Pop {
-    ghost use Rattle.ledger.specs.Inside.Ledger.{IsBalanced};
+    ghost use Rattle.ledger.specs.Ledger.{IsBalanced};
 
     ghost fact = { IsBalanced };
 }

@@ -3,7 +3,7 @@ use Rattle.std.specs.List.{All}
 use Rattle.std.proofs.lemmas.List.Elements.{All-get_or}
 use Rattle.std.proofs.lemmas.Iterator.Adapters.{YieldsList-from_vec}
 use Rattle.std.proofs.lemmas.Iterator.Consumers.{YieldsList-turn}
-use Rattle.ledger.specs.Inside.Places.{each_with}
+use Rattle.ledger.specs.Places.{each_with}
 use Rattle.ledger.proofs.Lists.{with-nil, with-length, parts_agree, below_parts, length_more, turn_at, turn_more}
 use Rattle.deques.specs.Deques.{OwnerView, PermitView, one_back}
 use Rattle.deques.proofs.Deals.{stolen_by, deque_of, from_deque}

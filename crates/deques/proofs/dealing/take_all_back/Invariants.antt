@@ -1,5 +1,5 @@
 use Rattle.std.proofs.Common.{◌≡◌, length, map}
-use Rattle.ledger.specs.Inside.Places.{each_with}
+use Rattle.ledger.specs.Places.{each_with}
 use Rattle.deques.specs.Deques.{one_back}
 use Rattle.deques.proofs.dealing.take_all_back.Given as goal
 

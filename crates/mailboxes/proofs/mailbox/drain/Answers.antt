@@ -1,5 +1,5 @@
 use Rattle.std.proofs.Common.{[], ◌∷◌, refl}
-use Rattle.ledger.specs.Inside.Ledger.{has_taken}
+use Rattle.ledger.specs.Ledger.{has_taken}
 use Rattle.ledger.proofs.Ledgers.{takes, learns}
 use Rattle.mailboxes.proofs.mailbox.drain.Goals as goal
 

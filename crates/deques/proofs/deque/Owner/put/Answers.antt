@@ -1,5 +1,5 @@
 use Rattle.std.proofs.Common.{[], ◌∷◌, ◌∙◌, ap, refl}
-use Rattle.ledger.specs.Inside.Ledger.{has_put}
+use Rattle.ledger.specs.Ledger.{has_put}
 use Rattle.ledger.proofs.Ledgers.{puts}
 use Rattle.deques.specs.Deques.{OwnerView}
 use Rattle.deques.proofs.deque.Owner.put.Goals as goal

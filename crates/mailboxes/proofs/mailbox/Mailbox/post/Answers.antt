@@ -1,7 +1,7 @@
 use Rattle.std.proofs.Common.{◌≡◌, ap, arith, [], ◌∷◌, refl}
 use Rattle.process_api.specs.declared.message.Letter.{Letter}
 use Rattle.ledger.specs.declared.account.Account.{Account}
-use Rattle.ledger.specs.Inside.Ledger.{has_put}
+use Rattle.ledger.specs.Ledger.{has_put}
 use Rattle.ledger.proofs.Ledgers.{puts}
 use Rattle.mailboxes.proofs.mailbox.Mailbox.post.Goals as goal
 
