@@ -1,4 +1,5 @@
--- words that private functions and proofs of this crate use alone: no public contract rests on them
+-- words that private functions, proofs and tests use alone: no public contract rests on them, but for
+-- `IsCountOfWorkers` of `Shared`, which `run_window` cites
 pub mod Outbox
 pub mod Workers
 pub mod Shared
