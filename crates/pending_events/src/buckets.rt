@@ -6,6 +6,7 @@ ghost use Rattle.std.specs.Ordering.{nat_cmp};
 ghost use Rattle.process_api.specs.declared.key.Key.{Key as KeyValue};
 ghost use Rattle.pending_events.specs.Inside.Buckets.{EndsAt, Falls, HasTick, IsFiled, IsPopped, IsSame, IsStowed, latest};
 ghost use Rattle.pending_events.specs.Inside.Calendar.{IsInOrder, IsVacant, seen_at};
+ghost use Rattle.pending_events.specs.Inside.Lanes.{first};
 
 use crate::calendar::Calendar;
 use crate::lanes::put_in_order;
@@ -15,10 +16,11 @@ use std::collections::BTreeMap;
 use std::mem;
 use trace_laws::Event;
 
-/// Puts events in order, the least last. Of events with one key, the one that came last stays last.
+/// Puts events in order, the least last. Events with one key stay in the order in which they came.
 pub(crate) fn sort_falling(bucket: &mut Vec<Event>) -> Result<(), AllocError>
     ensures falls { OnOk result (Falls bucket.new.items) }
     ensures latest { (q : KeyValue) → latest q bucket.new.items ≡ latest q bucket.old.items }
+    ensures first { (q : KeyValue) → first q bucket.new.items ≡ first q bucket.old.items }
     ensures ticks { IsPermutation bucket.old.items bucket.new.items }
 {
     bucket.sort_by_key(|event| Reverse(event.key()))?;

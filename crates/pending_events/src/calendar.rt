@@ -170,7 +170,8 @@ fn put_last(
     if bucket.is_empty() {
         furnish(spare, bucket);
     }
-    bucket.push(event)?;
+    bucket.reserve(1)?;
+    bucket.push_reserved(event);
     Ok(())
 }
 

@@ -3,7 +3,7 @@ ghost use Rattle.std.specs.Prelude.{◌≡◌};
 ghost use Rattle.trace_laws.specs.World.{joined};
 
 use crate::pending::Pending;
-use process_api::Letter;
+use process_api::{Key, Payload};
 use std::alloc::AllocError;
 use trace_laws::{Event, Joins};
 
@@ -19,8 +19,8 @@ impl Joins for Pending {
     }
 
     #[inline(always)]
-    fn send(&mut self, letter: Letter) -> Result<(), AllocError> {
-        self.join(Event::letter(self.alloc, letter)?)?;
+    fn send(&mut self, key: Key, payload: &mut Payload) -> Result<(), AllocError> {
+        self.join(Event::letter(self.alloc, key, payload)?)?;
         Ok(())
     }
 }

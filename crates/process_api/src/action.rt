@@ -38,13 +38,15 @@ pub enum Action {
 /// # Errors
 ///
 /// `AllocError` where memory was refused; `out` is as before.
+#[inline(always)]
 pub fn send_to(out: &mut Vec<Action>, to: Pid, payload: Payload) -> Result<(), AllocError>
     ensures ok { OnOk result (out.new.items ≡ out.old.items ++ Action.Send to payload ∷ []) }
     ensures err { OnErr result (out.new.items ≡ out.old.items) }
 {
     // The check wants the type of a note named where an action is pushed.
     let _none: Option<Note> = None;
-    out.push(Action::Send { to, payload })?;
+    out.reserve(1)?;
+    out.push_reserved(Action::Send { to, payload });
     Ok(())
 }
 
@@ -102,7 +104,8 @@ pub fn wake_after(out: &mut Vec<Action>, pause: u32, tag: Tag) -> Result<(), All
     ensures err { OnErr result (out.new.items ≡ out.old.items) }
 {
     let _none: Option<Note> = None;
-    out.push(Action::Wake { pause, tag })?;
+    out.reserve(1)?;
+    out.push_reserved(Action::Wake { pause, tag });
     Ok(())
 }
 
@@ -115,6 +118,7 @@ pub fn note_that(out: &mut Vec<Action>, note: Note) -> Result<(), AllocError>
     ensures ok { OnOk result (out.new.items ≡ out.old.items ++ Action.Note note ∷ []) }
     ensures err { OnErr result (out.new.items ≡ out.old.items) }
 {
-    out.push(Action::Note(note))?;
+    out.reserve(1)?;
+    out.push_reserved(Action::Note(note));
     Ok(())
 }

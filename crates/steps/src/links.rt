@@ -11,9 +11,8 @@ ghost use Rattle.steps.specs.Seat.{count_of};
 ghost use Rattle.trace_laws.specs.Step.{raised, in_time, counted, joining, sent_by, lost_by, noted_by, counts_after, added as added_by, sent as sent_by_all, lost as lost_by_all, noted, dead};
 
 use crate::listener::Listener;
-use process_api::{Action, Entry, Key, Kind, Letter, Note, Payload, Pid, StepInput, Tag};
+use process_api::{Action, Entry, Key, Kind, Note, Payload, Pid, StepInput, Tag};
 use std::alloc::{AllocError, Global};
-use std::mem;
 use streams::{Fate, LinkWords, Streams};
 use trace_laws::{Event, Joins};
 
@@ -115,7 +114,7 @@ impl Links {
         streams: &Streams<'_>,
         key: Key,
         to: Pid,
-        payload: Payload,
+        payload: &mut Payload,
         added: &mut J,
         listener: &mut L,
     ) -> Result<u32, AllocError>
@@ -132,13 +131,13 @@ impl Links {
         ensures horizon { self.new.horizon ≡ self.old.horizon }
         ensures added { OnOk result (HaveJoined J.grown added.old added.new
             (joining (setting_of streams.now) key.receiver key.tick (count_of self.old.counts.items)
-            (Action.Send to payload))) }
+            (Action.Send to payload.old))) }
         ensures heard { OnOk result (HaveJoined L.heard listener.old listener.new
             (posting (setting_of streams.now) key.receiver key.tick (count_of self.old.counts.items)
-            (Action.Send to payload))) }
+            (Action.Send to payload.old))) }
         ensures lost { IfOk result (λ lost. lost
             ≡ lost_by (setting_of streams.now) key.receiver key.tick (count_of self.old.counts.items)
-            (Action.Send to payload)) }
+            (Action.Send to payload.old)) }
     {
         let own = key.receiver;
         let number = self.raise(to);
@@ -153,18 +152,18 @@ impl Links {
                 return Ok(0);
             };
             let alloc = *self.counts.allocator();
-            added.add(Event::letter(alloc, Letter { key, payload })?)?;
+            added.add(Event::letter(alloc, key, payload)?)?;
             return Ok(0);
         }
         let fate = self.fate(streams, own, to, number, key.tick);
-        listener.hear(&sent, &payload, fate)?;
+        listener.hear(&sent, payload, fate)?;
         let Fate::Delay(ticks) = fate else {
             return Ok(1);
         };
         let Some(key) = due_after(self.horizon, sent, ticks) else {
             return Ok(0);
         };
-        added.send(Letter { key, payload })?;
+        added.send(key, payload)?;
         Ok(0)
     }
 
@@ -207,14 +206,14 @@ impl Links {
         added.add(Event::wake(key, tag))
     }
 
-    /// Does what one action of the step of `key` says. Answers how many letters were put on a link, and how many of
+    /// Does what one action of the step of `key` says; what is left in its place means nothing. Answers how many letters were put on a link, and how many of
     /// these were lost: 0 or 1 each.
     #[inline(always)]
     fn act<J: Joins, L: Listener>(
         &mut self,
         streams: &Streams<'_>,
         key: &Key,
-        action: Action,
+        action: &mut Action,
         added: &mut J,
         listener: &mut L,
         notes: &mut Vec<Note>,
@@ -223,34 +222,35 @@ impl Links {
         requires places { vec_len self.old.counts ≡ streams.now.processes + 1 }
         requires own { key.now.receiver ≤ streams.now.processes }
         requires room { (q : ℕ) → count_of self.old.counts.items q + 1 < 2 ^ 64 }
-        requires allowed { IsAllowed streams.now.processes action }
+        requires allowed { IsAllowed streams.now.processes action.old }
         requires serves { Serves J.serves added.old key.now.receiver streams.now.processes }
 
         ensures serves { StillServes J.serves added.old added.new }
         ensures counts { OnOk result (count_of self.new.counts.items
-            ≡ counted key.now.receiver (count_of self.old.counts.items) action) }
+            ≡ counted key.now.receiver (count_of self.old.counts.items) action.old) }
         ensures places { OnOk result (vec_len self.new.counts ≡ vec_len self.old.counts) }
         ensures horizon { OnOk result (self.new.horizon ≡ self.old.horizon) }
         ensures added { OnOk result (HaveJoined J.grown added.old added.new
-            (joining (setting_of streams.now) key.now.receiver key.now.tick (count_of self.old.counts.items) action)) }
+            (joining (setting_of streams.now) key.now.receiver key.now.tick (count_of self.old.counts.items) action.old)) }
         ensures heard { OnOk result (HaveJoined L.heard listener.old listener.new
-            (posting (setting_of streams.now) key.now.receiver key.now.tick (count_of self.old.counts.items) action)) }
-        ensures notes { OnOk result (notes.new.items ≡ notes.old.items ++ noted_by action) }
-        ensures sent { IfOk result (λ n. n.0 ≡ sent_by action) }
+            (posting (setting_of streams.now) key.now.receiver key.now.tick (count_of self.old.counts.items) action.old)) }
+        ensures notes { OnOk result (notes.new.items ≡ notes.old.items ++ noted_by action.old) }
+        ensures sent { IfOk result (λ n. n.0 ≡ sent_by action.old) }
         ensures lost { IfOk result (λ n. n.1
-            ≡ lost_by (setting_of streams.now) key.now.receiver key.now.tick (count_of self.old.counts.items) action) }
+            ≡ lost_by (setting_of streams.now) key.now.receiver key.now.tick (count_of self.old.counts.items) action.old) }
     {
         match action {
             Action::Send { to, payload } => {
-                let lost = self.post(streams, *key, to, payload, added, listener)?;
+                let lost = self.post(streams, *key, *to, payload, added, listener)?;
                 Ok((1, lost))
             }
-            Action::Wake { pause, tag } => {
+            &mut Action::Wake { pause, tag } => {
                 self.set_wake(*key, pause, tag, added)?;
                 Ok((0, 0))
             }
-            Action::Note(note) => {
-                notes.push(note)?;
+            &mut Action::Note(note) => {
+                notes.reserve(1)?;
+                notes.push_reserved(note);
                 Ok((0, 0))
             }
         }
@@ -302,8 +302,7 @@ impl Links {
         let mut lost = 0u32;
         let mut notes = Vec::new(*self.counts.allocator());
         for place in 0..actions.len() {
-            // what is left in the place is never read
-            let action = mem::replace(&mut actions[place], Action::Note(Note::NoValue));
+            let action = &mut actions[place];
             let letters = self.act(streams, &key, action, added, listener, &mut notes)?;
             sent += letters.0;
             lost += letters.1;

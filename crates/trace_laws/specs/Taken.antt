@@ -1,12 +1,13 @@
 -- What the code's events and letters are.
 use Rattle.process_api.specs.declared.message.Letter.{Letter}
+use Rattle.process_api.specs.declared.message.Payload.{Payload}
 use Rattle.process_api.specs.declared.message.Payload.TheVariants as payload
 use Rattle.process_api.specs.declared.message.StepInput.{StepInput}
 use Rattle.process_api.specs.declared.message.StepInput.TheVariants as input
 use Rattle.trace_laws.specs.Step.{Event}
 use Rattle.trace_laws.specs.declared.event.Taken.{Taken}
 use Rattle.trace_laws.specs.declared.event.Taken.TheVariants as taken
-use Rattle.std.specs.Prelude.{ℕ, ◌-◌}
+use Rattle.std.specs.Prelude.{ℕ, ◌-◌, ◌+◌, ◌<◌, ◌≤◌, ◌^◌, ◌⊎◌, ⊤}
 
 -- what a process takes, where this one is the sender
 abbrev pub input_of : ℕ → Taken → StepInput
@@ -23,3 +24,19 @@ input_of sender (taken.Aside what) = input.Letter sender what.value
 -- the event that a letter becomes
 abbrev pub event_of : Letter → Event
 event_of x = (x.key, input.Letter x.key.sender x.payload)
+
+-- a stamp that is after its round, or 2^32 rounds before it
+abbrev pub IsFarFrom : (round stamp : ℕ) → Type 0
+IsFarFrom round stamp = (round < stamp) ⊎ (stamp + 2 ^ 32 ≤ round)
+
+-- what takes memory of its own: a set, cells, or a stamp that is far from its round
+abbrev pub LiesAside : Payload → Type 0
+LiesAside (payload.Suspects set) = ⊤
+LiesAside (payload.Vector round cells) = ⊤
+LiesAside (payload.Last cells) = ⊤
+LiesAside (payload.Estimate round value stamp) = IsFarFrom round stamp
+LiesAside payload.Alive = ⊥
+LiesAside (payload.Heartbeat number) = ⊥
+LiesAside (payload.Proposal round value) = ⊥
+LiesAside (payload.Reply round ack) = ⊥
+LiesAside (payload.Decide round value) = ⊥

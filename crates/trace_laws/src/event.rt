@@ -1,11 +1,12 @@
 //! Events: what waits for a process.
-ghost use Rattle.std.specs.Prelude.{◌≡◌, ◌+◌, ℕ, IfOk, MatchOption, ⊤};
+ghost use Rattle.std.specs.Prelude.{◌≡◌, ◌+◌, ℕ, IfErr, IfOk, MatchOption};
 ghost use Rattle.trace_laws.specs.World.{start_of};
-ghost use Rattle.trace_laws.specs.Taken.{event_of, input_of};
+ghost use Rattle.trace_laws.specs.Taken.{IsFarFrom, LiesAside, event_of, input_of};
 
-use process_api::{Key, Letter, Payload, Pid, StepInput, Tag};
+use process_api::{Key, Payload, Pid, StepInput, Tag};
 use std::alloc::{AllocError, Global};
 use std::marker::Model;
+use std::mem::replace;
 
 /// What the receiver of an event takes, in 24 bytes. Who sent a letter stands in the event's key alone. What few bytes
 /// don't hold lies aside.
@@ -26,40 +27,43 @@ enum Taken {
 /// How many rounds a stamp is before its round, where it is, and not by too many for 32 bits.
 #[inline(always)]
 fn age_of(round: u64, stamp: u64) -> Option<u32>
-    ensures { MatchOption result ⊤ (λ age. stamp + age ≡ round) }
+    ensures { MatchOption result (IsFarFrom round stamp) (λ age. stamp + age ≡ round) }
 {
     let age = round.checked_sub(stamp)?;
     u32::try_from(age).ok()
 }
 
 impl Taken {
-    /// What a letter says.
+    /// What a large letter says, which is moved out of its place.
+    fn aside(alloc: Global, payload: &mut Payload) -> Result<Taken, AllocError>
+        ensures { IfOk result (λ taken. (sender : ℕ) → input_of sender taken ≡ StepInput.Letter sender payload.old) }
+    {
+        let large = replace(payload, Payload::Alive);
+        Ok(Taken::Aside(Box::new(alloc, large)?))
+    }
+
+    /// What a letter says. What is left in its place then means nothing.
     #[inline(always)]
-    fn letter(alloc: Global, payload: Payload) -> Result<Taken, AllocError>
-        ensures { IfOk result (λ taken. (sender : ℕ) → input_of sender taken ≡ StepInput.Letter sender payload) }
+    fn letter(alloc: Global, payload: &mut Payload) -> Result<Taken, AllocError>
+        ensures input { IfOk result (λ taken.
+            (sender : ℕ) → input_of sender taken ≡ StepInput.Letter sender payload.old) }
+        ensures large { IfErr result (λ _. LiesAside payload.old) }
     {
         let taken = match payload {
             Payload::Alive => Taken::Alive,
-            Payload::Heartbeat { number } => Taken::Heartbeat { number },
-            Payload::Proposal { round, value } => Taken::Proposal { round, value },
-            Payload::Reply { round, ack } => Taken::Reply { round, ack },
-            Payload::Decide { round, value } => Taken::Decide { round, value },
-            Payload::Estimate {
+            &mut Payload::Heartbeat { number } => Taken::Heartbeat { number },
+            &mut Payload::Proposal { round, value } => Taken::Proposal { round, value },
+            &mut Payload::Reply { round, ack } => Taken::Reply { round, ack },
+            &mut Payload::Decide { round, value } => Taken::Decide { round, value },
+            &mut Payload::Estimate {
                 round,
                 value,
                 stamp,
             } => match age_of(round, stamp) {
                 Some(age) => Taken::Estimate { round, value, age },
-                None => Taken::Aside(Box::new(
-                    alloc,
-                    Payload::Estimate {
-                        round,
-                        value,
-                        stamp,
-                    },
-                )?),
+                None => Taken::aside(alloc, payload)?,
             },
-            large => Taken::Aside(Box::new(alloc, large)?),
+            large => Taken::aside(alloc, large)?,
         };
         Ok(taken)
     }
@@ -138,17 +142,18 @@ impl Event {
         }
     }
 
-    /// The event that a letter becomes: its sender is that of its key.
+    /// The event that a letter becomes: its sender is that of its key. What it says is read in its place, and moved out
+    /// of it where it is large: what is left there means nothing.
     ///
     /// # Errors
     ///
     /// `AllocError` where memory was refused, for a letter with a set, with cells, or with a stamp that is after its
-    /// round or 2^32 rounds before it. The letter is gone then.
+    /// round or 2^32 rounds before it.
     #[inline(always)]
-    pub fn letter(alloc: Global, letter: Letter) -> Result<Event, AllocError>
-        ensures { IfOk result (λ event. event ≡ event_of letter) }
+    pub fn letter(alloc: Global, key: Key, payload: &mut Payload) -> Result<Event, AllocError>
+        ensures event { IfOk result (λ event. event ≡ event_of (record { key = key; payload = payload.old })) }
+        ensures large { IfErr result (λ _. LiesAside payload.old) }
     {
-        let Letter { key, payload } = letter;
         let taken = Taken::letter(alloc, payload)?;
         Ok(Event { key, taken })
     }

@@ -5,7 +5,7 @@ ghost use Rattle.trace_laws.specs.Step.{Event as Pair};
 ghost use Rattle.trace_laws.specs.Taken.{event_of};
 
 use crate::event::Event;
-use process_api::Letter;
+use process_api::{Key, Payload};
 use std::alloc::AllocError;
 
 /// Takes the events that join, one after another.
@@ -26,15 +26,16 @@ pub trait Joins {
         ensures serves { StillServes serves self.old self.new }
         ensures grown { OnOk result (HaveJoined grown self.old self.new (event ∷ [])) };
 
-    /// One more letter, to another process.
+    /// One more letter, to another process: its key, and what it says, which is read in its place. What is left there
+    /// means nothing.
     ///
     /// # Errors
     ///
     /// `AllocError` where memory was refused. The letter is gone then, and others may be.
-    fn send(&mut self, letter: Letter) -> Result<(), AllocError>
-        requires sender { (processes : ℕ) × Serves serves self.old letter.key.sender processes
-            × (letter.key.receiver ≤ processes) }
-        requires other { letter.key.receiver ≢ letter.key.sender }
+    fn send(&mut self, key: Key, payload: &mut Payload) -> Result<(), AllocError>
+        requires sender { (processes : ℕ) × Serves serves self.old key.sender processes × (key.receiver ≤ processes) }
+        requires other { key.receiver ≢ key.sender }
         ensures serves { StillServes serves self.old self.new }
-        ensures grown { OnOk result (HaveJoined grown self.old self.new (event_of letter ∷ [])) };
+        ensures grown { OnOk result (HaveJoined grown self.old self.new
+            (event_of (record { key = key; payload = payload.old }) ∷ [])) };
 }

@@ -121,7 +121,8 @@ fn join_all(pending: &mut Pending, letters: Vec<Letter>) -> Result<(), AllocErro
 {
     let alloc = *letters.allocator();
     for letter in letters {
-        pending.join(Event::letter(alloc, letter)?)?;
+        let Letter { key, mut payload } = letter;
+        pending.join(Event::letter(alloc, key, &mut payload)?)?;
     }
     Ok(())
 }

@@ -2,8 +2,9 @@
 
 use crate::agenda::Agenda;
 use mailboxes::{SharedMailboxes, Slip};
-use process_api::{Letter, Pid};
+use process_api::{Key, Letter, Payload, Pid};
 use std::alloc::AllocError;
+use std::mem::replace;
 use std::sync::Wait;
 use trace_laws::{Event, Joins};
 
@@ -31,7 +32,9 @@ impl<R: Wait> Joins for Outbox<'_, R> {
     }
 
     #[inline(always)]
-    fn send(&mut self, letter: Letter) -> Result<(), AllocError> {
+    fn send(&mut self, key: Key, payload: &mut Payload) -> Result<(), AllocError> {
+        let payload = replace(payload, Payload::Alive);
+        let letter = Letter { key, payload };
         if self.mailboxes.post(self.rt, self.slip, letter).is_err() {
             return Err(AllocError);
         }

@@ -6,4 +6,4 @@ use Rattle.pending_events.proofs.joins.PendingJoins.send.Goals as goal
 
 pub returns-clause-grown : goal.returns-clause-grown
 returns-clause-grown c = λ first before had.
-    c.in_ok-join.ensures.ok ∙ ((λ i. events.insert (had i) (c.in_ok-letter.ensures i).0 (c.in_ok-letter.ensures i).1) ∙ sym (joined_one first before (event_of c.args.letter)))
+    c.in_ok-join.ensures.ok ∙ ((λ i. events.insert (had i) (c.in_ok-letter.ensures.event i).0 (c.in_ok-letter.ensures.event i).1) ∙ sym (joined_one first before (event_of (record { key = c.args.key; payload = c.args.payload.now }))))

@@ -1,4 +1,4 @@
-use Rattle.std.proofs.Common.{◌≡◌, ◌+◌, ◌∷◌, ◌++◌, ◌∙◌, [], ap, refl, sym, arith, subst, slice_set, slice_index_or}
+use Rattle.std.proofs.Common.{◌≡◌, ◌+◌, ◌∷◌, ◌++◌, ◌∙◌, [], ap, refl, sym, arith, slice_set}
 use Rattle.std.specs.Prelude.{drop}
 use Rattle.process_api.specs.declared.action.Action.{Action}
 use Rattle.process_api.specs.Actions.{IsAllowed}
@@ -20,10 +20,10 @@ loop-place-preserved h c =
     let before = count_of c.args.self.now.counts.items in
     let old = c.loop-place.actions.items in
     let place = c.loop-place.place in
-    let a : Action = c.replace-action.result in
+    let a : Action = c.index_mut-action.result.now in
     let rest = drop place old in
-    let left = drop (place + 1) (slice_set old place c.replace-action.new.dest) in
-    let e : rest ≡ a ∷ left = drop_at old place a c.replace-action.new.dest (omega (arith, c.loop-place-test.true, c.len-place-end.ensures, c.loop-place.invariant.many)) (subst (λ v. v ≡ slice_index_or old place v) (sym c.replace-action.ensures.value) c.index_mut.ensures.value) in
+    let left = drop (place + 1) (slice_set old place c.act.new.action) in
+    let e : rest ≡ a ∷ left = drop_at old place a c.act.new.action (omega (arith, c.loop-place-test.true, c.len-place-end.ensures, c.loop-place.invariant.many)) c.index_mut-action.ensures.value in
     let f = count_of c.loop-place.self.counts.items in
     let g = count_of c.act.new.self.counts.items in
     let i = c.loop-place.invariant in
@@ -31,7 +31,7 @@ loop-place-preserved h c =
     let done = c.in_ok-letters.ensures in
     let done_serves = c.act.ensures.serves in
     record {
-      many = length-set old place c.replace-action.new.dest ∙ i.many;
+      many = length-set old place c.act.new.action ∙ i.many;
       counts = one_counted all rest left a e p before f g done.counts i.counts;
       places = done.places ∙ i.places;
       horizon = done.horizon ∙ i.horizon;
