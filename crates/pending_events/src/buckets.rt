@@ -133,7 +133,32 @@ pub(crate) fn settle(
     Ok(())
 }
 
+/// Takes the bucket of the least tick out, and puts it in order: it is due then.
+fn fill(
+    tick: &mut u32,
+    due: &mut Vec<Event>,
+    later: &mut Calendar,
+    spare: &mut Vec<Vec<Event>>,
+    lanes: &mut Vec<Vec<Event>>,
+) -> Result<(), AllocError>
+    requires in_order { IsInOrder tick.old due.old.items later.old }
+    requires none { due.old.items ≡ [] }
+    ensures in_order { IsInOrder tick.new due.new.items later.new }
+    ensures same { OnOk result
+        ((q : KeyValue) → seen_at due.new.items later.new q ≡ seen_at due.old.items later.old q) }
+    ensures left { OnOk result (due.new.items ≡ [] → IsVacant later.new) }
+{
+    if let Some((least, mut bucket)) = later.take_first()? {
+        put_in_order(lanes, &mut bucket)?;
+        // kept for reuse, or let go where there is no room
+        drop(spare.push(mem::replace(due, bucket)));
+        *tick = least;
+    }
+    Ok(())
+}
+
 /// Takes the bucket of the least tick out, where nothing is due, and puts it in order.
+#[inline(always)]
 pub(crate) fn refill(
     tick: &mut u32,
     due: &mut Vec<Event>,
@@ -147,14 +172,8 @@ pub(crate) fn refill(
         ((q : KeyValue) → seen_at due.new.items later.new q ≡ seen_at due.old.items later.old q) }
     ensures left { OnOk result (due.new.items ≡ [] → IsVacant later.new) }
 {
-    if !due.is_empty() {
-        return Ok(());
-    }
-    if let Some((least, mut bucket)) = later.take_first()? {
-        put_in_order(lanes, &mut bucket)?;
-        // kept for reuse, or let go where there is no room
-        drop(spare.push(mem::replace(due, bucket)));
-        *tick = least;
+    if due.is_empty() {
+        return fill(tick, due, later, spare, lanes);
     }
     Ok(())
 }

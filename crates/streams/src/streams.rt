@@ -86,6 +86,7 @@ impl<'a> Streams<'a> {
     /// The same, for letters that are asked for in their turn: the words of a link are kept from letter to letter. A
     /// letter that is lost in an outage draws none, and nor does a link without loss and with one delay: the words of
     /// the next letters are at their own places all the same.
+    #[inline(always)]
     #[tactic(auto, unfolding(crate::specs::Fate::fate_of))]
     pub fn next_fate(
         &self,
@@ -129,6 +130,7 @@ impl LinkWords {
 
     /// The two words at a place of a link's stream, and after it. Where the generator stands there already, its next
     /// words are these.
+    #[inline(never)]
     #[tactic(auto, unfolding(crate::specs::Fate::word))]
     pub fn pair_at(&mut self, seed: u64, from: Pid, to: Pid, place: u128) -> (u32, u32)
         requires { place < 2 ^ 66 }
