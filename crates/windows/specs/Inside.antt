@@ -1,5 +1,4 @@
--- words that private functions, proofs and tests use alone: no public contract rests on them, but for
--- `IsCountOfWorkers` of `Shared`, which `run_window` cites
+-- words that private functions, proofs and tests use alone: no public contract rests on them
 pub mod Outbox
 pub mod Workers
 pub mod Shared

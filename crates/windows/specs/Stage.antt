@@ -1,5 +1,5 @@
 -- What a stage of the program stands for.
-use Rattle.std.specs.Prelude.{◌≡◌, ◌⊎◌, ℕ, zero, suc, ◌+◌, ◌-◌, ◌*◌, ◌<◌, ◌≤◌, List, [], ◌∷◌, length, map, IsTrue, slice_get, slice_index_or, Some, vec_len}
+use Rattle.std.specs.Prelude.{◌≡◌, ◌⊎◌, ℕ, zero, suc, ◌+◌, ◌++◌, ◌-◌, ◌*◌, ◌<◌, ◌≤◌, List, [], ◌∷◌, length, map, min, IsTrue, slice_get, slice_index_or, Some, vec_len}
 use Rattle.std.specs.FinMap as events
 use Rattle.std.specs.List.{All}
 use Rattle.std.specs.List.Sorted.{IsPermutation}
@@ -116,3 +116,13 @@ module _ {M : Type 0} (mind : M → Mind) where
       × IsMerge S.processes found.part merged × (new.so_far ≡ old.so_far + length merged)
       × (end_of S window old.start ≤ new.start)
       × IsNextStart S.horizon (map (λ b. b.pending) new.berths.items) new.start
+
+module _ {M : Type 0} where
+  -- how many workers are started: one for each process with an event below the end, but no more than the plan has
+  pub record IsCountOfWorkers (end workers : ℕ) (berths : List (Berth M)) (started : ℕ) : Type 0 where
+    pub waiting : List (Berth M)
+    pub idle : List (Berth M)
+    pub all : IsPermutation berths (waiting ++ idle)
+    pub some : All (λ b. ¬ (NoneBelow end b.pending)) waiting
+    pub none : All (λ b. NoneBelow end b.pending) idle
+    pub count : started ≡ min (length waiting) workers

@@ -13,8 +13,8 @@ ghost use Rattle.windows.specs.Plan.{IsPlanFor, most_workers};
 ghost use Rattle.window_laws.specs.Machine.{end_of};
 ghost use Rattle.windows.specs.Refusals.{IsRefusal, IsRefusalOfOne};
 ghost use Rattle.windows.specs.Inside.Shared.{AreReady, IsOneTooLong, IsFreshIn, IsStart, IsWorkIn, AreAnswers};
-ghost use Rattle.windows.specs.Inside.Shared.{HadWindow, IsCountOfWorkers};
-ghost use Rattle.windows.specs.Stage.{IsStage, IsStageAfter, IsWindowRun};
+ghost use Rattle.windows.specs.Inside.Shared.{HadWindow};
+ghost use Rattle.windows.specs.Stage.{IsCountOfWorkers, IsStage, IsStageAfter, IsWindowRun};
 ghost use Rattle.windows.specs.Inside.Workers.{RiseBy, dealt_to, given_to};
 
 use crate::berth::Berth;

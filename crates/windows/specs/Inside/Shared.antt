@@ -1,10 +1,8 @@
 -- What holds of those who share a window.
-use Rattle.std.specs.Prelude.{◌≡◌, ◌++◌, ℕ, List, length, map, min, Result, IfOk, IfErr, IsErrOf, vec_len}
+use Rattle.std.specs.Prelude.{◌≡◌, ℕ, List, length, map, Result, IfOk, IfErr, IsErrOf, vec_len}
 use Rattle.std.specs.Global.{Vec}
 use Rattle.std.specs.List.{All}
-use Rattle.std.specs.List.Sorted.{IsPermutation}
 use Rattle.process_api.specs.Mind.{Mind}
-use Rattle.trace_laws.specs.World.{NoneBelow}
 use Rattle.run_error.specs.declared.error.RunError.{RunError}
 use Rattle.run_error.specs.declared.error.RunError.TheVariants.{Limit}
 use Rattle.mailboxes.specs.Mailbox.{MailboxId}
@@ -71,13 +69,3 @@ module _ {M : Type 0} (mind : M → Mind) where
   -- each of these processes had its window
   abbrev pub HadWindow : Window → List MailboxId → (olds news : List (Berth M)) → List SlipView → Type 0
   HadWindow w mailboxes olds news slips = AreRun mind w.streams w.end mailboxes olds news slips
-
-module _ {M : Type 0} where
-  -- how many workers are started: one for each process with an event below the end, but no more than the plan has
-  pub record IsCountOfWorkers (end workers : ℕ) (berths : List (Berth M)) (started : ℕ) : Type 0 where
-    pub waiting : List (Berth M)
-    pub idle : List (Berth M)
-    pub all : IsPermutation berths (waiting ++ idle)
-    pub some : All (λ b. ¬ (NoneBelow end b.pending)) waiting
-    pub none : All (λ b. NoneBelow end b.pending) idle
-    pub count : started ≡ min (length waiting) workers

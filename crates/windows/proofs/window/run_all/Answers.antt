@@ -4,7 +4,7 @@ use Rattle.std.proofs.lemmas.List.Sorted.{IsNonDecreasingBy-from_sort_by_key}
 use Rattle.steps.specs.Seat.{own_of}
 use Rattle.mailboxes.specs.Mailboxes.{IsSlipOf}
 use Rattle.windows.specs.declared.berth.Berth.{Berth}
-use Rattle.windows.specs.Inside.Shared.{IsCountOfWorkers}
+use Rattle.windows.specs.Stage.{IsCountOfWorkers}
 use Rattle.windows.proofs.Gathered.{outcome}
 use Rattle.windows.proofs.window.run_all.Goals as goal
 

@@ -7,7 +7,7 @@ use Rattle.trace_laws.specs.ScenarioSetting.{setting_of}
 use Rattle.steps.specs.Seat.{own_of}
 use Rattle.window_laws.specs.Machine.{end_of}
 use Rattle.windows.specs.Inside.Closing.{IsOutcomeBy}
-use Rattle.windows.specs.Inside.Shared.{IsCountOfWorkers}
+use Rattle.windows.specs.Stage.{IsCountOfWorkers}
 use Rattle.windows.specs.Inside.Workers.{IsReady, RiseBy, HasLong}
 use Rattle.windows.specs.declared.berth.Berth.{Berth}
 use Rattle.windows.proofs.Closing.{stage_ready, stage_rises, long_limit}
