@@ -1,5 +1,5 @@
 -- What a diagnosis says of a file.
-use Rattle.std.specs.Prelude.{◌≡◌, ℕ, ◌≤◌, List, length, take, false, Option, Some, None, string_bytes}
+use Rattle.std.specs.Prelude.{◌≡◌, ℕ, ◌≤◌, ◌*◌, ◌/◌, min, List, length, take, false, Option, Some, None, string_bytes}
 use Rattle.std.specs.Borrow.{Bor}
 use Rattle.toml.specs.Data.{Members}
 use Rattle.scenario_record.specs.Record.{Record}
@@ -34,11 +34,21 @@ IsReason e (Some file) (found its meant) = Breaks e file its × IsMeantIn its me
 IsReason e (Some file) nothing = Unit {0}
 IsReason e _ _ = ⊥
 
+-- ticks of the longest window that a plan may have: the lookahead, cut at the horizon
+abbrev pub longest_window : Record → ℕ
+longest_window s = min s.lookahead s.horizon
+
+-- so many of a run's entries as the ticks are of the horizon, rounded down
+abbrev pub entries_in : (ticks entries horizon : ℕ) → ℕ
+entries_in ticks entries horizon = (entries * ticks) / horizon
+
 -- what is said of an accepted file
 pub record Describes (s : Record) (a : Accepted) : Type 0 where
   pub processes : a.processes ≡ s.processes
   pub horizon : a.horizon ≡ s.horizon
   pub limit : a.limit ≡ s.limit
+  pub window : a.window ≡ longest_window s
+  pub in_window : a.estimate.in_window ≡ entries_in (longest_window s) a.estimate.entries s.horizon
 
 -- ---- a file's bytes
 

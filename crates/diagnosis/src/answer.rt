@@ -7,7 +7,7 @@ ghost use Rattle.scenario.specs.Groups.{StopsFirst};
 ghost use Rattle.scenario.specs.Faults.{Breaks};
 ghost use Rattle.diagnosis.specs.Diagnosis.{IsDiagnosisOf, IsPlaced, IsTableDiagnosisOf, RefusesFor, RefusesTableFor};
 
-use crate::estimate::{Estimate, estimate_of};
+use crate::estimate::{Estimate, estimate_of, window_of};
 use crate::keys::meant_in;
 use crate::position::position_after;
 use crate::told::{NotToml, Told};
@@ -22,6 +22,8 @@ pub struct Accepted {
     pub processes: u16,
     /// The tick at which the run ends.
     pub horizon: u32,
+    /// Ticks of the longest window that a plan may have.
+    pub window: u32,
     /// How many entries the run may have.
     pub limit: u64,
     /// About how much the run will be.
@@ -93,6 +95,7 @@ pub fn diagnose_table(alloc: Global, table: &Table) -> Result<Diagnosis, AllocEr
         Ok(scenario) => Ok(Diagnosis::Accepted(Accepted {
             processes: scenario.processes(),
             horizon: scenario.horizon(),
+            window: window_of(&scenario),
             limit: scenario.limit(),
             estimate: estimate_of(&scenario),
         })),

@@ -1,6 +1,8 @@
 -- What `check` answers.
 use Rattle.std.specs.Prelude.{◌≡◌, ℕ, if◌then◌else◌, nat_lt, List, [], length, ◌++◌, codes, decimal, Option}
+use Rattle.diagnosis.specs.Diagnosis.{entries_in, longest_window}
 use Rattle.diagnosis.specs.declared.answer.Accepted.{Accepted}
+use Rattle.diagnosis.specs.declared.estimate.TheConstants.{ENTRIES_THAT_PAY}
 use Rattle.toml.specs.Data.{Members}
 use Rattle.study.specs.Grid.{GridRecord, runs}
 use Rattle.study.specs.Shard.{ShardRecord}
@@ -18,6 +20,17 @@ abbrev pub limit_text : (limit entries : ℕ) → List ℕ
 limit_text limit entries =
     if nat_lt limit entries then codes "limit " ++ (decimal limit ++ codes " may stop the run\n") else []
 
+-- whether a window of about so many entries is worth 4 workers
+abbrev pub way_text : (entries : ℕ) → List ℕ
+way_text entries =
+    if nat_lt entries ENTRIES_THAT_PAY then codes "list is faster" else codes "run by 4 workers may be faster"
+
+-- how long windows may be, about how many entries they then have, and what follows
+abbrev pub window_text : (ticks entries : ℕ) → List ℕ
+window_text ticks entries =
+    codes "windows of " ++ (decimal ticks ++ (codes " ticks have about " ++ (decimal entries
+    ++ (codes " entries: " ++ (way_text entries ++ codes "\n")))))
+
 -- an accepted file's line, and what is told behind it
 abbrev pub told_size : (processes horizon entries seconds : ℕ) → List ℕ → List ℕ
 told_size processes horizon entries seconds more =
@@ -25,14 +38,16 @@ told_size processes horizon entries seconds more =
     ++ (decimal entries ++ (codes " entries in " ++ (decimal seconds ++ (codes " s\n" ++ more))))))))
 
 -- what is told of an accepted file
-abbrev pub accepted_text : (processes horizon limit entries seconds : ℕ) → List ℕ
-accepted_text processes horizon limit entries seconds =
-    told_size processes horizon entries seconds (limit_text limit entries)
+abbrev pub accepted_text : (processes horizon limit window entries seconds in_window : ℕ) → List ℕ
+accepted_text processes horizon limit window entries seconds in_window =
+    told_size processes horizon entries seconds (window_text window in_window ++ limit_text limit entries)
 
 abbrev pub accepted_line : Accepted → List ℕ
-accepted_line a = accepted_text a.processes a.horizon a.limit a.estimate.entries a.estimate.seconds
+accepted_line a =
+    accepted_text a.processes a.horizon a.limit a.window a.estimate.entries a.estimate.seconds a.estimate.in_window
 
--- the file is accepted, and these are its processes, its horizon and its limit. How near the estimate comes isn't said
+-- the file is accepted, and these are its processes, its horizon, its limit and its longest window, which has its share
+-- of the entries. How near the estimate of all entries comes isn't said
 pub record IsCheckAnswer (input : Option (List ℕ)) (path : List ℕ) (piece : List ℕ) : Type 0 where
   pub bytes : List ℕ
   pub are_bytes : AreBytes input path bytes
@@ -40,7 +55,8 @@ pub record IsCheckAnswer (input : Option (List ℕ)) (path : List ℕ) (piece : 
   pub accepted : Accepts bytes scenario
   pub entries : ℕ
   pub seconds : ℕ
-  pub text : piece ≡ accepted_text scenario.processes scenario.horizon scenario.limit entries seconds
+  pub text : piece ≡ accepted_text scenario.processes scenario.horizon scenario.limit (longest_window scenario)
+      entries seconds (entries_in (longest_window scenario) entries scenario.horizon)
 
 -- the begin of the text of a study whose runs are all accepted
 abbrev pub study_begin : (points runs : ℕ) → List ℕ

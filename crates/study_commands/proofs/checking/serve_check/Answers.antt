@@ -15,7 +15,14 @@ returns-in-Accepted-clause-text g c =
       entries = a.estimate.entries;
       seconds = a.estimate.seconds;
       text =
-          rw (c.into_bytes.ensures.value, ← its.describes.processes, ← its.describes.horizon, ← its.describes.limit)
+          rw (
+            c.into_bytes.ensures.value,
+            ← its.describes.in_window,
+            ← its.describes.window,
+            ← its.describes.processes,
+            ← its.describes.horizon,
+            ← its.describes.limit,
+          )
           c.in_ok-line_of-in-Accepted.ensures;
     }
 
