@@ -34,7 +34,7 @@ IsReason e (Some file) (found its meant) = Breaks e file its × IsMeantIn its me
 IsReason e (Some file) nothing = Unit {0}
 IsReason e _ _ = ⊥
 
--- ticks of the longest window that a plan may have: the lookahead, cut at the horizon
+-- ticks of the longest window that a run may have: the lookahead, cut at the horizon
 abbrev pub longest_window : Record → ℕ
 longest_window s = min s.lookahead s.horizon
 

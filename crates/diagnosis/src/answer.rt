@@ -22,7 +22,7 @@ pub struct Accepted {
     pub processes: u16,
     /// The tick at which the run ends.
     pub horizon: u32,
-    /// Ticks of the longest window that a plan may have.
+    /// Ticks of the longest window that a run may have.
     pub window: u32,
     /// How many entries the run may have.
     pub limit: u64,

@@ -21,7 +21,7 @@ pub struct Estimate {
     pub entries: u64,
     /// Seconds that the run takes, rounded up, at 5,000,000 entries a second.
     pub seconds: u64,
-    /// Of these entries those of one of the longest windows that a plan may have, rounded down.
+    /// Of these entries those of a window that is as long as may be, rounded down.
     pub in_window: u64,
 }
 
@@ -33,7 +33,7 @@ impl Estimate {
     }
 }
 
-/// Ticks of the longest window that a plan may have.
+/// Ticks of the longest window that a run may have.
 pub(crate) fn window_of(scenario: &Scenario) -> u32
     ensures { result ≡ longest_window scenario.now }
 {

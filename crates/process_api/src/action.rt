@@ -45,6 +45,7 @@ pub fn send_to(out: &mut Vec<Action>, to: Pid, payload: Payload) -> Result<(), A
 {
     // The check wants the type of a note named where an action is pushed.
     let _none: Option<Note> = None;
+    // room first: so the action is made in its place
     out.reserve(1)?;
     out.push_reserved(Action::Send { to, payload });
     Ok(())

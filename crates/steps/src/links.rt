@@ -206,8 +206,8 @@ impl Links {
         added.add(Event::wake(key, tag))
     }
 
-    /// Does what one action of the step of `key` says; what is left in its place means nothing. Answers how many letters were put on a link, and how many of
-    /// these were lost: 0 or 1 each.
+    /// Does what one action of the step of `key` says; what is left in its place means nothing. Answers how many letters
+    /// were put on a link, and how many of these were lost: 0 or 1 each.
     #[inline(always)]
     fn act<J: Joins, L: Listener>(
         &mut self,
@@ -231,13 +231,16 @@ impl Links {
         ensures places { OnOk result (vec_len self.new.counts ≡ vec_len self.old.counts) }
         ensures horizon { OnOk result (self.new.horizon ≡ self.old.horizon) }
         ensures added { OnOk result (HaveJoined J.grown added.old added.new
-            (joining (setting_of streams.now) key.now.receiver key.now.tick (count_of self.old.counts.items) action.old)) }
+            (joining (setting_of streams.now) key.now.receiver key.now.tick (count_of self.old.counts.items)
+            action.old)) }
         ensures heard { OnOk result (HaveJoined L.heard listener.old listener.new
-            (posting (setting_of streams.now) key.now.receiver key.now.tick (count_of self.old.counts.items) action.old)) }
+            (posting (setting_of streams.now) key.now.receiver key.now.tick (count_of self.old.counts.items)
+            action.old)) }
         ensures notes { OnOk result (notes.new.items ≡ notes.old.items ++ noted_by action.old) }
         ensures sent { IfOk result (λ n. n.0 ≡ sent_by action.old) }
         ensures lost { IfOk result (λ n. n.1
-            ≡ lost_by (setting_of streams.now) key.now.receiver key.now.tick (count_of self.old.counts.items) action.old) }
+            ≡ lost_by (setting_of streams.now) key.now.receiver key.now.tick (count_of self.old.counts.items)
+            action.old) }
     {
         match action {
             Action::Send { to, payload } => {

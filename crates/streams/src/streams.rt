@@ -129,7 +129,7 @@ impl LinkWords {
     }
 
     /// The two words at a place of a link's stream, and after it. Where the generator stands there already, its next
-    /// words are these.
+    /// words are these. It stands apart, so that a sure link's fate is found with no call.
     #[inline(never)]
     #[tactic(auto, unfolding(crate::specs::Fate::word))]
     pub fn pair_at(&mut self, seed: u64, from: Pid, to: Pid, place: u128) -> (u32, u32)

@@ -23,7 +23,7 @@ limit_text limit entries =
 -- whether a window of about so many entries is worth 4 workers
 abbrev pub way_text : (entries : ℕ) → List ℕ
 way_text entries =
-    if nat_lt entries ENTRIES_THAT_PAY then codes "list is faster" else codes "run by 4 workers may be faster"
+    if nat_lt entries ENTRIES_THAT_PAY then codes "list is likely faster" else codes "run by 4 workers may be faster"
 
 -- how long windows may be, about how many entries they then have, and what follows
 abbrev pub window_text : (ticks entries : ℕ) → List ℕ

@@ -28,7 +28,7 @@ fn faster_way(entries: u64) -> &'static str
     ensures { result.now ≡ way_text entries }
 {
     if entries < ENTRIES_THAT_PAY {
-        "list is faster"
+        "list is likely faster"
     } else {
         "run by 4 workers may be faster"
     }

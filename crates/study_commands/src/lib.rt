@@ -1,7 +1,7 @@
 //! The commands of `fdstudy`: from the words of a command line to what goes out and the exit status.
 //!
 //! The one contract is that of [`serve::serve`]: with status 0 the outlet grows by what the words ask for, which for
-//! `sweep` is the study's text, for `show` the run's, for `check` the line of an accepted file, for `letters` the text
+//! `sweep` is the study's text, for `show` the run's, for `check` the lines of an accepted file, for `letters` the text
 //! of the letters of its run and for `draw` a picture of it; with status 4 by a front part of it; with another status
 //! by nothing, but that a `sweep` of status 3 may leave the rows of the first points. Each command has a module and a
 //! file of definitions: `specs/Sweep.antt`, `specs/Show.antt`, `specs/Check.antt`, `specs/Letters.antt` and

@@ -25,7 +25,7 @@ input_of sender (taken.Aside what) = input.Letter sender what.value
 abbrev pub event_of : Letter → Event
 event_of x = (x.key, input.Letter x.key.sender x.payload)
 
--- a stamp that is after its round, or 2^32 rounds before it
+-- a stamp that is after its round, or 2^32 rounds before it or more
 abbrev pub IsFarFrom : (round stamp : ℕ) → Type 0
 IsFarFrom round stamp = (round < stamp) ⊎ (stamp + 2 ^ 32 ≤ round)
 

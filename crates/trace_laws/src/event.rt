@@ -148,7 +148,7 @@ impl Event {
     /// # Errors
     ///
     /// `AllocError` where memory was refused, for a letter with a set, with cells, or with a stamp that is after its
-    /// round or 2^32 rounds before it.
+    /// round, or 2^32 rounds before it or more.
     #[inline(always)]
     pub fn letter(alloc: Global, key: Key, payload: &mut Payload) -> Result<Event, AllocError>
         ensures event { IfOk result (λ event. event ≡ event_of (record { key = key; payload = payload.old })) }

@@ -26,8 +26,8 @@ pub trait Joins {
         ensures serves { StillServes serves self.old self.new }
         ensures grown { OnOk result (HaveJoined grown self.old self.new (event ∷ [])) };
 
-    /// One more letter, to another process: its key, and what it says, which is read in its place. What is left there
-    /// means nothing.
+    /// One more letter, to another process: its key, and what it says, which may be moved out: what is left in its
+    /// place means nothing.
     ///
     /// # Errors
     ///
