@@ -133,8 +133,8 @@ pub(crate) fn settle(
     Ok(())
 }
 
-/// Takes the bucket of the least tick out, where nothing is due, and puts it in order: its events are due then.
-pub(crate) fn refill(
+/// Takes the bucket of the least tick out, and puts it in order: its events are due then.
+fn fill(
     tick: &mut u32,
     due: &mut Vec<Event>,
     later: &mut Calendar,
@@ -153,6 +153,27 @@ pub(crate) fn refill(
         // kept for reuse, or let go where there is no room
         drop(spare.push(mem::replace(due, bucket)));
         *tick = least;
+    }
+    Ok(())
+}
+
+/// Takes the bucket of the least tick out, where nothing is due, and puts it in order.
+#[inline(always)]
+pub(crate) fn refill(
+    tick: &mut u32,
+    due: &mut Vec<Event>,
+    later: &mut Calendar,
+    spare: &mut Vec<Vec<Event>>,
+    lanes: &mut Vec<Vec<Event>>,
+) -> Result<(), AllocError>
+    requires { IsInOrder tick.old due.old.items later.old }
+    ensures in_order { IsInOrder tick.new due.new.items later.new }
+    ensures same { OnOk result
+        ((q : KeyValue) → seen_at due.new.items later.new q ≡ seen_at due.old.items later.old q) }
+    ensures left { OnOk result (due.new.items ≡ [] → IsVacant later.new) }
+{
+    if due.is_empty() {
+        return fill(tick, due, later, spare, lanes);
     }
     Ok(())
 }

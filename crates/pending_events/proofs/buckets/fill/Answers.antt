@@ -2,7 +2,7 @@ use Rattle.std.proofs.Common.{◌≡◌, sym, subst, ◌∙◌, ap, []}
 use Rattle.std.proofs.lemmas.Option.{MatchOption-at_some}
 use Rattle.pending_events.specs.Inside.Calendar.{IsInOrder, IsTaken, seen_at}
 use Rattle.pending_events.proofs.Ordered.{own_taken, refilled, refilled_same, refilled_some}
-use Rattle.pending_events.proofs.buckets.refill.Goals as goal
+use Rattle.pending_events.proofs.buckets.fill.Goals as goal
 
 pub put_in_order-requires : goal.put_in_order-requires
 put_in_order-requires c =
