@@ -71,6 +71,7 @@ fn note(outcome: &mut Outcome, tick: u32, note: &Note)
     }
 }
 
+#[inline(never)]
 fn note_all(outcome: &mut Outcome, tick: u32, notes: &[Note])
     ensures { outcome.new ≡ all_noted outcome.old tick notes.now }
 {
@@ -109,6 +110,7 @@ impl RunningOutcomes {
     }
 
     /// One more entry. Takes no memory.
+    #[inline(always)]
     pub fn feed(&mut self, entry: &Entry)
         ensures { (n : ℕ) (trace : List EntryRecord) → IsDeciding n trace self.old
             → IsDeciding n (trace ++ entry.now ∷ []) self.new }

@@ -60,10 +60,10 @@ fn turn<K: Gauge>(
 }
 
 /// One more note of the process that took an entry.
-fn note<K: Gauge>(pairs: &mut [Pair<K>], n: usize, layer: u8, key: &Key, note: &Note)
+fn note<K: Gauge>(pairs: &mut [Pair<K>], n: usize, layer: u8, key: Key, note: &Note)
     requires square { length pairs.old ≡ n * n }
     ensures { AreTurned K.passed n pairs.old pairs.new
-        (λ q p. if key.now.receiver == q then turns_at p key.now.tick (turn_of layer note.now) else []) }
+        (λ q p. if key.receiver == q then turns_at p key.tick (turn_of layer note.now) else []) }
 {
     if let Some((who, suspected)) = turn_of(layer, note) {
         turn(pairs, n, key.receiver, who, key.tick, suspected);
@@ -71,10 +71,11 @@ fn note<K: Gauge>(pairs: &mut [Pair<K>], n: usize, layer: u8, key: &Key, note: &
 }
 
 /// All notes of an entry.
-fn note_all<K: Gauge>(pairs: &mut [Pair<K>], n: usize, layer: u8, key: &Key, notes: &[Note])
+#[inline(never)]
+fn note_all<K: Gauge>(pairs: &mut [Pair<K>], n: usize, layer: u8, key: Key, notes: &[Note])
     requires square { length pairs.old ≡ n * n }
     ensures { AreTurned K.passed n pairs.old pairs.new
-        (λ q p. if key.now.receiver == q then noted_turns layer p key.now.tick notes.now else []) }
+        (λ q p. if key.receiver == q then noted_turns layer p key.tick notes.now else []) }
 {
     for one in notes {
         note(pairs, n, layer, key, one);
@@ -123,6 +124,7 @@ impl<K: Gauge> Pairs<K> {
     }
 
     /// One more entry. Takes no memory.
+    #[inline(always)]
     pub fn feed(&mut self, entry: &Entry)
         ensures { (S : Record) (layer : ℕ) (kept : K) (trace : List EntryRecord)
             → ArePairs K.passed S layer kept trace self.old → AreUntil trace entry.now.key.tick
@@ -133,7 +135,7 @@ impl<K: Gauge> Pairs<K> {
                 &mut self.pairs,
                 self.processes,
                 self.layer,
-                &entry.key,
+                entry.key,
                 entry.notes.as_slice(),
             );
         }

@@ -34,6 +34,7 @@ fn catch(lengths: &mut Vec<u32>, tally: &Tally) -> Result<(), AllocError>
 }
 
 /// Brings the lengths of the pairs at these places up to the panel's tallies; once no entry follows, these are closed.
+#[inline(never)]
 fn catch_up(
     pairs: &mut [Vec<u32>],
     panel: &Pairs<Ledger>,
@@ -78,6 +79,7 @@ impl Durations {
     }
 
     /// The panel was fed with one more entry.
+    #[inline(always)]
     pub(crate) fn follow(&mut self, panel: &Pairs<Ledger>, entry: &Entry) -> Result<(), AllocError>
         ensures { OnOk result ((S : Record) (layer : ℕ) (trace : List EntryRecord) → AreFollowing S layer trace self.old
             → IsMetering S layer (trace ++ entry.now ∷ []) panel.now

@@ -71,6 +71,7 @@ fn append_notes(text: &mut Vec<u8>, notes: &[Note]) -> Result<(), AllocError>
 }
 
 /// The row of an entry up to its notes.
+#[inline(always)]
 fn text_of_front(entry: &Entry) -> Tail
     ensures { text_of result ≡ with_commas (first_fields_of entry.now) }
 {
@@ -87,6 +88,7 @@ fn text_of_front(entry: &Entry) -> Tail
 }
 
 /// Appends the row of an entry.
+#[inline(always)]
 pub fn append_entry(text: &mut Vec<u8>, entry: &Entry) -> Result<(), AllocError>
     ensures { OnOk result (text.new.items ≡ text.old.items ++ row_of (fields_of entry.now)) }
 {

@@ -20,14 +20,14 @@ counted-le : (p : ℕ) (counts : ℕ → ℕ) (a : Action) (q : ℕ) → counted
 counted-le p counts a q = grind arith
 
 module _ (all rest left : List Action) (a : Action) (e : rest ≡ a ∷ left) where
-  pub one_sent : (old one : ℕ) → one ≡ sent_by a → old + sent rest ≡ sent all → (old + one) + sent left ≡ sent all
-  one_sent old one is whole = omega (arith, is, whole, ap sent e)
+  pub one_sent : (old new : ℕ) → new ≡ old + sent_by a → old + sent rest ≡ sent all → new + sent left ≡ sent all
+  one_sent old new is whole = omega (arith, is, whole, ap sent e)
 
   pub one_noted : (old new : List Note) → new ≡ old ++ noted_by a → old ++ noted rest ≡ noted all → new ++ noted left ≡ noted all
   one_noted old new more whole = cc (append_assoc old (noted_by a) (noted left), ap noted e)
 
-  pub one_sent_few : (old one : ℕ) → one ≡ sent_by a → old + length rest ≤ length all → (old + one) + length left ≤ length all
-  one_sent_few old one is few = omega (arith, is, few, sent_by-le a, ap (λ xs. length xs) e)
+  pub one_sent_few : (old new : ℕ) → new ≡ old + sent_by a → old + length rest ≤ length all → new + length left ≤ length all
+  one_sent_few old new is few = omega (arith, is, few, sent_by-le a, ap (λ xs. length xs) e)
 
   pub one_allowed : (P : Action → Type 0) → AllByRecursion P rest → AllByRecursion P left
   one_allowed P h = (subst (AllByRecursion P) e h).1
@@ -40,11 +40,11 @@ module _ (all rest left : List Action) (a : Action) (e : rest ≡ a ∷ left) wh
     one_room whole q = omega (arith, counted-le p f a q, whole q, ap (λ xs. length xs) e, ap (λ k. k q) h)
 
     module _ {Mind : Type 0} (S : Setting Mind) (now : ℕ) where
-      pub one_lost : (old one : ℕ) → one ≡ lost_by S p now f a → old + lost S p now f rest ≡ lost S p now before all → (old + one) + lost S p now g left ≡ lost S p now before all
-      one_lost old one is whole = omega (arith, is, whole, ap (λ xs. lost S p now f xs) e, ap (λ k. lost S p now k left) h)
+      pub one_lost : (old new : ℕ) → new ≡ old + lost_by S p now f a → old + lost S p now f rest ≡ lost S p now before all → new + lost S p now g left ≡ lost S p now before all
+      one_lost old new is whole = omega (arith, is, whole, ap (λ xs. lost S p now f xs) e, ap (λ k. lost S p now k left) h)
 
-      pub one_lost_few : (old one : ℕ) → one ≡ lost_by S p now f a → old + length rest ≤ length all → (old + one) + length left ≤ length all
-      one_lost_few old one is few = omega (arith, is, few, lost_by-le S p now f a, ap (λ xs. length xs) e)
+      pub one_lost_few : (old new : ℕ) → new ≡ old + lost_by S p now f a → old + length rest ≤ length all → new + length left ≤ length all
+      one_lost_few old new is few = omega (arith, is, few, lost_by-le S p now f a, ap (λ xs. length xs) e)
 
     -- `of` gives the events that join by actions, or the letters that are posted, and `some` are those of this action
     pub one_joined : {J E : Type 0} (grown : J → List E → J → Type 0) (of : (ℕ → ℕ) → List Action → List E) (some : List E) → of f (a ∷ left) ≡ some ++ of (counted p f a) left

@@ -62,13 +62,14 @@ impl Links {
         })
     }
 
-    /// The entry of an event that comes to a crashed process: nothing is put on any link.
-    pub fn dead_entry(&self, key: Key) -> Entry
-        ensures { result ≡ dead key }
+    /// The entry of an event by which nothing was put on any link yet, and nothing noted.
+    #[inline(always)]
+    pub fn empty_entry(&self, key: Key, kind: Kind) -> Entry
+        ensures { result ≡ record { key = key; kind = kind; sent = 0; lost = 0; notes = [] } }
     {
         Entry {
             key,
-            kind: Kind::Dead,
+            kind,
             sent: 0,
             lost: 0,
             notes: Vec::new(*self.counts.allocator()),
@@ -101,10 +102,7 @@ impl Links {
         ensures counts { self.new.counts ≡ self.old.counts }
         ensures horizon { self.new.horizon ≡ self.old.horizon }
     {
-        match self.words.get_mut(usize::from(to.number())) {
-            Some(words) => streams.next_fate(own, to, number, sent_at, words),
-            None => streams.fate(own, to, number, sent_at),
-        }
+        streams.next_fate(own, to, number, sent_at, &mut self.words)
     }
 
     /// Puts a letter on its link, in the step of `key`. Answers how many letters were lost, 0 or 1.
@@ -206,8 +204,8 @@ impl Links {
         added.add(Event::wake(key, tag))
     }
 
-    /// Does what one action of the step of `key` says; what is left in its place means nothing. Answers how many letters
-    /// were put on a link, and how many of these were lost: 0 or 1 each.
+    /// Does what one action of the step of `key` says; what is left in its place means nothing. The step's entry counts a
+    /// letter that is put on a link, and one that is lost, and takes a note.
     #[inline(always)]
     fn act<J: Joins, L: Listener>(
         &mut self,
@@ -216,12 +214,13 @@ impl Links {
         action: &mut Action,
         added: &mut J,
         listener: &mut L,
-        notes: &mut Vec<Note>,
-    ) -> Result<(u32, u32), AllocError>
+        entry: &mut Entry,
+    ) -> Result<(), AllocError>
         requires horizon { self.old.horizon ≡ streams.now.horizon }
         requires places { vec_len self.old.counts ≡ streams.now.processes + 1 }
         requires own { key.now.receiver ≤ streams.now.processes }
         requires room { (q : ℕ) → count_of self.old.counts.items q + 1 < 2 ^ 64 }
+        requires few { (entry.old.sent + 1 < 2 ^ 32) × (entry.old.lost + 1 < 2 ^ 32) }
         requires allowed { IsAllowed streams.now.processes action.old }
         requires serves { Serves J.serves added.old key.now.receiver streams.now.processes }
 
@@ -236,25 +235,24 @@ impl Links {
         ensures heard { OnOk result (HaveJoined L.heard listener.old listener.new
             (posting (setting_of streams.now) key.now.receiver key.now.tick (count_of self.old.counts.items)
             action.old)) }
-        ensures notes { OnOk result (notes.new.items ≡ notes.old.items ++ noted_by action.old) }
-        ensures sent { IfOk result (λ n. n.0 ≡ sent_by action.old) }
-        ensures lost { IfOk result (λ n. n.1
-            ≡ lost_by (setting_of streams.now) key.now.receiver key.now.tick (count_of self.old.counts.items)
-            action.old) }
+        ensures entry { OnOk result (entry.new ≡ record entry.old {
+          sent = entry.old.sent + sent_by action.old;
+          lost = entry.old.lost + lost_by (setting_of streams.now) key.now.receiver key.now.tick
+              (count_of self.old.counts.items) action.old;
+          notes = entry.old.notes ++ noted_by action.old;
+        }) }
     {
         match action {
             Action::Send { to, payload } => {
-                let lost = self.post(streams, *key, *to, payload, added, listener)?;
-                Ok((1, lost))
+                entry.sent += 1;
+                entry.lost += self.post(streams, *key, *to, payload, added, listener)?;
+                Ok(())
             }
-            &mut Action::Wake { pause, tag } => {
-                self.set_wake(*key, pause, tag, added)?;
-                Ok((0, 0))
-            }
+            &mut Action::Wake { pause, tag } => self.set_wake(*key, pause, tag, added),
             &mut Action::Note(note) => {
-                notes.reserve(1)?;
-                notes.push_reserved(note);
-                Ok((0, 0))
+                entry.notes.reserve(1)?;
+                entry.notes.push_reserved(note);
+                Ok(())
             }
         }
     }
@@ -301,21 +299,11 @@ impl Links {
           notes = noted actions.old.items;
         }) }
     {
-        let mut sent = 0u32;
-        let mut lost = 0u32;
-        let mut notes = Vec::new(*self.counts.allocator());
+        let mut entry = self.empty_entry(key, kind);
         for place in 0..actions.len() {
             let action = &mut actions[place];
-            let letters = self.act(streams, &key, action, added, listener, &mut notes)?;
-            sent += letters.0;
-            lost += letters.1;
+            self.act(streams, &key, action, added, listener, &mut entry)?;
         }
-        Ok(Entry {
-            key,
-            kind,
-            sent,
-            lost,
-            notes,
-        })
+        Ok(entry)
     }
 }

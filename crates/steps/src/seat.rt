@@ -131,11 +131,11 @@ impl<M: Process> Seat<M> {
     {
         let (key, input) = event.into_parts();
         if is_down(self.crash, key.tick) {
-            return Ok(self.links.dead_entry(key));
+            return Ok(self.links.empty_entry(key, Kind::Dead));
         }
+        let kind = kind_of(&input);
         actions.clear();
         self.machine.on_input(key.tick, &input, actions)?;
-        let kind = kind_of(&input);
         drop(input);
         self.links
             .perform(streams, key, kind, actions, added, listener)

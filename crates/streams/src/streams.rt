@@ -80,12 +80,13 @@ impl<'a> Streams<'a> {
         requires counted { 1 ≤ number }
         ensures { result ≡ fate_of self.now from to number sent_at }
     {
-        self.next_fate(from, to, number, sent_at, &mut LinkWords::new())
+        self.next_fate(from, to, number, sent_at, &mut [])
     }
 
-    /// The same, for letters that are asked for in their turn: the words of a link are kept from letter to letter. A
-    /// letter that is lost in an outage draws none, and nor does a link without loss and with one delay: the words of
-    /// the next letters are at their own places all the same.
+    /// The same, for letters that are asked for in their turn: the words of a link are kept from letter to letter, at
+    /// the receiver's place; where there is no such place they are drawn afresh. A letter that is lost in an outage
+    /// draws none, and nor does a link without loss and with one delay: the words of the next letters are at their own
+    /// places all the same.
     #[inline(always)]
     #[tactic(auto, unfolding(crate::specs::Fate::fate_of))]
     pub fn next_fate(
@@ -94,7 +95,7 @@ impl<'a> Streams<'a> {
         to: Pid,
         number: u64,
         sent_at: u32,
-        words: &mut LinkWords,
+        words: &mut [LinkWords],
     ) -> Fate
         requires different { from ≢ to }
         requires from_one { from ≤ self.now.processes }
@@ -110,7 +111,11 @@ impl<'a> Streams<'a> {
             return Fate::Delay(link.min);
         }
         let place = 2 * (u128::from(number) - 1);
-        let (a, b) = words.pair_at(self.scenario.seed(), from, to, place);
+        let seed = self.scenario.seed();
+        let (a, b) = match words.get_mut(usize::from(to.number())) {
+            Some(words) => words.pair_at(seed, from, to, place),
+            None => LinkWords::new().pair_at(seed, from, to, place),
+        };
         if a % 1000 < link.loss {
             Fate::Lost
         } else {

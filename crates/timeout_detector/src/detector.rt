@@ -99,6 +99,7 @@ impl TimeoutDetector {
 
     /// A check at tick `now`: suspects each process that is overdue, in rising order, with its note, and asks for the
     /// next check.
+    #[inline(never)]
     fn check(&mut self, now: u32, out: &mut Vec<Action>) -> Result<(), AllocError>
         ensures state { OnOk result (state_of self.new ≡ (checked_by self.old now).state) }
         ensures actions { OnOk result (out.new.items ≡ out.old.items ++ (checked_by self.old now).actions) }
@@ -115,6 +116,7 @@ impl TimeoutDetector {
 
     /// Hears at tick `now` of a process that is watched. If it was suspected, that was a mistake: it is trusted again,
     /// with its note, and its bound grows.
+    #[inline(always)]
     fn hear(&mut self, now: u32, q: Pid, out: &mut Vec<Action>) -> Result<(), AllocError>
         requires { q ≤ self.old.opening.processes }
 
@@ -137,6 +139,7 @@ impl TimeoutDetector {
     }
 
     /// Tells all others that the process is alive, whoever is watched, and asks for the next beat.
+    #[inline(never)]
     #[tactic(auto, using(std::proofs::Common::append_assoc))]
     fn beat(&self, out: &mut Vec<Action>) -> Result<(), AllocError>
         ensures { OnOk result (out.new.items ≡ out.old.items ++ beats_of self.now) }
@@ -147,6 +150,7 @@ impl TimeoutDetector {
     }
 
     /// Takes one input. After an `Err` the tables are of no use.
+    #[inline(always)]
     #[tactic(auto, using(std::proofs::Common::append_assoc))]
     fn step(&mut self, now: u32, input: &StepInput, out: &mut Vec<Action>) -> Result<(), AllocError>
         ensures state { OnOk result (state_of self.new ≡ (answer_of self.old now input.now).state) }
@@ -179,6 +183,7 @@ impl Detector for TimeoutDetector {
 
     ghost has_failed = { λ d. d.has_failed };
 
+    #[inline(always)]
     #[tactic(auto, unfolding(process_api::specs::React::react_lower, process_api::specs::Detector::step_detector))]
     fn take(
         &mut self,

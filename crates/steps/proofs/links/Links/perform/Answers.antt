@@ -27,8 +27,10 @@ loop-place-preserved h c =
     let f = count_of c.loop-place.self.counts.items in
     let g = count_of c.act.new.self.counts.items in
     let i = c.loop-place.invariant in
-    let letters = c.in_ok-letters.letters in
-    let done = c.in_ok-letters.ensures in
+    let was = c.loop-place.entry in
+    let is = c.act.new.entry in
+    let done = c.in_ok-act.ensures in
+    let entry = done.entry in
     let done_serves = c.act.ensures.serves in
     record {
       many = length-set old place c.act.new.action ∙ i.many;
@@ -39,16 +41,19 @@ loop-place-preserved h c =
       serves = λ first own n h. done_serves first own n (i.serves first own n h);
       added = one_joined all rest left a e p before f g done.counts h.J.Joins.grown (added S p now) (joining S p now f a) refl c.args.added.now c.loop-place.added c.act.new.added done.added i.added;
       heard = one_joined all rest left a e p before f g done.counts h.L.Listener.heard (posted_by S p now) (posting S p now f a) refl c.args.listener.now c.loop-place.listener c.act.new.listener done.heard i.heard;
-      sent = one_sent all rest left a e c.loop-place.sent letters.0 done.sent i.sent;
-      lost = one_lost all rest left a e p before f g done.counts S now c.loop-place.lost letters.1 done.lost i.lost;
-      notes = one_noted all rest left a e c.loop-place.notes.items c.act.new.notes.items done.notes i.notes;
+      key = ap (λ x. x.key) entry ∙ i.key;
+      kind = ap (λ x. x.kind) entry ∙ i.kind;
+      sent = one_sent all rest left a e was.sent is.sent (ap (λ x. x.sent) entry) i.sent;
+      lost = one_lost all rest left a e p before f g done.counts S now was.lost is.lost (ap (λ x. x.lost) entry) i.lost;
+      notes = one_noted all rest left a e was.notes is.notes (ap (λ x. x.notes) entry) i.notes;
       allowed = one_allowed all rest left a e (IsAllowed c.args.streams.now.processes) i.allowed;
-      sent_few = one_sent_few all rest left a e c.loop-place.sent letters.0 done.sent i.sent_few;
-      lost_few = one_lost_few all rest left a e p before f g done.counts S now c.loop-place.lost letters.1 done.lost i.lost_few;
+      sent_few = one_sent_few all rest left a e was.sent is.sent (ap (λ x. x.sent) entry) i.sent_few;
+      lost_few = one_lost_few all rest left a e p before f g done.counts S now was.lost is.lost (ap (λ x. x.lost) entry) i.lost_few;
     }
 
 pub loop-place-init : goal.loop-place-init
 loop-place-init h c =
+    let none = c.empty_entry-entry.ensures in
     let S = setting_of c.args.streams.now in
     let p = c.args.key.receiver in
     let now = c.args.key.tick in
@@ -63,12 +68,14 @@ loop-place-init h c =
       serves = λ first own n h. h;
       added = joined_init h.J.Joins.grown c.args.added.now (added S p now before all);
       heard = joined_init h.L.Listener.heard c.args.listener.now (posted_by S p now before all);
-      sent = omega arith;
-      lost = omega arith;
-      notes = ap (λ xs. xs ++ noted all) c.new-notes.ensures.items;
+      key = ap (λ x. x.key) none;
+      kind = ap (λ x. x.kind) none;
+      sent = omega (arith, ap (λ x. x.sent) none);
+      lost = omega (arith, ap (λ x. x.lost) none);
+      notes = ap (λ x. x.notes ++ noted all) none;
       allowed = c.requires.allowed;
-      sent_few = omega arith;
-      lost_few = omega arith;
+      sent_few = omega (arith, ap (λ x. x.sent) none);
+      lost_few = omega (arith, ap (λ x. x.lost) none);
     }
 
 pub returns : goal.returns
@@ -82,9 +89,10 @@ returns h c =
     let f = count_of c.loop-place.self.counts.items in
     let i = c.loop-place.invariant in
     let none : rest ≡ [] = drop_all c.loop-place.place c.loop-place.actions.items (omega (arith, c.loop-place-test.false, c.len-place-end.ensures, i.many)) in
-    let sent_is : c.loop-place.sent ≡ sent all = sent_all all rest none c.loop-place.sent i.sent in
-    let lost_is : c.loop-place.lost ≡ lost S p now before all = lost_all all rest none p before f S now c.loop-place.lost i.lost in
-    let notes_are : c.loop-place.notes.items ≡ noted all = noted_all all rest none c.loop-place.notes.items i.notes in
+    let entry = c.loop-place.entry in
+    let sent_is : entry.sent ≡ sent all = sent_all all rest none entry.sent i.sent in
+    let lost_is : entry.lost ≡ lost S p now before all = lost_all all rest none p before f S now entry.lost i.lost in
+    let notes_are : entry.notes ≡ noted all = noted_all all rest none entry.notes i.notes in
     record {
       counts = counted_all all rest none p before f i.counts;
       places = i.places ∙ sym c.requires.places;
@@ -93,5 +101,5 @@ returns h c =
       added = all_joined h.J.Joins.grown c.args.added.now c.loop-place.added (added S p now f rest) (added S p now before all) (ap (λ xs. added S p now f xs) none) i.added;
       heard = all_joined h.L.Listener.heard c.args.listener.now c.loop-place.listener (posted_by S p now f rest) (posted_by S p now before all) (ap (λ xs. posted_by S p now f xs) none) i.heard;
       serves = i.serves;
-      entry = λ j. record { key = c.args.key; kind = c.args.kind; sent = sent_is j; lost = lost_is j; notes = notes_are j };
+      entry = λ j. record { key = i.key j; kind = i.kind j; sent = sent_is j; lost = lost_is j; notes = notes_are j };
     }
