@@ -60,10 +60,10 @@ fn turn<K: Gauge>(
 }
 
 /// One more note of the process that took an entry.
-fn note<K: Gauge>(pairs: &mut [Pair<K>], n: usize, layer: u8, key: Key, note: &Note)
+fn note<K: Gauge>(pairs: &mut [Pair<K>], n: usize, layer: u8, key: &Key, note: &Note)
     requires square { length pairs.old ≡ n * n }
     ensures { AreTurned K.passed n pairs.old pairs.new
-        (λ q p. if key.receiver == q then turns_at p key.tick (turn_of layer note.now) else []) }
+        (λ q p. if key.now.receiver == q then turns_at p key.now.tick (turn_of layer note.now) else []) }
 {
     if let Some((who, suspected)) = turn_of(layer, note) {
         turn(pairs, n, key.receiver, who, key.tick, suspected);
@@ -78,7 +78,7 @@ fn note_all<K: Gauge>(pairs: &mut [Pair<K>], n: usize, layer: u8, key: Key, note
         (λ q p. if key.receiver == q then noted_turns layer p key.tick notes.now else []) }
 {
     for one in notes {
-        note(pairs, n, layer, key, one);
+        note(pairs, n, layer, &key, one);
     }
 }
 
