@@ -70,11 +70,8 @@ fn sets_up_to_64_are_words(rt: HostRuntime) -> Result<(), Fail> {
         (&[256], None),
     ];
     for (members, word) in rows {
-        same(
-            &rt,
-            &(*members, set_of(members)?.to_word()),
-            &(*members, *word),
-        );
+        let came = (*members, set_of(members)?.to_word());
+        same(&rt, &came, &(*members, *word));
         if let Some(word) = word {
             let came = members_of(rt.alloc(), &ProcSet::of_word(*word))?;
             same(&rt, &came.as_slice(), members);
