@@ -57,6 +57,29 @@ fn processes_64_apart_are_different_members(rt: HostRuntime) -> Result<(), Fail>
     Ok(())
 }
 
+/// One word says a set, where no member is above 64.
+#[test]
+fn sets_up_to_64_are_words(rt: HostRuntime) -> Result<(), Fail> {
+    let rows: &[(&[u16], Option<u64>)] = &[
+        (&[], Some(0)),
+        (&[1], Some(1)),
+        (&[64], Some(0x8000_0000_0000_0000)),
+        (&[1, 6, 64], Some(0x8000_0000_0000_0021)),
+        (&[65], None),
+        (&[1, 129], None),
+        (&[256], None),
+    ];
+    for (members, word) in rows {
+        let came = (*members, set_of(members)?.to_word());
+        same(&rt, &came, &(*members, *word));
+        if let Some(word) = word {
+            let came = members_of(rt.alloc(), &ProcSet::of_word(*word))?;
+            same(&rt, &came.as_slice(), members);
+        }
+    }
+    Ok(())
+}
+
 #[test]
 fn keys_rise_by_tick_receiver_sender_and_number(rt: HostRuntime) -> Result<(), Fail> {
     let one = Pid::after(0);

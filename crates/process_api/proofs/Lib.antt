@@ -10,6 +10,7 @@ pub mod Lists
 pub mod Contains
 pub mod Minds
 pub mod Numbering
+pub mod OneWord
 pub mod Told
 pub mod Rising
 pub mod Rows

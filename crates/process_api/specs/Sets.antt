@@ -1,5 +1,6 @@
 -- Sets of processes, and how they change.
-use Rattle.std.specs.Prelude.{ℕ, not, ◌&&◌, nat_le, List, [], ◌∷◌, ◌++◌, map, filter}
+use Rattle.std.specs.Prelude.{◌≡◌, ℕ, ◌-◌, ◌<◌, true, not, ◌&&◌, nat_eq, nat_le, List, [], ◌∷◌, ◌++◌, map, filter}
+use Rattle.std.specs.Int.{bit_at}
 use Rattle.std.specs.Ordering.{nat_cmp}
 use Rattle.std.specs.FinSet as set
 use Rattle.process_api.specs.Numbers.{numbers_to}
@@ -18,6 +19,14 @@ insert_all s (q ∷ qs) = insert_all (set.insert s q) qs
 -- of the set, those that are at most n
 abbrev pub up_to : ℕ → Processes → Processes
 up_to n s = set.retain s (λ q. nat_le q n)
+
+-- a member is greater than n
+abbrev pub HasAbove : ℕ → Processes → Type 0
+HasAbove n s = (q : ℕ) × (n < q) × (set.contains s q ≡ true)
+
+-- the set that a word of 64 bits says: of processes 1 to 64 those whose bit is set, where process q has bit q - 1
+unfoldable pub of_word : ℕ → Processes
+of_word word = insert_all set.empty (filter (λ q. nat_eq (bit_at word (q - 1)) 1) (numbers_to 64))
 
 -- who is in a set and not in another, of 1 to n, in order
 abbrev pub gone : ℕ → Processes → Processes → List ℕ

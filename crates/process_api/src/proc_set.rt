@@ -1,9 +1,9 @@
 //! Sets of processes, as bit words.
-ghost use Rattle.std.specs.Prelude.{◌≡◌, nat_eq};
+ghost use Rattle.std.specs.Prelude.{◌≡◌, nat_eq, IsNone, IfSome};
 ghost use Rattle.std.specs.Iterator.{YieldsFirst, item_count};
 ghost use Rattle.std.specs.FinSet as set;
 ghost use Rattle.process_api.specs.InOrder.{in_order};
-ghost use Rattle.process_api.specs.Sets.{up_to};
+ghost use Rattle.process_api.specs.Sets.{HasAbove, of_word, up_to};
 
 use crate::pid::Pid;
 use crate::words::{WORDS, clear, count, either, first_with_bits, low, put, without};
@@ -36,6 +36,29 @@ impl ProcSet {
         ensures { result ≡ set.empty }
     {
         ProcSet { words: [0; WORDS] }
+    }
+
+    /// The set that a word says: of the processes 1 to 64 those whose bit is set, where process q has bit q - 1.
+    #[inline(always)]
+    pub fn of_word(word: u64) -> ProcSet
+        ensures { result ≡ of_word word }
+    {
+        ProcSet {
+            words: [word, 0, 0, 0],
+        }
+    }
+
+    /// The word that says the set, if no member is above 64: process q, 1 to 64, has bit q - 1.
+    #[inline(always)]
+    pub fn to_word(&self) -> Option<u64>
+        ensures word { IfSome result (λ word. of_word word ≡ self.now) }
+        ensures above { IsNone result → HasAbove 64 self.now }
+    {
+        let [word, second, third, fourth] = self.words;
+        if second | third | fourth != 0 {
+            return None;
+        }
+        Some(word)
     }
 
     /// Whether the process is in the set.

@@ -1,4 +1,5 @@
 -- What the code's events and letters are.
+use Rattle.process_api.specs.Sets.{HasAbove, of_word}
 use Rattle.process_api.specs.declared.message.Letter.{Letter}
 use Rattle.process_api.specs.declared.message.Payload.{Payload}
 use Rattle.process_api.specs.declared.message.Payload.TheVariants as payload
@@ -15,6 +16,7 @@ input_of sender taken.Start = input.Start
 input_of sender (taken.Wake tag) = input.Wake tag
 input_of sender taken.Alive = input.Letter sender payload.Alive
 input_of sender (taken.Heartbeat number) = input.Letter sender (payload.Heartbeat number)
+input_of sender (taken.Suspects word) = input.Letter sender (payload.Suspects (of_word word))
 input_of sender (taken.Estimate round value age) = input.Letter sender (payload.Estimate round value (round - age))
 input_of sender (taken.Proposal round value) = input.Letter sender (payload.Proposal round value)
 input_of sender (taken.Reply round ack) = input.Letter sender (payload.Reply round ack)
@@ -29,14 +31,10 @@ event_of x = (x.key, input.Letter x.key.sender x.payload)
 abbrev pub IsFarFrom : (round stamp : ℕ) → Type 0
 IsFarFrom round stamp = (round < stamp) ⊎ (stamp + 2 ^ 32 ≤ round)
 
--- what takes memory of its own: a set, cells, or a stamp that is far from its round
+-- what takes memory of its own: a set with a member above 64, cells, or a stamp that is far from its round
 abbrev pub LiesAside : Payload → Type 0
-LiesAside (payload.Suspects set) = ⊤
+LiesAside (payload.Suspects set) = HasAbove 64 set
 LiesAside (payload.Vector round cells) = ⊤
 LiesAside (payload.Last cells) = ⊤
 LiesAside (payload.Estimate round value stamp) = IsFarFrom round stamp
-LiesAside payload.Alive = ⊥
-LiesAside (payload.Heartbeat number) = ⊥
-LiesAside (payload.Proposal round value) = ⊥
-LiesAside (payload.Reply round ack) = ⊥
-LiesAside (payload.Decide round value) = ⊥
+LiesAside _ = ⊥

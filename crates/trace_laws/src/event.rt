@@ -3,7 +3,7 @@ ghost use Rattle.std.specs.Prelude.{◌≡◌, ◌+◌, ℕ, IfErr, IfOk, MatchO
 ghost use Rattle.trace_laws.specs.World.{start_of};
 ghost use Rattle.trace_laws.specs.Taken.{IsFarFrom, LiesAside, event_of, input_of};
 
-use process_api::{Key, Payload, Pid, StepInput, Tag};
+use process_api::{Key, Payload, Pid, ProcSet, StepInput, Tag};
 use std::alloc::{AllocError, Global};
 use std::marker::Model;
 use std::mem::replace;
@@ -16,6 +16,8 @@ enum Taken {
     Wake(Tag),
     Alive,
     Heartbeat { number: u64 },
+    // the set that the word says: none is above 64
+    Suspects { word: u64 },
     // the stamp is so many rounds before the round
     Estimate { round: u64, value: u32, age: u32 },
     Proposal { round: u64, value: u32 },
@@ -52,6 +54,10 @@ impl Taken {
         let taken = match payload {
             Payload::Alive => Taken::Alive,
             &mut Payload::Heartbeat { number } => Taken::Heartbeat { number },
+            Payload::Suspects(set) => match set.to_word() {
+                Some(word) => Taken::Suspects { word },
+                None => Taken::aside(alloc, payload)?,
+            },
             &mut Payload::Proposal { round, value } => Taken::Proposal { round, value },
             &mut Payload::Reply { round, ack } => Taken::Reply { round, ack },
             &mut Payload::Decide { round, value } => Taken::Decide { round, value },
@@ -78,6 +84,7 @@ impl Taken {
             Taken::Wake(tag) => return StepInput::Wake(tag),
             Taken::Alive => Payload::Alive,
             Taken::Heartbeat { number } => Payload::Heartbeat { number },
+            Taken::Suspects { word } => Payload::Suspects(ProcSet::of_word(word)),
             Taken::Estimate { round, value, age } => Payload::Estimate {
                 round,
                 value,
@@ -147,8 +154,8 @@ impl Event {
     ///
     /// # Errors
     ///
-    /// `AllocError` where memory was refused, for a letter with a set, with cells, or with a stamp that is after its
-    /// round, or 2^32 rounds before it or more.
+    /// `AllocError` where memory was refused, for a letter with a set that has a member above 64, with cells, or with a
+    /// stamp that is after its round, or 2^32 rounds before it or more.
     #[inline(always)]
     pub fn letter(alloc: Global, key: Key, payload: &mut Payload) -> Result<Event, AllocError>
         ensures event { IfOk result (λ event. event ≡ event_of (record { key = key; payload = payload.old })) }
