@@ -17,19 +17,20 @@ use Rattle.trace_laws.proofs.Runs.{least_below}
 use Rattle.std.proofs.lemmas.Bool.{cases_eq, cases_lt}
 use Rattle.std.proofs.lemmas.Cmp.{tied_itself}
 use Rattle.std.proofs.lemmas.List.Elements.{recursion_from_All}
-use Rattle.std.proofs.lemmas.List.{append-nil}
-use Rattle.process_api.specs.Order.{key_cmp}
+use Rattle.std.proofs.lemmas.List.{append-nil, length-reverse, reverse-append, reverse-reverse}
+use Rattle.process_api.specs.Order.{is_before, key_cmp}
 use Rattle.process_api.specs.declared.key.Key.{Key}
 use Rattle.process_api.specs.declared.message.StepInput.{StepInput}
 use Rattle.pending_events.specs.declared.calendar.Calendar.{Calendar}
-use Rattle.pending_events.specs.Inside.Buckets.{latest, Falls, Buckets, bucket, HasTick, IsStowed, IsPopped, flat}
+use Rattle.pending_events.specs.Inside.Buckets.{latest, Buckets, bucket, HasTick, IsStowed, flat}
 use Rattle.pending_events.specs.Inside.Calendar.{near_at, held_at, IsVacant, IsCalendar, HoldsSame, IsAdded, IsFirst, IsTaken, IsInOrder, seen_at, all_held, flat_ring}
+use Rattle.pending_events.specs.Inside.Lanes.{events_at, first, FallsStrictly, IsOrder}
 use Rattle.trace_laws.specs.Step.{Event, Events}
 use Rattle.process_api.proofs.KeyOrder.{keys_total, exact_keys, same_or_not, ticks_rise}
 use Rattle.trace_laws.proofs.Sets.{apart, not_None, tied}
-use Rattle.process_api.proofs.Lists.{weaker}
-use Rattle.pending_events.proofs.Falling.{all_parts, all_reverse, find_append, found_is, held, latest_cons, latest_push, nat_apart, none_latest, or_None}
-use Rattle.pending_events.proofs.Dealing.{by_found, none_of, latest_append}
+use Rattle.process_api.proofs.Lists.{both, weaker}
+use Rattle.pending_events.proofs.Falling.{all_at, all_parts, all_reverse, falls_front, falls_last, find_append, found_is, held, latest_cons, latest_push, nat_apart, none_latest, not_after, not_it, or_None, strict_found}
+use Rattle.pending_events.proofs.Dealing.{none_of}
 use Rattle.pending_events.proofs.Nearby.{held_own, ring_find, calendar_of, nothing_after, other_map}
 
 -- events of another tick are not found
@@ -51,16 +52,22 @@ module _ (tick least : ℕ) (m n : Calendar) (b : List Event) (h : IsInOrder tic
     | inr other ↦ taken.others t other ∙ taken.first.none_before t (omega (arith, low, other))
   ]
 
-  module _ (sorted : List Event) (falls : Falls sorted) (as_found : (q : Key) → latest q sorted ≡ latest q b) where
+  module _ (order : List ℕ) (is : IsOrder b order) where
+    abbrev pub sorted : List Event
+    sorted = events_at b order
+
+    as_found : (q : Key) → latest q sorted ≡ latest q b
+    as_found q = strict_found sorted is.falls q ∙ is.found q
+
     own_sorted : AllByRecursion (λ e. e.0.tick ≡ least) sorted
-    own_sorted = by_found (λ k. k.tick ≡ least) sorted (reverse b) as_found (all_reverse (λ e. e.0.tick ≡ least) b own_taken)
+    own_sorted = all_at (λ e. e.0.tick ≡ least) b order own_taken is.within
 
     pub refilled : IsInOrder least sorted n
     refilled = record {
       calendar = kept;
       due_own = own_sorted;
       after = λ long t low. none_up_to t low;
-      falls = falls;
+      falls = is.falls;
     }
 
     pub refilled_same : (q : Key) → seen_at sorted n q ≡ seen_at [] m q
@@ -98,12 +105,12 @@ not_above t (p ∷ ps) h = ap (λ r. cond (is_eq r) (Some p.1) (lookup (tree.is_
 
 flat_find : (ps : List Row) → IsStrictlySortedBy nat_cmp (tree_keys ps) → AllByRecursion IsOwnRow ps → (q : Key) → find key_cmp q (flat ps) ≡ latest q (held (lookup (tree.is_at (nat_cmp q.tick)) ps))
 unfolding IsStrictlySortedBy
-flat_find [] sorted own q = refl
-flat_find (p ∷ ps) sorted own q =
+flat_find [] rising own q = refl
+flat_find (p ∷ ps) rising own q =
     let rest : Option (Vec Event) = lookup (tree.is_at (nat_cmp q.tick)) ps in
-    find_append q (reverse p.1.items) (flat ps) ∙ (ap (option_or (latest q p.1.items)) (flat_find ps sorted.1 own.1 q) ∙ elim (cases_eq q.tick p.0) [
+    find_append q (reverse p.1.items) (flat ps) ∙ (ap (option_or (latest q p.1.items)) (flat_find ps rising.1 own.1 q) ∙ elim (cases_eq q.tick p.0) [
       | inl e ↦
-          ap (λ o. option_or (latest q p.1.items) (latest q (held o))) (not_above q.tick ps (subst (λ t. AllByRecursion (λ y. nat_cmp t y ≡ Less) (tree_keys ps)) (sym e) sorted.0))
+          ap (λ o. option_or (latest q p.1.items) (latest q (held o))) (not_above q.tick ps (subst (λ t. AllByRecursion (λ y. nat_cmp t y ≡ Less) (tree_keys ps)) (sym e) rising.0))
           ∙ (or_None (latest q p.1.items) ∙ ap (λ b. latest q (held (cond b (Some p.1) rest))) (sym (same_tick q.tick p.0 e)))
       | inr other ↦
           ap (λ o. option_or o (latest q (held rest))) (other_tick p.0 q p.1.items own.0 other)
@@ -114,6 +121,9 @@ own_rows : (m : Buckets) → tree.IsOrdered nat_cmp m → ((t : ℕ) → AllByRe
 own_rows m ordered own = recursion_from_All IsOwnRow m.entries (λ k d h.
     let p = get_or m.entries k d in
     subst (AllByRecursion (λ e. e.0.tick ≡ p.0)) (ap held (All-found nat_cmp_total m ordered k d h)) (own p.0))
+
+latest_append : (q : Key) (xs ys : List Event) → latest q (xs ++ ys) ≡ option_or (latest q ys) (latest q xs)
+latest_append q xs ys = ap (find key_cmp q) (reverse-append xs ys) ∙ find_append q (reverse ys) (reverse xs)
 
 abbrev pub seen : List Event → Calendar → Events
 seen due later = events.from_entries (reverse due ++ all_held later)
@@ -187,12 +197,12 @@ pub none_of_tick : (tick : ℕ) (due : List Event) (later : Calendar) → IsInOr
 none_of_tick tick due later h long there =
     omega (arith, h.calendar.full tick there, length-append (bucket later.map tick) (near_at later.from later.ring.items tick), ap length (h.after long tick (omega arith)))
 
-module _ (tick : ℕ) (due : List Event) (later : Calendar) (new : Buckets) (h : IsInOrder tick due later) (long : 0 < length due) (stowed : IsStowed later.map new tick due) where
+module _ (tick : ℕ) (due : List Event) (later : Calendar) (new : Buckets) (h : IsInOrder tick due later) (long : 0 < length due) (stowed : IsStowed later.map new tick (reverse due)) where
   pub stow_order : IsInOrder tick [] (calendar_of later.from later.ring new)
   stow_order =
       none_due tick (calendar_of later.from later.ring new)
-      (other_map later h.calendar new stowed.ordered tick (subst (AllByRecursion (λ e. e.0.tick ≡ tick)) (sym stowed.here) h.due_own)
-      (λ _. subst (λ es. 0 < length es) (sym stowed.here) long) stowed.others stowed.has)
+      (other_map later h.calendar new stowed.ordered tick (subst (AllByRecursion (λ e. e.0.tick ≡ tick)) (sym stowed.here) (all_reverse (λ e. e.0.tick ≡ tick) due h.due_own))
+      (λ _. omega (arith, ap length stowed.here, length-reverse due, long)) stowed.others stowed.has)
 
   none_near : near_at later.from later.ring.items tick ≡ []
   none_near = nothing_after (bucket later.map tick) (near_at later.from later.ring.items tick) (h.after long tick (omega arith))
@@ -202,9 +212,10 @@ module _ (tick : ℕ) (due : List Event) (later : Calendar) (new : Buckets) (h :
     | inl e ↦
         ap (λ t. latest q (held_at (calendar_of later.from later.ring new) t)) e
         ∙ (ap (λ es. latest q (es ++ near_at later.from later.ring.items tick)) stowed.here
-        ∙ (ap (λ es. latest q (due ++ es)) none_near
-        ∙ (ap (latest q) (append-nil due)
-        ∙ sym (ap (λ es. option_or (latest q due) (latest q es)) (ap (held_at later) e ∙ h.after long tick (omega arith)) ∙ or_None (latest q due)))))
+        ∙ (ap (λ es. latest q (reverse due ++ es)) none_near
+        ∙ (ap (latest q) (append-nil (reverse due))
+        ∙ (ap (first q) (reverse-reverse due) ∙ (sym (strict_found due h.falls q)
+        ∙ sym (ap (λ es. option_or (latest q due) (latest q es)) (ap (held_at later) e ∙ h.after long tick (omega arith)) ∙ or_None (latest q due)))))))
     | inr other ↦
         ap (λ es. latest q (es ++ near_at later.from later.ring.items q.tick)) (stowed.others q.tick other)
         ∙ sym (ap (λ o. option_or o (latest q (held_at later q.tick))) (other_tick tick q due h.due_own other))
@@ -233,27 +244,43 @@ seen_none tick later h none key input there =
     not_None input (sym (get_seen tick [] later h key ∙ ap (latest key) (none key.tick)) ∙ there)
 
 -- the least event is taken
-module _ (tick : ℕ) (due new : List Event) (later : Calendar) (e : Event) (h : IsInOrder tick due later) (popped : IsPopped due new e) where
+module _ (tick : ℕ) (due new : List Event) (later : Calendar) (e : Event) (h : IsInOrder tick due later) (popped : due ≡ new ++ e ∷ []) where
+  after_it : AllByRecursion (λ f. is_before e.0 f.0 ≡ true) new
+  after_it = falls_last new e (subst FallsStrictly popped h.falls)
+
+  due_at : (q : Key) → latest q due ≡ cond (eq_by_cmp key_cmp q e.0) (Some e.1) (latest q new)
+  due_at q = ap (latest q) popped ∙ latest_push q new e
+
+  there : latest e.0 due ≡ Some e.1
+  there = due_at e.0 ∙ ap (λ b. cond b (Some e.1) (latest e.0 new)) (tied e.0 e.0 refl)
+
+  gone : latest e.0 new ≡ None
+  gone = none_latest e.0 new (weaker _ _ (λ f b s. not_it f.0 f.0 e.0 refl b (sym s)) new after_it)
+
+  none_due_before : AllByRecursion (λ f. is_lt (key_cmp f.0 e.0) ≡ false) due
+  none_due_before =
+      subst (AllByRecursion (λ f. is_lt (key_cmp f.0 e.0) ≡ false)) (sym popped)
+      (both (λ f. is_lt (key_cmp f.0 e.0) ≡ false) new (e ∷ []) (weaker _ _ (λ f b. not_after f.0 e.0 b) new after_it) (ap is_lt (tied_itself keys_total e.0), tt))
+
   at_tick : e.0.tick ≡ tick
-  at_tick = found_is (λ k. k.tick ≡ tick) e.0 e.1 (reverse due) (all_reverse (λ f. f.0.tick ≡ tick) due h.due_own) popped.there
+  at_tick = found_is (λ k. k.tick ≡ tick) e.0 e.1 (reverse due) (all_reverse (λ f. f.0.tick ≡ tick) due h.due_own) there
 
   some_due : 0 < length due
-  some_due =
-      elim due as (λ es. latest e.0 es ≡ Some e.1 → 0 < length es) [ [] ↦ λ f. absurd (not_None e.1 f) | f ∷ fs ↦ λ _. omega arith ] popped.there
+  some_due = omega (arith, ap length popped, length-append new (e ∷ []))
 
   pub pop_order : IsInOrder tick new later
   pop_order = record {
     calendar = h.calendar;
-    due_own = (all_parts _ new popped.more (subst (AllByRecursion (λ f. f.0.tick ≡ tick)) popped.front h.due_own)).0;
+    due_own = (all_parts _ new (e ∷ []) (subst (AllByRecursion (λ f. f.0.tick ≡ tick)) popped h.due_own)).0;
     after = λ long. h.after some_due;
-    falls = popped.falls;
+    falls = falls_front new (e ∷ []) (subst FallsStrictly popped h.falls);
   }
 
   pub pop_least_is : IsLeast (seen due later) e.0 e.1
   pop_least_is = record {
-    there = get_seen tick due later h e.0 ∙ ap (λ o. option_or o (latest e.0 (held_at later e.0.tick))) popped.there;
-    none_before = λ q y there less. elim (or_cases (latest q due) _ y (sym (get_seen tick due later h q) ∙ there)) [
-      | inl found ↦ true≢false (sym (ap is_lt less) ∙ found_is (λ k. is_lt (key_cmp k e.0) ≡ false) q y (reverse due) (all_reverse (λ f. is_lt (key_cmp f.0 e.0) ≡ false) due popped.least) found)
+    there = get_seen tick due later h e.0 ∙ ap (λ o. option_or o (latest e.0 (held_at later e.0.tick))) there;
+    none_before = λ q y has less. elim (or_cases (latest q due) _ y (sym (get_seen tick due later h q) ∙ has)) [
+      | inl found ↦ true≢false (sym (ap is_lt less) ∙ found_is (λ k. is_lt (key_cmp k e.0) ≡ false) q y (reverse due) (all_reverse (λ f. is_lt (key_cmp f.0 e.0) ≡ false) due none_due_before) found)
       | inr found ↦ omega (arith, after_due tick q.tick due later q y h some_due found, ticks_rise q e.0 less, at_tick)
     ];
   }
@@ -269,23 +296,23 @@ module _ (tick : ℕ) (due new : List Event) (later : Calendar) (e : Event) (h :
       go : (q : Key) → (q ≡ e.0) ⊎ (q ≢ e.0) → seen_at new later q ≡ cond (eq_by_cmp key_cmp q e.0) None (seen_at due later q)
       go q (inl s) =
           ap (λ k. seen_at new later k) s
-          ∙ (ap (λ o. option_or o (latest e.0 (held_at later e.0.tick))) popped.gone
+          ∙ (ap (λ o. option_or o (latest e.0 (held_at later e.0.tick))) gone
           ∙ (ap (latest e.0) (ap (held_at later) at_tick ∙ alone) ∙ sym (ap (λ b. cond b None (seen_at due later q)) (tied q e.0 s))))
       go q (inr n) =
-          ap (λ o. option_or o (latest q (held_at later q.tick))) (popped.others q n)
+          ap (λ o. option_or o (latest q (held_at later q.tick))) (sym (due_at q ∙ ap (λ b. cond b (Some e.1) (latest q new)) (apart q e.0 n)))
           ∙ sym (ap (λ b. cond b None (seen_at due later q)) (apart q e.0 n))
 
 -- what a call that takes the least event answers
-pub taken_order : (r : Option Event) (tick : ℕ) (old new : List Event) (later : Calendar) → IsInOrder tick old later → MatchOption r ((old ≡ []) × (new ≡ [])) (λ e. IsPopped old new e) → IsInOrder tick new later
+pub taken_order : (r : Option Event) (tick : ℕ) (old new : List Event) (later : Calendar) → IsInOrder tick old later → MatchOption r ((old ≡ []) × (new ≡ [])) (λ e. old ≡ new ++ e ∷ []) → IsInOrder tick new later
 taken_order None tick old new later h is = subst (λ es. IsInOrder tick es later) (is.0 ∙ sym is.1) h
 taken_order (Some e) tick old new later h is = pop_order tick old new later e h is
 
-pub taken_least : (r : Option Event) (tick : ℕ) (old new : List Event) (later : Calendar) → IsInOrder tick old later → (old ≡ [] → IsVacant later) → MatchOption r ((old ≡ []) × (new ≡ [])) (λ e. IsPopped old new e)
+pub taken_least : (r : Option Event) (tick : ℕ) (old new : List Event) (later : Calendar) → IsInOrder tick old later → (old ≡ [] → IsVacant later) → MatchOption r ((old ≡ []) × (new ≡ [])) (λ e. old ≡ new ++ e ∷ [])
     → MatchOption r (IsEmpty (seen old later)) (λ e. IsLeast (seen old later) e.0 e.1)
 taken_least None tick old new later h none is = subst (λ es. IsEmpty (seen es later)) (sym is.0) (seen_none tick later (subst (λ es. IsInOrder tick es later) is.0 h) (none is.0))
 taken_least (Some e) tick old new later h none is = pop_least_is tick old new later e h is
 
-pub taken_removed : (r : Option Event) (tick : ℕ) (old new : List Event) (later : Calendar) → IsInOrder tick old later → MatchOption r ((old ≡ []) × (new ≡ [])) (λ e. IsPopped old new e)
+pub taken_removed : (r : Option Event) (tick : ℕ) (old new : List Event) (later : Calendar) → IsInOrder tick old later → MatchOption r ((old ≡ []) × (new ≡ [])) (λ e. old ≡ new ++ e ∷ [])
     → MatchOption r (seen new later ≡ seen old later) (λ e. seen new later ≡ events.remove (seen old later) e.0)
 taken_removed None tick old new later h is = ap (λ es. seen es later) (is.1 ∙ sym is.0)
 taken_removed (Some e) tick old new later h is = pop_same tick old new later e h is

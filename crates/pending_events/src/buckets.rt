@@ -1,64 +1,20 @@
 //! Events by their ticks.
-ghost use Rattle.std.specs.Prelude.{◌≡◌, ◌-◌, ◌<◌, ℕ, [], MatchOption, OnErr, OnOk, take, true, vec_len};
-ghost use Rattle.std.specs.List.Sorted.{IsPermutation};
+ghost use Rattle.std.specs.Prelude.{◌≡◌, ◌<◌, ℕ, [], OnErr, OnOk, length, reverse};
 ghost use Rattle.std.specs.BTreeMap.{IsOrdered};
 ghost use Rattle.std.specs.Ordering.{nat_cmp};
 ghost use Rattle.process_api.specs.declared.key.Key.{Key as KeyValue};
-ghost use Rattle.pending_events.specs.Inside.Buckets.{EndsAt, Falls, HasTick, IsFiled, IsPopped, IsSame, IsStowed, latest};
+ghost use Rattle.pending_events.specs.Inside.Buckets.{HasTick, IsFiled, IsSame, IsStowed};
 ghost use Rattle.pending_events.specs.Inside.Calendar.{IsInOrder, IsVacant, seen_at};
-ghost use Rattle.pending_events.specs.Inside.Lanes.{first};
+ghost use Rattle.pending_events.specs.Inside.Due.{IsPlaced, left};
+ghost use Rattle.pending_events.specs.Inside.Lanes.{FallsStrictly};
 
 use crate::calendar::Calendar;
-use crate::lanes::put_in_order;
+use crate::due::Due;
+use crate::lanes::{list_places, put_in_order};
 use std::alloc::{AllocError, Global};
-use std::cmp::Reverse;
 use std::collections::BTreeMap;
 use std::mem;
 use trace_laws::Event;
-
-/// Puts events in order, the least last. Events with one key stay in the order in which they came.
-pub(crate) fn sort_falling(bucket: &mut Vec<Event>) -> Result<(), AllocError>
-    ensures falls { OnOk result (Falls bucket.new.items) }
-    ensures latest { (q : KeyValue) → latest q bucket.new.items ≡ latest q bucket.old.items }
-    ensures first { (q : KeyValue) → first q bucket.new.items ≡ first q bucket.old.items }
-    ensures ticks { IsPermutation bucket.old.items bucket.new.items }
-{
-    bucket.sort_by_key(|event| Reverse(event.key()))?;
-    Ok(())
-}
-
-/// Takes the least event of a bucket that is in order, and drops what came before it with the same key.
-#[inline(always)]
-pub(crate) fn pop_least(bucket: &mut Vec<Event>) -> Option<Event>
-    requires { Falls bucket.old.items }
-    ensures { MatchOption result
-        ((bucket.old.items ≡ []) × (bucket.new.items ≡ []))
-        (λ e. IsPopped bucket.old.items bucket.new.items e) }
-{
-    let event = bucket.pop()?;
-    while ends_at(bucket, &event) {
-        drop_last(bucket);
-    }
-    Some(event)
-}
-
-/// Whether the last event of a bucket has the key of this one.
-fn ends_at(bucket: &[Event], event: &Event) -> bool
-    ensures yes { result ≡ true → EndsAt bucket.now event.now.0 }
-    ensures no { EndsAt bucket.now event.now.0 → result ≡ true }
-{
-    match bucket.last() {
-        Some(next) => next.key().cmp(&event.key()).is_eq(),
-        None => false,
-    }
-}
-
-/// Drops the last event of a bucket, if there is one.
-fn drop_last(bucket: &mut Vec<Event>)
-    ensures { bucket.new.items ≡ take (vec_len bucket.old - 1) bucket.old.items }
-{
-    bucket.pop();
-}
 
 /// Gives an empty bucket the memory of one that was kept for reuse.
 pub(crate) fn furnish(spare: &mut Vec<Vec<Event>>, bucket: &mut Vec<Event>)
@@ -95,19 +51,26 @@ pub(crate) fn file(
     Ok(())
 }
 
-/// Puts the events of a tick, which are in order, to the other buckets, where there is none of that tick.
-fn stow(
-    tick: u32,
-    due: &mut Vec<Event>,
-    later: &mut BTreeMap<u32, Vec<Event>>,
-) -> Result<(), AllocError>
-    requires { HasTick later.old tick → ⊥ }
-    ensures ok { OnOk result ((due.new.items ≡ []) × IsStowed later.old later.new tick due.old.items) }
-    ensures err { OnErr result ((due.new.items ≡ due.old.items) × (later.new.entries ≡ later.old.entries)) }
+/// Puts what is due to the other buckets, where there is none of its tick. The least event is the bucket's first then.
+#[inline(never)]
+fn stow(tick: u32, due: &mut Due, later: &mut BTreeMap<u32, Vec<Event>>) -> Result<(), AllocError>
+    requires none { HasTick later.old tick → ⊥ }
+    requires placed { IsPlaced due.old }
+    requires falls { FallsStrictly (left due.old) }
+    ensures placed { IsPlaced due.new }
+    ensures ok { OnOk result ((left due.new ≡ []) × IsStowed later.old later.new tick (reverse (left due.old))) }
+    ensures err { OnErr result ((left due.new ≡ left due.old) × (later.new.entries ≡ later.old.entries)) }
 {
-    let bucket = mem::replace(due, Vec::new(*due.allocator()));
+    let alloc = *due.order.allocator();
+    // what puts everything back where the map has no room
+    let mut order = Vec::new(alloc);
+    list_places(due.order.len(), &mut order)?;
+    let bucket = due.take_all()?;
     if let Err(refused) = later.insert(tick, bucket) {
-        *due = refused.value.1;
+        *due = Due {
+            events: refused.value.1,
+            order,
+        };
         return Err(AllocError);
     }
     Ok(())
@@ -118,15 +81,17 @@ fn stow(
 pub(crate) fn settle(
     tick: u32,
     at: u32,
-    due: &mut Vec<Event>,
+    due: &mut Due,
     later: &mut Calendar,
 ) -> Result<(), AllocError>
-    requires { IsInOrder tick due.old.items later.old }
-    ensures in_order { IsInOrder tick due.new.items later.new }
-    ensures same { (q : KeyValue) → seen_at due.new.items later.new q ≡ seen_at due.old.items later.old q }
-    ensures behind { OnOk result (0 < vec_len due.new → tick < at) }
+    requires placed { IsPlaced due.old }
+    requires in_order { IsInOrder tick (left due.old) later.old }
+    ensures placed { IsPlaced due.new }
+    ensures in_order { IsInOrder tick (left due.new) later.new }
+    ensures same { (q : KeyValue) → seen_at (left due.new) later.new q ≡ seen_at (left due.old) later.old q }
+    ensures behind { OnOk result (0 < length (left due.new) → tick < at) }
 {
-    if due.is_empty() || tick < at {
+    if tick < at || due.is_empty() {
         return Ok(());
     }
     stow(tick, due, &mut later.map)?;
@@ -134,46 +99,33 @@ pub(crate) fn settle(
 }
 
 /// Takes the bucket of the least tick out, and puts it in order: its events are due then.
-fn fill(
+pub(crate) fn fill(
     tick: &mut u32,
-    due: &mut Vec<Event>,
+    due: &mut Due,
     later: &mut Calendar,
     spare: &mut Vec<Vec<Event>>,
-    lanes: &mut Vec<Vec<Event>>,
+    lanes: &mut Vec<Vec<usize>>,
 ) -> Result<(), AllocError>
-    requires in_order { IsInOrder tick.old due.old.items later.old }
-    requires none { due.old.items ≡ [] }
-    ensures in_order { IsInOrder tick.new due.new.items later.new }
+    requires placed { IsPlaced due.old }
+    requires in_order { IsInOrder tick.old (left due.old) later.old }
+    requires none { left due.old ≡ [] }
+    ensures placed { IsPlaced due.new }
+    ensures in_order { IsInOrder tick.new (left due.new) later.new }
     ensures same { OnOk result
-        ((q : KeyValue) → seen_at due.new.items later.new q ≡ seen_at due.old.items later.old q) }
-    ensures left { OnOk result (due.new.items ≡ [] → IsVacant later.new) }
+        ((q : KeyValue) → seen_at (left due.new) later.new q ≡ seen_at (left due.old) later.old q) }
+    ensures left { OnOk result (left due.new ≡ [] → IsVacant later.new) }
 {
-    if let Some((least, mut bucket)) = later.take_first()? {
-        put_in_order(lanes, &mut bucket)?;
-        // kept for reuse, or let go where there is no room
-        drop(spare.push(mem::replace(due, bucket)));
+    if let Some((least, bucket)) = later.take_first()? {
+        let alloc = *spare.allocator();
+        let Due { events, mut order } = mem::replace(due, Due::new(alloc));
+        put_in_order(&bucket, lanes, &mut order)?;
+        *due = Due {
+            events: bucket,
+            order,
+        };
         *tick = least;
-    }
-    Ok(())
-}
-
-/// Takes the bucket of the least tick out, where nothing is due, and puts it in order.
-#[inline(always)]
-pub(crate) fn refill(
-    tick: &mut u32,
-    due: &mut Vec<Event>,
-    later: &mut Calendar,
-    spare: &mut Vec<Vec<Event>>,
-    lanes: &mut Vec<Vec<Event>>,
-) -> Result<(), AllocError>
-    requires { IsInOrder tick.old due.old.items later.old }
-    ensures in_order { IsInOrder tick.new due.new.items later.new }
-    ensures same { OnOk result
-        ((q : KeyValue) → seen_at due.new.items later.new q ≡ seen_at due.old.items later.old q) }
-    ensures left { OnOk result (due.new.items ≡ [] → IsVacant later.new) }
-{
-    if due.is_empty() {
-        return fill(tick, due, later, spare, lanes);
+        // kept for reuse, or let go where there is no room
+        drop(spare.push(events));
     }
     Ok(())
 }

@@ -1,5 +1,5 @@
 //! Events by their ticks: a ring of buckets for the ticks ahead, and a map of buckets for all others.
-ghost use Rattle.std.specs.Prelude.{◌≡◌, ◌≢◌, ◌++◌, ◌<◌, ◌≤◌, ◌%◌, ◌⊎◌, ℕ, [], ◌∷◌, IfOk, MatchOption, OnErr, OnOk, false, length, true, vec_len};
+ghost use Rattle.std.specs.Prelude.{◌≡◌, ◌≢◌, ◌+◌, ◌++◌, ◌<◌, ◌≤◌, ◌%◌, ◌^◌, ◌⊎◌, ℕ, [], ◌∷◌, IfOk, MatchOption, OnErr, OnOk, false, length, true, vec_len};
 ghost use Rattle.std.specs.BTreeMap.{IsLowerBound, IsOrdered, get};
 ghost use Rattle.std.specs.Ordering.{nat_cmp};
 ghost use Rattle.pending_events.specs.Inside.Buckets.{HasTick, bucket};
@@ -82,10 +82,12 @@ impl Calendar {
 /// Whether a tick is in the year.
 #[inline(always)]
 fn is_near(from: u32, tick: u32) -> bool
+    requires { from + year < 2 ^ 32 }
     ensures yes { result ≡ true → IsNear from tick }
     ensures no { IsNear from tick → result ≡ true }
 {
-    from <= tick && tick - from < YEAR
+    // a tick before the year wraps to one that is further ahead than a year
+    tick.wrapping_sub(from) < YEAR
 }
 
 /// The least tick of a map.
@@ -133,6 +135,7 @@ fn take_listed(alloc: Global, map: &mut BTreeMap<u32, Vec<Event>>, tick: u32) ->
 
 /// Takes the events of a tick out of the ring, if the tick is in the year.
 fn take_near(alloc: Global, from: u32, ring: &mut Vec<Vec<Event>>, tick: u32) -> Vec<Event>
+    requires { from + year < 2 ^ 32 }
     ensures whole { result.items ≡ near_at from ring.old.items tick }
     ensures gone { near_at from ring.new.items tick ≡ [] }
     ensures others { (t : ℕ) → t ≢ tick → near_at from ring.new.items t ≡ near_at from ring.old.items t }

@@ -173,6 +173,17 @@ impl Event {
         self.key
     }
 
+    /// The event, moved out of its place. What is left there means nothing.
+    #[inline(always)]
+    pub fn take(&mut self) -> Event
+        ensures { result ≡ self.old }
+    {
+        Event {
+            key: self.key,
+            taken: replace(&mut self.taken, Taken::Start),
+        }
+    }
+
     /// Its key, and what the receiver's machine takes.
     #[inline(always)]
     pub fn into_parts(self) -> (Key, StepInput)

@@ -1,23 +1,46 @@
-use Rattle.std.proofs.Common.{◌≡◌, ◌∙◌, subst, MatchOption}
+use Rattle.std.proofs.Common.{◌≡◌, ◌∙◌, [], ap, arith, length, refl, sym, subst, MatchOption}
 use Rattle.std.specs.FinMap as events
+use Rattle.process_api.specs.declared.key.Key.{Key}
+use Rattle.pending_events.specs.declared.pending.Pending.TheInside.{Inside}
+use Rattle.pending_events.specs.Inside.Calendar.{IsInOrder, IsVacant, seen_at}
+use Rattle.pending_events.specs.Inside.Due.{left}
 use Rattle.pending_events.specs.Pending.{IsEmpty}
 use Rattle.trace_laws.specs.World.{IsLeast}
 use Rattle.pending_events.proofs.Ordered.{seen, seen_same, taken_order, taken_least, taken_removed}
 use Rattle.pending_events.proofs.pending.Pending.take_least.Goals as goal
+use Rattle.pending_events.proofs.pending.Pending.take_least.Goals.{then-is_empty+in_ok-fill, else-is_empty}
+
+-- the same events, of which the least is due, if there is one
+record IsReady (old new : Inside) : Type 0 where
+  order : IsInOrder new.tick (left new.due) new.later
+  same : (q : Key) → seen_at (left new.due) new.later q ≡ seen_at (left old.due) old.later q
+  vacant : left new.due ≡ [] → IsVacant new.later
+
+ready : (c : goal.After-pop) → IsReady c.self.inside c.if-is_empty.self-inside
+ready c =
+    let some = c.is_empty.ensures.no in
+    elim c.if-is_empty.branch [
+      | then-is_empty+in_ok-fill w ↦ subst (IsReady c.self.inside) (sym w.self-inside-is)
+          (record { order = w.fill.ensures.in_order; same = w.in_ok-fill.ensures.same; vacant = w.in_ok-fill.ensures.left })
+      | else-is_empty w ↦ subst (IsReady c.self.inside) (sym w.self-inside-is)
+          (record { order = c.self.invariant.1; same = λ q. refl; vacant = λ none. absurd (omega (arith, some w.if-is_empty.false, ap length none)) })
+    ]
 
 pub invariant_of-self-2 : goal.invariant_of-self-2
-invariant_of-self-2 c = taken_order c.pop_least.result c.refill.new.tick c.refill.new.due.items c.pop_least.new.bucket.items c.refill.new.later c.in_ok-refill.ensures.in_order c.pop_least.ensures
+invariant_of-self-2 c =
+    let n = c.if-is_empty.self-inside in
+    (c.pop.ensures.placed, taken_order c.pop.result n.tick (left n.due) (left c.pop.new.self) n.later (ready c).order c.pop.ensures.taken)
 
 pub returns : goal.returns
 returns c =
     let f = c.self.inside in
-    let n = c.refill.new in
-    let r = c.pop_least.result in
-    let popped = c.pop_least.ensures in
-    let order = c.in_ok-refill.ensures.in_order in
-    let after = seen c.pop_least.new.bucket.items n.later in
-    let is = seen_same f.tick n.tick f.due.items n.due.items f.later n.later c.self.invariant order c.in_ok-refill.ensures.same ∙ c.self.view_is in
+    let n = c.if-is_empty.self-inside in
+    let h = ready c in
+    let r = c.pop.result in
+    let popped = c.pop.ensures.taken in
+    let after = seen (left c.pop.new.self) n.later in
+    let is = seen_same f.tick n.tick (left f.due) (left n.due) f.later n.later c.self.invariant.1 h.order h.same ∙ c.self.view_is in
     record {
-      least = subst (λ m. MatchOption r (IsEmpty m) (λ e. IsLeast m e.0 e.1)) is (taken_least r n.tick n.due.items c.pop_least.new.bucket.items n.later order c.in_ok-refill.ensures.left popped);
-      removed = subst (λ m. MatchOption r (after ≡ m) (λ e. after ≡ events.remove m e.0)) is (taken_removed r n.tick n.due.items c.pop_least.new.bucket.items n.later order popped);
+      least = subst (λ m. MatchOption r (IsEmpty m) (λ e. IsLeast m e.0 e.1)) is (taken_least r n.tick (left n.due) (left c.pop.new.self) n.later h.order h.vacant popped);
+      removed = subst (λ m. MatchOption r (after ≡ m) (λ e. after ≡ events.remove m e.0)) is (taken_removed r n.tick (left n.due) (left c.pop.new.self) n.later h.order popped);
     }

@@ -1,0 +1,15 @@
+use Rattle.std.proofs.Common.{◌≡◌, ◌≤◌, ◌+◌, ◌++◌, reverse, vec_len, vec_capacity}
+use Rattle.pending_events.specs.Inside.Due.{IsPlaced, left}
+use Rattle.pending_events.specs.Inside.Lanes.{FallsStrictly}
+use Rattle.pending_events.proofs.due.Due.take_all.Given as goal
+
+abbrev pub invariant-loop-event : goal.invariant-loop-event
+invariant-loop-event l = record {
+  placed : IsPlaced l.self;
+  falls : FallsStrictly (left l.self);
+  taken : left l.fn.self ≡ left l.self ++ reverse l.all.items;
+  room : vec_len l.all + vec_len l.self.order ≤ vec_capacity l.all;
+}
+
+abbrev pub decreases-loop-event : goal.decreases-loop-event
+decreases-loop-event l = vec_len l.self.order
