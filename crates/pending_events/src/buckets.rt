@@ -119,11 +119,11 @@ pub(crate) fn fill(
 {
     if let Some((least, bucket)) = later.take_first()? {
         let alloc = *spare.allocator();
+        // both are taken out of their places, so that nothing half done is left there where memory is refused
         let Due { events, mut order } = mem::replace(due, Due::new(alloc));
-        // where memory is refused, none of these is left half done
-        let mut emptied = mem::replace(lanes, Vec::new(alloc));
-        put_in_order(&bucket, &mut emptied, &mut order)?;
-        *lanes = emptied;
+        let mut empty = mem::replace(lanes, Vec::new(alloc));
+        put_in_order(&bucket, &mut empty, &mut order)?;
+        *lanes = empty;
         *due = Due {
             events: bucket,
             order,

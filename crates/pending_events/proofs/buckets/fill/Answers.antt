@@ -14,7 +14,7 @@ put_in_order-requires c =
     let none = c.requires.none in
     let taken = MatchOption-at_some _ _ _ c.in-Some.is c.in_ok-least.ensures.taken in
     record {
-      empty = λ p. ap (λ v. lane v.items p) c.replace-emptied.ensures.value ∙ c.requires.lanes p;
+      empty = λ p. ap (λ v. lane v.items p) c.replace-empty.ensures.value ∙ c.requires.lanes p;
       none = ap (λ d. d.order.items) c.replace-events.ensures.value ∙ nil_from_length due.order.items (omega (arith, left_count due, due.order.ok.0, ap length none));
       tick = (
         c.in-Some.least,
