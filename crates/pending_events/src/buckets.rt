@@ -6,7 +6,7 @@ ghost use Rattle.process_api.specs.declared.key.Key.{Key as KeyValue};
 ghost use Rattle.pending_events.specs.Inside.Buckets.{HasTick, IsFiled, IsSame, IsStowed};
 ghost use Rattle.pending_events.specs.Inside.Calendar.{IsInOrder, IsVacant, seen_at};
 ghost use Rattle.pending_events.specs.Inside.Due.{IsPlaced, left};
-ghost use Rattle.pending_events.specs.Inside.Lanes.{FallsStrictly};
+ghost use Rattle.pending_events.specs.Inside.Lanes.{AreEmpty, FallsStrictly};
 
 use crate::calendar::Calendar;
 use crate::due::Due;
@@ -109,16 +109,21 @@ pub(crate) fn fill(
     requires placed { IsPlaced due.old }
     requires in_order { IsInOrder tick.old (left due.old) later.old }
     requires none { left due.old ≡ [] }
+    requires lanes { AreEmpty lanes.old.items }
     ensures placed { IsPlaced due.new }
     ensures in_order { IsInOrder tick.new (left due.new) later.new }
     ensures same { OnOk result
         ((q : KeyValue) → seen_at (left due.new) later.new q ≡ seen_at (left due.old) later.old q) }
     ensures left { OnOk result (left due.new ≡ [] → IsVacant later.new) }
+    ensures lanes { AreEmpty lanes.new.items }
 {
     if let Some((least, bucket)) = later.take_first()? {
         let alloc = *spare.allocator();
+        // both are taken out of their places, so that nothing half done is left there where memory is refused
         let Due { events, mut order } = mem::replace(due, Due::new(alloc));
-        put_in_order(&bucket, lanes, &mut order)?;
+        let mut empty = mem::replace(lanes, Vec::new(alloc));
+        put_in_order(&bucket, &mut empty, &mut order)?;
+        *lanes = empty;
         *due = Due {
             events: bucket,
             order,

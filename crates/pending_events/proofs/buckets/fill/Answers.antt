@@ -2,7 +2,7 @@ use Rattle.std.proofs.Common.{sym, subst, ◌∙◌, ap, arith, length, []}
 use Rattle.std.proofs.lemmas.List.{nil_from_length}
 use Rattle.std.proofs.lemmas.Option.{MatchOption-at_some}
 use Rattle.pending_events.specs.Inside.Calendar.{IsInOrder, IsTaken, seen_at}
-use Rattle.pending_events.specs.Inside.Lanes.{AreOfTick, IsOrder}
+use Rattle.pending_events.specs.Inside.Lanes.{AreOfTick, IsOrder, lane}
 use Rattle.pending_events.proofs.Falling.{left_count}
 use Rattle.pending_events.proofs.Ordered.{own_taken, refilled, refilled_same, refilled_some}
 use Rattle.pending_events.proofs.buckets.fill.Goals as goal
@@ -14,6 +14,7 @@ put_in_order-requires c =
     let none = c.requires.none in
     let taken = MatchOption-at_some _ _ _ c.in-Some.is c.in_ok-least.ensures.taken in
     record {
+      empty = λ p. ap (λ v. lane v.items p) c.replace-empty.ensures.value ∙ c.requires.lanes p;
       none = ap (λ d. d.order.items) c.replace-events.ensures.value ∙ nil_from_length due.order.items (omega (arith, left_count due, due.order.ok.0, ap length none));
       tick = (
         c.in-Some.least,
@@ -34,10 +35,11 @@ returns-in_ok-put_in_order c =
     let was : IsInOrder tick [] old = subst (λ es. IsInOrder tick es old) none c.requires.in_order in
     let kept = c.take_first.ensures.calendar in
     let taken : IsTaken old new least bucket = MatchOption-at_some _ _ _ c.in-Some.is c.in_ok-least.ensures.taken in
-    let is : IsOrder bucket order = subst (λ es. IsOrder es order) c.deref.ensures.value c.in_ok-put_in_order.ensures in
+    let is : IsOrder bucket order = subst (λ es. IsOrder es order) c.deref.ensures.value c.in_ok-put_in_order.ensures.order in
     record {
       placed = is.within;
       in_order = refilled tick least old new bucket was kept taken order is;
       same = λ q. refilled_same tick least old new bucket was kept taken order is q ∙ ap (λ es. seen_at es old q) (sym none);
+      lanes = c.in_ok-put_in_order.ensures.empty;
       left = λ empty t. absurd (refilled_some tick least old new bucket was kept taken order is empty);
     }
