@@ -10,7 +10,6 @@
 
 mod buckets;
 mod calendar;
-mod due;
 mod joins;
 mod lanes;
 mod pending;

@@ -1,6 +1,6 @@
 -- The events that are due, of which some were taken.
 use Rattle.std.specs.Prelude.{List, length}
-use Rattle.pending_events.specs.declared.due.Due.{Due}
+use Rattle.pending_events.specs.declared.buckets.Due.{Due}
 use Rattle.pending_events.specs.Inside.Lanes.{AreWithin, events_at}
 use Rattle.trace_laws.specs.Step.{Event}
 

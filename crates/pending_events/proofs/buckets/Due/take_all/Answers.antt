@@ -3,7 +3,7 @@ use Rattle.std.proofs.lemmas.List.{reverse-append}
 use Rattle.pending_events.specs.Inside.Due.{left}
 use Rattle.pending_events.specs.Inside.Lanes.{FallsStrictly}
 use Rattle.pending_events.proofs.Falling.{falls_front, left_count}
-use Rattle.pending_events.proofs.due.Due.take_all.Goals as goal
+use Rattle.pending_events.proofs.buckets.Due.take_all.Goals as goal
 
 pub loop-event-preserved : goal.loop-event-preserved
 loop-event-preserved c =

@@ -2,7 +2,7 @@ use Rattle.std.proofs.Common.{◌≡◌, ◌<◌, ◌++◌, ◌∷◌, [], ◌�
 use Rattle.std.proofs.lemmas.List.{get_or_default, map-append}
 use Rattle.pending_events.specs.Inside.Lanes.{event_at, events_at, no_event, AreWithin, FallsStrictly}
 use Rattle.pending_events.proofs.Falling.{all_parts, others_stay}
-use Rattle.pending_events.proofs.due.Due.pop.Goals as goal
+use Rattle.pending_events.proofs.buckets.Due.pop.Goals as goal
 
 pub returns-clause-taken : goal.returns-clause-taken
 returns-clause-taken c =

@@ -1,7 +1,7 @@
 use Rattle.std.proofs.Common.{◌≡◌, ◌≤◌, ◌+◌, ◌++◌, reverse, vec_len, vec_capacity}
 use Rattle.pending_events.specs.Inside.Due.{IsPlaced, left}
 use Rattle.pending_events.specs.Inside.Lanes.{FallsStrictly}
-use Rattle.pending_events.proofs.due.Due.take_all.Given as goal
+use Rattle.pending_events.proofs.buckets.Due.take_all.Given as goal
 
 abbrev pub invariant-loop-event : goal.invariant-loop-event
 invariant-loop-event l = record {
