@@ -26,11 +26,23 @@ fn pid(number: u16) -> Result<Pid, Fail> {
     Ok(Pid::new(number).ok_or("no process")?)
 }
 
+/// Kept words of the links to processes 1 to 5, each at the receiver's place.
+fn words_of_links() -> [LinkWords; 6] {
+    [
+        LinkWords::new(),
+        LinkWords::new(),
+        LinkWords::new(),
+        LinkWords::new(),
+        LinkWords::new(),
+        LinkWords::new(),
+    ]
+}
+
 /// Letters 1 to 12 of a link, each sent at the tick of its number and asked for in their turn: their delays, and 0 for
 /// a lost one.
 fn delays(scenario: &Scenario, from: u16, to: u16) -> Result<[u32; 12], Fail> {
     let streams = Streams::new(scenario);
-    let mut words = LinkWords::new();
+    let mut words = words_of_links();
     let (from, to) = (pid(from)?, pid(to)?);
     let mut delays = [0u32; 12];
     if from == to || from.number() > scenario.processes() || to.number() > scenario.processes() {
@@ -182,7 +194,7 @@ fn any_order_gives_the_same(rt: HostRuntime) -> Result<(), Fail> {
     assert!(rt; scenario.processes() == 5);
     let (from, to) = (pid(3)?, pid(4)?);
     assert!(rt; from.number() == 3 && to.number() == 4);
-    let mut kept = LinkWords::new();
+    let mut kept = words_of_links();
     for number in (1..=100u64).rev() {
         let at = 2 * (number as usize - 1);
         assert!(rt; at + 1 < words.len());
