@@ -17,7 +17,7 @@ ghost use Rattle.trace_laws.specs.World.{starts, opened, IsTrace};
 
 use followers::Follower;
 use pending_events::Pending;
-use process_api::{Action, Entry, Pid, Process, Trace};
+use process_api::{Action, Entry, Key, Pid, Process, StepInput, Trace};
 use run_error::RunError;
 use scenario_record::Scenario;
 use std::alloc::{AllocError, Global};
@@ -90,7 +90,7 @@ impl<M: Process> EventList<M> {
     fn take<L: Listener>(
         &mut self,
         streams: &Streams<'_>,
-        event: Event,
+        event: (Key, StepInput),
         listener: &mut L,
     ) -> Result<Entry, AllocError>
         requires seated { (most : ℕ)
@@ -114,7 +114,7 @@ impl<M: Process> EventList<M> {
             → HaveJoined L.heard listener.old listener.new
             (posted_in (setting_of streams.now) before event.0 event.1)) }
     {
-        let place = usize::from(event.key().receiver.number()) - 1;
+        let place = usize::from(event.0.receiver.number()) - 1;
         let seat = &mut self.seats[place];
         let pending = &mut self.pending;
         let entry = seat.turn(streams, event, &mut self.actions, pending, listener)?;

@@ -62,16 +62,16 @@ module _ (tick least : ℕ) (m n : Calendar) (b : List Event) (h : IsInOrder tic
     own_sorted : AllByRecursion (λ e. e.0.tick ≡ least) sorted
     own_sorted = all_at (λ e. e.0.tick ≡ least) b order own_taken is.within
 
-    pub refilled : IsInOrder least sorted n
-    refilled = record {
+    pub filled : IsInOrder least sorted n
+    filled = record {
       calendar = kept;
       due_own = own_sorted;
       after = λ long t low. none_up_to t low;
       falls = is.falls;
     }
 
-    pub refilled_same : (q : Key) → seen_at sorted n q ≡ seen_at [] m q
-    refilled_same q = elim (cases_eq q.tick least) [
+    pub filled_same : (q : Key) → seen_at sorted n q ≡ seen_at [] m q
+    filled_same q = elim (cases_eq q.tick least) [
       | inl e ↦
           ap (λ es. option_or (latest q sorted) (latest q es)) (ap (held_at n) e ∙ taken.gone)
           ∙ (or_None (latest q sorted) ∙ (as_found q ∙ ap (latest q) (taken.whole ∙ sym (ap (held_at m) e))))
@@ -80,8 +80,8 @@ module _ (tick least : ℕ) (m n : Calendar) (b : List Event) (h : IsInOrder tic
           ∙ ap (latest q) (taken.others q.tick other)
     ]
 
-    pub refilled_some : sorted ≡ [] → ⊥
-    refilled_some none =
+    pub filled_some : sorted ≡ [] → ⊥
+    filled_some none =
         let long : 0 < length b = subst (λ es. 0 < length es) (sym taken.whole) taken.first.some in
         omega (arith, long, none_of b (λ q. sym (as_found q) ∙ ap (latest q) none))
 
@@ -276,8 +276,8 @@ module _ (tick : ℕ) (due new : List Event) (later : Calendar) (e : Event) (h :
     falls = falls_front new (e ∷ []) (subst FallsStrictly popped h.falls);
   }
 
-  pub pop_least_is : IsLeast (seen due later) e.0 e.1
-  pop_least_is = record {
+  pub last_is_least : IsLeast (seen due later) e.0 e.1
+  last_is_least = record {
     there = get_seen tick due later h e.0 ∙ ap (λ o. option_or o (latest e.0 (held_at later e.0.tick))) there;
     none_before = λ q y has less. elim (or_cases (latest q due) _ y (sym (get_seen tick due later h q) ∙ has)) [
       | inl found ↦ true≢false (sym (ap is_lt less) ∙ found_is (λ k. is_lt (key_cmp k e.0) ≡ false) q y (reverse due) (all_reverse (λ f. is_lt (key_cmp f.0 e.0) ≡ false) due none_due_before) found)
@@ -310,7 +310,7 @@ taken_order (Some e) tick old new later h is = pop_order tick old new later e h 
 pub taken_least : (r : Option Event) (tick : ℕ) (old new : List Event) (later : Calendar) → IsInOrder tick old later → (old ≡ [] → IsVacant later) → MatchOption r ((old ≡ []) × (new ≡ [])) (λ e. old ≡ new ++ e ∷ [])
     → MatchOption r (IsEmpty (seen old later)) (λ e. IsLeast (seen old later) e.0 e.1)
 taken_least None tick old new later h none is = subst (λ es. IsEmpty (seen es later)) (sym is.0) (seen_none tick later (subst (λ es. IsInOrder tick es later) is.0 h) (none is.0))
-taken_least (Some e) tick old new later h none is = pop_least_is tick old new later e h is
+taken_least (Some e) tick old new later h none is = last_is_least tick old new later e h is
 
 pub taken_removed : (r : Option Event) (tick : ℕ) (old new : List Event) (later : Calendar) → IsInOrder tick old later → MatchOption r ((old ≡ []) × (new ≡ [])) (λ e. old ≡ new ++ e ∷ [])
     → MatchOption r (seen new later ≡ seen old later) (λ e. seen new later ≡ events.remove (seen old later) e.0)

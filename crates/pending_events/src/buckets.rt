@@ -10,6 +10,7 @@ ghost use Rattle.pending_events.specs.Inside.Lanes.{AreEmpty, FallsStrictly};
 
 use crate::calendar::Calendar;
 use crate::lanes::{list_places, put_in_order};
+use process_api::{Key, StepInput};
 use std::alloc::{AllocError, Global};
 use std::collections::BTreeMap;
 use std::mem;
@@ -19,7 +20,7 @@ use trace_laws::Event;
 /// are: their places are in order.
 #[derive(Drop)]
 pub(crate) struct Due {
-    // those that were taken mean nothing
+    // those whose place isn't in the order mean nothing: they were taken, or another of their key came later
     pub(crate) events: Vec<Event>,
     // the places of those that are left, the least event's last
     pub(crate) order: Vec<usize>,
@@ -48,7 +49,7 @@ impl Due {
 
     /// Takes the least event, if one is left. No two have one key, so nothing else changes.
     #[inline(always)]
-    pub(crate) fn pop(&mut self) -> Option<Event>
+    pub(crate) fn pop(&mut self) -> Option<(Key, StepInput)>
         requires placed { IsPlaced self.old }
         requires falls { FallsStrictly (left self.old) }
         ensures placed { IsPlaced self.new }
@@ -57,7 +58,7 @@ impl Due {
             (λ e. left self.old ≡ left self.new ++ e ∷ []) }
     {
         let place = self.order.pop()?;
-        Some(self.events[place].take())
+        Some(self.events[place].take_parts())
     }
 
     /// Takes all that is left, the least event first.
@@ -70,8 +71,8 @@ impl Due {
     {
         let mut all = Vec::new(*self.order.allocator());
         all.reserve(self.order.len())?;
-        while let Some(event) = self.pop() {
-            all.push_reserved(event);
+        while let Some(place) = self.order.pop() {
+            all.push_reserved(self.events[place].take());
         }
         Ok(all)
     }

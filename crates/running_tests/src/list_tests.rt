@@ -10,8 +10,7 @@ const TOO_FEW: &str = "too few events";
 
 /// Takes the least event, if there is one. Answers its tick, its receiver, its number and the input.
 fn take<R: Abort>(rt: &R, pending: &mut Pending) -> Option<(u32, u16, u64, StepInput)> {
-    let event = pending.take_least().expect(rt, NO_MEMORY)?;
-    let (key, input) = event.into_parts();
+    let (key, input) = pending.take_least().expect(rt, NO_MEMORY)?;
     Some((key.tick, key.receiver.number(), key.number, input))
 }
 
@@ -33,7 +32,7 @@ fn takes_least_first(rt: HostRuntime) -> Result<(), Fail> {
     are_taken(&rt, &mut pending, &[(0, 1, 0), (0, 2, 0)]);
     assert!(rt; pending.take_below(3)?.is_none());
     let event = pending.take_below(4)?.ok_or("nothing is below")?;
-    same(&rt, &(event.key().tick, pending.least_tick()), &(3, None));
+    same(&rt, &(event.0.tick, pending.least_tick()), &(3, None));
     Ok(())
 }
 

@@ -8,10 +8,10 @@ ghost use Rattle.trace_laws.specs.Joins.{HaveJoined, Serves, StillServes};
 ghost use Rattle.steps.specs.Posting.{posting, posted_by};
 ghost use Rattle.trace_laws.specs.ScenarioSetting.{setting_of};
 ghost use Rattle.steps.specs.Seat.{count_of};
-ghost use Rattle.trace_laws.specs.Step.{raised, in_time, counted, joining, sent_by, lost_by, noted_by, counts_after, added as added_by, sent as sent_by_all, lost as lost_by_all, noted, dead};
+ghost use Rattle.trace_laws.specs.Step.{raised, in_time, counted, joining, sent_by, lost_by, noted_by, counts_after, added as added_by, sent as sent_by_all, lost as lost_by_all, noted};
 
 use crate::listener::Listener;
-use process_api::{Action, Entry, Key, Kind, Note, Payload, Pid, StepInput, Tag};
+use process_api::{Action, Entry, Key, Kind, Payload, Pid, StepInput, Tag};
 use std::alloc::{AllocError, Global};
 use streams::{Fate, LinkWords, Streams};
 use trace_laws::{Event, Joins};
@@ -204,8 +204,8 @@ impl Links {
         added.add(Event::wake(key, tag))
     }
 
-    /// Does what one action of the step of `key` says; what is left in its place means nothing. The step's entry counts a
-    /// letter that is put on a link, and one that is lost, and takes a note.
+    /// Does what one action of the step of `key` says; what is left in its place means nothing. The step's entry
+    /// counts a letter that is put on a link, and one that is lost, and takes a note.
     #[inline(always)]
     fn act<J: Joins, L: Listener>(
         &mut self,

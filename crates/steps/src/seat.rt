@@ -9,11 +9,11 @@ ghost use Rattle.trace_laws.specs.Step.{kind_of as kind_for, kind_of_payload, st
 
 use crate::links::Links;
 use crate::listener::Listener;
-use process_api::{Action, Entry, Kind, Payload, Pid, Process, StepInput, Tag};
+use process_api::{Action, Entry, Key, Kind, Payload, Pid, Process, StepInput, Tag};
 use scenario_record::Scenario;
 use std::alloc::{AllocError, Global};
 use streams::Streams;
-use trace_laws::{Event, Joins};
+use trace_laws::Joins;
 
 /// A machine, and how much it put on the link to each process so far.
 #[derive(Drop)]
@@ -106,7 +106,7 @@ impl<M: Process> Seat<M> {
     pub fn turn<J: Joins, L: Listener>(
         &mut self,
         streams: &Streams<'_>,
-        event: Event,
+        event: (Key, StepInput),
         actions: &mut Vec<Action>,
         added: &mut J,
         listener: &mut L,
@@ -129,7 +129,7 @@ impl<M: Process> Seat<M> {
             → IsSeated M.mind streams.now most self.old
             → IsSeated M.mind streams.now (most + most_step_actions) self.new) }
     {
-        let (key, input) = event.into_parts();
+        let (key, input) = event;
         if is_down(self.crash, key.tick) {
             return Ok(self.links.empty_entry(key, Kind::Dead));
         }

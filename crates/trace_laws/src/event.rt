@@ -74,26 +74,26 @@ impl Taken {
         Ok(taken)
     }
 
-    /// The same, as the receiver's machine takes it.
+    /// The same, as the receiver's machine takes it. What is left then means nothing.
     #[inline(always)]
-    fn into_input(self, sender: Pid) -> StepInput
-        ensures { result ≡ input_of sender self }
+    fn take_input(&mut self, sender: Pid) -> StepInput
+        ensures { result ≡ input_of sender self.old }
     {
         let payload = match self {
             Taken::Start => return StepInput::Start,
-            Taken::Wake(tag) => return StepInput::Wake(tag),
+            &mut Taken::Wake(tag) => return StepInput::Wake(tag),
             Taken::Alive => Payload::Alive,
-            Taken::Heartbeat { number } => Payload::Heartbeat { number },
-            Taken::Suspects { word } => Payload::Suspects(ProcSet::of_word(word)),
-            Taken::Estimate { round, value, age } => Payload::Estimate {
+            &mut Taken::Heartbeat { number } => Payload::Heartbeat { number },
+            &mut Taken::Suspects { word } => Payload::Suspects(ProcSet::of_word(word)),
+            &mut Taken::Estimate { round, value, age } => Payload::Estimate {
                 round,
                 value,
                 stamp: round.saturating_sub(u64::from(age)),
             },
-            Taken::Proposal { round, value } => Payload::Proposal { round, value },
-            Taken::Reply { round, ack } => Payload::Reply { round, ack },
-            Taken::Decide { round, value } => Payload::Decide { round, value },
-            Taken::Aside(payload) => Box::into_inner(payload),
+            &mut Taken::Proposal { round, value } => Payload::Proposal { round, value },
+            &mut Taken::Reply { round, ack } => Payload::Reply { round, ack },
+            &mut Taken::Decide { round, value } => Payload::Decide { round, value },
+            Taken::Aside(payload) => replace(&mut **payload, Payload::Alive),
         };
         StepInput::Letter { sender, payload }
     }
@@ -184,12 +184,12 @@ impl Event {
         }
     }
 
-    /// Its key, and what the receiver's machine takes.
+    /// Its key, and what the receiver's machine takes, moved out of its place. What is left there means nothing.
     #[inline(always)]
-    pub fn into_parts(self) -> (Key, StepInput)
-        ensures { result ≡ self }
+    pub fn take_parts(&mut self) -> (Key, StepInput)
+        ensures { result ≡ self.old }
     {
-        let Event { key, taken } = self;
-        (key, taken.into_input(key.sender))
+        let key = self.key;
+        (key, self.taken.take_input(key.sender))
     }
 }

@@ -7,7 +7,7 @@ ghost use Rattle.trace_laws.specs.Taken.{event_of};
 ghost use Rattle.windows.specs.Agenda.{earlier_of, IsSoonestOf, IsAheadOf};
 
 use pending_events::Pending;
-use process_api::Letter;
+use process_api::{Key, Letter, StepInput};
 use std::alloc::{AllocError, Global};
 use std::marker::Model;
 use std::mem::replace;
@@ -186,7 +186,7 @@ impl Agenda {
     }
 
     /// Takes the least event, where it is below a tick. Where memory is refused some events may be gone.
-    pub(crate) fn take_below(&mut self, end: u32) -> Result<Option<Event>, AllocError>
+    pub(crate) fn take_below(&mut self, end: u32) -> Result<Option<(Key, StepInput)>, AllocError>
         ensures least { IfOk result (λ r.
             MatchOption r (NoneBelow end self.old) (λ e. IsLeast self.old e.0 e.1 × (e.0.tick < end))) }
         ensures removed { IfOk result (λ r.

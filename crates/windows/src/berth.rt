@@ -13,14 +13,13 @@ use crate::agenda::Agenda;
 use crate::outbox::Outbox;
 use mailboxes::{SharedMailboxes, Slip};
 use pending_events::Pending;
-use process_api::{Action, Entry, Pid, Process};
+use process_api::{Action, Entry, Key, Pid, Process, StepInput};
 use run_error::RunError;
 use scenario_record::Scenario;
 use std::alloc::{AllocError, Global};
 use std::sync::Wait;
 use steps::{Nobody, Seat};
 use streams::Streams;
-use trace_laws::Event;
 
 /// A machine in its seat, with the events that are pending for it, and its part of the open window's trace. The
 /// parameter has no bound here, so that it may be a boxed machine.
@@ -83,7 +82,7 @@ impl<M: Process> Berth<M> {
         streams: &Streams<'_>,
         mailboxes: &SharedMailboxes,
         slip: &mut Slip,
-        event: Event,
+        event: (Key, StepInput),
     ) -> Result<(), AllocError>
         requires seated { (most : ℕ) × IsSeated M.mind streams.now most self.old.seat
             × (most + most_step_actions < 2 ^ 64) }
@@ -104,7 +103,7 @@ impl<M: Process> Berth<M> {
         ensures letters { OnOk result (ArePosted event.0.receiver
             (made_in M.mind streams.now self.old.seat event.0 event.1).added slip.old slip.new) }
     {
-        let own = event.key().receiver;
+        let own = event.0.receiver;
         let pending = &mut self.pending;
         let mut outbox = Outbox {
             rt,

@@ -4,7 +4,7 @@ use Rattle.std.proofs.lemmas.Option.{MatchOption-at_some}
 use Rattle.pending_events.specs.Inside.Calendar.{IsInOrder, IsTaken, seen_at}
 use Rattle.pending_events.specs.Inside.Lanes.{AreOfTick, IsOrder, lane}
 use Rattle.pending_events.proofs.Falling.{left_count}
-use Rattle.pending_events.proofs.Ordered.{own_taken, refilled, refilled_same, refilled_some}
+use Rattle.pending_events.proofs.Ordered.{own_taken, filled, filled_same, filled_some}
 use Rattle.pending_events.proofs.buckets.fill.Goals as goal
 
 pub put_in_order-requires : goal.put_in_order-requires
@@ -38,8 +38,8 @@ returns-in_ok-put_in_order c =
     let is : IsOrder bucket order = subst (λ es. IsOrder es order) c.deref.ensures.value c.in_ok-put_in_order.ensures.order in
     record {
       placed = is.within;
-      in_order = refilled tick least old new bucket was kept taken order is;
-      same = λ q. refilled_same tick least old new bucket was kept taken order is q ∙ ap (λ es. seen_at es old q) (sym none);
+      in_order = filled tick least old new bucket was kept taken order is;
+      same = λ q. filled_same tick least old new bucket was kept taken order is q ∙ ap (λ es. seen_at es old q) (sym none);
       lanes = c.in_ok-put_in_order.ensures.empty;
-      left = λ empty t. absurd (refilled_some tick least old new bucket was kept taken order is empty);
+      left = λ empty t. absurd (filled_some tick least old new bucket was kept taken order is empty);
     }

@@ -1,7 +1,7 @@
-use Rattle.std.proofs.Common.{◌≡◌, ◌<◌, ◌++◌, ◌∷◌, [], ◌∙◌, ap, sym, subst, length}
-use Rattle.std.proofs.lemmas.List.{get_or_default, map-append}
-use Rattle.pending_events.specs.Inside.Lanes.{event_at, events_at, no_event, AreWithin, FallsStrictly}
-use Rattle.pending_events.proofs.Falling.{all_parts, others_stay}
+use Rattle.std.proofs.Common.{◌≡◌, ◌<◌, ◌++◌, ◌∷◌, [], ◌∙◌, sym, subst, length}
+use Rattle.std.proofs.lemmas.List.{get_or_default}
+use Rattle.pending_events.specs.Inside.Lanes.{event_at, no_event, AreWithin}
+use Rattle.pending_events.proofs.Falling.{all_parts, popped}
 use Rattle.pending_events.proofs.buckets.Due.pop.Goals as goal
 
 pub returns-clause-taken : goal.returns-clause-taken
@@ -12,6 +12,5 @@ returns-clause-taken c =
     let order = c.pop.new.self.items in
     let is : due.order.items ≡ order ++ place ∷ [] = c.in_ok-place.ensures.items in
     let inside : place < length es = (all_parts (λ p. p < length es) order (place ∷ []) (subst (AreWithin (length es)) is c.requires.placed)).1.0 in
-    let event : event_at es place ≡ c.take.result = sym (c.take.ensures ∙ (c.index_mut.ensures.value ∙ get_or_default es place c.index_mut.result.now no_event inside)) in
-    let stay = others_stay es place c.take.new.self order (subst (λ ps. FallsStrictly (events_at es ps)) is c.requires.falls) in
-    ap (events_at es) is ∙ (map-append (event_at es) order (place ∷ []) ∙ (λ i. sym stay i ++ event i ∷ []))
+    let event : event_at es place ≡ c.take_parts.result = sym (c.take_parts.ensures ∙ (c.index_mut.ensures.value ∙ get_or_default es place c.index_mut.result.now no_event inside)) in
+    popped es place c.take_parts.new.self c.take_parts.result due.order.items order is event c.requires.falls

@@ -24,7 +24,7 @@ kept s p now x before after is some was =
 pub returns-clause-own : goal.returns-clause-own
 returns-clause-own g c =
     let mind = g.M.Process.mind in
-    let key = c.into_parts-key.result in
+    let key = c.args.event in
     let was = c.requires.seated.1 in
     on_ok_of c.perform.result
     (kept c.args.streams.now (own_of mind c.args.self.now) key.0.tick key.1 (mind c.args.self.now.machine) (mind c.on_input.new.self) c.in_ok-on_input.ensures.mind (omega (arith, was.low, was.high)) was.is_mind).1
@@ -34,7 +34,7 @@ returns-clause-seated g c =
     let mind = g.M.Process.mind in
     let s = c.args.streams.now in
     let seat = c.args.self.now in
-    let key = c.into_parts-key.result in
+    let key = c.args.event in
     let was = c.requires.seated.1 in
     let p = own_of mind seat in
     let after : Mind = mind c.on_input.new.self in
@@ -57,18 +57,16 @@ returns-clause-entry g c =
     let S = setting_of s in
     let seat = c.args.self.now in
     let before = process_of g.M.Process.mind seat in
-    let is : c.into_parts-key.result ≡ c.args.event = c.into_parts-key.ensures in
-    let key = c.into_parts-key.result.0 in
-    let x = c.into_parts-key.result.1 in
+    let key = c.args.event.0 in
+    let x = c.args.event.1 in
     let answer = S.react before.mind key.tick x in
-    let crash_is : seat.crash ≡ crash s key.receiver = c.requires.seated.1.crash ∙ ap (crash s) (sym (ap (λ (e : Event). e.0.receiver) is ∙ c.requires.own)) in
+    let crash_is : seat.crash ≡ crash s key.receiver = c.requires.seated.1.crash ∙ ap (crash s) (sym c.requires.own) in
     let up : has_crashed (crash s key.receiver) key.tick ≡ false = ap (λ k. has_crashed k key.tick) (sym crash_is) ∙ (sym c.is_down.ensures ∙ c.if-is_down.false) in
     let does : c.on_input.new.out.items ≡ answer.actions = c.in_ok-on_input.ensures.actions ∙ ap (λ xs. xs ++ answer.actions) c.clear.ensures.items in
-    subst (λ (z : Event). IfOk c.perform.result (λ e. e ≡ (step S before z.0 z.1).entry)) is
-    (IfOk-weaker c.perform.result _ _ (λ e h. h ∙ ((λ i. record {
+    IfOk-weaker c.perform.result _ _ (λ e h. h ∙ ((λ i. record {
       key = key;
       kind = c.kind_of-kind.ensures i;
       sent = sent (does i);
       lost = lost S key.receiver key.tick before.counts (does i);
       notes = noted (does i);
-    }) ∙ sym (ap (λ b. (cond b (record { process = before; entry = dead key; added = [] }) (made_by S before key x answer)).entry) up))) c.perform.ensures.entry)
+    }) ∙ sym (ap (λ b. (cond b (record { process = before; entry = dead key; added = [] }) (made_by S before key x answer)).entry) up))) c.perform.ensures.entry
