@@ -114,10 +114,12 @@ impl<M: Process> EventList<M> {
             → HaveJoined L.heard listener.old listener.new
             (posted_in (setting_of streams.now) before event.0 event.1)) }
     {
-        let place = usize::from(event.0.receiver.number()) - 1;
+        let (key, input) = event;
+        let place = usize::from(key.receiver.number()) - 1;
         let seat = &mut self.seats[place];
         let pending = &mut self.pending;
-        let entry = seat.turn(streams, event, &mut self.actions, pending, listener)?;
+        let actions = &mut self.actions;
+        let entry = seat.turn(streams, (key, input), actions, pending, listener)?;
         Ok(entry)
     }
 }

@@ -103,7 +103,8 @@ impl<M: Process> Berth<M> {
         ensures letters { OnOk result (ArePosted event.0.receiver
             (made_in M.mind streams.now self.old.seat event.0 event.1).added slip.old slip.new) }
     {
-        let own = event.0.receiver;
+        let (key, input) = event;
+        let own = key.receiver;
         let pending = &mut self.pending;
         let mut outbox = Outbox {
             rt,
@@ -114,7 +115,7 @@ impl<M: Process> Berth<M> {
         };
         let seat = &mut self.seat;
         let actions = &mut self.actions;
-        let entry = seat.turn(streams, event, actions, &mut outbox, &mut Nobody)?;
+        let entry = seat.turn(streams, (key, input), actions, &mut outbox, &mut Nobody)?;
         self.part.push(entry)?;
         Ok(())
     }

@@ -18,7 +18,7 @@ turn-requires-clause-own g c κs within =
     let xs = c.args.self.now.seats.items in
     let i = c.from-place.result - 1 in
     let old = c.index_mut-seat.result.now in
-    let at : i ≡ c.args.event.0.receiver - 1 = ap (λ n. n - 1) (c.from-place.ensures ∙ (c.number.ensures.value ∙ ap (λ k. k.receiver) c.key.ensures)) in
+    let at : i ≡ c.args.event.0.receiver - 1 = ap (λ n. n - 1) (c.from-place.ensures ∙ c.number.ensures.value) in
     let inside : i < length xs = omega (arith, at, c.requires.receiver.0, c.requires.receiver.1, c.requires.count, c.args.self.now.seats.ok.0) in
     sym (c.requires.own (f old) (ap (slice_get (map f xs)) (sym at) ∙ image_at f xs i old inside c.index_mut-seat.ensures.value))
 
@@ -34,7 +34,7 @@ returns g c =
     let old = c.index_mut-seat.result.now in
     let new = c.turn.new.self in
     let done = c.in_ok-entry.ensures in
-    let at : i ≡ key.receiver - 1 = ap (λ n. n - 1) (c.from-place.ensures ∙ (c.number.ensures.value ∙ ap (λ k. k.receiver) c.key.ensures)) in
+    let at : i ≡ key.receiver - 1 = ap (λ n. n - 1) (c.from-place.ensures ∙ c.number.ensures.value) in
     let inside : i < length xs = omega (arith, at, c.requires.receiver.0, c.requires.receiver.1, c.requires.count, c.args.self.now.seats.ok.0) in
     let there : old ≡ get_or xs i old = c.index_mut-seat.ensures.value in
     let same : (before : Process Mind) → slice_get (map f xs) (key.receiver - 1) ≡ Some before → f old ≡ before =
