@@ -72,8 +72,10 @@ fn with_argument<'a>(command: Made<'a>, argument: Arg<'a>) -> Made<'a>
     requires local { argument.global ≡ false }
     ensures { (app : App) → Makes app command.entry → Makes (with_rule app (rule_of argument.entry)) result }
 {
-    let command = command?;
-    command.arg(argument)
+    match command {
+        Ok(command) => command.arg(argument),
+        Err(refused) => Err(refused),
+    }
 }
 
 /// A command with one subcommand more.
@@ -81,9 +83,13 @@ fn with_command<'a>(command: Made<'a>, added: Made<'a>) -> Made<'a>
     requires local { IfOk command IsLocal × IfOk added IsLocal }
     ensures { IfOk result (Adds command.entry added.entry) }
 {
-    let command = command?;
-    let added = added?;
-    command.subcommand(added)
+    match command {
+        Ok(command) => match added {
+            Ok(added) => command.subcommand(added),
+            Err(refused) => Err(refused),
+        },
+        Err(refused) => Err(refused),
+    }
 }
 
 /// The scenario file.

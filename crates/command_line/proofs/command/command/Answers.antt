@@ -1,8 +1,10 @@
-use Rattle.std.proofs.Common.{◌≡◌, ◌∙◌, Ok, codes, rules}
+use Rattle.std.proofs.Common.{◌≡◌, ◌∙◌, IfOk, Ok, Result, codes, rules}
 use Rattle.std.proofs.lemmas.Result.{IfOk-at_ok, IfOk-weaker}
 use Rattle.clap.specs.Words.{App, app_of, new_app, with_subcommand}
+use Rattle.clap.specs.declared.builder.command.Command.{Command}
 use Rattle.clap.specs.declared.builder.value_parser.ValueParser.{ValueParser}
-use Rattle.command_line.specs.Commands.{Adds, IsLocal, IsPrinting, check_app, compare_app, list_app, run_app, whole_app}
+use Rattle.command_line.specs.Commands.{Adds, IsCommand, IsLocal, IsPrinting, Makes, check_app}
+use Rattle.command_line.specs.Commands.{compare_app, list_app, run_app, whole_app}
 use Rattle.command_line.proofs.command.command.Goals as goal
 
 -- four commands are added to a bare one
@@ -11,22 +13,36 @@ whole : (list run : ValueParser) (base first second third fourth a b c d : App) 
     → d ≡ compare_app → fourth ≡ whole_app list run
 whole list run base first second third fourth a b c d is e is_a f is_b g is_c h is_d = rw (h, is_d, g, is_c, f, is_b, e, is_a, is)
 
-pub returns : goal.returns
-returns c =
-    let begun : app_of c.after_help-command.result ≡ new_app (codes "fdbench") = search rules in
-    IfOk-weaker c.with_command.result _ _
-    (λ m fourth.
-    let third = IfOk-at_ok (λ b. Adds c.with_command-listing.result c.run_command.result b) fourth.was c.with_command-running.ensures in
-    let second = IfOk-at_ok (λ b. Adds c.with_command-checking.result c.list_command.result b) third.was c.with_command-listing.ensures in
-    let first = IfOk-at_ok (λ b. Adds (Ok c.after_help-command.result) c.check_command.result b) second.was c.with_command-checking.ensures in
-    let check = IfOk-at_ok (λ a. (app_of a ≡ check_app) × IsLocal a) first.is c.check_command.ensures in
-    let list = IfOk-at_ok (IsPrinting list_app) second.is c.list_command.ensures in
-    let run = IfOk-at_ok (IsPrinting run_app) third.is c.run_command.ensures in
-    let compare = IfOk-at_ok (λ a. (app_of a ≡ compare_app) × IsLocal a) fourth.is c.compare_command.ensures in
-    let same : app_of first.before ≡ app_of c.after_help-command.result = search rules in
+-- a command with these four is the command line
+made : {E : Type 0} (bare last : Command) (check list run compare first second third : Result Command E)
+    → app_of bare ≡ new_app (codes "fdbench") → Makes check_app check → IfOk list (IsPrinting list_app)
+    → IfOk run (IsPrinting run_app) → Makes compare_app compare → IfOk first (Adds (Ok bare) check)
+    → IfOk second (Adds first list) → IfOk third (Adds second run) → Adds third compare last → IsCommand last
+made bare last check list run compare first second third begun makes_check prints_list prints_run makes_compare
+    adds_check adds_list adds_run d =
+    let c = IfOk-at_ok (Adds second run) d.was adds_run in
+    let b = IfOk-at_ok (Adds first list) c.was adds_list in
+    let a = IfOk-at_ok (Adds (Ok bare) check) b.was adds_check in
+    let is_check = IfOk-at_ok (λ m. (app_of m ≡ check_app) × IsLocal m) a.is makes_check in
+    let is_list = IfOk-at_ok (IsPrinting list_app) b.is prints_list in
+    let is_run = IfOk-at_ok (IsPrinting run_app) c.is prints_run in
+    let is_compare = IfOk-at_ok (λ m. (app_of m ≡ compare_app) × IsLocal m) d.is makes_compare in
+    let same : app_of a.before ≡ app_of bare = cc in
     record {
-      prints = record { list = list.prints; run = run.prints; takes_list = list.takes; takes_run = run.takes };
-      app = whole _ _ _ _ _ _ _ _ _ _ _ (same ∙ begun) first.app check.0 second.app list.app_is third.app run.app_is fourth.app compare.0;
-      local = fourth.local;
-    })
+      prints = record {
+        list = is_list.prints;
+        run = is_run.prints;
+        takes_list = is_list.takes;
+        takes_run = is_run.takes;
+      };
+      app = whole _ _ _ _ _ _ _ _ _ _ _ (same ∙ begun) a.app is_check.0 b.app is_list.app_is c.app is_run.app_is d.app
+          is_compare.0;
+      local = d.local;
+    }
+
+pub returns : goal.returns
+returns c = IfOk-weaker c.with_command.result _ _
+    (λ m. made c.after_help-command.result m _ _ _ _ _ _ _ (search rules) c.check_command.ensures c.list_command.ensures
+    c.run_command.ensures c.compare_command.ensures c.with_command-checking.ensures c.with_command-listing.ensures
+    c.with_command-running.ensures)
     c.with_command.ensures

@@ -1,8 +1,8 @@
-use Rattle.std.proofs.Common.{◌∙◌, sym, ap, map, rules, string_bytes, true, false}
+use Rattle.std.proofs.Common.{◌∙◌, ◌∷◌, sym, ap, map, subst, rules, string_bytes, true, false}
 use Rattle.std.specs.Map.Iter.{deref}
 use Rattle.std.specs.List.{Contains}
 use Rattle.std.proofs.lemmas.Map.Iter.{rest_more, rest_all}
-use Rattle.std.proofs.lemmas.List.Elements.{All-rest, All-same}
+use Rattle.std.proofs.lemmas.List.Elements.{All-head, All-rest, All-same}
 use Rattle.toml.specs.View.{table_view}
 use Rattle.scenario.specs.Table.{keys_of}
 use Rattle.scenario.specs.Parts.{fields_of}
@@ -33,3 +33,13 @@ pub returns-clause-test : goal.returns-clause-test
 returns-clause-test c =
     let left = rest_all deref c.loop-key.key-iterator c.next.new.self c.next.result c.in-None.is c.next.ensures.steps in
     sym (c.loop-key.invariant.test ∙ ap (any_unlisted (fields_of c.args.fields.now)) left)
+
+pub returns-then-not-is_listed_key-clause-there : goal.returns-then-not-is_listed_key-clause-there
+returns-then-not-is_listed_key-clause-there c =
+    let keys = keys_of (table_view c.args.table.now) in
+    let left = rest_more deref c.loop-key.key-iterator c.next.new.self c.next.result c.in-Some.key c.in-Some.is
+    c.next.ensures.steps in
+    let all = All-same (λ k. Contains keys (string_bytes k)) (c.in-Some.key.now ∷ c.next.new.self)
+    c.loop-key.key-iterator (sym left) c.loop-key.invariant.there in
+    subst (Contains keys) (sym c.as_str-then-not-is_listed_key.ensures.value)
+    (All-head (λ k. Contains keys (string_bytes k)) c.in-Some.key.now c.next.new.self all)
