@@ -11,9 +11,6 @@ pub const ENTRIES_A_SECOND: u64 = 5_000_000;
 /// The highest limit that a file can have.
 pub const HIGHEST_LIMIT: u64 = 100_000_000;
 
-/// From how many entries on a window is worth 4 workers, as runs took (docs/SPEED.md, 'By windows').
-pub const ENTRIES_THAT_PAY: u64 = 14_000;
-
 /// About how much a run will be. No proof says how near this comes, and no run rests on it.
 #[derive(Clone, Copy)]
 pub struct Estimate {

@@ -21,6 +21,6 @@ mod text;
 mod told;
 
 pub use answer::{Accepted, Diagnosis, Refused, diagnose, diagnose_table};
-pub use estimate::{ENTRIES_A_SECOND, ENTRIES_THAT_PAY, Estimate, HIGHEST_LIMIT, estimate_of};
+pub use estimate::{ENTRIES_A_SECOND, Estimate, HIGHEST_LIMIT, estimate_of};
 pub use keys::edits_between;
 pub use told::{NotToml, Told};

@@ -2,7 +2,6 @@
 use Rattle.std.specs.Prelude.{◌≡◌, ℕ, if◌then◌else◌, nat_lt, List, [], length, ◌++◌, codes, decimal, Option}
 use Rattle.diagnosis.specs.Diagnosis.{entries_in, longest_window}
 use Rattle.diagnosis.specs.declared.answer.Accepted.{Accepted}
-use Rattle.diagnosis.specs.declared.estimate.TheConstants.{ENTRIES_THAT_PAY}
 use Rattle.toml.specs.Data.{Members}
 use Rattle.study.specs.Grid.{GridRecord, runs}
 use Rattle.study.specs.Shard.{ShardRecord}
@@ -20,16 +19,11 @@ abbrev pub limit_text : (limit entries : ℕ) → List ℕ
 limit_text limit entries =
     if nat_lt limit entries then codes "limit " ++ (decimal limit ++ codes " may stop the run\n") else []
 
--- whether a window of about so many entries is worth 4 workers
-abbrev pub way_text : (entries : ℕ) → List ℕ
-way_text entries =
-    if nat_lt entries ENTRIES_THAT_PAY then codes "list is likely faster" else codes "run by 4 workers may be faster"
-
--- how long windows may be, about how many entries they then have, and what follows
+-- how long windows may be, about how many entries they then have, and which way is faster
 abbrev pub window_text : (ticks entries : ℕ) → List ℕ
 window_text ticks entries =
     codes "windows of " ++ (decimal ticks ++ (codes " ticks have about " ++ (decimal entries
-    ++ (codes " entries: " ++ (way_text entries ++ codes "\n")))))
+    ++ codes " entries: list is likely faster\n")))
 
 -- an accepted file's line, and what is told behind it
 abbrev pub told_size : (processes horizon entries seconds : ℕ) → List ℕ → List ℕ

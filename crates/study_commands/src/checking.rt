@@ -1,13 +1,13 @@
 //! The command `check`: what a scenario file has, or where it breaks a rule and why.
 ghost use Rattle.std.specs.Prelude.{◌≡◌, ◌≢◌, ◌+◌, IfOk, IfErr, string_bytes};
-ghost use Rattle.study_commands.specs.Check.{IsCheckAnswer, accepted_line, limit_text, way_text, window_text};
+ghost use Rattle.study_commands.specs.Check.{IsCheckAnswer, accepted_line, limit_text, window_text};
 ghost use Rattle.study_commands.specs.Fault.{IsBefore};
 ghost use Rattle.study_commands.specs.Why.{StopsCheck};
 ghost use Rattle.sources.specs.Input.{TakesAtMost, input_path, most_bytes};
 
 use crate::fault::Fault;
 use crate::file::{bytes_of, fault_of};
-use diagnosis::{Accepted, Diagnosis, ENTRIES_THAT_PAY, diagnose};
+use diagnosis::{Accepted, Diagnosis, diagnose};
 use std::alloc::{AllocError, Global};
 use std::io::Read;
 use std::rt::Files;
@@ -23,23 +23,14 @@ fn limit_line(alloc: Global, limit: u64, entries: u64) -> Result<String, AllocEr
     }
 }
 
-/// Which way to run a scenario is faster, where a window has about so many entries.
-fn faster_way(entries: u64) -> &'static str
-    ensures { result.now ≡ way_text entries }
-{
-    if entries < ENTRIES_THAT_PAY {
-        "list is likely faster"
-    } else {
-        "run by 4 workers may be faster"
-    }
-}
-
-/// How long the windows of a run may be, about how much they then are, and whether they pay.
+/// How long the windows of a run may be, about how much they then are, and which way is faster: no run by windows that
+/// was measured was faster than the list (docs/SPEED.md, 'By windows').
 fn window_line(alloc: Global, ticks: u32, entries: u64) -> Result<String, AllocError>
     ensures { IfOk result (λ s. string_bytes s ≡ window_text ticks entries) }
 {
-    let way = faster_way(entries);
-    format!(in alloc; "windows of {ticks} ticks have about {entries} entries: {way}\n")
+    format!(in alloc;
+        "windows of {ticks} ticks have about {entries} entries: list is likely faster\n"
+    )
 }
 
 /// The lines of an accepted file.
