@@ -1,5 +1,5 @@
 //! One stream of random words for each link.
-ghost use Rattle.std.specs.Prelude.{◌≡◌, ◌≢◌, ◌<◌, ◌≤◌, ◌^◌, ◌+◌, true};
+ghost use Rattle.std.specs.Prelude.{◌≡◌, ◌≢◌, ◌<◌, ◌≤◌, ◌^◌, ◌+◌};
 ghost use Rattle.scenario_record.specs.Record.{Record};
 ghost use Rattle.std.specs.List.{list_any};
 ghost use Rattle.streams.specs.Fate.{covers, fate_of, key_of_seed, stream_of, word};
@@ -133,34 +133,8 @@ impl LinkWords {
         }
     }
 
-    /// Whether its next words are those of a seed, and of a stream from a place on.
-    #[inline(always)]
-    fn stands_at(&self, seed: u64, stream: u64, place: u128) -> bool
-        ensures { result ≡ true → self.now ≡ (seed, record { key = key_of_seed seed; stream = stream; word_pos = place }) }
-    {
-        self.seed == seed
-            && self.generator.get_stream() == stream
-            && self.generator.get_word_pos() == place
-    }
-
-    /// Goes there. It stands apart, so that words that come in their turn are found with few instructions.
-    #[inline(never)]
-    fn go_to(&mut self, seed: u64, stream: u64, place: u128)
-        requires { place < 2 ^ 66 }
-        ensures { self.new ≡ (seed, record { key = key_of_seed seed; stream = stream; word_pos = place }) }
-    {
-        if self.seed != seed {
-            *self = LinkWords {
-                seed,
-                generator: generator_of(seed),
-            };
-        }
-        self.generator.set_stream(stream);
-        self.generator.set_word_pos(place);
-    }
-
-    /// The two words at a place of a link's stream, and after it. It stands apart, so that a sure link's fate is found
-    /// with no call.
+    /// The two words at a place of a link's stream, and after it. Where the generator stands there already, its next
+    /// words are these. It stands apart, so that a sure link's fate is found with no call.
     #[inline(never)]
     #[tactic(auto, unfolding(crate::specs::Fate::word))]
     pub fn pair_at(&mut self, seed: u64, from: Pid, to: Pid, place: u128) -> (u32, u32)
@@ -169,8 +143,17 @@ impl LinkWords {
         ensures second { result.1 ≡ word seed from to (place + 1) }
     {
         let stream = stream_between(from, to);
-        if !self.stands_at(seed, stream, place) {
-            self.go_to(seed, stream, place);
+        if self.seed != seed {
+            *self = LinkWords {
+                seed,
+                generator: generator_of(seed),
+            };
+        }
+        if self.generator.get_stream() != stream {
+            self.generator.set_stream(stream);
+        }
+        if self.generator.get_word_pos() != place {
+            self.generator.set_word_pos(place);
         }
         let first = self.generator.next_word();
         let second = self.generator.next_word();
