@@ -36,8 +36,6 @@ mod reduction_tests;
 #[cfg(test)]
 mod scenario_tests;
 #[cfg(test)]
-mod source_tests;
-#[cfg(test)]
 mod stack_tests;
 #[cfg(test)]
 mod suspects_three;

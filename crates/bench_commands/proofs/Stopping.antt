@@ -5,8 +5,8 @@ use Rattle.trace_laws.proofs.Closed.{has_trace, one_trace}
 use Rattle.trace_laws.specs.ScenarioSetting.{setting_of}
 use Rattle.trace_laws.specs.Setting.{IsSound}
 use Rattle.trace_laws.specs.World.{IsTrace}
-use Rattle.run_error.specs.declared.error.RunError.{RunError}
-use Rattle.run_error.specs.declared.error.RunError.TheVariants as run
+use Rattle.process_api.specs.declared.run_error.RunError.{RunError}
+use Rattle.process_api.specs.declared.run_error.RunError.TheVariants as run
 use Rattle.command_line.specs.Order.{States}
 use Rattle.command_line.specs.declared.order.Order.{Order}
 use Rattle.command_line.specs.declared.order.Order.TheVariants as order
@@ -22,7 +22,7 @@ use Rattle.bench_commands.specs.declared.bench.Mode.{Mode}
 use Rattle.bench_commands.specs.declared.bench.Mode.TheVariants as mode
 use Rattle.bench_commands.specs.declared.fault.Fault.{Fault}
 use Rattle.bench_commands.specs.declared.fault.Fault.TheVariants.{Different, Plan, Run}
-use Rattle.print_choice.specs.declared.PrintChoice.{PrintChoice}
+use Rattle.process_api.specs.declared.print_choice.PrintChoice.{PrintChoice}
 use Rattle.reporting.specs.Printed.{Finishes, WroteRows, printed, prints_trace}
 use Rattle.reporting.specs.TraceText.{trace_text}
 use Rattle.reporting.specs.declared.summary.Summary.{Summary}

@@ -9,7 +9,7 @@ use Rattle.bench_commands.specs.Scenario.{IsScenarioAt}
 use Rattle.bench_commands.specs.declared.bench.Mode.{Mode}
 use Rattle.bench_commands.specs.declared.bench.Mode.TheVariants as mode
 use Rattle.bench_commands.specs.declared.fault.Fault.{Fault}
-use Rattle.print_choice.specs.declared.PrintChoice.{PrintChoice}
+use Rattle.process_api.specs.declared.print_choice.PrintChoice.{PrintChoice}
 use Rattle.process_api.specs.EntryRecord.{EntryRecord}
 use Rattle.reporting.specs.Printed.{IsTraceWithin, printed, prints_trace}
 use Rattle.reporting.specs.TraceText.{trace_text}

@@ -1,6 +1,6 @@
 -- What is compared.
 use Rattle.std.specs.Prelude.{◌≡◌, ℕ, List}
-use Rattle.print_choice.specs.declared.PrintChoice.TheVariants.{Both}
+use Rattle.process_api.specs.declared.print_choice.PrintChoice.TheVariants.{Both}
 use Rattle.process_api.specs.EntryRecord.{EntryRecord}
 use Rattle.reporting.specs.Printed.{IsTraceWithin, printed}
 use Rattle.scenario_record.specs.Record.{Record}

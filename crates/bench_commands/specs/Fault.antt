@@ -1,7 +1,7 @@
 -- The exit status of a fault, its line, what it leaves of what was to be written, and which fault of a plan comes.
 use Rattle.std.specs.Prelude.{ℕ, List, [], ◌++◌, codes, decimal, string_bytes}
-use Rattle.run_error.specs.declared.error.RunError.{RunError}
-use Rattle.run_error.specs.declared.error.RunError.TheVariants as run
+use Rattle.process_api.specs.declared.run_error.RunError.{RunError}
+use Rattle.process_api.specs.declared.run_error.RunError.TheVariants as run
 use Rattle.bench_commands.specs.declared.fault.Fault.{Fault}
 use Rattle.bench_commands.specs.declared.fault.Fault.TheVariants.{Different, Form, Plan, Run, Scenario, TooLong, Unreadable, Words, WordsMemory}
 use Rattle.scenario.specs.Names.{name_of}

@@ -1,9 +1,9 @@
 -- How a run takes its events.
 use Rattle.std.specs.Prelude.{ℕ, List, Option}
-use Rattle.run_error.specs.declared.error.RunError.{RunError}
+use Rattle.process_api.specs.declared.run_error.RunError.{RunError}
 use Rattle.bench_commands.specs.declared.bench.Mode.{Mode}
 use Rattle.bench_commands.specs.declared.bench.Mode.TheVariants as mode
-use Rattle.print_choice.specs.declared.PrintChoice.{PrintChoice}
+use Rattle.process_api.specs.declared.print_choice.PrintChoice.{PrintChoice}
 use Rattle.reporting.specs.Printed.{BreaksOff, Refuses}
 use Rattle.scenario_record.specs.Record.{Record}
 use Rattle.windows.specs.Plan.{IsPlanFor}

@@ -5,7 +5,7 @@ use Rattle.trace_laws.specs.World.{IsTrace}
 use Rattle.process_api.specs.EntryRecord.{EntryRecord}
 use Rattle.scenario.specs.Refusals.{Accepts}
 use Rattle.scenario_record.specs.Record.{Record}
-use Rattle.sources.specs.Input.{input_path, most_bytes}
+use Rattle.shell.specs.Input.{input_path, most_bytes}
 
 -- the scenario is that of the file's bytes, which are not too many. Of a path other than `-` they aren't known
 pub record IsScenarioAt (input : Option (List ℕ)) (path : List ℕ) (s : Record) : Type 0 where

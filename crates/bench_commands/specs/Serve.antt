@@ -6,7 +6,7 @@ use Rattle.command_line.specs.declared.order.Order.{Order}
 use Rattle.command_line.specs.declared.order.WordsError.{WordsError}
 use Rattle.command_line.specs.declared.told.Told.{Told}
 use Rattle.command_line.specs.declared.told.Told.TheVariants as told
-use Rattle.run_error.specs.declared.error.RunError.TheVariants.{Write}
+use Rattle.process_api.specs.declared.run_error.RunError.TheVariants.{Write}
 use Rattle.bench_commands.specs.Answer.{Answers, AsksRun, Leaves, Writes, path_of}
 use Rattle.bench_commands.specs.Fault.{end_of, line_of, status_of}
 use Rattle.bench_commands.specs.Scenario.{IsScenarioAt}
@@ -15,7 +15,7 @@ use Rattle.bench_commands.specs.declared.fault.Fault.{Fault}
 use Rattle.bench_commands.specs.declared.fault.Fault.TheVariants.{Form, Run, Words, WordsMemory}
 use Rattle.scenario_record.specs.Record.{Record}
 use Rattle.shell.specs.Ending.{Goes, IsWhy as Why}
-use Rattle.sources.specs.Input.{input_path}
+use Rattle.shell.specs.Input.{input_path}
 
 -- the piece is what the words ask for; of help its text isn't said
 abbrev pub Serves : Option (List ℕ) → List (List ℕ) → List ℕ → Type 0

@@ -37,7 +37,7 @@ impl Failure for Fault {
     ghost use Rattle.bench_commands.specs.Fault.{end_of, line_of, status_of};
     ghost use Rattle.bench_commands.specs.Inside.Statuses.{has_status};
     ghost use Rattle.bench_commands.specs.declared.fault.Fault.TheVariants.{Run};
-    ghost use Rattle.run_error.specs.declared.error.RunError.TheVariants.{Write};
+    ghost use Rattle.process_api.specs.declared.run_error.RunError.TheVariants.{Write};
     ghost use Rattle.std.specs.Prelude.{refl};
 
     ghost status = { status_of };

@@ -2,11 +2,11 @@
 ghost use Rattle.std.specs.Prelude.{◌≡◌, ◌≢◌, ◌+◌, IfOk, IfErr};
 ghost use Rattle.bench_commands.specs.Scenario.{IsScenarioAt};
 ghost use Rattle.bench_commands.specs.Why.{StopsBefore};
-ghost use Rattle.sources.specs.Input.{TakesAtMost, input_path, most_bytes};
+ghost use Rattle.shell.specs.Input.{TakesAtMost, input_path, most_bytes};
 
 use crate::fault::Fault;
 use scenario::{Scenario, ScenarioError, read_scenario};
-use sources::{InputError, bytes_at};
+use shell::{InputError, bytes_at};
 use std::alloc::{AllocError, Global};
 use std::io::Read;
 use std::rt::Files;

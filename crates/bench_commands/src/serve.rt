@@ -8,7 +8,7 @@ ghost use Rattle.bench_commands.specs.Serve.{GoesForWords, IsAsked, IsReason, Is
 ghost use Rattle.bench_commands.specs.Serve.{LeftOf, NamesNoInput, Serves, ServesFor, TellsOf};
 ghost use Rattle.bench_commands.specs.Why.{StopsFor};
 ghost use Rattle.shell.specs.Ending.{MayHaveGone, Puts, Tells, Went, WentPart};
-ghost use Rattle.sources.specs.Input.{TakesAtMost, input_path, most_bytes};
+ghost use Rattle.shell.specs.Input.{TakesAtMost, input_path, most_bytes};
 
 use crate::commands::answer;
 use crate::fault::Fault;

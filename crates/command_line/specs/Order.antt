@@ -11,8 +11,8 @@ use Rattle.command_line.specs.declared.order.Order.{Order}
 use Rattle.command_line.specs.declared.order.Order.TheVariants as order
 use Rattle.command_line.specs.declared.order.WordsError.{WordsError}
 use Rattle.command_line.specs.declared.order.WordsError.TheVariants as refusal
-use Rattle.print_choice.specs.declared.PrintChoice.{PrintChoice}
-use Rattle.print_choice.specs.declared.PrintChoice.TheVariants as choice
+use Rattle.process_api.specs.declared.print_choice.PrintChoice.{PrintChoice}
+use Rattle.process_api.specs.declared.print_choice.PrintChoice.TheVariants as choice
 
 abbrev pub StatesCheck : List Row → Order → Type 0
 StatesCheck rows (order.Check path) = first_of (codes "path") rows ≡ Some path.now

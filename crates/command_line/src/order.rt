@@ -7,7 +7,7 @@ ghost use Rattle.command_line.specs.Order.{IsNumberAt, States, StatesCheck, Stat
 use crate::command::command;
 use clap::ArgMatches;
 use clap::error::ErrorKind;
-use print_choice::PrintChoice;
+use process_api::PrintChoice;
 use std::alloc::Global;
 
 /// What a command line asks for. The path `-` is standard input.

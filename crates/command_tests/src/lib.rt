@@ -11,6 +11,8 @@ mod agreement;
 #[cfg(test)]
 mod files;
 #[cfg(test)]
+mod inputs;
+#[cfg(test)]
 mod judged;
 #[cfg(test)]
 mod outlets;

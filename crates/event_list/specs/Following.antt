@@ -3,8 +3,8 @@ use Rattle.std.specs.Prelude.{◌≡◌, ◌⊎◌, ℕ, ◌≤◌, ◌<◌, Lis
 use Rattle.process_api.specs.EntryRecord.{EntryRecord}
 use Rattle.process_api.specs.Mind.{Mind}
 use Rattle.process_api.specs.Order.{is_rising}
-use Rattle.run_error.specs.declared.error.RunError.{RunError}
-use Rattle.run_error.specs.declared.error.RunError.TheVariants.{Limit, Memory}
+use Rattle.process_api.specs.declared.run_error.RunError.{RunError}
+use Rattle.process_api.specs.declared.run_error.RunError.TheVariants.{Limit, Memory}
 use Rattle.trace_laws.specs.Setting.{Setting}
 use Rattle.trace_laws.specs.World.{IsTrace}
 use Rattle.trace_laws.specs.Effects.{HasCauses, TakesOnce}

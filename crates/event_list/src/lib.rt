@@ -29,5 +29,5 @@ mod list;
 pub use laws::law_only_history;
 pub use list::{run_list, run_list_into};
 pub use pending_events::Pending;
-pub use run_error::RunError;
+pub use process_api::RunError;
 pub use steps::{Event, Joins, Listener, Nobody, Seat, kind_of_letter};

@@ -15,10 +15,8 @@ ghost use Rattle.event_list.specs.Inside.Standing.{Stands, IsStepped};
 ghost use Rattle.trace_laws.specs.Step.{Process, step};
 ghost use Rattle.trace_laws.specs.World.{starts, opened, IsTrace};
 
-use followers::Follower;
 use pending_events::Pending;
-use process_api::{Action, Entry, Key, Pid, Process, StepInput, Trace};
-use run_error::RunError;
+use process_api::{Action, Entry, Follower, Key, Pid, Process, RunError, StepInput, Trace};
 use scenario_record::Scenario;
 use std::alloc::{AllocError, Global};
 use steps::{Event, Listener, Nobody, Seat};

@@ -6,8 +6,7 @@ ghost use Rattle.judges.specs.Agreement.{Agree, DecidesOnce, IsCoordinated};
 ghost use Rattle.judges.specs.Outcomes.{outcome, outcomes};
 ghost use Rattle.judges.specs.Inside.Noting.{all_noted, noted};
 
-use followers::{Follower, follow_all};
-use process_api::{Entry, Note, Pid, Trace};
+use process_api::{Entry, Follower, Note, Pid, Trace, follow_all};
 use scenario_record::Scenario;
 use std::alloc::{AllocError, Global};
 

@@ -5,8 +5,7 @@ use crate::grid::grid_verdicts;
 use crate::pairs::Pairs;
 use crate::track::Track;
 use crate::verdicts::Verdicts;
-use followers::Follower;
-use process_api::Entry;
+use process_api::{Entry, Follower};
 use scenario_record::Scenario;
 use std::alloc::{AllocError, Global};
 

@@ -4,8 +4,7 @@ ghost use Rattle.judges.specs.Verdicts.{verdicts};
 ghost use Rattle.judges.specs.Meaning.{AreVerdicts};
 
 use crate::running::RunningJudge;
-use followers::follow_all;
-use process_api::Trace;
+use process_api::{Trace, follow_all};
 use scenario_record::Scenario;
 use std::alloc::{AllocError, Global};
 

@@ -1,8 +1,8 @@
 -- The text of letters: a line that names the columns, and a row for each letter.
 use Rattle.std.specs.Prelude.{ℕ, Option, None, Some, List, [], ◌∷◌, ◌++◌, codes, decimal}
 use Rattle.std.specs.List.{flat_map}
-use Rattle.rows.specs.Kinds.{kind_text}
-use Rattle.rows.specs.Rows.{row_of}
+use Rattle.reporting.specs.Kinds.{kind_text}
+use Rattle.reporting.specs.Rows.{row_of}
 use Rattle.letters.specs.declared.letter.Letter.{Letter}
 use Rattle.letters.specs.declared.letter.LetterFate.{LetterFate}
 use Rattle.letters.specs.declared.letter.LetterFate.TheVariants as fate

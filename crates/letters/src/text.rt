@@ -1,11 +1,11 @@
 //! The text of letters.
 ghost use Rattle.std.specs.Prelude.{◌≡◌, ◌++◌, IfOk, OnOk};
 ghost use Rattle.letters.specs.LettersText.{fate_text, number_text, fields_of, letters_text as text_for};
-ghost use Rattle.rows.specs.Rows.{IsBetweenRows, row_of, text_of};
+ghost use Rattle.reporting.specs.Rows.{IsBetweenRows, row_of, text_of};
 
 use crate::letter::{Letter, LetterFate};
 use itoa::Buffer;
-use rows::{Rows, name_of_kind};
+use reporting::{Rows, name_of_kind};
 use std::alloc::{AllocError, Global};
 
 /// The first line of the text of letters.

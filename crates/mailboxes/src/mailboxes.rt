@@ -2,15 +2,14 @@
 ghost use Rattle.std.specs.Prelude.{◌≡◌, ◌≤◌, ◌+◌, ℕ, [], true, length, map, IfOk, IfErr, OnOk, OnErr, vec_len};
 ghost use Rattle.std.specs.List.{All};
 ghost use Rattle.std.specs.List.Sorted.{IsPermutation};
-ghost use Rattle.run_error.specs.declared.error.RunError.TheVariants.{Memory};
+ghost use Rattle.process_api.specs.declared.run_error.RunError.TheVariants.{Memory};
 ghost use Rattle.mailboxes.specs.Mailboxes.{IsSlipOf, unused, with_letter, posted_to, list_of, letters_in, mailboxes_of};
 
 use crate::emptying::{empty_by, empty_in_turn};
 use crate::mailbox::Home;
 use crate::shared::SharedMailboxes;
 use crate::slip::Slip;
-use process_api::Letter;
-use run_error::RunError;
+use process_api::{Letter, RunError};
 use std::alloc::{AllocError, Global};
 use std::marker::Model;
 use std::sync::Wait;

@@ -18,3 +18,4 @@ pub mod TimeoutLaws
 pub mod Sending
 pub mod Waits
 pub mod Dropping
+pub mod Where

@@ -1,6 +1,7 @@
 pub mod Bounds
 pub mod Order
 pub mod EntryRecord
+pub mod Following
 pub mod Numbers
 pub mod Sets
 pub mod InOrder

@@ -11,12 +11,19 @@
 //! algorithm (`ConsensusS`, `Coordinator` with `Diffusion`). The crates that implement a part meet [`Detector`] or
 //! [`Algorithm`]. What stands above a base detector rests on its laws (`BaseDetector`), whichever its kind:
 //! [`law_base_detectors`] says that each kind has them.
+//!
+//! Beside the machines stands what whoever asks for a run shares with whoever makes it: which texts are written
+//! ([`PrintChoice`]), why there is no trace ([`RunError`]), and who is told the entries as they come ([`Follower`]). A
+//! follower says what it holds after the entries that it was told, by a relation between the state that it began in and
+//! the one it is in; an option of one is a follower, a pair of two, and a vector of entries, which keeps them. What
+//! counts entries and what keeps them are told of one run by `&mut (counts, Vec::new(alloc))`.
 #![tactic(auto)]
 
 mod action;
 mod cells;
 mod consensus;
 mod entry;
+mod follower;
 mod key;
 mod laws;
 mod letters;
@@ -26,9 +33,11 @@ mod noting;
 mod numbers;
 mod parts;
 mod pid;
+mod print_choice;
 mod proc_set;
 mod process;
 mod row;
+mod run_error;
 mod trace;
 mod words;
 
@@ -36,6 +45,7 @@ pub use action::{Action, Note, note_that, send_to, send_to_all, send_to_others, 
 pub use cells::Cells;
 pub use consensus::{Estimate, Phase};
 pub use entry::{Entry, Kind};
+pub use follower::{Follower, follow_all};
 pub use key::Key;
 pub use laws::law_base_detectors;
 pub use letters::Letters;
@@ -45,7 +55,9 @@ pub use noting::note_changes;
 pub use numbers::{DetectorNumbers, FreshnessNumbers, TimeoutNumbers, Watch};
 pub use parts::{Algorithm, Detector};
 pub use pid::{MOST_PROCESSES, Pid};
+pub use print_choice::PrintChoice;
 pub use proc_set::{Members, ProcSet};
 pub use process::Process;
 pub use row::Row;
+pub use run_error::RunError;
 pub use trace::Trace;

@@ -4,13 +4,13 @@ use Rattle.std.specs.Prelude.{IsTrue}
 use Rattle.std.specs.Global.{Vec}
 use Rattle.trace_laws.specs.ScenarioSetting.{setting_of}
 use Rattle.trace_laws.specs.World.{IsTrace}
-use Rattle.run_error.specs.declared.error.RunError.{RunError}
-use Rattle.run_error.specs.declared.error.RunError.TheVariants.{Limit, Memory, Write}
+use Rattle.process_api.specs.declared.run_error.RunError.{RunError}
+use Rattle.process_api.specs.declared.run_error.RunError.TheVariants.{Limit, Memory, Write}
 use Rattle.process_api.specs.EntryRecord.{EntryRecord}
 use Rattle.scenario_record.specs.Record.{Record}
 use Rattle.windows.specs.Sink.{writes_of}
-use Rattle.print_choice.specs.declared.PrintChoice.{PrintChoice}
-use Rattle.print_choice.specs.declared.PrintChoice.TheVariants as choice
+use Rattle.process_api.specs.declared.print_choice.PrintChoice.{PrintChoice}
+use Rattle.process_api.specs.declared.print_choice.PrintChoice.TheVariants as choice
 use Rattle.reporting.specs.Printed.{BreaksOff, WroteRows, items_of, printed, prints_report, prints_trace}
 use Rattle.reporting.specs.ReportText.{report_text}
 use Rattle.reporting.specs.Running.{IsTextWhere}

@@ -1,7 +1,7 @@
 -- What a sink took, window by window.
 use Rattle.std.proofs.Common.{◌≡◌, ℕ, inl, inr, refl, sym, ap, ◌∙◌, subst, Bool, true, false, true≢false, Option, List, [], ◌∷◌, ◌++◌, append_assoc, append-nil, ◌≤◌, length, Result, Ok, Err, OnOk, OnErr}
 use Rattle.process_api.specs.EntryRecord.{EntryRecord}
-use Rattle.rows.specs.Rows.{row_of}
+use Rattle.reporting.specs.Rows.{row_of}
 use Rattle.qos_report.specs.Inside.Streaming.{AreUnderWay, WroteFront, WroteWhere, StreamedFront, StreamedTrace, TookFrontOfPart, TookPart}
 use Rattle.reporting.specs.TraceText.{fields_of, rows_text}
 use Rattle.reporting.specs.Writing.{Wrote, WrotePart}
@@ -9,7 +9,7 @@ use Rattle.reporting.proofs.Written.{part_of_more, rows_both, rows_one, wrote_bo
 use Rattle.trace_laws.specs.ScenarioSetting.{setting_of}
 use Rattle.trace_laws.specs.Setting.{IsSound}
 use Rattle.trace_laws.specs.World.{IsTrace}
-use Rattle.run_error.specs.declared.error.RunError.{RunError}
+use Rattle.process_api.specs.declared.run_error.RunError.{RunError}
 use Rattle.trace_laws.proofs.Closed.{trace_rises}
 use Rattle.scenario_record.specs.Record.{Record}
 use Rattle.windows.specs.Sink.{TookAll, TookFront, TookTrace}

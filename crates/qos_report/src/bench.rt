@@ -7,8 +7,7 @@ ghost use Rattle.windows.specs.Plan.{IsPlanFor};
 
 use crate::streaming::{stream_windows, write_header};
 use event_list::RunError;
-use print_choice::PrintChoice;
-use process_api::Process;
+use process_api::{PrintChoice, Process};
 use reporting::{
     Outlet, Summary, close_running, open_running, prints_report, prints_trace, write_if_any,
 };

@@ -19,7 +19,7 @@ mod bench;
 mod streaming;
 
 pub use bench::bench_windows;
-pub use print_choice::PrintChoice;
+pub use process_api::PrintChoice;
 pub use reporting::{
     Detection, Durations, FuseOutlet, MemoryOutlet, Meter, Outlet, PairMeasures, RunDurations,
     RunFindings, StreamOutlet, Summary, bench_list, measure_list, measures, put_all, write_report,

@@ -11,8 +11,7 @@ ghost use Rattle.windows.specs.Plan.{IsPlanFor};
 ghost use Rattle.windows.specs.Sink.{IsRefusalOfSink, writes_of};
 
 use event_list::RunError;
-use followers::follow_all;
-use process_api::{Entry, Process};
+use process_api::{Entry, Process, follow_all};
 use reporting::{HEADER, Outlet, Running, append_entry, write_text};
 use scenario_record::Scenario;
 use std::alloc::Global;

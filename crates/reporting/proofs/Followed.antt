@@ -1,12 +1,12 @@
 -- Whoever follows a run, as it is put together: fed with nothing, and told of a trace.
 use Rattle.std.proofs.Common.{◌≡◌, Bool, true, false, sym, ap, ◌∙◌, is_some, Option, List, [], ◌++◌, append-nil}
-use Rattle.followers.specs.Following.{HasFollowedWhere}
-use Rattle.followers.proofs.Where.{same_where, then_where}
+use Rattle.process_api.specs.Following.{HasFollowedWhere}
+use Rattle.process_api.proofs.Where.{same_where, then_where}
 use Rattle.process_api.specs.EntryRecord.{EntryRecord}
 use Rattle.process_api.specs.Order.{is_rising}
 use Rattle.scenario_record.specs.Record.{Record}
 use Rattle.judges.specs.declared.outcomes.RunningOutcomes.{RunningOutcomes}
-use Rattle.print_choice.specs.declared.PrintChoice.{PrintChoice}
+use Rattle.process_api.specs.declared.print_choice.PrintChoice.{PrintChoice}
 use Rattle.reporting.specs.Printed.{prints_report, prints_trace}
 use Rattle.reporting.specs.Running.{AreLayers, IsLayer, IsMeasuring, IsRecording, IsRunning, IsSumming, LayerFollowed, LayersFollowed, Running, RunningFollowed, SummingFollowed}
 use Rattle.reporting.specs.TraceText.{rows_text, trace_header, trace_text}

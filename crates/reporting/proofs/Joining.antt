@@ -1,8 +1,8 @@
 -- Lemmas on joined texts.
 use Rattle.std.proofs.Common.{◌≡◌, ℕ, List, [], ◌∷◌, ◌++◌, length, refl, ap, sym, ◌∙◌, arith, append-nil, append_assoc, map, decimal}
 use Rattle.std.specs.List.{join_with_byte, flat_map}
-use Rattle.rows.specs.Kinds.{kind_text}
-use Rattle.rows.specs.Rows.{row_of, with_commas}
+use Rattle.reporting.specs.Kinds.{kind_text}
+use Rattle.reporting.specs.Rows.{row_of, with_commas}
 use Rattle.reporting.specs.TraceText.{notes_text, note_text, fields_of, first_fields_of}
 use Rattle.process_api.specs.EntryRecord.{EntryRecord}
 use Rattle.process_api.specs.declared.action.Note.{Note}

@@ -1,3 +1,4 @@
+pub mod PlainRows
 pub mod Passes
 pub mod EachProcess
 pub mod Closing

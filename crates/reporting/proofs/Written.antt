@@ -6,7 +6,7 @@ use Rattle.std.proofs.lemmas.List.{take-append-le, length-append}
 use Rattle.std.proofs.Math.Seq.{take-append-add}
 use Rattle.std.specs.Io.KnownBytes.{Appends}
 use Rattle.process_api.specs.EntryRecord.{EntryRecord}
-use Rattle.rows.specs.Rows.{row_of}
+use Rattle.reporting.specs.Rows.{row_of}
 use Rattle.reporting.specs.TraceText.{fields_of, rows_text}
 use Rattle.reporting.specs.Writing.{Wrote, WrotePart}
 

@@ -7,6 +7,8 @@ pub mod Panel
 pub mod Durations
 pub mod Outlet
 pub mod Writing
+pub mod Kinds
+pub mod Rows
 pub mod TraceText
 pub mod ReportText
 pub mod Summary

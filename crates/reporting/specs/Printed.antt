@@ -4,8 +4,8 @@ use Rattle.std.specs.Global.{Vec}
 use Rattle.trace_laws.specs.Effects.{HasCauses, TakesOnce}
 use Rattle.trace_laws.specs.ScenarioSetting.{setting_of}
 use Rattle.trace_laws.specs.World.{IsTrace}
-use Rattle.run_error.specs.declared.error.RunError.{RunError}
-use Rattle.run_error.specs.declared.error.RunError.TheVariants.{Limit, Memory, Write}
+use Rattle.process_api.specs.declared.run_error.RunError.{RunError}
+use Rattle.process_api.specs.declared.run_error.RunError.TheVariants.{Limit, Memory, Write}
 use Rattle.judges.specs.Agreement.{Agree, DecidesOnce}
 use Rattle.process_api.specs.EntryRecord.{EntryRecord}
 use Rattle.scenario_record.specs.Record.{Record}
@@ -14,8 +14,8 @@ use Rattle.reporting.specs.ReportText.{Text, report_text}
 use Rattle.reporting.specs.Summary.{IsSummary}
 use Rattle.reporting.specs.TraceText.{trace_text}
 use Rattle.reporting.specs.Writing.{Wrote, WrotePart, WroteNothing}
-use Rattle.print_choice.specs.declared.PrintChoice.{PrintChoice}
-use Rattle.print_choice.specs.declared.PrintChoice.TheVariants as choice
+use Rattle.process_api.specs.declared.print_choice.PrintChoice.{PrintChoice}
+use Rattle.process_api.specs.declared.print_choice.PrintChoice.TheVariants as choice
 use Rattle.reporting.specs.declared.summary.Summary.{Summary}
 
 -- whether the trace is asked for, and whether the report is

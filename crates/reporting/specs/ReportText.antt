@@ -12,7 +12,7 @@ use Rattle.scenario_record.specs.Record.{Record}
 use Rattle.scenario_record.specs.declared.algorithm.AlgorithmKind.{AlgorithmKind}
 use Rattle.scenario_record.specs.declared.algorithm.AlgorithmKind.TheVariants as kind
 use Rattle.reporting.specs.Measures.{layers, all_measures}
-use Rattle.rows.specs.Rows.{row_of}
+use Rattle.reporting.specs.Rows.{row_of}
 use Rattle.reporting.specs.declared.pair_measures.PairMeasures.{PairMeasures}
 use Rattle.reporting.specs.declared.pair_measures.Detection.{Detection}
 use Rattle.reporting.specs.declared.pair_measures.Detection.TheVariants.{Na, NoTick, At}

@@ -2,12 +2,12 @@
 use Rattle.std.specs.Prelude.{◌≡◌, ℕ, ◌*◌, ◌-◌, ◌^◌, ◌≤◌, min, Bool, true, false, Option, None, Some, is_some, List, [], length}
 use Rattle.std.specs.Global.{Vec}
 use Rattle.std.specs.List.{sum_by}
-use Rattle.followers.specs.Following.{HasFollowedWhere, IsWhere}
+use Rattle.process_api.specs.Following.{HasFollowedWhere, IsWhere}
 use Rattle.process_api.specs.EntryRecord.{EntryRecord}
 use Rattle.scenario_record.specs.Record.{Record}
 use Rattle.judges.specs.Judging.{HasFollowed, IsDeciding}
 use Rattle.judges.specs.declared.outcomes.RunningOutcomes.{RunningOutcomes}
-use Rattle.print_choice.specs.declared.PrintChoice.{PrintChoice}
+use Rattle.process_api.specs.declared.print_choice.PrintChoice.{PrintChoice}
 use Rattle.reporting.specs.Durations.{AreFollowing}
 use Rattle.reporting.specs.Panel.{IsMetering}
 use Rattle.reporting.specs.Printed.{printed, prints_report, prints_trace}

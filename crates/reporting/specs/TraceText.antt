@@ -4,8 +4,8 @@ use Rattle.std.specs.List.{join_with_byte, flat_map}
 use Rattle.process_api.specs.EntryRecord.{EntryRecord}
 use Rattle.process_api.specs.declared.action.Note.{Note}
 use Rattle.process_api.specs.declared.action.Note.TheVariants.{Suspect, Trust, Round, Decided, NoValue}
-use Rattle.rows.specs.Kinds.{kind_text}
-use Rattle.rows.specs.Rows.{row_of}
+use Rattle.reporting.specs.Kinds.{kind_text}
+use Rattle.reporting.specs.Rows.{row_of}
 
 abbrev pub space : ℕ
 space = 32

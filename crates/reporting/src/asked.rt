@@ -2,7 +2,7 @@
 ghost use Rattle.std.specs.Prelude.{◌≡◌};
 ghost use Rattle.reporting.specs.Printed.{prints_report, prints_trace};
 
-use print_choice::PrintChoice;
+use process_api::PrintChoice;
 
 /// Whether the trace is asked for.
 pub fn prints_trace(print: PrintChoice) -> bool

@@ -9,8 +9,7 @@ use crate::outlet::Outlet;
 use crate::summary::Summary;
 use crate::writing::write_recorded;
 use event_list::{Nobody, RunError, run_list_into};
-use print_choice::PrintChoice;
-use process_api::Process;
+use process_api::{PrintChoice, Process};
 use scenario_record::Scenario;
 use std::alloc::Global;
 

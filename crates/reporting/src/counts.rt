@@ -2,8 +2,7 @@
 ghost use Rattle.std.specs.Prelude.{◌++◌, ◌∷◌, [], List};
 ghost use Rattle.process_api.specs.EntryRecord.{EntryRecord};
 
-use followers::Follower;
-use process_api::Entry;
+use process_api::{Entry, Follower};
 use std::alloc::AllocError;
 
 /// The counts of a run, fed with its entries as they come. They stay at the greatest number, should they reach it.

@@ -8,7 +8,7 @@ use crate::counts::Counts;
 use crate::layer::Layer;
 use crate::trace_text::TraceText;
 use judges::RunningOutcomes;
-use print_choice::PrintChoice;
+use process_api::PrintChoice;
 use scenario_record::Scenario;
 use std::alloc::{AllocError, Global};
 

@@ -10,9 +10,8 @@ use crate::durations::Durations;
 use crate::ledger::Ledger;
 use crate::pair_measures::PairMeasures;
 use crate::panel::close_rows;
-use followers::Follower;
 use judges::{Pairs, Verdicts, grid_verdicts};
-use process_api::Entry;
+use process_api::{Entry, Follower};
 use scenario_record::Scenario;
 use std::alloc::{AllocError, Global};
 

@@ -35,6 +35,9 @@
 //! That pass is the run itself, so no entry is held; of a run whose report alone is asked for nothing is held that
 //! grows with it, and of one that is only measured the length of each mistake.
 //!
+//! [`Rows`] is a text that grows row by row, and [`name_of_kind`] the one table of what a kind of entry is called: the
+//! trace, the report and the list of letters are made of these.
+//!
 //! As an example, let process 2 of two crash at tick 3 of 10, and process 1 note at tick 9 that it suspects it. The
 //! report says so in the row `pair,1,1,2,detection,6`: on layer 1, observer 1 and subject 2, 6 ticks.
 #![tactic(auto)]
@@ -46,6 +49,7 @@ mod durations;
 mod findings;
 mod following;
 mod fuse_outlet;
+mod kinds;
 mod layer;
 mod ledger;
 mod measured_run;
@@ -57,6 +61,7 @@ mod pair_measures;
 mod panel;
 mod report;
 mod report_rows;
+mod rows;
 mod stream_outlet;
 mod summary;
 mod tail;
@@ -73,6 +78,7 @@ pub use durations::{Durations, RunDurations};
 pub use findings::RunFindings;
 pub use following::{Layers, Running, Summing, open_running};
 pub use fuse_outlet::FuseOutlet;
+pub use kinds::name_of_kind;
 pub use layer::Layer;
 pub use measured_run::measure_list;
 pub use measuring::measures;
@@ -80,7 +86,8 @@ pub use memory_outlet::MemoryOutlet;
 pub use meter::Meter;
 pub use outlet::{Outlet, put_all};
 pub use pair_measures::{Detection, PairMeasures};
-pub use print_choice::PrintChoice;
+pub use process_api::PrintChoice;
+pub use rows::Rows;
 pub use stream_outlet::StreamOutlet;
 pub use summary::Summary;
 pub use telling::close_running;

@@ -9,8 +9,7 @@ ghost use Rattle.reporting.specs.Resting.{RestsOnBlame};
 use crate::following::open_measuring;
 use crate::pair_measures::PairMeasures;
 use crate::telling::find;
-use followers::follow_all;
-use process_api::Trace;
+use process_api::{Trace, follow_all};
 use scenario_record::Scenario;
 use std::alloc::{AllocError, Global};
 

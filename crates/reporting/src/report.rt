@@ -3,13 +3,13 @@ ghost use Rattle.std.specs.Prelude.{◌≡◌, ◌++◌, IfOk, OnOk};
 ghost use Rattle.std.specs.List.{flat_map};
 ghost use Rattle.reporting.specs.Inside.Findings.{found_text, layers_text};
 ghost use Rattle.reporting.specs.ReportText.{pair_text, decision_text, decisions_text};
-ghost use Rattle.rows.specs.Rows.{IsBetweenRows, text_of};
+ghost use Rattle.reporting.specs.Rows.{IsBetweenRows, text_of};
 
 use crate::findings::RunFindings;
 use crate::pair_measures::PairMeasures;
 use crate::report_rows::{push_decision, push_pair, push_run, push_verdicts};
+use crate::rows::Rows;
 use judges::Outcome;
-use rows::Rows;
 use scenario_record::AlgorithmKind;
 use std::alloc::{AllocError, Global};
 

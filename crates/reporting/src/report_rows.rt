@@ -1,15 +1,15 @@
 //! Rows of a report.
 ghost use Rattle.std.specs.Prelude.{◌≡◌, ◌++◌, map, OnOk};
 ghost use Rattle.reporting.specs.ReportText.{report_row, report_rows, run_text, verdict_text, pair_text, decision_text};
-ghost use Rattle.rows.specs.Rows.{IsBetweenRows, text_of};
+ghost use Rattle.reporting.specs.Rows.{IsBetweenRows, text_of};
 ghost use Rattle.reporting.specs.Inside.Values.{value_text};
 
 use crate::pair_measures::PairMeasures;
+use crate::rows::Rows;
 use crate::summary::Summary;
 use crate::values::{Value, of_answer, of_count, of_detection, of_tick, of_truth};
 use itoa::Buffer;
 use judges::{Outcome, Verdicts};
-use rows::Rows;
 use std::alloc::AllocError;
 
 /// What rows are about. The layer, the observer and the subject are 0 where they have none.

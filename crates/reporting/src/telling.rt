@@ -1,7 +1,7 @@
 //! What is told of a run, as no entry follows.
 ghost use Rattle.std.specs.Prelude.{◌≡◌, ◌<◌, ◌^◌, ◌++◌, Bool, List, true, is_some, IfOk, OnOk, length};
 ghost use Rattle.process_api.specs.EntryRecord.{EntryRecord};
-ghost use Rattle.print_choice.specs.declared.PrintChoice.{PrintChoice};
+ghost use Rattle.process_api.specs.declared.print_choice.PrintChoice.{PrintChoice};
 ghost use Rattle.scenario_record.specs.Record.{Record};
 ghost use Rattle.reporting.specs.Durations.{AreDurations};
 ghost use Rattle.reporting.specs.Measured.{AreFindings, AreRunDurations, second_verdicts};

@@ -1,14 +1,13 @@
 //! The text of a trace.
 ghost use Rattle.std.specs.Prelude.{◌≡◌, ◌≤◌, ◌++◌, ◌∷◌, [], length, OnOk, IfOk};
 ghost use Rattle.std.specs.List.{flat_map};
-ghost use Rattle.rows.specs.Rows.{row_of, with_commas};
+ghost use Rattle.reporting.specs.Rows.{row_of, with_commas};
 ghost use Rattle.reporting.specs.Inside.Tail.{text_of};
 ghost use Rattle.reporting.specs.TraceText.{notes_text, fields_of, first_fields_of, note_text, trace_text};
 
+use crate::kinds::name_of_kind;
 use crate::tail::Tail;
-use followers::{Follower, follow_all};
-use process_api::{Entry, Note};
-use rows::name_of_kind;
+use process_api::{Entry, Follower, Note, follow_all};
 use std::alloc::{AllocError, Global};
 
 /// The first line of a trace's text.

@@ -1,7 +1,7 @@
 //! Writing the texts of a finished trace.
 ghost use Rattle.std.specs.Prelude.{◌≡◌, ◌≢◌, ◌^◌, ◌-◌, ◌+◌, ◌<◌, Err, List, length, OnOk, IfErr, IfOk};
 ghost use Rattle.process_api.specs.EntryRecord.{EntryRecord};
-ghost use Rattle.print_choice.specs.declared.PrintChoice.{PrintChoice};
+ghost use Rattle.process_api.specs.declared.print_choice.PrintChoice.{PrintChoice};
 ghost use Rattle.reporting.specs.Printed.{items_of, printed};
 ghost use Rattle.reporting.specs.Running.{IsRecording};
 ghost use Rattle.reporting.specs.ReportText.{report_text};
@@ -15,8 +15,7 @@ use crate::summary::Summary;
 use crate::telling::{close_recording, close_running};
 use crate::trace_text::text_of_trace;
 use event_list::RunError;
-use followers::follow_all;
-use process_api::Trace;
+use process_api::{Trace, follow_all};
 use scenario_record::Scenario;
 use std::alloc::Global;
 

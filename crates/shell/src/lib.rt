@@ -1,9 +1,13 @@
-//! What a program does around its work, whatever that is: the words that `main` is given, texts that go out, faults that
-//! are told, and the status with which a run ends.
+//! What a program does around its work, whatever that is: the words that `main` is given, inputs that are read, texts
+//! that go out, faults that are told, and the status with which a run ends.
 //!
 //! It is generic in the program's faults: a [`Failure`] has a status, a line, and what it leaves of what was to be
 //! written (`specs/Ending.antt`). Contracts for the layers above:
 //!
+//! - [`read_all`] reads an input to its end, [`bytes_at`] a file, or the input where the path is `-`. Both read at most
+//!   8,388,608 bytes, and one more to see that there are too many. Where the bytes of an input are known, as those of a
+//!   text in memory are, `Ok` is all of them, and `TooLong` comes only where they are more than that. Of a file or a
+//!   terminal no contract knows the bytes: there the promise is the length alone.
 //! - [`put_bytes`] and [`put_text`] write whole, or answer the failure of a write, and then a front part went out.
 //! - [`ended`] answers the status of a run: 0 where it is done, and nothing is told; else that of its failure, of which
 //!   the line is told. `proofs/Leaving.antt` has what follows for the outlet and the line, status by status.
@@ -15,10 +19,14 @@
 
 mod ending;
 mod failure;
+mod input;
+mod path;
 mod words;
 mod writing;
 
 pub use ending::{ended, finish};
 pub use failure::{Failure, report};
+pub use input::{InputError, read_all};
+pub use path::bytes_at;
 pub use words::{NoWords, lent, words_of};
 pub use writing::{put_bytes, put_text, tell_pieces, tell_text};

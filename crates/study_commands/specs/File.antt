@@ -3,7 +3,7 @@ use Rattle.std.specs.Prelude.{◌≡◌, ◌≤◌, ℕ, List, length, Option, S
 use Rattle.toml.specs.Data.{Members}
 use Rattle.scenario_record.specs.Record.{Record}
 use Rattle.scenario.specs.Refusals.{Accepts, IsDocumentOf}
-use Rattle.sources.specs.Input.{AreAllOf, input_path, most_bytes}
+use Rattle.shell.specs.Input.{AreAllOf, input_path, most_bytes}
 
 module _ (input : Option (List ℕ)) (path : List ℕ) where
   -- the bytes are the file's, and not too many. Of a path other than `-` they aren't known

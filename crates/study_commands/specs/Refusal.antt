@@ -9,7 +9,7 @@ use Rattle.study_commands.specs.File.{AreBytes}
 use Rattle.study_commands.specs.declared.fault.Fault.{Fault}
 use Rattle.study_commands.specs.declared.fault.Fault.TheVariants.{Memory, Refused}
 use Rattle.scenario.specs.Refusals.{IsDocumentOf}
-use Rattle.sources.specs.Input.{input_path, most_bytes}
+use Rattle.shell.specs.Input.{input_path, most_bytes}
 
 -- the line, where there was memory for one
 abbrev pub Says : Option (String Global) → List ℕ → Type 0

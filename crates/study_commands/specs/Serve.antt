@@ -7,7 +7,7 @@ use Rattle.study_commands.specs.declared.fault.Fault.{Fault}
 use Rattle.study_commands.specs.declared.fault.Fault.TheVariants.{Form, Words, WordsMemory, Write}
 use Rattle.printable.specs.Printable.{printable, printable_lines}
 use Rattle.shell.specs.Ending.{Goes, IsWhy as Why}
-use Rattle.sources.specs.Input.{input_path}
+use Rattle.shell.specs.Input.{input_path}
 use Rattle.study_line.specs.Order.{AsksHelp, Explains, States}
 use Rattle.study_line.specs.declared.order.Order.{Order}
 use Rattle.study_line.specs.declared.order.WordsError.{WordsError}

@@ -3,7 +3,7 @@ ghost use Rattle.std.specs.Prelude.{◌≡◌, ◌≢◌, ◌+◌, IfOk, IfErr, 
 ghost use Rattle.study_commands.specs.Check.{IsCheckAnswer, accepted_line, limit_text, window_text};
 ghost use Rattle.study_commands.specs.Fault.{IsBefore};
 ghost use Rattle.study_commands.specs.Why.{StopsCheck};
-ghost use Rattle.sources.specs.Input.{TakesAtMost, input_path, most_bytes};
+ghost use Rattle.shell.specs.Input.{TakesAtMost, input_path, most_bytes};
 
 use crate::fault::Fault;
 use crate::file::{bytes_of, fault_of};

@@ -4,13 +4,13 @@ ghost use Rattle.diagnosis.specs.Diagnosis.{RefusesFor};
 ghost use Rattle.toml.specs.View.{table_view};
 ghost use Rattle.study_commands.specs.File.{AreBytes, IsScenario, IsTable};
 ghost use Rattle.study_commands.specs.Refusal.{IsOfBytes, IsOfFile, IsOfTable, IsToldWith, IsUnread};
-ghost use Rattle.sources.specs.Input.{TakesAtMost, input_path, most_bytes};
+ghost use Rattle.shell.specs.Input.{TakesAtMost, input_path, most_bytes};
 
 use crate::fault::Fault;
 use diagnosis::{Diagnosis, Refused, diagnose};
 use printable::Printable;
 use scenario::{Scenario, read_scenario};
-use sources::{InputError, bytes_at};
+use shell::{InputError, bytes_at};
 use std::alloc::Global;
 use std::io::Read;
 use std::rt::Files;

@@ -3,7 +3,7 @@ ghost use Rattle.std.specs.Prelude.{◌≡◌, ◌≢◌, ◌+◌, IfErr, IfOk};
 ghost use Rattle.study_commands.specs.Fault.{IsBefore};
 ghost use Rattle.study_commands.specs.Letters.{IsLettersAnswer};
 ghost use Rattle.study_commands.specs.Runs.{StopsLetters};
-ghost use Rattle.sources.specs.Input.{TakesAtMost, input_path, most_bytes};
+ghost use Rattle.shell.specs.Input.{TakesAtMost, input_path, most_bytes};
 
 use crate::fault::Fault;
 use crate::file::scenario_at;

@@ -4,7 +4,7 @@ ghost use Rattle.drawing.specs.Refusals.{refusal};
 ghost use Rattle.study_commands.specs.Draw.{AreNamed, HasNoProcess, IsDrawAnswer, IsOfPicture, NamesNone};
 ghost use Rattle.study_commands.specs.Draw.{Shows, StopsPicture, TellsOf, process_said};
 ghost use Rattle.study_commands.specs.Fault.{IsBefore, IsOfWordsFor};
-ghost use Rattle.sources.specs.Input.{TakesAtMost, input_path, most_bytes};
+ghost use Rattle.shell.specs.Input.{TakesAtMost, input_path, most_bytes};
 
 use crate::fault::Fault;
 use crate::file::scenario_at;

@@ -8,7 +8,7 @@ ghost use Rattle.printable.specs.Printable.{printable_lines};
 ghost use Rattle.study_commands.specs.Why.{StopsFor};
 ghost use Rattle.reporting.specs.Writing.{WroteNothing};
 ghost use Rattle.shell.specs.Ending.{MayHaveGone, Puts, Tells, Went, WentPart};
-ghost use Rattle.sources.specs.Input.{TakesAtMost, input_path, most_bytes};
+ghost use Rattle.shell.specs.Input.{TakesAtMost, input_path, most_bytes};
 
 use crate::checking::serve_check;
 use crate::fault::Fault;

@@ -5,7 +5,7 @@ ghost use Rattle.study_commands.specs.Fault.{IsBefore, IsOfWordsFor};
 ghost use Rattle.study_commands.specs.Show.{IsPlace, IsShowAnswer};
 ghost use Rattle.study_commands.specs.Why.{IsOfText, StopsShow};
 ghost use Rattle.study_commands.specs.WordRefusals.{IsOutside};
-ghost use Rattle.sources.specs.Input.{TakesAtMost, input_path, most_bytes};
+ghost use Rattle.shell.specs.Input.{TakesAtMost, input_path, most_bytes};
 ghost use Rattle.study.specs.Grid.{points, runs};
 ghost use Rattle.study.specs.Placed.{table_of_run};
 ghost use Rattle.study.specs.Runs.{IsRunText};

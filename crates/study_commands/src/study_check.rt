@@ -4,7 +4,7 @@ ghost use Rattle.study.specs.Grid.{runs};
 ghost use Rattle.study_commands.specs.Check.{IsStudyCheck, study_begin};
 ghost use Rattle.study_commands.specs.Why.{StopsSweep};
 ghost use Rattle.study_commands.specs.Fault.{IsBefore};
-ghost use Rattle.sources.specs.Input.{TakesAtMost, input_path, most_bytes};
+ghost use Rattle.shell.specs.Input.{TakesAtMost, input_path, most_bytes};
 ghost use Rattle.sweep.specs.StudyText.{numbers_of};
 
 use crate::fault::Fault;

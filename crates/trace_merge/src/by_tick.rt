@@ -3,8 +3,7 @@ ghost use Rattle.std.specs.Prelude.{◌≡◌, ◌≤◌, ◌<◌, ◌++◌, [],
 ghost use Rattle.trace_merge.specs.Parts.{all_of};
 ghost use Rattle.trace_merge.specs.Inside.Ticks.{BeginsBy, SomeBegins};
 
-use process_api::Entry;
-use run_error::RunError;
+use process_api::{Entry, RunError};
 use std::alloc::Global;
 use std::collections::VecDeque;
 

@@ -4,8 +4,7 @@ ghost use Rattle.process_api.specs.Order.{is_rising};
 ghost use Rattle.trace_merge.specs.Parts.{all_of, AreDisjoint};
 
 use crate::by_tick::gather;
-use process_api::Entry;
-use run_error::RunError;
+use process_api::{Entry, RunError};
 use std::alloc::Global;
 
 /// Merges parts of a trace, each with strictly rising keys and no key in two of them, into one with strictly rising

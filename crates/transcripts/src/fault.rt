@@ -1,6 +1,6 @@
 //! Why a transcript can't be gone through.
 
-use sources::InputError;
+use shell::InputError;
 use std::alloc::AllocError;
 use std::io;
 use std::str::Utf8Error;

@@ -36,7 +36,7 @@ mod transcript;
 
 use crate::fault::Fault;
 use crate::transcript::Transcript;
-use sources::read_all;
+use shell::read_all;
 use std::alloc::Global;
 use std::io::{self, Read};
 use std::marker::Sync;

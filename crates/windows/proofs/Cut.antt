@@ -6,8 +6,8 @@ use Rattle.std.proofs.lemmas.List.Elements.{All-nil, All-cons}
 use Rattle.process_api.specs.EntryRecord.{EntryRecord}
 use Rattle.process_api.specs.declared.key.Key.{Key}
 use Rattle.process_api.specs.declared.message.StepInput.{StepInput}
-use Rattle.run_error.specs.declared.error.RunError.{RunError}
-use Rattle.run_error.specs.declared.error.RunError.TheVariants.{Limit, Spawn}
+use Rattle.process_api.specs.declared.run_error.RunError.{RunError}
+use Rattle.process_api.specs.declared.run_error.RunError.TheVariants.{Limit, Spawn}
 use Rattle.scenario_record.specs.Ranges.{IsInRange}
 use Rattle.scenario_record.specs.Record.{Record}
 use Rattle.process_api.specs.Mind.{Mind}

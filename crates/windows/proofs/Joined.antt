@@ -4,8 +4,8 @@ use Rattle.std.specs.Global.{Vec}
 use Rattle.std.specs.List.{All}
 use Rattle.std.proofs.lemmas.List.Elements.{All-head, All-push, All-same}
 use Rattle.process_api.specs.Mind.{Mind}
-use Rattle.run_error.specs.declared.error.RunError.{RunError}
-use Rattle.run_error.specs.declared.error.RunError.TheVariants.{Limit, Memory}
+use Rattle.process_api.specs.declared.run_error.RunError.{RunError}
+use Rattle.process_api.specs.declared.run_error.RunError.TheVariants.{Limit, Memory}
 use Rattle.deques.proofs.Deals.{map_push}
 use Rattle.windows.specs.Refusals.{AreThere, IsFirstRefusal, IsRefusal, IsRefusalOfOne}
 use Rattle.windows.specs.Inside.Shared.{IsWorkIn, IsAnswerTo, IsOneTooLong, KnowOneTooLong, AreAnswers}

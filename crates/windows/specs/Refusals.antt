@@ -1,7 +1,7 @@
 -- Why a window is refused, and which of several refusals is answered.
 use Rattle.std.specs.Prelude.{◌≡◌, ◌⊎◌, ◌≤◌, ℕ, Result, Ok, IsErrOf}
-use Rattle.run_error.specs.declared.error.RunError.{RunError}
-use Rattle.run_error.specs.declared.error.RunError.TheVariants.{Limit, Memory, Spawn, Write}
+use Rattle.process_api.specs.declared.run_error.RunError.{RunError}
+use Rattle.process_api.specs.declared.run_error.RunError.TheVariants.{Limit, Memory, Spawn, Write}
 
 -- one process is refused for want of a place in the trace, or of memory
 abbrev pub IsRefusalOfOne : RunError → Type 0

@@ -4,8 +4,8 @@ use Rattle.std.specs.List.{All}
 use Rattle.process_api.specs.EntryRecord.{EntryRecord}
 use Rattle.trace_laws.specs.Setting.{Setting}
 use Rattle.trace_laws.specs.World.{IsTrace}
-use Rattle.run_error.specs.declared.error.RunError.{RunError}
-use Rattle.run_error.specs.declared.error.RunError.TheVariants.{Limit, Memory, Spawn, Write}
+use Rattle.process_api.specs.declared.run_error.RunError.{RunError}
+use Rattle.process_api.specs.declared.run_error.RunError.TheVariants.{Limit, Memory, Spawn, Write}
 use Rattle.window_laws.specs.Theorems.{end_to_end}
 
 -- a sink refuses a part for want of memory, or because it can't be written

@@ -14,8 +14,7 @@ use crate::shared::Shared;
 use crate::workers::{Start, Work, run_taken};
 use deques::{Dealer, Rest};
 use mailboxes::{Mailboxes, Slip};
-use process_api::Process;
-use run_error::RunError;
+use process_api::{Process, RunError};
 use std::alloc::{AllocError, Global};
 use std::sync::Wait;
 

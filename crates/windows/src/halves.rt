@@ -3,14 +3,13 @@
 ghost use Rattle.std.specs.Prelude.{◌≡◌, ◌≤◌, ◌<◌, length, map, IsTrue, IfOk, IfErr, vec_len, IsPermutation};
 ghost use Rattle.std.specs.List.{All};
 ghost use Rattle.process_api.specs.Order.{is_rising};
-ghost use Rattle.run_error.specs.declared.error.RunError.TheVariants.{Memory};
+ghost use Rattle.process_api.specs.declared.run_error.RunError.TheVariants.{Memory};
 ghost use Rattle.mailboxes.specs.Mailboxes.{IsSlipOf, letters_in};
 ghost use Rattle.trace_merge.specs.Parts.{all_of, AreDisjoint};
 ghost use Rattle.windows.specs.Inside.Closing.{AreLettersOf};
 
 use mailboxes::{Mailboxes, Slip};
-use process_api::{Entry, Letter};
-use run_error::RunError;
+use process_api::{Entry, Letter, RunError};
 use std::alloc::Global;
 use std::sync::Wait;
 use std::thread::{Threads, join};

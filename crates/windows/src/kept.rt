@@ -2,8 +2,7 @@
 ghost use Rattle.std.specs.Prelude.{◌≡◌, ℕ};
 
 use crate::sink::Sink;
-use process_api::Entry;
-use run_error::RunError;
+use process_api::{Entry, RunError};
 
 /// Keeps the entries of all parts, in one list.
 #[derive(Drop)]

@@ -3,8 +3,7 @@ ghost use Rattle.std.specs.Prelude.{◌≡◌, ◌⊎◌, ◌+◌, ◌-◌, ◌^
 ghost use Rattle.process_api.specs.EntryRecord.{EntryRecord};
 ghost use Rattle.windows.specs.Sink.{IsRefusalOfSink, writes_of};
 
-use process_api::Entry;
-use run_error::RunError;
+use process_api::{Entry, RunError};
 
 /// Takes the entries of a run, part by part, in the order of their keys.
 pub trait Sink {

@@ -5,7 +5,7 @@ ghost use Rattle.std.specs.List.{All};
 ghost use Rattle.std.specs.Thread.{IsSync};
 ghost use Rattle.process_api.specs.declared.message.Letter.{Letter as SentLetter};
 ghost use Rattle.mailboxes.specs.Mailboxes.{IsSlipOf};
-ghost use Rattle.run_error.specs.declared.error.RunError.TheVariants.{Memory, Spawn};
+ghost use Rattle.process_api.specs.declared.run_error.RunError.TheVariants.{Memory, Spawn};
 ghost use Rattle.windows.specs.Berth.{IsLong, with_letters};
 ghost use Rattle.windows.specs.Plan.{most_workers};
 ghost use Rattle.windows.specs.Refusals.{rank_of, AreThere, IsFirstRefusal, IsRefusalOfOne};
@@ -17,8 +17,7 @@ use crate::gate::Gate;
 use crate::shared::Shared;
 use deques::Hand;
 use mailboxes::Slip;
-use process_api::Process;
-use run_error::RunError;
+use process_api::{Process, RunError};
 use std::alloc::AllocError;
 use std::snapshot::Snapshot;
 use std::sync::Wait;
@@ -119,7 +118,7 @@ impl<'s, M: Process, G: Gate> Promise<Result<Work<M>, RunError>> for WorkAt<'s, 
 struct RefusedStart;
 
 impl From<RefusedStart> for RunError {
-    ghost use Rattle.run_error.specs.declared.error.RunError.TheVariants.{Spawn};
+    ghost use Rattle.process_api.specs.declared.run_error.RunError.TheVariants.{Spawn};
 
     ghost from_gives = { λ _ e. e ≡ Spawn };
 

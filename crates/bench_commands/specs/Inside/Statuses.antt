@@ -1,6 +1,6 @@
 -- The status of each fault is one of its end.
 use Rattle.std.proofs.Common.{inl, inr, refl}
-use Rattle.run_error.specs.declared.error.RunError.TheVariants as run
+use Rattle.process_api.specs.declared.run_error.RunError.TheVariants as run
 use Rattle.bench_commands.specs.Fault.{end_of, status_of}
 use Rattle.bench_commands.specs.declared.fault.Fault.{Fault}
 use Rattle.bench_commands.specs.declared.fault.Fault.TheVariants.{Different, Form, Plan, Run, Scenario, TooLong, Unreadable, Words, WordsMemory}

@@ -3,8 +3,8 @@ use Rattle.std.specs.Prelude.{◌≡◌, ℕ, List, length, map, Result, IfOk, I
 use Rattle.std.specs.Global.{Vec}
 use Rattle.std.specs.List.{All}
 use Rattle.process_api.specs.Mind.{Mind}
-use Rattle.run_error.specs.declared.error.RunError.{RunError}
-use Rattle.run_error.specs.declared.error.RunError.TheVariants.{Limit}
+use Rattle.process_api.specs.declared.run_error.RunError.{RunError}
+use Rattle.process_api.specs.declared.run_error.RunError.TheVariants.{Limit}
 use Rattle.mailboxes.specs.Mailbox.{MailboxId}
 use Rattle.mailboxes.specs.Mailboxes.{SlipView}
 use Rattle.deques.specs.Deques.{HandView, RestView}

@@ -4,7 +4,7 @@ use Rattle.bench_commands.specs.Answer.{IsCompareAnswer}
 use Rattle.bench_commands.proofs.Stopping.{compare_why, stops_unwritten}
 use Rattle.bench_commands.specs.Fault.{end_of}
 use Rattle.bench_commands.specs.declared.fault.Fault.TheVariants.{Run}
-use Rattle.run_error.specs.declared.error.RunError.TheVariants.{Write}
+use Rattle.process_api.specs.declared.run_error.RunError.TheVariants.{Write}
 use Rattle.shell.proofs.Going.{put_goes}
 use Rattle.bench_commands.proofs.commands.compare_runs.Goals as goal
 

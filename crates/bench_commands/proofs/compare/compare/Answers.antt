@@ -2,7 +2,7 @@ use Rattle.std.proofs.Common.{◌≡◌, ◌∙◌, ap, sym, refl, ℕ, List, Bo
 use Rattle.trace_laws.specs.ScenarioSetting.{setting_of}
 use Rattle.trace_laws.proofs.Closed.{one_trace}
 use Rattle.reporting.specs.Printed.{printed}
-use Rattle.print_choice.specs.declared.PrintChoice.TheVariants.{Both}
+use Rattle.process_api.specs.declared.print_choice.PrintChoice.TheVariants.{Both}
 use Rattle.scenario_record.specs.Record.{Record}
 use Rattle.bench_commands.specs.Compare.{IsWritten}
 use Rattle.bench_commands.proofs.compare.compare.Goals as goal

@@ -1,7 +1,7 @@
 use Rattle.std.proofs.Common.{rules, ◌≡◌, ℕ, List, Option, Some}
-use Rattle.run_error.specs.declared.error.RunError.TheVariants.{Limit}
+use Rattle.process_api.specs.declared.run_error.RunError.TheVariants.{Limit}
 use Rattle.bench_commands.proofs.Stopping.{refused_long}
-use Rattle.print_choice.specs.declared.PrintChoice.TheVariants.{Both}
+use Rattle.process_api.specs.declared.print_choice.PrintChoice.TheVariants.{Both}
 use Rattle.reporting.specs.Outlet.{Held}
 use Rattle.bench_commands.proofs.compare.written_by.Goals as goal
 

@@ -1,7 +1,7 @@
 use Rattle.std.proofs.Common.{◌≡◌, ◌++◌, take}
 use Rattle.std.specs.List.{flat_map}
 use Rattle.letters.specs.LettersText.{letters_header, fields_of}
-use Rattle.rows.specs.Rows.{IsBetweenRows, row_of, text_of}
+use Rattle.reporting.specs.Rows.{IsBetweenRows, row_of, text_of}
 use Rattle.letters.proofs.text.letters_text.Given as goal
 
 -- the rows so far

@@ -5,7 +5,7 @@ use Rattle.trace_laws.proofs.Effects.{trace_has_causes, trace_takes_once}
 use Rattle.trace_laws.proofs.Sound.{setting_sound}
 use Rattle.trace_laws.specs.ScenarioSetting.{setting_of}
 use Rattle.trace_laws.specs.Setting.{IsSound}
-use Rattle.run_error.specs.declared.error.RunError.TheVariants.{Memory, Write}
+use Rattle.process_api.specs.declared.run_error.RunError.TheVariants.{Memory, Write}
 use Rattle.judges.proofs.Agreement.Agreed.{agrees}
 use Rattle.qos_report.proofs.Breaking.{breaks_at_close, breaks_at_opening, breaks_in_rows, breaks_in_write, part_in_header, part_in_report, wrote_printed}
 use Rattle.reporting.proofs.Fed.{if_reason}

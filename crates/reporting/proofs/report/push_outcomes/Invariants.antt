@@ -1,7 +1,7 @@
 use Rattle.std.proofs.Common.{◌≡◌, ◌++◌, take}
 use Rattle.std.specs.List.{flat_map}
 use Rattle.reporting.specs.ReportText.{decision_text}
-use Rattle.rows.specs.Rows.{IsBetweenRows, text_of}
+use Rattle.reporting.specs.Rows.{IsBetweenRows, text_of}
 use Rattle.reporting.proofs.report.push_outcomes.Given as goal
 
 -- the rows so far

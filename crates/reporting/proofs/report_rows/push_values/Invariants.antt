@@ -1,6 +1,6 @@
 use Rattle.std.proofs.Common.{◌≡◌, ◌++◌, map, take}
 use Rattle.reporting.specs.ReportText.{report_rows}
-use Rattle.rows.specs.Rows.{IsBetweenRows, text_of}
+use Rattle.reporting.specs.Rows.{IsBetweenRows, text_of}
 use Rattle.reporting.specs.Inside.Values.{value_text}
 use Rattle.reporting.proofs.report_rows.push_values.Given as goal
 

@@ -1,6 +1,6 @@
 use Rattle.std.proofs.Common.{◌∙◌, Some, None, ap, sym, subst, false}
-use Rattle.followers.specs.Following.{IsWhere}
-use Rattle.followers.proofs.Where.{absent_where, there_where}
+use Rattle.process_api.specs.Following.{IsWhere}
+use Rattle.process_api.proofs.Where.{absent_where, there_where}
 use Rattle.reporting.specs.Inside.Findings.{found_text}
 use Rattle.reporting.specs.ReportText.{report_text}
 use Rattle.reporting.specs.Running.{AreLayers, IsTextWhere}

@@ -1,5 +1,5 @@
 use Rattle.std.proofs.Common.{◌∙◌, ◌++◌, sym, ap, subst, cond, Some, None, [], is_some, append-nil, true≢false}
-use Rattle.followers.proofs.Where.{absent_where, there_where}
+use Rattle.process_api.proofs.Where.{absent_where, there_where}
 use Rattle.judges.specs.Verdicts.{verdicts}
 use Rattle.reporting.specs.Measures.{layer_measures}
 use Rattle.reporting.specs.Running.{IsLayer, IsSecond}

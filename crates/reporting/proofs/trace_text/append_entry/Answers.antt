@@ -1,6 +1,6 @@
 use Rattle.std.proofs.Common.{◌≡◌, ◌∙◌, ◌++◌, ◌∷◌, [], ap}
 use Rattle.process_api.specs.EntryRecord.{EntryRecord}
-use Rattle.rows.specs.Rows.{with_commas}
+use Rattle.reporting.specs.Rows.{with_commas}
 use Rattle.reporting.specs.TraceText.{notes_text, first_fields_of}
 use Rattle.reporting.proofs.Joining.{row_joined}
 use Rattle.reporting.proofs.trace_text.append_entry.Goals as goal

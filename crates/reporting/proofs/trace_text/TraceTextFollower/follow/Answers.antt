@@ -1,5 +1,5 @@
 use Rattle.std.proofs.Common.{◌∙◌, ◌++◌, ◌∷◌, [], ap, sym, append_assoc}
-use Rattle.rows.specs.Rows.{row_of}
+use Rattle.reporting.specs.Rows.{row_of}
 use Rattle.reporting.specs.TraceText.{fields_of, rows_text}
 use Rattle.reporting.proofs.Fed.{on_ok}
 use Rattle.reporting.proofs.Written.{rows_both, rows_one}
