@@ -1,43 +1,53 @@
-use Rattle.std.proofs.Common.{◌≡◌, ◌+◌, ◌≤◌, ℕ, List, ◌++◌, length, take, arith, length-append}
-use Rattle.std.proofs.KnownBytes.{Consumes-trans}
+use Rattle.std.proofs.Common.{◌≡◌, ◌+◌, ◌≤◌, ◌<◌, ℕ, List, ◌++◌, Option, Some, None, IfSome, length, take, arith, sym, append-nil, length-append}
+use Rattle.std.specs.Io.KnownBytes.{Consumes}
+use Rattle.std.proofs.KnownBytes.{Consumes-kept, Consumes-trans, Consumes-whole}
 use Rattle.std.proofs.lemmas.Grind.{common_steps}
 use Rattle.std.proofs.lemmas.List.{length-take}
+use Rattle.shell.specs.Input.{TakesAtMost}
 use Rattle.shell.proofs.input.read_all.Goals as goal
 
--- a front of a piece adds at most its own count
-length_joined : (xs ys : List ℕ) (n : ℕ) → length (xs ++ take n ys) ≤ length xs + n
-length_joined xs ys n =
-    let e : length (xs ++ take n ys) ≡ length xs + length (take n ys) = length-append xs (take n ys) in
-    omega (arith, e, length-take n ys)
+-- what was gone before a read, and what it gave
+taken : (a b c : Option (List ℕ)) (xs ys : List ℕ) (k n : ℕ) → Consumes a b xs → Consumes b c (take k ys) → length xs + k ≤ n → TakesAtMost n a c
+taken a b c xs ys k n p q le =
+    (xs ++ take k ys, Consumes-trans a b c xs (take k ys) p q, omega (arith, length-append xs (take k ys), length-take k ys))
+
+longer : (a b : Option (List ℕ)) (xs : List ℕ) (n : ℕ) → Consumes a b xs → n < length xs → IfSome a (λ all. n < length all)
+longer None b xs n p lt = tt
+longer (Some x) None xs n p lt = absurd p
+longer (Some x) (Some y) xs n p lt = rw p (omega (arith, length-append xs y))
+
+nothing_read : (xs ys : List ℕ) (n : ℕ) → n ≡ 0 → xs ++ take n ys ≡ xs
+nothing_read xs ys n e = rw e (append-nil xs)
+
+pub returns-in-Ok-eq0-clause-end : goal.returns-in-Ok-eq0-clause-end
+returns-in-Ok-eq0-clause-end g c = c.in-Ok-eq0.ensures.bytes.1 c.in-Ok-eq0.field-0-test (grind (arith, common_steps))
+
+pub returns-in-Ok-eq0-clause-whole : goal.returns-in-Ok-eq0-clause-whole
+returns-in-Ok-eq0-clause-whole g c =
+    Consumes-whole _ _ _ (λ all. c.loop.bytes.items ≡ all) (Consumes-trans _ _ _ _ _ c.loop.invariant.gone c.in-Ok-eq0.ensures.bytes.0)
+    (returns-in-Ok-eq0-clause-end g c) (sym (nothing_read _ _ _ c.in-Ok-eq0.field-0-test))
+
+pub returns-in-Ok-eq0-clause-taken : goal.returns-in-Ok-eq0-clause-taken
+returns-in-Ok-eq0-clause-taken g c =
+    taken _ _ _ _ _ _ _ c.loop.invariant.gone c.in-Ok-eq0.ensures.bytes.0 (omega (arith, c.in-Ok-eq0.field-0-test, c.loop.invariant.within))
+
+pub returns-in-Ok-clause-long : goal.returns-in-Ok-clause-long
+returns-in-Ok-clause-long g c _ =
+    longer _ _ _ _ (Consumes-trans _ _ _ _ _ c.loop.invariant.gone c.in-Ok.ensures.bytes.0)
+    (omega (arith, length-append c.loop.bytes.items (take c.in-Ok.count c.read.new.buf), c.in-Ok.ensures.bound.1, c.if-count-room.true, c.len-room.ensures, c.loop.invariant.within))
 
 pub returns-in-Ok-clause-taken : goal.returns-in-Ok-clause-taken
-returns-in-Ok-clause-taken g c = (
-  c.loop.bytes.items ++ take c.in-Ok.count c.read.new.buf,
-  Consumes-trans _ _ _ _ _ c.loop.invariant.gone c.in-Ok.ensures.bytes.0,
-  omega (
-    arith,
-    length_joined c.loop.bytes.items c.read.new.buf c.in-Ok.count,
-    c.in-Ok.ensures.bound.0,
-    c.read.auto.buf,
-    length-take c.min-asked.result c.loop.piece,
-    c.min-asked.ensures,
-    c.len-room.ensures,
-    c.loop.invariant.within,
-  ),
-)
+returns-in-Ok-clause-taken g c =
+    taken _ _ _ _ _ _ _ c.loop.invariant.gone c.in-Ok.ensures.bytes.0
+    (omega (arith, c.in-Ok.ensures.bound.0, c.read.auto.buf, length-take c.min-asked.result c.loop.piece, c.min-asked.ensures, c.len-room.ensures, c.loop.invariant.within))
 
 pub returns-then-is_err-clause-taken : goal.returns-then-is_err-clause-taken
-returns-then-is_err-clause-taken g c = (
-  c.loop.bytes.items ++ take c.in-Ok.count c.read.new.buf,
-  Consumes-trans _ _ _ _ _ c.loop.invariant.gone c.in-Ok.ensures.bytes.0,
-  omega (
-    arith,
-    length_joined c.loop.bytes.items c.read.new.buf c.in-Ok.count,
-    c.if-count-room.false,
-    c.len-room.ensures,
-    c.loop.invariant.within,
-  ),
-)
+returns-then-is_err-clause-taken g c =
+    taken _ _ _ _ _ _ _ c.loop.invariant.gone c.in-Ok.ensures.bytes.0 (omega (arith, c.if-count-room.false, c.len-room.ensures, c.loop.invariant.within))
+
+pub returns-in-Err-clause-taken : goal.returns-in-Err-clause-taken
+returns-in-Err-clause-taken g c =
+    (c.loop.bytes.items, Consumes-kept _ _ _ _ c.loop.invariant.gone c.in-Err.ensures.bytes, omega (arith, c.loop.invariant.within))
 
 pub loop-preserved : goal.loop-preserved
 loop-preserved g c = record {
