@@ -7,7 +7,7 @@ ghost use Rattle.reporting.specs.Inside.Values.{value_text};
 use crate::pair_measures::PairMeasures;
 use crate::rows::Rows;
 use crate::summary::Summary;
-use crate::values::{Value, of_answer, of_count, of_detection, of_tick, of_truth};
+use crate::values::{Value, of_answer, of_detection, of_tick, of_truth};
 use itoa::Buffer;
 use judges::{Outcome, Verdicts};
 use std::alloc::AllocError;
@@ -25,14 +25,14 @@ struct About {
 #[tactic(auto, unfolding(crate::specs::ReportText::report_row))]
 fn push_value(
     rows: &mut Rows,
-    about: &About,
+    about: About,
     name: &'static str,
     value: Value,
 ) -> Result<(), AllocError>
     requires { IsBetweenRows rows.old }
     ensures between { OnOk result (IsBetweenRows rows.new) }
     ensures text { OnOk result (text_of rows.new ≡ text_of rows.old
-        ++ report_row about.now.section.now about.now.layer about.now.observer about.now.subject
+        ++ report_row about.section.now about.layer about.observer about.subject
         (name.now, value_text value)) }
 {
     let mut layer = Buffer::new();
@@ -54,13 +54,13 @@ fn push_value(
 #[tactic(auto, unfolding(crate::specs::ReportText::report_rows))]
 fn push_values(
     rows: &mut Rows,
-    about: &About,
+    about: About,
     values: &[(&'static str, Value)],
 ) -> Result<(), AllocError>
     requires { IsBetweenRows rows.old }
     ensures between { OnOk result (IsBetweenRows rows.new) }
     ensures text { OnOk result (text_of rows.new ≡ text_of rows.old
-        ++ report_rows about.now.section.now about.now.layer about.now.observer about.now.subject
+        ++ report_rows about.section.now about.layer about.observer about.subject
         (map (λ v. (v.0.now, value_text v.1)) values.now)) }
 {
     for (name, value) in values {
@@ -82,15 +82,12 @@ pub(crate) fn push_run(rows: &mut Rows, summary: &Summary) -> Result<(), AllocEr
         observer: 0,
         subject: 0,
     };
-    push_values(
-        rows,
-        &about,
-        &[
-            ("entries", of_count(summary.entries)),
-            ("sent", Value::Number(summary.sent)),
-            ("lost", Value::Number(summary.lost)),
-        ],
-    )
+    let values = [
+        ("entries", Value::Count(summary.entries)),
+        ("sent", Value::Sum(summary.sent)),
+        ("lost", Value::Sum(summary.lost)),
+    ];
+    push_values(rows, about, &values)
 }
 
 /// Adds the rows of the verdicts on a layer.
@@ -109,24 +106,21 @@ pub(crate) fn push_verdicts(
         observer: 0,
         subject: 0,
     };
-    push_values(
-        rows,
-        &about,
-        &[
-            ("strong_completeness", of_tick(verdicts.strong_completeness)),
-            ("weak_completeness", of_tick(verdicts.weak_completeness)),
-            ("strong_accuracy", of_truth(verdicts.strong_accuracy)),
-            ("weak_accuracy", of_truth(verdicts.weak_accuracy)),
-            (
-                "eventual_strong_accuracy",
-                of_tick(verdicts.eventual_strong_accuracy),
-            ),
-            (
-                "eventual_weak_accuracy",
-                of_tick(verdicts.eventual_weak_accuracy),
-            ),
-        ],
-    )
+    let values = [
+        ("strong_completeness", of_tick(verdicts.strong_completeness)),
+        ("weak_completeness", of_tick(verdicts.weak_completeness)),
+        ("strong_accuracy", of_truth(verdicts.strong_accuracy)),
+        ("weak_accuracy", of_truth(verdicts.weak_accuracy)),
+        (
+            "eventual_strong_accuracy",
+            of_tick(verdicts.eventual_strong_accuracy),
+        ),
+        (
+            "eventual_weak_accuracy",
+            of_tick(verdicts.eventual_weak_accuracy),
+        ),
+    ];
+    push_values(rows, about, &values)
 }
 
 /// Adds the rows of the measures of a pair.
@@ -141,21 +135,18 @@ pub(crate) fn push_pair(rows: &mut Rows, measures: &PairMeasures) -> Result<(), 
         observer: measures.observer.number(),
         subject: measures.subject.number(),
     };
-    push_values(
-        rows,
-        &about,
-        &[
-            ("mistakes", of_count(measures.mistakes)),
-            ("mistake_ticks", of_count(measures.mistake_ticks)),
-            ("recurrence_sum", of_count(measures.recurrence_sum)),
-            ("recurrence_count", of_count(measures.recurrence_count)),
-            ("duration_sum", of_count(measures.duration_sum)),
-            ("duration_count", of_count(measures.duration_count)),
-            ("good_sum", of_count(measures.good_sum)),
-            ("good_count", of_count(measures.good_count)),
-            ("detection", of_detection(measures.detection)),
-        ],
-    )
+    let values = [
+        ("mistakes", Value::Count(measures.mistakes)),
+        ("mistake_ticks", Value::Count(measures.mistake_ticks)),
+        ("recurrence_sum", Value::Count(measures.recurrence_sum)),
+        ("recurrence_count", Value::Count(measures.recurrence_count)),
+        ("duration_sum", Value::Count(measures.duration_sum)),
+        ("duration_count", Value::Count(measures.duration_count)),
+        ("good_sum", Value::Count(measures.good_sum)),
+        ("good_count", Value::Count(measures.good_count)),
+        ("detection", of_detection(measures.detection)),
+    ];
+    push_values(rows, about, &values)
 }
 
 /// Adds the rows of what a process decided.
@@ -170,13 +161,10 @@ pub(crate) fn push_decision(rows: &mut Rows, outcome: &Outcome) -> Result<(), Al
         observer: outcome.pid.number(),
         subject: 0,
     };
-    push_values(
-        rows,
-        &about,
-        &[
-            ("value", of_answer(outcome.value)),
-            ("tick", of_tick(outcome.tick)),
-            ("rounds", of_count(outcome.rounds)),
-        ],
-    )
+    let values = [
+        ("value", of_answer(outcome.value)),
+        ("tick", of_tick(outcome.tick)),
+        ("rounds", Value::Count(outcome.rounds)),
+    ];
+    push_values(rows, about, &values)
 }

@@ -1,5 +1,5 @@
 //! Values of a report.
-ghost use Rattle.std.specs.Prelude.{◌≡◌, decimal};
+ghost use Rattle.std.specs.Prelude.{◌≡◌};
 ghost use Rattle.reporting.specs.Inside.Values.{value_text};
 ghost use Rattle.reporting.specs.ReportText.{truth_text, tick_text, detection_text, answer_text};
 
@@ -8,10 +8,14 @@ use itoa::Buffer;
 use judges::Answer;
 
 /// What a row of a report tells.
-#[derive(Clone, Copy, PartialEq, Eq)]
+#[derive(Clone, Copy)]
 pub(crate) enum Value {
     /// A number, as a plain decimal.
-    Number(u128),
+    Number(u32),
+    /// A count.
+    Count(u64),
+    /// A sum of counts.
+    Sum(u128),
     /// A word.
     Word(&'static str),
 }
@@ -19,22 +23,17 @@ pub(crate) enum Value {
 impl Value {
     ghost use Rattle.reporting.specs.Inside.Values.{value_text};
 
-    /// The text of the value, in the buffer where it is a number.
+    /// The text of the value, in the buffer where it is a decimal.
     pub(crate) fn text<'a>(self, buffer: &'a mut Buffer) -> &'a str
         ensures { result.now ≡ value_text self }
     {
         match self {
             Value::Number(number) => buffer.format(number),
+            Value::Count(count) => buffer.format(count),
+            Value::Sum(sum) => buffer.format(sum),
             Value::Word(word) => word,
         }
     }
-}
-
-/// A number.
-pub(crate) fn of_count(count: u64) -> Value
-    ensures { value_text result ≡ decimal count }
-{
-    Value::Number(u128::from(count))
 }
 
 /// Whether something holds.
@@ -50,7 +49,7 @@ pub(crate) fn of_tick(tick: Option<u32>) -> Value
 {
     match tick {
         None => Value::Word("none"),
-        Some(tick) => Value::Number(u128::from(tick)),
+        Some(tick) => Value::Number(tick),
     }
 }
 
@@ -61,7 +60,7 @@ pub(crate) fn of_detection(detection: Detection) -> Value
     match detection {
         Detection::Na => Value::Word("na"),
         Detection::NoTick => Value::Word("none"),
-        Detection::At(ticks) => Value::Number(u128::from(ticks)),
+        Detection::At(ticks) => Value::Number(ticks),
     }
 }
 
@@ -72,6 +71,6 @@ pub(crate) fn of_answer(answer: Answer) -> Value
     match answer {
         Answer::None => Value::Word("none"),
         Answer::NoValue => Value::Word("novalue"),
-        Answer::Value(value) => Value::Number(u128::from(value)),
+        Answer::Value(value) => Value::Number(value),
     }
 }
