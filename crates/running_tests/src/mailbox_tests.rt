@@ -9,9 +9,7 @@ use process_api::{Key, Letter, Payload, Pid};
 use std::alloc::{AllocError, Global};
 use std::process::Abort;
 use std::sync::Wait;
-use std::test::Fail;
-use std::thread;
-use std::thread::Threads;
+use std::thread::{Threads, join_mut};
 
 /// A letter of process 1 with this number.
 fn letter(receiver: Pid, number: u64) -> Letter
@@ -60,23 +58,26 @@ fn have_numbers<R: Abort>(rt: &R, alloc: Global, lists: &[Vec<Letter>], wanted: 
 
 /// The letters of two slips come to their receivers, and one that is posted twice comes twice.
 #[test]
-fn letters_of_slips(rt: HostRuntime) -> Result<(), Fail> {
+fn letters_of_slips(rt: HostRuntime) {
     let alloc = rt.alloc();
-    let mut mailboxes = Mailboxes::new(alloc, 3)?;
-    let mut first = mailboxes.slip(alloc)?;
-    let mut second = mailboxes.slip(alloc)?;
+    let mut mailboxes = Mailboxes::new(alloc, 3).expect(&rt, NO_MEMORY);
+    let mut first = mailboxes.slip(alloc).expect(&rt, NO_MEMORY);
+    let mut second = mailboxes.slip(alloc).expect(&rt, NO_MEMORY);
     post(&rt, &mailboxes, &mut first, 2, 1);
     post(&rt, &mailboxes, &mut first, 3, 2);
     post(&rt, &mailboxes, &mut second, 2, 3);
-    let lists = mailboxes.collect(&rt, alloc, vec![in alloc; first, second]?)?;
+    let slips = vec![in alloc; first, second].expect(&rt, NO_MEMORY);
+    let lists = mailboxes.collect(&rt, alloc, slips);
+    let lists = lists.expect(&rt, NO_MEMORY);
     have_numbers(&rt, alloc, &lists, &[&[], &[1, 3], &[2]]);
-    let mut mailboxes = Mailboxes::new(alloc, 3)?;
-    let mut slip = mailboxes.slip(alloc)?;
+    let mut mailboxes = Mailboxes::new(alloc, 3).expect(&rt, NO_MEMORY);
+    let mut slip = mailboxes.slip(alloc).expect(&rt, NO_MEMORY);
     post(&rt, &mailboxes, &mut slip, 2, 1);
     post(&rt, &mailboxes, &mut slip, 2, 1);
-    let lists = mailboxes.collect(&rt, alloc, vec![in alloc; slip]?)?;
+    let slips = vec![in alloc; slip].expect(&rt, NO_MEMORY);
+    let lists = mailboxes.collect(&rt, alloc, slips);
+    let lists = lists.expect(&rt, NO_MEMORY);
     have_numbers(&rt, alloc, &lists, &[&[], &[1, 1], &[]]);
-    Ok(())
 }
 
 /// Empties mailboxes of which one slip was made.
@@ -98,10 +99,10 @@ fn empty<R: Abort + Wait>(
 }
 
 #[test]
-fn emptied_mailboxes_are_used_again(rt: HostRuntime) -> Result<(), Fail> {
+fn emptied_mailboxes_are_used_again(rt: HostRuntime) {
     let alloc = rt.alloc();
-    let mut mailboxes = Mailboxes::new(alloc, 3)?;
-    let mut slip = mailboxes.slip(alloc)?;
+    let mut mailboxes = Mailboxes::new(alloc, 3).expect(&rt, NO_MEMORY);
+    let mut slip = mailboxes.slip(alloc).expect(&rt, NO_MEMORY);
     post(&rt, &mailboxes, &mut slip, 2, 1);
     let (mut mailboxes, lists) = empty(&rt, alloc, mailboxes, slip);
     have_numbers(&rt, alloc, &lists, &[&[], &[1], &[]]);
@@ -110,62 +111,62 @@ fn emptied_mailboxes_are_used_again(rt: HostRuntime) -> Result<(), Fail> {
     post(&rt, &mailboxes, &mut slip, 2, 3);
     let (mailboxes, lists) = empty(&rt, alloc, mailboxes, slip);
     have_numbers(&rt, alloc, &lists, &[&[], &[3], &[2]]);
-    let lists = mailboxes.collect(&rt, alloc, Vec::new(alloc))?;
+    let lists = mailboxes.collect(&rt, alloc, Vec::new(alloc));
+    let lists = lists.expect(&rt, NO_MEMORY);
     have_numbers(&rt, alloc, &lists, &[&[], &[], &[]]);
-    Ok(())
 }
 
 #[test]
-fn no_slip_no_letter(rt: HostRuntime) -> Result<(), Fail> {
+fn no_slip_no_letter(rt: HostRuntime) {
     let alloc = rt.alloc();
     for n in [0, 1, 256] {
-        let lists = Mailboxes::new(alloc, n)?.collect(&rt, alloc, Vec::new(alloc))?;
+        let mailboxes = Mailboxes::new(alloc, n).expect(&rt, NO_MEMORY);
+        let lists = mailboxes.collect(&rt, alloc, Vec::new(alloc));
+        let lists = lists.expect(&rt, NO_MEMORY);
         same(&rt, &lists.len(), &usize::from(n));
         for list in &lists {
             assert!(rt; list.is_empty());
         }
     }
-    Ok(())
 }
 
 /// Posts letters with 1,000 numbers from `first` to this receiver.
-fn post_many<R: Wait>(
+fn post_many<R: Abort + Wait>(
     rt: &R,
     mailboxes: &SharedMailboxes,
-    mut slip: Slip,
+    slip: &mut Slip,
     receiver: Pid,
     first: u64,
-) -> Result<Slip, Letter>
-    requires slip { IsSlipOf mailboxes.now slip }
+)
+    requires slip { IsSlipOf mailboxes.now slip.old }
     requires receiver { receiver ≤ length mailboxes.now }
     requires first { first ≤ 1000000 }
-    ensures slip { IfOk result (λ s. IsSlipOf mailboxes.now s) }
+    ensures slip { IsSlipOf mailboxes.now slip.new }
 {
     for number in first..first + 1000 {
-        mailboxes.post(rt, &mut slip, letter(receiver, number))?;
+        let posted = mailboxes.post(rt, slip, letter(receiver, number));
+        assert!(rt; posted.is_ok());
     }
-    Ok(slip)
 }
 
 #[test]
-fn two_threads_post_to_one_receiver(rt: HostRuntime) -> Result<(), Fail> {
+fn two_threads_post_to_one_receiver(rt: HostRuntime) {
     let alloc = rt.alloc();
     let two = pid(2);
-    let mut mailboxes = Mailboxes::new(alloc, 3)?;
-    let first = mailboxes.slip(alloc)?;
-    let second = mailboxes.slip(alloc)?;
+    let mut mailboxes = Mailboxes::new(alloc, 3).expect(&rt, NO_MEMORY);
+    let mut first = mailboxes.slip(alloc).expect(&rt, NO_MEMORY);
+    let mut second = mailboxes.slip(alloc).expect(&rt, NO_MEMORY);
     let shared = mailboxes.shared();
-    let (first, second) = thread::join(
+    join_mut(
         &rt,
-        || post_many(&rt, shared, first, two, 1),
-        || post_many(&rt, shared, second, two, 1001),
+        &mut || post_many(&rt, shared, &mut first, two, 1),
+        &mut || post_many(&rt, shared, &mut second, two, 1001),
     );
-    let refused = "a post was refused";
-    let slips = vec![in alloc; first.ok().ok_or(refused)?, second.ok().ok_or(refused)?]?;
-    let lists = mailboxes.collect(&rt, alloc, slips)?;
-    let numbers = numbers(alloc, lists.get(1).ok_or("no list")?)?;
-    assert!(rt; numbers.iter().copied().eq(1..=2000));
-    Ok(())
+    let slips = vec![in alloc; first, second].expect(&rt, NO_MEMORY);
+    let lists = mailboxes.collect(&rt, alloc, slips);
+    let lists = lists.expect(&rt, NO_MEMORY);
+    let came = numbers(alloc, &lists[1]).expect(&rt, NO_MEMORY);
+    assert!(rt; came.iter().copied().eq(1..=2000));
 }
 
 /// Posts to three of five receivers by two slips, and empties the mailboxes by so many threads.
@@ -193,13 +194,12 @@ fn post_and_empty_by<R: Abort + Threads + Wait + Sync>(
 }
 
 #[test]
-fn emptied_by_several_threads(rt: HostRuntime) -> Result<(), Fail> {
+fn emptied_by_several_threads(rt: HostRuntime) {
     let alloc = rt.alloc();
-    let mut mailboxes = Mailboxes::new(alloc, 5)?;
+    let mut mailboxes = Mailboxes::new(alloc, 5).expect(&rt, NO_MEMORY);
     for threads in [1, 2, 4, 9] {
         let (emptied, lists) = post_and_empty_by(&rt, alloc, threads, mailboxes);
         have_numbers(&rt, alloc, &lists, &[&[], &[1, 4], &[3], &[], &[2]]);
         mailboxes = emptied;
     }
-    Ok(())
 }
