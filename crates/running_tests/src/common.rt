@@ -3,6 +3,8 @@ ghost use Rattle.std.specs.Prelude.{◌≡◌, ◌≤◌};
 ghost use Rattle.process_api.specs.Bounds.{most_processes};
 
 use process_api::{Key, Pid};
+use scenario::{Scenario, read_scenario};
+use std::alloc::Global;
 use std::fmt::Debug;
 use std::process::Abort;
 
@@ -12,6 +14,12 @@ pub const NO_MEMORY: &str = "memory was refused";
 /// What came is what was wanted.
 pub fn same<R: Abort, T: PartialEq + Debug>(rt: &R, came: &T, wanted: &T) {
     assert_eq!(rt; came, wanted);
+}
+
+/// The scenario of a file.
+pub fn scenario_of<R: Abort>(rt: &R, alloc: Global, file: &str) -> Scenario {
+    let read = read_scenario(alloc, file.as_bytes());
+    read.expect(rt, "the file was refused")
 }
 
 /// The process of this number.

@@ -1,29 +1,34 @@
 //! Words and fates with values from outside: they were computed by a program of its own, written apart from this one
 //! and checked with the block of RFC 8439, section 2.3.2, and the 8-round vectors of
 //! draft-strombergson-chacha-test-vectors.
-use crate::common::same;
+ghost use Rattle.std.specs.Prelude.{◌≡◌};
+
+use crate::common::{NO_MEMORY, pid, same, scenario_of};
 use process_api::Pid;
 use rand_chacha::ChaCha8Rng;
 use rand_core::{Rng, SeedableRng};
-use scenario::{Scenario, read_scenario};
+use scenario::Scenario;
 use std::alloc::Global;
-use std::test::Fail;
+use std::process::Abort;
 use streams::{Fate, LinkWords, Streams};
 
 /// Links that lose three letters of ten.
 const LOSSY: &str = "[link]\nmin = 2\nmax = 9\nloss = 300\n";
 
 /// A scenario of five processes with this seed and these links.
-fn scenario(alloc: Global, seed: u64, links: &str) -> Result<Scenario, Fail> {
+fn scenario<R: Abort>(rt: &R, alloc: Global, seed: u64, links: &str) -> Scenario {
     let text = format!(in alloc;
         "version = 2\nprocesses = 5\nhorizon = 200\nlookahead = 2\nseed = {seed}\nalgorithm = \"none\"\n\
          [detector]\nperiod = 5\ncheck = 3\ntimeout = 12\ngrow = 2\n{links}"
-    )?;
-    Ok(read_scenario(alloc, text.as_bytes())?)
+    );
+    scenario_of(rt, alloc, &text.expect(rt, NO_MEMORY))
 }
 
-fn pid(number: u16) -> Result<Pid, Fail> {
-    Ok(Pid::new(number).ok_or("no process")?)
+/// The process of a number that may be out of range.
+fn process<R: Abort>(rt: &R, number: u16) -> Pid
+    ensures { result ≡ number }
+{
+    Pid::new(number).expect(rt, "no process")
 }
 
 /// Kept words of the links to processes 1 to 5, each at the receiver's place.
@@ -40,25 +45,24 @@ fn words_of_links() -> [LinkWords; 6] {
 
 /// Letters 1 to 12 of a link, each sent at the tick of its number and asked for in their turn: their delays, and 0 for
 /// a lost one.
-fn delays(scenario: &Scenario, from: u16, to: u16) -> Result<[u32; 12], Fail> {
+fn delays<R: Abort>(rt: &R, scenario: &Scenario, from: u16, to: u16) -> [u32; 12] {
     let streams = Streams::new(scenario);
     let mut words = words_of_links();
-    let (from, to) = (pid(from)?, pid(to)?);
+    let last = scenario.processes();
+    assert!(rt; from != to && from <= last && to <= last);
+    let (from, to) = (process(rt, from), process(rt, to));
     let mut delays = [0u32; 12];
-    if from == to || from.number() > scenario.processes() || to.number() > scenario.processes() {
-        return Ok(delays);
-    }
     for place in 0..12usize {
         let fate = streams.next_fate(from, to, place as u64 + 1, place as u32 + 1, &mut words);
         if let Fate::Delay(ticks) = fate {
             delays[place] = ticks;
         }
     }
-    Ok(delays)
+    delays
 }
 
 /// The places of the words in `WORDS`.
-const PLACES: [u128; 7] = [0, 1, 2, 15, 16, 17, 1000];
+const PLACES: [u16; 7] = [0, 1, 2, 15, 16, 17, 1000];
 
 /// Words of a link's stream under a seed: the seed, the link's ends, and the words at `PLACES`.
 const WORDS: [(u64, u16, u16, [u32; 7]); 6] = [
@@ -113,20 +117,17 @@ const WORDS: [(u64, u16, u16, [u32; 7]); 6] = [
 ];
 
 #[test]
-fn words_of_streams(rt: HostRuntime) -> Result<(), Fail> {
+fn words_of_streams(rt: HostRuntime) {
     for (seed, from, to, words) in WORDS {
-        let (sender, receiver) = (pid(from)?, pid(to)?);
+        let (sender, receiver) = (process(&rt, from), process(&rt, to));
         let mut kept = LinkWords::new();
         let mut came = [0u32; 7];
         for index in 0..7usize {
-            let place = PLACES[index];
-            if place <= 1000 {
-                came[index] = kept.pair_at(seed, sender, receiver, place).0;
-            }
+            let place = u128::from(PLACES[index]);
+            came[index] = kept.pair_at(seed, sender, receiver, place).0;
         }
         same(&rt, &(seed, (from, to), came), &(seed, (from, to), words));
     }
-    Ok(())
 }
 
 /// Lossy links, of which one loses nothing.
@@ -164,51 +165,58 @@ const DELAYS: [(&str, (u16, u16), [u32; 12]); 12] = [
 ];
 
 #[test]
-fn fates_of_links(rt: HostRuntime) -> Result<(), Fail> {
+fn fates_of_links(rt: HostRuntime) {
     for (links, (from, to), wanted) in DELAYS {
-        let scenario = scenario(rt.alloc(), 1, links)?;
-        let came = delays(&scenario, from, to)?;
+        let scenario = scenario(&rt, rt.alloc(), 1, links);
+        let came = delays(&rt, &scenario, from, to);
         same(
             &rt,
             &(links, (from, to), came),
             &(links, (from, to), wanted),
         );
     }
-    Ok(())
 }
 
-/// The words of a link's stream, read one after the other from place 0.
-#[test]
-fn any_order_gives_the_same(rt: HostRuntime) -> Result<(), Fail> {
-    let scenario = scenario(rt.alloc(), 258, LOSSY)?;
-    let streams = Streams::new(&scenario);
+/// The words of the stream of the link from process 3 to 4 under seed 258, read one after the other from place 0.
+fn words_in_turn<R: Abort>(rt: &R, alloc: Global) -> Vec<u32> {
     let mut key = [0u8; 32];
     key[0] = 2;
     key[1] = 1;
     let mut generator = ChaCha8Rng::from_seed(key);
     generator.set_stream(2 * 65536 + 3);
-    let mut words = Vec::new(rt.alloc());
+    let mut words = Vec::new(alloc);
     for _ in 0..200u32 {
-        words.push(generator.next_u32())?;
+        let pushed = words.push(generator.next_u32());
+        pushed.expect(rt, NO_MEMORY);
     }
+    words
+}
+
+/// What becomes of a letter with these words over `LOSSY` links.
+fn fate_by(first: u32, second: u32) -> Fate {
+    if first % 1000 < 300 {
+        Fate::Lost
+    } else {
+        Fate::Delay(2 + second % 8)
+    }
+}
+
+#[test]
+fn any_order_gives_the_same(rt: HostRuntime) {
+    let words = words_in_turn(&rt, rt.alloc());
+    let scenario = scenario(&rt, rt.alloc(), 258, LOSSY);
     assert!(rt; scenario.processes() == 5);
-    let (from, to) = (pid(3)?, pid(4)?);
-    assert!(rt; from.number() == 3 && to.number() == 4);
+    let streams = Streams::new(&scenario);
+    let (from, to) = (pid(3), pid(4));
     let mut kept = words_of_links();
     for number in (1..=100u64).rev() {
         let at = 2 * (number as usize - 1);
         assert!(rt; at + 1 < words.len());
-        let (a, b) = (words[at], words[at + 1]);
-        let fate = if a % 1000 < 300 {
-            Fate::Lost
-        } else {
-            Fate::Delay(2 + b % 8)
-        };
+        let fate = fate_by(words[at], words[at + 1]);
         for sent_at in [0, 199, u32::MAX] {
             let one = streams.fate(from, to, number, sent_at);
             let next = streams.next_fate(from, to, number, sent_at, &mut kept);
             same(&rt, &(one, next), &(fate, fate));
         }
     }
-    Ok(())
 }
