@@ -1,7 +1,7 @@
 //! The command line, with its help.
-ghost use Rattle.std.specs.Prelude.{◌≡◌, Some, false};
-ghost use Rattle.clap.specs.Words.{App, rule_of, with_rule, with_subcommand};
-ghost use Rattle.study_line.specs.Commands.{HasRule, Makes, axis_rule, check_app, draw_app, letters_app, option_rule, path_rule, point_rule, run_rule, show_app, study_app, sweep_app, threads_rule, tick_rule, whole_app, with_grid, with_path, with_table};
+ghost use Rattle.std.specs.Prelude.{Some};
+ghost use Rattle.clap.specs.Words.{App, Rule, with_rule, with_subcommand};
+ghost use Rattle.study_line.specs.Commands.{HasRule, Makes, axis_rule, check_app, draw_app, letters_app, option_rule, path_rule, point_rule, run_rule, show_app, study_app, sweep_app, threads_rule, tick_rule, whole_app, with_grid, with_path};
 
 use clap::builder::ValueParser;
 use clap::{Arg, ArgAction, Command, value_parser};
@@ -137,8 +137,8 @@ type Made<'a> = Result<Command<'a>, AllocError>;
 
 /// A command with one argument more.
 fn with_argument<'a>(command: Made<'a>, argument: Arg<'a>) -> Made<'a>
-    requires local { argument.global ≡ false }
-    ensures { (app : App) → Makes app command.entry → Makes (with_rule app (rule_of argument.entry)) result }
+    ensures { (app : App) (rule : Rule) → HasRule rule argument.entry → Makes app command.entry
+        → Makes (with_rule app rule) result }
 {
     let command = command?;
     command.arg(argument)
@@ -250,14 +250,6 @@ fn grid_command<'a>(
     with_argument(command, axis_option(alloc, "deal", DEAL))
 }
 
-/// A command with the options that say what the table of a study has.
-fn with_table_options<'a>(alloc: Global, command: Made<'a>) -> Made<'a>
-    ensures { (app : App) → Makes app command.entry → Makes (with_table app) result }
-{
-    let command = with_argument(command, option(alloc, "columns", "NAME,..", COLUMNS, false));
-    with_argument(command, option(alloc, "each", "WHAT", EACH, false))
-}
-
 /// A command that takes a scenario file and the options that say a study.
 fn study_command<'a>(
     alloc: Global,
@@ -270,7 +262,9 @@ fn study_command<'a>(
 {
     let command = grid_command(alloc, name, about, example, needed);
     let command = with_argument(command, option(alloc, "shard", "K/N", SHARD, false));
-    with_table_options(alloc, with_argument(command, threads_option(alloc)))
+    let command = with_argument(command, threads_option(alloc));
+    let command = with_argument(command, option(alloc, "columns", "NAME,..", COLUMNS, false));
+    with_argument(command, option(alloc, "each", "WHAT", EACH, false))
 }
 
 /// `draw SCENARIO --as PICTURE [--from T] [--until T] [--of P,Q]`

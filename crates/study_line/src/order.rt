@@ -12,7 +12,7 @@ use printable::Printable;
 use std::alloc::{AllocError, Global};
 
 /// Which runs a study has, by texts that are still to be read.
-#[derive(Debug, Drop)]
+#[derive(Drop)]
 pub struct GridTexts<'a> {
     /// The seeds, as `1..=20`.
     pub seeds: &'a str,
@@ -25,7 +25,7 @@ pub struct GridTexts<'a> {
 }
 
 /// A study, by texts that are still to be read.
-#[derive(Debug, Drop)]
+#[derive(Drop)]
 pub struct StudyTexts<'a> {
     /// Which runs it has.
     pub grid: GridTexts<'a>,
@@ -40,7 +40,7 @@ pub struct StudyTexts<'a> {
 }
 
 /// What a row of a study's table tells of.
-#[derive(Clone, Copy, Debug, PartialEq, Eq)]
+#[derive(Clone, Copy)]
 pub enum Each {
     /// All runs of a point, added up.
     Point,
@@ -49,7 +49,7 @@ pub enum Each {
 }
 
 /// Which picture of a run is drawn.
-#[derive(Clone, Copy, Debug, PartialEq, Eq)]
+#[derive(Clone, Copy)]
 pub enum Picture {
     /// Who suspects whom.
     Suspicions,
@@ -58,7 +58,7 @@ pub enum Picture {
 }
 
 /// What a command line asks for. The path `-` is standard input.
-#[derive(Debug, Drop)]
+#[derive(Drop)]
 pub enum Order<'a> {
     /// To say whether the scenario file, or the scenario of each run of a study, is accepted, and where and why it
     /// isn't.
@@ -107,7 +107,7 @@ pub enum Order<'a> {
 }
 
 /// Why words state no order, with what is to be told of them.
-#[derive(Debug, Drop)]
+#[derive(Drop)]
 pub enum WordsError {
     /// They ask for help, which is this.
     Help(String),
@@ -143,10 +143,7 @@ fn text_at<'a>(found: &ArgMatches<'a>, id: &str) -> Result<&'a str, WordsError>
 fn lacks(found: &ArgMatches<'_>, id: &str) -> bool
     ensures { result ≡ is_missing (rows_of (found_of found.now)) id.now }
 {
-    match text_if_at(found, id) {
-        Some(_) => false,
-        None => true,
-    }
+    text_if_at(found, id).is_none()
 }
 
 /// The texts of all uses of an argument.
@@ -348,14 +345,12 @@ fn read_matches<'a>(alloc: Global, matches: &ArgMatches<'a>) -> Result<Order<'a>
 /// What `clap` tells of words that it answers with this error. The words that it quotes are told without control
 /// characters: it reads them once more, as they are printed.
 fn text_of(alloc: Global, words: &[&str], error: &clap::Error) -> Result<String, AllocError> {
-    let shown: Vec<String> = words
-        .iter()
-        .map(|word| Printable(word).to_string(alloc))
-        .try_collect(alloc)?;
-    match command(alloc)?.try_get_matches_from(&shown) {
-        Ok(_) => error.to_string(alloc),
-        Err(error) => error.to_string(alloc),
+    let mut shown = Vec::new(alloc);
+    for word in words {
+        shown.push(Printable(word).to_string(alloc)?)?;
     }
+    let told = command(alloc)?.try_get_matches_from(&shown).err();
+    told.as_ref().unwrap_or(error).to_string(alloc)
 }
 
 /// What is told of words that `clap` refuses, or for which it shows help.

@@ -1,6 +1,6 @@
-use Rattle.std.proofs.Common.{◌≡◌, rules, subst}
-use Rattle.clap.specs.Words.{app_of, new_app, with_rule}
-use Rattle.study_line.specs.Commands.{IsLocal, Makes}
+use Rattle.std.proofs.Common.{◌≡◌, rules}
+use Rattle.clap.specs.Words.{app_of, new_app}
+use Rattle.study_line.specs.Commands.{IsLocal, path_rule}
 use Rattle.study_line.proofs.command.path_command.Goals as goal
 
 pub returns : goal.returns
@@ -8,5 +8,4 @@ returns c =
     let app = new_app c.args.name.now in
     let begun : app_of c.after_help-command.result ≡ app = search rules in
     let local : IsLocal c.after_help-command.result = search rules in
-    subst (λ r. Makes (with_rule app r) c.with_argument.result) c.path_argument.ensures.0
-    (c.with_argument.ensures app (begun, local))
+    c.with_argument.ensures app path_rule c.path_argument.ensures (begun, local)

@@ -1,4 +1,4 @@
-use Rattle.std.proofs.Common.{◌∙◌, ap, map, ◌++◌, Bor, List, ℕ}
+use Rattle.std.proofs.Common.{◌∙◌, ap, map, ◌++◌, Bor, List, refl, ℕ}
 use Rattle.clap.specs.Words.{found_of}
 use Rattle.clap.proofs.WalkLemmas.{raw_values-rows}
 use Rattle.study_line.proofs.Words.{all_texts}
@@ -9,5 +9,5 @@ returns-in-Ok-clause-stated c =
     ap (map (λ (t : Bor (List ℕ)). t.now))
     (c.in-Ok.ensures.items ∙ ap (λ items. items ++ c.unwrap_or-all.result.now) c.new-texts.ensures.items)
     ∙ (ap (λ (s : Bor (List (Bor (List ℕ)))). map (λ t. t.now) s.now) c.unwrap_or-all.ensures
-    ∙ all_texts c.get_strs.result _ _ (cc) (c.get_strs.ensures ∙ raw_values-rows (found_of c.args.found.now)
+    ∙ all_texts c.get_strs.result _ _ refl (c.get_strs.ensures ∙ raw_values-rows (found_of c.args.found.now)
     c.args.id.now))

@@ -1,0 +1,7 @@
+use Rattle.study_line.proofs.command.draw_command.Goals as goal
+
+pub returns : goal.returns
+returns c =
+    c.with_argument.ensures _ _ c.option-2.ensures (c.with_argument-command-3.ensures _ _ c.tick_option-2.ensures
+    (c.with_argument-command-2.ensures _ _ c.tick_option.ensures
+    (c.with_argument-command.ensures _ _ c.option.ensures c.path_command-command.ensures)))
