@@ -13,6 +13,7 @@ use crate::range::{Range, RangeWords};
 use crate::range_words::read_range;
 use crate::setting::Setting;
 use crate::setting_words::{range_in, read_setting};
+use crate::words::words_between;
 use std::alloc::{AllocError, Global};
 
 /// How many values an axis may have that words say.
@@ -89,15 +90,6 @@ fn push_single(alloc: Global, values: &mut Vec<Vec<Setting>>, word: &str) -> Add
     let setting = read_setting(alloc, word)?;
     let value = value_of(alloc, setting).map_err(AxisError::Memory)?;
     push_value(values, value)
-}
-
-/// The words between all places at which this character stands, which is one of ASCII.
-fn words_between(alloc: Global, words: &str, mark: char) -> Result<Vec<&str>, AllocError>
-    requires { mark < 128 }
-    ensures value { IfOk result (λ v. map (λ x. x.now) v.items ≡ between mark words.now) }
-    ensures some { IfOk result (λ v. 1 ≤ length v.items) }
-{
-    words.split(mark).collect(alloc)
 }
 
 /// The settings of the parts of a value.

@@ -44,3 +44,4 @@ pub use seeds::Seeds;
 pub use setting::Setting;
 pub use shard::{Shard, law_shards};
 pub use text::scenario_text;
+pub use words::{is_natural_word, natural_in, words_between};

@@ -1,8 +1,23 @@
 //! Numbers and bounds, as words of a command line.
-ghost use Rattle.std.specs.Prelude.{◌≡◌, ◌≤◌, ◌<◌, ◌^◌, true, false, MatchOption, option_map};
+ghost use Rattle.std.specs.Prelude.{◌≡◌, ◌≤◌, ◌<◌, ◌^◌, true, false, length, map, IfOk, MatchOption, option_map};
 ghost use Rattle.std.specs.Char.{is_ascii_digit};
 ghost use Rattle.std.specs.List.{list_all};
-ghost use Rattle.study.specs.Words.{is_natural, is_integer, natural, integer, fits, bounds};
+ghost use Rattle.study.specs.Words.{between, is_natural, is_integer, natural, integer, fits, bounds};
+
+use std::alloc::{AllocError, Global};
+
+/// The words between all places at which this character stands, which is one of ASCII.
+///
+/// # Errors
+///
+/// `AllocError` where memory was refused.
+pub fn words_between(alloc: Global, words: &str, mark: char) -> Result<Vec<&str>, AllocError>
+    requires { mark < 128 }
+    ensures value { IfOk result (λ v. map (λ x. x.now) v.items ≡ between mark words.now) }
+    ensures some { IfOk result (λ v. 1 ≤ length v.items) }
+{
+    words.split(mark).collect(alloc)
+}
 
 /// Whether all bytes are decimal digits.
 fn are_digits(bytes: &[u8]) -> bool
@@ -12,7 +27,7 @@ fn are_digits(bytes: &[u8]) -> bool
 }
 
 /// Whether a word is a natural number: decimal digits, at least one.
-pub(crate) fn is_natural_word(word: &str) -> bool
+pub fn is_natural_word(word: &str) -> bool
     ensures { result ≡ is_natural word.now }
 {
     !word.is_empty() && are_digits(word.as_bytes())
@@ -20,7 +35,7 @@ pub(crate) fn is_natural_word(word: &str) -> bool
 
 /// A natural number, if 64 bits hold it.
 #[tactic(auto, using(crate::proofs::Numerals::natural_read))]
-pub(crate) fn natural_in(word: &str) -> Option<u64>
+pub fn natural_in(word: &str) -> Option<u64>
     requires { is_natural word.now ≡ true }
     ensures { MatchOption result (2 ^ 64 ≤ natural word.now) (λ n. (n ≡ natural word.now) × (n < 2 ^ 64)) }
 {

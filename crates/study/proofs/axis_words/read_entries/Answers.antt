@@ -1,4 +1,4 @@
-use Rattle.std.proofs.Common.{[], List, ℕ, Bor, map, arith}
+use Rattle.std.proofs.Common.{arith, map}
 use Rattle.std.proofs.lemmas.List.{length-map}
 use Rattle.study.specs.Settings.{settings_in}
 use Rattle.study.specs.AxisWords.{IsFault, first_fault, entries_said}
@@ -6,21 +6,18 @@ use Rattle.study.proofs.KeyNames.{carried}
 use Rattle.study.proofs.Pieces.{fault_at, read_more, all_read}
 use Rattle.study.proofs.axis_words.read_entries.Goals as goal
 
-abbrev nothing : Bor (List ℕ)
-nothing = record { ref_ptr = (0, 0); now = [] }
-
 pub returns-in_err-push_entry-clause-err : goal.returns-in_err-push_entry-clause-err
 returns-in_err-push_entry-clause-err c =
     carried (IsFault (first_fault 1000000 (entries_said c.args.keys (map (λ x. x.now) c.args.words.now)))) c.from_residual.result
     c.in_err-push_entry.field-0.0 c.from_residual.ensures.1
-    (λ other. fault_at c.args.keys c.args.words.now c.loop-word.word-index nothing c.loop-word-test.true
+    (λ other. fault_at c.args.keys c.args.words.now c.loop-word.word-index _ c.loop-word-test.true
     (map settings_in c.loop-word.values.items) c.in_err-push_entry.field-0.0 c.loop-word.invariant.read
     (c.in_err-push_entry.ensures.err other))
 
 pub loop-word-preserved : goal.loop-word-preserved
 loop-word-preserved c =
     let new = c.push_entry.new.values.items in
-    let more = read_more c.args.keys c.args.words.now c.loop-word.word-index nothing c.loop-word-test.true
+    let more = read_more c.args.keys c.args.words.now c.loop-word.word-index _ c.loop-word-test.true
     (map settings_in c.loop-word.values.items) (map settings_in new) c.loop-word.invariant.read c.in_ok-push_entry.ensures.ok in
     record { read = more; room = omega (arith, more.room, length-map new settings_in) }
 

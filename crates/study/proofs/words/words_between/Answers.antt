@@ -4,7 +4,7 @@ use Rattle.std.proofs.lemmas.Iterator.Splits.{YieldsList-from_str_split}
 use Rattle.std.proofs.lemmas.List.{length-map}
 use Rattle.std.proofs.lemmas.List.Splits.{length-slice_split}
 use Rattle.std.proofs.lemmas.Result.{IfOk-weaker}
-use Rattle.study.proofs.axis_words.words_between.Goals as goal
+use Rattle.study.proofs.words.words_between.Goals as goal
 
 pub returns-clause-value : goal.returns-clause-value
 returns-clause-value c =
