@@ -9,7 +9,7 @@ use crate::words::{bounds_in, is_natural_word, natural_up_to};
 const MOST: u64 = i64::MAX as u64;
 
 /// The seeds of a study: all from a first to a last.
-#[derive(Clone, Copy)]
+#[derive(Clone, Copy, Debug, PartialEq, Eq)]
 pub struct Seeds {
     /// The first seed, 0 to 9,223,372,036,854,775,807.
     pub first: u64,

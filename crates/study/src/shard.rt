@@ -7,7 +7,7 @@ use std::marker::Model;
 use std::ops::Range;
 
 /// The K-th of N consecutive blocks of a study's points.
-#[derive(Clone, Copy)]
+#[derive(Clone, Copy, Debug, PartialEq, Eq)]
 pub struct Shard {
     number: u32,
     of: u32,
