@@ -201,12 +201,8 @@ impl KeyFault {
             (λ t. fault_of self (fields_at place (table_view top.now) t) t) (table_in table.entry) false }
         ensures finding { IfSome result (Breaks (error_of self) (table_view top.now)) }
     {
-        let Some(table) = table else {
-            return None;
-        };
-        let Some(fault) = self.of_table(top, place, table) else {
-            return None;
-        };
+        let table = table?;
+        let fault = self.of_table(top, place, table)?;
         Some(Finding::At { place, fault })
     }
 

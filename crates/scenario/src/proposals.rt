@@ -24,9 +24,7 @@ fn proposal_of(number: i64) -> Option<u32>
     ensures none { is_none result ≡ is_bad_proposal number }
     ensures value { IfSome result (λ p. p ≡ natural number) }
 {
-    let Some(value) = natural(number) else {
-        return None;
-    };
+    let value = natural(number)?;
     if value > u64::from(u32::MAX) {
         return None;
     }

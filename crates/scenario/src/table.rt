@@ -24,10 +24,7 @@ pub(crate) fn value_at<'a>(table: &'a Table, key: &str) -> Option<&'a Value>
 pub(crate) fn integer_at(table: &Table, key: &str) -> Option<i64>
     ensures { result ≡ integer_in key.now (table_view table.now) }
 {
-    match value_at(table, key) {
-        Some(value) => value.as_integer(),
-        None => None,
-    }
+    value_at(table, key)?.as_integer()
 }
 
 /// Whether the integer at a key is this one.
@@ -44,10 +41,7 @@ pub(crate) fn has_integer_at(table: &Table, key: &str, value: i64) -> bool
 pub(crate) fn text_at<'a>(table: &'a Table, key: &str) -> Option<&'a str>
     ensures { option_copied result ≡ text_in key.now (table_view table.now) }
 {
-    match value_at(table, key) {
-        Some(value) => value.as_str(),
-        None => None,
-    }
+    value_at(table, key)?.as_str()
 }
 
 /// The integer at a key, or the default where there is none.
@@ -98,10 +92,7 @@ pub(crate) fn text<'a>(table: &'a Table, key: &str, default: &'a str) -> &'a str
 pub(crate) fn inner_table<'a>(table: &'a Table, key: &str) -> Option<&'a Table>
     ensures { table_in result ≡ table_at key.now (table_view table.now) }
 {
-    match value_at(table, key) {
-        Some(value) => value.as_table(),
-        None => None,
-    }
+    value_at(table, key)?.as_table()
 }
 
 /// Whether each value is an integer.
@@ -147,10 +138,7 @@ pub fn inner_array<'a>(table: &'a Table, key: &str) -> Option<&'a Vec<Value>>
     ensures { option_map (λ v. array_view v.now) result
         ≡ option_and_then as_array (get_member key.now (table_view table.now)) }
 {
-    match value_at(table, key) {
-        Some(value) => value.as_array(),
-        None => None,
-    }
+    value_at(table, key)?.as_array()
 }
 
 /// The tables of the array of tables at a key; none where there is no such array.
@@ -249,9 +237,7 @@ fn mistyped_field(field: &Field, table: &Table) -> Option<WrongKind>
     ensures test { is_some result ≡ is_mistyped (field_of field.now) (table_view table.now) }
     ensures wrong { IfSome result (IsWrongKindOf (field_of field.now) (table_view table.now)) }
 {
-    let Some(value) = value_at(table, field.key) else {
-        return None;
-    };
+    let value = value_at(table, field.key)?;
     if field.kind.takes(value) {
         return None;
     }
