@@ -27,21 +27,15 @@ none_read gives o (Some n) value none t there = let bad : true ≡ false = none 
 
 module _ (rows : List Row) where
   -- without its workers `run` or `compare` asks for nothing, nor without its window
-  pub run_lacks_workers : ((n : ℕ) → IsNumberAt (codes "workers") rows n → ⊥) → (asked : Order) → StatesRun rows asked → ⊥
-  run_lacks_workers none (order.Run path workers window print) h = none workers h.1
-  run_lacks_workers none _ h = h
+  pub lacks_workers : ((n : ℕ) → IsNumberAt (codes "workers") rows n → ⊥) → (asked : Order) → (StatesRun rows asked → ⊥) × (StatesCompare rows asked → ⊥)
+  lacks_workers none (order.Run path workers window print) = (λ h. none workers h.1, λ h. h)
+  lacks_workers none (order.Compare path workers window) = (λ h. h, λ h. none workers h.1)
+  lacks_workers none _ = (λ h. h, λ h. h)
 
-  pub run_lacks_window : ((n : ℕ) → IsNumberAt (codes "window") rows n → ⊥) → (asked : Order) → StatesRun rows asked → ⊥
-  run_lacks_window none (order.Run path workers window print) h = none window h.2
-  run_lacks_window none _ h = h
-
-  pub compare_lacks_workers : ((n : ℕ) → IsNumberAt (codes "workers") rows n → ⊥) → (asked : Order) → StatesCompare rows asked → ⊥
-  compare_lacks_workers none (order.Compare path workers window) h = none workers h.1
-  compare_lacks_workers none _ h = h
-
-  pub compare_lacks_window : ((n : ℕ) → IsNumberAt (codes "window") rows n → ⊥) → (asked : Order) → StatesCompare rows asked → ⊥
-  compare_lacks_window none (order.Compare path workers window) h = none window h.2
-  compare_lacks_window none _ h = h
+  pub lacks_window : ((n : ℕ) → IsNumberAt (codes "window") rows n → ⊥) → (asked : Order) → (StatesRun rows asked → ⊥) × (StatesCompare rows asked → ⊥)
+  lacks_window none (order.Run path workers window print) = (λ h. none window h.2, λ h. h)
+  lacks_window none (order.Compare path workers window) = (λ h. h, λ h. none window h.2)
+  lacks_window none _ = (λ h. h, λ h. h)
 
   module _ (name : Text) where
     pub check_asks_nothing : name ≡ codes "check" → ((asked : Order) → StatesCheck rows asked → ⊥) → StatesNothingIn name rows

@@ -1,10 +1,10 @@
 use Rattle.std.proofs.Common.{rules}
 use Rattle.clap.specs.Words.{found_of, rows_of}
-use Rattle.command_line.proofs.Words.{run_lacks_window, run_lacks_workers}
+use Rattle.command_line.proofs.Words.{lacks_window, lacks_workers}
 use Rattle.command_line.proofs.order.read_run.Goals as goal
 
 pub returns-in_err-workers-clause-missing : goal.returns-in_err-workers-clause-missing
-returns-in_err-workers-clause-missing c none = run_lacks_workers (rows_of (found_of c.args.found.now)) (c.number_at.ensures.missing (search rules))
+returns-in_err-workers-clause-missing c none asked = (lacks_workers (rows_of (found_of c.args.found.now)) (c.number_at.ensures.missing (search rules)) asked).0
 
 pub returns-in_err-window-clause-missing : goal.returns-in_err-window-clause-missing
-returns-in_err-window-clause-missing c none = run_lacks_window (rows_of (found_of c.args.found.now)) (c.number_at-2.ensures.missing (search rules))
+returns-in_err-window-clause-missing c none asked = (lacks_window (rows_of (found_of c.args.found.now)) (c.number_at-2.ensures.missing (search rules)) asked).0
