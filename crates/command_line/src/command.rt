@@ -72,10 +72,7 @@ fn with_argument<'a>(command: Made<'a>, argument: Arg<'a>) -> Made<'a>
     requires local { argument.global ≡ false }
     ensures { (app : App) → Makes app command.entry → Makes (with_rule app (rule_of argument.entry)) result }
 {
-    match command {
-        Ok(command) => command.arg(argument),
-        Err(refused) => Err(refused),
-    }
+    command?.arg(argument)
 }
 
 /// A command with one subcommand more.
@@ -83,13 +80,7 @@ fn with_command<'a>(command: Made<'a>, added: Made<'a>) -> Made<'a>
     requires local { IfOk command IsLocal × IfOk added IsLocal }
     ensures { IfOk result (Adds command.entry added.entry) }
 {
-    match command {
-        Ok(command) => match added {
-            Ok(added) => command.subcommand(added),
-            Err(refused) => Err(refused),
-        },
-        Err(refused) => Err(refused),
-    }
+    command?.subcommand(added?)
 }
 
 /// The scenario file.
