@@ -6,7 +6,6 @@ use Rattle.std.proofs.lemmas.List.{length-take}
 use Rattle.shell.specs.Input.{TakesAtMost}
 use Rattle.shell.proofs.input.read_all.Goals as goal
 
--- what was gone before a read, and what it gave
 taken : (a b c : Option (List ℕ)) (xs ys : List ℕ) (k n : ℕ) → Consumes a b xs → Consumes b c (take k ys) → length xs + k ≤ n → TakesAtMost n a c
 taken a b c xs ys k n p q le =
     (xs ++ take k ys, Consumes-trans a b c xs (take k ys) p q, omega (arith, length-append xs (take k ys), length-take k ys))
@@ -16,16 +15,10 @@ longer None b xs n p lt = tt
 longer (Some x) None xs n p lt = absurd p
 longer (Some x) (Some y) xs n p lt = rw p (omega (arith, length-append xs y))
 
-nothing_read : (xs ys : List ℕ) (n : ℕ) → n ≡ 0 → xs ++ take n ys ≡ xs
-nothing_read xs ys n e = rw e (append-nil xs)
-
-pub returns-in-Ok-eq0-clause-end : goal.returns-in-Ok-eq0-clause-end
-returns-in-Ok-eq0-clause-end g c = c.in-Ok-eq0.ensures.bytes.1 c.in-Ok-eq0.field-0-test (grind (arith, common_steps))
-
 pub returns-in-Ok-eq0-clause-whole : goal.returns-in-Ok-eq0-clause-whole
 returns-in-Ok-eq0-clause-whole g c =
     Consumes-whole _ _ _ (λ all. c.loop.bytes.items ≡ all) (Consumes-trans _ _ _ _ _ c.loop.invariant.gone c.in-Ok-eq0.ensures.bytes.0)
-    (returns-in-Ok-eq0-clause-end g c) (sym (nothing_read _ _ _ c.in-Ok-eq0.field-0-test))
+    (c.in-Ok-eq0.ensures.bytes.1 c.in-Ok-eq0.field-0-test (grind (arith, common_steps))) (sym (rw c.in-Ok-eq0.field-0-test (append-nil c.loop.bytes.items)))
 
 pub returns-in-Ok-eq0-clause-taken : goal.returns-in-Ok-eq0-clause-taken
 returns-in-Ok-eq0-clause-taken g c =
