@@ -6,7 +6,7 @@ use std::io::ErrorKind;
 use std::rt::Env;
 
 /// Why there are no words.
-#[derive(Clone, Copy, Debug, PartialEq, Eq)]
+#[derive(Clone, Copy)]
 pub enum NoWords {
     /// Memory was refused.
     Memory,
