@@ -1,8 +1,8 @@
-use Rattle.std.proofs.Common.{rules, ◌≡◌, ◌≤◌, vec_len, ap, ◌∙◌, subst, map, sym, [], ◌∷◌, ◌++◌, List, length, arith, append-nil, append_assoc, length-append}
+use Rattle.std.proofs.Common.{rules, ◌≡◌, ◌≤◌, vec_len, ap, ◌∙◌, subst, map, sym, [], ◌∷◌, ◌++◌, List, length, get_or, arith, append-nil, append_assoc, length-append}
 use Rattle.std.specs.Global.{Vec}
 use Rattle.std.specs.List.{All}
 use Rattle.std.specs.Vec.Iter.{into_iter_items}
-use Rattle.std.proofs.lemmas.List.{map-append}
+use Rattle.std.proofs.lemmas.List.{map-append, length-map, get_or_at}
 use Rattle.std.proofs.lemmas.List.Elements.{All-nil, All-push, All-same, All-head, All-tail}
 use Rattle.process_api.specs.declared.message.Letter.{Letter}
 use Rattle.mailboxes.specs.Mailbox.{HomeView}
@@ -32,6 +32,34 @@ loop-home-init g c =
       room = search rules;
       space = search rules;
     }
+
+pub empty-requires-clause-home : goal.empty-requires-clause-home
+empty-requires-clause-home g c =
+    let done = map mailbox_of c.loop-home.emptied.items in
+    let h = c.in-Some.home in
+    let left = into_iter_items c.next.new.self in
+    let d = c.index-boxes-at.result in
+    sym (get_or_at done h.mailbox (map mailbox_of left) d c.loop-home.at (length-map c.loop-home.emptied.items mailbox_of ∙ sym c.loop-home.invariant.place))
+    ∙ ap (λ xs. get_or (done ++ map mailbox_of xs) c.loop-home.at d) (sym c.in-Some.ensures.steps.0)
+    ∙ ap (λ l. get_or l c.loop-home.at d) (c.loop-home.invariant.boxes ∙ sym c.requires.0) ∙ sym c.index-boxes-at.is
+
+pub empty-requires-clause-out : goal.empty-requires-clause-out
+empty-requires-clause-out g c = All-head IsIn c.in-Some.home (into_iter_items c.next.new.self) (subst (All IsIn) c.in-Some.ensures.steps.0 c.loop-home.invariant.out)
+
+pub push_reserved-requires : goal.push_reserved-requires
+push_reserved-requires g c =
+    let i = c.loop-home.invariant in
+    omega (arith, i.made, i.room, ap length c.in-Some.ensures.steps.0)
+
+pub push_reserved-requires-in-loop-home : goal.push_reserved-requires-in-loop-home
+push_reserved-requires-in-loop-home g c =
+    let i = c.loop-home.invariant in
+    omega (arith, i.count, i.space, ap length c.in-Some.ensures.steps.0)
+
+pub bounds-boxes-at : goal.bounds-boxes-at
+bounds-boxes-at g c =
+    let i = c.loop-home.invariant in
+    omega (arith, i.place, ap length c.in-Some.ensures.steps.0, simp (length-append, length-map) at (ap length (i.boxes ∙ sym c.requires.0)))
 
 pub empty-requires-clause-letters : goal.empty-requires-clause-letters
 empty-requires-clause-letters g c =

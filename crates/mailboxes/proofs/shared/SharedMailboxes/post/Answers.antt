@@ -1,5 +1,6 @@
-use Rattle.std.proofs.Common.{◌≡◌, ℕ, ◌+◌, ◌-◌, ◌<◌, ◌≤◌, ◌++◌, ◌∷◌, [], List, length, map, set, get_or, sym, ap, ◌∙◌, arith, Result, Ok, Err, OnOk, OnErr}
+use Rattle.std.proofs.Common.{◌≡◌, ℕ, ◌+◌, ◌-◌, ◌<◌, ◌≤◌, ◌++◌, ◌∷◌, [], List, length, map, set, get_or, sym, ap, ◌∙◌, arith}
 use Rattle.std.proofs.lemmas.List.{get_or-map, length-map, map-set, set-get_or}
+use Rattle.std.proofs.lemmas.Result.{on_ok_weaker, on_err_weaker}
 use Rattle.process_api.specs.declared.message.Letter.{Letter}
 use Rattle.mailboxes.specs.Mailbox.{MailboxId, TicketView}
 use Rattle.mailboxes.specs.Mailboxes.{SlipView, slip_of}
@@ -17,14 +18,6 @@ place i receiver n m e le s = omega arith
 
 index_is : (i receiver : ℕ) → i + 1 ≡ receiver → i ≡ receiver - 1
 index_is i receiver e = omega arith
-
-on_ok : {A E : Type 0} (r : Result A E) (P Q : Type 0) → (P → Q) → OnOk r P → OnOk r Q
-on_ok (Ok x) P Q f h = f h
-on_ok (Err x) P Q f h = h
-
-on_err : {A E : Type 0} (r : Result A E) (P Q : Type 0) → (P → Q) → OnErr r P → OnErr r Q
-on_err (Ok x) P Q f h = h
-on_err (Err x) P Q f h = f h
 
 -- one ticket of the slip is changed to another of the same mailbox
 module _ (tickets : List TicketView) (i : ℕ) (old new : TicketView) (was : old ≡ get_or tickets i old) (same : new.mailbox ≡ old.mailbox) (lt : i < length tickets) where
@@ -54,7 +47,7 @@ returns-clause-ok g c =
     let whole : map whose tickets ≡ c.args.slip.now.mailboxes = ap (λ (s : SlipView). s.mailboxes) c.slip.view_is in
     let rows : map posted_by tickets ≡ c.args.slip.now.posted = ap (λ (s : SlipView). s.posted) c.slip.view_is in
     let lt : i < length tickets = place _ _ _ _ c.place_of-at.ensures c.requires.receiver (sym (length-map tickets whose) ∙ ap length (whole ∙ c.requires.slip)) in
-    on_ok c.post.result _ _
+    on_ok_weaker c.post.result
     (λ p.
     let same = whose_same tickets i c.index_mut.result.now c.post.new.ticket c.index_mut.ensures.value c.post.ensures.mailbox lt ∙ whole in
     let more =
@@ -67,6 +60,6 @@ pub returns-clause-err : goal.returns-clause-err
 returns-clause-err g c =
     let tickets = c.slip.inside.tickets.items in
     let i = c.place_of-at.result in
-    on_err c.post.result _ _
+    on_err_weaker c.post.result
     (λ p. ap slip_with (ap (λ t. set tickets i t) (p ∙ c.index_mut.ensures.value) ∙ set-get_or tickets i c.index_mut.result.now) ∙ c.slip.view_is)
     c.post.ensures.err

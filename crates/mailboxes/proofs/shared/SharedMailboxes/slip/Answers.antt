@@ -1,10 +1,13 @@
-use Rattle.std.proofs.Common.{◌≡◌, ◌<◌, List, length, [], ◌∷◌, ◌++◌, map, set, get_or, sym, ap, ◌∙◌, add-one, arith, rules}
-use Rattle.std.proofs.lemmas.List.{map-id, take_all}
+use Rattle.std.proofs.Common.{◌≡◌, ◌<◌, ◌≤◌, append-nil, List, length, [], ◌∷◌, ◌++◌, map, set, get_or, sym, ap, ◌∙◌, add-one, arith, rules}
+use Rattle.std.proofs.lemmas.List.{map-id, take_all, drop_all, length-map}
 use Rattle.mailboxes.specs.Mailbox.{MailboxId, one_out}
 use Rattle.mailboxes.specs.Mailboxes.{unused}
 use Rattle.ledger.proofs.Lists.{mixed_at, mixed_more, map_take_more, parts_agree}
 use Rattle.mailboxes.proofs.Homes.{blank, blank-slip, slip_with, mailbox_of}
 use Rattle.mailboxes.proofs.shared.SharedMailboxes.slip.Goals as goal
+
+pub index-requires : goal.index-requires
+index-requires c = omega (arith, c.self.inside.boxes.ok.0, ap length (c.self.view_is ∙ c.requires), length-map c.args.homes.now.items mailbox_of)
 
 pub ticket-ticket-requires : goal.ticket-ticket-requires
 ticket-ticket-requires c =
@@ -33,8 +36,14 @@ loop-at-preserved c =
       search rules,
     )
 
+pub returns-clause-out : goal.returns-clause-out
+returns-clause-out c =
+    let hs = c.args.homes.now.items in
+    let end : length hs ≤ c.loop-at.at = search rules in
+    c.loop-at.invariant.0 ∙ (λ j. map one_out (take_all c.loop-at.at hs end j) ++ drop_all c.loop-at.at hs end j) ∙ append-nil (map one_out hs)
+
 pub returns-clause-slip : goal.returns-clause-slip
 returns-clause-slip c =
     let hs = c.args.homes.now.items in
-    let end : c.loop-at.at ≡ length hs = search rules in
-    ap slip_with (c.loop-at.invariant.1 ∙ ap (map blank) (take_all c.loop-at.at hs (omega (arith, end)))) ∙ blank-slip hs ∙ ap unused (sym c.requires)
+    let end : length hs ≤ c.loop-at.at = search rules in
+    ap slip_with (c.loop-at.invariant.1 ∙ ap (map blank) (take_all c.loop-at.at hs end)) ∙ blank-slip hs ∙ ap unused (sym c.requires)
