@@ -37,26 +37,20 @@ loop-slip-preserved c =
       fits-more (length hs) ys s c.loop-slip.invariant.3 fits,
     )
 
-pub returns-clause-homes : goal.returns-clause-homes
-returns-clause-homes c =
-    c.self.invariant.0 ∙ sym (turn_mailboxes c.self.inside.slips c.self.inside.homes.items c.loop-slip.yielded c.loop-slip.homes.items c.self.invariant.1 c.loop-slip.invariant.3 c.loop-slip.invariant.2)
-
-pub returns-clause-out : goal.returns-clause-out
-returns-clause-out c =
+pub returns : goal.returns
+returns c =
     let b = c.into_iter-slip-iterator.ensures.into_iter_gives in
+    let hs = c.self.inside.homes.items in
+    let now = c.loop-slip.homes.items in
+    let n = c.self.inside.slips in
     let ss = c.args.slips.items in
     let ys = c.loop-slip.yielded in
+    let i = c.loop-slip.invariant in
     let end = YieldsList-end (YieldsList-from_vec ss b.0 (b.1 ∙ c.args.slips.ok.0)) ys c.loop-slip.slip-iterator c.loop-slip.yielded_by c.next.result c.next.new.self c.in-None.is c.next.ensures.steps in
     let all : ys ≡ ss = sym (map-id ys) ∙ end.0 in
-    end_out c.self.inside.slips c.self.inside.homes.items ys c.loop-slip.homes.items c.self.invariant.1 c.loop-slip.invariant.3 c.loop-slip.invariant.2
-    (ap length all ∙ sym c.args.slips.ok.0 ∙ c.requires.all ∙ ap (λ (m : MailboxesView). m.slips) (sym c.self.view_is))
-
-pub returns-clause-letters : goal.returns-clause-letters
-returns-clause-letters c =
-    let b = c.into_iter-slip-iterator.ensures.into_iter_gives in
-    let ss = c.args.slips.items in
-    let ys = c.loop-slip.yielded in
-    let end = YieldsList-end (YieldsList-from_vec ss b.0 (b.1 ∙ c.args.slips.ok.0)) ys c.loop-slip.slip-iterator c.loop-slip.yielded_by c.next.result c.next.new.self c.in-None.is c.next.ensures.steps in
-    let all : ys ≡ ss = sym (map-id ys) ∙ end.0 in
-    λ r. end_posted c.self.inside.slips c.self.inside.homes.items ys c.loop-slip.homes.items c.self.invariant.1 c.loop-slip.invariant.3 c.loop-slip.invariant.2 (r - 1)
-    ∙ ap (flat_map (λ (s : SlipView). get_or s.posted (r - 1) [])) all
+    record {
+      shared = ap (λ (m : MailboxesView). m.mailboxes) c.self.view_is;
+      homes = c.self.invariant.0 ∙ sym (turn_mailboxes n hs ys now c.self.invariant.1 i.3 i.2);
+      out = end_out n hs ys now c.self.invariant.1 i.3 i.2 (ap length all ∙ sym c.args.slips.ok.0 ∙ c.requires.all ∙ ap (λ (m : MailboxesView). m.slips) (sym c.self.view_is));
+      letters = λ r. end_posted n hs ys now c.self.invariant.1 i.3 i.2 (r - 1) ∙ ap (flat_map (λ (s : SlipView). get_or s.posted (r - 1) [])) all;
+    }
