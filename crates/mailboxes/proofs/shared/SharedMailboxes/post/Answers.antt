@@ -31,35 +31,22 @@ module _ (tickets : List TicketView) (i : ℕ) (old new : TicketView) (was : old
       map-set posted_by tickets i new
       ∙ ap (λ l. set (map posted_by tickets) i l) (more ∙ ap (λ l. l ++ x ∷ []) (ap posted_by was ∙ sym (get_or-map posted_by tickets i old [] lt)))
 
-pub returns-clause-slip : goal.returns-clause-slip
-returns-clause-slip g c =
-    let tickets = c.slip.inside.tickets.items in
-    let mine : map whose tickets ≡ c.args.self.now = ap (λ (s : SlipView). s.mailboxes) c.slip.view_is ∙ c.requires.slip in
-    let lt : c.place_of-at.result < length tickets = place _ _ _ _ c.place_of-at.ensures c.requires.receiver (sym (length-map tickets whose) ∙ ap length mine) in
-    whose_same tickets c.place_of-at.result c.index_mut.result.now c.post.new.ticket c.index_mut.ensures.value c.post.ensures.mailbox lt ∙ mine
-
-pub returns-clause-ok : goal.returns-clause-ok
-returns-clause-ok g c =
+pub returns : goal.returns
+returns g c =
     let tickets = c.slip.inside.tickets.items in
     let i = c.place_of-at.result in
     let x = c.args.letter in
+    let d = c.index_mut.result.now in
+    let new = c.post.new.ticket in
     let at : i ≡ x.key.receiver - 1 = index_is _ _ c.place_of-at.ensures in
     let whole : map whose tickets ≡ c.args.slip.now.mailboxes = ap (λ (s : SlipView). s.mailboxes) c.slip.view_is in
     let rows : map posted_by tickets ≡ c.args.slip.now.posted = ap (λ (s : SlipView). s.posted) c.slip.view_is in
     let lt : i < length tickets = place _ _ _ _ c.place_of-at.ensures c.requires.receiver (sym (length-map tickets whose) ∙ ap length (whole ∙ c.requires.slip)) in
-    on_ok_weaker c.post.result
-    (λ p.
-    let same = whose_same tickets i c.index_mut.result.now c.post.new.ticket c.index_mut.ensures.value c.post.ensures.mailbox lt ∙ whole in
-    let more =
-    posted_more tickets i c.index_mut.result.now c.post.new.ticket c.index_mut.ensures.value c.post.ensures.mailbox lt x (ap posted_by p)
-    ∙ (λ j. set (rows j) (at j) (get_or (rows j) (at j) [] ++ x ∷ [])) in
-    λ j. slip_of (same j) (more j))
-    c.post.ensures.ok
-
-pub returns-clause-err : goal.returns-clause-err
-returns-clause-err g c =
-    let tickets = c.slip.inside.tickets.items in
-    let i = c.place_of-at.result in
-    on_err_weaker c.post.result
-    (λ p. ap slip_with (ap (λ t. set tickets i t) (p ∙ c.index_mut.ensures.value) ∙ set-get_or tickets i c.index_mut.result.now) ∙ c.slip.view_is)
-    c.post.ensures.err
+    let same = whose_same tickets i d new c.index_mut.ensures.value c.post.ensures.mailbox lt ∙ whole in
+    record {
+      slip = same ∙ c.requires.slip;
+      ok = on_ok_weaker c.post.result
+          (λ p. let more = posted_more tickets i d new c.index_mut.ensures.value c.post.ensures.mailbox lt x (ap posted_by p) ∙ (λ j. set (rows j) (at j) (get_or (rows j) (at j) [] ++ x ∷ [])) in λ j. slip_of (same j) (more j)) c.post.ensures.ok;
+      err = on_err_weaker c.post.result (λ p. ap slip_with (ap (λ t. set tickets i t) (p ∙ c.index_mut.ensures.value) ∙ set-get_or tickets i d) ∙ c.slip.view_is) c.post.ensures.err;
+      back = c.post.ensures.back;
+    }
