@@ -238,12 +238,6 @@ other_map c h m ordered tick own full others has = record {
   room = h.room;
 }
 
-pub listed_calendar : (c : Calendar) (m : Buckets) (tick : ℕ) (event : Event) → event.0.tick ≡ tick → IsCalendar c → IsFiled c.map m tick event → tree.IsOrdered nat_cmp m → IsCalendar (calendar_of c.from c.ring m)
-listed_calendar c m tick event own_tick h filed ordered =
-    other_map c h m ordered tick
-    (subst (AllByRecursion (λ f. f.0.tick ≡ tick)) (sym filed.here) (both (λ f. f.0.tick ≡ tick) (bucket c.map tick) (event ∷ []) (h.own tick) (own_tick, tt)))
-    (λ _. omega (arith, ap length filed.here, length-append (bucket c.map tick) (event ∷ []))) filed.others filed.has
-
 pub listed_added : (c : Calendar) (m : Buckets) (tick : ℕ) (event : Event) → IsFiled c.map m tick event → near_at c.from c.ring.items tick ≡ [] → IsAdded c (calendar_of c.from c.ring m) tick event
 listed_added c m tick event filed none = record {
   here =

@@ -17,7 +17,7 @@ use Rattle.trace_laws.proofs.Runs.{least_below}
 use Rattle.std.proofs.lemmas.Bool.{cases_eq, cases_lt}
 use Rattle.std.proofs.lemmas.Cmp.{tied_itself}
 use Rattle.std.proofs.lemmas.List.Elements.{recursion_from_All}
-use Rattle.std.proofs.lemmas.List.{append-nil, length-reverse, reverse-append, reverse-reverse}
+use Rattle.std.proofs.lemmas.List.{append-nil, reverse-append, reverse-reverse}
 use Rattle.process_api.specs.Order.{is_before, key_cmp}
 use Rattle.process_api.specs.declared.key.Key.{Key}
 use Rattle.process_api.specs.declared.message.StepInput.{StepInput}
@@ -31,7 +31,7 @@ use Rattle.trace_laws.proofs.Sets.{apart, not_None, tied}
 use Rattle.process_api.proofs.Lists.{both, weaker}
 use Rattle.pending_events.proofs.Falling.{all_at, all_parts, all_reverse, falls_front, falls_last, find_append, found_is, held, latest_cons, latest_push, nat_apart, none_latest, not_after, not_it, or_None, strict_found}
 use Rattle.pending_events.proofs.Dealing.{none_of}
-use Rattle.pending_events.proofs.Nearby.{held_own, ring_find, calendar_of, nothing_after, other_map}
+use Rattle.pending_events.proofs.Nearby.{held_own, ring_find, calendar_of, nothing_after}
 
 -- events of another tick are not found
 pub other_tick : (t : ℕ) (q : Key) (es : List Event) → AllByRecursion (λ e. e.0.tick ≡ t) es → q.tick ≢ t → latest q es ≡ None
@@ -198,12 +198,6 @@ none_of_tick tick due later h long there =
     omega (arith, h.calendar.full tick there, length-append (bucket later.map tick) (near_at later.from later.ring.items tick), ap length (h.after long tick (omega arith)))
 
 module _ (tick : ℕ) (due : List Event) (later : Calendar) (new : Buckets) (h : IsInOrder tick due later) (long : 0 < length due) (stowed : IsStowed later.map new tick (reverse due)) where
-  pub stow_order : IsInOrder tick [] (calendar_of later.from later.ring new)
-  stow_order =
-      none_due tick (calendar_of later.from later.ring new)
-      (other_map later h.calendar new stowed.ordered tick (subst (AllByRecursion (λ e. e.0.tick ≡ tick)) (sym stowed.here) (all_reverse (λ e. e.0.tick ≡ tick) due h.due_own))
-      (λ _. omega (arith, ap length stowed.here, length-reverse due, long)) stowed.others stowed.has)
-
   none_near : near_at later.from later.ring.items tick ≡ []
   none_near = nothing_after (bucket later.map tick) (near_at later.from later.ring.items tick) (h.after long tick (omega arith))
 
