@@ -1,11 +1,12 @@
-use Rattle.std.proofs.Common.{◌≡◌, ◌<◌, ◌%◌, ◌⊎◌, inl, inr, ℕ, [], length, get_or, arith, refl, sym, ap, ◌∙◌, subst}
+use Rattle.std.proofs.Common.{◌≡◌, ◌<◌, ◌%◌, ◌⊎◌, inl, inr, ℕ, [], length, get_or, map, arith, refl, sym, ap, ◌∙◌, subst}
 use Rattle.std.specs.List.Sorted.{IsPermutation}
 use Rattle.std.proofs.lemmas.List.Sorted.{IsPermutation-refl}
 use Rattle.std.proofs.lemmas.Nat.{mod_below}
 use Rattle.std.proofs.lemmas.Iterator.Adapters.{YieldsList-from_vec}
-use Rattle.std.proofs.lemmas.Iterator.Consumers.{YieldsList-turn}
+use Rattle.std.proofs.lemmas.Iterator.Consumers.{YieldsList-turn, YieldsList-end}
+use Rattle.std.proofs.lemmas.List.{map-id}
 use Rattle.ledger.proofs.Lists.{length_more}
-use Rattle.deques.specs.Deques.{deques_of}
+use Rattle.deques.specs.Deques.{deques_of, all_put, AreShares}
 use Rattle.deques.proofs.Deals.{shares_none, shares_more, none_put, with_length, with_deques, with_more}
 use Rattle.deques.proofs.dealing.deal.Goals as goal
 
@@ -46,3 +47,19 @@ loop-item-preserved g c =
       shares_more c.args.count c.loop-item.dealt at ys ds c.put.new.self x inv.5 inv.2 refl lt new,
       with_more ys ds c.put.new.self at x lt new inv.6,
     )
+
+pub returns : goal.returns
+returns g c =
+    let inv = c.loop-item.invariant in
+    let ys = c.loop-item.yielded in
+    let ds = c.loop-item.dealer in
+    let b = c.into_iter-item-iterator.ensures.into_iter_gives in
+    let all = c.args.items in
+    let end = YieldsList-end (YieldsList-from_vec all.items b.0 (b.1 ∙ all.ok.0)) ys c.loop-item.item-iterator c.loop-item.yielded_by c.next.result c.next.new.self c.in-None.is c.next.ensures.steps in
+    let done : ys ≡ all.items = sym (map-id ys) ∙ end.0 in
+    record {
+      fronts = inv.4;
+      count = inv.3;
+      shares = subst (λ l. AreShares c.args.count l (map (λ d. d.1) ds)) done inv.5;
+      all = subst (λ l. IsPermutation l (all_put ds)) done inv.6;
+    }

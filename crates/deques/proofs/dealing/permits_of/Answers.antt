@@ -1,6 +1,6 @@
-use Rattle.std.proofs.Common.{◌≡◌, ◌<◌, length, map, ap, ◌∙◌, arith, rules}
-use Rattle.deques.specs.Deques.{blank}
-use Rattle.std.proofs.lemmas.List.{take_all}
+use Rattle.std.proofs.Common.{◌<◌, ◌≤◌, ◌++◌, length, map, ap, ◌∙◌, append-nil, rules}
+use Rattle.deques.specs.Deques.{one_out, blank}
+use Rattle.std.proofs.lemmas.List.{take_all, drop_all}
 use Rattle.deques.proofs.Deals.{may_give, one_gave, one_given}
 use Rattle.deques.proofs.dealing.permits_of.Goals as goal
 
@@ -22,8 +22,14 @@ loop-at-preserved g c =
       search rules,
     )
 
+pub returns-clause-owners : goal.returns-clause-owners
+returns-clause-owners g c =
+    let hs = c.args.owners.now.items in
+    let end : length hs ≤ c.loop-at.at = search rules in
+    c.loop-at.invariant.0 ∙ (λ j. map one_out (take_all c.loop-at.at hs end j) ++ drop_all c.loop-at.at hs end j) ∙ append-nil (map one_out hs)
+
 pub returns-clause-permits : goal.returns-clause-permits
 returns-clause-permits g c =
     let hs = c.args.owners.now.items in
-    let end : c.loop-at.at ≡ length hs = search rules in
-    c.loop-at.invariant.1 ∙ ap (map blank) (take_all c.loop-at.at hs (omega (arith, end)))
+    let end : length hs ≤ c.loop-at.at = search rules in
+    c.loop-at.invariant.1 ∙ ap (map blank) (take_all c.loop-at.at hs end)

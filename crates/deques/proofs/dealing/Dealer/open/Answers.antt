@@ -1,5 +1,5 @@
-use Rattle.std.proofs.Common.{rules, ◌≡◌, [], ◌∷◌, ◌++◌, map, sym, ap, ◌∙◌}
-use Rattle.std.proofs.lemmas.List.{map-append}
+use Rattle.std.proofs.Common.{rules, ◌≡◌, [], ◌∷◌, ◌++◌, length, map, sym, ap, ◌∙◌, arith}
+use Rattle.std.proofs.lemmas.List.{map-append, length-map}
 use Rattle.std.proofs.lemmas.List.Elements.{All-same, All-push, All-map}
 use Rattle.deques.specs.Deques.{OwnerView, Dealt, dealt_of}
 use Rattle.deques.proofs.Deals.{New, deque_of, dealt_deques}
@@ -25,6 +25,9 @@ loop-preserved g c =
 
 pub returns-clause-fronts : goal.returns-clause-fronts
 returns-clause-fronts g c = c.loop.invariant.5 ∙ sym (dealt_deques c.loop.owners.items)
+
+pub returns-clause-count : goal.returns-clause-count
+returns-clause-count g c = let many : length c.loop.owners.items ≡ c.args.count = omega arith in length-map c.loop.owners.items dealt_of ∙ many
 
 pub returns-clause-none : goal.returns-clause-none
 returns-clause-none g c = All-map (λ (d : Dealt _). d.1 ≡ []) dealt_of c.loop.owners.items c.loop.invariant.7
