@@ -3,7 +3,7 @@ use Rattle.std.proofs.Common.{◌≡◌, ◌⊎◌, inl, inr, ℕ, zero, suc, �
 use Rattle.std.specs.List.{All, Contains, flat_map}
 use Rattle.std.specs.List.Sorted.{IsPermutation}
 use Rattle.std.proofs.lemmas.Bool.{cases_eq, eq-eqb, ne_eqb}
-use Rattle.std.proofs.lemmas.List.{length-map, map-append, map_more, get_or_default, nil_from_length}
+use Rattle.std.proofs.lemmas.List.{length-map, map-append, map_more, get_or_default}
 use Rattle.std.proofs.lemmas.List.Edits.{map_over_more}
 use Rattle.std.proofs.Math.Seq.{map-set_same}
 use Rattle.std.proofs.lemmas.List.Concat.{flat_map-append}
@@ -317,9 +317,6 @@ module _ {T : Type 0} where
   pub count_out_of : (n m : ℕ) (all : List (Dealt T)) (o : OwnerView T) (ps : List (PermitView T)) (h : HandView T) → hand_at o ps ≡ h → h.deques ≡ deques_of all → length all ≡ n → m ≡ length ps → o.out ≡ m → o.out ≡ n
   count_out_of n m all o ps h view same count many out =
       out ∙ many ∙ sym (length-map ps from_deque) ∙ ap (λ (v : HandView T). length v.deques) view ∙ ap length same ∙ length-map all (λ (d : Dealt T). d.0) ∙ count
-
-pub none_left : {A : Type 0} (xs : List A) → length xs ≡ 0 → xs ≡ []
-none_left xs e = nil_from_length xs e
 
 module _ {A B : Type 0} where
   pub map_push : (f : A → B) (xs xs' : List A) (x : A) → xs' ≡ xs ++ x ∷ [] → map f xs' ≡ map f xs ++ f x ∷ []

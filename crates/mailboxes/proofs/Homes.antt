@@ -14,6 +14,12 @@ mailbox_of h = h.mailbox
 abbrev pub back_of : HomeView → List Letter
 back_of h = h.back
 
+abbrev pub whose : TicketView → MailboxId
+whose t = t.mailbox
+
+abbrev pub posted_by : TicketView → List Letter
+posted_by t = t.posted
+
 pub out-mailboxes : (hs : List HomeView) → map mailbox_of (map one_out hs) ≡ map mailbox_of hs
 out-mailboxes [] = refl
 out-mailboxes (h ∷ hs) = ap (λ l. h.mailbox ∷ l) (out-mailboxes hs)
@@ -44,11 +50,11 @@ slip_back hs s = all_back hs s.posted
 abbrev pub blank : HomeView → TicketView
 blank h = ticket_of h.mailbox []
 
-blank-mailboxes : (hs : List HomeView) → map (λ (t : TicketView). t.mailbox) (map blank hs) ≡ map mailbox_of hs
+blank-mailboxes : (hs : List HomeView) → map whose (map blank hs) ≡ map mailbox_of hs
 blank-mailboxes [] = refl
 blank-mailboxes (h ∷ hs) = ap (λ l. h.mailbox ∷ l) (blank-mailboxes hs)
 
-blank-posted : (hs : List HomeView) → map (λ (t : TicketView). t.posted) (map blank hs) ≡ replicate (length (map mailbox_of hs)) []
+blank-posted : (hs : List HomeView) → map posted_by (map blank hs) ≡ replicate (length (map mailbox_of hs)) []
 blank-posted [] = refl
 blank-posted (h ∷ hs) = ap (λ l. [] ∷ l) (blank-posted hs)
 

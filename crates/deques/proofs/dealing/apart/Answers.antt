@@ -1,9 +1,9 @@
-use Rattle.std.proofs.Common.{◌≡◌, ◌≤◌, ◌∷◌, [], ◌++◌, length, map, ap, sym, subst, ◌∙◌, vec_len, arith}
+use Rattle.std.proofs.Common.{◌≡◌, ◌≤◌, List, ◌∷◌, [], ◌++◌, length, map, ap, sym, subst, ◌∙◌, vec_len, append-nil, arith}
 use Rattle.std.specs.List.{All, flat_map}
 use Rattle.std.specs.List.Sorted.{IsPermutation}
 use Rattle.std.specs.Global.{Vec}
 use Rattle.std.specs.Vec.Iter.{into_iter_items}
-use Rattle.std.proofs.lemmas.List.{length-map}
+use Rattle.std.proofs.lemmas.List.{length-map, nil_from_length}
 use Rattle.std.proofs.lemmas.List.Elements.{All-push, All-same, All-head, All-tail}
 use Rattle.deques.specs.Deques.{OwnerView, HandView, PermitView, deques_of, dealt_of}
 use Rattle.deques.proofs.Deals.{Counts, count_out_of, map_turn, flat_push, apart_more}
@@ -45,4 +45,18 @@ loop-hand-preserved g c =
       count = omega (arith, inv.count, ap length e, c.push_reserved-in-loop-hand.ensures.len);
       room = subst (λ m. n ≤ m) (sym c.push_reserved.ensures.capacity) inv.room;
       space = subst (λ m. n ≤ m) (sym c.push_reserved-in-loop-hand.ensures.capacity) inv.space;
+    }
+
+pub returns : goal.returns
+returns g c =
+    let inv = c.loop-hand.invariant in
+    let none : into_iter_items c.loop-hand.hand-iterator ≡ [] = nil_from_length _ (sym c.loop-hand.hand-iterator.rest.ok.0 ∙ c.in-None.ensures.steps.0) in
+    let own = map dealt_of c.loop-hand.owners.items in
+    let taken = flat_map (λ (o : OwnerView _). o.taken) c.loop-hand.owners.items ++ flat_map (λ (v : Vec _). flat_map (λ (p : PermitView _). p.taken) v.items) c.loop-hand.lists.items in
+    record {
+      own = sym (append-nil own) ∙ ap (λ (hs : List (HandView _)). own ++ map (λ h. h.own) hs) (sym none) ∙ inv.own;
+      owners = inv.owners;
+      count = omega (arith, inv.count, ap length none);
+      deques = inv.deques;
+      taken = subst (IsPermutation _) (append-nil taken) (subst (λ (hs : List (HandView _)). IsPermutation (flat_map (λ h. h.taken) c.args.hands.items) (taken ++ flat_map (λ h. h.taken) hs)) none inv.taken);
     }

@@ -1,7 +1,8 @@
-use Rattle.std.proofs.Common.{rules, ◌≡◌, ◌<◌, ◌≤◌, ◌+◌, ℕ, suc, ◌∷◌, [], ◌++◌, length, map, ap, sym, subst, ◌∙◌, vec_len, arith}
+use Rattle.std.proofs.Common.{rules, ◌≡◌, ◌<◌, ◌≤◌, ◌+◌, ℕ, suc, ◌∷◌, [], ◌++◌, length, map, ap, sym, subst, ◌∙◌, vec_len, append-nil, List, arith}
 use Rattle.std.specs.List.{All, Contains}
 use Rattle.std.specs.Global.{Vec}
 use Rattle.std.specs.Vec.Iter.{into_iter_items}
+use Rattle.std.proofs.lemmas.List.{nil_from_length}
 use Rattle.std.proofs.lemmas.List.Elements.{All-nil, All-push, All-same, All-head, All-tail}
 use Rattle.deques.specs.Deques.{OwnerView, HandView, dealt_of, HasTold, AreBlank, IsDealt}
 use Rattle.deques.proofs.Deals.{hand_dealt, hand_own, map_turn}
@@ -75,4 +76,13 @@ loop-owner-preserved g c =
       place = omega (arith, inv.place, ap length e);
       count = omega (arith, inv.count, ap length e, c.push_reserved.ensures.len);
       room = subst (λ m. n ≤ m) (sym c.push_reserved.ensures.capacity) inv.room;
+    }
+
+pub returns : goal.returns
+returns g c =
+    let none : into_iter_items c.loop-owner.owner-iterator ≡ [] = nil_from_length _ (sym c.loop-owner.owner-iterator.rest.ok.0 ∙ c.in-None.ensures.steps.0) in
+    let own = map (λ (h : HandView _). h.own) c.loop-owner.hands.items in
+    record {
+      own = sym (append-nil own) ∙ ap (λ (os : List (OwnerView _)). own ++ map dealt_of os) (sym none) ∙ c.loop-owner.invariant.own;
+      hands = c.loop-owner.invariant.hands;
     }

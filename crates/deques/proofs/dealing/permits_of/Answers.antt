@@ -22,14 +22,11 @@ loop-at-preserved g c =
       search rules,
     )
 
-pub returns-clause-owners : goal.returns-clause-owners
-returns-clause-owners g c =
+pub returns : goal.returns
+returns g c =
     let hs = c.args.owners.now.items in
     let end : length hs ≤ c.loop-at.at = search rules in
-    c.loop-at.invariant.0 ∙ (λ j. map one_out (take_all c.loop-at.at hs end j) ++ drop_all c.loop-at.at hs end j) ∙ append-nil (map one_out hs)
-
-pub returns-clause-permits : goal.returns-clause-permits
-returns-clause-permits g c =
-    let hs = c.args.owners.now.items in
-    let end : length hs ≤ c.loop-at.at = search rules in
-    c.loop-at.invariant.1 ∙ ap (map blank) (take_all c.loop-at.at hs end)
+    record {
+      owners = c.loop-at.invariant.0 ∙ (λ j. map one_out (take_all c.loop-at.at hs end j) ++ drop_all c.loop-at.at hs end j) ∙ append-nil (map one_out hs);
+      permits = c.loop-at.invariant.1 ∙ ap (map blank) (take_all c.loop-at.at hs end);
+    }

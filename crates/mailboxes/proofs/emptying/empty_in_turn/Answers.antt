@@ -2,7 +2,7 @@ use Rattle.std.proofs.Common.{rules, ◌≡◌, ◌≤◌, vec_len, ap, ◌∙�
 use Rattle.std.specs.Global.{Vec}
 use Rattle.std.specs.List.{All}
 use Rattle.std.specs.Vec.Iter.{into_iter_items}
-use Rattle.std.proofs.lemmas.List.{map-append, length-map, get_or_at}
+use Rattle.std.proofs.lemmas.List.{map-append, length-map, get_or_at, nil_from_length}
 use Rattle.std.proofs.lemmas.List.Elements.{All-nil, All-push, All-same, All-head, All-tail}
 use Rattle.process_api.specs.declared.message.Letter.{Letter}
 use Rattle.mailboxes.specs.Mailbox.{HomeView}
@@ -107,17 +107,13 @@ loop-home-preserved g c =
       space = subst (λ m. vec_len c.args.homes ≤ m) (sym c.push_reserved-in-loop-home.ensures.capacity) i.space;
     }
 
-none_left : {X : Type 0} (xs : List X) → length xs ≡ 0 → xs ≡ []
-none_left [] e = λ i. []
-none_left (x ∷ xs) e = absurd (omega (arith, e))
-
 pub returns : goal.returns
 returns g c =
     let hs = c.args.homes.items in
     let done = c.loop-home.emptied.items in
     let filled = c.loop-home.filled.items in
     let i = c.loop-home.invariant in
-    let none : into_iter_items c.loop-home.home-iterator ≡ [] = none_left _ (sym c.loop-home.home-iterator.rest.ok.0 ∙ c.in-None.ensures.steps.0) in
+    let none : into_iter_items c.loop-home.home-iterator ≡ [] = nil_from_length _ (sym c.loop-home.home-iterator.rest.ok.0 ∙ c.in-None.ensures.steps.0) in
     let rest = λ (xs : List HomeView). map mailbox_of done ++ map mailbox_of xs in (
       c.requires.0 ∙ sym i.boxes ∙ ap rest none ∙ append-nil (map mailbox_of done),
       i.none,

@@ -23,11 +23,11 @@ loop-preserved g c =
       All-same Bare _ (owners ++ o ∷ []) more (All-push Bare owners o inv.7 (ap (λ (v : OwnerView _). v.put) is)),
     )
 
-pub returns-clause-fronts : goal.returns-clause-fronts
-returns-clause-fronts g c = c.loop.invariant.5 ∙ sym (dealt_deques c.loop.owners.items)
-
-pub returns-clause-count : goal.returns-clause-count
-returns-clause-count g c = let many : length c.loop.owners.items ≡ c.args.count = omega arith in length-map c.loop.owners.items dealt_of ∙ many
-
-pub returns-clause-none : goal.returns-clause-none
-returns-clause-none g c = All-map (λ (d : Dealt _). d.1 ≡ []) dealt_of c.loop.owners.items c.loop.invariant.7
+pub returns : goal.returns
+returns g c =
+    let many : length c.loop.owners.items ≡ c.args.count = omega arith in
+    record {
+      fronts = c.loop.invariant.5 ∙ sym (dealt_deques c.loop.owners.items);
+      count = length-map c.loop.owners.items dealt_of ∙ many;
+      none = All-map (λ (d : Dealt _). d.1 ≡ []) dealt_of c.loop.owners.items c.loop.invariant.7;
+    }

@@ -3,9 +3,10 @@ use Rattle.std.specs.List.{All, flat_map}
 use Rattle.std.specs.List.Sorted.{IsPermutation}
 use Rattle.std.specs.Global.{Vec}
 use Rattle.std.specs.Vec.Iter.{into_iter_items}
+use Rattle.std.proofs.lemmas.List.{nil_from_length}
 use Rattle.std.proofs.lemmas.List.Elements.{All-tail}
 use Rattle.deques.specs.Deques.{HandView, RestView, PermitView, deques_of}
-use Rattle.deques.proofs.Deals.{back_more, none_left}
+use Rattle.deques.proofs.Deals.{back_more}
 use Rattle.deques.proofs.dealing.Rest.of_hands.Goals as goal
 
 one_less : (out rest left : ℕ) → out ≡ rest → rest ≡ suc left → out - 1 ≡ left
@@ -34,5 +35,5 @@ pub returns-clause-taken : goal.returns-clause-taken
 returns-clause-taken g c =
     let stolen = λ (v : Vec _). flat_map (λ (p : PermitView _). p.taken) v.items in
     let hands = flat_map (λ (h : HandView _). h.taken) c.args.hands.items in
-    let none : into_iter_items c.loop-permits.permits-iterator ≡ [] = none_left _ (sym c.loop-permits.permits-iterator.rest.ok.0 ∙ c.in-None.ensures.steps.0) in
+    let none : into_iter_items c.loop-permits.permits-iterator ≡ [] = nil_from_length _ (sym c.loop-permits.permits-iterator.rest.ok.0 ∙ c.in-None.ensures.steps.0) in
     subst (IsPermutation hands) (ap (λ l. c.loop-permits.rest.taken ++ flat_map stolen l) none ∙ append-nil c.loop-permits.rest.taken) c.loop-permits.invariant.taken

@@ -2,16 +2,10 @@ use Rattle.std.proofs.Common.{◌≡◌, ℕ, ◌+◌, ◌-◌, ◌<◌, ◌≤�
 use Rattle.std.proofs.lemmas.List.{get_or-map, length-map, map-set, set-get_or}
 use Rattle.std.proofs.lemmas.Result.{on_ok_weaker, on_err_weaker}
 use Rattle.process_api.specs.declared.message.Letter.{Letter}
-use Rattle.mailboxes.specs.Mailbox.{MailboxId, TicketView}
+use Rattle.mailboxes.specs.Mailbox.{TicketView}
 use Rattle.mailboxes.specs.Mailboxes.{SlipView, slip_of}
-use Rattle.mailboxes.proofs.Homes.{slip_with}
+use Rattle.mailboxes.proofs.Homes.{whose, posted_by, slip_with}
 use Rattle.mailboxes.proofs.shared.SharedMailboxes.post.Goals as goal
-
-abbrev whose : TicketView → MailboxId
-whose t = t.mailbox
-
-abbrev posted_by : TicketView → List Letter
-posted_by t = t.posted
 
 place : (i receiver n m : ℕ) → i + 1 ≡ receiver → receiver ≤ n → m ≡ n → i < m
 place i receiver n m e le s = omega arith

@@ -36,14 +36,12 @@ loop-at-preserved c =
       search rules,
     )
 
-pub returns-clause-out : goal.returns-clause-out
-returns-clause-out c =
+pub returns : goal.returns
+returns c =
     let hs = c.args.homes.now.items in
     let end : length hs ≤ c.loop-at.at = search rules in
-    c.loop-at.invariant.0 ∙ (λ j. map one_out (take_all c.loop-at.at hs end j) ++ drop_all c.loop-at.at hs end j) ∙ append-nil (map one_out hs)
-
-pub returns-clause-slip : goal.returns-clause-slip
-returns-clause-slip c =
-    let hs = c.args.homes.now.items in
-    let end : length hs ≤ c.loop-at.at = search rules in
-    ap slip_with (c.loop-at.invariant.1 ∙ ap (map blank) (take_all c.loop-at.at hs end)) ∙ blank-slip hs ∙ ap unused (sym c.requires)
+    record {
+      out = c.loop-at.invariant.0 ∙ (λ j. map one_out (take_all c.loop-at.at hs end j) ++ drop_all c.loop-at.at hs end j) ∙ append-nil (map one_out hs);
+      err = tt;
+      slip = ap slip_with (c.loop-at.invariant.1 ∙ ap (map blank) (take_all c.loop-at.at hs end)) ∙ blank-slip hs ∙ ap unused (sym c.requires);
+    }

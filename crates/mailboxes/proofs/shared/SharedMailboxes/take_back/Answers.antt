@@ -3,18 +3,11 @@ use Rattle.std.proofs.lemmas.List.{map-id}
 use Rattle.std.proofs.lemmas.List.Elements.{All-get_or}
 use Rattle.std.proofs.lemmas.Iterator.Adapters.{YieldsList-from_vec}
 use Rattle.std.proofs.lemmas.Iterator.Consumers.{YieldsList-turn}
-use Rattle.process_api.specs.declared.message.Letter.{Letter}
-use Rattle.mailboxes.specs.Mailbox.{MailboxId, HomeView, TicketView, one_back}
+use Rattle.mailboxes.specs.Mailbox.{MailboxId, HomeView, one_back}
 use Rattle.mailboxes.specs.Mailboxes.{SlipView}
-use Rattle.mailboxes.proofs.Homes.{mailbox_of}
+use Rattle.mailboxes.proofs.Homes.{mailbox_of, whose, posted_by}
 use Rattle.ledger.proofs.Lists.{with-nil, with-length, parts_agree, below_parts, length_more, turn_at, turn_more}
 use Rattle.mailboxes.proofs.shared.SharedMailboxes.take_back.Goals as goal
-
-abbrev whose : TicketView → MailboxId
-whose t = t.mailbox
-
-abbrev posted_by : TicketView → List Letter
-posted_by t = t.posted
 
 pub loop-ticket-init : goal.loop-ticket-init
 loop-ticket-init c = (tt, tt, refl, sym (with-nil one_back _))
