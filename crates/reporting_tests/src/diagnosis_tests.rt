@@ -1,7 +1,6 @@
 //! What is said of bytes that are no text, and of a file's table.
-use crate::comparisons::{same, same_text};
+use crate::comparisons::same;
 use diagnosis::{Diagnosis, diagnose, diagnose_table};
-use std::test::Fail;
 
 /// Two processes, of which the second crashes at tick 3.
 const CRASH_FILE: &str = "version = 1
@@ -18,22 +17,17 @@ crash = [{ process = 2, at = 3 }]
 /// Bytes that are no text, and the table of the crash file: of each of its two processes 1 start, 3 beats, 4 checks and
 /// 3 letters.
 #[test]
-fn whole_files(rt: HostRuntime) -> Result<(), Fail> {
-    let Diagnosis::Refused(refused) = diagnose(rt.alloc(), b"seed = 1\n# \xff\n")? else {
-        return Err(Fail::from("the bytes are accepted"));
+fn whole_files(rt: HostRuntime) {
+    let alloc = rt.alloc();
+    let Ok(Diagnosis::Refused(refused)) = diagnose(alloc, b"seed = 1\n# \xff\n") else {
+        panic!(rt; "the bytes are accepted");
     };
-    let said = format!(in rt.alloc(); "{refused}")?;
-    same_text(
-        &rt,
-        &said,
-        "NotToml: line 2, column 3: invalid UTF-8",
-        "no UTF-8",
-    );
-    let Ok(table) = toml::table_from_str(rt.alloc(), CRASH_FILE) else {
-        return Err(Fail::from("the file is no TOML"));
-    };
-    let Diagnosis::Accepted(file) = diagnose_table(rt.alloc(), &table)? else {
-        return Err(Fail::from("the table is refused"));
+    let said = format!(in alloc; "{refused}").expect(&rt, "no memory");
+    let wanted = "NotToml: line 2, column 3: invalid UTF-8";
+    same(&rt, &said.as_str(), &wanted);
+    let table = toml::table_from_str(alloc, CRASH_FILE).expect(&rt, "no TOML");
+    let Ok(Diagnosis::Accepted(file)) = diagnose_table(alloc, &table) else {
+        panic!(rt; "the table is refused");
     };
     same(&rt, &(file.processes, file.horizon), &(2, 10));
     same(
@@ -41,5 +35,4 @@ fn whole_files(rt: HostRuntime) -> Result<(), Fail> {
         &(file.estimate.entries, file.estimate.seconds),
         &(22, 1),
     );
-    Ok(())
 }

@@ -1,6 +1,7 @@
 //! Pictures, and their texts written by hand.
+use crate::comparisons::is_made_of;
 use std::alloc::Global;
-use std::test::Fail;
+use std::process::Abort;
 use svg::{Anchor, Caption, Class, Picture, Point, Shape, style, svg_text};
 
 const FROM: Point = Point { x: 1, y: 20 };
@@ -8,9 +9,11 @@ const FROM: Point = Point { x: 1, y: 20 };
 const TO: Point = Point { x: 300, y: 4000 };
 
 /// A shape of each kind.
-fn shapes_of(alloc: Global) -> Result<Vec<Shape>, Fail> {
+fn shapes_of(rt: &impl Abort, alloc: Global) -> Vec<Shape> {
     let (class, center) = (Class::Crash, FROM);
-    Ok(vec![in alloc;
+    let caption = Caption::copied(alloc, "a<b> & \"c\" isn't\t\u{e9}");
+    let caption = caption.expect(rt, "no memory");
+    let shapes = vec![in alloc;
         Shape::Line {
             class: Class::Axis,
             from: FROM,
@@ -42,9 +45,10 @@ fn shapes_of(alloc: Global) -> Result<Vec<Shape>, Fail> {
             class: Class::Label,
             at: TO,
             anchor: Anchor::Middle,
-            caption: Caption::copied(alloc, "a<b> & \"c\" isn't\t\u{e9}")?,
+            caption,
         },
-    ]?)
+    ];
+    shapes.expect(rt, "no memory")
 }
 
 const LINES: &str = "<line class=\"axis\" x1=\"1\" y1=\"20\" x2=\"300\" y2=\"4000\"/>
@@ -67,18 +71,14 @@ width=\"640\" height=\"480\">
 
 /// A picture's text is its head, the style sheet, and a line for each shape.
 #[test]
-fn shapes(rt: HostRuntime) -> Result<(), Fail> {
+fn shapes(rt: HostRuntime) {
     let alloc = rt.alloc();
     let picture = Picture {
         width: 640,
         height: 480,
-        shapes: shapes_of(alloc)?,
+        shapes: shapes_of(&rt, alloc),
     };
-    let text = svg_text(alloc, &picture)?;
-    let mut whole = Vec::from_slice(alloc, HEAD.as_bytes())?;
-    whole.extend_from_slice(style())?;
-    whole.extend_from_slice(LINES.as_bytes())?;
-    whole.extend_from_slice(OTHERS.as_bytes())?;
-    assert!(rt; text.as_slice() == whole.as_slice());
-    Ok(())
+    let text = svg_text(alloc, &picture).expect(&rt, "no memory");
+    let style = std::str::from_utf8(style()).expect(&rt, "no text");
+    is_made_of(&rt, &text, &[HEAD, style, LINES, OTHERS]);
 }

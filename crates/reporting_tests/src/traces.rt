@@ -1,4 +1,4 @@
-//! Scenarios and traces for tests, these in the form in which a trace is printed.
+//! Scenarios, axes and traces for tests, these in the form in which a trace is printed.
 ghost use Rattle.std.specs.Prelude.{IsTrue, OnOk};
 ghost use Rattle.process_api.specs.Order.{is_rising};
 
@@ -6,6 +6,7 @@ use process_api::{Entry, Key, Kind, Note, Pid, Trace};
 use scenario::{Scenario, read_scenario};
 use std::alloc::{AllocError, Global};
 use std::process::Abort;
+use study::Axis;
 
 /// Tables by which process 2 crashes at tick 3.
 pub const CRASH_AT_3: &str = "[[crash]]
@@ -72,6 +73,16 @@ pub fn scenario_of<R: Abort>(
 ) -> Scenario {
     let file = file_of(rt, alloc, processes, horizon, more);
     read_scenario(alloc, file.as_bytes()).expect(rt, "not a scenario")
+}
+
+/// The axes that words say, a line each.
+pub fn axes(rt: &impl Abort, alloc: Global, words: &str) -> Vec<Axis> {
+    let mut axes = Vec::new(alloc);
+    for word in words.lines() {
+        let axis = Axis::parse(alloc, word).expect(rt, "no axis");
+        axes.push(axis).expect(rt, "no memory");
+    }
+    axes
 }
 
 /// The process with this number.

@@ -1,9 +1,9 @@
 //! Two whole pictures, worked out by hand: of ticks 5 to 9, each 160 units wide.
 use super::letters_pictures::letters_of;
+use crate::comparisons::is_made_of;
 use crate::traces::trace_of;
 use drawing::{draw_letters, draw_suspicions};
 use scenario::read_scenario;
-use std::process::Abort;
 
 /// Process 2 of two crashes at tick 6, there is a reduction, and the link from process 2 to process 1 is cut at ticks 6
 /// and 7.
@@ -235,16 +235,6 @@ const LETTERS_SHAPES: &str = "\
 <text class=\"remark\" x=\"568\" y=\"100\" text-anchor=\"middle\">+2</text>
 </svg>
 ";
-
-/// A text is these pieces, one after the other.
-fn is_made_of<R: Abort>(rt: &R, text: &[u8], pieces: &[&str]) {
-    let mut rest = text;
-    for piece in pieces {
-        assert!(rt; rest.starts_with(piece.as_bytes()), "{piece}");
-        rest = &rest[piece.len().min(rest.len())..];
-    }
-    assert!(rt; rest.is_empty());
-}
 
 #[test]
 fn whole_pictures(rt: HostRuntime) {

@@ -167,8 +167,15 @@ fn shards_share_points_and_runs_have_seeds(rt: HostRuntime) {
     let ranges = points_of_shards(alloc, 7, 3).expect(&rt, "no memory");
     let (last, more) = (ranges.last().expect(&rt, "no shard"), surplus(7, 3, 1, 3));
     assert!(rt; last.start == 4 && last.end == 7 && more == Some(1));
-    let none = || Vec::new(alloc);
-    let grid = Grid::new(alloc, none(), none(), none(), 1, 6).expect(&rt, "no study");
+    let grid = Grid::new(
+        alloc,
+        Vec::new(alloc),
+        Vec::new(alloc),
+        Vec::new(alloc),
+        1,
+        6,
+    );
+    let grid = grid.expect(&rt, "no study");
     assert!(rt; grid.runs() > 5 && seeds_of_each(&grid, 1) == 6);
     let seeds = two_seeds(alloc, &grid, 0, 5).expect(&rt, "no memory");
     assert!(rt; seeds == (1, 6));

@@ -1,8 +1,8 @@
 //! What tests share: runs, the settings of a point, and the text of its rows.
-use super::studies::{axes, layout_of};
-use crate::comparisons::same;
+use super::studies::layout_of;
+use crate::comparisons::is_text;
 use crate::findings::{outcome, quiet, without_mistake};
-use crate::traces::{CRASH_AT_3, scenario_of};
+use crate::traces::{CRASH_AT_3, axes, scenario_of};
 use judges::Answer;
 use reporting::{Detection, Durations, RunDurations, RunFindings, Summary};
 use scenario::Scenario;
@@ -21,18 +21,6 @@ pub const HEADER: &str =
      to_decide,decided,decision_tick_sum,decision_tick_max,all_decided,last_decision_p50,\
      last_decision_p90,last_decision_p99,last_decision_max,rounds_p50,rounds_p99,rounds_max,\
      disagreements,mistake_run,detection_max_run,disagreement_run\n";
-
-/// The bytes are the first line, which begins with these words, and these rows.
-pub fn is_text<R: Abort>(rt: &R, alloc: Global, bytes: &[u8], words: &str, rows: &str) {
-    let wanted = format!(in alloc; "{words}{HEADER}{rows}").expect(rt, "no memory");
-    is_same(rt, bytes, wanted.as_str());
-}
-
-/// The bytes are this text.
-pub fn is_same<R: Abort>(rt: &R, bytes: &[u8], wanted: &str) {
-    let text = std::str::from_utf8(bytes).expect(rt, "no text");
-    same(rt, &text, &wanted);
-}
 
 /// The scenario of two processes over ten ticks, of which the second crashes at tick 3.
 pub fn crash_at_3<R: Abort>(rt: &R, alloc: Global) -> Scenario {
@@ -103,7 +91,7 @@ pub fn crash_run<R: Abort>(
 }
 
 /// The grid that varies the axes that these words say, with one seed.
-pub fn grid_of<R: Abort>(rt: &R, alloc: Global, vary: &[&str]) -> Grid {
+pub fn grid_of<R: Abort>(rt: &R, alloc: Global, vary: &str) -> Grid {
     let vary = axes(rt, alloc, vary);
     Grid::new(alloc, vary, Vec::new(alloc), Vec::new(alloc), 1, 1).expect(rt, "no study")
 }
@@ -126,6 +114,6 @@ pub fn are_rows<R: Abort>(rt: &R, alloc: Global, runs: &[RunNumbers], timeout: &
         sums.add(run).expect(rt, "no memory");
     }
     let axis = format!(in alloc; "detector.timeout={timeout}").expect(rt, "no memory");
-    let grid = grid_of(rt, alloc, &[axis.as_str()]);
-    is_same(rt, &rows_of(rt, alloc, &grid, &sums), wanted);
+    let grid = grid_of(rt, alloc, &axis);
+    is_text(rt, &rows_of(rt, alloc, &grid, &sums), wanted);
 }

@@ -1,14 +1,14 @@
 //! What tests of sweeps share: small studies by words, and their texts.
 ghost use Rattle.std.specs.Prelude.{◌≡◌};
 
-use crate::traces::{CRASH_AT_3, file_of};
+use crate::traces::{CRASH_AT_3, axes, file_of};
 use reporting::MemoryOutlet;
 use std::alloc::Global;
 use std::marker::Sync;
 use std::process::Abort;
 use std::thread::Threads;
 use std::time::Clock;
-use study::{Axis, Grid, Shard};
+use study::{Grid, Shard};
 use sweep::{Layout, Rows, Unwatched, sweep};
 use toml::Table;
 
@@ -18,16 +18,6 @@ pub struct Study {
     pub file: Table,
     pub grid: Grid,
     pub layout: Layout,
-}
-
-/// The axes that these words say.
-pub fn axes<R: Abort>(rt: &R, alloc: Global, words: &[&str]) -> Vec<Axis> {
-    let mut axes = Vec::new(alloc);
-    for word in words {
-        let axis = Axis::parse(alloc, word).expect(rt, "no axis");
-        axes.push(axis).expect(rt, "no memory");
-    }
-    axes
 }
 
 /// The layout of such rows with these columns.
@@ -44,13 +34,7 @@ pub fn layout_of<R: Abort>(
 }
 
 /// The study that varies some keys and adds up over others, of the seeds from 1 to the last.
-pub fn study_of<R: Abort>(
-    rt: &R,
-    alloc: Global,
-    vary: &[&str],
-    over: &[&str],
-    last_seed: u64,
-) -> Study {
+pub fn study_of<R: Abort>(rt: &R, alloc: Global, vary: &str, over: &str, last_seed: u64) -> Study {
     let text = file_of(rt, alloc, 2, 10, CRASH_AT_3);
     let file = toml::table_from_str(alloc, text.as_str());
     let (vary, over) = (axes(rt, alloc, vary), axes(rt, alloc, over));
@@ -65,18 +49,12 @@ pub fn study_of<R: Abort>(
 
 /// Seven points with 160 runs each, of which 80 have the crash at tick 3 and 80 have it at tick 4.
 pub fn seven_points<R: Abort>(rt: &R, alloc: Global) -> Study {
-    study_of(
-        rt,
-        alloc,
-        &["link.loss=0..=600:100"],
-        &["crash[1].at=3,4"],
-        80,
-    )
+    study_of(rt, alloc, "link.loss=0..=600:100", "crash[1].at=3,4", 80)
 }
 
 /// Two points with one run each.
 pub fn two_points<R: Abort>(rt: &R, alloc: Global) -> Study {
-    study_of(rt, alloc, &["detector.timeout=5,8"], &[], 1)
+    study_of(rt, alloc, "detector.timeout=5,8", "", 1)
 }
 
 /// The shard of so many that has this number, from 1.

@@ -1,10 +1,9 @@
 //! The rows of points whose runs are worked by hand.
 use super::points::{
-    are_rows, crash_at_3, crash_run, durations, grid_of, is_same, is_text, one_crash, rows_of,
-    run_of,
+    HEADER, are_rows, crash_at_3, crash_run, durations, grid_of, one_crash, rows_of, run_of,
 };
 use super::studies::layout_of;
-use crate::comparisons::same;
+use crate::comparisons::{is_text, same};
 use crate::findings::{outcome, quiet, without_mistake};
 use crate::traces::scenario_of;
 use judges::Answer;
@@ -255,13 +254,14 @@ fn watched_pairs(rt: HostRuntime) {
 fn lines(rt: HostRuntime) {
     let alloc = rt.alloc();
     let mut table = Table::new(alloc);
-    let grid = grid_of(&rt, alloc, &["detector.timeout=5"]);
+    let grid = grid_of(&rt, alloc, "detector.timeout=5");
     let layout = layout_of(&rt, alloc, &grid, Rows::Points, None);
     table
         .push_header(alloc, &grid, &layout)
         .expect(&rt, "no memory");
     let header = table.into_text().expect(&rt, "no memory");
-    is_text(&rt, alloc, &header, "detector.timeout,", "");
+    let wanted = format!(in alloc; "detector.timeout,{HEADER}").expect(&rt, "no memory");
+    is_text(&rt, &header, &wanted);
     are_rows(
         &rt,
         alloc,
@@ -269,14 +269,11 @@ fn lines(rt: HostRuntime) {
         "a \"b\"",
         "\"a \"\"b\"\"\",1,0,0,,,,,,,,,,,,,,,,,,,,,,,,,,,,,,,,,,,,,,,,,,,,,,,,\n",
     );
-    is_same(
+    let grid = grid_of(&rt, alloc, "");
+    let rows = rows_of(&rt, alloc, &grid, &PointSums::new(alloc, 1));
+    is_text(
         &rt,
-        &rows_of(
-            &rt,
-            alloc,
-            &grid_of(&rt, alloc, &[]),
-            &PointSums::new(alloc, 1),
-        ),
+        &rows,
         "1,0,0,,,,,,,,,,,,,,,,,,,,,,,,,,,,,,,,,,,,,,,,,,,,,,,,\n",
     );
 }

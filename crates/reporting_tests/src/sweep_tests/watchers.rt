@@ -130,7 +130,7 @@ fn hears_of_all_runs(rt: HostRuntime) {
 #[test]
 fn hears_of_limits(rt: HostRuntime) {
     let alloc = rt.alloc();
-    let limits = study_of(&rt, alloc, &["limit=15,11,12"], &["crash[1].at=3,5"], 1);
+    let limits = study_of(&rt, alloc, "limit=15,11,12", "crash[1].at=3,5", 1);
     let keeper = heard_of(&rt, alloc, &limits, Shard::whole()).expect(&rt, "no sweep");
     same(&rt, &keeper.limited, &Some((2, 3)));
 }
@@ -140,7 +140,7 @@ fn hears_of_limits(rt: HostRuntime) {
 #[test]
 fn breaks_off(rt: HostRuntime) {
     let alloc = rt.alloc();
-    let links = study_of(&rt, alloc, &["link.max=5,2,1"], &["link.min=2,3"], 3);
+    let links = study_of(&rt, alloc, "link.max=5,2,1", "link.min=2,3", 3);
     assert!(rt; heard_of(&rt, alloc, &links, Shard::whole()).is_none());
     let seven = seven_points(&rt, alloc);
     let mut outlet = FuseOutlet::new(alloc, usize::MAX, 2);
