@@ -1,10 +1,12 @@
 //! What a part of a process does, as text: a letter with its receiver, a wake with its pause, and a note as a trace
 //! prints it.
-use process_api::{Action, Cells, Note, Payload, ProcSet, Tag};
+use crate::comparisons::same;
+use process_api::{Action, Note, Payload, ProcSet, Tag};
 use std::alloc::{AllocError, Global};
+use std::process::Abort;
 
 /// The members of a set.
-pub fn members_of(alloc: Global, set: &ProcSet) -> Result<Vec<u16>, AllocError> {
+fn members_of(alloc: Global, set: &ProcSet) -> Result<Vec<u16>, AllocError> {
     let mut members = Vec::new(alloc);
     for member in set {
         members.push(member.number())?;
@@ -12,48 +14,57 @@ pub fn members_of(alloc: Global, set: &ProcSet) -> Result<Vec<u16>, AllocError> 
     Ok(members)
 }
 
-/// The cells as text, an empty one as `-`.
-fn text_of_cells(alloc: Global, cells: &Cells) -> Result<String, AllocError> {
-    let cells = cells.copy()?.into_vec();
-    let mut text = String::new(alloc);
-    for cell in cells.iter() {
-        if !text.is_empty() {
-            text.push_str(" ")?;
-        }
+/// The members of the set are these, in rising order.
+pub fn are_members(rt: &impl Abort, alloc: Global, set: &ProcSet, wanted: &[u16]) {
+    let members = members_of(alloc, set).expect(rt, "no memory");
+    same(rt, &members.as_slice(), &wanted);
+}
+
+/// Puts cells at the end of a text, an empty one as `-`.
+fn push_cells(text: &mut String, cells: &[Option<u32>]) -> Result<(), AllocError> {
+    let mut before = "";
+    text.push_str("[")?;
+    for cell in cells {
+        text.push_str(before)?;
         match cell {
             Some(value) => write!(text, "{value}")?,
             None => text.push_str("-")?,
         }
+        before = " ";
     }
-    Ok(text)
+    text.push_str("]")
 }
 
-/// What a letter says.
-fn text_of_letter(alloc: Global, payload: &Payload) -> Result<String, AllocError> {
+/// Puts what a letter says at the end of a text.
+fn push_letter(alloc: Global, text: &mut String, payload: &Payload) -> Result<(), AllocError> {
     match payload {
-        Payload::Alive => format!(in alloc; "alive"),
-        Payload::Heartbeat { number } => format!(in alloc; "heartbeat:{number}"),
+        Payload::Alive => text.push_str("alive"),
+        Payload::Heartbeat { number } => write!(text, "heartbeat:{number}"),
         Payload::Suspects(suspects) => {
             let suspects = members_of(alloc, suspects)?;
-            format!(in alloc; "suspects:{suspects:?}")
+            write!(text, "suspects:{suspects:?}")
         }
         Payload::Vector { round, cells } => {
-            let cells = text_of_cells(alloc, cells)?;
-            format!(in alloc; "vector:{round}[{cells}]")
+            let cells = cells.copy()?.into_vec();
+            write!(text, "vector:{round}")?;
+            push_cells(text, &cells)
         }
         Payload::Last { cells } => {
-            let cells = text_of_cells(alloc, cells)?;
-            format!(in alloc; "last[{cells}]")
+            let cells = cells.copy()?.into_vec();
+            text.push_str("last")?;
+            push_cells(text, &cells)
         }
         Payload::Estimate {
             round,
             value,
             stamp,
-        } => format!(in alloc; "estimate:{round}:{value}:{stamp}"),
-        Payload::Proposal { round, value } => format!(in alloc; "proposal:{round}:{value}"),
-        Payload::Reply { round, ack: true } => format!(in alloc; "ack:{round}"),
-        Payload::Reply { round, ack: false } => format!(in alloc; "nack:{round}"),
-        Payload::Decide { round, value } => format!(in alloc; "decide:{round}:{value}"),
+        } => write!(text, "estimate:{round}:{value}:{stamp}"),
+        Payload::Proposal { round, value } => write!(text, "proposal:{round}:{value}"),
+        Payload::Reply { round, ack } => {
+            let name = if *ack { "ack" } else { "nack" };
+            write!(text, "{name}:{round}")
+        }
+        Payload::Decide { round, value } => write!(text, "decide:{round}:{value}"),
     }
 }
 
@@ -66,40 +77,46 @@ fn name_of(tag: Tag) -> &'static str {
     }
 }
 
-/// One action.
-fn action_text(alloc: Global, action: &Action) -> Result<String, AllocError> {
+/// Puts one action at the end of a text.
+fn push_action(alloc: Global, text: &mut String, action: &Action) -> Result<(), AllocError> {
     match action {
         Action::Send { to, payload } => {
-            let letter = text_of_letter(alloc, payload)?;
+            push_letter(alloc, text, payload)?;
             let to = to.number();
-            format!(in alloc; "{letter}>{to}")
+            write!(text, ">{to}")
         }
         Action::Wake { pause, tag } => {
             let tag = name_of(*tag);
-            format!(in alloc; "{tag}+{pause}")
+            write!(text, "{tag}+{pause}")
         }
         Action::Note(Note::Suspect { layer, who }) => {
             let who = who.number();
-            format!(in alloc; "suspect:{layer}:{who}")
+            write!(text, "suspect:{layer}:{who}")
         }
         Action::Note(Note::Trust { layer, who }) => {
             let who = who.number();
-            format!(in alloc; "trust:{layer}:{who}")
+            write!(text, "trust:{layer}:{who}")
         }
-        Action::Note(Note::Round(round)) => format!(in alloc; "round:{round}"),
-        Action::Note(Note::Decided(value)) => format!(in alloc; "decided:{value}"),
-        Action::Note(Note::NoValue) => format!(in alloc; "novalue"),
+        Action::Note(Note::Round(round)) => write!(text, "round:{round}"),
+        Action::Note(Note::Decided(value)) => write!(text, "decided:{value}"),
+        Action::Note(Note::NoValue) => text.push_str("novalue"),
     }
 }
 
 /// What was done, one action after the other.
-pub fn actions_text(alloc: Global, actions: &[Action]) -> Result<String, AllocError> {
+fn actions_text(alloc: Global, actions: &[Action]) -> Result<String, AllocError> {
     let mut text = String::new(alloc);
     for action in actions {
         if !text.is_empty() {
             text.push_str(" ")?;
         }
-        text.push_str(action_text(alloc, action)?.as_str())?;
+        push_action(alloc, &mut text, action)?;
     }
     Ok(text)
+}
+
+/// What was done at this tick is this.
+pub fn are_done(rt: &impl Abort, alloc: Global, tick: u32, actions: &[Action], wanted: &str) {
+    let text = actions_text(alloc, actions).expect(rt, "no memory");
+    same(rt, &(tick, text.as_str()), &(tick, wanted));
 }

@@ -1,6 +1,6 @@
 //! Texts of which a part is changed.
 use std::alloc::Global;
-use std::test::Fail;
+use std::process::Abort;
 
 /// Two processes, of which the second crashes at tick 3.
 pub const CRASH_FILE: &str = "version = 1
@@ -26,7 +26,7 @@ at = 3
 ";
 
 /// The text with a part of it, where it first stands, changed.
-pub fn changed(alloc: Global, text: &str, old: &str, new: &str) -> Result<String, Fail> {
-    let (before, after) = text.split_once(old).ok_or("the text has no such part")?;
-    Ok(format!(in alloc; "{before}{new}{after}")?)
+pub fn changed(rt: &impl Abort, alloc: Global, text: &str, old: &str, new: &str) -> String {
+    let (before, after) = text.split_once(old).expect(rt, "the text has no such part");
+    format!(in alloc; "{before}{new}{after}").expect(rt, "no memory")
 }

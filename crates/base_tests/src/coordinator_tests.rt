@@ -1,7 +1,7 @@
 //! Machines of the rotating coordinator, driven by hand.
 mod laws;
 
-use crate::answers::actions_text;
+use crate::answers::are_done;
 use crate::comparisons::same;
 use crate::driving::{Row, TIMEOUTS, drive_algorithm, opening_of};
 use crate::inputs::Given::{Alive, Decide, Estimate, Proposal, Reply, Start};
@@ -10,7 +10,6 @@ use process_api::Pid;
 use scenario_record::AlgorithmKind;
 use std::alloc::Global;
 use std::process::Abort;
-use std::test::Fail;
 
 /// Process `own` of so many, with this proposal, does what the rows say.
 fn coordinates(
@@ -18,16 +17,16 @@ fn coordinates(
     alloc: Global,
     (own, processes, proposal): (u16, u16, u32),
     rows: &[Row],
-) -> Result<(), Fail> {
+) {
     let kind = AlgorithmKind::EventuallyStrong;
-    let opening = opening_of(own, processes, 20, TIMEOUTS, None, kind, Some(proposal))?;
-    let mut machine = EsConsensus::open(alloc, &opening)?;
-    drive_algorithm(rt, alloc, &opening, &mut machine, rows)
+    let opening = opening_of(rt, own, processes, 20, TIMEOUTS, None, kind, Some(proposal));
+    let mut machine = EsConsensus::open(alloc, &opening).expect(rt, "no memory");
+    drive_algorithm(rt, alloc, &opening, &mut machine, rows);
 }
 
 /// Majorities of one to five processes, and at process 1 of three who coordinates a round.
 #[test]
-fn memberships(rt: HostRuntime) -> Result<(), Fail> {
+fn memberships(rt: HostRuntime) {
     let first = Pid::after(0);
     for (processes, wanted) in [(1, 1), (2, 2), (3, 2), (4, 3), (5, 3)] {
         let majority = Membership::new(first, processes).majority();
@@ -39,11 +38,10 @@ fn memberships(rt: HostRuntime) -> Result<(), Fail> {
         let came = (round, coordinator, membership.is_coordinator(round));
         same(&rt, &came, &(round, wanted, wanted == 1));
     }
-    Ok(())
 }
 
 /// Of which round a decision comes, whether for the first time, and what is done.
-const RECEIVED: &[(u64, bool, &str)] = &[
+const RECEIVED: &[(u32, bool, &str)] = &[
     (1, true, "decide:1:10>1 decide:1:10>2 decide:1:10>3"),
     (1, false, ""),
     (3, true, ""),
@@ -52,24 +50,33 @@ const RECEIVED: &[(u64, bool, &str)] = &[
 
 /// Process 1 of three: it is the coordinator of round 3, and passes on the decisions of other rounds.
 #[test]
-fn decisions_diffused(rt: HostRuntime) -> Result<(), Fail> {
+fn decisions_diffused(rt: HostRuntime) {
     let alloc = rt.alloc();
     let membership = Membership::new(Pid::after(0), 3);
     let mut diffusion = Diffusion::new(alloc);
     for &(round, first, wanted) in RECEIVED {
         let mut out = Vec::new(alloc);
-        let is_first = diffusion.receive(&membership, round, 10, &mut out)?;
-        let text = actions_text(alloc, &out)?;
-        let seen = (diffusion.has_seen(round), diffusion.has_seen(2));
-        let came = (round, is_first, text.as_str(), seen);
-        same(&rt, &came, &(round, first, wanted, (true, false)));
+        let number = u64::from(round);
+        let is_first = diffusion.receive(&membership, number, 10, &mut out);
+        let is_first = is_first.expect(&rt, "no memory");
+        let seen = (diffusion.has_seen(number), diffusion.has_seen(2));
+        same(
+            &rt,
+            &(round, is_first, seen),
+            &(round, first, (true, false)),
+        );
+        are_done(&rt, alloc, round, &out, wanted);
     }
     let mut out = Vec::new(alloc);
-    Diffusion::broadcast(&membership, 3, 10, &mut out)?;
-    let text = actions_text(alloc, &out)?;
-    let wanted = "decide:3:10>1 decide:3:10>2 decide:3:10>3";
-    same(&rt, &text.as_str(), &wanted);
-    Ok(())
+    let sent = Diffusion::broadcast(&membership, 3, 10, &mut out);
+    sent.expect(&rt, "no memory");
+    are_done(
+        &rt,
+        alloc,
+        0,
+        &out,
+        "decide:3:10>1 decide:3:10>2 decide:3:10>3",
+    );
 }
 
 /// Process 2 of three with the proposals 10, 20 and 30: the coordinator of round 1. Its decision comes to itself at
@@ -117,9 +124,9 @@ const ALONE: &[Row] = &[
 ];
 
 #[test]
-fn coordinators_decide(rt: HostRuntime) -> Result<(), Fail> {
-    coordinates(&rt, rt.alloc(), (2, 3, 20), SECOND_OF_THREE)?;
-    coordinates(&rt, rt.alloc(), (1, 1, 7), ALONE)
+fn coordinators_decide(rt: HostRuntime) {
+    coordinates(&rt, rt.alloc(), (2, 3, 20), SECOND_OF_THREE);
+    coordinates(&rt, rt.alloc(), (1, 1, 7), ALONE);
 }
 
 /// Process 1 of three, in round 1, whose coordinator is process 2: a decision is passed on and noted, once; another
@@ -150,7 +157,7 @@ const SUSPECTED: &[Row] = &[(
 )];
 
 #[test]
-fn beside_a_coordinator(rt: HostRuntime) -> Result<(), Fail> {
-    coordinates(&rt, rt.alloc(), (1, 3, 10), DECIDED_ONCE)?;
-    coordinates(&rt, rt.alloc(), (1, 3, 10), SUSPECTED)
+fn beside_a_coordinator(rt: HostRuntime) {
+    coordinates(&rt, rt.alloc(), (1, 3, 10), DECIDED_ONCE);
+    coordinates(&rt, rt.alloc(), (1, 3, 10), SUSPECTED);
 }

@@ -1,11 +1,11 @@
 //! Parts of a process, driven by hand.
-ghost use Rattle.std.specs.Prelude.{◌≡◌, ◌≤◌, IfOk, IsTrue, is_some, not};
+ghost use Rattle.std.specs.Prelude.{◌≡◌, ◌≤◌, IsTrue, is_some, not};
 ghost use Rattle.std.specs.Option.{ForSome};
 ghost use Rattle.process_api.specs.Mind.{stands_at};
 ghost use Rattle.scenario_record.specs.Numbers.{AreInRange, is_idle};
 ghost use Rattle.scenario_record.specs.Opening.{place_of};
 
-use crate::answers::{actions_text, members_of};
+use crate::answers::{are_done, are_members};
 use crate::comparisons::same;
 use crate::inputs::{Given, input_of, numbered, set_of};
 use process_api::{
@@ -14,7 +14,6 @@ use process_api::{
 use scenario_record::{AlgorithmKind, Opening};
 use std::alloc::Global;
 use std::process::Abort;
-use std::test::Fail;
 
 /// A tick, whom the process suspects by then on its top layer, an input, and what is done with it.
 pub type Row<'a> = (u32, &'a [u16], Given<'a>, &'a str);
@@ -30,6 +29,7 @@ pub const TIMEOUTS: DetectorNumbers = DetectorNumbers::Timeout(TimeoutNumbers {
 
 /// What process `own` of so many opens with.
 pub fn opening_of(
+    rt: &impl Abort,
     own: u16,
     processes: u16,
     horizon: u32,
@@ -37,50 +37,42 @@ pub fn opening_of(
     share: Option<u32>,
     algorithm: AlgorithmKind,
     proposal: Option<u32>,
-) -> Result<Opening, Fail>
+) -> Opening
     requires lasts { (1 ≤ horizon) × (horizon ≤ 10000000) }
     requires numbers { AreInRange detector }
     requires shares { ForSome share (λ period. (1 ≤ period) × (period ≤ 1000000)) }
     requires proposes { is_some proposal ≡ not (is_idle algorithm) }
-    ensures place { IfOk result (λ o. place_of o
-        ≡ record { own = own; processes = processes; horizon = horizon }) }
-    ensures detector { IfOk result (λ o. o.detector ≡ detector) }
-    ensures share { IfOk result (λ o. o.share ≡ share) }
-    ensures proposal { IfOk result (λ o. o.proposal ≡ proposal) }
+    ensures place { place_of result ≡ record { own = own; processes = processes; horizon = horizon } }
+    ensures detector { result.detector ≡ detector }
+    ensures share { result.share ≡ share }
+    ensures proposal { result.proposal ≡ proposal }
 {
     if own > processes || processes > MOST_PROCESSES {
-        return Err(Fail::from("no such process"));
+        panic!(rt; "no such process");
     }
-    Ok(Opening {
-        own: numbered(own)?,
+    Opening {
+        own: numbered(rt, own),
         processes,
         horizon,
         detector,
         share,
         algorithm,
         proposal,
-    })
+    }
 }
 
 /// Gives a detector that suspects nobody yet inputs at their ticks, and compares whom it suspects by then, and what it
 /// does.
-pub fn drive_detector<D: Detector>(
-    rt: &impl Abort,
-    alloc: Global,
-    machine: &mut D,
-    rows: &[Row],
-) -> Result<(), Fail> {
+pub fn drive_detector<D: Detector>(rt: &impl Abort, alloc: Global, machine: &mut D, rows: &[Row]) {
     same(rt, &machine.suspects().len(), &0);
     for &(tick, suspects, given, wanted) in rows {
-        let input = input_of(alloc, given)?;
+        let input = input_of(rt, alloc, given);
         let mut out = Vec::new(alloc);
-        machine.take(tick, &input, &mut out)?;
-        let suspected = members_of(alloc, &machine.suspects())?;
-        let text = actions_text(alloc, &out)?;
-        let came = (tick, suspected.as_slice(), text.as_str());
-        same(rt, &came, &(tick, suspects, wanted));
+        let taken = machine.take(tick, &input, &mut out);
+        taken.expect(rt, "no memory");
+        are_done(rt, alloc, tick, &out, wanted);
+        are_members(rt, alloc, &machine.suspects(), suspects);
     }
-    Ok(())
 }
 
 /// Gives an algorithm inputs at their ticks, with the suspects of then, and compares what it does.
@@ -90,21 +82,20 @@ pub fn drive_algorithm<A: Algorithm>(
     opening: &Opening,
     machine: &mut A,
     rows: &[Row],
-) -> Result<(), Fail>
+)
     requires { IsTrue (stands_at (place_of opening.now) (A.state machine.old)) }
 {
     for &(tick, suspects, given, wanted) in rows {
-        let suspects = set_of(suspects)?;
+        let suspects = set_of(rt, suspects);
         if suspects.contains(opening.own) {
-            return Err(Fail::from("nobody suspects itself"));
+            panic!(rt; "nobody suspects itself");
         }
-        let input = input_of(alloc, given)?;
+        let input = input_of(rt, alloc, given);
         let mut out = Vec::new(alloc);
-        machine.take(tick, &input, &suspects, &mut out)?;
-        let text = actions_text(alloc, &out)?;
-        same(rt, &(tick, text.as_str()), &(tick, wanted));
+        let taken = machine.take(tick, &input, &suspects, &mut out);
+        taken.expect(rt, "no memory");
+        are_done(rt, alloc, tick, &out, wanted);
     }
-    Ok(())
 }
 
 /// Gives a process inputs at their ticks, and compares what it does. None of its parts fails.
@@ -113,14 +104,13 @@ pub fn drive_process<P: Process>(
     alloc: Global,
     machine: &mut P,
     rows: &[(u32, Given, &str)],
-) -> Result<(), Fail> {
+) {
     for &(tick, given, wanted) in rows {
-        let input = input_of(alloc, given)?;
+        let input = input_of(rt, alloc, given);
         let mut out = Vec::new(alloc);
-        machine.on_input(tick, &input, &mut out)?;
-        let text = actions_text(alloc, &out)?;
-        same(rt, &(tick, text.as_str()), &(tick, wanted));
+        let taken = machine.on_input(tick, &input, &mut out);
+        taken.expect(rt, "no memory");
+        are_done(rt, alloc, tick, &out, wanted);
     }
     same(rt, &machine.failed(), &false);
-    Ok(())
 }

@@ -7,7 +7,6 @@ use consensus_s::SConsensus;
 use scenario_record::AlgorithmKind;
 use std::alloc::Global;
 use std::process::Abort;
-use std::test::Fail;
 
 /// Process `own` of so many, with this proposal, does what the rows say.
 fn exchanges(
@@ -15,11 +14,11 @@ fn exchanges(
     alloc: Global,
     (own, processes, proposal): (u16, u16, u32),
     rows: &[Row],
-) -> Result<(), Fail> {
+) {
     let kind = AlgorithmKind::Strong;
-    let opening = opening_of(own, processes, 20, TIMEOUTS, None, kind, Some(proposal))?;
-    let mut machine = SConsensus::open(alloc, &opening)?;
-    drive_algorithm(rt, alloc, &opening, &mut machine, rows)
+    let opening = opening_of(rt, own, processes, 20, TIMEOUTS, None, kind, Some(proposal));
+    let mut machine = SConsensus::open(alloc, &opening).expect(rt, "no memory");
+    drive_algorithm(rt, alloc, &opening, &mut machine, rows);
 }
 
 /// Two processes suspect each other at tick 1, before any letter came: the first decides its own.
@@ -61,9 +60,9 @@ const SECOND_OF_TWO: &[Row] = &[
 ];
 
 #[test]
-fn early_suspicions(rt: HostRuntime) -> Result<(), Fail> {
-    exchanges(&rt, rt.alloc(), (1, 2, 10), FIRST_OF_TWO)?;
-    exchanges(&rt, rt.alloc(), (2, 2, 20), SECOND_OF_TWO)
+fn early_suspicions(rt: HostRuntime) {
+    exchanges(&rt, rt.alloc(), (1, 2, 10), FIRST_OF_TWO);
+    exchanges(&rt, rt.alloc(), (2, 2, 20), SECOND_OF_TWO);
 }
 
 /// Of three processes the first is crashed at tick 0, and is suspected from tick 6 on: the second decides 20.
@@ -121,9 +120,9 @@ const THIRD_OF_THREE: &[Row] = &[
 ];
 
 #[test]
-fn crash_of_the_first(rt: HostRuntime) -> Result<(), Fail> {
-    exchanges(&rt, rt.alloc(), (2, 3, 20), SECOND_OF_THREE)?;
-    exchanges(&rt, rt.alloc(), (3, 3, 30), THIRD_OF_THREE)
+fn crash_of_the_first(rt: HostRuntime) {
+    exchanges(&rt, rt.alloc(), (2, 3, 20), SECOND_OF_THREE);
+    exchanges(&rt, rt.alloc(), (3, 3, 30), THIRD_OF_THREE);
 }
 
 /// Letters that the algorithm never sends in that way, inputs before the start, a later start, and a second letter.
@@ -157,7 +156,7 @@ const ALONE: &[Row] = &[
 ];
 
 #[test]
-fn dropped_inputs(rt: HostRuntime) -> Result<(), Fail> {
-    exchanges(&rt, rt.alloc(), (1, 2, 10), DROPPED)?;
-    exchanges(&rt, rt.alloc(), (1, 1, 7), ALONE)
+fn dropped_inputs(rt: HostRuntime) {
+    exchanges(&rt, rt.alloc(), (1, 2, 10), DROPPED);
+    exchanges(&rt, rt.alloc(), (1, 1, 7), ALONE);
 }

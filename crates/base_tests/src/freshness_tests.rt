@@ -6,7 +6,6 @@ use process_api::{DetectorNumbers, FreshnessNumbers, Watch};
 use scenario_record::AlgorithmKind;
 use std::alloc::Global;
 use std::process::Abort;
-use std::test::Fail;
 
 /// Process `own` of so many, with eta 3 and delta 2, suspects and does what the rows say.
 fn watches(
@@ -14,7 +13,7 @@ fn watches(
     alloc: Global,
     (own, processes, watch): (u16, u16, Watch),
     rows: &[Row],
-) -> Result<(), Fail> {
+) {
     let numbers = FreshnessNumbers {
         eta: 3,
         delta: 2,
@@ -22,6 +21,7 @@ fn watches(
     };
     let numbers = DetectorNumbers::Freshness(numbers);
     let opening = opening_of(
+        rt,
         own,
         processes,
         100,
@@ -29,9 +29,9 @@ fn watches(
         None,
         AlgorithmKind::Idle,
         None,
-    )?;
-    let mut machine = FreshnessDetector::open(alloc, &opening)?;
-    drive_detector(rt, alloc, &mut machine, rows)
+    );
+    let mut machine = FreshnessDetector::open(alloc, &opening).expect(rt, "no memory");
+    drive_detector(rt, alloc, &mut machine, rows);
 }
 
 /// A heartbeat that is late at the first point.
@@ -54,9 +54,9 @@ const NOBODY_BEFORE: &[Row] = &[
 ];
 
 #[test]
-fn first_points(rt: HostRuntime) -> Result<(), Fail> {
-    watches(&rt, rt.alloc(), (1, 2, Watch::All), LATE)?;
-    watches(&rt, rt.alloc(), (1, 3, Watch::All), NOBODY_BEFORE)
+fn first_points(rt: HostRuntime) {
+    watches(&rt, rt.alloc(), (1, 2, Watch::All), LATE);
+    watches(&rt, rt.alloc(), (1, 3, Watch::All), NOBODY_BEFORE);
 }
 
 /// A heartbeat older than the last point brings no trust; one as late as the point, or later, does. A later one counts
@@ -77,8 +77,8 @@ const FRESH: &[Row] = &[
 ];
 
 #[test]
-fn only_fresh_heartbeats_bring_trust(rt: HostRuntime) -> Result<(), Fail> {
-    watches(&rt, rt.alloc(), (1, 2, Watch::All), FRESH)
+fn only_fresh_heartbeats_bring_trust(rt: HostRuntime) {
+    watches(&rt, rt.alloc(), (1, 2, Watch::All), FRESH);
 }
 
 /// Under `next` the first of three watches the second alone, and sends to all others.
@@ -107,8 +107,8 @@ const OTHER_PARTS: &[Row] = &[
 ];
 
 #[test]
-fn watch_next(rt: HostRuntime) -> Result<(), Fail> {
-    watches(&rt, rt.alloc(), (1, 3, Watch::Next), FIRST_OF_THREE)?;
-    watches(&rt, rt.alloc(), (1, 1, Watch::Next), ALONE)?;
-    watches(&rt, rt.alloc(), (1, 2, Watch::All), OTHER_PARTS)
+fn watch_next(rt: HostRuntime) {
+    watches(&rt, rt.alloc(), (1, 3, Watch::Next), FIRST_OF_THREE);
+    watches(&rt, rt.alloc(), (1, 1, Watch::Next), ALONE);
+    watches(&rt, rt.alloc(), (1, 2, Watch::All), OTHER_PARTS);
 }

@@ -1,9 +1,9 @@
 //! What a part of a process is given.
-ghost use Rattle.std.specs.Prelude.{◌≡◌, IfOk};
+ghost use Rattle.std.specs.Prelude.{◌≡◌};
 
 use process_api::{Cells, Payload, Pid, ProcSet, StepInput, Tag};
 use std::alloc::Global;
-use std::test::Fail;
+use std::process::Abort;
 
 /// One input. Of a letter its sender's number comes first.
 #[derive(Clone, Copy)]
@@ -32,37 +32,42 @@ pub enum Given<'a> {
 }
 
 /// The process of this number.
-pub fn numbered(number: u16) -> Result<Pid, Fail>
-    ensures { IfOk result (λ made. made ≡ number) }
+pub fn numbered(rt: &impl Abort, number: u16) -> Pid
+    ensures { result ≡ number }
 {
-    Ok(Pid::new(number).ok_or("no process")?)
+    Pid::new(number).expect(rt, "no process")
 }
 
 /// The set of these processes.
-pub fn set_of(numbers: &[u16]) -> Result<ProcSet, Fail> {
+pub fn set_of(rt: &impl Abort, numbers: &[u16]) -> ProcSet {
     let mut set = ProcSet::new();
     for number in numbers {
-        set.insert(numbered(*number)?);
+        set.insert(numbered(rt, *number));
     }
-    Ok(set)
+    set
+}
+
+/// These cells.
+fn cells_of(rt: &impl Abort, alloc: Global, cells: &[Option<u32>]) -> Cells {
+    Cells::new(Vec::from_slice(alloc, cells).expect(rt, "no memory"))
 }
 
 /// The input that is given.
-pub fn input_of(alloc: Global, given: Given) -> Result<StepInput, Fail> {
+pub fn input_of(rt: &impl Abort, alloc: Global, given: Given) -> StepInput {
     let (from, payload) = match given {
-        Given::Start => return Ok(StepInput::Start),
-        Given::Beat => return Ok(StepInput::Wake(Tag::Beat)),
-        Given::Check => return Ok(StepInput::Wake(Tag::Check)),
-        Given::Share => return Ok(StepInput::Wake(Tag::Share)),
+        Given::Start => return StepInput::Start,
+        Given::Beat => return StepInput::Wake(Tag::Beat),
+        Given::Check => return StepInput::Wake(Tag::Check),
+        Given::Share => return StepInput::Wake(Tag::Share),
         Given::Alive(from) => (from, Payload::Alive),
         Given::Heartbeat(from, number) => (from, Payload::Heartbeat { number }),
-        Given::Suspects(from, numbers) => (from, Payload::Suspects(set_of(numbers)?)),
+        Given::Suspects(from, numbers) => (from, Payload::Suspects(set_of(rt, numbers))),
         Given::Vector(from, round, cells) => {
-            let cells = Cells::new(Vec::from_slice(alloc, cells)?);
+            let cells = cells_of(rt, alloc, cells);
             (from, Payload::Vector { round, cells })
         }
         Given::Last(from, cells) => {
-            let cells = Cells::new(Vec::from_slice(alloc, cells)?);
+            let cells = cells_of(rt, alloc, cells);
             (from, Payload::Last { cells })
         }
         Given::Estimate(from, round, value, stamp) => (
@@ -77,6 +82,6 @@ pub fn input_of(alloc: Global, given: Given) -> Result<StepInput, Fail> {
         Given::Reply(from, round, ack) => (from, Payload::Reply { round, ack }),
         Given::Decide(from, round, value) => (from, Payload::Decide { round, value }),
     };
-    let sender = numbered(from)?;
-    Ok(StepInput::Letter { sender, payload })
+    let sender = numbered(rt, from);
+    StepInput::Letter { sender, payload }
 }

@@ -4,10 +4,9 @@ use crate::driving::drive_process;
 use crate::inputs::Given::Start;
 use machines::{Machine, machines_of};
 use process_api::Process;
-use scenario::{Scenario, ScenarioError, read_scenario};
+use scenario::{Scenario, read_scenario};
 use std::alloc::Global;
 use std::process::Abort;
-use std::test::Fail;
 
 /// What a detector with time-outs says in its table.
 const TIMEOUTS: &str = "period = 4\ncheck = 3\ntimeout = 5\n";
@@ -20,16 +19,18 @@ const SHARE: &str = "[share]\nperiod = 8\n";
 
 /// Two processes with an algorithm, a detector, and what else a file says.
 fn scenario_of(
+    rt: &impl Abort,
     alloc: Global,
     algorithm: &str,
     detector: &str,
     rest: &str,
-) -> Result<Scenario, ScenarioError> {
+) -> Scenario {
     let file = format!(in alloc;
         "version = 2\nprocesses = 2\nhorizon = 10\nlookahead = 2\nseed = 1\nalgorithm = {algorithm}
 [detector]\n{detector}[link]\nmin = 2\nmax = 2\n{rest}"
-    )?;
-    read_scenario(alloc, file.as_bytes())
+    );
+    let file = file.expect(rt, "no memory");
+    read_scenario(alloc, file.as_bytes()).expect(rt, "not a scenario")
 }
 
 /// Algorithm, detector and what else the file says, and what the two machines do: a letter to the other process, a Beat
@@ -81,27 +82,20 @@ const MACHINES: &[(&str, &str, &str, &str, &str)] = &[
 ];
 
 /// Both machines start, and do what is wanted.
-fn start(
-    rt: &impl Abort,
-    alloc: Global,
-    machines: &mut [Machine],
-    first: &str,
-    second: &str,
-) -> Result<(), Fail> {
+fn start(rt: &impl Abort, alloc: Global, machines: &mut [Machine], first: &str, second: &str) {
     same(rt, &machines.len(), &2);
     for (machine, (number, wanted)) in machines.iter_mut().zip([(1, first), (2, second)]) {
         same(rt, &machine.pid().number(), &number);
-        drive_process(rt, alloc, machine, &[(0, Start, wanted)])?;
+        drive_process(rt, alloc, machine, &[(0, Start, wanted)]);
     }
-    Ok(())
 }
 
 #[test]
-fn both_start(rt: HostRuntime) -> Result<(), Fail> {
+fn both_start(rt: HostRuntime) {
     let alloc = rt.alloc();
     for &(algorithm, detector, rest, first, second) in MACHINES {
-        let mut machines = machines_of(alloc, &scenario_of(alloc, algorithm, detector, rest)?)?;
-        start(&rt, alloc, &mut machines, first, second)?;
+        let scenario = scenario_of(&rt, alloc, algorithm, detector, rest);
+        let mut machines = machines_of(alloc, &scenario).expect(&rt, "no memory");
+        start(&rt, alloc, &mut machines, first, second);
     }
-    Ok(())
 }

@@ -1,35 +1,32 @@
 //! Processes, sets, keys, cells, actions and traces.
 mod laws;
 
-use crate::answers::{actions_text, members_of};
+use crate::answers::{are_done, are_members};
 use crate::comparisons::same;
 use crate::inputs::{numbered, set_of};
 use process_api::*;
-use std::test::Fail;
 
 #[test]
-fn processes_are_numbered_1_to_256(rt: HostRuntime) -> Result<(), Fail> {
+fn processes_are_numbered_1_to_256(rt: HostRuntime) {
     for number in [0, 257, 1000, 65535] {
         same(&rt, &(number, Pid::new(number)), &(number, None));
     }
     for number in [1, 2, 64, 65, 255, 256] {
-        let made = numbered(number)?;
+        let made = numbered(&rt, number);
         let came = (made.number(), Pid::after(number - 1));
         same(&rt, &came, &(number, made));
     }
-    Ok(())
 }
 
 /// Members come in rising order.
 #[test]
-fn sets_gain_and_lose_members(rt: HostRuntime) -> Result<(), Fail> {
+fn sets_gain_and_lose_members(rt: HostRuntime) {
     let alloc = rt.alloc();
-    let rising = members_of(alloc, &set_of(&[256, 64, 1, 193, 33, 65, 2, 33])?)?;
-    let wanted = [1, 2, 33, 64, 65, 193, 256];
-    same(&rt, &rising.as_slice(), &wanted.as_slice());
+    let seven = set_of(&rt, &[256, 64, 1, 193, 33, 65, 2, 33]);
+    are_members(&rt, alloc, &seven, &[1, 2, 33, 64, 65, 193, 256]);
     let two = Pid::after(1);
     let five = Pid::after(4);
-    let mut set = set_of(&[2, 5])?;
+    let mut set = set_of(&rt, &[2, 5]);
     let kept = set.copy();
     set.remove(two);
     let found = (set.contains(five), set.contains(two));
@@ -40,13 +37,12 @@ fn sets_gain_and_lose_members(rt: HostRuntime) -> Result<(), Fail> {
     same(&rt, &lens, &(3, 2, true));
     let gone = both.without(&set);
     same(&rt, &(gone.contains(two), gone.len()), &(true, 1));
-    Ok(())
 }
 
 #[test]
-fn processes_64_apart_are_different_members(rt: HostRuntime) -> Result<(), Fail> {
+fn processes_64_apart_are_different_members(rt: HostRuntime) {
     let one = Pid::after(0);
-    let mut set = set_of(&[65, 129, 193])?;
+    let mut set = set_of(&rt, &[65, 129, 193]);
     for (most, members) in [(64, 0), (65, 1), (192, 2), (65535, 3)] {
         let came = (set.contains(one), set.up_to(most).len());
         same(&rt, &came, &(false, members));
@@ -54,12 +50,11 @@ fn processes_64_apart_are_different_members(rt: HostRuntime) -> Result<(), Fail>
     set.insert(one);
     set.remove(Pid::after(128));
     same(&rt, &(set.contains(one), set.len()), &(true, 3));
-    Ok(())
 }
 
 /// One word says a set, where no member is above 64.
 #[test]
-fn sets_up_to_64_are_words(rt: HostRuntime) -> Result<(), Fail> {
+fn sets_up_to_64_are_words(rt: HostRuntime) {
     let rows: &[(&[u16], Option<u64>)] = &[
         (&[], Some(0)),
         (&[1], Some(1)),
@@ -70,18 +65,16 @@ fn sets_up_to_64_are_words(rt: HostRuntime) -> Result<(), Fail> {
         (&[256], None),
     ];
     for (members, word) in rows {
-        let came = (*members, set_of(members)?.to_word());
+        let came = (*members, set_of(&rt, members).to_word());
         same(&rt, &came, &(*members, *word));
         if let Some(word) = word {
-            let came = members_of(rt.alloc(), &ProcSet::of_word(*word))?;
-            same(&rt, &came.as_slice(), members);
+            are_members(&rt, rt.alloc(), &ProcSet::of_word(*word), members);
         }
     }
-    Ok(())
 }
 
 #[test]
-fn keys_rise_by_tick_receiver_sender_and_number(rt: HostRuntime) -> Result<(), Fail> {
+fn keys_rise_by_tick_receiver_sender_and_number(rt: HostRuntime) {
     let one = Pid::after(0);
     let two = Pid::after(1);
     let rising = [
@@ -103,32 +96,29 @@ fn keys_rise_by_tick_receiver_sender_and_number(rt: HostRuntime) -> Result<(), F
             same(&rt, &came, &(place, other, place < other));
         }
     }
-    Ok(())
 }
 
 /// Of three processes the second has a number.
 #[test]
-fn cells_are_copied(rt: HostRuntime) -> Result<(), Fail> {
-    let cells = Cells::new(vec![in rt.alloc(); None, Some(20u32), None]?).copy()?;
+fn cells_are_copied(rt: HostRuntime) {
+    let three = vec![in rt.alloc(); None, Some(20u32), None].expect(&rt, "no memory");
+    let cells = Cells::new(three).copy().expect(&rt, "no memory");
     let found = (cells.get(Pid::after(1)), cells.get(Pid::after(3)));
     same(&rt, &found, &(Some(20), None));
     same(&rt, &cells.into_vec().len(), &3);
-    Ok(())
 }
 
 #[test]
-fn actions_are_appended(rt: HostRuntime) -> Result<(), Fail> {
+fn actions_are_appended(rt: HostRuntime) {
     let mut out = Vec::new(rt.alloc());
-    send_to(&mut out, Pid::after(0), Payload::Alive)?;
-    wake_after(&mut out, 7, Tag::Share)?;
-    note_that(&mut out, Note::Round(1))?;
-    let text = actions_text(rt.alloc(), &out)?;
-    same(&rt, &text.as_str(), &"alive>1 Share+7 round:1");
-    Ok(())
+    send_to(&mut out, Pid::after(0), Payload::Alive).expect(&rt, "no memory");
+    wake_after(&mut out, 7, Tag::Share).expect(&rt, "no memory");
+    note_that(&mut out, Note::Round(1)).expect(&rt, "no memory");
+    are_done(&rt, rt.alloc(), 0, &out, "alive>1 Share+7 round:1");
 }
 
 #[test]
-fn a_trace_gives_its_entries(rt: HostRuntime) -> Result<(), Fail> {
+fn a_trace_gives_its_entries(rt: HostRuntime) {
     let one = Pid::after(0);
     let key = Key {
         tick: 0,
@@ -136,16 +126,14 @@ fn a_trace_gives_its_entries(rt: HostRuntime) -> Result<(), Fail> {
         sender: one,
         number: 0,
     };
-    let mut entries = Vec::new(rt.alloc());
-    entries.push(Entry {
+    let entry = Entry {
         key,
         kind: Kind::Start,
         sent: 2,
         lost: 0,
         notes: Vec::new(rt.alloc()),
-    })?;
-    let trace = Trace::new(entries);
+    };
+    let trace = Trace::new(vec![in rt.alloc(); entry].expect(&rt, "no memory"));
     same(&rt, &trace.entries().len(), &1);
     same(&rt, &trace.into_vec().len(), &1);
-    Ok(())
 }

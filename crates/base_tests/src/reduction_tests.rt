@@ -6,13 +6,12 @@ use reduction::Reduced;
 use scenario_record::AlgorithmKind;
 use std::alloc::Global;
 use std::process::Abort;
-use std::test::Fail;
 
 /// The reduction over the detector that suspects 3, with a share every 4 ticks, suspects and does what the rows say.
-fn reduces(rt: &impl Abort, alloc: Global, rows: &[Row]) -> Result<(), Fail> {
-    let opening = opening_of(1, 3, 10, TIMEOUTS, Some(4), AlgorithmKind::Idle, None)?;
+fn reduces(rt: &impl Abort, alloc: Global, rows: &[Row]) {
+    let opening = opening_of(rt, 1, 3, 10, TIMEOUTS, Some(4), AlgorithmKind::Idle, None);
     let mut machine = Reduced::open(SuspectsThree { failed: false }, &opening);
-    drive_detector(rt, alloc, &mut machine, rows)
+    drive_detector(rt, alloc, &mut machine, rows);
 }
 
 /// It suspects whom others share, but for the sender and itself.
@@ -31,10 +30,10 @@ const OWN_LETTER: &[Row] = &[
 const NO_PROCESS: &[Row] = &[(0, &[3], Suspects(2, &[1, 3, 4, 256]), "suspect:2:3")];
 
 #[test]
-fn gathers_what_others_share(rt: HostRuntime) -> Result<(), Fail> {
-    reduces(&rt, rt.alloc(), GATHERED)?;
-    reduces(&rt, rt.alloc(), OWN_LETTER)?;
-    reduces(&rt, rt.alloc(), NO_PROCESS)
+fn gathers_what_others_share(rt: HostRuntime) {
+    reduces(&rt, rt.alloc(), GATHERED);
+    reduces(&rt, rt.alloc(), OWN_LETTER);
+    reduces(&rt, rt.alloc(), NO_PROCESS);
 }
 
 /// It shares whom the detector below it suspects.
@@ -49,6 +48,6 @@ const SHARED: &[Row] = &[
 ];
 
 #[test]
-fn shares_whom_the_detector_below_suspects(rt: HostRuntime) -> Result<(), Fail> {
-    reduces(&rt, rt.alloc(), SHARED)
+fn shares_whom_the_detector_below_suspects(rt: HostRuntime) {
+    reduces(&rt, rt.alloc(), SHARED);
 }

@@ -11,7 +11,6 @@ use scenario_record::AlgorithmKind;
 use stack::{NoAlgorithm, Stack};
 use std::alloc::Global;
 use std::process::Abort;
-use std::test::Fail;
 use timeout_detector::TimeoutDetector;
 
 /// Numbers of a process alone.
@@ -27,14 +26,14 @@ const NUMBERS: DetectorNumbers = DetectorNumbers::Timeout(TimeoutNumbers {
 const ALONE: &[(u32, Given, &str)] = &[(0, Start, "Beat+4 Check+3"), (3, Check, "Check+3")];
 
 #[test]
-fn a_boxed_process_alone_wakes_itself(rt: HostRuntime) -> Result<(), Fail> {
+fn a_boxed_process_alone_wakes_itself(rt: HostRuntime) {
     let alloc = rt.alloc();
-    let opening = opening_of(1, 1, 10, NUMBERS, None, AlgorithmKind::Idle, None)?;
-    let detector = TimeoutDetector::open(alloc, &opening)?;
+    let opening = opening_of(&rt, 1, 1, 10, NUMBERS, None, AlgorithmKind::Idle, None);
+    let detector = TimeoutDetector::open(alloc, &opening).expect(&rt, "no memory");
     let stack = Stack::new(opening.own, detector, NoAlgorithm);
-    let mut machine: Box<dyn Process> = Box::new(alloc, stack)?;
+    let mut machine: Box<dyn Process> = Box::new(alloc, stack).expect(&rt, "no memory");
     same(&rt, &machine.pid().number(), &1);
-    drive_process(&rt, alloc, &mut machine, ALONE)
+    drive_process(&rt, alloc, &mut machine, ALONE);
 }
 
 /// Layer 1 suspects process 3, and layer 2 process 2, once it was shared: the coordinator of round 1. So process 1
@@ -54,14 +53,14 @@ const TOP_LAYER: &[(u32, Given, &str)] = &[
 ];
 
 #[test]
-fn hands_the_top_layer_to_the_algorithm_last(rt: HostRuntime) -> Result<(), Fail> {
+fn hands_the_top_layer_to_the_algorithm_last(rt: HostRuntime) {
     let alloc = rt.alloc();
     let kind = AlgorithmKind::EventuallyStrong;
-    let opening = opening_of(1, 3, 10, TIMEOUTS, Some(4), kind, Some(10))?;
+    let opening = opening_of(&rt, 1, 3, 10, TIMEOUTS, Some(4), kind, Some(10));
     let detector = Reduced::open(SuspectsThree { failed: false }, &opening);
-    let algorithm = EsConsensus::open(alloc, &opening)?;
+    let algorithm = EsConsensus::open(alloc, &opening).expect(&rt, "no memory");
     let mut machine = Stack::new(opening.own, detector, algorithm);
-    drive_process(&rt, alloc, &mut machine, TOP_LAYER)
+    drive_process(&rt, alloc, &mut machine, TOP_LAYER);
 }
 
 /// Gives process 1 inputs at their ticks, of which the later ones are refused, and compares whether each is, and how
@@ -71,34 +70,32 @@ fn fails<P: Process>(
     alloc: Global,
     machine: &mut P,
     rows: &[(u32, Given, bool, usize)],
-) -> Result<(), Fail> {
+) {
     let mut out = Vec::new(alloc);
-    note_that(&mut out, Note::Round(1))?;
+    note_that(&mut out, Note::Round(1)).expect(rt, "no memory");
     same(rt, &(machine.pid().number(), machine.failed()), &(1, false));
     for &(tick, given, refused, actions) in rows {
-        let is_refused = machine
-            .on_input(tick, &input_of(alloc, given)?, &mut out)
-            .is_err();
+        let input = input_of(rt, alloc, given);
+        let is_refused = machine.on_input(tick, &input, &mut out).is_err();
         let came = (tick, is_refused, machine.failed(), out.len());
         same(rt, &came, &(tick, refused, refused, actions));
     }
-    Ok(())
 }
 
 #[test]
-fn runs_boxed_and_fails_for_good(rt: HostRuntime) -> Result<(), Fail> {
+fn runs_boxed_and_fails_for_good(rt: HostRuntime) {
     const ROWS: &[(u32, Given, bool, usize)] = &[
         (5, Beat, false, 4),
         (6, Start, true, 4),
         (10, Beat, true, 4),
     ];
     let stack = Stack::new(Pid::after(0), SuspectsThree { failed: false }, NoAlgorithm);
-    let mut machine: Box<dyn Process> = Box::new(rt.alloc(), stack)?;
-    fails(&rt, rt.alloc(), &mut machine, ROWS)
+    let mut machine: Box<dyn Process> = Box::new(rt.alloc(), stack).expect(&rt, "no memory");
+    fails(&rt, rt.alloc(), &mut machine, ROWS);
 }
 
 #[test]
-fn fails_over_a_failed_part(rt: HostRuntime) -> Result<(), Fail> {
+fn fails_over_a_failed_part(rt: HostRuntime) {
     const ROWS: &[(u32, Given, bool, usize)] = &[
         (0, Start, true, 1),
         (1, Start, true, 1),
@@ -106,5 +103,5 @@ fn fails_over_a_failed_part(rt: HostRuntime) -> Result<(), Fail> {
         (5, Beat, true, 1),
     ];
     let mut machine = Stack::new(Pid::after(0), SuspectsThree { failed: true }, NoAlgorithm);
-    fails(&rt, rt.alloc(), &mut machine, ROWS)
+    fails(&rt, rt.alloc(), &mut machine, ROWS);
 }

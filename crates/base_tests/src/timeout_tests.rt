@@ -8,7 +8,6 @@ use process_api::{DetectorNumbers, TimeoutNumbers, Watch};
 use scenario_record::AlgorithmKind;
 use std::alloc::Global;
 use std::process::Abort;
-use std::test::Fail;
 use timeout_detector::TimeoutDetector;
 
 /// Process `own` of so many, under this horizon and these numbers, suspects and does what the rows say.
@@ -20,12 +19,13 @@ fn watches(
     horizon: u32,
     numbers: TimeoutNumbers,
     rows: &[Row],
-) -> Result<(), Fail>
+)
     requires lasts { (1 ≤ horizon) × (horizon ≤ 10000000) }
     requires numbers { AreTimeoutInRange numbers }
 {
     let numbers = DetectorNumbers::Timeout(numbers);
     let opening = opening_of(
+        rt,
         own,
         processes,
         horizon,
@@ -33,9 +33,9 @@ fn watches(
         None,
         AlgorithmKind::Idle,
         None,
-    )?;
-    let mut machine = TimeoutDetector::open(alloc, &opening)?;
-    drive_detector(rt, alloc, &mut machine, rows)
+    );
+    let mut machine = TimeoutDetector::open(alloc, &opening).expect(rt, "no memory");
+    drive_detector(rt, alloc, &mut machine, rows);
 }
 
 /// Numbers under which a silent process is suspected by the second or third check.
@@ -69,9 +69,9 @@ const CRASH_AT_0: &[Row] = &[
 ];
 
 #[test]
-fn crashes(rt: HostRuntime) -> Result<(), Fail> {
-    watches(&rt, rt.alloc(), 1, 2, 10, NUMBERS, CRASH_AT_3)?;
-    watches(&rt, rt.alloc(), 1, 2, 10, NUMBERS, CRASH_AT_0)
+fn crashes(rt: HostRuntime) {
+    watches(&rt, rt.alloc(), 1, 2, 10, NUMBERS, CRASH_AT_3);
+    watches(&rt, rt.alloc(), 1, 2, 10, NUMBERS, CRASH_AT_0);
 }
 
 /// A suspicion that is taken back inside one tick makes the bound grow.
@@ -93,7 +93,7 @@ const PREVENTED: &[Row] = &[
 ];
 
 #[test]
-fn suspicion_taken_back_at_once(rt: HostRuntime) -> Result<(), Fail> {
+fn suspicion_taken_back_at_once(rt: HostRuntime) {
     let numbers = TimeoutNumbers {
         period: 100,
         check: 2,
@@ -101,8 +101,8 @@ fn suspicion_taken_back_at_once(rt: HostRuntime) -> Result<(), Fail> {
         grow: 5,
         watch: Watch::All,
     };
-    watches(&rt, rt.alloc(), 1, 2, 8, numbers, TAKEN_BACK)?;
-    watches(&rt, rt.alloc(), 2, 2, 8, numbers, PREVENTED)
+    watches(&rt, rt.alloc(), 1, 2, 8, numbers, TAKEN_BACK);
+    watches(&rt, rt.alloc(), 2, 2, 8, numbers, PREVENTED);
 }
 
 /// The first of three watches the second, and sends to all others.
@@ -132,7 +132,7 @@ const ALONE: &[Row] = &[
 
 /// Each process watches the next one alone.
 #[test]
-fn watch_next(rt: HostRuntime) -> Result<(), Fail> {
+fn watch_next(rt: HostRuntime) {
     let numbers = TimeoutNumbers {
         period: 2,
         check: 3,
@@ -140,9 +140,9 @@ fn watch_next(rt: HostRuntime) -> Result<(), Fail> {
         grow: 1,
         watch: Watch::Next,
     };
-    watches(&rt, rt.alloc(), 1, 3, 20, numbers, FIRST_OF_THREE)?;
-    watches(&rt, rt.alloc(), 3, 3, 20, numbers, LAST_OF_THREE)?;
-    watches(&rt, rt.alloc(), 1, 1, 20, numbers, ALONE)
+    watches(&rt, rt.alloc(), 1, 3, 20, numbers, FIRST_OF_THREE);
+    watches(&rt, rt.alloc(), 3, 3, 20, numbers, LAST_OF_THREE);
+    watches(&rt, rt.alloc(), 1, 1, 20, numbers, ALONE);
 }
 
 /// Bounds grow by 3 ticks with each mistake: 2, 5, 8 and no further than the horizon.
@@ -171,7 +171,7 @@ const ABOVE_THE_HORIZON: &[Row] = &[
 ];
 
 #[test]
-fn grown_bounds(rt: HostRuntime) -> Result<(), Fail> {
+fn grown_bounds(rt: HostRuntime) {
     let numbers = TimeoutNumbers {
         period: 9,
         check: 1,
@@ -179,7 +179,7 @@ fn grown_bounds(rt: HostRuntime) -> Result<(), Fail> {
         grow: 3,
         watch: Watch::All,
     };
-    watches(&rt, rt.alloc(), 1, 2, 9, numbers, GROWN)?;
+    watches(&rt, rt.alloc(), 1, 2, 9, numbers, GROWN);
     watches(
         &rt,
         rt.alloc(),
@@ -191,5 +191,5 @@ fn grown_bounds(rt: HostRuntime) -> Result<(), Fail> {
             ..numbers
         },
         ABOVE_THE_HORIZON,
-    )
+    );
 }

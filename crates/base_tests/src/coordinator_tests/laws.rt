@@ -16,7 +16,6 @@ use crate::comparisons::same;
 use consensus_es::{Letters, Membership, Progress, best, law_settled};
 use process_api::{Action, Estimate, Pid, ProcSet, StepInput, Tag};
 use std::alloc::{AllocError, Global};
-use std::test::Fail;
 
 /// A process opens and takes one input: no wait is over then, it has made few actions, and it is in one of the first
 /// rounds.
@@ -96,30 +95,32 @@ fn best_of_two(
 
 /// Process 1 of three starts, and then suspects process 2, the coordinator of round 1.
 #[test]
-fn waits_settle(rt: HostRuntime) -> Result<(), Fail> {
+fn waits_settle(rt: HostRuntime) {
     let alloc = rt.alloc();
     let membership = Membership::new(Pid::after(0), 3);
     let mut suspects = ProcSet::new();
     let mut out = Vec::new(alloc);
-    let mut progress = open_and_take(alloc, &membership, &StepInput::Start, &suspects, &mut out)?;
+    let opened = open_and_take(alloc, &membership, &StepInput::Start, &suspects, &mut out);
+    let mut progress = opened.expect(&rt, "no memory");
     same(&rt, &out.len(), &2);
     suspects.insert(Pid::after(1));
-    wake_waiting(&mut progress, &membership, &suspects, &mut out)?;
+    let woken = wake_waiting(&mut progress, &membership, &suspects, &mut out);
+    woken.expect(&rt, "no memory");
     same(&rt, &out.len(), &5);
-    take_and_wake(
+    let taken = take_and_wake(
         &mut progress,
         &membership,
         &StepInput::Start,
         &suspects,
         &mut out,
-    )?;
+    );
+    taken.expect(&rt, "no memory");
     same(&rt, &out.len(), &5);
-    Ok(())
 }
 
 /// Two processes' estimates, of one stamp and of two.
 #[test]
-fn largest_stamp_then_least_sender(rt: HostRuntime) -> Result<(), Fail> {
+fn largest_stamp_then_least_sender(rt: HostRuntime) {
     let first = Pid::after(0);
     let membership = Membership::new(first, 2);
     let mut estimates = Letters::new(rt.alloc());
@@ -128,10 +129,12 @@ fn largest_stamp_then_least_sender(rt: HostRuntime) -> Result<(), Fail> {
             value: 10,
             stamp: 0,
         };
-        estimates.keep(round, first, early)?;
-        estimates.keep(round, Pid::after(1), Estimate { value: 20, stamp })?;
+        let late = Estimate { value: 20, stamp };
+        let kept = estimates.keep(round, first, early);
+        kept.expect(&rt, "no memory");
+        let kept = estimates.keep(round, Pid::after(1), late);
+        kept.expect(&rt, "no memory");
         let chosen = best_of_two(&estimates, &membership, round).map(|it| it.value);
         same(&rt, &(round, chosen), &(round, Some(wanted)));
     }
-    Ok(())
 }

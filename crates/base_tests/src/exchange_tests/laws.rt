@@ -5,14 +5,12 @@ ghost use Rattle.process_api.specs.React.{react_algorithm};
 ghost use Rattle.consensus_s.specs.Machine.{state_of};
 ghost use Rattle.base_tests.specs.Settled.{IsSettled};
 
-use crate::answers::actions_text;
-use crate::comparisons::same;
+use crate::answers::are_done;
 use crate::driving::{TIMEOUTS, opening_of};
 use consensus_s::{SConsensus, law_settled};
 use process_api::{Action, Algorithm, ProcSet, StepInput, Tag};
 use scenario_record::AlgorithmKind;
 use std::alloc::AllocError;
-use std::test::Fail;
 
 /// A wake that comes right after an input does nothing more, and no wait is over then.
 fn take_and_wake(
@@ -36,18 +34,14 @@ fn take_and_wake(
 
 /// Process 1 of two starts, and nothing more is done.
 #[test]
-fn waits_settle(rt: HostRuntime) -> Result<(), Fail> {
+fn waits_settle(rt: HostRuntime) {
     let alloc = rt.alloc();
     let kind = AlgorithmKind::Strong;
-    let opening = opening_of(1, 2, 20, TIMEOUTS, None, kind, Some(10))?;
-    let mut machine = SConsensus::open(alloc, &opening)?;
+    let opening = opening_of(&rt, 1, 2, 20, TIMEOUTS, None, kind, Some(10));
+    let mut machine = SConsensus::open(alloc, &opening).expect(&rt, "no memory");
     let mut out = Vec::new(alloc);
-    take_and_wake(&mut machine, &StepInput::Start, &ProcSet::new(), &mut out)?;
-    let text = actions_text(alloc, &out)?;
-    same(
-        &rt,
-        &text.as_str(),
-        &"round:1 vector:1[10 -]>1 vector:1[10 -]>2",
-    );
-    Ok(())
+    let taken = take_and_wake(&mut machine, &StepInput::Start, &ProcSet::new(), &mut out);
+    taken.expect(&rt, "no memory");
+    let wanted = "round:1 vector:1[10 -]>1 vector:1[10 -]>2";
+    are_done(&rt, alloc, 0, &out, wanted);
 }

@@ -1,11 +1,11 @@
 //! The scenarios that files stand for.
 use crate::changes::{CRASH_FILE, changed};
 use crate::comparisons::same;
+use crate::inputs::numbered;
 use process_api::{DetectorNumbers, FreshnessNumbers, Pid, TimeoutNumbers, Watch};
 use scenario::{AlgorithmKind, Link, Outage, Scenario, read_scenario};
 use std::alloc::{AllocError, Global};
 use std::process::Abort;
-use std::test::Fail;
 
 /// A file with the fewest keys.
 const FEWEST: &str = "version = 1
@@ -102,19 +102,19 @@ const FRESHNESS_IS: &str = "; freshness 3 2 all;";
 /// The crash table of the crash file.
 const CRASH: &str = "\n[[crash]]\nprocess = 2\nat = 3\n";
 
-/// The process of this number.
-fn pid(number: u16) -> Result<Pid, Fail> {
-    Ok(Pid::new(number).ok_or("it is no process")?)
-}
-
 /// The link from one process of a scenario to another, and its outages.
-fn link_of(scenario: &Scenario, from: u16, to: u16) -> Result<(Link, &[Outage]), Fail> {
+fn link_of<'a>(
+    rt: &impl Abort,
+    scenario: &'a Scenario,
+    from: u16,
+    to: u16,
+) -> (Link, &'a [Outage]) {
     let processes = scenario.processes();
-    let (from, to) = (pid(from)?, pid(to)?);
+    let (from, to) = (numbered(rt, from), numbered(rt, to));
     if from == to || processes < from.number() || processes < to.number() {
-        return Err(Fail::from("the scenario has no such link"));
+        panic!(rt; "the scenario has no such link");
     }
-    Ok((scenario.link(from, to), scenario.outages(from, to)))
+    (scenario.link(from, to), scenario.outages(from, to))
 }
 
 /// Whom a detector watches, as text.
@@ -125,8 +125,8 @@ fn watched(watch: Watch) -> &'static str {
     }
 }
 
-/// The numbers of a detector, as text.
-fn numbers_text(alloc: Global, numbers: DetectorNumbers) -> Result<String, AllocError> {
+/// Puts the numbers of a detector at the end of a text.
+fn push_numbers(text: &mut String, numbers: DetectorNumbers) -> Result<(), AllocError> {
     match numbers {
         DetectorNumbers::Timeout(
             TimeoutNumbers {
@@ -138,17 +138,17 @@ fn numbers_text(alloc: Global, numbers: DetectorNumbers) -> Result<String, Alloc
             },
         ) => {
             let watch = watched(watch);
-            format!(in alloc; "timeout {period} {check} {timeout} {grow} {watch}")
+            write!(text, "timeout {period} {check} {timeout} {grow} {watch}")
         }
         DetectorNumbers::Freshness(FreshnessNumbers { eta, delta, watch }) => {
             let watch = watched(watch);
-            format!(in alloc; "freshness {eta} {delta} {watch}")
+            write!(text, "freshness {eta} {delta} {watch}")
         }
     }
 }
 
-/// What a scenario says of all processes, as text.
-fn told_of_all(alloc: Global, scenario: &Scenario) -> Result<String, AllocError> {
+/// Puts what a scenario says of all processes at the end of a text.
+fn push_all(text: &mut String, scenario: &Scenario) -> Result<(), AllocError> {
     let (processes, horizon) = (scenario.processes(), scenario.horizon());
     let (lookahead, limit) = (scenario.lookahead(), scenario.limit());
     let (seed, share) = (scenario.seed(), scenario.share());
@@ -157,21 +157,27 @@ fn told_of_all(alloc: Global, scenario: &Scenario) -> Result<String, AllocError>
         AlgorithmKind::Strong => "s",
         AlgorithmKind::EventuallyStrong => "es",
     };
-    let numbers = numbers_text(alloc, scenario.detector())?;
-    format!(in alloc;
-        "{processes} {horizon} {lookahead} {limit} {seed} {algorithm} {share:?}; {numbers}"
-    )
+    write!(
+        text,
+        "{processes} {horizon} {lookahead} {limit} {seed} {algorithm} {share:?}; "
+    )?;
+    push_numbers(text, scenario.detector())
 }
 
-/// Adds what a scenario says of one process: its proposal, its crash, and its links to the others.
-fn tell_of_one(scenario: &Scenario, own: u16, text: &mut String) -> Result<(), Fail> {
-    let process = pid(own)?;
+/// Puts what a scenario says of one process at the end of a text: its proposal, its crash, and its links to the others.
+fn push_one(
+    rt: &impl Abort,
+    text: &mut String,
+    scenario: &Scenario,
+    own: u16,
+) -> Result<(), AllocError> {
+    let process = numbered(rt, own);
     let (proposal, crash) = (scenario.proposal(process), scenario.crash(process));
     write!(text, "; {own} {proposal:?} {crash:?}")?;
     for before in 0..scenario.processes() {
         let to = before + 1;
         if to != own {
-            let (link, outages) = link_of(scenario, own, to)?;
+            let (link, outages) = link_of(rt, scenario, own, to);
             let (min, max, loss) = (link.min, link.max, link.loss);
             write!(text, " >{to} {min} {max} {loss} {outages:?}")?;
         }
@@ -180,51 +186,45 @@ fn tell_of_one(scenario: &Scenario, own: u16, text: &mut String) -> Result<(), F
 }
 
 /// What the scenario of a file says, as text.
-fn told_of(alloc: Global, file: &str) -> Result<String, Fail> {
-    let scenario = read_scenario(alloc, file.as_bytes())?;
-    let mut told = told_of_all(alloc, &scenario)?;
+fn told_of(rt: &impl Abort, alloc: Global, file: &str) -> String {
+    let scenario = read_scenario(alloc, file.as_bytes()).expect(rt, "not a scenario");
+    let mut told = String::new(alloc);
+    push_all(&mut told, &scenario).expect(rt, "no memory");
     for before in 0..scenario.processes() {
-        tell_of_one(&scenario, before + 1, &mut told)?;
+        push_one(rt, &mut told, &scenario, before + 1).expect(rt, "no memory");
     }
-    Ok(told)
+    told
 }
 
 /// What the scenario of a file says is this, or has this part.
-fn stands_for<R: Abort>(
-    rt: &R,
-    alloc: Global,
-    file: &str,
-    record: &str,
-    is_all: bool,
-) -> Result<(), Fail> {
-    let told = told_of(alloc, file)?;
+fn stands_for(rt: &impl Abort, alloc: Global, file: &str, record: &str, is_all: bool) {
+    let told = told_of(rt, alloc, file);
     assert!(rt; told.contains(record), "{record}");
     same(rt, &(told.as_str() == record, record), &(is_all, record));
-    Ok(())
 }
 
 /// The files with the fewest and with all keys, and the crash file in version 2 and with freshness points.
 #[test]
-fn what_it_stands_for(rt: HostRuntime) -> Result<(), Fail> {
+fn what_it_stands_for(rt: HostRuntime) {
     let alloc = rt.alloc();
-    stands_for(&rt, alloc, FEWEST, FEWEST_IS, true)?;
-    stands_for(&rt, alloc, EVERY, EVERY_IS, true)?;
-    let second = changed(alloc, CRASH_FILE, "version = 1", "version = 2")?;
-    stands_for(&rt, alloc, &second, TIMEOUT_IS, false)?;
-    let fresh = changed(alloc, &second, TIMEOUT, FRESHNESS)?;
-    stands_for(&rt, alloc, &fresh, FRESHNESS_IS, false)
+    stands_for(&rt, alloc, FEWEST, FEWEST_IS, true);
+    stands_for(&rt, alloc, EVERY, EVERY_IS, true);
+    let second = changed(&rt, alloc, CRASH_FILE, "version = 1", "version = 2");
+    stands_for(&rt, alloc, &second, TIMEOUT_IS, false);
+    let fresh = changed(&rt, alloc, &second, TIMEOUT, FRESHNESS);
+    stands_for(&rt, alloc, &fresh, FRESHNESS_IS, false);
 }
 
 /// The crash file without its last byte, and without its crash.
 #[test]
-fn without_its_end(rt: HostRuntime) -> Result<(), Fail> {
+fn without_its_end(rt: HostRuntime) {
     let alloc = rt.alloc();
-    let whole = told_of(alloc, CRASH_FILE)?;
-    let cut = changed(alloc, CRASH_FILE, "at = 3\n", "at = 3")?;
-    stands_for(&rt, alloc, &cut, &whole, true)?;
-    stands_for(&rt, alloc, &cut, "; 2 None Some(3) ", false)?;
-    let without = changed(alloc, CRASH_FILE, CRASH, "")?;
-    stands_for(&rt, alloc, &without, "; 2 None None ", false)
+    let whole = told_of(&rt, alloc, CRASH_FILE);
+    let cut = changed(&rt, alloc, CRASH_FILE, "at = 3\n", "at = 3");
+    stands_for(&rt, alloc, &cut, &whole, true);
+    stands_for(&rt, alloc, &cut, "; 2 None Some(3) ", false);
+    let without = changed(&rt, alloc, CRASH_FILE, CRASH, "");
+    stands_for(&rt, alloc, &without, "; 2 None None ", false);
 }
 
 /// Two outages of the link from 2 to 1.
@@ -243,39 +243,33 @@ until = 7
 ";
 
 /// What a process of a scenario proposes as it opens.
-fn opening_proposal(scenario: &Scenario, number: u16) -> Result<Option<u32>, Fail> {
-    let own = pid(number)?;
+fn opening_proposal(rt: &impl Abort, scenario: &Scenario, number: u16) -> Option<u32> {
+    let own = numbered(rt, number);
     if scenario.processes() < own.number() {
-        return Err(Fail::from("the scenario has no such process"));
+        panic!(rt; "the scenario has no such process");
     }
-    Ok(scenario.opening(own).proposal)
+    scenario.opening(own).proposal
 }
 
 #[test]
-fn every_process(rt: HostRuntime) -> Result<(), Fail> {
-    let scenario = read_scenario(rt.alloc(), EVERY.as_bytes())?;
-    let (link, _) = link_of(&scenario, 3, 1)?;
-    let of_three = opening_proposal(&scenario, 3)?;
-    let of_four = scenario.proposal(pid(4)?);
+fn every_process(rt: HostRuntime) {
+    let scenario = read_scenario(rt.alloc(), EVERY.as_bytes()).expect(&rt, "not a scenario");
+    let (link, _) = link_of(&rt, &scenario, 3, 1);
+    let of_three = opening_proposal(&rt, &scenario, 3);
+    let of_four = scenario.proposal(Pid::after(3));
     same(&rt, &(scenario.processes(), link.max), &(3, 11));
     same(&rt, &(of_three, of_four), &(Some(4_294_967_295), None));
-    Ok(())
-}
-
-/// The file of one crash with these outages.
-fn with_outages(alloc: Global) -> Result<String, Fail> {
-    let second = changed(alloc, CRASH_FILE, "version = 1", "version = 2")?;
-    Ok(format!(in alloc; "{second}{OUTAGES}")?)
 }
 
 /// Outages of one link may overlap; each link has its own, and the way back has none of them.
 #[test]
-fn outages_of_links(rt: HostRuntime) -> Result<(), Fail> {
-    let text = with_outages(rt.alloc())?;
-    let scenario = read_scenario(rt.alloc(), text.as_bytes())?;
-    let (_, there) = link_of(&scenario, 2, 1)?;
-    let (_, back) = link_of(&scenario, 1, 2)?;
+fn outages_of_links(rt: HostRuntime) {
+    let alloc = rt.alloc();
+    let second = changed(&rt, alloc, CRASH_FILE, "version = 1", "version = 2");
+    let text = format!(in alloc; "{second}{OUTAGES}").expect(&rt, "no memory");
+    let scenario = read_scenario(alloc, text.as_bytes()).expect(&rt, "not a scenario");
+    let (_, there) = link_of(&rt, &scenario, 2, 1);
+    let (_, back) = link_of(&rt, &scenario, 1, 2);
     let wanted = [Outage { begin: 3, until: 7 }, Outage { begin: 0, until: 7 }];
     same(&rt, &(there, back.len()), &(wanted.as_slice(), 0));
-    Ok(())
 }

@@ -1,9 +1,9 @@
 //! Files that have bytes of other kinds than text and line feeds, and files that repeat a part often.
 use super::answer;
 use crate::changes::{CRASH_FILE, changed};
-use crate::comparisons::{same, same_text};
+use crate::comparisons::same;
 use std::alloc::Global;
-use std::test::Fail;
+use std::process::Abort;
 
 /// Changes of the crash file, and what they get.
 const CHANGES: [(&str, &str, &str); 4] = [
@@ -20,13 +20,13 @@ const CHANGES: [(&str, &str, &str); 4] = [
 ];
 
 #[test]
-fn forms(rt: HostRuntime) -> Result<(), Fail> {
+fn forms(rt: HostRuntime) {
     for (old, new, name) in CHANGES {
-        let text = changed(rt.alloc(), CRASH_FILE, old, new)?;
-        same_text(&rt, answer(rt.alloc(), text.as_bytes()), name, new);
+        let text = changed(&rt, rt.alloc(), CRASH_FILE, old, new);
+        let came = answer(rt.alloc(), text.as_bytes());
+        same(&rt, &(came, new), &(name, new));
     }
     same(&rt, &answer(rt.alloc(), b"\xff"), &"NotToml");
-    Ok(())
 }
 
 /// The crash file's one crash.
@@ -59,26 +59,26 @@ const REPEATED: [(&str, &str, &str, &str, usize, &str); 4] = [
 
 /// The crash file with such a text in the place of a part.
 fn repeated(
+    rt: &impl Abort,
     alloc: Global,
     old: &str,
     first: &str,
     (open, close): (&str, &str),
     times: usize,
-) -> Result<String, Fail> {
-    let open = open.repeat(alloc, times)?;
-    let close = close.repeat(alloc, times)?;
-    let new = format!(in alloc; "{first}{open}{close}")?;
-    changed(alloc, CRASH_FILE, old, &new)
+) -> String {
+    let open = open.repeat(alloc, times).expect(rt, "no memory");
+    let close = close.repeat(alloc, times).expect(rt, "no memory");
+    let new = format!(in alloc; "{first}{open}{close}").expect(rt, "no memory");
+    changed(rt, alloc, CRASH_FILE, old, &new)
 }
 
 /// Deep files and large files are read, in time.
 #[test]
-fn depth_and_length(rt: HostRuntime) -> Result<(), Fail> {
+fn depth_and_length(rt: HostRuntime) {
     let alloc = rt.alloc();
     for (old, first, open, close, times, name) in REPEATED {
-        let text = repeated(alloc, old, first, (open, close), times)?;
+        let text = repeated(&rt, alloc, old, first, (open, close), times);
         let came = answer(alloc, text.as_bytes());
         same(&rt, &(came, old, times), &(name, old, times));
     }
-    Ok(())
 }

@@ -4,7 +4,6 @@ use crate::changes::CRASH_FILE;
 use crate::comparisons::same;
 use std::alloc::Global;
 use std::process::Abort;
-use std::test::Fail;
 
 /// The lines of the crash file. Of each: how many of its bytes don't yet make a line of TOML where the file ends after
 /// them, and what the file gets that is cut after more of them. A key has to be followed by a whole value, text by its
@@ -39,12 +38,12 @@ fn compare_cuts<R: Abort>(
     alloc: Global,
     before: usize,
     (line, broken, name): (&str, usize, &str),
-) -> Result<(), Fail> {
+) {
     for more in 1..=line.len() {
         let front = CRASH_FILE
             .as_bytes()
             .get(..before.saturating_add(more))
-            .ok_or("the file has no such byte")?;
+            .expect(rt, "the file has no such byte");
         assert!(rt; front.ends_with(&line.as_bytes()[..more]));
         let wanted = if more <= broken { "NotToml" } else { name };
         same(
@@ -53,27 +52,21 @@ fn compare_cuts<R: Abort>(
             &(wanted, line, more),
         );
     }
-    Ok(())
 }
 
 /// Compares so for each line, and answers how many bytes they all have.
-fn compare_lines<R: Abort>(
-    rt: &R,
-    alloc: Global,
-    lines: &[(&str, usize, &str)],
-) -> Result<usize, Fail> {
+fn compare_lines<R: Abort>(rt: &R, alloc: Global, lines: &[(&str, usize, &str)]) -> usize {
     let mut before: usize = 0;
     for line in lines {
-        compare_cuts(rt, alloc, before, *line)?;
+        compare_cuts(rt, alloc, before, *line);
         before = before.saturating_add(line.0.len());
     }
-    Ok(before)
+    before
 }
 
 #[test]
-fn cut_after_every_byte(rt: HostRuntime) -> Result<(), Fail> {
+fn cut_after_every_byte(rt: HostRuntime) {
     same(&rt, &answer(rt.alloc(), &[]), &"MissingKey");
-    let length = compare_lines(&rt, rt.alloc(), &LINES)?;
+    let length = compare_lines(&rt, rt.alloc(), &LINES);
     same(&rt, &length, &CRASH_FILE.len());
-    Ok(())
 }

@@ -12,5 +12,5 @@ left_out place suspects Idle at out = refl
 left_out place suspects (Exchanging its s) at out = ap not (ap (set.contains suspects) (same_own its place at) ∙ out)
 left_out place suspects (Coordinating its s) at out = ap not (ap (set.contains suspects) (same_own its place at) ∙ out)
 
-pub take-requires : goal.take-requires
-take-requires g c = left_out _ _ _ c.loop-tick.invariant (sym c.contains.ensures ∙ c.if-contains.false)
+pub take-taken-requires : goal.take-taken-requires
+take-taken-requires g c = left_out _ _ _ c.loop-tick.invariant (sym c.contains.ensures ∙ c.if-contains.false)
