@@ -81,13 +81,11 @@ const MACHINES: &[(&str, &str, &str, &str, &str)] = &[
     ),
 ];
 
-/// Both machines start, and do what is wanted.
-fn start(rt: &impl Abort, alloc: Global, machines: &mut [Machine], first: &str, second: &str) {
-    same(rt, &machines.len(), &2);
-    for (machine, (number, wanted)) in machines.iter_mut().zip([(1, first), (2, second)]) {
-        same(rt, &machine.pid().number(), &number);
-        drive_process(rt, alloc, machine, &[(0, Start, wanted)]);
-    }
+/// The machine is of this process; it starts, and does what is wanted.
+fn starts(rt: &impl Abort, alloc: Global, machine: Option<Machine>, number: u16, wanted: &str) {
+    let mut machine = machine.expect(rt, "no machine");
+    same(rt, &machine.pid().number(), &number);
+    drive_process(rt, alloc, &mut machine, &[(0, Start, wanted)]);
 }
 
 #[test]
@@ -96,6 +94,8 @@ fn both_start(rt: HostRuntime) {
     for &(algorithm, detector, rest, first, second) in MACHINES {
         let scenario = scenario_of(&rt, alloc, algorithm, detector, rest);
         let mut machines = machines_of(alloc, &scenario).expect(&rt, "no memory");
-        start(&rt, alloc, &mut machines, first, second);
+        starts(&rt, alloc, machines.pop(), 2, second);
+        starts(&rt, alloc, machines.pop(), 1, first);
+        assert!(rt; machines.is_empty());
     }
 }
