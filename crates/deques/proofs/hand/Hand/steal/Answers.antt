@@ -1,6 +1,7 @@
-use Rattle.std.proofs.Common.{◌≡◌, ◌<◌, ◌+◌, ◌%◌, ℕ, List, sym, ap, ◌∙◌, subst, length, set, arith}
+use Rattle.std.proofs.Common.{◌≡◌, ◌<◌, ◌+◌, ◌%◌, ℕ, List, sym, ap, ◌∙◌, subst, length, map, set, arith}
 use Rattle.std.proofs.lemmas.Nat.{mod_below}
-use Rattle.std.proofs.lemmas.List.{length-map}
+use Rattle.std.proofs.lemmas.List.{length-map, map-id}
+use Rattle.ledger.proofs.Lists.{parts_agree}
 use Rattle.deques.specs.Deques.{OwnerView, HandView, PermitView, TookOne}
 use Rattle.deques.proofs.Dealings.{hand_at, hand_stole, known_same}
 use Rattle.deques.proofs.Deals.{holds_still, known_in}
@@ -10,6 +11,16 @@ next_place : {T : Type 0} (o : OwnerView T) (ps now : List (PermitView T)) (h : 
 next_place o ps now h at count view e same lt =
     let many : count ≡ length now = e ∙ ap (λ (v : HandView _). length v.deques) (sym view) ∙ length-map ps (λ (p : PermitView _). p.deque) ∙ ap length (sym same) in
     subst (λ n. (at + 1) % count < n) many (mod_below (at + 1) count (omega (arith, lt, many)))
+
+pub steal-requires : goal.steal-requires
+steal-requires g c =
+    let now = c.loop.self-inside.permits.items in
+    let fronts = c.args.fronts.now.items in
+    let at = (c.loop.at + 1) % c.len-count.result in
+    let lt : at < length now =
+    next_place c.self.inside.owner c.self.inside.permits.items now _ c.loop.at c.len-count.result c.self.view_is (c.len-count.ensures ∙ c.args.fronts.now.ok.0 ∙ ap length c.requires) c.loop.invariant.1 c.loop.invariant.0 in
+    let same = ap (map (λ (p : PermitView _). p.deque)) c.loop.invariant.1 ∙ ap (λ (h : HandView _). h.deques) c.self.view_is ∙ sym c.requires ∙ sym (map-id fronts) in
+    ap (λ (p : PermitView _). p.deque) c.index_mut.ensures.value ∙ parts_agree (λ (p : PermitView _). p.deque) (λ q. q) now fronts at c.index_mut.result.now c.index.result.now lt same ∙ sym c.index.ensures
 
 pub invariant_of-self : goal.invariant_of-self
 invariant_of-self g c =

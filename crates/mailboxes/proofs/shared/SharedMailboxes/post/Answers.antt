@@ -1,4 +1,4 @@
-use Rattle.std.proofs.Common.{◌≡◌, ℕ, ◌+◌, ◌-◌, ◌<◌, ◌≤◌, ◌++◌, ◌∷◌, [], List, length, map, set, get_or, sym, ap, ◌∙◌, arith}
+use Rattle.std.proofs.Common.{◌≡◌, ℕ, ◌+◌, ◌-◌, ◌<◌, ◌++◌, ◌∷◌, [], List, length, map, set, get_or, sym, ap, ◌∙◌, arith}
 use Rattle.std.proofs.lemmas.List.{get_or-map, length-map, map-set, set-get_or}
 use Rattle.std.proofs.lemmas.Result.{on_ok_weaker, on_err_weaker}
 use Rattle.process_api.specs.declared.message.Letter.{Letter}
@@ -6,12 +6,6 @@ use Rattle.mailboxes.specs.Mailbox.{TicketView}
 use Rattle.mailboxes.specs.Mailboxes.{SlipView, slip_of}
 use Rattle.mailboxes.proofs.Homes.{whose, posted_by, slip_with}
 use Rattle.mailboxes.proofs.shared.SharedMailboxes.post.Goals as goal
-
-place : (i receiver n m : ℕ) → i + 1 ≡ receiver → receiver ≤ n → m ≡ n → i < m
-place i receiver n m e le s = omega arith
-
-index_is : (i receiver : ℕ) → i + 1 ≡ receiver → i ≡ receiver - 1
-index_is i receiver e = omega arith
 
 -- one ticket of the slip is changed to another of the same mailbox
 module _ (tickets : List TicketView) (i : ℕ) (old new : TicketView) (was : old ≡ get_or tickets i old) (same : new.mailbox ≡ old.mailbox) (lt : i < length tickets) where
@@ -32,10 +26,10 @@ returns g c =
     let x = c.args.letter in
     let d = c.index_mut.result.now in
     let new = c.post.new.ticket in
-    let at : i ≡ x.key.receiver - 1 = index_is _ _ c.place_of-at.ensures in
+    let at : i ≡ x.key.receiver - 1 = omega (arith, c.place_of-at.ensures) in
     let whole : map whose tickets ≡ c.args.slip.now.mailboxes = ap (λ (s : SlipView). s.mailboxes) c.slip.view_is in
     let rows : map posted_by tickets ≡ c.args.slip.now.posted = ap (λ (s : SlipView). s.posted) c.slip.view_is in
-    let lt : i < length tickets = place _ _ _ _ c.place_of-at.ensures c.requires.receiver (sym (length-map tickets whose) ∙ ap length (whole ∙ c.requires.slip)) in
+    let lt : i < length tickets = omega (arith, c.place_of-at.ensures, c.requires.receiver, length-map tickets whose, ap length (whole ∙ c.requires.slip)) in
     let same = whose_same tickets i d new c.index_mut.ensures.value c.post.ensures.mailbox lt ∙ whole in
     record {
       slip = same ∙ c.requires.slip;
