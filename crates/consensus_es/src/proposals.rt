@@ -2,6 +2,7 @@
 ghost use Rattle.std.specs.Prelude.{◌≡◌, OnOk};
 ghost use Rattle.process_api.specs.Rows.{keep_one};
 
+use process_api::drop_rounds_before;
 use std::alloc::{AllocError, Global};
 use std::collections::BTreeMap;
 
@@ -45,11 +46,6 @@ impl Proposals {
     pub fn drop_before(&mut self, round: u64)
         ensures { of_round self.new ≡ since_round round (of_round self.old) }
     {
-        while let Some((first, _)) = self.by_round.first_key_value() {
-            if *first >= round {
-                break;
-            }
-            let _ = self.by_round.pop_first();
-        }
+        drop_rounds_before(&mut self.by_round, round);
     }
 }

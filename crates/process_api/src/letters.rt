@@ -2,6 +2,7 @@
 ghost use Rattle.std.specs.Prelude.{◌≡◌, OnOk, is_some};
 ghost use Rattle.std.specs.Option.{option_copied};
 ghost use Rattle.process_api.specs.Coordinator.{keep as keep_of};
+ghost use Rattle.process_api.specs.Letters.{by_number, since_round};
 ghost use Rattle.process_api.specs.Rounds.{count_to};
 
 use crate::membership::Membership;
@@ -18,7 +19,7 @@ pub struct Letters<T> {
 }
 
 impl<T: Drop> Letters<T> {
-    ghost use Rattle.process_api.specs.Letters.{by_number, by_sender, no_letters, since};
+    ghost use Rattle.process_api.specs.Letters.{by_sender, no_letters, since};
 
     /// No letters.
     pub fn new(alloc: Global) -> Letters<T>
@@ -78,11 +79,18 @@ impl<T: Drop> Letters<T> {
     pub fn drop_before(&mut self, round: u64)
         ensures { by_sender self.new ≡ since round (by_sender self.old) }
     {
-        while let Some((first, _)) = self.rows.first_key_value() {
-            if *first >= round {
-                break;
-            }
-            let _ = self.rows.pop_first();
+        drop_rounds_before(&mut self.rows, round);
+    }
+}
+
+/// Drops what is kept of the rounds before this one.
+pub fn drop_rounds_before<V: Drop>(kept: &mut BTreeMap<u64, V>, round: u64)
+    ensures { by_number kept.new ≡ since_round round (by_number kept.old) }
+{
+    while let Some((first, _)) = kept.first_key_value() {
+        if *first >= round {
+            break;
         }
+        let _ = kept.pop_first();
     }
 }

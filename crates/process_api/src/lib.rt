@@ -48,7 +48,7 @@ pub use entry::{Entry, Kind};
 pub use follower::{Follower, follow_all};
 pub use key::Key;
 pub use laws::law_base_detectors;
-pub use letters::Letters;
+pub use letters::{Letters, drop_rounds_before};
 pub use membership::Membership;
 pub use message::{Letter, Payload, StepInput, Tag};
 pub use noting::note_changes;
