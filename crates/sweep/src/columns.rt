@@ -1,7 +1,7 @@
 //! What a row tells of a point's runs on a layer.
 
 /// Sums over the traces of runs.
-#[derive(Clone, Copy, Default, PartialEq, Eq)]
+#[derive(Clone, Copy, Default)]
 pub struct TraceSums {
     /// How many entries the traces have.
     pub entries: u128,
@@ -16,7 +16,7 @@ pub struct TraceSums {
 ///
 /// On layer 1 a pair counts where the detector of its observer watches its subject; on layer 2 each ordered pair of
 /// different processes does.
-#[derive(Clone, Copy, Default, PartialEq, Eq)]
+#[derive(Clone, Copy, Default)]
 pub struct PairSums {
     /// How many suspicions started that were mistakes.
     pub mistakes: u128,
@@ -43,7 +43,7 @@ pub struct PairSums {
 }
 
 /// In how many runs each verdict holds. One that gives a tick holds where there is a tick.
-#[derive(Clone, Copy, Default, PartialEq, Eq)]
+#[derive(Clone, Copy, Default)]
 pub struct VerdictCounts {
     /// Every correct process suspects every crashed one from some tick on.
     pub strong_completeness: u64,
@@ -60,7 +60,7 @@ pub struct VerdictCounts {
 }
 
 /// Sums over the processes of runs that are to decide: the correct ones of the runs with an algorithm.
-#[derive(Clone, Copy, Default, PartialEq, Eq)]
+#[derive(Clone, Copy, Default)]
 pub struct DecisionSums {
     /// How many such processes there are.
     pub to_decide: u128,
@@ -73,7 +73,7 @@ pub struct DecisionSums {
 }
 
 /// In how many runs something is so.
-#[derive(Clone, Copy, Default, PartialEq, Eq)]
+#[derive(Clone, Copy, Default)]
 pub struct RunCounts {
     /// A process was suspected by mistake.
     pub with_mistakes: u64,
@@ -114,7 +114,7 @@ pub struct FirstRuns {
 }
 
 /// What is added up of runs on a layer.
-#[derive(Clone, Copy, Default, PartialEq, Eq)]
+#[derive(Clone, Copy, Default)]
 pub struct LayerSums {
     /// How many runs there are.
     pub runs: u64,
@@ -137,7 +137,7 @@ pub struct LayerSums {
 }
 
 /// What a row tells.
-#[derive(Clone, Copy, PartialEq, Eq)]
+#[derive(Clone, Copy)]
 pub struct Columns {
     /// The sums.
     pub sums: LayerSums,

@@ -3,13 +3,11 @@ ghost use Rattle.std.specs.Prelude.{◌≡◌};
 
 use std::alloc::AllocError;
 use study::ReadError;
-use thiserror::Error;
 
 /// Why a sweep ends early.
-#[derive(Debug, Drop, Error)]
+#[derive(Debug, Drop)]
 pub enum SweepError {
     /// The scenario of a run is refused.
-    #[error("a run's scenario is refused")]
     Refused {
         /// The run's point, from 0.
         point: u64,
@@ -19,10 +17,8 @@ pub enum SweepError {
         reason: ReadError,
     },
     /// Memory was refused.
-    #[error("out of memory")]
     Memory,
     /// A put failed.
-    #[error("writing failed")]
     Write,
 }
 
@@ -37,10 +33,9 @@ impl From<AllocError> for SweepError {
 }
 
 /// Why there is no layout.
-#[derive(Debug, Drop, Error)]
+#[derive(Debug, Drop)]
 pub enum LayoutError {
     /// A word is no column's name.
-    #[error("no column {name}; the nearest is {nearest}")]
     Unknown {
         /// The word, the first that is none.
         name: String,
@@ -48,7 +43,6 @@ pub enum LayoutError {
         nearest: String,
     },
     /// Memory was refused.
-    #[error("out of memory")]
     Memory,
 }
 

@@ -2,7 +2,7 @@
 ghost use Rattle.std.specs.Prelude.{◌≡◌, ◌*◌, ◌<◌, ◌≤◌, ◌^◌, length, map, string_bytes, option_map, Some, IfOk, IfErr};
 ghost use Rattle.std.specs.List.{range_with_len};
 ghost use Rattle.study.specs.Grid.{runs};
-ghost use Rattle.sweep.specs.Layout.{place_of as place_in, between_commas};
+ghost use Rattle.sweep.specs.Layout.{place_of as place_in};
 ghost use Rattle.sweep.specs.Layout.{ArePicks, IsNearest, TellsOf, IsRefusal, IsNoLayout};
 ghost use Rattle.sweep.specs.Inside.Numbering.{runs_each as runs_of_unit, unit_count};
 ghost use Rattle.sweep.specs.StudyText.{names_of as names_in, unit_first};
@@ -12,10 +12,10 @@ use crate::names::names_of;
 use diagnosis::edits_between;
 use std::alloc::{AllocError, Global};
 use std::marker::Model;
-use study::Grid;
+use study::{Grid, words_between};
 
 /// What a row tells of.
-#[derive(Clone, Copy, PartialEq, Eq)]
+#[derive(Clone, Copy)]
 pub enum Rows {
     /// Of a point: of all its runs.
     Points,
@@ -74,13 +74,6 @@ fn unknown(alloc: Global, names: &[String], word: &str) -> Result<LayoutError, A
     })
 }
 
-/// The words between commas.
-pub(crate) fn words_between(alloc: Global, columns: &str) -> Result<Vec<&str>, AllocError>
-    ensures { IfOk result (λ v. map (λ x. x.now) v.items ≡ between_commas columns.now) }
-{
-    columns.split(',').collect(alloc)
-}
-
 /// The places of the names that these words are.
 fn places_of(alloc: Global, names: &[String], words: &[&str]) -> Result<Vec<usize>, LayoutError>
     requires { 1 ≤ length names.now }
@@ -132,7 +125,7 @@ impl Layout {
         let names = names_of(alloc, grid, rows)?;
         let picks = match columns {
             Some(columns) => {
-                let words = words_between(alloc, columns)?;
+                let words = words_between(alloc, columns, ',')?;
                 places_of(alloc, &names, &words)?
             }
             None => all_places(alloc, names.len())?,

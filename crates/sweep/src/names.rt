@@ -4,9 +4,9 @@ ghost use Rattle.study.specs.Grid.{paths_of};
 ghost use Rattle.study.specs.Settings.{chosen, path_of, key_text};
 ghost use Rattle.sweep.specs.StudyText.{lead_names, names_of as names_in};
 
-use crate::layout::{Rows, words_between};
+use crate::layout::Rows;
 use std::alloc::{AllocError, Global};
-use study::{Axis, Choice, Grid, Key};
+use study::{Axis, Choice, Grid, Key, words_between};
 
 /// The names of the columns from the layer on, in order, between commas.
 const COLUMN_NAMES: &str = "layer,runs,limited,entries,sent,lost,pair_ticks,mistakes,mistake_ticks,\
@@ -99,6 +99,6 @@ pub(crate) fn names_of(alloc: Global, grid: &Grid, rows: Rows) -> Result<Vec<Str
 {
     let mut names = Vec::new(alloc);
     push_lead_names(alloc, &mut names, grid, rows)?;
-    push_names(alloc, &mut names, &words_between(alloc, COLUMN_NAMES)?)?;
+    push_names(alloc, &mut names, &words_between(alloc, COLUMN_NAMES, ',')?)?;
     Ok(names)
 }

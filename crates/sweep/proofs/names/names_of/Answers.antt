@@ -9,7 +9,7 @@ unfolding column_names
 returns-clause-names c =
     let lead : map string_bytes c.push_lead_names.new.names.items ≡ lead_names c.args.rows c.args.grid.now =
     c.in_ok-push_lead_names.ensures ∙ ap (λ l. map string_bytes l ++ lead_names c.args.rows c.args.grid.now) c.new-names.ensures.items in
-    let words : map (λ n. n.now) c.deref.result.now ≡ codes "layer" ∷ column_names = ap (map (λ n. n.now)) c.deref.ensures.value ∙ c.in_ok-words_between.ensures in
+    let words : map (λ n. n.now) c.deref.result.now ≡ codes "layer" ∷ column_names = ap (map (λ n. n.now)) c.deref.ensures.value ∙ c.in_ok-words_between.ensures.value in
     c.in_ok-push_names.ensures ∙ (λ i. lead i ++ words i)
 
 pub returns-clause-some : goal.returns-clause-some
