@@ -104,7 +104,8 @@ fn check_runs<R: Threads + Sync + Clock, W: Watcher>(
     let runs = grid.runs();
     let points = end - begin;
     let mut batches = Batches::new(threads);
-    let mut next = begin * runs;
+    let (first, past) = (begin * runs, end * runs);
+    let mut next = first;
     let begun = Standing {
         pass: Pass::Reading,
         points,
@@ -112,19 +113,19 @@ fn check_runs<R: Threads + Sync + Clock, W: Watcher>(
         done: 0,
     };
     watcher.hear(begun);
-    while next < end * runs {
+    while next < past {
         let are_read = batches.run(
             rt,
             alloc,
             next,
-            end * runs,
+            past,
             &|number| is_read(alloc, file, grid, number),
         )?;
         if let Some(place) = first_false(&are_read) {
             return Err(refusal(alloc, file, grid, next + place as u64));
         }
         next += are_read.len() as u64;
-        let done = next - begin * runs;
+        let done = next - first;
         watcher.hear(Standing { done, ..begun });
     }
     Ok(())

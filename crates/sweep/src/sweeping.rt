@@ -57,7 +57,8 @@ fn write_points<R: Threads + Sync + Clock, O: Outlet, W: Watcher>(
     let mut batches = Batches::new(threads);
     let mut limits = Limits::at(begin);
     let mut progress = Progress::at(alloc, grid, layout, layout.unit_count(grid, begin));
-    let mut next = begin * runs;
+    let (first, past) = (begin * runs, end * runs);
+    let mut next = first;
     let begun = Standing {
         pass: Pass::Running,
         points,
@@ -65,13 +66,13 @@ fn write_points<R: Threads + Sync + Clock, O: Outlet, W: Watcher>(
         done: 0,
     };
     watcher.hear(begun);
-    while next < end * runs {
-        let numbers = measure_batch(rt, alloc, file, grid, next, end * runs, &mut batches)?;
+    while next < past {
+        let numbers = measure_batch(rt, alloc, file, grid, next, past, &mut batches)?;
         watcher.make_way();
         limits.add_all(file, grid, &numbers, watcher);
         progress.take_all(alloc, grid, layout, &numbers, outlet)?;
         next += numbers.len() as u64;
-        let done = next - begin * runs;
+        let done = next - first;
         watcher.hear(Standing { done, ..begun });
     }
     Ok(())

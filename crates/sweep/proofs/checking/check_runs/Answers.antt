@@ -1,5 +1,6 @@
-use Rattle.sweep.proofs.Words.{rules, ◌≡◌, ◌≤◌, ◌<◌, ◌+◌, ◌-◌, ◌*◌, ℕ, Bool, true, length, arith, subst, slice_index_or, mul-le-mul_right, table_view, runs, HasScenarioAt, IsFirstRefusal, HeardReading}
+use Rattle.sweep.proofs.Words.{rules, ◌≡◌, ◌≤◌, ◌<◌, ◌+◌, ◌-◌, ◌*◌, ℕ, Bool, true, length, arith, subst, slice_index_or, mul-le-mul_right, table_view, points, runs, HasScenarioAt, IsFirstRefusal, HeardReading}
 use Rattle.sweep.proofs.Heard.{reading_begin, reading_more, all_done, within_all}
+use Rattle.sweep.proofs.Numbered.{number_below}
 use Rattle.sweep.proofs.Reading.{if_any_err, read_more, first_refusal}
 use Rattle.sweep.proofs.checking.check_runs.Goals as goal
 
@@ -11,6 +12,14 @@ loop-next-init g c = record {
       (reading_begin g.W.Watcher.heard (c.args.end - c.args.begin) c.runs-runs.result c.args.watcher.now c.hear.new.self c.hear.ensures);
   read = λ n low high. absurd (omega (arith, low, high));
 }
+
+pub refusal-requires-clause-within : goal.refusal-requires-clause-within
+refusal-requires-clause-within g c =
+    let all : ℕ = length (points c.args.grid.now) in
+    let here : c.in-Some.place < length c.in_ok-are_read.are_read.items = search rules in
+    let within = rw c.runs-runs.ensures.value at c.in_ok-are_read.ensures.within in
+    let up = mul-le-mul_right {m = c.args.end} {n = all} (length (runs c.args.grid.now)) c.requires.within in
+    number_below (length (runs c.args.grid.now)) _ all c.requires.some (omega (arith, here, within, up))
 
 pub returns-in-Some-clause-err : goal.returns-in-Some-clause-err
 returns-in-Some-clause-err g c =
