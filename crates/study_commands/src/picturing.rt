@@ -8,7 +8,7 @@ ghost use Rattle.shell.specs.Input.{TakesAtMost, input_path, most_bytes};
 
 use crate::fault::Fault;
 use crate::file::scenario_at;
-use crate::processes::{pieces_of, process_of};
+use crate::processes::process_of;
 use crate::running::{letters_of, trace_of};
 use drawing::{DrawError, check_ticks, draw_letters, draw_suspicions};
 use printable::Printable;
@@ -17,6 +17,7 @@ use scenario::Scenario;
 use std::alloc::Global;
 use std::io::Read;
 use std::rt::Files;
+use study::words_between;
 use study_line::Picture;
 
 /// The processes that pieces of a word name.
@@ -44,7 +45,7 @@ fn processes_named(alloc: Global, picture: Picture, word: Option<&str>) -> Resul
         return Ok(Vec::new(alloc));
     };
     match picture {
-        Picture::Letters => match pieces_of(alloc, word) {
+        Picture::Letters => match words_between(alloc, word, ',') {
             Ok(pieces) => named_by(alloc, &pieces),
             Err(_) => Err(Fault::WordsMemory),
         },
