@@ -1,5 +1,5 @@
 -- What a call promises of its answer says nothing where it is refused.
-use Rattle.std.proofs.Common.{◌≡◌, ◌⊎◌, inl, inr, Result, Ok, Err, IfOk, IfErr, OnOk}
+use Rattle.std.proofs.Common.{◌≡◌, ◌⊎◌, inl, inr, Result, Ok, Err, IfOk, IfErr}
 use Rattle.std.specs.Result.{IsErr}
 use Rattle.std.proofs.lemmas.Result.{IfOk-from_err}
 use Rattle.process_api.specs.declared.run_error.RunError.{RunError}
@@ -8,11 +8,6 @@ use Rattle.windows.specs.Refusals.{AreThere, IsFirstRefusal, IsRefusal, IsRefusa
 
 pub holds_of_none : {A E : Type 0} (r : Result A E) → IsErr r → (P : A → Type 0) → IfOk r P
 holds_of_none r is P = IfOk-from_err r P is
-
--- two facts that hold where there is an answer make a third
-pub both_make : {A E : Type 0} (r : Result A E) (P Q T : Type 0) → (P → Q → T) → OnOk r P → OnOk r Q → OnOk r T
-both_make (Ok x) P Q T f p q = f p q
-both_make (Err e) P Q T f p q = tt
 
 -- an answer is no refusal
 pub not_err : {A E : Type 0} (x : A) (d : E) → ◌≡◌ {A = Result A E} (Ok x) (Err d) → ⊥

@@ -30,34 +30,25 @@ module _ {M : Type 0} where
       posted = p;
     }
 
-    pub run_more : (taken taken' : List (Berth M)) (slip slip' : SlipView) (done done' : List (Berth M)) (before after : Berth M) (letters : List Letter)
-        → AreRunBy mind s end mailboxes taken slip done → IsStay mind s end (stay before after letters) → IsPermutation (taken ++ before ∷ []) taken'
-        → IsSlipOf mailboxes slip' → slip' ≡ with_letters slip letters → done' ≡ done ++ after ∷ [] → AreRunBy mind s end mailboxes taken' slip' done'
-    run_more taken taken' slip slip' done done' before after letters run one takes of posts adds = record {
+    pub run_more : (slip slip' : SlipView) (done done' : List (Berth M)) (before after : Berth M) (letters : List Letter) → IsStay mind s end (stay before after letters) → IsSlipOf mailboxes slip' → slip' ≡ with_letters slip letters
+        → done' ≡ done ++ after ∷ [] → (taken : List (Berth M)) → AreRunBy mind s end mailboxes taken slip done → AreRunBy mind s end mailboxes (taken ++ before ∷ []) slip' done'
+    run_more slip slip' done done' before after letters one of posts adds taken run = record {
       of_mailboxes = of;
       stays = run.stays ++ stay before after letters ∷ [];
       each = All-push (IsStay mind s end) run.stays (stay before after letters) run.each one;
-      taken_are = subst (λ l. IsPermutation l taken') (sym (map-append (λ (t : Stay M). t.before) run.stays (stay before after letters ∷ [])))
-          (IsPermutation-trans _ _ _ (IsPermutation-append_left (before ∷ []) _ _ run.taken_are) takes);
+      taken_are = subst (λ l. IsPermutation l (taken ++ before ∷ [])) (sym (map-append (λ (t : Stay M). t.before) run.stays (stay before after letters ∷ [])))
+          (IsPermutation-append_left (before ∷ []) _ _ run.taken_are);
       done_are = map-append (λ (t : Stay M). t.after) run.stays (stay before after letters ∷ []) ∙ ap (λ l. l ++ after ∷ []) run.done_are ∙ sym adds;
       posted = posts ∙ ap (λ v. with_letters v letters) run.posted ∙ sym (with_stays-append (unused mailboxes) run.stays (stay before after letters ∷ []));
     }
-
-    pub same_run : (taken : List (Berth M)) (slip : SlipView) (done done' : List (Berth M)) → AreRunBy mind s end mailboxes taken slip done → done' ≡ done → AreRunBy mind s end mailboxes taken slip done'
-    same_run taken slip done done' run d = subst (AreRunBy mind s end mailboxes taken slip) (sym d) run
 
     module _ (deques : List DequeId) where
       pub work_begins : (hand : HandView (Berth M)) (slip : SlipView) (done : List (Berth M)) → IsFresh deques mailboxes hand slip → done ≡ [] → IsWork mind s end deques mailboxes hand slip done
       work_begins hand slip done fresh none = record { of_deques = fresh.of_deques; run = run_begins hand.taken slip done fresh.none_taken fresh.none_posted none }
 
-      pub work_more : (hand hand' : HandView (Berth M)) (slip slip' : SlipView) (done done' : List (Berth M)) (before after : Berth M) (letters : List Letter)
-          → IsWork mind s end deques mailboxes hand slip done → IsStay mind s end (stay before after letters) → TookOne hand hand' before
-          → IsSlipOf mailboxes slip' → slip' ≡ with_letters slip letters → done' ≡ done ++ after ∷ [] → IsWork mind s end deques mailboxes hand' slip' done'
-      work_more hand hand' slip slip' done done' before after letters work one (taken, is, takes, among) of posts adds = record {
+      pub work_more : (hand hand' : HandView (Berth M)) (slip slip' : SlipView) (done done' : List (Berth M)) (b : Berth M) → IsWork mind s end deques mailboxes hand slip done → TookOne hand hand' b
+          → AreRunBy mind s end mailboxes (hand.taken ++ b ∷ []) slip' done' → IsWork mind s end deques mailboxes hand' slip' done'
+      work_more hand hand' slip slip' done done' b work (taken, is, takes, among) run = record {
         of_deques = ap (λ (h : HandView (Berth M)). h.deques) is ∙ work.of_deques;
-        run = run_more hand.taken hand'.taken slip slip' done done' before after letters work.run one (subst (IsPermutation (hand.taken ++ before ∷ [])) (sym (ap (λ (h : HandView (Berth M)). h.taken) is)) takes) of posts adds;
+        run = record { of_mailboxes = run.of_mailboxes; stays = run.stays; each = run.each; taken_are = IsPermutation-trans _ _ _ run.taken_are (subst (IsPermutation (hand.taken ++ b ∷ [])) (sym (ap (λ (h : HandView (Berth M)). h.taken) is)) takes); done_are = run.done_are; posted = run.posted };
       }
-
-      pub same_work : (hand hand' : HandView (Berth M)) (slip : SlipView) (done done' : List (Berth M)) → IsWork mind s end deques mailboxes hand slip done → hand' ≡ hand → done' ≡ done
-          → IsWork mind s end deques mailboxes hand' slip done'
-      same_work hand hand' slip done done' work t d = subst (λ x. IsWork mind s end deques mailboxes x slip done') (sym t) (subst (IsWork mind s end deques mailboxes hand slip) (sym d) work)

@@ -120,9 +120,8 @@ fn join_all(pending: &mut Pending, letters: Vec<Letter>) -> Result<(), AllocErro
     ensures { OnOk result (pending.new ≡ joined pending.old (map event_of letters.items)) }
 {
     let alloc = *letters.allocator();
-    for letter in letters {
-        let Letter { key, mut payload } = letter;
-        pending.join(Event::letter(alloc, key, &mut payload)?)?;
+    for mut letter in letters {
+        pending.join(Event::letter(alloc, letter.key, &mut letter.payload)?)?;
     }
     Ok(())
 }
@@ -174,8 +173,7 @@ impl Agenda {
     {
         self.ahead = Ahead::Unknown;
         settle(&mut self.pending, &mut self.letters, &mut self.soonest)?;
-        self.pending.join(event)?;
-        Ok(())
+        self.pending.join(event)
     }
 
     /// The tick of the least event, if there is one.

@@ -88,15 +88,10 @@ pub(crate) fn gather<M: Process>(
     let mut hands = Vec::with_capacity(alloc, works.len())?;
     let mut done = Vec::new(alloc);
     let mut slips = Vec::with_capacity(alloc, works.len())?;
-    for work in works {
-        let Work {
-            hand,
-            slip,
-            done: mut mine,
-        } = work;
-        hands.push_reserved(hand);
-        done.append(&mut mine)?;
-        slips.push_reserved(slip);
+    for mut work in works {
+        done.append(&mut work.done)?;
+        hands.push_reserved(work.hand);
+        slips.push_reserved(work.slip);
     }
     Ok((Rest::of_hands(alloc, hands)?, done, slips))
 }
@@ -120,12 +115,10 @@ pub(crate) fn run_rest<M: Process, G: Gate, R: Wait>(
 {
     let mut done = Vec::new(shared.alloc);
     for _ in rt.forever() {
-        done.reserve(1)?;
-        let Some(mut berth) = rest.take_last() else {
+        let Some(berth) = rest.take_last() else {
             break;
         };
-        run_taken(rt, shared, 0, &mut berth, &mut slip)?;
-        done.push_reserved(berth);
+        run_taken(rt, shared, 0, berth, &mut slip, &mut done)?;
     }
     Ok((done, slip))
 }

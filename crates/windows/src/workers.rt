@@ -1,16 +1,15 @@
 //! The workers of a window: each takes berths, its own and then others', until none is left, runs them, and gives them
 //! back when it is joined.
-ghost use Rattle.std.specs.Prelude.{◌≡◌, ◌≤◌, ◌⊎◌, ◌++◌, [], ◌∷◌, List, IfOk, IfErr, OnOk, IsErrOf, Ok, vec_len};
+ghost use Rattle.std.specs.Prelude.{◌≡◌, ◌≤◌, ◌⊎◌, ◌++◌, [], ◌∷◌, IfOk, IfErr, OnOk, IsErrOf, Ok, vec_len};
 ghost use Rattle.std.specs.List.{All};
 ghost use Rattle.std.specs.Thread.{IsSync};
-ghost use Rattle.process_api.specs.declared.message.Letter.{Letter as SentLetter};
 ghost use Rattle.mailboxes.specs.Mailboxes.{IsSlipOf};
 ghost use Rattle.process_api.specs.declared.run_error.RunError.TheVariants.{Memory, Spawn};
-ghost use Rattle.windows.specs.Berth.{IsLong, with_letters};
+ghost use Rattle.windows.specs.Berth.{IsLong};
 ghost use Rattle.windows.specs.Plan.{most_workers};
 ghost use Rattle.windows.specs.Refusals.{rank_of, AreThere, IsFirstRefusal, IsRefusalOfOne};
-ghost use Rattle.windows.specs.Inside.Shared.{IsStart, IsAnswerTo, AreAnswers};
-ghost use Rattle.windows.specs.Inside.Workers.{IsReady, IsStay, stay};
+ghost use Rattle.windows.specs.Inside.Shared.{IsStart, IsAnswerTo, AreAnswers, RunsOneMore};
+ghost use Rattle.windows.specs.Inside.Workers.{IsReady};
 
 use crate::berth::{Berth, run_berth};
 use crate::gate::Gate;
@@ -38,7 +37,7 @@ pub(crate) struct Work<M> {
     pub done: Vec<Berth<M>>,
 }
 
-/// Tells the gate of a berth that worker `worker` has taken, and runs it.
+/// Tells the gate of a berth that worker `worker` has taken, runs it, and adds it to those that are done.
 ///
 /// # Errors
 ///
@@ -48,23 +47,25 @@ pub(crate) fn run_taken<M: Process, G: Gate, R: Wait>(
     rt: &R,
     shared: &Shared<'_, M, G>,
     worker: u16,
-    berth: &mut Berth<M>,
+    mut berth: Berth<M>,
     slip: &mut Slip,
+    done: &mut Vec<Berth<M>>,
 ) -> Result<(), RunError>
-    requires ready { IsReady M.mind shared.now.window.now.streams shared.now.window.now.left berth.old }
+    requires ready { IsReady M.mind shared.now.window.now.streams shared.now.window.now.left berth }
     requires slip { IsSlipOf shared.now.mailboxes.now slip.old }
-    ensures slip { IsSlipOf shared.now.mailboxes.now slip.new }
-    ensures ran { OnOk result ((letters : List SentLetter) × IsStay M.mind shared.now.window.now.streams
-        shared.now.window.now.end (stay berth.old berth.new letters) × (slip.new ≡ with_letters slip.old letters)) }
+    ensures ran { OnOk result (RunsOneMore M.mind shared.now berth slip.old slip.new done.old.items done.new.items) }
     ensures errors { IfErr result IsRefusalOfOne }
     ensures limit { IsErrOf result RunError.Limit → IsLong M.mind shared.now.window.now.streams
-        shared.now.window.now.end shared.now.window.now.left berth.old }
+        shared.now.window.now.end shared.now.window.now.left berth }
 {
     shared.gate.entered(rt, worker, berth.pid());
     let window = shared.window;
     let streams = &window.streams;
     let mailboxes = shared.mailboxes;
-    run_berth(rt, berth, window.end, streams, mailboxes, slip, window.left)
+    let left = window.left;
+    run_berth(rt, &mut berth, window.end, streams, mailboxes, slip, left)?;
+    done.push(berth)?;
+    Ok(())
 }
 
 /// The work of one worker, which has the number `worker` in this window: it takes berths until every deque was found
@@ -90,12 +91,10 @@ pub(crate) fn run_berths<M: Process, G: Gate, R: Wait>(
     let Start { mut hand, mut slip } = start;
     let mut done = Vec::new(shared.alloc);
     for _ in rt.forever() {
-        done.reserve(1)?;
-        let Some(mut berth) = hand.take(rt, shared.fronts) else {
+        let Some(berth) = hand.take(rt, shared.fronts) else {
             break;
         };
-        run_taken(rt, shared, worker, &mut berth, &mut slip)?;
-        done.push_reserved(berth);
+        run_taken(rt, shared, worker, berth, &mut slip, &mut done)?;
     }
     Ok(Work { hand, slip, done })
 }
@@ -111,20 +110,6 @@ impl<'s, M: Process, G: Gate> Promise<Result<Work<M>, RunError>> for WorkAt<'s, 
     ghost use Rattle.windows.specs.Inside.Shared.{IsAnswerTo};
 
     ghost kept_by = { λ p r. IsAnswerTo M.mind p.shared.value p.start.value r };
-}
-
-/// The start of a thread was refused.
-#[derive(Drop)]
-struct RefusedStart;
-
-impl From<RefusedStart> for RunError {
-    ghost use Rattle.process_api.specs.declared.run_error.RunError.TheVariants.{Spawn};
-
-    ghost from_gives = { λ _ e. e ≡ Spawn };
-
-    fn from(_: RefusedStart) -> RunError {
-        Self::Spawn
-    }
 }
 
 /// Which refusal comes first: the least number does.
@@ -203,7 +188,7 @@ fn start_worker<'s, E, M: Process + 's, G: Gate, R: Threads + Wait + Sync>(
         { run_berths(rt, shared, worker, start) },
     );
     let Ok(child) = started else {
-        return Err(RunError::from(RefusedStart));
+        return Err(RunError::Spawn);
     };
     Ok(child)
 }

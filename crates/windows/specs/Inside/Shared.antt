@@ -1,5 +1,5 @@
 -- What holds of those who share a window.
-use Rattle.std.specs.Prelude.{◌≡◌, ℕ, List, length, map, Result, IfOk, IfErr, IsErrOf, vec_len}
+use Rattle.std.specs.Prelude.{◌≡◌, ◌++◌, ℕ, List, [], ◌∷◌, length, map, Result, IfOk, IfErr, IsErrOf, vec_len}
 use Rattle.std.specs.Global.{Vec}
 use Rattle.std.specs.List.{All}
 use Rattle.process_api.specs.Mind.{Mind}
@@ -9,7 +9,7 @@ use Rattle.mailboxes.specs.Mailbox.{MailboxId}
 use Rattle.mailboxes.specs.Mailboxes.{SlipView}
 use Rattle.deques.specs.Deques.{HandView, RestView}
 use Rattle.windows.specs.Refusals.{IsRefusal}
-use Rattle.windows.specs.Inside.Workers.{IsFresh, IsReady, IsWork, IsAnswer, IsRest, AreRun, HasLong, HaveLong}
+use Rattle.windows.specs.Inside.Workers.{IsFresh, IsReady, IsWork, IsAnswer, IsRest, AreRun, AreRunBy, HasLong, HaveLong}
 use Rattle.windows.specs.declared.berth.Berth.{Berth}
 use Rattle.windows.specs.declared.shared.Shared.{Shared}
 use Rattle.windows.specs.declared.shared.Window.{Window}
@@ -38,6 +38,12 @@ module _ {M : Type 0} (mind : M → Mind) where
     abbrev pub IsWorkBy : HandView (Berth M) → SlipView → List (Berth M) → Type 0
     IsWorkBy hand slip done =
         IsWork mind w.window.now.streams w.window.now.end w.fronts.now.items w.mailboxes.now hand slip done
+
+    -- this berth was run too: by the slip, and it is among those that were done
+    abbrev pub RunsOneMore : Berth M → (old new : SlipView) → (before after : List (Berth M)) → Type 0
+    RunsOneMore b old new before after =
+        (taken : List (Berth M)) → AreRunBy mind w.window.now.streams w.window.now.end w.mailboxes.now taken old before
+        → AreRunBy mind w.window.now.streams w.window.now.end w.mailboxes.now (taken ++ b ∷ []) new after
 
     -- a worker's work in this window
     abbrev pub IsWorkIn : Work M → Type 0

@@ -5,9 +5,9 @@ use Rattle.std.proofs.lemmas.List.Elements.{All-contains}
 use Rattle.std.proofs.lemmas.List.Sorted.{IsPermutation-refl, IsPermutation-trans, IsPermutation-append_left}
 use Rattle.deques.specs.Deques.{RestView, all_put}
 use Rattle.windows.specs.Inside.Workers.{IsReady}
-use Rattle.windows.proofs.Work.{run_begins, run_more, same_run}
+use Rattle.windows.proofs.Work.{run_begins}
 use Rattle.windows.proofs.gather.run_rest.Goals as goal
-use Rattle.windows.proofs.gather.run_rest.Goals.{in-None, in-Some+in_ok-reserve+in_default}
+use Rattle.windows.proofs.gather.run_rest.Goals.{in-None, in-Some+in_default}
 
 pub loop-init : goal.loop-init
 loop-init g c = (
@@ -35,14 +35,12 @@ returns-in_err-run_taken-clause-limit g c is = (
 
 pub loop-preserved : goal.loop-preserved
 loop-preserved g c =
-    let ran = c.in_ok-run_taken.ensures.ran in
     let inv = c.loop.invariant in
     let took = c.in-Some-take_last.ensures in
     let b = c.in-Some-take_last.berth in
     let old = c.args.rest.now.taken in (
       inv.0 ++ b ∷ [],
-      run_more g.M.Process.mind c.args.shared.now.window.now.streams c.args.shared.now.window.now.end c.args.shared.now.mailboxes.now inv.0 (inv.0 ++ b ∷ []) c.loop.slip c.run_taken.new.slip
-          c.loop.done.items c.push_reserved.new.self.items b c.run_taken.new.berth ran.0 inv.1 ran.1 (IsPermutation-refl (inv.0 ++ b ∷ [])) c.run_taken.ensures.slip ran.2 (c.push_reserved.ensures.items ∙ ap (λ l. l ++ c.run_taken.new.berth ∷ []) c.in_ok-reserve.ensures.items),
+      c.in_ok-run_taken.ensures.ran inv.0 inv.1,
       ap (λ (r : RestView _). r.own) took.1 ∙ inv.2,
       ap (λ (r : RestView _). r.out) took.1,
       subst (IsPermutation (old ++ (inv.0 ++ b ∷ []))) (sym (ap (λ (r : RestView _). r.taken) took.1))
@@ -53,12 +51,12 @@ pub returns-clause-rest : goal.returns-clause-rest
 returns-clause-rest g c =
     elim c.match-next.branch [
       | in-None w ↦ absurd (search rules)
-      | in-Some+in_ok-reserve+in_default w ↦
+      | in-Some+in_default w ↦
           let inv = c.loop.invariant in
           let last : c.match-next.rest ≡ c.loop.rest = w.rest-is ∙ w.in_default.ensures.0 in
           record {
             rest = inv.0;
-            run = same_run g.M.Process.mind c.args.shared.now.window.now.streams c.args.shared.now.window.now.end c.args.shared.now.mailboxes.now inv.0 c.loop.slip c.loop.done.items c.match-next.done.items inv.1 (search rules);
+            run = inv.1;
             taken = subst (λ (r : RestView _). IsPermutation (c.args.rest.now.taken ++ inv.0) r.taken) (sym last) inv.4;
             same = subst (λ l. IsPermutation (all_put l) c.match-next.rest.taken) inv.2
                 (subst (λ (r : RestView _). IsPermutation (all_put c.loop.rest.own) r.taken) (sym last) w.in_default.ensures.1);

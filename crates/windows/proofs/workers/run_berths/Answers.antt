@@ -1,13 +1,14 @@
-use Rattle.std.proofs.Common.{rules, ◌≡◌, ◌∷◌, ◌++◌, [], refl, ap, ◌∙◌, subst}
+use Rattle.std.proofs.Common.{rules, ◌≡◌, refl, sym, ap, ◌∙◌, subst}
 use Rattle.std.specs.List.{Contains}
 use Rattle.std.proofs.lemmas.List.Elements.{All-contains}
 use Rattle.deques.specs.Deques.{HandView}
+use Rattle.windows.specs.Inside.Shared.{IsWorkBy}
 use Rattle.windows.specs.Inside.Workers.{IsReady}
 use Rattle.windows.specs.declared.berth.Berth.{Berth}
-use Rattle.windows.proofs.Work.{work_begins, work_more, same_work}
+use Rattle.windows.proofs.Work.{work_begins, work_more}
 use Rattle.windows.proofs.Refused.{holds_of_none, not_err}
 use Rattle.windows.proofs.workers.run_berths.Goals as goal
-use Rattle.windows.proofs.workers.run_berths.Goals.{in-None, in-Some+in_ok-reserve+in_default}
+use Rattle.windows.proofs.workers.run_berths.Goals.{in-None, in-Some+in_default}
 
 pub loop-init : goal.loop-init
 loop-init g c = (work_begins g.M.Process.mind c.args.shared.now.window.now.streams c.args.shared.now.window.now.end c.args.shared.now.mailboxes.now c.args.shared.now.fronts.now.items _ _ _ c.requires.0 c.new-done.ensures.items, refl, refl)
@@ -22,13 +23,10 @@ run_taken-requires-clause-slip g c κs within = c.loop.invariant.0.run.of_mailbo
 
 pub loop-preserved : goal.loop-preserved
 loop-preserved g c =
-    let ran = c.in_ok-run_taken.ensures.ran in
     let inv = c.loop.invariant in
-    let took = c.in-Some-take.ensures in
-    let b = c.in-Some-take.berth in (
-      work_more g.M.Process.mind c.args.shared.now.window.now.streams c.args.shared.now.window.now.end c.args.shared.now.mailboxes.now c.args.shared.now.fronts.now.items c.loop.hand c.take.new.self c.loop.slip c.run_taken.new.slip
-          c.loop.done.items c.push_reserved.new.self.items b c.run_taken.new.berth ran.0 inv.0 ran.1
-          took c.run_taken.ensures.slip ran.2 (c.push_reserved.ensures.items ∙ ap (λ l. l ++ c.run_taken.new.berth ∷ []) c.in_ok-reserve.ensures.items),
+    let took = c.in-Some-take.ensures in (
+      work_more g.M.Process.mind c.args.shared.now.window.now.streams c.args.shared.now.window.now.end c.args.shared.now.mailboxes.now c.args.shared.now.fronts.now.items _ _ _ _ _ _ c.in-Some-take.berth inv.0 took
+          (c.in_ok-run_taken.ensures.ran _ inv.0.run),
       ap (λ (h : HandView (Berth _)). h.known) took.1 ∙ inv.1,
       ap (λ (h : HandView (Berth _)). h.own) took.1 ∙ inv.2,
     )
@@ -37,12 +35,11 @@ pub returns : goal.returns
 returns g c =
     elim c.match-next.branch [
       | in-None w ↦ absurd (search rules)
-      | in-Some+in_ok-reserve+in_default w ↦
-          let same : c.match-next.hand ≡ c.loop.hand = search rules in
+      | in-Some+in_default w ↦
+          let same : c.match-next.hand ≡ c.loop.hand = w.hand-is ∙ w.in_default.ensures in
           record {
             own = ap (λ (h : HandView (Berth _)). h.own) same ∙ c.loop.invariant.2;
-            work = same_work g.M.Process.mind c.args.shared.now.window.now.streams c.args.shared.now.window.now.end c.args.shared.now.mailboxes.now c.args.shared.now.fronts.now.items c.loop.hand c.match-next.hand c.loop.slip c.loop.done.items c.match-next.done.items c.loop.invariant.0
-                same (search rules);
+            work = subst (λ h. IsWorkBy g.M.Process.mind c.args.shared.now h c.loop.slip c.loop.done.items) (sym same) c.loop.invariant.0;
             errors = tt;
             limit = λ is. absurd (not_err _ _ is);
           }
@@ -50,7 +47,7 @@ returns g c =
 
 pub returns-in_err-run_taken : goal.returns-in_err-run_taken
 returns-in_err-run_taken g c =
-    let no = holds_of_none c.from_residual-in_err-run_taken.result c.from_residual-in_err-run_taken.ensures.0 in
+    let no = holds_of_none c.from_residual.result c.from_residual.ensures.0 in
     record {
       own = no _;
       work = no _;

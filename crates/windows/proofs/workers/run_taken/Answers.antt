@@ -1,5 +1,5 @@
 use Rattle.std.proofs.Common.{refl}
-use Rattle.windows.proofs.Refused.{both_make}
+use Rattle.windows.proofs.Work.{run_more}
 use Rattle.windows.proofs.workers.run_taken.Goals as goal
 
 pub run_berth-requires-clause-berth : goal.run_berth-requires-clause-berth
@@ -12,4 +12,7 @@ pub run_berth-requires-clause-boxes : goal.run_berth-requires-clause-boxes
 run_berth-requires-clause-boxes g c κs within = c.args.shared.now.boxes
 
 pub returns-clause-ran : goal.returns-clause-ran
-returns-clause-ran g c = both_make c.run_berth.result _ _ _ (λ ran berth. let r = ran _ refl in (r.0, (r.1, berth), r.2)) c.run_berth.ensures.ran c.run_berth.ensures.berth
+returns-clause-ran g c =
+    let w = c.args.shared.now in
+    let ran = c.in_ok-run_berth.ensures.ran _ refl in
+    run_more g.M.Process.mind w.window.now.streams w.window.now.end w.mailboxes.now _ _ _ _ _ _ ran.0 (ran.1, c.in_ok-run_berth.ensures.berth) c.run_berth.ensures.slip ran.2 c.in_ok-push.ensures.items
