@@ -14,3 +14,4 @@ pub mod Starts
 pub mod Agendas
 pub mod Posted
 pub mod Cut
+pub mod Ended

@@ -1,4 +1,4 @@
-use Rattle.std.proofs.Common.{◌≡◌, ◌∷◌, ◌++◌, [], length, map, refl, sym, ap, ◌∙◌, subst, append-nil, vec_len, arith}
+use Rattle.std.proofs.Common.{◌≡◌, ◌∷◌, ◌++◌, [], length, map, refl, sym, ap, ◌∙◌, subst, vec_len, arith}
 use Rattle.std.specs.List.{All, flat_map}
 use Rattle.std.specs.List.Sorted.{IsPermutation}
 use Rattle.std.specs.Vec.Iter.{into_iter_items}
@@ -7,7 +7,8 @@ use Rattle.std.proofs.lemmas.List.Sorted.{IsPermutation-refl}
 use Rattle.deques.specs.Deques.{HandView, deques_of}
 use Rattle.windows.specs.Inside.Workers.{IsWork}
 use Rattle.windows.specs.declared.workers.Work.{Work}
-use Rattle.deques.proofs.Deals.{map_turn, flat_push, none_left}
+use Rattle.deques.proofs.Deals.{map_turn, flat_push}
+use Rattle.windows.proofs.Ended.{ends}
 use Rattle.windows.proofs.Gathered.{works_none, works_more, works_taken}
 use Rattle.windows.proofs.gather.gather.Goals as goal
 
@@ -73,17 +74,12 @@ loop-work-preserved g c =
 pub of_hands-requires : goal.of_hands-requires
 of_hands-requires g c =
     let inv = c.loop-work.invariant in
-    let own_of = λ (w : Work _). w.hand.own in
-    let dealt = map own_of c.args.works.items in
-    let none : into_iter_items c.loop-work.work-iterator ≡ [] = none_left _ (sym c.loop-work.work-iterator.rest.ok.0 ∙ c.in-None.ensures.steps.0) in
-    let same : map (λ (h : HandView _). h.own) c.loop-work.hands.items ≡ dealt = sym (append-nil _) ∙ ap (λ l. map (λ (h : HandView _). h.own) c.loop-work.hands.items ++ map own_of l) (sym none) ∙ inv.own in
+    let same = ends _ _ _ _ _ (sym c.loop-work.work-iterator.rest.ok.0 ∙ c.in-None.ensures.steps.0) inv.own in
     subst (λ l. All (λ (h : HandView _). h.deques ≡ deques_of l) c.loop-work.hands.items) (sym same) inv.of_all
 
 pub returns-clause-own : goal.returns-clause-own
 returns-clause-own g c =
-    let own_of = λ (w : Work _). w.hand.own in
-    let none : into_iter_items c.loop-work.work-iterator ≡ [] = none_left _ (sym c.loop-work.work-iterator.rest.ok.0 ∙ c.in-None.ensures.steps.0) in
-    c.in_ok-of_hands.ensures.own ∙ sym (append-nil _) ∙ ap (λ l. map (λ (h : HandView _). h.own) c.loop-work.hands.items ++ map own_of l) (sym none) ∙ c.loop-work.invariant.own
+    c.in_ok-of_hands.ensures.own ∙ ends _ _ _ _ _ (sym c.loop-work.work-iterator.rest.ok.0 ∙ c.in-None.ensures.steps.0) c.loop-work.invariant.own
 
 pub returns-clause-works : goal.returns-clause-works
 returns-clause-works g c = λ s end m is. works_taken g.M.Process.mind s end m _ _ _ _ (c.loop-work.invariant.works s end m is).1 c.in_ok-of_hands.ensures.taken

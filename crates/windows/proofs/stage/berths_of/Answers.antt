@@ -1,7 +1,8 @@
 use Rattle.std.proofs.Common.{◌≡◌, ◌∷◌, [], ◌++◌, map, ap, sym, subst, ◌∙◌}
 use Rattle.std.specs.List.{All}
 use Rattle.std.specs.Vec.Iter.{into_iter_items}
-use Rattle.std.proofs.lemmas.List.Elements.{All-push, All-rest}
+use Rattle.std.proofs.lemmas.List.{length-map}
+use Rattle.std.proofs.lemmas.List.Elements.{All-nil, All-push, All-rest, All-same}
 use Rattle.process_api.specs.Mind.{Mind}
 use Rattle.deques.proofs.Deals.{map_turn}
 use Rattle.steps.specs.Seat.{process_of, own_of, IsMindIn}
@@ -9,7 +10,17 @@ use Rattle.trace_laws.specs.Step.{Process}
 use Rattle.trace_laws.specs.World.{opened}
 use Rattle.windows.specs.Stage.{start_event, IsOpened}
 use Rattle.windows.specs.declared.berth.Berth.{Berth}
+use Rattle.windows.proofs.Ended.{ends, opens}
 use Rattle.windows.proofs.stage.berths_of.Goals as goal
+
+pub loop-machine-init : goal.loop-machine-init
+loop-machine-init g c =
+    let all : into_iter_items c.into_iter-machine-iterator.result ≡ c.args.machines.items = c.into_iter-machine-iterator.ensures.into_iter_gives.0 in
+    record {
+      made = opens _ _ _ _ _ c.new-berths.ensures.items (ap (map g.M.Process.mind) all);
+      berths = All-same _ _ [] c.new-berths.ensures.items (All-nil (IsOpened g.M.Process.mind c.args.scenario.now));
+      left = subst (All (λ m. IsMindIn c.args.scenario.now (g.M.Process.mind m))) (sym all) c.requires;
+    }
 
 pub loop-machine-preserved : goal.loop-machine-preserved
 loop-machine-preserved g c =
@@ -30,3 +41,7 @@ loop-machine-preserved g c =
       berths = subst (All (IsOpened mind s)) (sym more) (All-push (IsOpened mind s) old b c.loop-machine.invariant.berths is);
       left = All-rest (λ m. IsMindIn s (mind m)) c.in-Some.machine left rest e c.loop-machine.invariant.left;
     }
+
+pub returns : goal.returns
+returns g c =
+    record { processes = ends _ _ _ _ _ (length-map _ _ ∙ (sym c.loop-machine.machine-iterator.rest.ok.0 ∙ c.in-None.ensures.steps.0)) c.loop-machine.invariant.made; berths = c.loop-machine.invariant.berths }

@@ -1,12 +1,19 @@
-use Rattle.std.proofs.Common.{◌≡◌, ◌∷◌, [], ◌++◌, sym, subst}
+use Rattle.std.proofs.Common.{◌≡◌, ◌∷◌, [], ◌++◌, sym, ◌∙◌, subst}
 use Rattle.std.specs.List.{All}
 use Rattle.std.specs.Vec.Iter.{into_iter_items}
-use Rattle.std.proofs.lemmas.List.Elements.{All-push}
+use Rattle.std.proofs.lemmas.List.Elements.{All-nil, All-push, All-same}
 use Rattle.std.specs.Global.{Vec}
 use Rattle.process_api.specs.declared.entry.Entry.{Entry}
 use Rattle.deques.proofs.Deals.{map_turn}
 use Rattle.windows.specs.declared.berth.Berth.{Berth}
+use Rattle.windows.proofs.Ended.{ends, opens}
 use Rattle.windows.proofs.stage.take_parts.Goals as goal
+
+pub loop-berth-init : goal.loop-berth-init
+loop-berth-init g c =
+    let none = c.in_ok-done.ensures.items in
+    let all : into_iter_items c.into_iter-berth-iterator.result ≡ c.args.berths.items = c.into_iter-berth-iterator.ensures.into_iter_gives.0 in
+    record { seats = opens _ _ _ _ _ none all; pending = opens _ _ _ _ _ none all; empty = All-same _ _ [] none (All-nil (λ (b : Berth _). b.part.items ≡ [])); parts = opens _ _ _ _ _ c.in_ok-parts.ensures.items all }
 
 pub loop-berth-preserved : goal.loop-berth-preserved
 loop-berth-preserved g c =
@@ -29,3 +36,9 @@ loop-berth-preserved g c =
       empty = subst (All (λ b. b.part.items ≡ [])) (sym more) (All-push (λ b. b.part.items ≡ []) done new i.empty taken.empty);
       parts = map_turn items_of part_of c.loop-berth.parts.items _ c.in_ok-take_part.field-0 rest left old _ c.in_ok-push.ensures.items e taken.entries i.parts;
     }
+
+pub returns : goal.returns
+returns g c =
+    let i = c.loop-berth.invariant in
+    let none = sym c.loop-berth.berth-iterator.rest.ok.0 ∙ c.in-None.ensures.steps.0 in
+    record { seats = ends _ _ _ _ _ none i.seats; pending = ends _ _ _ _ _ none i.pending; empty = i.empty; parts = ends _ _ _ _ _ none i.parts }

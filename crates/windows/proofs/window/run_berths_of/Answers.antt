@@ -1,5 +1,6 @@
-use Rattle.std.proofs.Common.{rules, ◌≡◌, ap, sym, ◌∙◌, subst}
+use Rattle.std.proofs.Common.{rules, ◌≡◌, ap, sym, ◌∙◌, subst, min, length, arith}
 use Rattle.std.specs.List.{All}
+use Rattle.std.proofs.lemmas.List.{length-map}
 use Rattle.std.proofs.lemmas.List.Sorted.{All-permutation}
 use Rattle.deques.specs.Deques.{all_put, deques_of}
 use Rattle.windows.specs.Inside.Shared.{AreReady, IsOneTooLong}
@@ -42,3 +43,13 @@ returns-clause-run g c =
     let run = run_at g.M.Process.mind w.streams w.end _ c.args.mailboxes.now.mailboxes waiting _ (all_put c.in_ok-fronts.dealer) _ _ c.in_ok-done.ensures.run (search rules) put c.in_ok-fronts.ensures.all in
     run_with_idle g.M.Process.mind w.streams w.end c.args.mailboxes.now.mailboxes w.left c.args.berths.items waiting c.in_ok-waiting.idle.items c.in_ok-done.done.items c.append.new.self.items
     c.in_ok-done.slips.items run c.in_ok-waiting.ensures.same rest c.in_ok-waiting.ensures.idle c.in_ok-append.ensures.items
+
+pub returns-clause-workers : goal.returns-clause-workers
+returns-clause-workers g c =
+    let waiting = c.in_ok-waiting.waiting in
+    let parted = c.in_ok-waiting.ensures in
+    let starts = c.in_ok-starts.starts in (
+      c.min-count.result,
+      record { waiting = waiting.items; idle = c.in_ok-waiting.idle.items; all = parted.same; some = parted.waiting; none = parted.idle; count = c.min-count.ensures ∙ (λ i. min ((c.len.ensures ∙ waiting.ok.0) i) (c.from.ensures i)) },
+      omega (arith, c.in_ok-done.ensures.slips, starts.ok.0, length-map starts.items (λ (s : Start _). s.hand.own), ap length c.in_ok-starts.ensures.own, c.in_ok-fronts.ensures.count),
+    )

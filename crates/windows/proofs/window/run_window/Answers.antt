@@ -43,30 +43,24 @@ returns-in_err-ran-clause-limit g c is =
 pub close-requires-clause-boxes : goal.close-requires-clause-boxes
 close-requires-clause-boxes g c κs within =
     let old = c.args.stage.now in
-    let mind = g.M.Process.mind in
-    let ran = c.in_ok-ran.ran in
     let end : c.min-end.result ≡ end_of (setting_of old.scenario.now) c.args.plan.now.window old.start = c.min-end.ensures ∙ (λ i. min (old.start + c.window.ensures.value i) (c.horizon.ensures.value i)) in
-    let by = of_same (λ s e bs. IsOutcomeBy mind s e bs ran.berths.items ran.slips.items) _ _ _ _ _ _ c.new-streams.ensures end (ap (λ (v : Vec _). v.items) c.replace-berths.ensures.value) c.in_ok-ran.ensures.outcome in
-    let many = many_by mind old c.processes-processes.ensures.ranges c.requires.stage.0 c.requires.stage.1 c.args.plan.now.window c.requires.plan _ _ by in
-    c.in_ok-ran.ensures.boxes ∙ (ap (λ (r : Record). r.processes) c.new-streams.ensures ∙ (sym many ∙ sym ran.berths.ok.0))
+    let by = of_same (λ s e bs. IsOutcomeBy g.M.Process.mind s e bs c.in_ok-ran.ran.berths.items c.in_ok-ran.ran.slips.items) _ _ _ _ _ _ c.new-streams.ensures end (ap (λ (v : Vec _). v.items) c.replace-berths.ensures.value) c.in_ok-ran.ensures.outcome in
+    let many = many_by g.M.Process.mind old c.processes-processes.ensures.ranges c.requires.stage.0 c.requires.stage.1 c.args.plan.now.window c.requires.plan _ _ by in
+    c.in_ok-ran.ensures.boxes ∙ (ap (λ (r : Record). r.processes) c.new-streams.ensures ∙ (sym many ∙ sym c.in_ok-ran.ran.berths.ok.0))
 
 pub close-requires-clause-rising : goal.close-requires-clause-rising
 close-requires-clause-rising g c κs within =
     let old = c.args.stage.now in
-    let mind = g.M.Process.mind in
-    let ran = c.in_ok-ran.ran in
     let end : c.min-end.result ≡ end_of (setting_of old.scenario.now) c.args.plan.now.window old.start = c.min-end.ensures ∙ (λ i. min (old.start + c.window.ensures.value i) (c.horizon.ensures.value i)) in
-    let by = of_same (λ s e bs. IsOutcomeBy mind s e bs ran.berths.items ran.slips.items) _ _ _ _ _ _ c.new-streams.ensures end (ap (λ (v : Vec _). v.items) c.replace-berths.ensures.value) c.in_ok-ran.ensures.outcome in
-    rising_by mind old c.processes-processes.ensures.ranges c.requires.stage.0 c.requires.stage.1 c.args.plan.now.window c.requires.plan _ _ by
+    let by = of_same (λ s e bs. IsOutcomeBy g.M.Process.mind s e bs c.in_ok-ran.ran.berths.items c.in_ok-ran.ran.slips.items) _ _ _ _ _ _ c.new-streams.ensures end (ap (λ (v : Vec _). v.items) c.replace-berths.ensures.value) c.in_ok-ran.ensures.outcome in
+    rising_by g.M.Process.mind old c.processes-processes.ensures.ranges c.requires.stage.0 c.requires.stage.1 c.args.plan.now.window c.requires.plan _ _ by
 
 pub close-requires-clause-disjoint : goal.close-requires-clause-disjoint
 close-requires-clause-disjoint g c κs within =
     let old = c.args.stage.now in
-    let mind = g.M.Process.mind in
-    let ran = c.in_ok-ran.ran in
     let end : c.min-end.result ≡ end_of (setting_of old.scenario.now) c.args.plan.now.window old.start = c.min-end.ensures ∙ (λ i. min (old.start + c.window.ensures.value i) (c.horizon.ensures.value i)) in
-    let by = of_same (λ s e bs. IsOutcomeBy mind s e bs ran.berths.items ran.slips.items) _ _ _ _ _ _ c.new-streams.ensures end (ap (λ (v : Vec _). v.items) c.replace-berths.ensures.value) c.in_ok-ran.ensures.outcome in
-    disjoint_by mind old c.processes-processes.ensures.ranges c.requires.stage.0 c.requires.stage.1 c.args.plan.now.window c.requires.plan _ _ by
+    let by = of_same (λ s e bs. IsOutcomeBy g.M.Process.mind s e bs c.in_ok-ran.ran.berths.items c.in_ok-ran.ran.slips.items) _ _ _ _ _ _ c.new-streams.ensures end (ap (λ (v : Vec _). v.items) c.replace-berths.ensures.value) c.in_ok-ran.ensures.outcome in
+    disjoint_by g.M.Process.mind old c.processes-processes.ensures.ranges c.requires.stage.0 c.requires.stage.1 c.args.plan.now.window c.requires.plan _ _ by
 
 pub returns : goal.returns
 returns g c =

@@ -8,6 +8,7 @@ use Rattle.trace_merge.specs.Parts.{all_of}
 use Rattle.windows.specs.Inside.Closing.{AreLettersOf}
 use Rattle.windows.specs.Stage.{delivered}
 use Rattle.windows.specs.declared.berth.Berth.{Berth}
+use Rattle.windows.proofs.Ended.{same_length}
 use Rattle.windows.proofs.Places.{all_at, all_place, same_at}
 use Rattle.windows.proofs.stage.Stage.close.Goals as goal
 
@@ -19,20 +20,9 @@ empty_and_merge-requires-clause-rising g c κs within =
 
 pub deliver_all-requires-after_bounds : goal.deliver_all-requires-after_bounds
 deliver_all-requires-after_bounds g c κs within =
-    let seat_of = λ (z : Berth _). z.seat in
     let lists = c.in_ok-merged.emptied.1 in
-    omega (
-      arith,
-      lists.ok.0,
-      length-map lists.items (λ v. v.items),
-      c.in_ok-merged.ensures.letters.count,
-      c.requires.boxes,
-      c.args.ran.berths.ok.0,
-      length-map c.args.ran.berths.items seat_of,
-      ap length c.in_ok-berths.ensures.seats,
-      length-map c.in_ok-berths.berths.items seat_of,
-      c.in_ok-berths.berths.ok.0,
-    )
+    let many = same_length _ _ _ _ c.in_ok-berths.ensures.seats in
+    omega (arith, many, lists.ok.0, length-map lists.items (λ v. v.items), c.in_ok-merged.ensures.letters.count, c.requires.boxes, c.args.ran.berths.ok.0, c.in_ok-berths.berths.ok.0)
 
 pub returns-then-made-left-clause-limit : goal.returns-then-made-left-clause-limit
 returns-then-made-left-clause-limit g c =
