@@ -41,7 +41,6 @@ mod error;
 mod gate;
 mod gather;
 mod halves;
-mod kept;
 mod laws;
 mod outbox;
 mod plan;

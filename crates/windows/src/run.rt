@@ -10,7 +10,6 @@ ghost use Rattle.windows.specs.Refusals.{IsRefusal};
 ghost use Rattle.windows.specs.Sink.{TookTrace, TookFront, TookClosed, writes_of};
 
 use crate::gate::Gate;
-use crate::kept::Kept;
 use crate::plan::Plan;
 use crate::sink::Sink;
 use crate::stage::Stage;
@@ -91,10 +90,7 @@ pub fn run_windows<M: Process, G: Gate, R: Threads + Wait + Sync>(
         → IsTrace (setting_of scenario.now) whole → scenario.now.limit < length whole }
 {
     let _horizon = scenario.horizon();
-    let mut kept = Kept {
-        entries: Vec::new(alloc),
-    };
-    run_windows_into(rt, alloc, scenario, machines, plan, gate, &mut kept)?;
-    let Kept { entries } = kept;
+    let mut entries = Vec::new(alloc);
+    run_windows_into(rt, alloc, scenario, machines, plan, gate, &mut entries)?;
     Ok(Trace::new(entries))
 }

@@ -33,3 +33,23 @@ pub trait Sink {
     fn failures(&self) -> u64
         ensures { result ≡ failed self.now };
 }
+
+/// Keeps the entries of all parts, in one list.
+impl Sink for Vec<Entry> {
+    ghost use Rattle.std.specs.Prelude.{◌≡◌, ◌++◌, ℕ, take};
+
+    ghost took = { λ old part new. new.items ≡ old.items ++ part };
+
+    ghost took_front = { λ old part new. (n : ℕ) × (new.items ≡ old.items ++ take n part) };
+
+    ghost failed = { λ _. 0 };
+
+    fn part(&mut self, mut entries: Vec<Entry>) -> Result<(), RunError> {
+        self.append(&mut entries)?;
+        Ok(())
+    }
+
+    fn failures(&self) -> u64 {
+        0
+    }
+}

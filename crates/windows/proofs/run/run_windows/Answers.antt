@@ -4,21 +4,21 @@ use Rattle.trace_laws.specs.World.{IsTrace}
 use Rattle.trace_laws.proofs.Closed.{trace_rises}
 use Rattle.trace_laws.proofs.Sound.{setting_sound}
 use Rattle.window_laws.specs.Theorems.{end_to_end}
-use Rattle.windows.specs.declared.kept.Kept.{Kept}
+use Rattle.std.specs.Global.{Vec}
 use Rattle.windows.proofs.Handed.{kept_all}
 use Rattle.windows.proofs.run.run_windows.Goals as goal
 
-pub new-requires-2 : goal.new-requires-2
-new-requires-2 g c =
+pub new-requires : goal.new-requires
+new-requires g c =
     let t = c.in_ok-run_windows_into.ensures.trace in
-    let is : c.run_windows_into.new.sink.entries.items ≡ end_to_end t.parts = kept_all (λ (k : Kept). k.entries.items) _ (λ a b part h. h) _ _ t.parts t.took_all ∙ ap (λ es. es ++ end_to_end t.parts) c.new.ensures.items in
-    trace_rises (setting_of c.args.scenario.now) (setting_sound c.args.scenario.now c.horizon-horizon.ensures.ranges) c.run_windows_into.new.sink.entries.items (subst (IsTrace (setting_of c.args.scenario.now)) (sym is) t.is_trace)
+    let is : c.run_windows_into.new.sink.items ≡ end_to_end t.parts = kept_all (λ (v : Vec _). v.items) _ (λ a b part h. h) _ _ t.parts t.took_all ∙ ap (λ es. es ++ end_to_end t.parts) c.new-entries.ensures.items in
+    trace_rises (setting_of c.args.scenario.now) (setting_sound c.args.scenario.now c.horizon-horizon.ensures.ranges) c.run_windows_into.new.sink.items (subst (IsTrace (setting_of c.args.scenario.now)) (sym is) t.is_trace)
 
 pub returns-clause-trace : goal.returns-clause-trace
 returns-clause-trace g c =
     let t = c.in_ok-run_windows_into.ensures.trace in
-    let is : c.run_windows_into.new.sink.entries.items ≡ end_to_end t.parts = kept_all (λ (k : Kept). k.entries.items) _ (λ a b part h. h) _ _ t.parts t.took_all ∙ ap (λ es. es ++ end_to_end t.parts) c.new.ensures.items in
-    subst (IsTrace (setting_of c.args.scenario.now)) (sym (c.new-2.ensures ∙ is)) t.is_trace
+    let is : c.run_windows_into.new.sink.items ≡ end_to_end t.parts = kept_all (λ (v : Vec _). v.items) _ (λ a b part h. h) _ _ t.parts t.took_all ∙ ap (λ es. es ++ end_to_end t.parts) c.new-entries.ensures.items in
+    subst (IsTrace (setting_of c.args.scenario.now)) (sym (c.new.ensures ∙ is)) t.is_trace
 
 pub returns-clause-within : goal.returns-clause-within
-returns-clause-within g c = c.in_ok-run_windows_into.ensures.within c.new-2.result (returns-clause-trace g c)
+returns-clause-within g c = c.in_ok-run_windows_into.ensures.within c.new.result (returns-clause-trace g c)
