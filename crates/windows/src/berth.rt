@@ -103,12 +103,10 @@ impl<M: Process> Berth<M> {
             (made_in M.mind streams.now self.old.seat event.0 event.1).added slip.old slip.new) }
     {
         let (key, input) = event;
-        let own = key.receiver;
-        let pending = &mut self.pending;
         let mut outbox = Outbox {
             rt,
-            own,
-            pending,
+            own: key.receiver,
+            pending: &mut self.pending,
             mailboxes,
             slip: &mut *slip,
         };

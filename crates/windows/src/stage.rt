@@ -249,14 +249,9 @@ impl<'s, M: Process> Stage<'s, M> {
         ensures limit { IsErrOf result RunError.Limit
             → left < length (all_of (map (λ b. b.part.items) ran.berths.items)) }
     {
-        let Ran {
-            berths,
-            mailboxes,
-            slips,
-            workers,
-        } = ran;
-        let (berths, parts) = take_parts(alloc, berths)?;
-        let threads = threads_for(workers, &parts);
+        let (mailboxes, slips) = (ran.mailboxes, ran.slips);
+        let (berths, parts) = take_parts(alloc, ran.berths)?;
+        let threads = threads_for(ran.workers, &parts);
         let (merged, emptied) = empty_and_merge(rt, alloc, threads, parts, mailboxes, slips)?;
         let (mailboxes, letters) = emptied;
         let berths = deliver_all(alloc, berths, letters)?;
@@ -265,7 +260,7 @@ impl<'s, M: Process> Stage<'s, M> {
             return Err(RunError::Limit);
         }
         self.so_far += made;
-        self.workers = workers;
+        self.workers = ran.workers;
         self.start = next_start(&berths, self.scenario.horizon());
         self.berths = berths;
         self.mailboxes = Some(mailboxes);
