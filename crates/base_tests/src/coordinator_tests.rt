@@ -28,12 +28,12 @@ fn coordinates(
 #[test]
 fn memberships(rt: HostRuntime) {
     let first = Pid::after(0);
-    for (processes, wanted) in [(1, 1), (2, 2), (3, 2), (4, 3), (5, 3)] {
+    for &(processes, wanted) in &[(1, 1), (2, 2), (3, 2), (4, 3), (5, 3)] {
         let majority = Membership::new(first, processes).majority();
         same(&rt, &(processes, majority), &(processes, wanted));
     }
     let membership = Membership::new(first, 3);
-    for (round, wanted) in [(1, 2), (2, 3), (3, 1), (4, 2)] {
+    for &(round, wanted) in &[(1, 2), (2, 3), (3, 1), (4, 2)] {
         let coordinator = membership.coordinator(round).number();
         let came = (round, coordinator, membership.is_coordinator(round));
         same(&rt, &came, &(round, wanted, wanted == 1));

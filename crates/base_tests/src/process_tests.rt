@@ -43,7 +43,7 @@ fn sets_gain_and_lose_members(rt: HostRuntime) {
 fn processes_64_apart_are_different_members(rt: HostRuntime) {
     let one = Pid::after(0);
     let mut set = set_of(&rt, &[65, 129, 193]);
-    for (most, members) in [(64, 0), (65, 1), (192, 2), (65535, 3)] {
+    for &(most, members) in &[(64, 0), (65, 1), (192, 2), (65535, 3)] {
         let came = (set.contains(one), set.up_to(most).len());
         same(&rt, &came, &(false, members));
     }

@@ -124,7 +124,7 @@ fn largest_stamp_then_least_sender(rt: HostRuntime) {
     let first = Pid::after(0);
     let membership = Membership::new(first, 2);
     let mut estimates = Letters::new(rt.alloc());
-    for (round, stamp, wanted) in [(1, 0, 10), (2, 1, 20)] {
+    for &(round, stamp, wanted) in &[(1, 0, 10), (2, 1, 20)] {
         let early = Estimate {
             value: 10,
             stamp: 0,

@@ -6,7 +6,7 @@ use std::alloc::Global;
 use std::process::Abort;
 
 /// Changes of the crash file, and what they get.
-const CHANGES: [(&str, &str, &str); 4] = [
+const CHANGES: &[(&str, &str, &str)] = &[
     // a byte order mark, which may only come first, and a carriage return, after which a line feed must come
     ("version = 1", "\u{feff}version = 1", "accepted"),
     ("seed = 1", "\u{feff}seed = 1", "NotToml"),
@@ -21,7 +21,7 @@ const CHANGES: [(&str, &str, &str); 4] = [
 
 #[test]
 fn forms(rt: HostRuntime) {
-    for (old, new, name) in CHANGES {
+    for &(old, new, name) in CHANGES {
         let text = changed(&rt, rt.alloc(), CRASH_FILE, old, new);
         let came = answer(rt.alloc(), text.as_bytes());
         same(&rt, &(came, new), &(name, new));
@@ -34,7 +34,7 @@ const CRASH: &str = "[[crash]]\nprocess = 2\nat = 3\n";
 
 /// What stands in the place of a part of the crash file: a text, another one so many times, and a third as often; and
 /// what the file then gets.
-const REPEATED: [(&str, &str, &str, &str, usize, &str); 4] = [
+const REPEATED: &[(&str, &str, &str, &str, usize, &str)] = &[
     // arrays in one another, as deep as the reader goes and deeper
     ("seed = 1", "seed = ", "[", "]", 80, "WrongKind"),
     ("seed = 1", "seed = ", "[", "]", 81, "NotToml"),
@@ -76,7 +76,7 @@ fn repeated(
 #[test]
 fn depth_and_length(rt: HostRuntime) {
     let alloc = rt.alloc();
-    for (old, first, open, close, times, name) in REPEATED {
+    for &(old, first, open, close, times, name) in REPEATED {
         let text = repeated(&rt, alloc, old, first, (open, close), times);
         let came = answer(alloc, text.as_bytes());
         same(&rt, &(came, old, times), &(name, old, times));
