@@ -3,11 +3,13 @@ ghost use Rattle.std.specs.Prelude.{◌≡◌};
 
 use std::alloc::AllocError;
 use study::ReadError;
+use thiserror::Error;
 
 /// Why a sweep ends early.
-#[derive(Debug, Drop)]
+#[derive(Debug, Drop, Error)]
 pub enum SweepError {
     /// The scenario of a run is refused.
+    #[error("a run's scenario is refused")]
     Refused {
         /// The run's point, from 0.
         point: u64,
@@ -17,8 +19,10 @@ pub enum SweepError {
         reason: ReadError,
     },
     /// Memory was refused.
+    #[error("out of memory")]
     Memory,
     /// A put failed.
+    #[error("writing failed")]
     Write,
 }
 
@@ -33,9 +37,10 @@ impl From<AllocError> for SweepError {
 }
 
 /// Why there is no layout.
-#[derive(Debug, Drop)]
+#[derive(Debug, Drop, Error)]
 pub enum LayoutError {
     /// A word is no column's name.
+    #[error("no column {name}; the nearest is {nearest}")]
     Unknown {
         /// The word, the first that is none.
         name: String,
@@ -43,6 +48,7 @@ pub enum LayoutError {
         nearest: String,
     },
     /// Memory was refused.
+    #[error("out of memory")]
     Memory,
 }
 
