@@ -8,18 +8,12 @@ use process_api::PrintChoice;
 pub fn prints_trace(print: PrintChoice) -> bool
     ensures { result ≡ prints_trace print }
 {
-    match print {
-        PrintChoice::Trace | PrintChoice::Both => true,
-        PrintChoice::Report => false,
-    }
+    matches!(print, PrintChoice::Trace | PrintChoice::Both)
 }
 
 /// Whether the report is asked for.
 pub fn prints_report(print: PrintChoice) -> bool
     ensures { result ≡ prints_report print }
 {
-    match print {
-        PrintChoice::Report | PrintChoice::Both => true,
-        PrintChoice::Trace => false,
-    }
+    matches!(print, PrintChoice::Report | PrintChoice::Both)
 }

@@ -75,7 +75,6 @@ fn push_decisions(
 /// # Errors
 ///
 /// `AllocError` where memory was refused.
-#[tactic(auto, unfolding(crate::specs::Inside::Findings::found_text, crate::specs::ReportText::report_header))]
 pub(crate) fn text_of_report(
     alloc: Global,
     algorithm: AlgorithmKind,
