@@ -1,6 +1,8 @@
 //! Grids that there can't be.
 use crate::comparisons::same;
 use crate::traces::axes;
+use std::alloc::Global;
+use std::process::Abort;
 use study::Grid;
 
 /// The highest seed that a scenario may have.
@@ -15,7 +17,7 @@ const TOO_MANY: &str =
 
 /// What is varied, added up and dealt, the first seed and the last one, and what is answered: the first reason, where
 /// there are several.
-const REFUSED: [(&str, &str, &str, u64, u64, &str); 11] = [
+const REFUSED: &[(&str, &str, &str, u64, u64, &str)] = &[
     ("a=1", "a=1", "", 1, 0, "NoSeed"),
     ("a=1", "a=1", "", 1, HIGHEST_SEED + 1, "SeedTooHigh"),
     (MANY, "a=1", "a=2", 1, 1, "KeyTwice(\"a\")"),
@@ -50,16 +52,25 @@ const REFUSED: [(&str, &str, &str, u64, u64, &str); 11] = [
     ),
 ];
 
+/// Why there is no such grid.
+fn refusal(
+    rt: &impl Abort,
+    alloc: Global,
+    (vary, over, deal): (&str, &str, &str),
+    first: u64,
+    last: u64,
+) -> String {
+    let (vary, over) = (axes(rt, alloc, vary), axes(rt, alloc, over));
+    match Grid::new(alloc, vary, over, axes(rt, alloc, deal), first, last) {
+        Ok(_) => panic!(rt; "the grid is taken"),
+        Err(error) => format!(in alloc; "{error:?}").expect(rt, "no memory"),
+    }
+}
+
 #[test]
 fn refused(rt: HostRuntime) {
-    let alloc = rt.alloc();
-    for (vary, over, deal, first, last, wanted) in REFUSED {
-        let (vary, over) = (axes(&rt, alloc, vary), axes(&rt, alloc, over));
-        let deal = axes(&rt, alloc, deal);
-        let Err(error) = Grid::new(alloc, vary, over, deal, first, last) else {
-            panic!(rt; "the grid is taken");
-        };
-        let told = format!(in alloc; "{error:?}").expect(&rt, "no memory");
+    for &(vary, over, deal, first, last, wanted) in REFUSED {
+        let told = refusal(&rt, rt.alloc(), (vary, over, deal), first, last);
         same(&rt, &told.as_str(), &wanted);
     }
 }

@@ -7,7 +7,7 @@ use std::alloc::Global;
 use std::process::Abort;
 
 /// The kinds of letters, and their names.
-const KINDS: [(Kind, &str); 9] = [
+const KINDS: &[(Kind, &str)] = &[
     (Kind::Alive, "alive"),
     (Kind::Heartbeat, "heartbeat"),
     (Kind::Suspects, "suspects"),
@@ -53,7 +53,7 @@ const FATES: &str = "4294967295,3,256,1000000000000,alive,0,taken
 fn texts(rt: HostRuntime) {
     let alloc = rt.alloc();
     have_lines(&rt, alloc, &[], "");
-    for (kind, name) in KINDS {
+    for &(kind, name) in KINDS {
         let lost = letter(&rt, kind, None, LetterFate::Lost);
         let line = format!(in alloc; "4294967295,3,256,1000000000000,{name},,lost\n");
         have_lines(&rt, alloc, &[lost], &line.expect(&rt, "no memory"));

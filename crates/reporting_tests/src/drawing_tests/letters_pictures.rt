@@ -204,7 +204,7 @@ fn shapes(rt: HostRuntime) {
     let three = Drawn::new(&rt, alloc, (3, SHARE), NOTED, SENT);
     let second = [pid(&rt, 2)];
     let (all, second) = (&second[..0], &second[..]);
-    for (run, of, (from, until), shapes) in [
+    for &(run, of, (from, until), shapes) in &[
         (&two, all, (0, 10), SHAPES),
         (&two, second, (4, 5), TICK_4),
         (&three, all, (4, 9), MARKED),

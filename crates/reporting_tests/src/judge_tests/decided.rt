@@ -50,7 +50,7 @@ const NO_VALUE: &str = "1,2,2,3,vector,2,0,round:2
 fn outcomes(rt: HostRuntime) {
     let alloc = rt.alloc();
     let (ten, none) = (Answer::Value(10), (Answer::None, None, 0));
-    for (horizon, rows, first, second, third) in [
+    for &(horizon, rows, first, second, third) in &[
         (
             20,
             COORDINATOR,

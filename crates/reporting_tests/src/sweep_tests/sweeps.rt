@@ -52,7 +52,7 @@ fn ends_well<R: Threads + Sync + Clock + Abort>(
 fn each_put_fails(rt: HostRuntime) {
     let alloc = rt.alloc();
     let (seven, two) = (seven_points(&rt, alloc), two_points(&rt, alloc));
-    for (study, most, puts) in [(&seven, usize::MAX, Some(8)), (&two, 1, None)] {
+    for &(study, most, puts) in &[(&seven, usize::MAX, Some(8)), (&two, 1, None)] {
         let whole = swept(&rt, alloc, study, 1);
         let puts = puts.unwrap_or(whole.bytes().len() as u64);
         for before in 0..puts {
