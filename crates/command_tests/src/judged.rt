@@ -1,25 +1,25 @@
 //! Traces of whole runs, and their outcomes.
-ghost use Rattle.std.specs.Prelude.{◌≡◌, IfOk};
+ghost use Rattle.std.specs.Prelude.{◌≡◌};
 ghost use Rattle.trace_laws.specs.ScenarioSetting.{setting_of};
 ghost use Rattle.trace_laws.specs.World.{IsTrace};
 
 use crate::files::COORDINATORS;
-use crate::runs::same;
+use crate::runs::{NO_MEMORY, NO_RUN, same, scenario_of};
 use event_list::{law_only_history, run_list};
 use judges::{Answer, Outcome, decisions};
 use machines::machines_of;
 use process_api::Trace;
-use scenario::{Scenario, read_scenario};
+use scenario::Scenario;
 use std::alloc::Global;
 use std::process::Abort;
-use std::test::Fail;
 
 /// The trace of a scenario, over machines that are made here.
-pub fn trace_of(alloc: Global, scenario: &Scenario) -> Result<Trace, Fail>
-    ensures { IfOk result (λ trace. IsTrace (setting_of scenario.now) trace) }
+pub fn trace_of<R: Abort>(rt: &R, alloc: Global, scenario: &Scenario) -> Trace
+    ensures { IsTrace (setting_of scenario.now) result }
 {
-    let machines = machines_of(alloc, scenario)?;
-    Ok(run_list(alloc, scenario, machines)?)
+    let machines = machines_of(alloc, scenario).expect(rt, NO_MEMORY);
+    let trace = run_list(alloc, scenario, machines);
+    trace.expect(rt, NO_RUN)
 }
 
 /// What became of a process: what it decided, at which tick, and its greatest round.
@@ -47,28 +47,28 @@ pub fn are_outcomes<R: Abort>(rt: &R, outcomes: &[Outcome], wanted: &[Became]) {
 }
 
 /// The outcomes of a file's run, of process 1 first.
-pub fn outcomes_of(alloc: Global, file: &str) -> Result<Vec<Outcome>, Fail> {
-    let scenario = read_scenario(alloc, file.as_bytes())?;
-    let trace = trace_of(alloc, &scenario)?;
-    Ok(decisions(alloc, &scenario, &trace)?)
+pub fn outcomes_of<R: Abort>(rt: &R, alloc: Global, file: &str) -> Vec<Outcome> {
+    let scenario = scenario_of(rt, alloc, file);
+    let trace = trace_of(rt, alloc, &scenario);
+    let outcomes = decisions(alloc, &scenario, &trace);
+    outcomes.expect(rt, NO_MEMORY)
 }
 
 /// Two runs of a scenario: by the law of its only history they are one trace.
-fn run_twice(alloc: Global, scenario: &Scenario) -> Result<(Trace, Trace), Fail>
-    ensures { IfOk result (λ both. both.0 ≡ both.1) }
+fn run_twice<R: Abort>(rt: &R, alloc: Global, scenario: &Scenario) -> (Trace, Trace)
+    ensures { result.0 ≡ result.1 }
 {
-    let first = trace_of(alloc, scenario)?;
-    let second = trace_of(alloc, scenario)?;
+    let first = trace_of(rt, alloc, scenario);
+    let second = trace_of(rt, alloc, scenario);
     law_only_history(scenario);
-    Ok((first, second))
+    (first, second)
 }
 
 #[test]
-fn one_trace(rt: HostRuntime) -> Result<(), Fail> {
+fn one_trace(rt: HostRuntime) {
     let alloc = rt.alloc();
-    let scenario = read_scenario(alloc, COORDINATORS.as_bytes())?;
-    let (first, second) = run_twice(alloc, &scenario)?;
+    let scenario = scenario_of(&rt, alloc, COORDINATORS);
+    let (first, second) = run_twice(&rt, alloc, &scenario);
     let came = (first.entries().len(), second.entries().len());
     same(&rt, &came, &(34, 34));
-    Ok(())
 }

@@ -1,7 +1,7 @@
 //! Outlets that fail.
 
 use crate::files::{ONE_CRASH, ONE_PROCESS};
-use crate::runs::{printed, same, served};
+use crate::runs::{NO_MEMORY, printed, same, served};
 use bench_commands::fault::Fault as BenchFault;
 use qos_report::{FuseOutlet, MemoryOutlet, Outlet, StreamOutlet, put_all};
 use shell::finish;
@@ -11,7 +11,6 @@ use std::marker::Sync;
 use std::process::{Abort, ExitCode};
 use std::rt::Files;
 use std::sync::Wait;
-use std::test::Fail;
 use std::thread::Threads;
 use std::time::Clock;
 use study_commands::fault::Fault as StudyFault;
@@ -56,32 +55,30 @@ fn write_failed(line: &str) -> &'static [u8] {
 
 /// An outlet that takes 10 bytes and then fails holds the first 10 of the text, whatever the command.
 #[test]
-fn ten_bytes(rt: HostRuntime) -> Result<(), Fail> {
+fn ten_bytes(rt: HostRuntime) {
     let alloc = rt.alloc();
     for (line, wanted) in &TEN_BYTES {
         let mut outlet = FuseOutlet::new(alloc, 10, 1);
         let mut faults = MemoryOutlet::new(alloc);
         let mut input = ONE_CRASH.as_bytes();
-        let status = served(&rt, alloc, line, &mut input, &mut outlet, &mut faults)?;
+        let status = served(&rt, alloc, line, &mut input, &mut outlet, &mut faults);
         let came = (status, outlet.failures(), outlet.bytes(), faults.bytes());
         let want = (4, 1, wanted.as_bytes(), write_failed(line));
         same(&rt, &came, &want);
     }
-    Ok(())
 }
 
 /// A writer that is full ends a run in the same way.
 #[test]
-fn full_writer(rt: HostRuntime) -> Result<(), Fail> {
+fn full_writer(rt: HostRuntime) {
     let alloc = rt.alloc();
     let mut room = [0u8; 10];
     let mut outlet = StreamOutlet::new(room.as_mut_slice());
     let mut faults = MemoryOutlet::new(alloc);
     let (line, mut input) = ("fdbench list - --print trace", ONE_PROCESS.as_bytes());
-    let status = served(&rt, alloc, line, &mut input, &mut outlet, &mut faults)?;
+    let status = served(&rt, alloc, line, &mut input, &mut outlet, &mut faults);
     same(&rt, &(status, outlet.failures()), &(4, 1));
     same(&rt, &room.as_slice(), &b"tick,recei".as_slice());
-    Ok(())
 }
 
 /// Lines, and in how many puts each writes what it prints of one crash. By the list a text is one piece; by windows of
@@ -115,11 +112,11 @@ fn ends<R: Files + Threads + Wait + Sync + Clock + Abort>(
     times: u64,
     whole: &[u8],
     is_done: bool,
-) -> Result<(), Fail> {
+) {
     let mut outlet = FuseOutlet::new(alloc, most, times);
     let mut faults = MemoryOutlet::new(alloc);
     let mut input = ONE_CRASH.as_bytes();
-    let status = served(rt, alloc, line, &mut input, &mut outlet, &mut faults)?;
+    let status = served(rt, alloc, line, &mut input, &mut outlet, &mut faults);
     let bytes = outlet.bytes();
     let is_front = whole.starts_with(bytes) && (bytes.len() == whole.len() || !is_done);
     let came = (line, status, outlet.failures(), faults.bytes(), is_front);
@@ -129,46 +126,43 @@ fn ends<R: Files + Threads + Wait + Sync + Clock + Abort>(
         (line, 4, 1, write_failed(line), true)
     };
     same(rt, &came, &want);
-    Ok(())
 }
 
 /// An outlet that fails at a put, be it the first or a later one: a run fails at each of the puts that it makes, and
 /// ends well where none fails. One that takes a byte at a time gets every byte.
 #[test]
-fn each_write_fails(rt: HostRuntime) -> Result<(), Fail> {
+fn each_write_fails(rt: HostRuntime) {
     let alloc = rt.alloc();
     for (line, puts, each) in &LINES {
-        let want = printed(&rt, alloc, line, ONE_CRASH)?;
+        let want = printed(&rt, alloc, line, ONE_CRASH);
         let whole = want.as_bytes();
         let count = whole.len() as u64;
         let first = if *each { 0 } else { count };
         for (most, first, puts) in [(usize::MAX, 0, *puts), (1, first, count)] {
             for before in first..=puts {
-                ends(&rt, alloc, line, most, before, whole, before == puts)?;
+                ends(&rt, alloc, line, most, before, whole, before == puts);
             }
         }
     }
-    Ok(())
 }
 
 /// `check` and help end in the same way where there is no room for what they write.
 #[test]
-fn no_room(rt: HostRuntime) -> Result<(), Fail> {
+fn no_room(rt: HostRuntime) {
     let alloc = rt.alloc();
     for line in ["fdbench check -", "fdbench list --help"] {
         let mut room = [0u8; 1];
         let mut outlet = StreamOutlet::new(room.as_mut_slice());
         let mut faults = MemoryOutlet::new(alloc);
         let mut input = ONE_CRASH.as_bytes();
-        let status = served(&rt, alloc, line, &mut input, &mut outlet, &mut faults)?;
+        let status = served(&rt, alloc, line, &mut input, &mut outlet, &mut faults);
         same(&rt, &(status, faults.bytes()), &(4, write_failed(line)));
     }
-    Ok(())
 }
 
 /// Faults that cannot be told change no status.
 #[test]
-fn nobody_is_told(rt: HostRuntime) -> Result<(), Fail> {
+fn nobody_is_told(rt: HostRuntime) {
     let alloc = rt.alloc();
     for (path, want) in &[
         ("no_such_folder/scenario.toml", 1),
@@ -178,17 +172,16 @@ fn nobody_is_told(rt: HostRuntime) -> Result<(), Fail> {
         let mut room = [0u8; 5];
         let mut outlet = MemoryOutlet::new(alloc);
         let mut faults = StreamOutlet::new(room.as_mut_slice());
-        let line = format!(in alloc; "fdbench check {path}")?;
+        let line = format!(in alloc; "fdbench check {path}").expect(&rt, NO_MEMORY);
         let mut input = b"".as_slice();
-        let status = served(&rt, alloc, &line, &mut input, &mut outlet, &mut faults)?;
+        let status = served(&rt, alloc, &line, &mut input, &mut outlet, &mut faults);
         same(&rt, &(status, faults.failures()), &(*want, 1));
     }
-    Ok(())
 }
 
 /// A flush that fails turns status 0 into 4, with the line of a failed write; another status stays.
 #[test]
-fn flushes(rt: HostRuntime) -> Result<(), Fail> {
+fn flushes(rt: HostRuntime) {
     let alloc = rt.alloc();
     for (status, want) in [(0, 4u8), (1, 1), (4, 4)] {
         let mut outlet = StreamOutlet::new(Stuck);
@@ -210,5 +203,4 @@ fn flushes(rt: HostRuntime) -> Result<(), Fail> {
         let code = finish::<BenchFault, _, _>(status, &mut outlet, &mut faults);
         same(&rt, &code, &ExitCode::from(status));
     }
-    Ok(())
 }

@@ -5,16 +5,16 @@ ghost use Rattle.scenario_record.specs.Record.{opening_mind};
 ghost use Rattle.windows.specs.Plan.{IsPlanFor};
 
 use crate::files::ONE_CRASH;
-use crate::runs::{changed, printed, same};
+use crate::runs::{NO_MEMORY, NO_RUN, changed, printed, same, scenario_of};
 use machines::Machine;
 use process_api::{Action, Pid, Process, StepInput};
 use qos_report::{MemoryOutlet, Outlet, PrintChoice, bench_list, bench_windows, write_trace};
-use scenario::{Scenario, read_scenario};
+use scenario::Scenario;
 use std::alloc::{AllocError, Global};
 use std::marker::Sync;
+use std::process::Abort;
 use std::sync::atomic::{AtomicU64, AtomicUsize, Ordering};
 use std::sync::{Arc, Wait};
-use std::test::Fail;
 use std::thread::{self, Threads};
 use windows::{Gate, Plan, run_windows};
 
@@ -139,38 +139,39 @@ enum Start {
 }
 
 /// The text of the trace that a run of these machines answers.
-fn text_of_trace<R: Threads + Wait + Sync>(
+fn text_of_trace<R: Abort + Threads + Wait + Sync>(
     rt: &R,
     alloc: Global,
     scenario: &Scenario,
     machines: Vec<Box<dyn Process>>,
     plan: &Plan,
     gate: &Holding,
-) -> Result<MemoryOutlet, Fail>
+) -> MemoryOutlet
     requires machines { map mind machines.items ≡ map (opening_mind scenario.now) (numbers_to scenario.now.processes) }
     requires plan { IsPlanFor scenario.now plan.now }
 {
-    let trace = run_windows(rt, alloc, scenario, machines, plan, gate)?;
+    let trace = run_windows(rt, alloc, scenario, machines, plan, gate);
     let mut outlet = MemoryOutlet::new(alloc);
-    write_trace(alloc, &trace, &mut outlet)?;
-    Ok(outlet)
+    let written = write_trace(alloc, &trace.expect(rt, NO_RUN), &mut outlet);
+    written.expect(rt, NO_RUN);
+    outlet
 }
 
 /// The text that a run of these machines writes.
-fn text_written<R: Threads + Wait + Sync>(
+fn text_written<R: Abort + Threads + Wait + Sync>(
     rt: &R,
     alloc: Global,
     scenario: &Scenario,
     machines: Vec<Box<dyn Process>>,
     plan: &Plan,
     gate: &Holding,
-) -> Result<MemoryOutlet, Fail>
+) -> MemoryOutlet
     requires machines { map mind machines.items ≡ map (opening_mind scenario.now) (numbers_to scenario.now.processes) }
     requires plan { IsPlanFor scenario.now plan.now }
 {
     let print = PrintChoice::Trace;
     let mut outlet = MemoryOutlet::new(alloc);
-    bench_windows(
+    let ran = bench_windows(
         rt,
         alloc,
         scenario,
@@ -179,21 +180,24 @@ fn text_written<R: Threads + Wait + Sync>(
         gate,
         print,
         &mut outlet,
-    )?;
-    Ok(outlet)
+    );
+    ran.expect(rt, NO_RUN);
+    outlet
 }
 
 /// The text that a run of these machines by the list writes.
-fn text_listed(
+fn text_listed<R: Abort>(
+    rt: &R,
     alloc: Global,
     scenario: &Scenario,
     machines: Vec<Box<dyn Process>>,
-) -> Result<MemoryOutlet, Fail>
+) -> MemoryOutlet
     requires { map mind machines.items ≡ map (opening_mind scenario.now) (numbers_to scenario.now.processes) }
 {
     let mut outlet = MemoryOutlet::new(alloc);
-    bench_list(alloc, scenario, machines, PrintChoice::Trace, &mut outlet)?;
-    Ok(outlet)
+    let ran = bench_list(alloc, scenario, machines, PrintChoice::Trace, &mut outlet);
+    ran.expect(rt, NO_RUN);
+    outlet
 }
 
 /// A machine that counts its inputs, in a box.
@@ -224,17 +228,17 @@ fn counted_machines(
 }
 
 /// The trace's text of a run of machines that the gate counts: by the list, or by two workers and windows of 2 ticks.
-fn text_of<R: Threads + Wait + Sync>(
+fn text_of<R: Abort + Threads + Wait + Sync>(
     rt: &R,
     alloc: Global,
     scenario: &Scenario,
     gate: &Holding,
     start: Start,
-) -> Result<MemoryOutlet, Fail> {
-    let plan = Plan::new(scenario, 2, 2)?;
-    let machines = counted_machines(alloc, scenario, gate)?;
+) -> MemoryOutlet {
+    let plan = Plan::new(scenario, 2, 2).expect(rt, NO_RUN);
+    let machines = counted_machines(alloc, scenario, gate).expect(rt, NO_MEMORY);
     match start {
-        Start::Listed => text_listed(alloc, scenario, machines),
+        Start::Listed => text_listed(rt, alloc, scenario, machines),
         Start::Trace => text_of_trace(rt, alloc, scenario, machines, &plan, gate),
         Start::Texts => text_written(rt, alloc, scenario, machines, &plan, gate),
     }
@@ -244,18 +248,18 @@ fn text_of<R: Threads + Wait + Sync>(
 /// them wait for the other process. In each window worker 1 makes one call, and worker 2 the other. The text is the one
 /// that the list gives, also of these machines.
 #[test]
-fn overlaps(rt: HostRuntime) -> Result<(), Fail> {
+fn overlaps(rt: HostRuntime) {
     let alloc = rt.alloc();
-    let file = changed(alloc, ONE_CRASH, "at = 3", "at = 10")?;
-    let listed = printed(&rt, alloc, "fdbench list - --print trace", &file)?;
-    let scenario = read_scenario(alloc, file.as_bytes())?;
+    let file = changed(&rt, alloc, ONE_CRASH, "at = 3", "at = 10");
+    let listed = printed(&rt, alloc, "fdbench list - --print trace", &file);
+    let scenario = scenario_of(&rt, alloc, &file);
     for (start, calls) in [
         (Start::Listed, (0, 0, 0)),
         (Start::Trace, (10, 10, 15)),
         (Start::Texts, (10, 10, 15)),
     ] {
-        let gate = Holding::new(alloc)?;
-        let outlet = text_of(&rt, alloc, &scenario, &gate, start)?;
+        let gate = Holding::new(alloc).expect(&rt, NO_MEMORY);
+        let outlet = text_of(&rt, alloc, &scenario, &gate, start);
         let (count, kept, workers) = calls;
         same(
             &rt,
@@ -264,5 +268,4 @@ fn overlaps(rt: HostRuntime) -> Result<(), Fail> {
         );
         same(&rt, &outlet.bytes(), &listed.as_bytes());
     }
-    Ok(())
 }

@@ -1,9 +1,8 @@
 //! Files by their paths.
 
 use crate::files::ONE_CRASH;
-use crate::runs::{printed, same};
+use crate::runs::{NO_MEMORY, printed, same};
 use std::fs;
-use std::test::Fail;
 
 /// What the programs are told to do with a path, before it and after it.
 const LINES: [(&str, &str); 5] = [
@@ -16,15 +15,15 @@ const LINES: [(&str, &str); 5] = [
 
 /// Of a file that lies in the folder they print what they print of standard input with its bytes.
 #[test]
-fn a_file_in_the_folder(rt: HostRuntime) -> Result<(), Fail> {
+fn a_file_in_the_folder(rt: HostRuntime) {
     let alloc = rt.alloc();
-    fs::write(&rt, "one_crash.toml", ONE_CRASH)?;
+    fs::write(&rt, "one_crash.toml", ONE_CRASH).expect(&rt, "no file");
     for (begin, end) in &LINES {
-        let by_path = format!(in alloc; "{begin}one_crash.toml{end}")?;
-        let by_input = format!(in alloc; "{begin}-{end}")?;
-        let came = printed(&rt, alloc, &by_path, "")?;
-        let want = printed(&rt, alloc, &by_input, ONE_CRASH)?;
+        let by_path = format!(in alloc; "{begin}one_crash.toml{end}");
+        let by_input = format!(in alloc; "{begin}-{end}");
+        let came = printed(&rt, alloc, &by_path.expect(&rt, NO_MEMORY), "");
+        let want = printed(&rt, alloc, &by_input.expect(&rt, NO_MEMORY), ONE_CRASH);
         same(&rt, &came.as_str(), &want.as_str());
     }
-    Ok(fs::remove_file(&rt, "one_crash.toml")?)
+    fs::remove_file(&rt, "one_crash.toml").expect(&rt, "no file");
 }

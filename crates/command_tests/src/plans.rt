@@ -13,7 +13,6 @@ use std::process::Abort;
 use std::rt::Files;
 use std::sync::Wait;
 use std::sync::atomic::{AtomicU16, AtomicU64, Ordering};
-use std::test::Fail;
 use std::thread::{self, Threads};
 use windows::Gate;
 
@@ -108,9 +107,9 @@ fn run(workers: u64, window: u64, print: PrintChoice) -> Order<'static> {
 /// windows, by windows of 1 tick in each of seven: the first line goes out before the first, the rows of each after it
 /// and before the next, and the report in the end. A comparison runs by windows once.
 #[test]
-fn as_windows_close(rt: HostRuntime) -> Result<(), Fail> {
+fn as_windows_close(rt: HostRuntime) {
     let alloc = rt.alloc();
-    let file = changed(alloc, ONE_CRASH, "at = 3", "at = 10")?;
+    let file = changed(&rt, alloc, ONE_CRASH, "at = 3", "at = 10");
     let (path, both, trace) = ("-", PrintChoice::Both, PrintChoice::Trace);
     let (workers, window) = (2, 2);
     let compare = Order::Compare {
@@ -129,29 +128,27 @@ fn as_windows_close(rt: HostRuntime) -> Result<(), Fail> {
     ] {
         goes(&rt, alloc, &file, order, workers, puts);
     }
-    Ok(())
 }
 
 /// Of five processes each of at most five workers takes one in the first window, and holds it until all have.
 #[test]
-fn workers_that_are_asked_for(rt: HostRuntime) -> Result<(), Fail> {
+fn workers_that_are_asked_for(rt: HostRuntime) {
     let alloc = rt.alloc();
-    let file = changed(alloc, FIVE, "horizon = 200", "horizon = 1")?;
+    let file = changed(&rt, alloc, FIVE, "horizon = 200", "horizon = 1");
     for (asked, workers) in [(1, 1), (2, 2), (3, 3), (4, 4), (5, 5), (64, 5)] {
         let order = run(asked, 2, PrintChoice::Trace);
         goes(&rt, alloc, &file, order, workers, &[0, 5]);
     }
-    Ok(())
 }
 
 /// Rows go out as they get long, though their window has more: the 4,032 letters that are due in the second window have
 /// more than 65,536 bytes of rows.
 #[test]
-fn long_rows(rt: HostRuntime) -> Result<(), Fail> {
+fn long_rows(rt: HostRuntime) {
     let alloc = rt.alloc();
-    let many = changed(alloc, ONE_PROCESS, "processes = 1\n", "processes = 64\n")?;
-    let file = changed(alloc, &many, "horizon = 1\n", "horizon = 2\n")?;
+    let (one, many) = ("processes = 1\n", "processes = 64\n");
+    let many = changed(&rt, alloc, ONE_PROCESS, one, many);
+    let file = changed(&rt, alloc, &many, "horizon = 1\n", "horizon = 2\n");
     let order = run(2, 1, PrintChoice::Trace);
     goes(&rt, alloc, &file, order, 2, &[0, 64, 128, 128]);
-    Ok(())
 }

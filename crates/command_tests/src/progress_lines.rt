@@ -1,9 +1,8 @@
 //! The line of progress, by a clock that the test sets, on a terminal in memory.
 
-use crate::runs::same;
+use crate::runs::{same, text_of};
 use std::cell::Cell;
 use std::io::{self, Write};
-use std::test::Fail;
 use std::time::{Clock, Duration};
 use study_commands::progress_line::ProgressLine;
 use sweep::{Pass, Standing, Watcher};
@@ -65,7 +64,7 @@ const TIMES: [(Option<u64>, u64); 8] = [
 /// seconds 250 runs are, so 96 seconds; after 10 hours 300, so 12,000 seconds; 100 seconds later one is left, so 90.
 /// What comes less than 200 milliseconds after a line isn't drawn. A shorter line is filled up with blanks.
 #[test]
-fn lines(rt: HostRuntime) -> Result<(), Fail> {
+fn lines(rt: HostRuntime) {
     let alloc = rt.alloc();
     let clock = Hand(Cell::new(None));
     let mut screen = Vec::new(alloc);
@@ -84,8 +83,7 @@ fn lines(rt: HostRuntime) -> Result<(), Fail> {
         \r3 of 4 points, 3 h 20 min left\
         \r3 of 4 points, 1 min left     \
         \r                              \r";
-    same(&rt, &std::str::from_utf8(&screen)?, &want);
-    Ok(())
+    same(&rt, &text_of(&rt, &screen), &want);
 }
 
 /// What the clock shows, and how many runs are read.
@@ -94,7 +92,7 @@ const READ: [(u64, u64); 2] = [(1_000, 0), (11_000, 100)];
 /// Before its runs a sweep reads their scenarios: of 400 in 10 seconds 100, so 30 seconds are left. The time of the runs
 /// begins anew.
 #[test]
-fn reading(rt: HostRuntime) -> Result<(), Fail> {
+fn reading(rt: HostRuntime) {
     let alloc = rt.alloc();
     let clock = Hand(Cell::new(Some(1_000)));
     let mut screen = Vec::new(alloc);
@@ -117,13 +115,12 @@ fn reading(rt: HostRuntime) -> Result<(), Fail> {
         \r100 of 400 runs read, 30 s left\
         \r0 of 4 points                  \
         \r2 of 4 points, 10 s left       ";
-    same(&rt, &std::str::from_utf8(&screen)?, &want);
-    Ok(())
+    same(&rt, &text_of(&rt, &screen), &want);
 }
 
 /// Where rows go to a terminal too, the line makes way for them, and is put back at once.
 #[test]
-fn makes_way(rt: HostRuntime) -> Result<(), Fail> {
+fn makes_way(rt: HostRuntime) {
     let alloc = rt.alloc();
     let clock = Hand(Cell::new(Some(0)));
     let mut screen = Vec::new(alloc);
@@ -136,13 +133,12 @@ fn makes_way(rt: HostRuntime) -> Result<(), Fail> {
     line.hear(standing(200));
     drop(line);
     let want = "\r0 of 4 points\r             \r\r1 of 4 points, 0 s left";
-    same(&rt, &std::str::from_utf8(&screen)?, &want);
-    Ok(())
+    same(&rt, &text_of(&rt, &screen), &want);
 }
 
 /// With no terminal nothing is shown, and one that can't be written to stops nobody.
 #[test]
-fn no_line(rt: HostRuntime) -> Result<(), Fail> {
+fn no_line(rt: HostRuntime) {
     let alloc = rt.alloc();
     let clock = Hand(Cell::new(Some(0)));
     let mut file = Vec::new(alloc);
@@ -155,5 +151,4 @@ fn no_line(rt: HostRuntime) -> Result<(), Fail> {
     let mut broken = ProgressLine::new(&clock, alloc, Broken, true, true);
     broken.hear(standing(0));
     broken.hide();
-    Ok(())
 }

@@ -1,7 +1,7 @@
 //! Files that are too long, and inputs that can't be read.
 
 use crate::files::ONE_CRASH;
-use crate::runs::{same, served};
+use crate::runs::{NO_MEMORY, same, served};
 use qos_report::MemoryOutlet;
 use std::alloc::Global;
 use std::io::{self, ErrorKind, Read};
@@ -9,7 +9,6 @@ use std::marker::Sync;
 use std::process::Abort;
 use std::rt::Files;
 use std::sync::Wait;
-use std::test::Fail;
 use std::thread::Threads;
 use std::time::Clock;
 
@@ -25,7 +24,7 @@ fn checks<R: Files + Threads + Wait + Sync + Clock + Abort, I: Read>(
     alloc: Global,
     input: &mut I,
     wanted: (u8, &[u8], &[u8]),
-) -> Result<(), Fail> {
+) {
     let mut outlet = MemoryOutlet::new(alloc);
     let mut faults = MemoryOutlet::new(alloc);
     let status = served(
@@ -35,27 +34,26 @@ fn checks<R: Files + Threads + Wait + Sync + Clock + Abort, I: Read>(
         input,
         &mut outlet,
         &mut faults,
-    )?;
+    );
     same(rt, &(status, outlet.bytes(), faults.bytes()), &wanted);
-    Ok(())
 }
 
 /// A comment that fills the file of one crash up to the most bytes that are read is nothing to the scenario. One byte
 /// more is too much.
 #[test]
-fn long_files(rt: HostRuntime) -> Result<(), Fail> {
+fn long_files(rt: HostRuntime) {
     let alloc = rt.alloc();
     for (length, want) in [
         (8_388_608, (0, b"ok\n".as_slice(), b"".as_slice())),
         (8_388_609, (1, b"".as_slice(), TOO_LONG)),
     ] {
-        let mut file = Vec::from_slice(alloc, ONE_CRASH.as_bytes())?;
-        file.push(b'#')?;
-        file.resize(length, b'.')?;
+        let file = Vec::from_slice(alloc, ONE_CRASH.as_bytes());
+        let mut file = file.expect(&rt, NO_MEMORY);
+        file.push(b'#').expect(&rt, NO_MEMORY);
+        file.resize(length, b'.').expect(&rt, NO_MEMORY);
         let mut input = file.as_slice();
-        checks(&rt, alloc, &mut input, want)?;
+        checks(&rt, alloc, &mut input, want);
     }
-    Ok(())
 }
 
 /// A reader of so many bytes `#` that fails once after them, with an error of this kind, and then is at its end.
@@ -82,7 +80,7 @@ impl Read for Failing {
 /// A read that fails is the last, of whatever kind: one that was interrupted, or one for want of memory, too. It may
 /// come after a part of a file. Of an input without end no more is read than shows that it is too long.
 #[test]
-fn failing_reads(rt: HostRuntime) -> Result<(), Fail> {
+fn failing_reads(rt: HostRuntime) {
     for (left, kind, line) in [
         (0, ErrorKind::Interrupted, UNREADABLE),
         (0, ErrorKind::OutOfMemory, UNREADABLE),
@@ -97,8 +95,7 @@ fn failing_reads(rt: HostRuntime) -> Result<(), Fail> {
             has_failed: false,
         };
         let want = (1, b"".as_slice(), line);
-        checks(&rt, rt.alloc(), &mut input, want)?;
+        checks(&rt, rt.alloc(), &mut input, want);
         same(&rt, &input.left, &0);
     }
-    Ok(())
 }

@@ -1,9 +1,8 @@
 //! The rows of a study beside reports of its runs.
 
-use crate::runs::{printed, same};
+use crate::runs::{NO_MEMORY, printed, same};
 use std::alloc::{AllocError, Global};
 use std::process::Abort;
-use std::test::Fail;
 
 /// How a column comes from the numbers that a measure has in the reports of a point's five runs.
 #[derive(Clone, Copy)]
@@ -279,22 +278,21 @@ fn is_sum<R: Abort>(
     row: &str,
     layer: &str,
     reports: &[String],
-) -> Result<(), Fail> {
+) {
     let mut names = header.split(',').skip(3);
     let mut fields = row.split(',').skip(3);
     let came = (row, names.next(), fields.next());
     same(rt, &came, &(row, Some("layer"), Some(layer)));
     for (column, measure, how) in &COLUMNS {
-        let totals = Totals::new(alloc, reports, layer, measure)?;
+        let totals = Totals::new(alloc, reports, layer, measure).expect(rt, NO_MEMORY);
         let text = match totals.column(*how) {
-            Some(number) => format!(in alloc; "{number}")?,
+            Some(number) => format!(in alloc; "{number}").expect(rt, NO_MEMORY),
             None => String::new(alloc),
         };
         let came = (row, names.next(), fields.next());
         same(rt, &came, &(row, Some(*column), Some(text.as_str())));
     }
     same(rt, &(row, names.next(), fields.next()), &(row, None, None));
-    Ok(())
 }
 
 /// The names of the columns that are asked for.
@@ -310,25 +308,25 @@ fn names(alloc: Global) -> Result<String, AllocError> {
 /// Twelve points of five seeds each, with both algorithms and two layers: a row is what the reports add up to that
 /// `fdbench list` prints of the files of its runs.
 #[test]
-fn rows_are_reports_added_up(rt: HostRuntime) -> Result<(), Fail> {
+fn rows_are_reports_added_up(rt: HostRuntime) {
     let alloc = rt.alloc();
-    let columns = names(alloc)?;
-    let line = format!(in alloc; "fdstudy sweep - {GRID} --columns {columns}")?;
-    let table = printed(&rt, alloc, &line, SHARED)?;
+    let columns = names(alloc).expect(&rt, NO_MEMORY);
+    let line = format!(in alloc; "fdstudy sweep - {GRID} --columns {columns}");
+    let table = printed(&rt, alloc, &line.expect(&rt, NO_MEMORY), SHARED);
     let mut rows = table.lines();
     let header = rows.next().unwrap_or("");
     for point in 1..=12u8 {
         let mut reports = Vec::new(alloc);
         for run in 1..=5u8 {
-            let line = format!(in alloc; "fdstudy show - {GRID} --point {point} --run {run}")?;
-            let shown = printed(&rt, alloc, &line, SHARED)?;
-            reports.push(printed(&rt, alloc, "fdbench list -", &shown)?)?;
+            let line = format!(in alloc; "fdstudy show - {GRID} --point {point} --run {run}");
+            let shown = printed(&rt, alloc, &line.expect(&rt, NO_MEMORY), SHARED);
+            let report = printed(&rt, alloc, "fdbench list -", &shown);
+            reports.push(report).expect(&rt, NO_MEMORY);
         }
         for layer in ["1", "2"] {
             let row = rows.next().unwrap_or("");
-            is_sum(&rt, alloc, header, row, layer, &reports)?;
+            is_sum(&rt, alloc, header, row, layer, &reports);
         }
     }
     assert!(rt; rows.next().is_none());
-    Ok(())
 }

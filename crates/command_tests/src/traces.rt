@@ -2,21 +2,20 @@
 
 use crate::files::{COORDINATORS, ONE_CRASH, ONE_PROCESS};
 use crate::judged::{ALL_DECIDE, NOTHING, are_outcomes, trace_of};
-use crate::runs::same;
+use crate::runs::{NO_RUN, same, scenario_of};
 use bench_commands::bench::{Mode, bench};
 use bench_commands::compare::same_bytes;
 use process_api::Trace;
 use qos_report::{MemoryOutlet, Outlet, PrintChoice, write_report, write_trace};
-use scenario::{Scenario, read_scenario};
+use scenario::Scenario;
 use std::alloc::Global;
 use std::process::Abort;
-use std::test::Fail;
 use windows::OpenGate;
 
 /// What `list` tells of a run, over an outlet that takes all: how many entries and letters there are and how many of
 /// these are lost, and what each process decided.
 #[test]
-fn summaries(rt: HostRuntime) -> Result<(), Fail> {
+fn summaries(rt: HostRuntime) {
     let alloc = rt.alloc();
     let (nobody, all) = ([NOTHING, NOTHING], ALL_DECIDE);
     for (file, print, counts, outcomes) in [
@@ -28,7 +27,7 @@ fn summaries(rt: HostRuntime) -> Result<(), Fail> {
             all.as_slice(),
         ),
     ] {
-        let scenario = read_scenario(alloc, file.as_bytes())?;
+        let scenario = scenario_of(&rt, alloc, file);
         let mut outlet = MemoryOutlet::new(alloc);
         let summary = bench(
             &rt,
@@ -38,12 +37,12 @@ fn summaries(rt: HostRuntime) -> Result<(), Fail> {
             &OpenGate,
             print,
             &mut outlet,
-        )?;
+        );
+        let summary = summary.expect(&rt, NO_RUN);
         let came = (summary.entries, summary.sent, summary.lost);
         same(&rt, &(came, outlet.failures()), &(counts, 0));
         are_outcomes(&rt, summary.outcomes.as_slice(), outcomes);
     }
-    Ok(())
 }
 
 /// The texts of one process, which takes its start alone.
@@ -63,28 +62,22 @@ verdict,1,0,0,eventual_weak_accuracy,0
 ";
 
 /// The texts of a trace are those of one process that takes its start alone.
-fn has_texts<R: Abort>(
-    rt: &R,
-    alloc: Global,
-    scenario: &Scenario,
-    trace: &Trace,
-) -> Result<(), Fail> {
+fn has_texts<R: Abort>(rt: &R, alloc: Global, scenario: &Scenario, trace: &Trace) {
     let mut rows = MemoryOutlet::new(alloc);
-    write_trace(alloc, trace, &mut rows)?;
+    write_trace(alloc, trace, &mut rows).expect(rt, NO_RUN);
     same(rt, &(rows.bytes(), rows.failures()), &(ALONE_TRACE, 0));
     let mut report = MemoryOutlet::new(alloc);
-    write_report(alloc, scenario, trace, &mut report)?;
+    write_report(alloc, scenario, trace, &mut report).expect(rt, NO_RUN);
     same(rt, &(report.bytes(), report.failures()), &(ALONE_REPORT, 0));
-    Ok(())
 }
 
 /// Machines that are made here, their run, and the texts of its trace.
 #[test]
-fn texts_of_a_trace(rt: HostRuntime) -> Result<(), Fail> {
+fn texts_of_a_trace(rt: HostRuntime) {
     let alloc = rt.alloc();
-    let scenario = read_scenario(alloc, ONE_PROCESS.as_bytes())?;
-    let trace = trace_of(alloc, &scenario)?;
-    has_texts(&rt, alloc, &scenario, &trace)
+    let scenario = scenario_of(&rt, alloc, ONE_PROCESS);
+    let trace = trace_of(&rt, alloc, &scenario);
+    has_texts(&rt, alloc, &scenario, &trace);
 }
 
 /// Texts, and whether their bytes are the same.
