@@ -11,6 +11,9 @@ use std::process::Abort;
 /// Why a test stops where it had no memory.
 pub const NO_MEMORY: &str = "memory was refused";
 
+/// Why a test stops where a plan or a run was refused.
+pub const NO_RUN: &str = "a run was refused";
+
 /// What came is what was wanted.
 pub fn same<R: Abort, T: PartialEq + Debug>(rt: &R, came: &T, wanted: &T) {
     assert_eq!(rt; came, wanted);

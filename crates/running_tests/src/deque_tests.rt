@@ -2,12 +2,11 @@
 ghost use Rattle.std.specs.Prelude.{◌≡◌, IfOk, IfSome};
 ghost use Rattle.std.specs.List.{All};
 
-use crate::common::same;
+use crate::common::{NO_MEMORY, same};
 use deques::{Front, Hand, deal};
 use std::alloc::{AllocError, Global};
 use std::sync::Wait;
 use std::sync::atomic::{AtomicU64, Ordering};
-use std::test::Fail;
 use std::thread;
 use std::thread::Threads;
 
@@ -75,12 +74,11 @@ fn take_both<R: Threads + Wait + Sync>(
 /// left, however often the other was quicker: as it ends, all that was put in has been taken, and of that the other
 /// has one item at most which it didn't count yet.
 #[test]
-fn two_thieves(rt: HostRuntime) -> Result<(), Fail> {
-    let (fronts, mut hands) = dealt(rt.alloc())?;
-    let second = last_of(&mut hands, &fronts).ok_or("no hand")?;
-    let first = last_of(&mut hands, &fronts).ok_or("no hand")?;
+fn two_thieves(rt: HostRuntime) {
+    let (fronts, mut hands) = dealt(rt.alloc()).expect(&rt, NO_MEMORY);
+    let second = last_of(&mut hands, &fronts).expect(&rt, "no hand");
+    let first = last_of(&mut hands, &fronts).expect(&rt, "no hand");
     let (first, second) = take_both(&rt, &fronts, first, second);
     assert!(rt; ITEMS - 1 <= first && ITEMS - 1 <= second);
     same(&rt, &first.max(second), &ITEMS);
-    Ok(())
 }

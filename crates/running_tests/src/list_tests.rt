@@ -3,7 +3,6 @@ use crate::common::{NO_MEMORY, own_key, pid, same};
 use event_list::{Event, Pending};
 use process_api::{StepInput, Tag};
 use std::process::Abort;
-use std::test::Fail;
 
 /// Why a test stops where it wanted one event more.
 const TOO_FEW: &str = "too few events";
@@ -23,28 +22,31 @@ fn are_taken<R: Abort>(rt: &R, pending: &mut Pending, wanted: &[(u32, u16, u64)]
 }
 
 #[test]
-fn takes_least_first(rt: HostRuntime) -> Result<(), Fail> {
-    let mut pending = Pending::new(rt.alloc())?;
-    pending.join(Event::wake(own_key(3, pid(1), 2), Tag::Check))?;
-    pending.join(Event::start(pid(2)))?;
-    pending.join(Event::start(pid(1)))?;
+fn takes_least_first(rt: HostRuntime) {
+    let mut pending = Pending::new(rt.alloc()).expect(&rt, NO_MEMORY);
+    let check = Event::wake(own_key(3, pid(1), 2), Tag::Check);
+    for event in [check, Event::start(pid(2)), Event::start(pid(1))] {
+        pending.join(event).expect(&rt, NO_MEMORY);
+    }
     same(&rt, &pending.least_tick(), &Some(0));
     are_taken(&rt, &mut pending, &[(0, 1, 0), (0, 2, 0)]);
-    assert!(rt; pending.take_below(3)?.is_none());
-    let event = pending.take_below(4)?.ok_or("nothing is below")?;
-    same(&rt, &(event.0.tick, pending.least_tick()), &(3, None));
-    Ok(())
+    let none = pending.take_below(3).expect(&rt, NO_MEMORY);
+    assert!(rt; none.is_none());
+    let event = pending.take_below(4).expect(&rt, NO_MEMORY);
+    let (key, _) = event.expect(&rt, TOO_FEW);
+    same(&rt, &(key.tick, pending.least_tick()), &(3, None));
 }
 
 /// So many events of one tick that they are put in order by way of lanes.
 #[test]
-fn takes_many_in_order(rt: HostRuntime) -> Result<(), Fail> {
-    let mut pending = Pending::new(rt.alloc())?;
+fn takes_many_in_order(rt: HostRuntime) {
+    let mut pending = Pending::new(rt.alloc()).expect(&rt, NO_MEMORY);
     for place in 0..30u64 {
         // receivers in turn, with numbers that don't rise
         let receiver = place as u16 % 5 + 1;
         let key = own_key(7, pid(receiver), place * 7 % 30);
-        pending.join(Event::wake(key, Tag::Beat))?;
+        let joined = pending.join(Event::wake(key, Tag::Beat));
+        joined.expect(&rt, NO_MEMORY);
     }
     let mut last = (0u16, 0u64);
     for _place in 0..30 {
@@ -53,7 +55,6 @@ fn takes_many_in_order(rt: HostRuntime) -> Result<(), Fail> {
         last = (receiver, number);
     }
     assert!(rt; take(&rt, &mut pending).is_none());
-    Ok(())
 }
 
 /// Events of process 1 with these ticks and numbers join.
@@ -67,8 +68,8 @@ fn join_all<R: Abort>(rt: &R, pending: &mut Pending, events: &[(u32, u64)], tag:
 
 /// Events of ticks with one place in the ring, and before and past what the ring has.
 #[test]
-fn takes_ticks_in_order(rt: HostRuntime) -> Result<(), Fail> {
-    let mut pending = Pending::new(rt.alloc())?;
+fn takes_ticks_in_order(rt: HostRuntime) {
+    let mut pending = Pending::new(rt.alloc()).expect(&rt, NO_MEMORY);
     // 5, 1029, 2053 and 5125 leave the rest 5 by 1024
     let beats = [(5125, 0), (5, 0), (2053, 0), (1029, 0), (u32::MAX, 0)];
     join_all(&rt, &mut pending, &beats, Tag::Beat);
@@ -85,5 +86,4 @@ fn takes_ticks_in_order(rt: HostRuntime) -> Result<(), Fail> {
     let last = [(1029, 1, 1), (2053, 1, 0), (5125, 1, 0), (u32::MAX, 1, 0)];
     are_taken(&rt, &mut pending, &last);
     assert!(rt; take(&rt, &mut pending).is_none());
-    Ok(())
 }

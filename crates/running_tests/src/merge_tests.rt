@@ -3,10 +3,9 @@ ghost use Rattle.std.specs.Prelude.{◌≡◌, ◌≢◌, ◌∷◌, [], IfOk, I
 ghost use Rattle.process_api.specs.Order.{is_rising};
 ghost use Rattle.trace_merge.specs.Parts.{AreDisjoint};
 
-use crate::common::{own_key, pid, same};
+use crate::common::{NO_MEMORY, own_key, pid, same};
 use process_api::{Entry, Key, Kind};
 use std::alloc::Global;
-use std::test::Fail;
 use trace_merge::merge;
 
 /// An entry with this key, which notes nothing.
@@ -23,20 +22,21 @@ fn entry(alloc: Global, key: Key) -> Entry
 }
 
 #[test]
-fn three_parts(rt: HostRuntime) -> Result<(), Fail> {
+fn three_parts(rt: HostRuntime) {
     let alloc = rt.alloc();
     let keys = [
         own_key(0, pid(1), 0),
         own_key(0, pid(2), 0),
         own_key(3, pid(1), 2),
     ];
-    let first = vec![in alloc; entry(alloc, keys[0]), entry(alloc, keys[2])]?;
-    let last = vec![in alloc; entry(alloc, keys[1])]?;
-    let parts = vec![in alloc; first, Vec::new(alloc), last]?;
-    let merged = merge(alloc, parts)?;
+    let first = vec![in alloc; entry(alloc, keys[0]), entry(alloc, keys[2])];
+    let last = vec![in alloc; entry(alloc, keys[1])];
+    let (first, last) = (first.expect(&rt, NO_MEMORY), last.expect(&rt, NO_MEMORY));
+    let parts = vec![in alloc; first, Vec::new(alloc), last];
+    let merged = merge(alloc, parts.expect(&rt, NO_MEMORY));
+    let merged = merged.expect(&rt, NO_MEMORY);
     same(&rt, &merged.len(), &keys.len());
     for (entry, key) in merged.iter().zip(keys) {
         same(&rt, &entry.key, &key);
     }
-    Ok(())
 }

@@ -14,10 +14,7 @@ mod workers;
 
 use crate::common::same;
 use process_api::Entry;
-use scenario::{Scenario, read_scenario};
-use std::alloc::Global;
 use std::process::Abort;
-use std::test::Fail;
 
 /// Two processes and a lookahead of 2 ticks; the second process crashes at tick 3.
 const ONE_CRASH: &str = "version = 1
@@ -31,11 +28,6 @@ link = { min = 2, max = 2 }
 crash = [{ process = 2, at = 3 }]
 ";
 
-/// The scenario of `ONE_CRASH`.
-fn one_crash(alloc: Global) -> Result<Scenario, Fail> {
-    Ok(read_scenario(alloc, ONE_CRASH.as_bytes())?)
-}
-
 /// Three processes that agree by rotating coordinators, with a quiet detector and a lookahead of 2 ticks.
 const COORDINATORS: &str = "version = 1
 processes = 3
@@ -47,11 +39,6 @@ proposals = [10, 20, 30]
 detector = { period = 100, check = 100, timeout = 100, grow = 1 }
 link = { min = 2, max = 2 }
 ";
-
-/// The scenario of `COORDINATORS`.
-fn three_coordinators(alloc: Global) -> Result<Scenario, Fail> {
-    Ok(read_scenario(alloc, COORDINATORS.as_bytes())?)
-}
 
 /// Six processes that do nothing but start.
 const SIX: &str = "version = 1

@@ -2,12 +2,11 @@
 
 use super::runs::{list_of, run_by};
 use super::steals::wait_for;
-use super::{same_entries, three_coordinators};
-use crate::common::same;
+use super::{COORDINATORS, same_entries};
+use crate::common::{same, scenario_of};
 use process_api::Pid;
 use std::sync::Wait;
 use std::sync::atomic::{AtomicU64, Ordering};
-use std::test::Fail;
 use windows::Gate;
 
 /// How often a worker that is held looks at the others before it goes on.
@@ -40,10 +39,10 @@ impl Gate for Holding {
 /// Processes 1 and 2 are held until process 3 has entered, and then all but the last worker until it has. Process 3 has
 /// an event in each window, so nobody has to let go; the last worker may find nobody left to take.
 #[test]
-fn held_back(rt: HostRuntime) -> Result<(), Fail> {
+fn held_back(rt: HostRuntime) {
     let alloc = rt.alloc();
-    let scenario = three_coordinators(alloc)?;
-    let list = list_of(alloc, &scenario)?;
+    let scenario = scenario_of(&rt, alloc, COORDINATORS);
+    let list = list_of(&rt, alloc, &scenario);
     for by_worker in [false, true] {
         let gate = Holding {
             by_worker,
@@ -51,7 +50,7 @@ fn held_back(rt: HostRuntime) -> Result<(), Fail> {
             second: AtomicU64::new(0),
             third: AtomicU64::new(0),
         };
-        let windows = run_by(&rt, alloc, &scenario, 3, &gate)?;
+        let windows = run_by(&rt, alloc, &scenario, 3, &gate);
         same_entries(&rt, windows.entries(), list.entries());
         // six windows have an event, and process 1 has none in one of them
         let first = gate.first.load(Ordering::SeqCst);
@@ -63,5 +62,4 @@ fn held_back(rt: HostRuntime) -> Result<(), Fail> {
             same(&rt, &(first, second), &(5, 6));
         }
     }
-    Ok(())
 }

@@ -3,9 +3,9 @@ ghost use Rattle.trace_laws.specs.ScenarioSetting.{setting_of};
 ghost use Rattle.window_laws.specs.Inside.Alternation.{AlternatingIsList, AlternatingIsOneByOne, ListOrderIsAny};
 ghost use Rattle.windows.specs.Plan.{IsPlanFor};
 
-use super::one_crash;
+use super::ONE_CRASH;
+use crate::common::{NO_RUN, scenario_of};
 use scenario::Scenario;
-use std::test::Fail;
 use windows::{Plan, law_any_order};
 
 /// Two workers hold processes 1 and 2 at once, and run their events in turns, with letters posted in between. Such a
@@ -21,9 +21,8 @@ fn taking_turns(scenario: &Scenario, plan: &Plan)
 }
 
 #[test]
-fn turns_of_two_workers(rt: HostRuntime) -> Result<(), Fail> {
-    let scenario = one_crash(rt.alloc())?;
-    let plan = Plan::new(&scenario, 2, 2)?;
+fn turns_of_two_workers(rt: HostRuntime) {
+    let scenario = scenario_of(&rt, rt.alloc(), ONE_CRASH);
+    let plan = Plan::new(&scenario, 2, 2).expect(&rt, NO_RUN);
     taking_turns(&scenario, &plan);
-    Ok(())
 }

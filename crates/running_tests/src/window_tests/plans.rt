@@ -1,7 +1,6 @@
 //! Plans that are made, and plans that are refused.
-use super::one_crash;
-use crate::common::same;
-use std::test::Fail;
+use super::ONE_CRASH;
+use crate::common::{same, scenario_of};
 use windows::{Plan, PlanError};
 
 /// Numbers of workers and ticks of a window, and how they are refused at a lookahead of 2 ticks, or not.
@@ -26,8 +25,8 @@ const PLANS: [(u64, u64, Option<PlanError>); 12] = [
 
 /// A plan that is made has the numbers that it was made of.
 #[test]
-fn made_or_refused(rt: HostRuntime) -> Result<(), Fail> {
-    let scenario = one_crash(rt.alloc())?;
+fn made_or_refused(rt: HostRuntime) {
+    let scenario = scenario_of(&rt, rt.alloc(), ONE_CRASH);
     for (workers, window, refusal) in PLANS {
         let plan = Plan::new(&scenario, workers, window);
         if let Ok(plan) = &plan {
@@ -40,5 +39,4 @@ fn made_or_refused(rt: HostRuntime) -> Result<(), Fail> {
             &(workers, window, refusal),
         );
     }
-    Ok(())
 }

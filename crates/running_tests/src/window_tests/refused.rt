@@ -3,8 +3,8 @@ ghost use Rattle.std.specs.Prelude.{◌≡◌, IfOk, map};
 ghost use Rattle.process_api.specs.Numbers.{numbers_to};
 ghost use Rattle.scenario_record.specs.Record.{opening_mind};
 
-use super::{one_crash, same_entries};
-use crate::common::same;
+use super::{ONE_CRASH, same_entries};
+use crate::common::{NO_MEMORY, NO_RUN, same, scenario_of};
 use event_list::{RunError, run_list};
 use machines::Machine;
 use process_api::{Action, Pid, Process, StepInput};
@@ -12,7 +12,6 @@ use scenario::Scenario;
 use std::alloc::{AllocError, Global};
 use std::sync::Arc;
 use std::sync::atomic::{AtomicU64, Ordering};
-use std::test::Fail;
 use windows::{OpenGate, Plan, run_windows};
 
 /// A machine that is refused memory where all machines together have taken so many inputs.
@@ -93,16 +92,17 @@ const INPUTS: u64 = 9;
 /// Where any one input is refused, the list and two workers by windows of 2 ticks answer `Memory`; where none is, both
 /// have the same trace.
 #[test]
-fn each_input(rt: HostRuntime) -> Result<(), Fail> {
+fn each_input(rt: HostRuntime) {
     let alloc = rt.alloc();
-    let scenario = one_crash(alloc)?;
-    let plan = Plan::new(&scenario, 2, 2)?;
+    let scenario = scenario_of(&rt, alloc, ONE_CRASH);
+    let plan = Plan::new(&scenario, 2, 2).expect(&rt, NO_RUN);
     for limit in 0..=INPUTS {
-        let taken = Arc::new(alloc, AtomicU64::new(0))?;
-        let machines = boxed_machines(alloc, &scenario, limit, &taken)?;
-        let list = run_list(alloc, &scenario, machines);
+        let taken = Arc::new(alloc, AtomicU64::new(0)).expect(&rt, NO_MEMORY);
+        let machines = boxed_machines(alloc, &scenario, limit, &taken);
+        let list = run_list(alloc, &scenario, machines.expect(&rt, NO_MEMORY));
         taken.store(0, Ordering::SeqCst);
-        let machines = boxed_machines(alloc, &scenario, limit, &taken)?;
+        let machines = boxed_machines(alloc, &scenario, limit, &taken);
+        let machines = machines.expect(&rt, NO_MEMORY);
         let windows = run_windows(&rt, alloc, &scenario, machines, &plan, &OpenGate);
         if let (Ok(list), Ok(windows)) = (&list, &windows) {
             same(&rt, &list.entries().len(), &12);
@@ -119,24 +119,24 @@ fn each_input(rt: HostRuntime) -> Result<(), Fail> {
             &(limit, refused, refused),
         );
     }
-    Ok(())
 }
 
 /// A machine that was refused once answers so again, and leaves nothing behind.
 #[test]
-fn refused_again(rt: HostRuntime) -> Result<(), Fail> {
+fn refused_again(rt: HostRuntime) {
     let alloc = rt.alloc();
-    let scenario = one_crash(alloc)?;
-    let taken = Arc::new(alloc, AtomicU64::new(0))?;
-    let mut machines = boxed_machines(alloc, &scenario, 1, &taken)?;
+    let scenario = scenario_of(&rt, alloc, ONE_CRASH);
+    let taken = Arc::new(alloc, AtomicU64::new(0)).expect(&rt, NO_MEMORY);
+    let machines = boxed_machines(alloc, &scenario, 1, &taken);
+    let mut machines = machines.expect(&rt, NO_MEMORY);
     let mut out = Vec::new(alloc);
-    let first = machines.first_mut().ok_or("no machine")?;
-    first.on_input(0, &StepInput::Start, &mut out)?;
+    let first = machines.first_mut().expect(&rt, "no machine");
+    let answer = first.on_input(0, &StepInput::Start, &mut out);
+    answer.expect(&rt, NO_MEMORY);
     let count = out.len();
     for now in 1..4 {
         let answer = first.on_input(now, &StepInput::Start, &mut out);
         assert!(rt; answer.is_err() && first.failed());
     }
     same(&rt, &out.len(), &count);
-    Ok(())
 }

@@ -2,34 +2,35 @@
 
 use super::calls::call_window;
 use super::runs::{list_of, stage_after};
-use super::{ONE_CRASH, is_same, one_crash, three_coordinators};
-use crate::common::same;
+use super::{COORDINATORS, ONE_CRASH, is_same};
+use crate::common::{NO_MEMORY, NO_RUN, same, scenario_of};
 use event_list::RunError;
 use machines::Machine;
 use process_api::Entry;
-use scenario::{Scenario, read_scenario};
+use scenario::Scenario;
 use std::alloc::Global;
+use std::process::Abort;
 use std::sync::Wait;
-use std::test::Fail;
 use std::thread::Threads;
 use windows::{Berth, Plan};
 
 /// The berths of the window of so many ticks after so many others, where they were called in this order; its start and
 /// its end, and how many letters were posted.
-fn called<R: Threads + Wait + Sync>(
+fn called<R: Abort + Threads + Wait + Sync>(
     rt: &R,
     alloc: Global,
     scenario: &Scenario,
     window: u32,
     before: usize,
     order: &[u16],
-) -> Result<(Vec<Berth<Machine>>, (u32, u32), usize), Fail> {
-    let plan = Plan::new(scenario, 1, u64::from(window))?;
-    let stage = stage_after(rt, alloc, scenario, &plan, before)?;
+) -> (Vec<Berth<Machine>>, (u32, u32), usize) {
+    let plan = Plan::new(scenario, 1, u64::from(window)).expect(rt, NO_RUN);
+    let stage = stage_after(rt, alloc, scenario, &plan, before);
     let start = stage.start();
     let end = start.saturating_add(window).min(scenario.horizon());
-    let (berths, letters) = call_window(rt, alloc, stage, end, u64::MAX, order)?;
-    Ok((berths, (start, end), letters))
+    let called = call_window(rt, alloc, stage, end, u64::MAX, order);
+    let (berths, letters) = called.expect(rt, NO_RUN);
+    (berths, (start, end), letters)
 }
 
 /// How many entries berths have.
@@ -46,16 +47,15 @@ fn count(berths: &[Berth<Machine>]) -> usize {
 const WINDOWS: [(u32, usize, usize); 5] = [(2, 2, 2), (4, 4, 0), (6, 2, 1), (8, 2, 0), (10, 2, 0)];
 
 #[test]
-fn entries_and_letters(rt: HostRuntime) -> Result<(), Fail> {
+fn entries_and_letters(rt: HostRuntime) {
     let alloc = rt.alloc();
-    let scenario = one_crash(alloc)?;
+    let scenario = scenario_of(&rt, alloc, ONE_CRASH);
     for order in [[1, 2], [2, 1]] {
         for before in 0..WINDOWS.len() {
-            let (berths, (_, end), letters) = called(&rt, alloc, &scenario, 2, before, &order)?;
+            let (berths, (_, end), letters) = called(&rt, alloc, &scenario, 2, before, &order);
             same(&rt, &(end, count(&berths), letters), &WINDOWS[before]);
         }
     }
-    Ok(())
 }
 
 /// Limits of the trace, after how many windows of 2 ticks one is called, where it ends, for how many entries each berth
@@ -70,17 +70,16 @@ const LIMITS: [(&str, usize, u32, u64, Option<RunError>); 5] = [
 ];
 
 #[test]
-fn no_room(rt: HostRuntime) -> Result<(), Fail> {
+fn no_room(rt: HostRuntime) {
     let alloc = rt.alloc();
     for (limit, before, end, room, refusal) in LIMITS {
-        let text = format!(in alloc; "{limit}{ONE_CRASH}")?;
-        let scenario = read_scenario(alloc, text.as_bytes())?;
-        let plan = Plan::new(&scenario, 1, 2)?;
-        let stage = stage_after(&rt, alloc, &scenario, &plan, before)?;
+        let text = format!(in alloc; "{limit}{ONE_CRASH}");
+        let scenario = scenario_of(&rt, alloc, &text.expect(&rt, NO_MEMORY));
+        let plan = Plan::new(&scenario, 1, 2).expect(&rt, NO_RUN);
+        let stage = stage_after(&rt, alloc, &scenario, &plan, before);
         let called = call_window(&rt, alloc, stage, end, room, &[1, 2]);
         same(&rt, &(limit, called.err()), &(limit, refusal));
     }
-    Ok(())
 }
 
 /// Whether a berth has what the list has of its process from tick `start` to before tick `end`.
@@ -102,10 +101,10 @@ fn is_as_listed(berth: &Berth<Machine>, list: &[Entry], start: u32, end: u32) ->
 /// The berths are called in the given order, and whatever it is, each process does in each window of one tick or two
 /// what the list has of it there, and in all windows what the list has.
 #[test]
-fn as_the_list(rt: HostRuntime) -> Result<(), Fail> {
+fn as_the_list(rt: HostRuntime) {
     let alloc = rt.alloc();
-    let scenario = three_coordinators(alloc)?;
-    let list = list_of(alloc, &scenario)?;
+    let scenario = scenario_of(&rt, alloc, COORDINATORS);
+    let list = list_of(&rt, alloc, &scenario);
     for window in [1, 2] {
         for order in [[1, 2, 3], [3, 2, 1], [2, 3, 1]] {
             let mut made: usize = 0;
@@ -113,7 +112,7 @@ fn as_the_list(rt: HostRuntime) -> Result<(), Fail> {
             for before in 0..20 {
                 let (berths, (start, end), _) = called(
                     &rt, alloc, &scenario, window, before, &order,
-                )?;
+                );
                 made = made.saturating_add(count(&berths));
                 for (berth, number) in berths.iter().zip(order) {
                     same(&rt, &berth.pid().number(), &number);
@@ -123,5 +122,4 @@ fn as_the_list(rt: HostRuntime) -> Result<(), Fail> {
             same(&rt, &made, &list.entries().len());
         }
     }
-    Ok(())
 }

@@ -3,8 +3,8 @@ ghost use Rattle.std.specs.Prelude.{◌≡◌, ◌<◌, ◌-◌, ◌^◌};
 
 use super::refused::boxed_machines;
 use super::runs::list_of;
-use super::{one_crash, same_entries};
-use crate::common::same;
+use super::{ONE_CRASH, same_entries};
+use crate::common::{NO_MEMORY, NO_RUN, same, scenario_of};
 use event_list::RunError;
 use process_api::Entry;
 use scenario::Scenario;
@@ -12,7 +12,6 @@ use std::alloc::Global;
 use std::process::Abort;
 use std::sync::atomic::{AtomicU64, Ordering};
 use std::sync::{Arc, Wait};
-use std::test::Fail;
 use std::thread::Threads;
 use windows::{OpenGate, Plan, Sink, run_windows_into};
 
@@ -74,12 +73,13 @@ fn takes_so_many<R: Abort + Threads + Wait + Sync>(
     list: &[Entry],
     most: usize,
     refusal: RunError,
-) -> Result<(), Fail>
+)
     requires { most < 6 }
 {
-    let plan = Plan::new(scenario, 2, 2)?;
-    let inputs = Arc::new(alloc, AtomicU64::new(0))?;
-    let machines = boxed_machines(alloc, scenario, u64::MAX, &inputs)?;
+    let plan = Plan::new(scenario, 2, 2).expect(rt, NO_RUN);
+    let inputs = Arc::new(alloc, AtomicU64::new(0)).expect(rt, NO_MEMORY);
+    let machines = boxed_machines(alloc, scenario, u64::MAX, &inputs);
+    let machines = machines.expect(rt, NO_MEMORY);
     let mut sink = Counting {
         entries: Vec::new(alloc),
         handed: Vec::new(alloc),
@@ -98,20 +98,18 @@ fn takes_so_many<R: Abort + Threads + Wait + Sync>(
     let before = BEFORE[most];
     assert!(rt; before <= list.len());
     same_entries(rt, &sink.entries, &list[..before]);
-    Ok(())
 }
 
 /// The parts come one by one, in the order of the windows, each before a machine takes an input of the next window.
 /// After a refused one none is handed on, nor that one again, and the sink has the entries of the windows before it.
 #[test]
-fn parts_in_order(rt: HostRuntime) -> Result<(), Fail> {
+fn parts_in_order(rt: HostRuntime) {
     let alloc = rt.alloc();
-    let scenario = one_crash(alloc)?;
-    let list = list_of(alloc, &scenario)?;
+    let scenario = scenario_of(&rt, alloc, ONE_CRASH);
+    let list = list_of(&rt, alloc, &scenario);
     for most in 0..6 {
         for refusal in [RunError::Memory, RunError::Write] {
-            takes_so_many(&rt, alloc, &scenario, list.entries(), most, refusal)?;
+            takes_so_many(&rt, alloc, &scenario, list.entries(), most, refusal);
         }
     }
-    Ok(())
 }

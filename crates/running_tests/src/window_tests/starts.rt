@@ -2,9 +2,7 @@
 
 use super::runs::stage_after;
 use super::{COORDINATORS, ONE_CRASH};
-use crate::common::same;
-use scenario::read_scenario;
-use std::test::Fail;
+use crate::common::{NO_RUN, same, scenario_of};
 use windows::Plan;
 
 /// Scenarios, the ticks of a window, and the ticks at which the windows start, of which the last is the horizon:
@@ -16,17 +14,16 @@ const STARTS: [(&str, u64, &[u32]); 2] = [
 ];
 
 #[test]
-fn starts_of_windows(rt: HostRuntime) -> Result<(), Fail> {
+fn starts_of_windows(rt: HostRuntime) {
     for (text, window, starts) in STARTS {
-        let scenario = read_scenario(rt.alloc(), text.as_bytes())?;
-        let plan = Plan::new(&scenario, 2, window)?;
+        let scenario = scenario_of(&rt, rt.alloc(), text);
+        let plan = Plan::new(&scenario, 2, window).expect(&rt, NO_RUN);
         let mut before: usize = 0;
         for start in starts {
-            let stage = stage_after(&rt, rt.alloc(), &scenario, &plan, before)?;
+            let stage = stage_after(&rt, rt.alloc(), &scenario, &plan, before);
             before = before.saturating_add(1);
             let came = (stage.start(), stage.finished());
             same(&rt, &came, &(*start, before == starts.len()));
         }
     }
-    Ok(())
 }

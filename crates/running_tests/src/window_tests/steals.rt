@@ -1,13 +1,11 @@
 //! Workers that are held, so that others take what is theirs.
 
 use super::runs::{list_of, run_by};
-use super::{SIX, same_entries, three_coordinators};
-use crate::common::same;
+use super::{COORDINATORS, SIX, same_entries};
+use crate::common::{same, scenario_of};
 use process_api::Pid;
-use scenario::read_scenario;
 use std::sync::Wait;
 use std::sync::atomic::{AtomicU64, Ordering};
-use std::test::Fail;
 use std::thread;
 use windows::Gate;
 
@@ -50,20 +48,19 @@ impl Gate for Holding {
 /// Three processes and two workers: the first and the third process are dealt to worker 1. While that is held with the
 /// one, worker 2 takes its own and then steals the other.
 #[test]
-fn stolen_from_a_held_worker(rt: HostRuntime) -> Result<(), Fail> {
+fn stolen_from_a_held_worker(rt: HostRuntime) {
     let alloc = rt.alloc();
-    let scenario = three_coordinators(alloc)?;
-    let list = list_of(alloc, &scenario)?;
+    let scenario = scenario_of(&rt, alloc, COORDINATORS);
+    let list = list_of(&rt, alloc, &scenario);
     let gate = Holding {
         by_first: AtomicU64::new(0),
         by_second: AtomicU64::new(0),
         early: AtomicU64::new(0),
     };
-    let windows = run_by(&rt, alloc, &scenario, 2, &gate)?;
+    let windows = run_by(&rt, alloc, &scenario, 2, &gate);
     same(&rt, &gate.early.load(Ordering::SeqCst), &0);
     assert!(rt; gate.by_second.load(Ordering::SeqCst) >= 2);
     same_entries(&rt, windows.entries(), list.entries());
-    Ok(())
 }
 
 /// A gate that holds worker 1 in its first call until the two others have made one each, and these until worker 1 has
@@ -96,17 +93,16 @@ impl Gate for Circle {
 /// Six processes and three workers, of which two are held with one of their two each: the other one takes its own, then
 /// what the next one has left, and then what the one after that has.
 #[test]
-fn stolen_round_the_circle(rt: HostRuntime) -> Result<(), Fail> {
+fn stolen_round_the_circle(rt: HostRuntime) {
     let alloc = rt.alloc();
-    let scenario = read_scenario(alloc, SIX.as_bytes())?;
+    let scenario = scenario_of(&rt, alloc, SIX);
     let gate = Circle {
         by_first: AtomicU64::new(0),
         by_others: AtomicU64::new(0),
         taken: AtomicU64::new(0),
     };
-    run_by(&rt, alloc, &scenario, 3, &gate)?;
+    run_by(&rt, alloc, &scenario, 3, &gate);
     same(&rt, &gate.taken.load(Ordering::SeqCst), &1_456);
-    Ok(())
 }
 
 /// A gate that holds each of so many workers in its first call until all have made one.
@@ -131,17 +127,16 @@ impl Gate for Meeting {
 /// As many workers as the plan has are at work at once, as none is let go before. Each begins with its own deque, and
 /// the processes are dealt by rising number: while nobody steals, worker 1 takes process 1, and worker 2 process 2.
 #[test]
-fn dealt_by_rising_number(rt: HostRuntime) -> Result<(), Fail> {
+fn dealt_by_rising_number(rt: HostRuntime) {
     let alloc = rt.alloc();
-    let scenario = read_scenario(alloc, SIX.as_bytes())?;
+    let scenario = scenario_of(&rt, alloc, SIX);
     for workers in [2, 4] {
         let gate = Meeting {
             workers,
             calls: AtomicU64::new(0),
             own: AtomicU64::new(0),
         };
-        run_by(&rt, alloc, &scenario, workers, &gate)?;
+        run_by(&rt, alloc, &scenario, workers, &gate);
         same(&rt, &gate.own.load(Ordering::SeqCst), &workers);
     }
-    Ok(())
 }

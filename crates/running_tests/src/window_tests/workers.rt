@@ -2,15 +2,13 @@
 //! refusals comes first.
 
 use super::runs::{list_of, run_by};
-use super::{one_crash, same_entries, three_coordinators};
-use crate::common::same;
+use super::{COORDINATORS, ONE_CRASH, same_entries};
+use crate::common::{NO_MEMORY, NO_RUN, same, scenario_of};
 use event_list::RunError;
 use machines::machines_of;
 use process_api::Pid;
-use scenario::read_scenario;
 use std::sync::Wait;
 use std::sync::atomic::{AtomicU64, Ordering};
-use std::test::Fail;
 use windows::{Gate, OpenGate, Plan, Stage, WORTH_A_THREAD, both, run_window};
 
 /// A gate that keeps what it sees.
@@ -41,16 +39,16 @@ impl Gate for Watching {
 /// that starts at tick 6, in which the first has none. The starter takes nobody. A worker more than there are processes
 /// isn't started.
 #[test]
-fn taken_by_workers(rt: HostRuntime) -> Result<(), Fail> {
+fn taken_by_workers(rt: HostRuntime) {
     let alloc = rt.alloc();
-    let scenario = three_coordinators(alloc)?;
+    let scenario = scenario_of(&rt, alloc, COORDINATORS);
     for (workers, greatest) in [(1, 1), (64, 3)] {
         let gate = Watching {
             taken: AtomicU64::new(0),
             greatest: AtomicU64::new(0),
             by_starter: AtomicU64::new(0),
         };
-        run_by(&rt, alloc, &scenario, workers, &gate)?;
+        run_by(&rt, alloc, &scenario, workers, &gate);
         assert!(rt; gate.greatest.load(Ordering::SeqCst) <= greatest);
         same(&rt, &gate.by_starter.load(Ordering::SeqCst), &0);
         if workers == 1 {
@@ -58,25 +56,22 @@ fn taken_by_workers(rt: HostRuntime) -> Result<(), Fail> {
             same(&rt, &taken, &12_312_312_323_123_123);
         }
     }
-    Ok(())
 }
 
 /// A window ends where the next one starts.
 #[test]
-fn first_window(rt: HostRuntime) -> Result<(), Fail> {
+fn first_window(rt: HostRuntime) {
     let alloc = rt.alloc();
-    let scenario = one_crash(alloc)?;
-    let plan = Plan::new(&scenario, 2, 2)?;
-    let machines = machines_of(alloc, &scenario)?;
-    let mut stage = Stage::open(alloc, &scenario, machines)?;
+    let scenario = scenario_of(&rt, alloc, ONE_CRASH);
+    let plan = Plan::new(&scenario, 2, 2).expect(&rt, NO_RUN);
+    let machines = machines_of(alloc, &scenario).expect(&rt, NO_MEMORY);
+    let mut stage = Stage::open(alloc, &scenario, machines).expect(&rt, NO_RUN);
     same(&rt, &stage.start(), &0);
-    if stage.finished() {
-        return Err("a run of no ticks".into());
-    }
-    let part = run_window(&rt, alloc, &mut stage, &plan, &OpenGate)?;
-    let came = (part.len(), stage.start(), stage.finished());
+    assert!(rt; !stage.finished());
+    let part = run_window(&rt, alloc, &mut stage, &plan, &OpenGate);
+    let entries = part.expect(&rt, NO_RUN).len();
+    let came = (entries, stage.start(), stage.finished());
     same(&rt, &came, &(2, 2, false));
-    Ok(())
 }
 
 /// As many processes as there can be, each of which sends a letter to every other at each tick. The second of three
@@ -99,18 +94,17 @@ max = 2
 ";
 
 #[test]
-fn sixty_four(rt: HostRuntime) -> Result<(), Fail> {
+fn sixty_four(rt: HostRuntime) {
     let alloc = rt.alloc();
-    let scenario = read_scenario(alloc, AS_MANY_AS_CAN_BE.as_bytes())?;
-    let list = list_of(alloc, &scenario)?;
+    let scenario = scenario_of(&rt, alloc, AS_MANY_AS_CAN_BE);
+    let list = list_of(&rt, alloc, &scenario);
     // 256 starts, 256 checks, 1,280 beats, and four letters for each pair
     same(&rt, &list.entries().len(), &262_912);
     assert!(rt; 63 * WORTH_A_THREAD <= 130_560);
     for workers in [1, 2, 4, 64] {
-        let windows = run_by(&rt, alloc, &scenario, workers, &OpenGate)?;
+        let windows = run_by(&rt, alloc, &scenario, workers, &OpenGate);
         same_entries(&rt, windows.entries(), list.entries());
     }
-    Ok(())
 }
 
 /// What two workers answer, 1 and 2 where they aren't refused, and what is answered of both: of refusals that of a
@@ -156,9 +150,8 @@ const BOTH: [(
 ];
 
 #[test]
-fn first_refusal(rt: HostRuntime) -> Result<(), Fail> {
+fn first_refusal(rt: HostRuntime) {
     for (left, right, answer) in BOTH {
         same(&rt, &both(left, right), &answer);
     }
-    Ok(())
 }
