@@ -1,6 +1,6 @@
 //! What a part of a process does, as text: a letter with its receiver, a wake with its pause, and a note as a trace
 //! prints it.
-use crate::comparisons::same;
+use crate::comparisons::{NO_MEMORY, same};
 use process_api::{Action, Note, Payload, ProcSet, Tag};
 use std::alloc::{AllocError, Global};
 use std::process::Abort;
@@ -14,10 +14,10 @@ fn members_of(alloc: Global, set: &ProcSet) -> Result<Vec<u16>, AllocError> {
     Ok(members)
 }
 
-/// The members of the set are these, in rising order.
-pub fn are_members(rt: &impl Abort, alloc: Global, set: &ProcSet, wanted: &[u16]) {
-    let members = members_of(alloc, set).expect(rt, "no memory");
-    same(rt, &members.as_slice(), &wanted);
+/// The members of the set are these, in rising order, at this tick or in this case.
+pub fn are_members(rt: &impl Abort, alloc: Global, at: u32, set: &ProcSet, wanted: &[u16]) {
+    let members = members_of(alloc, set).expect(rt, NO_MEMORY);
+    same(rt, &(at, members.as_slice()), &(at, wanted));
 }
 
 /// Puts cells at the end of a text, an empty one as `-`.
@@ -115,8 +115,8 @@ fn actions_text(alloc: Global, actions: &[Action]) -> Result<String, AllocError>
     Ok(text)
 }
 
-/// What was done at this tick is this.
-pub fn are_done(rt: &impl Abort, alloc: Global, tick: u32, actions: &[Action], wanted: &str) {
-    let text = actions_text(alloc, actions).expect(rt, "no memory");
-    same(rt, &(tick, text.as_str()), &(tick, wanted));
+/// What was done at this tick, or in this round or case, is this.
+pub fn are_done(rt: &impl Abort, alloc: Global, at: u32, actions: &[Action], wanted: &str) {
+    let text = actions_text(alloc, actions).expect(rt, NO_MEMORY);
+    same(rt, &(at, text.as_str()), &(at, wanted));
 }

@@ -1,4 +1,5 @@
 //! Texts of which a part is changed.
+use crate::comparisons::NO_MEMORY;
 use std::alloc::Global;
 use std::process::Abort;
 
@@ -28,5 +29,5 @@ at = 3
 /// The text with a part of it, where it first stands, changed.
 pub fn changed(rt: &impl Abort, alloc: Global, text: &str, old: &str, new: &str) -> String {
     let (before, after) = text.split_once(old).expect(rt, "the text has no such part");
-    format!(in alloc; "{before}{new}{after}").expect(rt, "no memory")
+    format!(in alloc; "{before}{new}{after}").expect(rt, NO_MEMORY)
 }

@@ -2,7 +2,7 @@
 mod laws;
 
 use crate::answers::are_done;
-use crate::comparisons::same;
+use crate::comparisons::{NO_MEMORY, same};
 use crate::driving::{Row, TIMEOUTS, drive_algorithm, opening_of};
 use crate::inputs::Given::{Alive, Decide, Estimate, Proposal, Reply, Start};
 use consensus_es::{Diffusion, EsConsensus, Membership};
@@ -20,7 +20,7 @@ fn coordinates(
 ) {
     let kind = AlgorithmKind::EventuallyStrong;
     let opening = opening_of(rt, own, processes, 20, TIMEOUTS, None, kind, Some(proposal));
-    let mut machine = EsConsensus::open(alloc, &opening).expect(rt, "no memory");
+    let mut machine = EsConsensus::open(alloc, &opening).expect(rt, NO_MEMORY);
     drive_algorithm(rt, alloc, &opening, &mut machine, rows);
 }
 
@@ -58,7 +58,7 @@ fn decisions_diffused(rt: HostRuntime) {
         let mut out = Vec::new(alloc);
         let number = u64::from(round);
         let is_first = diffusion.receive(&membership, number, 10, &mut out);
-        let is_first = is_first.expect(&rt, "no memory");
+        let is_first = is_first.expect(&rt, NO_MEMORY);
         let seen = (diffusion.has_seen(number), diffusion.has_seen(2));
         same(
             &rt,
@@ -69,7 +69,7 @@ fn decisions_diffused(rt: HostRuntime) {
     }
     let mut out = Vec::new(alloc);
     let sent = Diffusion::broadcast(&membership, 3, 10, &mut out);
-    sent.expect(&rt, "no memory");
+    sent.expect(&rt, NO_MEMORY);
     are_done(
         &rt,
         alloc,

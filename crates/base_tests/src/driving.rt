@@ -6,7 +6,7 @@ ghost use Rattle.scenario_record.specs.Numbers.{AreInRange, is_idle};
 ghost use Rattle.scenario_record.specs.Opening.{place_of};
 
 use crate::answers::{are_done, are_members};
-use crate::comparisons::same;
+use crate::comparisons::{NO_MEMORY, same};
 use crate::inputs::{Given, input_of, numbered, set_of};
 use process_api::{
     Algorithm, Detector, DetectorNumbers, MOST_PROCESSES, Process, TimeoutNumbers, Watch,
@@ -69,9 +69,9 @@ pub fn drive_detector<D: Detector>(rt: &impl Abort, alloc: Global, machine: &mut
         let input = input_of(rt, alloc, given);
         let mut out = Vec::new(alloc);
         let taken = machine.take(tick, &input, &mut out);
-        taken.expect(rt, "no memory");
+        taken.expect(rt, NO_MEMORY);
         are_done(rt, alloc, tick, &out, wanted);
-        are_members(rt, alloc, &machine.suspects(), suspects);
+        are_members(rt, alloc, tick, &machine.suspects(), suspects);
     }
 }
 
@@ -93,7 +93,7 @@ pub fn drive_algorithm<A: Algorithm>(
         let input = input_of(rt, alloc, given);
         let mut out = Vec::new(alloc);
         let taken = machine.take(tick, &input, &suspects, &mut out);
-        taken.expect(rt, "no memory");
+        taken.expect(rt, NO_MEMORY);
         are_done(rt, alloc, tick, &out, wanted);
     }
 }
@@ -109,7 +109,7 @@ pub fn drive_process<P: Process>(
         let input = input_of(rt, alloc, given);
         let mut out = Vec::new(alloc);
         let taken = machine.on_input(tick, &input, &mut out);
-        taken.expect(rt, "no memory");
+        taken.expect(rt, NO_MEMORY);
         are_done(rt, alloc, tick, &out, wanted);
     }
     same(rt, &machine.failed(), &false);

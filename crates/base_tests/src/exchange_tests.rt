@@ -1,6 +1,7 @@
 //! Machines of consensus with S, driven by hand.
 mod laws;
 
+use crate::comparisons::NO_MEMORY;
 use crate::driving::{Row, TIMEOUTS, drive_algorithm, opening_of};
 use crate::inputs::Given::{Alive, Check, Last, Start, Vector};
 use consensus_s::SConsensus;
@@ -17,7 +18,7 @@ fn exchanges(
 ) {
     let kind = AlgorithmKind::Strong;
     let opening = opening_of(rt, own, processes, 20, TIMEOUTS, None, kind, Some(proposal));
-    let mut machine = SConsensus::open(alloc, &opening).expect(rt, "no memory");
+    let mut machine = SConsensus::open(alloc, &opening).expect(rt, NO_MEMORY);
     drive_algorithm(rt, alloc, &opening, &mut machine, rows);
 }
 

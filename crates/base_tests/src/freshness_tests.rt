@@ -1,4 +1,5 @@
 //! The detector with freshness points, input by input.
+use crate::comparisons::NO_MEMORY;
 use crate::driving::{Row, drive_detector, opening_of};
 use crate::inputs::Given::{Alive, Beat, Check, Heartbeat, Share, Start};
 use freshness_detector::FreshnessDetector;
@@ -30,7 +31,7 @@ fn watches(
         AlgorithmKind::Idle,
         None,
     );
-    let mut machine = FreshnessDetector::open(alloc, &opening).expect(rt, "no memory");
+    let mut machine = FreshnessDetector::open(alloc, &opening).expect(rt, NO_MEMORY);
     drive_detector(rt, alloc, &mut machine, rows);
 }
 

@@ -1,6 +1,7 @@
 //! What a part of a process is given.
 ghost use Rattle.std.specs.Prelude.{◌≡◌};
 
+use crate::comparisons::NO_MEMORY;
 use process_api::{Cells, Payload, Pid, ProcSet, StepInput, Tag};
 use std::alloc::Global;
 use std::process::Abort;
@@ -49,7 +50,7 @@ pub fn set_of(rt: &impl Abort, numbers: &[u16]) -> ProcSet {
 
 /// These cells.
 fn cells_of(rt: &impl Abort, alloc: Global, cells: &[Option<u32>]) -> Cells {
-    Cells::new(Vec::from_slice(alloc, cells).expect(rt, "no memory"))
+    Cells::new(Vec::from_slice(alloc, cells).expect(rt, NO_MEMORY))
 }
 
 /// The input that is given.

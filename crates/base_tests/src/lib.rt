@@ -1,10 +1,10 @@
-//! Tests of what the other crates stand on: files that are read, and what a process is made of.
+//! Tests of what the other crates stand on: scenarios, and what a process is made of.
 //!
-//! These are the tests of `sources`, `scenario`, `process_api`, `timeout_detector`, `freshness_detector`, `reduction`,
-//! `consensus_s`, `consensus_es`, `stack` and `machines`, a module for each: inputs, files of scenarios, processes,
-//! sets, keys and actions, detectors and algorithms input by input, parts that are joined, and the machines of a
-//! scenario at their start. They stand apart from these crates, since a crate with tests is proved twice, without them
-//! and with them, and this crate has nothing else.
+//! These are the tests of `scenario`, `process_api`, `timeout_detector`, `freshness_detector`, `reduction`,
+//! `consensus_s`, `consensus_es`, `stack` and `machines`, a module for each: files of scenarios, processes, sets, keys
+//! and actions, detectors and algorithms input by input, parts that are joined, and the machines of a scenario at their
+//! start. They stand apart from these crates, since a crate with tests is proved twice, without them and with them, and
+//! this crate has nothing else.
 //!
 //! What they share is in modules of its own: comparisons, changes of texts (`changes`), what a part is given
 //! (`inputs`), what it does as text (`answers`), parts that are driven by rows of the two (`driving`), and a detector

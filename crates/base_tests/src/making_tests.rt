@@ -1,5 +1,5 @@
 //! Machines of small scenarios, at their start.
-use crate::comparisons::same;
+use crate::comparisons::{NO_MEMORY, same};
 use crate::driving::drive_process;
 use crate::inputs::Given::Start;
 use machines::{Machine, machines_of};
@@ -29,7 +29,7 @@ fn scenario_of(
         "version = 2\nprocesses = 2\nhorizon = 10\nlookahead = 2\nseed = 1\nalgorithm = {algorithm}
 [detector]\n{detector}[link]\nmin = 2\nmax = 2\n{rest}"
     );
-    let file = file.expect(rt, "no memory");
+    let file = file.expect(rt, NO_MEMORY);
     read_scenario(alloc, file.as_bytes()).expect(rt, "not a scenario")
 }
 
@@ -93,7 +93,7 @@ fn both_start(rt: HostRuntime) {
     let alloc = rt.alloc();
     for &(algorithm, detector, rest, first, second) in MACHINES {
         let scenario = scenario_of(&rt, alloc, algorithm, detector, rest);
-        let mut machines = machines_of(alloc, &scenario).expect(&rt, "no memory");
+        let mut machines = machines_of(alloc, &scenario).expect(&rt, NO_MEMORY);
         starts(&rt, alloc, machines.pop(), 2, second);
         starts(&rt, alloc, machines.pop(), 1, first);
         assert!(rt; machines.is_empty());

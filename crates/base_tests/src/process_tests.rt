@@ -2,7 +2,7 @@
 mod laws;
 
 use crate::answers::{are_done, are_members};
-use crate::comparisons::same;
+use crate::comparisons::{NO_MEMORY, same};
 use crate::inputs::{numbered, set_of};
 use process_api::*;
 
@@ -23,7 +23,7 @@ fn processes_are_numbered_1_to_256(rt: HostRuntime) {
 fn sets_gain_and_lose_members(rt: HostRuntime) {
     let alloc = rt.alloc();
     let seven = set_of(&rt, &[256, 64, 1, 193, 33, 65, 2, 33]);
-    are_members(&rt, alloc, &seven, &[1, 2, 33, 64, 65, 193, 256]);
+    are_members(&rt, alloc, 0, &seven, &[1, 2, 33, 64, 65, 193, 256]);
     let two = Pid::after(1);
     let five = Pid::after(4);
     let mut set = set_of(&rt, &[2, 5]);
@@ -68,7 +68,7 @@ fn sets_up_to_64_are_words(rt: HostRuntime) {
         let came = (*members, set_of(&rt, members).to_word());
         same(&rt, &came, &(*members, *word));
         if let Some(word) = word {
-            are_members(&rt, rt.alloc(), &ProcSet::of_word(*word), members);
+            are_members(&rt, rt.alloc(), 0, &ProcSet::of_word(*word), members);
         }
     }
 }
@@ -101,8 +101,8 @@ fn keys_rise_by_tick_receiver_sender_and_number(rt: HostRuntime) {
 /// Of three processes the second has a number.
 #[test]
 fn cells_are_copied(rt: HostRuntime) {
-    let three = vec![in rt.alloc(); None, Some(20u32), None].expect(&rt, "no memory");
-    let cells = Cells::new(three).copy().expect(&rt, "no memory");
+    let three = vec![in rt.alloc(); None, Some(20u32), None].expect(&rt, NO_MEMORY);
+    let cells = Cells::new(three).copy().expect(&rt, NO_MEMORY);
     let found = (cells.get(Pid::after(1)), cells.get(Pid::after(3)));
     same(&rt, &found, &(Some(20), None));
     same(&rt, &cells.into_vec().len(), &3);
@@ -111,9 +111,9 @@ fn cells_are_copied(rt: HostRuntime) {
 #[test]
 fn actions_are_appended(rt: HostRuntime) {
     let mut out = Vec::new(rt.alloc());
-    send_to(&mut out, Pid::after(0), Payload::Alive).expect(&rt, "no memory");
-    wake_after(&mut out, 7, Tag::Share).expect(&rt, "no memory");
-    note_that(&mut out, Note::Round(1)).expect(&rt, "no memory");
+    send_to(&mut out, Pid::after(0), Payload::Alive).expect(&rt, NO_MEMORY);
+    wake_after(&mut out, 7, Tag::Share).expect(&rt, NO_MEMORY);
+    note_that(&mut out, Note::Round(1)).expect(&rt, NO_MEMORY);
     are_done(&rt, rt.alloc(), 0, &out, "alive>1 Share+7 round:1");
 }
 
@@ -133,7 +133,7 @@ fn a_trace_gives_its_entries(rt: HostRuntime) {
         lost: 0,
         notes: Vec::new(rt.alloc()),
     };
-    let trace = Trace::new(vec![in rt.alloc(); entry].expect(&rt, "no memory"));
+    let trace = Trace::new(vec![in rt.alloc(); entry].expect(&rt, NO_MEMORY));
     same(&rt, &trace.entries().len(), &1);
     same(&rt, &trace.into_vec().len(), &1);
 }

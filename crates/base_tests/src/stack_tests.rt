@@ -1,5 +1,5 @@
 //! Steps of a process that is made of parts.
-use crate::comparisons::same;
+use crate::comparisons::{NO_MEMORY, same};
 use crate::driving::{TIMEOUTS, drive_process, opening_of};
 use crate::inputs::Given::{self, Beat, Check, Start, Suspects};
 use crate::inputs::input_of;
@@ -29,9 +29,9 @@ const ALONE: &[(u32, Given, &str)] = &[(0, Start, "Beat+4 Check+3"), (3, Check, 
 fn a_boxed_process_alone_wakes_itself(rt: HostRuntime) {
     let alloc = rt.alloc();
     let opening = opening_of(&rt, 1, 1, 10, NUMBERS, None, AlgorithmKind::Idle, None);
-    let detector = TimeoutDetector::open(alloc, &opening).expect(&rt, "no memory");
+    let detector = TimeoutDetector::open(alloc, &opening).expect(&rt, NO_MEMORY);
     let stack = Stack::new(opening.own, detector, NoAlgorithm);
-    let mut machine: Box<dyn Process> = Box::new(alloc, stack).expect(&rt, "no memory");
+    let mut machine: Box<dyn Process> = Box::new(alloc, stack).expect(&rt, NO_MEMORY);
     same(&rt, &machine.pid().number(), &1);
     drive_process(&rt, alloc, &mut machine, ALONE);
 }
@@ -58,7 +58,7 @@ fn hands_the_top_layer_to_the_algorithm_last(rt: HostRuntime) {
     let kind = AlgorithmKind::EventuallyStrong;
     let opening = opening_of(&rt, 1, 3, 10, TIMEOUTS, Some(4), kind, Some(10));
     let detector = Reduced::open(SuspectsThree { failed: false }, &opening);
-    let algorithm = EsConsensus::open(alloc, &opening).expect(&rt, "no memory");
+    let algorithm = EsConsensus::open(alloc, &opening).expect(&rt, NO_MEMORY);
     let mut machine = Stack::new(opening.own, detector, algorithm);
     drive_process(&rt, alloc, &mut machine, TOP_LAYER);
 }
@@ -72,7 +72,7 @@ fn fails<P: Process>(
     rows: &[(u32, Given, bool, usize)],
 ) {
     let mut out = Vec::new(alloc);
-    note_that(&mut out, Note::Round(1)).expect(rt, "no memory");
+    note_that(&mut out, Note::Round(1)).expect(rt, NO_MEMORY);
     same(rt, &(machine.pid().number(), machine.failed()), &(1, false));
     for &(tick, given, refused, actions) in rows {
         let input = input_of(rt, alloc, given);
@@ -90,7 +90,7 @@ fn runs_boxed_and_fails_for_good(rt: HostRuntime) {
         (10, Beat, true, 4),
     ];
     let stack = Stack::new(Pid::after(0), SuspectsThree { failed: false }, NoAlgorithm);
-    let mut machine: Box<dyn Process> = Box::new(rt.alloc(), stack).expect(&rt, "no memory");
+    let mut machine: Box<dyn Process> = Box::new(rt.alloc(), stack).expect(&rt, NO_MEMORY);
     fails(&rt, rt.alloc(), &mut machine, ROWS);
 }
 

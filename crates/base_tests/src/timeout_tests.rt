@@ -2,6 +2,7 @@
 ghost use Rattle.std.specs.Prelude.{◌≤◌};
 ghost use Rattle.scenario_record.specs.Numbers.{AreTimeoutInRange};
 
+use crate::comparisons::NO_MEMORY;
 use crate::driving::{Row, drive_detector, opening_of};
 use crate::inputs::Given::{Alive, Beat, Check, Share, Start};
 use process_api::{DetectorNumbers, TimeoutNumbers, Watch};
@@ -34,7 +35,7 @@ fn watches(
         AlgorithmKind::Idle,
         None,
     );
-    let mut machine = TimeoutDetector::open(alloc, &opening).expect(rt, "no memory");
+    let mut machine = TimeoutDetector::open(alloc, &opening).expect(rt, NO_MEMORY);
     drive_detector(rt, alloc, &mut machine, rows);
 }
 

@@ -1,5 +1,5 @@
 //! Tests of `bench_commands` and `study_commands`: runs of `fdbench` and `fdstudy` over memory, from the words to the
-//! status.
+//! status; and of the inputs that `shell` reads.
 //!
 //! What a run prints is compared by the crate `transcripts`. Here stands what no printed text shows: inputs and outlets
 //! that fail, files by their paths, calls of the library, threads that must overlap, plans and windows as a gate sees

@@ -12,32 +12,39 @@ use itoa::Buffer;
 use judges::{Outcome, Verdicts};
 use std::alloc::AllocError;
 
-/// Adds the row of a value, which has a name. The layer, the observer and the subject are 0 where the section has none.
-#[tactic(auto, unfolding(crate::specs::ReportText::report_row))]
-fn push_value(
-    rows: &mut Rows,
+/// What rows are about. The layer, the observer and the subject are 0 where they have none.
+#[derive(Clone, Copy)]
+struct About {
     section: &'static str,
     layer: u8,
     observer: u16,
     subject: u16,
+}
+
+/// Adds the row of a value, which has a name.
+#[tactic(auto, unfolding(crate::specs::ReportText::report_row))]
+fn push_value(
+    rows: &mut Rows,
+    about: About,
     name: &'static str,
     value: Value,
 ) -> Result<(), AllocError>
     requires { IsBetweenRows rows.old }
     ensures between { OnOk result (IsBetweenRows rows.new) }
     ensures text { OnOk result (text_of rows.new ≡ text_of rows.old
-        ++ report_row section.now layer observer subject (name.now, value_text value)) }
+        ++ report_row about.section.now about.layer about.observer about.subject
+        (name.now, value_text value)) }
 {
-    let mut layer_text = Buffer::new();
-    let mut observer_text = Buffer::new();
-    let mut subject_text = Buffer::new();
-    let mut number_text = Buffer::new();
-    let text = value.text(&mut number_text);
+    let mut layer = Buffer::new();
+    let mut observer = Buffer::new();
+    let mut subject = Buffer::new();
+    let mut number = Buffer::new();
+    let text = value.text(&mut number);
     rows.push(&[
-        section.as_bytes(),
-        layer_text.format(layer).as_bytes(),
-        observer_text.format(observer).as_bytes(),
-        subject_text.format(subject).as_bytes(),
+        about.section.as_bytes(),
+        layer.format(about.layer).as_bytes(),
+        observer.format(about.observer).as_bytes(),
+        subject.format(about.subject).as_bytes(),
         name.as_bytes(),
         text.as_bytes(),
     ])
@@ -47,19 +54,17 @@ fn push_value(
 #[tactic(auto, unfolding(crate::specs::ReportText::report_rows))]
 fn push_values(
     rows: &mut Rows,
-    section: &'static str,
-    layer: u8,
-    observer: u16,
-    subject: u16,
+    about: About,
     values: &[(&'static str, Value)],
 ) -> Result<(), AllocError>
     requires { IsBetweenRows rows.old }
     ensures between { OnOk result (IsBetweenRows rows.new) }
     ensures text { OnOk result (text_of rows.new ≡ text_of rows.old
-        ++ report_rows section.now layer observer subject (map (λ v. (v.0.now, value_text v.1)) values.now)) }
+        ++ report_rows about.section.now about.layer about.observer about.subject
+        (map (λ v. (v.0.now, value_text v.1)) values.now)) }
 {
     for (name, value) in values {
-        push_value(rows, section, layer, observer, subject, name, *value)?;
+        push_value(rows, about, name, *value)?;
     }
     Ok(())
 }
@@ -71,12 +76,18 @@ pub(crate) fn push_run(rows: &mut Rows, summary: &Summary) -> Result<(), AllocEr
     ensures text { OnOk result (text_of rows.new ≡ text_of rows.old
         ++ run_text summary.now.entries summary.now.sent summary.now.lost) }
 {
+    let about = About {
+        section: "run",
+        layer: 0,
+        observer: 0,
+        subject: 0,
+    };
     let values = [
         ("entries", Value::Count(summary.entries)),
         ("sent", Value::Sum(summary.sent)),
         ("lost", Value::Sum(summary.lost)),
     ];
-    push_values(rows, "run", 0, 0, 0, &values)
+    push_values(rows, about, &values)
 }
 
 /// Adds the rows of the verdicts on a layer.
@@ -89,6 +100,12 @@ pub(crate) fn push_verdicts(
     ensures between { OnOk result (IsBetweenRows rows.new) }
     ensures text { OnOk result (text_of rows.new ≡ text_of rows.old ++ verdict_text layer verdicts.now) }
 {
+    let about = About {
+        section: "verdict",
+        layer,
+        observer: 0,
+        subject: 0,
+    };
     let values = [
         ("strong_completeness", of_tick(verdicts.strong_completeness)),
         ("weak_completeness", of_tick(verdicts.weak_completeness)),
@@ -103,7 +120,7 @@ pub(crate) fn push_verdicts(
             of_tick(verdicts.eventual_weak_accuracy),
         ),
     ];
-    push_values(rows, "verdict", layer, 0, 0, &values)
+    push_values(rows, about, &values)
 }
 
 /// Adds the rows of the measures of a pair.
@@ -112,6 +129,12 @@ pub(crate) fn push_pair(rows: &mut Rows, measures: &PairMeasures) -> Result<(), 
     ensures between { OnOk result (IsBetweenRows rows.new) }
     ensures text { OnOk result (text_of rows.new ≡ text_of rows.old ++ pair_text measures.now) }
 {
+    let about = About {
+        section: "pair",
+        layer: measures.layer,
+        observer: measures.observer.number(),
+        subject: measures.subject.number(),
+    };
     let values = [
         ("mistakes", Value::Count(measures.mistakes)),
         ("mistake_ticks", Value::Count(measures.mistake_ticks)),
@@ -123,14 +146,7 @@ pub(crate) fn push_pair(rows: &mut Rows, measures: &PairMeasures) -> Result<(), 
         ("good_count", Value::Count(measures.good_count)),
         ("detection", of_detection(measures.detection)),
     ];
-    push_values(
-        rows,
-        "pair",
-        measures.layer,
-        measures.observer.number(),
-        measures.subject.number(),
-        &values,
-    )
+    push_values(rows, about, &values)
 }
 
 /// Adds the rows of what a process decided.
@@ -139,10 +155,16 @@ pub(crate) fn push_decision(rows: &mut Rows, outcome: &Outcome) -> Result<(), Al
     ensures between { OnOk result (IsBetweenRows rows.new) }
     ensures text { OnOk result (text_of rows.new ≡ text_of rows.old ++ decision_text outcome.now) }
 {
+    let about = About {
+        section: "decision",
+        layer: 0,
+        observer: outcome.pid.number(),
+        subject: 0,
+    };
     let values = [
         ("value", of_answer(outcome.value)),
         ("tick", of_tick(outcome.tick)),
         ("rounds", Value::Count(outcome.rounds)),
     ];
-    push_values(rows, "decision", 0, outcome.pid.number(), 0, &values)
+    push_values(rows, about, &values)
 }

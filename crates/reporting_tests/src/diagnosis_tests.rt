@@ -1,5 +1,5 @@
 //! What is said of bytes that are no text, and of a file's table.
-use crate::comparisons::same;
+use crate::comparisons::{NO_MEMORY, same};
 use diagnosis::{Diagnosis, diagnose, diagnose_table};
 
 /// Two processes, of which the second crashes at tick 3.
@@ -19,14 +19,16 @@ crash = [{ process = 2, at = 3 }]
 #[test]
 fn whole_files(rt: HostRuntime) {
     let alloc = rt.alloc();
-    let Ok(Diagnosis::Refused(refused)) = diagnose(alloc, b"seed = 1\n# \xff\n") else {
+    let said = diagnose(alloc, b"seed = 1\n# \xff\n");
+    let Diagnosis::Refused(refused) = said.expect(&rt, NO_MEMORY) else {
         panic!(rt; "the bytes are accepted");
     };
-    let said = format!(in alloc; "{refused}").expect(&rt, "no memory");
+    let said = format!(in alloc; "{refused}").expect(&rt, NO_MEMORY);
     let wanted = "NotToml: line 2, column 3: invalid UTF-8";
     same(&rt, &said.as_str(), &wanted);
     let table = toml::table_from_str(alloc, CRASH_FILE).expect(&rt, "no TOML");
-    let Ok(Diagnosis::Accepted(file)) = diagnose_table(alloc, &table) else {
+    let said = diagnose_table(alloc, &table);
+    let Diagnosis::Accepted(file) = said.expect(&rt, NO_MEMORY) else {
         panic!(rt; "the table is refused");
     };
     same(&rt, &(file.processes, file.horizon), &(2, 10));

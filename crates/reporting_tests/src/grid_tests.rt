@@ -1,5 +1,5 @@
 //! Grids that there can't be.
-use crate::comparisons::same;
+use crate::comparisons::{NO_MEMORY, same};
 use crate::traces::axes;
 use std::alloc::Global;
 use std::process::Abort;
@@ -63,7 +63,7 @@ fn refusal(
     let (vary, over) = (axes(rt, alloc, vary), axes(rt, alloc, over));
     match Grid::new(alloc, vary, over, axes(rt, alloc, deal), first, last) {
         Ok(_) => panic!(rt; "the grid is taken"),
-        Err(error) => format!(in alloc; "{error:?}").expect(rt, "no memory"),
+        Err(error) => format!(in alloc; "{error:?}").expect(rt, NO_MEMORY),
     }
 }
 

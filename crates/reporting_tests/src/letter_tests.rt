@@ -1,5 +1,5 @@
 //! The table of letters.
-use crate::comparisons::is_made_of;
+use crate::comparisons::{NO_MEMORY, is_made_of};
 use crate::traces::pid;
 use letters::{Letter, LetterFate, letters_text};
 use process_api::Kind;
@@ -34,7 +34,7 @@ fn letter(rt: &impl Abort, kind: Kind, due: Option<u64>, fate: LetterFate) -> Le
 
 /// The text of these letters is the header and these lines.
 fn have_lines(rt: &impl Abort, alloc: Global, letters: &[Letter], lines: &str) {
-    let text = letters_text(alloc, letters).expect(rt, "no memory");
+    let text = letters_text(alloc, letters).expect(rt, NO_MEMORY);
     is_made_of(
         rt,
         &text,
@@ -56,7 +56,7 @@ fn texts(rt: HostRuntime) {
     for &(kind, name) in KINDS {
         let lost = letter(&rt, kind, None, LetterFate::Lost);
         let line = format!(in alloc; "4294967295,3,256,1000000000000,{name},,lost\n");
-        have_lines(&rt, alloc, &[lost], &line.expect(&rt, "no memory"));
+        have_lines(&rt, alloc, &[lost], &line.expect(&rt, NO_MEMORY));
     }
     let rows = [
         letter(&rt, Kind::Alive, Some(0), LetterFate::Taken),

@@ -1,5 +1,5 @@
 //! Pictures, and their texts written by hand.
-use crate::comparisons::is_made_of;
+use crate::comparisons::{NO_MEMORY, is_made_of};
 use std::alloc::Global;
 use std::process::Abort;
 use svg::{Anchor, Caption, Class, Picture, Point, Shape, style, svg_text};
@@ -12,7 +12,7 @@ const TO: Point = Point { x: 300, y: 4000 };
 fn shapes_of(rt: &impl Abort, alloc: Global) -> Vec<Shape> {
     let (class, center) = (Class::Crash, FROM);
     let caption = Caption::copied(alloc, "a<b> & \"c\" isn't\t\u{e9}");
-    let caption = caption.expect(rt, "no memory");
+    let caption = caption.expect(rt, NO_MEMORY);
     let shapes = vec![in alloc;
         Shape::Line {
             class: Class::Axis,
@@ -48,7 +48,7 @@ fn shapes_of(rt: &impl Abort, alloc: Global) -> Vec<Shape> {
             caption,
         },
     ];
-    shapes.expect(rt, "no memory")
+    shapes.expect(rt, NO_MEMORY)
 }
 
 const LINES: &str = "<line class=\"axis\" x1=\"1\" y1=\"20\" x2=\"300\" y2=\"4000\"/>
@@ -78,7 +78,7 @@ fn shapes(rt: HostRuntime) {
         height: 480,
         shapes: shapes_of(&rt, alloc),
     };
-    let text = svg_text(alloc, &picture).expect(&rt, "no memory");
+    let text = svg_text(alloc, &picture).expect(&rt, NO_MEMORY);
     let style = std::str::from_utf8(style()).expect(&rt, "no text");
     is_made_of(&rt, &text, &[HEAD, style, LINES, OTHERS]);
 }

@@ -2,6 +2,7 @@
 ghost use Rattle.std.specs.Prelude.{IsTrue, OnOk};
 ghost use Rattle.process_api.specs.Order.{is_rising};
 
+use crate::comparisons::NO_MEMORY;
 use process_api::{Entry, Key, Kind, Note, Pid, Trace};
 use scenario::{Scenario, read_scenario};
 use std::alloc::{AllocError, Global};
@@ -60,7 +61,7 @@ min = 2
 max = 2
 "
     );
-    text.expect(rt, "no memory")
+    text.expect(rt, NO_MEMORY)
 }
 
 /// The scenario of that file.
@@ -80,7 +81,7 @@ pub fn axes(rt: &impl Abort, alloc: Global, words: &str) -> Vec<Axis> {
     let mut axes = Vec::new(alloc);
     for word in words.lines() {
         let axis = Axis::parse(alloc, word).expect(rt, "no axis");
-        axes.push(axis).expect(rt, "no memory");
+        axes.push(axis).expect(rt, NO_MEMORY);
     }
     axes
 }
@@ -142,7 +143,7 @@ fn entry_of<R: Abort>(rt: &R, alloc: Global, row: &str) -> Entry {
     let mut notes = Vec::new(alloc);
     for text in parts.nth(3).unwrap_or("").split(' ') {
         if !text.is_empty() {
-            notes.push(note_of(rt, text)).expect(rt, "no memory");
+            notes.push(note_of(rt, text)).expect(rt, NO_MEMORY);
         }
     }
     Entry {
@@ -171,7 +172,7 @@ fn add<R: Abort>(rt: &R, entries: &mut Vec<Entry>, entry: Entry) -> Result<(), A
 pub fn trace_of<R: Abort>(rt: &R, alloc: Global, rows: &str) -> Trace {
     let mut entries: Vec<Entry> = Vec::new(alloc);
     for row in rows.lines() {
-        add(rt, &mut entries, entry_of(rt, alloc, row)).expect(rt, "no memory");
+        add(rt, &mut entries, entry_of(rt, alloc, row)).expect(rt, NO_MEMORY);
     }
     Trace::new(entries)
 }

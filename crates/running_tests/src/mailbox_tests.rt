@@ -1,5 +1,5 @@
 //! Letters that are posted by slips and come out of mailboxes: none, some, by one thread and by several.
-ghost use Rattle.std.specs.Prelude.{◌≡◌, ◌≤◌, length, IfOk};
+ghost use Rattle.std.specs.Prelude.{◌≡◌, ◌≤◌, length};
 ghost use Rattle.process_api.specs.Bounds.{most_processes};
 ghost use Rattle.mailboxes.specs.Mailboxes.{IsSlipOf};
 

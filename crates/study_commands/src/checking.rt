@@ -23,8 +23,8 @@ fn limit_line(alloc: Global, limit: u64, entries: u64) -> Result<String, AllocEr
     }
 }
 
-/// How long the windows of a run may be, about how much they then are, and which way is likely faster: no run by windows
-/// that was measured, on 4 cores, was faster than the list (docs/SPEED.md, 'By windows').
+/// How long the windows of a run may be, about how much they then are, and which way is likely faster: no run by
+/// windows that was measured, on 4 cores, was faster than the list (docs/SPEED.md, 'By windows').
 fn window_line(alloc: Global, ticks: u32, entries: u64) -> Result<String, AllocError>
     ensures { IfOk result (λ s. string_bytes s ≡ window_text ticks entries) }
 {

@@ -12,7 +12,7 @@ ghost use Rattle.consensus_es.specs.Kept.{by_sender};
 ghost use Rattle.consensus_es.specs.Orderly.{IsOrderly};
 ghost use Rattle.consensus_es.specs.State.{state_of, Does};
 
-use crate::comparisons::same;
+use crate::comparisons::{NO_MEMORY, same};
 use consensus_es::{Letters, Membership, Progress, best, law_settled};
 use process_api::{Action, Estimate, Pid, ProcSet, StepInput, Tag};
 use std::alloc::{AllocError, Global};
@@ -101,11 +101,11 @@ fn waits_settle(rt: HostRuntime) {
     let mut suspects = ProcSet::new();
     let mut out = Vec::new(alloc);
     let opened = open_and_take(alloc, &membership, &StepInput::Start, &suspects, &mut out);
-    let mut progress = opened.expect(&rt, "no memory");
+    let mut progress = opened.expect(&rt, NO_MEMORY);
     same(&rt, &out.len(), &2);
     suspects.insert(Pid::after(1));
     let woken = wake_waiting(&mut progress, &membership, &suspects, &mut out);
-    woken.expect(&rt, "no memory");
+    woken.expect(&rt, NO_MEMORY);
     same(&rt, &out.len(), &5);
     let taken = take_and_wake(
         &mut progress,
@@ -114,7 +114,7 @@ fn waits_settle(rt: HostRuntime) {
         &suspects,
         &mut out,
     );
-    taken.expect(&rt, "no memory");
+    taken.expect(&rt, NO_MEMORY);
     same(&rt, &out.len(), &5);
 }
 
@@ -131,9 +131,9 @@ fn largest_stamp_then_least_sender(rt: HostRuntime) {
         };
         let late = Estimate { value: 20, stamp };
         let kept = estimates.keep(round, first, early);
-        kept.expect(&rt, "no memory");
+        kept.expect(&rt, NO_MEMORY);
         let kept = estimates.keep(round, Pid::after(1), late);
-        kept.expect(&rt, "no memory");
+        kept.expect(&rt, NO_MEMORY);
         let chosen = best_of_two(&estimates, &membership, round).map(|it| it.value);
         same(&rt, &(round, chosen), &(round, Some(wanted)));
     }

@@ -6,6 +6,7 @@ ghost use Rattle.consensus_s.specs.Machine.{state_of};
 ghost use Rattle.base_tests.specs.Settled.{IsSettled};
 
 use crate::answers::are_done;
+use crate::comparisons::NO_MEMORY;
 use crate::driving::{TIMEOUTS, opening_of};
 use consensus_s::{SConsensus, law_settled};
 use process_api::{Action, Algorithm, ProcSet, StepInput, Tag};
@@ -38,10 +39,10 @@ fn waits_settle(rt: HostRuntime) {
     let alloc = rt.alloc();
     let kind = AlgorithmKind::Strong;
     let opening = opening_of(&rt, 1, 2, 20, TIMEOUTS, None, kind, Some(10));
-    let mut machine = SConsensus::open(alloc, &opening).expect(&rt, "no memory");
+    let mut machine = SConsensus::open(alloc, &opening).expect(&rt, NO_MEMORY);
     let mut out = Vec::new(alloc);
     let taken = take_and_wake(&mut machine, &StepInput::Start, &ProcSet::new(), &mut out);
-    taken.expect(&rt, "no memory");
+    taken.expect(&rt, NO_MEMORY);
     let wanted = "round:1 vector:1[10 -]>1 vector:1[10 -]>2";
     are_done(&rt, alloc, 0, &out, wanted);
 }

@@ -1,6 +1,6 @@
 //! The scenarios that files stand for.
 use crate::changes::{CRASH_FILE, changed};
-use crate::comparisons::same;
+use crate::comparisons::{NO_MEMORY, same};
 use crate::inputs::numbered;
 use process_api::{DetectorNumbers, FreshnessNumbers, Pid, TimeoutNumbers, Watch};
 use scenario::{AlgorithmKind, Link, Outage, Scenario, read_scenario};
@@ -189,9 +189,9 @@ fn push_one(
 fn told_of(rt: &impl Abort, alloc: Global, file: &str) -> String {
     let scenario = read_scenario(alloc, file.as_bytes()).expect(rt, "not a scenario");
     let mut told = String::new(alloc);
-    push_all(&mut told, &scenario).expect(rt, "no memory");
+    push_all(&mut told, &scenario).expect(rt, NO_MEMORY);
     for before in 0..scenario.processes() {
-        push_one(rt, &mut told, &scenario, before + 1).expect(rt, "no memory");
+        push_one(rt, &mut told, &scenario, before + 1).expect(rt, NO_MEMORY);
     }
     told
 }
@@ -266,7 +266,7 @@ fn every_process(rt: HostRuntime) {
 fn outages_of_links(rt: HostRuntime) {
     let alloc = rt.alloc();
     let second = changed(&rt, alloc, CRASH_FILE, "version = 1", "version = 2");
-    let text = format!(in alloc; "{second}{OUTAGES}").expect(&rt, "no memory");
+    let text = format!(in alloc; "{second}{OUTAGES}").expect(&rt, NO_MEMORY);
     let scenario = read_scenario(alloc, text.as_bytes()).expect(&rt, "not a scenario");
     let (_, there) = link_of(&rt, &scenario, 2, 1);
     let (_, back) = link_of(&rt, &scenario, 1, 2);

@@ -1,7 +1,7 @@
 //! Files that have bytes of other kinds than text and line feeds, and files that repeat a part often.
 use super::answer;
 use crate::changes::{CRASH_FILE, changed};
-use crate::comparisons::same;
+use crate::comparisons::{NO_MEMORY, same};
 use std::alloc::Global;
 use std::process::Abort;
 
@@ -66,9 +66,9 @@ fn repeated(
     (open, close): (&str, &str),
     times: usize,
 ) -> String {
-    let open = open.repeat(alloc, times).expect(rt, "no memory");
-    let close = close.repeat(alloc, times).expect(rt, "no memory");
-    let new = format!(in alloc; "{first}{open}{close}").expect(rt, "no memory");
+    let open = open.repeat(alloc, times).expect(rt, NO_MEMORY);
+    let close = close.repeat(alloc, times).expect(rt, NO_MEMORY);
+    let new = format!(in alloc; "{first}{open}{close}").expect(rt, NO_MEMORY);
     changed(rt, alloc, CRASH_FILE, old, &new)
 }
 

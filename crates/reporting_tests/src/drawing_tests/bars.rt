@@ -1,5 +1,5 @@
 //! Bars of a trace, worked out by hand.
-use crate::comparisons::same;
+use crate::comparisons::{NO_MEMORY, same};
 use crate::traces::{pid, trace_of};
 use drawing::{Bar, bars_of};
 
@@ -49,7 +49,7 @@ fn stretches(rt: HostRuntime) {
     for ((layer, observer, subject), (from, until), wanted) in &CASES {
         let (observer, subject) = (pid(&rt, *observer), pid(&rt, *subject));
         let bars = bars_of(alloc, &trace, *layer, observer, subject, *from, *until);
-        let bars = bars.expect(&rt, "no memory");
+        let bars = bars.expect(&rt, NO_MEMORY);
         same(&rt, &bars.as_slice(), wanted);
     }
 }

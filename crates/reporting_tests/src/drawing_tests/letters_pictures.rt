@@ -1,5 +1,5 @@
 //! Pictures of letters, and refusals.
-use crate::comparisons::same;
+use crate::comparisons::{NO_MEMORY, same};
 use crate::traces::{
     CRASH_AT_3, number_of, pid, pid_of, scenario_of, small_number_of, trace_of, word_of,
 };
@@ -56,7 +56,7 @@ fn letter_of<R: Abort>(rt: &R, row: &str) -> Letter {
 pub fn letters_of<R: Abort>(rt: &R, alloc: Global, rows: &str) -> Vec<Letter> {
     let mut letters = Vec::new(alloc);
     for row in rows.lines() {
-        letters.push(letter_of(rt, row)).expect(rt, "no memory");
+        letters.push(letter_of(rt, row)).expect(rt, NO_MEMORY);
     }
     letters
 }
@@ -239,7 +239,7 @@ fn refusals(rt: HostRuntime) {
     for (more, from, until, wanted) in &ANSWERS {
         for _ in 0..*more {
             let letter = letter_of(&rt, "5,1,2,1,alive,7,taken");
-            two.letters.push(letter).expect(&rt, "no memory");
+            two.letters.push(letter).expect(&rt, NO_MEMORY);
         }
         same(&rt, &answer_of(two.draw(alloc, &[], *from, *until)), wanted);
     }

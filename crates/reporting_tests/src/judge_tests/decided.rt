@@ -1,5 +1,5 @@
 //! Outcomes.
-use crate::comparisons::same;
+use crate::comparisons::{NO_MEMORY, same};
 use crate::findings::outcome;
 use crate::traces::{scenario_of, trace_of};
 use judges::{Answer, decisions};
@@ -62,7 +62,7 @@ fn outcomes(rt: HostRuntime) {
     ] {
         let scenario = scenario_of(&rt, alloc, 3, horizon, "");
         let trace = trace_of(&rt, alloc, rows);
-        let outcomes = decisions(alloc, &scenario, &trace).expect(&rt, "no memory");
+        let outcomes = decisions(alloc, &scenario, &trace).expect(&rt, NO_MEMORY);
         let wanted = [
             outcome(&rt, 1, first),
             outcome(&rt, 2, second),

@@ -1,5 +1,5 @@
 //! Verdicts.
-use crate::comparisons::same;
+use crate::comparisons::{NO_MEMORY, same};
 use crate::traces::{ONE_CRASH, SHARED, scenario_of, trace_of};
 use judges::{Verdicts, judge};
 
@@ -117,7 +117,7 @@ fn verdicts(rt: HostRuntime) {
         let scenario = scenario_of(&rt, alloc, *processes, *horizon, crashes);
         let trace = trace_of(&rt, alloc, rows);
         let layer = if *layer == 1 { 1 } else { 2 };
-        let verdicts = judge(alloc, &scenario, &trace, layer).expect(&rt, "no memory");
+        let verdicts = judge(alloc, &scenario, &trace, layer).expect(&rt, NO_MEMORY);
         let wanted = Verdicts {
             strong_completeness: complete.0,
             weak_completeness: complete.1,

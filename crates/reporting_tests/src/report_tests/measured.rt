@@ -1,5 +1,5 @@
 //! Measures.
-use crate::comparisons::same;
+use crate::comparisons::{NO_MEMORY, same};
 use crate::findings::{Quiet, are_quiet, quiet};
 use crate::traces::{ONE_CRASH, SHARED, scenario_of, trace_of};
 use reporting::{Detection, Meter, PairMeasures, measures};
@@ -16,7 +16,7 @@ fn measures_of<R: Abort>(
 ) -> Vec<PairMeasures> {
     let scenario = scenario_of(rt, alloc, processes, horizon, more);
     let trace = trace_of(rt, alloc, rows);
-    measures(alloc, &scenario, &trace).expect(rt, "no memory")
+    measures(alloc, &scenario, &trace).expect(rt, NO_MEMORY)
 }
 
 /// What is measured where process 1 detects a crash of process 2 after 6 ticks.

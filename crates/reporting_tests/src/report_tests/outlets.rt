@@ -1,5 +1,5 @@
 //! Outlets over a writer.
-use crate::comparisons::same;
+use crate::comparisons::{NO_MEMORY, same};
 use reporting::{Outlet, StreamOutlet};
 use std::io::{self, Write};
 
@@ -35,9 +35,9 @@ fn failed_write(rt: HostRuntime) {
 #[test]
 fn long_piece(rt: HostRuntime) {
     let alloc = rt.alloc();
-    let piece = vec![in alloc; b'a'; 70_000].expect(&rt, "no memory");
+    let piece = vec![in alloc; b'a'; 70_000].expect(&rt, NO_MEMORY);
     let mut outlet = StreamOutlet::new(Vec::new(alloc));
-    let taken = outlet.put(&piece).expect(&rt, "no memory");
+    let taken = outlet.put(&piece).expect(&rt, NO_MEMORY);
     same(&rt, &taken, &70_000);
     same(&rt, &outlet.failures(), &0);
 }

@@ -7,6 +7,7 @@ ghost use Rattle.study.specs.Grid.{runs, turn};
 ghost use Rattle.sweep.specs.StudyText.{IsStudyText};
 
 use super::studies::seven_points;
+use crate::comparisons::NO_MEMORY;
 use reporting::MemoryOutlet;
 use std::alloc::{AllocError, Global};
 use std::marker::Sync;
@@ -164,7 +165,7 @@ fn seeds_of_each(grid: &Grid, dealt: u64) -> u64
 #[test]
 fn shards_share_points_and_runs_have_seeds(rt: HostRuntime) {
     let alloc = rt.alloc();
-    let ranges = points_of_shards(alloc, 7, 3).expect(&rt, "no memory");
+    let ranges = points_of_shards(alloc, 7, 3).expect(&rt, NO_MEMORY);
     let (last, more) = (ranges.last().expect(&rt, "no shard"), surplus(7, 3, 1, 3));
     assert!(rt; last.start == 4 && last.end == 7 && more == Some(1));
     let grid = Grid::new(
@@ -177,6 +178,6 @@ fn shards_share_points_and_runs_have_seeds(rt: HostRuntime) {
     );
     let grid = grid.expect(&rt, "no study");
     assert!(rt; grid.runs() > 5 && seeds_of_each(&grid, 1) == 6);
-    let seeds = two_seeds(alloc, &grid, 0, 5).expect(&rt, "no memory");
+    let seeds = two_seeds(alloc, &grid, 0, 5).expect(&rt, NO_MEMORY);
     assert!(rt; seeds == (1, 6));
 }

@@ -1,5 +1,5 @@
 //! Calls that threads share out.
-use crate::comparisons::same;
+use crate::comparisons::{NO_MEMORY, same};
 use std::sync::atomic::{AtomicU64, Ordering};
 use std::thread;
 use sweep::in_parallel;
@@ -25,11 +25,11 @@ fn ten_remainders(rt: HostRuntime) {
     let remainder = |number: u64| number % 7;
     for threads in [0, 1, 2, 3, 4, 10, 255] {
         let remainders = in_parallel(&rt, alloc, 5, 10, threads, &remainder);
-        let remainders = remainders.expect(&rt, "no memory");
+        let remainders = remainders.expect(&rt, NO_MEMORY);
         let wanted = [5, 6, 0, 1, 2, 3, 4, 5, 6, 0];
         same(&rt, &remainders.as_slice(), &wanted.as_slice());
         let none = in_parallel(&rt, alloc, 5, 0, threads, &remainder);
-        same(&rt, &none.expect(&rt, "no memory").len(), &0);
+        same(&rt, &none.expect(&rt, NO_MEMORY).len(), &0);
     }
 }
 
@@ -51,7 +51,7 @@ fn threads_overlap(rt: HostRuntime) {
                 have_begun(&begun, count)
             },
         );
-        let met = met.expect(&rt, "no memory");
+        let met = met.expect(&rt, NO_MEMORY);
         same(&rt, &begun.load(Ordering::SeqCst), &count);
         assert!(rt; met.iter().all(|is_met| *is_met), "{threads}");
     }

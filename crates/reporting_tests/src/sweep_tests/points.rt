@@ -1,6 +1,6 @@
 //! What tests share: runs, the settings of a point, and the text of its rows.
 use super::studies::layout_of;
-use crate::comparisons::is_text;
+use crate::comparisons::{NO_MEMORY, is_text};
 use crate::findings::{outcome, quiet, without_mistake};
 use crate::traces::{CRASH_AT_3, axes, scenario_of};
 use judges::Answer;
@@ -45,11 +45,11 @@ pub fn one_crash<R: Abort>(
             entries: 12,
             sent: 4,
             lost: 0,
-            outcomes: outcomes.expect(rt, "no memory"),
+            outcomes: outcomes.expect(rt, NO_MEMORY),
         },
         first: without_mistake(tick, tick),
         second: None,
-        measures: Vec::from_array(alloc, pairs).expect(rt, "no memory"),
+        measures: Vec::from_array(alloc, pairs).expect(rt, NO_MEMORY),
     }
 }
 
@@ -59,8 +59,8 @@ pub fn durations<R: Abort>(rt: &R, alloc: Global, processes: u16, lengths: &[&[u
     let mut pairs = Vec::new(alloc);
     for ticks in lengths {
         let mut pair = Vec::new(alloc);
-        pair.extend_from_slice(ticks).expect(rt, "no memory");
-        pairs.push(pair).expect(rt, "no memory");
+        pair.extend_from_slice(ticks).expect(rt, NO_MEMORY);
+        pairs.push(pair).expect(rt, NO_MEMORY);
     }
     Durations { processes, pairs }
 }
@@ -76,7 +76,7 @@ pub fn run_of<R: Abort>(
         first: durations(rt, alloc, 2, &[]),
         second: durations(rt, alloc, 2, &[]),
     };
-    RunNumbers::of_run(alloc, scenario, found, &none).expect(rt, "no memory")
+    RunNumbers::of_run(alloc, scenario, found, &none).expect(rt, NO_MEMORY)
 }
 
 /// What the run of one crash gives, with this detection.
@@ -103,17 +103,17 @@ pub fn rows_of<R: Abort>(rt: &R, alloc: Global, grid: &Grid, sums: &PointSums) -
     let mut table = Table::new(alloc);
     table
         .push_unit(alloc, grid, &layout, 0, sums)
-        .expect(rt, "no memory");
-    table.into_text().expect(rt, "no memory")
+        .expect(rt, NO_MEMORY);
+    table.into_text().expect(rt, NO_MEMORY)
 }
 
 /// The rows of these runs' point, at one time-out, are these.
 pub fn are_rows<R: Abort>(rt: &R, alloc: Global, runs: &[RunNumbers], timeout: &str, wanted: &str) {
     let mut sums = PointSums::new(alloc, 1);
     for run in runs {
-        sums.add(run).expect(rt, "no memory");
+        sums.add(run).expect(rt, NO_MEMORY);
     }
-    let axis = format!(in alloc; "detector.timeout={timeout}").expect(rt, "no memory");
+    let axis = format!(in alloc; "detector.timeout={timeout}").expect(rt, NO_MEMORY);
     let grid = grid_of(rt, alloc, &axis);
     is_text(rt, &rows_of(rt, alloc, &grid, &sums), wanted);
 }

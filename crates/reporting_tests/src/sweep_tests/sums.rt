@@ -3,7 +3,7 @@ use super::points::{
     HEADER, are_rows, crash_at_3, crash_run, durations, grid_of, one_crash, rows_of, run_of,
 };
 use super::studies::layout_of;
-use crate::comparisons::{is_text, same};
+use crate::comparisons::{NO_MEMORY, is_text, same};
 use crate::findings::{outcome, quiet, without_mistake};
 use crate::traces::scenario_of;
 use judges::Answer;
@@ -73,7 +73,7 @@ fn shared<R: Abort>(rt: &R, alloc: Global) -> RunFindings {
     ];
     RunFindings {
         second: Some(without_mistake(None, None)),
-        measures: Vec::from_array(alloc, pairs).expect(rt, "no memory"),
+        measures: Vec::from_array(alloc, pairs).expect(rt, NO_MEMORY),
         ..one_crash(rt, alloc, Some(9), Detection::At(6))
     }
 }
@@ -89,7 +89,7 @@ fn two_layers(rt: HostRuntime) {
     };
     let shared = RunNumbers::of_run(alloc, &with, &shared(&rt, alloc), &lasted);
     let runs = [
-        shared.expect(&rt, "no memory"),
+        shared.expect(&rt, NO_MEMORY),
         crash_run(&rt, alloc, Some(7), Detection::At(4)),
     ];
     are_rows(
@@ -155,9 +155,9 @@ fn decisions(rt: HostRuntime) {
             outcome(&rt, 2, second),
             outcome(&rt, 3, third),
         ];
-        found.summary.outcomes = Vec::from_array(alloc, outcomes).expect(&rt, "no memory");
+        found.summary.outcomes = Vec::from_array(alloc, outcomes).expect(&rt, NO_MEMORY);
         runs.push(run_of(&rt, alloc, &scenario, &found))
-            .expect(&rt, "no memory");
+            .expect(&rt, NO_MEMORY);
     }
     are_rows(
         &rt,
@@ -210,7 +210,7 @@ fn circle<R: Abort>(rt: &R, alloc: Global) -> RunFindings {
         quiet(rt, 1, 3, 2, Detection::NoTick),
     ];
     RunFindings {
-        measures: Vec::from_array(alloc, pairs).expect(rt, "no memory"),
+        measures: Vec::from_array(alloc, pairs).expect(rt, NO_MEMORY),
         ..one_crash(rt, alloc, Some(3), Detection::Na)
     }
 }
@@ -228,7 +228,7 @@ fn watched_pairs(rt: HostRuntime) {
     let run = RunNumbers::of_run(alloc, &scenario, &circle(&rt, alloc), &lasted);
     let runs = [
         RunNumbers::of_limited(alloc, &scenario),
-        run.expect(&rt, "no memory"),
+        run.expect(&rt, NO_MEMORY),
     ];
     are_rows(
         &rt,
@@ -239,7 +239,7 @@ fn watched_pairs(rt: HostRuntime) {
     );
     let mut sums = PointSums::new(alloc, 7);
     for run in &runs {
-        sums.add(run).expect(&rt, "no memory");
+        sums.add(run).expect(&rt, NO_MEMORY);
     }
     let wanted = FirstRuns {
         mistake: Some(8),
@@ -258,9 +258,9 @@ fn lines(rt: HostRuntime) {
     let layout = layout_of(&rt, alloc, &grid, Rows::Points, None);
     table
         .push_header(alloc, &grid, &layout)
-        .expect(&rt, "no memory");
-    let header = table.into_text().expect(&rt, "no memory");
-    let wanted = format!(in alloc; "detector.timeout,{HEADER}").expect(&rt, "no memory");
+        .expect(&rt, NO_MEMORY);
+    let header = table.into_text().expect(&rt, NO_MEMORY);
+    let wanted = format!(in alloc; "detector.timeout,{HEADER}").expect(&rt, NO_MEMORY);
     is_text(&rt, &header, &wanted);
     are_rows(
         &rt,

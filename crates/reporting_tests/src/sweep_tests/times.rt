@@ -1,6 +1,6 @@
 //! Percentiles of the times after which crashes were detected.
 use super::points::{crash_at_3, one_crash, run_of};
-use crate::comparisons::same;
+use crate::comparisons::{NO_MEMORY, same};
 use crate::findings::quiet;
 use reporting::Detection::{self, At, NoTick};
 use std::alloc::Global;
@@ -12,7 +12,7 @@ fn run_with<R: Abort>(rt: &R, alloc: Global, detections: &[Detection]) -> RunNum
     let mut found = one_crash(rt, alloc, None, Detection::Na);
     for detection in detections {
         let pair = quiet(rt, 1, 1, 2, *detection);
-        found.measures.push(pair).expect(rt, "no memory");
+        found.measures.push(pair).expect(rt, NO_MEMORY);
     }
     run_of(rt, alloc, &crash_at_3(rt, alloc), &found)
 }
@@ -79,14 +79,14 @@ fn percentiles(rt: HostRuntime) {
     for (detections, counts, wanted) in &CASES {
         let mut sums = PointSums::new(alloc, 1);
         let run = run_with(&rt, alloc, detections);
-        sums.add(&run).expect(&rt, "no memory");
+        sums.add(&run).expect(&rt, NO_MEMORY);
         are_times(&rt, &sums.first(), *counts, *wanted);
     }
     let mut hundred = PointSums::new(alloc, 1);
     for before in 0..100 {
         let time = (before + 49) % 100 + 1;
         let run = run_with(&rt, alloc, &[At(time)]);
-        hundred.add(&run).expect(&rt, "no memory");
+        hundred.add(&run).expect(&rt, NO_MEMORY);
     }
     let columns = hundred.first();
     are_times(

@@ -8,5 +8,5 @@ use Rattle.reporting.proofs.report_rows.push_values.Given as goal
 abbrev pub invariant-loop-name : goal.invariant-loop-name
 invariant-loop-name l = record {
   between : IsBetweenRows l.rows;
-  text : text_of l.rows ≡ text_of l.initial.rows ++ report_rows l.section l.layer l.observer l.subject (map (λ v. (v.0.now, value_text v.1)) (take l.name-index l.values));
+  text : text_of l.rows ≡ text_of l.initial.rows ++ report_rows l.about.section.now l.about.layer l.about.observer l.about.subject (map (λ v. (v.0.now, value_text v.1)) (take l.name-index l.values));
 }
