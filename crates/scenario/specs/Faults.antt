@@ -30,7 +30,6 @@ use Rattle.scenario.specs.declared.fault.Fault.{Fault}
 use Rattle.scenario.specs.declared.fault.Fault.TheVariants as fault
 use Rattle.scenario.specs.declared.finding.Finding.{Finding}
 use Rattle.scenario.specs.declared.finding.Finding.TheVariants as finding
-use Rattle.scenario.specs.declared.finding.Refused.{Refused}
 
 -- ---- values
 
@@ -217,5 +216,5 @@ Breaks e file (finding.TwiceProcess process number earlier) =
     (e ≡ error.CrashLine) × AreTwice (tables_at (array_key array.Crash) file) number earlier (is_of_process process)
 
 -- what is found with a refusal, if anything is, breaks its rule
-abbrev pub Finds : (file : Members) → Refused → Type 0
-Finds file r = IfSome r.finding (Breaks r.error file)
+abbrev pub Finds : (file : Members) → (found : Option Finding) → ScenarioError → Type 0
+Finds file found e = IfSome found (Breaks e file)

@@ -9,7 +9,7 @@ ghost use Rattle.scenario.specs.Faults.{Finds};
 
 use crate::error::ScenarioError;
 use crate::fault::BelowLookahead;
-use crate::finding::{Finding, Refused};
+use crate::finding::Finding;
 use crate::links::place_of;
 use crate::numbers::Top;
 use process_api::Pid;
@@ -89,25 +89,28 @@ pub(crate) fn first_below(top: &Top<'_>, links: &[Link]) -> Option<(Pid, Pid)>
 }
 
 /// The refusal of a pair whose link is below the lookahead.
-pub(crate) fn below_lookahead(top: &Top<'_>, links: &[Link], pair: (Pid, Pid)) -> Refused<'static>
+pub(crate) fn below_lookahead(
+    top: &Top<'_>,
+    links: &[Link],
+    pair: (Pid, Pid),
+    found: &mut Option<Finding<'_>>,
+) -> ScenarioError
     requires numbers { IsTop top.now }
     requires links { links.now ≡ (record_of (table_view top.now.table.now)).links }
     requires all { length links.now ≡ top.now.numbers.processes * top.now.numbers.processes }
     requires low { IsLow top.now.numbers.processes links.now top.now.numbers.lookahead pair }
-    ensures error { result.error ≡ ScenarioError.BelowLookahead pair.0 pair.1 }
-    ensures finds { Finds (table_view top.now.table.now) result }
+    ensures error { result ≡ ScenarioError.BelowLookahead pair.0 pair.1 }
+    ensures finds { Finds (table_view top.now.table.now) found.new result }
 {
     let (from, to) = pair;
     let n = top.numbers.processes;
     let lookahead = top.numbers.lookahead;
     let min = link_of(links, n, from.number(), to.number()).min;
-    Refused {
-        error: ScenarioError::BelowLookahead { from, to },
-        finding: Some(Finding::Below(BelowLookahead {
-            from,
-            to,
-            min,
-            lookahead,
-        })),
-    }
+    *found = Some(Finding::Below(BelowLookahead {
+        from,
+        to,
+        min,
+        lookahead,
+    }));
+    ScenarioError::BelowLookahead { from, to }
 }

@@ -11,7 +11,7 @@ ghost use Rattle.scenario.specs.Faults.{Finds, IsFoundBy};
 
 use crate::error::ScenarioError;
 use crate::fault::Fault;
-use crate::finding::{Refused, accepted};
+use crate::finding::{Finding, accepted, out_of_memory, refused_at};
 use crate::numbers::{Top, ranged};
 use crate::place::TableArray;
 use crate::twice::find_twice;
@@ -43,37 +43,36 @@ pub(crate) fn read_crash(table: &Table, n: u16) -> Result<Crash, Option<Fault<'s
 
 /// The ticks at which n processes crash, of process 1 first. The first table that is of a process which has one
 /// already ends the reading, so no more than n of them are taken.
-pub(crate) fn read_crashes<'a>(
+pub(crate) fn read_crashes(
     alloc: Global,
     top: &Top<'_>,
-    tables: &[&'a Table],
-) -> Result<Vec<Option<u32>>, Refused<'a>>
+    tables: &[&Table],
+    found: &mut Option<Finding<'_>>,
+) -> Result<Vec<Option<u32>>, ScenarioError>
     requires numbers { IsTop top.now }
     requires tables { tables_in tables.now ≡ tables_at (codes "crash") (table_view top.now.table.now) }
     ensures ok { OnOk result (crashes_refused (table_view top.now.table.now) ≡ false) }
     ensures value { IfOk result (λ v. v.items ≡ (record_of (table_view top.now.table.now)).crashes) }
-    ensures err { IfErr result (λ r. GivenBy ScenarioError.CrashLine (crashes_refused (table_view top.now.table.now)) r.error) }
-    ensures finds { IfErr result (Finds (table_view top.now.table.now)) }
+    ensures err { IfErr result (GivenBy ScenarioError.CrashLine (crashes_refused (table_view top.now.table.now))) }
+    ensures finds { IfErr result (Finds (table_view top.now.table.now) found.new) }
 {
     let n = top.numbers.processes;
     let mut ticks = match vec![in alloc; None; usize::from(n)] {
         Ok(ticks) => ticks,
-        Err(_) => return Err(Refused::memory()),
+        Err(_) => return Err(out_of_memory(found)),
     };
     for i in 0..tables.len() {
         let crash = match read_crash(tables[i], n) {
             Ok(crash) => crash,
             Err(fault) => {
                 let place = TableArray::Crash.place(tables, i);
-                return Err(Refused::at(ScenarioError::CrashLine, place, fault));
+                return Err(refused_at(found, ScenarioError::CrashLine, place, fault));
             }
         };
         let place = crash.process as usize - 1;
         if ticks[place].is_some() {
-            return Err(Refused {
-                error: ScenarioError::CrashLine,
-                finding: find_twice(TableArray::Crash, tables, i, n),
-            });
+            *found = find_twice(TableArray::Crash, tables, i, n);
+            return Err(ScenarioError::CrashLine);
         }
         ticks[place] = Some(crash.at);
     }

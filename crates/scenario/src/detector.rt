@@ -8,7 +8,7 @@ ghost use Rattle.scenario.specs.Faults.{Finds, IsFoundBy};
 
 use crate::error::ScenarioError;
 use crate::fault::Fault;
-use crate::finding::{Refused, accepted};
+use crate::finding::{Finding, accepted, refused_at};
 use crate::names::{other_name, watch_of};
 use crate::numbers::ranged;
 use crate::place::{Place, Section};
@@ -88,33 +88,37 @@ fn read_named(table: &Table) -> Result<DetectorNumbers, Option<Fault<'_>>>
 }
 
 /// The numbers of the detector's table, where all are in their ranges; else, and where there is no table, the refusal.
-pub(crate) fn read_detector(top: &Table) -> Result<DetectorNumbers, Refused<'_>>
+pub(crate) fn read_detector<'a>(
+    top: &'a Table,
+    found: &mut Option<Finding<'a>>,
+) -> Result<DetectorNumbers, ScenarioError>
     ensures test { is_err result ≡ detector_refused (table_view top.now) }
     ensures value { IfOk result (λ d. d ≡ (record_of (table_view top.now)).detector) }
-    ensures error { IfErr result (λ r. r.error ≡ ScenarioError.DetectorNumbers) }
-    ensures finds { IfErr result (Finds (table_view top.now)) }
+    ensures error { IfErr result (λ e. e ≡ ScenarioError.DetectorNumbers) }
+    ensures finds { IfErr result (Finds (table_view top.now) found.new) }
 {
     let Some(table) = inner_table(top, "detector") else {
-        return Err(Refused {
-            error: ScenarioError::DetectorNumbers,
-            finding: None,
-        });
+        *found = None;
+        return Err(ScenarioError::DetectorNumbers);
     };
     match read_named(table) {
         Ok(its) => Ok(its),
         Err(fault) => {
             let place = Place::Section(Section::Detector);
-            Err(Refused::at(ScenarioError::DetectorNumbers, place, fault))
+            Err(refused_at(found, ScenarioError::DetectorNumbers, place, fault))
         }
     }
 }
 
 /// The period of the shares, if there are any, where it is in its range; else the refusal.
-pub(crate) fn read_share(top: &Table) -> Result<Option<u32>, Refused<'_>>
+pub(crate) fn read_share(
+    top: &Table,
+    found: &mut Option<Finding<'_>>,
+) -> Result<Option<u32>, ScenarioError>
     ensures test { is_err result ≡ share_refused (table_view top.now) }
     ensures value { IfOk result (λ share. share ≡ (record_of (table_view top.now)).share) }
-    ensures error { IfErr result (λ r. r.error ≡ ScenarioError.Share) }
-    ensures finds { IfErr result (Finds (table_view top.now)) }
+    ensures error { IfErr result (λ e. e ≡ ScenarioError.Share) }
+    ensures finds { IfErr result (Finds (table_view top.now) found.new) }
 {
     let Some(table) = inner_table(top, "share") else {
         return Ok(None);
@@ -123,7 +127,7 @@ pub(crate) fn read_share(top: &Table) -> Result<Option<u32>, Refused<'_>>
         Ok(period) => Ok(Some(period)),
         Err(fault) => {
             let place = Place::Section(Section::Share);
-            Err(Refused::at(ScenarioError::Share, place, fault))
+            Err(refused_at(found, ScenarioError::Share, place, fault))
         }
     }
 }

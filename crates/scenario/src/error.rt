@@ -9,58 +9,43 @@ use thiserror::Error;
 /// Why a scenario's file is refused, in the order in which the rules are tried: of several faults the first is
 /// answered. `Memory` may come at any point. Contracts know the refusals by their numbers (`specs/Refusals.antt`).
 #[derive(Debug, Drop, Error)]
+#[error("the scenario's file is refused: {}", self.name())]
 pub enum ScenarioError {
     /// The bytes are no UTF-8, or no TOML.
-    #[error("the file is no TOML")]
     NotToml,
     /// A table has a key that isn't one of its keys.
-    #[error("a key is unknown")]
     UnknownKey,
     /// A key that must be there is missing.
-    #[error("a key is missing")]
     MissingKey,
     /// A key has a value of another kind than its own.
-    #[error("a value is of another kind")]
     WrongKind,
     /// `version` isn't 1 or 2.
-    #[error("the version isn't known")]
     Version,
     /// `processes` isn't 1 to 64, in a file of version 2 1 to 256.
-    #[error("the number of processes is out of range")]
     Processes,
     /// `horizon` isn't 1 to 10,000,000.
-    #[error("the horizon is out of range")]
     Horizon,
     /// `lookahead` isn't 1 to 1,000,000.
-    #[error("the lookahead is out of range")]
     Lookahead,
     /// `limit` isn't 1 to 100,000,000.
-    #[error("the limit is out of range")]
     Limit,
     /// `seed` isn't 0 to 9,223,372,036,854,775,807.
-    #[error("the seed is negative")]
     Seed,
     /// `algorithm` isn't `none`, `s` or `es`.
-    #[error("the algorithm isn't known")]
     AlgorithmName,
     /// There are proposals without an algorithm, or an algorithm has other proposals than one of each process, each
     /// 0 to 4,294,967,295.
-    #[error("the proposals don't fit the algorithm")]
     Proposals,
     /// The detector's `kind` isn't `timeout` or `freshness`, one of its numbers isn't 1 to 1,000,000, or its `watch`
     /// isn't `all` or `next`.
-    #[error("the detector's numbers are out of range")]
     DetectorNumbers,
     /// The period of the shares isn't 1 to 1,000,000.
-    #[error("the period of the shares is out of range")]
     Share,
     /// A link has a `min` or a `max` that isn't 1 to 1,000,000 ticks, a `min` above its `max`, or a `loss` that isn't
     /// 0 to 1,000 thousandths; or a table of `links` has a `from` or a `to` that isn't 1 to the number of processes, or
     /// the same process as both, or is of the pair of another one.
-    #[error("a link's numbers are out of range")]
     LinkNumbers,
     /// A letter between two different processes may take fewer ticks than the lookahead.
-    #[error("the link from {} to {} is below the lookahead", .from.number(), .to.number())]
     BelowLookahead {
         /// The sender of the least pair of which this is so, by sender and then by receiver.
         from: Pid,
@@ -69,14 +54,11 @@ pub enum ScenarioError {
     },
     /// A table of `crash` has a `process` that isn't 1 to the number of processes, or is of the process of another one,
     /// or its `at` isn't 0 to 10,000,000.
-    #[error("a crash isn't possible")]
     CrashLine,
     /// A table of `outage` has a `from` or a `to` that isn't 1 to the number of processes, or the same process as both,
     /// or a `begin` or an `until` that isn't 0 to 10,000,000, or a `begin` that isn't below its `until`.
-    #[error("an outage isn't possible")]
     OutageLine,
     /// Memory was refused.
-    #[error("out of memory")]
     Memory(#[from(alloc)] AllocError),
 }
 

@@ -1,5 +1,8 @@
 //! Why a scenario's file is refused, and where.
-ghost use Rattle.std.specs.Prelude.{◌≡◌, Some};
+//!
+//! What reads a part of a file answers the refusal alone, and notes in `found` what is wrong, and where: a [`Finding`] in
+//! each answer would be written out at each step of each proof.
+ghost use Rattle.std.specs.Prelude.{◌≡◌, Some, None};
 ghost use Rattle.toml.specs.Data.{Members};
 ghost use Rattle.scenario.specs.Place.{table_of};
 ghost use Rattle.scenario.specs.Ranges.{subject_of};
@@ -11,7 +14,7 @@ use crate::place::Place;
 use std::alloc::AllocError;
 
 /// What was read, where it isn't refused; else its refusal is answered. That is `?` without its `From`, through which
-/// the prover can't follow a [`Refused`] or a fault.
+/// the prover can't follow a fault, and which makes long proofs longer.
 macro_rules! accepted {
     ($read:expr) => {
         match $read {
@@ -68,32 +71,29 @@ pub struct Refused<'a> {
     pub finding: Option<Finding<'a>>,
 }
 
-impl<'a> Refused<'a> {
-    /// The refusal for a table's fault, if there is one.
-    pub(crate) fn at(error: ScenarioError, place: Place, fault: Option<Fault<'a>>) -> Refused<'a>
-        ensures error { result.error ≡ error }
-        ensures finds { (file table : Members) → table_of place file ≡ Some table
-            → IsFoundBy (subject_of error place file) table fault.entry → Finds file result }
-    {
-        match fault {
-            Some(fault) => Refused {
-                error,
-                finding: Some(Finding::At { place, fault }),
-            },
-            None => Refused {
-                error,
-                finding: None,
-            },
-        }
-    }
+/// Notes what is found in a refused file, a table's fault if there is one. Answers the refusal.
+pub(crate) fn refused_at<'a>(
+    found: &mut Option<Finding<'a>>,
+    error: ScenarioError,
+    place: Place,
+    fault: Option<Fault<'a>>,
+) -> ScenarioError
+    ensures error { result ≡ error }
+    ensures finds { (file table : Members) → table_of place file ≡ Some table
+        → IsFoundBy (subject_of error place file) table fault.entry → Finds file found.new result }
+{
+    *found = match fault {
+        Some(fault) => Some(Finding::At { place, fault }),
+        None => None,
+    };
+    error
+}
 
-    /// That memory was refused.
-    pub(crate) fn memory() -> Refused<'a>
-        ensures { result ≡ record { error = ScenarioError.Memory (record {}); finding = None } }
-    {
-        Refused {
-            error: ScenarioError::Memory(AllocError),
-            finding: None,
-        }
-    }
+/// Notes that nothing is found. Answers that memory was refused.
+pub(crate) fn out_of_memory(found: &mut Option<Finding<'_>>) -> ScenarioError
+    ensures error { result ≡ ScenarioError.Memory (record {}) }
+    ensures none { found.new ≡ None }
+{
+    *found = None;
+    ScenarioError::Memory(AllocError)
 }

@@ -1,5 +1,5 @@
 //! The tables of a scenario's file, and the faults of their keys.
-ghost use Rattle.std.specs.Prelude.{◌≡◌, false, is_some, Some, IfOk, IfSome, IfErr, OnOk};
+ghost use Rattle.std.specs.Prelude.{◌≡◌, false, is_some, IsTrue, Some, IfOk, IfSome, IfErr, OnOk};
 ghost use Rattle.std.specs.List.{list_any};
 ghost use Rattle.std.specs.Option.{option_map_or};
 ghost use Rattle.toml.specs.View.{table_view};
@@ -14,7 +14,7 @@ ghost use Rattle.scenario.specs.Faults.{Breaks, Finds, IsFault};
 use crate::error::ScenarioError;
 use crate::fault::{Fault, UnknownKey};
 use crate::field::{Field, Kind};
-use crate::finding::{Finding, Refused};
+use crate::finding::Finding;
 use crate::place::{Place, Section, TableArray};
 use crate::table::{
     inner_table, inner_tables, is_fresh, is_second, lacking_key, mistyped_key, unlisted_key,
@@ -194,61 +194,66 @@ impl KeyFault {
         }
     }
 
-    /// The first such fault of the table at a place, if it is there.
-    fn at<'a>(self, top: &Table, place: Place, table: Option<&'a Table>) -> Option<Finding<'a>>
+    /// Whether the table at a place is there and has such a fault; notes its first.
+    fn at<'a>(
+        self,
+        top: &Table,
+        place: Place,
+        table: Option<&'a Table>,
+        found: &mut Option<Finding<'a>>,
+    ) -> bool
         requires { table_in table ≡ table_of place (table_view top.now) }
-        ensures test { is_some result ≡ option_map_or
+        ensures test { result ≡ option_map_or
             (λ t. fault_of self (fields_at place (table_view top.now) t) t) (table_in table.entry) false }
-        ensures finding { IfSome result (Breaks (error_of self) (table_view top.now)) }
+        ensures finding { IsTrue result → IfSome found.new (Breaks (error_of self) (table_view top.now)) }
     {
-        let table = table?;
-        let fault = self.of_table(top, place, table)?;
-        Some(Finding::At { place, fault })
+        let Some(table) = table else {
+            return false;
+        };
+        let Some(fault) = self.of_table(top, place, table) else {
+            return false;
+        };
+        *found = Some(Finding::At { place, fault });
+        true
     }
 
-    /// The first such fault of the tables of an array.
-    fn among<'a>(self, top: &Table, array: TableArray, tables: &[&'a Table]) -> Option<Finding<'a>>
+    /// Whether a table of an array has such a fault; notes the first.
+    fn among<'a>(
+        self,
+        top: &Table,
+        array: TableArray,
+        tables: &[&'a Table],
+        found: &mut Option<Finding<'a>>,
+    ) -> bool
         requires { tables_in tables.now ≡ tables_at (array_key array) (table_view top.now) }
-        ensures test { is_some result ≡ list_any (fault_of self (fields_of_array array)) (tables_in tables.now) }
-        ensures finding { IfSome result (Breaks (error_of self) (table_view top.now)) }
+        ensures test { result ≡ list_any (fault_of self (fields_of_array array)) (tables_in tables.now) }
+        ensures finding { IsTrue result → IfSome found.new (Breaks (error_of self) (table_view top.now)) }
     {
         for i in 0..tables.len() {
-            if let Some(found) = self.at(top, array.place(tables, i), Some(tables[i])) {
-                return Some(found);
+            if self.at(top, array.place(tables, i), Some(tables[i]), found) {
+                return true;
             }
         }
-        None
+        false
     }
 
-    /// The first such fault of a file's tables.
+    /// Whether a table of a file has such a fault; notes the first.
     #[tactic(auto, unfolding(crate::specs::Keys::some_table))]
-    fn find<'a>(self, top: &'a Table, tables: &Tables<'a>) -> Option<Finding<'a>>
+    fn find<'a>(self, top: &'a Table, tables: &Tables<'a>, found: &mut Option<Finding<'a>>) -> bool
         requires { AreTables (table_view top.now) tables.now }
-        ensures test { is_some result ≡ some_table (fault_of self) (table_view top.now) }
-        ensures finding { IfSome result (Breaks (error_of self) (table_view top.now)) }
+        ensures test { result ≡ some_table (fault_of self) (table_view top.now) }
+        ensures finding { IsTrue result → IfSome found.new (Breaks (error_of self) (table_view top.now)) }
     {
         let detector = inner_table(top, "detector");
         let share = inner_table(top, "share");
         let link = inner_table(top, "link");
-        if let Some(found) = self.at(top, Place::Top, Some(top)) {
-            return Some(found);
-        }
-        if let Some(found) = self.at(top, Place::Section(Section::Detector), detector) {
-            return Some(found);
-        }
-        if let Some(found) = self.at(top, Place::Section(Section::Share), share) {
-            return Some(found);
-        }
-        if let Some(found) = self.at(top, Place::Section(Section::Link), link) {
-            return Some(found);
-        }
-        if let Some(found) = self.among(top, TableArray::Links, &tables.links) {
-            return Some(found);
-        }
-        if let Some(found) = self.among(top, TableArray::Crash, &tables.crashes) {
-            return Some(found);
-        }
-        self.among(top, TableArray::Outage, &tables.outages)
+        self.at(top, Place::Top, Some(top), found)
+            || self.at(top, Place::Section(Section::Detector), detector, found)
+            || self.at(top, Place::Section(Section::Share), share, found)
+            || self.at(top, Place::Section(Section::Link), link, found)
+            || self.among(top, TableArray::Links, &tables.links, found)
+            || self.among(top, TableArray::Crash, &tables.crashes, found)
+            || self.among(top, TableArray::Outage, &tables.outages, found)
     }
 }
 
@@ -268,29 +273,24 @@ pub(crate) fn tables_of(alloc: Global, top: &Table) -> Result<Tables<'_>, AllocE
 
 /// Refuses a file of which some table has a fault of its keys: keys that aren't listed first, then missing ones, then
 /// values of another kind.
-pub(crate) fn check_keys<'a>(top: &'a Table, tables: &Tables<'a>) -> Result<(), Refused<'a>>
+pub(crate) fn check_keys<'a>(
+    top: &'a Table,
+    tables: &Tables<'a>,
+    found: &mut Option<Finding<'a>>,
+) -> Result<(), ScenarioError>
     requires { AreTables (table_view top.now) tables.now }
     ensures ok { OnOk result (Passes key_rules (Some (table_view top.now))) }
-    ensures err { IfErr result (λ r. StopsAt key_rules (Some (table_view top.now)) r.error) }
-    ensures finds { IfErr result (Finds (table_view top.now)) }
+    ensures err { IfErr result (StopsAt key_rules (Some (table_view top.now))) }
+    ensures finds { IfErr result (Finds (table_view top.now) found.new) }
 {
-    if let Some(found) = KeyFault::Unlisted.find(top, tables) {
-        return Err(Refused {
-            error: ScenarioError::UnknownKey,
-            finding: Some(found),
-        });
+    if KeyFault::Unlisted.find(top, tables, found) {
+        return Err(ScenarioError::UnknownKey);
     }
-    if let Some(found) = KeyFault::Lacking.find(top, tables) {
-        return Err(Refused {
-            error: ScenarioError::MissingKey,
-            finding: Some(found),
-        });
+    if KeyFault::Lacking.find(top, tables, found) {
+        return Err(ScenarioError::MissingKey);
     }
-    if let Some(found) = KeyFault::Mistyped.find(top, tables) {
-        return Err(Refused {
-            error: ScenarioError::WrongKind,
-            finding: Some(found),
-        });
+    if KeyFault::Mistyped.find(top, tables, found) {
+        return Err(ScenarioError::WrongKind);
     }
     Ok(())
 }

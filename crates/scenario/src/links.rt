@@ -12,7 +12,7 @@ ghost use Rattle.scenario.specs.Faults.{Finds, IsFoundBy};
 
 use crate::error::ScenarioError;
 use crate::fault::{Fault, MinAboveMax};
-use crate::finding::{Refused, accepted};
+use crate::finding::{Finding, accepted, out_of_memory, refused_at};
 use crate::numbers::{Top, ranged};
 use crate::place::{Place, Section, TableArray};
 use crate::table::{inner_table, integer_at};
@@ -115,38 +115,37 @@ pub(crate) fn place_of(from: u32, to: u32, n: u16) -> usize
 
 /// The links of the pairs of n processes that have tables of their own. The first table that is of a pair which has
 /// one already ends the reading, so no more than one of each pair are taken.
-fn read_pairs<'a>(
+fn read_pairs(
     alloc: Global,
     top: &Top<'_>,
-    tables: &[&'a Table],
-) -> Result<Vec<Option<Link>>, Refused<'a>>
+    tables: &[&Table],
+    found: &mut Option<Finding<'_>>,
+) -> Result<Vec<Option<Link>>, ScenarioError>
     requires numbers { IsTop top.now }
     requires tables { tables_in tables.now ≡ tables_at (codes "links") (table_view top.now.table.now) }
     ensures ok { OnOk result (pairs_refused (table_view top.now.table.now) ≡ false) }
     ensures value { IfOk result (λ v. (common : _) → map (λ link. unwrap_or link common) v.items
         ≡ links_of common (table_view top.now.table.now)) }
-    ensures err { IfErr result (λ r. GivenBy ScenarioError.LinkNumbers (pairs_refused (table_view top.now.table.now)) r.error) }
-    ensures finds { IfErr result (Finds (table_view top.now.table.now)) }
+    ensures err { IfErr result (GivenBy ScenarioError.LinkNumbers (pairs_refused (table_view top.now.table.now))) }
+    ensures finds { IfErr result (Finds (table_view top.now.table.now) found.new) }
 {
     let n = top.numbers.processes;
     let mut links = match vec![in alloc; None; usize::from(n) * usize::from(n)] {
         Ok(links) => links,
-        Err(_) => return Err(Refused::memory()),
+        Err(_) => return Err(out_of_memory(found)),
     };
     for i in 0..tables.len() {
         let pair = match read_pair(tables[i], n) {
             Ok(pair) => pair,
             Err(fault) => {
                 let place = TableArray::Links.place(tables, i);
-                return Err(Refused::at(ScenarioError::LinkNumbers, place, fault));
+                return Err(refused_at(found, ScenarioError::LinkNumbers, place, fault));
             }
         };
         let place = place_of(pair.from, pair.to, n);
         if links[place].is_some() {
-            return Err(Refused {
-                error: ScenarioError::LinkNumbers,
-                finding: find_twice(TableArray::Links, tables, i, n),
-            });
+            *found = find_twice(TableArray::Links, tables, i, n);
+            return Err(ScenarioError::LinkNumbers);
         }
         links[place] = Some(pair.link);
     }
@@ -161,45 +160,44 @@ fn filled(alloc: Global, own: &[Option<Link>], common: Link) -> Result<Vec<Link>
 }
 
 /// The common link, where its numbers are in their ranges; else, and where there is no table, the refusal.
-fn read_common(top: &Table) -> Result<Link, Refused<'static>>
+fn read_common(top: &Table, found: &mut Option<Finding<'_>>) -> Result<Link, ScenarioError>
     ensures test { is_err result ≡ is_bad_link (table_or_empty (codes "link") (table_view top.now)) }
     ensures value { IfOk result (λ l. l ≡ delays_of (table_or_empty (codes "link") (table_view top.now))) }
-    ensures error { IfErr result (λ r. r.error ≡ ScenarioError.LinkNumbers) }
-    ensures finds { IfErr result (Finds (table_view top.now)) }
+    ensures error { IfErr result (λ e. e ≡ ScenarioError.LinkNumbers) }
+    ensures finds { IfErr result (Finds (table_view top.now) found.new) }
 {
     let Some(table) = inner_table(top, "link") else {
-        return Err(Refused {
-            error: ScenarioError::LinkNumbers,
-            finding: None,
-        });
+        *found = None;
+        return Err(ScenarioError::LinkNumbers);
     };
     match read_link(table) {
         Ok(link) => Ok(link),
         Err(fault) => {
             let place = Place::Section(Section::Link);
-            Err(Refused::at(ScenarioError::LinkNumbers, place, fault))
+            Err(refused_at(found, ScenarioError::LinkNumbers, place, fault))
         }
     }
 }
 
 /// The links from each of n processes to each, by sender and then by receiver.
-pub(crate) fn read_links<'a>(
+pub(crate) fn read_links(
     alloc: Global,
-    top: &Top<'a>,
-    tables: &[&'a Table],
-) -> Result<Vec<Link>, Refused<'a>>
+    top: &Top<'_>,
+    tables: &[&Table],
+    found: &mut Option<Finding<'_>>,
+) -> Result<Vec<Link>, ScenarioError>
     requires numbers { IsTop top.now }
     requires tables { tables_in tables.now ≡ tables_at (codes "links") (table_view top.now.table.now) }
     ensures ok { OnOk result (links_refused (table_view top.now.table.now) ≡ false) }
     ensures value { IfOk result (λ v. v.items ≡ (record_of (table_view top.now.table.now)).links) }
     ensures all { IfOk result (λ v. length v.items ≡ top.now.numbers.processes * top.now.numbers.processes) }
-    ensures err { IfErr result (λ r. GivenBy ScenarioError.LinkNumbers (links_refused (table_view top.now.table.now)) r.error) }
-    ensures finds { IfErr result (Finds (table_view top.now.table.now)) }
+    ensures err { IfErr result (GivenBy ScenarioError.LinkNumbers (links_refused (table_view top.now.table.now))) }
+    ensures finds { IfErr result (Finds (table_view top.now.table.now) found.new) }
 {
-    let common = accepted!(read_common(top.table));
-    let own = accepted!(read_pairs(alloc, top, tables));
+    let common = accepted!(read_common(top.table, found));
+    let own = accepted!(read_pairs(alloc, top, tables, found));
     match filled(alloc, &own, common) {
         Ok(links) => Ok(links),
-        Err(_) => Err(Refused::memory()),
+        Err(_) => Err(out_of_memory(found)),
     }
 }

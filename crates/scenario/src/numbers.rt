@@ -11,9 +11,9 @@ ghost use Rattle.scenario.specs.Groups.{Passes, StopsAt};
 ghost use Rattle.scenario.specs.Ranges.{Subject, ends_of, subject_of};
 ghost use Rattle.scenario.specs.Faults.{Finds, IsFoundBy};
 
-use crate::error::ScenarioError;
+use crate::error::ScenarioError::{self, Horizon, Limit, Lookahead, Processes, Version};
 use crate::fault::{Fault, Outside};
-use crate::finding::{Refused, accepted};
+use crate::finding::{Finding, refused_at};
 use crate::place::Place;
 use crate::table::{integer_at, is_second, number};
 use process_api::MOST_PROCESSES;
@@ -138,67 +138,57 @@ fn top_number(
     default: u32,
     low: u32,
     high: u32,
-) -> Result<u32, Refused<'static>>
+    found: &mut Option<Finding<'_>>,
+) -> Result<u32, ScenarioError>
     ensures test { is_err result ≡ is_outside low high key.now default (table_view top.now) }
     ensures value { IfOk result (λ n. n ≡ number_at key.now default (table_view top.now)) }
     ensures low { IfOk result (λ n. low ≤ n) }
     ensures high { IfOk result (λ n. n ≤ high) }
-    ensures error { IfErr result (λ r. r.error ≡ error) }
+    ensures error { IfErr result (λ e. e ≡ error) }
     ensures finds { ends_of (subject_of error Place.Top (table_view top.now)).ranges key.now ≡ Some (low, high)
-        → IfErr result (Finds (table_view top.now)) }
+        → IfErr result (Finds (table_view top.now) found.new) }
 {
     match ranged(top, key, default, low, high) {
         Ok(number) => Ok(number),
-        Err(fault) => Err(Refused::at(error, Place::Top, fault)),
+        Err(fault) => Err(refused_at(found, error, Place::Top, fault)),
     }
 }
 
 /// The seed, where it isn't negative.
 #[tactic(auto, unfolding(crate::specs::Text::number_at))]
-fn read_seed(top: &Table) -> Result<u64, Refused<'static>>
+fn read_seed(top: &Table, found: &mut Option<Finding<'_>>) -> Result<u64, ScenarioError>
     ensures test { is_err result ≡ is_negative (codes "seed") 0 (table_view top.now) }
     ensures value { IfOk result (λ n. n ≡ number_at (codes "seed") 0 (table_view top.now)) }
     ensures high { IfOk result (λ n. n < 2 ^ 63) }
-    ensures error { IfErr result (λ r. r.error ≡ ScenarioError.Seed) }
-    ensures finds { IfErr result (Finds (table_view top.now)) }
+    ensures error { IfErr result (λ e. e ≡ ScenarioError.Seed) }
+    ensures finds { IfErr result (Finds (table_view top.now) found.new) }
 {
     match natural_at(top, "seed", 0) {
         Some(seed) => Ok(seed),
         None => {
             let fault = outside(top, "seed", 0, i64::MAX as u64);
-            Err(Refused::at(ScenarioError::Seed, Place::Top, fault))
+            Err(refused_at(found, ScenarioError::Seed, Place::Top, fault))
         }
     }
 }
 
 /// The numbers of the top table, where all are in their ranges; else the refusal of the first that isn't.
-pub(crate) fn read_numbers(top: &Table) -> Result<TopNumbers, Refused<'static>>
+pub(crate) fn read_numbers(
+    top: &Table,
+    found: &mut Option<Finding<'_>>,
+) -> Result<TopNumbers, ScenarioError>
     ensures ok { OnOk result (Passes number_rules (Some (table_view top.now))) }
     ensures value { IfOk result (AreNumbersOf (table_view top.now)) }
-    ensures err { IfErr result (λ r. StopsAt number_rules (Some (table_view top.now)) r.error) }
-    ensures finds { IfErr result (Finds (table_view top.now)) }
+    ensures err { IfErr result (StopsAt number_rules (Some (table_view top.now))) }
+    ensures finds { IfErr result (Finds (table_view top.now) found.new) }
 {
-    accepted!(top_number(top, ScenarioError::Version, "version", 0, 1, 2));
+    top_number(top, Version, "version", 0, 1, 2, found)?;
     let most = most_of_version(top);
-    let processes = accepted!(top_number(top, ScenarioError::Processes, "processes", 0, 1, most));
-    let horizon = accepted!(top_number(top, ScenarioError::Horizon, "horizon", 0, 1, 10_000_000));
-    let lookahead = accepted!(top_number(
-        top,
-        ScenarioError::Lookahead,
-        "lookahead",
-        0,
-        1,
-        1_000_000
-    ));
-    let limit = accepted!(top_number(
-        top,
-        ScenarioError::Limit,
-        "limit",
-        1_000_000,
-        1,
-        100_000_000
-    ));
-    let seed = accepted!(read_seed(top));
+    let processes = top_number(top, Processes, "processes", 0, 1, most, found)?;
+    let horizon = top_number(top, Horizon, "horizon", 0, 1, 10_000_000, found)?;
+    let lookahead = top_number(top, Lookahead, "lookahead", 0, 1, 1_000_000, found)?;
+    let limit = top_number(top, Limit, "limit", 1_000_000, 1, 100_000_000, found)?;
+    let seed = read_seed(top, found)?;
     Ok(TopNumbers {
         processes: processes as u16,
         horizon,

@@ -11,7 +11,7 @@ ghost use Rattle.scenario.specs.Faults.{Finds, IsFoundBy};
 
 use crate::error::ScenarioError;
 use crate::fault::{Fault, NotBefore};
-use crate::finding::{Refused, accepted};
+use crate::finding::{Finding, accepted, out_of_memory, refused_at};
 use crate::links::{place_of, to_itself};
 use crate::numbers::{Top, ranged};
 use crate::place::TableArray;
@@ -89,17 +89,18 @@ fn add(outages: &mut Vec<Vec<Outage>>, place: usize, outage: Outage) -> Result<(
 
 /// The outages of the link from each of n processes to each, by sender and then by receiver, each link's in the order
 /// of their tables. Where there are no tables there is no list, of no link.
-pub(crate) fn read_outages<'a>(
+pub(crate) fn read_outages(
     alloc: Global,
     top: &Top<'_>,
-    tables: &[&'a Table],
-) -> Result<Vec<Vec<Outage>>, Refused<'a>>
+    tables: &[&Table],
+    found: &mut Option<Finding<'_>>,
+) -> Result<Vec<Vec<Outage>>, ScenarioError>
     requires numbers { IsTop top.now }
     requires tables { tables_in tables.now ≡ tables_at (codes "outage") (table_view top.now.table.now) }
     ensures ok { OnOk result (outages_refused (table_view top.now.table.now) ≡ false) }
     ensures value { IfOk result (λ v. outages_in v.items ≡ (record_of (table_view top.now.table.now)).outages) }
-    ensures err { IfErr result (λ r. GivenBy ScenarioError.OutageLine (outages_refused (table_view top.now.table.now)) r.error) }
-    ensures finds { IfErr result (Finds (table_view top.now.table.now)) }
+    ensures err { IfErr result (GivenBy ScenarioError.OutageLine (outages_refused (table_view top.now.table.now))) }
+    ensures finds { IfErr result (Finds (table_view top.now.table.now) found.new) }
 {
     let n = top.numbers.processes;
     if tables.is_empty() {
@@ -107,19 +108,19 @@ pub(crate) fn read_outages<'a>(
     }
     let mut outages = match no_outages(alloc, n) {
         Ok(outages) => outages,
-        Err(_) => return Err(Refused::memory()),
+        Err(_) => return Err(out_of_memory(found)),
     };
     for i in 0..tables.len() {
         let pair = match read_outage(tables[i], n) {
             Ok(pair) => pair,
             Err(fault) => {
                 let place = TableArray::Outage.place(tables, i);
-                return Err(Refused::at(ScenarioError::OutageLine, place, fault));
+                return Err(refused_at(found, ScenarioError::OutageLine, place, fault));
             }
         };
         let place = place_of(pair.from, pair.to, n);
         if let Err(_) = add(&mut outages, place, pair.outage) {
-            return Err(Refused::memory());
+            return Err(out_of_memory(found));
         }
     }
     Ok(outages)

@@ -12,7 +12,7 @@ use crate::below::{below_lookahead, first_below};
 use crate::crashes::read_crashes;
 use crate::detector::{read_detector, read_share};
 use crate::error::ScenarioError;
-use crate::finding::{Refused, accepted};
+use crate::finding::{Finding, accepted, refused_at};
 use crate::keys::Tables;
 use crate::links::read_links;
 use crate::names::{algorithm_of, other_name};
@@ -26,17 +26,20 @@ use std::alloc::Global;
 use toml::Table;
 
 /// The algorithm that the top table names; else the refusal.
-fn read_algorithm(top: &Table) -> Result<AlgorithmKind, Refused<'_>>
+fn read_algorithm<'a>(
+    top: &'a Table,
+    found: &mut Option<Finding<'a>>,
+) -> Result<AlgorithmKind, ScenarioError>
     ensures value { IfOk result (λ a. Some a ≡ algorithm_in (table_view top.now)) }
-    ensures error { IfErr result (λ r. r.error ≡ ScenarioError.AlgorithmName) }
+    ensures error { IfErr result (λ e. e ≡ ScenarioError.AlgorithmName) }
     ensures err { OnErr result (algorithm_refused (table_view top.now) ≡ true) }
-    ensures finds { IfErr result (Finds (table_view top.now)) }
+    ensures finds { IfErr result (Finds (table_view top.now) found.new) }
 {
     match algorithm_of(text(top, "algorithm", "")) {
         Some(algorithm) => Ok(algorithm),
         None => {
             let fault = other_name(top, "algorithm", &["none", "s", "es"]);
-            Err(Refused::at(ScenarioError::AlgorithmName, Place::Top, fault))
+            Err(refused_at(found, ScenarioError::AlgorithmName, Place::Top, fault))
         }
     }
 }
@@ -47,24 +50,25 @@ pub(crate) fn read_parts<'a>(
     alloc: Global,
     top: &Top<'a>,
     tables: &Tables<'a>,
-) -> Result<Fields, Refused<'a>>
+    found: &mut Option<Finding<'a>>,
+) -> Result<Fields, ScenarioError>
     requires numbers { IsTop top.now }
     requires tables { AreTables (table_view top.now.table.now) tables.now }
     ensures ok { OnOk result (Passes part_rules (Some (table_view top.now.table.now))) }
     ensures value { IfOk result (λ s. s ≡ record_of (table_view top.now.table.now)) }
-    ensures err { IfErr result (λ r. StopsAt part_rules (Some (table_view top.now.table.now)) r.error) }
-    ensures finds { IfErr result (Finds (table_view top.now.table.now)) }
+    ensures err { IfErr result (StopsAt part_rules (Some (table_view top.now.table.now))) }
+    ensures finds { IfErr result (Finds (table_view top.now.table.now) found.new) }
 {
-    let algorithm = accepted!(read_algorithm(top.table));
-    let proposals = accepted!(read_proposals(alloc, top, algorithm));
-    let detector = accepted!(read_detector(top.table));
-    let share = accepted!(read_share(top.table));
-    let links = accepted!(read_links(alloc, top, &tables.links));
+    let algorithm = accepted!(read_algorithm(top.table, found));
+    let proposals = accepted!(read_proposals(alloc, top, algorithm, found));
+    let detector = accepted!(read_detector(top.table, found));
+    let share = accepted!(read_share(top.table, found));
+    let links = accepted!(read_links(alloc, top, &tables.links, found));
     if let Some(pair) = first_below(top, &links) {
-        return Err(below_lookahead(top, &links, pair));
+        return Err(below_lookahead(top, &links, pair, found));
     }
-    let crashes = accepted!(read_crashes(alloc, top, &tables.crashes));
-    let outages = accepted!(read_outages(alloc, top, &tables.outages));
+    let crashes = accepted!(read_crashes(alloc, top, &tables.crashes, found));
+    let outages = accepted!(read_outages(alloc, top, &tables.outages, found));
     Ok(Fields {
         processes: top.numbers.processes,
         horizon: top.numbers.horizon,

@@ -12,7 +12,7 @@ ghost use Rattle.scenario.specs.Faults.{AsksForOne, Finds, IsProposalsFault};
 
 use crate::error::ScenarioError;
 use crate::fault::ProposalsFault;
-use crate::finding::{Finding, Refused};
+use crate::finding::{Finding, out_of_memory};
 use crate::numbers::{Top, lies_within, natural};
 use crate::table::{has, inner_array};
 use scenario_record::AlgorithmKind;
@@ -87,61 +87,64 @@ fn asked_fault(top: &Table, n: u16) -> Option<ProposalsFault>
     bad_proposal(values)
 }
 
-/// The refusal of proposals, for this fault.
-fn refused(fault: Option<ProposalsFault>) -> Refused<'static>
-    ensures error { result.error ≡ ScenarioError.Proposals }
-    ensures finds { (file : Members) → IfSome fault (IsProposalsFault file) → Finds file result }
+/// Notes what is wrong with proposals, if anything is. Answers their refusal.
+fn refused(found: &mut Option<Finding<'_>>, fault: Option<ProposalsFault>) -> ScenarioError
+    ensures error { result ≡ ScenarioError.Proposals }
+    ensures finds { (file : Members) → IfSome fault (IsProposalsFault file) → Finds file found.new result }
 {
-    let error = ScenarioError::Proposals;
-    match fault {
-        Some(fault) => Refused {
-            error,
-            finding: Some(Finding::Proposals(fault)),
-        },
-        None => Refused {
-            error,
-            finding: None,
-        },
-    }
+    *found = match fault {
+        Some(fault) => Some(Finding::Proposals(fault)),
+        None => None,
+    };
+    ScenarioError::Proposals
 }
 
 /// The proposals of the processes of a scenario without an algorithm: there may be none.
-fn read_no_proposals(alloc: Global, top: &Table) -> Result<Vec<u32>, Refused<'static>>
+fn read_no_proposals(
+    alloc: Global,
+    top: &Table,
+    found: &mut Option<Finding<'_>>,
+) -> Result<Vec<u32>, ScenarioError>
     ensures ok { OnOk result (has_key (codes "proposals") (table_view top.now) ≡ false) }
     ensures value { IfOk result (λ v. v.items ≡ proposals_of (table_view top.now)) }
-    ensures err { IfErr result (λ r. GivenBy ScenarioError.Proposals (
-        has_key (codes "proposals") (table_view top.now)) r.error) }
+    ensures err { IfErr result (GivenBy ScenarioError.Proposals (
+        has_key (codes "proposals") (table_view top.now))) }
     ensures finds { Some AlgorithmKind.Idle ≡ algorithm_in (table_view top.now)
-        → IfErr result (Finds (table_view top.now)) }
+        → IfErr result (Finds (table_view top.now) found.new) }
 {
     if has(top, "proposals") {
-        return Err(refused(Some(ProposalsFault::Unasked)));
+        return Err(refused(found, Some(ProposalsFault::Unasked)));
     }
     Ok(Vec::new(alloc))
 }
 
 /// The proposals of n processes that run an algorithm: one of each.
-fn read_each_proposal(alloc: Global, top: &Table, n: u16) -> Result<Vec<u32>, Refused<'static>>
+fn read_each_proposal(
+    alloc: Global,
+    top: &Table,
+    n: u16,
+    found: &mut Option<Finding<'_>>,
+) -> Result<Vec<u32>, ScenarioError>
     requires { 1 ≤ n }
     ensures ok { OnOk result (has_other_proposals n (table_view top.now) ≡ false) }
     ensures value { IfOk result (λ v. v.items ≡ proposals_of (table_view top.now)) }
-    ensures err { IfErr result (λ r. GivenBy ScenarioError.Proposals (
-        has_other_proposals n (table_view top.now)) r.error) }
+    ensures err { IfErr result (GivenBy ScenarioError.Proposals (
+        has_other_proposals n (table_view top.now))) }
     ensures finds { AsksForOne (table_view top.now) → n ≡ processes_of (table_view top.now)
-        → IfErr result (Finds (table_view top.now)) }
+        → IfErr result (Finds (table_view top.now) found.new) }
 {
     let Some(values) = inner_array(top, "proposals") else {
-        return Err(refused(asked_fault(top, n)));
+        return Err(refused(found, asked_fault(top, n)));
     };
     match proposals_among(alloc, values) {
-        Ok(Some(found)) => {
-            if found.len() != usize::from(n) {
-                return Err(refused(asked_fault(top, n)));
+        Ok(Some(proposals)) => {
+            if proposals.len() != usize::from(n) {
+                return Err(refused(found, asked_fault(top, n)));
             }
-            Ok(found)
+            Ok(proposals)
         }
-        Ok(None) => Err(refused(asked_fault(top, n))),
-        Err(_) => Err(Refused::memory()),
+        Ok(None) => Err(refused(found, asked_fault(top, n))),
+        Err(_) => Err(out_of_memory(found)),
     }
 }
 
@@ -150,18 +153,19 @@ pub(crate) fn read_proposals(
     alloc: Global,
     top: &Top<'_>,
     algorithm: AlgorithmKind,
-) -> Result<Vec<u32>, Refused<'static>>
+    found: &mut Option<Finding<'_>>,
+) -> Result<Vec<u32>, ScenarioError>
     requires numbers { IsTop top.now }
     requires algorithm { Some algorithm ≡ algorithm_in (table_view top.now.table.now) }
     ensures ok { OnOk result (proposals_refused (table_view top.now.table.now) ≡ false) }
     ensures value { IfOk result (λ v. v.items ≡ (record_of (table_view top.now.table.now)).proposals) }
-    ensures err { IfErr result (λ r. GivenBy ScenarioError.Proposals (proposals_refused (table_view top.now.table.now)) r.error) }
-    ensures finds { IfErr result (Finds (table_view top.now.table.now)) }
+    ensures err { IfErr result (GivenBy ScenarioError.Proposals (proposals_refused (table_view top.now.table.now))) }
+    ensures finds { IfErr result (Finds (table_view top.now.table.now) found.new) }
 {
     match algorithm {
-        AlgorithmKind::Idle => read_no_proposals(alloc, top.table),
+        AlgorithmKind::Idle => read_no_proposals(alloc, top.table, found),
         AlgorithmKind::Strong | AlgorithmKind::EventuallyStrong => {
-            read_each_proposal(alloc, top.table, top.numbers.processes)
+            read_each_proposal(alloc, top.table, top.numbers.processes, found)
         }
     }
 }

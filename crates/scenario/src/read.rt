@@ -7,7 +7,7 @@ ghost use Rattle.scenario.specs.Groups.{Passes, StopsFirst};
 ghost use Rattle.scenario.specs.Faults.{Finds};
 
 use crate::error::ScenarioError;
-use crate::finding::{Refused, accepted};
+use crate::finding::{Finding, Refused, accepted, out_of_memory};
 use crate::keys::{check_keys, tables_of};
 use crate::numbers::{Top, read_numbers};
 use crate::parts::read_parts;
@@ -44,10 +44,28 @@ pub fn read_table(alloc: Global, table: &Table) -> Result<Scenario, ScenarioErro
     ensures value { IfOk result (λ s. s ≡ record_of (table_view table.now)) }
     ensures err { IfErr result (StopsFirst table_rules (Some (table_view table.now))) }
 {
-    match read_with_place(alloc, table) {
-        Ok(scenario) => Ok(scenario),
-        Err(refused) => Err(refused.error),
-    }
+    read_noting(alloc, table, &mut None)
+}
+
+/// Reads a scenario from its file's table. Where it is refused, notes what is found, and where.
+fn read_noting<'a>(
+    alloc: Global,
+    table: &'a Table,
+    found: &mut Option<Finding<'a>>,
+) -> Result<Scenario, ScenarioError>
+    ensures ok { OnOk result (Passes table_rules (Some (table_view table.now))) }
+    ensures value { IfOk result (λ s. s ≡ record_of (table_view table.now)) }
+    ensures err { IfErr result (StopsFirst table_rules (Some (table_view table.now))) }
+    ensures finds { IfErr result (Finds (table_view table.now) found.new) }
+{
+    let tables = match tables_of(alloc, table) {
+        Ok(tables) => tables,
+        Err(_) => return Err(out_of_memory(found)),
+    };
+    accepted!(check_keys(table, &tables, found));
+    let numbers = accepted!(read_numbers(table, found));
+    let top = Top { table, numbers };
+    Ok(Scenario::of(accepted!(read_parts(alloc, &top, &tables, found))))
 }
 
 /// Reads a scenario from its file's table, as [`read_table`] does, and says of a table that is refused what is wrong
@@ -61,14 +79,11 @@ pub fn read_with_place(alloc: Global, table: &Table) -> Result<Scenario, Refused
     ensures ok { OnOk result (Passes table_rules (Some (table_view table.now))) }
     ensures value { IfOk result (λ s. s ≡ record_of (table_view table.now)) }
     ensures err { IfErr result (λ r. StopsFirst table_rules (Some (table_view table.now)) r.error) }
-    ensures finds { IfErr result (Finds (table_view table.now)) }
+    ensures finds { IfErr result (λ r. Finds (table_view table.now) r.finding r.error) }
 {
-    let tables = match tables_of(alloc, table) {
-        Ok(tables) => tables,
-        Err(_) => return Err(Refused::memory()),
-    };
-    accepted!(check_keys(table, &tables));
-    let numbers = accepted!(read_numbers(table));
-    let top = Top { table, numbers };
-    Ok(Scenario::of(accepted!(read_parts(alloc, &top, &tables))))
+    let mut finding = None;
+    match read_noting(alloc, table, &mut finding) {
+        Ok(scenario) => Ok(scenario),
+        Err(error) => Err(Refused { error, finding }),
+    }
 }

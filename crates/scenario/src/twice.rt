@@ -45,7 +45,7 @@ fn is_of_pair(table: &Table, from: i64, to: i64) -> bool
 }
 
 /// That a table of `links` is of the pair of an earlier one, where it is.
-fn twice_pair<'a>(tables: &[&Table], i: usize) -> Option<Finding<'a>>
+fn twice_pair(tables: &[&Table], i: usize) -> Option<Finding<'static>>
     requires { i < length tables.now }
     ensures { (file : Members) → tables_in tables.now ≡ tables_at (array_key TableArray.Links) file
         → IfSome result (Breaks ScenarioError.LinkNumbers file) }
@@ -67,7 +67,7 @@ fn twice_pair<'a>(tables: &[&Table], i: usize) -> Option<Finding<'a>>
 }
 
 /// That a table of `crash` is of the process of an earlier one, where it is.
-fn twice_process<'a>(tables: &[&Table], i: usize) -> Option<Finding<'a>>
+fn twice_process(tables: &[&Table], i: usize) -> Option<Finding<'static>>
     requires { i < length tables.now }
     ensures { (file : Members) → tables_in tables.now ≡ tables_at (array_key TableArray.Crash) file
         → IfSome result (Breaks ScenarioError.CrashLine file) }
@@ -88,12 +88,12 @@ fn twice_process<'a>(tables: &[&Table], i: usize) -> Option<Finding<'a>>
 
 /// What is wrong with tables of `links` or of `crash`, of which one is of what an earlier one is of: a fault that it or
 /// a later one has by itself, or else just this.
-pub(crate) fn find_twice<'a>(
+pub(crate) fn find_twice(
     array: TableArray,
-    tables: &[&'a Table],
+    tables: &[&Table],
     i: usize,
     n: u16,
-) -> Option<Finding<'a>>
+) -> Option<Finding<'static>>
     requires { i < length tables.now }
     ensures { (file : Members) → tables_in tables.now ≡ tables_at (array_key array) file
         → n ≡ processes_of file → IfSome result (Breaks (array_error array) file) }

@@ -20,7 +20,7 @@ returns-in-Err-read_crash-clause-err c = λ other.
     let spot : IsAt c.args.tables.now c.loop-i.i c.index-tables-i.result = record { low = c.loop-i-test.true; is = c.index-tables-i.is } in
     let n = c.args.top.now.numbers.processes in
     let bad : is_bad_crash n (table_view c.index-tables-i.result.now) ≡ true = search (rules, c.in-Err-read_crash.ensures.test) in
-    (c.at.ensures.error, rw (← c.requires.numbers.processes, ← c.requires.tables) (bad_among (process_keys n) (is_bad_crash n) crash_tick c.args.tables.now c.loop-i.i c.index-tables-i.result spot bad))
+    (c.refused_at.ensures.error, rw (← c.requires.numbers.processes, ← c.requires.tables) (bad_among (process_keys n) (is_bad_crash n) crash_tick c.args.tables.now c.loop-i.i c.index-tables-i.result spot bad))
 
 pub returns-then-is_some-clause-err : goal.returns-then-is_some-clause-err
 returns-then-is_some-clause-err c = λ other.
@@ -59,7 +59,7 @@ pub returns-in-Err-read_crash-clause-finds : goal.returns-in-Err-read_crash-clau
 returns-in-Err-read_crash-clause-finds c =
     let spot : IsAt c.args.tables.now c.loop-i.i c.index-tables-i.result = record { low = c.loop-i-test.true; is = c.index-tables-i.is } in
     let file = table_view c.args.top.now.table.now in
-    c.at.ensures.finds file (table_view c.index-tables-i.result.now)
+    c.refused_at.ensures.finds file (table_view c.index-tables-i.result.now)
     (rw c.place-place.ensures (numbered_table c.args.tables.now file (codes "crash") c.loop-i.i c.index-tables-i.result c.requires.tables spot))
     (rw (c.place-place.ensures, ← c.requires.numbers.processes) c.in-Err-read_crash.ensures.fault)
 

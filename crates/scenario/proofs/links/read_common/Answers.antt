@@ -7,4 +7,4 @@ pub returns-in_default-clause-test : goal.returns-in_default-clause-test
 returns-in_default-clause-test c = rw (← rw c.in_default.is at c.inner_table.ensures) (sym no_link_table)
 
 pub returns-in-Err-clause-finds : goal.returns-in-Err-clause-finds
-returns-in-Err-clause-finds c = c.at.ensures.finds (table_view c.args.top.now) (table_view c.in-Some.table.now) (sym (rw c.in-Some.is at c.inner_table.ensures)) (c.in-Err.ensures.fault)
+returns-in-Err-clause-finds c = c.refused_at.ensures.finds (table_view c.args.top.now) (table_view c.in-Some.table.now) (sym (rw c.in-Some.is at c.inner_table.ensures)) (c.in-Err.ensures.fault)

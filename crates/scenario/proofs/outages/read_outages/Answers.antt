@@ -31,7 +31,7 @@ returns-in-Err-read_outage-clause-err c = λ other.
     let spot : IsAt c.args.tables.now c.loop-i.i c.index-tables-i.result = record { low = c.loop-i-test.true; is = c.index-tables-i.is } in
     let n = c.args.top.now.numbers.processes in
     let bad : is_bad_outage n (table_view c.index-tables-i.result.now) ≡ true = search (rules, c.in-Err-read_outage.ensures.test) in
-    (c.at.ensures.error, rw (← c.requires.numbers.processes, ← c.requires.tables) (bad_one (is_bad_outage n) c.args.tables.now c.loop-i.i c.index-tables-i.result spot bad))
+    (c.refused_at.ensures.error, rw (← c.requires.numbers.processes, ← c.requires.tables) (bad_one (is_bad_outage n) c.args.tables.now c.loop-i.i c.index-tables-i.result spot bad))
 
 pub add-requires : goal.add-requires
 add-requires c =
@@ -63,6 +63,6 @@ pub returns-in-Err-read_outage-clause-finds : goal.returns-in-Err-read_outage-cl
 returns-in-Err-read_outage-clause-finds c =
     let spot : IsAt c.args.tables.now c.loop-i.i c.index-tables-i.result = record { low = c.loop-i-test.true; is = c.index-tables-i.is } in
     let file = table_view c.args.top.now.table.now in
-    c.at.ensures.finds file (table_view c.index-tables-i.result.now)
+    c.refused_at.ensures.finds file (table_view c.index-tables-i.result.now)
     (rw c.place-place.ensures (numbered_table c.args.tables.now file (codes "outage") c.loop-i.i c.index-tables-i.result c.requires.tables spot))
     (rw (c.place-place.ensures, ← c.requires.numbers.processes) c.in-Err-read_outage.ensures.fault)

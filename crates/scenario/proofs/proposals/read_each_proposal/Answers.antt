@@ -14,22 +14,22 @@ returns-in_default-clause-err c = λ other. (c.refused.ensures.error, no_array c
 pub returns-then-len-from-clause-err : goal.returns-then-len-from-clause-err
 returns-then-len-from-clause-err c = λ other.
     let array : Some (items_view c.in-Some.values.now.items) ≡ option_and_then as_array (get_member (codes "proposals") (table_view c.args.top.now)) = search rules in
-    let made : c.in-Ok-Some.found.items ≡ map natural (the_integers (items_view c.in-Some.values.now.items)) = search rules in
-    let count : (length c.in-Ok-Some.found.items == c.args.n) ≡ false = search rules in
-    (c.refused-then-len-from.ensures.error, other_count c.args.n (codes "proposals") (table_view c.args.top.now) (items_view c.in-Some.values.now.items) c.in-Ok-Some.found.items array made count)
+    let made : c.in-Ok-Some.proposals.items ≡ map natural (the_integers (items_view c.in-Some.values.now.items)) = search rules in
+    let count : (length c.in-Ok-Some.proposals.items == c.args.n) ≡ false = search rules in
+    (c.refused-then-len-from.ensures.error, other_count c.args.n (codes "proposals") (table_view c.args.top.now) (items_view c.in-Some.values.now.items) c.in-Ok-Some.proposals.items array made count)
 
 pub returns-else-len-from-clause-ok : goal.returns-else-len-from-clause-ok
 returns-else-len-from-clause-ok c =
     let array : Some (items_view c.in-Some.values.now.items) ≡ option_and_then as_array (get_member (codes "proposals") (table_view c.args.top.now)) = search rules in
-    let made : c.in-Ok-Some.found.items ≡ map natural (the_integers (items_view c.in-Some.values.now.items)) = search rules in
+    let made : c.in-Ok-Some.proposals.items ≡ map natural (the_integers (items_view c.in-Some.values.now.items)) = search rules in
     let good : list_any is_bad_proposal (the_integers (items_view c.in-Some.values.now.items)) ≡ false = search rules in
-    let count : (length c.in-Ok-Some.found.items == c.args.n) ≡ true = search rules in
-    right_count c.args.n (codes "proposals") (table_view c.args.top.now) (items_view c.in-Some.values.now.items) c.in-Ok-Some.found.items array made good count
+    let count : (length c.in-Ok-Some.proposals.items == c.args.n) ≡ true = search rules in
+    right_count c.args.n (codes "proposals") (table_view c.args.top.now) (items_view c.in-Some.values.now.items) c.in-Ok-Some.proposals.items array made good count
 
 pub returns-else-len-from-clause-value : goal.returns-else-len-from-clause-value
 returns-else-len-from-clause-value c =
     let array : Some (items_view c.in-Some.values.now.items) ≡ option_and_then as_array (get_member (codes "proposals") (table_view c.args.top.now)) = search rules in
-    let made : c.in-Ok-Some.found.items ≡ map natural (the_integers (items_view c.in-Some.values.now.items)) = search rules in
+    let made : c.in-Ok-Some.proposals.items ≡ map natural (the_integers (items_view c.in-Some.values.now.items)) = search rules in
     rw (integers_of_array (codes "proposals") (table_view c.args.top.now) (items_view c.in-Some.values.now.items) array) made
 
 pub returns-in-Ok-None-clause-err : goal.returns-in-Ok-None-clause-err

@@ -1,4 +1,4 @@
-use Rattle.std.proofs.Common.{◌≡◌, ◌∙◌, ap, sym, is_some, take, arith}
+use Rattle.std.proofs.Common.{◌≡◌, ◌∙◌, ap, sym, take, arith}
 use Rattle.std.proofs.lemmas.List.{take_all}
 use Rattle.toml.specs.View.{table_view}
 use Rattle.scenario.specs.Parts.{fault_of}
@@ -12,15 +12,15 @@ at-requires c =
     let spot : IsAt c.args.tables.now c.loop-i.i c.index-tables-i.result = record { low = c.loop-i-test.true; is = c.index-tables-i.is } in
     sym (ap (λ p. table_of p (table_view c.args.top.now)) c.place.ensures ∙ numbered_table c.args.tables.now (table_view c.args.top.now) (array_key c.args.array) c.loop-i.i c.index-tables-i.result c.requires spot)
 
-pub returns-in-Some-clause-test : goal.returns-in-Some-clause-test
-returns-in-Some-clause-test c =
+pub returns-then-at-clause-test : goal.returns-then-at-clause-test
+returns-then-at-clause-test c =
     let spot : IsAt c.args.tables.now c.loop-i.i c.index-tables-i.result = record { low = c.loop-i-test.true; is = c.index-tables-i.is } in
-    sym (bad_one (fault_of c.args.self (fields_of_array c.args.array)) c.args.tables.now c.loop-i.i c.index-tables-i.result spot (sym (rw c.place.ensures at c.at.ensures.test) ∙ ap is_some c.in-Some.is))
+    sym (bad_one (fault_of c.args.self (fields_of_array c.args.array)) c.args.tables.now c.loop-i.i c.index-tables-i.result spot (sym (rw c.place.ensures at c.at.ensures.test) ∙ c.if-at.true))
 
 pub loop-i-preserved : goal.loop-i-preserved
 loop-i-preserved c =
     let spot : IsAt c.args.tables.now c.loop-i.i c.index-tables-i.result = record { low = c.loop-i-test.true; is = c.index-tables-i.is } in
-    none_more (fault_of c.args.self (fields_of_array c.args.array)) c.args.tables.now c.loop-i.i c.index-tables-i.result spot c.loop-i.invariant (sym (rw c.place.ensures at c.at.ensures.test) ∙ ap is_some c.in_default.is)
+    none_more (fault_of c.args.self (fields_of_array c.args.array)) c.args.tables.now c.loop-i.i c.index-tables-i.result spot c.loop-i.invariant (sym (rw c.place.ensures at c.at.ensures.test) ∙ c.if-at.false)
 
 pub returns-clause-test : goal.returns-clause-test
 returns-clause-test c =

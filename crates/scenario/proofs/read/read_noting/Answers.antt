@@ -6,18 +6,18 @@ use Rattle.scenario.specs.Refusals.{key_rules, number_rules, part_rules, table_r
 use Rattle.scenario.specs.Groups.{Passes}
 use Rattle.scenario.proofs.Places.{first_in, passes_joined}
 use Rattle.scenario.proofs.RangeFacts.{in_range}
-use Rattle.scenario.proofs.read.read_with_place.Goals as goal
+use Rattle.scenario.proofs.read.read_noting.Goals as goal
 
 pub returns-in-Err-check_keys-clause-err : goal.returns-in-Err-check_keys-clause-err
-returns-in-Err-check_keys-clause-err c = first_in [] key_rules (number_rules ++ part_rules) (Some (table_view c.args.table.now)) c.in-Err-check_keys.refused.error tt c.in-Err-check_keys.ensures.err
+returns-in-Err-check_keys-clause-err c = first_in [] key_rules (number_rules ++ part_rules) (Some (table_view c.args.table.now)) c.in-Err-check_keys.refused tt c.in-Err-check_keys.ensures.err
 
 pub returns-in-Err-read_numbers-clause-err : goal.returns-in-Err-read_numbers-clause-err
-returns-in-Err-read_numbers-clause-err c = first_in key_rules number_rules part_rules (Some (table_view c.args.table.now)) c.in-Err-read_numbers.refused.error c.in-Ok-check_keys.ensures.ok c.in-Err-read_numbers.ensures.err
+returns-in-Err-read_numbers-clause-err c = first_in key_rules number_rules part_rules (Some (table_view c.args.table.now)) c.in-Err-read_numbers.refused c.in-Ok-check_keys.ensures.ok c.in-Err-read_numbers.ensures.err
 
 pub returns-in-Err-read_parts-clause-err : goal.returns-in-Err-read_parts-clause-err
 returns-in-Err-read_parts-clause-err c =
     let t = Some (table_view c.args.table.now) in
-    first_in (key_rules ++ number_rules) part_rules [] t c.in-Err-read_parts.refused.error (passes_joined key_rules number_rules t c.in-Ok-check_keys.ensures.ok c.in-Ok-read_numbers.ensures.ok) c.in-Err-read_parts.ensures.err
+    first_in (key_rules ++ number_rules) part_rules [] t c.in-Err-read_parts.refused (passes_joined key_rules number_rules t c.in-Ok-check_keys.ensures.ok c.in-Ok-read_numbers.ensures.ok) c.in-Err-read_parts.ensures.err
 
 pub of-requires : goal.of-requires
 of-requires c =

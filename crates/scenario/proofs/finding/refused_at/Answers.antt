@@ -1,6 +1,6 @@
 use Rattle.scenario.specs.Faults.{IsFoundBy}
 use Rattle.scenario.proofs.Findings.{value_fault}
-use Rattle.scenario.proofs.finding.Refused.at.Goals as goal
+use Rattle.scenario.proofs.finding.refused_at.Goals as goal
 
 pub returns-in-Some-clause-finds : goal.returns-in-Some-clause-finds
 unfolding IsFoundBy
