@@ -1,5 +1,5 @@
 -- What is found with a refusal.
-use Rattle.std.proofs.Common.{◌≡◌, ℕ, ℤ, List, true, Some, refl, rules, codes}
+use Rattle.std.proofs.Common.{◌≡◌, ℕ, ℤ, List, true, Option, Some, None, IfSome, IsSomeAnd, refl, rules, codes}
 use Rattle.std.proofs.lemmas.Bool.Decides.{Decides-int_eq}
 use Rattle.toml.specs.Data.{Data, integer, as_integer, Members}
 use Rattle.scenario.specs.Ranges.{subject_of}
@@ -27,3 +27,8 @@ integer_is d z is = elim d as (λ e. Some z ≡ as_integer e → e ≡ integer z
 
 pub both_it : (from to : ℤ) (t : Members) → Some from ≡ integer_in (codes "from") t → Some to ≡ integer_in (codes "to") t → is_of_pair from to t ≡ true
 both_it from to t is also = rw (has_it (codes "from") from t is, has_it (codes "to") to t also) refl
+
+-- what is so of something that is there is so of it, if it is there
+pub if_there : {X : Type 0} (found : Option X) (P : X → Type 0) → IsSomeAnd found P → IfSome found P
+if_there None P is = absurd is
+if_there (Some x) P is = is

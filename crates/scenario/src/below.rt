@@ -88,7 +88,7 @@ pub(crate) fn first_below(top: &Top<'_>, links: &[Link]) -> Option<(Pid, Pid)>
     None
 }
 
-/// The refusal of a pair whose link is below the lookahead.
+/// Notes a pair whose link is below the lookahead. Answers its refusal.
 pub(crate) fn below_lookahead(
     top: &Top<'_>,
     links: &[Link],

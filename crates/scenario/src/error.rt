@@ -9,7 +9,7 @@ use thiserror::Error;
 /// Why a scenario's file is refused, in the order in which the rules are tried: of several faults the first is
 /// answered. `Memory` may come at any point. Contracts know the refusals by their numbers (`specs/Refusals.antt`).
 #[derive(Debug, Drop, Error)]
-#[error("the scenario's file is refused: {}", self.name())]
+#[error("no scenario was read: {}", self.name())]
 pub enum ScenarioError {
     /// The bytes are no UTF-8, or no TOML.
     NotToml,

@@ -1,7 +1,8 @@
 //! Why a scenario's file is refused, and where.
 //!
-//! What reads a part of a file answers the refusal alone, and notes in `found` what is wrong, and where: a [`Finding`] in
-//! each answer would be written out at each step of each proof.
+//! What reads a part of a file answers the refusal alone, and leaves in `found` what is wrong, and where: a [`Finding`]
+//! in each answer would be written out at each step of each proof. What `found` had before is of no account, nor what it
+//! has where nothing is refused.
 ghost use Rattle.std.specs.Prelude.{◌≡◌, Some, None};
 ghost use Rattle.toml.specs.Data.{Members};
 ghost use Rattle.scenario.specs.Place.{table_of};
@@ -14,7 +15,7 @@ use crate::place::Place;
 use std::alloc::AllocError;
 
 /// What was read, where it isn't refused; else its refusal is answered. That is `?` without its `From`, through which
-/// the prover can't follow a fault, and which makes long proofs longer.
+/// the prover can't follow a fault; a long proof grows by it.
 macro_rules! accepted {
     ($read:expr) => {
         match $read {

@@ -1,5 +1,5 @@
 //! The tables of a scenario's file, and the faults of their keys.
-ghost use Rattle.std.specs.Prelude.{◌≡◌, false, is_some, IsTrue, Some, IfOk, IfSome, IfErr, OnOk};
+ghost use Rattle.std.specs.Prelude.{◌≡◌, false, is_some, IsSomeAnd, IsTrue, Some, IfOk, IfSome, IfErr, OnOk};
 ghost use Rattle.std.specs.List.{list_any};
 ghost use Rattle.std.specs.Option.{option_map_or};
 ghost use Rattle.toml.specs.View.{table_view};
@@ -205,7 +205,7 @@ impl KeyFault {
         requires { table_in table ≡ table_of place (table_view top.now) }
         ensures test { result ≡ option_map_or
             (λ t. fault_of self (fields_at place (table_view top.now) t) t) (table_in table.entry) false }
-        ensures finding { IsTrue result → IfSome found.new (Breaks (error_of self) (table_view top.now)) }
+        ensures finds { IsTrue result → IsSomeAnd found.new (Breaks (error_of self) (table_view top.now)) }
     {
         let Some(table) = table else {
             return false;
@@ -227,7 +227,7 @@ impl KeyFault {
     ) -> bool
         requires { tables_in tables.now ≡ tables_at (array_key array) (table_view top.now) }
         ensures test { result ≡ list_any (fault_of self (fields_of_array array)) (tables_in tables.now) }
-        ensures finding { IsTrue result → IfSome found.new (Breaks (error_of self) (table_view top.now)) }
+        ensures finds { IsTrue result → IsSomeAnd found.new (Breaks (error_of self) (table_view top.now)) }
     {
         for i in 0..tables.len() {
             if self.at(top, array.place(tables, i), Some(tables[i]), found) {
@@ -242,18 +242,30 @@ impl KeyFault {
     fn find<'a>(self, top: &'a Table, tables: &Tables<'a>, found: &mut Option<Finding<'a>>) -> bool
         requires { AreTables (table_view top.now) tables.now }
         ensures test { result ≡ some_table (fault_of self) (table_view top.now) }
-        ensures finding { IsTrue result → IfSome found.new (Breaks (error_of self) (table_view top.now)) }
+        ensures finds { IsTrue result → IsSomeAnd found.new (Breaks (error_of self) (table_view top.now)) }
     {
         let detector = inner_table(top, "detector");
         let share = inner_table(top, "share");
         let link = inner_table(top, "link");
-        self.at(top, Place::Top, Some(top), found)
-            || self.at(top, Place::Section(Section::Detector), detector, found)
-            || self.at(top, Place::Section(Section::Share), share, found)
-            || self.at(top, Place::Section(Section::Link), link, found)
-            || self.among(top, TableArray::Links, &tables.links, found)
-            || self.among(top, TableArray::Crash, &tables.crashes, found)
-            || self.among(top, TableArray::Outage, &tables.outages, found)
+        if self.at(top, Place::Top, Some(top), found) {
+            return true;
+        }
+        if self.at(top, Place::Section(Section::Detector), detector, found) {
+            return true;
+        }
+        if self.at(top, Place::Section(Section::Share), share, found) {
+            return true;
+        }
+        if self.at(top, Place::Section(Section::Link), link, found) {
+            return true;
+        }
+        if self.among(top, TableArray::Links, &tables.links, found) {
+            return true;
+        }
+        if self.among(top, TableArray::Crash, &tables.crashes, found) {
+            return true;
+        }
+        self.among(top, TableArray::Outage, &tables.outages, found)
     }
 }
 
@@ -273,6 +285,7 @@ pub(crate) fn tables_of(alloc: Global, top: &Table) -> Result<Tables<'_>, AllocE
 
 /// Refuses a file of which some table has a fault of its keys: keys that aren't listed first, then missing ones, then
 /// values of another kind.
+#[tactic(auto, using(crate::proofs::Findings::if_there))]
 pub(crate) fn check_keys<'a>(
     top: &'a Table,
     tables: &Tables<'a>,

@@ -11,7 +11,7 @@ ghost use Rattle.scenario.specs.Groups.{Passes, StopsAt};
 ghost use Rattle.scenario.specs.Ranges.{Subject, ends_of, subject_of};
 ghost use Rattle.scenario.specs.Faults.{Finds, IsFoundBy};
 
-use crate::error::ScenarioError::{self, Horizon, Limit, Lookahead, Processes, Version};
+use crate::error::ScenarioError::{self, Horizon, Limit, Lookahead, Processes, Seed, Version};
 use crate::fault::{Fault, Outside};
 use crate::finding::{Finding, refused_at};
 use crate::place::Place;
@@ -167,7 +167,7 @@ fn read_seed(top: &Table, found: &mut Option<Finding<'_>>) -> Result<u64, Scenar
         Some(seed) => Ok(seed),
         None => {
             let fault = outside(top, "seed", 0, i64::MAX as u64);
-            Err(refused_at(found, ScenarioError::Seed, Place::Top, fault))
+            Err(refused_at(found, Seed, Place::Top, fault))
         }
     }
 }
