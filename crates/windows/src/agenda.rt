@@ -29,7 +29,8 @@ pub(crate) enum Ahead {
 /// asks for it twice a window, searches no bucket.
 #[derive(Drop)]
 pub(crate) struct Agenda {
-    pending: Pending,
+    // in a place of its own, so that few bytes are moved where a berth is
+    pending: Box<Pending>,
     // the least tick of the pending events
     ahead: Ahead,
     letters: Vec<Letter>,
@@ -51,9 +52,9 @@ impl Model for Agenda {
 
     ghost coded = { events.code key_code step_input.the_row.coded };
 
-    ghost view = { λ a. joined a.pending (map event_of a.letters.items) };
+    ghost view = { λ a. joined a.pending.value (map event_of a.letters.items) };
 
-    ghost invariant = { λ a. IsAheadOf a.pending a.ahead × IsSoonestOf a.letters.items a.soonest };
+    ghost invariant = { λ a. IsAheadOf a.pending.value a.ahead × IsSoonestOf a.letters.items a.soonest };
 }
 
 /// The lesser of two ticks, as far as they are there.
@@ -146,15 +147,15 @@ fn settle(
 
 impl Agenda {
     /// The pending events alone.
-    pub(crate) fn new(alloc: Global, pending: Pending) -> Agenda
-        ensures { result ≡ pending }
+    pub(crate) fn new(alloc: Global, pending: Pending) -> Result<Agenda, AllocError>
+        ensures { IfOk result (λ a. a ≡ pending) }
     {
-        Agenda {
-            pending,
+        Ok(Agenda {
+            pending: Box::new(alloc, pending)?,
             ahead: Ahead::Unknown,
             letters: Vec::new(alloc),
             soonest: None,
-        }
+        })
     }
 
     /// Letters come for the process. Where memory is refused they are gone.

@@ -53,7 +53,7 @@ impl<M: Process> Berth<M> {
         let seat = Seat::new(alloc, scenario, machine)?;
         Ok(Berth {
             seat,
-            pending: Agenda::new(alloc, pending),
+            pending: Agenda::new(alloc, pending)?,
             part: Vec::new(alloc),
             actions: Vec::new(alloc),
         })

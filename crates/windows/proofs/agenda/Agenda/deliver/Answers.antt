@@ -21,6 +21,6 @@ pub returns : goal.returns
 returns c =
     let f = c.self.inside in
     let more = c.args.letters.items in
-    ap (λ xs. joined f.pending (map event_of xs)) c.in_ok-append.ensures.ok
-    ∙ (ap (joined f.pending) (map-append event_of f.letters.items more)
-    ∙ (sym (joined_both f.pending (map event_of f.letters.items) (map event_of more)) ∙ ap (λ m. joined m (map event_of more)) c.self.view_is))
+    ap (λ xs. joined f.pending.value (map event_of xs)) c.in_ok-append.ensures.ok
+    ∙ (ap (joined f.pending.value) (map-append event_of f.letters.items more)
+    ∙ (sym (joined_both f.pending.value (map event_of f.letters.items) (map event_of more)) ∙ ap (λ m. joined m (map event_of more)) c.self.view_is))
