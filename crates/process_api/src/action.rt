@@ -8,7 +8,7 @@ use crate::pid::Pid;
 use std::alloc::AllocError;
 
 /// What a step leaves for the reader of a trace.
-#[derive(Clone, Copy, PartialEq, Eq)]
+#[derive(Clone, Copy, Debug, PartialEq, Eq)]
 pub enum Note {
     /// The process began to suspect another, on layer 1 (the base detector) or 2 (the reduction's output).
     Suspect { layer: u8, who: Pid },

@@ -5,7 +5,7 @@ use crate::key::Key;
 use std::marker::Model;
 
 /// The kind of an entry: what the process took.
-#[derive(Clone, Copy, PartialEq, Eq)]
+#[derive(Clone, Copy, Debug, PartialEq, Eq)]
 pub enum Kind {
     /// The process's start.
     Start,

@@ -8,7 +8,7 @@ use crate::proc_set::ProcSet;
 use std::alloc::AllocError;
 
 /// What a wake is for.
-#[derive(Clone, Copy)]
+#[derive(Clone, Copy, Debug, PartialEq, Eq)]
 pub enum Tag {
     /// The base detector sends its next letters.
     Beat,

@@ -5,7 +5,7 @@ ghost use Rattle.process_api.specs.Watching.{is_watched};
 use crate::pid::Pid;
 
 /// Whom a detector watches.
-#[derive(Clone, Copy)]
+#[derive(Clone, Copy, Debug, PartialEq, Eq)]
 pub enum Watch {
     /// All other processes.
     All,
@@ -32,7 +32,7 @@ impl Watch {
 }
 
 /// The numbers of a base detector, which say its kind too.
-#[derive(Clone, Copy)]
+#[derive(Clone, Copy, Debug, PartialEq, Eq)]
 pub enum DetectorNumbers {
     /// The time-out detector.
     Timeout(TimeoutNumbers),
@@ -41,7 +41,7 @@ pub enum DetectorNumbers {
 }
 
 /// The numbers of the time-out detector, each 1 to 1,000,000 in an accepted scenario.
-#[derive(Clone, Copy)]
+#[derive(Clone, Copy, Debug, PartialEq, Eq)]
 pub struct TimeoutNumbers {
     /// Ticks between two rounds of Alive letters.
     pub period: u32,
@@ -56,7 +56,7 @@ pub struct TimeoutNumbers {
 }
 
 /// The numbers of the detector with freshness points, each 1 to 1,000,000 in an accepted scenario.
-#[derive(Clone, Copy)]
+#[derive(Clone, Copy, Debug, PartialEq, Eq)]
 pub struct FreshnessNumbers {
     /// Ticks between two heartbeats, and between two freshness points.
     pub eta: u32,

@@ -1,7 +1,7 @@
 //! The algorithm that the processes run.
 
 /// The algorithm that the processes run above their detectors.
-#[derive(Clone, Copy)]
+#[derive(Clone, Copy, Debug, PartialEq, Eq)]
 pub enum AlgorithmKind {
     /// `none`: detectors alone.
     Idle,

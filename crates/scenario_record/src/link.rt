@@ -1,7 +1,7 @@
 //! Links.
 
 /// What a link from one process to another does to letters.
-#[derive(Clone, Copy)]
+#[derive(Clone, Copy, Debug, PartialEq, Eq)]
 pub struct Link {
     /// The least delay, in ticks, 1 to 1,000,000.
     pub min: u32,

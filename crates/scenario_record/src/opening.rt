@@ -8,7 +8,7 @@ use crate::algorithm::AlgorithmKind;
 use process_api::{DetectorNumbers, Pid};
 
 /// What one process opens with. Its mind is `mind_of` of this (`specs/Opening.antt`).
-#[derive(Clone, Copy)]
+#[derive(Clone, Copy, Debug, PartialEq, Eq)]
 pub struct Opening {
     /// The process's own number.
     pub own: Pid,
