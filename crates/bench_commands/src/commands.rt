@@ -9,7 +9,7 @@ ghost use Rattle.shell.specs.Ending.{Puts};
 ghost use Rattle.windows.specs.Plan.{IsPlanFor, NoneApplies, plan_of};
 
 use crate::bench::{Mode, bench};
-use crate::compare::compare;
+use crate::comparing::compare;
 use crate::fault::Fault;
 use command_line::Order;
 use event_list::RunError;

@@ -7,7 +7,7 @@ ghost use Rattle.shell.specs.Input.{TakesAtMost, input_path, most_bytes};
 use crate::fault::Fault;
 use scenario::{Scenario, ScenarioError, read_scenario};
 use shell::{InputError, bytes_at};
-use std::alloc::{AllocError, Global};
+use std::alloc::Global;
 use std::io::Read;
 use std::rt::Files;
 
@@ -27,7 +27,7 @@ pub(crate) fn scenario_at<R: Files, I: Read>(
         Ok(bytes) => bytes,
         Err(InputError::NoSuchFile | InputError::Unreadable) => return Err(Fault::Unreadable),
         Err(InputError::TooLong) => return Err(Fault::TooLong),
-        Err(InputError::Memory) => return Err(Fault::Scenario(ScenarioError::Memory(AllocError))),
+        Err(InputError::Memory) => return Err(Fault::Scenario(ScenarioError::Memory)),
     };
     match read_scenario(alloc, &bytes) {
         Ok(scenario) => Ok(scenario),

@@ -40,7 +40,7 @@ pub fn served<R: Files + Threads + Wait + Sync + Clock + Abort, I: Read, O: Outl
     let words = line.split(' ').collect(alloc);
     let words: Vec<&str> = words.expect(rt, NO_MEMORY);
     if line.starts_with("fdbench ") {
-        return bench_commands::serve::serve(rt, alloc, &words, input, outlet, faults);
+        return bench_commands::serve(rt, alloc, &words, input, outlet, faults);
     }
     let watcher = &mut Unwatched;
     study_commands::serve::serve(rt, alloc, &words, input, outlet, faults, watcher)

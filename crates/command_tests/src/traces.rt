@@ -4,7 +4,7 @@ use crate::files::{COORDINATORS, ONE_CRASH, ONE_PROCESS};
 use crate::judged::{ALL_DECIDE, NOTHING, are_outcomes, trace_of};
 use crate::runs::{NO_RUN, same, scenario_of};
 use bench_commands::bench::{Mode, bench};
-use bench_commands::compare::same_bytes;
+use bench_commands::same_bytes;
 use process_api::Trace;
 use qos_report::{MemoryOutlet, Outlet, PrintChoice, write_report, write_trace};
 use scenario::Scenario;

@@ -53,7 +53,7 @@ fn is_memory(refusal: &ScenarioError) -> bool
     ensures { result ≡ is_for_memory refusal.now }
 {
     match refusal {
-        ScenarioError::Memory(_) => true,
+        ScenarioError::Memory => true,
         _ => false,
     }
 }

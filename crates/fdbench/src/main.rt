@@ -18,7 +18,7 @@
 #![tactic(auto)]
 
 use bench_commands::fault::Fault;
-use bench_commands::serve::serve;
+use bench_commands::serve;
 use qos_report::StreamOutlet;
 use shell::{NoWords, finish, lent, report, words_of};
 use std::process::ExitCode;

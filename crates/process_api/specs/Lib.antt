@@ -25,3 +25,4 @@ pub mod Mind
 pub mod React
 pub mod Letters
 pub mod Inside
+pub mod Same

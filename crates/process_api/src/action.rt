@@ -23,7 +23,7 @@ pub enum Note {
 }
 
 /// What a process does in one step.
-#[derive(Drop)]
+#[derive(Debug, PartialEq, Eq, Drop)]
 pub enum Action {
     /// Sends a letter, to itself too.
     Send { to: Pid, payload: Payload },

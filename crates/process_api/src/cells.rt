@@ -1,5 +1,9 @@
 //! Vectors of proposals.
-ghost use Rattle.std.specs.Prelude.{◌≡◌, IfOk, length, nat_eq};
+ghost use Rattle.std.specs.Prelude.{◌≡◌, ◌==◌, IfOk, length, nat_eq};
+ghost use Rattle.std.specs.Option.{option_eq};
+ghost use Rattle.std.specs.Cmp.Lexicographic.{pointwise};
+ghost use Rattle.std.specs.Cmp.Rules.{comparing};
+ghost use Rattle.std.proofs.Common.{rules};
 ghost use Rattle.process_api.specs.Cells.{cell};
 
 use crate::pid::Pid;
@@ -7,7 +11,7 @@ use std::alloc::AllocError;
 use std::marker::Model;
 
 /// For each process what is known of its proposal. Contracts see the list of cells: process k has cell k, from 1.
-#[derive(Drop)]
+#[derive(Debug, Drop)]
 pub struct Cells {
     cells: Vec<Option<u32>>,
 }
@@ -18,6 +22,20 @@ impl Model for Cells {
     ghost Value = { List (Option ℕ) };
 
     ghost view = { λ s. s.cells.items };
+}
+
+impl PartialEq for Cells {
+    ghost eq = { pointwise (option_eq ◌==◌) };
+
+    ghost laws = { Prim.search (comparing, rules) };
+
+    fn eq(&self, other: &Cells) -> bool {
+        self.cells == other.cells
+    }
+}
+
+impl Eq for Cells {
+    ghost laws = { Prim.search (comparing, rules) };
 }
 
 impl Cells {

@@ -1,4 +1,5 @@
 //! Entries of a trace.
+ghost use Rattle.std.specs.Cmp.{partial_equiv_from_equiv};
 
 use crate::action::Note;
 use crate::key::Key;
@@ -38,7 +39,7 @@ pub enum Kind {
 }
 
 /// One step of a trace.
-#[derive(Drop)]
+#[derive(Debug, Drop)]
 pub struct Entry {
     /// The key of the event that was taken.
     pub key: Key,
@@ -58,4 +59,26 @@ impl Model for Entry {
     ghost Value = { EntryRecord };
 
     ghost view = { λ e. record { key = e.key; kind = e.kind; sent = e.sent; lost = e.lost; notes = e.notes.items } };
+}
+
+impl PartialEq for Entry {
+    ghost use Rattle.process_api.specs.Same.{is_same_entry, entry_equiv};
+
+    ghost eq = { is_same_entry };
+
+    ghost laws = { partial_equiv_from_equiv entry_equiv };
+
+    fn eq(&self, other: &Entry) -> bool {
+        self.key == other.key
+            && self.kind == other.kind
+            && self.sent == other.sent
+            && self.lost == other.lost
+            && self.notes == other.notes
+    }
+}
+
+impl Eq for Entry {
+    ghost use Rattle.process_api.specs.Same.{entry_equiv};
+
+    ghost laws = { entry_equiv };
 }

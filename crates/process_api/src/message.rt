@@ -19,7 +19,7 @@ pub enum Tag {
 }
 
 /// What a letter says. Rounds are 1 to 1,000,000,000,000, and values 0 to 4,294,967,295.
-#[derive(Drop)]
+#[derive(Debug, PartialEq, Eq, Drop)]
 pub enum Payload {
     /// The time-out detector: the sender is alive.
     Alive,
@@ -84,7 +84,7 @@ impl Payload {
 }
 
 /// What a process takes in one step.
-#[derive(Drop)]
+#[derive(Debug, PartialEq, Eq, Drop)]
 pub enum StepInput {
     /// The process starts. Each process gets one start, at tick 0.
     Start,
@@ -95,7 +95,7 @@ pub enum StepInput {
 }
 
 /// A letter on its way: the key of the event that it becomes, and what it says.
-#[derive(Drop)]
+#[derive(Debug, PartialEq, Eq, Drop)]
 pub struct Letter {
     /// When, by whom and from whom it is taken, and its number on its link.
     pub key: Key,

@@ -2,6 +2,7 @@
 ghost use Rattle.std.specs.Prelude.{◌≡◌, nat_eq, IsNone, IfSome};
 ghost use Rattle.std.specs.Iterator.{YieldsFirst, item_count};
 ghost use Rattle.std.specs.FinSet as set;
+ghost use Rattle.std.specs.Cmp.{partial_equiv_from_equiv};
 ghost use Rattle.process_api.specs.InOrder.{in_order};
 ghost use Rattle.process_api.specs.Sets.{HasAbove, of_word, up_to};
 
@@ -10,7 +11,7 @@ use crate::words::{WORDS, clear, count, either, first_with_bits, low, put, witho
 use std::marker::Model;
 
 /// A set of processes. Contracts see the finite set of their numbers.
-#[derive(Drop)]
+#[derive(Debug, Drop)]
 pub struct ProcSet {
     // process q is bit q - 1
     words: [u64; WORDS],
@@ -137,6 +138,24 @@ impl ProcSet {
     {
         Members { words: self.words }
     }
+}
+
+impl PartialEq for ProcSet {
+    ghost use Rattle.process_api.specs.Same.{has_same, same_equiv};
+
+    ghost eq = { has_same };
+
+    ghost laws = { partial_equiv_from_equiv same_equiv };
+
+    fn eq(&self, other: &ProcSet) -> bool {
+        self.without(other).is_empty() && other.without(self).is_empty()
+    }
+}
+
+impl Eq for ProcSet {
+    ghost use Rattle.process_api.specs.Same.{same_equiv};
+
+    ghost laws = { same_equiv };
 }
 
 impl IntoIterator for &ProcSet {

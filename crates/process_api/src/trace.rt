@@ -1,12 +1,13 @@
 //! Traces.
 ghost use Rattle.std.specs.Prelude.{◌≡◌, IsTrue};
+ghost use Rattle.std.specs.Cmp.{partial_equiv_from_equiv};
 ghost use Rattle.process_api.specs.Order.{is_rising};
 
 use crate::entry::Entry;
 use std::marker::Model;
 
 /// The entries of a run, with strictly rising keys. Contracts see their list.
-#[derive(Drop)]
+#[derive(Debug, Drop)]
 pub struct Trace {
     entries: Vec<Entry>,
 }
@@ -21,6 +22,24 @@ impl Model for Trace {
     ghost view = { λ t. t.entries.items };
 
     ghost invariant = { λ t. IsTrue (is_rising t.entries.items) };
+}
+
+impl PartialEq for Trace {
+    ghost use Rattle.process_api.specs.Same.{are_same_entries, entries_equiv};
+
+    ghost eq = { are_same_entries };
+
+    ghost laws = { partial_equiv_from_equiv entries_equiv };
+
+    fn eq(&self, other: &Trace) -> bool {
+        self.entries == other.entries
+    }
+}
+
+impl Eq for Trace {
+    ghost use Rattle.process_api.specs.Same.{entries_equiv};
+
+    ghost laws = { entries_equiv };
 }
 
 impl Trace {

@@ -69,11 +69,11 @@ number_of error.Share = 14
 number_of error.LinkNumbers = 15
 number_of (error.BelowLookahead from to) = 16
 number_of error.CrashLine = 17
-number_of (error.Memory m) = 18
+number_of error.Memory = 18
 number_of error.OutageLine = 19
 
 abbrev pub is_memory : ScenarioError → Bool
-is_memory (error.Memory m) = true
+is_memory error.Memory = true
 is_memory _ = false
 
 -- the refusal is for memory, or it is this one and its test says so

@@ -3,12 +3,12 @@ ghost use Rattle.std.specs.Prelude.{◌≡◌};
 ghost use Rattle.scenario.specs.Names.{name_of};
 
 use process_api::Pid;
-use std::alloc::AllocError;
+use std::alloc::{AllocError, AllocFailed};
 use thiserror::Error;
 
 /// Why a scenario's file is refused, in the order in which the rules are tried: of several faults the first is
 /// answered. `Memory` may come at any point. Contracts know the refusals by their numbers (`specs/Refusals.antt`).
-#[derive(Debug, Drop, Error)]
+#[derive(Clone, Copy, Debug, PartialEq, Eq, Error)]
 #[error("no scenario was read: {}", self.name())]
 pub enum ScenarioError {
     /// The bytes are no UTF-8, or no TOML.
@@ -59,7 +59,27 @@ pub enum ScenarioError {
     /// or a `begin` or an `until` that isn't 0 to 10,000,000, or a `begin` that isn't below its `until`.
     OutageLine,
     /// Memory was refused.
-    Memory(#[from(alloc)] AllocError),
+    Memory,
+}
+
+impl From<AllocError> for ScenarioError {
+    ghost use Rattle.scenario.specs.declared.error.ScenarioError.TheVariants.{Memory};
+
+    ghost from_gives = { λ _ e. e ≡ Memory };
+
+    fn from(_: AllocError) -> ScenarioError {
+        ScenarioError::Memory
+    }
+}
+
+impl<T: Drop> From<AllocFailed<T>> for ScenarioError {
+    ghost use Rattle.scenario.specs.declared.error.ScenarioError.TheVariants.{Memory};
+
+    ghost from_gives = { λ _ e. e ≡ Memory };
+
+    fn from(_failed: AllocFailed<T>) -> ScenarioError {
+        ScenarioError::Memory
+    }
 }
 
 impl ScenarioError {
@@ -87,7 +107,7 @@ impl ScenarioError {
             ScenarioError::BelowLookahead { .. } => "BelowLookahead",
             ScenarioError::CrashLine => "CrashLine",
             ScenarioError::OutageLine => "OutageLine",
-            ScenarioError::Memory(_) => "Memory",
+            ScenarioError::Memory => "Memory",
         }
     }
 }

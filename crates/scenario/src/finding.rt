@@ -12,7 +12,6 @@ ghost use Rattle.scenario.specs.Faults.{Finds, IsFoundBy};
 use crate::error::ScenarioError;
 use crate::fault::{BelowLookahead, Fault, ProposalsFault};
 use crate::place::Place;
-use std::alloc::AllocError;
 
 /// What was read, where it isn't refused; else its refusal is answered. That is `?` without its `From`, through which
 /// the prover can't follow a fault; a long proof grows by it.
@@ -92,9 +91,9 @@ pub(crate) fn refused_at<'a>(
 
 /// Notes that nothing is found. Answers that memory was refused.
 pub(crate) fn out_of_memory(found: &mut Option<Finding<'_>>) -> ScenarioError
-    ensures error { result ≡ ScenarioError.Memory (record {}) }
+    ensures error { result ≡ ScenarioError.Memory }
     ensures none { found.new ≡ None }
 {
     *found = None;
-    ScenarioError::Memory(AllocError)
+    ScenarioError::Memory
 }

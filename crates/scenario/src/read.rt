@@ -12,7 +12,7 @@ use crate::keys::{check_keys, tables_of};
 use crate::numbers::{Top, read_numbers};
 use crate::parts::read_parts;
 use scenario_record::Scenario;
-use std::alloc::{AllocError, Global};
+use std::alloc::Global;
 use toml::Table;
 
 /// Reads a scenario's file. `Ok` is the record that the file stands for, defaults filled in.
@@ -27,7 +27,7 @@ pub fn read_scenario(alloc: Global, bytes: &[u8]) -> Result<Scenario, ScenarioEr
 {
     match toml::table_from_slice(alloc, bytes) {
         Ok(table) => read_table(alloc, &table),
-        Err(error) if error.is_memory() => Err(ScenarioError::Memory(AllocError)),
+        Err(error) if error.is_memory() => Err(ScenarioError::Memory),
         Err(_) => Err(ScenarioError::NotToml),
     }
 }

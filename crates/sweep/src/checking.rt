@@ -26,7 +26,7 @@ fn is_want_of_memory(reason: &ReadError) -> bool
 {
     match reason {
         ReadError::Place(PlaceError::Memory(_)) => true,
-        ReadError::Scenario(ScenarioError::Memory(_)) => true,
+        ReadError::Scenario(ScenarioError::Memory) => true,
         _ => false,
     }
 }

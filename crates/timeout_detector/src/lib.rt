@@ -10,6 +10,9 @@
 //! data, and what each input makes of it, is `step_timeout` of `process_api/specs/Timeout.antt`, and it opens as the
 //! scenario's opening says (`base_of` of `scenario_record/specs/Opening.antt`).
 //!
+//! [`FreshnessDetector`], the other detector of layer 1, is handed on, so that callers know both by this crate. What it
+//! does stands in `freshness_detector`.
+//!
 //! An example in words: two processes, period 4, check 3, time-out 5. Process 1 takes an Alive letter of process 2 at
 //! tick 2. Its checks at ticks 3 and 6 find silences of 1 and 4 ticks, and do nothing. The check at tick 9 finds 7,
 //! which isn't below 5: process 1 suspects process 2, and notes it. If a letter of process 2 comes at tick 10,
@@ -20,3 +23,4 @@ mod bound;
 mod detector;
 
 pub use detector::TimeoutDetector;
+pub use freshness_detector::FreshnessDetector;

@@ -47,7 +47,7 @@ impl Ran {
         let mut notes = Vec::new(alloc);
         let status = match words.first() {
             Some(&"fdbench") => {
-                bench_commands::serve::serve(rt, alloc, &words, &mut input, &mut out, &mut faults)
+                bench_commands::serve(rt, alloc, &words, &mut input, &mut out, &mut faults)
             }
             Some(&"fdstudy") => study_commands::serve::serve(
                 rt,

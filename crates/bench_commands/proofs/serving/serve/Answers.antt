@@ -4,7 +4,7 @@ use Rattle.bench_commands.specs.Serve.{IsReason, LeftOf, Serves, ServesFor}
 use Rattle.bench_commands.specs.Inside.Statuses.{has_status}
 use Rattle.bench_commands.proofs.Stopping.{asked_at_one, run_asked}
 use Rattle.shell.proofs.Leaving.{ends}
-use Rattle.bench_commands.proofs.serve.serve.Goals as goal
+use Rattle.bench_commands.proofs.serving.serve.Goals as goal
 
 pub returns : goal.returns
 returns g c =

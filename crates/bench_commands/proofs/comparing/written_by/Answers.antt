@@ -3,7 +3,7 @@ use Rattle.process_api.specs.declared.run_error.RunError.TheVariants.{Limit}
 use Rattle.bench_commands.proofs.Stopping.{refused_long}
 use Rattle.process_api.specs.declared.print_choice.PrintChoice.TheVariants.{Both}
 use Rattle.reporting.specs.Outlet.{Held}
-use Rattle.bench_commands.proofs.compare.written_by.Goals as goal
+use Rattle.bench_commands.proofs.comparing.written_by.Goals as goal
 
 pub returns : goal.returns
 returns g c = record {

@@ -5,7 +5,7 @@ use Rattle.reporting.specs.Printed.{printed}
 use Rattle.process_api.specs.declared.print_choice.PrintChoice.TheVariants.{Both}
 use Rattle.scenario_record.specs.Record.{Record}
 use Rattle.bench_commands.specs.Compare.{IsWritten}
-use Rattle.bench_commands.proofs.compare.compare.Goals as goal
+use Rattle.bench_commands.proofs.comparing.compare.Goals as goal
 
 -- both ways to run a scenario write the same
 written_alike : (S : Record) (a b : List ℕ) → IsWritten S a → IsWritten S b → a ≡ b

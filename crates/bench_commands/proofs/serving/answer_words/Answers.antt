@@ -4,7 +4,7 @@ use Rattle.command_line.specs.Order.{States}
 use Rattle.bench_commands.specs.Answer.{Answers, Leaves, Writes}
 use Rattle.bench_commands.specs.Fault.{end_of}
 use Rattle.shell.proofs.Going.{for_help, for_order}
-use Rattle.bench_commands.proofs.serve.answer_words.Goals as goal
+use Rattle.bench_commands.proofs.serving.answer_words.Goals as goal
 
 pub returns-in-Ok-clause-text : goal.returns-in-Ok-clause-text
 returns-in-Ok-clause-text g c =
