@@ -2,11 +2,11 @@
 use crate::comparisons::NO_MEMORY;
 use crate::driving::{Row, drive_detector, opening_of};
 use crate::inputs::Given::{Alive, Beat, Check, Heartbeat, Share, Start};
-use freshness_detector::FreshnessDetector;
 use process_api::{DetectorNumbers, FreshnessNumbers, Watch};
 use scenario_record::AlgorithmKind;
 use std::alloc::Global;
 use std::process::Abort;
+use timeout_detector::FreshnessDetector;
 
 /// Process `own` of so many, with eta 3 and delta 2, suspects and does what the rows say.
 fn watches(

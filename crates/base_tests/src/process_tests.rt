@@ -5,6 +5,8 @@ use crate::answers::{are_done, are_members};
 use crate::comparisons::{NO_MEMORY, same};
 use crate::inputs::{numbered, set_of};
 use process_api::*;
+use std::alloc::Global;
+use std::process::Abort;
 
 #[test]
 fn processes_are_numbered_1_to_256(rt: HostRuntime) {
@@ -28,9 +30,10 @@ fn sets_gain_and_lose_members(rt: HostRuntime) {
     let five = Pid::after(4);
     let mut set = set_of(&rt, &[2, 5]);
     let kept = set.copy();
+    same(&rt, &kept, &set);
     set.remove(two);
-    let found = (set.contains(five), set.contains(two));
-    same(&rt, &found, &(true, false));
+    let found = (set.contains(five), set.contains(two), kept == set);
+    same(&rt, &found, &(true, false, false));
     set.insert(Pid::after(255));
     let both = kept.union(&set);
     let lens = (both.len(), both.up_to(5).len(), both.up_to(1).is_empty());
@@ -101,8 +104,9 @@ fn keys_rise_by_tick_receiver_sender_and_number(rt: HostRuntime) {
 /// Of three processes the second has a number.
 #[test]
 fn cells_are_copied(rt: HostRuntime) {
-    let three = vec![in rt.alloc(); None, Some(20u32), None].expect(&rt, NO_MEMORY);
-    let cells = Cells::new(three).copy().expect(&rt, NO_MEMORY);
+    let three = Cells::new(vec![in rt.alloc(); None, Some(20u32), None].expect(&rt, NO_MEMORY));
+    let cells = three.copy().expect(&rt, NO_MEMORY);
+    same(&rt, &cells, &three);
     let found = (cells.get(Pid::after(1)), cells.get(Pid::after(3)));
     same(&rt, &found, &(Some(20), None));
     same(&rt, &cells.into_vec().len(), &3);
@@ -115,10 +119,11 @@ fn actions_are_appended(rt: HostRuntime) {
     wake_after(&mut out, 7, Tag::Share).expect(&rt, NO_MEMORY);
     note_that(&mut out, Note::Round(1)).expect(&rt, NO_MEMORY);
     are_done(&rt, rt.alloc(), 0, &out, "alive>1 Share+7 round:1");
+    same(&rt, &out.pop(), &Some(Action::Note(Note::Round(1))));
 }
 
-#[test]
-fn a_trace_gives_its_entries(rt: HostRuntime) {
+/// The trace of one start, with so many letters sent.
+fn trace_of(rt: &impl Abort, alloc: Global, sent: u32) -> Trace {
     let one = Pid::after(0);
     let key = Key {
         tick: 0,
@@ -129,11 +134,19 @@ fn a_trace_gives_its_entries(rt: HostRuntime) {
     let entry = Entry {
         key,
         kind: Kind::Start,
-        sent: 2,
+        sent,
         lost: 0,
-        notes: Vec::new(rt.alloc()),
+        notes: Vec::new(alloc),
     };
-    let trace = Trace::new(vec![in rt.alloc(); entry].expect(&rt, NO_MEMORY));
+    Trace::new(vec![in alloc; entry].expect(rt, NO_MEMORY))
+}
+
+#[test]
+fn a_trace_gives_its_entries(rt: HostRuntime) {
+    let alloc = rt.alloc();
+    let trace = trace_of(&rt, alloc, 2);
+    same(&rt, &trace, &trace_of(&rt, alloc, 2));
+    same(&rt, &(trace == trace_of(&rt, alloc, 3)), &false);
     same(&rt, &trace.entries().len(), &1);
     same(&rt, &trace.into_vec().len(), &1);
 }

@@ -2,8 +2,7 @@
 
 use crate::files::{FIVE, ONE_CRASH, ONE_PROCESS};
 use crate::runs::{changed, same};
-use bench_commands::carry_out;
-use command_line::Order;
+use bench_commands::{Order, carry_out};
 use process_api::Pid;
 use qos_report::{Outlet, PrintChoice};
 use std::alloc::Global;

@@ -3,7 +3,7 @@
 use judges::Outcome;
 
 /// What is told of a run in a few numbers.
-#[derive(Drop)]
+#[derive(Debug, PartialEq, Eq, Drop)]
 pub struct Summary {
     /// How many entries the trace has.
     pub entries: u64,

@@ -10,7 +10,7 @@ use std::marker::Model;
 pub(crate) const MOST_WORKERS: u64 = 64;
 
 /// How many workers share the processes, and how many ticks a window has.
-#[derive(Clone, Copy)]
+#[derive(Clone, Copy, Debug, PartialEq, Eq)]
 pub struct Plan {
     workers: u16,
     window: u32,

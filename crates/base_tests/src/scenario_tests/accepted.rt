@@ -257,7 +257,12 @@ fn every_process(rt: HostRuntime) {
     let (link, _) = link_of(&rt, &scenario, 3, 1);
     let of_three = opening_proposal(&rt, &scenario, 3);
     let of_four = scenario.proposal(Pid::after(3));
-    same(&rt, &(scenario.processes(), link.max), &(3, 11));
+    let own = Link {
+        min: 10,
+        max: 11,
+        loss: 0,
+    };
+    same(&rt, &(scenario.processes(), link), &(3, own));
     same(&rt, &(of_three, of_four), &(Some(4_294_967_295), None));
 }
 

@@ -1,8 +1,9 @@
 //! Files that have bytes of other kinds than text and line feeds, and files that repeat a part often.
-use super::answer;
+use super::{answer, name_of};
 use crate::changes::{CRASH_FILE, changed};
 use crate::comparisons::{NO_MEMORY, same};
-use std::alloc::Global;
+use scenario::ScenarioError;
+use std::alloc::{AllocError, Global};
 use std::process::Abort;
 
 /// Changes of the crash file, and what they get.
@@ -81,4 +82,7 @@ fn depth_and_length(rt: HostRuntime) {
         let came = answer(alloc, text.as_bytes());
         same(&rt, &(came, old, times), &(name, old, times));
     }
+    let refused = ScenarioError::from(AllocError);
+    same(&rt, &refused, &ScenarioError::Memory);
+    same(&rt, &name_of(&Err(refused)), &"Memory");
 }

@@ -1,6 +1,6 @@
 //! Plans that are made, and plans that are refused.
 use super::ONE_CRASH;
-use crate::common::{same, scenario_of};
+use crate::common::{NO_RUN, same, scenario_of};
 use windows::{Plan, PlanError};
 
 /// Numbers of workers and ticks of a window, and how they are refused at a lookahead of 2 ticks, or not.
@@ -27,16 +27,16 @@ const PLANS: [(u64, u64, Option<PlanError>); 12] = [
 #[test]
 fn made_or_refused(rt: HostRuntime) {
     let scenario = scenario_of(&rt, rt.alloc(), ONE_CRASH);
+    let two = Plan::new(&scenario, 2, 2).expect(&rt, NO_RUN);
     for (workers, window, refusal) in PLANS {
         let plan = Plan::new(&scenario, workers, window);
-        if let Ok(plan) = &plan {
+        if let Some(refusal) = refusal {
+            let came = plan.expect_err(&rt, "a plan was made");
+            same(&rt, &(workers, window, came), &(workers, window, refusal));
+        } else {
+            let plan = plan.expect(&rt, NO_RUN);
             let came = (u64::from(plan.workers()), u64::from(plan.window()));
-            same(&rt, &came, &(workers, window));
+            same(&rt, &(came, plan == two), &((workers, window), came == (2, 2)));
         }
-        same(
-            &rt,
-            &(workers, window, plan.err()),
-            &(workers, window, refusal),
-        );
     }
 }
