@@ -8,7 +8,7 @@ use thiserror::Error;
 
 /// Why a scenario's file is refused, in the order in which the rules are tried: of several faults the first is
 /// answered. `Memory` may come at any point. Contracts know the refusals by their numbers (`specs/Refusals.antt`).
-#[derive(Clone, Copy, Debug, PartialEq, Eq, Error)]
+#[derive(Debug, PartialEq, Eq, Drop, Error)]
 #[error("no scenario was read: {}", self.name())]
 pub enum ScenarioError {
     /// The bytes are no UTF-8, or no TOML.
