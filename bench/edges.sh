@@ -73,9 +73,10 @@ end
 # each word is needed: the last one alone says that the output is that of one run
 begin "orders of many words"
 wants 0 listed $fdbench run - --workers 2 --window 2 --print trace < one.toml
-printf '%s\n' detector.timeout,detector.grow,link.loss,seed,run,layer,runs,undetected 5,1,0,1,1,1,1,0 > row
-wants 0 row $fdstudy sweep one.toml --seeds 1 --vary detector.timeout=5 --vary detector.grow=1 --over link.loss=0 \
-    --shard 1/1 --threads 2 --columns runs,undetected --each run
+columns=detector.timeout,detector.grow,link.loss,seed,run,undetected
+printf '%s\n' $columns 5,1,0,3,1,0 5,1,0,4,2,0 > table
+wants 0 table $fdstudy sweep one.toml --seeds 3..=4 --vary detector.timeout=5 --vary detector.grow=1 --over link.loss=0 \
+    --shard 1/1 --threads 2 --columns $columns --each run
 end
 
 begin "long paths"
@@ -164,6 +165,19 @@ starts 0 $fdstudy letters one.toml
 starts 0 $fdstudy draw one.toml --as letters
 end
 
+# How many processors the script may use, at most 64: those that are there, within the quota of its container.
+processors() {
+    local count quota period
+    count=$(env -u OMP_NUM_THREADS -u OMP_THREAD_LIMIT nproc)
+    if [ -r /sys/fs/cgroup/cpu.max ]; then
+        read -r quota period < /sys/fs/cgroup/cpu.max
+        [ "$quota" = max ] || [ $((quota / period)) -ge "$count" ] || count=$((quota / period))
+    fi
+    [ "$count" -ge 1 ] || count=1
+    [ "$count" -le 64 ] || count=64
+    echo "$count"
+}
+
 # Scenarios are read, and then runs are made, by batches, of which the first has one for each of N threads: that of the
 # program itself and N - 1 that are started. The batches of seven by 3 threads have 3 and 4, or 3, 3 and 1.
 begin "a sweep has as many threads as it is told, or as there are processors" 0
@@ -172,8 +186,7 @@ starts 8 $fdstudy sweep one.toml --seeds 1..=7 --threads 3
 starts 12 $fdstudy sweep one.toml --seeds 1..=7 --threads 7
 starts 126 $fdstudy sweep one.toml --seeds 1..=64 --threads 64
 starts 6 $fdstudy check one.toml --seeds 1 --vary detector.timeout=1..=7 --threads 3
-processors=$(nproc)
-[ "$processors" -le 64 ] || processors=64
+processors=$(processors)
 starts $((2 * (processors - 1))) $fdstudy sweep one.toml --seeds "1..=$processors"
 starts 0 taskset -c "$(taskset -cp $$ | sed 's/.*: //; s/[-,].*//')" $fdstudy sweep one.toml --seeds 1..=7
 end
