@@ -78,7 +78,7 @@ for order in "list --print both" "run --workers 2 --window 2 --print both"; do
     for example in one_crash exchange lossy_coordinator; do
         file="$root/examples/$example.toml"
         "$fdbench" list "$file" --print both > "$folder/listed" || give_up "list $file"
-        refuse_in_turn "$order" "$file" "$folder/listed" REFUSE "$(step 1 29)"
+        refuse_in_turn "$order" "$file" "$folder/listed" REFUSE "$(step 1 11)"
     done
     end
 done
@@ -86,7 +86,7 @@ done
 # these windows are small, so that all threads are workers, of which each that can't be had ends the run
 begin "each start of a worker refused in turn, 5 processes" "3 fdbench: run: Spawn"
 for order in "run --workers 3 --window 2 --print both" "compare --workers 2 --window 1"; do
-    refuse_in_turn "$order" "$five" "$five.listed" REFUSE_THREAD "$(step 1 37)"
+    refuse_in_turn "$order" "$five" "$five.listed" REFUSE_THREAD "$(step 1 13)"
 done
 end
 
@@ -98,8 +98,8 @@ begin "each start of a thread refused in turn, 64 processes, 4 workers" 0 "3 fdb
 refuse_in_turn "$order" "$crowd" "$folder/listed" REFUSE_THREAD "$(step 1 4)"
 end
 split "$order"
-begin "one request for memory in $(step 61 997) refused, 64 processes, 4 workers" 0 "${memory[@]}"
-refuse_in_turn "$order" "$crowd" "$folder/listed" REFUSE "$(step 61 997)"
+begin "one request for memory in $(step 61 337) refused, 64 processes, 4 workers" 0 "${memory[@]}"
+refuse_in_turn "$order" "$crowd" "$folder/listed" REFUSE "$(step 61 337)"
 end
 
 if [ "$(id -u)" -eq 0 ]; then

@@ -53,7 +53,7 @@ refuse_in_turn() {
     end
 }
 begin "each request for memory refused in turn" 0 "${memory[@]}"
-refuse_in_turn REFUSE "$(step 1 31)"
+refuse_in_turn REFUSE "$(step 1 11)"
 # a thread that can't be had costs time alone
 begin "each start of a thread refused in turn" 0
 refuse_in_turn REFUSE_THREAD 1

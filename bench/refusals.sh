@@ -30,6 +30,7 @@ give_up() {
 bring() {
     [ -n "$built" ] || "$root/$1" --help > /dev/null || give_up "$1 could not be built"
     cp "$root/crates/$1/out/$1" "$folder" 2> /dev/null || give_up "there is no crates/$1/out/$1: is it proved and built?"
+    chmod 755 "$folder/$1"
 }
 
 # Makes of bench/refuse.c what is loaded before a program.
