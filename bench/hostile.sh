@@ -1,24 +1,30 @@
 #!/bin/bash
-# Runs the built program where the machine refuses memory, threads and writes, and feeds it bad input. Each run has to end
-# by itself, with a status of the program's table and the line of just that fault, and where the status is 0 with the same
-# bytes as with ample means. Prints of each kind of refusal how many runs it had and how they ended; status 1 where one
-# ended otherwise. The program is proved and built first, where that is needed. As root it also tries a limit on threads,
-# as nobody, and a full disk; where there is a C compiler, it refuses each single request for memory, and each start of a
-# thread, in turn; then, too, no memory may be held when the program ends.
+# Runs the built program where the machine refuses memory, threads and writes, and feeds it bad input.
+#
+#     bench/hostile.sh [--few] [--built]
+#
+# Each run has to end by itself, with a status of the program's table and the line of just that fault, and where the
+# status is 0 with the same bytes as with ample means. It refuses each single request for memory, and each start of a
+# thread, in turn (bench/refuse.c, for which it wants a C compiler); then, too, no memory may be held when the program
+# ends. As root it also tries a limit on threads, as nobody, and a full disk. With --few, as the gate runs it, each kind
+# of refusal has a few runs, half a minute in all. Prints of each kind how many runs it had and how they ended, and last
+# how many kinds passed; status 1 where one did not. Without --built the program is proved and built first, where that is
+# needed.
 root=$(CDPATH='' cd -- "$(dirname -- "$0")/.." && pwd) || exit 1
-"$root/fdbench" --help > /dev/null || exit 1
 folder=$(mktemp -d) || exit 1
 trap 'umount "$folder/small" 2> /dev/null; rm -r "$folder"' EXIT
 chmod 755 "$folder"
-cp "$root/crates/fdbench/out/fdbench" "$root/examples/lossy_coordinator.toml" "$root/bench/sixty_four.toml" "$folder"
+# shellcheck source=bench/refusals.sh
+. "$root/bench/refusals.sh"
+bring fdbench
+make_refuse
+cp "$root/examples/lossy_coordinator.toml" "$root/bench/sixty_four.toml" "$folder"
 fdbench="$folder/fdbench"
 five="$folder/lossy_coordinator.toml"
 many="$folder/sixty_four.toml"
-# shellcheck source=bench/refusals.sh
-. "$root/bench/refusals.sh"
 
 for file in "$five" "$many"; do
-    "$fdbench" list "$file" --print both > "$file.listed" || exit 1
+    "$fdbench" list "$file" --print both > "$file.listed" || give_up "list $file"
 done
 echo ok > "$folder/ok"
 echo same > "$folder/same"
@@ -36,7 +42,7 @@ split() {
 for order in check "list --print both" "run --workers 3 --window 2 --print both" "compare --workers 3 --window 2"; do
     split "$order"
     begin "memory refused to $order, from 2.5 MiB on (ulimit -v)" 0 "${memory[@]}" "127 *"
-    for ((room = 2500; room <= 60000; room += room / 16)); do
+    for ((room = 2500; room <= 60000; room += room / $(step 16 1))); do
         for file in "$five" "$many"; do
             (ulimit -v "$room"; exec $limit "$fdbench" "${words[0]}" "$file" "${words[@]:1}") \
                 > "$folder/out" 2> "$folder/err"
@@ -51,58 +57,54 @@ for order in check "list --print both" "run --workers 3 --window 2 --print both"
     end
 done
 
-if cc -shared -fPIC -O1 -o "$folder/refuse.so" "$root/bench/refuse.c" 2> /dev/null; then
-    # Runs the order $1 over the file $2, which prints the file $3 where it is done, with one request after the other
-    # refused: of those that the variable $4 names, in steps of $5.
-    refuse_in_turn() {
-        split "$1"
-        for ((request = 1; ; request += $5)); do
-            rm -f "$folder/refused"
-            (
-                export "$4=$request" "REFUSED=$folder/refused" "LEFT=$folder/left" "LD_PRELOAD=$folder/refuse.so"
-                exec "$fdbench" "${words[0]}" "$2" "${words[@]:1}"
-            ) > "$folder/out" 2> "$folder/err"
-            status=$?
-            # beyond the last request
-            [ -e "$folder/refused" ] || break
-            ended "$status" "$3"
-            held "$4 $request of $1, $2"
-        done
-    }
-    for order in "list --print both" "run --workers 2 --window 2 --print both"; do
-        split "$order"
-        begin "each request for memory of $order refused in turn" 0 "${memory[@]}"
-        for example in one_crash exchange lossy_coordinator; do
-            file="$root/examples/$example.toml"
-            "$fdbench" list "$file" --print both > "$folder/listed" || exit 1
-            refuse_in_turn "$order" "$file" "$folder/listed" REFUSE 1
-        done
-        end
+# Runs the order $1 over the file $2, which prints the file $3 where it is done, with one request after the other
+# refused: of those that the variable $4 names, in steps of $5.
+refuse_in_turn() {
+    split "$1"
+    for ((request = 1; ; request += $5)); do
+        rm -f "$folder/refused"
+        $limit env "$4=$request" "REFUSED=$folder/refused" "LEFT=$folder/left" "LD_PRELOAD=$folder/refuse.so" \
+            "$fdbench" "${words[0]}" "$2" "${words[@]:1}" > "$folder/out" 2> "$folder/err"
+        status=$?
+        # beyond the last request
+        [ -e "$folder/refused" ] || break
+        ended "$status" "$3"
+        held "$4 $request of $1, $2"
     done
-
-    # these windows are small, so that all threads are workers, of which each that can't be had ends the run
-    begin "each start of a worker refused in turn, 5 processes" "3 fdbench: run: Spawn"
-    for order in "run --workers 3 --window 2 --print both" "compare --workers 2 --window 1"; do
-        refuse_in_turn "$order" "$five" "$five.listed" REFUSE_THREAD 1
-    done
-    end
-
-    # windows that several threads close: such a thread that can't be had doesn't end the run
-    crowd="$root/bench/crowd_64.toml"
-    "$fdbench" list "$crowd" --print both > "$folder/listed" || exit 1
-    order="run --workers 4 --window 2 --print both"
-    begin "each start of a thread refused in turn, 64 processes, 4 workers" 0 "3 fdbench: run: Spawn"
-    refuse_in_turn "$order" "$crowd" "$folder/listed" REFUSE_THREAD 1
-    end
+}
+for order in "list --print both" "run --workers 2 --window 2 --print both"; do
     split "$order"
-    begin "one request for memory in 61 refused, 64 processes, 4 workers" 0 "${memory[@]}"
-    refuse_in_turn "$order" "$crowd" "$folder/listed" REFUSE 61
+    begin "each request for memory of $order refused in turn" 0 "${memory[@]}"
+    for example in one_crash exchange lossy_coordinator; do
+        file="$root/examples/$example.toml"
+        "$fdbench" list "$file" --print both > "$folder/listed" || give_up "list $file"
+        refuse_in_turn "$order" "$file" "$folder/listed" REFUSE "$(step 1 11)"
+    done
     end
-fi
+done
+
+# these windows are small, so that all threads are workers, of which each that can't be had ends the run
+begin "each start of a worker refused in turn, 5 processes" "3 fdbench: run: Spawn"
+for order in "run --workers 3 --window 2 --print both" "compare --workers 2 --window 1"; do
+    refuse_in_turn "$order" "$five" "$five.listed" REFUSE_THREAD "$(step 1 13)"
+done
+end
+
+# windows that several threads close: such a thread that can't be had doesn't end the run
+crowd="$root/bench/crowd_64.toml"
+"$fdbench" list "$crowd" --print both > "$folder/listed" || give_up "list $crowd"
+order="run --workers 4 --window 2 --print both"
+begin "each start of a thread refused in turn, 64 processes, 4 workers" 0 "3 fdbench: run: Spawn"
+refuse_in_turn "$order" "$crowd" "$folder/listed" REFUSE_THREAD "$(step 1 4)"
+end
+split "$order"
+begin "one request for memory in $(step 61 337) refused, 64 processes, 4 workers" 0 "${memory[@]}"
+refuse_in_turn "$order" "$crowd" "$folder/listed" REFUSE "$(step 61 337)"
+end
 
 if [ "$(id -u)" -eq 0 ]; then
     begin "threads refused (ulimit -u, 64 workers)" 0 "3 fdbench: run: Spawn"
-    for threads in 1 2 3 8 16 32 63 64 65 80; do
+    for threads in 1 3 32 65 $(step "2 8 16 63 64 80" ""); do
         # shellcheck disable=SC2016 (the inner shell's own words)
         $limit setpriv --reuid=65534 --regid=65534 --clear-groups \
             bash -c 'ulimit -u "$0"; exec "$@"' "$threads" "$fdbench" run "$many" --workers 64 --window 4 --print both \
@@ -177,11 +179,11 @@ for content in random brackets rows key comment tables; do
         key) fault=UnknownKey ;;
         comment) fault=MissingKey ;;
     esac
-    begin "a file of 8 MiB, $content, in a second" "1 fdbench: scenario: $fault"
-    timeout 1 "$fdbench" check "$folder/hostile" > "$folder/out" 2> "$folder/err"
+    seconds=$(step 1 10)
+    begin "a file of 8 MiB, $content, in so many seconds: $seconds" "1 fdbench: scenario: $fault"
+    timeout "$seconds" "$fdbench" check "$folder/hostile" > "$folder/out" 2> "$folder/err"
     ended $?
     end
 done
 
-echo "$wrong wrong"
-[ "$wrong" -eq 0 ]
+sum_up

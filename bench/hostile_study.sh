@@ -1,30 +1,32 @@
 #!/bin/bash
 # Runs the built fdstudy where the machine refuses memory, threads and writes, and feeds it bad input, as bench/hostile.sh
-# does with fdbench. Each run has to end by itself, with a status of the program's table and the line of just that fault,
-# and where the status is 0 with the same bytes as with ample means; where there is a C compiler, each single request for
+# does with fdbench, and with the same words. Each run has to end by itself, with a status of the program's table and the
+# line of just that fault, and where the status is 0 with the same bytes as with ample means. Each single request for
 # memory, and each start of a thread, is refused in turn.
 root=$(CDPATH='' cd -- "$(dirname -- "$0")/.." && pwd) || exit 1
-"$root/fdstudy" --help > /dev/null || exit 1
 folder=$(mktemp -d) || exit 1
 trap 'rm -r "$folder"' EXIT
-cp "$root/crates/fdstudy/out/fdstudy" "$root/examples/one_crash.toml" "$folder"
+# shellcheck source=bench/refusals.sh
+. "$root/bench/refusals.sh"
+bring fdstudy
+make_refuse
+cp "$root/examples/one_crash.toml" "$folder"
 fdstudy="$folder/fdstudy"
 file="$folder/one_crash.toml"
 grid="--seeds 1..=2 --vary detector.timeout=5,8"
 orders=("check" "letters" "draw --as suspicions" "draw --as letters" "show $grid --point 2" "sweep $grid --threads 1"
     "sweep $grid --threads 2" "check $grid --threads 2")
 memory=("2 fdstudy: words: Memory" "3 fdstudy: run: Memory")
-# shellcheck source=bench/refusals.sh
-. "$root/bench/refusals.sh"
 
 for place in "${!orders[@]}"; do
     read -r -a words <<< "${orders[$place]}"
-    "$fdstudy" "${words[0]}" "$file" "${words[@]:1}" > "$folder/ample_$place" || exit 1
+    "$fdstudy" "${words[0]}" "$file" "${words[@]:1}" > "$folder/ample_$place" \
+        || give_up "${orders[$place]}"
 done
 
 # 127 is the system's loader, which found no room for the C library before the program began
 begin "memory refused, from 2.5 MiB on (ulimit -v)" 0 "${memory[@]}" "127 *"
-for ((room = 2500; room <= 60000; room += room / 16)); do
+for ((room = 2500; room <= 60000; room += room / $(step 16 1))); do
     for place in "${!orders[@]}"; do
         read -r -a words <<< "${orders[$place]}"
         (ulimit -v "$room"; exec $limit "$fdstudy" "${words[0]}" "$file" "${words[@]:1}") > "$folder/out" 2> "$folder/err"
@@ -33,32 +35,28 @@ for ((room = 2500; room <= 60000; room += room / 16)); do
 done
 end
 
-if cc -shared -fPIC -O1 -o "$folder/refuse.so" "$root/bench/refuse.c" 2> /dev/null; then
-    # Runs each order with one request after the other refused, of those that the variable $1 names.
-    refuse_in_turn() {
-        for place in "${!orders[@]}"; do
-            read -r -a words <<< "${orders[$place]}"
-            for ((request = 1; ; request++)); do
-                rm -f "$folder/refused"
-                (
-                    export "$1=$request" "REFUSED=$folder/refused" "LEFT=$folder/left" "LD_PRELOAD=$folder/refuse.so"
-                    exec "$fdstudy" "${words[0]}" "$file" "${words[@]:1}"
-                ) > "$folder/out" 2> "$folder/err"
-                status=$?
-                # beyond the last request
-                [ -e "$folder/refused" ] || break
-                ended "$status" "$folder/ample_$place"
-                held "$1 $request of ${orders[$place]}"
-            done
+# Runs each order with one request after the other refused, of those that the variable $1 names, in steps of $2.
+refuse_in_turn() {
+    for place in "${!orders[@]}"; do
+        read -r -a words <<< "${orders[$place]}"
+        for ((request = 1; ; request += $2)); do
+            rm -f "$folder/refused"
+            $limit env "$1=$request" "REFUSED=$folder/refused" "LEFT=$folder/left" "LD_PRELOAD=$folder/refuse.so" \
+                "$fdstudy" "${words[0]}" "$file" "${words[@]:1}" > "$folder/out" 2> "$folder/err"
+            status=$?
+            # beyond the last request
+            [ -e "$folder/refused" ] || break
+            ended "$status" "$folder/ample_$place"
+            held "$1 $request of ${orders[$place]}"
         done
-        end
-    }
-    begin "each request for memory refused in turn" 0 "${memory[@]}"
-    refuse_in_turn REFUSE
-    # a thread that can't be had costs time alone
-    begin "each start of a thread refused in turn" 0
-    refuse_in_turn REFUSE_THREAD
-fi
+    done
+    end
+}
+begin "each request for memory refused in turn" 0 "${memory[@]}"
+refuse_in_turn REFUSE "$(step 1 11)"
+# a thread that can't be had costs time alone
+begin "each start of a thread refused in turn" 0
+refuse_in_turn REFUSE_THREAD 1
 
 begin "writes refused" "4 fdstudy: run: Write"
 for order in "${orders[@]}"; do
@@ -90,5 +88,4 @@ for line in '[' 'a=1' '[[crash]]' '#' 'crash = 1'; do
 done
 end
 
-echo "$wrong wrong"
-[ "$wrong" -eq 0 ]
+sum_up

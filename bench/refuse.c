@@ -1,7 +1,8 @@
 /* Preloaded into a program, it refuses one request for memory: the one whose number REFUSE holds, from 1, of malloc,
    calloc, realloc and aligned_alloc in all threads; or one start of a thread, that whose number REFUSE_THREAD holds. As it
    does so it makes the file that REFUSED names. Where the program ends while it still holds blocks that it was given, the C
-   library's own aside, it makes the file that LEFT names. */
+   library's own aside, it makes the file that LEFT names. Into the file that STARTED names it writes at the end how many
+   threads were started. */
 #define _GNU_SOURCE
 #include <dlfcn.h>
 #include <errno.h>
@@ -9,6 +10,7 @@
 #include <pthread.h>
 #include <stdatomic.h>
 #include <stddef.h>
+#include <stdio.h>
 #include <stdlib.h>
 #include <sys/syscall.h>
 #include <unistd.h>
@@ -23,10 +25,10 @@ extern void __libc_freeres(void);
 typedef int starts(pthread_t *, const pthread_attr_t *, void *(*)(void *), void *);
 
 static atomic_long requests;
-static atomic_long threads;
+static atomic_long threads, started;
 static atomic_long held;
 static long refused, refused_thread;
-static const char *refused_file, *left_file;
+static const char *refused_file, *left_file, *started_file;
 
 __attribute__((constructor)) static void begin(void) {
     const char *number = getenv("REFUSE");
@@ -35,6 +37,7 @@ __attribute__((constructor)) static void begin(void) {
     refused_thread = thread ? atol(thread) : 0;
     refused_file = getenv("REFUSED");
     left_file = getenv("LEFT");
+    started_file = getenv("STARTED");
     atomic_store(&requests, 0);
 }
 
@@ -81,10 +84,21 @@ int pthread_create(pthread_t *thread, const pthread_attr_t *attributes, void *(*
         make(refused_file);
         return EAGAIN;
     }
-    return ((starts *)dlsym(RTLD_NEXT, "pthread_create"))(thread, attributes, run, given_to);
+    int answer = ((starts *)dlsym(RTLD_NEXT, "pthread_create"))(thread, attributes, run, given_to);
+    if (answer == 0)
+        atomic_fetch_add(&started, 1);
+    return answer;
+}
+
+static void tell_started(void) {
+    int file = open(started_file, O_WRONLY | O_CREAT | O_TRUNC, 0644);
+    dprintf(file, "%ld\n", atomic_load(&started));
+    close(file);
 }
 
 void _exit(int status) {
+    if (started_file)
+        tell_started();
     __libc_freeres();
     if (atomic_load(&held) != 0)
         make(left_file);

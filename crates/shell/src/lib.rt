@@ -8,6 +8,7 @@
 //!   8,388,608 bytes, and one more to see that there are too many. Where the bytes of an input are known, as those of a
 //!   text in memory are, `Ok` is all of them, and `TooLong` comes only where they are more than that. Of a file or a
 //!   terminal no contract knows the bytes: there the promise is the length alone.
+//! - [`lent`] lends the words as texts, all of them and in their order.
 //! - [`put_bytes`] and [`put_text`] write whole, or answer the failure of a write, and then a front part went out.
 //! - [`ended`] answers the status of a run: 0 where it is done, and nothing is told; else that of its failure, of which
 //!   the line is told. `proofs/Leaving.antt` has what follows for the outlet and the line, status by status.

@@ -1,4 +1,5 @@
 //! The words that a program is given.
+ghost use Rattle.std.specs.Prelude.{◌≡◌, IfOk, map, string_bytes};
 
 use std::alloc::{AllocError, AllocGlobal, Global};
 use std::env;
@@ -28,11 +29,13 @@ pub fn words_of<R: Env + AllocGlobal>(rt: &R) -> Result<Vec<String>, NoWords> {
     words.collect(rt.alloc()).map_err(|_| NoWords::Memory)
 }
 
-/// The words as texts that are lent.
+/// The words as texts that are lent: all of them, in their order.
 ///
 /// # Errors
 ///
 /// `AllocError` where memory was refused.
-pub fn lent<'a>(alloc: Global, words: &'a [String]) -> Result<Vec<&'a str>, AllocError> {
+pub fn lent<'a>(alloc: Global, words: &'a [String]) -> Result<Vec<&'a str>, AllocError>
+    ensures { IfOk result (λ texts. map (λ t. t.now) texts.items ≡ map string_bytes words.now) }
+{
     words.iter().map(|word| word.as_str()).collect(alloc)
 }
