@@ -5,12 +5,15 @@ use Rattle.trace_laws.specs.ScenarioSetting.{setting_of}
 use Rattle.trace_laws.specs.World.{IsTrace}
 use Rattle.process_api.specs.declared.run_error.RunError.{RunError}
 use Rattle.process_api.specs.declared.run_error.RunError.TheVariants.{Limit, Memory, Spawn, Write}
-use Rattle.judges.specs.Agreement.{Agree, Agrees, IsCoordinated}
+use Rattle.judges.specs.Agreement.{Agree}
+use Rattle.judges.proofs.Agreement.Agreed.{agrees}
 use Rattle.process_api.specs.EntryRecord.{EntryRecord}
+use Rattle.scenario_record.specs.Ranges.{IsInRange}
 use Rattle.scenario_record.specs.Record.{Record}
 use Rattle.reporting.specs.Printed.{printed, IsTraceWithin, Finishes, Refuses}
 use Rattle.reporting.specs.Summary.{IsSummary}
 use Rattle.reporting.specs.Writing.{Wrote, WrotePart, WroteNothing}
+use Rattle.reporting.proofs.Resting.{has_grounds}
 use Rattle.process_api.specs.declared.print_choice.PrintChoice.{PrintChoice}
 use Rattle.reporting.specs.declared.summary.Summary.{Summary}
 
@@ -25,20 +28,21 @@ module _ (S : Record) (print : PrintChoice) {O : Type 0} (told : O → Option (L
   }
 
   module _ (trace : List EntryRecord) (within : IsTraceWithin S trace) where
-    pub finishes : HasCauses (setting_of S) trace → TakesOnce (setting_of S) trace → (r : Result Summary RunError)
-        → OnOk r (Wrote told failed old new (printed print S trace)) → IfOk r (IsSummary S trace) → (IsCoordinated S trace → Agrees S trace)
+    pub finishes : IsInRange S → HasCauses (setting_of S) trace → TakesOnce (setting_of S) trace → (r : Result Summary RunError)
+        → OnOk r (Wrote told failed old new (printed print S trace)) → IfOk r (IsSummary S trace)
         → IfOk r (Finishes S print told failed old new)
-    finishes causes once (Ok summary) text summed agrees = record {
+    finishes ranges causes once (Ok summary) text summed = record {
       trace = trace;
       is_within = within;
       text = text;
       summed = summed;
       causes = causes;
       once = once;
-      agree = λ e. subst (Agree S) (sym summed.decided) (agrees (e, within.is_trace)).agree;
-      decides_once = λ e. (agrees (e, within.is_trace)).once;
+      agree = λ e. subst (Agree S) (sym summed.decided) (agrees S ranges e trace within.is_trace).agree;
+      decides_once = λ e. (agrees S ranges e trace within.is_trace).once;
+      grounds = has_grounds S ranges trace within.is_trace;
     }
-    finishes causes once (Err e) text summed agrees = tt
+    finishes ranges causes once (Err e) text summed = tt
 
     -- the texts were formed, or were being formed
     pub refuses_after : (r : Result Summary RunError)

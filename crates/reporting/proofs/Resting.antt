@@ -15,9 +15,11 @@ use Rattle.trace_laws.specs.World.{IsTrace}
 use Rattle.judges.specs.Crashes.{crash_tick, end_of}
 use Rattle.judges.specs.Out.{suspects}
 use Rattle.judges.specs.Ticks.{all_from, first_of, least_below, least_from}
-use Rattle.judges.proofs.Blamed.{blamed_by_out}
+use Rattle.judges.proofs.Blamed.{blamed_by_out, shares_suspicions}
 use Rattle.judges.proofs.Lasting.{all_from-at}
+use Rattle.judges.proofs.Meaning.{verdicts_mean}
 use Rattle.reporting.specs.Distances.{count_below}
+use Rattle.reporting.specs.Grounds.{HasGrounds}
 use Rattle.reporting.specs.Measures.{starts, delay_after, is_measured, detection, measured, pair_measures, layer_measures, layers, all_measures}
 use Rattle.reporting.specs.Resting.{HasBlame, RestsOnBlame}
 use Rattle.reporting.specs.declared.pair_measures.Detection.TheVariants.{Na, At}
@@ -84,3 +86,10 @@ module _ (S : Record) (ranges : IsInRange S) (trace : List EntryRecord) (is_trac
 
   pub all_rest : All (RestsOnBlame S trace) (all_measures S trace)
   all_rest = All-from_recursion (RestsOnBlame S trace) (all_measures S trace) all_by_recursion
+
+  pub has_grounds : HasGrounds S trace
+  has_grounds = record {
+    meaning = verdicts_mean S trace;
+    shares = shares_suspicions S ranges trace is_trace;
+    blame = all_rest;
+  }

@@ -16,4 +16,5 @@ pub mod Printed
 pub mod Running
 pub mod Measured
 pub mod Resting
+pub mod Grounds
 pub mod Inside

@@ -9,6 +9,7 @@ use Rattle.process_api.specs.EntryRecord.{EntryRecord}
 use Rattle.scenario_record.specs.Record.{Record}
 use Rattle.scenario_record.specs.declared.algorithm.AlgorithmKind.TheVariants.{EventuallyStrong}
 use Rattle.reporting.specs.Durations.{AreDurations}
+use Rattle.reporting.specs.Grounds.{HasGrounds}
 use Rattle.reporting.specs.Measures.{all_measures}
 use Rattle.reporting.specs.Printed.{IsTraceWithin}
 use Rattle.reporting.specs.Summary.{IsSummary}
@@ -50,3 +51,5 @@ module _ (S : Record) where
     -- with no value
     pub agree : S.algorithm ≡ EventuallyStrong → Agree S found.summary.outcomes.items
     pub decides_once : S.algorithm ≡ EventuallyStrong → (p : ℕ) → DecidesOnce trace p
+    -- the verdicts that were found mean what their quantifiers say, and what is suspected on layer 2 rests on layer 1
+    pub grounds : HasGrounds S trace

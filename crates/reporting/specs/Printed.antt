@@ -10,6 +10,7 @@ use Rattle.judges.specs.Agreement.{Agree, DecidesOnce}
 use Rattle.process_api.specs.EntryRecord.{EntryRecord}
 use Rattle.scenario_record.specs.Record.{Record}
 use Rattle.scenario_record.specs.declared.algorithm.AlgorithmKind.TheVariants.{EventuallyStrong}
+use Rattle.reporting.specs.Grounds.{HasGrounds}
 use Rattle.reporting.specs.ReportText.{Text, report_text}
 use Rattle.reporting.specs.Summary.{IsSummary}
 use Rattle.reporting.specs.TraceText.{trace_text}
@@ -64,6 +65,8 @@ module _ (S : Record) (print : PrintChoice) {O : Type 0} (told : O → Option Te
     -- with no value
     pub agree : S.algorithm ≡ EventuallyStrong → Agree S summary.outcomes.items
     pub decides_once : S.algorithm ≡ EventuallyStrong → (p : ℕ) → DecidesOnce trace p
+    -- the report's verdicts mean what their quantifiers say, and what is suspected on layer 2 rests on layer 1
+    pub grounds : HasGrounds S trace
 
   -- a run is refused: where a put failed, a front part of these texts went out; nothing went out for any other reason
   pub record Refuses (reason : RunError) : Type 0 where

@@ -1,5 +1,4 @@
 use Rattle.std.proofs.Common.{◌<◌, ◌^◌, [], length, arith}
-use Rattle.judges.proofs.Agreement.Agreed.{agrees}
 use Rattle.reporting.proofs.Fed.{on_ok, if_ok}
 use Rattle.reporting.proofs.Finishing.{finishes, refuses_after}
 use Rattle.reporting.proofs.Followed.{recording_same, recording_told}
@@ -14,10 +13,9 @@ returns-clause-done g c =
     let opened = c.in_ok-recording.recording in
     let is : IsRecording S c.args.print r.trace c.run_list_into.new.follower = recording_told S r.trace r.rising c.args.print opened c.run_list_into.new.follower (r.taken [] (recording_same opened)) c.in_ok-recording.ensures in
     let small : length r.trace < 2 ^ 64 = omega (arith, r.within, ranges.limit_high) in
-    finishes S c.args.print _ _ _ _ r.trace (record { is_trace = r.is_trace; within = r.within }) r.cause r.once c.write_recorded.result
+    finishes S c.args.print _ _ _ _ r.trace (record { is_trace = r.is_trace; within = r.within }) ranges r.cause r.once c.write_recorded.result
     (on_ok c.write_recorded.result (λ w. w c.args.print r.trace is small) c.write_recorded.ensures.whole)
     (if_ok c.write_recorded.result (λ s w. w c.args.print r.trace is small) c.write_recorded.ensures.summed)
-    (λ e. agrees S ranges e.0 r.trace e.1)
 
 pub returns-clause-refused : goal.returns-clause-refused
 returns-clause-refused g c =

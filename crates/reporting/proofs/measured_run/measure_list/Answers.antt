@@ -2,6 +2,7 @@ use Rattle.std.proofs.Common.{◌<◌, ◌^◌, [], length, arith, sym, subst, t
 use Rattle.judges.specs.Agreement.{Agree}
 use Rattle.judges.proofs.Agreement.Agreed.{agrees}
 use Rattle.reporting.proofs.Followed.{measuring_same, measuring_told}
+use Rattle.reporting.proofs.Resting.{has_grounds}
 use Rattle.reporting.proofs.measured_run.measure_list.Goals as goal
 
 pub returns-clause-done : goal.returns-clause-done
@@ -25,4 +26,5 @@ returns-clause-done g c =
       once = r.once;
       agree = λ e. subst (Agree S) (sym found.summary.decided) (agrees S ranges e r.trace r.is_trace).agree;
       decides_once = λ e. (agrees S ranges e r.trace r.is_trace).once;
+      grounds = has_grounds S ranges r.trace r.is_trace;
     }
