@@ -28,7 +28,8 @@ use windows::{Gate, Plan};
 ///
 /// With the rotating coordinator no two outcomes of the summary have different values, each value was proposed, each
 /// process decides at most once, and none notes that it ends with no value: whatever the detector, the links and the
-/// crashes.
+/// crashes. Always the verdicts of the report mean their quantifiers over processes and ticks, and whoever is suspected
+/// on layer 2 was suspected on layer 1 before (`specs/Grounds.antt` of `reporting`).
 ///
 /// # Errors
 ///

@@ -6,7 +6,6 @@ use Rattle.trace_laws.proofs.Sound.{setting_sound}
 use Rattle.trace_laws.specs.ScenarioSetting.{setting_of}
 use Rattle.trace_laws.specs.Setting.{IsSound}
 use Rattle.process_api.specs.declared.run_error.RunError.TheVariants.{Memory, Write}
-use Rattle.judges.proofs.Agreement.Agreed.{agrees}
 use Rattle.qos_report.proofs.Breaking.{breaks_at_close, breaks_at_opening, breaks_in_rows, breaks_in_write, part_in_header, part_in_report, wrote_printed}
 use Rattle.reporting.proofs.Fed.{if_reason}
 use Rattle.reporting.proofs.Finishing.{finishes}
@@ -28,14 +27,14 @@ returns-clause-done g c =
     let small : length trace < 2 ^ 64 = omega (arith, took.is_within.within, ranges.limit_high) in
     let is = c.in_ok-summary.ensures trace c.prints_report.result (took.measured c.prints_report.result c.in_ok-running.ensures) small in
     let traced = c.prints_trace-is_traced.ensures in
-    finishes s c.args.print told failed c.args.outlet.now c.write_if_any.new.outlet trace took.is_within
+    finishes s c.args.print told failed c.args.outlet.now c.write_if_any.new.outlet trace took.is_within ranges
     (trace_has_causes (setting_of s) sound trace took.is_within.is_trace) (trace_takes_once (setting_of s) sound trace took.is_within.is_trace) (Ok c.in_ok-summary.summary)
     (wrote_printed s told failed trace c.args.print c.in_ok-summary.report c.args.outlet.now c.write_header.new.outlet c.stream_windows.new.outlet c.write_if_any.new.outlet
     (subst (λ t. WroteWhere told failed c.args.outlet.now c.write_header.new.outlet t trace_header) traced c.in_ok-write_header.ensures.whole)
     (subst (λ t. WroteWhere told failed c.write_header.new.outlet c.stream_windows.new.outlet t (rows_text trace)) traced took.written)
     (subst (λ t. IsTextWhere t (report_text s trace) c.in_ok-summary.report) c.prints_report.ensures is.report)
     c.in_ok-write_if_any.ensures.whole)
-    is.summary (λ e. agrees s ranges e.0 trace e.1)
+    is.summary
 
 pub returns-in_err-running-clause-refused : goal.returns-in_err-running-clause-refused
 returns-in_err-running-clause-refused g c =
