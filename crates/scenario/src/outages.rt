@@ -16,7 +16,7 @@ use crate::links::{place_of, to_itself};
 use crate::numbers::{Top, ranged};
 use crate::place::TableArray;
 use crate::table::integer_at;
-use scenario_record::Outage;
+use scenario_record::{LinkOutages, Outage};
 use std::alloc::{AllocError, Global};
 use toml::Table;
 
@@ -87,6 +87,17 @@ fn add(outages: &mut Vec<Vec<Outage>>, place: usize, outage: Outage) -> Result<(
     Ok(())
 }
 
+/// The outages of each link, each link's ready to be looked up.
+fn ready(alloc: Global, lists: Vec<Vec<Outage>>) -> Result<Vec<LinkOutages>, AllocError>
+    ensures { IfOk result (λ v. v.items ≡ outages_in lists.items) }
+{
+    let mut links = Vec::with_capacity(alloc, lists.len())?;
+    for list in lists {
+        links.push(LinkOutages::of(alloc, list)?)?;
+    }
+    Ok(links)
+}
+
 /// The outages of the link from each of n processes to each, by sender and then by receiver, each link's in the order
 /// of their tables. Where there are no tables there is no list, of no link.
 pub(crate) fn read_outages(
@@ -94,11 +105,11 @@ pub(crate) fn read_outages(
     top: &Top<'_>,
     tables: &[&Table],
     found: &mut Option<Finding<'_>>,
-) -> Result<Vec<Vec<Outage>>, ScenarioError>
+) -> Result<Vec<LinkOutages>, ScenarioError>
     requires numbers { IsTop top.now }
     requires tables { tables_in tables.now ≡ tables_at (codes "outage") (table_view top.now.table.now) }
     ensures ok { OnOk result (outages_refused (table_view top.now.table.now) ≡ false) }
-    ensures value { IfOk result (λ v. outages_in v.items ≡ (record_of (table_view top.now.table.now)).outages) }
+    ensures value { IfOk result (λ v. v.items ≡ (record_of (table_view top.now.table.now)).outages) }
     ensures err { IfErr result (GivenBy ScenarioError.OutageLine (outages_refused (table_view top.now.table.now))) }
     ensures finds { IfErr result (Finds (table_view top.now.table.now) found.new) }
 {
@@ -123,5 +134,8 @@ pub(crate) fn read_outages(
             return Err(out_of_memory(found));
         }
     }
-    Ok(outages)
+    match ready(alloc, outages) {
+        Ok(links) => Ok(links),
+        Err(_) => Err(out_of_memory(found)),
+    }
 }

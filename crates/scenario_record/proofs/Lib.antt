@@ -1,1 +1,2 @@
 pub mod DetectorFacts
+mod Stretches

@@ -13,12 +13,14 @@
 
 mod algorithm;
 mod link;
+mod link_outages;
 mod opening;
 mod outage;
 mod record;
 
 pub use algorithm::AlgorithmKind;
 pub use link::Link;
+pub use link_outages::LinkOutages;
 pub use opening::Opening;
 pub use outage::Outage;
 pub use record::{Fields, Scenario};

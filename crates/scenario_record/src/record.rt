@@ -1,11 +1,14 @@
 //! Accepted scenarios.
 ghost use Rattle.std.specs.Prelude.{◌≡◌, ◌≢◌, ◌≤◌, ◌<◌, ◌+◌, ◌-◌, ◌*◌, None};
 ghost use Rattle.scenario_record.specs.Ranges.{IsInRange};
+ghost use Rattle.std.specs.List.{list_any};
 ghost use Rattle.scenario_record.specs.Record.{proposal, crash, link, outages_on, opening_mind};
+ghost use Rattle.scenario_record.specs.Outages.{covers};
 ghost use Rattle.scenario_record.specs.Opening.{mind_of};
 
 use crate::algorithm::AlgorithmKind;
 use crate::link::Link;
+use crate::link_outages::LinkOutages;
 use crate::opening::Opening;
 use crate::outage::Outage;
 use process_api::{DetectorNumbers, Pid};
@@ -37,12 +40,11 @@ pub struct Fields {
     /// The links by sender and then by receiver, each from process 1.
     pub links: Vec<Link>,
     /// The outages of each link, by sender and then by receiver; empty where no link has one.
-    pub outages: Vec<Vec<Outage>>,
+    pub outages: Vec<LinkOutages>,
 }
 
 impl Model for Fields {
     ghost use Rattle.scenario_record.specs.Record.{Record};
-    ghost use Rattle.std.specs.Prelude.{map};
 
     ghost Value = { Record };
 
@@ -58,7 +60,7 @@ impl Model for Fields {
       proposals = s.proposals.items;
       crashes = s.crashes.items;
       links = s.links.items;
-      outages = map (λ v. v.items) s.outages.items;
+      outages = s.outages.items;
     } };
 }
 
@@ -204,8 +206,22 @@ impl Scenario {
         ensures ranges { IsInRange self.now }
     {
         match self.fields.outages.get(self.place(from, to)) {
-            Some(outages) => outages.as_slice(),
+            Some(outages) => outages.tables(),
             None => &[],
+        }
+    }
+
+    /// Whether a letter that is sent on the link between two different processes at a tick is lost in an outage.
+    #[inline(always)]
+    pub fn is_cut(&self, from: Pid, to: Pid, tick: u32) -> bool
+        requires different { from ≢ to }
+        requires from_one { from ≤ self.now.processes }
+        requires to_one { to ≤ self.now.processes }
+        ensures { result ≡ list_any (covers tick) (outages_on self.now from to) }
+    {
+        match self.fields.outages.get(self.place(from, to)) {
+            Some(outages) => outages.covers(tick),
+            None => false,
         }
     }
 

@@ -1,12 +1,12 @@
 -- What becomes of a letter to another process: it depends on the place and the tick of sending alone, never on what was
 -- drawn before.
-use Rattle.std.specs.Prelude.{ℕ, ◌+◌, ◌-◌, ◌*◌, ◌%◌, ◌^◌, List, ◌++◌, replicate, nat_le, nat_lt, Bool, ◌&&◌, if◌then◌else◌}
+use Rattle.std.specs.Prelude.{ℕ, ◌+◌, ◌-◌, ◌*◌, ◌%◌, ◌^◌, List, ◌++◌, replicate, nat_lt, Bool, if◌then◌else◌}
 use Rattle.std.specs.Int.{w64, to_le_bytes}
 use Rattle.std.specs.List.{list_any}
 use Rattle.rand_chacha.specs.ChaCha.{word_at, key_of}
+use Rattle.scenario_record.specs.Outages.{covers}
 use Rattle.scenario_record.specs.Record.{Record, link, outages_on}
 use Rattle.scenario_record.specs.declared.link.Link.{Link}
-use Rattle.scenario_record.specs.declared.outage.Outage.{Outage}
 use Rattle.streams.specs.declared.fate.Fate.{Fate}
 use Rattle.streams.specs.declared.fate.Fate.TheVariants.{Lost, Delay}
 
@@ -26,10 +26,6 @@ word seed from to place = word_at 4 (key_of_seed seed) (stream_of from to) (plac
 -- the fate by a letter's two words: so many of 1,000 are lost, others take a delay from min to max
 abbrev pub fate_by : Link → (a b : ℕ) → Fate
 fate_by l a b = if nat_lt (a % 1000) l.loss then Lost else Delay (l.min + b % (l.max - l.min + 1))
-
--- the tick is one of the outage: its end isn't
-abbrev pub covers : (tick : ℕ) → Outage → Bool
-covers tick o = nat_le o.begin tick && nat_lt tick o.until
 
 -- a letter that is sent on the link at this tick is lost in an outage
 abbrev pub is_cut : Record → (from to sent_at : ℕ) → Bool

@@ -1,15 +1,14 @@
 //! One stream of random words for each link.
 ghost use Rattle.std.specs.Prelude.{◌≡◌, ◌≢◌, ◌<◌, ◌≤◌, ◌^◌, ◌+◌};
 ghost use Rattle.scenario_record.specs.Record.{Record};
-ghost use Rattle.std.specs.List.{list_any};
-ghost use Rattle.streams.specs.Fate.{covers, fate_of, key_of_seed, stream_of, word};
+ghost use Rattle.streams.specs.Fate.{fate_of, key_of_seed, stream_of, word};
 
 use crate::fate::Fate;
 use process_api::Pid;
 use rand_chacha::ChaCha8Rng;
 use rand_core::SeedableRng;
 use rand_core::utils::NextWord;
-use scenario_record::{Outage, Scenario};
+use scenario_record::Scenario;
 use std::marker::Model;
 
 /// Words of a link that are at hand for its next letters. Nothing that is answered depends on them: they are left
@@ -40,15 +39,6 @@ fn generator_of(seed: u64) -> ChaCha8Rng
     let mut key = [0u8; 32];
     key[..8].copy_from_slice(&seed.to_le_bytes());
     ChaCha8Rng::from_seed(key)
-}
-
-/// Whether a tick is one of some outages.
-fn is_within(outages: &[Outage], tick: u32) -> bool
-    ensures { result ≡ list_any (covers tick) outages.now }
-{
-    outages
-        .iter()
-        .any(|outage| outage.begin <= tick && tick < outage.until)
 }
 
 /// The streams of a scenario, one for each link. Contracts see the scenario's record.
@@ -103,7 +93,7 @@ impl<'a> Streams<'a> {
         requires counted { 1 ≤ number }
         ensures { result ≡ fate_of self.now from to number sent_at }
     {
-        if is_within(self.scenario.outages(from, to), sent_at) {
+        if self.scenario.is_cut(from, to, sent_at) {
             return Fate::Lost;
         }
         let link = self.scenario.link(from, to);

@@ -278,3 +278,46 @@ fn outages_of_links(rt: HostRuntime) {
     let wanted = [Outage { begin: 3, until: 7 }, Outage { begin: 0, until: 7 }];
     same(&rt, &(there, back.len()), &(wanted.as_slice(), 0));
 }
+
+/// Outages of the link from 2 to 1, in no order: they overlap, lie in one another, touch and begin together.
+const TANGLED: [(u32, u32); 9] = [
+    (40, 50),
+    (5, 30),
+    (10, 12),
+    (30, 31),
+    (45, 60),
+    (5, 8),
+    (62, 64),
+    (10, 12),
+    (58, 59),
+];
+
+/// Whether a letter of the link from one process of a scenario to another is cut at a tick.
+fn is_cut(rt: &impl Abort, scenario: &Scenario, from: u16, to: u16, tick: u32) -> bool {
+    let processes = scenario.processes();
+    let (from, to) = (numbered(rt, from), numbered(rt, to));
+    if from == to || processes < from.number() || processes < to.number() {
+        panic!(rt; "the scenario has no such link");
+    }
+    scenario.is_cut(from, to, tick)
+}
+
+/// A link is cut at just the ticks of its outages, however these lie. The way back isn't cut.
+#[test]
+fn ticks_of_tangled_outages(rt: HostRuntime) {
+    let alloc = rt.alloc();
+    let mut text = changed(&rt, alloc, CRASH_FILE, "version = 1", "version = 2");
+    for (begin, until) in TANGLED {
+        let table = "[[outage]]\nfrom = 2\nto = 1";
+        let longer = format!(in alloc; "{text}\n{table}\nbegin = {begin}\nuntil = {until}\n");
+        text = longer.expect(&rt, NO_MEMORY);
+    }
+    let scenario = read_scenario(alloc, text.as_bytes()).expect(&rt, "not a scenario");
+    for tick in 0..70u32 {
+        let covered = |(begin, until): &(u32, u32)| *begin <= tick && tick < *until;
+        let wanted = TANGLED.iter().any(covered);
+        let there = is_cut(&rt, &scenario, 2, 1, tick);
+        let back = is_cut(&rt, &scenario, 1, 2, tick);
+        same(&rt, &(tick, there, back), &(tick, wanted, false));
+    }
+}

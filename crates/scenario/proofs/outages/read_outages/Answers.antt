@@ -21,7 +21,7 @@ unfolding outages_among
 returns-then-is_empty-clause-value c =
     let empty : length c.args.tables.now ≡ 0 = search rules in
     let none : [] ≡ c.args.tables.now = take_all 0 c.args.tables.now (omega arith) in
-    rw (← c.requires.numbers.processes, ← c.requires.tables, ← none) (ap outages_in c.new.ensures.items)
+    rw (← c.requires.numbers.processes, ← c.requires.tables, ← none) c.new.ensures.items
 
 pub loop-i-init : goal.loop-i-init
 loop-i-init c = record { clean = refl; hold = none_held (pair_keys c.args.top.now.numbers.processes) (map outage_of) (outages_in c.in-Ok.outages.items) c.in-Ok.ensures }
@@ -48,16 +48,17 @@ loop-i-preserved c =
       hold = rw (c.in_default.ensures, c.place_of-place.ensures.value) (outage_put n c.args.tables.now c.loop-i.i c.index-tables-i.result spot (outages_in c.loop-i.outages.items) (c.in-Ok-read_outage.pair.from, c.in-Ok-read_outage.pair.to) c.in-Ok-read_outage.pair.outage c.loop-i.invariant.hold c.in-Ok-read_outage.ensures.pair c.in-Ok-read_outage.ensures.outage c.in-Ok-read_outage.ensures.processes);
     }
 
-pub returns-clause-ok : goal.returns-clause-ok
-returns-clause-ok c =
+pub returns-in-Ok-ready-clause-ok : goal.returns-in-Ok-ready-clause-ok
+returns-in-Ok-ready-clause-ok c =
     let all : take c.loop-i.i c.args.tables.now ≡ c.args.tables.now = take_all c.loop-i.i c.args.tables.now (omega arith) in
     rw (← c.requires.numbers.processes, ← c.requires.tables) (rw all at c.loop-i.invariant.clean)
 
-pub returns-clause-value : goal.returns-clause-value
-returns-clause-value c =
+pub returns-in-Ok-ready-clause-value : goal.returns-in-Ok-ready-clause-value
+returns-in-Ok-ready-clause-value c =
     let all : take c.loop-i.i c.args.tables.now ≡ c.args.tables.now = take_all c.loop-i.i c.args.tables.now (omega arith) in
     let some : 1 ≤ length c.args.tables.now = search rules in
-    rw (← c.requires.numbers.processes, ← c.requires.tables) (outages_whole c.args.top.now.numbers.processes (outages_in c.loop-i.outages.items) (tables_in c.args.tables.now) (simp length-map some) (rw all at c.loop-i.invariant.hold))
+    c.in-Ok-ready.ensures
+    ∙ rw (← c.requires.numbers.processes, ← c.requires.tables) (outages_whole c.args.top.now.numbers.processes (outages_in c.loop-i.outages.items) (tables_in c.args.tables.now) (simp length-map some) (rw all at c.loop-i.invariant.hold))
 
 pub returns-in-Err-read_outage-clause-finds : goal.returns-in-Err-read_outage-clause-finds
 returns-in-Err-read_outage-clause-finds c =

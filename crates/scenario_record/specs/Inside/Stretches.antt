@@ -1,0 +1,12 @@
+-- Stretches in which a tick is looked up.
+use Rattle.std.specs.Prelude.{◌≡◌, ℕ, List}
+use Rattle.std.specs.List.{list_any}
+use Rattle.std.specs.List.Sorted.{IsNonDecreasingBy}
+use Rattle.scenario_record.specs.Outages.{covers}
+use Rattle.scenario_record.specs.declared.outage.Outage.{Outage}
+
+-- the stretches, by rising begins and rising ends, have just the ticks of the outages
+pub record AreStretchesOf (outages stretches : List Outage) : Type 0 where
+  pub begins : IsNonDecreasingBy (λ s. s.begin) stretches
+  pub ends : IsNonDecreasingBy (λ s. s.until) stretches
+  pub same : (tick : ℕ) → list_any (covers tick) stretches ≡ list_any (covers tick) outages
