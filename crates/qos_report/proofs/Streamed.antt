@@ -1,9 +1,10 @@
 -- What a sink took, window by window.
 use Rattle.std.proofs.Common.{◌≡◌, ℕ, inl, inr, refl, sym, ap, ◌∙◌, subst, Bool, true, false, true≢false, Option, List, [], ◌∷◌, ◌++◌, append_assoc, append-nil, ◌≤◌, length, Result, Ok, Err, OnOk, OnErr}
 use Rattle.process_api.specs.EntryRecord.{EntryRecord}
-use Rattle.reporting.specs.Rows.{row_of}
+use Rattle.reporting.specs.Rows.{row_of, written}
 use Rattle.qos_report.specs.Inside.Streaming.{AreUnderWay, WroteFront, WroteWhere, StreamedFront, StreamedTrace, TookFrontOfPart, TookPart}
-use Rattle.reporting.specs.TraceText.{fields_of, rows_text}
+use Rattle.reporting.specs.TraceText.{Holds, fields_of, rows_text}
+use Rattle.reporting.specs.declared.trace_text.TraceText.{TraceText}
 use Rattle.reporting.specs.Writing.{Wrote, WrotePart}
 use Rattle.reporting.proofs.Written.{part_of_more, rows_both, rows_one, wrote_both, wrote_nothing, wrote_then_part}
 use Rattle.trace_laws.specs.ScenarioSetting.{setting_of}
@@ -18,7 +19,7 @@ use Rattle.reporting.specs.Running.{RunningFollowed}
 use Rattle.qos_report.specs.declared.streaming.Streaming.{Streaming}
 use Rattle.reporting.proofs.Followed.{running_same, running_told}
 
--- ---- rows that are asked for or not, and rows in a buffer
+-- ---- rows that are asked for or not, and rows that are kept
 
 module _ {O : Type 0} (told : O → Option (List ℕ)) (failed : O → ℕ) where
   -- ---- texts that are asked for or not
@@ -49,45 +50,48 @@ module _ {O : Type 0} (told : O → Option (List ℕ)) (failed : O → ℕ) wher
   then_front true a b c xs ys p (inr h) = inr (refl, subst (WrotePart told failed a c) (sym (rows_both xs ys)) (wrote_then_part told failed a b c (rows_text xs) (rows_text ys) p h.1))
   then_front false a b c xs ys p (inr h) = absurd (true≢false (sym h.0))
 
+  pub front_none : (t : Bool) (a : O) (xs : List EntryRecord) → WroteFront told failed a a t xs
+  front_none t a xs = inl (record { first = []; others = xs; all = refl; out = where_nothing t a })
+
   -- rows that went out are a front of those of more entries
   pub front_of : (t : Bool) (a b : O) (xs ys : List EntryRecord) → WroteWhere told failed a b t (rows_text xs) → WroteFront told failed a b t (xs ++ ys)
   front_of t a b xs ys p = inl (record { first = xs; others = ys; all = refl; out = p })
 
-  -- ---- rows in a buffer
+  -- ---- rows that are kept
 
-  pub under_way_first : (a : O) (kept : List ℕ) → kept ≡ [] → AreUnderWay told failed a a [] kept
+  pub under_way_first : (a : O) (kept : TraceText) → Holds kept [] → AreUnderWay told failed a a [] kept
   under_way_first a kept none = record { gone = []; held = []; all = refl; out = wrote_nothing told failed a; rest = none }
 
-  module _ (a b : O) (entries : List EntryRecord) (kept : List ℕ) (way : AreUnderWay told failed a b entries kept) where
-    -- one row joins the buffer
-    pub row_kept : (e : EntryRecord) (more : List ℕ) → more ≡ kept ++ row_of (fields_of e) → AreUnderWay told failed a b (entries ++ e ∷ []) more
+  module _ (a b : O) (entries : List EntryRecord) (kept : TraceText) (way : AreUnderWay told failed a b entries kept) where
+    -- one row joins them
+    pub row_kept : (e : EntryRecord) (more : TraceText) → ((text : List ℕ) → Holds kept text → Holds more (text ++ row_of (fields_of e))) → AreUnderWay told failed a b (entries ++ e ∷ []) more
     row_kept e more is = record {
       gone = way.gone;
       held = way.held ++ e ∷ [];
       all = ap (λ zs. zs ++ e ∷ []) way.all ∙ append_assoc way.gone way.held (e ∷ []);
       out = way.out;
-      rest = is ∙ ap (λ t. t ++ row_of (fields_of e)) way.rest ∙ ap (λ t. rows_text way.held ++ t) (sym (rows_one e)) ∙ sym (rows_both way.held (e ∷ []));
+      rest = subst (Holds more) (ap (λ t. rows_text way.held ++ t) (sym (rows_one e)) ∙ sym (rows_both way.held (e ∷ []))) (is (rows_text way.held) way.rest);
     }
 
-    -- the buffer went out
-    pub all_out : (c : O) → Wrote told failed b c kept → Wrote told failed a c (rows_text entries)
+    -- they went out
+    pub all_out : (c : O) → Wrote told failed b c (written kept.writer) → Wrote told failed a c (rows_text entries)
     all_out c w =
         subst (Wrote told failed a c) (sym (ap rows_text way.all ∙ rows_both way.gone way.held))
-        (wrote_both told failed a b c (rows_text way.gone) (rows_text way.held) way.out (subst (Wrote told failed b c) way.rest w))
+        (wrote_both told failed a b c (rows_text way.gone) (rows_text way.held) way.out (subst (Wrote told failed b c) way.rest.is w))
 
-    pub all_gone : (c : O) (left : List ℕ) → Wrote told failed b c kept → left ≡ [] → AreUnderWay told failed a c entries left
+    pub all_gone : (c : O) (left : TraceText) → Wrote told failed b c (written kept.writer) → Holds left [] → AreUnderWay told failed a c entries left
     all_gone c left w none = record { gone = entries; held = []; all = sym (append-nil entries); out = all_out c w; rest = none }
 
     -- a put failed
-    pub part_out : (c : O) → WrotePart told failed b c kept → WroteFront told failed a c true entries
+    pub part_out : (c : O) → WrotePart told failed b c (written kept.writer) → WroteFront told failed a c true entries
     part_out c w =
         inr (
           refl,
           subst (WrotePart told failed a c) (sym (ap rows_text way.all ∙ rows_both way.gone way.held))
-              (wrote_then_part told failed a b c (rows_text way.gone) (rows_text way.held) way.out (subst (WrotePart told failed b c) way.rest w)),
+              (wrote_then_part told failed a b c (rows_text way.gone) (rows_text way.held) way.out (subst (WrotePart told failed b c) way.rest.is w)),
         )
 
-    -- the buffer stays
+    -- they stay
     pub first_out : WroteFront told failed a b true entries
     first_out = inl (record { first = way.gone; others = way.held; all = way.all; out = way.out })
 

@@ -5,14 +5,14 @@ ghost use Rattle.process_api.specs.Numbers.{numbers_to};
 ghost use Rattle.scenario_record.specs.Record.{opening_mind};
 ghost use Rattle.reporting.specs.Printed.{IsLonger};
 ghost use Rattle.qos_report.specs.Inside.Streaming.{AreUnderWay, StreamedFront, StreamedTrace, WroteFront, WroteWhere};
-ghost use Rattle.reporting.specs.TraceText.{rows_text, trace_header};
+ghost use Rattle.reporting.specs.TraceText.{handed, rows_text, trace_header};
 ghost use Rattle.reporting.specs.Writing.{Wrote, WrotePart};
 ghost use Rattle.windows.specs.Plan.{IsPlanFor};
 ghost use Rattle.windows.specs.Sink.{IsRefusalOfSink, writes_of};
 
 use event_list::RunError;
 use process_api::{Entry, Process, follow_all};
-use reporting::{HEADER, Outlet, Running, append_entry, write_text};
+use reporting::{HEADER, Outlet, Running, TraceText, write_text};
 use scenario_record::Scenario;
 use std::alloc::Global;
 use std::marker::Sync;
@@ -20,48 +20,45 @@ use std::sync::Wait;
 use std::thread::Threads;
 use windows::{Gate, Plan, Sink, run_windows_into};
 
-/// How long rows may get before they are handed on, though more are to come.
-const MOST_BYTES: usize = 65_536;
+/// How long rows may get before they are handed on, though more are to come. The last 8,192 bytes at most don't count,
+/// which `csv` holds in a buffer of its own.
+const MOST_BYTES: usize = 57_344;
 
-/// Forms one row more in the buffer, and hands all of them on where they got long: less than 65,536 bytes are kept.
-fn write_row<O: Outlet>(entry: &Entry, buffer: &mut Vec<u8>, outlet: &mut O) -> Result<(), RunError>
+/// Forms one row more, and hands all of them on where they got long: less than 65,536 bytes are kept.
+fn write_row<O: Outlet>(entry: &Entry, rows: &mut TraceText, outlet: &mut O) -> Result<(), RunError>
     requires { O.failed outlet.old < 2 ^ 64 - 1 }
     ensures whole { OnOk result ((first : O) (entries : List EntryRecord)
-        → AreUnderWay O.told O.failed first outlet.old entries buffer.old.items
-        → AreUnderWay O.told O.failed first outlet.new (entries ++ entry.now ∷ []) buffer.new.items) }
+        → AreUnderWay O.told O.failed first outlet.old entries rows.old
+        → AreUnderWay O.told O.failed first outlet.new (entries ++ entry.now ∷ []) rows.new) }
     ensures front { OnErr result ((first : O) (entries : List EntryRecord)
-        → AreUnderWay O.told O.failed first outlet.old entries buffer.old.items
+        → AreUnderWay O.told O.failed first outlet.old entries rows.old
         → WroteFront O.told O.failed first outlet.new true (entries ++ entry.now ∷ [])) }
-    ensures short { OnOk result (length buffer.new.items < 65536) }
+    ensures short { OnOk result (length (handed rows.new) < 57344) }
     ensures errors { IfErr result IsRefusalOfSink }
     ensures count { O.failed outlet.new ≡ O.failed outlet.old + writes_of result }
 {
-    append_entry(buffer, entry)?;
-    if buffer.len() >= MOST_BYTES {
-        write_text(buffer, outlet)?;
-        buffer.clear();
+    rows.push(entry)?;
+    if rows.handed() >= MOST_BYTES {
+        let text = rows.take_text()?;
+        write_text(&text, outlet)?;
     }
     Ok(())
 }
 
-/// Writes the rows of entries. They are formed in the buffer, whose room is kept, and go out as they get long, and in
-/// the end.
-fn write_rows<O: Outlet>(
-    entries: &[Entry],
-    buffer: &mut Vec<u8>,
-    outlet: &mut O,
-) -> Result<(), RunError>
+/// Writes the rows of entries. They go out as they get long, and in the end.
+fn write_rows<O: Outlet>(alloc: Global, entries: &[Entry], outlet: &mut O) -> Result<(), RunError>
     requires { O.failed outlet.old < 2 ^ 64 - 1 }
     ensures whole { OnOk result (Wrote O.told O.failed outlet.old outlet.new (rows_text entries.now)) }
     ensures front { OnErr result (WroteFront O.told O.failed outlet.old outlet.new true entries.now) }
     ensures errors { IfErr result IsRefusalOfSink }
     ensures count { O.failed outlet.new ≡ O.failed outlet.old + writes_of result }
 {
-    buffer.clear();
+    let mut rows = TraceText::new(alloc, b"")?;
     for entry in entries {
-        write_row(entry, buffer, outlet)?;
+        write_row(entry, &mut rows, outlet)?;
     }
-    write_text(buffer, outlet)
+    let text = rows.into_text()?;
+    write_text(&text, outlet)
 }
 
 /// Measures the entries of a run as its windows close, and writes their rows, where the trace is asked for. It holds
@@ -70,7 +67,7 @@ fn write_rows<O: Outlet>(
 pub(crate) struct Streaming<'a, O: Outlet> {
     pub running: Running,
     pub is_traced: bool,
-    pub buffer: Vec<u8>,
+    pub alloc: Global,
     pub outlet: &'a mut O,
 }
 
@@ -86,7 +83,7 @@ impl<'a, O: Outlet> Sink for Streaming<'a, O> {
     fn part(&mut self, entries: Vec<Entry>) -> Result<(), RunError> {
         follow_all(&mut self.running, &entries)?;
         if self.is_traced {
-            write_rows(&entries, &mut self.buffer, self.outlet)
+            write_rows(self.alloc, &entries, self.outlet)
         } else {
             Ok(())
         }
@@ -168,14 +165,14 @@ pub(crate) fn stream_windows<M: Process, G: Gate, O: Outlet, R: Threads + Wait +
     let mut sink = Streaming {
         running,
         is_traced,
-        buffer: Vec::new(alloc),
+        alloc,
         outlet,
     };
     let ran = run_into(rt, alloc, scenario, machines, plan, gate, &mut sink);
     let Streaming {
         running,
         is_traced: _,
-        buffer: _buffer,
+        alloc: _,
         outlet: _outlet,
     } = sink;
     ran?;

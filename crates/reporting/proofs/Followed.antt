@@ -1,5 +1,5 @@
 -- Whoever follows a run, as it is put together: fed with nothing, and told of a trace.
-use Rattle.std.proofs.Common.{◌≡◌, Bool, true, false, sym, ap, ◌∙◌, is_some, Option, List, [], ◌++◌, append-nil}
+use Rattle.std.proofs.Common.{◌≡◌, ℕ, Bool, true, false, sym, ap, ◌∙◌, subst, is_some, Option, List, [], ◌++◌, append-nil}
 use Rattle.process_api.specs.Following.{HasFollowedWhere}
 use Rattle.process_api.proofs.Where.{same_where, then_where}
 use Rattle.process_api.specs.EntryRecord.{EntryRecord}
@@ -9,7 +9,7 @@ use Rattle.judges.specs.declared.outcomes.RunningOutcomes.{RunningOutcomes}
 use Rattle.process_api.specs.declared.print_choice.PrintChoice.{PrintChoice}
 use Rattle.reporting.specs.Printed.{prints_report, prints_trace}
 use Rattle.reporting.specs.Running.{AreLayers, IsLayer, IsMeasuring, IsRecording, IsRunning, IsSumming, LayerFollowed, LayersFollowed, Running, RunningFollowed, SummingFollowed}
-use Rattle.reporting.specs.TraceText.{rows_text, trace_header, trace_text}
+use Rattle.reporting.specs.TraceText.{Holds, rows_text, trace_header, trace_text}
 use Rattle.reporting.specs.declared.counts.Counts.{Counts}
 use Rattle.reporting.specs.declared.layer.Layer.{Layer}
 use Rattle.reporting.specs.declared.trace_text.TraceText.{TraceText}
@@ -23,8 +23,8 @@ Layers = Layer × Option Layer
 abbrev pub MeasuringFollowed : (first now : Summing × Layers) → List EntryRecord → Type 0
 MeasuringFollowed first now told = SummingFollowed first.0 now.0 told × LayersFollowed first.1 now.1 told
 
-abbrev TextFollowed : (first now : TraceText) → List EntryRecord → Type 0
-TextFollowed first now told = now.text.items ≡ first.text.items ++ rows_text told
+abbrev pub TextFollowed : (first now : TraceText) → List EntryRecord → Type 0
+TextFollowed first now told = (text : List ℕ) → Holds first text → Holds now (text ++ rows_text told)
 
 abbrev pub RecordingFollowed : (first now : Running × Option TraceText) → List EntryRecord → Type 0
 RecordingFollowed first now told = RunningFollowed first.0 now.0 told × HasFollowedWhere TextFollowed first.1 now.1 told
@@ -46,14 +46,18 @@ running_same r = (summing_same r.0, same_where LayersFollowed [] layers_same r.1
 pub measuring_same : (m : Summing × Layers) → MeasuringFollowed m m []
 measuring_same m = (summing_same m.0, layers_same m.1)
 
+pub text_same : (t : TraceText) → TextFollowed t t []
+text_same t text held = subst (Holds t) (sym (append-nil text)) held
+
 pub recording_same : (r : Running × Option TraceText) → RecordingFollowed r r []
-recording_same r = (running_same r.0, same_where TextFollowed [] (λ t. sym (append-nil t.text.items)) r.1)
+recording_same r = (running_same r.0, same_where TextFollowed [] text_same r.1)
 
 -- ---- told of a trace
 
-pub text_told : (first now : TraceText) (told : List EntryRecord) → TextFollowed first now told → first.text.items ≡ trace_text [] → now.text.items ≡ trace_text told
+pub text_told : (first now : TraceText) (told : List EntryRecord) → TextFollowed first now told → Holds first (trace_text []) → Holds now (trace_text told)
 unfolding trace_text
-text_told first now told is opened = is ∙ ap (λ t. t ++ rows_text told) (opened ∙ append-nil trace_header)
+text_told first now told is opened =
+    subst (Holds now) (ap (λ t. t ++ rows_text told) (append-nil trace_header)) (is (trace_text []) opened)
 
 module _ (S : Record) (told : List EntryRecord) (rises : is_rising told ≡ true) where
   summing_told : (first now : Summing) → SummingFollowed first now told → IsSumming S [] first → IsSumming S told now
@@ -77,5 +81,5 @@ module _ (S : Record) (told : List EntryRecord) (rises : is_rising told ≡ true
   pub recording_told : (print : PrintChoice) (first now : Running × Option TraceText) → RecordingFollowed first now told → IsRecording S print [] first → IsRecording S print told now
   recording_told print first now followed h = (
     running_told (prints_report print) first.0 now.0 followed.0 h.0,
-    then_where TextFollowed told (λ t. t.text.items ≡ trace_text []) (λ t. t.text.items ≡ trace_text told) (λ f g. text_told f g told) (prints_trace print) first.1 now.1 followed.1 h.1,
+    then_where TextFollowed told (λ t. Holds t (trace_text [])) (λ t. Holds t (trace_text told)) (λ f g. text_told f g told) (prints_trace print) first.1 now.1 followed.1 h.1,
   )

@@ -1,3 +1,4 @@
+pub mod NoQuotes
 pub mod PlainRows
 pub mod Passes
 pub mod EachProcess

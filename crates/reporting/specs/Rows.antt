@@ -1,8 +1,10 @@
 -- Rows of a text.
 use Rattle.std.specs.Prelude.{◌≡◌, ℕ, List, [], ◌∷◌, ◌++◌, false}
+use Rattle.std.specs.Global.{Vec}
 use Rattle.std.specs.List.{join_with_byte}
 use Rattle.csv.specs.Writing.{default_writer, with_style, writer_setup, fields_written, has_written, writer_under, writer_pending}
 use Rattle.csv.specs.declared.writer.QuoteStyle.TheVariants as style
+use Rattle.csv.specs.declared.writer.Writer.{Writer}
 use Rattle.csv.specs.declared.writer.WriterBuilder.{WriterBuilder}
 use Rattle.reporting.specs.declared.rows.Rows.{Rows}
 
@@ -16,21 +18,22 @@ comma = 44
 unfoldable pub row_of : List (List ℕ) → List ℕ
 row_of fields = join_with_byte comma fields ++ line_feed ∷ []
 
--- fields with a comma after each
-abbrev pub with_commas : List (List ℕ) → List ℕ
-with_commas [] = []
-with_commas (field ∷ fields) = field ++ (comma ∷ with_commas fields)
-
 -- commas, line feeds, and no quotes
 abbrev pub plain_writer : WriterBuilder
 plain_writer = with_style default_writer style.Never
 
--- no row is half written
-pub record IsBetweenRows (rows : Rows) : Type 0 where
-  pub setup : writer_setup rows.writer ≡ plain_writer
-  pub fields : fields_written rows.writer ≡ 0
-  pub wrote : has_written rows.writer ≡ false
+-- a writer is set up so, and no row is half written
+pub record IsBetween (as_wanted : WriterBuilder) (w : Writer (Vec ℕ)) : Type 0 where
+  pub setup : writer_setup w ≡ as_wanted
+  pub fields : fields_written w ≡ 0
+  pub wrote : has_written w ≡ false
 
--- what was written so far
+-- what it wrote so far
+abbrev pub written : Writer (Vec ℕ) → List ℕ
+written w = (writer_under w).items ++ writer_pending w
+
+abbrev pub IsBetweenRows : Rows → Type 0
+IsBetweenRows rows = IsBetween plain_writer rows.writer
+
 abbrev pub text_of : Rows → List ℕ
-text_of rows = (writer_under rows.writer).items ++ writer_pending rows.writer
+text_of rows = written rows.writer

@@ -13,7 +13,8 @@ use Rattle.reporting.specs.Panel.{IsMetering}
 use Rattle.reporting.specs.Printed.{printed, prints_report, prints_trace}
 use Rattle.reporting.specs.ReportText.{Text, report_text}
 use Rattle.reporting.specs.Summary.{IsSummary}
-use Rattle.reporting.specs.TraceText.{trace_text}
+use Rattle.reporting.specs.Rows.{written}
+use Rattle.reporting.specs.TraceText.{Holds, trace_text}
 use Rattle.reporting.specs.declared.counts.Counts.{Counts}
 use Rattle.reporting.specs.declared.layer.Layer.{Layer}
 use Rattle.reporting.specs.declared.summary.Summary.{Summary}
@@ -57,7 +58,7 @@ RunningFollowed first now told =
 -- the text of rows, if there is one
 abbrev pub rows_of : Option TraceText → Text
 rows_of None = []
-rows_of (Some t) = t.text.items
+rows_of (Some t) = written t.writer
 
 -- a text, where it is asked for
 abbrev pub IsTextWhere : (asked : Bool) → Text → Option (Vec ℕ) → Type 0
@@ -89,7 +90,7 @@ module _ (S : Record) where
     abbrev pub IsRecording : Running × Option TraceText → Type 0
     IsRecording r =
         IsRunning trace (prints_report print) r.0
-        × IsWhere (prints_trace print) (λ (t : TraceText). t.text.items ≡ trace_text trace) r.1
+        × IsWhere (prints_trace print) (λ (t : TraceText). Holds t (trace_text trace)) r.1
 
     -- the summary of the trace, and the texts that are asked for
     pub record TellsRun (told : Summary × Vec ℕ) : Type 0 where

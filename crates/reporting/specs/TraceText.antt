@@ -1,11 +1,13 @@
 -- The text of a trace.
-use Rattle.std.specs.Prelude.{ℕ, List, [], ◌∷◌, ◌++◌, map, codes, decimal}
+use Rattle.std.specs.Prelude.{◌≡◌, ℕ, List, [], ◌∷◌, ◌++◌, map, codes, decimal}
 use Rattle.std.specs.List.{join_with_byte, flat_map}
+use Rattle.csv.specs.Writing.{default_writer, writer_under}
 use Rattle.process_api.specs.EntryRecord.{EntryRecord}
 use Rattle.process_api.specs.declared.action.Note.{Note}
 use Rattle.process_api.specs.declared.action.Note.TheVariants.{Suspect, Trust, Round, Decided, NoValue}
 use Rattle.reporting.specs.Kinds.{kind_text}
-use Rattle.reporting.specs.Rows.{row_of}
+use Rattle.reporting.specs.Rows.{row_of, IsBetween, written}
+use Rattle.reporting.specs.declared.trace_text.TraceText.{TraceText}
 
 abbrev pub space : ℕ
 space = 32
@@ -32,12 +34,6 @@ fields_of e =
     decimal e.key.tick ∷ decimal e.key.receiver ∷ decimal e.key.sender ∷ decimal e.key.number ∷ kind_text e.kind
     ∷ decimal e.sent ∷ decimal e.lost ∷ notes_text e.notes ∷ []
 
--- those before the notes
-abbrev pub first_fields_of : EntryRecord → List (List ℕ)
-first_fields_of e =
-    decimal e.key.tick ∷ decimal e.key.receiver ∷ decimal e.key.sender ∷ decimal e.key.number ∷ kind_text e.kind
-    ∷ decimal e.sent ∷ decimal e.lost ∷ []
-
 -- a row for each entry
 abbrev pub rows_text : List EntryRecord → List ℕ
 rows_text entries = flat_map (λ e. row_of (fields_of e)) entries
@@ -45,3 +41,12 @@ rows_text entries = flat_map (λ e. row_of (fields_of e)) entries
 -- the text of a trace: the header, and a row for each entry
 unfoldable pub trace_text : List EntryRecord → List ℕ
 trace_text trace = trace_header ++ rows_text trace
+
+-- it has this text, and no row is half written
+pub record Holds (t : TraceText) (text : List ℕ) : Type 0 where
+  pub between : IsBetween default_writer t.writer
+  pub is : written t.writer ≡ text
+
+-- what was handed on by csv's own buffer
+abbrev pub handed : TraceText → List ℕ
+handed t = (writer_under t.writer).items

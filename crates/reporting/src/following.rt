@@ -6,7 +6,7 @@ ghost use Rattle.reporting.specs.Running.{AreLayers, IsMeasuring, IsRecording, I
 use crate::asked::{prints_report, prints_trace};
 use crate::counts::Counts;
 use crate::layer::Layer;
-use crate::trace_text::TraceText;
+use crate::trace_text::{TraceText, open_trace_text};
 use judges::RunningOutcomes;
 use process_api::PrintChoice;
 use scenario_record::Scenario;
@@ -87,7 +87,7 @@ pub(crate) fn open_recording(
 {
     let running = open_running(alloc, scenario, prints_report(print))?;
     if prints_trace(print) {
-        Ok((running, Some(TraceText::open(alloc)?)))
+        Ok((running, Some(open_trace_text(alloc)?)))
     } else {
         Ok((running, None))
     }

@@ -28,15 +28,15 @@
 //! - [`write_trace`] and [`write_report`] write one text of any trace, whole or a front part (`specs/Writing.antt`).
 //! - [`Outlet`] says what a put does, and [`put_all`] hands on a whole piece up to the first put that fails.
 //!
-//! Nothing is ever tried again. Each text is formed whole before the first of its bytes is written. A trace's text is
-//! formed row by row into one buffer, numbers by their digits; a report's rows are written by `csv`. All that is
-//! measured of a run takes one pass over its entries, by followers put together ([`Running`]): an entry without notes is
-//! counted, and no more.
+//! Nothing is ever tried again. Each text is formed whole before the first of its bytes is written. Rows are formed by
+//! `csv` over memory, their numbers by `itoa`. All that is measured of a run takes one pass over its entries, by
+//! followers put together ([`Running`]): an entry without notes is counted, and no more.
 //! That pass is the run itself, so no entry is held; of a run whose report alone is asked for nothing is held that
 //! grows with it, and of one that is only measured the length of each mistake.
 //!
-//! [`Rows`] is a text that grows row by row, and [`name_of_kind`] the one table of what a kind of entry is called: the
-//! trace, the report and the list of letters are made of these.
+//! [`Rows`] is a text that grows row by row, [`TraceText`] one that grows with the entries of a trace, and
+//! [`name_of_kind`] the one table of what a kind of entry is called: the trace, the report and the list of letters are
+//! made of these.
 //!
 //! As an example, let process 2 of two crash at tick 3 of 10, and process 1 note at tick 9 that it suspects it. The
 //! report says so in the row `pair,1,1,2,detection,6`: on layer 1, observer 1 and subject 2, 6 ticks.
@@ -45,6 +45,7 @@
 mod asked;
 mod bench;
 mod counts;
+mod digits;
 mod durations;
 mod findings;
 mod following;
@@ -56,6 +57,7 @@ mod measured_run;
 mod measuring;
 mod memory_outlet;
 mod meter;
+mod notes;
 mod outlet;
 mod pair_measures;
 mod panel;
@@ -64,7 +66,6 @@ mod report_rows;
 mod rows;
 mod stream_outlet;
 mod summary;
-mod tail;
 mod tally;
 mod telling;
 mod trace_text;
@@ -91,5 +92,5 @@ pub use rows::Rows;
 pub use stream_outlet::StreamOutlet;
 pub use summary::Summary;
 pub use telling::close_running;
-pub use trace_text::{HEADER, append_entry};
+pub use trace_text::{HEADER, TraceText};
 pub use writing::{write_if_any, write_report, write_text, write_trace};

@@ -121,11 +121,11 @@ fn join_texts(
 {
     match (trace, report) {
         (Some(trace), Some(report)) => {
-            let mut text = trace.text;
+            let mut text = trace.into_text()?;
             text.extend_from_slice(&report)?;
             Ok(text)
         }
-        (Some(trace), None) => Ok(trace.text),
+        (Some(trace), None) => trace.into_text(),
         (None, Some(report)) => Ok(report),
         (None, None) => Ok(Vec::new(alloc)),
     }

@@ -1,130 +1,117 @@
 //! The text of a trace.
-ghost use Rattle.std.specs.Prelude.{◌≡◌, ◌≤◌, ◌++◌, ◌∷◌, [], length, OnOk, IfOk};
-ghost use Rattle.std.specs.List.{flat_map};
-ghost use Rattle.reporting.specs.Rows.{row_of, with_commas};
-ghost use Rattle.reporting.specs.Inside.Tail.{text_of};
-ghost use Rattle.reporting.specs.TraceText.{notes_text, fields_of, first_fields_of, note_text, trace_text};
+ghost use Rattle.std.specs.Prelude.{◌≡◌, ◌++◌, [], List, ℕ, IfOk, OnOk, length};
+ghost use Rattle.reporting.specs.Rows.{row_of, written};
+ghost use Rattle.reporting.specs.TraceText.{Holds, fields_of, handed, trace_text};
 
+use crate::digits::digits_of;
 use crate::kinds::name_of_kind;
-use crate::tail::Tail;
-use process_api::{Entry, Follower, Note, follow_all};
+use crate::notes::text_of_notes;
+use csv::Writer;
+use itoa::Buffer;
+use process_api::{Entry, Follower, follow_all};
 use std::alloc::{AllocError, Global};
+use std::mem;
 
 /// The first line of a trace's text.
 pub const HEADER: &[u8] = b"tick,receiver,sender,number,kind,sent,lost,notes\n";
 
-/// The text of a note.
-fn text_of_note(note: Note) -> Tail
-    ensures text { text_of result ≡ note_text note }
-    ensures room { 1 ≤ result.start }
-{
-    let mut text = Tail::new();
-    match note {
-        Note::Suspect { layer, who } => {
-            text.put_number(u64::from(who.number()));
-            text.put_field(u64::from(layer), b':');
-            text.put_word(b"suspect:");
-        }
-        Note::Trust { layer, who } => {
-            text.put_number(u64::from(who.number()));
-            text.put_field(u64::from(layer), b':');
-            text.put_word(b"trust:");
-        }
-        Note::Round(round) => {
-            text.put_number(round);
-            text.put_word(b"round:");
-        }
-        Note::Decided(value) => {
-            text.put_number(u64::from(value));
-            text.put_word(b"decided:");
-        }
-        Note::NoValue => text.put_word(b"novalue"),
-    }
-    text
-}
-
-/// Appends these notes, each after a space.
-fn append_others(text: &mut Vec<u8>, notes: &[Note]) -> Result<(), AllocError>
-    ensures { OnOk result (text.new.items ≡ text.old.items ++ flat_map (λ n. 32 ∷ note_text n) notes.now) }
-{
-    for note in notes {
-        let mut more = text_of_note(*note);
-        more.put_byte(b' ');
-        text.extend_from_slice(more.as_bytes())?;
-    }
-    Ok(())
-}
-
-/// Appends the text of an entry's notes.
-fn append_notes(text: &mut Vec<u8>, notes: &[Note]) -> Result<(), AllocError>
-    ensures { OnOk result (text.new.items ≡ text.old.items ++ notes_text notes.now) }
-{
-    match notes.split_first() {
-        None => Ok(()),
-        Some((first, others)) => {
-            let first = text_of_note(*first);
-            text.extend_from_slice(first.as_bytes())?;
-            append_others(text, others)
-        }
-    }
-}
-
-/// The row of an entry up to its notes.
-#[inline(always)]
-fn text_of_front(entry: &Entry) -> Tail
-    ensures { text_of result ≡ with_commas (first_fields_of entry.now) }
-{
-    let mut text = Tail::new();
-    text.put_field(u64::from(entry.lost), b',');
-    text.put_field(u64::from(entry.sent), b',');
-    text.put_byte(b',');
-    text.put_word(name_of_kind(entry.kind).as_bytes());
-    text.put_field(entry.key.number, b',');
-    text.put_field(u64::from(entry.key.sender.number()), b',');
-    text.put_field(u64::from(entry.key.receiver.number()), b',');
-    text.put_field(u64::from(entry.key.tick), b',');
-    text
-}
-
-/// Appends the row of an entry.
-#[inline(always)]
-pub fn append_entry(text: &mut Vec<u8>, entry: &Entry) -> Result<(), AllocError>
-    ensures { OnOk result (text.new.items ≡ text.old.items ++ row_of (fields_of entry.now)) }
-{
-    let front = text_of_front(entry);
-    text.extend_from_slice(front.as_bytes())?;
-    append_notes(text, &entry.notes)?;
-    text.push(b'\n')?;
-    Ok(())
-}
-
-/// The text of a trace that grows with its entries.
+/// The text of a trace, or of rows of it, that grows with its entries.
 #[derive(Drop)]
-pub(crate) struct TraceText {
-    pub text: Vec<u8>,
+pub struct TraceText {
+    writer: Writer<Vec<u8>>,
+    alloc: Global,
 }
 
 impl TraceText {
-    /// The header alone.
-    #[tactic(auto, unfolding(crate::specs::TraceText::trace_text, crate::specs::TraceText::trace_header))]
-    pub(crate) fn open(alloc: Global) -> Result<TraceText, AllocError>
-        ensures { IfOk result (λ t. t.text.items ≡ trace_text []) }
+    /// A text that begins with this line, or with nothing.
+    pub fn new(alloc: Global, header: &[u8]) -> Result<TraceText, AllocError>
+        ensures { IfOk result (λ t. Holds t header.now) }
     {
-        let text = Vec::from_slice(alloc, HEADER)?;
-        Ok(TraceText { text })
+        let header = Vec::from_slice(alloc, header)?;
+        let writer = Writer::from_writer(header);
+        Ok(TraceText { writer, alloc })
+    }
+
+    /// Adds the row of an entry. None of its fields calls for quotes.
+    ///
+    /// # Errors
+    ///
+    /// `AllocError` where memory was refused. The text is good for nothing then.
+    pub fn push(&mut self, entry: &Entry) -> Result<(), AllocError>
+        ensures { OnOk result ((text : List ℕ) → Holds self.old text
+            → Holds self.new (text ++ row_of (fields_of entry.now))) }
+    {
+        let notes = text_of_notes(self.alloc, &entry.notes)?;
+        let (mut tick, mut receiver, mut sender) = (Buffer::new(), Buffer::new(), Buffer::new());
+        let (mut number, mut sent, mut lost) = (Buffer::new(), Buffer::new(), Buffer::new());
+        let written = self.writer.write_fields(&[
+            digits_of(&mut tick, u64::from(entry.key.tick)).as_bytes(),
+            digits_of(&mut receiver, u64::from(entry.key.receiver.number())).as_bytes(),
+            digits_of(&mut sender, u64::from(entry.key.sender.number())).as_bytes(),
+            digits_of(&mut number, entry.key.number).as_bytes(),
+            name_of_kind(entry.kind).as_bytes(),
+            digits_of(&mut sent, u64::from(entry.sent)).as_bytes(),
+            digits_of(&mut lost, u64::from(entry.lost)).as_bytes(),
+            notes.as_slice(),
+        ]);
+        match written {
+            Ok(()) => Ok(()),
+            Err(_) => Err(AllocError),
+        }
+    }
+
+    /// How many bytes have left `csv`'s own buffer, which holds 8,192 at most.
+    pub fn handed(&self) -> usize
+        ensures { result ≡ length (handed self.now) }
+    {
+        self.writer.get_ref().len()
+    }
+
+    /// The whole text.
+    ///
+    /// # Errors
+    ///
+    /// `AllocError` where memory was refused.
+    pub fn into_text(self) -> Result<Vec<u8>, AllocError>
+        ensures { IfOk result (λ text. text.items ≡ written self.writer) }
+    {
+        match self.writer.into_inner() {
+            Ok(text) => Ok(text),
+            Err(_) => Err(AllocError),
+        }
+    }
+
+    /// The whole text, in whose place there is nothing.
+    ///
+    /// # Errors
+    ///
+    /// `AllocError` where memory was refused.
+    pub fn take_text(&mut self) -> Result<Vec<u8>, AllocError>
+        ensures text { IfOk result (λ text. text.items ≡ written self.old.writer) }
+        ensures nothing { OnOk result (Holds self.new []) }
+    {
+        let nothing = TraceText::new(self.alloc, b"")?;
+        mem::replace(self, nothing).into_text()
     }
 }
 
 impl Follower for TraceText {
     ghost use Rattle.reporting.specs.TraceText.{rows_text};
 
-    ghost followed = { λ first now told. now.text.items ≡ first.text.items ++ rows_text told };
+    ghost followed = { λ first now told. (text : List ℕ) → Holds first text → Holds now (text ++ rows_text told) };
 
-    /// Appends the row of the entry.
-    #[inline(always)]
+    /// Adds the row of the entry.
     fn follow(&mut self, entry: &Entry) -> Result<(), AllocError> {
-        append_entry(&mut self.text, entry)
+        self.push(entry)
     }
+}
+
+/// The header of a trace's text alone.
+#[tactic(auto, unfolding(crate::specs::TraceText::trace_text, crate::specs::TraceText::trace_header))]
+pub(crate) fn open_trace_text(alloc: Global) -> Result<TraceText, AllocError>
+    ensures { IfOk result (λ t. Holds t (trace_text [])) }
+{
+    TraceText::new(alloc, HEADER)
 }
 
 /// The text of a trace: the header, and a row for each entry.
@@ -135,7 +122,7 @@ impl Follower for TraceText {
 pub(crate) fn text_of_trace(alloc: Global, entries: &[Entry]) -> Result<Vec<u8>, AllocError>
     ensures { IfOk result (λ text. text.items ≡ trace_text entries.now) }
 {
-    let mut rows = TraceText::open(alloc)?;
+    let mut rows = open_trace_text(alloc)?;
     follow_all(&mut rows, entries)?;
-    Ok(rows.text)
+    rows.into_text()
 }

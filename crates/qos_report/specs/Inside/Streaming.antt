@@ -7,19 +7,20 @@ use Rattle.scenario_record.specs.Record.{Record}
 use Rattle.reporting.specs.Printed.{IsTraceWithin}
 use Rattle.reporting.specs.ReportText.{Text}
 use Rattle.reporting.specs.Running.{IsRunning, Running, RunningFollowed}
-use Rattle.reporting.specs.TraceText.{rows_text}
+use Rattle.reporting.specs.TraceText.{Holds, rows_text}
 use Rattle.reporting.specs.Writing.{Wrote, WrotePart}
 use Rattle.qos_report.specs.declared.streaming.Streaming.{Streaming}
+use Rattle.reporting.specs.declared.trace_text.TraceText.{TraceText}
 
 module _ {O : Type 0} (told : O → Option (List ℕ)) (failed : O → ℕ) where
   module _ (old new : O) where
     -- of the rows of these entries, those of the first ones went out, and those of the others are kept
-    pub record AreUnderWay (entries : List EntryRecord) (kept : List ℕ) : Type 0 where
+    pub record AreUnderWay (entries : List EntryRecord) (kept : TraceText) : Type 0 where
       pub gone : List EntryRecord
       pub held : List EntryRecord
       pub all : entries ≡ gone ++ held
       pub out : Wrote told failed old new (rows_text gone)
-      pub rest : kept ≡ rows_text held
+      pub rest : Holds kept (rows_text held)
 
     -- the whole text went out, where it is asked for; else the outlet is as it was
     abbrev pub WroteWhere : (asked : Bool) → Text → Type 0

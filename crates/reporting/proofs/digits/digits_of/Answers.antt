@@ -1,0 +1,10 @@
+use Rattle.std.proofs.Common.{sym, subst, arith}
+use Rattle.reporting.specs.Inside.Plain.{IsPlain}
+use Rattle.reporting.proofs.NoQuotes.{plain_decimal}
+use Rattle.reporting.proofs.digits.digits_of.Goals as goal
+
+pub returns : goal.returns
+returns c = (
+  c.format.ensures.text,
+  subst IsPlain (sym c.format.ensures.text) (plain_decimal c.args.number (omega (arith, c.ranges.number.fits))),
+)

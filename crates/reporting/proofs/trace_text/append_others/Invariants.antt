@@ -1,7 +1,0 @@
-use Rattle.std.proofs.Common.{◌≡◌, ◌∷◌, ◌++◌, take}
-use Rattle.std.specs.List.{flat_map}
-use Rattle.reporting.specs.TraceText.{note_text}
-use Rattle.reporting.proofs.trace_text.append_others.Given as goal
-
-abbrev pub invariant-loop-note : goal.invariant-loop-note
-invariant-loop-note l = l.text.items ≡ l.initial.text.items ++ flat_map (λ n. 32 ∷ note_text n) (take l.note-index l.notes)

@@ -1,0 +1,75 @@
+//! The text of an entry's notes.
+ghost use Rattle.std.specs.Prelude.{◌≡◌, ◌++◌, ◌∷◌, decimal, IfOk, OnOk};
+ghost use Rattle.std.specs.List.{flat_map};
+ghost use Rattle.reporting.specs.Inside.Plain.{IsPlain};
+ghost use Rattle.reporting.specs.TraceText.{note_text, notes_text};
+
+use crate::digits::digits_of;
+use itoa::Buffer;
+use process_api::Note;
+use std::alloc::{AllocError, Global};
+
+/// How many bytes there is room for at first, so that few notes take memory once.
+const ROOM: usize = 64;
+
+/// Appends a word and a number.
+fn append_number(text: &mut Vec<u8>, word: &[u8], number: u64) -> Result<(), AllocError>
+    ensures text { OnOk result (text.new.items ≡ text.old.items ++ (word.now ++ decimal number)) }
+    ensures plain { OnOk result (IsPlain text.old.items → IsPlain word.now → IsPlain text.new.items) }
+{
+    let mut digits = Buffer::new();
+    text.extend_from_slice(word)?;
+    text.extend_from_slice(digits_of(&mut digits, number).as_bytes())
+}
+
+/// Appends a word, a layer and a process's number.
+fn append_subject(text: &mut Vec<u8>, word: &[u8], layer: u8, who: u16) -> Result<(), AllocError>
+    ensures text { OnOk result (text.new.items
+        ≡ text.old.items ++ (word.now ++ (decimal layer ++ (58 ∷ decimal who)))) }
+    ensures plain { OnOk result (IsPlain text.old.items → IsPlain word.now → IsPlain text.new.items) }
+{
+    append_number(text, word, u64::from(layer))?;
+    append_number(text, b":", u64::from(who))
+}
+
+/// Appends the text of a note.
+fn append_note(text: &mut Vec<u8>, note: Note) -> Result<(), AllocError>
+    ensures text { OnOk result (text.new.items ≡ text.old.items ++ note_text note) }
+    ensures plain { OnOk result (IsPlain text.old.items → IsPlain text.new.items) }
+{
+    match note {
+        Note::Suspect { layer, who } => append_subject(text, b"suspect:", layer, who.number()),
+        Note::Trust { layer, who } => append_subject(text, b"trust:", layer, who.number()),
+        Note::Round(round) => append_number(text, b"round:", round),
+        Note::Decided(value) => append_number(text, b"decided:", u64::from(value)),
+        Note::NoValue => text.extend_from_slice(b"novalue"),
+    }
+}
+
+/// Appends these notes, each after a space.
+fn append_others(text: &mut Vec<u8>, notes: &[Note]) -> Result<(), AllocError>
+    ensures text { OnOk result (text.new.items ≡ text.old.items ++ flat_map (λ n. 32 ∷ note_text n) notes.now) }
+    ensures plain { OnOk result (IsPlain text.old.items → IsPlain text.new.items) }
+{
+    for note in notes {
+        text.push(b' ')?;
+        append_note(text, *note)?;
+    }
+    Ok(())
+}
+
+/// The text of an entry's notes. Where there are none it takes no memory.
+pub(crate) fn text_of_notes(alloc: Global, notes: &[Note]) -> Result<Vec<u8>, AllocError>
+    ensures text { IfOk result (λ text. text.items ≡ notes_text notes.now) }
+    ensures plain { IfOk result (λ text. IsPlain text.items) }
+{
+    match notes.split_first() {
+        None => Ok(Vec::new(alloc)),
+        Some((first, others)) => {
+            let mut text = Vec::with_capacity(alloc, ROOM)?;
+            append_note(&mut text, *first)?;
+            append_others(&mut text, others)?;
+            Ok(text)
+        }
+    }
+}
