@@ -36,7 +36,11 @@ fn made_or_refused(rt: HostRuntime) {
         } else {
             let plan = plan.expect(&rt, NO_RUN);
             let came = (u64::from(plan.workers()), u64::from(plan.window()));
-            same(&rt, &(came, plan == two), &((workers, window), came == (2, 2)));
+            same(
+                &rt,
+                &(came, plan == two),
+                &((workers, window), came == (2, 2)),
+            );
         }
     }
 }
