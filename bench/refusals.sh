@@ -55,7 +55,7 @@ begin() {
 
 # Says what is wrong with a run of this kind.
 is_wrong() {
-    echo "wrong: $kind: $1"
+    echo "wrong: $kind: ${1:0:200}"
     wrong=$((wrong + 1))
 }
 
@@ -75,7 +75,7 @@ ended() {
             return
         fi
     done
-    is_wrong "${told:0:200}"
+    is_wrong "$told"
 }
 
 # Ends a kind of refusal, which has passed where no run of it was wrong and it had one.
