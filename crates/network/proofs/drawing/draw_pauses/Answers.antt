@@ -1,4 +1,4 @@
-use Rattle.std.proofs.Common.{ℕ, ◌<◌, ◌∙◌, ap, sym, ◌++◌, List, length, arith, rules}
+use Rattle.std.proofs.Common.{ℕ, ◌∙◌, ap, sym, ◌++◌, List, arith, rules}
 use Rattle.std.specs.List.{flat_map, enumerate_from}
 use Rattle.std.proofs.lemmas.List.{take_all}
 use Rattle.std.proofs.lemmas.List.FromFn.{length-enumerate_from}

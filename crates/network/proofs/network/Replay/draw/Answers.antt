@@ -1,8 +1,8 @@
-use Rattle.std.proofs.Common.{◌≡◌, ℕ, ◌<◌, ◌+◌, ◌*◌, ◌/◌, ◌%◌, ◌∙◌, ap, sym, subst, ◌++◌, List, length, arith, rules}
+use Rattle.std.proofs.Common.{ℕ, ◌<◌, ◌+◌, ◌*◌, ◌/◌, ◌%◌, ◌∙◌, ap, sym, subst, ◌++◌, List, length, arith, rules}
 use Rattle.std.specs.List.{flat_map, range_with_len}
 use Rattle.std.proofs.lemmas.List.FromFn.{length-range_with_len}
 use Rattle.network.specs.Drawn.{most_outages, on_each}
-use Rattle.network.specs.Replays.{replayed, replayed_in}
+use Rattle.network.specs.Replays.{replayed_in}
 use Rattle.network.specs.Inside.Coming.{to_come}
 use Rattle.network.specs.declared.outages.LinkOutage.{LinkOutage}
 use Rattle.network.proofs.Adding.{adds_more, all_taken, full_more, number_at}

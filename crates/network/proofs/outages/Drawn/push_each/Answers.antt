@@ -1,4 +1,4 @@
-use Rattle.std.proofs.Common.{arith, rules}
+use Rattle.std.proofs.Common.{rules}
 use Rattle.network.specs.Drawn.{most_outages, outage_on}
 use Rattle.network.proofs.Adding.{full_each}
 use Rattle.network.proofs.outages.Drawn.push_each.Goals as goal

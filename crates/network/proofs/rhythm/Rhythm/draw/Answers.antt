@@ -1,4 +1,4 @@
-use Rattle.std.proofs.Common.{◌≡◌, ℕ, ◌+◌, ◌<◌, sym, append-nil, ap, ◌∙◌, List, ◌++◌, map, length, subst, arith, rules}
+use Rattle.std.proofs.Common.{◌≡◌, ℕ, ◌+◌, ◌<◌, sym, append-nil, ap, ◌∙◌, List, ◌++◌, map, length, subst, rules}
 use Rattle.network.specs.Drawn.{most_outages, on_each, outage_on}
 use Rattle.network.specs.Inside.Coming.{to_come}
 use Rattle.network.specs.declared.outages.LinkOutage.{LinkOutage}
