@@ -4,3 +4,4 @@ pub mod Turns
 pub mod Odds
 pub mod Apart
 pub mod Records
+pub mod Later

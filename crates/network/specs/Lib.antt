@@ -5,4 +5,5 @@ pub mod Episodes
 pub mod Replays
 pub mod Ranges
 pub mod Drawn
+pub mod Laid
 pub mod Inside

@@ -6,10 +6,11 @@
 //! so no other table changes what it draws. Its gaps and lengths are [`Spell`]s (`specs/Spells.antt`), which follow one
 //! another in turn (`specs/Episodes.antt`).
 //!
-//! [`draw`] gives the outages of all sources up to the horizon, in their fixed order (`specs/Drawn.antt`).
+//! [`draw`] gives the outages of all sources up to the horizon, in their fixed order (`specs/Drawn.antt`), and
+//! [`laid_links`] what the network says of links (`specs/Laid.antt`). Values from outside come from `bench/network.py`.
 //!
 //! For example, under seed 1 a burst of gaps of 50 ticks and lengths of 10 on the link from process 1 to process 2 of
-//! two has, up to tick 100, the outages from 36 to 46 and from 96 to 100.
+//! two has, up to tick 100, the outages from 6 to 16 and from 66 to 76.
 #![tactic(auto)]
 
 mod add;
@@ -17,6 +18,7 @@ mod drawing;
 mod error;
 mod group;
 mod kind;
+mod laid;
 mod network;
 mod outages;
 mod replay;
@@ -29,6 +31,7 @@ pub use drawing::draw;
 pub use error::DrawError;
 pub use group::{Ends, Group, LinkSet};
 pub use kind::law_streams;
+pub use laid::{LaidLink, laid_links};
 pub use network::{Burst, Cut, LinkTable, Network, Pause, Replay};
 pub use outages::{LinkOutage, MOST_OUTAGES};
 pub use rhythm::Rhythm;
