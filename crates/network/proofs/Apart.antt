@@ -1,0 +1,43 @@
+-- Streams that are apart.
+use Rattle.std.proofs.Common.{◌≡◌, ℕ, ◌+◌, ◌*◌, ◌^◌, ◌<◌, ◌≤◌, refl, arith}
+use Rattle.process_api.specs.Bounds.{most_processes}
+use Rattle.network.specs.Words.{kind_number, stream_number, stream_of}
+use Rattle.network.specs.declared.kind.Kind.{Kind}
+use Rattle.network.specs.declared.kind.Kind.TheVariants.{Burst, Cut, Pause, Replay}
+
+few_kinds : (k : Kind) → kind_number k ≤ 3
+few_kinds Burst = omega arith
+few_kinds Cut = omega arith
+few_kinds Pause = omega arith
+few_kinds Replay = omega arith
+
+one_kind : (k l : Kind) → kind_number k ≡ kind_number l → k ≡ l
+one_kind Burst Burst is = refl
+one_kind Burst Cut is = absurd (omega (arith, is))
+one_kind Burst Pause is = absurd (omega (arith, is))
+one_kind Burst Replay is = absurd (omega (arith, is))
+one_kind Cut Burst is = absurd (omega (arith, is))
+one_kind Cut Cut is = refl
+one_kind Cut Pause is = absurd (omega (arith, is))
+one_kind Cut Replay is = absurd (omega (arith, is))
+one_kind Pause Burst is = absurd (omega (arith, is))
+one_kind Pause Cut is = absurd (omega (arith, is))
+one_kind Pause Pause is = refl
+one_kind Pause Replay is = absurd (omega (arith, is))
+one_kind Replay Burst is = absurd (omega (arith, is))
+one_kind Replay Cut is = absurd (omega (arith, is))
+one_kind Replay Pause is = absurd (omega (arith, is))
+one_kind Replay Replay is = refl
+
+pub streams_apart : (k l : Kind) (i j p q : ℕ) → p < 2 ^ 32 → q < 2 ^ 32 → stream_number k i p ≡ stream_number l j q
+    → (k ≡ l) × (i ≡ j) × (p ≡ q)
+streams_apart k l i j p q low low' same =
+    let few = few_kinds k in
+    let few' = few_kinds l in
+    let high : 4 * i + kind_number k ≡ 4 * j + kind_number l = omega arith in
+    let kinds : kind_number k ≡ kind_number l = omega arith in
+    (one_kind k l kinds, omega arith, omega arith)
+
+pub above_links : (k : Kind) (i p from to : ℕ) → from ≤ most_processes → to ≤ most_processes
+    → stream_of from to < stream_number k i p
+above_links k i p from to low low' = omega arith

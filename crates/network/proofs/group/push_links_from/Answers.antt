@@ -1,0 +1,23 @@
+use Rattle.std.proofs.Common.{ℕ, ◌∙◌, ◌++◌, ◌∷◌, [], ap, if◌then◌else◌, sym, append-nil, filter, map, arith}
+use Rattle.network.specs.Groups.{joins}
+use Rattle.network.specs.declared.group.Ends.{Ends}
+use Rattle.network.proofs.Adding.{all_taken, mapped_more}
+use Rattle.network.proofs.group.push_links_from.Goals as goal
+
+pub loop-before-init : goal.loop-before-init
+loop-before-init c = sym (append-nil c.args.links.now.items)
+
+pub loop-before-preserved : goal.loop-before-preserved
+loop-before-preserved c =
+    let q = c.after-to.result in
+    let b = c.joins-counts.result in
+    let to_each : ℕ → Ends = λ to. record { from = c.args.from; to = to } in
+    c.in_ok-push_if.ensures
+    ∙ (ap (λ xs. xs ++ (if b then to_each q ∷ [] else [])) c.loop-before.invariant
+    ∙ mapped_more to_each (joins c.args.senders.now c.args.receivers.now c.args.both c.args.from) c.args.links.now.items c.args.n c.loop-before.before q b c.loop-before-test.true c.after-to.ensures c.joins-counts.ensures)
+
+pub returns : goal.returns
+returns c =
+    let to_each : ℕ → Ends = λ to. record { from = c.args.from; to = to } in
+    c.loop-before.invariant
+    ∙ ap (λ xs. c.args.links.now.items ++ map to_each (filter (joins c.args.senders.now c.args.receivers.now c.args.both c.args.from) xs)) (all_taken 1 c.args.n c.loop-before.before (omega arith))

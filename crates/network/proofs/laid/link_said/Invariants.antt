@@ -1,0 +1,10 @@
+use Rattle.std.proofs.Common.{◌≡◌, map, take, None}
+use Rattle.std.specs.List.{filter, last_or}
+use Rattle.network.specs.Laid.{is_of}
+use Rattle.network.specs.declared.network.LinkTable.{LinkTable}
+use Rattle.network.proofs.laid.link_said.Given as goal
+
+-- what was said last so far
+abbrev pub invariant-loop-table : goal.invariant-loop-table
+invariant-loop-table l =
+    l.said ≡ last_or None (map (λ (t : LinkTable). t.link) (filter (is_of l.from l.to) (take l.table-index l.tables)))

@@ -1,0 +1,9 @@
+use Rattle.std.proofs.Common.{◌≡◌, ◌++◌, take}
+use Rattle.std.specs.List.{flat_map}
+use Rattle.network.specs.Drawn.{pause_of}
+use Rattle.network.proofs.network.Pause.draw.Given as goal
+
+-- those of the processes so far
+abbrev pub invariant-loop-p : goal.invariant-loop-p
+invariant-loop-p l = l.drawn ≡ l.fn.drawn
+    ++ flat_map (pause_of l.course.processes l.course.horizon l.course.seed l.before l.self) (take l.p-index l.p-items)

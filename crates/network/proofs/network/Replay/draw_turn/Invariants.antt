@@ -1,0 +1,10 @@
+use Rattle.std.proofs.Common.{◌≡◌, ◌++◌, take}
+use Rattle.std.specs.List.{flat_map}
+use Rattle.network.specs.Drawn.{on_each}
+use Rattle.network.specs.Replays.{left_of}
+use Rattle.network.proofs.network.Replay.draw_turn.Given as goal
+
+-- those of the record's outages so far
+abbrev pub invariant-loop-outage : goal.invariant-loop-outage
+invariant-loop-outage l = l.drawn ≡ l.fn.drawn
+    ++ flat_map (λ o. on_each l.links (left_of l.turn l.place l.horizon o)) (take l.outage-index l.self.outages.items)

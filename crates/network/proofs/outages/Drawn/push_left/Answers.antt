@@ -1,0 +1,12 @@
+use Rattle.std.proofs.Common.{◌≡◌, ◌∙◌, ap, sym, ◌++◌, [], append-nil}
+use Rattle.std.specs.Option.{option_to_list}
+use Rattle.network.specs.Drawn.{on_each}
+use Rattle.network.proofs.Adding.{none_each}
+use Rattle.network.proofs.outages.Drawn.push_left.Goals as goal
+
+pub returns-in-None-clause-ok : goal.returns-in-None-clause-ok
+returns-in-None-clause-ok c =
+    let old = c.args.self.now in
+    let links = c.args.links.now in
+    let none : on_each links (option_to_list c.args.left) ≡ [] = ap (λ left. on_each links (option_to_list left)) c.in-None.is ∙ none_each links in
+    sym (ap (λ xs. old ++ xs) none ∙ append-nil old)

@@ -1,0 +1,56 @@
+-- What the numbers of a network are.
+use Rattle.std.specs.Prelude.{ℕ, ◌≤◌, ◌<◌, List, length}
+use Rattle.std.specs.List.{All}
+use Rattle.scenario_record.specs.declared.outage.Outage.{Outage}
+use Rattle.network.specs.Words.{most_tables}
+use Rattle.network.specs.declared.spell.Spell.{Spell}
+use Rattle.network.specs.declared.spell.Spell.TheVariants.{Ticks, Values, Mean}
+use Rattle.network.specs.declared.rhythm.Rhythm.{Rhythm}
+use Rattle.network.specs.declared.network.Burst.{Burst}
+use Rattle.network.specs.declared.network.Cut.{Cut}
+use Rattle.network.specs.declared.network.Pause.{Pause}
+use Rattle.network.specs.declared.network.Replay.{Replay}
+use Rattle.network.specs.declared.network.Network.{Network}
+
+-- the most values of a gap or a length
+abbrev pub most_values : ℕ
+most_values = 100000
+
+-- a number of ticks that a network file may say
+pub record IsTicks (n : ℕ) : Type 0 where
+  pub low : 1 ≤ n
+  pub high : n ≤ 10000000
+
+pub record AreValues (values : List ℕ) : Type 0 where
+  pub some : 1 ≤ length values
+  pub few : length values ≤ most_values
+  pub each : All IsTicks values
+
+abbrev pub IsSpell : Spell → Type 0
+IsSpell (Ticks number) = IsTicks number
+IsSpell (Values values) = AreValues values.items
+IsSpell (Mean mean) = IsTicks mean
+
+pub record IsRhythm (its : Rhythm) : Type 0 where
+  pub gap : IsSpell its.gap
+  pub length : IsSpell its.length
+
+-- an outage of a record lies within it
+pub record IsWithin (lasts : ℕ) (its : Outage) : Type 0 where
+  pub some : its.begin < its.until
+  pub within : its.until ≤ lasts
+
+pub record IsReplay (its : Replay) : Type 0 where
+  pub lasts : IsTicks its.lasts
+  pub outages : All (IsWithin its.lasts) its.outages.items
+
+-- the numbers of every table are in their ranges, and there are no more tables of a kind than have streams
+pub record IsNetwork (its : Network) : Type 0 where
+  pub bursts : All (λ (b : Burst). IsRhythm b.rhythm) its.bursts.items
+  pub few_bursts : length its.bursts.items ≤ most_tables
+  pub cuts : All (λ (c : Cut). IsRhythm c.rhythm) its.cuts.items
+  pub few_cuts : length its.cuts.items ≤ most_tables
+  pub pauses : All (λ (p : Pause). IsRhythm p.rhythm) its.pauses.items
+  pub few_pauses : length its.pauses.items ≤ most_tables
+  pub replays : All IsReplay its.replays.items
+  pub few_replays : length its.replays.items ≤ most_tables

@@ -1,0 +1,41 @@
+//! Outages of several links at once, and the course of a run.
+ghost use Rattle.std.specs.Prelude.{◌≡◌, ◌<◌, ◌≤◌, ◌++◌, map, length, OnOk};
+ghost use Rattle.process_api.specs.Bounds.{most_processes};
+ghost use Rattle.network.specs.Drawn.{most_outages, outage_on};
+
+use crate::error::DrawError;
+use crate::group::Ends;
+use crate::outages::{Drawn, LinkOutage};
+use scenario_record::Outage;
+
+/// What of a run its outages depend on, besides the network.
+#[derive(Clone, Copy)]
+pub(crate) struct Course {
+    /// How many processes there are.
+    pub(crate) processes: u16,
+    /// The tick at which the run ends.
+    pub(crate) horizon: u32,
+    /// The seed of all random streams.
+    pub(crate) seed: u64,
+    ghost few: { processes ≤ most_processes },
+    ghost ends: { horizon ≤ 10000000 },
+}
+
+impl Drawn {
+    /// An outage of each of these links.
+    pub(crate) fn push_each(&mut self, links: &[Ends], outage: Outage) -> Result<(), DrawError>
+        ensures ok { OnOk result (self.new ≡ self.old ++ map (outage_on outage) links.now) }
+        ensures full { result ≡ Err DrawError.TooManyOutages
+            → most_outages < length (self.old ++ map (outage_on outage) links.now) }
+    {
+        for link in links {
+            self.push(LinkOutage {
+                from: link.from,
+                to: link.to,
+                begin: outage.begin,
+                until: outage.until,
+            })?;
+        }
+        Ok(())
+    }
+}

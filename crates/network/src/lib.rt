@@ -1,0 +1,38 @@
+//! Network files: what a network does to links while a run lasts, which each seed draws anew.
+//!
+//! A [`Network`] has tables of sources. A source makes outages of links: a burst those of one link, a cut those of all
+//! links between two groups at once, a pause those of all links from one process, and a replay those of one link as
+//! they were recorded. Each source draws from a stream of words of its own, under the run's seed (`specs/Words.antt`),
+//! so no other table changes what it draws. Its gaps and lengths are [`Spell`]s (`specs/Spells.antt`), which follow one
+//! another in turn (`specs/Episodes.antt`).
+//!
+//! [`draw`] gives the outages of all sources up to the horizon, in their fixed order (`specs/Drawn.antt`), and
+//! [`laid_links`] what the network says of links (`specs/Laid.antt`). Values from outside come from `bench/network.py`.
+//!
+//! For example, under seed 1 a burst of gaps of 50 ticks and lengths of 10 on the link from process 1 to process 2 of
+//! two has, up to tick 100, the outages from 6 to 16 and from 66 to 76.
+#![tactic(auto)]
+
+mod add;
+mod drawing;
+mod error;
+mod group;
+mod kind;
+mod laid;
+mod network;
+mod outages;
+mod replay;
+mod rhythm;
+mod spell;
+mod tables;
+mod words;
+
+pub use drawing::draw;
+pub use error::DrawError;
+pub use group::{Ends, Group, LinkSet};
+pub use kind::law_streams;
+pub use laid::{LaidLink, laid_links};
+pub use network::{Burst, Cut, LinkTable, Network, Pause, Replay};
+pub use outages::{LinkOutage, MOST_OUTAGES};
+pub use rhythm::Rhythm;
+pub use spell::Spell;
