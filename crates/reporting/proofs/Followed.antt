@@ -1,5 +1,5 @@
 -- Whoever follows a run, as it is put together: fed with nothing, and told of a trace.
-use Rattle.std.proofs.Common.{◌≡◌, ℕ, Bool, true, false, sym, ap, ◌∙◌, subst, is_some, Option, List, [], ◌++◌, append-nil}
+use Rattle.std.proofs.Common.{◌≡◌, ℕ, Bool, true, false, sym, ap, subst, is_some, Option, List, [], ◌++◌, append-nil}
 use Rattle.process_api.specs.Following.{HasFollowedWhere}
 use Rattle.process_api.proofs.Where.{same_where, then_where}
 use Rattle.process_api.specs.EntryRecord.{EntryRecord}

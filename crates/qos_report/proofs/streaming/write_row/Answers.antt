@@ -38,3 +38,7 @@ returns-in_ok-write_text-clause-short g c =
     let left = c.take_text.new.self in
     let none : length (written left.writer) ≡ 0 = ap length c.in_ok-text.ensures.nothing.is in
     omega (arith, none, length-append (handed left) (writer_pending left.writer))
+
+pub returns-else-handed-ge-MOST_BYTES-clause-whole : goal.returns-else-handed-ge-MOST_BYTES-clause-whole
+returns-else-handed-ge-MOST_BYTES-clause-whole g c first entries way =
+    row_kept g.O.Outlet.told g.O.Outlet.failed first c.args.outlet.now entries c.args.rows.now way c.args.entry.now c.push.new.self c.in_ok-push.ensures
