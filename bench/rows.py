@@ -12,6 +12,7 @@ are worked out here anew. It prints what differs, and ends with status 1 where s
 import argparse
 import csv
 import io
+import itertools
 import math
 import os
 import subprocess
@@ -224,6 +225,13 @@ def do_differ(run):
     return len({it["value"] for it in run.outcomes().values() if it["value"] not in ("none", "novalue")}) > 1
 
 
+def error_of(runs, total, squares):
+    """The standard error of a total: the least e with e * e * (runs - 1) at least runs * squares - total * total."""
+    if runs < 2:
+        return None
+    return next(e for e in itertools.count() if e * e * (runs - 1) >= runs * squares - total * total)
+
+
 def row_of(runs, layer):
     """A row's columns by name, worked out of the runs of its point."""
     mine = [run for run in runs if layer in run.layers]
@@ -241,6 +249,7 @@ def row_of(runs, layer):
     row["duration_p99"], row["duration_max"] = rank(99, lengths, 0), most(lengths)
     each = [mistakes_of(run, layer) for run in done]
     row["mistakes_squared_sum"], row["runs_with_mistakes"] = sum(it * it for it in each), sum(it > 0 for it in each)
+    row["mistakes_error"] = error_of(len(done), row["mistakes"], row["mistakes_squared_sum"])
     row["mistake_recurrence"] = row["pair_ticks"] // row["mistakes"] if row["mistakes"] else None
     row["mistaken_ppm"] = 1000000 * row["mistake_ticks"] // row["pair_ticks"] if row["pair_ticks"] else None
     row |= detections(done, layer) | decisions(done)

@@ -55,7 +55,7 @@ pub use Rattle.sweep.specs.Parallel.{AreAnswers, ArePlaces, IsPlaced, with_answe
 pub use Rattle.sweep.specs.Percentile.{IsPercentile, IsRanked, at_most, greater, greatest}
 pub use Rattle.sweep.specs.Inside.Progress.{AreAdded, GoesOn, HeaderFails, IsUnderWay, StopsBelow, WroteFrontUpTo, WroteUpTo, next_run}
 pub use Rattle.sweep.specs.Results.{IsResult, RunResult, Trial, done_run, finished, limited}
-pub use Rattle.sweep.specs.RowText.{AreRowsFor, Text, done_fields, header_text, layer_text, number_text, picked}
+pub use Rattle.sweep.specs.RowText.{AreRowsFor, Text, header_text, layer_text, number_text, picked}
 pub use Rattle.sweep.specs.StudyText.{AreRowsOf, HasOneText, HasRowsOf, IsStudyText, IsTextOf, IsTrialOf, ShardsMakeWhole, header_of, lead_of, names_of, numbers_of, point_at, run_at, unit_first, unit_point, unit_run, unit_runs, units_in, units_of, values}
 pub use Rattle.sweep.specs.Sums.{AddsOneMore, AreFitting, AreLayerFindings, AreNumbers, AreSums}
 pub use Rattle.sweep.specs.Watching.{AreLimited, HeardAll, HeardOfAllReading, HeardOfReading, HeardReading, HeardRunning, HeardSome, HeardSomeRunning, News, Rise, limit_in, limits, said_of, standing_in, stands}

@@ -2,6 +2,7 @@ pub mod Percentile
 pub mod Results
 pub mod OneRun
 pub mod Columns
+pub mod ColumnTable
 pub mod RowText
 pub mod Fitting
 pub mod Counted

@@ -7,9 +7,10 @@ use Rattle.study.specs.Grid.{GridRecord, RunRecord, points, keys, runs}
 use Rattle.study.specs.Placed.{table_of_run}
 use Rattle.study.specs.Runs.{IsScenarioOf}
 use Rattle.study.specs.Shard.{ShardRecord, block}
+use Rattle.sweep.specs.ColumnTable.{column_names}
 use Rattle.sweep.specs.Layout.{LayoutRecord}
 use Rattle.sweep.specs.Results.{Trial, IsTrial}
-use Rattle.sweep.specs.RowText.{Text, column_names, header_text, AreRowsFor}
+use Rattle.sweep.specs.RowText.{Text, header_text, AreRowsFor}
 use Rattle.sweep.specs.declared.layout.Rows.{Rows}
 use Rattle.sweep.specs.declared.layout.Rows.TheVariants as kind
 
@@ -84,7 +85,7 @@ lead_names kind.Points g = map key_text (keys g)
 lead_names kind.Runs g = map key_text (keys g) ++ map key_text (run_keys g) ++ codes "seed" ∷ codes "run" ∷ []
 
 abbrev pub names_of : Rows → GridRecord → List Text
-names_of rows g = lead_names rows g ++ codes "layer" ∷ column_names
+names_of rows g = lead_names rows g ++ column_names
 
 -- ---- the text
 

@@ -88,7 +88,7 @@ pub struct RunCounts {
 /// What is told of some values, after which infinite ones may come. The percentiles are nearest ranks: the least of the
 /// values which so many in 100 of all, the infinite ones too, are at most. There is none where the rank falls on an
 /// infinite one, or where nothing is ranked.
-#[derive(Clone, Copy, Debug, PartialEq, Eq)]
+#[derive(Clone, Copy, Default, Debug, PartialEq, Eq)]
 pub struct Distribution {
     /// How many values there are, without infinite ones.
     pub count: u128,
@@ -137,7 +137,7 @@ pub struct LayerSums {
 }
 
 /// What a row tells.
-#[derive(Clone, Copy)]
+#[derive(Clone, Copy, Default)]
 pub struct Columns {
     /// The sums.
     pub sums: LayerSums,

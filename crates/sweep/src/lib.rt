@@ -2,11 +2,11 @@
 //!
 //! A run is done within its limit and has a trace, or it passes the limit (`specs/Results.antt`). [`RunNumbers`] is
 //! what one run gives, [`PointSums`] what the runs of a point add up to, and [`Table`] forms the text of rows. What a
-//! row tells is defined by sums, counts and quantifiers over a list of runs (`specs/Columns.antt`), and so is how it is
-//! written (`specs/RowText.antt`). A [`Layout`] says whether rows tell of points or of single runs, and which columns
-//! they have (`specs/Layout.antt`). It is proved that the sums of a point, to which runs were added one by one, are
-//! those of the list of these runs, and that the text has the rows of all points, or of all runs
-//! (`specs/StudyText.antt`).
+//! row tells is defined by sums, counts and quantifiers over a list of runs (`specs/Columns.antt`), and so are its
+//! columns (`specs/ColumnTable.antt`) and how it is written (`specs/RowText.antt`). A [`Layout`] says whether rows tell
+//! of points or of single runs, and which columns they have (`specs/Layout.antt`). It is proved that the sums of a
+//! point, to which runs were added one by one, are those of the list of these runs, and that the text has the rows of
+//! all points, or of all runs (`specs/StudyText.antt`).
 //!
 //! Lengths of mistakes, detection times, ticks of last decisions and rounds are kept with how often each came, so
 //! memory grows with how many different ones there are, and not with the runs. Sums have 128 bits, and are exact of up
@@ -23,6 +23,7 @@
 mod adding;
 mod batches;
 mod checking;
+mod column_table;
 mod columns;
 mod decisions;
 mod error;
@@ -39,6 +40,7 @@ mod picking;
 mod point_sums;
 mod progress;
 mod run_numbers;
+mod standard_error;
 mod sweeping;
 mod table;
 mod texts;

@@ -2,21 +2,14 @@
 ghost use Rattle.std.specs.Prelude.{◌≡◌, ◌++◌, ◌∷◌, [], ◌≤◌, map, length, string_bytes, codes, IfOk, OnOk};
 ghost use Rattle.study.specs.Grid.{paths_of};
 ghost use Rattle.study.specs.Settings.{chosen, path_of, key_text};
+ghost use Rattle.sweep.specs.ColumnTable.{column_names};
 ghost use Rattle.sweep.specs.StudyText.{lead_names, names_of as names_in};
 
+use crate::column_table::columns_of;
+use crate::columns::Columns;
 use crate::layout::Rows;
 use std::alloc::{AllocError, Global};
-use study::{Axis, Choice, Grid, Key, words_between};
-
-/// The names of the columns from the layer on, in order, between commas.
-const COLUMN_NAMES: &str = "layer,runs,limited,entries,sent,lost,pair_ticks,mistakes,mistake_ticks,\
-mistake_recurrence,mistaken_ppm,mistakes_squared_sum,runs_with_mistakes,recurrence_sum,recurrence_count,\
-duration_sum,duration_count,duration_p99,duration_max,good_sum,good_count,detections,undetected,at_once,\
-detection_sum,detection_p50,detection_p90,detection_p99,detection_max,strong_completeness,\
-weak_completeness,strong_accuracy,weak_accuracy,eventual_strong_accuracy,eventual_weak_accuracy,to_decide,\
-decided,decision_tick_sum,decision_tick_max,all_decided,last_decision_p50,last_decision_p90,\
-last_decision_p99,last_decision_max,rounds_p50,rounds_p99,rounds_max,disagreements,mistake_run,\
-detection_max_run,disagreement_run";
+use study::{Axis, Choice, Grid, Key};
 
 /// Adds copies of names.
 pub(crate) fn push_names(
@@ -92,6 +85,16 @@ fn push_lead_names(
     }
 }
 
+/// Adds the names of the columns.
+fn push_column_names(alloc: Global, names: &mut Vec<String>) -> Result<(), AllocError>
+    ensures { OnOk result (map string_bytes names.new.items ≡ map string_bytes names.old.items ++ column_names) }
+{
+    for (name, _) in columns_of(1, &Columns::default()) {
+        names.push(String::from_str(alloc, name)?)?;
+    }
+    Ok(())
+}
+
 /// The names of all columns of rows that tell of points, or of runs.
 pub(crate) fn names_of(alloc: Global, grid: &Grid, rows: Rows) -> Result<Vec<String>, AllocError>
     ensures names { IfOk result (λ v. map string_bytes v.items ≡ names_in rows grid.now) }
@@ -99,6 +102,6 @@ pub(crate) fn names_of(alloc: Global, grid: &Grid, rows: Rows) -> Result<Vec<Str
 {
     let mut names = Vec::new(alloc);
     push_lead_names(alloc, &mut names, grid, rows)?;
-    push_names(alloc, &mut names, &words_between(alloc, COLUMN_NAMES, ',')?)?;
+    push_column_names(alloc, &mut names)?;
     Ok(names)
 }

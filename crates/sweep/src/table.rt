@@ -1,11 +1,12 @@
 //! The text of a study, as its rows are formed.
-ghost use Rattle.std.specs.Prelude.{◌≡◌, ◌<◌, ◌++◌, ◌∷◌, [], length, map, decimal, IfOk, OnOk};
+ghost use Rattle.std.specs.Prelude.{◌≡◌, ◌<◌, ◌++◌, [], length, map, IfOk, OnOk};
 ghost use Rattle.study.specs.Grid.{points};
 ghost use Rattle.csv.specs.Records.{fields_of};
-ghost use Rattle.sweep.specs.Fields.{pair_fields, outcome_fields};
-ghost use Rattle.sweep.specs.RowText.{column_fields, number_text, header_text, layer_text, line_text, picked};
+ghost use Rattle.sweep.specs.ColumnTable.{numbers_of};
+ghost use Rattle.sweep.specs.RowText.{number_text, header_text, layer_text, line_text, picked};
 ghost use Rattle.sweep.specs.StudyText.{names_of as names_in, unit_point, lead_of};
 
+use crate::column_table::columns_of;
 use crate::columns::Columns;
 use crate::fields::{push_numbers, push_settings, push_texts};
 use crate::layout::{Layout, Rows};
@@ -16,90 +17,15 @@ use csv::{StringRecord, Writer};
 use std::alloc::{AllocError, Global};
 use study::Grid;
 
-/// What is told of pairs, from the entries on.
-fn pair_numbers(columns: &Columns) -> [Option<u128>; 26]
-    ensures { map number_text result ≡ pair_fields columns.now }
-{
-    let sums = &columns.sums;
-    let (pairs, detections) = (&sums.pairs, &columns.detections);
-    [
-        Some(sums.traces.entries),
-        Some(sums.traces.sent),
-        Some(sums.traces.lost),
-        Some(sums.pair_ticks),
-        Some(pairs.mistakes),
-        Some(pairs.mistake_ticks),
-        columns.mistake_recurrence,
-        columns.mistaken_ppm,
-        Some(sums.mistakes_squared_sum),
-        Some(u128::from(sums.counts.with_mistakes)),
-        Some(pairs.recurrence_sum),
-        Some(pairs.recurrence_count),
-        Some(pairs.duration_sum),
-        Some(pairs.duration_count),
-        columns.durations.p99,
-        columns.durations.greatest,
-        Some(pairs.good_sum),
-        Some(pairs.good_count),
-        Some(detections.count),
-        Some(pairs.undetected),
-        Some(pairs.at_once),
-        Some(pairs.detection_sum),
-        detections.p50,
-        detections.p90,
-        detections.p99,
-        detections.greatest,
-    ]
-}
-
-/// The verdicts, and what is told of decisions and runs.
-fn outcome_numbers(columns: &Columns) -> [Option<u128>; 22]
-    ensures { map number_text result ≡ outcome_fields columns.now }
-{
-    let sums = &columns.sums;
-    let verdicts = &sums.verdicts;
-    [
-        Some(u128::from(verdicts.strong_completeness)),
-        Some(u128::from(verdicts.weak_completeness)),
-        Some(u128::from(verdicts.strong_accuracy)),
-        Some(u128::from(verdicts.weak_accuracy)),
-        Some(u128::from(verdicts.eventual_strong_accuracy)),
-        Some(u128::from(verdicts.eventual_weak_accuracy)),
-        Some(sums.decisions.to_decide),
-        Some(sums.decisions.decided),
-        Some(sums.decisions.decision_tick_sum),
-        sums.decisions.decision_tick_max.map(u128::from),
-        Some(u128::from(sums.counts.all_decided)),
-        columns.last_decisions.p50,
-        columns.last_decisions.p90,
-        columns.last_decisions.p99,
-        columns.last_decisions.greatest,
-        columns.rounds.p50,
-        columns.rounds.p99,
-        columns.rounds.greatest,
-        Some(u128::from(sums.counts.disagreements)),
-        columns.first_runs.mistake,
-        columns.first_runs.detection_max,
-        columns.first_runs.disagreement,
-    ]
-}
-
-/// The layer and the columns, of which nothing is told of runs that are done where none is.
+/// The columns of a row on a layer.
 fn push_columns(fields: &mut StringRecord, layer: u8, columns: &Columns) -> Result<(), AllocError>
     ensures { OnOk result (fields_of fields.new
-        ≡ fields_of fields.old ++ decimal layer ∷ column_fields columns.now) }
+        ≡ fields_of fields.old ++ map number_text (numbers_of layer columns.now)) }
 {
-    let head = [
-        Some(u128::from(layer)),
-        Some(u128::from(columns.sums.runs)),
-        Some(u128::from(columns.sums.limited)),
-    ];
-    push_numbers(fields, &head)?;
-    if columns.sums.limited == columns.sums.runs {
-        return push_numbers(fields, &[None; 48]);
+    for (_, told) in columns_of(layer, columns) {
+        push_numbers(fields, &[told.number(columns)])?;
     }
-    push_numbers(fields, &pair_numbers(columns))?;
-    push_numbers(fields, &outcome_numbers(columns))
+    Ok(())
 }
 
 /// What a unit's rows begin with.

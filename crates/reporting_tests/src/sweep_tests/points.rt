@@ -14,8 +14,8 @@ use sweep::{PointSums, Rows, RunNumbers, Table};
 /// The first line after the names of the varied keys.
 pub const HEADER: &str =
     "layer,runs,limited,entries,sent,lost,pair_ticks,mistakes,mistake_ticks,mistake_recurrence,\
-     mistaken_ppm,mistakes_squared_sum,runs_with_mistakes,recurrence_sum,recurrence_count,duration_sum,\
-     duration_count,duration_p99,duration_max,good_sum,good_count,detections,undetected,at_once,\
+     mistaken_ppm,mistakes_squared_sum,runs_with_mistakes,mistakes_error,recurrence_sum,recurrence_count,\
+     duration_sum,duration_count,duration_p99,duration_max,good_sum,good_count,detections,undetected,at_once,\
      detection_sum,detection_p50,detection_p90,detection_p99,detection_max,strong_completeness,\
      weak_completeness,strong_accuracy,weak_accuracy,eventual_strong_accuracy,eventual_weak_accuracy,\
      to_decide,decided,decision_tick_sum,decision_tick_max,all_decided,last_decision_p50,\
