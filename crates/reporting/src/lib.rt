@@ -13,13 +13,14 @@
 //! - [`bench_list`] runs a scenario over given machines. On `Ok` the outlet has grown by exactly the texts of the
 //!   scenario's trace that were asked for, the trace is within the limit, and the [`Summary`] is that trace's; with the
 //!   rotating coordinator its outcomes agree, each process decides at most once, and none notes that it ends with no
-//!   value (`Finishes` of `specs/Printed.antt`). `Write` is answered only where a put failed, and then a front part of
-//!   these texts went out; `Limit` comes only of a trace that is longer than the limit. After any other refusal nothing
-//!   was written (`Refuses`, there too). It starts no thread, and never answers `Spawn`.
+//!   value (`Finishes` of `specs/Printed.antt`). The report's verdicts mean what their quantifiers say, and what is
+//!   suspected on layer 2 rests on layer 1 (`specs/Grounds.antt`). `Write` is answered only where a put failed, and then
+//!   a front part of these texts went out; `Limit` comes only of a trace that is longer than the limit. After any other
+//!   refusal nothing was written (`Refuses`, there too). It starts no thread, and never answers `Spawn`.
 //! - [`measure_list`] runs a scenario as `bench_list` does, forms no text, and tells all that is measured of the run,
 //!   and how long each mistake was that ended: on `Ok` the [`RunFindings`] and the [`RunDurations`] are those of the
-//!   scenario's trace, which is within the limit (`specs/Measured.antt`, `specs/Durations.antt`). It answers `Limit`
-//!   only where that trace is longer, and else only `Memory`.
+//!   scenario's trace, which is within the limit (`specs/Measured.antt`, `specs/Durations.antt`) and has the same
+//!   grounds. It answers `Limit` only where that trace is longer, and else only `Memory`.
 //! - [`measures`] gives a row for each pair on each layer, by definition, of any trace. In the scenario's trace each
 //!   suspicion of layer 2 has an earlier one of layer 1 for the same process, and each mistake or detection on layer 2
 //!   rests on one (`specs/Resting.antt`).
