@@ -1,5 +1,5 @@
-//! Deques from which two workers steal at once.
-ghost use Rattle.std.specs.Prelude.{◌≡◌, IfOk, IfSome};
+//! Deques from which two workers steal at once, and seven of which the farthest alone has an item.
+ghost use Rattle.std.specs.Prelude.{◌≡◌, ◌<◌, IfOk, IfSome};
 ghost use Rattle.std.specs.List.{All};
 
 use crate::common::{NO_MEMORY, same};
@@ -13,12 +13,17 @@ use std::thread::Threads;
 /// How many items three deques have together.
 const ITEMS: u64 = 300_000;
 
-/// The fronts of three deques, among which the items are dealt, and their hands.
-fn dealt(alloc: Global) -> Result<(Vec<Front<u64>>, Vec<Hand<u64>>), AllocError>
+/// The fronts of so many deques, among which the numbers below `items` are dealt, and their hands.
+fn dealt(
+    alloc: Global,
+    count: usize,
+    items: u64,
+) -> Result<(Vec<Front<u64>>, Vec<Hand<u64>>), AllocError>
+    requires { 0 < count }
     ensures { IfOk result (λ r. All (λ h. h.deques ≡ r.0.items) r.1.items) }
 {
-    let items: Vec<u64> = (0..ITEMS).collect(alloc)?;
-    let (fronts, dealer) = deal(alloc, 3, items)?;
+    let items: Vec<u64> = (0..items).collect(alloc)?;
+    let (fronts, dealer) = deal(alloc, count, items)?;
     let hands = dealer.hands(alloc)?;
     Ok((fronts, hands))
 }
@@ -75,10 +80,42 @@ fn take_both<R: Threads + Wait + Sync>(
 /// has one item at most which it didn't count yet.
 #[test]
 fn two_thieves(rt: HostRuntime) {
-    let (fronts, mut hands) = dealt(rt.alloc()).expect(&rt, NO_MEMORY);
+    let (fronts, mut hands) = dealt(rt.alloc(), 3, ITEMS).expect(&rt, NO_MEMORY);
     let second = last_of(&mut hands, &fronts).expect(&rt, "no hand");
     let first = last_of(&mut hands, &fronts).expect(&rt, "no hand");
     let (first, second) = take_both(&rt, &fronts, first, second);
     assert!(rt; ITEMS - 1 <= first && ITEMS - 1 <= second);
     same(&rt, &first.max(second), &ITEMS);
+}
+
+/// The first hand of seven, each with an item in its own deque, where those between it and the last have taken theirs.
+fn first_of_seven<R: Wait>(
+    rt: &R,
+    mut hands: Vec<Hand<u64>>,
+    fronts: &Vec<Front<u64>>,
+) -> Option<Hand<u64>>
+    requires { All (λ h. h.deques ≡ fronts.now.items) hands.items }
+    ensures { IfSome result (λ h. h.deques ≡ fronts.now.items) }
+{
+    let _seventh = last_of(&mut hands, fronts);
+    for _ in 0..5 {
+        let Some(mut hand) = last_of(&mut hands, fronts) else {
+            break;
+        };
+        let _own = hand.take(rt, fronts);
+    }
+    last_of(&mut hands, fronts)
+}
+
+/// A worker looks at each other deque before it ends: the first of seven takes what the last one has, which is the
+/// farthest round the circle.
+#[test]
+fn farthest_of_seven(rt: HostRuntime) {
+    let (fronts, hands) = dealt(rt.alloc(), 7, 7).expect(&rt, NO_MEMORY);
+    let first = first_of_seven(&rt, hands, &fronts);
+    let mut first = first.expect(&rt, "no hand");
+    let own = first.take(&rt, &fronts);
+    let farthest = first.take(&rt, &fronts);
+    let none = first.take(&rt, &fronts);
+    same(&rt, &(own, farthest, none), &(Some(0), Some(6), None));
 }

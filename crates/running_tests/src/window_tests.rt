@@ -10,6 +10,7 @@ mod runs;
 mod sinks;
 mod starts;
 mod steals;
+mod told;
 mod workers;
 
 use crate::common::same;

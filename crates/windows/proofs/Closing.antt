@@ -91,6 +91,22 @@ module _ {Mind : Type 0} (S : Setting Mind) where
       let m : length trace ≡ length was.history = ap length was.trace_is ∙ length-map _ _ in
       omega (arith, n, m, length-append was.history (list ++ more.0), length-append list more.0)
 
+-- what put at most so much on each link put at most more
+more_put : {M : Type 0} (mind : M → Mind) (s : Record) (p less more : ℕ) (b : Berth M) → less ≤ more → IsBerth mind s p less b → IsBerth mind s p more b
+more_put mind s p less more b le is = record {
+  seated = record {
+    low = is.seated.low;
+    high = is.seated.high;
+    is_mind = is.seated.is_mind;
+    horizon = is.seated.horizon;
+    crash = is.seated.crash;
+    places = is.seated.places;
+    counts = λ q. omega (arith, is.seated.counts q, le);
+  };
+  is = is.is;
+  own = is.own;
+}
+
 module _ {M : Type 0} (mind : M → Mind) (old : Stage M) (ranges : IsInRange old.scenario.now) (trace_so_far : List EntryRecord) (is : IsStageAfter mind trace_so_far old) where
   abbrev s : Record
   s = old.scenario.now
@@ -116,8 +132,8 @@ module _ {M : Type 0} (mind : M → Mind) (old : Stage M) (ranges : IsInRange ol
   part_at : (i : ℕ) (b : Berth M) → slice_get olds i ≡ Some b → b.part.items ≡ []
   part_at i b at = sym (at_index i (map (λ z. z.part.items) olds) b.part.items [] (there_map (λ z. z.part.items) olds i b at)) ∙ (is.stands 0).part (suc i)
 
-  pub stage_ready : (left : ℕ) → left + old.so_far ≡ s.limit → All (IsReady mind s left) olds
-  stage_ready left sum = all_at (IsReady mind s left) olds (λ i b at. ((suc i, most_step_actions * old.so_far, berth_at i b at, omega (arith, sum, ranges.limit_high)), part_at i b at))
+  pub stage_ready : All (IsReady mind s) olds
+  stage_ready = all_at (IsReady mind s) olds (λ i b at. ((suc i, more_put mind s (suc i) _ _ b (omega (arith, is.within, ranges.limit_high)) (berth_at i b at)), part_at i b at))
 
   pub stage_rises : RiseBy (λ (b : Berth M). own_of mind b.seat) olds
   stage_rises = rises_counted (λ (b : Berth M). own_of mind b.seat) 1 olds (λ i b at. (berth_at i b at).is ∙ omega arith)
@@ -166,9 +182,9 @@ module _ {M : Type 0} (mind : M → Mind) (old : Stage M) (ranges : IsInRange ol
         let r = own_run S sound window short is.world is.is_world g (is.stands window) p in
         let here = in_stage at.0 b at.1 in
         let run = subst (IsRunAt p r.0 r.1 r.2 r.3) (λ i. (sym here.0 i, sym here.1 i)) r.4 in
-        let more : left < length r.0 = long r.0 r.1 r.2 r.3 (subst (λ q. BerthRun S q end (process_of mind b.seat) b.pending r.0 r.1 r.2 r.3) (sym (berth_at at.0 b at.1).is) run) in
+        let more : left < length b.part.items + length r.0 = long r.0 r.1 r.2 r.3 (subst (λ q. BerthRun S q end (process_of mind b.seat) b.pending r.0 r.1 r.2 r.3) (sym (berth_at at.0 b at.1).is) run) in
         let same : r.0 ≡ pairs_of p list = pairs_are S sound window short is.world is.is_world g (is.stands window) list after all.2 p r.0 r.1 r.2 r.3 r.4 in
-        omega (arith, more, ap length same, no_more_one p list, far trace is_trace, sum, is.so_far)
+        omega (arith, more, ap length (part_at at.0 b at.1), ap length same, no_more_one p list, far trace is_trace, sum, is.so_far)
 
     module _ (news : List (Berth M)) (lists : List (List Letter)) (o : IsOutcome mind s end olds news lists) where
       stays_many : length o.stays ≡ s.processes
@@ -209,7 +225,7 @@ module _ {M : Type 0} (mind : M → Mind) (old : Stage M) (ranges : IsInRange ol
           (subst (λ p. BerthRun S p end (process_of mind t.before.seat) t.before.pending r.history now t.after.pending (map event_of t.letters)) (berth_at i t.before here).is r.run) in
           let pairs : r.history ≡ pairs_of (suc i) list = pairs_are S sound window short is.world is.is_world g (is.stands window) list after all.2 (suc i) r.history now t.after.pending (map event_of t.letters) run in (
             subst (λ (z : List Pair × List Letter). BerthRun S (suc i) end (g.process (suc i)) (g.own (suc i)) z.0 now t.after.pending (map event_of z.1)) (λ j. (pairs j, sym (letters_at i t at) j)) run,
-            r.part ∙ ap entries pairs,
+            r.part ∙ ap (λ es. es ++ entries r.history) (part_at i t.before here) ∙ ap entries pairs,
           )
 
       part_is : (i : ℕ) (b : Berth M) → slice_get news i ≡ Some b → b.part.items ≡ entries (pairs_of (suc i) list)
@@ -456,11 +472,11 @@ module _ {M : Type 0} (mind : M → Mind) (old : Stage M) (ranges : IsInRange ol
                 let r = row i inside in
                 let was = (all_place (IsStay mind s end) o.stays o.each i r.0 r.3.stay).1 (suc i) (most_step_actions * old.so_far) (berth_at i r.0.before (old_at i r.0 r.3.stay)) in
                 let few = part_few parts i r.0.after.part.items (there_map (λ b. b.part.items) news i r.0.after (new_at i r.0 r.3.stay)) in
-                let more : most_step_actions * old.so_far + most_step_actions * vec_len r.0.after.part ≤ most_step_actions * new.so_far = omega (arith, few, length_permutation _ _ closed.same, closed.longer, r.0.after.part.ok.0) in (
+                let more : most_step_actions * old.so_far + most_step_actions * length r.0.after.part.items ≤ most_step_actions * new.so_far = omega (arith, few, length_permutation _ _ closed.same, closed.longer) in (
                   r.1,
                   subst (λ n. slice_get berths n ≡ Some r.1) (sym (before_suc i)) r.3.berth,
                   record {
-                    seated = subst (λ z. IsSeated mind s (most_step_actions * new.so_far) z) (sym r.3.seat) (record {
+                    seated = subst (λ z. IsSeated mind s (most_step_actions * new.so_far + most_step_actions * length r.1.part.items) z) (sym r.3.seat) (record {
                       low = was.seated.low;
                       high = was.seated.high;
                       is_mind = was.seated.is_mind;

@@ -230,19 +230,15 @@ module _ {M : Type 0} (mind : M → Mind) (s : Record) (end : ℕ) (mailboxes : 
   idle_silent (b ∷ bs) t x (inl e) j = absurd (subst (λ (u : Stay M). IsIn x u.letters) e j)
   idle_silent (b ∷ bs) t x (inr i) j = idle_silent bs t x i j
 
-  idle_stay : (left : ℕ) (b : Berth M) → IsReady mind s left b → NoneBelow end b.pending → IsStay mind s end (stay b b [])
-  idle_stay left b ready none =
-      let len : vec_len b.part ≡ 0 = b.part.ok.0 ∙ ap length ready.1 in (
-        record { history = []; run = (none, refl, refl, refl); part = ready.1 },
-        λ p most is. subst (λ n. IsBerth mind s p n b) (omega (arith, len)) is,
-      )
+  idle_stay : (b : Berth M) → NoneBelow end b.pending → IsStay mind s end (stay b b [])
+  idle_stay b none = (record { history = []; run = (none, refl, refl, refl); part = sym (append-nil b.part.items) }, λ p most is. is)
 
   -- those with nothing to run join
-  pub run_with_idle : (left : ℕ) (olds put rest done news : List (Berth M)) (slips : List SlipView) → AreRun mind s end mailboxes put done slips → IsPermutation olds (put ++ rest)
-      → All (IsReady mind s left) rest → All (λ b. NoneBelow end b.pending) rest → news ≡ done ++ rest → AreRun mind s end mailboxes olds news slips
-  run_with_idle left olds put rest done news slips run same ready none is = record {
+  pub run_with_idle : (olds put rest done news : List (Berth M)) (slips : List SlipView) → AreRun mind s end mailboxes put done slips → IsPermutation olds (put ++ rest)
+      → All (λ b. NoneBelow end b.pending) rest → news ≡ done ++ rest → AreRun mind s end mailboxes olds news slips
+  run_with_idle olds put rest done news slips run same none is = record {
     stays = run.stays ++ idle rest;
-    each = All-append (IsStay mind s end) run.stays (idle rest) run.each (All-map (IsStay mind s end) (λ b. stay b b []) rest (λ k d l. idle_stay left (get_or rest k d) (ready k d l) (none k d l)));
+    each = All-append (IsStay mind s end) run.stays (idle rest) run.each (All-map (IsStay mind s end) (λ b. stay b b []) rest (λ k d l. idle_stay (get_or rest k d) (none k d l)));
     olds_are = subst (λ l. IsPermutation l olds) (sym (map-append (λ (t : Stay M). t.before) run.stays (idle rest) ∙ ap (λ l. taken_in run.stays ++ l) (idle_map (λ t. t.before) (λ b. refl) rest)))
         (IsPermutation-trans _ _ _ (IsPermutation-append_left rest _ _ run.olds_are) (IsPermutation-sym olds (put ++ rest) same));
     news_are = map-append (λ (t : Stay M). t.after) run.stays (idle rest) ∙ (λ i. run.news_are i ++ idle_map (λ t. t.after) (λ b. refl) rest i) ∙ sym is;
@@ -256,21 +252,21 @@ module _ {M : Type 0} (mind : M → Mind) (s : Record) (end : ℕ) (mailboxes : 
 
   -- ---- in the order of the processes
 
-  same_owner : (left : ℕ) (t : Stay M) → IsReady mind s left t.before → IsStay mind s end t → own_of mind t.after.seat ≡ own_of mind t.before.seat
-  same_owner left t ready ran = let was : IsBerth mind s ready.0.0 ready.0.1 t.before = ready.0.2 in (ran.1 ready.0.0 ready.0.1 was).is ∙ sym was.is
+  same_owner : (t : Stay M) → IsReady mind s t.before → IsStay mind s end t → own_of mind t.after.seat ≡ own_of mind t.before.seat
+  same_owner t ready ran = (ran.1 ready.0.0 _ ready.0.1).is ∙ sym ready.0.1.is
 
-  pub outcome : (left : ℕ) (olds done news : List (Berth M)) (slips : List SlipView) (lists : List (List Letter)) → AreRun mind s end mailboxes olds done slips
-      → All (IsReady mind s left) olds → RiseBy (λ b. own_of mind b.seat) olds → IsPermutation done news → IsNonDecreasingBy (λ b. own_of mind b.seat) news
+  pub outcome : (olds done news : List (Berth M)) (slips : List SlipView) (lists : List (List Letter)) → AreRun mind s end mailboxes olds done slips
+      → All (IsReady mind s) olds → RiseBy (λ b. own_of mind b.seat) olds → IsPermutation done news → IsNonDecreasingBy (λ b. own_of mind b.seat) news
       → length lists ≡ s.processes → ((r : ℕ) → 1 ≤ r → r ≤ s.processes → IsPermutation (posted_to slips r) (list_of lists r)) → IsOutcome mind s end olds news lists
-  outcome left olds done news slips lists run ready rises order up count gives =
+  outcome olds done news slips lists run ready rises order up count gives =
       let l = lifted (λ (t : Stay M). t.before) run.stays olds run.olds_are in
       let stays : List (Stay M) = l.0 in
       let each : All (IsStay mind s end) stays = All-permutation (IsStay mind s end) run.stays stays l.1 run.each in
       let own : Berth M → ℕ = λ b. own_of mind b.seat in
       let front : RiseBy own (taken_in stays) = subst (RiseBy own) (sym l.2) rises in
       let before : Stay M → Berth M = λ t. t.before in
-      let mine : All (λ t. IsReady mind s left t.before) stays = all_of_map (IsReady mind s left) before stays (subst (All (IsReady mind s left)) (sym l.2) ready) in
-      let same : All (λ (t : Stay M). own t.after ≡ own t.before) stays = λ k d lt. same_owner left (get_or stays k d) (mine k d lt) (each k d lt) in
+      let mine : All (λ t. IsReady mind s t.before) stays = all_of_map (IsReady mind s) before stays (subst (All (IsReady mind s)) (sym l.2) ready) in
+      let same : All (λ (t : Stay M). own t.after ≡ own t.before) stays = λ k d lt. same_owner (get_or stays k d) (mine k d lt) (each k d lt) in
       let back : RiseBy own (left_in stays) = rises_same own (λ (t : Stay M). t.after) (λ (t : Stay M). t.before) stays same front in
       let mixed : IsPermutation (left_in stays) done = subst (IsPermutation (left_in stays)) run.news_are (IsPermutation-sym _ _ (IsPermutation-map (λ (t : Stay M). t.after) run.stays stays l.1)) in
       let is : news ≡ left_in stays = sorted_is own (left_in stays) news back (IsPermutation-trans _ _ _ mixed order) up in

@@ -148,7 +148,7 @@ module _ {M : Type 0} (mind : M → Mind) (stage : Stage M) (ranges : IsInRange 
     where
       at_home : (i : ℕ) (b : Berth M) → IsFirst i b → IsBerth mind s (suc i) (most_step_actions * stage.so_far) b
       at_home i b f = record {
-        seated = subst (λ n. IsSeated mind s n b.seat) (omega (arith, no_entries)) f.3.0;
+        seated = subst (λ n. IsSeated mind s n b.seat) (omega (arith, no_entries, ap length f.3.2)) f.3.0;
         is = f.2;
         own = λ k x h. ap (λ (z : Key). z.receiver) (start_is (suc i) k x (subst (λ m. Has m k x) (f.3.1 ∙ ap start_event f.2) h)).0;
       }

@@ -1,5 +1,6 @@
 -- A machine in its berth, and what it does in one window.
-use Rattle.std.specs.Prelude.{◌≡◌, ℕ, ◌<◌, List, [], ◌∷◌, length, map}
+use Rattle.std.specs.Prelude.{◌≡◌, ℕ, ◌<◌, ◌+◌, ◌*◌, ◌++◌, List, [], ◌∷◌, length, map}
+use Rattle.process_api.specs.Bounds.{most_step_actions}
 use Rattle.process_api.specs.Mind.{Mind}
 use Rattle.process_api.specs.declared.key.Key.{Key}
 use Rattle.process_api.specs.declared.message.Letter.{Letter}
@@ -15,6 +16,11 @@ use Rattle.trace_laws.specs.Taken.{event_of}
 use Rattle.window_laws.specs.Machine.{for_others}
 use Rattle.window_laws.specs.Window.{BerthRun}
 use Rattle.windows.specs.declared.berth.Berth.{Berth}
+use Rattle.windows.specs.declared.berth.TheConstants.{MOST_IN_PART}
+
+-- how many entries a berth's part of a window can have
+abbrev pub most_in_part : ℕ
+most_in_part = MOST_IN_PART
 
 -- a slip after further letters were posted by it, in this order
 abbrev pub with_letters : SlipView → List Letter → SlipView
@@ -31,21 +37,26 @@ module _ {M : Type 0} (mind : M → Mind) (s : Record) where
   abbrev pub made_in : Seat M → Key → StepInput → Made (setting_of s)
   made_in seat key input = step (setting_of s) (process_of mind seat) key input
 
-  -- the process has more than so many events below the end
+  -- with an entry for each event of the process below the end, its part of the window has more than so many
   abbrev pub IsLong : (end left : ℕ) → Berth M → Type 0
   IsLong end left b = (history : List Pair) (after : Process Mind) (rest : Events) (letters : List Event)
       → BerthRun (setting_of s) (own_of mind b.seat) end (process_of mind b.seat) b.pending history after rest letters
-      → left < length history
+      → left < length b.part.items + length history
 
-  -- process p in its berth: it put at most so much on each link, and its pending events are its own
+  -- process p in its berth: it put at most so much on each link before the open window, and 4,096 letters and wakes for
+  -- each entry of its part since, and its pending events are its own
   pub record IsBerth (p most : ℕ) (berth : Berth M) : Type 0 where
-    pub seated : IsSeated mind s most berth.seat
+    pub seated : IsSeated mind s (most + most_step_actions * length berth.part.items) berth.seat
     pub is : own_of mind berth.seat ≡ p
     pub own : (key : Key) (input : StepInput) → Has berth.pending key input → key.receiver ≡ p
 
-  -- process p took its events below a tick, which made its part of the window, and it posted these letters
+  -- a process of the scenario in its berth. What it put on its links before the window leaves room for a part
+  abbrev pub IsBerthOf : Berth M → Type 0
+  IsBerthOf berth = (p : ℕ) × IsBerth p (most_step_actions * most_in_part) berth
+
+  -- process p took its events below a tick, which joined its part of the window, and it posted these letters
   pub record RanTo (p end : ℕ) (old new : Berth M) (letters : List Letter) : Type 0 where
     pub history : List Pair
     pub run : BerthRun (setting_of s) p end (process_of mind old.seat) old.pending history
         (process_of mind new.seat) new.pending (map event_of letters)
-    pub part : new.part.items ≡ entries history
+    pub part : new.part.items ≡ old.part.items ++ entries history

@@ -5,7 +5,7 @@ ghost use Rattle.process_api.specs.declared.message.Letter.{Letter};
 ghost use Rattle.steps.specs.Seat.{process_of, own_of, IsMindIn, IsSeated};
 ghost use Rattle.trace_laws.specs.World.{joined, opened};
 ghost use Rattle.mailboxes.specs.Mailboxes.{IsSlipOf};
-ghost use Rattle.windows.specs.Berth.{with_letters, made_in, ArePosted, IsBerth, IsLong, RanTo};
+ghost use Rattle.windows.specs.Berth.{with_letters, made_in, most_in_part, ArePosted, IsBerth, IsBerthOf, IsLong, RanTo};
 ghost use Rattle.window_laws.specs.Machine.{for_self};
 ghost use Rattle.windows.specs.Refusals.{IsRefusalOfOne};
 
@@ -20,10 +20,13 @@ use std::sync::Wait;
 use steps::{Nobody, Seat};
 use streams::Streams;
 
+/// How many entries a part can have. No memory takes so many, and the counts on a link have room for twice of them.
+pub(crate) const MOST_IN_PART: u64 = 1 << 50;
+
 /// A machine in its seat, with the events that are pending for it, and its part of the open window's trace. The
 /// parameter has no bound here, so that it may be a boxed machine.
 #[derive(Drop)]
-pub struct Berth<M> {
+pub struct Berth<M = Box<dyn Process>> {
     pub(crate) seat: Seat<M>,
     pub(crate) pending: Agenda,
     // the entries of the open window, in the order of their keys
@@ -118,20 +121,38 @@ impl<M: Process> Berth<M> {
     }
 }
 
-/// Runs every pending event of a berth's process below tick `end`, the least key first. Events for the process itself
-/// join its pending ones, and each letter to another process that is due below the horizon is posted by the slip. It
-/// stops where the process's part of the window would be longer than `left` entries.
+/// Whether a part with so many entries, which may have `left`, takes one more.
 ///
-/// The berth's part is empty, as it is when a window opens, and the process's counts on its links have room for `left`
-/// more entries. Both hold of every berth of a stage while `left` is no more than the scenario's limit less the entries
-/// so far, and no berth can be had but from a stage.
+/// # Errors
+///
+/// `Limit` where it has `left` entries, and `Memory` where it has 2^50, for which there is no memory.
+fn check_room(made: u64, left: u64) -> Result<(), RunError>
+    ensures ok { OnOk result ((made < left) × (made < most_in_part)) }
+    ensures errors { IfErr result IsRefusalOfOne }
+    ensures limit { IsErrOf result RunError.Limit → left ≤ made }
+{
+    if made >= left {
+        return Err(RunError::Limit);
+    }
+    if made >= MOST_IN_PART {
+        return Err(RunError::Memory);
+    }
+    Ok(())
+}
+
+/// Runs every pending event of a berth's process below tick `end`, the least key first. Events for the process itself
+/// join its pending ones, and each letter to another process that is due below the horizon is posted by the slip. The
+/// entries join the berth's part of the open window. It stops where that would be longer than `left` entries.
+///
+/// The berth, the streams and the mailboxes are of one scenario, and the slip is of these mailboxes. A berth is of the
+/// scenario of the stage that it was in.
 ///
 /// Conservative windows are as in textbooks: R. M. Fujimoto, Parallel and Distributed Simulation Systems, Wiley, 2000.
 ///
 /// # Errors
 ///
-/// `Limit` only where the process has more than `left` events below `end`, and `Memory` where memory was refused. The
-/// berth may only be dropped then.
+/// `Limit` only where the part has more than `left` entries with the process's events below `end`, and `Memory` where
+/// memory was refused, as it is for a part of more than 2^50 entries. The berth may only be dropped then.
 pub fn run_berth<M: Process, R: Wait>(
     rt: &R,
     berth: &mut Berth<M>,
@@ -141,25 +162,24 @@ pub fn run_berth<M: Process, R: Wait>(
     slip: &mut Slip,
     left: u64,
 ) -> Result<(), RunError>
-    requires berth { (p : ℕ) × (most : ℕ) × IsBerth M.mind streams.now p most berth.old
-        × (most + most_step_actions * (left + 1) < 2 ^ 64) }
-    requires part { berth.old.part.items ≡ [] }
+    requires berth { IsBerthOf M.mind streams.now berth.old }
     requires slip { IsSlipOf mailboxes.now slip.old }
     requires boxes { length mailboxes.now ≡ streams.now.processes }
 
     ensures slip { IsSlipOf mailboxes.now slip.new }
     ensures ran { OnOk result ((p : ℕ) → own_of M.mind berth.old.seat ≡ p → (letters : List Letter)
         × RanTo M.mind streams.now p end berth.old berth.new letters × (slip.new ≡ with_letters slip.old letters)) }
-    ensures berth { OnOk result ((p most : ℕ) → IsBerth M.mind streams.now p most berth.old
-        → IsBerth M.mind streams.now p (most + most_step_actions * vec_len berth.new.part) berth.new) }
+    ensures berth { OnOk result ((p most : ℕ)
+        → IsBerth M.mind streams.now p most berth.old → IsBerth M.mind streams.now p most berth.new) }
     ensures within { OnOk result (vec_len berth.new.part ≤ left) }
     ensures errors { IfErr result IsRefusalOfOne }
     ensures limit { IsErrOf result RunError.Limit → IsLong M.mind streams.now end left berth.old }
 {
+    if berth.part.len() as u64 > left {
+        return Err(RunError::Limit);
+    }
     while let Some(event) = berth.pending.take_below(end)? {
-        if berth.part.len() as u64 >= left {
-            return Err(RunError::Limit);
-        }
+        check_room(berth.part.len() as u64, left)?;
         berth.take(rt, streams, mailboxes, slip, event)?;
     }
     Ok(())

@@ -29,7 +29,7 @@ use trace_laws::Event;
 /// All processes of a scenario between two windows: each in its berth, the tick at which the next window starts, and
 /// how many entries the trace has so far. The parameter has no bound here, so that machines may be boxed.
 #[derive(Drop)]
-pub struct Stage<'s, M> {
+pub struct Stage<'s, M = Box<dyn Process>> {
     pub(crate) scenario: &'s Scenario,
     // of each process, of process 1 first
     pub(crate) berths: Vec<Berth<M>>,

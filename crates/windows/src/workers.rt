@@ -51,7 +51,7 @@ pub(crate) fn run_taken<M: Process, G: Gate, R: Wait>(
     slip: &mut Slip,
     done: &mut Vec<Berth<M>>,
 ) -> Result<(), RunError>
-    requires ready { IsReady M.mind shared.now.window.now.streams shared.now.window.now.left berth }
+    requires ready { IsReady M.mind shared.now.window.now.streams berth }
     requires slip { IsSlipOf shared.now.mailboxes.now slip.old }
     ensures ran { OnOk result (RunsOneMore M.mind shared.now berth slip.old slip.new done.old.items done.new.items) }
     ensures errors { IfErr result IsRefusalOfOne }

@@ -2,9 +2,9 @@
 ghost use Rattle.std.specs.Prelude.{◌≡◌, length, IfOk, IsPermutation};
 ghost use Rattle.std.specs.List.{All};
 ghost use Rattle.mailboxes.specs.Mailboxes.{IsSlipOf};
+ghost use Rattle.windows.specs.Berth.{IsBerthOf};
 ghost use Rattle.windows.specs.Plan.{IsPlanFor};
 ghost use Rattle.windows.specs.Stage.{IsStage};
-ghost use Rattle.windows.specs.Inside.Workers.{IsReady};
 
 use event_list::RunError;
 use mailboxes::{Mailboxes, SharedMailboxes, Slip};
@@ -67,7 +67,8 @@ pub fn after_windows<'s, M: Process, R: Threads + Wait + Sync>(
     Ok(stage)
 }
 
-/// Calls the berths one after the other, in their order, up to tick `end`, each with room for `left` entries.
+/// Calls the berths one after the other, in their order, each up to the tick before `end` and then up to `end`, with
+/// room for `left` entries.
 fn call_berths<M: Process, R: Wait>(
     rt: &R,
     alloc: Global,
@@ -78,33 +79,34 @@ fn call_berths<M: Process, R: Wait>(
     slip: &mut Slip,
     berths: Vec<Berth<M>>,
 ) -> Result<Vec<Berth<M>>, RunError>
-    requires ready { All (IsReady M.mind streams.now left) berths.items }
+    requires ready { All (IsBerthOf M.mind streams.now) berths.items }
     requires slip { IsSlipOf mailboxes.now slip.old }
     requires boxes { length mailboxes.now ≡ streams.now.processes }
     ensures { IsSlipOf mailboxes.now slip.new }
 {
     let mut done = Vec::new(alloc);
     for mut berth in berths {
+        let middle = end.saturating_sub(1);
+        run_berth(rt, &mut berth, middle, streams, mailboxes, slip, left)?;
         run_berth(rt, &mut berth, end, streams, mailboxes, slip, left)?;
         done.push(berth)?;
     }
     Ok(done)
 }
 
-/// Calls the berths of a stage in a given order up to tick `end`, each with room for so many entries, and no more than
-/// the limit has. Answers the berths, and how many letters were posted.
+/// Calls the berths of a stage in a given order up to tick `end`, each with room for so many entries. Answers the
+/// berths, and how many letters were posted.
 pub fn call_window<M: Process, R: Wait>(
     rt: &R,
     alloc: Global,
     stage: Stage<'_, M>,
     end: u32,
-    room: u64,
+    left: u64,
     order: &[u16],
 ) -> Result<(Vec<Berth<M>>, usize), RunError>
     requires { IsStage M.mind stage }
 {
     let scenario = stage.scenario();
-    let left = room.min(scenario.limit() - stage.so_far());
     let mut mailboxes = Mailboxes::new(alloc, scenario.processes())?;
     let mut slip = mailboxes.slip(alloc)?;
     let streams = Streams::new(scenario);

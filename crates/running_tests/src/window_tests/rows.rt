@@ -3,7 +3,7 @@
 use super::calls::call_window;
 use super::runs::{list_of, stage_after};
 use super::{COORDINATORS, ONE_CRASH, is_same};
-use crate::common::{NO_MEMORY, NO_RUN, same, scenario_of};
+use crate::common::{NO_RUN, same, scenario_of};
 use event_list::RunError;
 use machines::Machine;
 use process_api::Entry;
@@ -58,27 +58,26 @@ fn entries_and_letters(rt: HostRuntime) {
     }
 }
 
-/// Limits of the trace, after how many windows of 2 ticks one is called, where it ends, for how many entries each berth
-/// has room at most, and how it is refused. The first window has 2 entries, one of each process; in the second each
-/// process has 2.
-const LIMITS: [(&str, usize, u32, u64, Option<RunError>); 5] = [
-    ("limit = 2\n", 1, 4, u64::MAX, Some(RunError::Limit)),
-    ("limit = 3\n", 1, 4, u64::MAX, Some(RunError::Limit)),
-    ("limit = 4\n", 1, 4, u64::MAX, None),
-    ("", 0, 2, 0, Some(RunError::Limit)),
-    ("", 0, 2, 1, None),
+/// After how many windows of 2 ticks one is called, where it ends, for how many entries each berth has room, and how it
+/// is refused. The first window has 2 entries, one of each process; in the second each process has 2.
+const ROOMS: [(usize, u32, u64, Option<RunError>); 6] = [
+    (0, 2, 0, Some(RunError::Limit)),
+    (0, 2, 1, None),
+    (1, 4, 0, Some(RunError::Limit)),
+    (1, 4, 1, Some(RunError::Limit)),
+    (1, 4, 2, None),
+    (1, 4, u64::MAX, None),
 ];
 
 #[test]
 fn no_room(rt: HostRuntime) {
     let alloc = rt.alloc();
-    for (limit, before, end, room, refusal) in LIMITS {
-        let text = format!(in alloc; "{limit}{ONE_CRASH}");
-        let scenario = scenario_of(&rt, alloc, &text.expect(&rt, NO_MEMORY));
-        let plan = Plan::new(&scenario, 1, 2).expect(&rt, NO_RUN);
+    let scenario = scenario_of(&rt, alloc, ONE_CRASH);
+    let plan = Plan::new(&scenario, 1, 2).expect(&rt, NO_RUN);
+    for (before, end, room, refusal) in ROOMS {
         let stage = stage_after(&rt, alloc, &scenario, &plan, before);
         let called = call_window(&rt, alloc, stage, end, room, &[1, 2]);
-        same(&rt, &(limit, called.err()), &(limit, refusal));
+        same(&rt, &(room, called.err()), &(room, refusal));
     }
 }
 

@@ -1,15 +1,16 @@
 //! Workers that are watched: which processes they take, in which order one of them takes them, and which of two
 //! refusals comes first.
 
+use super::refused::boxed_machines;
 use super::runs::{list_of, run_by};
 use super::{COORDINATORS, ONE_CRASH, same_entries};
 use crate::common::{NO_MEMORY, NO_RUN, same, scenario_of};
 use event_list::RunError;
-use machines::machines_of;
 use process_api::Pid;
+use std::sync::Arc;
 use std::sync::Wait;
 use std::sync::atomic::{AtomicU64, Ordering};
-use windows::{Gate, OpenGate, Plan, Stage, WORTH_A_THREAD, both, run_window};
+use windows::{Berth, Gate, OpenGate, Plan, Stage, WORTH_A_THREAD, both, run_window};
 
 /// A gate that keeps what it sees.
 #[derive(Drop)]
@@ -58,20 +59,24 @@ fn taken_by_workers(rt: HostRuntime) {
     }
 }
 
-/// A window ends where the next one starts.
+/// A window ends where the next one starts. A stage of boxed machines, and its berths, need no argument.
 #[test]
 fn first_window(rt: HostRuntime) {
     let alloc = rt.alloc();
     let scenario = scenario_of(&rt, alloc, ONE_CRASH);
     let plan = Plan::new(&scenario, 2, 2).expect(&rt, NO_RUN);
-    let machines = machines_of(alloc, &scenario).expect(&rt, NO_MEMORY);
-    let mut stage = Stage::open(alloc, &scenario, machines).expect(&rt, NO_RUN);
+    let taken = Arc::new(alloc, AtomicU64::new(0)).expect(&rt, NO_MEMORY);
+    let machines = boxed_machines(alloc, &scenario, u64::MAX, &taken);
+    let machines = machines.expect(&rt, NO_MEMORY);
+    let mut stage: Stage<'_> = Stage::open(alloc, &scenario, machines).expect(&rt, NO_RUN);
     same(&rt, &stage.start(), &0);
     assert!(rt; !stage.finished());
     let part = run_window(&rt, alloc, &mut stage, &plan, &OpenGate);
     let entries = part.expect(&rt, NO_RUN).len();
     let came = (entries, stage.start(), stage.finished());
     same(&rt, &came, &(2, 2, false));
+    let berths: Vec<Berth> = stage.into_berths();
+    same(&rt, &berths.len(), &2);
 }
 
 /// As many processes as there can be, each of which sends a letter to every other at each tick. The second of three

@@ -21,9 +21,9 @@ abbrev pub IsFreshIn : {M G : Type 0} → Shared M G → Start M → Type 0
 IsFreshIn w s = IsFresh w.fronts.now.items w.mailboxes.now s.hand s.slip
 
 module _ {M : Type 0} (mind : M → Mind) where
-  -- nothing was done in these berths for this window yet, and its entries fit
+  -- nothing was done in these berths for this window yet
   abbrev pub AreReady : Window → List (Berth M) → Type 0
-  AreReady w berths = All (IsReady mind w.streams w.left) berths
+  AreReady w berths = All (IsReady mind w.streams) berths
 
   -- one of these processes has more events below the window's end than entries fit
   abbrev pub IsOneTooLong : Window → List (Berth M) → Type 0

@@ -12,7 +12,7 @@ use Rattle.process_api.specs.declared.run_error.RunError.{RunError}
 use Rattle.process_api.specs.declared.run_error.RunError.TheVariants.{Limit}
 use Rattle.mailboxes.specs.Mailbox.{MailboxId}
 use Rattle.mailboxes.specs.Mailboxes.{SlipView, IsSlipOf, unused, list_of, posted_to}
-use Rattle.windows.specs.Berth.{IsBerth, IsLong, RanTo, with_letters}
+use Rattle.windows.specs.Berth.{IsBerth, IsBerthOf, IsLong, RanTo, with_letters}
 use Rattle.deques.specs.Deques.{DequeId, HandView, RestView, all_put}
 use Rattle.windows.specs.Refusals.{IsRefusalOfOne}
 use Rattle.windows.specs.declared.berth.Berth.{Berth}
@@ -49,18 +49,15 @@ module _ {M : Type 0} where
   IsSent stays r x = (t : Stay M) × IsIn t stays × IsIn x t.letters × (x.key.receiver - 1 ≡ r - 1)
 
   module _ (mind : M → Mind) (s : Record) where
-    -- nothing was done in the berth for this window yet, and so many entries fit
-    abbrev pub IsReady : (left : ℕ) → Berth M → Type 0
-    IsReady left b =
-        ((p : ℕ) × (most : ℕ) × IsBerth mind s p most b × (most + most_step_actions * (left + 1) < 2 ^ 64))
-        × (b.part.items ≡ [])
+    -- a process of the scenario, for which nothing was done in this window yet
+    abbrev pub IsReady : Berth M → Type 0
+    IsReady b = IsBerthOf mind s b × (b.part.items ≡ [])
 
     -- the process took its events below the end, and stays in its berth
     abbrev pub IsStay : (end : ℕ) → Stay M → Type 0
     IsStay end t =
         RanTo mind s (own_of mind t.before.seat) end t.before t.after t.letters
-        × ((p most : ℕ) → IsBerth mind s p most t.before
-        → IsBerth mind s p (most + most_step_actions * vec_len t.after.part) t.after)
+        × ((p most : ℕ) → IsBerth mind s p most t.before → IsBerth mind s p most t.after)
 
     -- one of the processes has
     abbrev pub HasLong : (end left : ℕ) → List (Berth M) → Type 0

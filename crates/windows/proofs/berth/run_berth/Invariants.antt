@@ -1,5 +1,6 @@
-use Rattle.std.proofs.Common.{◌≡◌, ◌≤◌, ◌+◌, ◌*◌, ◌-◌, List, map, vec_len}
+use Rattle.std.proofs.Common.{◌≡◌, ◌≤◌, ◌+◌, ◌*◌, ◌-◌, ◌++◌, List, length, map, vec_len}
 use Rattle.process_api.specs.Bounds.{most_step_actions}
+use Rattle.process_api.specs.EntryRecord.{EntryRecord}
 use Rattle.process_api.specs.declared.message.Letter.{Letter}
 use Rattle.trace_laws.specs.ScenarioSetting.{setting_of}
 use Rattle.steps.specs.Seat.{process_of, own_of, IsSeated}
@@ -13,13 +14,14 @@ abbrev pub invariant-loop-event : goal.invariant-loop-event
 invariant-loop-event g l =
     let mind = g.M.Process.mind in
     let s = l.fn.streams in
-    let p = own_of mind l.fn.berth.seat in
+    let b = l.fn.berth in
+    let p = own_of mind b.seat in
     record {
       slip : IsSlipOf l.fn.mailboxes l.slip;
       own : own_of mind l.berth.seat ≡ p;
-      stands : (letters : List Letter) × (l.slip ≡ with_letters l.fn.slip letters)
-          × BerthStands (setting_of s) p l.end (process_of mind l.fn.berth.seat) l.fn.berth.pending (process_of mind l.berth.seat) l.berth.pending l.berth.part.items (map event_of letters);
-      seated : (most : _) → IsSeated mind s most l.fn.berth.seat → IsSeated mind s (most + most_step_actions * vec_len l.berth.part) l.berth.seat;
+      stands : (letters : List Letter) × (l.slip ≡ with_letters l.fn.slip letters) × (made : List EntryRecord) × (l.berth.part.items ≡ b.part.items ++ made)
+          × BerthStands (setting_of s) p l.end (process_of mind b.seat) b.pending (process_of mind l.berth.seat) l.berth.pending made (map event_of letters);
+      seated : (most : _) → IsSeated mind s (most + most_step_actions * length b.part.items) b.seat → IsSeated mind s (most + most_step_actions * length l.berth.part.items) l.berth.seat;
       within : vec_len l.berth.part ≤ l.left;
     }
 

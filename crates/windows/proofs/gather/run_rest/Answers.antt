@@ -20,7 +20,7 @@ loop-init g c = (
 
 pub run_taken-requires-clause-ready : goal.run_taken-requires-clause-ready
 run_taken-requires-clause-ready g c κs within =
-    All-contains (IsReady g.M.Process.mind c.args.shared.now.window.now.streams c.args.shared.now.window.now.left) (all_put c.args.rest.now.own) c.in-Some-take_last.berth c.requires.ready
+    All-contains (IsReady g.M.Process.mind c.args.shared.now.window.now.streams) (all_put c.args.rest.now.own) c.in-Some-take_last.berth c.requires.ready
     (subst (λ l. Contains (all_put l) c.in-Some-take_last.berth) c.loop.invariant.2 c.in-Some-take_last.ensures.3)
 
 pub run_taken-requires-clause-slip : goal.run_taken-requires-clause-slip

@@ -19,7 +19,7 @@ returns-clause-slips g c = subst (λ m. All (IsSlipOf m) c.in_ok-done.slips.item
 
 pub returns-clause-outcome : goal.returns-clause-outcome
 returns-clause-outcome g c lists are =
-    outcome g.M.Process.mind c.args.window.now.streams c.args.window.now.end _ c.args.window.now.left c.args.berths.items c.in_ok-done.done.items _ c.in_ok-done.slips.items lists c.in_ok-done.ensures.run
+    outcome g.M.Process.mind c.args.window.now.streams c.args.window.now.end _ c.args.berths.items c.in_ok-done.done.items _ c.in_ok-done.slips.items lists c.in_ok-done.ensures.run
     c.requires.ready c.requires.rising c.sort_unstable_by_key.ensures.permutation
     (IsNonDecreasingBy-from_sort_by_key (λ (b : Berth _). own_of g.M.Process.mind b.seat) _ c.sort_unstable_by_key.ensures.sorted (λ a r q k. search rules)) are.count are.each
 

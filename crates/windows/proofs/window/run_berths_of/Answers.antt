@@ -12,7 +12,7 @@ use Rattle.windows.proofs.window.run_berths_of.Goals as goal
 pub run_dealt-requires-clause-ready : goal.run_dealt-requires-clause-ready
 run_dealt-requires-clause-ready g c κs within =
     let w = c.args.window.now in
-    let Ready = IsReady g.M.Process.mind w.streams w.left in
+    let Ready = IsReady g.M.Process.mind w.streams in
     let waiting = c.in_ok-waiting.waiting.items in
     let ready = (all_dealt Ready c.args.berths.items waiting c.in_ok-waiting.idle.items c.in_ok-waiting.ensures.same c.requires.ready).0 in
     subst (λ l. AreReady g.M.Process.mind w (all_put l)) (sym c.in_ok-starts.ensures.own) (All-permutation Ready waiting (all_put c.in_ok-fronts.dealer) c.in_ok-fronts.ensures.all ready)
@@ -39,10 +39,9 @@ returns-clause-run g c =
     let w = c.args.window.now in
     let put : dealt_to c.in_ok-starts.starts.items ≡ all_put c.in_ok-fronts.dealer = ap all_put c.in_ok-starts.ensures.own in
     let waiting = c.in_ok-waiting.waiting.items in
-    let rest = (all_dealt (IsReady g.M.Process.mind w.streams w.left) c.args.berths.items waiting c.in_ok-waiting.idle.items c.in_ok-waiting.ensures.same c.requires.ready).1 in
     let run = run_at g.M.Process.mind w.streams w.end _ c.args.mailboxes.now.mailboxes waiting _ (all_put c.in_ok-fronts.dealer) _ _ c.in_ok-done.ensures.run (search rules) put c.in_ok-fronts.ensures.all in
-    run_with_idle g.M.Process.mind w.streams w.end c.args.mailboxes.now.mailboxes w.left c.args.berths.items waiting c.in_ok-waiting.idle.items c.in_ok-done.done.items c.append.new.self.items
-    c.in_ok-done.slips.items run c.in_ok-waiting.ensures.same rest c.in_ok-waiting.ensures.idle c.in_ok-append.ensures.items
+    run_with_idle g.M.Process.mind w.streams w.end c.args.mailboxes.now.mailboxes c.args.berths.items waiting c.in_ok-waiting.idle.items c.in_ok-done.done.items c.append.new.self.items
+    c.in_ok-done.slips.items run c.in_ok-waiting.ensures.same c.in_ok-waiting.ensures.idle c.in_ok-append.ensures.items
 
 pub returns-clause-workers : goal.returns-clause-workers
 returns-clause-workers g c =

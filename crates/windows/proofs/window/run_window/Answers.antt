@@ -19,10 +19,8 @@ pub run_all-requires-clause-ready : goal.run_all-requires-clause-ready
 run_all-requires-clause-ready g c κs within =
     let old = c.args.stage.now in
     let mind = g.M.Process.mind in
-    let left = c.limit.result - old.so_far in
-    let sum : left + old.so_far ≡ old.scenario.now.limit = sum_of _ _ _ c.limit.ensures.value c.requires.stage.1.within in
-    subst (λ s. All (IsReady mind s left) c.replace-berths.result.items) (sym c.new-streams.ensures)
-    (subst (All (IsReady mind old.scenario.now left)) (sym (ap (λ (v : Vec _). v.items) c.replace-berths.ensures.value)) (stage_ready mind old c.processes-processes.ensures.ranges c.requires.stage.0 c.requires.stage.1 left sum))
+    subst (λ s. All (IsReady mind s) c.replace-berths.result.items) (sym c.new-streams.ensures)
+    (subst (All (IsReady mind old.scenario.now)) (sym (ap (λ (v : Vec _). v.items) c.replace-berths.ensures.value)) (stage_ready mind old c.processes-processes.ensures.ranges c.requires.stage.0 c.requires.stage.1))
 
 pub run_all-requires-clause-rising : goal.run_all-requires-clause-rising
 run_all-requires-clause-rising g c κs within =

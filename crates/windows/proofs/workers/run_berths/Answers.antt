@@ -15,7 +15,7 @@ loop-init g c = (work_begins g.M.Process.mind c.args.shared.now.window.now.strea
 
 pub run_taken-requires-clause-ready : goal.run_taken-requires-clause-ready
 run_taken-requires-clause-ready g c κs within =
-    All-contains (IsReady g.M.Process.mind c.args.shared.now.window.now.streams c.args.shared.now.window.now.left) c.args.start.hand.known c.in-Some-take.berth c.requires.1
+    All-contains (IsReady g.M.Process.mind c.args.shared.now.window.now.streams) c.args.start.hand.known c.in-Some-take.berth c.requires.1
     (subst (λ l. Contains l c.in-Some-take.berth) c.loop.invariant.1 c.in-Some-take.ensures.3)
 
 pub run_taken-requires-clause-slip : goal.run_taken-requires-clause-slip

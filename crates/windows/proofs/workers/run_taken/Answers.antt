@@ -5,9 +5,6 @@ use Rattle.windows.proofs.workers.run_taken.Goals as goal
 pub run_berth-requires-clause-berth : goal.run_berth-requires-clause-berth
 run_berth-requires-clause-berth g c κs within = c.requires.ready.0
 
-pub run_berth-requires-clause-part : goal.run_berth-requires-clause-part
-run_berth-requires-clause-part g c κs within = c.requires.ready.1
-
 pub run_berth-requires-clause-boxes : goal.run_berth-requires-clause-boxes
 run_berth-requires-clause-boxes g c κs within = c.args.shared.now.boxes
 
