@@ -30,6 +30,7 @@ max = 2
 ";
 
 const PROCESSES: u16 = 70;
+
 const WORKERS: u16 = 7;
 
 /// How often a held worker looks, and yields, before it is let go.

@@ -7,9 +7,8 @@ use super::{COORDINATORS, ONE_CRASH, same_entries};
 use crate::common::{NO_MEMORY, NO_RUN, same, scenario_of};
 use event_list::RunError;
 use process_api::Pid;
-use std::sync::Arc;
-use std::sync::Wait;
 use std::sync::atomic::{AtomicU64, Ordering};
+use std::sync::{Arc, Wait};
 use windows::{Berth, Gate, OpenGate, Plan, Stage, WORTH_A_THREAD, both, run_window};
 
 /// A gate that keeps what it sees.
