@@ -1,8 +1,6 @@
-use Rattle.std.proofs.Common.{◌≡◌, ◌∙◌, ap, sym, map, take, Some, None, if◌then◌else◌}
+use Rattle.std.proofs.Common.{◌∙◌, ap, sym, map, Some, None, if◌then◌else◌}
 use Rattle.std.specs.List.{filter, last_or}
 use Rattle.std.proofs.lemmas.List.{take_all}
-use Rattle.std.proofs.lemmas.Grind.{common_steps}
-use Rattle.scenario_record.specs.declared.link.Link.{Link}
 use Rattle.network.specs.Laid.{is_of, link_said}
 use Rattle.network.specs.declared.network.LinkTable.{LinkTable}
 use Rattle.network.proofs.Later.{later}
