@@ -60,9 +60,12 @@ $limit $fdstudy check one.toml > /dev/full 2> err
 ended $?
 end
 
-# the window with ticks 8 and 9 has the last two of twelve entries
-begin "a limit that is passed in the last window: the rows of those before it"
+# the window with ticks 2 and 3 has four of twelve entries, and that with ticks 8 and 9 the last two
+begin "a limit that is passed in the second window, or in the last: the rows of those before it"
 $fdbench list one.toml --print trace > listed
+head -3 listed > rows
+sed 's/^seed/limit = 3\nseed/' one.toml > three.toml
+wants "3 fdbench: run: Limit" rows $fdbench run - --workers 2 --window 2 --print trace < three.toml
 head -11 listed > rows
 [ "$(wc -c < rows)" -eq 235 ] || is_wrong "these rows have other than 235 bytes"
 wants "3 fdbench: run: Limit" rows $fdbench run - --workers 2 --window 2 --print trace < eleven.toml
@@ -128,7 +131,7 @@ for program in fdbench fdstudy; do
     esac
     for more in 1 2 12345; do
         exec 3<> pipe
-        head -c $((8388608 + more)) long >&3 &
+        timeout 20 head -c $((8388608 + more)) long >&3 &
         wants "1 $line" nothing timeout 20 ./$program check pipe
         wait $!
         left=$(timeout 20 head -c $((more - 1)) <&3 | wc -c)
@@ -165,29 +168,14 @@ starts 0 $fdstudy letters one.toml
 starts 0 $fdstudy draw one.toml --as letters
 end
 
-# How many processors the script may use, at most 64: those that are there, within the quota of its container.
-processors() {
-    local count quota period
-    count=$(env -u OMP_NUM_THREADS -u OMP_THREAD_LIMIT nproc)
-    if [ -r /sys/fs/cgroup/cpu.max ]; then
-        read -r quota period < /sys/fs/cgroup/cpu.max
-        [ "$quota" = max ] || [ $((quota / period)) -ge "$count" ] || count=$((quota / period))
-    fi
-    [ "$count" -ge 1 ] || count=1
-    [ "$count" -le 64 ] || count=64
-    echo "$count"
-}
-
 # Scenarios are read, and then runs are made, by batches, of which the first has one for each of N threads: that of the
 # program itself and N - 1 that are started. The batches of seven by 3 threads have 3 and 4, or 3, 3 and 1.
-begin "a sweep has as many threads as it is told, or as there are processors" 0
+begin "a sweep has as many threads as it is told, and one where there is one processor" 0
 starts 0 $fdstudy sweep one.toml --seeds 1..=7 --threads 1
 starts 8 $fdstudy sweep one.toml --seeds 1..=7 --threads 3
 starts 12 $fdstudy sweep one.toml --seeds 1..=7 --threads 7
 starts 126 $fdstudy sweep one.toml --seeds 1..=64 --threads 64
 starts 6 $fdstudy check one.toml --seeds 1 --vary detector.timeout=1..=7 --threads 3
-processors=$(processors)
-starts $((2 * (processors - 1))) $fdstudy sweep one.toml --seeds "1..=$processors"
 starts 0 taskset -c "$(taskset -cp $$ | sed 's/.*: //; s/[-,].*//')" $fdstudy sweep one.toml --seeds 1..=7
 end
 
@@ -278,6 +266,20 @@ for process in 1 2 3; do
     grep -q "^[0-9]*,$process,.*round:5001\>" rounds || is_wrong "process $process did not enter round 5,001"
 done
 wants 0 rounds $fdbench run rounds.toml --workers 2 --window 1 --print trace
+end
+
+# Each letter of one link looks for its outage among 100,000, which lie in no order. By halving that takes a second or two
+# in all; to pass over all of them for each letter takes a minute.
+begin "100,000 outages of a link with 500,000 letters are no hindrance" 0
+{
+    sed -e 's/^version = 1/version = 2/' -e 's/^horizon = 10$/horizon = 5000000/' -e 's/^period = 4/period = 10/' \
+        -e 's/^check = 3/check = 1000000/' -e 's/^seed/limit = 10000000\nseed/' one.toml
+    awk 'BEGIN { for (i = 0; i < 100000; i++) { b = (i * 77777) % 100000 * 50 + 21
+        printf "\n[[outage]]\nfrom = 1\nto = 2\nbegin = %d\nuntil = %d\n", b, b + 8 } }'
+} > outages.toml
+timeout 20 $fdbench list outages.toml > out 2> err
+ended $?
+grep -q '^run,0,0,0,lost,0$' out || is_wrong "a letter between two outages is lost: $(sed -n 4p out)"
 end
 
 sum_up

@@ -102,7 +102,9 @@ begin "one request for memory in $(step 61 337) refused, 64 processes, 4 workers
 refuse_in_turn "$order" "$crowd" "$folder/listed" REFUSE "$(step 61 337)"
 end
 
-if [ "$(id -u)" -eq 0 ]; then
+if [ "$(id -u)" -ne 0 ]; then
+    echo "not tried, as that wants root: threads refused (ulimit -u), and a file that fills up"
+else
     begin "threads refused (ulimit -u, 64 workers)" 0 "3 fdbench: run: Spawn"
     for threads in 1 3 32 65 $(step "2 8 16 63 64 80" ""); do
         # shellcheck disable=SC2016 (the inner shell's own words)
