@@ -65,6 +65,7 @@ pub struct Replay {
     pub links: LinkSet,
     /// How many ticks the record lasts, 1 to 10,000,000; after them it begins anew.
     pub lasts: u32,
-    /// The outages of the record, each within it, by rising ticks of begin and then of end.
+    /// The outages of the record, at least one, each within it. They stand by rising begin, and those of one begin by
+    /// rising end (`IsReplay`).
     pub outages: Vec<Outage>,
 }
