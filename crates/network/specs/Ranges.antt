@@ -1,4 +1,4 @@
--- What the numbers of a network are.
+-- What drawing asks of the numbers of a network.
 use Rattle.std.specs.Prelude.{ℕ, ◌≤◌, ◌<◌, List, length}
 use Rattle.std.specs.List.{All}
 use Rattle.std.specs.List.Sorted.{IsSorted}
@@ -54,7 +54,8 @@ pub record IsReplay (its : Replay) : Type 0 where
   pub outages : All (IsWithin its.lasts) its.outages.items
   pub in_order : IsSorted outage_cmp its.outages.items
 
--- the numbers of every table are in their ranges, and there are no more tables of a kind than have streams
+-- the rhythms and the records are in their ranges, and of each kind there are no more tables than have streams. It
+-- says nothing of tables of `links`, of which nothing is drawn, nor of the members of groups
 pub record IsNetwork (its : Network) : Type 0 where
   pub bursts : All (λ (b : Burst). IsRhythm b.rhythm) its.bursts.items
   pub few_bursts : length its.bursts.items ≤ most_tables

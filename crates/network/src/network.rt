@@ -4,8 +4,8 @@ use crate::group::{Group, LinkSet};
 use crate::rhythm::Rhythm;
 use scenario_record::{Link, Outage};
 
-/// What a network file says, by the kinds of its tables, each in the order of the file. What the numbers of it are is
-/// `IsNetwork` (`specs/Ranges.antt`).
+/// What a network file says, by the kinds of its tables, each in the order of the file. What [`draw`](crate::draw) asks
+/// of its numbers is `IsNetwork` (`specs/Ranges.antt`).
 #[derive(Drop)]
 pub struct Network {
     /// The tables of `links`.
@@ -43,7 +43,7 @@ pub struct Burst {
 pub struct Cut {
     /// The one group.
     pub one: Group,
-    /// The other, without a common member.
+    /// The other. In a network file it has no member of the one.
     pub other: Group,
     /// When.
     pub rhythm: Rhythm,
