@@ -1,5 +1,5 @@
 #!/usr/bin/env python3
-"""Draws the outages of a network file, apart from the product: another program, by the rules of docs/network.md.
+"""Draws the outages of a network file, apart from the product: another program, by the rules of crates/network/specs.
 
     bench/network.py outages FILE SEED PROCESSES HORIZON    one outage a line: sender receiver begin until
     bench/network.py words SEED STREAM PLACE ..             words of a stream, in hexadecimal

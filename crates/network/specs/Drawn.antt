@@ -1,9 +1,9 @@
 -- The outages of all sources of a network, in their order.
-use Rattle.std.specs.Prelude.{ℕ, ◌-◌, List, [], ◌∷◌, ◌++◌, map, filter, true, false}
+use Rattle.std.specs.Prelude.{ℕ, List, [], ◌∷◌, ◌++◌, map, filter, true, false}
 use Rattle.std.specs.List.{range_with_len, flat_map, enumerate_from}
 use Rattle.scenario_record.specs.declared.outage.Outage.{Outage}
 use Rattle.network.specs.Groups.{holds, links_between, links_of, only}
-use Rattle.network.specs.Words.{stream_number, stream_of, words_of}
+use Rattle.network.specs.Words.{place_of, stream_number, stream_of, words_of}
 use Rattle.network.specs.Episodes.{episodes}
 use Rattle.network.specs.Replays.{replayed}
 use Rattle.network.specs.declared.outages.TheConstants.{MOST_OUTAGES}
@@ -29,7 +29,8 @@ outage_on o link = record { from = link.from; to = link.to; begin = o.begin; unt
 unfoldable pub on_each : List Ends → List Outage → List LinkOutage
 on_each links its = flat_map (λ o. map (outage_on o) links) its
 
--- of all tables of a kind, in their order, by what each has that has so many before it
+-- the outages of all tables of a kind, in their order. `of_one` gives those of a table by how many of its kind stand
+-- before it
 abbrev pub of_each : {T : Type 0} → (ℕ → T → List LinkOutage) → List T → List LinkOutage
 of_each of_one tables = flat_map (λ numbered. of_one numbered.0 numbered.1) (enumerate_from 0 tables)
 
@@ -53,7 +54,7 @@ module _ (n horizon seed : ℕ) where
   -- all links from a process that pauses, which is a source by itself
   abbrev pub pause_of : ℕ → Pause → ℕ → List LinkOutage
   pause_of i its p =
-      let words = words_of seed (stream_number kind.Pause i (p - 1)) in
+      let words = words_of seed (stream_number kind.Pause i (place_of p)) in
       on_each (links_between (only p) All false n) (episodes its.rhythm words horizon)
 
   unfoldable pub of_pause : ℕ → Pause → List LinkOutage

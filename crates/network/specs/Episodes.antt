@@ -35,8 +35,8 @@ module _ (its : Rhythm) where
   abbrev pub cut_at : (horizon : ℕ) → Coming → Outage
   cut_at horizon e = record { begin = e.begin; until = min (until e) horizon }
 
-  -- the episodes that begin below the horizon, each cut there. Each begins after the one before it, so there are no more
-  -- than the horizon has ticks
+  -- the episodes that begin below the horizon, each cut there. Each begins after the one before it, so there are no
+  -- more than the horizon has ticks
   unfoldable pub episodes : Words → (horizon : ℕ) → List Outage
   episodes words horizon =
       map (cut_at horizon) (take_while (λ e. nat_lt e.begin horizon) (map (coming words) (range_with_len 0 horizon)))

@@ -1,6 +1,9 @@
--- What the numbers of a network are.
+-- What drawing asks of the numbers of a network.
 use Rattle.std.specs.Prelude.{ℕ, ◌≤◌, ◌<◌, List, length}
 use Rattle.std.specs.List.{All}
+use Rattle.std.specs.List.Sorted.{IsSorted}
+use Rattle.std.specs.Ordering.{ordering_then, nat_cmp}
+use Rattle.std.specs.declared.cmp.Ordering.{Ordering}
 use Rattle.scenario_record.specs.declared.outage.Outage.{Outage}
 use Rattle.network.specs.Words.{most_tables}
 use Rattle.network.specs.declared.spell.Spell.{Spell}
@@ -40,11 +43,19 @@ pub record IsWithin (lasts : ℕ) (its : Outage) : Type 0 where
   pub some : its.begin < its.until
   pub within : its.until ≤ lasts
 
+-- the order of a record's outages: by begin, and then by end
+abbrev pub outage_cmp : Outage → Outage → Ordering
+outage_cmp a b = ordering_then (nat_cmp a.begin b.begin) (nat_cmp a.until b.until)
+
+-- a record has at least one outage, and they stand in their order
 pub record IsReplay (its : Replay) : Type 0 where
   pub lasts : IsTicks its.lasts
+  pub some : 1 ≤ length its.outages.items
   pub outages : All (IsWithin its.lasts) its.outages.items
+  pub in_order : IsSorted outage_cmp its.outages.items
 
--- the numbers of every table are in their ranges, and there are no more tables of a kind than have streams
+-- the rhythms and the records are in their ranges, and of each kind there are no more tables than have streams. It
+-- says nothing of tables of `links`, of which nothing is drawn, nor of the members of groups
 pub record IsNetwork (its : Network) : Type 0 where
   pub bursts : All (λ (b : Burst). IsRhythm b.rhythm) its.bursts.items
   pub few_bursts : length its.bursts.items ≤ most_tables

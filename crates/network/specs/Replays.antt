@@ -21,8 +21,8 @@ left_of turn place horizon o =
 abbrev pub replayed_in : List Outage → (turn place horizon : ℕ) → List Outage
 replayed_in its turn place horizon = flat_map (left_of turn place horizon) its
 
--- at tick 0 the record stands at a place that a word says, and it begins anew whenever it has lasted. The last turn here
--- is the last one that begins at the horizon or below
+-- at tick 0 the record stands at a place that a word says, and it begins anew whenever it has lasted. The last turn
+-- here is the last one that begins at the horizon or below
 unfoldable pub replayed : Replay → Words → (horizon : ℕ) → List Outage
 replayed r words horizon =
     let place = words 0 % r.lasts in

@@ -1,5 +1,6 @@
 -- How many ticks a draw of a gap or a length gives.
-use Rattle.std.specs.Prelude.{ℕ, zero, suc, ◌+◌, ◌-◌, ◌*◌, ◌/◌, ◌%◌, ◌^◌, Bool, nat_lt, slice_index, length, if◌then◌else◌}
+use Rattle.std.specs.Prelude.{ℕ, zero, suc, ◌+◌, ◌-◌, ◌*◌, ◌/◌, ◌%◌, ◌^◌}
+use Rattle.std.specs.Prelude.{Bool, nat_lt, slice_index, length, if◌then◌else◌}
 use Rattle.network.specs.Words.{Words}
 use Rattle.network.specs.declared.spell.Spell.{Spell}
 use Rattle.network.specs.declared.spell.Spell.TheVariants.{Ticks, Values, Mean}

@@ -1,5 +1,5 @@
 -- The words that a source draws by: a stream of its own, which no other source has, nor any link.
-use Rattle.std.specs.Prelude.{ℕ, ◌≡◌, ◌<◌, ◌≤◌, ◌+◌, ◌*◌, ◌%◌, ◌^◌}
+use Rattle.std.specs.Prelude.{ℕ, ◌≡◌, ◌<◌, ◌≤◌, ◌+◌, ◌-◌, ◌*◌, ◌%◌, ◌^◌}
 use Rattle.rand_chacha.specs.ChaCha.{word_at}
 use Rattle.process_api.specs.Bounds.{most_processes}
 use Rattle.streams.specs.Fate as fate
@@ -29,15 +29,29 @@ most_tables = 1000000
 abbrev pub stream_of : (from to : ℕ) → ℕ
 stream_of from to = fate.stream_of from to
 
--- the number of a source's stream, by its kind, the place of its table among those of the kind, from 0, and its place in
--- the table. So no other table and no greater number of processes changes what it draws
+-- the place of a process's source in a table
+abbrev pub place_of : (p : ℕ) → ℕ
+place_of p = p - 1
+
+-- the number of a source's stream, by its kind, the place of its table among those of the kind, from 0, and its place
+-- in the table. So no other table and no greater number of processes changes what it draws
 abbrev pub stream_number : Kind → (table place : ℕ) → ℕ
 stream_number kind table place = 2 ^ 32 * (1 + 4 * table + kind_number kind) + place
 
--- two sources of one stream are one, since a place in a table is below 2^32
+-- sources of one stream are of one kind, and have one place in one table, since a place in a table is below 2^32
 abbrev pub AreApart : Type 0
 AreApart = (k l : Kind) (i j p q : ℕ) → p < 2 ^ 32 → q < 2 ^ 32 → stream_number k i p ≡ stream_number l j q
     → (k ≡ l) × (i ≡ j) × (p ≡ q)
+
+-- links of one place are one
+abbrev pub AreLinksApart : Type 0
+AreLinksApart = (a b c d : ℕ) → 1 ≤ a → a ≤ most_processes → 1 ≤ b → b ≤ most_processes
+    → 1 ≤ c → c ≤ most_processes → 1 ≤ d → d ≤ most_processes
+    → stream_of a b ≡ stream_of c d → (a ≡ c) × (b ≡ d)
+
+-- processes of one place are one
+abbrev pub AreProcessesApart : Type 0
+AreProcessesApart = (p q : ℕ) → 1 ≤ p → 1 ≤ q → place_of p ≡ place_of q → p ≡ q
 
 -- no source has a link's own stream
 abbrev pub AreAboveLinks : Type 0

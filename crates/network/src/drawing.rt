@@ -93,9 +93,10 @@ fn draw_replays(
 }
 
 /// The outages that a network has in a run of so many processes, up to the horizon, under a seed: of bursts, cuts,
-/// pauses and replays in this order, each by its tables; of a table by sender and then by receiver, of an event of a cut
-/// or a pause likewise; and then by rising ticks. It ends with [`DrawError::TooManyOutages`] as soon as there is one
-/// more than 100,000.
+/// pauses and replays in this order, each by its tables. Those of a table of bursts or replays stand by sender, then by
+/// receiver, then by rising begin. Those of a cut, and of each process that pauses, stand by rising begin, and those of
+/// one event by sender and then by receiver. It ends with [`DrawError::TooManyOutages`] as soon as there is one more
+/// than 100,000.
 pub fn draw(
     alloc: Global,
     network: &Network,

@@ -1,6 +1,7 @@
 //! Kinds of sources.
 ghost use Rattle.std.specs.Prelude.{◌≡◌, ◌<◌, ◌≤◌, ◌^◌};
-ghost use Rattle.network.specs.Words.{AreAboveLinks, AreApart, kind_number, most_tables, stream_number, stream_of};
+ghost use Rattle.network.specs.Words.{AreAboveLinks, AreApart, AreLinksApart, AreProcessesApart};
+ghost use Rattle.network.specs.Words.{kind_number, most_tables, stream_number, stream_of};
 
 use crate::group::Ends;
 
@@ -50,9 +51,11 @@ pub(crate) fn link_place(ends: &Ends) -> u64
     (u64::from(ends.from.number()) - 1) * 65536 + (u64::from(ends.to.number()) - 1)
 }
 
-/// No two sources draw from one stream, and no source from a stream of a link.
-#[tactic(auto, using(crate::proofs::Apart::streams_apart, crate::proofs::Apart::above_links))]
+/// No two sources draw from one stream, and no source from a stream of a link: sources of one stream have one place in
+/// one table, and one place is that of one link, or of one process.
 pub fn law_streams()
     ensures apart { AreApart }
+    ensures links { AreLinksApart }
+    ensures processes { AreProcessesApart }
     ensures above { AreAboveLinks }
 {}

@@ -20,6 +20,8 @@ mod group;
 mod kind;
 mod laid;
 mod network;
+#[cfg(test)]
+mod network_tests;
 mod outages;
 mod replay;
 mod rhythm;

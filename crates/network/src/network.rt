@@ -4,8 +4,8 @@ use crate::group::{Group, LinkSet};
 use crate::rhythm::Rhythm;
 use scenario_record::{Link, Outage};
 
-/// What a network file says, by the kinds of its tables, each in the order of the file. What the numbers of it are is
-/// `IsNetwork` (`specs/Ranges.antt`).
+/// What a network file says, by the kinds of its tables, each in the order of the file. What [`draw`](crate::draw) asks
+/// of its numbers is `IsNetwork` (`specs/Ranges.antt`).
 #[derive(Drop)]
 pub struct Network {
     /// The tables of `links`.
@@ -43,7 +43,7 @@ pub struct Burst {
 pub struct Cut {
     /// The one group.
     pub one: Group,
-    /// The other, without a common member.
+    /// The other. In a network file it has no member of the one.
     pub other: Group,
     /// When.
     pub rhythm: Rhythm,
@@ -65,6 +65,7 @@ pub struct Replay {
     pub links: LinkSet,
     /// How many ticks the record lasts, 1 to 10,000,000; after them it begins anew.
     pub lasts: u32,
-    /// The outages of the record, each within it, by rising ticks of begin and then of end.
+    /// The outages of the record, at least one, each within it. They stand by rising begin, and those of one begin by
+    /// rising end (`IsReplay`).
     pub outages: Vec<Outage>,
 }

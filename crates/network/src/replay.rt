@@ -13,7 +13,8 @@ use crate::outages::Drawn;
 use crate::words::SourceWords;
 use scenario_record::Outage;
 
-/// What is left of an outage of a record in a turn that began at `turn` ticks minus `place`, from tick 0 to the horizon.
+/// What is left, from tick 0 to the horizon, of an outage of a record in a turn that began at `turn` ticks minus
+/// `place`.
 fn left_of(outage: Outage, turn: u32, place: u32, horizon: u32) -> Option<Outage>
     requires begin { outage.begin + turn < 2 ^ 32 }
     requires until { outage.until + turn < 2 ^ 32 }

@@ -1,7 +1,8 @@
 //! How long a gap or an outage lasts.
 ghost use Rattle.std.specs.Prelude.{◌≡◌, ◌<◌, ◌≤◌, ◌*◌, ◌+◌, ◌%◌, ◌^◌, length, slice_index, if◌then◌else◌};
 ghost use Rattle.network.specs.Words.{after};
-ghost use Rattle.network.specs.Spells.{digits_drawn, first_ticks_of, first_words_taken, geometric, is_one, ticks_of, words_taken};
+ghost use Rattle.network.specs.Spells.{digits_drawn, first_ticks_of, first_words_taken, geometric};
+ghost use Rattle.network.specs.Spells.{is_one, ticks_of, words_taken};
 ghost use Rattle.network.specs.Ranges.{AreValues, IsSpell, IsTicks};
 ghost use Rattle.network.specs.Inside.Coming.{to_come};
 

@@ -1,0 +1,182 @@
+//! Outages with values from outside: `bench/network.py`, which was written apart from this program, drew them of
+//! `bench/one_of_each.toml`, which says what the network here says.
+ghost use Rattle.std.specs.Prelude.{◌≡◌, ◌≤◌, ◌∷◌, []};
+ghost use Rattle.process_api.specs.Bounds.{most_processes};
+ghost use Rattle.network.specs.Ranges.{IsNetwork, IsReplay, IsRhythm, IsSpell, IsTicks};
+
+use crate::drawing::draw;
+use crate::group::{Group, LinkSet};
+use crate::network::{Burst, Cut, Network, Pause, Replay};
+use crate::rhythm::Rhythm;
+use crate::spell::Spell;
+use process_api::{Pid, ProcSet};
+use scenario_record::Outage;
+use std::alloc::Global;
+use std::process::Abort;
+
+const NO_MEMORY: &str = "memory was refused";
+
+/// What the network has for processes 1 to 3 up to tick 100 under seed 1: sender, receiver, begin and until.
+const DRAWN: [(u16, u16, u32, u32); 32] = [
+    // bursts
+    (1, 3, 21, 24),
+    (1, 3, 30, 33),
+    (1, 3, 75, 78),
+    (2, 1, 3, 12),
+    (2, 1, 35, 44),
+    (2, 3, 9, 18),
+    (2, 3, 20, 23),
+    (3, 1, 72, 81),
+    // cuts
+    (1, 2, 25, 44),
+    (1, 3, 25, 44),
+    (2, 1, 25, 44),
+    (3, 1, 25, 44),
+    (1, 2, 84, 100),
+    (1, 3, 84, 100),
+    (2, 1, 84, 100),
+    (3, 1, 84, 100),
+    // pauses
+    (2, 1, 58, 65),
+    (2, 3, 58, 65),
+    (3, 1, 3, 10),
+    (3, 2, 3, 10),
+    (3, 1, 40, 47),
+    (3, 2, 40, 47),
+    // replays
+    (2, 3, 0, 1),
+    (2, 3, 11, 13),
+    (2, 3, 31, 46),
+    (2, 3, 56, 58),
+    (2, 3, 76, 91),
+    (3, 2, 0, 2),
+    (3, 2, 12, 14),
+    (3, 2, 32, 47),
+    (3, 2, 57, 59),
+    (3, 2, 77, 92),
+];
+
+/// A list of one.
+fn one<R: Abort, T: Drop>(rt: &R, alloc: Global, item: T) -> Vec<T>
+    ensures { result.items ≡ item ∷ [] }
+{
+    let mut items = Vec::new(alloc);
+    items.push(item).expect(rt, NO_MEMORY);
+    items
+}
+
+/// A list of two.
+fn two<R: Abort, T: Drop>(rt: &R, alloc: Global, first: T, second: T) -> Vec<T>
+    ensures { result.items ≡ first ∷ second ∷ [] }
+{
+    let mut items = one(rt, alloc, first);
+    items.push(second).expect(rt, NO_MEMORY);
+    items
+}
+
+/// One of two values.
+fn values<R: Abort>(rt: &R, alloc: Global, first: u32, second: u32) -> Spell
+    requires first { IsTicks first }
+    requires second { IsTicks second }
+    ensures { IsSpell result }
+{
+    Spell::Values(two(rt, alloc, first, second))
+}
+
+/// The group of these processes.
+fn group<R: Abort>(rt: &R, numbers: &[u16]) -> Group {
+    let mut members = ProcSet::new();
+    for number in numbers {
+        members.insert(Pid::new(*number).expect(rt, "no process"));
+    }
+    Group::Members(members)
+}
+
+fn burst<R: Abort>(rt: &R, alloc: Global) -> Burst
+    ensures { IsRhythm result.rhythm }
+{
+    Burst {
+        links: LinkSet {
+            from: Group::All,
+            to: group(rt, &[1, 3]),
+            both: false,
+        },
+        rhythm: Rhythm {
+            gap: Spell::Mean(40),
+            length: values(rt, alloc, 3, 9),
+        },
+    }
+}
+
+fn cut<R: Abort>(rt: &R) -> Cut
+    ensures { IsRhythm result.rhythm }
+{
+    Cut {
+        one: group(rt, &[1]),
+        other: group(rt, &[2, 3]),
+        rhythm: Rhythm {
+            gap: Spell::Ticks(40),
+            length: Spell::Mean(8),
+        },
+    }
+}
+
+fn pause<R: Abort>(rt: &R, alloc: Global) -> Pause
+    ensures { IsRhythm result.rhythm }
+{
+    Pause {
+        processes: group(rt, &[2, 3]),
+        rhythm: Rhythm {
+            gap: values(rt, alloc, 30, 60),
+            length: Spell::Ticks(7),
+        },
+    }
+}
+
+fn replay<R: Abort>(rt: &R, alloc: Global) -> Replay
+    ensures { IsReplay result }
+{
+    let first = Outage {
+        begin: 10,
+        until: 12,
+    };
+    let second = Outage {
+        begin: 30,
+        until: 45,
+    };
+    Replay {
+        links: LinkSet {
+            from: group(rt, &[3]),
+            to: group(rt, &[2]),
+            both: true,
+        },
+        lasts: 45,
+        outages: two(rt, alloc, first, second),
+    }
+}
+
+/// A network of one table of each kind of source.
+fn network<R: Abort>(rt: &R, alloc: Global) -> Network
+    ensures { IsNetwork result }
+{
+    Network {
+        links: Vec::new(alloc),
+        bursts: one(rt, alloc, burst(rt, alloc)),
+        cuts: one(rt, alloc, cut(rt)),
+        pauses: one(rt, alloc, pause(rt, alloc)),
+        replays: one(rt, alloc, replay(rt, alloc)),
+    }
+}
+
+#[test]
+fn one_table_of_each_kind(rt: HostRuntime) {
+    let alloc = rt.alloc();
+    let drawn = draw(alloc, &network(&rt, alloc), 3, 100, 1).expect(&rt, "no outages");
+    assert_eq!(rt; drawn.len(), DRAWN.len());
+    for (came, wanted) in drawn.iter().zip(&DRAWN) {
+        assert_eq!(rt; came.from.number(), wanted.0);
+        assert_eq!(rt; came.to.number(), wanted.1);
+        assert_eq!(rt; came.begin, wanted.2);
+        assert_eq!(rt; came.until, wanted.3);
+    }
+}
