@@ -18,8 +18,8 @@ run_berth-requires-clause-berth g c κs within =
 pub run_berth-requires-clause-slip : goal.run_berth-requires-clause-slip
 run_berth-requires-clause-slip g c κs within = c.loop-berth.invariant.0
 
-pub run_berth-2-requires-clause-berth : goal.run_berth-2-requires-clause-berth
-run_berth-2-requires-clause-berth g c κs within =
+pub run_berth-requires-in-loop-berth-clause-berth : goal.run_berth-requires-in-loop-berth-clause-berth
+run_berth-requires-in-loop-berth-clause-berth g c κs within =
     let IsOf = IsBerthOf g.M.Process.mind c.args.streams.now in
     let is = All-head IsOf c.in-Some.berth _ (subst (All IsOf) c.in-Some.ensures.steps.0 c.loop-berth.invariant.1) in
     (is.0, c.in_ok-run_berth.ensures.berth is.0 _ is.1)
@@ -27,4 +27,4 @@ run_berth-2-requires-clause-berth g c κs within =
 pub loop-berth-preserved : goal.loop-berth-preserved
 loop-berth-preserved g c =
     let IsOf = IsBerthOf g.M.Process.mind c.args.streams.now in
-    (c.run_berth-2.ensures.slip, All-tail IsOf c.in-Some.berth _ (subst (All IsOf) c.in-Some.ensures.steps.0 c.loop-berth.invariant.1))
+    (c.run_berth-in-loop-berth.ensures.slip, All-tail IsOf c.in-Some.berth _ (subst (All IsOf) c.in-Some.ensures.steps.0 c.loop-berth.invariant.1))
