@@ -1,8 +1,8 @@
 -- The processes that a network names and a run doesn't have.
 use Rattle.std.specs.Prelude.{◌≡◌, ℕ, zero, suc, ◌&&◌, nat_lt, List, [], ◌∷◌, map, slice_get, codes, Option, Some, None}
-use Rattle.std.specs.List.{All, Contains, find, range_with_len}
+use Rattle.std.specs.List.{All, Contains, find}
 use Rattle.std.specs.FinSet as set
-use Rattle.process_api.specs.Bounds.{most_processes}
+use Rattle.network.specs.Refusals.{all_processes}
 use Rattle.network.specs.declared.field.TableKind.{TableKind}
 use Rattle.network.specs.declared.field.TableKind.TheVariants.{Links, Bursts, Cuts, Pauses, Replays}
 use Rattle.network.specs.declared.group.Group.{Group}
@@ -45,7 +45,7 @@ groups_of its Replays = map (λ t. link_groups t.links) its.replays.items
 -- the least member of a group above n; all processes are those of the run
 abbrev pub member_above : (n : ℕ) → Group → Option ℕ
 member_above n group.All = None
-member_above n (group.Members s) = find (λ p. nat_lt n p && set.contains s p) (range_with_len 1 most_processes)
+member_above n (group.Members s) = find (λ p. nat_lt n p && set.contains s p) all_processes
 
 -- no group of a table has one
 abbrev pub AreAllWithin : (n : ℕ) → List Named → Type 0

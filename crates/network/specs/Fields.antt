@@ -119,17 +119,18 @@ is_all d = option_map_or (λ text. same_text text (codes "all")) (as_str d) fals
 abbrev pub is_pair : Data → Bool
 is_pair d = is_numbers d && count (items_in d) == 2
 
--- a table with `mean`, an integer, or with `values`, an array of integers, and with nothing else
+-- what a table has as `mean`, and as `values`
 abbrev pub mean_in : Data → Option Data
 mean_in d = option_and_then (get_member (codes "mean")) (as_table d)
 
 abbrev pub values_in : Data → Option Data
 values_in d = option_and_then (get_member (codes "values")) (as_table d)
 
+-- a table with one key: `mean`, an integer, or else `values`, an array of integers
 unfoldable pub is_spell_table : Data → Bool
 is_spell_table d =
     length (option_map_or keys_of (as_table d) []) == 1
-    && (option_map_or is_number (mean_in d) false || option_map_or is_numbers (values_in d) false)
+    && option_map_or is_number (mean_in d) (option_map_or is_numbers (values_in d) false)
 
 abbrev pub takes : Shape → Data → Bool
 takes shape.Group d = is_all d || is_numbers d

@@ -1,5 +1,5 @@
 -- Which tables are network files, and why others are refused.
-use Rattle.std.specs.Prelude.{◌≡◌, ℕ, ◌<◌, ◌≤◌, ◌&&◌, nat_lt, nat_le, not, List, length, Bool, true, false, Unit, string_bytes, Option, Some, None, option_map, if◌then◌else◌}
+use Rattle.std.specs.Prelude.{◌≡◌, ℕ, ◌<◌, ◌≤◌, ◌&&◌, nat_lt, nat_le, not, List, length, Bool, true, false, string_bytes, Option, Some, None, option_map, if◌then◌else◌}
 use Rattle.std.specs.List.{All, Contains, find, range_with_len}
 use Rattle.std.specs.Option.{option_map_or}
 use Rattle.toml.specs.Data.{Members, get_member}
@@ -28,11 +28,15 @@ unfoldable pub link_fault : Members → Option TableFault
 link_fault t =
     if nat_lt (link_in t).max (link_in t).min then Some (fault.MinAboveMax (link_in t).min (link_in t).max) else None
 
+-- all processes that there may be
+unfoldable pub all_processes : List ℕ
+all_processes = range_with_len 1 most_processes
+
 -- the least process of both groups
 unfoldable pub cut_fault : Members → Option TableFault
 cut_fault t =
     option_map fault.CommonMember
-    (find (λ p. holds (side_at 0 t) p && holds (side_at 1 t) p) (range_with_len 1 most_processes))
+    (find (λ p. holds (side_at 0 t) p && holds (side_at 1 t) p) all_processes)
 
 -- the first outage that doesn't begin before its end, or ends after the record
 abbrev pub lies_within : (lasts : ℕ) → Outage → Bool

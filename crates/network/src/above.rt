@@ -1,5 +1,8 @@
 //! Processes that a network names and a run doesn't have.
-ghost use Rattle.std.specs.Prelude.{◌≡◌, List, Some, None, map, IfSome};
+ghost use Rattle.std.specs.Prelude.{◌≡◌, ◌≤◌, ◌&&◌, nat_lt, List, Some, None, map, IfSome};
+ghost use Rattle.std.specs.FinSet as set;
+ghost use Rattle.std.specs.List.{find, range_with_len};
+ghost use Rattle.process_api.specs.Bounds.{most_processes};
 ghost use Rattle.network.specs.Above as spec;
 ghost use Rattle.network.specs.Above.{AreAllWithin, AreWithin, HasAbove, HasKeyAbove, Named, groups_of, link_groups};
 ghost use Rattle.network.specs.declared.field.TableKind.{TableKind};
@@ -7,7 +10,7 @@ ghost use Rattle.network.specs.declared.field.TableKind.{TableKind};
 use crate::field::TableKind;
 use crate::group::{Group, LinkSet};
 use crate::network::{Burst, Cut, LinkTable, Network, Pause, Replay};
-use process_api::{MOST_PROCESSES, Pid};
+use process_api::{MOST_PROCESSES, Pid, ProcSet};
 
 /// A process that a network names, and where.
 #[derive(Clone, Copy, Debug)]
@@ -29,26 +32,42 @@ struct KeyAbove {
     process: Pid,
 }
 
-/// The least member of a group above n.
-fn member_above(group: &Group, n: u16) -> Option<Pid>
-    ensures { result ≡ spec.member_above n group.now }
+/// Whether a process is a member and above n.
+fn is_above(members: &ProcSet, n: u16, process: Pid) -> bool
+    ensures { result ≡ (nat_lt n process && set.contains members.now process) }
 {
-    let Group::Members(members) = group else {
-        return None;
-    };
-    for before in 0..MOST_PROCESSES {
+    process.number() > n && members.contains(process)
+}
+
+/// The least of processes 1 to `most` that is a member and above n.
+fn first_above(members: &ProcSet, n: u16, most: u16) -> Option<Pid>
+    requires { most ≤ most_processes }
+    ensures { result ≡ find (λ p. nat_lt n p && set.contains members.now p) (range_with_len 1 most) }
+{
+    for before in 0..most {
         let process = Pid::after(before);
-        if process.number() > n && members.contains(process) {
+        if is_above(members, n, process) {
             return Some(process);
         }
     }
     None
 }
 
+/// The least member of a group above n.
+#[tactic(auto, unfolding(crate::specs::Refusals::all_processes))]
+fn member_above(group: &Group, n: u16) -> Option<Pid>
+    ensures { result ≡ spec.member_above n group.now }
+{
+    match group {
+        Group::All => None,
+        Group::Members(members) => first_above(members, n, MOST_PROCESSES),
+    }
+}
+
 /// The least member of a group above n, with the group's key.
 fn key_above(key: &'static str, group: &Group, n: u16) -> Option<KeyAbove>
     ensures none { result ≡ None → spec.member_above n group.now ≡ None }
-    ensures some { IfSome result (λ a. (a.key ≡ key) × (spec.member_above n group.now ≡ Some a.process)) }
+    ensures some { IfSome result (λ a. (a.key.now ≡ key.now) × (spec.member_above n group.now ≡ Some a.process)) }
 {
     let process = member_above(group, n)?;
     Some(KeyAbove { key, process })
@@ -136,12 +155,12 @@ fn table_above<T: NamesGroups>(tables: &[T], kind: TableKind, n: u16) -> Option<
     ensures some { IfSome result (λ a. HasAbove n (map T.groups tables.now) a.number a.key.now a.process) }
 {
     for i in 0..tables.len() {
-        if let Some(KeyAbove { key, process }) = tables[i].above(n) {
+        if let Some(found) = tables[i].above(n) {
             return Some(Above {
                 kind,
                 number: i as u64 + 1,
-                key,
-                process,
+                key: found.key,
+                process: found.process,
             });
         }
     }

@@ -1,26 +1,26 @@
 //! Whether a table is a network file.
-ghost use Rattle.std.specs.Prelude.{◌≡◌, Some, false, is_some, map, IfErr, IfSome, OnOk};
-ghost use Rattle.std.specs.List.{Contains};
+ghost use Rattle.std.specs.Prelude.{◌≡◌, Some, false, true, is_some, map, IfErr, IfSome, OnOk};
+ghost use Rattle.std.specs.List.{All, Contains};
 ghost use Rattle.toml.specs.Data.{Members};
-ghost use Rattle.toml.specs.View.{table_view};
+ghost use Rattle.toml.specs.View.{items_view, table_view};
 ghost use Rattle.scenario.specs.Place.{numbered};
-ghost use Rattle.scenario.specs.Table as table;
-ghost use Rattle.scenario.specs.Table.{tables_at};
+ghost use Rattle.scenario.specs.Table as scenario_table;
+ghost use Rattle.scenario.specs.Table.{all_items, is_table, tables_at, the_tables};
 ghost use Rattle.network.specs.Fields.{fields_of, has_fault, has_unlisted, is_listed, key_of};
 ghost use Rattle.network.specs.Refusals.{AreTablesOf, HasFaultAt, IsNetworkFile, IsTableOf, Refuses};
 
 use crate::field::{Field, TABLES, TableKind, keys_of};
 use crate::refusal::{NetworkError, ValueFault};
-use crate::shape::items_of;
+use crate::shape::{items_of, value_at};
 use scenario::Kind;
 use std::alloc::Global;
-use toml::Table;
+use toml::{Table, Value};
 
 /// The most tables of a kind.
 const MOST_TABLES: usize = 1_000_000;
 
 /// Whether the key is one of these.
-#[tactic(auto, unfolding(crate::specs::Fields::is_listed))]
+#[tactic(auto, using(crate::proofs::Keys::any_listed))]
 fn is_listed_key(keys: &[&'static str], key: &str) -> bool
     ensures { result ≡ is_listed (map (λ k. k.now) keys.now) key.now }
 {
@@ -35,7 +35,7 @@ fn is_listed_key(keys: &[&'static str], key: &str) -> bool
 /// The first key of the table that isn't one of these.
 fn unlisted_key<'a>(keys: &[&'static str], table: &'a Table) -> Option<&'a str>
     ensures test { is_some result ≡ has_unlisted (map (λ k. k.now) keys.now) (table_view table.now) }
-    ensures there { IfSome result (λ k. Contains (table.keys_of (table_view table.now)) k.now) }
+    ensures there { IfSome result (λ k. Contains (scenario_table.keys_of (table_view table.now)) k.now) }
     ensures other { IfSome result (λ k. is_listed (map (λ k. k.now) keys.now) k.now ≡ false) }
 {
     for key in table.keys() {
@@ -54,6 +54,7 @@ struct KeyFault {
 }
 
 /// The first of these keys whose value is wrong.
+#[tactic(auto, using(crate::proofs::Keys::any_fault))]
 fn value_fault(fields: &[Field], table: &Table) -> Option<KeyFault>
     ensures test { is_some result ≡ has_fault (fields_of fields.now) (table_view table.now) }
     ensures fault { IfSome result (λ its. HasFaultAt (fields_of fields.now) its.key.now its.fault (table_view table.now)) }
@@ -102,12 +103,28 @@ fn check_table(
     Ok(())
 }
 
+/// Refuses tables of a kind of which one isn't as it should be.
+fn check_each(alloc: Global, kind: TableKind, tables: &[Value]) -> Result<(), NetworkError>
+    requires { all_items is_table (items_view tables.now) ≡ true }
+    ensures ok { OnOk result (All (IsTableOf kind) (the_tables (items_view tables.now))) }
+    ensures err { (file : Members) → tables_at (key_of kind) file ≡ the_tables (items_view tables.now)
+        → IfErr result (λ e. Refuses e file) }
+{
+    for i in 0..tables.len() {
+        let Some(table) = tables[i].as_table() else {
+            continue;
+        };
+        check_table(alloc, kind, i as u64 + 1, table)?;
+    }
+    Ok(())
+}
+
 /// Refuses what a file has at the key of a kind, where it isn't as it should be.
 fn check_tables(alloc: Global, file: &Table, kind: TableKind) -> Result<(), NetworkError>
     ensures ok { OnOk result (AreTablesOf kind (table_view file.now)) }
     ensures err { IfErr result (λ e. Refuses e (table_view file.now)) }
 {
-    let Some(value) = file.get(kind.key()) else {
+    let Some(value) = value_at(file, kind.key()) else {
         return Ok(());
     };
     if !Kind::Tables.takes(value) {
@@ -117,13 +134,7 @@ fn check_tables(alloc: Global, file: &Table, kind: TableKind) -> Result<(), Netw
     if tables.len() > MOST_TABLES {
         return Err(NetworkError::TooManyTables { kind });
     }
-    for i in 0..tables.len() {
-        let Some(table) = tables[i].as_table() else {
-            return Err(NetworkError::NotTables { kind });
-        };
-        check_table(alloc, kind, i as u64 + 1, table)?;
-    }
-    Ok(())
+    check_each(alloc, kind, tables)
 }
 
 /// Refuses a table that isn't a network file.

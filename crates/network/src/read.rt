@@ -13,7 +13,7 @@ use crate::field::TableKind;
 use crate::network::{Burst, Cut, LinkTable, Network, Pause, Replay};
 use crate::reading::{group_at, link_in, links_in, number_at, outages_in, rhythm_in, side_at};
 use crate::refusal::NetworkError;
-use crate::shape::items_of;
+use crate::shape::{items_of, value_at};
 use scenario::Kind;
 use std::alloc::{AllocError, Global};
 use toml::{Table, Value};
@@ -117,7 +117,7 @@ fn read_tables<T: OfTable>(
 ) -> Result<Vec<T>, AllocError>
     ensures { IfOk result (λ v. AllZip T.says (tables_at (key_of kind) (table_view file.now)) v.items) }
 {
-    let Some(value) = file.get(kind.key()) else {
+    let Some(value) = value_at(file, kind.key()) else {
         return Ok(Vec::new(alloc));
     };
     if !Kind::Tables.takes(value) {

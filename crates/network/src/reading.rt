@@ -12,7 +12,7 @@ ghost use Rattle.network.specs.Reading.{SaysRhythm, each, processes_in, said_of,
 
 use crate::group::{Group, LinkSet};
 use crate::rhythm::Rhythm;
-use crate::shape::{is_all, items_of, value_in};
+use crate::shape::{is_all, items_of, value_at, value_in};
 use crate::spell::Spell;
 use process_api::{MOST_PROCESSES, Pid, ProcSet};
 use scenario::lies_within;
@@ -39,7 +39,7 @@ fn number_of(value: &Value) -> u32
 pub(crate) fn number_at(table: &Table, key: &str) -> u32
     ensures { result ≡ reading.number_at key.now (table_view table.now) }
 {
-    match table.get(key) {
+    match value_at(table, key) {
         Some(value) => number_of(value),
         None => 0,
     }
@@ -84,7 +84,7 @@ fn group_of(value: &Value) -> Group
 
 /// The group that a value says, if there is one; else nobody.
 fn group_or_nobody(value: Option<&Value>) -> Group
-    ensures { result ≡ reading.group_or_nobody (option_map (λ v. view v.now) value) }
+    ensures { result ≡ reading.group_or_nobody (option_map (λ v. view v.now) value.entry) }
 {
     match value {
         Some(value) => group_of(value),
@@ -96,14 +96,14 @@ fn group_or_nobody(value: Option<&Value>) -> Group
 pub(crate) fn group_at(table: &Table, key: &str) -> Group
     ensures { result ≡ reading.group_at key.now (table_view table.now) }
 {
-    group_or_nobody(table.get(key))
+    group_or_nobody(value_at(table, key))
 }
 
 /// The group at a place of the two of a table of `cuts`.
 pub(crate) fn side_at(table: &Table, place: usize) -> Group
     ensures { result ≡ reading.side_at place (table_view table.now) }
 {
-    match table.get("between") {
+    match value_at(table, "between") {
         Some(sides) => group_or_nobody(sides.get(place)),
         None => group_or_nobody(None),
     }
@@ -113,7 +113,7 @@ pub(crate) fn side_at(table: &Table, place: usize) -> Group
 fn both_in(table: &Table) -> bool
     ensures { result ≡ reading.both_in (table_view table.now) }
 {
-    match table.get("both") {
+    match value_at(table, "both") {
         Some(value) => value.as_bool().unwrap_or(false),
         None => false,
     }
@@ -179,7 +179,7 @@ fn spell_of(alloc: Global, value: &Value) -> Result<Spell, AllocError>
 fn spell_at(alloc: Global, table: &Table, key: &str) -> Result<Spell, AllocError>
     ensures { IfOk result (λ s. said_of s ≡ reading.said_at key.now (table_view table.now)) }
 {
-    match table.get(key) {
+    match value_at(table, key) {
         Some(value) => spell_of(alloc, value),
         None => Ok(Spell::Values(Vec::new(alloc))),
     }
@@ -230,7 +230,7 @@ pub(crate) fn outages_in(alloc: Global, table: &Table) -> Result<Vec<Outage>, Al
     ensures all { IfOk result (λ v. IsPermutation (reading.outages_in (table_view table.now)) v.items) }
     ensures in_order { IfOk result (λ v. IsSorted outage_cmp v.items) }
 {
-    let mut outages = match table.get("outages") {
+    let mut outages = match value_at(table, "outages") {
         Some(value) => outages_of(alloc, items_of(value))?,
         None => Vec::new(alloc),
     };

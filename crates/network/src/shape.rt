@@ -34,11 +34,18 @@ fn count(value: &Value) -> usize
     items_of(value).len()
 }
 
-/// The value at a key of a table, if there is one.
+/// The value at a key, if there is one.
+pub(crate) fn value_at<'a>(table: &'a Table, key: &str) -> Option<&'a Value>
+    ensures { option_map (λ v. view v.now) result ≡ get_member key.now (table_view table.now) }
+{
+    table.get(key)
+}
+
+/// The value at a key of a value that is a table, if there is one.
 pub(crate) fn value_in<'a>(value: &'a Value, key: &str) -> Option<&'a Value>
     ensures { option_map (λ v. view v.now) result ≡ option_and_then (get_member key.now) (as_table (view value.now)) }
 {
-    value.as_table()?.get(key)
+    value_at(value.as_table()?, key)
 }
 
 /// Whether it is the text that says all processes.
@@ -82,23 +89,21 @@ fn are_pairs(values: &[Value]) -> bool
     true
 }
 
+/// How many keys a table has.
+#[tactic(auto, using(crate::proofs::Keys::keys_counted))]
+fn key_count(table: &Table) -> usize
+    ensures { result ≡ length (keys_of (table_view table.now)) }
+{
+    table.len()
+}
+
 /// How many keys a table has; none has another value.
 fn keys_in(value: &Value) -> usize
     ensures { result ≡ length (option_map_or keys_of (as_table (view value.now)) []) }
 {
     match value.as_table() {
-        Some(table) => table.len(),
+        Some(table) => key_count(table),
         None => 0,
-    }
-}
-
-/// Whether a table has the integer `mean`.
-fn has_mean(value: &Value) -> bool
-    ensures { result ≡ option_map_or is_number (mean_in (view value.now)) false }
-{
-    match value_in(value, "mean") {
-        Some(mean) => mean.is_integer(),
-        None => false,
     }
 }
 
@@ -112,12 +117,23 @@ fn has_values(value: &Value) -> bool
     }
 }
 
+/// Whether a table has the integer `mean`, or else `values`, an array of integers.
+fn has_mean_or_values(value: &Value) -> bool
+    ensures { result ≡ option_map_or is_number (mean_in (view value.now))
+        (option_map_or fields.is_numbers (values_in (view value.now)) false) }
+{
+    match value_in(value, "mean") {
+        Some(mean) => mean.is_integer(),
+        None => has_values(value),
+    }
+}
+
 /// Whether it is a table that says a gap or a length.
 #[tactic(auto, unfolding(crate::specs::Fields::is_spell_table))]
 fn is_spell_table(value: &Value) -> bool
     ensures { result ≡ fields.is_spell_table (view value.now) }
 {
-    keys_in(value) == 1 && (has_mean(value) || has_values(value))
+    keys_in(value) == 1 && has_mean_or_values(value)
 }
 
 /// Whether it is an array without a member.
@@ -151,16 +167,23 @@ fn outside(value: &Value, low: u32, high: u32) -> Option<i64>
     }
 }
 
-/// The first number of an array that lies outside the ends.
-fn first_outside(value: &Value, low: u32, high: u32) -> Option<i64>
-    ensures { result ≡ fields.first_outside low high (view value.now) }
+/// The first of some numbers that lies outside the ends.
+fn first_outside_of(values: &[Value], low: u32, high: u32) -> Option<i64>
+    ensures { result ≡ first_of (fields.outside low high) (items_view values.now) }
 {
-    for number in items_of(value) {
-        if let Some(number) = outside(number, low, high) {
+    for value in values {
+        if let Some(number) = outside(value, low, high) {
             return Some(number);
         }
     }
     None
+}
+
+/// The first number of an array that lies outside the ends.
+fn first_outside(value: &Value, low: u32, high: u32) -> Option<i64>
+    ensures { result ≡ fields.first_outside low high (view value.now) }
+{
+    first_outside_of(items_of(value), low, high)
 }
 
 /// The first number of some arrays that lies outside the ends.
@@ -290,7 +313,7 @@ impl Field {
     pub(crate) fn fault_at(&self, table: &Table) -> Option<ValueFault>
         ensures { result ≡ fields.fault_at (field_of self.now) (table_view table.now) }
     {
-        match table.get(self.key) {
+        match value_at(table, self.key) {
             Some(value) => self.fault_of_value(value),
             None => {
                 if self.needed {

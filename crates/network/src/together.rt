@@ -1,20 +1,19 @@
 //! What is wrong with values of a table, each of which is right by itself.
-ghost use Rattle.std.specs.Prelude.{◌≡◌, ◌&&◌, not, option_map};
+ghost use Rattle.std.specs.Prelude.{◌≡◌, ◌≤◌, ◌&&◌, not};
 ghost use Rattle.std.specs.List.{find, range_with_len};
 ghost use Rattle.process_api.specs.Bounds.{most_processes};
 ghost use Rattle.toml.specs.View.{items_view, table_view};
-ghost use Rattle.scenario_record.specs.declared.outage.Outage.{Outage};
 ghost use Rattle.network.specs.Groups.{holds};
 ghost use Rattle.network.specs.Reading as reading;
 ghost use Rattle.network.specs.Reading.{each};
 ghost use Rattle.network.specs.Refusals as refusals;
-ghost use Rattle.network.specs.Refusals.{lies_within};
+ghost use Rattle.network.specs.Refusals.{all_processes, lies_within};
 
 use crate::field::TableKind;
 use crate::group::Group;
 use crate::reading::{link_in, number_at, outage_of, side_at};
 use crate::refusal::TableFault;
-use crate::shape::items_of;
+use crate::shape::{items_of, value_at};
 use process_api::{MOST_PROCESSES, Pid};
 use scenario_record::Outage;
 use toml::{Table, Value};
@@ -35,17 +34,33 @@ fn link_fault(table: &Table) -> Option<TableFault>
     }
 }
 
-/// The least process of both groups.
-fn common_member(one: &Group, other: &Group) -> Option<Pid>
-    ensures { result ≡ find (λ p. holds one.now p && holds other.now p) (range_with_len 1 most_processes) }
+/// Whether a process is of both groups.
+fn is_common(one: &Group, other: &Group, process: Pid) -> bool
+    ensures { result ≡ (holds one.now process && holds other.now process) }
 {
-    for before in 0..MOST_PROCESSES {
+    one.holds(process) && other.holds(process)
+}
+
+/// The least of processes 1 to `most` that is of both groups.
+fn first_common(one: &Group, other: &Group, most: u16) -> Option<Pid>
+    requires { most ≤ most_processes }
+    ensures { result ≡ find (λ p. holds one.now p && holds other.now p) (range_with_len 1 most) }
+{
+    for before in 0..most {
         let process = Pid::after(before);
-        if one.holds(process) && other.holds(process) {
+        if is_common(one, other, process) {
             return Some(process);
         }
     }
     None
+}
+
+/// The least process of both groups.
+#[tactic(auto, unfolding(crate::specs::Refusals::all_processes))]
+fn common_member(one: &Group, other: &Group) -> Option<Pid>
+    ensures { result ≡ find (λ p. holds one.now p && holds other.now p) all_processes }
+{
+    first_common(one, other, MOST_PROCESSES)
 }
 
 /// What is wrong with the groups of a table of `cuts`.
@@ -78,7 +93,7 @@ fn replay_fault(table: &Table) -> Option<TableFault>
     ensures { result ≡ refusals.replay_fault (table_view table.now) }
 {
     let lasts = number_at(table, "lasts");
-    let outages = items_of(table.get("outages")?);
+    let outages = items_of(value_at(table, "outages")?);
     let outage = outage_not_within(outages, lasts)?;
     Some(TableFault::NotWithin {
         begin: outage.begin,
