@@ -13,7 +13,7 @@ use Rattle.scenario.specs.Rules.{is_within}
 use Rattle.scenario.specs.Faults.{count}
 use Rattle.scenario.proofs.Within.{neither}
 use Rattle.scenario_record.specs.declared.outage.Outage.{Outage}
-use Rattle.network.specs.Fields.{Field, burst_fields, cut_fields, fault_at, fault_of_value, first_of, first_outside, has_fault, has_more, is_empty_array, is_numbers, is_spell_table, items_in, key_of, lacks_member, needed, number_outside, outside, pause_fields, replay_fields, spell_field, takes}
+use Rattle.network.specs.Fields.{Field, both_field, burst_fields, cut_fields, fault_at, fault_of_value, first_of, first_outside, group_field, has_fault, has_more, is_empty_array, is_numbers, is_spell_table, items_in, key_of, lacks_member, needed, number_outside, outside, pause_fields, replay_fields, spell_field, takes}
 use Rattle.network.specs.Ranges.{AreValues, IsNetwork, IsReplay, IsRhythm, IsSpell, IsTicks, IsWithin, most_values}
 use Rattle.network.specs.Reading.{Said, SaysBurst, SaysCut, SaysNetwork, SaysPause, SaysReplay, SaysRhythm, each, lasts_in, mean, number_of, outage_of, outages_in, said_at, said_in, said_of, ticks, values}
 use Rattle.network.specs.Refusals.{IsNetworkFile, IsTableOf, lies_within, replay_fault}
@@ -64,15 +64,15 @@ true_of : (b : Bool) → not b ≡ false → b ≡ true
 true_of true e = refl
 true_of false e = cc
 
+not_first : {X : Type 0} (x : X) (b : Bool) (o : Option X) → (if b then Some x else o) ≡ None → (b ≡ false) × (o ≡ None)
+not_first x true o e = cc
+not_first x false o e = (refl, e)
+
 none_found : {X : Type 0} (p : X → Bool) (xs : List X) → find p xs ≡ None → All (λ x. p x ≡ false) xs
 none_found p [] e = All-nil (λ x. p x ≡ false)
 none_found p (x ∷ xs) e =
-    let parts = not_first (p x) (find p xs) e in
+    let parts = not_first x (p x) (find p xs) e in
     All-cons (λ y. p y ≡ false) x xs parts.0 (none_found p xs parts.1)
-  where
-    not_first : (b : Bool) (o : Option X) → (if b then Some x else o) ≡ None → (b ≡ false) × (o ≡ None)
-    not_first true o e = cc
-    not_first false o e = (refl, e)
 
 each_one : {X : Type 0} (P Q : X → Type 0) → ((x : X) → P x → Q x) → (xs : List X) → All P xs → All Q xs
 each_one P Q f xs h i d low = f _ (h i d low)
@@ -104,7 +104,7 @@ good_value : (f : Field) (d : Data) → fault_of_value f d ≡ None → IsGood f
 unfolding fault_of_value
 good_value f d e =
     let all = chain f (takes f.shape d) (lacks_member f.shape d) (has_more f.shape d) (number_outside f.shape f.low f.high d) e in
-    record { shaped = all.0; some = all.1; few = all.2.0; inside = all.2.1 }
+    record { shaped = all.0; some = all.1; few = all.2; inside = all.3 }
 
 -- the value at a key that must be there
 record Has (key : List ℕ) (its : Shape) (low high : ℕ) (t : Members) : Type 0 where
@@ -164,7 +164,7 @@ record AreGood (ns : List ℕ) : Type 0 where
   few : length ns ≤ most_values
   each : All IsTicks ns
 
-IsGoodSaid : Said → Type 0
+abbrev IsGoodSaid : Said → Type 0
 IsGoodSaid (ticks n) = IsTicks n
 IsGoodSaid (values ns) = AreGood ns
 IsGoodSaid (mean m) = IsTicks m
@@ -227,9 +227,10 @@ rhythm_in_range t r says gap long = record {
 burst_in_range : (t : Members) (b : Burst) → SaysBurst t b → IsTableOf Bursts t → IsRhythm b.rhythm
 unfolding has_fault burst_fields
 burst_in_range t b says is =
-    let gap = (neither _ _ (neither _ _ (neither _ _ is.values).1).1).1 in
+    let gap = (neither (is_some (fault_at both_field t)) _
+        (neither (is_some (fault_at (group_field (codes "to")) t)) _ (neither (is_some (fault_at (group_field (codes "from")) t)) _ is.values).1).1).1 in
     let long = (neither _ _ gap).1 in
-    rhythm_in_range t b.rhythm says.rhythm (none_of _ (neither _ _ gap).0) (none_of _ (neither _ _ long).0)
+    rhythm_in_range t b.rhythm says.rhythm (none_of _ (neither _ _ gap).0) (none_of _ (neither _ false long).0)
 
 cut_in_range : (t : Members) (c : Cut) → SaysCut t c → IsTableOf Cuts t → IsRhythm c.rhythm
 unfolding has_fault cut_fields
@@ -286,9 +287,10 @@ record_in_range t r says lasts outages together =
 replay_in_range : (t : Members) (r : Replay) → SaysReplay t r → IsTableOf Replays t → IsReplay r
 unfolding has_fault replay_fields
 replay_in_range t r says is =
-    let lasts = (neither _ _ (neither _ _ (neither _ _ is.values).1).1).1 in
+    let lasts = (neither (is_some (fault_at both_field t)) _
+        (neither (is_some (fault_at (group_field (codes "to")) t)) _ (neither (is_some (fault_at (group_field (codes "from")) t)) _ is.values).1).1).1 in
     let outages = (neither _ _ lasts).1 in
-    record_in_range t r says (none_of _ (neither _ _ lasts).0) (none_of _ (neither _ _ outages).0) is.together
+    record_in_range t r says (none_of _ (neither _ _ lasts).0) (none_of _ (neither _ false outages).0) is.together
 
 -- ---- the file
 

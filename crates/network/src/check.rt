@@ -9,7 +9,7 @@ ghost use Rattle.scenario.specs.Table.{all_items, is_table, tables_at, the_table
 ghost use Rattle.network.specs.Fields.{fields_of, has_fault, has_unlisted, is_listed, key_of};
 ghost use Rattle.network.specs.Refusals.{AreTablesOf, HasFaultAt, IsNetworkFile, IsTableOf, Refuses};
 
-use crate::field::{Field, TABLES, TableKind, keys_of};
+use crate::field::{Field, TableKind, file_keys, keys_of};
 use crate::refusal::{NetworkError, ValueFault};
 use crate::shape::{items_of, value_at};
 use scenario::Kind;
@@ -142,7 +142,7 @@ pub(crate) fn check_file(alloc: Global, file: &Table) -> Result<(), NetworkError
     ensures ok { OnOk result (IsNetworkFile (table_view file.now)) }
     ensures err { IfErr result (λ e. Refuses e (table_view file.now)) }
 {
-    if let Some(key) = unlisted_key(&TABLES, file) {
+    if let Some(key) = unlisted_key(file_keys(), file) {
         let key = String::from_str(alloc, key)?;
         return Err(NetworkError::UnknownTable { key });
     }
@@ -150,5 +150,6 @@ pub(crate) fn check_file(alloc: Global, file: &Table) -> Result<(), NetworkError
     check_tables(alloc, file, TableKind::Bursts)?;
     check_tables(alloc, file, TableKind::Cuts)?;
     check_tables(alloc, file, TableKind::Pauses)?;
-    check_tables(alloc, file, TableKind::Replays)
+    check_tables(alloc, file, TableKind::Replays)?;
+    Ok(())
 }

@@ -1,5 +1,6 @@
 //! The tables that a network file may have, and their keys.
 ghost use Rattle.std.specs.Prelude.{◌≡◌, map};
+ghost use Rattle.network.specs.Fields as spec;
 ghost use Rattle.network.specs.Fields.{fields_of, fields_in, keys_in, key_of};
 
 /// The tables of a network file, by their kinds: each kind is an array of tables at a key of the file.
@@ -101,6 +102,13 @@ const REPLAYS: [Field; 5] = [
 
 /// The keys that a network file itself may have, each of which has an array of tables.
 pub const TABLES: [&str; 5] = ["links", "bursts", "cuts", "pauses", "replays"];
+
+/// The keys that a network file itself may have, as a list.
+pub(crate) fn file_keys() -> &'static [&'static str]
+    ensures { map (λ key. key.now) result.now ≡ spec.file_keys }
+{
+    &TABLES
+}
 
 impl TableKind {
     /// The key of the array of these tables.
