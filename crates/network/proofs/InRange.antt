@@ -228,7 +228,7 @@ burst_in_range : (t : Members) (b : Burst) → SaysBurst t b → IsTableOf Burst
 unfolding has_fault burst_fields
 burst_in_range t b says is =
     let gap = (neither (is_some (fault_at both_field t)) _
-        (neither (is_some (fault_at (group_field (codes "to")) t)) _ (neither (is_some (fault_at (group_field (codes "from")) t)) _ is.values).1).1).1 in
+    (neither (is_some (fault_at (group_field (codes "to")) t)) _ (neither (is_some (fault_at (group_field (codes "from")) t)) _ is.values).1).1).1 in
     let long = (neither _ _ gap).1 in
     rhythm_in_range t b.rhythm says.rhythm (none_of _ (neither _ _ gap).0) (none_of _ (neither _ false long).0)
 
@@ -288,7 +288,7 @@ replay_in_range : (t : Members) (r : Replay) → SaysReplay t r → IsTableOf Re
 unfolding has_fault replay_fields
 replay_in_range t r says is =
     let lasts = (neither (is_some (fault_at both_field t)) _
-        (neither (is_some (fault_at (group_field (codes "to")) t)) _ (neither (is_some (fault_at (group_field (codes "from")) t)) _ is.values).1).1).1 in
+    (neither (is_some (fault_at (group_field (codes "to")) t)) _ (neither (is_some (fault_at (group_field (codes "from")) t)) _ is.values).1).1).1 in
     let outages = (neither _ _ lasts).1 in
     record_in_range t r says (none_of _ (neither _ _ lasts).0) (none_of _ (neither _ false outages).0) is.together
 

@@ -24,5 +24,5 @@ returns g c =
     let there : get_member (key_of c.args.kind) (table_view c.args.file.now) ≡ Some (view c.in-Some.value.now) = sym (search rules) in
     let are : is_of kind.Tables (view c.in-Some.value.now) ≡ true = sym (search rules) in
     let same : the_tables (items_view c.items_of.result.now) ≡ tables_at (key_of c.args.kind) (table_view c.args.file.now) =
-        ap the_tables c.items_of.ensures ∙ sym (tables_there (key_of c.args.kind) (table_view c.args.file.now) (view c.in-Some.value.now) there are) in
+    ap the_tables c.items_of.ensures ∙ sym (tables_there (key_of c.args.kind) (table_view c.args.file.now) (view c.in-Some.value.now) there are) in
     subst (λ ts. IfOk c.read_each.result (λ v. AllZip g.T.OfTable.says ts v.items)) same c.read_each.ensures
