@@ -10,3 +10,4 @@ pub mod Firsts
 pub mod ArrayTables
 pub mod Checked
 pub mod InRange
+pub mod Naming
