@@ -1,4 +1,4 @@
-use Rattle.std.proofs.Common.{◌≡◌, ◌∙◌, ◌<◌, ◌≤◌, ap, sym, subst, length, true, Some, None, arith, rules, IfErr, OnOk}
+use Rattle.std.proofs.Common.{◌≡◌, ◌∙◌, ◌≤◌, ap, sym, subst, length, true, Some, None, arith, rules}
 use Rattle.std.specs.List.{All}
 use Rattle.toml.specs.Data.{get_member}
 use Rattle.toml.specs.View.{view, items_view, table_view}

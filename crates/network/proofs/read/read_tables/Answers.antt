@@ -4,7 +4,7 @@ use Rattle.toml.specs.Data.{get_member}
 use Rattle.toml.specs.View.{view, items_view, table_view}
 use Rattle.scenario.specs.Table.{is_of, tables_at, the_tables}
 use Rattle.scenario.specs.declared.field.Kind.TheVariants as kind
-use Rattle.network.specs.Fields.{items_in, key_of}
+use Rattle.network.specs.Fields.{key_of}
 use Rattle.network.proofs.ArrayTables.{nothing_there, tables_missing, tables_there}
 use Rattle.network.proofs.read.read_tables.Goals as goal
 
