@@ -11,3 +11,4 @@ pub mod ArrayTables
 pub mod Checked
 pub mod InRange
 pub mod Naming
+pub mod Refused
