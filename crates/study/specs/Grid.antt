@@ -4,7 +4,7 @@ use Rattle.std.specs.List.{flat_map, range_with_len, list_any, count_by}
 use Rattle.std.specs.Option.{option_or}
 use Rattle.scenario.specs.Table.{same_text}
 use Rattle.study.specs.Combinations.{combinations}
-use Rattle.study.specs.Settings.{Path, top, inner, element, every, path_of, key_text, Chosen, choices, chosen}
+use Rattle.study.specs.Settings.{FilePath, top, inner, element, every, Path, scenario, network, path_of, key_text, Chosen, choices, chosen}
 use Rattle.study.specs.declared.axis.Axis.{Axis}
 use Rattle.study.specs.declared.run.Run.{Run}
 use Rattle.study.specs.declared.error.GridError.{GridError}
@@ -68,14 +68,20 @@ AreDealtEvenly g = (c : ℕ) → c < length (combinations g.deal)
 
 -- ---- refusals
 
+-- both set one key of one table of a file
+abbrev pub meets_in_file : FilePath → FilePath → Bool
+meets_in_file (top k) (top l) = same_text k l
+meets_in_file (inner t k) (inner u l) = same_text t u && same_text k l
+meets_in_file (element a i k) (element b j l) = same_text a b && ((i == j) && same_text k l)
+meets_in_file (element a i k) (every b l) = same_text a b && same_text k l
+meets_in_file (every a k) (element b j l) = same_text a b && same_text k l
+meets_in_file (every a k) (every b l) = same_text a b && same_text k l
+meets_in_file _ _ = false
+
 -- both set one key of one table
 abbrev pub meets : Path → Path → Bool
-meets (top k) (top l) = same_text k l
-meets (inner t k) (inner u l) = same_text t u && same_text k l
-meets (element a i k) (element b j l) = same_text a b && ((i == j) && same_text k l)
-meets (element a i k) (every b l) = same_text a b && same_text k l
-meets (every a k) (element b j l) = same_text a b && same_text k l
-meets (every a k) (every b l) = same_text a b && same_text k l
+meets (scenario p) (scenario q) = meets_in_file p q
+meets (network p) (network q) = meets_in_file p q
 meets _ _ = false
 
 -- the first path that meets one before it

@@ -1,6 +1,7 @@
 pub mod Shard
 pub mod Combinations
 pub mod Settings
+pub mod Sources
 pub mod Grid
 pub mod Placed
 pub mod Reading

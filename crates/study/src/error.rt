@@ -43,9 +43,12 @@ pub enum GridError {
     Memory(#[from(alloc)] AllocError),
 }
 
-/// Why a scenario's file can't have a value at a key.
+/// Why a study's files can't have a value at a key.
 #[derive(Debug, Drop, Error)]
 pub enum PlaceError {
+    /// The key is one of the network's file, and there is none.
+    #[error("there is no network file")]
+    NoNetwork,
     /// The key's path goes through something that is no table, or no array of tables.
     #[error("the key's path goes through what is no table")]
     NotATable,
@@ -85,8 +88,8 @@ pub enum KeyError {
     /// The word is `seed`: a study's seeds are said by themselves.
     #[error("seed is no key of a study")]
     Seed,
-    /// The word is no key: names of letters, digits, `_` and `-`, as `horizon`, `detector.timeout`, `crash[1].at` or
-    /// `crash[*].at`.
+    /// The word is no key: names of letters, digits, `_` and `-`, as `horizon`, `detector.timeout`, `crash[1].at`,
+    /// `crash[*].at` or `network.bursts[1].gap`.
     #[error("no key")]
     NoKey,
     /// Memory was refused.

@@ -14,6 +14,7 @@ mod axis;
 mod axis_words;
 mod combination;
 mod error;
+mod file_key;
 mod grid;
 mod grid_checks;
 mod key;
@@ -28,6 +29,7 @@ mod setting;
 mod setting_words;
 mod shard;
 mod shard_words;
+mod sources;
 mod text;
 mod words;
 
@@ -35,6 +37,7 @@ pub use axis::{Axis, Choice};
 pub use error::{
     AxisError, GridError, KeyError, PlaceError, ReadError, SeedsError, ShardError, TextError,
 };
+pub use file_key::FileKey;
 pub use grid::Grid;
 pub use key::Key;
 pub use placed::law_settings;
@@ -43,5 +46,6 @@ pub use run::Run;
 pub use seeds::Seeds;
 pub use setting::Setting;
 pub use shard::{Shard, law_shards};
+pub use sources::Sources;
 pub use text::scenario_text;
 pub use words::{is_natural_word, natural_in, words_between};
