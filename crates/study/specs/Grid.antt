@@ -25,9 +25,17 @@ pub record GridRecord : Type 0 where
 abbrev pub points : GridRecord → List (List Chosen)
 points g = combinations g.vary
 
--- the varied keys, in order: those of the first point's settings
+-- the keys of some axes, by their choices, in order: those of the first combination
+abbrev pub keys_of : List (List (List Chosen)) → List Path
+keys_of axes = map (λ c. c.path) (get_or (combinations axes) 0 [])
+
+-- the varied keys
 abbrev pub keys : GridRecord → List Path
-keys g = map (λ c. c.path) (get_or (points g) 0 [])
+keys g = keys_of g.vary
+
+-- the keys of all axes
+abbrev pub all_keys : GridRecord → List Path
+all_keys g = keys_of g.vary ++ (keys_of g.over ++ keys_of g.deal)
 
 -- one run of a point
 pub record RunRecord : Type 0 where
@@ -88,6 +96,10 @@ meets _ _ = false
 abbrev pub first_again : (before : List Path) → List Path → Option Path
 first_again before [] = None
 first_again before (p ∷ ps) = if list_any (meets p) before then Some p else first_again (before ++ (p ∷ [])) ps
+
+-- of keys that are set for all runs the first that is set twice: it meets a key of an axis, or one before it
+abbrev pub set_twice : GridRecord → List Path → Option Path
+set_twice g = first_again (all_keys g)
 
 -- the keys of some axes, in order
 abbrev pub paths_of : List Axis → List Path

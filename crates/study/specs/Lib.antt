@@ -9,5 +9,6 @@ pub mod Runs
 pub mod Words
 pub mod KeyWords
 pub mod AxisWords
+pub mod SetWords
 pub mod SeedWords
 pub mod ShardWords

@@ -5,11 +5,12 @@ use Rattle.std.specs.declared.alloc.Global.{Global}
 use Rattle.std.specs.Ordering.{nat_cmp, match_ordering}
 use Rattle.std.specs.Cmp.Lexicographic.{slice_cmp}
 use Rattle.toml.specs.Data.{Data, integer, string, array, table, Items, no_items, item, Members, no_members, member, get_member, get_item}
-use Rattle.toml.specs.View.{table_view}
+use Rattle.toml.specs.View.{view, table_view}
 use Rattle.toml.specs.declared.value.Value.{Value}
-use Rattle.study.specs.Settings.{FilePath, top, inner, element, every, Path, scenario, network, Given, number, text, Chosen}
+use Rattle.study.specs.Settings.{FilePath, top, inner, element, every, Path, scenario, network, path_of, Given, number, text, Chosen}
 use Rattle.study.specs.Sources.{SourcesRecord}
 use Rattle.study.specs.Grid.{RunRecord}
+use Rattle.study.specs.declared.assignment.Assignment.{Assignment}
 use Rattle.study.specs.declared.error.PlaceError.{PlaceError}
 use Rattle.study.specs.declared.error.PlaceError.TheVariants as error
 
@@ -100,10 +101,20 @@ set_at (network p) d s = then (network_there s.network) (λ n. then (set_in_file
 abbrev pub set_chosen : Chosen → SourcesRecord → Result SourcesRecord PlaceError
 set_chosen c = set_at c.path (data_of c.value)
 
--- with all of these settings, one after the other
+abbrev pub set_assigned : Assignment → SourcesRecord → Result SourcesRecord PlaceError
+set_assigned a = set_at (path_of a.key) (view a.value)
+
+-- with all of these set, one after the other
+abbrev pub in_turn : {X : Type 0} → (X → SourcesRecord → Result SourcesRecord PlaceError) → List X → SourcesRecord
+    → Result SourcesRecord PlaceError
+in_turn set [] s = Ok s
+in_turn set (x ∷ xs) s = then (set x s) (in_turn set xs)
+
 abbrev pub set_all : List Chosen → SourcesRecord → Result SourcesRecord PlaceError
-set_all [] s = Ok s
-set_all (c ∷ cs) s = then (set_chosen c s) (set_all cs)
+set_all = in_turn set_chosen
+
+abbrev pub assign_all : List Assignment → SourcesRecord → Result SourcesRecord PlaceError
+assign_all = in_turn set_assigned
 
 -- the files of a run: with the point's settings, the run's and its seed
 abbrev pub sources_of_run : List Chosen → RunRecord → SourcesRecord → Result SourcesRecord PlaceError

@@ -135,6 +135,23 @@ pub enum AxisError {
     Memory(#[from(alloc)] AllocError),
 }
 
+/// Why words set no key, in the order in which the reasons are looked for. `Memory` may come at any point.
+#[derive(Debug, Drop, Error)]
+pub enum AssignmentError {
+    /// There is no `=`.
+    #[error("there is no =")]
+    NoEquals,
+    /// What stands before the first `=` is no key.
+    #[error("no key stands before the =")]
+    Key(KeyError),
+    /// Nothing stands after it.
+    #[error("a value is missing")]
+    NoValue,
+    /// Memory was refused.
+    #[error("out of memory")]
+    Memory(#[from(alloc)] AllocError),
+}
+
 /// Why a word says no seeds, in the order in which the reasons are looked for.
 #[derive(Clone, Copy, Debug, PartialEq, Eq, Error)]
 pub enum SeedsError {

@@ -1,5 +1,5 @@
 //! Keys of a study's files.
-ghost use Rattle.std.specs.Prelude.{◌≡◌, [], map, option_map, string_bytes, IfOk};
+ghost use Rattle.std.specs.Prelude.{◌≡◌, ◌≤◌, map, take, drop, length, option_map, string_bytes, IfOk};
 ghost use Rattle.std.specs.List.{list_any};
 ghost use Rattle.study.specs.Settings.{path_of, key_text};
 ghost use Rattle.study.specs.Grid.{meets, first_again as again};
@@ -65,13 +65,16 @@ fn meets_any(keys: &[&Key], key: &Key) -> bool
     false
 }
 
-/// The first of the keys that meets one before it.
-pub(crate) fn first_again<'a>(keys: &[&'a Key]) -> Option<&'a Key>
-    ensures { option_map (λ k. path_of k.now) result ≡ again [] (map (λ k. path_of k.now) keys.now) }
+/// The first of the keys, from a place on, that meets one before it.
+pub(crate) fn first_again<'a>(keys: &[&'a Key], from: usize) -> Option<&'a Key>
+    requires { from ≤ length keys.now }
+    ensures { option_map (λ k. path_of k.now) result
+        ≡ again (map (λ k. path_of k.now) (take from keys.now)) (map (λ k. path_of k.now) (drop from keys.now)) }
 {
-    for (i, key) in keys.iter().enumerate() {
+    for i in from..keys.len() {
+        let key = keys[i];
         if meets_any(&keys[..i], key) {
-            return Some(*key);
+            return Some(key);
         }
     }
     None

@@ -10,6 +10,7 @@
 //! `specs/AxisWords.antt`, `specs/SeedWords.antt`, `specs/ShardWords.antt`).
 #![tactic(auto)]
 
+mod assignment;
 mod axis;
 mod axis_words;
 mod combination;
@@ -25,6 +26,8 @@ mod range_words;
 mod read;
 mod run;
 mod seeds;
+mod set_twice;
+mod set_words;
 mod setting;
 mod setting_words;
 mod shard;
@@ -33,9 +36,10 @@ mod sources;
 mod text;
 mod words;
 
+pub use assignment::Assignment;
 pub use axis::{Axis, Choice};
 pub use error::{
-    AxisError, GridError, KeyError, PlaceError, ReadError, SeedsError, ShardError, TextError,
+    AssignmentError, AxisError, GridError, KeyError, PlaceError, ReadError, SeedsError, ShardError, TextError,
 };
 pub use file_key::FileKey;
 pub use grid::Grid;

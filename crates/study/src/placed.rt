@@ -5,8 +5,9 @@ ghost use Rattle.toml.specs.View.{view, table_view, array_view, items_view};
 ghost use Rattle.study.specs.Settings.{file_path_of, path_of, given_by, chosen, inner, element, every};
 ghost use Rattle.study.specs.Reading.{AreSet, Sets};
 ghost use Rattle.study.specs.Sources.{sources_of};
-ghost use Rattle.study.specs.Placed.{data_of, put as put_member, put_item, put_in_each, set_at, set_chosen, set_all, table_of, table_or_new, items_of, element_of, is_memory, IsRefused, Puts, CannotPut};
+ghost use Rattle.study.specs.Placed.{data_of, put as put_member, put_item, put_in_each, set_at, set_chosen, set_all, assign_all, table_of, table_or_new, items_of, element_of, is_memory, IsRefused, Puts, CannotPut};
 
+use crate::assignment::Assignment;
 use crate::axis::Choice;
 use crate::error::PlaceError;
 use crate::file_key::FileKey;
@@ -245,6 +246,23 @@ pub(crate) fn set_choices(alloc: Global, sources: &mut Sources, choices: &[Choic
         set_choice(alloc, sources, *choice)?;
     }
     Ok(())
+}
+
+impl Sources {
+    /// Sets keys for all runs, one after the other.
+    ///
+    /// # Errors
+    ///
+    /// Where a key can't be set, the reason, of the first such key; `Memory` at any point.
+    pub fn set(&mut self, alloc: Global, assignments: &[Assignment]) -> Done
+        ensures ok { OnOk result (assign_all assignments.now (sources_of self.old) ≡ Ok (sources_of self.new)) }
+        ensures err { IfErr result (IsRefused (assign_all assignments.now (sources_of self.old))) }
+    {
+        for assignment in assignments {
+            set(alloc, self, &assignment.key, &assignment.value)?;
+        }
+        Ok(())
+    }
 }
 
 /// Wherever a key is set, its value is what the files then have there, in every table of an array where that is meant,
