@@ -5,3 +5,8 @@ pub mod Odds
 pub mod Apart
 pub mod Records
 pub mod Later
+pub mod Keys
+pub mod Firsts
+pub mod ArrayTables
+pub mod Checked
+pub mod InRange

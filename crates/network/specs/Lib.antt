@@ -6,4 +6,8 @@ pub mod Replays
 pub mod Ranges
 pub mod Drawn
 pub mod Laid
+pub mod Fields
+pub mod Reading
+pub mod Refusals
+pub mod Above
 pub mod Inside

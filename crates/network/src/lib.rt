@@ -13,9 +13,12 @@
 //! two has, up to tick 100, the outages from 6 to 16 and from 66 to 76.
 #![tactic(auto)]
 
+mod above;
 mod add;
+mod check;
 mod drawing;
 mod error;
+mod field;
 mod group;
 mod kind;
 mod laid;
@@ -23,18 +26,27 @@ mod network;
 #[cfg(test)]
 mod network_tests;
 mod outages;
+mod read;
+mod reading;
+mod refusal;
 mod replay;
 mod rhythm;
+mod shape;
 mod spell;
 mod tables;
+mod together;
 mod words;
 
+pub use above::{Above, process_above};
 pub use drawing::draw;
 pub use error::DrawError;
+pub use field::{Shape, TABLES, TableKind, keys_of};
 pub use group::{Ends, Group, LinkSet};
 pub use kind::law_streams;
 pub use laid::{LaidLink, laid_links};
 pub use network::{Burst, Cut, LinkTable, Network, Pause, Replay};
 pub use outages::{LinkOutage, MOST_OUTAGES};
+pub use read::read_network;
+pub use refusal::{NetworkError, TableFault, ValueFault};
 pub use rhythm::Rhythm;
 pub use spell::Spell;

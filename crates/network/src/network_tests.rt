@@ -1,12 +1,14 @@
 //! Outages with values from outside: `bench/network.py`, which was written apart from this program, drew them of
 //! `bench/one_of_each.toml`, which says what the network here says.
-ghost use Rattle.std.specs.Prelude.{◌≡◌, ◌≤◌, ◌∷◌, []};
+ghost use Rattle.std.specs.Prelude.{◌≡◌, ◌≤◌, ◌∷◌, [], IfOk};
 ghost use Rattle.process_api.specs.Bounds.{most_processes};
 ghost use Rattle.network.specs.Ranges.{IsNetwork, IsReplay, IsRhythm, IsSpell, IsTicks};
 
 use crate::drawing::draw;
 use crate::group::{Group, LinkSet};
 use crate::network::{Burst, Cut, Network, Pause, Replay};
+use crate::read::read_network;
+use crate::refusal::NetworkError;
 use crate::rhythm::Rhythm;
 use crate::spell::Spell;
 use process_api::{Pid, ProcSet};
@@ -171,7 +173,48 @@ fn network<R: Abort>(rt: &R, alloc: Global) -> Network
 #[test]
 fn one_table_of_each_kind(rt: HostRuntime) {
     let alloc = rt.alloc();
-    let drawn = draw(alloc, &network(&rt, alloc), 3, 100, 1).expect(&rt, "no outages");
+    assert_drawn(&rt, alloc, &network(&rt, alloc));
+}
+
+/// `bench/one_of_each.toml`.
+const ONE_OF_EACH: &str = r#"
+[[bursts]]
+from = "all"
+to = [1, 3]
+gap = { mean = 40 }
+length = { values = [3, 9] }
+
+[[cuts]]
+between = [[1], [2, 3]]
+gap = 40
+length = { mean = 8 }
+
+[[pauses]]
+processes = [2, 3]
+gap = { values = [30, 60] }
+length = 7
+
+[[replays]]
+from = [3]
+to = [2]
+both = true
+lasts = 45
+outages = [[30, 45], [10, 12]]
+"#;
+
+/// The network of a file with this text.
+fn network_of<R: Abort>(rt: &R, alloc: Global, text: &str) -> Result<Network, NetworkError>
+    ensures { IfOk result IsNetwork }
+{
+    let table = toml::table_from_str(alloc, text).expect(rt, "no TOML");
+    read_network(alloc, &table)
+}
+
+/// What the network draws for processes 1 to 3 up to tick 100 under seed 1 is what is wanted.
+fn assert_drawn<R: Abort>(rt: &R, alloc: Global, network: &Network)
+    requires { IsNetwork network.now }
+{
+    let drawn = draw(alloc, network, 3, 100, 1).expect(rt, "no outages");
     assert_eq!(rt; drawn.len(), DRAWN.len());
     for (came, wanted) in drawn.iter().zip(&DRAWN) {
         assert_eq!(rt; came.from.number(), wanted.0);
@@ -179,4 +222,11 @@ fn one_table_of_each_kind(rt: HostRuntime) {
         assert_eq!(rt; came.begin, wanted.2);
         assert_eq!(rt; came.until, wanted.3);
     }
+}
+
+#[test]
+fn the_file_of_one_table_of_each_kind(rt: HostRuntime) {
+    let alloc = rt.alloc();
+    let network = network_of(&rt, alloc, ONE_OF_EACH).expect(&rt, "no network");
+    assert_drawn(&rt, alloc, &network);
 }

@@ -1,0 +1,20 @@
+use Rattle.std.proofs.Common.{◌≡◌, ap, subst, take, arith, rules, add-one}
+use Rattle.std.specs.List.{All}
+use Rattle.std.proofs.lemmas.List.{take_all}
+use Rattle.std.proofs.lemmas.List.Elements.{All-map}
+use Rattle.network.specs.Above.{AreAllWithin}
+use Rattle.network.proofs.ArrayTables.{numbered_image}
+use Rattle.network.proofs.above.table_above.Goals as goal
+
+pub returns-in-Some-clause-some : goal.returns-in-Some-clause-some
+returns-in-Some-clause-some g c = record {
+  groups = g.T.NamesGroups.groups c.index-tables-i.result;
+  there = rw add-one (numbered_image g.T.NamesGroups.groups c.args.tables.now c.loop-i.i c.index-tables-i.result c.loop-i-test.true c.index-tables-i.is);
+  is = c.in-Some.ensures.some;
+}
+
+pub returns-clause-none : goal.returns-clause-none
+returns-clause-none g c = λ none.
+    let all : take c.loop-i.i c.args.tables.now ≡ c.args.tables.now = take_all c.loop-i.i c.args.tables.now (omega arith) in
+    All-map (AreAllWithin c.args.n) g.T.NamesGroups.groups c.args.tables.now
+    (subst (All (λ t. AreAllWithin c.args.n (g.T.NamesGroups.groups t))) all c.loop-i.invariant)

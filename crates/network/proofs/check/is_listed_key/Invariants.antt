@@ -1,0 +1,8 @@
+use Rattle.std.proofs.Common.{◌≡◌, drop, map}
+use Rattle.std.specs.List.{list_any}
+use Rattle.scenario.specs.Table.{same_text}
+use Rattle.network.specs.Fields.{is_listed}
+use Rattle.network.proofs.check.is_listed_key.Given as goal
+
+abbrev pub invariant-loop-listed : goal.invariant-loop-listed
+invariant-loop-listed l = is_listed (map (λ k. k.now) l.keys) l.key ≡ list_any (λ k. same_text k.now l.key) (drop l.listed-index l.keys)

@@ -1,0 +1,13 @@
+use Rattle.std.proofs.Common.{◌≡◌, map, string_bytes}
+use Rattle.std.specs.List.{All, Contains}
+use Rattle.toml.specs.View.{table_view}
+use Rattle.scenario.specs.Table.{keys_of}
+use Rattle.network.specs.Fields.{has_unlisted}
+use Rattle.network.proofs.Keys.{any_unlisted}
+use Rattle.network.proofs.check.unlisted_key.Given as goal
+
+abbrev pub invariant-loop-key : goal.invariant-loop-key
+invariant-loop-key l = record {
+  test : has_unlisted (map (λ k. k.now) l.keys) (table_view l.table) ≡ any_unlisted (map (λ k. k.now) l.keys) l.key-iterator;
+  there : All (λ k. Contains (keys_of (table_view l.table)) (string_bytes k)) l.key-iterator;
+}

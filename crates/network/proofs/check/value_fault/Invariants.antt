@@ -1,0 +1,8 @@
+use Rattle.std.proofs.Common.{◌≡◌, drop, is_some}
+use Rattle.std.specs.List.{list_any}
+use Rattle.toml.specs.View.{table_view}
+use Rattle.network.specs.Fields.{fault_at, field_of, fields_of, has_fault}
+use Rattle.network.proofs.check.value_fault.Given as goal
+
+abbrev pub invariant-loop-field : goal.invariant-loop-field
+invariant-loop-field l = has_fault (fields_of l.fields) (table_view l.table) ≡ list_any (λ f. is_some (fault_at (field_of f) (table_view l.table))) (drop l.field-index l.fields)

@@ -1,0 +1,8 @@
+use Rattle.std.proofs.Common.{take}
+use Rattle.std.specs.List.{AllZip, filter_map}
+use Rattle.toml.specs.Data.{as_table}
+use Rattle.toml.specs.View.{view}
+use Rattle.network.proofs.read.read_each.Given as goal
+
+abbrev pub invariant-loop-value : goal.invariant-loop-value
+invariant-loop-value g l = AllZip g.T.OfTable.says (filter_map (λ v. as_table (view v)) (take l.value-index l.values)) l.found.items

@@ -1,0 +1,10 @@
+use Rattle.std.proofs.Common.{◌≡◌, drop}
+use Rattle.std.specs.FinSet as set
+use Rattle.process_api.specs.Sets.{insert_all}
+use Rattle.toml.specs.View.{items_view}
+use Rattle.network.specs.Reading.{processes_in}
+use Rattle.network.proofs.reading.members_of.Given as goal
+
+abbrev pub invariant-loop-value : goal.invariant-loop-value
+invariant-loop-value l = insert_all set.empty (processes_in (items_view l.values))
+    ≡ insert_all l.members (processes_in (items_view (drop l.value-index l.values)))

@@ -1,0 +1,7 @@
+use Rattle.std.proofs.Common.{◌≡◌, drop}
+use Rattle.toml.specs.View.{items_view}
+use Rattle.network.specs.Fields.{first_of, outside}
+use Rattle.network.proofs.shape.first_outside_of.Given as goal
+
+abbrev pub invariant-loop-value : goal.invariant-loop-value
+invariant-loop-value l = first_of (outside l.low l.high) (items_view l.values) ≡ first_of (outside l.low l.high) (items_view (drop l.value-index l.values))

@@ -1,0 +1,9 @@
+use Rattle.std.proofs.Common.{◌≡◌, drop, not}
+use Rattle.toml.specs.View.{items_view}
+use Rattle.std.specs.List.{find}
+use Rattle.network.specs.Reading.{each, outage_of}
+use Rattle.network.specs.Refusals.{lies_within}
+use Rattle.network.proofs.together.outage_not_within.Given as goal
+
+abbrev pub invariant-loop-value : goal.invariant-loop-value
+invariant-loop-value l = find (λ o. not (lies_within l.lasts o)) (each outage_of (items_view l.values)) ≡ find (λ o. not (lies_within l.lasts o)) (each outage_of (items_view (drop l.value-index l.values)))
