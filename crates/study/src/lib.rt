@@ -39,7 +39,8 @@ mod words;
 pub use assignment::Assignment;
 pub use axis::{Axis, Choice};
 pub use error::{
-    AssignmentError, AxisError, GridError, KeyError, PlaceError, ReadError, SeedsError, ShardError, TextError,
+    AssignmentError, AxisError, GridError, KeyError, PlaceError, ReadError, SeedsError, ShardError,
+    TextError,
 };
 pub use file_key::FileKey;
 pub use grid::Grid;

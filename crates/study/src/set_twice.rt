@@ -10,10 +10,7 @@ use crate::key::{Key, first_again};
 use std::alloc::{AllocError, Global};
 
 /// Adds the keys of assignments.
-fn add_assigned<'a>(
-    all: &mut Vec<&'a Key>,
-    assignments: &'a [Assignment],
-) -> Result<(), AllocError>
+fn add_assigned<'a>(all: &mut Vec<&'a Key>, assignments: &'a [Assignment]) -> Result<(), AllocError>
     ensures { OnOk result (map (λ k. path_of k.now) all.new.items
         ≡ map (λ k. path_of k.now) all.old.items ++ map (λ a. path_of a.key) assignments.now) }
 {
