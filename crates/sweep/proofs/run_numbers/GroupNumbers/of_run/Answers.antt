@@ -3,7 +3,7 @@ use Rattle.reporting.specs.Measures.{layer_measures}
 use Rattle.reporting.specs.declared.durations.RunDurations.{RunDurations}
 use Rattle.sweep.proofs.Layered.{has_first, has_second}
 use Rattle.sweep.proofs.Parts.{alone, shared, first_alone, both_layers, half}
-use Rattle.sweep.proofs.run_numbers.RunNumbers.of_run.Goals as goal
+use Rattle.sweep.proofs.run_numbers.GroupNumbers.of_run.Goals as goal
 
 layer_found : (S : Record) (f : RunFindings) (d : RunDurations) (found : MeasuresRun S f d) → IsInRange S → (layer : ℕ) (v : Verdicts) (pairs : List PairMeasures)
     → v ≡ verdicts S found.trace layer → pairs ≡ layer_measures S found.trace layer → AreLayerFindings layer S found.trace f.summary v pairs
@@ -24,7 +24,7 @@ returns-in-None c found =
     record {
       first = c.in_ok-first-in-None.ensures found.trace (has_first S) (layer_found S f c.args.durations.now found c.is_shared-shared.ensures.ranges 1 f.first c.deref.result.now
           found.measured.first (c.deref.ensures.value ∙ first_alone S found.trace f found.measured c.in-None.is)) found.lasted.first;
-      second = c.of_nothing-second.ensures.none refl 2 (done_run S found.trace) (has_second S ∙ alone S found.trace f found.measured c.in-None.is);
+      second = c.of_nothing-second.ensures.none refl c.args.group.now 2 (done_run S found.trace) (has_second S ∙ alone S found.trace f found.measured c.in-None.is);
     }
 
 pub returns : goal.returns
