@@ -1,5 +1,5 @@
 -- Groups of pairs, one after the other: their numbers, their sums and their rows.
-use Rattle.sweep.proofs.Words.{◌≡◌, ℕ, zero, suc, ◌+◌, ◌<◌, ◌≤◌, List, [], ◌∷◌, ◌++◌, length, min, take, get_or, refl, sym, ap, ◌∙◌, subst, arith, append-nil, append_assoc, AllZip, flat_map, take-length, take_more, flat_map-append, GridRecord, LayoutRecord, Trial, Text, lead_of, AddsOneMore, AreGroupNumbers, AreSums, AreRowsOfGroup, most_runs, Group, GroupNumbers, UnitSums}
+use Rattle.sweep.proofs.Words.{◌≡◌, ℕ, zero, suc, ◌+◌, ◌<◌, ◌≤◌, ⊎_elim, List, [], ◌∷◌, ◌++◌, length, min, set, take, get_or, get_or_default, get_or-set_other, get_or-set_same, length-set, cases_lt, refl, sym, ap, ◌∙◌, subst, arith, append-nil, append_assoc, AllZip, flat_map, take-length, take_more, flat_map-append, GridRecord, LayoutRecord, Trial, Text, lead_of, AddsOneMore, AreGroupNumbers, AreSums, AreRowsOfGroup, most_runs, Group, GroupNumbers, UnitSums}
 use Rattle.std.proofs.lemmas.Slice.Zip.{AllZip-long}
 use Rattle.sweep.specs.Fields.{AddsRowsOfGroup, AddsRowsOfSums, text_of}
 use Rattle.sweep.specs.declared.point_sums.PointSums.{PointSums}
@@ -24,6 +24,13 @@ module _ {A B : Type 0} (R : A → B → Type 0) where
       let Q : A → Type 0 = λ z. R z y in
       subst P (sym (take_more xs i x lt)) (zip_push R (take i xs) ys (get_or xs i x) y zip (subst Q is r))
 
+  -- of all of it
+  pub zip_all : (xs : List A) (ys : List B) (i : ℕ) → i ≤ length xs → length xs ≤ i → AllZip R (take i xs) ys → AllZip R xs ys
+  zip_all xs ys i low high zip =
+      let P : List A → Type 0 = λ l. AllZip R l ys in
+      let whole : i ≡ length xs = omega (arith, low, high) in
+      subst P (ap (λ n. take n xs) whole ∙ take-length xs) zip
+
 -- ---- one more run
 
 -- with a run the sums of each group below a place are added up, and the others are as they were
@@ -31,6 +38,33 @@ pub record AreAddedBelow (place : ℕ) (numbers : List GroupNumbers) (old new : 
   pub long : length new ≡ length old
   pub below : (k : ℕ) (n : GroupNumbers) (s t : PointSums) → k < place → AddsOneMore (get_or numbers k n) (get_or old k s) (get_or new k t)
   pub above : (k : ℕ) (s : PointSums) → place ≤ k → get_or new k s ≡ get_or old k s
+
+-- one group more
+pub added_more : (place : ℕ) (numbers : List GroupNumbers) (old now : List PointSums) (n : GroupNumbers) (s t : PointSums)
+    → place < length numbers → place < length old → n ≡ get_or numbers place n → s ≡ get_or now place s → AddsOneMore n s t
+    → AreAddedBelow place numbers old now → AreAddedBelow (place + 1) numbers old (set now place t)
+added_more place numbers old now n s t in_numbers in_old n_is s_is adds was =
+    let in_now : place < length now = omega (arith, in_old, was.long) in
+    let Q : ℕ → Type 0 = λ k. (m : GroupNumbers) (u v : PointSums) → AddsOneMore (get_or numbers k m) (get_or old k u) (get_or (set now place t) k v) in
+    let here : Q place =
+    λ m u v.
+    let new : get_or (set now place t) place v ≡ t = get_or-set_same now place t v in_now in
+    let its : get_or old place u ≡ s = get_or_default old place u s in_old ∙ sym (s_is ∙ was.above place s (omega arith)) in
+    let is : get_or numbers place m ≡ n = get_or_default numbers place m n in_numbers ∙ sym n_is in
+    rw (new, its, is) adds in
+    record {
+      long = length-set now place t ∙ was.long;
+      below = λ k m u v lt.
+          ⊎_elim
+          (λ (low : k < place).
+          let other : get_or (set now place t) k v ≡ get_or now k v = get_or-set_other now place k t v (λ e. omega (arith, e, low)) in
+          rw other (was.below k m u v low))
+          (λ (high : place ≤ k).
+          let same : place ≡ k = omega (arith, high, lt) in
+          subst Q same here m u v)
+          (cases_lt k place);
+      above = λ k u le. get_or-set_other now place k t u (λ e. omega (arith, e, le)) ∙ was.above k u (omega (arith, le));
+    }
 
 module _ (first : ℕ) (trials : List Trial) (trial : Trial) (few : length trials < most_runs) where
   pub all_added : (groups : List Group) (old new : List PointSums) (numbers : List GroupNumbers)

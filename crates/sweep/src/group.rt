@@ -1,5 +1,6 @@
 //! Groups of pairs of processes: which pairs a row counts.
 ghost use Rattle.std.specs.Prelude.{◌≡◌, IfOk};
+ghost use Rattle.std.specs.List.{list_any};
 ghost use Rattle.sweep.specs.Groups.{groups_of, has_pair, is_above, is_among, is_block_above, is_in, is_of_block};
 ghost use Rattle.sweep.specs.Groups.{is_said, names_above};
 
@@ -104,7 +105,7 @@ impl Group {
     }
 
     /// Whether a word says it.
-    pub(crate) fn is_said(&self) -> bool
+    fn is_said(&self) -> bool
         ensures { result ≡ is_said self.now }
     {
         match self {
@@ -119,11 +120,18 @@ pub(crate) fn groups_of(alloc: Global, said: Vec<PairGroup>) -> Result<Vec<Group
     ensures { IfOk result (λ groups. groups.items ≡ groups_of said.items) }
 {
     let mut groups = Vec::new(alloc);
-    if said.is_empty() {
-        groups.push(Group::All)?;
-    }
     for group in said {
         groups.push(Group::Said(group))?;
     }
+    if groups.is_empty() {
+        groups.push(Group::All)?;
+    }
     Ok(groups)
+}
+
+/// Whether one of the groups is said by a word.
+pub(crate) fn are_any_said(groups: &[Group]) -> bool
+    ensures { result ≡ list_any is_said groups.now }
+{
+    groups.iter().any(|group| group.is_said())
 }

@@ -8,7 +8,7 @@ ghost use Rattle.sweep.specs.StudyText.{lead_names, names_of as names_in};
 
 use crate::column_table::columns_of;
 use crate::columns::Columns;
-use crate::group::Group;
+use crate::group::{Group, are_any_said};
 use crate::layout::Rows;
 use std::alloc::{AllocError, Global};
 use study::{Axis, Choice, Grid, Key};
@@ -106,7 +106,7 @@ fn push_group_names(
     ensures { OnOk result (map string_bytes names.new.items
         ≡ map string_bytes names.old.items ++ group_names groups.now) }
 {
-    if groups.iter().any(|group| group.is_said()) {
+    if are_any_said(groups) {
         push_names(alloc, names, &["pairs"])
     } else {
         Ok(())

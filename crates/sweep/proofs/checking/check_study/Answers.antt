@@ -7,12 +7,12 @@ pub returns-clause-ok : goal.returns-clause-ok
 returns-clause-ok g c =
     IfOk-weaker c.check_runs-answer.result _ _
     (λ u all. are_ready (table_view c.args.file.now) c.args.grid.now c.args.shard c.points_of-begin.result.0 c.points_of-begin.result.1 c.points_of-begin.ensures.numbers c.args.layout.now.groups all)
-    c.check_runs-answer.ensures.ok
+    (rw c.groups.ensures at c.check_runs-answer.ensures.ok)
 
 pub returns-clause-err : goal.returns-clause-err
 returns-clause-err g c =
     let some : 1 ≤ length (runs c.args.grid.now) = omega (arith, c.runs-runs.ensures.value, c.runs-runs.ensures.low) in
-    MatchResult-weaker c.check_runs-answer.result c.check_runs-answer.ensures.err (λ u h. h)
+    MatchResult-weaker c.check_runs-answer.result (rw c.groups.ensures at c.check_runs-answer.ensures.err) (λ u h. h)
     (λ e first. cant_be_run (table_view c.args.file.now) c.args.grid.now c.args.shard c.points_of-begin.result.0 c.points_of-begin.result.1 c.points_of-begin.ensures.numbers c.args.layout.now.groups e some first)
 
 pub returns-clause-heard : goal.returns-clause-heard

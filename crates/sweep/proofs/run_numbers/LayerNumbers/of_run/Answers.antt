@@ -22,6 +22,6 @@ returns c trace has found lasted =
           ∙ lasted_of group S trace layer c.args.durations.now lasted
           ∙ sym (durations_one group layer S trace has);
       detections = c.in_ok-detections.ensures ∙ ap times_of (c.deref-3.ensures.value ∙ counted ∙ ap (counted_of group layer S) found.measured) ∙ sym (detections_one group layer S trace has);
-      last_decision = ap (λ o. cons_option o []) (c.last_decision.ensures (deciding_of S os) decisions ∙ ap (λ l. last_decision (deciding_of S l)) found.summed.decided) ∙ sym (decisions_one layer S trace has);
-      top_round = ap (λ o. cons_option o []) (c.top_round.ensures ∙ ap top_round (c.deref-6.ensures.value ∙ found.summed.decided)) ∙ sym (rounds_one layer S trace has);
+      last_decision = ap (λ o. cons_option o []) (c.last_decision.ensures (deciding_of S os) decisions ∙ ap (λ l. last_decision (deciding_of S l)) found.summed.decided) ∙ sym (decisions_one group layer S trace has);
+      top_round = ap (λ o. cons_option o []) (c.top_round.ensures ∙ ap top_round (c.deref-6.ensures.value ∙ found.summed.decided)) ∙ sym (rounds_one group layer S trace has);
     }
