@@ -9,7 +9,7 @@ use Rattle.study_commands.specs.File.{AreBytes}
 use Rattle.study_commands.specs.Sweep.{IsSaid}
 use Rattle.study_line.specs.declared.order.StudyTexts.{StudyTexts}
 use Rattle.sweep.specs.Layout.{LayoutRecord}
-use Rattle.sweep.specs.Outcome.{HaveScenarios}
+use Rattle.sweep.specs.Outcome.{AreReady}
 use Rattle.sweep.specs.StudyText.{numbers_of}
 use Rattle.scenario_record.specs.Record.{Record}
 use Rattle.scenario.specs.Refusals.{Accepts}
@@ -57,7 +57,7 @@ abbrev pub study_begin : (points runs : ℕ) → List ℕ
 study_begin points runs =
     codes "ok: " ++ (decimal points ++ (codes " points of " ++ (decimal runs ++ codes " runs each")))
 
--- all runs of the study that can be swept have a scenario, of the shard's points where one is named, and the text
+-- all runs of the study that can be swept can be run, of the shard's points where one is named, and the text
 -- begins with how many points and runs these are. What is reckoned of them, and of their limits, isn't said
 pub record IsStudyCheck (input : Option (List ℕ)) (path : List ℕ) (study : StudyTexts) (piece : List ℕ) : Type 0 where
   pub file : Members
@@ -65,6 +65,6 @@ pub record IsStudyCheck (input : Option (List ℕ)) (path : List ℕ) (study : S
   pub shard : ShardRecord
   pub layout : LayoutRecord
   pub said : IsSaid input path study file grid shard layout
-  pub each : HaveScenarios file grid shard
+  pub each : AreReady file grid layout.groups shard
   pub reckoned : List ℕ
   pub text : piece ≡ study_begin (length (numbers_of grid shard)) (length (runs grid)) ++ reckoned

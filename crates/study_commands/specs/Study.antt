@@ -1,5 +1,5 @@
 -- Which study the words of a command line say.
-use Rattle.std.specs.Prelude.{◌≡◌, ℕ, List, map, Option, Some, None, option_map}
+use Rattle.std.specs.Prelude.{◌≡◌, ℕ, List, [], map, Option, Some, None, option_map}
 use Rattle.std.specs.List.{AllZip}
 use Rattle.study.specs.AxisWords.{SaysAxis}
 use Rattle.study.specs.Grid.{GridRecord, NoneApplies, grid_of}
@@ -12,6 +12,7 @@ use Rattle.study_line.specs.declared.order.Each.{Each}
 use Rattle.study_line.specs.declared.order.Each.TheVariants as each
 use Rattle.study_line.specs.declared.order.GridTexts.{GridTexts}
 use Rattle.study_line.specs.declared.order.StudyTexts.{StudyTexts}
+use Rattle.sweep.specs.Groups.{groups_of}
 use Rattle.sweep.specs.Layout.{ArePicks, LayoutRecord}
 use Rattle.sweep.specs.StudyText.{names_of}
 use Rattle.sweep.specs.declared.layout.Rows.{Rows}
@@ -48,7 +49,8 @@ abbrev pub rows_for : Each → Rows
 rows_for each.Point = rows.Points
 rows_for each.Run = rows.Runs
 
--- the layout has such rows, with the columns that a word names, and with all where there is no word
+-- the layout has such rows, which count all pairs, with the columns that a word names, and with all where there is no word
 pub record IsLayout (kind : Each) (columns : Option Word) (g : GridRecord) (l : LayoutRecord) : Type 0 where
   pub rows_are : l.rows ≡ rows_for kind
-  pub picks_are : ArePicks (names_of (rows_for kind) g) columns l.picks
+  pub groups_are : l.groups ≡ groups_of []
+  pub picks_are : ArePicks (names_of (rows_for kind) (groups_of []) g) columns l.picks

@@ -52,10 +52,12 @@ GoesForSweep told failed old new input path study outcome =
 -- the fault of a sweep that breaks off: of a run that is refused its line isn't said
 abbrev pub IsFaultOf : SweepError → Fault → Type 0
 IsFaultOf (error.Refused point run reason) f = IsRefusal f
+IsFaultOf (error.NoSuchProcess point run group processes) f = IsRefusal f
 IsFaultOf error.Memory f = f ≡ Memory
 IsFaultOf error.Write f = f ≡ Write
 
 -- an error that tells of a run tells of one of the study
 abbrev pub IsOfRun : GridRecord → SweepError → Type 0
 IsOfRun g (error.Refused point run reason) = (point < length (points g)) × (run < length (runs g))
+IsOfRun g (error.NoSuchProcess point run group processes) = (point < length (points g)) × (run < length (runs g))
 IsOfRun g _ = Unit {0}

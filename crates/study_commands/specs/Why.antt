@@ -6,7 +6,7 @@ use Rattle.study_commands.specs.File.{IsTable}
 use Rattle.study_commands.specs.Refusal.{IsNoTable, IsOfFile}
 use Rattle.study_commands.specs.Runs.{StopsLetters}
 use Rattle.study_commands.specs.Show.{IsPlace}
-use Rattle.study_commands.specs.Study.{IsGrid, IsShardOf, columns_word, shard_word}
+use Rattle.study_commands.specs.Study.{IsGrid, IsLayout, IsShardOf, columns_word, shard_word}
 use Rattle.study_commands.specs.WordRefusals.{IsOutside, LacksColumn, SaysNoGrid, SaysNoShard}
 use Rattle.study_commands.specs.declared.fault.Fault.{Fault}
 use Rattle.study_commands.specs.declared.fault.Fault.TheVariants.{Memory, Refused, Words, WordsMemory, Write}
@@ -15,14 +15,15 @@ use Rattle.study.specs.Placed.{table_of_run}
 use Rattle.study.specs.Runs.{HasNoText, is_text_memory}
 use Rattle.study.specs.Shard.{ShardRecord}
 use Rattle.study.specs.declared.error.PlaceError.{PlaceError}
-use Rattle.study.specs.declared.error.ReadError.{ReadError}
 use Rattle.study.specs.declared.error.TextError.{TextError}
 use Rattle.study_line.specs.declared.order.GridTexts.{GridTexts}
 use Rattle.study_line.specs.declared.order.StudyTexts.{StudyTexts}
 use Rattle.study_line.specs.declared.order.Order.{Order}
 use Rattle.study_line.specs.declared.order.Order.TheVariants as order
-use Rattle.sweep.specs.Outcome.{IsFirstRefused}
+use Rattle.sweep.specs.Layout.{LayoutRecord}
+use Rattle.sweep.specs.Outcome.{IsFirstUnready}
 use Rattle.sweep.specs.StudyText.{point_at, run_at}
+use Rattle.sweep.specs.declared.error.SweepError.{SweepError}
 use Rattle.toml.specs.Data.{Members}
 
 -- a command over a study stops for its words, for its file or a run of it, for want of memory or at a failed write
@@ -76,7 +77,7 @@ module _ (input : Option (List ℕ)) (path : List ℕ) where
       StopsShow = IsOfStudy NamesNoRun (λ line. IsNoTable input path line ⊎ IsUnshown)
 
   module _ (study : StudyTexts) where
-    -- a run of the study is refused, of the shard's where one is named, and none before it
+    -- a run of the study can't be run, of the shard's where one is named, and each before it can
     pub record HasRefusedRun : Type 0 where
       pub file : Members
       pub is_file : IsTable input path file
@@ -86,8 +87,10 @@ module _ (input : Option (List ℕ)) (path : List ℕ) where
       pub is_shard : IsShardOf (shard_word study) shard
       pub point : ℕ
       pub run : ℕ
-      pub reason : ReadError
-      pub first : IsFirstRefused file grid shard point run reason
+      pub layout : LayoutRecord
+      pub is_layout : IsLayout study.each (columns_word study) grid layout
+      pub reason : SweepError
+      pub first : IsFirstUnready file grid layout.groups shard point run reason
 
     -- a command over a study and its file stops for words, for the file or for a run
     abbrev pub StopsRuns : (OfWords : Type 0) → Fault → Type 0

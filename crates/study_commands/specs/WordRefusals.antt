@@ -1,5 +1,5 @@
 -- Why words of a study are refused.
-use Rattle.std.specs.Prelude.{◌≡◌, ◌⊎◌, ◌<◌, ℕ, List, map, Bool, true, false, Option, Some}
+use Rattle.std.specs.Prelude.{◌≡◌, ◌⊎◌, ◌<◌, ℕ, List, [], map, Bool, true, false, Option, Some}
 use Rattle.std.specs.List.{AllZip, Contains}
 use Rattle.study.specs.AxisWords.{SaysAxis, SaysNoAxis, is_memory as is_axis_memory}
 use Rattle.study.specs.Grid.{GridRecord, IsFirst, is_memory as is_grid_memory}
@@ -14,6 +14,7 @@ use Rattle.study.specs.declared.error.ShardError.{ShardError}
 use Rattle.study_commands.specs.Study.{rows_for}
 use Rattle.study_line.specs.declared.order.Each.{Each}
 use Rattle.study_line.specs.declared.order.GridTexts.{GridTexts}
+use Rattle.sweep.specs.Groups.{groups_of}
 use Rattle.sweep.specs.Layout.{IsNoLayout}
 use Rattle.sweep.specs.StudyText.{names_of}
 use Rattle.sweep.specs.declared.error.LayoutError.{LayoutError}
@@ -67,7 +68,7 @@ pub record SaysNoShard (word : Option Word) : Type 0 where
 pub record LacksColumn (kind : Each) (columns : Option Word) (grid : GridRecord) : Type 0 where
   pub reason : LayoutError
   pub other : is_layout_memory reason ≡ false
-  pub is : IsNoLayout (names_of (rows_for kind) grid) columns reason
+  pub is : IsNoLayout (names_of (rows_for kind) (groups_of []) grid) columns reason
 
 -- what counts from 1 isn't among so many
 abbrev pub IsOutside : (number count : ℕ) → Type 0

@@ -27,6 +27,24 @@ fn reason_of(
     }
 }
 
+/// The line of a run of a point, both from 0, that has only so many processes, below one that a group of pairs names.
+pub(crate) fn line_of_lack(
+    alloc: Global,
+    path: &str,
+    grid: &Grid,
+    point: u64,
+    run: u64,
+    processes: u16,
+) -> Result<String, AllocError>
+    requires point { point < length (points grid.now) }
+    requires run { run < length (runs grid.now) }
+{
+    let name = name_of_run(alloc, grid, point, run)?;
+    let text = format!(in alloc; "{path}: {name}: NoSuchProcess: its processes are 1 to {processes}")?;
+    let text = Printable(text.as_str());
+    format!(in alloc; "{text}\n")
+}
+
 /// The line of a run that is refused, of a point, both from 0: its numbers from 1, its settings, and the reason.
 pub(crate) fn line_of_run(
     alloc: Global,

@@ -107,9 +107,11 @@ pub(crate) fn serve_study_check<R: Files + Threads + Sync + Clock, I: Read, W: W
     ensures untouched { path.now ≢ input_path → input.new ≡ input.old }
     ensures hidden { W.shows watcher.old ≡ false → W.shows watcher.new ≡ false }
 {
-    let (file, grid, shard, _layout) = said_over(rt, alloc, path, study, input)?;
+    let (file, grid, shard, layout) = said_over(rt, alloc, path, study, input)?;
     let threads = threads_for(rt, study.threads);
-    match check_study(rt, alloc, &file, &grid, shard, threads, watcher) {
+    match check_study(
+        rt, alloc, &file, &grid, shard, &layout, threads, watcher,
+    ) {
         Ok(()) => Ok(text_of(rt, alloc, &file, &grid, shard, threads)?.into_bytes()),
         Err(error) => Err(fault_of(alloc, path, &file, &grid, &error)),
     }

@@ -10,7 +10,7 @@ ghost use Rattle.shell.specs.Input.{TakesAtMost, input_path, most_bytes};
 
 use crate::fault::Fault;
 use crate::file::table_of;
-use crate::refused_run::line_of_run;
+use crate::refused_run::{line_of_lack, line_of_run};
 use crate::study_words::{grid_of, shard_of};
 use printable::Printable;
 use reporting::Outlet;
@@ -55,6 +55,12 @@ pub(crate) fn fault_of(
             let line = line_of_run(alloc, path, file, grid, *point, *run);
             Fault::Refused(line.ok())
         }
+        SweepError::NoSuchProcess {
+            point,
+            run,
+            processes,
+            ..
+        } => Fault::Refused(line_of_lack(alloc, path, grid, *point, *run, *processes).ok()),
         SweepError::Memory => Fault::Memory,
         SweepError::Write => Fault::Write,
     }
@@ -90,7 +96,9 @@ fn layout_of(alloc: Global, grid: &Grid, each: Each, columns: Option<&str>) -> R
     ensures layout { IfOk result (IsLayout each (option_map (λ w. w.now) columns.entry) grid.now) }
     ensures refused { IfErr result (IsOfWordsFor (LacksColumn each (option_map (λ w. w.now) columns.entry) grid.now)) }
 {
-    Layout::new(alloc, grid, rows_of(each), columns).map_err(|error| layout_fault(alloc, &error))
+    let groups = Vec::new(alloc);
+    Layout::new(alloc, grid, rows_of(each), groups, columns)
+        .map_err(|error| layout_fault(alloc, &error))
 }
 
 /// The study that words say of the file at a path, `-` being the input: the file's table, the grid, the shard and the

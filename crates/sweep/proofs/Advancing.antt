@@ -1,8 +1,7 @@
 -- How a sweep comes on: one more run is in, and one more unit's rows went out.
-use Rattle.sweep.proofs.Words.{◌≡◌, ℕ, zero, suc, ◌+◌, ◌-◌, ◌*◌, ◌/◌, ◌%◌, ◌≤◌, ◌<◌, List, [], ◌∷◌, ◌++◌, length, take, get_or, Option, refl, sym, ap, ◌∙◌, subst, arith, append-nil, AllZip, flat_map, range_with_len, take-length, flat_map-append, take_more, length-take, Members, Wrote, WrotePart, wrote_both, wrote_then_part, GridRecord, RunRecord, runs, LayoutRecord, runs_each, AreNumbersAt, AreNumbersFrom, Trial, Text, point_at, run_at, unit_point, unit_run, unit_runs, unit_first, IsTrialOf, AreRowsOf, HasRowsOf, AreAdded, WroteUpTo, WroteFrontUpTo, next_run, AreNumbers, AreSums, AddsOneMore, Rows, RunNumbers}
+use Rattle.sweep.proofs.Words.{◌≡◌, ℕ, zero, suc, ◌+◌, ◌-◌, ◌*◌, ◌/◌, ◌%◌, ◌≤◌, ◌<◌, List, [], ◌∷◌, ◌++◌, length, take, get_or, Option, refl, sym, ap, ◌∙◌, subst, arith, append-nil, AllZip, flat_map, range_with_len, take-length, flat_map-append, take_more, length-take, Members, Wrote, WrotePart, wrote_both, wrote_then_part, GridRecord, RunRecord, runs, LayoutRecord, runs_each, AreNumbersAt, AreNumbersFrom, Trial, Text, point_at, run_at, unit_point, unit_run, unit_runs, unit_first, IsTrialOf, AreRowsOf, HasRowsOf, AreAdded, WroteUpTo, WroteFrontUpTo, next_run, AreNumbers, AreUnitSums, AddsRun, Group, Rows, RunNumbers, UnitSums}
 use Rattle.sweep.specs.Fields.{AreRowsOfSums}
 use Rattle.sweep.specs.declared.layout.Rows.TheVariants as kind
-use Rattle.sweep.specs.declared.point_sums.PointSums.{PointSums}
 use Rattle.sweep.specs.declared.progress.Progress.{Progress}
 use Rattle.sweep.proofs.Numbered.{run_is, point_is, runs_length}
 use Rattle.sweep.proofs.Zipped.{zip_push, range_more}
@@ -11,8 +10,8 @@ use Rattle.std.proofs.lemmas.Slice.Zip.{AllZip-long}
 module _ (file : Members) (g : GridRecord) (layout : LayoutRecord) where
   -- what became of the run of a number
   pub trial_here : (unit run number : ℕ) (n : RunNumbers) → run < runs_each layout.rows g
-      → unit * runs_each layout.rows g + run ≡ number → AreNumbersAt file g number n
-      → (t : Trial) × IsTrialOf file (point_at g (unit_point layout.rows g unit)) (unit_run layout.rows g unit run) t × AreNumbers t n
+      → unit * runs_each layout.rows g + run ≡ number → AreNumbersAt file g layout.groups number n
+      → (t : Trial) × IsTrialOf file (point_at g (unit_point layout.rows g unit)) (unit_run layout.rows g unit run) t × AreNumbers layout.groups t n
   trial_here unit run number n low is at = (at.trial, by layout.rows low is, at.numbers)
     where
       by : (k : Rows) → run < runs_each k g → unit * runs_each k g + run ≡ number
@@ -35,8 +34,8 @@ module _ (file : Members) (g : GridRecord) (layout : LayoutRecord) where
 
   -- what became of the next run joins what became of the first of its unit
   pub next_trial : (unit run : ℕ) (trials : List Trial) (n : RunNumbers) → AreFirst unit run trials → run < runs_each layout.rows g
-      → AreNumbersFrom file g (unit * runs_each layout.rows g + run) (n ∷ [])
-      → (t : Trial) × AreNumbers t n × AreFirst unit (run + 1) (trials ++ t ∷ [])
+      → AreNumbersFrom file g layout.groups (unit * runs_each layout.rows g + run) (n ∷ [])
+      → (t : Trial) × AreNumbers layout.groups t n × AreFirst unit (run + 1) (trials ++ t ∷ [])
   next_trial unit run trials n first low numbers =
       let all : List RunRecord = unit_runs layout.rows g unit in
       let R : RunRecord → Trial → Type 0 = IsTrialOf file (point_at g (unit_point layout.rows g unit)) in
@@ -49,22 +48,22 @@ module _ (file : Members) (g : GridRecord) (layout : LayoutRecord) where
       )
 
   -- the next run is added up with the first of its unit
-  pub record IsAddedTo (p : Progress) (sums : PointSums) : Type 0 where
+  pub record IsAddedTo (p : Progress) (sums : UnitSums) : Type 0 where
     pub trials : List Trial
     pub each : AreFirst p.unit (p.run + 1) trials
-    pub summed : AreSums (unit_first layout.rows g p.unit) trials sums
+    pub summed : AreUnitSums layout.groups (unit_first layout.rows g p.unit) trials sums
 
-  pub added_to : (p : Progress) (n : RunNumbers) (sums : PointSums) → AddsOneMore n p.sums sums → runs_each layout.rows g ≤ 1000000000000
-      → AreNumbersFrom file g (next_run g layout p) (n ∷ []) → AreAdded file g layout p → IsAddedTo p sums
+  pub added_to : (p : Progress) (n : RunNumbers) (sums : UnitSums) → AddsRun n p.sums sums → runs_each layout.rows g ≤ 1000000000000
+      → AreNumbersFrom file g layout.groups (next_run g layout p) (n ∷ []) → AreAdded file g layout p → IsAddedTo p sums
   added_to p n sums more high numbers was =
       let all : List RunRecord = unit_runs layout.rows g p.unit in
       let t = next_trial p.unit p.run was.trials n was.each was.run_low numbers in
       let few : length was.trials < 1000000000000 =
       omega (arith, AllZip-long (IsTrialOf file (point_at g (unit_point layout.rows g p.unit))) (take p.run all) was.trials was.each, length-take p.run all, runs_length layout.rows g p.unit, was.run_low, high) in
-      record { trials = was.trials ++ t.0 ∷ []; each = t.2; summed = more (unit_first layout.rows g p.unit) was.trials t.0 few was.summed t.1 }
+      record { trials = was.trials ++ t.0 ∷ []; each = t.2; summed = more layout.groups (unit_first layout.rows g p.unit) was.trials t.0 few was.summed t.1 }
 
   -- and that is the unit's last
-  pub rows_added : (p : Progress) (sums : PointSums) (rows : Text) → IsAddedTo p sums → p.run + 1 ≡ runs_each layout.rows g
+  pub rows_added : (p : Progress) (sums : UnitSums) (rows : Text) → IsAddedTo p sums → p.run + 1 ≡ runs_each layout.rows g
       → AreRowsOfSums layout g p.unit sums rows → AreRowsOf file g layout p.unit rows
   rows_added p sums rows added is told =
       let all : List RunRecord = unit_runs layout.rows g p.unit in
@@ -127,9 +126,9 @@ module _ (file : Members) (g : GridRecord) (layout : LayoutRecord) where
       }
 
 -- of some numbers that follow one another one alone
-pub one_of : (file : Members) (g : GridRecord) (first : ℕ) (all : List RunNumbers) (i : ℕ) (n : RunNumbers) (next : ℕ) → i < length all
-    → n ≡ get_or all i n → next ≡ first + i → AreNumbersFrom file g first all → AreNumbersFrom file g next (n ∷ [])
-one_of file g first all i n next lt is same numbers zero d low =
-    let P : ℕ → Type 0 = λ m. AreNumbersAt file g m n in
-    subst P (omega (arith, same)) (subst (AreNumbersAt file g (first + i)) (sym is) (numbers i n lt))
-one_of file g first all i n next lt is same numbers (suc k) d low = absurd (omega (arith, low))
+pub one_of : (file : Members) (g : GridRecord) (groups : List Group) (first : ℕ) (all : List RunNumbers) (i : ℕ) (n : RunNumbers) (next : ℕ) → i < length all
+    → n ≡ get_or all i n → next ≡ first + i → AreNumbersFrom file g groups first all → AreNumbersFrom file g groups next (n ∷ [])
+one_of file g groups first all i n next lt is same numbers zero d low =
+    let P : ℕ → Type 0 = λ m. AreNumbersAt file g groups m n in
+    subst P (omega (arith, same)) (subst (AreNumbersAt file g groups (first + i)) (sym is) (numbers i n lt))
+one_of file g groups first all i n next lt is same numbers (suc k) d low = absurd (omega (arith, low))

@@ -5,18 +5,7 @@ use Rattle.trace_laws.proofs.Closed.{one_trace}
 use Rattle.study.specs.Placed.{table_of_run}
 use Rattle.study.specs.Runs.{IsScenarioOf}
 use Rattle.study.specs.declared.error.PlaceError.{PlaceError}
-use Rattle.sweep.proofs.OneRow.{one_rows_for}
-
--- lists in step with one list are one, where what stands in step with anything is one
-one_list : {A B : Type 0} (R : A → B → Type 0) → ((x : A) (y z : B) → R x y → R x z → y ≡ z)
-    → (xs : List A) (ys zs : List B) → AllZip R xs ys → AllZip R xs zs → ys ≡ zs
-one_list R one [] [] [] a b = refl
-one_list R one [] [] (z ∷ zs) a b = absurd b
-one_list R one [] (y ∷ ys) zs a b = absurd a
-one_list R one (x ∷ xs) [] zs a b = absurd a
-one_list R one (x ∷ xs) (y ∷ ys) [] a b = absurd b
-one_list R one (x ∷ xs) (y ∷ ys) (z ∷ zs) a b =
-    ap (λ u. u ∷ ys) (one x y z a.0 b.0) ∙ ap (λ l. z ∷ l) (one_list R one xs ys zs a.1 b.1)
+use Rattle.sweep.proofs.OneRow.{one_list, one_rows_for}
 
 one_scenario : (r : Result Members PlaceError) (S T : Record) → IsScenarioOf r S → IsScenarioOf r T → S ≡ T
 one_scenario (Ok t) S T a b = a.1 ∙ sym b.1
@@ -45,8 +34,8 @@ module _ (file : Members) (g : GridRecord) (layout : LayoutRecord) where
       let lead : List Text = lead_of layout.rows g unit in
       let first : ℕ = unit_first layout.rows g unit in
       let same = one_list (IsTrialOf file settings) (one_trial file settings) (unit_runs layout.rows g unit) x.trials y.trials x.each y.each in
-      let P : List Trial → Type 0 = λ l. AreRowsFor layout.picks lead first l b in
-      one_rows_for layout.picks lead first x.trials a b x.told (subst P (sym same) y.told)
+      let P : List Trial → Type 0 = λ l. AreRowsFor layout.picks lead layout.groups first l b in
+      one_rows_for layout.picks lead first x.trials layout.groups a b x.told (subst P (sym same) y.told)
 
   all_rows_one : (units : List ℕ) (a b : Text) → HasRowsOf file g layout units a → HasRowsOf file g layout units b → a ≡ b
   all_rows_one units a b x y =

@@ -21,7 +21,7 @@ module _ (file : Members) (g : GridRecord) (layout : LayoutRecord) where
     shard number = record { number = number; of = of }
 
     no_header : (number : ℕ) → 2 ≤ number → header_of g (shard number) layout ≡ []
-    no_header number high = ap (λ b. cond b (header_text layout.picks (names_of layout.rows g)) []) (ne_eqb number 1 (λ e. omega (arith, e, high)))
+    no_header number high = ap (λ b. cond b (header_text layout.picks (names_of layout.rows layout.groups g)) []) (ne_eqb number 1 (λ e. omega (arith, e, high)))
 
     -- the texts of shards that aren't the first have rows alone
     later : (a n : ℕ) (texts : List Text) → 2 ≤ a → AllZip (λ number text. IsStudyText file g (shard number) layout text) (range_with_len a n) texts

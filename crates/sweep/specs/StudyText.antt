@@ -8,9 +8,11 @@ use Rattle.study.specs.Placed.{table_of_run}
 use Rattle.study.specs.Runs.{IsScenarioOf}
 use Rattle.study.specs.Shard.{ShardRecord, block}
 use Rattle.sweep.specs.ColumnTable.{column_names}
+use Rattle.sweep.specs.Groups.{group_names}
 use Rattle.sweep.specs.Layout.{LayoutRecord}
 use Rattle.sweep.specs.Results.{Trial, IsTrial}
 use Rattle.sweep.specs.RowText.{Text, header_text, AreRowsFor}
+use Rattle.sweep.specs.declared.group.Group.{Group}
 use Rattle.sweep.specs.declared.layout.Rows.{Rows}
 use Rattle.sweep.specs.declared.layout.Rows.TheVariants as kind
 
@@ -60,8 +62,8 @@ unit_first kind.Runs g run = run % length (runs g) + 1
 abbrev pub unit_run : Rows → GridRecord → (unit run : ℕ) → RunRecord
 unit_run rows g unit run = get_or (unit_runs rows g unit) run (record { settings = []; seed = 0 })
 
--- ---- what a row begins with: what the varied keys are set to; and before a run what its own keys are set to, its
--- ---- seed and its number
+-- ---- what a row begins with, before its group's word: what the varied keys are set to; and of a run what its own
+-- ---- keys are set to, its seed and its number
 
 abbrev pub values : List Chosen → List Text
 values settings = map (λ s. given_text s.value) settings
@@ -84,14 +86,14 @@ abbrev pub lead_names : Rows → GridRecord → List Text
 lead_names kind.Points g = map key_text (keys g)
 lead_names kind.Runs g = map key_text (keys g) ++ map key_text (run_keys g) ++ codes "seed" ∷ codes "run" ∷ []
 
-abbrev pub names_of : Rows → GridRecord → List Text
-names_of rows g = lead_names rows g ++ column_names
+abbrev pub names_of : Rows → List Group → GridRecord → List Text
+names_of rows groups g = lead_names rows g ++ (group_names groups ++ column_names)
 
 -- ---- the text
 
 -- the first shard begins with the header
 abbrev pub header_of : GridRecord → ShardRecord → LayoutRecord → Text
-header_of g shard layout = if shard.number == 1 then header_text layout.picks (names_of layout.rows g) else []
+header_of g shard layout = if shard.number == 1 then header_text layout.picks (names_of layout.rows layout.groups g) else []
 
 module _ (file : Members) (g : GridRecord) (layout : LayoutRecord) where
   -- the rows of a point tell of all its runs, those of a run of it alone
@@ -99,7 +101,7 @@ module _ (file : Members) (g : GridRecord) (layout : LayoutRecord) where
     pub trials : List Trial
     pub each : AllZip (IsTrialOf file (point_at g (unit_point layout.rows g unit)))
         (unit_runs layout.rows g unit) trials
-    pub told : AreRowsFor layout.picks (lead_of layout.rows g unit) (unit_first layout.rows g unit) trials rows
+    pub told : AreRowsFor layout.picks (lead_of layout.rows g unit) layout.groups (unit_first layout.rows g unit) trials rows
 
   -- the rows of these points or runs, one after the other
   pub record HasRowsOf (units : List ℕ) (text : Text) : Type 0 where

@@ -28,6 +28,8 @@ mod columns;
 mod decisions;
 mod error;
 mod fields;
+mod group;
+mod group_words;
 mod laws;
 mod layout;
 mod limits;
@@ -44,6 +46,7 @@ mod standard_error;
 mod sweeping;
 mod table;
 mod texts;
+mod unit_sums;
 mod value_counts;
 mod watcher;
 
@@ -52,12 +55,14 @@ pub use columns::{
     Columns, DecisionSums, Distribution, FirstRuns, LayerSums, PairSums, RunCounts, TraceSums,
     VerdictCounts,
 };
-pub use error::{LayoutError, SweepError};
+pub use error::{GroupError, LayoutError, SweepError};
+pub use group::{Group, PairBlock, PairGroup, Processes};
 pub use laws::{law_one_text, law_shard_texts};
 pub use layout::{Layout, Rows};
 pub use parallel::in_parallel;
 pub use point_sums::PointSums;
-pub use run_numbers::RunNumbers;
+pub use run_numbers::{GroupNumbers, RunNumbers};
 pub use sweeping::sweep;
 pub use table::Table;
+pub use unit_sums::UnitSums;
 pub use watcher::{Pass, Standing, Unwatched, Watcher};

@@ -58,7 +58,7 @@ impl Limits {
     {
         let runs = grid.runs();
         self.run += 1;
-        self.count += numbers.first.sums.limited.min(1);
+        self.count += u64::from(numbers.is_limited);
         if self.run < runs {
             return;
         }

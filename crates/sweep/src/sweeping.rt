@@ -56,7 +56,6 @@ fn write_points<R: Threads + Sync + Clock, O: Outlet, W: Watcher>(
     let points = end - begin;
     let mut batches = Batches::new(threads);
     let mut limits = Limits::at(begin);
-    let mut progress = Progress::at(alloc, grid, layout, layout.unit_count(grid, begin));
     let (first, past) = (begin * runs, end * runs);
     let mut next = first;
     let begun = Standing {
@@ -66,8 +65,18 @@ fn write_points<R: Threads + Sync + Clock, O: Outlet, W: Watcher>(
         done: 0,
     };
     watcher.hear(begun);
+    let mut progress = Progress::at(alloc, grid, layout, layout.unit_count(grid, begin))?;
     while next < past {
-        let numbers = measure_batch(rt, alloc, file, grid, next, past, &mut batches)?;
+        let numbers = measure_batch(
+            rt,
+            alloc,
+            file,
+            grid,
+            layout.groups(),
+            next,
+            past,
+            &mut batches,
+        )?;
         watcher.make_way();
         limits.add_all(file, grid, &numbers, watcher);
         progress.take_all(alloc, grid, layout, &numbers, outlet)?;
@@ -79,7 +88,7 @@ fn write_points<R: Threads + Sync + Clock, O: Outlet, W: Watcher>(
 }
 
 /// Sweeps the points of a shard of a study: runs all their runs by so many threads, and writes rows with the layout's
-/// columns, one for each layer of a point, with sums over its runs, or of each run. The first shard begins with the
+/// columns: of each point, with sums over its runs, or of each run, one for each group of pairs and each layer. The first shard begins with the
 /// header. The threads and the watcher change nothing of the text.
 ///
 /// Every run's scenario is read before the first run starts. Runs are read, and then run, in batches that take about a
@@ -93,7 +102,8 @@ fn write_points<R: Threads + Sync + Clock, O: Outlet, W: Watcher>(
 ///
 /// # Errors
 ///
-/// `Refused` where a run of the shard has no scenario, for the first such run; then nothing went out. `Memory` where
+/// `Refused` or `NoSuchProcess` where a run of the shard has no scenario, or not all processes that a group names, for
+/// the first such run; then nothing went out. `Memory` where
 /// memory was refused: then nothing went out, or the header and the first points' or runs' rows. `Write` where a put
 /// failed: then a front part of these.
 pub fn sweep<R: Threads + Sync + Clock, O: Outlet, W: Watcher>(
@@ -117,7 +127,7 @@ pub fn sweep<R: Threads + Sync + Clock, O: Outlet, W: Watcher>(
         (λ _. HeardSome W.heard watcher.old watcher.new (table_view file.now) grid.now shard) }
     ensures hidden { W.shows watcher.new ≡ false }
 {
-    check_study(rt, alloc, file, grid, shard, threads, watcher)?;
+    check_study(rt, alloc, file, grid, shard, layout, threads, watcher)?;
     write_header(alloc, grid, shard, layout, outlet)?;
     let _runs = grid.runs();
     let (begin, end) = points_of(grid, shard);

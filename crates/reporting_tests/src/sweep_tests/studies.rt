@@ -20,7 +20,7 @@ pub struct Study {
     pub layout: Layout,
 }
 
-/// The layout of such rows with these columns.
+/// The layout of such rows, which count all pairs, with these columns.
 pub fn layout_of<R: Abort>(
     rt: &R,
     alloc: Global,
@@ -30,7 +30,7 @@ pub fn layout_of<R: Abort>(
 ) -> Layout
     ensures { result.rows ≡ rows }
 {
-    Layout::new(alloc, grid, rows, columns).expect(rt, "no layout")
+    Layout::new(alloc, grid, rows, Vec::new(alloc), columns).expect(rt, "no layout")
 }
 
 /// The study that varies some keys and adds up over others, of the seeds from 1 to the last.

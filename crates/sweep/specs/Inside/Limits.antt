@@ -8,6 +8,7 @@ use Rattle.sweep.specs.Inside.Numbering.{AreNumbersFrom}
 use Rattle.sweep.specs.Results.{Trial}
 use Rattle.sweep.specs.StudyText.{point_at, IsTrialOf}
 use Rattle.sweep.specs.Watching.{News, HeardRunning}
+use Rattle.sweep.specs.declared.group.Group.{Group}
 use Rattle.sweep.specs.declared.limits.Limits.{Limits}
 use Rattle.sweep.specs.declared.run_numbers.RunNumbers.{RunNumbers}
 
@@ -30,10 +31,10 @@ module _ (file : Members) (g : GridRecord) where
       pub order : begin ≤ l.point
       pub counting : AreCounted l
 
--- with these runs, which come next, a watcher that was told of all points before one place, of whatever file, is told
--- of all before another
+-- with these runs, which come next, a watcher that was told of all points before one place, of whatever file and with
+-- whatever groups of pairs, is told of all before another
 abbrev pub TellsOn : GridRecord → {W : Type 0} (heard : W → List News → W → Type 0) (old new : W) → List RunNumbers
     → (from to : Limits) → Type 0
-TellsOn g {W} heard old new all from to = (file : Members) (start : W) (points done begin : ℕ)
-    → AreNumbersFrom file g (next_counted g from) all → AreUnderWay file g heard start old points done begin from
+TellsOn g {W} heard old new all from to = (file : Members) (groups : List Group) (start : W) (points done begin : ℕ)
+    → AreNumbersFrom file g groups (next_counted g from) all → AreUnderWay file g heard start old points done begin from
     → AreUnderWay file g heard start new points done begin to

@@ -10,7 +10,7 @@ use Rattle.sweep.specs.Inside.Numbering.{runs_each, unit_count, AreNumbersFrom}
 use Rattle.sweep.specs.Results.{Trial}
 use Rattle.sweep.specs.RowText.{Text}
 use Rattle.sweep.specs.StudyText.{point_at, unit_point, unit_runs, unit_first, header_of, IsTrialOf, HasRowsOf}
-use Rattle.sweep.specs.Sums.{AreSums}
+use Rattle.sweep.specs.Sums.{AreUnitSums}
 use Rattle.sweep.specs.declared.error.SweepError.{SweepError}
 use Rattle.sweep.specs.declared.error.SweepError.TheVariants as error
 use Rattle.sweep.specs.declared.progress.Progress.{Progress}
@@ -26,7 +26,7 @@ module _ (file : Members) (g : GridRecord) (layout : LayoutRecord) where
     pub trials : List Trial
     pub each : AllZip (IsTrialOf file (point_at g (unit_point layout.rows g p.unit)))
         (take p.run (unit_runs layout.rows g p.unit)) trials
-    pub summed : AreSums (unit_first layout.rows g p.unit) trials p.sums
+    pub summed : AreUnitSums layout.groups (unit_first layout.rows g p.unit) trials p.sums
     pub run_low : p.run < runs_each layout.rows g
 
   module _ {O : Type 0} (told : O → Option Text) (failed : O → ℕ) (old new : O) (begin : ℕ) where
@@ -51,6 +51,7 @@ module _ (file : Members) (g : GridRecord) (layout : LayoutRecord) where
     -- it came to no end, at a unit below this one
     abbrev pub StopsBelow : (end : ℕ) → SweepError → Type 0
     StopsBelow end (error.Refused point run reason) = ⊥
+    StopsBelow end (error.NoSuchProcess point run group processes) = ⊥
     StopsBelow end error.Memory = (unit : ℕ) × (unit ≤ end) × WroteUpTo unit
     StopsBelow end error.Write = (unit : ℕ) × (unit ≤ end) × WroteFrontUpTo unit
 
@@ -58,7 +59,7 @@ module _ (g : GridRecord) (layout : LayoutRecord) {O : Type 0} (told : O → Opt
     (old new : O) where
   -- with these runs, which come next, a sweep that was under way, of whatever file, goes on from one place to another
   abbrev pub GoesOn : List RunNumbers → (from to : Progress) → Type 0
-  GoesOn all from to = (file : Members) (start : O) (begin : ℕ) → AreNumbersFrom file g (next_run g layout from) all
+  GoesOn all from to = (file : Members) (start : O) (begin : ℕ) → AreNumbersFrom file g layout.groups (next_run g layout from) all
       → IsUnderWay file g layout told failed start old begin from
       → IsUnderWay file g layout told failed start new begin to
 
@@ -66,7 +67,7 @@ module _ (g : GridRecord) (layout : LayoutRecord) {O : Type 0} (told : O → Opt
   abbrev pub StopsAt : List RunNumbers → (from : Progress) → SweepError → Type 0
   StopsAt all from e = (file : Members) (start : O) (begin end : ℕ)
       → next_run g layout from + length all ≤ end * runs_each layout.rows g
-      → AreNumbersFrom file g (next_run g layout from) all → IsUnderWay file g layout told failed start old begin from
+      → AreNumbersFrom file g layout.groups (next_run g layout from) all → IsUnderWay file g layout told failed start old begin from
       → StopsBelow file g layout told failed start new begin end e
 
   -- the rows of the points from one up to another went out, or a sweep of them stopped
@@ -82,5 +83,6 @@ module _ (g : GridRecord) (layout : LayoutRecord) {O : Type 0} (told : O → Opt
 abbrev pub HeaderFails : GridRecord → ShardRecord → LayoutRecord → {O : Type 0} (told : O → Option Text)
     (failed : O → ℕ) (old new : O) → SweepError → Type 0
 HeaderFails g shard layout told failed old new (error.Refused point run reason) = ⊥
+HeaderFails g shard layout told failed old new (error.NoSuchProcess point run group processes) = ⊥
 HeaderFails g shard layout told failed old new error.Memory = WroteNothing told failed old new
 HeaderFails g shard layout told failed old new error.Write = WrotePart told failed old new (header_of g shard layout)

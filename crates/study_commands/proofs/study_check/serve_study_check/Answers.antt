@@ -4,7 +4,7 @@ use Rattle.study_commands.proofs.study_check.serve_study_check.Goals as goal
 
 pub fault_of-requires : goal.fault_of-requires
 fault_of-requires g c =
-    cant_of_run (table_view c.in_ok-file.file) c.in_ok-file.grid c.in_ok-file.shard c.in-Err.error c.in-Err.ensures.err
+    cant_of_run (table_view c.in_ok-file.file) c.in_ok-file.grid c.in_ok-file.shard c.in_ok-file.layout.groups c.in-Err.error c.in-Err.ensures.err
 
 pub returns-in-Ok-clause-text : goal.returns-in-Ok-clause-text
 returns-in-Ok-clause-text g c =
@@ -13,7 +13,7 @@ returns-in-Ok-clause-text g c =
       file = table_view c.in_ok-file.file;
       grid = c.in_ok-file.grid;
       shard = c.in_ok-file.shard;
-      layout = c.in_ok-file._layout;
+      layout = c.in_ok-file.layout;
       said = c.in_ok-file.ensures.said;
       each = c.in-Ok.ensures.ok;
       reckoned = text.0;
