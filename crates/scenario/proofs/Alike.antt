@@ -1,12 +1,12 @@
 -- Two files that have the same at each key but `outage`.
-use Rattle.std.proofs.Common.{◌≡◌, ℕ, ℤ, List, Bool, false, Option, Some, refl, ap, sym, ◌∙◌, subst, codes, option_and_then, is_some, is_none, not}
-use Rattle.std.specs.Option.{option_map_or, unwrap_or}
+use Rattle.std.proofs.Common.{◌≡◌, ℕ, ℤ, List, Bool, false, refl, ap, ◌∙◌, codes, option_and_then, is_some}
+use Rattle.std.specs.Option.{unwrap_or}
 use Rattle.std.specs.Ordering.{nat_cmp, is_eq}
 use Rattle.std.specs.Cmp.Lexicographic.{slice_cmp}
-use Rattle.toml.specs.Data.{Data, Members, get_member, as_integer, as_str, as_array, as_table, no_members}
+use Rattle.toml.specs.Data.{Members, get_member, as_integer, as_str, as_table}
 use Rattle.scenario_record.specs.Record.{Record}
-use Rattle.scenario.specs.Table.{number_or, text_or, integers_at, has_key, table_at, table_or_empty, tables_at, all_items, is_table, the_tables, the_integers}
-use Rattle.scenario.specs.Text.{number_at, is_second, natural_of, processes_of, outages_among, record_of}
+use Rattle.scenario.specs.Table.{number_or, text_or, integers_at, has_key, table_at, tables_at}
+use Rattle.scenario.specs.Text.{number_at, is_second, processes_of, outages_among, record_of}
 use Rattle.scenario.specs.Rules.{is_outside, is_negative, pair_below}
 use Rattle.scenario.specs.Refusals.{number_rules, part_rules}
 use Rattle.scenario.proofs.Rulings.{AreAlike}

@@ -1,5 +1,5 @@
 -- Rules that test two files alike.
-use Rattle.std.proofs.Common.{◌≡◌, ℕ, ◌==◌, List, [], ◌∷◌, ◌++◌, Bool, true, false, Option, Some, refl, ◌∙◌}
+use Rattle.std.proofs.Common.{◌≡◌, ℕ, ◌==◌, List, [], ◌∷◌, true, false, Some, refl, ◌∙◌}
 use Rattle.toml.specs.Data.{Members}
 use Rattle.scenario.specs.Text.{record_of}
 use Rattle.scenario.specs.Rules.{pair_below}

@@ -1,11 +1,9 @@
-use Rattle.std.proofs.Common.{◌≡◌, ◌∙◌, ◌++◌, ◌∷◌, [], ap, sym, refl, map, take, rules, arith, true, false, append_assoc, List}
-use Rattle.std.proofs.lemmas.List.{take_all, append-nil}
-use Rattle.toml.specs.Data.{Members}
+use Rattle.std.proofs.Common.{◌∙◌, ◌++◌, ◌∷◌, [], ap, sym, refl, map, take, append_assoc}
+use Rattle.std.proofs.lemmas.List.{append-nil}
 use Rattle.scenario.specs.Text.{each_pairs_outages}
 use Rattle.scenario.specs.Drawn.{outage_table}
 use Rattle.scenario.specs.Rules.{is_bad_outage}
-use Rattle.scenario.specs.Parts.{outages_in}
-use Rattle.scenario.proofs.DrawnTables.{drawn_more, bad_among, good_more, drawn_pair, drawn_outage}
+use Rattle.scenario.proofs.DrawnTables.{drawn_more, bad_among, good_more}
 use Rattle.scenario.proofs.outages.add_drawn.Goals as goal
 
 pub loop-outage-init : goal.loop-outage-init

@@ -1,4 +1,4 @@
-use Rattle.std.proofs.Common.{sym, ◌∙◌, ap, rules, arith}
+use Rattle.std.proofs.Common.{sym, ◌∙◌, rules}
 use Rattle.scenario.proofs.DrawnTables.{bad_drawn, drawn_pair, drawn_outage}
 use Rattle.scenario.proofs.outages.fitting.Goals as goal
 

@@ -1,6 +1,5 @@
-use Rattle.std.proofs.Common.{◌≡◌, ◌∙◌, ◌≤◌, ◌+◌, ◌++◌, [], ap, sym, map, length, take, rules, arith, codes, length-append}
+use Rattle.std.proofs.Common.{◌≡◌, ◌∙◌, ◌≤◌, ◌+◌, ◌++◌, [], sym, map, length, rules, arith, length-append}
 use Rattle.std.proofs.lemmas.List.{take_all, length-map}
-use Rattle.toml.specs.View.{table_view}
 use Rattle.scenario.specs.Text.{outages_among}
 use Rattle.scenario.specs.Drawn.{outage_table}
 use Rattle.scenario.specs.Parts.{outages_in, tables_in}

@@ -1,7 +1,5 @@
-use Rattle.std.proofs.Common.{◌≡◌, ◌∙◌, ◌++◌, List, false, true, sym, rules}
+use Rattle.std.proofs.Common.{◌∙◌, sym}
 use Rattle.toml.specs.View.{table_view}
-use Rattle.scenario.specs.Text.{record_of}
-use Rattle.scenario.specs.Drawn.{lacks_outages}
 use Rattle.scenario.proofs.Rereading.{no_key_refused, keys_refused, numbers_refused, parts_refused, drawn_refused, all_pass, same_record, read_in_range}
 use Rattle.scenario.proofs.read.read_noting.Goals as goal
 
