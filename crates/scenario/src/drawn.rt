@@ -2,7 +2,8 @@
 
 use process_api::Pid;
 
-/// A time during which a link loses all letters that are sent on it: what a table of `outage` says.
+/// A time during which a link loses all letters that are sent on it: what a table of `outage` says. One that is out of
+/// range is refused when a scenario is read with it, as its table would be.
 #[derive(Clone, Copy, Debug, PartialEq, Eq)]
 pub struct LinkOutage {
     /// The sender.

@@ -54,8 +54,9 @@ pub fn read_table(alloc: Global, table: &Table) -> Result<Scenario, ScenarioErro
     read_noting(alloc, table, &[], &mut None)
 }
 
-/// Reads a scenario from its file's table and outages that were drawn besides: answers what [`read_table`] answers of the
-/// table to which they are added at `outage`, behind the file's own (`specs/Drawn.antt`), and makes no table of them.
+/// Reads a scenario from its file's table and outages that were drawn besides: answers what [`read_table`] answers of
+/// the table to which they are added at `outage`, behind the file's own (`specs/Drawn.antt`), and makes no table of
+/// them.
 ///
 /// # Errors
 ///
