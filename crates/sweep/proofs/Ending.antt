@@ -1,21 +1,21 @@
 -- How a sweep ends: what went out, and which run was refused.
-use Rattle.sweep.proofs.Words.{◌≡◌, ℕ, ◌+◌, ◌-◌, ◌*◌, ◌/◌, ◌%◌, ◌<◌, ◌≤◌, ⊎_elim, inl, inr, List, [], ◌++◌, length, take, Option, refl, sym, ap, ◌∙◌, subst, arith, append-nil, Contains, range_with_len, slice_index_or, lt_of_mul-lt-mul_right, mul-le-mul_right, length-range_with_len, get_or-range_with_len, div-add-mod', mod_below, Members, Wrote, WrotePart, wrote_both, wrote_then_part, GridRecord, runs, ShardRecord, LayoutRecord, unit_count, IsReadyAt, IsFirstRefusal, WroteUpTo, StopsBelow, HeaderFails, Text, header_of, numbers_of, units_in, units_of, HasRowsOf, IsTextOf, Group, SweepError}
+use Rattle.sweep.proofs.Words.{◌≡◌, ℕ, ◌+◌, ◌-◌, ◌*◌, ◌/◌, ◌%◌, ◌<◌, ◌≤◌, ⊎_elim, inl, inr, List, [], ◌++◌, length, take, Option, refl, sym, ap, ◌∙◌, subst, arith, append-nil, Contains, range_with_len, slice_index_or, lt_of_mul-lt-mul_right, mul-le-mul_right, length-range_with_len, get_or-range_with_len, div-add-mod', mod_below, SourcesRecord, Wrote, WrotePart, wrote_both, wrote_then_part, GridRecord, runs, ShardRecord, LayoutRecord, unit_count, IsReadyAt, IsFirstRefusal, WroteUpTo, StopsBelow, HeaderFails, Text, header_of, numbers_of, units_in, units_of, HasRowsOf, IsTextOf, Group, SweepError}
 use Rattle.sweep.specs.Outcome.{IsBefore, IsReady, CantRun, IsFirstUnready, AreReady, CantBeRun, WroteStudy, BreaksOff}
 use Rattle.sweep.specs.declared.error.SweepError.TheVariants as error
 use Rattle.sweep.proofs.Numbered.{point_is, run_is, number_below}
 use Rattle.sweep.proofs.Zipped.{range_taken}
 use Rattle.sweep.proofs.Units.{unit_range, unit_count-sub}
 
-module _ (file : Members) (g : GridRecord) (shard : ShardRecord) (layout : LayoutRecord)
+module _ (sources : SourcesRecord) (g : GridRecord) (shard : ShardRecord) (layout : LayoutRecord)
     {O : Type 0} (told : O → Option Text) (failed : O → ℕ) where
-  pub breaks_at_check : (old : O) (e : SweepError) → CantBeRun file g layout.groups shard e → BreaksOff file g shard layout told failed old old e
+  pub breaks_at_check : (old : O) (e : SweepError) → CantBeRun sources g layout.groups shard e → BreaksOff sources g shard layout told failed old old e
   breaks_at_check old (error.Refused point run reason) refusal = (refusal, record { bytes = refl; failures = refl })
   breaks_at_check old (error.NoSuchProcess point run group processes) refusal = (refusal, record { bytes = refl; failures = refl })
   breaks_at_check old error.Memory refusal = inl (record { bytes = refl; failures = refl })
   breaks_at_check old error.Write refusal = absurd refusal
 
   pub breaks_at_header : (old new : O) (e : SweepError) → HeaderFails g shard layout told failed old new e
-      → BreaksOff file g shard layout told failed old new e
+      → BreaksOff sources g shard layout told failed old new e
   breaks_at_header old new (error.Refused point run reason) fails = absurd fails
   breaks_at_header old new (error.NoSuchProcess point run group processes) fails = absurd fails
   breaks_at_header old new error.Memory fails = inl fails
@@ -28,7 +28,7 @@ module _ (file : Members) (g : GridRecord) (shard : ShardRecord) (layout : Layou
         wrote = subst P (sym (append-nil (header_of g shard layout))) fails;
       }
 
-module _ (file : Members) (g : GridRecord) (shard : ShardRecord) (begin end : ℕ)
+module _ (sources : SourcesRecord) (g : GridRecord) (shard : ShardRecord) (begin end : ℕ)
     (is : numbers_of g shard ≡ range_with_len begin (end - begin)) where
   contains : (p : ℕ) → begin ≤ p → p < end → Contains (numbers_of g shard) p
   contains p low high =
@@ -69,17 +69,17 @@ module _ (file : Members) (g : GridRecord) (shard : ShardRecord) (begin end : �
 
   module _ (groups : List Group) where
     -- the run of a point and its place there, by its number
-    run_at_number : (p r : ℕ) → r < length (runs g) → IsReadyAt file g groups (p * length (runs g) + r) → IsReady file g groups p r
+    run_at_number : (p r : ℕ) → r < length (runs g) → IsReadyAt sources g groups (p * length (runs g) + r) → IsReady sources g groups p r
     run_at_number p r small here =
         let w : ℕ = length (runs g) in
-        let R : ℕ → Type 0 = λ k. IsReady file g groups k ((p * w + r) % w) in
-        let S : ℕ → Type 0 = λ k. IsReady file g groups p k in
+        let R : ℕ → Type 0 = λ k. IsReady sources g groups k ((p * w + r) % w) in
+        let S : ℕ → Type 0 = λ k. IsReady sources g groups p k in
         subst S (run_is p r w (p * w + r) small refl) (subst R (point_is p r w (p * w + r) small refl) here)
 
     first_refused : (n : ℕ) (e : SweepError) → 1 ≤ length (runs g) → begin * length (runs g) ≤ n → n < end * length (runs g)
-        → CantRun file g groups (n / length (runs g)) (n % length (runs g)) e
-        → ((m : ℕ) → begin * length (runs g) ≤ m → m < n → IsReadyAt file g groups m)
-        → IsFirstUnready file g groups shard (n / length (runs g)) (n % length (runs g)) e
+        → CantRun sources g groups (n / length (runs g)) (n % length (runs g)) e
+        → ((m : ℕ) → begin * length (runs g) ≤ m → m < n → IsReadyAt sources g groups m)
+        → IsFirstUnready sources g groups shard (n / length (runs g)) (n % length (runs g)) e
     first_refused n e some low high cant before =
         let w : ℕ = length (runs g) in
         let split : n / w * w + n % w ≡ n = div-add-mod' n w in
@@ -98,14 +98,14 @@ module _ (file : Members) (g : GridRecord) (shard : ShardRecord) (begin end : �
         }
 
     -- a run that is told of is that of the number
-    placed : (e : SweepError) (p r point run : ℕ) → point ≡ p → run ≡ r → IsFirstUnready file g groups shard p r e
-        → IsFirstUnready file g groups shard point run e
+    placed : (e : SweepError) (p r point run : ℕ) → point ≡ p → run ≡ r → IsFirstUnready sources g groups shard p r e
+        → IsFirstUnready sources g groups shard point run e
     placed e p r point run is_point is_run first =
-        subst (λ k. IsFirstUnready file g groups shard point k e) (sym is_run)
-        (subst (λ k. IsFirstUnready file g groups shard k r e) (sym is_point) first)
+        subst (λ k. IsFirstUnready sources g groups shard point k e) (sym is_run)
+        (subst (λ k. IsFirstUnready sources g groups shard k r e) (sym is_point) first)
 
     pub cant_be_run : (e : SweepError) → 1 ≤ length (runs g)
-        → IsFirstRefusal file g groups (begin * length (runs g)) (end * length (runs g)) e → CantBeRun file g groups shard e
+        → IsFirstRefusal sources g groups (begin * length (runs g)) (end * length (runs g)) e → CantBeRun sources g groups shard e
     cant_be_run (error.Refused point run reason) some (n, low, high, cant, before) =
         let e : SweepError = error.Refused point run reason in
         placed e _ _ point run cant.0 cant.1 (first_refused n e some low high cant before)
@@ -115,8 +115,8 @@ module _ (file : Members) (g : GridRecord) (shard : ShardRecord) (begin end : �
     cant_be_run error.Memory some refusal = tt
     cant_be_run error.Write some (n, low, high, cant, before) = cant
 
-    pub are_ready : ((n : ℕ) → begin * length (runs g) ≤ n → n < end * length (runs g) → IsReadyAt file g groups n)
-        → AreReady file g groups shard
+    pub are_ready : ((n : ℕ) → begin * length (runs g) ≤ n → n < end * length (runs g) → IsReadyAt sources g groups n)
+        → AreReady sources g groups shard
     are_ready all p r inside small =
         let w : ℕ = length (runs g) in
         let in_range = within p inside in
@@ -139,23 +139,23 @@ module _ (file : Members) (g : GridRecord) (shard : ShardRecord) (begin end : �
         ∙ ap (λ n. range_with_len first n) (unit_count-sub layout.rows g begin end)
 
     module _ (old mid new : O) (header : Wrote told failed old mid (header_of g shard layout)) where
-      pub wrote_study : WroteUpTo file g layout told failed mid new first last → WroteStudy file g shard layout told failed old new
+      pub wrote_study : WroteUpTo sources g layout told failed mid new first last → WroteStudy sources g shard layout told failed old new
       wrote_study up =
-          let P : List ℕ → Type 0 = λ l. HasRowsOf file g layout l up.text in
+          let P : List ℕ → Type 0 = λ l. HasRowsOf sources g layout l up.text in
           record {
             text = header_of g shard layout ++ up.text;
             is_text = record { rows = up.text; has = subst P (sym units_are) up.has; text_is = refl };
             wrote = wrote_both told failed old mid new (header_of g shard layout) up.text header up.wrote;
           }
 
-      first_text : (unit : ℕ) (text : Text) → unit ≤ last → HasRowsOf file g layout (range_with_len first (unit - first)) text
-          → IsTextOf file g shard layout (take (unit - first) (units_of layout.rows g shard)) (header_of g shard layout ++ text)
+      first_text : (unit : ℕ) (text : Text) → unit ≤ last → HasRowsOf sources g layout (range_with_len first (unit - first)) text
+          → IsTextOf sources g shard layout (take (unit - first) (units_of layout.rows g shard)) (header_of g shard layout ++ text)
       first_text unit text le has =
           let units = ap (λ l. take (unit - first) l) units_are ∙ range_taken first (last - first) (unit - first) (omega (arith, le)) in
-          record { rows = text; has = subst (λ l. HasRowsOf file g layout l text) (sym units) has; text_is = refl }
+          record { rows = text; has = subst (λ l. HasRowsOf sources g layout l text) (sym units) has; text_is = refl }
 
-      pub breaks_at_points : (e : SweepError) → StopsBelow file g layout told failed mid new first last e
-          → BreaksOff file g shard layout told failed old new e
+      pub breaks_at_points : (e : SweepError) → StopsBelow sources g layout told failed mid new first last e
+          → BreaksOff sources g shard layout told failed old new e
       breaks_at_points (error.Refused point run reason) stops = absurd stops
       breaks_at_points (error.NoSuchProcess point run group processes) stops = absurd stops
       breaks_at_points error.Memory (unit, le, up) = inr (record {

@@ -39,8 +39,8 @@ pub use Rattle.scenario_record.specs.Record.{Record}
 pub use Rattle.study.specs.Grid.{GridRecord, RunRecord, paths_of, points, runs}
 pub use Rattle.study.specs.Settings.{Chosen, chosen, key_text, path_of}
 pub use Rattle.study.specs.Shard.{ShardRecord}
-pub use Rattle.toml.specs.Data.{Members}
-pub use Rattle.toml.specs.View.{table_view}
+pub use Rattle.study.specs.Sources.{SourcesRecord}
+pub use Rattle.study.specs.Sources.{sources_of}
 pub use Rattle.trace_laws.proofs.Joining.{joined_then, none_joined}
 pub use Rattle.trace_laws.specs.Joins.{HaveJoined}
 pub use Rattle.sweep.specs.Inside.Adding.{decisions_plus, differ, first_of, first_with, is_above, layer_plus, of_outcome, of_verdicts, pairs_plus, plus, plus_few, tick_or_zero, traces_plus}

@@ -1,10 +1,10 @@
 -- What a sweep leaves of an outlet.
 use Rattle.std.specs.Prelude.{◌≡◌, ◌⊎◌, ◌<◌, ℕ, false, take, length, List, Option, None, Some, Contains}
-use Rattle.toml.specs.Data.{Members}
+use Rattle.study.specs.Sources.{SourcesRecord}
 use Rattle.reporting.specs.Writing.{Wrote, WrotePart, WroteNothing}
 use Rattle.scenario_record.specs.Record.{Record}
 use Rattle.study.specs.Grid.{GridRecord, runs}
-use Rattle.study.specs.Placed.{table_of_run}
+use Rattle.study.specs.Placed.{sources_of_run}
 use Rattle.study.specs.Runs.{IsScenarioOf, IsRefusedFor, is_memory}
 use Rattle.study.specs.Shard.{ShardRecord}
 use Rattle.study.specs.declared.error.ReadError.{ReadError}
@@ -20,23 +20,23 @@ use Rattle.sweep.specs.declared.group.Group.{Group}
 abbrev pub IsBefore : (p r point run : ℕ) → Type 0
 IsBefore p r point run = (p < point) ⊎ ((p ≡ point) × (r < run))
 
-module _ (file : Members) (g : GridRecord) where
+module _ (sources : SourcesRecord) (g : GridRecord) where
   -- the run of a point has no scenario, for this reason
   pub record IsRefused (point run : ℕ) (reason : ReadError) : Type 0 where
-    pub reason_is : IsRefusedFor (table_of_run (point_at g point) (run_at g run) file) reason
+    pub reason_is : IsRefusedFor (sources_of_run (point_at g point) (run_at g run) sources) reason
     pub no_memory : is_memory reason ≡ false
 
   module _ (groups : List Group) where
     -- a run can be run: it has a scenario, and no group names a process that the scenario doesn't have
     pub record IsReady (point run : ℕ) : Type 0 where
       pub scenario : Record
-      pub is_scenario : IsScenarioOf (table_of_run (point_at g point) (run_at g run) file) scenario
+      pub is_scenario : IsScenarioOf (sources_of_run (point_at g point) (run_at g run) sources) scenario
       pub none_above : first_above scenario.processes groups ≡ None
 
     -- it has a scenario of so many processes, and the group at this place, from 0, is the first that names one above
     pub record LacksProcess (point run group processes : ℕ) : Type 0 where
       pub scenario : Record
-      pub is_scenario : IsScenarioOf (table_of_run (point_at g point) (run_at g run) file) scenario
+      pub is_scenario : IsScenarioOf (sources_of_run (point_at g point) (run_at g run) sources) scenario
       pub processes_are : processes ≡ scenario.processes
       pub first : first_above scenario.processes groups ≡ Some group
 
@@ -74,21 +74,21 @@ module _ (file : Members) (g : GridRecord) where
     -- the shard's text went out, and nothing else
     pub record WroteStudy : Type 0 where
       pub text : Text
-      pub is_text : IsStudyText file g shard layout text
+      pub is_text : IsStudyText sources g shard layout text
       pub wrote : Wrote told failed old new text
 
     -- the header and the rows of the first of the shard's points, or of their runs, went out
     pub record WroteFirst : Type 0 where
       pub count : ℕ
       pub text : Text
-      pub is_text : IsTextOf file g shard layout (take count (units_of layout.rows g shard)) text
+      pub is_text : IsTextOf sources g shard layout (take count (units_of layout.rows g shard)) text
       pub wrote : Wrote told failed old new text
 
     -- a front part of these went out
     pub record WroteFront : Type 0 where
       pub count : ℕ
       pub text : Text
-      pub is_text : IsTextOf file g shard layout (take count (units_of layout.rows g shard)) text
+      pub is_text : IsTextOf sources g shard layout (take count (units_of layout.rows g shard)) text
       pub wrote : WrotePart told failed old new text
 
     -- a sweep breaks off: a run can't be run, or memory was refused, or a put failed

@@ -1,7 +1,7 @@
 //! Reads every run's scenario, before the first run starts.
 ghost use Rattle.std.specs.Prelude.{◌≡◌, ℕ, ◌-◌, ◌*◌, ◌^◌, ◌<◌, ◌≤◌, true, false, length, slice_index_or};
 ghost use Rattle.std.specs.Prelude.{OnOk, IfErr, IfNone, IfSome};
-ghost use Rattle.toml.specs.View.{table_view};
+ghost use Rattle.study.specs.Sources.{sources_of};
 ghost use Rattle.study.specs.Grid.{points, runs};
 ghost use Rattle.study.specs.Runs.{is_memory};
 ghost use Rattle.sweep.specs.Inside.Numbering.{point_of, IsLack, IsReadyAt, IsRefusalAt, IsFirstRefusal};
@@ -20,8 +20,7 @@ use std::alloc::{AllocError, Global};
 use std::marker::Sync;
 use std::thread::Threads;
 use std::time::Clock;
-use study::{Grid, PlaceError, ReadError, Shard};
-use toml::Table;
+use study::{Grid, PlaceError, ReadError, Shard, Sources};
 
 /// Whether memory was refused.
 fn is_want_of_memory(reason: &ReadError) -> bool
@@ -42,12 +41,12 @@ fn first_above(groups: &[Group], process: u16) -> Option<usize>
 }
 
 /// Whether the run of this number can be run: it has a scenario, and in this all processes that groups name.
-fn is_ready(alloc: Global, file: &Table, grid: &Grid, groups: &[Group], number: u64) -> bool
+fn is_ready(alloc: Global, sources: &Sources, grid: &Grid, groups: &[Group], number: u64) -> bool
     requires some { 1 ≤ length (runs grid.now) }
     requires within { point_of grid.now number < length (points grid.now) }
-    ensures { result ≡ true → IsReadyAt (table_view file.now) grid.now groups.now number }
+    ensures { result ≡ true → IsReadyAt (sources_of sources.now) grid.now groups.now number }
 {
-    match scenario_of(alloc, file, grid, number) {
+    match scenario_of(alloc, sources, grid, number) {
         Ok(scenario) => first_above(groups, scenario.processes()).is_none(),
         Err(_reason) => false,
     }
@@ -70,14 +69,14 @@ fn lack(scenario: &Scenario, groups: &[Group], point: u64, run: u64) -> SweepErr
 }
 
 /// Why the run of this number can't be run.
-fn refusal(alloc: Global, file: &Table, grid: &Grid, groups: &[Group], number: u64) -> SweepError
+fn refusal(alloc: Global, sources: &Sources, grid: &Grid, groups: &[Group], number: u64) -> SweepError
     requires some { 1 ≤ length (runs grid.now) }
     requires within { point_of grid.now number < length (points grid.now) }
-    ensures { IsRefusalAt (table_view file.now) grid.now groups.now number result }
+    ensures { IsRefusalAt (sources_of sources.now) grid.now groups.now number result }
 {
     let runs = grid.runs();
     let (point, run) = (number / runs, number % runs);
-    let reason = match scenario_of(alloc, file, grid, number) {
+    let reason = match scenario_of(alloc, sources, grid, number) {
         Ok(scenario) => return lack(&scenario, groups, point, run),
         Err(reason) => reason,
     };
@@ -105,7 +104,7 @@ fn first_false(all: &[bool]) -> Option<usize>
 fn check_runs<R: Threads + Sync + Clock, W: Watcher>(
     rt: &R,
     alloc: Global,
-    file: &Table,
+    sources: &Sources,
     grid: &Grid,
     groups: &[Group],
     begin: u64,
@@ -118,8 +117,8 @@ fn check_runs<R: Threads + Sync + Clock, W: Watcher>(
     requires within { end ≤ length (points grid.now) }
     requires room { length (points grid.now) * length (runs grid.now) < 2 ^ 64 }
     ensures ok { OnOk result ((n : ℕ) → begin * length (runs grid.now) ≤ n → n < end * length (runs grid.now)
-        → IsReadyAt (table_view file.now) grid.now groups.now n) }
-    ensures err { IfErr result (IsFirstRefusal (table_view file.now) grid.now groups.now
+        → IsReadyAt (sources_of sources.now) grid.now groups.now n) }
+    ensures err { IfErr result (IsFirstRefusal (sources_of sources.now) grid.now groups.now
         (begin * length (runs grid.now)) (end * length (runs grid.now))) }
     ensures heard { OnOk result (HeardReading W.heard watcher.old watcher.new (end - begin) (length (runs grid.now))
         ((end - begin) * length (runs grid.now))) }
@@ -144,10 +143,10 @@ fn check_runs<R: Threads + Sync + Clock, W: Watcher>(
             alloc,
             next,
             past,
-            &|number| is_ready(alloc, file, grid, groups, number),
+            &|number| is_ready(alloc, sources, grid, groups, number),
         )?;
         if let Some(place) = first_false(&are_read) {
-            return Err(refusal(alloc, file, grid, groups, next + place as u64));
+            return Err(refusal(alloc, sources, grid, groups, next + place as u64));
         }
         next += are_read.len() as u64;
         let done = next - first;
@@ -167,15 +166,15 @@ fn check_runs<R: Threads + Sync + Clock, W: Watcher>(
 pub fn check_study<R: Threads + Sync + Clock, W: Watcher>(
     rt: &R,
     alloc: Global,
-    file: &Table,
+    sources: &Sources,
     grid: &Grid,
     shard: Shard,
     layout: &Layout,
     threads: u8,
     watcher: &mut W,
 ) -> Result<(), SweepError>
-    ensures ok { OnOk result (AreReady (table_view file.now) grid.now layout.now.groups shard) }
-    ensures err { IfErr result (CantBeRun (table_view file.now) grid.now layout.now.groups shard) }
+    ensures ok { OnOk result (AreReady (sources_of sources.now) grid.now layout.now.groups shard) }
+    ensures err { IfErr result (CantBeRun (sources_of sources.now) grid.now layout.now.groups shard) }
     ensures heard { OnOk result (HeardOfAllReading W.heard watcher.old watcher.new grid.now shard) }
     ensures heard_some { IfErr result (λ _. HeardOfReading W.heard watcher.old watcher.new grid.now shard) }
     ensures hidden { W.shows watcher.new ≡ false }
@@ -185,7 +184,7 @@ pub fn check_study<R: Threads + Sync + Clock, W: Watcher>(
     let answer = check_runs(
         rt,
         alloc,
-        file,
+        sources,
         grid,
         layout.groups(),
         begin,

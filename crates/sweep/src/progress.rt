@@ -1,6 +1,6 @@
 //! How far a sweep has come: the unit whose runs are added up, and which of them are in.
 ghost use Rattle.std.specs.Prelude.{◌≡◌, ◌+◌, ◌-◌, ◌*◌, ◌^◌, ◌<◌, ◌≤◌, [], ◌∷◌, length, IfOk, OnOk, IfErr};
-ghost use Rattle.toml.specs.Data.{Members};
+ghost use Rattle.study.specs.Sources.{SourcesRecord};
 ghost use Rattle.study.specs.Grid.{points, runs};
 ghost use Rattle.sweep.specs.Inside.Numbering.{runs_each};
 
@@ -33,8 +33,8 @@ impl Progress {
     ) -> Result<Progress, AllocError>
         ensures unit { IfOk result (λ p. p.unit ≡ unit) }
         ensures run { IfOk result (λ p. p.run ≡ 0) }
-        ensures added { IfOk result (λ p. (file : Members) → 1 ≤ runs_each layout.now.rows grid.now
-            → AreAdded file grid.now layout.now p) }
+        ensures added { IfOk result (λ p. (sources : SourcesRecord) → 1 ≤ runs_each layout.now.rows grid.now
+            → AreAdded sources grid.now layout.now p) }
     {
         let first = layout.first_run(grid, unit);
         Ok(Progress {

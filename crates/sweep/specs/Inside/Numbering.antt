@@ -1,8 +1,8 @@
 -- The runs of a study by numbers: those of its points, one point after the other.
 use Rattle.std.specs.Prelude.{◌≡◌, ℕ, ◌+◌, ◌*◌, ◌/◌, ◌%◌, ◌≤◌, ◌<◌, List, length, slice_index_or, Some, Result, IfOk}
-use Rattle.toml.specs.Data.{Members}
+use Rattle.study.specs.Sources.{SourcesRecord}
 use Rattle.study.specs.Grid.{GridRecord, runs}
-use Rattle.study.specs.Placed.{table_of_run}
+use Rattle.study.specs.Placed.{sources_of_run}
 use Rattle.study.specs.declared.error.PlaceError.{PlaceError}
 use Rattle.scenario_record.specs.Record.{Record}
 use Rattle.sweep.specs.Groups.{first_above}
@@ -25,8 +25,8 @@ abbrev pub run_of_point : GridRecord → ℕ → ℕ
 run_of_point g number = number % length (runs g)
 
 -- the table of a run's number
-abbrev pub table_at : Members → GridRecord → ℕ → Result Members PlaceError
-table_at file g number = table_of_run (point_at g (point_of g number)) (run_at g (run_of_point g number)) file
+abbrev pub table_at : SourcesRecord → GridRecord → ℕ → Result SourcesRecord PlaceError
+table_at sources g number = sources_of_run (point_at g (point_of g number)) (run_at g (run_of_point g number)) sources
 
 -- how many runs a unit has, and how many units so many points have
 abbrev pub runs_each : Rows → GridRecord → ℕ
@@ -44,14 +44,14 @@ IsLack S groups point run (error.NoSuchProcess p r group processes) =
 IsLack S groups point run error.Memory = Unit {0}
 IsLack S groups point run _ = ⊥
 
-module _ (file : Members) (g : GridRecord) (groups : List Group) where
+module _ (sources : SourcesRecord) (g : GridRecord) (groups : List Group) where
   abbrev pub IsReadyAt : ℕ → Type 0
-  IsReadyAt number = IsReady file g groups (point_of g number) (run_of_point g number)
+  IsReadyAt number = IsReady sources g groups (point_of g number) (run_of_point g number)
 
   -- why the run of this number can't be run
   abbrev pub IsRefusalAt : ℕ → SweepError → Type 0
   IsRefusalAt number error.Memory = Unit {0}
-  IsRefusalAt number e = CantRun file g groups (point_of g number) (run_of_point g number) e
+  IsRefusalAt number e = CantRun sources g groups (point_of g number) (run_of_point g number) e
 
   -- of these numbers the refusal is that of the first that can't be run
   abbrev pub IsFirstRefusal : (first end : ℕ) → SweepError → Type 0
@@ -63,7 +63,7 @@ module _ (file : Members) (g : GridRecord) (groups : List Group) where
   -- the numbers of the run of a run's number
   pub record AreNumbersAt (number : ℕ) (n : RunNumbers) : Type 0 where
     pub trial : Trial
-    pub is_trial : IsTrialOf file (point_at g (point_of g number)) (run_at g (run_of_point g number)) trial
+    pub is_trial : IsTrialOf sources (point_at g (point_of g number)) (run_at g (run_of_point g number)) trial
     pub numbers : AreNumbers groups trial n
 
   abbrev pub IsAnswerAt : {E : Type 0} → ℕ → Result RunNumbers E → Type 0
