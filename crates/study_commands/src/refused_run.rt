@@ -6,17 +6,16 @@ use crate::run_name::name_of_run;
 use diagnosis::{Diagnosis, diagnose_table};
 use printable::Printable;
 use std::alloc::{AllocError, Global};
-use study::{Choice, Grid, PlaceError, Run, run_table};
-use toml::Table;
+use study::{Choice, Grid, PlaceError, Run, Sources, run_table};
 
 /// What `check` says of a run's file, or why there is none.
 fn reason_of(
     alloc: Global,
-    file: &Table,
+    sources: &Sources,
     settings: &[Choice<'_>],
     run: &Run<'_>,
 ) -> Result<String, AllocError> {
-    let table = match run_table(alloc, file, settings, run) {
+    let table = match run_table(alloc, sources, settings, run) {
         Ok(table) => table,
         Err(PlaceError::Memory(error)) => return Err(error),
         Err(error) => return format!(in alloc; "{error:?}: {error}"),
@@ -49,7 +48,7 @@ pub(crate) fn line_of_lack(
 pub(crate) fn line_of_run(
     alloc: Global,
     path: &str,
-    file: &Table,
+    sources: &Sources,
     grid: &Grid,
     point: u64,
     run: u64,
@@ -59,7 +58,7 @@ pub(crate) fn line_of_run(
 {
     let settings = grid.point(alloc, point)?;
     let its = grid.run(alloc, run)?;
-    let why = reason_of(alloc, file, &settings, &its)?;
+    let why = reason_of(alloc, sources, &settings, &its)?;
     let name = name_of_run(alloc, grid, point, run)?;
     let text = format!(in alloc; "{path}: {name}: {why}")?;
     let text = Printable(text.as_str());

@@ -128,7 +128,7 @@ fn sweep_of<R: Threads + Sync + Clock>(
     let answer = sweep(
         rt,
         alloc,
-        &study.file,
+        &study.sources,
         &study.grid,
         Shard::whole(),
         &study.layout,
@@ -172,7 +172,7 @@ fn no_such_process(rt: HostRuntime) {
     let checked = check_study(
         &rt,
         alloc,
-        &study.file,
+        &study.sources,
         &study.grid,
         Shard::whole(),
         &study.layout,
