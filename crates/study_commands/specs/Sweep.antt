@@ -3,7 +3,7 @@ use Rattle.std.specs.Prelude.{◌≡◌, ◌<◌, ℕ, List, length, take, Optio
 use Rattle.study.specs.Sources.{SourcesRecord}
 use Rattle.study_commands.specs.Fault.{IsRefusal, end_of}
 use Rattle.study_commands.specs.File.{AreSources}
-use Rattle.study_commands.specs.Study.{IsGrid, IsLayout, IsShardOf, columns_word, shard_word}
+use Rattle.study_commands.specs.Study.{IsGrid, IsLayout, IsShardOf, columns_word, pairs_words, shard_word}
 use Rattle.study_commands.specs.declared.fault.Fault.{Fault}
 use Rattle.study_commands.specs.declared.fault.Fault.TheVariants.{Memory, Write}
 use Rattle.shell.specs.Ending.{Goes}
@@ -21,7 +21,7 @@ module _ (input : Option (List ℕ)) (path : List ℕ) (study : StudyTexts) wher
     pub are_sources : AreSources input path sources
     pub is_grid : IsGrid study.grid grid
     pub is_shard : IsShardOf (shard_word study) shard
-    pub is_layout : IsLayout study.each (columns_word study) grid layout
+    pub is_layout : IsLayout study.each (pairs_words study) (columns_word study) grid layout
 
   -- the piece is the text of the study: of its shard's points, where a shard is named
   pub record IsSweepAnswer (piece : List ℕ) : Type 0 where

@@ -6,8 +6,8 @@ use Rattle.study_commands.specs.File.{AreSources}
 use Rattle.study_commands.specs.Refusal.{IsNoTable, IsOfFile}
 use Rattle.study_commands.specs.Runs.{StopsLetters}
 use Rattle.study_commands.specs.Show.{IsPlace}
-use Rattle.study_commands.specs.Study.{IsGrid, IsLayout, IsShardOf, columns_word, shard_word}
-use Rattle.study_commands.specs.WordRefusals.{IsOutside, LacksColumn, SaysNoGrid, SaysNoShard}
+use Rattle.study_commands.specs.Study.{IsGrid, IsLayout, IsShardOf, columns_word, pairs_words, shard_word}
+use Rattle.study_commands.specs.WordRefusals.{IsOutside, SaysNoGrid, SaysNoLayout, SaysNoShard}
 use Rattle.study_commands.specs.declared.fault.Fault.{Fault}
 use Rattle.study_commands.specs.declared.fault.Fault.TheVariants.{Memory, Refused, Words, WordsMemory, Write}
 use Rattle.study.specs.Grid.{GridRecord, points, runs}
@@ -87,7 +87,7 @@ module _ (input : Option (List ℕ)) (path : List ℕ) where
       pub point : ℕ
       pub run : ℕ
       pub layout : LayoutRecord
-      pub is_layout : IsLayout study.each (columns_word study) grid layout
+      pub is_layout : IsLayout study.each (pairs_words study) (columns_word study) grid layout
       pub reason : SweepError
       pub first : IsFirstUnready sources grid layout.groups shard point run reason
 
@@ -95,11 +95,12 @@ module _ (input : Option (List ℕ)) (path : List ℕ) where
     abbrev pub StopsRuns : (OfWords : Type 0) → Fault → Type 0
     StopsRuns OfWords = IsOfStudy OfWords (λ line. IsNoTable input path line ⊎ HasRefusedRun)
 
-    -- the words say no grid, no shard, or columns that its rows don't have
+    -- the words say no grid, no shard, no group of pairs, or columns that its rows don't have
     abbrev pub SaysNoSweep : Type 0
     SaysNoSweep = SaysNoGrid study.grid
         ⊎ (SaysNoShard (shard_word study)
-        ⊎ ((g : GridRecord) × IsGrid study.grid g × LacksColumn study.each (columns_word study) g))
+        ⊎ ((g : GridRecord) × IsGrid study.grid g
+        × SaysNoLayout study.each (pairs_words study) (columns_word study) g))
 
     -- `check` of a study stops where `sweep` does before the first run
     abbrev pub StopsSweep : Fault → Type 0

@@ -1,17 +1,17 @@
 //! The command `sweep`: the table of a study.
-ghost use Rattle.std.specs.Prelude.{◌≡◌, ◌≢◌, ◌^◌, ◌-◌, ◌+◌, ◌<◌, ◌≤◌, false, IfOk, IfErr, IfSome, OnOk, option_map};
+ghost use Rattle.std.specs.Prelude.{◌≡◌, ◌≢◌, ◌^◌, ◌-◌, ◌+◌, ◌<◌, ◌≤◌, false, IfOk, IfErr, IfSome, OnOk, map, option_map};
 ghost use Rattle.study_commands.specs.Fault.{IsBefore, IsOfWordsFor};
 ghost use Rattle.study_commands.specs.Study.{IsLayout, rows_for};
 ghost use Rattle.study_commands.specs.Sweep.{GoesForSweep, IsFaultOf, IsOfRun, IsSaid};
 ghost use Rattle.study_commands.specs.Why.{StopsSweep};
-ghost use Rattle.study_commands.specs.WordRefusals.{LacksColumn, is_layout_memory};
+ghost use Rattle.study_commands.specs.WordRefusals.{SaysNoLayout, is_layout_memory};
 ghost use Rattle.study.specs.Sources.{sources_of};
 ghost use Rattle.shell.specs.Input.{TakesAtMost, input_path, most_bytes};
 
 use crate::fault::Fault;
 use crate::file::sources_at;
 use crate::refused_run::{line_of_lack, line_of_run};
-use crate::study_words::{grid_of, shard_of};
+use crate::study_words::{grid_of, groups_of, shard_of};
 use printable::Printable;
 use reporting::Outlet;
 use std::alloc::Global;
@@ -91,13 +91,22 @@ fn layout_fault(alloc: Global, error: &LayoutError) -> Fault
 }
 
 /// The layout of the rows that words ask for.
-fn layout_of(alloc: Global, grid: &Grid, each: Each, columns: Option<&str>) -> Result<Layout, Fault>
-    ensures layout { IfOk result (IsLayout each (option_map (λ w. w.now) columns.entry) grid.now) }
-    ensures refused { IfErr result (IsOfWordsFor (LacksColumn each (option_map (λ w. w.now) columns.entry) grid.now)) }
+fn layout_of(
+    alloc: Global,
+    grid: &Grid,
+    each: Each,
+    pairs: &[&str],
+    columns: Option<&str>,
+) -> Result<Layout, Fault>
+    ensures layout { IfOk result
+        (IsLayout each (map (λ w. w.now) pairs.now) (option_map (λ w. w.now) columns.entry) grid.now) }
+    ensures refused { IfErr result (IsOfWordsFor
+        (SaysNoLayout each (map (λ w. w.now) pairs.now) (option_map (λ w. w.now) columns.entry) grid.now)) }
 {
-    let groups = Vec::new(alloc);
-    Layout::new(alloc, grid, rows_of(each), groups, columns)
-        .map_err(|error| layout_fault(alloc, &error))
+    let groups = groups_of(alloc, pairs)?;
+    Layout::new(alloc, grid, rows_of(each), groups, columns).map_err(|error| layout_fault(
+        alloc, &error,
+    ))
 }
 
 /// The study that words say of the file at a path, `-` being the input: the file's table, the grid, the shard and the
@@ -116,7 +125,7 @@ pub(crate) fn said_over<R: Files, I: Read>(
 {
     let grid = grid_of(alloc, &study.grid)?;
     let shard = shard_of(alloc, study.shard)?;
-    let layout = layout_of(alloc, &grid, study.each, study.columns)?;
+    let layout = layout_of(alloc, &grid, study.each, &study.pairs, study.columns)?;
     let sources = sources_at(rt, alloc, path, input)?;
     Ok((sources, grid, shard, layout))
 }

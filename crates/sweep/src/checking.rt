@@ -69,7 +69,13 @@ fn lack(scenario: &Scenario, groups: &[Group], point: u64, run: u64) -> SweepErr
 }
 
 /// Why the run of this number can't be run.
-fn refusal(alloc: Global, sources: &Sources, grid: &Grid, groups: &[Group], number: u64) -> SweepError
+fn refusal(
+    alloc: Global,
+    sources: &Sources,
+    grid: &Grid,
+    groups: &[Group],
+    number: u64,
+) -> SweepError
     requires some { 1 ≤ length (runs grid.now) }
     requires within { point_of grid.now number < length (points grid.now) }
     ensures { IsRefusalAt (sources_of sources.now) grid.now groups.now number result }

@@ -47,7 +47,13 @@ impl Limits {
 
     /// Takes the next run in. After the last of its point the watcher is told how many passed their limit, if one did,
     /// and the next point begins.
-    fn add<W: Watcher>(&mut self, sources: &Sources, grid: &Grid, numbers: &RunNumbers, watcher: &mut W)
+    fn add<W: Watcher>(
+        &mut self,
+        sources: &Sources,
+        grid: &Grid,
+        numbers: &RunNumbers,
+        watcher: &mut W,
+    )
         requires point { self.old.point < length (points grid.now) }
         requires run { self.old.run < length (runs grid.now) }
         requires few { length (points grid.now) < 2 ^ 64 }
