@@ -37,7 +37,6 @@ one_verdict_counts : (layer : ℕ) (runs : List Finished) (s t : VerdictCounts) 
 one_verdict_counts layer runs s t a b = search rules
 
 module _ (group : Group) (layer : ℕ) where
-
   one_run_counts : (runs : List Finished) (s t : RunCounts) → AreRunCounts group layer runs s → AreRunCounts group layer runs t → s ≡ t
   one_run_counts runs s t a b = search rules
 

@@ -1,5 +1,5 @@
 -- A study has one text: the runs have one result each, and the rows are told by them.
-use Rattle.sweep.proofs.Words.{◌≡◌, ℕ, ◌<◌, ◌++◌, List, [], ◌∷◌, length, Result, Ok, Err, refl, sym, ap, ◌∙◌, subst, arith, AllZip, flat_map, Members, Record, Chosen, GridRecord, RunRecord, ShardRecord, RunResult, finished, limited, IsResult, Trial, LayoutRecord, Text, AreRowsFor, point_at, unit_point, unit_runs, unit_first, lead_of, header_of, units_of, IsTrialOf, AreRowsOf, HasRowsOf, HasOneText}
+use Rattle.sweep.proofs.Words.{◌≡◌, ℕ, ◌<◌, ◌++◌, List, length, Result, Ok, Err, refl, sym, ap, ◌∙◌, subst, arith, flat_map, Members, Record, Chosen, GridRecord, RunRecord, ShardRecord, RunResult, finished, limited, IsResult, Trial, LayoutRecord, Text, AreRowsFor, point_at, unit_point, unit_runs, unit_first, lead_of, header_of, units_of, IsTrialOf, AreRowsOf, HasRowsOf, HasOneText}
 use Rattle.trace_laws.specs.ScenarioSetting.{setting_of}
 use Rattle.trace_laws.proofs.Closed.{one_trace}
 use Rattle.study.specs.Placed.{table_of_run}

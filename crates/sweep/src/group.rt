@@ -61,9 +61,7 @@ impl PairGroup {
     fn has(&self, observer: Pid, subject: Pid) -> bool
         ensures { result ≡ has_pair self.now observer subject }
     {
-        self.blocks
-            .iter()
-            .any(|block| block.has(observer, subject))
+        self.blocks.iter().any(|block| block.has(observer, subject))
     }
 
     /// Whether it names a process above this one.

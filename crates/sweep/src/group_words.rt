@@ -69,7 +69,10 @@ fn block_in(word: &str) -> Result<PairBlock, GroupError>
     };
     let observers = side_in(observers)?;
     let subjects = side_in(subjects)?;
-    Ok(PairBlock { observers, subjects })
+    Ok(PairBlock {
+        observers,
+        subjects,
+    })
 }
 
 /// The blocks that these words say.

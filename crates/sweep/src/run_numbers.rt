@@ -181,9 +181,7 @@ impl GroupNumbers {
             }
         };
         let (first, second) = pairs.split_at(pairs.len() / 2);
-        let first = LayerNumbers::of_run(
-            alloc, scenario, group, 1, summary, own, first, lasted,
-        )?;
+        let first = LayerNumbers::of_run(alloc, scenario, group, 1, summary, own, first, lasted)?;
         let lasted = &durations.second;
         let second = LayerNumbers::of_run(
             alloc, scenario, group, 2, summary, verdicts, second, lasted,
@@ -231,9 +229,7 @@ impl RunNumbers {
     {
         let mut numbers = Vec::new(alloc);
         for group in groups {
-            numbers.push(GroupNumbers::of_run(
-                alloc, scenario, group, findings, durations,
-            )?)?;
+            numbers.push(GroupNumbers::of_run(alloc, scenario, group, findings, durations)?)?;
         }
         Ok(RunNumbers {
             groups: numbers,

@@ -43,7 +43,7 @@ returns-in_err-progress-clause-stops g c =
       first,
       count_order layout.rows grid c.args.begin c.args.end c.requires.order,
       wrote_none (table_view c.args.file.now) grid layout g.O.Outlet.told g.O.Outlet.failed c.args.outlet.now first
-      (wrote_nothing g.O.Outlet.told g.O.Outlet.failed c.args.outlet.now),
+          (wrote_nothing g.O.Outlet.told g.O.Outlet.failed c.args.outlet.now),
     )
 
 pub returns-in_err-progress-clause-heard_some : goal.returns-in_err-progress-clause-heard_some
