@@ -49,7 +49,8 @@ abbrev pub rows_for : Each → Rows
 rows_for each.Point = rows.Points
 rows_for each.Run = rows.Runs
 
--- the layout has such rows, which count all pairs, with the columns that a word names, and with all where there is no word
+-- the layout has such rows, which count all pairs, with the columns that a word names, and with all where there is no
+-- word
 pub record IsLayout (kind : Each) (columns : Option Word) (g : GridRecord) (l : LayoutRecord) : Type 0 where
   pub rows_are : l.rows ≡ rows_for kind
   pub groups_are : l.groups ≡ groups_of []

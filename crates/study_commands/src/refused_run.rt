@@ -40,7 +40,9 @@ pub(crate) fn line_of_lack(
     requires run { run < length (runs grid.now) }
 {
     let name = name_of_run(alloc, grid, point, run)?;
-    let text = format!(in alloc; "{path}: {name}: NoSuchProcess: its processes are 1 to {processes}")?;
+    let text = format!(in alloc;
+        "{path}: {name}: NoSuchProcess: its processes are 1 to {processes}"
+    )?;
     let text = Printable(text.as_str());
     format!(in alloc; "{text}\n")
 }

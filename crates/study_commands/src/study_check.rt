@@ -109,9 +109,7 @@ pub(crate) fn serve_study_check<R: Files + Threads + Sync + Clock, I: Read, W: W
 {
     let (file, grid, shard, layout) = said_over(rt, alloc, path, study, input)?;
     let threads = threads_for(rt, study.threads);
-    match check_study(
-        rt, alloc, &file, &grid, shard, &layout, threads, watcher,
-    ) {
+    match check_study(rt, alloc, &file, &grid, shard, &layout, threads, watcher) {
         Ok(()) => Ok(text_of(rt, alloc, &file, &grid, shard, threads)?.into_bytes()),
         Err(error) => Err(fault_of(alloc, path, &file, &grid, &error)),
     }

@@ -97,8 +97,9 @@ fn layout_of(alloc: Global, grid: &Grid, each: Each, columns: Option<&str>) -> R
     ensures refused { IfErr result (IsOfWordsFor (LacksColumn each (option_map (λ w. w.now) columns.entry) grid.now)) }
 {
     let groups = Vec::new(alloc);
-    Layout::new(alloc, grid, rows_of(each), groups, columns)
-        .map_err(|error| layout_fault(alloc, &error))
+    Layout::new(alloc, grid, rows_of(each), groups, columns).map_err(|error| layout_fault(
+        alloc, &error,
+    ))
 }
 
 /// The study that words say of the file at a path, `-` being the input: the file's table, the grid, the shard and the

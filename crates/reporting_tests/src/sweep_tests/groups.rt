@@ -12,7 +12,8 @@ use std::thread::Threads;
 use std::time::Clock;
 use study::{Grid, Shard};
 use sweep::{
-    GroupError, Layout, PairGroup, Rows, RunNumbers, SweepError, Table, Unwatched, check_study, sweep,
+    GroupError, Layout, PairGroup, Rows, RunNumbers, SweepError, Table, Unwatched, check_study,
+    sweep,
 };
 
 /// The groups that these words say.
@@ -73,10 +74,9 @@ fn words(rt: HostRuntime) {
     same(&rt, &said.len(), &3);
 }
 
-/// The text of the header and of the rows of three processes in a circle, of which each watches the next, for groups.
-/// The first has two blocks, and both have the pair of 2 and 3, which counts once: with the pair of 1 and 2 it is watched
-/// for 3 ticks each, and has the mistake. The second has the pair of 3 and 1, without a mistake, and of the third none is
-/// watched.
+/// The rows of three processes in a circle, of which each watches the next, for groups. The first has two blocks, and
+/// both have the pair of 2 and 3, which counts once: it has the mistake, and is watched for 3 ticks, as is the pair of 1
+/// and 2. The second has the pair of 3 and 1, without a mistake, and of the third none is watched.
 #[test]
 fn circle_in_groups(rt: HostRuntime) {
     let alloc = rt.alloc();
@@ -91,10 +91,7 @@ fn circle_in_groups(rt: HostRuntime) {
     let found = circle(&rt, alloc);
     let run = RunNumbers::of_run(alloc, &scenario, layout.groups(), &found, &lasted);
     let limited = RunNumbers::of_limited(alloc, &scenario, layout.groups());
-    let runs = [
-        limited.expect(&rt, NO_MEMORY),
-        run.expect(&rt, NO_MEMORY),
-    ];
+    let runs = [limited.expect(&rt, NO_MEMORY), run.expect(&rt, NO_MEMORY)];
     let sums = sums_of(&rt, alloc, layout.groups(), 1, &runs);
     is_text(
         &rt,
@@ -106,13 +103,7 @@ fn circle_in_groups(rt: HostRuntime) {
 }
 
 /// A study of the file in which process 2 of two crashes at tick 3, with these columns for these groups.
-fn study_in<R: Abort>(
-    rt: &R,
-    alloc: Global,
-    vary: &str,
-    words: &[&str],
-    columns: &str,
-) -> Study {
+fn study_in<R: Abort>(rt: &R, alloc: Global, vary: &str, words: &[&str], columns: &str) -> Study {
     let study = study_of(rt, alloc, vary, "", 1);
     let layout = layout_for(rt, alloc, &study.grid, words, Some(columns));
     Study { layout, ..study }
@@ -180,15 +171,17 @@ fn no_such_process(rt: HostRuntime) {
         &mut Unwatched,
     );
     for each in [answer, checked] {
-        assert!(rt; matches!(
-            each,
-            Err(SweepError::NoSuchProcess {
-                point: 1,
-                run: 0,
-                group: 1,
-                processes: 2,
-            })
-        ));
+        assert!(rt;
+            matches!(
+                each,
+                Err(SweepError::NoSuchProcess {
+                    point: 1,
+                    run: 0,
+                    group: 1,
+                    processes: 2,
+                })
+            )
+        );
     }
     assert!(rt; outlet.bytes().is_empty());
 }
@@ -202,7 +195,11 @@ fn headers(rt: HostRuntime) {
         (&["1:2"][..], "detector.timeout,pairs,layer,runs\n"),
         (&[], "detector.timeout,layer,runs\n"),
     ] {
-        let columns = if words.is_empty() { "detector.timeout,layer,runs" } else { "detector.timeout,pairs,layer,runs" };
+        let columns = if words.is_empty() {
+            "detector.timeout,layer,runs"
+        } else {
+            "detector.timeout,pairs,layer,runs"
+        };
         let layout = layout_for(&rt, alloc, &grid, words, Some(columns));
         let mut table = Table::new(alloc);
         table

@@ -226,7 +226,13 @@ fn watched_pairs(rt: HostRuntime) {
         first: durations(&rt, alloc, 3, &[&[], &[], &[3, 4], &[], &[], &[2]]),
         second: durations(&rt, alloc, 3, &[]),
     };
-    let run = RunNumbers::of_run(alloc, &scenario, &[Group::All], &circle(&rt, alloc), &lasted);
+    let run = RunNumbers::of_run(
+        alloc,
+        &scenario,
+        &[Group::All],
+        &circle(&rt, alloc),
+        &lasted,
+    );
     let runs = [
         limited_run(&rt, alloc, &scenario),
         run.expect(&rt, NO_MEMORY),
@@ -268,7 +274,12 @@ fn lines(rt: HostRuntime) {
         "\"a \"\"b\"\"\",1,0,0,,,,,,,,,,,,,,,,,,,,,,,,,,,,,,,,,,,,,,,,,,,,,,,,,\n",
     );
     let grid = grid_of(&rt, alloc, "");
-    let rows = rows_of(&rt, alloc, &grid, &sums_of(&rt, alloc, &[Group::All], 1, &[]));
+    let rows = rows_of(
+        &rt,
+        alloc,
+        &grid,
+        &sums_of(&rt, alloc, &[Group::All], 1, &[]),
+    );
     is_text(
         &rt,
         &rows,

@@ -59,7 +59,8 @@ module _ (g : GridRecord) (layout : LayoutRecord) {O : Type 0} (told : O → Opt
     (old new : O) where
   -- with these runs, which come next, a sweep that was under way, of whatever file, goes on from one place to another
   abbrev pub GoesOn : List RunNumbers → (from to : Progress) → Type 0
-  GoesOn all from to = (file : Members) (start : O) (begin : ℕ) → AreNumbersFrom file g layout.groups (next_run g layout from) all
+  GoesOn all from to = (file : Members) (start : O) (begin : ℕ)
+      → AreNumbersFrom file g layout.groups (next_run g layout from) all
       → IsUnderWay file g layout told failed start old begin from
       → IsUnderWay file g layout told failed start new begin to
 
@@ -67,7 +68,8 @@ module _ (g : GridRecord) (layout : LayoutRecord) {O : Type 0} (told : O → Opt
   abbrev pub StopsAt : List RunNumbers → (from : Progress) → SweepError → Type 0
   StopsAt all from e = (file : Members) (start : O) (begin end : ℕ)
       → next_run g layout from + length all ≤ end * runs_each layout.rows g
-      → AreNumbersFrom file g layout.groups (next_run g layout from) all → IsUnderWay file g layout told failed start old begin from
+      → AreNumbersFrom file g layout.groups (next_run g layout from) all
+      → IsUnderWay file g layout told failed start old begin from
       → StopsBelow file g layout told failed start new begin end e
 
   -- the rows of the points from one up to another went out, or a sweep of them stopped
