@@ -1,5 +1,5 @@
 -- How the count of runs that passed their limit comes on.
-use Rattle.sweep.proofs.Words.{◌≡◌, ℕ, ◌+◌, ◌-◌, ◌*◌, ◌<◌, ◌≤◌, Bool, true, false, cond, Result, Ok, IfOk, List, [], ◌∷◌, ◌++◌, length, map, min, take, get_or, sym, ap, ◌∙◌, subst, arith, AllZip, count_by, range_with_len, slice_index_or, lt_of_mul-lt-mul_right, take-length, length-map, sum_by-append, HaveJoined, SourcesRecord, GridRecord, RunRecord, runs, is_limited, on_layer, LayoutRecord, AreUnderWay, next_counted, IsAnswerAt, AreNumbersAt, AreNumbersFrom, Trial, point_at, IsTrialOf, AreNumbers, News, stands, said_of, AreLimited, HeardRunning, HeardSomeRunning, Group, RunNumbers}
+use Rattle.sweep.proofs.Words.{◌≡◌, ℕ, ◌+◌, ◌-◌, ◌*◌, ◌<◌, ◌≤◌, cond, Result, Ok, IfOk, List, [], ◌∷◌, ◌++◌, length, map, take, get_or, sym, ap, ◌∙◌, subst, arith, AllZip, count_by, range_with_len, slice_index_or, lt_of_mul-lt-mul_right, take-length, length-map, sum_by-append, HaveJoined, SourcesRecord, GridRecord, RunRecord, runs, is_limited, LayoutRecord, AreUnderWay, next_counted, IsAnswerAt, AreNumbersAt, AreNumbersFrom, Trial, point_at, IsTrialOf, News, stands, said_of, AreLimited, HeardRunning, HeardSomeRunning, Group, RunNumbers}
 use Rattle.std.proofs.lemmas.List.{get_or-map}
 use Rattle.sweep.specs.Inside.Limits.{AreCounted}
 use Rattle.sweep.specs.declared.layout.Rows.TheVariants as kind

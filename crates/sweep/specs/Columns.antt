@@ -135,7 +135,8 @@ module _ (group : Group) (layer : ℕ) where
     pub traces : AreTraceSums runs s.traces
     pub pair_ticks : s.pair_ticks ≡ sum_by (pair_ticks group layer) runs
     pub pairs : ArePairSums (all_pairs runs) s.pairs
-    pub mistakes_squared_sum : s.mistakes_squared_sum ≡ sum_by (λ r. mistakes group layer r * mistakes group layer r) runs
+    pub mistakes_squared_sum : s.mistakes_squared_sum
+        ≡ sum_by (λ r. mistakes group layer r * mistakes group layer r) runs
     pub verdicts : AreVerdictCounts layer runs s.verdicts
     pub decisions : AreDecisionSums (flat_map deciding runs) s.decisions
     pub counts : AreRunCounts runs s.counts

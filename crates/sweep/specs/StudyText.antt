@@ -93,7 +93,8 @@ names_of rows groups g = lead_names rows g ++ (group_names groups ++ column_name
 
 -- the first shard begins with the header
 abbrev pub header_of : GridRecord → ShardRecord → LayoutRecord → Text
-header_of g shard layout = if shard.number == 1 then header_text layout.picks (names_of layout.rows layout.groups g) else []
+header_of g shard layout =
+    if shard.number == 1 then header_text layout.picks (names_of layout.rows layout.groups g) else []
 
 module _ (sources : SourcesRecord) (g : GridRecord) (layout : LayoutRecord) where
   -- the rows of a point tell of all its runs, those of a run of it alone
@@ -101,7 +102,8 @@ module _ (sources : SourcesRecord) (g : GridRecord) (layout : LayoutRecord) wher
     pub trials : List Trial
     pub each : AllZip (IsTrialOf sources (point_at g (unit_point layout.rows g unit)))
         (unit_runs layout.rows g unit) trials
-    pub told : AreRowsFor layout.picks (lead_of layout.rows g unit) layout.groups (unit_first layout.rows g unit) trials rows
+    pub told : AreRowsFor layout.picks (lead_of layout.rows g unit) layout.groups (unit_first layout.rows g unit)
+        trials rows
 
   -- the rows of these points or runs, one after the other
   pub record HasRowsOf (units : List ℕ) (text : Text) : Type 0 where

@@ -21,7 +21,8 @@ use std::thread::Threads;
 use std::time::Clock;
 use study::{Grid, Sources};
 
-/// What the run of a scenario gives to the sums of these groups. It is run and measured once. A run that passes its limit is counted, and gives nothing else.
+/// What the run of a scenario gives to the sums of these groups. It is run and measured once. A run that passes its
+/// limit is counted, and gives nothing else.
 fn measure_scenario(
     alloc: Global,
     scenario: &Scenario,

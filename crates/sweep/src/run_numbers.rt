@@ -92,8 +92,8 @@ impl LayerNumbers {
     fn of_nothing(alloc: Global, limited: u64) -> LayerNumbers
         ensures limited { limited ≡ 1 → (group : GroupRecord) (layer : ℕ) (S : Record) → has_layer layer S ≡ true
             → AreLayerNumbers group layer (record { scenario = S; result = limited_result } ∷ []) result }
-        ensures none { limited ≡ 0 → (group : GroupRecord) (layer : ℕ) (trial : Trial) → has_layer layer trial.scenario ≡ false
-            → AreLayerNumbers group layer (trial ∷ []) result }
+        ensures none { limited ≡ 0 → (group : GroupRecord) (layer : ℕ) (trial : Trial)
+            → has_layer layer trial.scenario ≡ false → AreLayerNumbers group layer (trial ∷ []) result }
     {
         LayerNumbers {
             sums: LayerSums {

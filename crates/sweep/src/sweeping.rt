@@ -87,13 +87,13 @@ fn write_points<R: Threads + Sync + Clock, O: Outlet, W: Watcher>(
 }
 
 /// Sweeps the points of a shard of a study: runs all their runs by so many threads, and writes rows with the layout's
-/// columns: of each point, with sums over its runs, or of each run, one for each group of pairs and each layer. The first shard begins with the
-/// header. The threads and the watcher change nothing of the text.
+/// columns, one for each group of pairs and each layer of a point, with sums over its runs, or of each run. The first
+/// shard begins with the header. The threads and the watcher change nothing of the text.
 ///
 /// Every run's scenario is read before the first run starts. Runs are read, and then run, in batches that take about a
 /// second by the clock, and rows go out soon after the last run that they tell of is in. Memory doesn't grow with
 /// the runs: what is held is what a batch gives, of 256 runs for each thread at most, with the length of each mistake
-/// in them, and the sums of a point.
+/// in them for each group, and the sums of a point.
 ///
 /// The watcher hears of how many of the shard's runs the scenarios are read, from none up to all of them, and then how
 /// many are run. It is told when rows are to go out, and before that of each point of whose runs some passed their
@@ -102,9 +102,8 @@ fn write_points<R: Threads + Sync + Clock, O: Outlet, W: Watcher>(
 /// # Errors
 ///
 /// `Refused` or `NoSuchProcess` where a run of the shard has no scenario, or not all processes that a group names, for
-/// the first such run; then nothing went out. `Memory` where
-/// memory was refused: then nothing went out, or the header and the first points' or runs' rows. `Write` where a put
-/// failed: then a front part of these.
+/// the first such run; then nothing went out. `Memory` where memory was refused: then nothing went out, or the header
+/// and the first points' or runs' rows. `Write` where a put failed: then a front part of these.
 pub fn sweep<R: Threads + Sync + Clock, O: Outlet, W: Watcher>(
     rt: &R,
     alloc: Global,

@@ -17,7 +17,8 @@ use study::{Grid, Shard};
 
 /// The header of a study.
 pub(crate) fn header_of(alloc: Global, grid: &Grid, layout: &Layout) -> Result<Vec<u8>, AllocError>
-    ensures { IfOk result (λ t. t.items ≡ header_text layout.now.picks (names_of layout.now.rows layout.now.groups grid.now)) }
+    ensures { IfOk result (λ t. t.items
+        ≡ header_text layout.now.picks (names_of layout.now.rows layout.now.groups grid.now)) }
 {
     let mut table = Table::new(alloc);
     table.push_header(alloc, grid, layout)?;

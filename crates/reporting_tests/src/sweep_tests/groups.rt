@@ -74,10 +74,9 @@ fn words(rt: HostRuntime) {
     same(&rt, &said.len(), &3);
 }
 
-/// The text of the header and of the rows of three processes in a circle, of which each watches the next, for groups.
-/// The first has two blocks, and both have the pair of 2 and 3, which counts once: with the pair of 1 and 2 it is watched
-/// for 3 ticks each, and has the mistake. The second has the pair of 3 and 1, without a mistake, and of the third none is
-/// watched.
+/// The rows of three processes in a circle, of which each watches the next, for groups. The first has two blocks, and
+/// both have the pair of 2 and 3, which counts once: it has the mistake, and is watched for 3 ticks, as is the pair of 1
+/// and 2. The second has the pair of 3 and 1, without a mistake, and of the third none is watched.
 #[test]
 fn circle_in_groups(rt: HostRuntime) {
     let alloc = rt.alloc();

@@ -59,7 +59,8 @@ module _ (g : GridRecord) (layout : LayoutRecord) {O : Type 0} (told : O → Opt
     (old new : O) where
   -- with these runs, which come next, a sweep that was under way, of whatever files, goes on from one place to another
   abbrev pub GoesOn : List RunNumbers → (from to : Progress) → Type 0
-  GoesOn all from to = (sources : SourcesRecord) (start : O) (begin : ℕ) → AreNumbersFrom sources g layout.groups (next_run g layout from) all
+  GoesOn all from to = (sources : SourcesRecord) (start : O) (begin : ℕ)
+      → AreNumbersFrom sources g layout.groups (next_run g layout from) all
       → IsUnderWay sources g layout told failed start old begin from
       → IsUnderWay sources g layout told failed start new begin to
 
@@ -67,7 +68,8 @@ module _ (g : GridRecord) (layout : LayoutRecord) {O : Type 0} (told : O → Opt
   abbrev pub StopsAt : List RunNumbers → (from : Progress) → SweepError → Type 0
   StopsAt all from e = (sources : SourcesRecord) (start : O) (begin end : ℕ)
       → next_run g layout from + length all ≤ end * runs_each layout.rows g
-      → AreNumbersFrom sources g layout.groups (next_run g layout from) all → IsUnderWay sources g layout told failed start old begin from
+      → AreNumbersFrom sources g layout.groups (next_run g layout from) all
+      → IsUnderWay sources g layout told failed start old begin from
       → StopsBelow sources g layout told failed start new begin end e
 
   -- the rows of the points from one up to another went out, or a sweep of them stopped

@@ -1,4 +1,4 @@
-use Rattle.sweep.proofs.Words.{Result, Err, None, cond, sym, ap, lit<}
+use Rattle.sweep.proofs.Words.{Err, None, cond, sym, ap, lit<}
 use Rattle.std.proofs.lemmas.Str.Pattern.{split_parts}
 use Rattle.study.specs.Words.{before, after}
 use Rattle.study.proofs.Parts.{has_not}
