@@ -293,7 +293,9 @@ fn a_process_above_the_run(rt: HostRuntime) {
     let alloc = rt.alloc();
     let network = network_of(&rt, alloc, ONE_OF_EACH).expect(&rt, "no network");
     assert!(rt; process_above(&network, 3).is_none());
-    let above = process_above(&network, 2).expect(&rt, "no process above 2");
+    let Some(above) = process_above(&network, 2) else {
+        rt.abort()
+    };
     assert_eq!(rt; above.kind, TableKind::Bursts);
     assert_eq!(rt; above.number, 1);
     assert_eq!(rt; above.key, "to");
