@@ -14,8 +14,8 @@ const SCENARIO: &str =
     links = [{ from = 1, to = 3, min = 8, max = 8 }, { from = 2, to = 3, min = 6, max = 7 }]\n\
     outage = [{ from = 3, to = 2, begin = 1, until = 2 }]\n";
 
-/// The same with what is laid over it under seed 1: the links of the tables that stay and then those of the network, and
-/// the outage of the file and then those that are drawn.
+/// The same with what is laid over it under seed 1: the links of the tables that stay and then those of the network,
+/// and the outage of the file and then those that are drawn.
 const LAID: &str =
     "version = 2\nprocesses = 3\nhorizon = 100\nlookahead = 1\nseed = 1\nalgorithm = \"none\"\n\
     detector = { period = 1, check = 1, timeout = 3 }\nlink = { min = 1, max = 1 }\n\

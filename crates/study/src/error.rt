@@ -44,8 +44,8 @@ pub enum GridError {
     Memory(#[from(alloc)] AllocError),
 }
 
-/// Why a study's files can't have a value at a key, or stand for no table of a run. Reasons against a network's file are
-/// looked for in the order in which they stand here.
+/// Why a study's files can't have a value at a key, or stand for no table of a run. Reasons against a network's file
+/// are looked for in the order in which they stand here.
 #[derive(Debug, Drop, Error)]
 pub enum PlaceError {
     /// The key is one of the network's file, and there is none.

@@ -37,8 +37,8 @@ fn run_sources(
     Ok(changed)
 }
 
-/// The table of a run's file: the scenario's, with the point's settings, the run's, and its seed, and with the network's
-/// file laid over it where there is one.
+/// The table of a run's file: the scenario's, with the point's settings, the run's, and its seed, and with the
+/// network's file laid over it where there is one.
 ///
 /// # Errors
 ///
