@@ -1,7 +1,6 @@
 -- The tables of an array of tables.
-use Rattle.std.proofs.Common.{◌≡◌, ℕ, zero, suc, ◌<◌, ◌≤◌, ◌+◌, ◌++◌, Bool, true, false, List, [], ◌∷◌, length, get_or, map, slice_get, Option, Some, None, option_and_then, refl, ap, sym, ◌∙◌, add-one, arith, if◌then◌else◌}
-use Rattle.std.specs.List.{All, AllZip, filter_map}
-use Rattle.std.specs.Option.{option_map_or}
+use Rattle.std.proofs.Common.{◌≡◌, ℕ, zero, suc, ◌<◌, ◌+◌, ◌++◌, true, false, List, [], ◌∷◌, length, get_or, map, slice_get, Some, None, option_and_then, refl, ap, sym, ◌∙◌, add-one}
+use Rattle.std.specs.List.{AllZip}
 use Rattle.std.proofs.lemmas.List.{length-map, get_or-map}
 use Rattle.std.proofs.lemmas.Option.{slice_get-get_or}
 use Rattle.toml.specs.Data.{Data, Items, Members, no_items, item, table, string, integer, float, boolean, datetime, array, as_array, as_table, get_item, get_member}

@@ -1,7 +1,6 @@
 -- Files and tables that are as they should be.
-use Rattle.std.proofs.Common.{◌≡◌, ◌≤◌, ◌+◌, ◌++◌, ◌∷◌, [], ℕ, List, length, get_or, take, true, Result, Ok, Err, OnOk, false, Option, Some, None, option_and_then, refl, sym, subst, arith}
-use Rattle.std.specs.List.{All, filter_map}
-use Rattle.std.specs.Option.{option_map_or}
+use Rattle.std.proofs.Common.{◌≡◌, ◌≤◌, [], List, length, true, Result, Ok, Err, OnOk, false, Some, None, refl, sym, subst, arith}
+use Rattle.std.specs.List.{All}
 use Rattle.toml.specs.Data.{Data, Members, get_member}
 use Rattle.scenario.specs.Table.{is_of, the_tables, tables_at}
 use Rattle.scenario.specs.declared.field.Kind.TheVariants as kind

@@ -1,5 +1,5 @@
 -- The first number of a range that passes, and what is said of each item.
-use Rattle.std.proofs.Common.{◌≡◌, ℕ, suc, ◌<◌, ◌+◌, ◌-◌, Bool, true, false, cond, Option, Some, None, List, [], ◌∷◌, map, refl, ap, ◌∙◌, arith, add-one}
+use Rattle.std.proofs.Common.{◌≡◌, ℕ, suc, ◌<◌, ◌+◌, ◌-◌, Bool, true, false, cond, Some, None, List, [], ◌∷◌, map, refl, ap, ◌∙◌, arith, add-one}
 use Rattle.std.specs.List.{find, range_with_len}
 use Rattle.toml.specs.Data.{Data}
 use Rattle.toml.specs.View.{view, items_view}

@@ -1,12 +1,12 @@
 -- The network of a network file is in its ranges.
-use Rattle.std.proofs.Common.{◌≡◌, ℕ, zero, suc, ◌<◌, ◌≤◌, ◌==◌, ◌&&◌, ℤ, pos, negsuc, min, nat_le, nat_lt, List, [], ◌∷◌, length, find, Bool, true, false, not, Option, Some, None, option_map, option_and_then, is_some, refl, ap, sym, ◌∙◌, subst, arith, codes, if◌then◌else◌}
+use Rattle.std.proofs.Common.{◌≡◌, ℕ, zero, suc, ◌≤◌, ◌==◌, ◌&&◌, ℤ, pos, negsuc, min, nat_le, nat_lt, List, [], ◌∷◌, length, find, Bool, true, false, not, Option, Some, None, option_map, option_and_then, is_some, refl, ap, sym, ◌∙◌, subst, arith, codes, if◌then◌else◌}
 use Rattle.std.specs.List.{All, AllZip}
 use Rattle.std.specs.Option.{option_map_or, option_or}
 use Rattle.std.proofs.lemmas.Bool.{leb-true, ltb-true, ltb-false}
 use Rattle.std.proofs.lemmas.List.Elements.{All-nil, All-cons, All-head, All-tail}
 use Rattle.std.proofs.lemmas.List.Sorted.{All-permutation, length_permutation}
 use Rattle.std.proofs.lemmas.Slice.Zip.{AllZip-long}
-use Rattle.toml.specs.Data.{Data, Items, Members, no_items, item, table, string, integer, float, boolean, datetime, array, as_array, get_member}
+use Rattle.toml.specs.Data.{Data, Items, Members, no_items, item, table, string, integer, float, boolean, datetime, array, get_member}
 use Rattle.scenario.specs.Table.{all_items, is_number, tables_at}
 use Rattle.scenario.specs.Text.{natural}
 use Rattle.scenario.specs.Rules.{is_within}
@@ -14,13 +14,12 @@ use Rattle.scenario.specs.Faults.{count}
 use Rattle.scenario.proofs.Within.{neither}
 use Rattle.scenario_record.specs.declared.outage.Outage.{Outage}
 use Rattle.network.specs.Fields.{Field, both_field, burst_fields, cut_fields, fault_at, fault_of_value, first_of, first_outside, group_field, has_fault, has_more, is_empty_array, is_numbers, is_spell_table, items_in, key_of, lacks_member, needed, number_outside, outside, pause_fields, replay_fields, spell_field, takes}
-use Rattle.network.specs.Ranges.{AreValues, IsNetwork, IsReplay, IsRhythm, IsSpell, IsTicks, IsWithin, most_values}
+use Rattle.network.specs.Ranges.{IsNetwork, IsReplay, IsRhythm, IsSpell, IsTicks, IsWithin, most_values}
 use Rattle.network.specs.Reading.{Said, SaysBurst, SaysCut, SaysNetwork, SaysPause, SaysReplay, SaysRhythm, each, lasts_in, mean, number_of, outage_of, outages_in, said_at, said_in, said_of, ticks, values}
 use Rattle.network.specs.Refusals.{IsNetworkFile, IsTableOf, lies_within, replay_fault}
 use Rattle.network.specs.Words.{most_tables}
 use Rattle.network.specs.declared.field.Shape.{Shape}
 use Rattle.network.specs.declared.field.Shape.TheVariants as shape
-use Rattle.network.specs.declared.field.TableKind.{TableKind}
 use Rattle.network.specs.declared.field.TableKind.TheVariants.{Bursts, Cuts, Pauses, Replays}
 use Rattle.network.specs.declared.network.Burst.{Burst}
 use Rattle.network.specs.declared.network.Cut.{Cut}
@@ -28,7 +27,6 @@ use Rattle.network.specs.declared.network.Network.{Network}
 use Rattle.network.specs.declared.network.Pause.{Pause}
 use Rattle.network.specs.declared.network.Replay.{Replay}
 use Rattle.network.specs.declared.refusal.TableFault.TheVariants as together
-use Rattle.network.specs.declared.refusal.ValueFault.{ValueFault}
 use Rattle.network.specs.declared.refusal.ValueFault.TheVariants as fault
 use Rattle.network.specs.declared.rhythm.Rhythm.{Rhythm}
 use Rattle.network.specs.declared.spell.Spell.{Spell}
@@ -228,7 +226,7 @@ burst_in_range : (t : Members) (b : Burst) → SaysBurst t b → IsTableOf Burst
 unfolding has_fault burst_fields
 burst_in_range t b says is =
     let gap = (neither (is_some (fault_at both_field t)) _
-        (neither (is_some (fault_at (group_field (codes "to")) t)) _ (neither (is_some (fault_at (group_field (codes "from")) t)) _ is.values).1).1).1 in
+    (neither (is_some (fault_at (group_field (codes "to")) t)) _ (neither (is_some (fault_at (group_field (codes "from")) t)) _ is.values).1).1).1 in
     let long = (neither _ _ gap).1 in
     rhythm_in_range t b.rhythm says.rhythm (none_of _ (neither _ _ gap).0) (none_of _ (neither _ false long).0)
 
@@ -288,7 +286,7 @@ replay_in_range : (t : Members) (r : Replay) → SaysReplay t r → IsTableOf Re
 unfolding has_fault replay_fields
 replay_in_range t r says is =
     let lasts = (neither (is_some (fault_at both_field t)) _
-        (neither (is_some (fault_at (group_field (codes "to")) t)) _ (neither (is_some (fault_at (group_field (codes "from")) t)) _ is.values).1).1).1 in
+    (neither (is_some (fault_at (group_field (codes "to")) t)) _ (neither (is_some (fault_at (group_field (codes "from")) t)) _ is.values).1).1).1 in
     let outages = (neither _ _ lasts).1 in
     record_in_range t r says (none_of _ (neither _ _ lasts).0) (none_of _ (neither _ false outages).0) is.together
 

@@ -10,3 +10,5 @@ pub mod Firsts
 pub mod ArrayTables
 pub mod Checked
 pub mod InRange
+pub mod Naming
+pub mod Refused

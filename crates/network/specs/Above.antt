@@ -1,6 +1,7 @@
 -- The processes that a network names and a run doesn't have.
-use Rattle.std.specs.Prelude.{◌≡◌, ℕ, zero, suc, ◌&&◌, nat_lt, List, [], ◌∷◌, map, slice_get, codes, Option, Some, None}
-use Rattle.std.specs.List.{All, Contains, find}
+use Rattle.std.specs.Prelude.{◌≡◌, ℕ, zero, suc, ◌-◌, ◌&&◌, nat_lt, List, [], ◌∷◌, ◌++◌, map, take, slice_get, codes}
+use Rattle.std.specs.Prelude.{Option, Some, None}
+use Rattle.std.specs.List.{All, find}
 use Rattle.std.specs.FinSet as set
 use Rattle.network.specs.Refusals.{all_processes}
 use Rattle.network.specs.declared.field.TableKind.{TableKind}
@@ -55,14 +56,26 @@ AreAllWithin n groups = All (λ (g : Named). member_above n g.group ≡ None) gr
 abbrev pub AreWithin : (n : ℕ) → List (List Named) → Type 0
 AreWithin n tables = All (AreAllWithin n) tables
 
--- a group of a table has this key and this member above n
+-- the first group of a table that has a member above n has this key and this member
 pub record HasKeyAbove (n : ℕ) (groups : List Named) (key : List ℕ) (process : ℕ) : Type 0 where
+  pub before : List Named
   pub group : Group
-  pub is_named : Contains groups (named key group)
+  pub rest : List Named
+  pub there : groups ≡ before ++ named key group ∷ rest
+  pub within : AreAllWithin n before
   pub above : member_above n group ≡ Some process
 
--- a group of the table of this number has
+-- the table of this number is the first that has such a group
 pub record HasAbove (n : ℕ) (tables : List (List Named)) (number : ℕ) (key : List ℕ) (process : ℕ) : Type 0 where
   pub groups : List Named
   pub there : numbered number tables ≡ Some groups
+  pub within : AreWithin n (take (number - 1) tables)
   pub is : HasKeyAbove n groups key process
+
+-- the kinds whose tables are looked at before those of a kind
+abbrev pub earlier : TableKind → List TableKind
+earlier Links = []
+earlier Bursts = Links ∷ []
+earlier Cuts = Links ∷ Bursts ∷ []
+earlier Pauses = Links ∷ Bursts ∷ Cuts ∷ []
+earlier Replays = Links ∷ Bursts ∷ Cuts ∷ Pauses ∷ []

@@ -1,8 +1,11 @@
 -- The keys that the tables of a network file may have, and which values a key may have.
-use Rattle.std.specs.Prelude.{ℕ, ◌==◌, nat_lt, ℤ, pos, List, [], ◌∷◌, map, Bool, true, false, not, ◌&&◌, ◌||◌, if◌then◌else◌, Option, Some, None, option_map, option_and_then, unwrap_or, is_some, is_none, codes, length}
+use Rattle.std.specs.Prelude.{ℕ, ◌==◌, nat_lt, ℤ, List, [], ◌∷◌, map, Bool, true, false, not, ◌&&◌, ◌||◌}
+use Rattle.std.specs.Prelude.{if◌then◌else◌, Option, Some, None, option_map, option_and_then, unwrap_or, is_some}
+use Rattle.std.specs.Prelude.{codes, length}
 use Rattle.std.specs.List.{list_any}
 use Rattle.std.specs.Option.{option_map_or, option_or}
-use Rattle.toml.specs.Data.{Data, Items, no_items, item, Members, get_member, as_integer, as_str, as_bool, as_array, as_table}
+use Rattle.toml.specs.Data.{Data, Items, no_items, item, Members, get_member, as_integer, as_str, as_bool, as_array}
+use Rattle.toml.specs.Data.{as_table}
 use Rattle.process_api.specs.Bounds.{most_processes}
 use Rattle.scenario.specs.Table.{all_items, is_number, is_of, keys_of, same_text}
 use Rattle.scenario.specs.Rules.{is_within}
@@ -182,7 +185,8 @@ number_outside shape.Flag low high d = None
 number_outside shape.Number low high d = outside low high d
 number_outside shape.Spell low high d =
     option_or (outside low high d)
-    (option_or (option_and_then (outside low high) (mean_in d)) (option_and_then (first_outside low high) (values_in d)))
+    (option_or (option_and_then (outside low high) (mean_in d))
+    (option_and_then (first_outside low high) (values_in d)))
 number_outside shape.Outages low high d = first_of (first_outside low high) (items_in d)
 
 -- what is wrong with a value

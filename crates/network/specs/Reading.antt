@@ -1,5 +1,6 @@
 -- What a network file says: which network its table stands for.
-use Rattle.std.specs.Prelude.{◌≡◌, ℕ, ℤ, pos, List, [], ◌∷◌, ◌++◌, Bool, false, Option, Some, None, option_and_then, unwrap_or, if◌then◌else◌, codes, IsPermutation, min}
+use Rattle.std.specs.Prelude.{◌≡◌, ℕ, ℤ, pos, List, [], ◌∷◌, ◌++◌, Bool, false, Option, Some, None, option_and_then}
+use Rattle.std.specs.Prelude.{unwrap_or, if◌then◌else◌, codes, IsPermutation, min}
 use Rattle.std.specs.List.{AllZip}
 use Rattle.std.specs.List.Sorted.{IsSorted}
 use Rattle.std.specs.Option.{option_map_or, option_to_list}

@@ -1,5 +1,6 @@
 -- Which tables are network files, and why others are refused.
-use Rattle.std.specs.Prelude.{◌≡◌, ℕ, ◌<◌, ◌≤◌, ◌&&◌, nat_lt, nat_le, not, List, length, Bool, true, false, string_bytes, Option, Some, None, option_map, if◌then◌else◌}
+use Rattle.std.specs.Prelude.{◌≡◌, ◌≢◌, ℕ, ◌<◌, ◌≤◌, ◌&&◌, nat_lt, nat_le, not, List, length, Bool, true, false}
+use Rattle.std.specs.Prelude.{string_bytes, Option, Some, None, option_map, if◌then◌else◌}
 use Rattle.std.specs.List.{All, Contains, find, range_with_len}
 use Rattle.std.specs.Option.{option_map_or}
 use Rattle.toml.specs.Data.{Members, get_member}
@@ -11,7 +12,8 @@ use Rattle.scenario_record.specs.declared.outage.Outage.{Outage}
 use Rattle.network.specs.Groups.{holds}
 use Rattle.network.specs.Words.{most_tables}
 use Rattle.network.specs.Ranges.{IsNetwork}
-use Rattle.network.specs.Fields.{Field, fault_at, fields_in, file_keys, has_fault, has_unlisted, key_of, keys_in, is_listed}
+use Rattle.network.specs.Fields.{Field, fault_at, fields_in, file_keys, has_fault, has_unlisted, key_of, keys_in}
+use Rattle.network.specs.Fields.{is_listed}
 use Rattle.network.specs.Reading.{SaysNetwork, lasts_in, link_in, outages_in, side_at}
 use Rattle.network.specs.declared.field.TableKind.{TableKind}
 use Rattle.network.specs.declared.field.TableKind.TheVariants.{Links, Bursts, Cuts, Pauses, Replays}
@@ -107,3 +109,7 @@ Refuses (error.UnknownKey k number key) file = HasTable file k number (λ t. Has
 Refuses (error.Value k number key its) file = HasTable file k number (HasFaultAt (fields_in k) key.now its)
 Refuses (error.Table k number its) file = HasTable file k number (λ t. fault_of k t ≡ Some its)
 Refuses error.Memory file = Unit {0}
+
+-- a file that is refused is no network file, but where memory was refused
+abbrev pub AreNoFiles : Type 0
+AreNoFiles = (e : NetworkError) (file : Members) → e ≢ error.Memory → Refuses e file → ¬ IsNetworkFile file

@@ -1,10 +1,11 @@
 //! Processes that a network names and a run doesn't have.
 ghost use Rattle.std.specs.Prelude.{◌≡◌, ◌≤◌, ◌&&◌, nat_lt, List, Some, None, map, IfSome};
 ghost use Rattle.std.specs.FinSet as set;
-ghost use Rattle.std.specs.List.{find, range_with_len};
+ghost use Rattle.std.specs.List.{All, find, range_with_len};
 ghost use Rattle.process_api.specs.Bounds.{most_processes};
 ghost use Rattle.network.specs.Above as spec;
-ghost use Rattle.network.specs.Above.{AreAllWithin, AreWithin, HasAbove, HasKeyAbove, Named, groups_of, link_groups};
+ghost use Rattle.network.specs.Above.{AreAllWithin, AreWithin, HasAbove, HasKeyAbove, Named};
+ghost use Rattle.network.specs.Above.{earlier, groups_of, link_groups};
 ghost use Rattle.network.specs.declared.field.TableKind.{TableKind};
 
 use crate::field::TableKind;
@@ -74,6 +75,7 @@ fn key_above(key: &'static str, group: &Group, n: u16) -> Option<KeyAbove>
 }
 
 /// A process above n of the ends of links.
+#[tactic(auto, using(crate::proofs::Naming::first_named, crate::proofs::Naming::second_named, crate::proofs::Naming::both_within))]
 fn link_above(links: &LinkSet, n: u16) -> Option<KeyAbove>
     ensures none { result ≡ None → AreAllWithin n (link_groups links.now) }
     ensures some { IfSome result (λ a. HasKeyAbove n (link_groups links.now) a.key.now a.process) }
@@ -120,6 +122,7 @@ impl NamesGroups for Cut {
 
     ghost groups = { cut_groups };
 
+    #[tactic(auto, using(crate::proofs::Naming::first_named, crate::proofs::Naming::second_named, crate::proofs::Naming::both_within))]
     fn above(&self, n: u16) -> Option<KeyAbove> {
         if let Some(above) = key_above("between", &self.one, n) {
             return Some(above);
@@ -133,6 +136,7 @@ impl NamesGroups for Pause {
 
     ghost groups = { pause_groups };
 
+    #[tactic(auto, using(crate::proofs::Naming::first_named, crate::proofs::Naming::one_within))]
     fn above(&self, n: u16) -> Option<KeyAbove> {
         key_above("processes", &self.processes, n)
     }
@@ -168,10 +172,13 @@ fn table_above<T: NamesGroups>(tables: &[T], kind: TableKind, n: u16) -> Option<
 }
 
 /// A process above n that the network names, with the table and the key: of the first table that names one, by the
-/// kinds `links`, `bursts`, `cuts`, `pauses` and `replays`. None: all processes that it names are 1 to n.
+/// kinds `links`, `bursts`, `cuts`, `pauses` and `replays`, its first key and the least such process. None: all processes that it names are 1 to n.
 pub fn process_above(network: &Network, processes: u16) -> Option<Above>
     ensures none { result ≡ None → (k : TableKind) → AreWithin processes (groups_of network.now k) }
-    ensures some { IfSome result (λ a. HasAbove processes (groups_of network.now a.kind) a.number a.key.now a.process) }
+    ensures some { IfSome result
+        (λ a. HasAbove processes (groups_of network.now a.kind) a.number a.key.now a.process) }
+    ensures first { IfSome result
+        (λ a. All (λ (k : TableKind). AreWithin processes (groups_of network.now k)) (earlier a.kind)) }
 {
     let n = processes;
     if let Some(above) = table_above(&network.links, TableKind::Links, n) {

@@ -57,7 +57,8 @@ struct KeyFault {
 #[tactic(auto, using(crate::proofs::Keys::any_fault))]
 fn value_fault(fields: &[Field], table: &Table) -> Option<KeyFault>
     ensures test { is_some result ≡ has_fault (fields_of fields.now) (table_view table.now) }
-    ensures fault { IfSome result (λ its. HasFaultAt (fields_of fields.now) its.key.now its.fault (table_view table.now)) }
+    ensures fault { IfSome result
+        (λ its. HasFaultAt (fields_of fields.now) its.key.now its.fault (table_view table.now)) }
 {
     for field in fields {
         if let Some(fault) = field.fault_at(table) {

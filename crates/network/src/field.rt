@@ -139,7 +139,7 @@ impl TableKind {
     }
 }
 
-/// The keys that a table of a kind may have, in the order in which `docs` name them.
+/// The keys that a table of a kind may have: a caller can tell the nearest one of an unknown key.
 #[tactic(auto, unfolding(crate::specs::Fields::link_fields, crate::specs::Fields::burst_fields, crate::specs::Fields::cut_fields, crate::specs::Fields::pause_fields, crate::specs::Fields::replay_fields))]
 pub fn keys_of(kind: TableKind) -> &'static [&'static str]
     ensures { map (λ key. key.now) result.now ≡ keys_in kind }

@@ -6,6 +6,10 @@
 //! so no other table changes what it draws. Its gaps and lengths are [`Spell`]s (`specs/Spells.antt`), which follow one
 //! another in turn (`specs/Episodes.antt`).
 //!
+//! [`read_network`] gives the network that the table of a TOML file stands for (`specs/Reading.antt`), or says what is
+//! wrong with the file (`specs/Refusals.antt`). How many processes a run has is not known then: [`process_above`] tells
+//! a process that the network names and a run doesn't have.
+//!
 //! [`draw`] gives the outages of all sources up to the horizon, in their fixed order (`specs/Drawn.antt`), and
 //! [`laid_links`] what the network says of links (`specs/Laid.antt`). Values from outside come from `bench/network.py`.
 //!
@@ -47,6 +51,6 @@ pub use laid::{LaidLink, laid_links};
 pub use network::{Burst, Cut, LinkTable, Network, Pause, Replay};
 pub use outages::{LinkOutage, MOST_OUTAGES};
 pub use read::read_network;
-pub use refusal::{NetworkError, TableFault, ValueFault};
+pub use refusal::{NetworkError, TableFault, ValueFault, law_refusals};
 pub use rhythm::Rhythm;
 pub use spell::Spell;

@@ -4,11 +4,13 @@ ghost use Rattle.std.specs.Prelude.{◌≡◌, ◌≤◌, ◌∷◌, [], IfOk};
 ghost use Rattle.process_api.specs.Bounds.{most_processes};
 ghost use Rattle.network.specs.Ranges.{IsNetwork, IsReplay, IsRhythm, IsSpell, IsTicks};
 
+use crate::above::process_above;
 use crate::drawing::draw;
+use crate::field::{Shape, TableKind};
 use crate::group::{Group, LinkSet};
 use crate::network::{Burst, Cut, Network, Pause, Replay};
 use crate::read::read_network;
-use crate::refusal::NetworkError;
+use crate::refusal::{NetworkError, TableFault, ValueFault};
 use crate::rhythm::Rhythm;
 use crate::spell::Spell;
 use process_api::{Pid, ProcSet};
@@ -229,4 +231,73 @@ fn the_file_of_one_table_of_each_kind(rt: HostRuntime) {
     let alloc = rt.alloc();
     let network = network_of(&rt, alloc, ONE_OF_EACH).expect(&rt, "no network");
     assert_drawn(&rt, alloc, &network);
+}
+
+/// What is wrong with a value of a file with this text.
+fn value_fault<R: Abort>(rt: &R, alloc: Global, text: &str) -> ValueFault {
+    match network_of(rt, alloc, text) {
+        Err(NetworkError::Value { fault, .. }) => fault,
+        _ => rt.abort(),
+    }
+}
+
+/// What is wrong with the values of a table of a file with this text together.
+fn table_fault<R: Abort>(rt: &R, alloc: Global, text: &str) -> TableFault {
+    match network_of(rt, alloc, text) {
+        Err(NetworkError::Table { fault, .. }) => fault,
+        _ => rt.abort(),
+    }
+}
+
+#[test]
+fn values_are_refused(rt: HostRuntime) {
+    let alloc = rt.alloc();
+    let missing = "[[pauses]]\nprocesses = [1]\ngap = 1\n";
+    let other = "[[pauses]]\nprocesses = [1]\ngap = 1\nlength = { mean = 1, values = [1] }\n";
+    let nobody = "[[pauses]]\nprocesses = []\ngap = 1\nlength = 1\n";
+    let above = "[[pauses]]\nprocesses = [256, 257]\ngap = 1\nlength = 1\n";
+    assert_eq!(rt; value_fault(&rt, alloc, missing), ValueFault::Missing);
+    assert_eq!(rt;
+        value_fault(&rt, alloc, other),
+        ValueFault::OtherShape(Shape::Spell)
+    );
+    assert_eq!(rt; value_fault(&rt, alloc, nobody), ValueFault::NoMember);
+    let range = ValueFault::OutOfRange {
+        value: 257,
+        low: 1,
+        high: 256,
+    };
+    assert_eq!(rt; value_fault(&rt, alloc, above), range);
+}
+
+#[test]
+fn tables_are_refused(rt: HostRuntime) {
+    let alloc = rt.alloc();
+    let link = "[[links]]\nfrom = \"all\"\nto = \"all\"\nmin = 3\nmax = 2\n";
+    let cut = "[[cuts]]\nbetween = [[1, 2], [3, 2]]\ngap = 1\nlength = 1\n";
+    let replay = "[[replays]]\nfrom = [1]\nto = [2]\nlasts = 9\noutages = [[0, 9], [5, 10]]\n";
+    let delays = TableFault::MinAboveMax { min: 3, max: 2 };
+    let common = TableFault::CommonMember { process: 2 };
+    let outage = TableFault::NotWithin {
+        begin: 5,
+        until: 10,
+        lasts: 9,
+    };
+    assert_eq!(rt; table_fault(&rt, alloc, link), delays);
+    assert_eq!(rt; table_fault(&rt, alloc, cut), common);
+    assert_eq!(rt; table_fault(&rt, alloc, replay), outage);
+}
+
+#[test]
+fn a_process_above_the_run(rt: HostRuntime) {
+    let alloc = rt.alloc();
+    let network = network_of(&rt, alloc, ONE_OF_EACH).expect(&rt, "no network");
+    assert!(rt; process_above(&network, 3).is_none());
+    let Some(above) = process_above(&network, 2) else {
+        rt.abort()
+    };
+    assert_eq!(rt; above.kind, TableKind::Bursts);
+    assert_eq!(rt; above.number, 1);
+    assert_eq!(rt; above.key, "to");
+    assert_eq!(rt; above.process.number(), 3);
 }

@@ -113,10 +113,10 @@ pub(crate) fn side_at(table: &Table, place: usize) -> Group
 fn both_in(table: &Table) -> bool
     ensures { result ≡ reading.both_in (table_view table.now) }
 {
-    match value_at(table, "both") {
-        Some(value) => value.as_bool().unwrap_or(false),
-        None => false,
-    }
+    let Some(both) = value_at(table, "both") else {
+        return false;
+    };
+    both.as_bool().unwrap_or(false)
 }
 
 /// The links of a table.

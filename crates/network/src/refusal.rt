@@ -1,4 +1,5 @@
 //! Why a network file is refused.
+ghost use Rattle.network.specs.Refusals.{AreNoFiles};
 
 use crate::field::{Shape, TableKind};
 use std::alloc::AllocError;
@@ -121,3 +122,8 @@ impl From<AllocError> for NetworkError {
         NetworkError::Memory
     }
 }
+
+/// A file that is refused is no network file: no network file is refused, but where memory was refused.
+pub fn law_refusals()
+    ensures { AreNoFiles }
+{}

@@ -6,7 +6,8 @@ ghost use Rattle.toml.specs.View.{view, items_view, table_view};
 ghost use Rattle.scenario.specs.Table.{all_items, is_number, keys_of};
 ghost use Rattle.scenario.specs.Faults as faults;
 ghost use Rattle.network.specs.Fields as fields;
-ghost use Rattle.network.specs.Fields.{any_item, field_of, first_of, items_in, mean_in, values_in, takes, lacks_member, has_more, number_outside};
+ghost use Rattle.network.specs.Fields.{any_item, field_of, first_of, items_in, mean_in, values_in, takes};
+ghost use Rattle.network.specs.Fields.{lacks_member, has_more, number_outside};
 
 use crate::field::{Field, Shape};
 use crate::refusal::ValueFault;

@@ -1,4 +1,4 @@
-use Rattle.std.proofs.Common.{◌&&◌, ◌∙◌, sym, arith, rules, nat_lt}
+use Rattle.std.proofs.Common.{◌&&◌, ◌∙◌, sym, arith, nat_lt}
 use Rattle.std.specs.FinSet as set
 use Rattle.network.proofs.Firsts.{found_next, found_none, passed_next}
 use Rattle.network.proofs.above.first_above.Goals as goal

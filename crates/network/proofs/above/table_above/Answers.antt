@@ -1,15 +1,17 @@
-use Rattle.std.proofs.Common.{◌≡◌, ap, subst, take, arith, rules, add-one}
+use Rattle.std.proofs.Common.{◌≡◌, subst, take, arith, add-one}
 use Rattle.std.specs.List.{All}
 use Rattle.std.proofs.lemmas.List.{take_all}
 use Rattle.std.proofs.lemmas.List.Elements.{All-map}
 use Rattle.network.specs.Above.{AreAllWithin}
 use Rattle.network.proofs.ArrayTables.{numbered_image}
+use Rattle.network.proofs.Naming.{all_before}
 use Rattle.network.proofs.above.table_above.Goals as goal
 
 pub returns-in-Some-clause-some : goal.returns-in-Some-clause-some
 returns-in-Some-clause-some g c = record {
   groups = g.T.NamesGroups.groups c.index-tables-i.result;
   there = rw add-one (numbered_image g.T.NamesGroups.groups c.args.tables.now c.loop-i.i c.index-tables-i.result c.loop-i-test.true c.index-tables-i.is);
+  within = all_before c.args.n g.T.NamesGroups.groups c.args.tables.now c.loop-i.i c.loop-i.invariant;
   is = c.in-Some.ensures.some;
 }
 

@@ -1,4 +1,4 @@
-use Rattle.std.proofs.Common.{◌≡◌, ◌∙◌, ◌<◌, ◌≤◌, ap, sym, subst, length, true, Some, None, arith, rules, IfErr, OnOk}
+use Rattle.std.proofs.Common.{◌≡◌, ◌∙◌, ◌≤◌, ap, sym, subst, length, true, Some, None, arith, rules}
 use Rattle.std.specs.List.{All}
 use Rattle.toml.specs.Data.{get_member}
 use Rattle.toml.specs.View.{view, items_view, table_view}
@@ -23,7 +23,7 @@ returns-then-tables-gt-MOST_TABLES-clause-err c =
     let same = tables_there (key_of c.args.kind) (table_view c.args.file.now) (view c.in-Some.value.now) there are in
     let all : all_items is_table (items_view c.items_of-tables.result.now) ≡ true = ap (all_items is_table) c.items_of-tables.ensures ∙ are_items (key_of c.args.kind) (table_view c.args.file.now) (view c.in-Some.value.now) there are in
     let long : length (tables_at (key_of c.args.kind) (table_view c.args.file.now)) ≡ length c.items_of-tables.result.now =
-        ap length same ∙ (ap (λ ds. length (the_tables ds)) (sym c.items_of-tables.ensures) ∙ counted c.items_of-tables.result.now all) in
+    ap length same ∙ (ap (λ ds. length (the_tables ds)) (sym c.items_of-tables.ensures) ∙ counted c.items_of-tables.result.now all) in
     omega (arith, long, c.if-tables-gt-MOST_TABLES.true)
 
 pub returns-clause-ok : goal.returns-clause-ok
@@ -33,10 +33,10 @@ returns-clause-ok c =
     let items : items_view c.items_of-tables.result.now ≡ items_in (view c.in-Some.value.now) = c.items_of-tables.ensures in
     let all : all_items is_table (items_view c.items_of-tables.result.now) ≡ true = ap (all_items is_table) items ∙ are_items (key_of c.args.kind) (table_view c.args.file.now) (view c.in-Some.value.now) there are in
     let long : length (the_tables (items_in (view c.in-Some.value.now))) ≡ length c.items_of-tables.result.now =
-        ap (λ ds. length (the_tables ds)) (sym items) ∙ counted c.items_of-tables.result.now all in
+    ap (λ ds. length (the_tables ds)) (sym items) ∙ counted c.items_of-tables.result.now all in
     let few : length (the_tables (items_in (view c.in-Some.value.now))) ≤ most_tables = omega (arith, long, c.if-tables-gt-MOST_TABLES.false) in
     on_ok c.check_each.result (λ each. present c.args.kind (table_view c.args.file.now) (view c.in-Some.value.now) there are few
-        (subst (λ ds. All (IsTableOf c.args.kind) (the_tables ds)) items each)) c.check_each.ensures.ok
+    (subst (λ ds. All (IsTableOf c.args.kind) (the_tables ds)) items each)) c.check_each.ensures.ok
 
 pub returns-clause-err : goal.returns-clause-err
 returns-clause-err c =

@@ -4,7 +4,7 @@ use Rattle.toml.specs.Data.{get_member}
 use Rattle.toml.specs.View.{view, items_view, table_view}
 use Rattle.scenario.specs.Table.{is_of, tables_at, the_tables}
 use Rattle.scenario.specs.declared.field.Kind.TheVariants as kind
-use Rattle.network.specs.Fields.{items_in, key_of}
+use Rattle.network.specs.Fields.{key_of}
 use Rattle.network.proofs.ArrayTables.{nothing_there, tables_missing, tables_there}
 use Rattle.network.proofs.read.read_tables.Goals as goal
 
@@ -24,5 +24,5 @@ returns g c =
     let there : get_member (key_of c.args.kind) (table_view c.args.file.now) ≡ Some (view c.in-Some.value.now) = sym (search rules) in
     let are : is_of kind.Tables (view c.in-Some.value.now) ≡ true = sym (search rules) in
     let same : the_tables (items_view c.items_of.result.now) ≡ tables_at (key_of c.args.kind) (table_view c.args.file.now) =
-        ap the_tables c.items_of.ensures ∙ sym (tables_there (key_of c.args.kind) (table_view c.args.file.now) (view c.in-Some.value.now) there are) in
+    ap the_tables c.items_of.ensures ∙ sym (tables_there (key_of c.args.kind) (table_view c.args.file.now) (view c.in-Some.value.now) there are) in
     subst (λ ts. IfOk c.read_each.result (λ v. AllZip g.T.OfTable.says ts v.items)) same c.read_each.ensures

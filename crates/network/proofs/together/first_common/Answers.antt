@@ -1,4 +1,4 @@
-use Rattle.std.proofs.Common.{◌&&◌, ◌∙◌, sym, arith, rules}
+use Rattle.std.proofs.Common.{◌&&◌, ◌∙◌, sym, arith}
 use Rattle.network.specs.Groups.{holds}
 use Rattle.network.proofs.Firsts.{found_next, found_none, passed_next}
 use Rattle.network.proofs.together.first_common.Goals as goal

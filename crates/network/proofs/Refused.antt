@@ -1,0 +1,66 @@
+-- A file that is refused is no network file.
+use Rattle.std.proofs.Common.{◌≡◌, ◌≢◌, ℕ, zero, suc, ◌<◌, ◌||◌, List, [], ◌∷◌, length, get_or, slice_get, Bool, true, false, not, Some, is_some, refl, ap, subst, arith}
+use Rattle.std.specs.List.{All, Contains, list_any}
+use Rattle.std.proofs.lemmas.List.Elements.{All-head, All-tail}
+use Rattle.toml.specs.Data.{Members}
+use Rattle.scenario.specs.Table.{keys_of, tables_at}
+use Rattle.scenario.specs.Place.{numbered}
+use Rattle.network.specs.Fields.{Field, fault_at, fields_in, file_keys, has_fault, has_unlisted, is_listed, key_of, keys_in}
+use Rattle.network.specs.Refusals.{HasFaultAt, HasOther, IsNetworkFile, IsTableOf, Refuses}
+use Rattle.network.specs.declared.field.TableKind.{TableKind}
+use Rattle.network.specs.declared.refusal.NetworkError.{NetworkError}
+use Rattle.network.specs.declared.refusal.NetworkError.TheVariants as error
+use Rattle.network.specs.declared.refusal.ValueFault.{ValueFault}
+
+or_true : (a b : Bool) → b ≡ true → (a || b) ≡ true
+or_true true b e = refl
+or_true false b e = e
+
+-- a test that one of a list passes
+any_at : {X : Type 0} (p : X → Bool) (xs : List X) (k : ℕ) (x : X) → k < length xs → get_or xs k x ≡ x → p x ≡ true → list_any p xs ≡ true
+any_at p [] k x low is passes = absurd (omega (arith, low))
+any_at p (y ∷ ys) zero x low is passes = rw (is, passes) refl
+any_at p (y ∷ ys) (suc k) x low is passes = or_true (p y) (list_any p ys) (any_at p ys k x (omega (arith, low)) is passes)
+
+any_contained : {X : Type 0} (p : X → Bool) (xs : List X) (x : X) → Contains xs x → p x ≡ true → list_any p xs ≡ true
+any_contained p xs x there passes = any_at p xs there.0 x there.1 there.2 passes
+
+has_other : (keys : List (List ℕ)) (t : Members) (key : List ℕ) → HasOther keys t key → ¬ (has_unlisted keys t ≡ false)
+unfolding has_unlisted
+has_other keys t key has known =
+    let some : list_any (λ k. not (is_listed keys k)) (keys_of t) ≡ true =
+    any_contained (λ k. not (is_listed keys k)) (keys_of t) key has.there (ap not has.other) in
+    cc
+
+faulty : (fields : List Field) (t : Members) (key : List ℕ) (its : ValueFault) → HasFaultAt fields key its t → ¬ (has_fault fields t ≡ false)
+unfolding has_fault
+faulty fields t key its has good =
+    let some : list_any (λ f. is_some (fault_at f t)) fields ≡ true =
+    any_contained (λ f. is_some (fault_at f t)) fields has.field has.listed (ap is_some has.fault) in
+    cc
+
+-- a table of a network file, by its number
+of_place : (ts : List Members) (k : TableKind) (i : ℕ) (t : Members) → slice_get ts i ≡ Some t → All (IsTableOf k) ts → IsTableOf k t
+of_place [] k i t there all = cc
+of_place (u ∷ ts) k zero t there all =
+    let same : u ≡ t = cc in
+    subst (IsTableOf k) same (All-head (IsTableOf k) u ts all)
+of_place (u ∷ ts) k (suc i) t there all = of_place ts k i t there (All-tail (IsTableOf k) u ts all)
+
+of_number : (ts : List Members) (k : TableKind) (number : ℕ) (t : Members) → numbered number ts ≡ Some t → All (IsTableOf k) ts → IsTableOf k t
+of_number ts k zero t there all = cc
+of_number ts k (suc i) t there all = of_place ts k i t there all
+
+pub no_file : (e : NetworkError) (file : Members) → e ≢ error.Memory → Refuses e file → ¬ IsNetworkFile file
+no_file (error.UnknownTable key) file other refuses is = has_other file_keys file _ refuses is.known
+no_file (error.NotTables k) file other refuses is = let e = (is.tables k).shape in cc
+no_file (error.TooManyTables k) file other refuses is = omega (arith, refuses, (is.tables k).few)
+no_file (error.UnknownKey k number key) file other refuses is =
+    has_other (keys_in k) refuses.table _ refuses.is (of_number (tables_at (key_of k) file) k number refuses.table refuses.there (is.tables k).each).known
+no_file (error.Value k number key its) file other refuses is =
+    faulty (fields_in k) refuses.table key.now its refuses.is (of_number (tables_at (key_of k) file) k number refuses.table refuses.there (is.tables k).each).values
+no_file (error.Table k number its) file other refuses is =
+    let e = (of_number (tables_at (key_of k) file) k number refuses.table refuses.there (is.tables k).each).together in
+    let f = refuses.is in
+    cc
+no_file error.Memory file other refuses is = other refl
