@@ -1,12 +1,16 @@
 -- The table, the scenario and the text of a run.
-use Rattle.std.proofs.Common.{◌≡◌, ◌≤◌, ℕ, suc, List, [], ◌∷◌, Option, Some, Ok, Err, false, sym, ap, ◌∙◌, subst}
+use Rattle.std.proofs.Common.{◌≡◌, ◌≤◌, ℕ, suc, List, [], ◌∷◌, Option, None, Some, MatchOption, Ok, Err, false, sym, ap, ◌∙◌, subst}
 use Rattle.std.proofs.lemmas.Option.{same_Some}
 use Rattle.toml.specs.Data.{Members, members_depth}
 use Rattle.toml.specs.Parse.{parse_document}
 use Rattle.scenario_record.specs.Record.{Record}
-use Rattle.scenario.specs.Text.{record_of}
+use Rattle.scenario.specs.Text.{record_of, processes_of}
 use Rattle.scenario.specs.Refusals.{Rule, rule_at, rules, table_rules, Accepts}
 use Rattle.scenario.specs.Groups.{Passes}
+use Rattle.network.specs.Laid.{laid_links}
+use Rattle.study.specs.Sources.{SourcesRecord}
+use Rattle.study.specs.Laid.{horizon_of, seed_of, lay_links, lay_outages, IsLaidBy, file_over}
+use Rattle.study.proofs.OneNetwork.{one_drawn, one_links}
 use Rattle.study.specs.Runs.{RunSources, IsRunTable, StandsFor, IsScenarioOf, IsTextOf, IsRunText}
 
 passes : (rs : List Rule) (d : Option Members) → ((k : ℕ) → (rule_at rs k).applies d ≡ false) → Passes rs d
@@ -36,8 +40,20 @@ run_text r t text is back = record { table = t; is_table = is; is_text = text_of
 
 -- ---- a run has one table and one scenario
 
+one_laid_by : (t f u v : Members) → IsLaidBy t f u → IsLaidBy t f v → u ≡ v
+one_laid_by t f u v a b =
+    let drawn = one_drawn (processes_of t) (horizon_of t) (seed_of t) f a.its b.its a.fits.is.says b.fits.is.says in
+    let links = one_links _ a.its.links.items b.its.links.items a.fits.is.says.links b.fits.is.says.links in
+    a.laid_is ∙ ((λ i. lay_outages (drawn i) (lay_links (laid_links (links i) (processes_of t)) t)) ∙ sym b.laid_is)
+
+one_laid : (s : SourcesRecord) (o : Option Members) (u v : Members)
+    → MatchOption o (u ≡ s.scenario) (λ f. IsLaidBy s.scenario f u)
+    → MatchOption o (v ≡ s.scenario) (λ f. IsLaidBy s.scenario f v) → u ≡ v
+one_laid s None u v a b = a ∙ sym b
+one_laid s (Some f) u v a b = one_laid_by s.scenario f u v a b
+
 pub one_table : (r : RunSources) (t u : Members) → IsRunTable r t → IsRunTable r u → t ≡ u
-one_table (Ok s) t u a b = a ∙ sym b
+one_table (Ok s) t u a b = one_laid s (file_over s) t u a b
 one_table (Err e) t u a b = absurd a
 
 pub one_scenario : (r : RunSources) (a b : Record) → IsScenarioOf r a → IsScenarioOf r b → a ≡ b

@@ -5,6 +5,7 @@ pub mod Sources
 pub mod Grid
 pub mod Placed
 pub mod Reading
+pub mod Laid
 pub mod Runs
 pub mod Words
 pub mod KeyWords

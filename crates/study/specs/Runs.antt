@@ -8,6 +8,7 @@ use Rattle.scenario.specs.Refusals.{Accepts, IsFirst, table_rules, is_memory as 
 use Rattle.scenario.specs.Groups.{Passes}
 use Rattle.scenario.specs.declared.error.ScenarioError.{ScenarioError}
 use Rattle.study.specs.Sources.{SourcesRecord}
+use Rattle.study.specs.Laid.{IsLaid, IsUnlaid}
 use Rattle.study.specs.Placed.{is_memory as is_place_memory}
 use Rattle.study.specs.declared.error.PlaceError.{PlaceError}
 use Rattle.study.specs.declared.error.ReadError.{ReadError}
@@ -21,13 +22,13 @@ RunSources = Result SourcesRecord PlaceError
 
 -- the table of the run
 abbrev pub IsRunTable : RunSources → Members → Type 0
-IsRunTable (Ok s) t = t ≡ s.scenario
+IsRunTable (Ok s) t = IsLaid s t
 IsRunTable (Err e) t = ⊥
 
 -- the run has no table, for this reason
 abbrev pub HasNoTable : RunSources → PlaceError → Type 0
 HasNoTable (Err e) f = f ≡ e
-HasNoTable (Ok s) f = ⊥
+HasNoTable (Ok s) f = IsUnlaid s f
 
 -- ---- the scenario of a run
 

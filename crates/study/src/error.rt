@@ -1,5 +1,6 @@
 //! Why a study is refused.
 
+use network::{Above, NetworkError};
 use scenario::ScenarioError;
 use std::alloc::AllocError;
 use thiserror::Error;
@@ -43,7 +44,8 @@ pub enum GridError {
     Memory(#[from(alloc)] AllocError),
 }
 
-/// Why a study's files can't have a value at a key.
+/// Why a study's files can't have a value at a key, or stand for no table of a run. Reasons against a network's file
+/// are looked for in the order in which they stand here.
 #[derive(Debug, Drop, Error)]
 pub enum PlaceError {
     /// The key is one of the network's file, and there is none.
@@ -55,6 +57,18 @@ pub enum PlaceError {
     /// The key's path goes through a table that its array doesn't have, or through every table of an array without any.
     #[error("the key's path goes through a table that isn't there")]
     NoElement,
+    /// The network's file is refused. The error isn't `NetworkError::Memory`.
+    #[error("the network file is refused")]
+    Network(NetworkError),
+    /// The network's file names a process that the run doesn't have.
+    #[error("the network file names a process that the run does not have")]
+    ProcessAbove(Above),
+    /// The network's file draws outages, and the scenario's version isn't 2.
+    #[error("outages are drawn over a file of version 1")]
+    OlderFile,
+    /// In the run more than 100,000 outages are drawn.
+    #[error("too many outages are drawn")]
+    TooManyOutages,
     /// Memory was refused.
     #[error("out of memory")]
     Memory(#[from(alloc)] AllocError),

@@ -54,8 +54,8 @@ fn name_in(alloc: Global, word: &str) -> Result<String, KeyError>
     String::from_str(alloc, word).map_err(KeyError::Memory)
 }
 
-/// The key of a table of an array, or of all of them: by what stands before the array's bracket, between it and the dot,
-/// and after the dot.
+/// The key of a table of an array, or of all of them: by what stands before the array's bracket, between it and the
+/// dot, and after the dot.
 fn listed_key(alloc: Global, array: &str, place: &str, key: &str) -> Result<FileKey, KeyError>
     ensures ok { IfOk result (λ k. ((array.now ++ (91 ∷ place.now)) ++ (46 ∷ key.now) ≡ file_key_text (file_path_of k))
         × (IsInArray (file_path_of k) × HasFileNames (file_path_of k))) }
@@ -129,8 +129,8 @@ fn dotted_key(alloc: Global, owner: &str, rest: &str) -> Result<Key, KeyError>
 
 impl Key {
     /// The key that a word says: `horizon`, `detector.timeout`, `crash[1].at`, where the first table is 1, or
-    /// `crash[*].at`, of every table; of the network's file `network.bursts[1].gap` or `network.bursts[*].gap`. Its names
-    /// have letters, digits, `_` and `-`.
+    /// `crash[*].at`, of every table; of the network's file `network.bursts[1].gap` or `network.bursts[*].gap`. Its
+    /// names have letters, digits, `_` and `-`.
     ///
     /// # Errors
     ///

@@ -9,6 +9,7 @@ ghost use Rattle.study.specs.Runs.{IsRunTable, HasNoTable, IsScenarioOf, IsRefus
 
 use crate::axis::Choice;
 use crate::error::{PlaceError, ReadError};
+use crate::laying::laid;
 use crate::placed::{put, set_choices};
 use crate::run::Run;
 use crate::sources::Sources;
@@ -36,11 +37,13 @@ fn run_sources(
     Ok(changed)
 }
 
-/// The table of a run's file: the scenario's, with the point's settings, the run's, and its seed.
+/// The table of a run's file: the scenario's, with the point's settings, the run's, and its seed, and with the
+/// network's file laid over it where there is one.
 ///
 /// # Errors
 ///
-/// Where a key can't be set, the reason, of the first such key; `Memory` at any point.
+/// Where a key can't be set, the reason, of the first such key; then the reason for which the network's file can't be
+/// laid; `Memory` at any point.
 pub fn run_table(
     alloc: Global,
     sources: &Sources,
@@ -53,7 +56,20 @@ pub fn run_table(
         → HasNoTable (sources_of_run (map chosen point.now) (run_of run.now) (sources_of sources.now)) e) }
 {
     let changed = run_sources(alloc, sources, point, run)?;
-    Ok(changed.scenario)
+    laid(alloc, changed)
+}
+
+/// The table of the files as they stand, with the scenario's own seed.
+///
+/// # Errors
+///
+/// The reason for which the network's file can't be laid; `Memory` at any point.
+pub fn table_alone(alloc: Global, sources: &Sources) -> Result<Table, PlaceError>
+    ensures ok { IfOk result (λ t. IsRunTable (Ok (sources_of sources.now)) (table_view t)) }
+    ensures err { IfErr result (λ e. is_place_memory e ≡ false → HasNoTable (Ok (sources_of sources.now)) e) }
+{
+    let copy = sources.copy().map_err(PlaceError::Memory)?;
+    laid(alloc, copy)
 }
 
 /// The scenario of a run.
@@ -74,6 +90,23 @@ pub fn read_run(
         → IsRefusedFor (sources_of_run (map chosen point.now) (run_of run.now) (sources_of sources.now)) e) }
 {
     let table = run_table(alloc, sources, point, run).map_err(ReadError::Place)?;
+    match read_table(alloc, &table) {
+        Ok(scenario) => Ok(scenario),
+        Err(error) => Err(ReadError::Scenario(error)),
+    }
+}
+
+/// The scenario of the files as they stand, with the scenario's own seed.
+///
+/// # Errors
+///
+/// The reason for which the network's file can't be laid; else the refusal of the first rule that applies to the table;
+/// memory at any point.
+pub fn read_alone(alloc: Global, sources: &Sources) -> Result<Scenario, ReadError>
+    ensures ok { IfOk result (IsScenarioOf (Ok (sources_of sources.now))) }
+    ensures err { IfErr result (λ e. is_memory e ≡ false → IsRefusedFor (Ok (sources_of sources.now)) e) }
+{
+    let table = table_alone(alloc, sources).map_err(ReadError::Place)?;
     match read_table(alloc, &table) {
         Ok(scenario) => Ok(scenario),
         Err(error) => Err(ReadError::Scenario(error)),

@@ -1,8 +1,7 @@
-use Rattle.std.proofs.Common.{◌≡◌, ◌≢◌, ◌∙◌, [], None, Some, length, sym, subst, ap, rules, lit<}
+use Rattle.std.proofs.Common.{◌≡◌, ◌≢◌, ◌∙◌, [], None, length, sym, subst, ap, rules, lit<}
 use Rattle.std.proofs.lemmas.Bool.{eqb-true, eqb-false}
 use Rattle.std.proofs.lemmas.Str.Pattern.{split_parts}
 use Rattle.study.specs.Settings.{path_of}
-use Rattle.study.specs.Words.{after}
 use Rattle.study.specs.KeyWords.{SaysKey, SaysNoKey}
 use Rattle.study.specs.SetWords.{value_said, no_equals, no_key, no_value}
 use Rattle.study.proofs.Parts.{has_not, split_has, nothing}
