@@ -24,6 +24,13 @@ words_as P Q (Words line) is then = then is
 words_as P Q WordsMemory is then = tt
 words_as P Q _ is then = absurd is
 
+-- words are refused, and a command over a study stops for them
+pub words_stop : (P OfWords : Type 0) (OfFile : Option (String Global) → Type 0) (f : Fault) → IsOfWordsFor P f
+    → (P → OfWords) → IsBefore (IsOfStudy OfWords OfFile) f
+words_stop P OfWords OfFile (Words line) is then = then is
+words_stop P OfWords OfFile WordsMemory is then = tt
+words_stop P OfWords OfFile _ is then = absurd is
+
 module _ (input : Option (List ℕ)) (path : List ℕ) where
   -- what can't be read, and is told so
   pub unread_told : (r : FileRefusal) (f : Fault) → IsBeforeReading r → IsRight input path r
