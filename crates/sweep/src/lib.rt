@@ -55,9 +55,9 @@ pub use columns::{
 pub use error::{LayoutError, SweepError};
 pub use laws::{law_one_text, law_shard_texts};
 pub use layout::{Layout, Rows};
-pub use parallel::in_parallel;
+pub use parallel::{all_of, in_parallel};
 pub use point_sums::PointSums;
 pub use run_numbers::RunNumbers;
-pub use sweeping::sweep;
+pub use sweeping::{run_study, sweep};
 pub use table::Table;
 pub use watcher::{Pass, Standing, Unwatched, Watcher};
