@@ -3,3 +3,7 @@ pub mod Stopping
 pub mod Reasons
 pub mod Refusing
 pub mod Swept
+pub mod Phases
+pub mod Findings
+pub mod Timed
+pub mod Dealt

@@ -1,13 +1,20 @@
 //! The command `check`: what a scenario file has, or where it breaks a rule and why.
-ghost use Rattle.std.specs.Prelude.{◌≡◌, ◌≢◌, ◌+◌, IfOk, IfErr, string_bytes};
+ghost use Rattle.std.specs.Prelude.{◌≡◌, ◌≢◌, ◌+◌, false, IfOk, IfErr, OnOk, string_bytes};
 ghost use Rattle.study_commands.specs.Check.{IsCheckAnswer, accepted_line, limit_text, window_text};
 ghost use Rattle.study_commands.specs.Fault.{IsBefore};
+ghost use Rattle.study_commands.specs.Told.{IsToldOfFile};
+ghost use Rattle.study_commands.specs.WarningText.{IsWarnedOf};
+ghost use Rattle.scenario.specs.Refusals.{Accepts};
+ghost use Rattle.scenario_record.specs.Record.{Record};
 ghost use Rattle.study_commands.specs.Why.{StopsCheck};
 ghost use Rattle.shell.specs.Input.{TakesAtMost, input_path, most_bytes};
 
 use crate::fault::Fault;
 use crate::file::{bytes_of, fault_of};
+use crate::warn::warn_of;
+use crate::warned::Warned;
 use diagnosis::{Accepted, Diagnosis, diagnose};
+use scenario::read_scenario;
 use std::alloc::{AllocError, Global};
 use std::io::Read;
 use std::rt::Files;
@@ -46,22 +53,40 @@ fn line_of(alloc: Global, accepted: &Accepted) -> Result<String, AllocError>
     )
 }
 
+/// Tells what may mislead of the scenario of accepted bytes.
+fn warn_of_bytes<W: Warned>(alloc: Global, bytes: &[u8], watcher: &mut W) -> Result<(), AllocError>
+    ensures told { OnOk result ((s : Record) × Accepts bytes.now s × IsWarnedOf W.warned watcher.old watcher.new s) }
+    ensures hidden { W.shows watcher.old ≡ false → W.shows watcher.new ≡ false }
+{
+    match read_scenario(alloc, bytes) {
+        Ok(scenario) => warn_of(alloc, &scenario, watcher),
+        Err(_) => Err(AllocError),
+    }
+}
+
 /// Answers `check`: how many processes an accepted file has, its horizon, about how much a run of it and a window are,
-/// and where its limit may stop that.
-pub(crate) fn serve_check<R: Files, I: Read>(
+/// and where its limit may stop that. The watcher is told before what may mislead of it.
+pub(crate) fn serve_check<R: Files, I: Read, W: Warned>(
     rt: &R,
     alloc: Global,
     path: &str,
     input: &mut I,
+    watcher: &mut W,
 ) -> Result<Vec<u8>, Fault>
     ensures text { IfOk result (λ text. IsCheckAnswer (I.remaining input.old) path.now text.items) }
     ensures why { IfErr result (IsBefore (StopsCheck (I.remaining input.old) path.now)) }
     ensures taken { TakesAtMost (most_bytes + 1) (I.remaining input.old) (I.remaining input.new) }
     ensures untouched { path.now ≢ input_path → input.new ≡ input.old }
+    ensures told { OnOk result (IsToldOfFile W.warned watcher.old watcher.new (I.remaining input.old) path.now) }
+    ensures hidden { W.shows watcher.old ≡ false → W.shows watcher.new ≡ false }
 {
     let bytes = bytes_of(rt, alloc, path, input)?;
     match diagnose(alloc, &bytes)? {
-        Diagnosis::Accepted(accepted) => Ok(line_of(alloc, &accepted)?.into_bytes()),
+        Diagnosis::Accepted(accepted) => {
+            let text = line_of(alloc, &accepted)?;
+            warn_of_bytes(alloc, &bytes, watcher)?;
+            Ok(text.into_bytes())
+        }
         Diagnosis::Refused(refused) => Err(fault_of(alloc, path, &refused)),
     }
 }

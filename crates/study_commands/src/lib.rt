@@ -13,9 +13,14 @@
 //! names and two rows, each over 20 runs.
 #![tactic(auto)]
 
+mod adding;
 mod checking;
+mod dealt_ticks;
 pub mod fault;
 mod file;
+mod first_runs;
+mod found;
+mod late;
 mod lettering;
 mod limited_point;
 mod picturing;
@@ -26,7 +31,14 @@ mod refused_run;
 mod run_name;
 mod running;
 pub mod serve;
+mod shared_outages;
 mod showing;
+mod spread;
 mod study_check;
 mod study_words;
 mod sweeping;
+mod timing;
+mod warn;
+pub mod warned;
+mod warning;
+mod warning_line;

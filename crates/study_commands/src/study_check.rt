@@ -1,7 +1,8 @@
 //! The command `check` with a study: how many points and runs there are, and about how much they will be.
-ghost use Rattle.std.specs.Prelude.{◌≡◌, ◌≢◌, ◌+◌, ◌++◌, ℕ, List, false, IfOk, IfErr, length, string_bytes};
+ghost use Rattle.std.specs.Prelude.{◌≡◌, ◌≢◌, ◌+◌, ◌++◌, ℕ, List, false, IfOk, IfErr, OnOk, length, string_bytes};
 ghost use Rattle.study.specs.Grid.{runs};
 ghost use Rattle.study_commands.specs.Check.{IsStudyCheck, study_begin};
+ghost use Rattle.study_commands.specs.Told.{IsToldOfCheck};
 ghost use Rattle.study_commands.specs.Why.{StopsSweep};
 ghost use Rattle.study_commands.specs.Fault.{IsBefore};
 ghost use Rattle.shell.specs.Input.{TakesAtMost, input_path, most_bytes};
@@ -12,6 +13,8 @@ use crate::progress_line::time_of;
 use crate::reckoning::{Above, Reckoned, reckon};
 use crate::run_name::name_of_run;
 use crate::sweeping::{fault_of, said_over, threads_for};
+use crate::warn::warn_of_study;
+use crate::warned::Warned;
 use diagnosis::ENTRIES_A_SECOND;
 use printable::Printable;
 use std::alloc::{AllocError, Global};
@@ -22,7 +25,7 @@ use std::thread::Threads;
 use std::time::Clock;
 use study::{Grid, Shard};
 use study_line::StudyTexts;
-use sweep::{Watcher, check_study};
+use sweep::check_study;
 use toml::Table;
 
 /// About how many entries the runs have, and how long they take by so many threads.
@@ -92,8 +95,8 @@ fn text_of<R: Threads + Sync>(
 
 /// Answers `check` with a study: how many points and runs there are, of the shard where one is named, about how many
 /// entries they have, how long that takes, and of a run that its limit may stop. The scenario of each run is read. It
-/// is refused where `sweep` is before the first run.
-pub(crate) fn serve_study_check<R: Files + Threads + Sync + Clock, I: Read, W: Watcher>(
+/// is refused where `sweep` is before the first run. The watcher is told before what may mislead of the study.
+pub(crate) fn serve_study_check<R: Files + Threads + Sync + Clock, I: Read, W: Warned>(
     rt: &R,
     alloc: Global,
     path: &str,
@@ -105,12 +108,15 @@ pub(crate) fn serve_study_check<R: Files + Threads + Sync + Clock, I: Read, W: W
     ensures why { IfErr result (IsBefore (StopsSweep (I.remaining input.old) path.now study.now)) }
     ensures taken { TakesAtMost (most_bytes + 1) (I.remaining input.old) (I.remaining input.new) }
     ensures untouched { path.now ≢ input_path → input.new ≡ input.old }
+    ensures told { OnOk result
+        (IsToldOfCheck W.heard W.warned watcher.old watcher.new (I.remaining input.old) path.now study.now) }
     ensures hidden { W.shows watcher.old ≡ false → W.shows watcher.new ≡ false }
 {
     let (file, grid, shard, _layout) = said_over(rt, alloc, path, study, input)?;
     let threads = threads_for(rt, study.threads);
-    match check_study(rt, alloc, &file, &grid, shard, threads, watcher) {
-        Ok(()) => Ok(text_of(rt, alloc, &file, &grid, shard, threads)?.into_bytes()),
-        Err(error) => Err(fault_of(alloc, path, &file, &grid, &error)),
+    if let Err(error) = check_study(rt, alloc, &file, &grid, shard, threads, watcher) {
+        return Err(fault_of(alloc, path, &file, &grid, &error));
     }
+    warn_of_study(rt, alloc, &file, &grid, shard, threads, watcher)?;
+    Ok(text_of(rt, alloc, &file, &grid, shard, threads)?.into_bytes())
 }

@@ -1,10 +1,13 @@
 //! The command `sweep`: the table of a study.
-ghost use Rattle.std.specs.Prelude.{◌≡◌, ◌≢◌, ◌^◌, ◌-◌, ◌+◌, ◌<◌, ◌≤◌, false, IfOk, IfErr, IfSome, OnOk, option_map};
+ghost use Rattle.std.specs.Prelude.{◌≡◌, ◌≢◌, ◌^◌, ◌-◌, ◌+◌, ◌<◌, ◌≤◌, false, IfOk, IfErr, IfSome, OnOk};
+ghost use Rattle.std.specs.Prelude.{option_map, string_bytes};
 ghost use Rattle.study_commands.specs.Fault.{IsBefore, IsOfWordsFor};
 ghost use Rattle.study_commands.specs.Study.{IsLayout, rows_for};
 ghost use Rattle.study_commands.specs.Sweep.{GoesForSweep, IsFaultOf, IsOfRun, IsSaid};
+ghost use Rattle.study_commands.specs.Told.{IsToldOfSweep};
 ghost use Rattle.study_commands.specs.Why.{StopsSweep};
-ghost use Rattle.study_commands.specs.WordRefusals.{LacksColumn, is_layout_memory};
+ghost use Rattle.study_commands.specs.WordRefusals.{LacksColumn, TellsOfLayout, is_layout_memory};
+ghost use Rattle.study_commands.specs.WordRefusals.{is_like as is_like_to, no_column_line};
 ghost use Rattle.toml.specs.View.{table_view};
 ghost use Rattle.shell.specs.Input.{TakesAtMost, input_path, most_bytes};
 
@@ -12,9 +15,12 @@ use crate::fault::Fault;
 use crate::file::table_of;
 use crate::refused_run::line_of_run;
 use crate::study_words::{grid_of, shard_of};
+use crate::warn::warn_of_study;
+use crate::warned::Warned;
+use diagnosis::edits_between;
 use printable::Printable;
 use reporting::Outlet;
-use std::alloc::Global;
+use std::alloc::{AllocError, Global};
 use std::io::Read;
 use std::marker::Sync;
 use std::rt::Files;
@@ -22,7 +28,7 @@ use std::thread::{Threads, available_parallelism};
 use std::time::Clock;
 use study::{Grid, Shard};
 use study_line::{Each, StudyTexts};
-use sweep::{Layout, LayoutError, Rows, SweepError, Watcher, sweep};
+use sweep::{Layout, LayoutError, Rows, SweepError, check_study, run_study};
 use toml::Table;
 
 /// How many threads share the runs: as many as were asked for, or else one for each processor; at most 64.
@@ -70,16 +76,38 @@ fn rows_of(each: Each) -> Rows
     }
 }
 
+/// Whether a name is so like a word that it is perhaps meant.
+fn is_like(alloc: Global, word: &str, name: &str) -> Result<bool, AllocError>
+    ensures { IfOk result (λ is. is ≡ is_like_to word.now name.now) }
+{
+    Ok(edits_between(alloc, word, name)? <= word.len().max(3) / 3)
+}
+
+/// The line of a word that names a column which there isn't, with the nearest name where that is perhaps meant.
+fn line_of_unknown(alloc: Global, word: &str, nearest: &str) -> Result<String, AllocError>
+    ensures { IfOk result (λ s. string_bytes s ≡ no_column_line word.now nearest.now) }
+{
+    let is_meant = is_like(alloc, word, nearest)?;
+    let (word, nearest) = (Printable(word), Printable(nearest));
+    if is_meant {
+        format!(in alloc;
+            "fdstudy: words: NoColumn: {word} (did you mean {nearest}? fdstudy sweep --help lists the columns)\n"
+        )
+    } else {
+        format!(in alloc;
+            "fdstudy: words: NoColumn: {word} (no name is like it; fdstudy sweep --help lists the columns)\n"
+        )
+    }
+}
+
 /// The fault of a word that names a column which there isn't, with one that is perhaps meant.
 fn layout_fault(alloc: Global, error: &LayoutError) -> Fault
-    ensures { IsOfWordsFor (is_layout_memory error.now ≡ false) result }
+    ensures words { IsOfWordsFor (is_layout_memory error.now ≡ false) result }
+    ensures line { TellsOfLayout error.now result }
 {
     match error {
         LayoutError::Unknown { name, nearest } => {
-            let (name, nearest) = (Printable(name.as_str()), Printable(nearest.as_str()));
-            Fault::of_words(format!(in alloc;
-                "fdstudy: words: NoColumn: {name} (did you mean {nearest}?)\n"
-            ))
+            Fault::of_words(line_of_unknown(alloc, name.as_str(), nearest.as_str()))
         }
         LayoutError::Memory => Fault::WordsMemory,
     }
@@ -114,8 +142,9 @@ pub(crate) fn said_over<R: Files, I: Read>(
     Ok((file, grid, shard, layout))
 }
 
-/// Answers `sweep`: the rows of the study's points, or of their runs; of the shard's where one is named.
-pub(crate) fn serve_sweep<R: Files + Threads + Sync + Clock, I: Read, O: Outlet, W: Watcher>(
+/// Answers `sweep`: the rows of the study's points, or of their runs; of the shard's where one is named. The watcher is
+/// told before the first run what may mislead of the study.
+pub(crate) fn serve_sweep<R: Files + Threads + Sync + Clock, I: Read, O: Outlet, W: Warned>(
     rt: &R,
     alloc: Global,
     path: &str,
@@ -130,11 +159,17 @@ pub(crate) fn serve_sweep<R: Files + Threads + Sync + Clock, I: Read, O: Outlet,
     ensures why { IfErr result (StopsSweep (I.remaining input.old) path.now study.now) }
     ensures taken { TakesAtMost (most_bytes + 1) (I.remaining input.old) (I.remaining input.new) }
     ensures untouched { path.now ≢ input_path → input.new ≡ input.old }
+    ensures told { OnOk result
+        (IsToldOfSweep W.heard W.warned watcher.old watcher.new (I.remaining input.old) path.now study.now) }
     ensures hidden { W.shows watcher.old ≡ false → W.shows watcher.new ≡ false }
 {
     let (file, grid, shard, layout) = said_over(rt, alloc, path, study, input)?;
     let threads = threads_for(rt, study.threads);
-    match sweep(
+    if let Err(error) = check_study(rt, alloc, &file, &grid, shard, threads, watcher) {
+        return Err(fault_of(alloc, path, &file, &grid, &error));
+    }
+    warn_of_study(rt, alloc, &file, &grid, shard, threads, watcher)?;
+    match run_study(
         rt, alloc, &file, &grid, shard, &layout, threads, outlet, watcher,
     ) {
         Ok(()) => Ok(()),

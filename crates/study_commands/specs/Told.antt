@@ -1,0 +1,68 @@
+-- What a watcher is told in lines: what may mislead of a scenario or a study, after its scenarios were read, and before
+-- its first run.
+use Rattle.std.specs.Prelude.{◌≡◌, ◌⊎◌, ℕ, List, Option, None, Some}
+use Rattle.scenario_record.specs.Record.{Record}
+use Rattle.study.specs.Grid.{GridRecord}
+use Rattle.study.specs.Shard.{ShardRecord}
+use Rattle.study_commands.specs.File.{IsScenario}
+use Rattle.study_commands.specs.Sweep.{IsSaid}
+use Rattle.study_commands.specs.WarningText.{IsWarnedOf, IsWarnedOfStudy}
+use Rattle.study_line.specs.Order.{AsksHelp, States}
+use Rattle.study_line.specs.declared.order.Order.{Order}
+use Rattle.study_line.specs.declared.order.Order.TheVariants as order
+use Rattle.study_line.specs.declared.order.StudyTexts.{StudyTexts}
+use Rattle.sweep.specs.Layout.{LayoutRecord}
+use Rattle.sweep.specs.Watching.{HeardAllRuns, HeardOfAllReading, News}
+use Rattle.toml.specs.Data.{Members}
+
+-- a watcher is told of the file's scenario, and of nothing else
+pub record IsToldOfFile {W : Type 0} (warned : W → List (List ℕ) → W → Type 0) (old new : W)
+    (input : Option (List ℕ)) (path : List ℕ) : Type 0 where
+  pub scenario : Record
+  pub is_scenario : IsScenario input path scenario
+  pub told : IsWarnedOf warned old new scenario
+
+module _ {W : Type 0} (heard : W → List News → W → Type 0) (warned : W → List (List ℕ) → W → Type 0) where
+  -- it hears that all runs are read, and is told of the study then
+  pub record IsToldAfterReading (old new : W) (file : Members) (g : GridRecord) (shard : ShardRecord) : Type 0 where
+    pub read : W
+    pub reading : HeardOfAllReading heard old read g shard
+    pub told : IsWarnedOfStudy warned read new file g shard
+
+  module _ (old new : W) (input : Option (List ℕ)) (path : List ℕ) where
+    module _ (study : StudyTexts) where
+      -- of the study that words say of the file
+      pub record IsToldOfCheck : Type 0 where
+        pub file : Members
+        pub grid : GridRecord
+        pub shard : ShardRecord
+        pub layout : LayoutRecord
+        pub said : IsSaid input path study file grid shard layout
+        pub told : IsToldAfterReading old new file grid shard
+
+      -- and where it is swept it hears of its runs after that
+      pub record IsToldOfSweep : Type 0 where
+        pub file : Members
+        pub grid : GridRecord
+        pub shard : ShardRecord
+        pub layout : LayoutRecord
+        pub said : IsSaid input path study file grid shard layout
+        pub begun : W
+        pub told : IsToldAfterReading old begun file grid shard
+        pub running : HeardAllRuns heard begun new file grid shard
+
+    abbrev pub IsToldOfChecked : Option StudyTexts → Type 0
+    IsToldOfChecked None = IsToldOfFile warned old new input path
+    IsToldOfChecked (Some study) = IsToldOfCheck study
+
+  module _ (old new : W) (input : Option (List ℕ)) where
+    -- what it hears and is told for an order: of `letters`, `draw` and `show` nothing
+    abbrev pub IsTold : Order → Type 0
+    IsTold (order.Check path study) = IsToldOfChecked old new input path.now study
+    IsTold (order.Sweep path study) = IsToldOfSweep old new input path.now study
+    IsTold _ = new ≡ old
+
+    -- and for words: where they ask for help nothing
+    abbrev pub IsToldFor : (words : List (List ℕ)) → Type 0
+    IsToldFor words =
+        ((asked : Order) × States words asked × IsTold asked) ⊎ (AsksHelp words × (new ≡ old))
