@@ -1,7 +1,7 @@
 //! The command line, with its help.
 ghost use Rattle.std.specs.Prelude.{Some};
 ghost use Rattle.clap.specs.Words.{App, Rule, with_rule, with_subcommand};
-ghost use Rattle.study_line.specs.Commands.{HasRule, Makes, axis_rule, check_app, draw_app, letters_app, option_rule, path_rule, point_rule, run_rule, show_app, study_app, sweep_app, threads_rule, tick_rule, whole_app, with_grid, with_path};
+ghost use Rattle.study_line.specs.Commands.{HasRule, Makes, repeated_rule, check_app, draw_app, letters_app, option_rule, path_rule, point_rule, run_rule, show_app, study_app, sweep_app, threads_rule, tick_rule, whole_app, with_grid, with_path};
 
 use clap::builder::ValueParser;
 use clap::{Arg, ArgAction, Command, value_parser};
@@ -91,6 +91,14 @@ that of the whole study.";
 
 const PATH: &str = "The scenario file, of at most 8388608 bytes; `-` is standard input";
 
+const NETWORK: &str =
+    "A network file that is laid over the scenario: what its links do, and bursts, cuts, pauses and \
+records of losses, which each seed draws anew; of at most 8388608 bytes, `-` is standard input";
+
+const SET: &str =
+    "A key with the value that it has in all runs, any value of TOML, as 'proposals=[1,2,3]' or \
+'detector={kind=\"freshness\",eta=100,delta=50}', which takes the place of the whole table; may be there several times";
+
 const SEEDS: &str = "The seeds of each point's runs, from A to B";
 
 const VARY: &str =
@@ -117,6 +125,10 @@ const COLUMNS: &str =
 
 const EACH: &str =
     "What has a row: each `point`, with its runs added up, or each `run` [default: point]";
+
+const PAIRS: &str =
+    "A group of pairs that has rows of its own, of its observers and their subjects: each a number or A..=B, several \
+joined by `+`, as 1..=4:5..=7+5..=7:1..=4; may be there several times [default: all pairs in one row]";
 
 const PICTURE: &str =
     "Which picture: `suspicions`, who suspects whom, or `letters`, what went from whom to whom";
@@ -188,11 +200,18 @@ fn parsed_option<'a>(
     option(alloc, name, value, help, false).value_parser(values)
 }
 
+/// An option that may be there several times.
+fn repeated_option<'a>(alloc: Global, name: &'a str, value: &'a str, help: &'a str) -> Arg<'a>
+    ensures { HasRule (repeated_rule name.now) result }
+{
+    option(alloc, name, value, help, false).action(ArgAction::Append)
+}
+
 /// An option for axes, which may be there several times.
 fn axis_option<'a>(alloc: Global, name: &'a str, help: &'a str) -> Arg<'a>
-    ensures { HasRule (axis_rule name.now) result }
+    ensures { HasRule (repeated_rule name.now) result }
 {
-    option(alloc, name, "KEY=VALUE,..", help, false).action(ArgAction::Append)
+    repeated_option(alloc, name, "KEY=VALUE,..", help)
 }
 
 /// The option for the point.
@@ -225,12 +244,14 @@ fn tick_option<'a>(alloc: Global, name: &'a str, help: &'a str) -> Arg<'a>
     parsed_option(alloc, name, "T", help, values)
 }
 
-/// A command that takes a scenario file.
+/// A command that takes a scenario file, and perhaps a network file and what is set in them.
 fn path_command<'a>(alloc: Global, name: &'a str, about: &'a str, example: &'a str) -> Made<'a>
     ensures { Makes (with_path name.now) result }
 {
     let command = Command::new(alloc, name).about(about).after_help(example);
-    with_argument(Ok(command), path_argument(alloc))
+    let command = with_argument(Ok(command), path_argument(alloc));
+    let command = with_argument(command, option(alloc, "network", "FILE", NETWORK, false));
+    with_argument(command, repeated_option(alloc, "set", "KEY=VALUE", SET))
 }
 
 /// A command that takes a scenario file and the options that say which runs a study has.
@@ -264,7 +285,11 @@ fn study_command<'a>(
     let command = with_argument(command, option(alloc, "shard", "K/N", SHARD, false));
     let command = with_argument(command, threads_option(alloc));
     let command = with_argument(command, option(alloc, "columns", "NAME,..", COLUMNS, false));
-    with_argument(command, option(alloc, "each", "WHAT", EACH, false))
+    let command = with_argument(command, option(alloc, "each", "WHAT", EACH, false));
+    with_argument(
+        command,
+        repeated_option(alloc, "pairs", "OBSERVERS:SUBJECTS", PAIRS),
+    )
 }
 
 /// `draw SCENARIO --as PICTURE [--from T] [--until T] [--of P,Q]`
