@@ -5,8 +5,9 @@
 
 Three studies of twelve points each, over files of its own: a detector under losses with crashes that are dealt to the
 seeds, a coordinator whose processes crash, and detectors that watch the next process alone and share what they suspect,
-with a limit that some runs pass. Of each run it takes the file that `fdstudy show` prints, and the report and the trace
-that `fdbench list` gives of it. It shares no code with the programs: crashes, pairs, ranks and the lengths of mistakes
+with a limit that some runs pass. The first and the last are made once more with rows for groups of pairs, and one of
+two points under each of the networks of bench/networks. Of each run it takes the file that `fdstudy show` prints, and
+the report and the trace that `fdbench list` gives of it. It shares no code with the programs: crashes, pairs, ranks and the lengths of mistakes
 are worked out here anew. It prints what differs, and ends with status 1 where something does.
 """
 import argparse
@@ -101,6 +102,35 @@ STUDIES = [
     ("next", NEXT, ["--vary", "detector.period,detector.timeout=10:15,20:30,40:60", "--vary", "link.loss=0,50,120,300",
                     "--over", "crash[1].at=150,600"]),
 ]
+GROUPS = ["1..=2:1..=2", "1..=2:3..=4+3..=4:1..=2+1:3", "4:1+1..=3:2"]
+NETWORKS = ["links", "bursts", "cuts", "pauses", "replays"]
+
+
+def in_side(word, process):
+    """Whether a side of a group, a number or A..=B, has the process."""
+    first, _, last = word.partition("..=")
+    return int(first) <= process <= int(last or first)
+
+
+def in_group(word, observer, subject):
+    """Whether the pair is one of the group that a word says, and of all pairs where there is no word."""
+    parts = [it.split(":") for it in word.split("+")] if word else []
+    return not word or any(in_side(ours, observer) and in_side(theirs, subject) for ours, theirs in parts)
+
+
+def all_studies():
+    """Each study: its name, its file, its words, how many points it has, and its groups of pairs."""
+    pairs = [word for group in GROUPS for word in ("--pairs", group)]
+    studies = [(*study, 12, [""]) for study in STUDIES]
+    for name, file, words in (STUDIES[0], STUDIES[2]):
+        studies.append((f"{name} by pairs", file, [*words, *pairs], 12, GROUPS))
+    with open(os.path.join(ROOT, "bench/networks/four.toml"), encoding="utf-8") as file:
+        four = file.read()
+    for name in NETWORKS:
+        network = os.path.join(ROOT, f"bench/networks/{name}.toml")
+        words = ["--network", network, "--vary", "detector.timeout=70,140", "--deal", "crash[1].at=1490..=1510:10"]
+        studies.append((f"network {name}", four, words, 2, [""]))
+    return studies
 
 
 def run(words, given=""):
@@ -125,6 +155,7 @@ class Run:
         self.horizon, self.count = self.file["horizon"], self.file["processes"]
         self.crashes = {it["process"]: it["at"] for it in self.file.get("crash", [])}
         self.layers = [1, 2] if "share" in self.file else [1]
+        self.group = ""  # the word of the group of pairs that counts now
 
     def is_correct(self, process):
         return self.crashes.get(process, math.inf) >= self.horizon
@@ -136,7 +167,8 @@ class Run:
 
     def pairs(self, layer):
         everybody = range(1, self.count + 1)
-        return [(q, p) for q in everybody for p in everybody if q != p and self.is_counted(layer, q, p)]
+        return [(q, p) for q in everybody for p in everybody
+                if q != p and self.is_counted(layer, q, p) and in_group(self.group, q, p)]
 
     def durations(self, layer, observer, subject):
         """How long each mistake was that ended before the first crash of the two and the horizon."""
@@ -232,11 +264,13 @@ def error_of(runs, total, squares):
     return next(e for e in itertools.count() if e * e * (runs - 1) >= runs * squares - total * total)
 
 
-def row_of(runs, layer):
-    """A row's columns by name, worked out of the runs of its point."""
+def row_of(runs, layer, group):
+    """A row's columns by name, worked out of the runs of its point, of the pairs of a group."""
+    for run in runs:
+        run.group = group
     mine = [run for run in runs if layer in run.layers]
     done = [run for run in mine if run.rows is not None]
-    row = {"layer": layer, "runs": len(mine), "limited": len(mine) - len(done)}
+    row = {"pairs": group, "layer": layer, "runs": len(mine), "limited": len(mine) - len(done)}
     if not done:
         return row
     for name in ("entries", "sent", "lost"):
@@ -262,13 +296,13 @@ def row_of(runs, layer):
     return row
 
 
-def compare(name, file, words, asked):
-    """Compares a study's rows with the sums of its runs. Answers how many fields were compared, and how many differ."""
+def compare(name, file, words, points, groups, asked):
+    """Compares a study's rows with the sums of its runs. Answers how many fields differ."""
     study = ["-", "--seeds", f"1..={asked.seeds}", *words]
     rows = list(csv.DictReader(io.StringIO(must([asked.fdstudy, "sweep", *study], file))))
     per_point = asked.seeds * (2 if "--over" in words else 1)
     fields = differ = limited = 0
-    for point in range(1, 13):
+    for point in range(1, points + 1):
         runs = []
         for number in range(1, per_point + 1):
             text = must([asked.fdstudy, "show", *study, "--point", str(point), "--run", str(number)], file)
@@ -277,18 +311,18 @@ def compare(name, file, words, asked):
                 sys.exit(f"rows: status {status} of run {number} of point {point} of {name}: {told}")
             trace = must([asked.fdbench, "list", "-", "--print", "trace"], text) if status == 0 else ""
             runs.append(Run(text, trace, report if status == 0 else None))
-        for layer in runs[0].layers:
-            found, wanted = rows.pop(0), row_of(runs, layer)
+        for group, layer in itertools.product(groups, runs[0].layers):
+            found, wanted = rows.pop(0), row_of(runs, layer, group)
             limited += wanted["limited"]
             for column in [it for it in found if "." not in it]:
                 fields += 1
                 text = "" if wanted.get(column) is None else str(wanted[column])
                 if found[column] != text:
                     differ += 1
-                    print(f"{name}, point {point}, layer {layer}: {column} is {found[column]}, and not {text}")
+                    print(f"{name}, point {point}, layer {layer} {group}: {column} is {found[column]}, and not {text}")
     if rows:
         sys.exit(f"rows: {name} has {len(rows)} rows more than points and layers")
-    print(f"{name}: {fields} fields of 12 points, {limited} runs limited, {differ} fields differ")
+    print(f"{name}: {fields} fields of {points} points, {limited} runs limited, {differ} fields differ")
     return differ
 
 
@@ -298,7 +332,7 @@ def main():
     words.add_argument("--fdbench", default=os.path.join(ROOT, "crates/fdbench/out/fdbench"))
     words.add_argument("--seeds", type=int, default=6, help="how many seeds, a multiple of 3 (6)")
     asked = words.parse_args()
-    return 1 if sum(compare(*study, asked) for study in STUDIES) else 0
+    return 1 if sum(compare(*study, asked) for study in all_studies()) else 0
 
 
 if __name__ == "__main__":
