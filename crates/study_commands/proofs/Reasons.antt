@@ -1,5 +1,5 @@
 -- Why commands stop, for each of their faults.
-use Rattle.std.proofs.Common.{ℕ, List, None, Option, Result, String}
+use Rattle.std.proofs.Common.{ℕ, List, None, Option, String}
 use Rattle.std.specs.declared.alloc.Global.{Global}
 use Rattle.study_commands.specs.Fault.{IsBefore, IsOfWordsFor}
 use Rattle.study_commands.specs.File.{AreBytes, IsScenario}
@@ -11,8 +11,7 @@ use Rattle.study_commands.specs.declared.fault.Fault.{Fault}
 use Rattle.study_commands.specs.declared.fault.Fault.TheVariants.{Limit, Memory, Refused, Words, WordsMemory, Write}
 use Rattle.scenario.specs.Refusals.{IsDocumentOf}
 use Rattle.scenario_record.specs.Record.{Record}
-use Rattle.study.specs.declared.error.PlaceError.{PlaceError}
-use Rattle.toml.specs.Data.{Members}
+use Rattle.study.specs.Runs.{RunSources}
 
 -- a fault that comes before anything is written is one
 pub stops_so : (Holds : Fault → Type 0) (f : Fault) → IsBefore Holds f → Holds f
@@ -24,6 +23,13 @@ pub words_as : (P Q : Type 0) (f : Fault) → IsOfWordsFor P f → (P → Q) →
 words_as P Q (Words line) is then = then is
 words_as P Q WordsMemory is then = tt
 words_as P Q _ is then = absurd is
+
+-- words are refused, and a command over a study stops for them
+pub words_stop : (P OfWords : Type 0) (OfFile : Option (String Global) → Type 0) (f : Fault) → IsOfWordsFor P f
+    → (P → OfWords) → IsBefore (IsOfStudy OfWords OfFile) f
+words_stop P OfWords OfFile (Words line) is then = then is
+words_stop P OfWords OfFile WordsMemory is then = tt
+words_stop P OfWords OfFile _ is then = absurd is
 
 module _ (input : Option (List ℕ)) (path : List ℕ) where
   -- what can't be read, and is told so
@@ -59,7 +65,7 @@ module _ (input : Option (List ℕ)) (path : List ℕ) where
   letters_of_run s _ at is = absurd is
 
 -- a run has no text
-pub study_text : (OfWords : Type 0) (OfFile : Option (String Global) → Type 0) (table : Result Members PlaceError)
+pub study_text : (OfWords : Type 0) (OfFile : Option (String Global) → Type 0) (table : RunSources)
     (f : Fault) → IsOfText table f → (HasNone table → (line : Option (String Global)) → OfFile line)
     → IsBefore (IsOfStudy OfWords OfFile) f
 study_text OfWords OfFile table (Refused line) is then = then is line

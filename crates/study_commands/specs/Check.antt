@@ -2,14 +2,14 @@
 use Rattle.std.specs.Prelude.{◌≡◌, ℕ, if◌then◌else◌, nat_lt, List, [], length, ◌++◌, codes, decimal, Option}
 use Rattle.diagnosis.specs.Diagnosis.{entries_in, longest_window}
 use Rattle.diagnosis.specs.declared.answer.Accepted.{Accepted}
-use Rattle.toml.specs.Data.{Members}
+use Rattle.study.specs.Sources.{SourcesRecord}
 use Rattle.study.specs.Grid.{GridRecord, runs}
 use Rattle.study.specs.Shard.{ShardRecord}
 use Rattle.study_commands.specs.File.{AreBytes}
 use Rattle.study_commands.specs.Sweep.{IsSaid}
 use Rattle.study_line.specs.declared.order.StudyTexts.{StudyTexts}
 use Rattle.sweep.specs.Layout.{LayoutRecord}
-use Rattle.sweep.specs.Outcome.{HaveScenarios}
+use Rattle.sweep.specs.Outcome.{AreReady}
 use Rattle.sweep.specs.StudyText.{numbers_of}
 use Rattle.scenario_record.specs.Record.{Record}
 use Rattle.scenario.specs.Refusals.{Accepts}
@@ -57,14 +57,14 @@ abbrev pub study_begin : (points runs : ℕ) → List ℕ
 study_begin points runs =
     codes "ok: " ++ (decimal points ++ (codes " points of " ++ (decimal runs ++ codes " runs each")))
 
--- all runs of the study that can be swept have a scenario, of the shard's points where one is named, and the text
+-- all runs of the study that can be swept can be run, of the shard's points where one is named, and the text
 -- begins with how many points and runs these are. What is reckoned of them, and of their limits, isn't said
 pub record IsStudyCheck (input : Option (List ℕ)) (path : List ℕ) (study : StudyTexts) (piece : List ℕ) : Type 0 where
-  pub file : Members
+  pub sources : SourcesRecord
   pub grid : GridRecord
   pub shard : ShardRecord
   pub layout : LayoutRecord
-  pub said : IsSaid input path study file grid shard layout
-  pub each : HaveScenarios file grid shard
+  pub said : IsSaid input path study sources grid shard layout
+  pub each : AreReady sources grid layout.groups shard
   pub reckoned : List ℕ
   pub text : piece ≡ study_begin (length (numbers_of grid shard)) (length (runs grid)) ++ reckoned

@@ -14,10 +14,15 @@ use Rattle.study.specs.declared.error.ShardError.{ShardError}
 use Rattle.study_commands.specs.Study.{rows_for}
 use Rattle.study_line.specs.declared.order.Each.{Each}
 use Rattle.study_line.specs.declared.order.GridTexts.{GridTexts}
+use Rattle.sweep.specs.GroupWords.{SaysGroup, SaysNoGroup}
+use Rattle.sweep.specs.Groups.{groups_of}
 use Rattle.sweep.specs.Layout.{IsNoLayout}
 use Rattle.sweep.specs.StudyText.{names_of}
+use Rattle.sweep.specs.declared.error.GroupError.{GroupError}
+use Rattle.sweep.specs.declared.error.GroupError.TheVariants as group
 use Rattle.sweep.specs.declared.error.LayoutError.{LayoutError}
 use Rattle.sweep.specs.declared.error.LayoutError.TheVariants as layout
+use Rattle.sweep.specs.declared.group.PairGroup.{PairGroup}
 
 abbrev pub is_layout_memory : LayoutError → Bool
 is_layout_memory layout.Memory = true
@@ -63,11 +68,29 @@ pub record SaysNoShard (word : Option Word) : Type 0 where
   pub reason : ShardError
   pub is : shard_fault (shard_said text) ≡ Some reason
 
--- there is a word that names a column which rows of this kind don't have
-pub record LacksColumn (kind : Each) (columns : Option Word) (grid : GridRecord) : Type 0 where
+abbrev pub is_group_memory : GroupError → Bool
+is_group_memory group.Memory = true
+is_group_memory _ = false
+
+-- one of the words says no group of pairs, for a reason other than memory
+pub record HasNoGroup (words : List Word) : Type 0 where
+  pub word : Word
+  pub there : Contains words word
+  pub reason : GroupError
+  pub other : is_group_memory reason ≡ false
+  pub says : SaysNoGroup word reason
+
+-- there is a word that names a column which rows of this kind, for these groups, don't have
+pub record LacksColumn (kind : Each) (groups : List PairGroup) (columns : Option Word) (grid : GridRecord)
+    : Type 0 where
   pub reason : LayoutError
   pub other : is_layout_memory reason ≡ false
-  pub is : IsNoLayout (names_of (rows_for kind) grid) columns reason
+  pub is : IsNoLayout (names_of (rows_for kind) (groups_of groups) grid) columns reason
+
+-- the words say no groups of pairs, or groups for whose rows a column is named that they don't have
+abbrev pub SaysNoLayout : Each → (pairs : List Word) → (columns : Option Word) → GridRecord → Type 0
+SaysNoLayout kind pairs columns grid = HasNoGroup pairs
+    ⊎ ((groups : List PairGroup) × AllZip SaysGroup pairs groups × LacksColumn kind groups columns grid)
 
 -- what counts from 1 isn't among so many
 abbrev pub IsOutside : (number count : ℕ) → Type 0

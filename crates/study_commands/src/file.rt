@@ -2,7 +2,8 @@
 ghost use Rattle.std.specs.Prelude.{◌≡◌, ◌≢◌, ◌+◌, ℕ, List, IfOk, IfErr};
 ghost use Rattle.diagnosis.specs.Diagnosis.{RefusesFor};
 ghost use Rattle.toml.specs.View.{table_view};
-ghost use Rattle.study_commands.specs.File.{AreBytes, IsScenario, IsTable};
+ghost use Rattle.study.specs.Sources.{sources_of};
+ghost use Rattle.study_commands.specs.File.{AreBytes, AreSources, IsScenario, IsTable};
 ghost use Rattle.study_commands.specs.Refusal.{IsOfBytes, IsOfFile, IsOfTable, IsToldWith, IsUnread};
 ghost use Rattle.shell.specs.Input.{TakesAtMost, input_path, most_bytes};
 
@@ -14,6 +15,7 @@ use shell::{InputError, bytes_at};
 use std::alloc::Global;
 use std::io::Read;
 use std::rt::Files;
+use study::Sources;
 use toml::Table;
 
 /// The fault of a file that is refused, told with this text.
@@ -64,7 +66,7 @@ fn refusal_of(alloc: Global, path: &str, bytes: &[u8]) -> Fault
 }
 
 /// The table of the file at a path; `-` is the input.
-pub(crate) fn table_of<R: Files, I: Read>(
+fn table_of<R: Files, I: Read>(
     rt: &R,
     alloc: Global,
     path: &str,
@@ -81,6 +83,22 @@ pub(crate) fn table_of<R: Files, I: Read>(
         Err(error) if error.is_memory() => Err(Fault::Memory),
         Err(_) => Err(refusal_of(alloc, path, &bytes)),
     }
+}
+
+/// The files of a study over the file at a path; `-` is the input.
+pub(crate) fn sources_at<R: Files, I: Read>(
+    rt: &R,
+    alloc: Global,
+    path: &str,
+    input: &mut I,
+) -> Result<Sources, Fault>
+    ensures sources { IfOk result (λ s. AreSources (I.remaining input.old) path.now (sources_of s)) }
+    ensures why { IfErr result (IsOfTable (I.remaining input.old) path.now) }
+    ensures taken { TakesAtMost (most_bytes + 1) (I.remaining input.old) (I.remaining input.new) }
+    ensures untouched { path.now ≢ input_path → input.new ≡ input.old }
+{
+    let file = table_of(rt, alloc, path, input)?;
+    Ok(Sources::of_scenario(file))
 }
 
 /// The scenario of the file at a path; `-` is the input.

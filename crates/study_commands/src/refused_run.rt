@@ -6,17 +6,16 @@ use crate::run_name::name_of_run;
 use diagnosis::{Diagnosis, diagnose_table};
 use printable::Printable;
 use std::alloc::{AllocError, Global};
-use study::{Choice, Grid, PlaceError, Run, run_table};
-use toml::Table;
+use study::{Choice, Grid, PlaceError, Run, Sources, run_table};
 
 /// What `check` says of a run's file, or why there is none.
 fn reason_of(
     alloc: Global,
-    file: &Table,
+    sources: &Sources,
     settings: &[Choice<'_>],
     run: &Run<'_>,
 ) -> Result<String, AllocError> {
-    let table = match run_table(alloc, file, settings, run) {
+    let table = match run_table(alloc, sources, settings, run) {
         Ok(table) => table,
         Err(PlaceError::Memory(error)) => return Err(error),
         Err(error) => return format!(in alloc; "{error:?}: {error}"),
@@ -27,11 +26,31 @@ fn reason_of(
     }
 }
 
+/// The line of a run of a point, both from 0, that has only so many processes, below one that a group of pairs names.
+pub(crate) fn line_of_lack(
+    alloc: Global,
+    path: &str,
+    grid: &Grid,
+    point: u64,
+    run: u64,
+    processes: u16,
+) -> Result<String, AllocError>
+    requires point { point < length (points grid.now) }
+    requires run { run < length (runs grid.now) }
+{
+    let name = name_of_run(alloc, grid, point, run)?;
+    let text = format!(in alloc;
+        "{path}: {name}: NoSuchProcess: its processes are 1 to {processes}"
+    )?;
+    let text = Printable(text.as_str());
+    format!(in alloc; "{text}\n")
+}
+
 /// The line of a run that is refused, of a point, both from 0: its numbers from 1, its settings, and the reason.
 pub(crate) fn line_of_run(
     alloc: Global,
     path: &str,
-    file: &Table,
+    sources: &Sources,
     grid: &Grid,
     point: u64,
     run: u64,
@@ -41,7 +60,7 @@ pub(crate) fn line_of_run(
 {
     let settings = grid.point(alloc, point)?;
     let its = grid.run(alloc, run)?;
-    let why = reason_of(alloc, file, &settings, &its)?;
+    let why = reason_of(alloc, sources, &settings, &its)?;
     let name = name_of_run(alloc, grid, point, run)?;
     let text = format!(in alloc; "{path}: {name}: {why}")?;
     let text = Printable(text.as_str());

@@ -1,26 +1,25 @@
 //! The command `show`: the scenario file of one run of a study.
 ghost use Rattle.std.specs.Prelude.{◌≡◌, ◌≢◌, ◌+◌, ◌<◌, IfOk, IfErr, length, string_bytes};
-ghost use Rattle.toml.specs.View.{table_view};
+ghost use Rattle.study.specs.Sources.{sources_of};
 ghost use Rattle.study_commands.specs.Fault.{IsBefore, IsOfWordsFor};
 ghost use Rattle.study_commands.specs.Show.{IsPlace, IsShowAnswer};
 ghost use Rattle.study_commands.specs.Why.{IsOfText, StopsShow};
 ghost use Rattle.study_commands.specs.WordRefusals.{IsOutside};
 ghost use Rattle.shell.specs.Input.{TakesAtMost, input_path, most_bytes};
 ghost use Rattle.study.specs.Grid.{points, runs};
-ghost use Rattle.study.specs.Placed.{table_of_run};
+ghost use Rattle.study.specs.Placed.{sources_of_run};
 ghost use Rattle.study.specs.Runs.{IsRunText};
 ghost use Rattle.sweep.specs.StudyText.{point_at, run_at};
 
 use crate::fault::Fault;
-use crate::file::table_of;
+use crate::file::sources_at;
 use crate::refused_run::line_of_run;
 use crate::study_words::grid_of;
 use std::alloc::Global;
 use std::io::Read;
 use std::rt::Files;
-use study::{Grid, PlaceError, TextError, scenario_text};
+use study::{Grid, PlaceError, Sources, TextError, scenario_text};
 use study_line::GridTexts;
-use toml::Table;
 
 /// The place, from 0, of what counts from 1 among so many.
 fn place_of(alloc: Global, name: &str, number: u64, count: u64) -> Result<u64, Fault>
@@ -39,7 +38,7 @@ fn place_of(alloc: Global, name: &str, number: u64, count: u64) -> Result<u64, F
 fn text_of_run(
     alloc: Global,
     path: &str,
-    file: &Table,
+    sources: &Sources,
     grid: &Grid,
     point: u64,
     run: u64,
@@ -47,16 +46,16 @@ fn text_of_run(
     requires point { point < length (points grid.now) }
     requires run { run < length (runs grid.now) }
     ensures text { IfOk result (λ s. IsRunText
-        (table_of_run (point_at grid.now point) (run_at grid.now run) (table_view file.now)) (string_bytes s)) }
+        (sources_of_run (point_at grid.now point) (run_at grid.now run) (sources_of sources.now)) (string_bytes s)) }
     ensures refused { IfErr result (IsOfText
-        (table_of_run (point_at grid.now point) (run_at grid.now run) (table_view file.now))) }
+        (sources_of_run (point_at grid.now point) (run_at grid.now run) (sources_of sources.now))) }
 {
     let settings = grid.point(alloc, point)?;
     let its = grid.run(alloc, run)?;
-    match scenario_text(alloc, file, &settings, &its) {
+    match scenario_text(alloc, sources, &settings, &its) {
         Ok(text) => Ok(text),
         Err(TextError::Place(PlaceError::Memory(_))) => Err(Fault::Memory),
-        Err(_) => Err(Fault::Refused(line_of_run(alloc, path, file, grid, point, run).ok())),
+        Err(_) => Err(Fault::Refused(line_of_run(alloc, path, sources, grid, point, run).ok())),
     }
 }
 
@@ -78,7 +77,7 @@ pub(crate) fn serve_show<R: Files, I: Read>(
     let grid = grid_of(alloc, words)?;
     let point_place = place_of(alloc, "NoPoint", point, grid.points())?;
     let run_place = place_of(alloc, "NoRun", run, grid.runs())?;
-    let file = table_of(rt, alloc, path, input)?;
-    let text = text_of_run(alloc, path, &file, &grid, point_place, run_place)?;
+    let sources = sources_at(rt, alloc, path, input)?;
+    let text = text_of_run(alloc, path, &sources, &grid, point_place, run_place)?;
     Ok(text.into_bytes())
 }

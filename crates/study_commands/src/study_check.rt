@@ -20,10 +20,9 @@ use std::marker::Sync;
 use std::rt::Files;
 use std::thread::Threads;
 use std::time::Clock;
-use study::{Grid, Shard};
+use study::{Grid, Shard, Sources};
 use study_line::StudyTexts;
 use sweep::{Watcher, check_study};
-use toml::Table;
 
 /// About how many entries the runs have, and how long they take by so many threads.
 fn size_text(alloc: Global, reckoned: &Reckoned, threads: u8) -> Result<String, AllocError> {
@@ -50,7 +49,7 @@ fn limit_text(
     let text = format!(in alloc; "limit {its} may stop {name}, which has about {entries} entries")?;
     match limit {
         Some(limit) => format!(in alloc; "{text}; limit={limit} would do for all\n"),
-        None => format!(in alloc; "{text}; no limit of a file would do for all\n"),
+        None => format!(in alloc; "{text}; no limit of a sources would do for all\n"),
     }
 }
 
@@ -72,7 +71,7 @@ fn reckoned_text(
 fn text_of<R: Threads + Sync>(
     rt: &R,
     alloc: Global,
-    file: &Table,
+    sources: &Sources,
     grid: &Grid,
     shard: Shard,
     threads: u8,
@@ -84,7 +83,7 @@ fn text_of<R: Threads + Sync>(
     let its = shard.points(grid.points() as u32);
     let range = u64::from(its.start)..u64::from(its.end);
     let points = its.end - its.start;
-    let reckoned = reckon(rt, alloc, file, grid, range, threads)?;
+    let reckoned = reckon(rt, alloc, sources, grid, range, threads)?;
     let mut text = format!(in alloc; "ok: {points} points of {runs} runs each")?;
     text.push_str(reckoned_text(alloc, grid, &reckoned, threads)?.as_str())?;
     Ok(text)
@@ -107,10 +106,10 @@ pub(crate) fn serve_study_check<R: Files + Threads + Sync + Clock, I: Read, W: W
     ensures untouched { path.now ≢ input_path → input.new ≡ input.old }
     ensures hidden { W.shows watcher.old ≡ false → W.shows watcher.new ≡ false }
 {
-    let (file, grid, shard, _layout) = said_over(rt, alloc, path, study, input)?;
+    let (sources, grid, shard, layout) = said_over(rt, alloc, path, study, input)?;
     let threads = threads_for(rt, study.threads);
-    match check_study(rt, alloc, &file, &grid, shard, threads, watcher) {
-        Ok(()) => Ok(text_of(rt, alloc, &file, &grid, shard, threads)?.into_bytes()),
-        Err(error) => Err(fault_of(alloc, path, &file, &grid, &error)),
+    match check_study(rt, alloc, &sources, &grid, shard, &layout, threads, watcher) {
+        Ok(()) => Ok(text_of(rt, alloc, &sources, &grid, shard, threads)?.into_bytes()),
+        Err(error) => Err(fault_of(alloc, path, &sources, &grid, &error)),
     }
 }

@@ -1,17 +1,17 @@
 //! The command `sweep`: the table of a study.
-ghost use Rattle.std.specs.Prelude.{◌≡◌, ◌≢◌, ◌^◌, ◌-◌, ◌+◌, ◌<◌, ◌≤◌, false, IfOk, IfErr, IfSome, OnOk, option_map};
+ghost use Rattle.std.specs.Prelude.{◌≡◌, ◌≢◌, ◌^◌, ◌-◌, ◌+◌, ◌<◌, ◌≤◌, false, IfOk, IfErr, IfSome, OnOk, map, option_map};
 ghost use Rattle.study_commands.specs.Fault.{IsBefore, IsOfWordsFor};
 ghost use Rattle.study_commands.specs.Study.{IsLayout, rows_for};
 ghost use Rattle.study_commands.specs.Sweep.{GoesForSweep, IsFaultOf, IsOfRun, IsSaid};
 ghost use Rattle.study_commands.specs.Why.{StopsSweep};
-ghost use Rattle.study_commands.specs.WordRefusals.{LacksColumn, is_layout_memory};
-ghost use Rattle.toml.specs.View.{table_view};
+ghost use Rattle.study_commands.specs.WordRefusals.{SaysNoLayout, is_layout_memory};
+ghost use Rattle.study.specs.Sources.{sources_of};
 ghost use Rattle.shell.specs.Input.{TakesAtMost, input_path, most_bytes};
 
 use crate::fault::Fault;
-use crate::file::table_of;
-use crate::refused_run::line_of_run;
-use crate::study_words::{grid_of, shard_of};
+use crate::file::sources_at;
+use crate::refused_run::{line_of_lack, line_of_run};
+use crate::study_words::{grid_of, groups_of, shard_of};
 use printable::Printable;
 use reporting::Outlet;
 use std::alloc::Global;
@@ -20,10 +20,9 @@ use std::marker::Sync;
 use std::rt::Files;
 use std::thread::{Threads, available_parallelism};
 use std::time::Clock;
-use study::{Grid, Shard};
+use study::{Grid, Shard, Sources};
 use study_line::{Each, StudyTexts};
 use sweep::{Layout, LayoutError, Rows, SweepError, Watcher, sweep};
-use toml::Table;
 
 /// How many threads share the runs: as many as were asked for, or else one for each processor; at most 64.
 pub(crate) fn threads_for<R: Threads>(rt: &R, asked: Option<u64>) -> u8
@@ -43,7 +42,7 @@ pub(crate) fn threads_for<R: Threads>(rt: &R, asked: Option<u64>) -> u8
 pub(crate) fn fault_of(
     alloc: Global,
     path: &str,
-    file: &Table,
+    sources: &Sources,
     grid: &Grid,
     error: &SweepError,
 ) -> Fault
@@ -52,9 +51,15 @@ pub(crate) fn fault_of(
 {
     match error {
         SweepError::Refused { point, run, .. } => {
-            let line = line_of_run(alloc, path, file, grid, *point, *run);
+            let line = line_of_run(alloc, path, sources, grid, *point, *run);
             Fault::Refused(line.ok())
         }
+        SweepError::NoSuchProcess {
+            point,
+            run,
+            processes,
+            ..
+        } => Fault::Refused(line_of_lack(alloc, path, grid, *point, *run, *processes).ok()),
         SweepError::Memory => Fault::Memory,
         SweepError::Write => Fault::Write,
     }
@@ -86,11 +91,22 @@ fn layout_fault(alloc: Global, error: &LayoutError) -> Fault
 }
 
 /// The layout of the rows that words ask for.
-fn layout_of(alloc: Global, grid: &Grid, each: Each, columns: Option<&str>) -> Result<Layout, Fault>
-    ensures layout { IfOk result (IsLayout each (option_map (λ w. w.now) columns.entry) grid.now) }
-    ensures refused { IfErr result (IsOfWordsFor (LacksColumn each (option_map (λ w. w.now) columns.entry) grid.now)) }
+fn layout_of(
+    alloc: Global,
+    grid: &Grid,
+    each: Each,
+    pairs: &[&str],
+    columns: Option<&str>,
+) -> Result<Layout, Fault>
+    ensures layout { IfOk result
+        (IsLayout each (map (λ w. w.now) pairs.now) (option_map (λ w. w.now) columns.entry) grid.now) }
+    ensures refused { IfErr result (IsOfWordsFor
+        (SaysNoLayout each (map (λ w. w.now) pairs.now) (option_map (λ w. w.now) columns.entry) grid.now)) }
 {
-    Layout::new(alloc, grid, rows_of(each), columns).map_err(|error| layout_fault(alloc, &error))
+    let groups = groups_of(alloc, pairs)?;
+    Layout::new(alloc, grid, rows_of(each), groups, columns).map_err(|error| layout_fault(
+        alloc, &error,
+    ))
 }
 
 /// The study that words say of the file at a path, `-` being the input: the file's table, the grid, the shard and the
@@ -101,17 +117,17 @@ pub(crate) fn said_over<R: Files, I: Read>(
     path: &str,
     study: &StudyTexts<'_>,
     input: &mut I,
-) -> Result<(Table, Grid, Shard, Layout), Fault>
-    ensures said { IfOk result (λ s. IsSaid (I.remaining input.old) path.now study.now (table_view s.0) s.1 s.2 s.3) }
+) -> Result<(Sources, Grid, Shard, Layout), Fault>
+    ensures said { IfOk result (λ s. IsSaid (I.remaining input.old) path.now study.now (sources_of s.0) s.1 s.2 s.3) }
     ensures why { IfErr result (IsBefore (StopsSweep (I.remaining input.old) path.now study.now)) }
     ensures taken { TakesAtMost (most_bytes + 1) (I.remaining input.old) (I.remaining input.new) }
     ensures untouched { path.now ≢ input_path → input.new ≡ input.old }
 {
     let grid = grid_of(alloc, &study.grid)?;
     let shard = shard_of(alloc, study.shard)?;
-    let layout = layout_of(alloc, &grid, study.each, study.columns)?;
-    let file = table_of(rt, alloc, path, input)?;
-    Ok((file, grid, shard, layout))
+    let layout = layout_of(alloc, &grid, study.each, &study.pairs, study.columns)?;
+    let sources = sources_at(rt, alloc, path, input)?;
+    Ok((sources, grid, shard, layout))
 }
 
 /// Answers `sweep`: the rows of the study's points, or of their runs; of the shard's where one is named.
@@ -132,12 +148,12 @@ pub(crate) fn serve_sweep<R: Files + Threads + Sync + Clock, I: Read, O: Outlet,
     ensures untouched { path.now ≢ input_path → input.new ≡ input.old }
     ensures hidden { W.shows watcher.old ≡ false → W.shows watcher.new ≡ false }
 {
-    let (file, grid, shard, layout) = said_over(rt, alloc, path, study, input)?;
+    let (sources, grid, shard, layout) = said_over(rt, alloc, path, study, input)?;
     let threads = threads_for(rt, study.threads);
     match sweep(
-        rt, alloc, &file, &grid, shard, &layout, threads, outlet, watcher,
+        rt, alloc, &sources, &grid, shard, &layout, threads, outlet, watcher,
     ) {
         Ok(()) => Ok(()),
-        Err(error) => Err(fault_of(alloc, path, &file, &grid, &error)),
+        Err(error) => Err(fault_of(alloc, path, &sources, &grid, &error)),
     }
 }

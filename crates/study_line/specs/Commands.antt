@@ -24,13 +24,13 @@ abbrev pub seeds_rule : (needed : Bool) → Rule
 seeds_rule needed = record (option_rule (codes "seeds")) { required = needed }
 
 -- an option that may be there several times, each time with a value
-abbrev pub axis_rule : Text → Rule
-axis_rule name = record (option_rule name) { action = Some Append }
+abbrev pub repeated_rule : Text → Rule
+repeated_rule name = record (option_rule name) { action = Some Append }
 
 abbrev pub with_axes : App → App
 with_axes app =
-    with_rule (with_rule (with_rule app (axis_rule (codes "vary"))) (axis_rule (codes "over")))
-    (axis_rule (codes "deal"))
+    with_rule (with_rule (with_rule app (repeated_rule (codes "vary"))) (repeated_rule (codes "over")))
+    (repeated_rule (codes "deal"))
 
 -- the runs of a study
 abbrev pub with_grid : (needed : Bool) → App → App
@@ -70,7 +70,9 @@ with_path name = with_rule (new_app name) path_rule
 
 -- what the table of a study has
 abbrev pub with_table : App → App
-with_table app = with_rule (with_rule app (option_rule (codes "columns"))) (option_rule (codes "each"))
+with_table app =
+    with_rule (with_rule (with_rule app (option_rule (codes "columns"))) (option_rule (codes "each")))
+    (repeated_rule (codes "pairs"))
 
 -- a command that takes a path and a study
 abbrev pub study_app : (needed : Bool) → Text → App

@@ -93,12 +93,13 @@ pub record IsStudyAt (rows : List Row) (study : StudyTexts) : Type 0 where
   pub threads : MayBeNumberAt (codes "threads") rows study.threads
   pub columns : MayBeTextAt (codes "columns") rows study.columns
   pub each : IsEachAt (codes "each") rows study.each
+  pub pairs : map (λ t. t.now) study.pairs.items ≡ texts_at (codes "pairs") rows
 
 -- the options that say a study
 abbrev pub study_options : List Text
 study_options =
     codes "seeds" ∷ codes "vary" ∷ codes "over" ∷ codes "deal" ∷ codes "shard" ∷ codes "threads" ∷ codes "columns"
-    ∷ codes "each" ∷ []
+    ∷ codes "each" ∷ codes "pairs" ∷ []
 
 -- a study, or none where none of its options is there
 abbrev pub MayBeStudyAt : List Row → Option StudyTexts → Type 0

@@ -1,7 +1,7 @@
 //! The command line, with its help.
 ghost use Rattle.std.specs.Prelude.{Some};
 ghost use Rattle.clap.specs.Words.{App, Rule, with_rule, with_subcommand};
-ghost use Rattle.study_line.specs.Commands.{HasRule, Makes, axis_rule, check_app, draw_app, letters_app, option_rule, path_rule, point_rule, run_rule, show_app, study_app, sweep_app, threads_rule, tick_rule, whole_app, with_grid, with_path};
+ghost use Rattle.study_line.specs.Commands.{HasRule, Makes, repeated_rule, check_app, draw_app, letters_app, option_rule, path_rule, point_rule, run_rule, show_app, study_app, sweep_app, threads_rule, tick_rule, whole_app, with_grid, with_path};
 
 use clap::builder::ValueParser;
 use clap::{Arg, ArgAction, Command, value_parser};
@@ -118,6 +118,10 @@ const COLUMNS: &str =
 const EACH: &str =
     "What has a row: each `point`, with its runs added up, or each `run` [default: point]";
 
+const PAIRS: &str =
+    "A group of pairs that has rows of its own, of its observers and their subjects: each a number or A..=B, several \
+joined by `+`, as 1..=4:5..=7+5..=7:1..=4; may be there several times [default: all pairs in one row]";
+
 const PICTURE: &str =
     "Which picture: `suspicions`, who suspects whom, or `letters`, what went from whom to whom";
 
@@ -188,11 +192,18 @@ fn parsed_option<'a>(
     option(alloc, name, value, help, false).value_parser(values)
 }
 
+/// An option that may be there several times.
+fn repeated_option<'a>(alloc: Global, name: &'a str, value: &'a str, help: &'a str) -> Arg<'a>
+    ensures { HasRule (repeated_rule name.now) result }
+{
+    option(alloc, name, value, help, false).action(ArgAction::Append)
+}
+
 /// An option for axes, which may be there several times.
 fn axis_option<'a>(alloc: Global, name: &'a str, help: &'a str) -> Arg<'a>
-    ensures { HasRule (axis_rule name.now) result }
+    ensures { HasRule (repeated_rule name.now) result }
 {
-    option(alloc, name, "KEY=VALUE,..", help, false).action(ArgAction::Append)
+    repeated_option(alloc, name, "KEY=VALUE,..", help)
 }
 
 /// The option for the point.
@@ -264,7 +275,11 @@ fn study_command<'a>(
     let command = with_argument(command, option(alloc, "shard", "K/N", SHARD, false));
     let command = with_argument(command, threads_option(alloc));
     let command = with_argument(command, option(alloc, "columns", "NAME,..", COLUMNS, false));
-    with_argument(command, option(alloc, "each", "WHAT", EACH, false))
+    let command = with_argument(command, option(alloc, "each", "WHAT", EACH, false));
+    with_argument(
+        command,
+        repeated_option(alloc, "pairs", "OBSERVERS:SUBJECTS", PAIRS),
+    )
 }
 
 /// `draw SCENARIO --as PICTURE [--from T] [--until T] [--of P,Q]`

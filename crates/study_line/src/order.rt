@@ -37,6 +37,9 @@ pub struct StudyTexts<'a> {
     pub columns: Option<&'a str>,
     /// What a row of its table tells of.
     pub each: Each,
+    /// The groups of pairs that have rows of their own, as `1..=4:5..=7`, in order; all pairs have one where there is
+    /// none.
+    pub pairs: Vec<&'a str>,
 }
 
 /// What a row of a study's table tells of.
@@ -228,6 +231,7 @@ fn read_study<'a>(alloc: Global, found: &ArgMatches<'a>) -> Result<StudyTexts<'a
         threads: number_if_at(found, "threads"),
         columns: text_if_at(found, "columns"),
         each,
+        pairs: texts_of(alloc, found, "pairs")?,
     })
 }
 
@@ -243,6 +247,7 @@ fn lacks_study(found: &ArgMatches<'_>) -> bool
         && lacks(found, "threads")
         && lacks(found, "columns")
         && lacks(found, "each")
+        && lacks(found, "pairs")
 }
 
 /// A study, if any of its options is there.

@@ -1,5 +1,5 @@
 use Rattle.std.proofs.Common.{rules, inr}
-use Rattle.toml.specs.View.{table_view}
+use Rattle.study.specs.Sources.{sources_of}
 use Rattle.study_commands.specs.Fault.{IsBefore}
 use Rattle.study_commands.specs.Why.{StopsShow}
 use Rattle.study_commands.proofs.Reasons.{study_text}
@@ -7,8 +7,8 @@ use Rattle.study_commands.proofs.showing.serve_show.Goals as goal
 
 pub returns-clause-text : goal.returns-clause-text
 returns-clause-text g c = record {
-  file = table_view c.in_ok-file.file;
-  is_file = c.in_ok-file.ensures.table;
+  sources = sources_of c.in_ok-sources.sources;
+  are_sources = c.in_ok-sources.ensures.sources;
   grid = c.in_ok-grid.grid;
   is_grid = c.in_ok-grid.ensures.grid;
   point_place = c.in_ok-point_place.point_place;
@@ -24,8 +24,8 @@ returns-in_err-text-clause-why g c =
     let input = g.I.Read.remaining c.args.input.now in
     let why : IsBefore (StopsShow input c.args.path.now c.args.words.now c.args.point c.args.run) f =
     study_text _ _ _ f c.in_err-text.ensures.refused (λ none line. inr (record {
-      file = table_view c.in_ok-file.file;
-      is_file = c.in_ok-file.ensures.table;
+      sources = sources_of c.in_ok-sources.sources;
+      are_sources = c.in_ok-sources.ensures.sources;
       grid = c.in_ok-grid.grid;
       is_grid = c.in_ok-grid.ensures.grid;
       point_place = c.in_ok-point_place.point_place;
