@@ -64,9 +64,10 @@ tick_rule name = record (option_rule name) { parser = Some (parser.Unsigned 0 42
 abbrev pub with_ticks : App → App
 with_ticks app = with_rule (with_rule app (tick_rule (codes "from"))) (tick_rule (codes "until"))
 
--- a command that takes a path
+-- a command that takes a scenario's file, and perhaps a network's and what is set in them
 abbrev pub with_path : Text → App
-with_path name = with_rule (new_app name) path_rule
+with_path name =
+    with_rule (with_rule (with_rule (new_app name) path_rule) (option_rule (codes "network"))) (repeated_rule (codes "set"))
 
 -- what the table of a study has
 abbrev pub with_table : App → App

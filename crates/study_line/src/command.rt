@@ -91,6 +91,14 @@ that of the whole study.";
 
 const PATH: &str = "The scenario file, of at most 8388608 bytes; `-` is standard input";
 
+const NETWORK: &str =
+    "A network file that is laid over the scenario: what its links do, and bursts, cuts, pauses and \
+records of losses, which each seed draws anew; of at most 8388608 bytes, `-` is standard input";
+
+const SET: &str =
+    "A key with the value that it has in all runs, any value of TOML, as 'proposals=[1,2,3]' or \
+'detector={kind=\"freshness\",eta=100,delta=50}', which takes the place of the whole table; may be there several times";
+
 const SEEDS: &str = "The seeds of each point's runs, from A to B";
 
 const VARY: &str =
@@ -236,12 +244,14 @@ fn tick_option<'a>(alloc: Global, name: &'a str, help: &'a str) -> Arg<'a>
     parsed_option(alloc, name, "T", help, values)
 }
 
-/// A command that takes a scenario file.
+/// A command that takes a scenario file, and perhaps a network file and what is set in them.
 fn path_command<'a>(alloc: Global, name: &'a str, about: &'a str, example: &'a str) -> Made<'a>
     ensures { Makes (with_path name.now) result }
 {
     let command = Command::new(alloc, name).about(about).after_help(example);
-    with_argument(Ok(command), path_argument(alloc))
+    let command = with_argument(Ok(command), path_argument(alloc));
+    let command = with_argument(command, option(alloc, "network", "FILE", NETWORK, false));
+    with_argument(command, repeated_option(alloc, "set", "KEY=VALUE", SET))
 }
 
 /// A command that takes a scenario file and the options that say which runs a study has.
