@@ -8,7 +8,7 @@ ghost use Rattle.study_commands.specs.WordRefusals.{IsOutside};
 ghost use Rattle.shell.specs.Input.{TakesAtMost, input_path, most_bytes};
 ghost use Rattle.study.specs.Grid.{points, runs};
 ghost use Rattle.study.specs.Placed.{sources_of_run};
-ghost use Rattle.study.specs.Runs.{IsRunText};
+ghost use Rattle.study.specs.Runs.{IsRunText, is_text_memory};
 ghost use Rattle.sweep.specs.StudyText.{point_at, run_at};
 
 use crate::fault::Fault;
@@ -34,6 +34,13 @@ fn place_of(alloc: Global, name: &str, number: u64, count: u64) -> Result<u64, F
     }
 }
 
+/// Whether a run has no text because memory was refused.
+fn is_of_memory(error: &TextError) -> bool
+    ensures { result ≡ is_text_memory error.now }
+{
+    matches!(error, TextError::Place(PlaceError::Memory(_)))
+}
+
 /// The text of a run of a point, both from 0.
 fn text_of_run(
     alloc: Global,
@@ -54,7 +61,7 @@ fn text_of_run(
     let its = grid.run(alloc, run)?;
     match scenario_text(alloc, sources, &settings, &its) {
         Ok(text) => Ok(text),
-        Err(TextError::Place(PlaceError::Memory(_))) => Err(Fault::Memory),
+        Err(error) if is_of_memory(&error) => Err(Fault::Memory),
         Err(_) => Err(Fault::Refused(line_of_run(alloc, path, sources, grid, point, run).ok())),
     }
 }
