@@ -3,3 +3,4 @@ pub mod Stopping
 pub mod Reasons
 pub mod Refusing
 pub mod Swept
+pub mod Standing

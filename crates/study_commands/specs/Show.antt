@@ -7,6 +7,7 @@ use Rattle.study.specs.Grid.{GridRecord, points, runs}
 use Rattle.study.specs.Placed.{sources_of_run}
 use Rattle.study.specs.Runs.{IsRunText}
 use Rattle.study_line.specs.declared.order.GridTexts.{GridTexts}
+use Rattle.study_line.specs.declared.order.SourceTexts.{SourceTexts}
 use Rattle.sweep.specs.StudyText.{point_at, run_at}
 
 -- what counts from 1 has this place, counted from 0, among so many
@@ -15,12 +16,12 @@ pub record IsPlace (number count place : ℕ) : Type 0 where
   pub is_low : place < count
 
 -- the piece is the text of the run, one of the point's, which is one of the study's
-pub record IsShowAnswer (input : Option (List ℕ)) (path : List ℕ) (words : GridTexts) (point run : ℕ)
+pub record IsShowAnswer (input : Option (List ℕ)) (texts : SourceTexts) (words : GridTexts) (point run : ℕ)
     (piece : List ℕ) : Type 0 where
-  pub sources : SourcesRecord
-  pub are_sources : AreSources input path sources
   pub grid : GridRecord
   pub is_grid : IsGrid words grid
+  pub sources : SourcesRecord
+  pub are_sources : AreSources input texts grid sources
   pub point_place : ℕ
   pub is_point : IsPlace point (length (points grid)) point_place
   pub run_place : ℕ
