@@ -1,5 +1,5 @@
 -- Why commands stop, for each of their faults.
-use Rattle.std.proofs.Common.{ℕ, List, None, Option, String}
+use Rattle.std.proofs.Common.{◌⊎◌, ℕ, List, None, Option, String}
 use Rattle.std.specs.declared.alloc.Global.{Global}
 use Rattle.study_commands.specs.Fault.{IsBefore, IsOfWordsFor}
 use Rattle.study_commands.specs.File.{AreBytes, IsScenario}
@@ -7,7 +7,7 @@ use Rattle.study_commands.specs.Refusal.{AreNoSources, IsBeforeReading, IsOfByte
 use Rattle.study_commands.specs.Refusal.{IsOfTable, IsRight, IsToldWith, IsUnread}
 use Rattle.study_commands.specs.Refusal.{refusal_text, FileRefusal, broken}
 use Rattle.study_commands.specs.Runs.{IsOfRun, StopsLetters}
-use Rattle.study_commands.specs.Why.{HasNone, IsOfStudy, IsOfText, StopsCheck}
+use Rattle.study_commands.specs.Why.{HasNone, IsOfStudy, IsOfText, IsTooLong, StopsCheck}
 use Rattle.study_commands.specs.WordRefusals.{SaysNoSources}
 use Rattle.study_commands.specs.declared.fault.Fault.{Fault}
 use Rattle.study_commands.specs.declared.fault.Fault.TheVariants.{Limit, Memory, Refused, Words, WordsMemory, Write}
@@ -87,7 +87,7 @@ module _ (input : Option (List ℕ)) (texts : SourceTexts) where
 
 -- a run has no text
 pub study_text : (OfWords : Type 0) (OfFile : Option (String Global) → Type 0) (table : RunSources)
-    (f : Fault) → IsOfText table f → (HasNone table → (line : Option (String Global)) → OfFile line)
+    (f : Fault) → IsOfText table f → (HasNone table ⊎ IsTooLong table → (line : Option (String Global)) → OfFile line)
     → IsBefore (IsOfStudy OfWords OfFile) f
 study_text OfWords OfFile table (Refused line) is then = then is line
 study_text OfWords OfFile table Memory is then = tt

@@ -1,5 +1,6 @@
 -- What `show` answers.
-use Rattle.std.specs.Prelude.{◌≡◌, ◌+◌, ◌<◌, ℕ, List, length, Option}
+use Rattle.std.specs.Prelude.{◌≡◌, ◌+◌, ◌<◌, ◌≤◌, ℕ, List, length, Option}
+use Rattle.shell.specs.Input.{most_bytes}
 use Rattle.study.specs.Sources.{SourcesRecord}
 use Rattle.study_commands.specs.File.{AreSources}
 use Rattle.study_commands.specs.Study.{IsGrid}
@@ -15,7 +16,7 @@ pub record IsPlace (number count place : ℕ) : Type 0 where
   pub number_is : number ≡ place + 1
   pub is_low : place < count
 
--- the piece is the text of the run, one of the point's, which is one of the study's
+-- the piece is the text of the run, one of the point's, which is one of the study's, and can be a file's
 pub record IsShowAnswer (input : Option (List ℕ)) (texts : SourceTexts) (words : GridTexts) (point run : ℕ)
     (piece : List ℕ) : Type 0 where
   pub grid : GridRecord
@@ -27,3 +28,4 @@ pub record IsShowAnswer (input : Option (List ℕ)) (texts : SourceTexts) (words
   pub run_place : ℕ
   pub is_run : IsPlace run (length (runs grid)) run_place
   pub text : IsRunText (sources_of_run (point_at grid point_place) (run_at grid run_place) sources) piece
+  pub is_short : length piece ≤ most_bytes

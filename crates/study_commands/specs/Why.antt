@@ -1,5 +1,5 @@
 -- Why an order isn't carried out: which of its words, its files or its runs are refused.
-use Rattle.std.specs.Prelude.{◌≡◌, ◌⊎◌, ℕ, List, length, false, Option, None, Some, String, option_map}
+use Rattle.std.specs.Prelude.{◌≡◌, ◌⊎◌, ◌<◌, ℕ, List, length, false, Option, None, Some, String, option_map}
 use Rattle.std.specs.declared.alloc.Global.{Global}
 use Rattle.study_commands.specs.Draw.{StopsPicture}
 use Rattle.study_commands.specs.File.{AreSources}
@@ -12,7 +12,8 @@ use Rattle.study_commands.specs.declared.fault.Fault.{Fault}
 use Rattle.study_commands.specs.declared.fault.Fault.TheVariants.{Memory, Refused, Words, WordsMemory, Write}
 use Rattle.study.specs.Grid.{GridRecord, points, runs}
 use Rattle.study.specs.Placed.{sources_of_run}
-use Rattle.study.specs.Runs.{HasNoText, RunSources, is_text_memory}
+use Rattle.shell.specs.Input.{most_bytes}
+use Rattle.study.specs.Runs.{HasNoText, IsRunText, RunSources, is_text_memory}
 use Rattle.study.specs.Shard.{ShardRecord}
 use Rattle.study.specs.declared.error.TextError.{TextError}
 use Rattle.study_line.specs.declared.order.GridTexts.{GridTexts}
@@ -41,9 +42,15 @@ pub record HasNone (r : RunSources) : Type 0 where
   pub other : is_text_memory reason ≡ false
   pub has_none : HasNoText r reason
 
--- the fault is that a run has no text, or that memory was refused
+-- its text is longer than a file may be
+pub record IsTooLong (r : RunSources) : Type 0 where
+  pub text : List ℕ
+  pub is_text : IsRunText r text
+  pub long : most_bytes < length text
+
+-- the fault is that a run has no text that can be a file's, or that memory was refused
 abbrev pub IsOfText : RunSources → Fault → Type 0
-IsOfText r (Refused line) = HasNone r
+IsOfText r (Refused line) = HasNone r ⊎ IsTooLong r
 IsOfText r Memory = Unit {0}
 IsOfText r _ = ⊥
 
@@ -61,7 +68,7 @@ module _ (input : Option (List ℕ)) (texts : SourceTexts) where
           ⊎ ((g : GridRecord) × IsGrid words g
           × (IsOutside point (length (points g)) ⊎ (IsOutside run (length (runs g)) ⊎ SaysNoSources texts g)))
 
-      -- the run has no text
+      -- the run has no text that can be a file's
       pub record IsUnshown : Type 0 where
         pub grid : GridRecord
         pub is_grid : IsGrid words grid
@@ -71,7 +78,8 @@ module _ (input : Option (List ℕ)) (texts : SourceTexts) where
         pub is_point : IsPlace point (length (points grid)) point_place
         pub run_place : ℕ
         pub is_run : IsPlace run (length (runs grid)) run_place
-        pub has_none : HasNone (sources_of_run (point_at grid point_place) (run_at grid run_place) sources)
+        pub none : let r = sources_of_run (point_at grid point_place) (run_at grid run_place) sources in
+            HasNone r ⊎ IsTooLong r
 
       abbrev pub StopsShow : Fault → Type 0
       StopsShow = IsOfStudy NamesNoRun (λ line. AreNoSources input texts line ⊎ IsUnshown)

@@ -32,7 +32,14 @@ fn no_grid(alloc: Global) -> Result<Grid, Fault>
     ensures grid { IfOk result (λ g. g ≡ no_axes) }
     ensures refused { IfErr result (λ f. f ≡ Fault.WordsMemory) }
 {
-    let none = Grid::new(alloc, Vec::new(alloc), Vec::new(alloc), Vec::new(alloc), 0, 0);
+    let none = Grid::new(
+        alloc,
+        Vec::new(alloc),
+        Vec::new(alloc),
+        Vec::new(alloc),
+        0,
+        0,
+    );
     none.map_err(|_| Fault::WordsMemory)
 }
 
@@ -56,7 +63,10 @@ pub(crate) fn sources_alone<R: Files, I: Read>(
 fn is_of_memory(error: &ReadError) -> bool
     ensures { result ≡ is_memory error.now }
 {
-    matches!(error, ReadError::Place(PlaceError::Memory(_)) | ReadError::Scenario(ScenarioError::Memory))
+    matches!(
+        error,
+        ReadError::Place(PlaceError::Memory(_)) | ReadError::Scenario(ScenarioError::Memory)
+    )
 }
 
 /// The scenario for which files stand.

@@ -14,7 +14,8 @@ ghost use Rattle.shell.specs.Input.{TakesAtMost, input_path, most_bytes};
 use crate::alone::{is_alone, sources_alone, table_of_sources};
 use crate::fault::Fault;
 use crate::file::{bytes_of, fault_of};
-use diagnosis::{Accepted, Diagnosis, diagnose, diagnose_table};
+use diagnosis::{Accepted, Diagnosis, Refused, diagnose, diagnose_table};
+use printable::Printable;
 use std::alloc::{AllocError, Global};
 use std::io::Read;
 use std::rt::Files;
@@ -75,6 +76,12 @@ fn check_own<R: Files, I: Read>(
     }
 }
 
+/// The line of files that are refused.
+fn line_of_refused(alloc: Global, path: &str, refused: &Refused) -> Result<String, AllocError> {
+    let path = Printable(path);
+    format!(in alloc; "{path}: {refused}\n")
+}
+
 /// What `check` says of files as they stand, with the scenario's own seed.
 fn check_sources(alloc: Global, path: &str, sources: &Sources) -> Result<Vec<u8>, Fault>
     ensures text { IfOk result (λ text. (s : Record) × IsScenarioOf (Ok (sources_of sources.now)) s
@@ -84,7 +91,9 @@ fn check_sources(alloc: Global, path: &str, sources: &Sources) -> Result<Vec<u8>
     let table = table_of_sources(alloc, path, sources)?;
     match diagnose_table(alloc, &table)? {
         Diagnosis::Accepted(accepted) => Ok(line_of(alloc, &accepted)?.into_bytes()),
-        Diagnosis::Refused(refused) => Err(fault_of(alloc, path, &refused)),
+        Diagnosis::Refused(refused) => Err(Fault::Refused(line_of_refused(
+            alloc, path, &refused,
+        ).ok())),
     }
 }
 

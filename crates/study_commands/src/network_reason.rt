@@ -70,7 +70,9 @@ fn table_reason(
             format!(in alloc; "MinAboveMax: {kind}[{number}]: min {min} is above max {max}")
         }
         TableFault::CommonMember { process } => {
-            format!(in alloc; "CommonMember: {kind}[{number}].between: both groups have process {process}")
+            format!(in alloc;
+                "CommonMember: {kind}[{number}].between: both groups have process {process}"
+            )
         }
         TableFault::NotWithin {
             begin,

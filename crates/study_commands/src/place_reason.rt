@@ -14,7 +14,9 @@ pub(crate) fn place_reason(alloc: Global, error: &PlaceError) -> Result<String, 
         PlaceError::ProcessAbove(above) => {
             let (kind, number, key) = (above.kind.key(), above.number, above.key);
             let process = above.process.number();
-            format!(in alloc; "network: NoSuchProcess: {kind}[{number}].{key}: the run has no process {process}")
+            format!(in alloc;
+                "network: NoSuchProcess: {kind}[{number}].{key}: the run has no process {process}"
+            )
         }
         PlaceError::Memory(error) => Err(*error),
         error => format!(in alloc; "{error:?}: {error}"),

@@ -33,7 +33,11 @@ fn table_reason(alloc: Global, table: &Table) -> Result<String, AllocError> {
 }
 
 /// The line of files that are refused as they stand, with the scenario's own seed.
-pub(crate) fn line_alone(alloc: Global, path: &str, sources: &Sources) -> Result<String, AllocError> {
+pub(crate) fn line_alone(
+    alloc: Global,
+    path: &str,
+    sources: &Sources,
+) -> Result<String, AllocError> {
     let why = match table_alone(alloc, sources) {
         Ok(table) => table_reason(alloc, &table)?,
         Err(error) => place_reason(alloc, &error)?,
@@ -58,6 +62,23 @@ pub(crate) fn line_of_lack(
     let text = format!(in alloc;
         "{path}: {name}: NoSuchProcess: its processes are 1 to {processes}"
     )?;
+    let text = Printable(text.as_str());
+    format!(in alloc; "{text}\n")
+}
+
+/// The line of a run of a point, both from 0, whose text is longer than a file may be.
+pub(crate) fn line_of_length(
+    alloc: Global,
+    path: &str,
+    grid: &Grid,
+    point: u64,
+    run: u64,
+) -> Result<String, AllocError>
+    requires point { point < length (points grid.now) }
+    requires run { run < length (runs grid.now) }
+{
+    let name = name_of_run(alloc, grid, point, run)?;
+    let text = format!(in alloc; "{path}: {name}: TooLong: more than 8388608 bytes")?;
     let text = Printable(text.as_str());
     format!(in alloc; "{text}\n")
 }

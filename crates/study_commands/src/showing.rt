@@ -1,5 +1,5 @@
 //! The command `show`: the scenario file of one run of a study.
-ghost use Rattle.std.specs.Prelude.{◌≡◌, ◌+◌, ◌<◌, IfOk, IfErr, length, string_bytes};
+ghost use Rattle.std.specs.Prelude.{◌≡◌, ◌+◌, ◌<◌, ◌≤◌, IfOk, IfErr, length, string_bytes};
 ghost use Rattle.study.specs.Sources.{sources_of};
 ghost use Rattle.study_commands.specs.Fault.{IsBefore, IsOfWordsFor};
 ghost use Rattle.study_commands.specs.File.{NameNoInput};
@@ -13,7 +13,7 @@ ghost use Rattle.study.specs.Runs.{IsRunText, is_text_memory};
 ghost use Rattle.sweep.specs.StudyText.{point_at, run_at};
 
 use crate::fault::Fault;
-use crate::refused_run::line_of_run;
+use crate::refused_run::{line_of_length, line_of_run};
 use crate::sources::sources_over;
 use crate::study_words::grid_of;
 use std::alloc::Global;
@@ -42,7 +42,10 @@ fn is_of_memory(error: &TextError) -> bool
     matches!(error, TextError::Place(PlaceError::Memory(_)))
 }
 
-/// The text of a run of a point, both from 0.
+/// How many bytes a file may have.
+const MOST_BYTES: usize = 8_388_608;
+
+/// The text of a run of a point, both from 0, which is no longer than a file may be.
 fn text_of_run(
     alloc: Global,
     path: &str,
@@ -55,13 +58,15 @@ fn text_of_run(
     requires run { run < length (runs grid.now) }
     ensures text { IfOk result (λ s. IsRunText
         (sources_of_run (point_at grid.now point) (run_at grid.now run) (sources_of sources.now)) (string_bytes s)) }
+    ensures short { IfOk result (λ s. length (string_bytes s) ≤ most_bytes) }
     ensures refused { IfErr result (IsOfText
         (sources_of_run (point_at grid.now point) (run_at grid.now run) (sources_of sources.now))) }
 {
     let settings = grid.point(alloc, point)?;
     let its = grid.run(alloc, run)?;
     match scenario_text(alloc, sources, &settings, &its) {
-        Ok(text) => Ok(text),
+        Ok(text) if text.len() <= MOST_BYTES => Ok(text),
+        Ok(_) => Err(Fault::Refused(line_of_length(alloc, path, grid, point, run).ok())),
         Err(error) if is_of_memory(&error) => Err(Fault::Memory),
         Err(_) => Err(Fault::Refused(line_of_run(alloc, path, sources, grid, point, run).ok())),
     }

@@ -56,9 +56,7 @@ fn with_set(
     match sources.set(alloc, assignments) {
         Ok(()) => Ok(sources),
         Err(error) if is_of_memory(&error) => Err(Fault::Memory),
-        Err(_) => Err(Fault::Refused(
-            line_of_set(alloc, texts, &mut sources, assignments).ok(),
-        )),
+        Err(_) => Err(Fault::Refused(line_of_set(alloc, texts, &mut sources, assignments).ok())),
     }
 }
 
