@@ -4,3 +4,4 @@ pub mod Reasons
 pub mod Refusing
 pub mod Swept
 pub mod Standing
+pub mod Naming

@@ -6,7 +6,7 @@ use Rattle.scenario.specs.Groups.{Decided, Passes}
 use Rattle.scenario.specs.Refusals.{Rule, rule_at, rules, table_rules}
 use Rattle.scenario_record.specs.Record.{Record}
 use Rattle.toml.specs.Data.{Members}
-use Rattle.study.specs.Laid.{IsLaid, is_run}
+use Rattle.study.specs.Laid.{IsLaid, IsLaidBy, is_run}
 use Rattle.study.specs.Grid.{GridRecord}
 use Rattle.study.specs.SetWords.{SaysAssignment}
 use Rattle.study.specs.declared.assignment.Assignment.{Assignment}
@@ -23,12 +23,12 @@ use Rattle.study_commands.specs.declared.fault.Fault.TheVariants.{Memory, Refuse
 use Rattle.study_line.specs.declared.order.SourceTexts.{SourceTexts}
 
 -- a scenario's file alone is the table of its run
+none_laid : (t : Members) (b : Bool) → MatchOption {Members} (cond b None None) (t ≡ t) (λ file. IsLaidBy t file t)
+none_laid t true = refl
+none_laid t false = refl
+
 alone_laid : (t : Members) → IsLaid (record { scenario = t; network = None }) t
-alone_laid t = by (is_run t)
-  where
-    by : (b : Bool) → MatchOption (cond b None None) (t ≡ t) (λ file. ⊥)
-    by true = refl
-    by false = refl
+alone_laid t = none_laid t (is_run t)
 
 passes : (rs : List Rule) (d : Option Members) → ((k : ℕ) → (rule_at rs k).applies d ≡ false) → Passes rs d
 passes [] d none = tt
@@ -43,8 +43,8 @@ alone_words : (network : Option (Bor (List ℕ))) (words : List (Bor (List ℕ))
     → (not (is_some network) && (length words == 0)) ≡ true
     → (option_map (λ w. w.now) network ≡ None) × (map (λ w. w.now) words ≡ [])
 alone_words None [] is = (refl, refl)
-alone_words None (w ∷ ws) is = absurd (cc is)
-alone_words (Some w) ws is = absurd (cc is)
+alone_words None (w ∷ ws) is = (refl, cc is)
+alone_words (Some w) ws is = (cc is, cc is)
 
 module _ (input : Option (List ℕ)) (texts : SourceTexts) where
   -- its scenario is the one for which it stands

@@ -11,7 +11,7 @@ ghost use Rattle.study_commands.specs.Inside.Setting.{StandsForNone};
 use crate::fault::Fault;
 use crate::file::own_scenario_at;
 use crate::refused_run::line_alone;
-use crate::sources::sources_over;
+use crate::sources::{is_place_memory, sources_over};
 use scenario::{Scenario, ScenarioError};
 use std::alloc::Global;
 use std::io::Read;
@@ -88,7 +88,7 @@ pub(crate) fn table_of_sources(alloc: Global, path: &str, sources: &Sources) -> 
 {
     match table_alone(alloc, sources) {
         Ok(table) => Ok(table),
-        Err(PlaceError::Memory(_)) => Err(Fault::Memory),
+        Err(error) if is_place_memory(&error) => Err(Fault::Memory),
         Err(_) => Err(Fault::Refused(line_alone(alloc, path, sources).ok())),
     }
 }

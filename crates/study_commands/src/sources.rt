@@ -20,7 +20,7 @@ use study::{Assignment, Grid, PlaceError, Sources};
 use study_line::SourceTexts;
 
 /// Whether memory was refused.
-fn is_of_memory(error: &PlaceError) -> bool
+pub(crate) fn is_place_memory(error: &PlaceError) -> bool
     ensures { result ≡ is_memory error.now }
 {
     matches!(error, PlaceError::Memory(_))
@@ -55,7 +55,7 @@ fn with_set(
 {
     match sources.set(alloc, assignments) {
         Ok(()) => Ok(sources),
-        Err(error) if is_of_memory(&error) => Err(Fault::Memory),
+        Err(error) if is_place_memory(&error) => Err(Fault::Memory),
         Err(_) => Err(Fault::Refused(line_of_set(alloc, texts, &mut sources, assignments).ok())),
     }
 }
