@@ -1,5 +1,5 @@
 -- Arrays of tables, as the code changes them.
-use Rattle.std.proofs.Common.{◌≡◌, ℕ, List, [], ◌∷◌, ◌++◌, map, length, codes, ◌==◌, Bool, true, false, not, Option, Some, None, option_and_then, if◌then◌else◌, Ordering, refl, sym, ◌∙◌, ap, arith}
+use Rattle.std.proofs.Common.{◌≡◌, ℕ, List, [], ◌∷◌, ◌++◌, map, length, codes, ◌==◌, Bool, true, false, not, Option, Some, None, option_and_then, if◌then◌else◌, refl, sym, ◌∙◌, ap, arith}
 use Rattle.std.specs.Option.{option_map_or}
 use Rattle.std.specs.Ordering.{nat_cmp, match_ordering}
 use Rattle.std.specs.Cmp.Lexicographic.{slice_cmp}
@@ -93,14 +93,12 @@ module _ (laid : List LaidLink) (t : Members) where
 abbrev drawn_after : List LinkOutage → List Data → List Data
 drawn_after drawn ds = ds ++ map table (map outage_table drawn)
 
-by_order : (o : Ordering) (a b c d : Members) → c ≡ d → match_ordering o a b c ≡ match_ordering o a b d
-by_order o a b c d same = ap (match_ordering o a b) same
-
 -- a value is put at a key in the same way
 same_put : (k : List ℕ) (d : Data) (t : Members) → put k d t ≡ put_drawn k d t
 same_put k d no_members = refl
 same_put k d (member l e ms) =
-    by_order (slice_cmp nat_cmp k l) (member k d (member l e ms)) (member l d ms) _ _ (ap (member l e) (same_put k d ms))
+    ap (λ new. match_ordering (slice_cmp nat_cmp k l) (member k d (member l e ms)) (member l d ms) (member l e new))
+    (same_put k d ms)
 
 same_items : (ds : List Data) → items_from ds ≡ items_of ds
 same_items [] = refl
@@ -125,26 +123,30 @@ same_values drawn ds ts are =
     ∙ (ap (λ es. items_of (es ++ map table (map outage_table drawn))) are
     ∙ ap items_of (sym (map-append table ts (map outage_table drawn))))
 
--- the tables of an array that is one of tables, else those that are none
-abbrev tables_of : Option Data → List Members
-tables_of found = option_map_or (λ ds. if all_items is_table ds then the_tables ds else []) (option_and_then as_array found) []
+-- the tables of an array, where it is one of tables
+abbrev tables_in : Items → List Members
+tables_in ds = if all_items is_table ds then the_tables ds else []
+
+-- the table with these tables at the key, and those of drawn outages behind them
+abbrev put_behind : List ℕ → List LinkOutage → Members → List Members → Members
+put_behind key drawn t ts = put_drawn key (array (items_of (map table (ts ++ map outage_table drawn)))) t
 
 -- with drawn outages at the key, by what is there
 abbrev drawn_at_key : List ℕ → List LinkOutage → Members → Option Data → Members
 drawn_at_key key drawn t found =
     if option_map_or (λ d. not (is_of kind.Tables d)) found false then t
-    else put_drawn key (array (items_of (map table (tables_of found ++ map outage_table drawn)))) t
+    else put_behind key drawn t (option_map_or tables_in (option_and_then as_array found) [])
 
 module _ (key : List ℕ) (drawn : List LinkOutage) (t : Members) where
   puts_same : (ds : List Data) (ts : List Members) → ds ≡ map table ts
-      → put key (array (items_from (drawn_after drawn ds))) t ≡ put_drawn key (array (items_of (map table (ts ++ map outage_table drawn)))) t
+      → put key (array (items_from (drawn_after drawn ds))) t ≡ put_behind key drawn t ts
   puts_same ds ts are =
       same_put key (array (items_from (drawn_after drawn ds))) t
       ∙ ap (λ es. put_drawn key (array es) t) (same_values drawn ds ts are)
 
   in_array : (ds : Items) (all : Bool) → all_items is_table ds ≡ all
       → (if all then put key (array (items_from (drawn_after drawn (listed ds)))) t else t)
-      ≡ (if not all then t else put_drawn key (array (items_of (map table ((if all then the_tables ds else []) ++ map outage_table drawn)))) t)
+      ≡ (if not all then t else put_behind key drawn t (if all then the_tables ds else []))
   in_array ds true is = puts_same (listed ds) (the_tables ds) (only_tables ds is)
   in_array ds false is = refl
 
@@ -176,10 +178,11 @@ pub outages_stay : (drawn : List LinkOutage) (t : Members) → (length drawn == 
 outages_stay [] t is as_it_is = cc
 outages_stay (o ∷ os) t is as_it_is = sym (as_it_is (drawn_after (o ∷ os))) ∙ by_tables o os t
 
-pub outages_laid : (drawn : List LinkOutage) (t new : Members) (old_values values : List Value) → (length drawn == 0) ≡ false
-    → HasValues (codes "outage") (map view old_values) t
+pub outages_laid : (drawn : List LinkOutage) (t new : Members) (old_values values : List Value)
+    → (length drawn == 0) ≡ false → HasValues (codes "outage") (map view old_values) t
     → map view values ≡ map view old_values ++ map table (map outage_table drawn)
     → new ≡ put (codes "outage") (array (items_view values)) t → new ≡ with_outages drawn t
 outages_laid [] t new old_values values is has made put_is = cc
 outages_laid (o ∷ os) t new old_values values is has made put_is =
-    changes (codes "outage") (drawn_after (o ∷ os)) false t new old_values values refl has made put_is ∙ by_tables o os t
+    changes (codes "outage") (drawn_after (o ∷ os)) false t new old_values values refl has made put_is
+    ∙ by_tables o os t
