@@ -35,3 +35,4 @@ mod sources;
 mod study_check;
 mod study_words;
 mod sweeping;
+mod unknown_column;
