@@ -136,6 +136,7 @@ fn first_text(
     sources: &Sources,
     grid: &Grid,
 ) -> Result<String, TextError> {
+    assert!(rt; grid.points() > 0 && grid.runs() > 0);
     let point = grid.point(alloc, 0).expect(rt, NO_MEMORY);
     let run = grid.run(alloc, 0).expect(rt, NO_MEMORY);
     scenario_text(alloc, sources, &point, &run)

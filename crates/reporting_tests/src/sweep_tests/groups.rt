@@ -1,4 +1,6 @@
 //! Rows for groups of pairs.
+ghost use Rattle.std.specs.Prelude.{◌≡◌};
+
 use super::points::{durations, grid_of, limited_run, rows_in, sums_of};
 use super::studies::{Study, study_of};
 use super::sums::{CIRCLE, circle};
