@@ -5,9 +5,10 @@
 
 Three studies of twelve points each, over files of its own: a detector under losses with crashes that are dealt to the
 seeds, a coordinator whose processes crash, and detectors that watch the next process alone and share what they suspect,
-with a limit that some runs pass. Of each run it takes the file that `fdstudy show` prints, and the report and the trace
-that `fdbench list` gives of it. It shares no code with the programs: crashes, pairs, ranks and the lengths of mistakes
-are worked out here anew. It prints what differs, and ends with status 1 where something does.
+with a limit that some runs pass. The first and the last come once more with rows for groups of pairs, and one of two
+points comes under each of the networks of bench/networks. Of each run it takes the file that `fdstudy show` prints, and the report and the trace that `fdbench list` gives of it. It shares no
+code with the programs: crashes, pairs, ranks and the lengths of mistakes are worked out here anew. It prints what
+differs, and ends with status 1 where something does.
 """
 import argparse
 import csv
@@ -101,6 +102,22 @@ STUDIES = [
     ("next", NEXT, ["--vary", "detector.period,detector.timeout=10:15,20:30,40:60", "--vary", "link.loss=0,50,120,300",
                     "--over", "crash[1].at=150,600"]),
 ]
+# the second group of each has pairs that two of its blocks have
+GROUPS = {
+    "lossy": ["1:2..=4", "1..=2:1..=3+3..=4:2+2:3", "4:4"],
+    "next": ["1..=3:1..=3", "1..=2:2..=3+2..=5:3..=5+5:1", "3:1..=2"],
+}
+NETWORKS = ["links", "bursts", "cuts", "pauses", "replays"]
+
+
+def network_studies():
+    """A study of two points under each of the networks."""
+    with open(os.path.join(ROOT, "bench/networks/four.toml"), encoding="utf-8") as file:
+        four = file.read()
+    for name in NETWORKS:
+        network = os.path.join(ROOT, f"bench/networks/{name}.toml")
+        yield f"network {name}", four, ["--network", network, "--vary", "detector.timeout=70,140",
+                                        "--deal", "crash[1].at=1490..=1510:10"]
 
 
 def run(words, given=""):
@@ -115,6 +132,17 @@ def must(words, given=""):
     return out
 
 
+def is_in(word, observer, subject):
+    """Whether one of the blocks of a group's word has the pair; each pair is in, where there is no group."""
+    def has(side, process):
+        low, _, high = side.partition("..=")
+        return int(low) <= process <= int(high or low)
+    if word is None:
+        return True
+    blocks = [block.split(":") for block in word.split("+")]
+    return any(has(observers, observer) and has(subjects, subject) for observers, subjects in blocks)
+
+
 class Run:
     """What one run tells: its file, and its trace and its report, or that it passed its limit."""
 
@@ -124,6 +152,7 @@ class Run:
         self.entries = list(csv.DictReader(io.StringIO(trace)))
         self.horizon, self.count = self.file["horizon"], self.file["processes"]
         self.crashes = {it["process"]: it["at"] for it in self.file.get("crash", [])}
+        self.group = None
         self.layers = [1, 2] if "share" in self.file else [1]
 
     def is_correct(self, process):
@@ -136,7 +165,8 @@ class Run:
 
     def pairs(self, layer):
         everybody = range(1, self.count + 1)
-        return [(q, p) for q in everybody for p in everybody if q != p and self.is_counted(layer, q, p)]
+        return [(q, p) for q in everybody for p in everybody if q != p and self.is_counted(layer, q, p)
+                and is_in(self.group, q, p)]
 
     def durations(self, layer, observer, subject):
         """How long each mistake was that ended before the first crash of the two and the horizon."""
@@ -262,13 +292,14 @@ def row_of(runs, layer):
     return row
 
 
-def compare(name, file, words, asked):
+def compare(name, file, words, groups, asked, points=12):
     """Compares a study's rows with the sums of its runs. Answers how many fields were compared, and how many differ."""
     study = ["-", "--seeds", f"1..={asked.seeds}", *words]
-    rows = list(csv.DictReader(io.StringIO(must([asked.fdstudy, "sweep", *study], file))))
+    named = [it for group in groups for it in ("--pairs", group)]
+    rows = list(csv.DictReader(io.StringIO(must([asked.fdstudy, "sweep", *study, *named], file))))
     per_point = asked.seeds * (2 if "--over" in words else 1)
     fields = differ = limited = 0
-    for point in range(1, 13):
+    for point in range(1, points + 1):
         runs = []
         for number in range(1, per_point + 1):
             text = must([asked.fdstudy, "show", *study, "--point", str(point), "--run", str(number)], file)
@@ -277,18 +308,21 @@ def compare(name, file, words, asked):
                 sys.exit(f"rows: status {status} of run {number} of point {point} of {name}: {told}")
             trace = must([asked.fdbench, "list", "-", "--print", "trace"], text) if status == 0 else ""
             runs.append(Run(text, trace, report if status == 0 else None))
-        for layer in runs[0].layers:
-            found, wanted = rows.pop(0), row_of(runs, layer)
+        for group, layer in itertools.product(groups or [None], runs[0].layers):
+            for each in runs:
+                each.group = group
+            found, wanted = rows.pop(0), row_of(runs, layer) | {"pairs": group}
             limited += wanted["limited"]
             for column in [it for it in found if "." not in it]:
                 fields += 1
                 text = "" if wanted.get(column) is None else str(wanted[column])
                 if found[column] != text:
                     differ += 1
-                    print(f"{name}, point {point}, layer {layer}: {column} is {found[column]}, and not {text}")
+                    print(f"{name}, point {point}, {group or 'all pairs'}, layer {layer}: "
+                          f"{column} is {found[column]}, and not {text}")
     if rows:
         sys.exit(f"rows: {name} has {len(rows)} rows more than points and layers")
-    print(f"{name}: {fields} fields of 12 points, {limited} runs limited, {differ} fields differ")
+    print(f"{name}: {fields} fields of {points} points, {limited} runs limited, {differ} fields differ")
     return differ
 
 
@@ -298,7 +332,10 @@ def main():
     words.add_argument("--fdbench", default=os.path.join(ROOT, "crates/fdbench/out/fdbench"))
     words.add_argument("--seeds", type=int, default=6, help="how many seeds, a multiple of 3 (6)")
     asked = words.parse_args()
-    return 1 if sum(compare(*study, asked) for study in STUDIES) else 0
+    differ = sum(compare(*study, [], asked) for study in STUDIES)
+    differ += sum(compare(*study, GROUPS[study[0]], asked) for study in STUDIES if study[0] in GROUPS)
+    differ += sum(compare(*study, [], asked, 2) for study in network_studies())
+    return 1 if differ else 0
 
 
 if __name__ == "__main__":

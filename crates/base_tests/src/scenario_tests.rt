@@ -2,6 +2,7 @@
 mod accepted;
 mod corners;
 mod cuts;
+mod drawn;
 
 use scenario::{Scenario, ScenarioError, read_scenario};
 use std::alloc::Global;

@@ -2,7 +2,7 @@
 use Rattle.std.proofs.Common.{◌≡◌, ℕ, ◌+◌, List, [], ◌∷◌, ◌++◌, Some, sym, ap, ◌∙◌, subst, arith}
 use Rattle.std.specs.List.{AllZip, flat_map, range_with_len}
 use Rattle.std.proofs.lemmas.List.{flat_map_more}
-use Rattle.toml.specs.Data.{Members}
+use Rattle.study.specs.Sources.{SourcesRecord}
 use Rattle.reporting.specs.Outlet.{Held}
 use Rattle.study.specs.Grid.{GridRecord}
 use Rattle.sweep.specs.Layout.{LayoutRecord}
@@ -11,9 +11,9 @@ use Rattle.sweep.specs.RowText.{Text}
 use Rattle.sweep.specs.StudyText.{IsStudyText}
 use Rattle.sweep.proofs.Zipped.{zip_push, range_more}
 
-module _ (file : Members) (g : GridRecord) (layout : LayoutRecord) (of : ℕ) where
+module _ (sources : SourcesRecord) (g : GridRecord) (layout : LayoutRecord) (of : ℕ) where
   abbrev IsNumbered : ℕ → Text → Type 0
-  IsNumbered number text = IsStudyText file g (record { number = number; of = of }) layout text
+  IsNumbered number text = IsStudyText sources g (record { number = number; of = of }) layout text
 
   -- the texts of the first shards went out, and nothing else
   pub record AreOut (count : ℕ) (outlet : Held) : Type 0 where
@@ -31,7 +31,7 @@ module _ (file : Members) (g : GridRecord) (layout : LayoutRecord) (of : ℕ) wh
   }
 
   pub one_more : (count : ℕ) (old new : Held) → AreOut count old
-      → WroteStudy file g (record { number = count + 1; of = of }) layout (λ o. Some o.bytes) (λ o. o.failures) old new
+      → WroteStudy sources g (record { number = count + 1; of = of }) layout (λ o. Some o.bytes) (λ o. o.failures) old new
       → AreOut (count + 1) new
   one_more count old new out more =
       let next : count + 1 ≡ 1 + count = omega arith in

@@ -1,4 +1,5 @@
 //! Sums and rows by hand, and sweeps of small studies.
+mod groups;
 mod laws;
 mod parallel;
 mod points;

@@ -1,42 +1,55 @@
 -- The outage tables, taken one after the other.
-use Rattle.std.proofs.Common.{◌≡◌, ℕ, ◌+◌, ◌≤◌, ◌++◌, List, [], ◌∷◌, map, filter, length, take, set, get_or, true, false, cond, ap, sym, ◌∙◌, subst, arith}
+use Rattle.std.proofs.Common.{◌≡◌, ℕ, ◌*◌, ◌≤◌, ◌++◌, List, [], ◌∷◌, map, filter, length, set, get_or, replicate, true, false, cond, refl, ap, sym, ◌∙◌, subst, arith}
 use Rattle.std.specs.List.{AllByRecursion}
 use Rattle.std.proofs.lemmas.Bool.{leb-false}
-use Rattle.std.proofs.lemmas.List.{map-append}
+use Rattle.std.proofs.lemmas.List.{map-append, length-replicate, get_or-replicate}
 use Rattle.toml.specs.Data.{Members}
-use Rattle.toml.specs.View.{table_view}
-use Rattle.scenario.specs.Text.{pair_of, same_pair, outage_of, pair_outages, outages_among}
+use Rattle.scenario.specs.Text.{pair_of, same_pair, outage_of, pair_outages, each_pairs_outages, outages_among}
 use Rattle.scenario_record.specs.Ranges.{IsOutage}
 use Rattle.scenario.specs.Rules.{is_bad_outage, are_bad_outages}
-use Rattle.scenario.specs.Parts.{AreProcesses, tables_in}
+use Rattle.scenario.specs.Parts.{AreProcesses}
 use Rattle.scenario_record.specs.declared.outage.Outage.{Outage}
-use Rattle.scenario.proofs.Elements.{Lent, IsAt}
-use Rattle.scenario.proofs.KeyFacts.{pair_place, pair_keys}
-use Rattle.scenario.proofs.Grid.{grid_at, grid_whole}
-use Rattle.scenario.proofs.Slots.{one_more, of, AreHeld, put}
+use Rattle.scenario.proofs.KeyFacts.{pair_place, pair_within, pair_keys}
+use Rattle.scenario.proofs.Grid.{grid_at, grid_length, grid_whole}
+use Rattle.scenario.proofs.Slots.{of, AreHeld, put}
 use Rattle.scenario.proofs.Within.{neither, first_inside}
 
--- ---- one more table
+-- ---- the lists of the pairs
 
-module _ (n : ℕ) (tables : List Lent) (i : ℕ) (m : Lent) (spot : IsAt tables i m) where
-  pub outage_put : (lists : List (List Outage)) (pair : ℕ × ℕ) (outage : Outage) → AreHeld (pair_keys n) (map outage_of) lists (tables_in (take i tables))
-      → pair ≡ pair_of (table_view m.now) → outage ≡ outage_of (table_view m.now) → AreProcesses n pair
-      → AreHeld (pair_keys n) (map outage_of) (set lists (pair_place n pair) (get_or lists (pair_place n pair) [] ++ outage ∷ [])) (tables_in (take (i + 1) tables))
-  outage_put lists pair outage hold e f good =
-      let its : AreProcesses n (pair_of (table_view m.now)) = subst (AreProcesses n) e good in
-      rw (one_more tables i m spot, e, f)
-      (put (pair_keys n) (map outage_of) lists (tables_in (take i tables)) (table_view m.now)
-      (get_or lists (pair_place n (pair_of (table_view m.now))) [] ++ outage_of (table_view m.now) ∷ []) hold its
-      (ap (λ os. os ++ outage_of (table_view m.now) ∷ []) (hold.held (pair_of (table_view m.now)) its)
-      ∙ sym (map-append outage_of (of (pair_keys n) (pair_of (table_view m.now)) (tables_in (take i tables))) (table_view m.now ∷ []))))
+module _ (n : ℕ) where
+  held_of : (lists : List (List Outage)) (tables : List Members) → lists ≡ each_pairs_outages tables n → AreHeld (pair_keys n) (map outage_of) lists tables
+  unfolding pair_outages
+  held_of lists tables are = record {
+    full = ap length are ∙ grid_length (pair_outages tables) n;
+    held = λ pair good. ap (λ cells. get_or cells (pair_place n pair) []) are ∙ grid_at (pair_outages tables) n pair [] good;
+  }
 
--- ---- at the end
+  -- no list has an outage yet
+  pub none_yet : replicate (n * n) [] ≡ each_pairs_outages [] n
+  unfolding pair_outages
+  none_yet =
+      grid_whole (pair_outages []) n [] (replicate (n * n) []) (length-replicate (n * n) [])
+      (λ pair good. get_or-replicate (n * n) (pair_place n pair) [] [] (pair_within n pair good))
 
-pub outages_whole : (n : ℕ) (lists : List (List Outage)) (tables : List Members) → 1 ≤ length tables → AreHeld (pair_keys n) (map outage_of) lists tables
-    → lists ≡ outages_among tables n
-unfolding outages_among pair_outages
-outages_whole n lists [] some hold = absurd (omega arith)
-outages_whole n lists (t ∷ ts) some hold = grid_whole (pair_outages (t ∷ ts)) n [] lists hold.full hold.held
+  pub pairs_length : (lists : List (List Outage)) (tables : List Members) → lists ≡ each_pairs_outages tables n → length lists ≡ n * n
+  pairs_length lists tables are = (held_of lists tables are).full
+
+  -- one more table, of this pair
+  pub one_added : (lists : List (List Outage)) (tables : List Members) (t : Members) (pair : ℕ × ℕ) (outage : Outage) → lists ≡ each_pairs_outages tables n
+      → pair ≡ pair_of t → outage ≡ outage_of t → AreProcesses n pair
+      → set lists (pair_place n pair) (get_or lists (pair_place n pair) [] ++ outage ∷ []) ≡ each_pairs_outages (tables ++ t ∷ []) n
+  unfolding pair_outages
+  one_added lists tables t pair outage are e f good =
+      let its : AreProcesses n (pair_of t) = subst (AreProcesses n) e good in
+      let hold : AreHeld (pair_keys n) (map outage_of) lists tables = held_of lists tables are in
+      let more = put (pair_keys n) (map outage_of) lists tables t (get_or lists (pair_place n (pair_of t)) [] ++ outage_of t ∷ []) hold its
+      (ap (λ os. os ++ outage_of t ∷ []) (hold.held (pair_of t) its) ∙ sym (map-append outage_of (of (pair_keys n) (pair_of t) tables) (t ∷ []))) in
+      rw (e, f) (grid_whole (pair_outages (tables ++ t ∷ [])) n [] _ more.full more.held)
+
+  pub pairs_all : (tables : List Members) → 1 ≤ length tables → each_pairs_outages tables n ≡ outages_among tables n
+  unfolding outages_among
+  pairs_all [] some = absurd (omega arith)
+  pairs_all (t ∷ ts) some = refl
 
 -- ---- the outages of the links
 

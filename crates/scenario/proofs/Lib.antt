@@ -16,3 +16,8 @@ pub mod Reading
 pub mod Elements
 pub mod Items
 pub mod Findings
+pub mod Rulings
+pub mod Alike
+pub mod DrawnTables
+pub mod WithOutages
+pub mod Rereading

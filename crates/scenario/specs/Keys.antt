@@ -15,9 +15,12 @@ needed k = record { key = k; kind = Number; needed = true }
 abbrev pub optional : List ℕ → Field
 optional k = record { key = k; kind = Number; needed = false }
 
+abbrev pub outages_field : Field
+outages_field = record (optional (codes "outage")) { kind = Tables }
+
 -- what a file of version 2 may have besides
 abbrev pub further_fields : (is_second : Bool) → List Field
-further_fields true = record (optional (codes "outage")) { kind = Tables } ∷ []
+further_fields true = outages_field ∷ []
 further_fields false = []
 
 abbrev pub kind_fields : (is_second : Bool) → List Field

@@ -1,6 +1,7 @@
 pub mod Table
 pub mod Keys
 pub mod Text
+pub mod Drawn
 pub mod Rules
 pub mod Refusals
 pub mod Groups

@@ -8,7 +8,7 @@ use Rattle.process_api.specs.Bounds.{most_processes}
 use Rattle.toml.specs.Data.{Members}
 use Rattle.toml.specs.View.{table_view}
 use Rattle.toml.specs.declared.value.Value.{Value}
-use Rattle.scenario_record.specs.Record.{no_link}
+use Rattle.scenario_record.specs.Record.{Record, no_link}
 use Rattle.scenario.specs.Table as table
 use Rattle.scenario.specs.Table.{has_unlisted, has_lacking, has_mistyped, integers_at, table_at, table_or_empty, tables_at}
 use Rattle.scenario.specs.Text.{number_at, processes_of, links_among}
@@ -20,6 +20,7 @@ use Rattle.scenario.specs.declared.keys.Tables.{Tables}
 use Rattle.scenario.specs.declared.keys.KeyFault.{KeyFault}
 use Rattle.scenario.specs.declared.keys.KeyFault.TheVariants.{Unlisted, Lacking, Mistyped}
 use Rattle.scenario.specs.declared.numbers.Top.{Top}
+use Rattle.scenario.specs.declared.parts.Parts.{Parts}
 use Rattle.scenario.specs.declared.numbers.TopNumbers.{TopNumbers}
 use Rattle.scenario_record.specs.declared.link.Link.{Link}
 use Rattle.scenario_record.specs.declared.outage.Outage.{Outage}
@@ -68,6 +69,15 @@ pub record AreNumbersOf (t : Members) (n : TopNumbers) : Type 0 where
 
 abbrev pub IsTop : Top → Type 0
 IsTop top = AreNumbersOf (table_view top.table.now) top.numbers
+
+-- the parts are those of a record
+pub record ArePartsOf (s : Record) (p : Parts) : Type 0 where
+  pub algorithm : p.algorithm ≡ s.algorithm
+  pub detector : p.detector ≡ s.detector
+  pub share : p.share ≡ s.share
+  pub proposals : p.proposals.items ≡ s.proposals
+  pub crashes : p.crashes.items ≡ s.crashes
+  pub links : p.links.items ≡ s.links
 
 -- the tables of `links` are refused, whatever the common link is
 abbrev pub pairs_refused : Members → Bool

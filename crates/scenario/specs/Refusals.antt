@@ -36,11 +36,13 @@ number_rules =
 abbrev pub part_rules : List Rule
 part_rules =
     rule 11 algorithm_refused ∷ rule 12 proposals_refused ∷ rule 13 detector_refused ∷ rule 14 share_refused
-    ∷ rule 15 links_refused ∷ rule 16 below_refused ∷ rule 17 crashes_refused
-    ∷ rule 19 outages_refused ∷ []
+    ∷ rule 15 links_refused ∷ rule 16 below_refused ∷ rule 17 crashes_refused ∷ []
+
+abbrev pub outage_rules : List Rule
+outage_rules = rule 19 outages_refused ∷ []
 
 abbrev pub table_rules : List Rule
-table_rules = key_rules ++ (number_rules ++ part_rules)
+table_rules = key_rules ++ (number_rules ++ (part_rules ++ outage_rules))
 
 unfoldable pub rules : List Rule
 rules = record { number = 1; applies = is_none } ∷ table_rules

@@ -118,11 +118,15 @@ outage_of o = record { begin = number_at (codes "begin") 0 o; until = number_at 
 unfoldable pub pair_outages : List Members → ℕ × ℕ → List Outage
 pair_outages tables pair = map outage_of (filter (λ o. same_pair (pair_of o) pair) tables)
 
--- those of the links from each of 1 to n to each, by sender and then by receiver; nothing where there are no tables
+-- those of the link from each of 1 to n to each, by sender and then by receiver
+abbrev pub each_pairs_outages : List Members → ℕ → List (List Outage)
+each_pairs_outages tables n =
+    flat_map (λ from. map (λ to. pair_outages tables (from, to)) (range_with_len 1 n)) (range_with_len 1 n)
+
+-- the same; nothing where there are no tables
 unfoldable pub outages_among : List Members → ℕ → List (List Outage)
 outages_among [] n = []
-outages_among tables n =
-    flat_map (λ from. map (λ to. pair_outages tables (from, to)) (range_with_len 1 n)) (range_with_len 1 n)
+outages_among tables n = each_pairs_outages tables n
 
 -- what the processes propose, of process 1 first
 abbrev pub proposals_of : Members → List ℕ

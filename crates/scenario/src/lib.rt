@@ -6,7 +6,9 @@
 //! that applies. Each rule is a test of the whole table by itself (`specs/Rules.antt`); the order in which they are
 //! tried is a list of its own (`specs/Refusals.antt`). So of several faults in one file the answer is always the same
 //! one, whatever the order of the file's lines. Only `Memory` may come at any point. [`read_table`] is the second half
-//! of that call: it reads the table of a file whose bytes were read already.
+//! of that call: it reads the table of a file whose bytes were read already. [`read_with_outages`] reads such a table,
+//! and takes outages that were drawn besides: it answers what [`read_table`] answers of the table to which these are
+//! added (`specs/Drawn.antt`), and makes no table of them.
 //!
 //! What a [`Scenario`] is stands in `scenario_record`, below whatever runs one, and is handed on from here.
 //!
@@ -19,6 +21,7 @@
 mod below;
 mod crashes;
 mod detector;
+mod drawn;
 mod error;
 mod fault;
 mod field;
@@ -35,6 +38,7 @@ mod read;
 mod table;
 mod twice;
 
+pub use drawn::LinkOutage;
 pub use error::ScenarioError;
 pub use fault::{
     BelowLookahead, Fault, MinAboveMax, NotBefore, OtherName, Outside, ProposalsFault, UnknownKey,
@@ -44,6 +48,6 @@ pub use field::{Field, Kind};
 pub use finding::{Finding, Refused};
 pub use numbers::lies_within;
 pub use place::{Place, Section, TableArray};
-pub use read::{read_scenario, read_table, read_with_place};
+pub use read::{read_scenario, read_table, read_with_outages, read_with_place};
 pub use scenario_record::{AlgorithmKind, Link, Opening, Outage, Scenario};
 pub use table::is_listed_key;

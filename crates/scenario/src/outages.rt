@@ -1,14 +1,18 @@
 //! The outage tables.
-ghost use Rattle.std.specs.Prelude.{◌≡◌, ◌<◌, ◌+◌, ◌++◌, ◌∷◌, ◌*◌, [], false, replicate, get_or, codes, vec_len, is_err, slice_set, true, OnOk, IfOk, IfErr};
+ghost use Rattle.std.specs.Prelude.{◌≡◌, ◌<◌, ◌≤◌, ◌+◌, ◌++◌, ◌∷◌, ◌*◌, List, [], false, map, length, get_or, codes, vec_len, is_err, is_none, slice_set, true, OnOk, IfOk, IfErr, IfSome};
+ghost use Rattle.process_api.specs.Bounds.{most_processes};
+ghost use Rattle.toml.specs.Data.{Members};
 ghost use Rattle.toml.specs.View.{table_view};
 ghost use Rattle.scenario.specs.Table.{tables_at};
-ghost use Rattle.scenario.specs.Text.{pair_of, outage_of, record_of};
-ghost use Rattle.scenario.specs.Rules.{is_bad_outage, outages_refused};
+ghost use Rattle.scenario.specs.Text.{pair_of, outage_of, each_pairs_outages, outages_among};
+ghost use Rattle.scenario.specs.Drawn.{outage_table, all_outages};
+ghost use Rattle.scenario.specs.Rules.{is_bad_outage, are_bad_outages};
 ghost use Rattle.scenario.specs.Refusals.{GivenBy};
 ghost use Rattle.scenario.specs.Parts.{tables_in, outages_in, AreProcesses, IsTop};
 ghost use Rattle.scenario.specs.Ranges.{Subject, outage_subject};
 ghost use Rattle.scenario.specs.Faults.{Finds, IsFoundBy};
 
+use crate::drawn::LinkOutage;
 use crate::error::ScenarioError;
 use crate::fault::{Fault, NotBefore};
 use crate::finding::{Finding, accepted, out_of_memory, refused_at};
@@ -19,6 +23,9 @@ use crate::table::integer_at;
 use scenario_record::{LinkOutages, Outage};
 use std::alloc::{AllocError, Global};
 use toml::Table;
+
+/// The greatest tick at which an outage may begin or end.
+const MOST_TICK: u32 = 10_000_000;
 
 /// What a table of `outage` says.
 #[derive(Clone, Copy)]
@@ -54,8 +61,8 @@ fn read_outage(table: &Table, n: u16) -> Result<PairOutage, Option<Fault<'static
 {
     let from = accepted!(ranged(table, "from", 0, 1, u32::from(n)));
     let to = accepted!(ranged(table, "to", 0, 1, u32::from(n)));
-    let begin = accepted!(ranged(table, "begin", 0, 0, 10_000_000));
-    let until = accepted!(ranged(table, "until", 0, 0, 10_000_000));
+    let begin = accepted!(ranged(table, "begin", 0, 0, MOST_TICK));
+    let until = accepted!(ranged(table, "until", 0, 0, MOST_TICK));
     if from == to {
         return Err(to_itself(table));
     }
@@ -68,7 +75,7 @@ fn read_outage(table: &Table, n: u16) -> Result<PairOutage, Option<Fault<'static
 
 /// No outages of the link from each of n processes to each.
 fn no_outages(alloc: Global, n: u16) -> Result<Vec<Vec<Outage>>, AllocError>
-    ensures { IfOk result (λ v. outages_in v.items ≡ replicate (n * n) []) }
+    ensures { IfOk result (λ v. outages_in v.items ≡ each_pairs_outages [] n) }
 {
     let mut outages = Vec::new(alloc);
     for _k in 0..usize::from(n) * usize::from(n) {
@@ -78,12 +85,109 @@ fn no_outages(alloc: Global, n: u16) -> Result<Vec<Vec<Outage>>, AllocError>
 }
 
 /// One more outage of the link at a place.
-fn add(outages: &mut Vec<Vec<Outage>>, place: usize, outage: Outage) -> Result<(), AllocError>
-    requires { place < vec_len outages.old }
-    ensures { OnOk result (outages_in outages.new.items ≡ slice_set (outages_in outages.old.items) place
-        (get_or (outages_in outages.old.items) place [] ++ outage ∷ [])) }
+fn push_at(lists: &mut Vec<Vec<Outage>>, place: usize, outage: Outage) -> Result<(), AllocError>
+    requires { place < vec_len lists.old }
+    ensures { OnOk result (outages_in lists.new.items ≡ slice_set (outages_in lists.old.items) place
+        (get_or (outages_in lists.old.items) place [] ++ outage ∷ [])) }
 {
-    outages[place].push(outage)?;
+    lists[place].push(outage)?;
+    Ok(())
+}
+
+/// One more outage of the link of a pair of n processes.
+fn add(lists: &mut Vec<Vec<Outage>>, n: u16, pair: PairOutage) -> Result<(), AllocError>
+    requires few { n ≤ most_processes }
+    requires all { length lists.old.items ≡ n * n }
+    requires processes { AreProcesses n (pair.from, pair.to) }
+    ensures all { OnOk result (length lists.new.items ≡ n * n) }
+    ensures lists { (tables : List Members) (its : Members) → (pair.from, pair.to) ≡ pair_of its
+        → pair.outage ≡ outage_of its → outages_in lists.old.items ≡ each_pairs_outages tables n
+        → OnOk result (outages_in lists.new.items ≡ each_pairs_outages (tables ++ its ∷ []) n) }
+{
+    push_at(lists, place_of(pair.from, pair.to, n), pair.outage)
+}
+
+/// Adds the outages of a file's tables to lists that have none.
+fn add_tables(
+    top: &Top<'_>,
+    tables: &[&Table],
+    lists: &mut Vec<Vec<Outage>>,
+    found: &mut Option<Finding<'_>>,
+) -> Result<(), ScenarioError>
+    requires numbers { IsTop top.now }
+    requires tables { tables_in tables.now ≡ tables_at (codes "outage") (table_view top.now.table.now) }
+    requires none { outages_in lists.old.items ≡ each_pairs_outages [] top.now.numbers.processes }
+    ensures ok { OnOk result (are_bad_outages top.now.numbers.processes (tables_in tables.now) ≡ false) }
+    ensures lists { OnOk result
+        (outages_in lists.new.items ≡ each_pairs_outages (tables_in tables.now) top.now.numbers.processes) }
+    ensures err { IfErr result
+        (GivenBy ScenarioError.OutageLine (are_bad_outages top.now.numbers.processes (tables_in tables.now))) }
+    ensures finds { IfErr result (Finds (table_view top.now.table.now) found.new) }
+{
+    let n = top.numbers.processes;
+    for i in 0..tables.len() {
+        let pair = match read_outage(tables[i], n) {
+            Ok(pair) => pair,
+            Err(fault) => {
+                let place = TableArray::Outage.place(tables, i);
+                return Err(refused_at(found, ScenarioError::OutageLine, place, fault));
+            }
+        };
+        if let Err(_) = add(lists, n, pair) {
+            return Err(out_of_memory(found));
+        }
+    }
+    Ok(())
+}
+
+/// What a drawn outage says, where its table would be right among n processes.
+#[tactic(auto, using(crate::proofs::DrawnTables::bad_drawn))]
+fn fitting(outage: LinkOutage, n: u16) -> Option<PairOutage>
+    ensures test { is_none result ≡ is_bad_outage n (outage_table outage) }
+    ensures pair { IfSome result (λ o. (o.from, o.to) ≡ pair_of (outage_table outage)) }
+    ensures outage { IfSome result (λ o. o.outage ≡ outage_of (outage_table outage)) }
+    ensures processes { IfSome result (λ o. AreProcesses n (o.from, o.to)) }
+{
+    let LinkOutage {
+        from,
+        to,
+        begin,
+        until,
+    } = outage;
+    let (from, to) = (from.number(), to.number());
+    if from > n || to > n || from == to {
+        return None;
+    }
+    if begin > MOST_TICK || until > MOST_TICK || until <= begin {
+        return None;
+    }
+    Some(PairOutage {
+        from: u32::from(from),
+        to: u32::from(to),
+        outage: Outage { begin, until },
+    })
+}
+
+/// Adds drawn outages to the lists of n processes, as their tables would be added behind those that were.
+fn add_drawn(
+    n: u16,
+    drawn: &[LinkOutage],
+    lists: &mut Vec<Vec<Outage>>,
+) -> Result<(), ScenarioError>
+    requires few { n ≤ most_processes }
+    requires all { length lists.old.items ≡ n * n }
+    ensures ok { OnOk result (are_bad_outages n (map outage_table drawn.now) ≡ false) }
+    ensures lists { (tables : List Members) → outages_in lists.old.items ≡ each_pairs_outages tables n
+        → OnOk result (outages_in lists.new.items ≡ each_pairs_outages (tables ++ map outage_table drawn.now) n) }
+    ensures err { IfErr result
+        (GivenBy ScenarioError.OutageLine (are_bad_outages n (map outage_table drawn.now))) }
+{
+    for outage in drawn {
+        let Some(pair) = fitting(*outage, n) else {
+            return Err(ScenarioError::OutageLine);
+        };
+        add(lists, n, pair)?;
+    }
     Ok(())
 }
 
@@ -99,42 +203,39 @@ fn ready(alloc: Global, lists: Vec<Vec<Outage>>) -> Result<Vec<LinkOutages>, All
 }
 
 /// The outages of the link from each of n processes to each, by sender and then by receiver, each link's in the order
-/// of their tables. Where there are no tables there is no list, of no link.
+/// of their tables, and behind these the drawn ones. Where there are neither tables nor drawn ones there is no list, of
+/// no link.
 pub(crate) fn read_outages(
     alloc: Global,
     top: &Top<'_>,
     tables: &[&Table],
+    drawn: &[LinkOutage],
     found: &mut Option<Finding<'_>>,
 ) -> Result<Vec<LinkOutages>, ScenarioError>
     requires numbers { IsTop top.now }
     requires tables { tables_in tables.now ≡ tables_at (codes "outage") (table_view top.now.table.now) }
-    ensures ok { OnOk result (outages_refused (table_view top.now.table.now) ≡ false) }
-    ensures value { IfOk result (λ v. v.items ≡ (record_of (table_view top.now.table.now)).outages) }
-    ensures err { IfErr result (GivenBy ScenarioError.OutageLine (outages_refused (table_view top.now.table.now))) }
+    ensures ok { OnOk result
+        (are_bad_outages top.now.numbers.processes (all_outages drawn.now (table_view top.now.table.now)) ≡ false) }
+    ensures value { IfOk result (λ v. v.items
+        ≡ outages_among (all_outages drawn.now (table_view top.now.table.now)) top.now.numbers.processes) }
+    ensures err { IfErr result (GivenBy ScenarioError.OutageLine
+        (are_bad_outages top.now.numbers.processes (all_outages drawn.now (table_view top.now.table.now)))) }
     ensures finds { IfErr result (Finds (table_view top.now.table.now) found.new) }
 {
     let n = top.numbers.processes;
-    if tables.is_empty() {
+    if tables.is_empty() && drawn.is_empty() {
         return Ok(Vec::new(alloc));
     }
-    let mut outages = match no_outages(alloc, n) {
-        Ok(outages) => outages,
+    let mut lists = match no_outages(alloc, n) {
+        Ok(lists) => lists,
         Err(_) => return Err(out_of_memory(found)),
     };
-    for i in 0..tables.len() {
-        let pair = match read_outage(tables[i], n) {
-            Ok(pair) => pair,
-            Err(fault) => {
-                let place = TableArray::Outage.place(tables, i);
-                return Err(refused_at(found, ScenarioError::OutageLine, place, fault));
-            }
-        };
-        let place = place_of(pair.from, pair.to, n);
-        if let Err(_) = add(&mut outages, place, pair.outage) {
-            return Err(out_of_memory(found));
-        }
+    accepted!(add_tables(top, tables, &mut lists, found));
+    if let Err(refused) = add_drawn(n, drawn, &mut lists) {
+        *found = None;
+        return Err(refused);
     }
-    match ready(alloc, outages) {
+    match ready(alloc, lists) {
         Ok(links) => Ok(links),
         Err(_) => Err(out_of_memory(found)),
     }

@@ -5,7 +5,7 @@ ghost use Rattle.scenario.specs.Text.{algorithm_in, record_of};
 ghost use Rattle.scenario.specs.Rules.{algorithm_refused};
 ghost use Rattle.scenario.specs.Refusals.{part_rules};
 ghost use Rattle.scenario.specs.Faults.{Finds};
-ghost use Rattle.scenario.specs.Parts.{AreTables, IsTop};
+ghost use Rattle.scenario.specs.Parts.{AreTables, ArePartsOf, IsTop};
 ghost use Rattle.scenario.specs.Groups.{Passes, StopsAt};
 
 use crate::below::{below_lookahead, first_below};
@@ -17,11 +17,11 @@ use crate::keys::Tables;
 use crate::links::read_links;
 use crate::names::{algorithm_of, other_name};
 use crate::numbers::Top;
-use crate::outages::read_outages;
 use crate::place::Place;
 use crate::proposals::read_proposals;
 use crate::table::text;
-use scenario_record::{AlgorithmKind, Fields};
+use process_api::DetectorNumbers;
+use scenario_record::{AlgorithmKind, Link};
 use std::alloc::Global;
 use toml::Table;
 
@@ -44,18 +44,29 @@ fn read_algorithm<'a>(
     }
 }
 
-/// What a scenario has, with the parts that stand on the numbers of its top table, where none is refused; else the
-/// refusal of the first that is.
+/// The parts of a scenario that stand on the numbers of its top table, all but the outages.
+#[derive(Drop)]
+pub(crate) struct Parts {
+    pub(crate) algorithm: AlgorithmKind,
+    pub(crate) detector: DetectorNumbers,
+    pub(crate) share: Option<u32>,
+    pub(crate) proposals: Vec<u32>,
+    pub(crate) crashes: Vec<Option<u32>>,
+    pub(crate) links: Vec<Link>,
+}
+
+/// The parts of a scenario that stand on the numbers of its top table, all but the outages, where none is refused; else
+/// the refusal of the first that is.
 pub(crate) fn read_parts<'a>(
     alloc: Global,
     top: &Top<'a>,
     tables: &Tables<'a>,
     found: &mut Option<Finding<'a>>,
-) -> Result<Fields, ScenarioError>
+) -> Result<Parts, ScenarioError>
     requires numbers { IsTop top.now }
     requires tables { AreTables (table_view top.now.table.now) tables.now }
     ensures ok { OnOk result (Passes part_rules (Some (table_view top.now.table.now))) }
-    ensures value { IfOk result (λ s. s ≡ record_of (table_view top.now.table.now)) }
+    ensures value { IfOk result (ArePartsOf (record_of (table_view top.now.table.now))) }
     ensures err { IfErr result (StopsAt part_rules (Some (table_view top.now.table.now))) }
     ensures finds { IfErr result (Finds (table_view top.now.table.now) found.new) }
 {
@@ -68,19 +79,12 @@ pub(crate) fn read_parts<'a>(
         return Err(below_lookahead(top, &links, pair, found));
     }
     let crashes = accepted!(read_crashes(alloc, top, &tables.crashes, found));
-    let outages = accepted!(read_outages(alloc, top, &tables.outages, found));
-    Ok(Fields {
-        processes: top.numbers.processes,
-        horizon: top.numbers.horizon,
-        lookahead: top.numbers.lookahead,
-        limit: top.numbers.limit,
-        seed: top.numbers.seed,
+    Ok(Parts {
         algorithm,
         detector,
         share,
         proposals,
         crashes,
         links,
-        outages,
     })
 }

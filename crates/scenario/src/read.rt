@@ -1,17 +1,23 @@
 //! How a scenario's file is read.
 ghost use Rattle.std.specs.Prelude.{◌≡◌, false, Some, OnOk, IfOk, IfErr};
 ghost use Rattle.toml.specs.View.{table_view};
+ghost use Rattle.toml.specs.Data.{Members};
 ghost use Rattle.scenario.specs.Text.{record_of};
+ghost use Rattle.scenario.specs.Drawn.{lacks_outages, with_outages};
+ghost use Rattle.scenario.specs.Parts.{AreNumbersOf, ArePartsOf};
 ghost use Rattle.scenario.specs.Refusals.{Accepts, Refuses, is_memory, table_rules};
 ghost use Rattle.scenario.specs.Groups.{Passes, StopsFirst};
 ghost use Rattle.scenario.specs.Faults.{Finds};
 
+use crate::drawn::LinkOutage;
 use crate::error::ScenarioError;
 use crate::finding::{Finding, Refused, accepted, out_of_memory};
 use crate::keys::{check_keys, tables_of};
-use crate::numbers::{Top, read_numbers};
-use crate::parts::read_parts;
-use scenario_record::Scenario;
+use crate::numbers::{Top, TopNumbers, read_numbers};
+use crate::outages::read_outages;
+use crate::parts::{Parts, read_parts};
+use crate::table::is_second;
+use scenario_record::{Fields, LinkOutages, Scenario};
 use std::alloc::Global;
 use toml::Table;
 
@@ -39,25 +45,80 @@ pub fn read_scenario(alloc: Global, bytes: &[u8]) -> Result<Scenario, ScenarioEr
 ///
 /// The refusal of the first rule of tables that applies, in the order of [`ScenarioError`], which is never `NotToml`;
 /// or `Memory`, which comes where memory was refused, at any point.
+#[tactic(auto, unfolding(crate::specs::Drawn::with_outages))]
 pub fn read_table(alloc: Global, table: &Table) -> Result<Scenario, ScenarioError>
     ensures ok { OnOk result (Passes table_rules (Some (table_view table.now))) }
     ensures value { IfOk result (λ s. s ≡ record_of (table_view table.now)) }
     ensures err { IfErr result (StopsFirst table_rules (Some (table_view table.now))) }
 {
-    read_noting(alloc, table, &mut None)
+    read_noting(alloc, table, &[], &mut None)
 }
 
-/// Reads a scenario from its file's table. Where it is refused, notes what is found, and where.
+/// Reads a scenario from its file's table and outages that were drawn besides: answers what [`read_table`] answers of
+/// the table to which they are added at `outage`, behind the file's own (`specs/Drawn.antt`), and makes no table of
+/// them.
+///
+/// # Errors
+///
+/// Those of [`read_table`] for that table. So where outages are drawn and the file isn't of version 2 it is
+/// `UnknownKey`, and a drawn outage that is out of range is refused as its table would be, by `OutageLine`.
+pub fn read_with_outages(
+    alloc: Global,
+    table: &Table,
+    drawn: &[LinkOutage],
+) -> Result<Scenario, ScenarioError>
+    ensures ok { OnOk result (Passes table_rules (Some (with_outages drawn.now (table_view table.now)))) }
+    ensures value { IfOk result (λ s. s ≡ record_of (with_outages drawn.now (table_view table.now))) }
+    ensures err { IfErr result (StopsFirst table_rules (Some (with_outages drawn.now (table_view table.now)))) }
+{
+    read_noting(alloc, table, drawn, &mut None)
+}
+
+/// What a scenario has, by its parts.
+fn fields_of(numbers: TopNumbers, parts: Parts, outages: Vec<LinkOutages>) -> Fields
+    ensures { (t : Members) → AreNumbersOf t numbers → ArePartsOf (record_of t) parts
+        → result ≡ record (record_of t) { outages = outages.items } }
+{
+    Fields {
+        processes: numbers.processes,
+        horizon: numbers.horizon,
+        lookahead: numbers.lookahead,
+        limit: numbers.limit,
+        seed: numbers.seed,
+        algorithm: parts.algorithm,
+        detector: parts.detector,
+        share: parts.share,
+        proposals: parts.proposals,
+        crashes: parts.crashes,
+        links: parts.links,
+        outages,
+    }
+}
+
+/// Whether outages are drawn for a file that has no key for them, since it isn't of version 2.
+fn lacks_key(drawn: &[LinkOutage], table: &Table) -> bool
+    ensures { result ≡ lacks_outages drawn.now (table_view table.now) }
+{
+    !drawn.is_empty() && !is_second(table)
+}
+
+/// Reads a scenario from its file's table and drawn outages. Where it is refused, notes what is found in the file, and
+/// where.
 fn read_noting<'a>(
     alloc: Global,
     table: &'a Table,
+    drawn: &[LinkOutage],
     found: &mut Option<Finding<'a>>,
 ) -> Result<Scenario, ScenarioError>
-    ensures ok { OnOk result (Passes table_rules (Some (table_view table.now))) }
-    ensures value { IfOk result (λ s. s ≡ record_of (table_view table.now)) }
-    ensures err { IfErr result (StopsFirst table_rules (Some (table_view table.now))) }
+    ensures ok { OnOk result (Passes table_rules (Some (with_outages drawn.now (table_view table.now)))) }
+    ensures value { IfOk result (λ s. s ≡ record_of (with_outages drawn.now (table_view table.now))) }
+    ensures err { IfErr result (StopsFirst table_rules (Some (with_outages drawn.now (table_view table.now)))) }
     ensures finds { IfErr result (Finds (table_view table.now) found.new) }
 {
+    if lacks_key(drawn, table) {
+        *found = None;
+        return Err(ScenarioError::UnknownKey);
+    }
     let tables = match tables_of(alloc, table) {
         Ok(tables) => tables,
         Err(_) => return Err(out_of_memory(found)),
@@ -65,7 +126,9 @@ fn read_noting<'a>(
     accepted!(check_keys(table, &tables, found));
     let numbers = accepted!(read_numbers(table, found));
     let top = Top { table, numbers };
-    Ok(Scenario::of(accepted!(read_parts(alloc, &top, &tables, found))))
+    let parts = accepted!(read_parts(alloc, &top, &tables, found));
+    let outages = accepted!(read_outages(alloc, &top, &tables.outages, drawn, found));
+    Ok(Scenario::of(fields_of(numbers, parts, outages)))
 }
 
 /// Reads a scenario from its file's table, as [`read_table`] does, and says of a table that is refused what is wrong
@@ -75,6 +138,7 @@ fn read_noting<'a>(
 ///
 /// The refusal that [`read_table`] answers, with what breaks its rule: what is named stands there
 /// (`specs/Faults.antt`).
+#[tactic(auto, unfolding(crate::specs::Drawn::with_outages))]
 pub fn read_with_place(alloc: Global, table: &Table) -> Result<Scenario, Refused<'_>>
     ensures ok { OnOk result (Passes table_rules (Some (table_view table.now))) }
     ensures value { IfOk result (λ s. s ≡ record_of (table_view table.now)) }
@@ -82,7 +146,7 @@ pub fn read_with_place(alloc: Global, table: &Table) -> Result<Scenario, Refused
     ensures finds { IfErr result (λ r. Finds (table_view table.now) r.finding r.error) }
 {
     let mut finding = None;
-    match read_noting(alloc, table, &mut finding) {
+    match read_noting(alloc, table, &[], &mut finding) {
         Ok(scenario) => Ok(scenario),
         Err(error) => Err(Refused { error, finding }),
     }

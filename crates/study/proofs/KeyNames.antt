@@ -1,5 +1,5 @@
 -- Keys as words, alone and one after the other.
-use Rattle.std.proofs.Common.{◌≡◌, ◌≢◌, ◌⊎◌, ℕ, zero, suc, ◌^◌, ◌≤◌, ◌<◌, List, [], ◌∷◌, ◌++◌, append_assoc, length, length-append, get_or, Bool, true, false, not, ◌==◌, codes, decimal, Option, Some, None, Result, Ok, Err, Bor, MatchOption, IfErr, IsErrAnd, refl, sym, ◌∙◌, ap, subst, inl, inr, arith, lit<, ◌+◌, map, take}
+use Rattle.std.proofs.Common.{◌≡◌, ◌≢◌, ℕ, zero, suc, ◌^◌, ◌≤◌, ◌<◌, List, [], ◌∷◌, ◌++◌, append_assoc, length, length-append, get_or, Bool, true, false, not, ◌==◌, codes, decimal, Option, Some, None, Result, Ok, Err, Bor, MatchOption, IfOk, IfErr, IsErrAnd, refl, sym, ◌∙◌, ap, subst, inl, inr, arith, lit<, ◌+◌, map, take}
 use Rattle.std.proofs.lemmas.Bool.{and_parts, and_from, eq-eqb, ne_eqb, false≢true}
 use Rattle.std.proofs.lemmas.Fmt.{decimal-digits_value, digits_decimal, digits_value-decimal, decimal_nonempty, first_decimal, decimal_digit}
 use Rattle.std.proofs.lemmas.List.{append_cancel_right, get_or_at, map_more, map_push}
@@ -8,9 +8,9 @@ use Rattle.std.proofs.lemmas.List.Folds.{list_all_at}
 use Rattle.std.proofs.lemmas.Str.Pattern.{IsSplitOnceResult, split_after, split_parts}
 use Rattle.std.specs.Char.{is_ascii_digit}
 use Rattle.std.specs.List.{All, list_all, AllZip}
-use Rattle.study.specs.Settings.{Path, top, inner, element, every, key_text, path_of}
+use Rattle.study.specs.Settings.{FilePath, top, inner, element, every, Path, scenario, network, file_key_text, key_text, path_of}
 use Rattle.study.specs.Words.{Word, is_natural, natural}
-use Rattle.study.specs.KeyWords.{is_name_byte, is_name, is_place, IsPlaceOf, HasNoPlace, IsOwner, of_table, of_element, of_every, HasNames, SaysNoKey, is_memory, SaysKey, SayNoKeys}
+use Rattle.study.specs.KeyWords.{is_name_byte, is_name, is_place, IsPlace, IsPlaceOf, HasNoPlace, IsListed, IsOwner, IsInArray, HasFileNames, HasNames, IsNetworkText, SaysNoKey, is_memory, SaysKey, SayNoKeys}
 use Rattle.study.specs.declared.error.KeyError.{KeyError}
 use Rattle.study.specs.declared.error.KeyError.TheVariants as error
 use Rattle.study.proofs.Numerals.{own, natural_digits, natural_some}
@@ -97,45 +97,69 @@ no_dot = lacks_from (λ b. not (b == 46)) 46 refl
 joined : (v w : Word) → Lacks 46 v → Lacks 46 w → Lacks 46 (v ++ w)
 joined = All-append (λ b. b ≢ 46)
 
--- a word that a key is written as, split at its first dot
-split_named : (w : Word) (p : Path) (r : Option (Bor (List ℕ) × Bor (List ℕ))) → IsSplitOnceResult 46 w r → HasNames p
-    → w ≡ key_text p → MatchOption r (is_name w ≡ true) (λ x. IsOwner x.0.now × (is_name x.1.now ≡ true))
+-- an array's name with a place in brackets
+listed : (a p : Word) → is_name a ≡ true → IsPlace p → IsListed (a ++ (91 ∷ p))
+listed a p name is = record { array = a; place = p; named = name; placed = is; text = refl }
+
+place_lacks : (p : Word) → IsPlace p → Lacks 46 p
+place_lacks p (inl at) =
+    subst (Lacks 46) (sym at.1.2) (joined (decimal at.0) (codes "]")
+    (lacks_from is_ascii_digit 46 refl (decimal at.0) (digits_decimal own at.0 at.1.1)) (no_dot (codes "]") refl))
+place_lacks p (inr all) = subst (Lacks 46) (sym all) (no_dot (codes "*]") refl)
+
+listed_lacks : (a p : Word) → is_name a ≡ true → IsPlace p → Lacks 46 (a ++ (91 ∷ p))
+listed_lacks a p name is =
+    joined a (91 ∷ p) (name_lacks 46 refl a name) (joined (91 ∷ []) p (no_dot (91 ∷ []) refl) (place_lacks p is))
+
+-- a word that a key of a table of an array is written as, split at its first dot
+split_element : (w a p k : Word) (r : Option (Bor (List ℕ) × Bor (List ℕ))) → IsSplitOnceResult 46 w r → is_name a ≡ true
+    → IsPlace p → is_name k ≡ true → w ≡ (a ++ (91 ∷ p)) ++ (46 ∷ k)
+    → MatchOption r ⊥ (λ x. IsListed x.0.now × (is_name x.1.now ≡ true))
+split_element w a p k r split name is key e =
+    at_some ⊥ r (split_after 46 w (a ++ (91 ∷ p)) k r split (lit< tt) e (λ i. listed_lacks a p name is i 0))
+    (λ x h. (subst IsListed (sym h.0) (listed a p name is), ap is_name h.1 ∙ key))
+
+split_listed : (w : Word) (p : FilePath) (r : Option (Bor (List ℕ) × Bor (List ℕ))) → IsSplitOnceResult 46 w r → IsInArray p
+    → HasFileNames p → w ≡ file_key_text p → MatchOption r ⊥ (λ x. IsListed x.0.now × (is_name x.1.now ≡ true))
+split_listed w (element a i k) r split is names e =
+    split_element w a (decimal i ++ codes "]") k r split names.0 (inl (i, (names.1, names.2, refl))) names.3
+    (e ∙ element_split a (decimal i) k)
+split_listed w (every a k) r split is names e =
+    split_element w a (codes "*]") k r split names.0 (inr refl) names.1 (e ∙ every_split a k)
+split_listed w (top k) r split is names e = absurd is
+split_listed w (inner t k) r split is names e = absurd is
+
+owned : (w : Word) (r : Option (Bor (List ℕ) × Bor (List ℕ)))
+    → MatchOption r ⊥ (λ x. IsListed x.0.now × (is_name x.1.now ≡ true))
+    → MatchOption r (is_name w ≡ true) (λ x. IsOwner x.0.now × (is_name x.1.now ≡ true))
+owned w r is = at_some (is_name w ≡ true) r is (λ x h. (inr h.0, h.1))
+
+-- a word that a key of the scenario's file is written as, split at its first dot
+split_named : (w : Word) (p : FilePath) (r : Option (Bor (List ℕ) × Bor (List ℕ))) → IsSplitOnceResult 46 w r
+    → HasFileNames p → w ≡ file_key_text p
+    → MatchOption r (is_name w ≡ true) (λ x. IsOwner x.0.now × (is_name x.1.now ≡ true))
 split_named w (top k) None split names e = ap is_name e ∙ names
 split_named w (top k) (Some x) split names e =
     absurd (found 46 w x.0.now x.1.now (subst (Lacks 46) (sym e) (name_lacks 46 refl k names))
     (split_parts 46 w (Some x) split (lit< tt)).0)
 split_named w (inner t k) r split names e =
     at_some (is_name w ≡ true) r (split_after 46 w t k r split (lit< tt) (e ∙ append_assoc t (codes ".") k)
-    (λ i. name_lacks 46 refl t names.0 i 0)) (λ x h. (of_table (ap is_name h.0 ∙ names.0), ap is_name h.1 ∙ names.1))
-split_named w (element a i k) r split names e =
-    let lacks = joined a (91 ∷ (decimal i ++ codes "]")) (name_lacks 46 refl a names.0)
-    (joined (91 ∷ []) (decimal i ++ codes "]") (no_dot (91 ∷ []) refl)
-    (joined (decimal i) (codes "]") (lacks_from is_ascii_digit 46 refl (decimal i) (digits_decimal own i names.2))
-    (no_dot (codes "]") refl))) in
-    at_some (is_name w ≡ true) r (split_after 46 w (a ++ (91 ∷ (decimal i ++ codes "]"))) k r split (lit< tt)
-    (e ∙ element_split a (decimal i) k) (λ i. lacks i 0))
-    (λ x h. (of_element a i names.0 names.1 names.2 h.0, ap is_name h.1 ∙ names.3))
-split_named w (every a k) r split names e =
-    let lacks = joined a (91 ∷ codes "*]") (name_lacks 46 refl a names.0) (no_dot (91 ∷ codes "*]") refl) in
-    at_some (is_name w ≡ true) r (split_after 46 w (a ++ (91 ∷ codes "*]")) k r split (lit< tt) (e ∙ every_split a k)
-    (λ i. lacks i 0)) (λ x h. (of_every a names.0 h.0, ap is_name h.1 ∙ names.1))
+    (λ i. name_lacks 46 refl t names.0 i 0)) (λ x h. (inl (ap is_name h.0 ∙ names.0), ap is_name h.1 ∙ names.1))
+split_named w (element a i k) r split names e = owned w r (split_listed w (element a i k) r split tt names e)
+split_named w (every a k) r split names e = owned w r (split_listed w (every a k) r split tt names e)
 
--- what may stand after an array's bracket
-abbrev IsPlace : Word → Type 0
-IsPlace w = ((place : ℕ) × IsPlaceOf w place) ⊎ (w ≡ codes "*]")
+-- a word that a key of the network's file is written as, split at its first dot
+split_network : (w : Word) (p : FilePath) (r : Option (Bor (List ℕ) × Bor (List ℕ))) → IsSplitOnceResult 46 w r
+    → w ≡ key_text (network p) → MatchOption r ⊥ (λ x. (x.0.now ≡ codes "network") × (x.1.now ≡ file_key_text p))
+split_network w p r split e =
+    split_after 46 w (codes "network") (file_key_text p) r split (lit< tt) e (λ i. no_dot (codes "network") refl i 0)
 
 -- what stands before a key's dot, split at its first bracket
-split_owner : (w : Word) (r : Option (Bor (List ℕ) × Bor (List ℕ))) → IsSplitOnceResult 91 w r → IsOwner w
-    → MatchOption r (is_name w ≡ true) (λ x. (is_name x.0.now ≡ true) × IsPlace x.1.now)
-split_owner w None split (of_table name) = name
-split_owner w (Some x) split (of_table name) =
-    absurd (found 91 w x.0.now x.1.now (name_lacks 91 refl w name) (split_parts 91 w (Some x) split (lit< tt)).0)
-split_owner w r split (of_element a i name low small e) =
-    at_some (is_name w ≡ true) r (split_after 91 w a (decimal i ++ codes "]") r split (lit< tt) e
-    (λ k. name_lacks 91 refl a name k 0)) (λ x h. (ap is_name h.0 ∙ name, inl (i, (low, small, h.1))))
-split_owner w r split (of_every a name e) =
-    at_some (is_name w ≡ true) r (split_after 91 w a (codes "*]") r split (lit< tt) e (λ k. name_lacks 91 refl a name k 0))
-    (λ x h. (ap is_name h.0 ∙ name, inr h.1))
+split_owner : (w : Word) (r : Option (Bor (List ℕ) × Bor (List ℕ))) → IsSplitOnceResult 91 w r → IsListed w
+    → MatchOption r ⊥ (λ x. (is_name x.0.now ≡ true) × IsPlace x.1.now)
+split_owner w r split is =
+    at_some ⊥ r (split_after 91 w is.array is.place r split (lit< tt) is.text (λ k. name_lacks 91 refl is.array is.named k 0))
+    (λ x h. (ap is_name h.0 ∙ is.named, subst IsPlace (sym h.1) is.placed))
 
 -- ---- answers
 
@@ -143,18 +167,46 @@ pub carried : {A E : Type 0} (P : E → Type 0) (r : Result A E) (x : E) → IsE
 carried P (Ok a) x e p = tt
 carried P (Err y) x e p = subst P (sym e) p
 
+-- an error of a part is one of the whole
+pub refused_by : {A : Type 0} {P Q : Type 0} (r : Result A KeyError) → (P → Q)
+    → IfErr r (λ e. is_memory e ≡ false → (e ≡ error.NoKey) × P) → IfErr r (λ e. is_memory e ≡ false → (e ≡ error.NoKey) × Q)
+refused_by (Ok a) more h = tt
+refused_by (Err e) more h = λ other. ((h other).0, more (h other).1)
+
+pub no_list : (w : Word) → IsSplitOnceResult 91 w None → IsListed w → ⊥
+no_list w split is = split_owner w None split is
+
 pub no_table : (w : Word) → IsSplitOnceResult 91 w None → is_name w ≡ false → IsOwner w → ⊥
-no_table w split none owner = false≢true (sym none ∙ split_owner w None split owner)
+no_table w split none (inl name) = false≢true (sym none ∙ name)
+no_table w split none (inr is) = split_owner w None split is
 
 module _ (w : Word) (array place : Bor (List ℕ)) (split : IsSplitOnceResult 91 w (Some (array, place))) where
-  pub no_array : is_name array.now ≡ false → IsOwner w → ⊥
-  no_array none owner = false≢true (sym none ∙ (split_owner w (Some (array, place)) split owner).0)
+  pub in_list : IsListed w → (is_name array.now ≡ true) × IsPlace place.now
+  in_list is = split_owner w (Some (array, place)) split is
 
-  pub no_place : place.now ≢ codes "*]" → HasNoPlace place.now → IsOwner w → ⊥
-  no_place other none owner = elim (split_owner w (Some (array, place)) split owner).1 [
-    | inl at ↦ none at.0 at.1.0 at.1.1 at.1.2
-    | inr all ↦ other all
-  ]
+  pub in_owner : IsOwner w → (is_name array.now ≡ true) × IsPlace place.now
+  in_owner (inl name) =
+      absurd (found 91 w array.now place.now (name_lacks 91 refl w name) (split_parts 91 w (Some (array, place)) split (lit< tt)).0)
+  in_owner (inr is) = in_list is
+
+pub no_place : (place : Word) → place ≢ codes "*]" → HasNoPlace place → IsPlace place → ⊥
+no_place place other none (inl at) = none at.0 at.1.0 at.1.1 at.1.2
+no_place place other none (inr all) = other all
+
+-- a word with a dot
+pub dotted : (w owner key : Word) → w ≡ owner ++ (46 ∷ key) → is_name w ≡ false
+dotted w owner key e = none (is_name w) refl
+  where
+    none : (b : Bool) → is_name w ≡ b → is_name w ≡ false
+    none true is = absurd (found 46 w owner key (name_lacks 46 refl w is) e)
+    none false is = is
+
+pub no_network : (rest : Word) → IsSplitOnceResult 46 rest None → IsNetworkText rest → ⊥
+no_network rest split is = split_listed rest is.0 None split is.1.0 is.1.1.0 is.1.1.1
+
+pub network_parts : (rest : Word) (owner key : Bor (List ℕ)) → IsSplitOnceResult 46 rest (Some (owner, key))
+    → IsNetworkText rest → IsListed owner.now × (is_name key.now ≡ true)
+network_parts rest owner key split is = split_listed rest is.0 (Some (owner, key)) split is.1.0 is.1.1.0 is.1.1.1
 
 -- a word that is refused as no key says none
 no_key : (w : Word) (e : KeyError)
@@ -165,29 +217,52 @@ no_key w error.Seed refused = absurd (let both : error.Seed ≡ error.NoKey = (r
 
 pub top_refused : (w : Word) (e : KeyError) → IsSplitOnceResult 46 w None
     → (is_memory e ≡ false → (e ≡ error.NoKey) × (is_name w ≡ false)) → SaysNoKey w e
-top_refused w e split refused = no_key w e (λ other. let none = refused other in
-    (none.0, λ p names is. false≢true (sym none.1 ∙ split_named w p None split names is)))
+top_refused w e split refused = no_key w e (λ other. let none = refused other in (none.0, no_path none.1))
+  where
+    no_path : is_name w ≡ false → (p : Path) → HasNames p → w ≢ key_text p
+    no_path none (scenario p) names is = false≢true (sym none ∙ split_named w p None split names is)
+    no_path none (network p) names is = split_network w p None split is
 
-pub owned_refused : {A : Type 0} (w : Word) (owner key : Bor (List ℕ)) (r : Result A KeyError)
-    → IsSplitOnceResult 46 w (Some (owner, key))
-    → IfErr r (λ e. is_memory e ≡ false → (e ≡ error.NoKey) × (IsOwner owner.now → is_name key.now ≡ false))
+module _ (w : Word) (owner rest : Bor (List ℕ)) (split : IsSplitOnceResult 46 w (Some (owner, rest)))
+    (no_scenario : IsOwner owner.now → is_name rest.now ≡ false)
+    (none : owner.now ≡ codes "network" → IsNetworkText rest.now → ⊥) where
+  no_path : (p : Path) → HasNames p → w ≢ key_text p
+  no_path (scenario p) names is =
+      let parts = split_named w p (Some (owner, rest)) split names is in
+      false≢true (sym (no_scenario parts.0) ∙ parts.1)
+  no_path (network p) names is =
+      let parts = split_network w p (Some (owner, rest)) split is in
+      none parts.0 (p, (names.0, (names.1, parts.1)))
+
+pub dotted_refused : {A : Type 0} (w : Word) (owner rest : Bor (List ℕ)) (r : Result A KeyError)
+    → IsSplitOnceResult 46 w (Some (owner, rest))
+    → IfErr r (λ e. is_memory e ≡ false → (e ≡ error.NoKey) × (IsOwner owner.now → is_name rest.now ≡ false))
+    → IfErr r (λ e. is_memory e ≡ false → owner.now ≡ codes "network" → IsNetworkText rest.now → ⊥)
     → IfErr r (SaysNoKey w)
-owned_refused w owner key (Ok k) split refused = tt
-owned_refused w owner key (Err e) split refused = no_key w e (λ other. let none = refused other in (
-  none.0,
-  λ p names is. let parts = split_named w p (Some (owner, key)) split names is in
-      false≢true (sym (none.1 parts.0) ∙ parts.1),
-))
+dotted_refused w owner rest (Ok k) split no_scenario none = tt
+dotted_refused w owner rest (Err e) split no_scenario none =
+    no_key w e (λ other. let refused = no_scenario other in
+    (refused.0, no_path w owner rest split refused.1 (none other)))
 
-pub every_written : (owner key array place a k : Word) → owner ≡ array ++ (91 ∷ place) → place ≡ codes "*]" → a ≡ array → k ≡ key
-    → owner ++ (46 ∷ key) ≡ a ++ codes "[*]." ++ k
-every_written owner key array place a k e star same_array same_key =
-    rw (e, star, same_array, same_key) (sym (every_split array key))
+pub every_written : (array place key a k : Word) → place ≡ codes "*]" → a ≡ array → k ≡ key
+    → (array ++ (91 ∷ place)) ++ (46 ∷ key) ≡ a ++ codes "[*]." ++ k
+every_written array place key a k star same_array same_key =
+    rw (star, same_array, same_key) (sym (every_split array key))
 
-pub element_written : (owner key array place : Word) (n : ℕ) (a k : Word) → owner ≡ array ++ (91 ∷ place)
-    → place ≡ decimal n ++ codes "]" → a ≡ array → k ≡ key → owner ++ (46 ∷ key) ≡ a ++ codes "[" ++ decimal n ++ codes "]." ++ k
-element_written owner key array place n a k e f same_array same_key =
-    rw (e, f, same_array, same_key) (sym (element_split array (decimal n) key))
+pub element_written : (array place key : Word) (n : ℕ) (a k : Word) → place ≡ decimal n ++ codes "]" → a ≡ array → k ≡ key
+    → (array ++ (91 ∷ place)) ++ (46 ∷ key) ≡ a ++ codes "[" ++ decimal n ++ codes "]." ++ k
+element_written array place key n a k is same_array same_key =
+    rw (is, same_array, same_key) (sym (element_split array (decimal n) key))
+
+pub network_text : (owner rest array key : Word) (p : FilePath) → owner ≡ codes "network" → rest ≡ array ++ (46 ∷ key)
+    → array ++ (46 ∷ key) ≡ file_key_text p → owner ++ (46 ∷ rest) ≡ key_text (network p)
+network_text owner rest array key p same split text =
+    ap (λ o. o ++ (46 ∷ rest)) same ∙ ap (λ r. codes "network" ++ (46 ∷ r)) (split ∙ text)
+
+pub says_dotted : (w : Word) (r : Result Key KeyError) {d : Word} → w ≢ codes "seed" → w ≡ d
+    → IfOk r (λ k. d ≡ key_text (path_of k)) → IfOk r (λ k. HasNames (path_of k)) → IfOk r (λ k. SaysKey w (path_of k))
+says_dotted w (Ok k) no_seed split text names = record { text = split ∙ text; names = names; no_seed = no_seed }
+says_dotted w (Err e) no_seed split text names = tt
 
 -- ---- words that say keys
 

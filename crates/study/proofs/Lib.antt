@@ -2,6 +2,9 @@ pub mod Blocks
 pub mod Points
 pub mod Placing
 pub mod ReadBack
+pub mod LaidTables
+pub mod OneOrder
+pub mod OneNetwork
 pub mod Texts
 pub mod Numerals
 pub mod KeyNames

@@ -1,5 +1,5 @@
 -- Parts of a word.
-use Rattle.std.proofs.Common.{◌≡◌, ◌≢◌, ℕ, ◌<◌, List, ◌∷◌, length, get_or, Bor, Some, true, false, ◌==◌, refl, ◌∙◌, ap}
+use Rattle.std.proofs.Common.{◌≡◌, ◌≢◌, ℕ, ◌<◌, List, [], ◌∷◌, ◌++◌, map, take, drop, length, get_or, Bor, Some, true, false, ◌==◌, refl, ◌∙◌, ap, arith}
 use Rattle.std.proofs.Math.Bool.{or-true}
 use Rattle.std.proofs.lemmas.Bool.{eq-eqb, ne_eqb}
 use Rattle.std.proofs.lemmas.List.{get_or_default}
@@ -21,3 +21,18 @@ split_has c w x split low =
       first.1,
       first.2,
     )
+
+pub nothing : (w : Word) → length w ≡ 0 → w ≡ []
+nothing [] none = refl
+nothing (b ∷ w) none = absurd (omega arith)
+
+-- what stands before and after a place of a list, by what it is a list of
+pub parted : {X Y : Type 0} (f : X → Y) (xs : List X) (ps qs : List Y) → map f xs ≡ ps ++ qs
+    → (map f (take (length ps) xs) ≡ ps) × (map f (drop (length ps) xs) ≡ qs)
+parted f xs [] qs is = (refl, is)
+parted f [] (p ∷ ps) qs is = absurd (cc is)
+parted f (x ∷ xs) (p ∷ ps) qs is =
+    let head : f x ≡ p = cc is in
+    let rest : map f xs ≡ ps ++ qs = cc is in
+    let more = parted f xs ps qs rest in
+    (ap (λ y. y ∷ map f (take (length ps) xs)) head ∙ ap (λ ys. p ∷ ys) more.0, more.1)

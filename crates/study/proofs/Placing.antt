@@ -11,7 +11,7 @@ use Rattle.toml.specs.View.{view, members_view, items_view, table_view}
 use Rattle.toml.specs.declared.value.Value.{Value}
 use Rattle.toml.proofs.Views.{Entry, get_item_within, get_item_past, view-Table}
 use Rattle.study.specs.Settings.{every}
-use Rattle.study.specs.Placed.{put, put_item, put_in_each, put_in_all, set_at, items_of, table_of, table_there, element_of, then}
+use Rattle.study.specs.Placed.{put, put_item, put_in_each, put_in_all, set_in_file, items_of, table_of, table_there, element_of, then}
 use Rattle.study.specs.declared.error.PlaceError.{PlaceError}
 use Rattle.study.specs.declared.error.PlaceError.TheVariants as error
 
@@ -123,7 +123,7 @@ module _ (k : List ℕ) (d : Data) where
 pub every_set : (k a : List ℕ) (d : Data) (t new : Members) (vs done : List Value)
     → items_of (get_member a t) ≡ Ok (items_view vs) → 1 ≤ length vs
     → put_in_each k d (items_view vs) ≡ Ok (items_view done) → new ≡ put a (array (items_view done)) t
-    → set_at (every a k) d t ≡ Ok new
+    → set_in_file (every a k) d t ≡ Ok new
 every_set k a d t new vs done there some each is =
     ap (λ r. then r (λ ds. then (put_in_all k d ds) (λ es. Ok (put a (array es) t)))) there
     ∙ (ap (λ r. then r (λ es. Ok (put a (array es) t))) (some_in_all k d vs some ∙ each) ∙ ap Ok (sym is))

@@ -1,13 +1,15 @@
--- What is read of a file in which a path was set.
+-- What is read of files in which a path was set.
 use Rattle.std.proofs.Common.{◌≡◌, ◌≢◌, ◌⊎◌, inl, inr, ℕ, zero, suc, List, Option, Some, None, Result, Ok, Err, Ordering, Less, Equal, Greater, refl, sym, ap, ◌∙◌, subst, arith}
+use Rattle.std.specs.Option.{option_and_then}
 use Rattle.std.specs.Ordering.{nat_cmp, match_ordering}
 use Rattle.std.specs.Cmp.Lexicographic.{slice_cmp}
 use Rattle.std.proofs.lemmas.Map.Lookups.{exact_bytes}
 use Rattle.std.proofs.lemmas.Cmp.{nat_list_cmp_total, tied_itself}
 use Rattle.toml.specs.Data.{Data, array, table, Items, no_items, item, Members, no_members, member, get_member, get_item}
-use Rattle.study.specs.Settings.{Path, top, inner, element, every}
-use Rattle.study.specs.Placed.{put, put_item, put_in_each, put_in_all, set_at, items_of, table_of, table_or_new, table_there, element_of, then}
-use Rattle.study.specs.Reading.{in_table, at_place, in_array, value_at, IsRead, first_key, AreBeside, AreApart, Sets, AreSet}
+use Rattle.study.specs.Settings.{FilePath, top, inner, element, every, Path, scenario, network}
+use Rattle.study.specs.Sources.{SourcesRecord}
+use Rattle.study.specs.Placed.{put, put_item, put_in_each, put_in_all, set_in_file, set_at, with_scenario, with_network, network_there, items_of, table_of, table_or_new, table_there, element_of, then}
+use Rattle.study.specs.Reading.{in_table, at_place, in_array, value_in_file, IsReadInFile, first_key, AreBeside, AreApartInFile, SetsInFile, value_at, AreApart, Sets, AreSet}
 use Rattle.study.specs.declared.error.PlaceError.{PlaceError}
 
 -- ---- members
@@ -89,35 +91,35 @@ there_is (Some d) ms is = ap Some (table_is d ms is)
 -- ---- paths below a key of the top table
 
 -- what is read at a path of what stands at its first key
-abbrev below : Path → Option Data → Option Data
+abbrev below : FilePath → Option Data → Option Data
 below (top k) o = o
 below (inner name k) o = in_table k o
 below (element name place k) o = in_table k (in_array place o)
 below (every name k) o = None
 
-value_below : (path : Path) (t : Members) → value_at path t ≡ below path (get_member (first_key path) t)
+value_below : (path : FilePath) (t : Members) → value_in_file path t ≡ below path (get_member (first_key path) t)
 value_below (top k) t = refl
 value_below _ t = refl
 
 -- the value is what is read there at the path, or in every table of the array
-abbrev Reads : Path → Data → Option Data → Type 0
+abbrev Reads : FilePath → Data → Option Data → Type 0
 Reads (every name k) d o = (place : ℕ) (there : Data) → in_array place o ≡ Some there → in_table k (in_array place o) ≡ Some d
 Reads path d o = below path o ≡ Some d
 
-read_below : (path : Path) (d : Data) (t : Members) → Reads path d (get_member (first_key path) t) → IsRead path d t
+read_below : (path : FilePath) (d : Data) (t : Members) → Reads path d (get_member (first_key path) t) → IsReadInFile path d t
 read_below (every name k) d t read = read
 read_below _ d t read = read
 
-same_key : (path other : Path) → AreBeside path other → first_key path ≡ first_key other
+same_key : (path other : FilePath) → AreBeside path other → first_key path ≡ first_key other
 same_key (inner name k) (inner other l) near = near.0
 same_key (element name place k) (element other at l) near = near.0
 same_key (every name k) (element other at l) near = near.0
 same_key _ _ near = absurd near
 
 -- a path is set by a value at its first key
-module _ (path : Path) (d x : Data) (old : Members) (read : Reads path d (Some x))
-    (beside : (other : Path) → AreBeside path other → below other (Some x) ≡ below other (get_member (first_key path) old)) where
-  others : (other : Path) → AreApart path other → value_at other (put (first_key path) x old) ≡ value_at other old
+module _ (path : FilePath) (d x : Data) (old : Members) (read : Reads path d (Some x))
+    (beside : (other : FilePath) → AreBeside path other → below other (Some x) ≡ below other (get_member (first_key path) old)) where
+  others : (other : FilePath) → AreApartInFile path other → value_in_file other (put (first_key path) x old) ≡ value_in_file other old
   others other (inl far) =
       value_below other (put (first_key path) x old)
       ∙ (ap (below other) (keep_put (first_key path) (first_key other) x old far) ∙ sym (value_below other old))
@@ -128,27 +130,27 @@ module _ (path : Path) (d x : Data) (old : Members) (read : Reads path d (Some x
       ∙ (ap (below other) (read_put (first_key path) x old)
       ∙ (beside other near ∙ (ap (λ n. below other (get_member n old)) key ∙ sym (value_below other old)))))
 
-  by_first : (new : Members) → new ≡ put (first_key path) x old → Sets path d old new
-  by_first new is = subst (Sets path d old) (sym is) (record {
+  by_first : (new : Members) → new ≡ put (first_key path) x old → SetsInFile path d old new
+  by_first new is = subst (SetsInFile path d old) (sym is) (record {
     read = read_below path d (put (first_key path) x old) (subst (Reads path d) (sym (read_put (first_key path) x old)) read);
     others = others;
   })
 
-top_set : (k : List ℕ) (d : Data) (old : Members) → Sets (top k) d old (put k d old)
+top_set : (k : List ℕ) (d : Data) (old : Members) → SetsInFile (top k) d old (put k d old)
 top_set k d old = by_first (top k) d d old refl beside (put k d old) refl
   where
-    beside : (other : Path) → AreBeside (top k) other → below other (Some d) ≡ below other (get_member k old)
+    beside : (other : FilePath) → AreBeside (top k) other → below other (Some d) ≡ below other (get_member k old)
     beside (top l) apart = absurd apart
     beside _ apart = absurd apart
 
-inner_set : (name k : List ℕ) (d : Data) (old new : Members) → set_at (inner name k) d old ≡ Ok new
-    → Sets (inner name k) d old new
+inner_set : (name k : List ℕ) (d : Data) (old new : Members) → set_in_file (inner name k) d old ≡ Ok new
+    → SetsInFile (inner name k) d old new
 inner_set name k d old new is =
     let found = then_ok (table_or_new (get_member name old)) _ new is in
     by_first (inner name k) d (table (put k d found.0)) old (read_put k d found.0) (beside found.0 found.1) new
     (ok_is _ new found.2)
   where
-    beside : (ms : Members) → table_or_new (get_member name old) ≡ Ok ms → (other : Path) → AreBeside (inner name k) other
+    beside : (ms : Members) → table_or_new (get_member name old) ≡ Ok ms → (other : FilePath) → AreBeside (inner name k) other
         → below other (Some (table (put k d ms))) ≡ below other (get_member name old)
     beside ms found (inner m l) apart = keep_put k l d ms apart.1 ∙ sym (new_table (get_member name old) ms l found)
     beside ms found _ apart = absurd apart
@@ -167,18 +169,18 @@ module _ (name : List ℕ) (i : ℕ) (k : List ℕ) (d : Data) (old : Members) (
       subst P same (ap (in_table l) (read_item i (table (put k d ms)) (table ms) ds there)
       ∙ (keep_put k l d ms other ∙ sym (ap (in_table l) there)))
 
-  element_beside : (other : Path) → AreBeside (element name (suc i) k) other
+  element_beside : (other : FilePath) → AreBeside (element name (suc i) k) other
       → below other (Some (array (put_item i (table (put k d ms)) ds))) ≡ below other (get_member name old)
   element_beside (element m at l) apart = element_kept at l apart.1 ∙ sym (ap (λ o. in_table l (in_array at o)) all)
   element_beside _ apart = absurd apart
 
   element_put : (new : Members) → new ≡ put name (array (put_item i (table (put k d ms)) ds)) old
-      → Sets (element name (suc i) k) d old new
+      → SetsInFile (element name (suc i) k) d old new
   element_put = by_first (element name (suc i) k) d (array (put_item i (table (put k d ms)) ds)) old
       (ap (in_table k) (read_item i (table (put k d ms)) (table ms) ds there) ∙ read_put k d ms) element_beside
 
 element_set : (name : List ℕ) (place : ℕ) (k : List ℕ) (d : Data) (old new : Members)
-    → set_at (element name place k) d old ≡ Ok new → Sets (element name place k) d old new
+    → set_in_file (element name place k) d old ≡ Ok new → SetsInFile (element name place k) d old new
 element_set name zero k d old new is = let found = then_ok (items_of (get_member name old)) _ new is in absurd (cc (found.2))
 element_set name (suc i) k d old new is =
     let found = then_ok (items_of (get_member name old)) _ new is in
@@ -213,8 +215,8 @@ module _ (k : List ℕ) (d : Data) where
   all_set no_items es is = absurd (cc is)
   all_set (item e ds) es is = each_set (item e ds) es is
 
-every_set : (name k : List ℕ) (d : Data) (old new : Members) → set_at (every name k) d old ≡ Ok new
-    → Sets (every name k) d old new
+every_set : (name k : List ℕ) (d : Data) (old new : Members) → set_in_file (every name k) d old ≡ Ok new
+    → SetsInFile (every name k) d old new
 every_set name k d old new is =
     let found = then_ok (items_of (get_member name old)) _ new is in
     let all = then_ok (put_in_all k d found.0) _ new found.2 in
@@ -234,13 +236,50 @@ every_set name k d old new is =
 
     beside : (ds es : Items) → get_member name old ≡ Some (array ds)
         → ((j : ℕ) (l : List ℕ) → k ≢ l → in_table l (get_item j es) ≡ in_table l (get_item j ds))
-        → (other : Path) → AreBeside (every name k) other → below other (Some (array es)) ≡ below other (get_member name old)
+        → (other : FilePath) → AreBeside (every name k) other → below other (Some (array es)) ≡ below other (get_member name old)
     beside ds es found each (element m at l) apart =
         kept ds es each at l apart.1 ∙ sym (ap (λ o. in_table l (in_array at o)) found)
     beside ds es found each _ apart = absurd apart
 
+file_set : (path : FilePath) (d : Data) (old new : Members) → set_in_file path d old ≡ Ok new → SetsInFile path d old new
+file_set (top k) d old new is = subst (SetsInFile (top k) d old) (sym (ok_is _ new is)) (top_set k d old)
+file_set (inner name k) d old new is = inner_set name k d old new is
+file_set (element name place k) d old new is = element_set name place k d old new is
+file_set (every name k) d old new is = every_set name k d old new is
+
+-- ---- in the files of a study
+
+scenario_set : (p : FilePath) (d : Data) (old new : SourcesRecord) → set_at (scenario p) d old ≡ Ok new
+    → Sets (scenario p) d old new
+scenario_set p d old new is =
+    let found = then_ok (set_in_file p d old.scenario) _ new is in
+    let set = file_set p d old.scenario found.0 found.1 in
+    subst (Sets (scenario p) d old) (sym (ok_is _ new found.2)) (record { read = set.read; others = kept set.others })
+  where
+    kept : {t : Members} → ((q : FilePath) → AreApartInFile p q → value_in_file q t ≡ value_in_file q old.scenario)
+        → (other : Path) → AreApart (scenario p) other → value_at other (with_scenario old t) ≡ value_at other old
+    kept others (scenario q) apart = others q apart
+    kept others (network q) apart = refl
+
+network_is : (o : Option Members) (n : Members) → network_there o ≡ Ok n → o ≡ Some n
+network_is None n is = cc is
+network_is (Some m) n is = ap Some (sym (ok_is m n is))
+
+network_set : (p : FilePath) (d : Data) (old new : SourcesRecord) → set_at (network p) d old ≡ Ok new
+    → Sets (network p) d old new
+network_set p d old new is =
+    let there = then_ok (network_there old.network) _ new is in
+    let found = then_ok (set_in_file p d there.0) _ new there.2 in
+    let set = file_set p d there.0 found.0 found.1 in
+    subst (Sets (network p) d old) (sym (ok_is _ new found.2))
+    (record { read = set.read; others = kept (network_is old.network there.0 there.1) set.others })
+  where
+    kept : {n t : Members} → old.network ≡ Some n
+        → ((q : FilePath) → AreApartInFile p q → value_in_file q t ≡ value_in_file q n)
+        → (other : Path) → AreApart (network p) other → value_at other (with_network old t) ≡ value_at other old
+    kept there others (network q) apart = others q apart ∙ sym (ap (option_and_then (value_in_file q)) there)
+    kept there others (scenario q) apart = refl
+
 pub are_set : AreSet
-are_set (top k) d old new is = subst (Sets (top k) d old) (sym (ok_is _ new is)) (top_set k d old)
-are_set (inner name k) d old new is = inner_set name k d old new is
-are_set (element name place k) d old new is = element_set name place k d old new is
-are_set (every name k) d old new is = every_set name k d old new is
+are_set (scenario p) d old new is = scenario_set p d old new is
+are_set (network p) d old new is = network_set p d old new is

@@ -1,14 +1,18 @@
--- The text of a run's file.
-use Rattle.std.proofs.Common.{◌≡◌, ◌≤◌, ℕ, suc, List, [], ◌∷◌, Option, Some, Result, Ok, false, sym, ◌∙◌, subst}
+-- The table, the scenario and the text of a run.
+use Rattle.std.proofs.Common.{◌≡◌, ◌≤◌, ℕ, suc, List, [], ◌∷◌, Option, None, Some, MatchOption, Ok, Err, false, sym, ap, ◌∙◌, subst}
 use Rattle.std.proofs.lemmas.Option.{same_Some}
 use Rattle.toml.specs.Data.{Members, members_depth}
 use Rattle.toml.specs.Parse.{parse_document}
 use Rattle.scenario_record.specs.Record.{Record}
-use Rattle.scenario.specs.Text.{record_of}
+use Rattle.scenario.specs.Drawn.{with_outages}
+use Rattle.scenario.specs.Text.{record_of, processes_of}
 use Rattle.scenario.specs.Refusals.{Rule, rule_at, rules, table_rules, Accepts}
 use Rattle.scenario.specs.Groups.{Passes}
-use Rattle.study.specs.Runs.{IsScenarioOf, IsTextOf, IsRunText}
-use Rattle.study.specs.declared.error.PlaceError.{PlaceError}
+use Rattle.network.specs.Laid.{laid_links}
+use Rattle.study.specs.Sources.{SourcesRecord}
+use Rattle.study.specs.Laid.{horizon_of, seed_of, lay_links, IsLaidBy, file_over}
+use Rattle.study.proofs.OneNetwork.{one_drawn, one_links}
+use Rattle.study.specs.Runs.{RunSources, IsRunTable, StandsFor, IsScenarioOf, IsTextOf, IsRunText}
 
 passes : (rs : List Rule) (d : Option Members) → ((k : ℕ) → (rule_at rs k).applies d ≡ false) → Passes rs d
 passes [] d none = tt
@@ -26,11 +30,33 @@ text_of t text back = record {
   scenario = λ deep s accepts. same t s accepts (same_Some accepts.table t (sym accepts.is_document.1 ∙ back deep));
 }
   where
-    same : (t : Members) (s : Record) (accepts : Accepts text s) → accepts.table ≡ t → IsScenarioOf (Ok t) s
+    same : (t : Members) (s : Record) (accepts : Accepts text s) → accepts.table ≡ t → StandsFor t s
     same t s accepts e =
-        subst (λ u. Passes table_rules (Some u) × (s ≡ record_of u)) e
-        (accepted_passes accepts.table accepts.no_rule, accepts.stands_for)
+        subst (λ u. StandsFor u s) e
+        (record { accepted = accepted_passes accepts.table accepts.no_rule; record_is = accepts.stands_for })
 
-pub run_text : (r : Result Members PlaceError) (t : Members) (text : List ℕ) → r ≡ Ok t
+pub run_text : (r : RunSources) (t : Members) (text : List ℕ) → IsRunTable r t
     → (members_depth t ≤ 80 → parse_document text ≡ Some t) → IsRunText r text
-run_text r t text is back = subst (λ q. IsRunText q text) (sym is) (text_of t text back)
+run_text r t text is back = record { table = t; is_table = is; is_text = text_of t text back }
+
+-- ---- a run has one table and one scenario
+
+one_laid_by : (t f u v : Members) → IsLaidBy t f u → IsLaidBy t f v → u ≡ v
+one_laid_by t f u v a b =
+    let drawn = one_drawn (processes_of t) (horizon_of t) (seed_of t) f a.its b.its a.fits.is.says b.fits.is.says in
+    let links = one_links _ a.its.links.items b.its.links.items a.fits.is.says.links b.fits.is.says.links in
+    a.laid_is ∙ ((λ i. with_outages (drawn i) (lay_links (laid_links (links i) (processes_of t)) t)) ∙ sym b.laid_is)
+
+one_laid : (s : SourcesRecord) (o : Option Members) (u v : Members)
+    → MatchOption o (u ≡ s.scenario) (λ f. IsLaidBy s.scenario f u)
+    → MatchOption o (v ≡ s.scenario) (λ f. IsLaidBy s.scenario f v) → u ≡ v
+one_laid s None u v a b = a ∙ sym b
+one_laid s (Some f) u v a b = one_laid_by s.scenario f u v a b
+
+pub one_table : (r : RunSources) (t u : Members) → IsRunTable r t → IsRunTable r u → t ≡ u
+one_table (Ok s) t u a b = one_laid s (file_over s) t u a b
+one_table (Err e) t u a b = absurd a
+
+pub one_scenario : (r : RunSources) (a b : Record) → IsScenarioOf r a → IsScenarioOf r b → a ≡ b
+one_scenario r a b x y =
+    x.stands_for.record_is ∙ (ap record_of (one_table r x.table y.table x.is_table y.is_table) ∙ sym y.stands_for.record_is)

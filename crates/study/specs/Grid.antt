@@ -4,7 +4,7 @@ use Rattle.std.specs.List.{flat_map, range_with_len, list_any, count_by}
 use Rattle.std.specs.Option.{option_or}
 use Rattle.scenario.specs.Table.{same_text}
 use Rattle.study.specs.Combinations.{combinations}
-use Rattle.study.specs.Settings.{Path, top, inner, element, every, path_of, key_text, Chosen, choices, chosen}
+use Rattle.study.specs.Settings.{FilePath, top, inner, element, every, Path, scenario, network, path_of, key_text, Chosen, choices, chosen}
 use Rattle.study.specs.declared.axis.Axis.{Axis}
 use Rattle.study.specs.declared.run.Run.{Run}
 use Rattle.study.specs.declared.error.GridError.{GridError}
@@ -25,9 +25,17 @@ pub record GridRecord : Type 0 where
 abbrev pub points : GridRecord → List (List Chosen)
 points g = combinations g.vary
 
--- the varied keys, in order: those of the first point's settings
+-- the keys of some axes, by their choices, in order: those of the first combination
+abbrev pub keys_of : List (List (List Chosen)) → List Path
+keys_of axes = map (λ c. c.path) (get_or (combinations axes) 0 [])
+
+-- the varied keys
 abbrev pub keys : GridRecord → List Path
-keys g = map (λ c. c.path) (get_or (points g) 0 [])
+keys g = keys_of g.vary
+
+-- the keys of all axes
+abbrev pub all_keys : GridRecord → List Path
+all_keys g = keys_of g.vary ++ (keys_of g.over ++ keys_of g.deal)
 
 -- one run of a point
 pub record RunRecord : Type 0 where
@@ -68,20 +76,30 @@ AreDealtEvenly g = (c : ℕ) → c < length (combinations g.deal)
 
 -- ---- refusals
 
+-- both set one key of one table of a file
+abbrev pub meets_in_file : FilePath → FilePath → Bool
+meets_in_file (top k) (top l) = same_text k l
+meets_in_file (inner t k) (inner u l) = same_text t u && same_text k l
+meets_in_file (element a i k) (element b j l) = same_text a b && ((i == j) && same_text k l)
+meets_in_file (element a i k) (every b l) = same_text a b && same_text k l
+meets_in_file (every a k) (element b j l) = same_text a b && same_text k l
+meets_in_file (every a k) (every b l) = same_text a b && same_text k l
+meets_in_file _ _ = false
+
 -- both set one key of one table
 abbrev pub meets : Path → Path → Bool
-meets (top k) (top l) = same_text k l
-meets (inner t k) (inner u l) = same_text t u && same_text k l
-meets (element a i k) (element b j l) = same_text a b && ((i == j) && same_text k l)
-meets (element a i k) (every b l) = same_text a b && same_text k l
-meets (every a k) (element b j l) = same_text a b && same_text k l
-meets (every a k) (every b l) = same_text a b && same_text k l
+meets (scenario p) (scenario q) = meets_in_file p q
+meets (network p) (network q) = meets_in_file p q
 meets _ _ = false
 
 -- the first path that meets one before it
 abbrev pub first_again : (before : List Path) → List Path → Option Path
 first_again before [] = None
 first_again before (p ∷ ps) = if list_any (meets p) before then Some p else first_again (before ++ (p ∷ [])) ps
+
+-- of keys that are set for all runs the first that is set twice: it meets a key of an axis, or one before it
+abbrev pub set_twice : GridRecord → List Path → Option Path
+set_twice g = first_again (all_keys g)
 
 -- the keys of some axes, in order
 abbrev pub paths_of : List Axis → List Path

@@ -1,8 +1,8 @@
--- Which words say which keys of a scenario's file.
+-- Which words say which keys of a study's files.
 use Rattle.std.specs.Prelude.{◌≡◌, ◌≢◌, ◌⊎◌, List, [], ℕ, ◌≤◌, ◌<◌, ◌^◌, ◌∷◌, ◌++◌, length, slice_index, Bool, true, false, not, ◌&&◌, ◌||◌, ◌==◌, codes, decimal}
 use Rattle.std.specs.Char.{is_ascii_alphanumeric}
 use Rattle.std.specs.List.{list_all}
-use Rattle.study.specs.Settings.{Path, top, inner, element, every, key_text}
+use Rattle.study.specs.Settings.{FilePath, top, inner, element, every, Path, scenario, network, file_key_text, key_text}
 use Rattle.study.specs.Words.{Word, is_natural}
 use Rattle.study.specs.declared.error.KeyError.{KeyError}
 use Rattle.study.specs.declared.error.KeyError.TheVariants as error
@@ -26,20 +26,43 @@ IsPlaceOf w place = (1 ≤ place) × (place < 2 ^ 64) × (w ≡ decimal place ++
 abbrev pub HasNoPlace : Word → Type 0
 HasNoPlace w = (place : ℕ) → 1 ≤ place → place < 2 ^ 64 → w ≢ decimal place ++ codes "]"
 
--- what may stand before a key's dot: a table's name, or an array's with the place of a table, or with a star for all,
--- in brackets
-pub data IsOwner (w : Word) : Type 0 where
-  of_table : is_name w ≡ true → IsOwner w
-  of_element : (a : Word) (place : ℕ) → is_name a ≡ true → 1 ≤ place → place < 2 ^ 64
-      → w ≡ a ++ (91 ∷ (decimal place ++ codes "]")) → IsOwner w
-  of_every : (a : Word) → is_name a ≡ true → w ≡ a ++ (91 ∷ codes "*]") → IsOwner w
+-- what may stand after an array's bracket
+abbrev pub IsPlace : Word → Type 0
+IsPlace w = ((place : ℕ) × IsPlaceOf w place) ⊎ (w ≡ codes "*]")
+
+-- what may stand before a key's dot: an array's name with the place of a table, or with a star for all, in brackets
+pub record IsListed (w : Word) : Type 0 where
+  pub array : Word
+  pub place : Word
+  pub named : is_name array ≡ true
+  pub placed : IsPlace place
+  pub text : w ≡ array ++ (91 ∷ place)
+
+-- or a table's name
+abbrev pub IsOwner : Word → Type 0
+IsOwner w = (is_name w ≡ true) ⊎ IsListed w
 
 -- its parts are names, and its table is one that an array can have
+abbrev pub HasFileNames : FilePath → Type 0
+HasFileNames (top k) = is_name k ≡ true
+HasFileNames (inner t k) = (is_name t ≡ true) × (is_name k ≡ true)
+HasFileNames (element a place k) = (is_name a ≡ true) × (1 ≤ place) × (place < 2 ^ 64) × (is_name k ≡ true)
+HasFileNames (every a k) = (is_name a ≡ true) × (is_name k ≡ true)
+
+-- it stands in a table of an array of tables
+abbrev pub IsInArray : FilePath → Type 0
+IsInArray (element a place k) = Unit {0}
+IsInArray (every a k) = Unit {0}
+IsInArray _ = ⊥
+
+-- all keys of a network's file stand in tables of arrays
 abbrev pub HasNames : Path → Type 0
-HasNames (top k) = is_name k ≡ true
-HasNames (inner t k) = (is_name t ≡ true) × (is_name k ≡ true)
-HasNames (element a place k) = (is_name a ≡ true) × (1 ≤ place) × (place < 2 ^ 64) × (is_name k ≡ true)
-HasNames (every a k) = (is_name a ≡ true) × (is_name k ≡ true)
+HasNames (scenario p) = HasFileNames p
+HasNames (network p) = IsInArray p × HasFileNames p
+
+-- what stands after `network.` in a key of the network's file
+abbrev pub IsNetworkText : Word → Type 0
+IsNetworkText w = (p : FilePath) × (IsInArray p × (HasFileNames p × (w ≡ file_key_text p)))
 
 -- the word says a key: it's the key as it is written, and isn't `seed`
 pub record SaysKey (w : Word) (p : Path) : Type 0 where

@@ -1,15 +1,16 @@
--- A scenario's file with a value at a path, in place of the one that is there.
+-- A study's files with a value at a path, in place of the one that is there.
 use Rattle.std.specs.Prelude.{◌≡◌, ℕ, ◌-◌, zero, suc, List, [], ◌∷◌, Option, Some, None, Result, Ok, Err, pos, codes, Bool, true, false, String}
 use Rattle.std.specs.BTreeMap.{BTreeMap}
 use Rattle.std.specs.declared.alloc.Global.{Global}
 use Rattle.std.specs.Ordering.{nat_cmp, match_ordering}
 use Rattle.std.specs.Cmp.Lexicographic.{slice_cmp}
 use Rattle.toml.specs.Data.{Data, integer, string, array, table, Items, no_items, item, Members, no_members, member, get_member, get_item}
-use Rattle.toml.specs.View.{table_view}
+use Rattle.toml.specs.View.{view, table_view}
 use Rattle.toml.specs.declared.value.Value.{Value}
-use Rattle.study.specs.Settings.{Path, top, inner, element, every, Given, number, text, given_by, Chosen}
+use Rattle.study.specs.Settings.{FilePath, top, inner, element, every, Path, scenario, network, path_of, Given, number, text, Chosen}
+use Rattle.study.specs.Sources.{SourcesRecord}
 use Rattle.study.specs.Grid.{RunRecord}
-use Rattle.study.specs.declared.setting.Setting.{Setting}
+use Rattle.study.specs.declared.assignment.Assignment.{Assignment}
 use Rattle.study.specs.declared.error.PlaceError.{PlaceError}
 use Rattle.study.specs.declared.error.PlaceError.TheVariants as error
 
@@ -70,26 +71,56 @@ abbrev pub put_in_all : List ℕ → Data → Items → Result Items PlaceError
 put_in_all k d no_items = Err error.NoElement
 put_in_all k d (item e ds) = put_in_each k d (item e ds)
 
--- the file's table with a value at a path, or why it can't be there
-abbrev pub set_at : Path → Data → Members → Result Members PlaceError
-set_at (top k) d t = Ok (put k d t)
-set_at (inner name k) d t = then (table_or_new (get_member name t)) (λ ms. Ok (put name (table (put k d ms)) t))
-set_at (element name place k) d t =
+-- a file's table with a value at a path, or why it can't be there
+abbrev pub set_in_file : FilePath → Data → Members → Result Members PlaceError
+set_in_file (top k) d t = Ok (put k d t)
+set_in_file (inner name k) d t = then (table_or_new (get_member name t)) (λ ms. Ok (put name (table (put k d ms)) t))
+set_in_file (element name place k) d t =
     then (items_of (get_member name t)) (λ ds. then (element_of place ds)
     (λ ms. Ok (put name (array (put_item (place - 1) (table (put k d ms)) ds)) t)))
-set_at (every name k) d t =
+set_in_file (every name k) d t =
     then (items_of (get_member name t)) (λ ds. then (put_in_all k d ds) (λ es. Ok (put name (array es) t)))
 
--- with all of these settings, one after the other
-abbrev pub set_all : List Chosen → Members → Result Members PlaceError
-set_all [] t = Ok t
-set_all (c ∷ cs) t = then (set_at c.path (data_of c.value) t) (set_all cs)
+-- the files with another table of the scenario's, or of the network's
+abbrev pub with_scenario : SourcesRecord → Members → SourcesRecord
+with_scenario s t = record { scenario = t; network = s.network }
 
--- the table of a run: the file's, with the point's settings, the run's and its seed
-abbrev pub table_of_run : List Chosen → RunRecord → Members → Result Members PlaceError
-table_of_run point run t =
-    then (set_all point t) (λ s. then (set_all run.settings s)
-    (λ u. Ok (put (codes "seed") (integer (pos run.seed)) u)))
+abbrev pub with_network : SourcesRecord → Members → SourcesRecord
+with_network s t = record { scenario = s.scenario; network = Some t }
+
+-- the network's table, if there is one
+abbrev pub network_there : Option Members → Result Members PlaceError
+network_there None = Err error.NoNetwork
+network_there (Some n) = Ok n
+
+-- the files with a value at a path, or why it can't be there
+abbrev pub set_at : Path → Data → SourcesRecord → Result SourcesRecord PlaceError
+set_at (scenario p) d s = then (set_in_file p d s.scenario) (λ t. Ok (with_scenario s t))
+set_at (network p) d s = then (network_there s.network) (λ n. then (set_in_file p d n) (λ t. Ok (with_network s t)))
+
+abbrev pub set_chosen : Chosen → SourcesRecord → Result SourcesRecord PlaceError
+set_chosen c = set_at c.path (data_of c.value)
+
+abbrev pub set_assigned : Assignment → SourcesRecord → Result SourcesRecord PlaceError
+set_assigned a = set_at (path_of a.key) (view a.value)
+
+-- with all of these set, one after the other
+abbrev pub in_turn : {X : Type 0} → (X → SourcesRecord → Result SourcesRecord PlaceError) → List X → SourcesRecord
+    → Result SourcesRecord PlaceError
+in_turn set [] s = Ok s
+in_turn set (x ∷ xs) s = then (set x s) (in_turn set xs)
+
+abbrev pub set_all : List Chosen → SourcesRecord → Result SourcesRecord PlaceError
+set_all = in_turn set_chosen
+
+abbrev pub assign_all : List Assignment → SourcesRecord → Result SourcesRecord PlaceError
+assign_all = in_turn set_assigned
+
+-- the files of a run: with the point's settings, the run's and its seed
+abbrev pub sources_of_run : List Chosen → RunRecord → SourcesRecord → Result SourcesRecord PlaceError
+sources_of_run point run s =
+    then (set_all point s) (λ t. then (set_all run.settings t)
+    (λ u. Ok (with_scenario u (put (codes "seed") (integer (pos run.seed)) u.scenario))))
 
 abbrev pub is_memory : PlaceError → Bool
 is_memory (error.Memory m) = true
@@ -104,10 +135,10 @@ IsRefused meant e = is_memory e ≡ false → meant ≡ Err e
 abbrev pub Table : Type 0
 Table = BTreeMap (String Global) Value
 
--- with the setting at the path the one table is the other
-abbrev pub Puts : Path → Setting → (old new : Table) → Type 0
-Puts path setting old new = set_at path (data_of (given_by setting)) (table_view old) ≡ Ok (table_view new)
+-- with the value at the path the one table is the other
+abbrev pub Puts : FilePath → Data → (old new : Table) → Type 0
+Puts path d old new = set_in_file path d (table_view old) ≡ Ok (table_view new)
 
--- the error is want of memory, or why the table can't have the setting at the path
-abbrev pub CannotPut : Path → Setting → Table → PlaceError → Type 0
-CannotPut path setting old = IsRefused (set_at path (data_of (given_by setting)) (table_view old))
+-- the error is want of memory, or why the table can't have the value at the path
+abbrev pub CannotPut : FilePath → Data → Table → PlaceError → Type 0
+CannotPut path d old = IsRefused (set_in_file path d (table_view old))

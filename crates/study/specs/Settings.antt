@@ -1,8 +1,10 @@
--- Keys of a scenario's file, and what they are set to.
+-- Keys of a study's files, and what they are set to.
 use Rattle.std.specs.Prelude.{ℕ, ℤ, List, ◌++◌, map, codes, string_bytes, decimal}
 use Rattle.std.specs.Fmt.{signed_decimal}
 use Rattle.std.specs.Global.{Vec}
 use Rattle.std.specs.List.{zip}
+use Rattle.study.specs.declared.file_key.FileKey.{FileKey}
+use Rattle.study.specs.declared.file_key.FileKey.TheVariants as file_key
 use Rattle.study.specs.declared.key.Key.{Key}
 use Rattle.study.specs.declared.key.Key.TheVariants as key
 use Rattle.study.specs.declared.setting.Setting.{Setting}
@@ -10,29 +12,43 @@ use Rattle.study.specs.declared.setting.Setting.TheVariants as setting
 use Rattle.study.specs.declared.axis.Axis.{Axis}
 use Rattle.study.specs.declared.axis.Choice.{Choice}
 
--- where a key stands in the file
-pub data Path : Type 0 where
+-- where a key stands in a file
+pub data FilePath : Type 0 where
   -- in the top table
-  top : (key : List ℕ) → Path
+  top : (key : List ℕ) → FilePath
   -- in a table of the top table
-  inner : (table key : List ℕ) → Path
+  inner : (table key : List ℕ) → FilePath
   -- in a table of an array of tables; the first is 1
-  element : (array : List ℕ) (place : ℕ) (key : List ℕ) → Path
+  element : (array : List ℕ) (place : ℕ) (key : List ℕ) → FilePath
   -- in every table of an array of tables
-  every : (array key : List ℕ) → Path
+  every : (array key : List ℕ) → FilePath
+
+-- where a key stands: in the scenario's file, or in the network's
+pub data Path : Type 0 where
+  scenario : FilePath → Path
+  network : FilePath → Path
+
+abbrev pub file_path_of : FileKey → FilePath
+file_path_of (file_key.Top k) = top (string_bytes k)
+file_path_of (file_key.Inner t k) = inner (string_bytes t) (string_bytes k)
+file_path_of (file_key.Element a place k) = element (string_bytes a) place (string_bytes k)
+file_path_of (file_key.Every a k) = every (string_bytes a) (string_bytes k)
 
 abbrev pub path_of : Key → Path
-path_of (key.Top k) = top (string_bytes k)
-path_of (key.Inner t k) = inner (string_bytes t) (string_bytes k)
-path_of (key.Element a place k) = element (string_bytes a) place (string_bytes k)
-path_of (key.Every a k) = every (string_bytes a) (string_bytes k)
+path_of (key.Scenario k) = scenario (file_path_of k)
+path_of (key.Network k) = network (file_path_of k)
 
--- a key as it is written: horizon, detector.timeout, crash[1].at, crash[*].at
+-- a key of a file as it is written: horizon, detector.timeout, crash[1].at, crash[*].at
+abbrev pub file_key_text : FilePath → List ℕ
+file_key_text (top k) = k
+file_key_text (inner t k) = t ++ codes "." ++ k
+file_key_text (element a place k) = a ++ codes "[" ++ decimal place ++ codes "]." ++ k
+file_key_text (every a k) = a ++ codes "[*]." ++ k
+
+-- a key as it is written: one of the network's file as network.bursts[1].gap, network.bursts[*].gap
 abbrev pub key_text : Path → List ℕ
-key_text (top k) = k
-key_text (inner t k) = t ++ codes "." ++ k
-key_text (element a place k) = a ++ codes "[" ++ decimal place ++ codes "]." ++ k
-key_text (every a k) = a ++ codes "[*]." ++ k
+key_text (scenario p) = file_key_text p
+key_text (network p) = codes "network." ++ file_key_text p
 
 -- what a key is set to
 pub data Given : Type 0 where

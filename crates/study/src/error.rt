@@ -1,5 +1,6 @@
 //! Why a study is refused.
 
+use network::{Above, NetworkError};
 use scenario::ScenarioError;
 use std::alloc::AllocError;
 use thiserror::Error;
@@ -43,15 +44,31 @@ pub enum GridError {
     Memory(#[from(alloc)] AllocError),
 }
 
-/// Why a scenario's file can't have a value at a key.
+/// Why a study's files can't have a value at a key, or stand for no table of a run. Reasons against a network's file
+/// are looked for in the order in which they stand here.
 #[derive(Debug, Drop, Error)]
 pub enum PlaceError {
+    /// The key is one of the network's file, and there is none.
+    #[error("there is no network file")]
+    NoNetwork,
     /// The key's path goes through something that is no table, or no array of tables.
     #[error("the key's path goes through what is no table")]
     NotATable,
     /// The key's path goes through a table that its array doesn't have, or through every table of an array without any.
     #[error("the key's path goes through a table that isn't there")]
     NoElement,
+    /// The network's file is refused. The error isn't `NetworkError::Memory`.
+    #[error("the network file is refused")]
+    Network(NetworkError),
+    /// The network's file names a process that the run doesn't have.
+    #[error("the network file names a process that the run does not have")]
+    ProcessAbove(Above),
+    /// The network's file draws outages, and the scenario's version isn't 2.
+    #[error("outages are drawn over a file of version 1")]
+    OlderFile,
+    /// In the run more than 100,000 outages are drawn.
+    #[error("too many outages are drawn")]
+    TooManyOutages,
     /// Memory was refused.
     #[error("out of memory")]
     Memory(#[from(alloc)] AllocError),
@@ -85,8 +102,8 @@ pub enum KeyError {
     /// The word is `seed`: a study's seeds are said by themselves.
     #[error("seed is no key of a study")]
     Seed,
-    /// The word is no key: names of letters, digits, `_` and `-`, as `horizon`, `detector.timeout`, `crash[1].at` or
-    /// `crash[*].at`.
+    /// The word is no key: names of letters, digits, `_` and `-`, as `horizon`, `detector.timeout`, `crash[1].at`,
+    /// `crash[*].at` or `network.bursts[1].gap`.
     #[error("no key")]
     NoKey,
     /// Memory was refused.
@@ -127,6 +144,23 @@ pub enum AxisError {
     /// With this value there are more than 1,000,000.
     #[error("there are too many values")]
     TooManyValues,
+    /// Memory was refused.
+    #[error("out of memory")]
+    Memory(#[from(alloc)] AllocError),
+}
+
+/// Why words set no key, in the order in which the reasons are looked for. `Memory` may come at any point.
+#[derive(Debug, Drop, Error)]
+pub enum AssignmentError {
+    /// There is no `=`.
+    #[error("there is no =")]
+    NoEquals,
+    /// What stands before the first `=` is no key.
+    #[error("no key stands before the =")]
+    Key(KeyError),
+    /// Nothing stands after it.
+    #[error("a value is missing")]
+    NoValue,
     /// Memory was refused.
     #[error("out of memory")]
     Memory(#[from(alloc)] AllocError),

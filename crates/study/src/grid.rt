@@ -1,7 +1,7 @@
 //! Grids of settings.
 ghost use Rattle.std.specs.Prelude.{◌≡◌, ◌<◌, ◌≤◌, [], map, length, get_or, IfOk, OnOk, IfErr};
 ghost use Rattle.study.specs.Settings.{choices, chosen};
-ghost use Rattle.study.specs.Grid.{points, keys, runs, run_of, grid_of, paths_of, NoneApplies, IsFirst, HaveOwnSeeds, AreDealtEvenly};
+ghost use Rattle.study.specs.Grid.{points, keys_of, keys, runs, run_of, grid_of, paths_of, NoneApplies, IsFirst, HaveOwnSeeds, AreDealtEvenly};
 
 use crate::axis::{Axis, Choice};
 use crate::combination::pick_combination;
@@ -108,16 +108,25 @@ impl Grid {
 
     /// The axes whose values are added up, in order.
     pub fn over(&self) -> &[Axis]
-        ensures { map choices result.now ≡ self.now.over }
+        ensures choices { map choices result.now ≡ self.now.over }
+        ensures keys { paths_of result.now ≡ keys_of self.now.over }
     {
         &self.over
     }
 
     /// The axes whose values are dealt to the seeds, in order.
     pub fn dealt(&self) -> &[Axis]
-        ensures { map choices result.now ≡ self.now.deal }
+        ensures choices { map choices result.now ≡ self.now.deal }
+        ensures keys { paths_of result.now ≡ keys_of self.now.deal }
     {
         &self.deal
+    }
+
+    /// How many seeds there are, at most 1,000,000,000,000.
+    pub fn seeds(&self) -> u64
+        ensures { result ≡ self.now.seeds }
+    {
+        self.seeds
     }
 
     /// How many runs each point has, at most 1,000,000,000,000.

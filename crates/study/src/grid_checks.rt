@@ -58,7 +58,7 @@ fn add_keys<'a>(all: &mut Vec<&'a Key>, axes: &'a [Axis]) -> Result<(), AllocErr
 }
 
 /// All keys of three kinds of axes.
-fn all_keys<'a>(
+pub(crate) fn all_keys<'a>(
     alloc: Global,
     vary: &'a [Axis],
     over: &'a [Axis],
@@ -81,7 +81,7 @@ pub(crate) fn check_keys(alloc: Global, vary: &[Axis], over: &[Axis], deal: &[Ax
         → keys_refusal (paths_of vary.now ++ (paths_of over.now ++ paths_of deal.now)) ≡ reason_of e) }
 {
     let keys = all_keys(alloc, vary, over, deal).map_err(GridError::Memory)?;
-    match first_again(&keys) {
+    match first_again(&keys, 0) {
         None => Ok(()),
         Some(key) => Err(
             key.text(alloc)

@@ -1,44 +1,25 @@
-//! Keys of a scenario's file.
-ghost use Rattle.std.specs.Prelude.{◌≡◌, [], map, option_map, string_bytes, IfOk};
+//! Keys of a study's files.
+ghost use Rattle.std.specs.Prelude.{◌≡◌, ◌≤◌, map, take, drop, length, option_map, string_bytes, IfOk};
 ghost use Rattle.std.specs.List.{list_any};
 ghost use Rattle.study.specs.Settings.{path_of, key_text};
 ghost use Rattle.study.specs.Grid.{meets, first_again as again};
 
+use crate::file_key::FileKey;
 use std::alloc::{AllocError, Global};
 use std::fmt;
 
-/// A key of a scenario's file, by its path.
+/// A key of a study's files.
 #[derive(Drop)]
 pub enum Key {
-    /// A key of the top table, as `horizon`.
-    Top(String),
-    /// A key of a table of the top table, as `detector.timeout`.
-    Inner {
-        /// The table.
-        table: String,
-        /// The key in it.
-        key: String,
-    },
-    /// A key of a table of an array of tables, as `crash[1].at`.
-    Element {
-        /// The array.
-        array: String,
-        /// Which of its tables, from 1.
-        place: u64,
-        /// The key in that table.
-        key: String,
-    },
-    /// A key of every table of an array of tables, as `crash[*].at`.
-    Every {
-        /// The array.
-        array: String,
-        /// The key in each of its tables.
-        key: String,
-    },
+    /// A key of the scenario's file, as `horizon`.
+    Scenario(FileKey),
+    /// A key of the network's file, as `network.bursts[1].gap`.
+    Network(FileKey),
 }
 
 impl Key {
-    /// The key as it is written: `horizon`, `detector.timeout`, `crash[1].at`, `crash[*].at`.
+    /// The key as it is written: `horizon`, `detector.timeout`, `crash[1].at`, `crash[*].at`; one of the network's file
+    /// as `network.bursts[1].gap`.
     pub fn text(&self, alloc: Global) -> Result<String, AllocError>
         ensures { IfOk result (λ s. string_bytes s ≡ key_text (path_of self.now)) }
     {
@@ -51,38 +32,8 @@ impl Key {
         ensures { result ≡ meets (path_of self.now) (path_of other.now) }
     {
         match (self, other) {
-            (Key::Top(key), Key::Top(other_key)) => key.as_str() == other_key.as_str(),
-            (
-                Key::Inner { table, key },
-                Key::Inner {
-                    table: other_table,
-                    key: other_key,
-                },
-            ) => table.as_str() == other_table.as_str() && key.as_str() == other_key.as_str(),
-            (
-                Key::Element { array, place, key },
-                Key::Element {
-                    array: other_array,
-                    place: other_place,
-                    key: other_key,
-                },
-            ) => {
-                array.as_str() == other_array.as_str()
-                    && *place == *other_place
-                    && key.as_str() == other_key.as_str()
-            }
-            (
-                Key::Element { array, key, .. } | Key::Every { array, key },
-                Key::Element {
-                    array: other_array,
-                    key: other_key,
-                    ..
-                }
-                | Key::Every {
-                    array: other_array,
-                    key: other_key,
-                },
-            ) => array.as_str() == other_array.as_str() && key.as_str() == other_key.as_str(),
+            (Key::Scenario(key), Key::Scenario(other_key))
+            | (Key::Network(key), Key::Network(other_key)) => key.meets(other_key),
             _ => false,
         }
     }
@@ -96,10 +47,8 @@ impl fmt::Display for Key {
 
     fn fmt<W: fmt::Write>(&self, f: &mut fmt::Formatter<W>) -> fmt::Result {
         match self {
-            Key::Top(key) => write!(f, "{key}"),
-            Key::Inner { table, key } => write!(f, "{table}.{key}"),
-            Key::Element { array, place, key } => write!(f, "{array}[{place}].{key}"),
-            Key::Every { array, key } => write!(f, "{array}[*].{key}"),
+            Key::Scenario(key) => write!(f, "{key}"),
+            Key::Network(key) => write!(f, "network.{key}"),
         }
     }
 }
@@ -116,13 +65,16 @@ fn meets_any(keys: &[&Key], key: &Key) -> bool
     false
 }
 
-/// The first of the keys that meets one before it.
-pub(crate) fn first_again<'a>(keys: &[&'a Key]) -> Option<&'a Key>
-    ensures { option_map (λ k. path_of k.now) result ≡ again [] (map (λ k. path_of k.now) keys.now) }
+/// The first of the keys, from a place on, that meets one before it.
+pub(crate) fn first_again<'a>(keys: &[&'a Key], from: usize) -> Option<&'a Key>
+    requires { from ≤ length keys.now }
+    ensures { option_map (λ k. path_of k.now) result
+        ≡ again (map (λ k. path_of k.now) (take from keys.now)) (map (λ k. path_of k.now) (drop from keys.now)) }
 {
-    for (i, key) in keys.iter().enumerate() {
+    for i in from..keys.len() {
+        let key = keys[i];
         if meets_any(&keys[..i], key) {
-            return Some(*key);
+            return Some(key);
         }
     }
     None

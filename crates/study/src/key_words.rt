@@ -1,10 +1,11 @@
 //! Keys, as words of a command line.
 ghost use Rattle.std.specs.Prelude.{◌≡◌, ◌≢◌, ◌≤◌, ◌<◌, ◌^◌, ◌++◌, ◌∷◌, ℕ, false, codes, decimal, string_bytes, true, IfOk, IfErr, MatchOption};
 ghost use Rattle.std.specs.List.{list_all};
-ghost use Rattle.study.specs.Settings.{path_of, key_text};
-ghost use Rattle.study.specs.KeyWords.{is_name_byte, is_name, is_place, IsPlaceOf, HasNoPlace, IsOwner, HasNames, SaysKey, SaysNoKey, is_memory};
+ghost use Rattle.study.specs.Settings.{path_of, key_text, file_path_of, file_key_text};
+ghost use Rattle.study.specs.KeyWords.{is_name_byte, is_name, is_place, IsPlace, IsPlaceOf, HasNoPlace, IsListed, IsOwner, IsInArray, HasFileNames, HasNames, IsNetworkText, SaysKey, SaysNoKey, is_memory};
 
 use crate::error::KeyError;
+use crate::file_key::FileKey;
 use crate::key::Key;
 use crate::words::{is_natural_word, natural_in};
 use std::alloc::Global;
@@ -53,34 +54,83 @@ fn name_in(alloc: Global, word: &str) -> Result<String, KeyError>
     String::from_str(alloc, word).map_err(KeyError::Memory)
 }
 
-/// The key of a table.
-fn owned_key(alloc: Global, owner: &str, key: &str) -> Result<Key, KeyError>
-    ensures ok { IfOk result (λ k. (owner.now ++ (46 ∷ key.now) ≡ key_text (path_of k)) × HasNames (path_of k)) }
+/// The key of a table of an array, or of all of them: by what stands before the array's bracket, between it and the
+/// dot, and after the dot.
+fn listed_key(alloc: Global, array: &str, place: &str, key: &str) -> Result<FileKey, KeyError>
+    ensures ok { IfOk result (λ k. ((array.now ++ (91 ∷ place.now)) ++ (46 ∷ key.now) ≡ file_key_text (file_path_of k))
+        × (IsInArray (file_path_of k) × HasFileNames (file_path_of k))) }
+    ensures err { IfErr result (λ e. is_memory e ≡ false → (e ≡ KeyError.NoKey)
+        × (is_name array.now ≡ true → IsPlace place.now → is_name key.now ≡ false)) }
+{
+    let key = name_in(alloc, key)?;
+    let array = name_in(alloc, array)?;
+    if place == "*]" {
+        return Ok(FileKey::Every { array, key });
+    }
+    match place_in(place) {
+        Some(place) => Ok(FileKey::Element { array, place, key }),
+        None => Err(KeyError::NoKey),
+    }
+}
+
+/// The key of a table of the scenario's file, by what stands before and after its dot.
+fn owned_key(alloc: Global, owner: &str, key: &str) -> Result<FileKey, KeyError>
+    ensures ok { IfOk result (λ k. (owner.now ++ (46 ∷ key.now) ≡ file_key_text (file_path_of k))
+        × HasFileNames (file_path_of k)) }
     ensures err { IfErr result (λ e. is_memory e ≡ false
         → (e ≡ KeyError.NoKey) × (IsOwner owner.now → is_name key.now ≡ false)) }
 {
-    let key = name_in(alloc, key)?;
     match owner.split_once('[') {
         None => {
+            let key = name_in(alloc, key)?;
             let table = name_in(alloc, owner)?;
-            Ok(Key::Inner { table, key })
+            Ok(FileKey::Inner { table, key })
         }
-        Some((array, place)) => {
-            let array = name_in(alloc, array)?;
-            if place == "*]" {
-                return Ok(Key::Every { array, key });
+        Some((array, place)) => listed_key(alloc, array, place, key),
+    }
+}
+
+/// The key of the network's file, by what stands before and after its dot.
+fn network_key(alloc: Global, owner: &str, key: &str) -> Result<FileKey, KeyError>
+    ensures ok { IfOk result (λ k. (owner.now ++ (46 ∷ key.now) ≡ file_key_text (file_path_of k))
+        × (IsInArray (file_path_of k) × HasFileNames (file_path_of k))) }
+    ensures err { IfErr result (λ e. is_memory e ≡ false
+        → (e ≡ KeyError.NoKey) × (IsListed owner.now → is_name key.now ≡ false)) }
+{
+    match owner.split_once('[') {
+        None => Err(KeyError::NoKey),
+        Some((array, place)) => listed_key(alloc, array, place, key),
+    }
+}
+
+/// The key whose word has a dot, by what stands before and after its first one.
+fn dotted_key(alloc: Global, owner: &str, rest: &str) -> Result<Key, KeyError>
+    ensures text { IfOk result (λ k. owner.now ++ (46 ∷ rest.now) ≡ key_text (path_of k)) }
+    ensures names { IfOk result (λ k. HasNames (path_of k)) }
+    ensures no_scenario { IfErr result (λ e. is_memory e ≡ false
+        → (e ≡ KeyError.NoKey) × (IsOwner owner.now → is_name rest.now ≡ false)) }
+    ensures no_network { IfErr result (λ e. is_memory e ≡ false
+        → owner.now ≡ codes "network" → IsNetworkText rest.now → ⊥) }
+{
+    match rest.split_once('.') {
+        None => {
+            let key = owned_key(alloc, owner, rest)?;
+            Ok(Key::Scenario(key))
+        }
+        Some((array, key)) => {
+            if owner != "network" {
+                return Err(KeyError::NoKey);
             }
-            match place_in(place) {
-                Some(place) => Ok(Key::Element { array, place, key }),
-                None => Err(KeyError::NoKey),
-            }
+            let key = network_key(alloc, array, key)?;
+            Ok(Key::Network(key))
         }
     }
 }
 
 impl Key {
     /// The key that a word says: `horizon`, `detector.timeout`, `crash[1].at`, where the first table is 1, or
-    /// `crash[*].at`, of every table. Its names have letters, digits, `_` and `-`.
+    /// `crash[*].at`, of every table; of the network's file `network.bursts[1].gap` or `network.bursts[*].gap`. Its
+    /// names have letters, digits, `_` and `-`.
     ///
     /// # Errors
     ///
@@ -95,9 +145,9 @@ impl Key {
         match word.split_once('.') {
             None => {
                 let key = name_in(alloc, word)?;
-                Ok(Key::Top(key))
+                Ok(Key::Scenario(FileKey::Top(key)))
             }
-            Some((owner, key)) => owned_key(alloc, owner, key),
+            Some((owner, rest)) => dotted_key(alloc, owner, rest),
         }
     }
 }

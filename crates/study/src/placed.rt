@@ -1,22 +1,26 @@
-//! A scenario's file with values at keys, in place of those that are there.
+//! A study's files with values at keys, in place of those that are there.
 ghost use Rattle.std.specs.Prelude.{◌≡◌, ◌<◌, ◌≤◌, true, IfOk, OnOk, IfErr, Ok, map, length, option_map};
 ghost use Rattle.toml.specs.Data.{get_member, table};
 ghost use Rattle.toml.specs.View.{view, table_view, array_view, items_view};
-ghost use Rattle.study.specs.Settings.{path_of, given_by, chosen, inner, element, every};
+ghost use Rattle.study.specs.Settings.{file_path_of, path_of, given_by, chosen, inner, element, every};
 ghost use Rattle.study.specs.Reading.{AreSet, Sets};
-ghost use Rattle.study.specs.Placed.{data_of, put as put_member, put_item, put_in_each, set_all, table_of, table_or_new, items_of, element_of, is_memory, IsRefused, Puts, CannotPut};
+ghost use Rattle.study.specs.Sources.{sources_of};
+ghost use Rattle.study.specs.Placed.{data_of, put as put_member, put_item, put_in_each, set_at, set_chosen, set_all, assign_all, table_of, table_or_new, items_of, element_of, is_memory, IsRefused, Puts, CannotPut};
 
+use crate::assignment::Assignment;
 use crate::axis::Choice;
 use crate::error::PlaceError;
+use crate::file_key::FileKey;
 use crate::key::Key;
 use crate::setting::Setting;
+use crate::sources::Sources;
 use std::alloc::{AllocError, Global};
 use toml::{Table, Value};
 
 /// A change of a table, unless it can't be.
 type Done = Result<(), PlaceError>;
 
-/// The value that the file has for a setting.
+/// The value that a file has for a setting.
 fn value_of(alloc: Global, setting: &Setting) -> Result<Value, AllocError>
     ensures { IfOk result (λ v. view v ≡ data_of (given_by setting.now)) }
 {
@@ -28,7 +32,7 @@ fn value_of(alloc: Global, setting: &Setting) -> Result<Value, AllocError>
 
 /// The value at a key of a table, if there is one.
 #[tactic(auto, using(toml::proofs::Views::table_get))]
-fn value_at<'a>(table: &'a Table, key: &str) -> Option<&'a Value>
+pub fn value_at<'a>(table: &'a Table, key: &str) -> Option<&'a Value>
     ensures { option_map (λ v. view v.now) result ≡ get_member key.now (table_view table.now) }
 {
     table.get(key)
@@ -48,12 +52,11 @@ pub(crate) fn put(alloc: Global, table: &mut Table, key: &str, value: Value) -> 
 }
 
 /// Sets a key of a table.
-fn set_here(alloc: Global, table: &mut Table, key: &str, setting: &Setting) -> Done
-    ensures ok { OnOk result (table_view table.new
-        ≡ put_member key.now (data_of (given_by setting.now)) (table_view table.old)) }
+fn set_here(alloc: Global, table: &mut Table, key: &str, value: &Value) -> Done
+    ensures ok { OnOk result (table_view table.new ≡ put_member key.now (view value.now) (table_view table.old)) }
     ensures err { IfErr result (λ e. is_memory e ≡ true) }
 {
-    let value = value_of(alloc, setting).map_err(PlaceError::Memory)?;
+    let value = value.clone().map_err(PlaceError::Memory)?;
     put(alloc, table, key, value)
 }
 
@@ -125,14 +128,14 @@ fn set_in_element(
     array: &str,
     place: u64,
     key: &str,
-    setting: &Setting,
+    value: &Value,
 ) -> Done
-    ensures ok { OnOk result (Puts (element array.now place key.now) setting.now table.old table.new) }
-    ensures err { IfErr result (CannotPut (element array.now place key.now) setting.now table.old) }
+    ensures ok { OnOk result (Puts (element array.now place key.now) (view value.now) table.old table.new) }
+    ensures err { IfErr result (CannotPut (element array.now place key.now) (view value.now) table.old) }
 {
     let mut items = copy_of_items(table, array)?;
     let mut inner = copy_of_element(&items, place)?;
-    set_here(alloc, &mut inner, key, setting)?;
+    set_here(alloc, &mut inner, key, value)?;
     write_table(&mut items, place as usize - 1, inner);
     put(alloc, table, array, Value::Array(items))
 }
@@ -142,17 +145,17 @@ fn changed_items(
     alloc: Global,
     items: &[Value],
     key: &str,
-    setting: &Setting,
+    value: &Value,
 ) -> Result<Vec<Value>, PlaceError>
-    ensures ok { IfOk result (λ v. put_in_each key.now (data_of (given_by setting.now)) (items_view items.now)
+    ensures ok { IfOk result (λ v. put_in_each key.now (view value.now) (items_view items.now)
         ≡ Ok (array_view v)) }
     ensures err { IfErr result (IsRefused
-        (put_in_each key.now (data_of (given_by setting.now)) (items_view items.now))) }
+        (put_in_each key.now (view value.now) (items_view items.now))) }
 {
     let mut changed = Vec::new(alloc);
     for item in items {
         let mut copy = copy_of_table(item)?;
-        set_here(alloc, &mut copy, key, setting)?;
+        set_here(alloc, &mut copy, key, value)?;
         changed
             .push(Value::Table(copy))
             .map_err(|_| PlaceError::Memory(AllocError))?;
@@ -161,67 +164,108 @@ fn changed_items(
 }
 
 /// Sets a key of every table of an array of tables.
-fn set_in_every(alloc: Global, table: &mut Table, array: &str, key: &str, setting: &Setting) -> Done
-    ensures ok { OnOk result (Puts (every array.now key.now) setting.now table.old table.new) }
-    ensures err { IfErr result (CannotPut (every array.now key.now) setting.now table.old) }
+fn set_in_every(alloc: Global, table: &mut Table, array: &str, key: &str, value: &Value) -> Done
+    ensures ok { OnOk result (Puts (every array.now key.now) (view value.now) table.old table.new) }
+    ensures err { IfErr result (CannotPut (every array.now key.now) (view value.now) table.old) }
 {
     let items = copy_of_items(table, array)?;
     if items.is_empty() {
         return Err(PlaceError::NoElement);
     }
-    let changed = changed_items(alloc, &items, key, setting)?;
+    let changed = changed_items(alloc, &items, key, value)?;
     put(alloc, table, array, Value::Array(changed))
 }
 
 /// Sets a key of a table of a table.
-fn set_in_inner(alloc: Global, table: &mut Table, name: &str, key: &str, setting: &Setting) -> Done
-    ensures ok { OnOk result (Puts (inner name.now key.now) setting.now table.old table.new) }
-    ensures err { IfErr result (CannotPut (inner name.now key.now) setting.now table.old) }
+fn set_in_inner(alloc: Global, table: &mut Table, name: &str, key: &str, value: &Value) -> Done
+    ensures ok { OnOk result (Puts (inner name.now key.now) (view value.now) table.old table.new) }
+    ensures err { IfErr result (CannotPut (inner name.now key.now) (view value.now) table.old) }
 {
     let mut changed = copy_of_inner(alloc, table, name)?;
-    set_here(alloc, &mut changed, key, setting)?;
+    set_here(alloc, &mut changed, key, value)?;
     put(alloc, table, name, Value::Table(changed))
 }
 
-/// Sets a key of a file's table, as it is of its kind.
-fn set_by_kind(alloc: Global, table: &mut Table, key: &Key, setting: &Setting) -> Done
-    ensures ok { OnOk result (Puts (path_of key.now) setting.now table.old table.new) }
-    ensures err { IfErr result (CannotPut (path_of key.now) setting.now table.old) }
+/// Sets a key of a file's table.
+fn set_in_file(alloc: Global, table: &mut Table, key: &FileKey, value: &Value) -> Done
+    ensures ok { OnOk result (Puts (file_path_of key.now) (view value.now) table.old table.new) }
+    ensures err { IfErr result (CannotPut (file_path_of key.now) (view value.now) table.old) }
 {
     match key {
-        Key::Top(key) => set_here(alloc, table, key, setting),
-        Key::Inner { table: name, key } => set_in_inner(alloc, table, name, key, setting),
-        Key::Element { array, place, key } => {
-            set_in_element(alloc, table, array, *place, key, setting)
+        FileKey::Top(key) => set_here(alloc, table, key, value),
+        FileKey::Inner { table: name, key } => set_in_inner(alloc, table, name, key, value),
+        FileKey::Element { array, place, key } => {
+            set_in_element(alloc, table, array, *place, key, value)
         }
-        Key::Every { array, key } => set_in_every(alloc, table, array, key, setting),
+        FileKey::Every { array, key } => set_in_every(alloc, table, array, key, value),
     }
 }
 
-/// Sets a key of a file's table. The setting is what the table then has there, and each key apart from it has what it
-/// had.
-fn set(alloc: Global, table: &mut Table, key: &Key, setting: &Setting) -> Done
-    ensures ok { OnOk result (Puts (path_of key.now) setting.now table.old table.new) }
+/// Sets a key of the files, as it is of its file.
+fn set_by_file(alloc: Global, sources: &mut Sources, key: &Key, value: &Value) -> Done
+    ensures ok { OnOk result (set_at (path_of key.now) (view value.now) (sources_of sources.old)
+        ≡ Ok (sources_of sources.new)) }
+    ensures err { IfErr result (IsRefused (set_at (path_of key.now) (view value.now) (sources_of sources.old))) }
+{
+    match key {
+        Key::Scenario(key) => set_in_file(alloc, &mut sources.scenario, key, value),
+        Key::Network(key) => match &mut sources.network {
+            Some(network) => set_in_file(alloc, network, key, value),
+            None => Err(PlaceError::NoNetwork),
+        },
+    }
+}
+
+/// Sets a key of the files. The value is what they then have there, and each key apart from it has what it had.
+pub(crate) fn set(alloc: Global, sources: &mut Sources, key: &Key, value: &Value) -> Done
+    ensures ok { OnOk result (set_at (path_of key.now) (view value.now) (sources_of sources.old)
+        ≡ Ok (sources_of sources.new)) }
     ensures sets { OnOk result
-        (Sets (path_of key.now) (data_of (given_by setting.now)) (table_view table.old) (table_view table.new)) }
-    ensures err { IfErr result (CannotPut (path_of key.now) setting.now table.old) }
+        (Sets (path_of key.now) (view value.now) (sources_of sources.old) (sources_of sources.new)) }
+    ensures err { IfErr result (IsRefused (set_at (path_of key.now) (view value.now) (sources_of sources.old))) }
 {
     law_settings();
-    set_by_kind(alloc, table, key, setting)
+    set_by_file(alloc, sources, key, value)
+}
+
+/// Sets the key of a choice.
+fn set_choice(alloc: Global, sources: &mut Sources, choice: Choice<'_>) -> Done
+    ensures ok { OnOk result (set_chosen (chosen choice.entry) (sources_of sources.old) ≡ Ok (sources_of sources.new)) }
+    ensures err { IfErr result (IsRefused (set_chosen (chosen choice.entry) (sources_of sources.old))) }
+{
+    let value = value_of(alloc, choice.value).map_err(PlaceError::Memory)?;
+    set(alloc, sources, choice.key, &value)
 }
 
 /// Sets the keys of some choices, one after the other.
-pub(crate) fn set_choices(alloc: Global, table: &mut Table, choices: &[Choice<'_>]) -> Done
-    ensures ok { OnOk result (set_all (map chosen choices.now) (table_view table.old) ≡ Ok (table_view table.new)) }
-    ensures err { IfErr result (IsRefused (set_all (map chosen choices.now) (table_view table.old))) }
+pub(crate) fn set_choices(alloc: Global, sources: &mut Sources, choices: &[Choice<'_>]) -> Done
+    ensures ok { OnOk result (set_all (map chosen choices.now) (sources_of sources.old) ≡ Ok (sources_of sources.new)) }
+    ensures err { IfErr result (IsRefused (set_all (map chosen choices.now) (sources_of sources.old))) }
 {
     for choice in choices {
-        set(alloc, table, choice.key, choice.value)?;
+        set_choice(alloc, sources, *choice)?;
     }
     Ok(())
 }
 
-/// Wherever a key is set, its value is what the file then has there, in every table of an array where that is meant,
+impl Sources {
+    /// Sets keys for all runs, one after the other.
+    ///
+    /// # Errors
+    ///
+    /// Where a key can't be set, the reason, of the first such key; `Memory` at any point.
+    pub fn set(&mut self, alloc: Global, assignments: &[Assignment]) -> Done
+        ensures ok { OnOk result (assign_all assignments.now (sources_of self.old) ≡ Ok (sources_of self.new)) }
+        ensures err { IfErr result (IsRefused (assign_all assignments.now (sources_of self.old))) }
+    {
+        for assignment in assignments {
+            set(alloc, self, &assignment.key, &assignment.value)?;
+        }
+        Ok(())
+    }
+}
+
+/// Wherever a key is set, its value is what the files then have there, in every table of an array where that is meant,
 /// and each key apart from it has what it had.
 pub fn law_settings()
     ensures { AreSet }

@@ -1,47 +1,113 @@
 //! The scenarios of runs.
-ghost use Rattle.std.specs.Prelude.{◌≡◌, false, Ok, Err, IfOk, IfErr, map};
+ghost use Rattle.std.specs.Prelude.{◌≡◌, false, Ok, IfOk, IfErr, map};
 ghost use Rattle.toml.specs.View.{table_view};
 ghost use Rattle.study.specs.Settings.{chosen};
+ghost use Rattle.study.specs.Sources.{sources_of};
 ghost use Rattle.study.specs.Grid.{run_of};
-ghost use Rattle.study.specs.Placed.{table_of_run, is_memory as is_place_memory};
-ghost use Rattle.study.specs.Runs.{IsScenarioOf, IsRefusedFor, is_memory};
+ghost use Rattle.study.specs.Placed.{sources_of_run, IsRefused, is_memory as is_place_memory};
+ghost use Rattle.study.specs.Laid.{table_of_laid};
+ghost use Rattle.study.specs.Runs.{RunSources, IsRunTable, HasNoTable, IsScenarioOf, IsRefusedFor, is_memory};
 
 use crate::axis::Choice;
 use crate::error::{PlaceError, ReadError};
+use crate::laid_run::LaidRun;
+use crate::laying::laid;
 use crate::placed::{put, set_choices};
 use crate::run::Run;
-use scenario::{Scenario, read_table};
-use std::alloc::{AllocError, Global};
+use crate::sources::Sources;
+use scenario::{Scenario, read_with_outages};
+use std::alloc::Global;
 use toml::{Table, Value};
 
-/// A copy of a file's table.
-fn copy_of_file(file: &Table) -> Result<Table, AllocError>
-    ensures { IfOk result (λ t. table_view t ≡ table_view file.now) }
+/// The files of a run: the study's with the point's settings, the run's, and its seed.
+fn run_sources(
+    alloc: Global,
+    sources: &Sources,
+    point: &[Choice<'_>],
+    run: &Run<'_>,
+) -> Result<Sources, PlaceError>
+    ensures ok { IfOk result (λ s. sources_of_run (map chosen point.now) (run_of run.now) (sources_of sources.now)
+        ≡ Ok (sources_of s)) }
+    ensures err { IfErr result (IsRefused
+        (sources_of_run (map chosen point.now) (run_of run.now) (sources_of sources.now))) }
 {
-    file.clone()
+    let mut changed = sources.copy().map_err(PlaceError::Memory)?;
+    set_choices(alloc, &mut changed, point)?;
+    set_choices(alloc, &mut changed, &run.settings)?;
+    let seed = Value::Integer(run.seed as i64);
+    put(alloc, &mut changed.scenario, "seed", seed)?;
+    Ok(changed)
 }
 
-/// The table of a run's file: the study's, with the point's settings, the run's, and its seed.
+/// What a run's files stand for, the drawn outages beside the table.
+fn laid_of_run(
+    alloc: Global,
+    sources: &Sources,
+    point: &[Choice<'_>],
+    run: &Run<'_>,
+) -> Result<LaidRun, PlaceError>
+    ensures ok { IfOk result (λ r. IsRunTable
+        (sources_of_run (map chosen point.now) (run_of run.now) (sources_of sources.now)) (table_of_laid r)) }
+    ensures err { IfErr result (λ e. is_place_memory e ≡ false
+        → HasNoTable (sources_of_run (map chosen point.now) (run_of run.now) (sources_of sources.now)) e) }
+{
+    let changed = run_sources(alloc, sources, point, run)?;
+    laid(alloc, changed)
+}
+
+/// What the files stand for as they are, the drawn outages beside the table.
+fn laid_alone(alloc: Global, sources: &Sources) -> Result<LaidRun, PlaceError>
+    ensures ok { IfOk result (λ r. IsRunTable (Ok (sources_of sources.now)) (table_of_laid r)) }
+    ensures err { IfErr result (λ e. is_place_memory e ≡ false → HasNoTable (Ok (sources_of sources.now)) e) }
+{
+    let copy = sources.copy().map_err(PlaceError::Memory)?;
+    laid(alloc, copy)
+}
+
+/// The table of a run's file: the scenario's, with the point's settings, the run's, and its seed, and with the
+/// network's file laid over it where there is one.
 ///
 /// # Errors
 ///
-/// Where a key can't be set, the reason, of the first such key; `Memory` at any point.
+/// Where a key can't be set, the reason, of the first such key; then the reason for which the network's file can't be
+/// laid; `Memory` at any point.
 pub fn run_table(
     alloc: Global,
-    file: &Table,
+    sources: &Sources,
     point: &[Choice<'_>],
     run: &Run<'_>,
 ) -> Result<Table, PlaceError>
-    ensures ok { IfOk result (λ t. table_of_run (map chosen point.now) (run_of run.now) (table_view file.now)
-        ≡ Ok (table_view t)) }
+    ensures ok { IfOk result (λ t. IsRunTable
+        (sources_of_run (map chosen point.now) (run_of run.now) (sources_of sources.now)) (table_view t)) }
     ensures err { IfErr result (λ e. is_place_memory e ≡ false
-        → table_of_run (map chosen point.now) (run_of run.now) (table_view file.now) ≡ Err e) }
+        → HasNoTable (sources_of_run (map chosen point.now) (run_of run.now) (sources_of sources.now)) e) }
 {
-    let mut table = copy_of_file(file).map_err(PlaceError::Memory)?;
-    set_choices(alloc, &mut table, point)?;
-    set_choices(alloc, &mut table, &run.settings)?;
-    put(alloc, &mut table, "seed", Value::Integer(run.seed as i64))?;
-    Ok(table)
+    laid_of_run(alloc, sources, point, run)?.into_table(alloc)
+}
+
+/// The table of the files as they stand, with the scenario's own seed.
+///
+/// # Errors
+///
+/// The reason for which the network's file can't be laid; `Memory` at any point.
+pub fn table_alone(alloc: Global, sources: &Sources) -> Result<Table, PlaceError>
+    ensures ok { IfOk result (λ t. IsRunTable (Ok (sources_of sources.now)) (table_view t)) }
+    ensures err { IfErr result (λ e. is_place_memory e ≡ false → HasNoTable (Ok (sources_of sources.now)) e) }
+{
+    laid_alone(alloc, sources)?.into_table(alloc)
+}
+
+/// The scenario of a run, by what its files stand for. No table is made of a drawn outage.
+fn read_laid(alloc: Global, laid: &LaidRun) -> Result<Scenario, ReadError>
+    ensures ok { (files : RunSources) → IsRunTable files (table_of_laid laid.now)
+        → IfOk result (IsScenarioOf files) }
+    ensures err { (files : RunSources) → IsRunTable files (table_of_laid laid.now)
+        → IfErr result (λ e. is_memory e ≡ false → IsRefusedFor files e) }
+{
+    match read_with_outages(alloc, &laid.table, &laid.outages) {
+        Ok(scenario) => Ok(scenario),
+        Err(error) => Err(ReadError::Scenario(error)),
+    }
 }
 
 /// The scenario of a run.
@@ -52,18 +118,29 @@ pub fn run_table(
 /// at any point.
 pub fn read_run(
     alloc: Global,
-    file: &Table,
+    sources: &Sources,
     point: &[Choice<'_>],
     run: &Run<'_>,
 ) -> Result<Scenario, ReadError>
     ensures ok { IfOk result (IsScenarioOf
-        (table_of_run (map chosen point.now) (run_of run.now) (table_view file.now))) }
+        (sources_of_run (map chosen point.now) (run_of run.now) (sources_of sources.now))) }
     ensures err { IfErr result (λ e. is_memory e ≡ false
-        → IsRefusedFor (table_of_run (map chosen point.now) (run_of run.now) (table_view file.now)) e) }
+        → IsRefusedFor (sources_of_run (map chosen point.now) (run_of run.now) (sources_of sources.now)) e) }
 {
-    let table = run_table(alloc, file, point, run).map_err(ReadError::Place)?;
-    match read_table(alloc, &table) {
-        Ok(scenario) => Ok(scenario),
-        Err(error) => Err(ReadError::Scenario(error)),
-    }
+    let laid = laid_of_run(alloc, sources, point, run).map_err(ReadError::Place)?;
+    read_laid(alloc, &laid)
+}
+
+/// The scenario of the files as they stand, with the scenario's own seed.
+///
+/// # Errors
+///
+/// The reason for which the network's file can't be laid; else the refusal of the first rule that applies to the table;
+/// memory at any point.
+pub fn read_alone(alloc: Global, sources: &Sources) -> Result<Scenario, ReadError>
+    ensures ok { IfOk result (IsScenarioOf (Ok (sources_of sources.now))) }
+    ensures err { IfErr result (λ e. is_memory e ≡ false → IsRefusedFor (Ok (sources_of sources.now)) e) }
+{
+    let laid = laid_alone(alloc, sources).map_err(ReadError::Place)?;
+    read_laid(alloc, &laid)
 }

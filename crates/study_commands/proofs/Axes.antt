@@ -1,10 +1,14 @@
--- Axes and processes of words, one after the other.
+-- Axes, groups of pairs, assignments and processes of words, one after the other.
 use Rattle.std.proofs.Common.{◌≡◌, ℕ, ◌+◌, ◌<◌, List, [], ◌∷◌, ◌++◌, map, length, get_or, take, Bor, Some}
 use Rattle.std.proofs.lemmas.List.{map-append, take_more}
 use Rattle.std.specs.List.{AllZip}
 use Rattle.study.specs.AxisWords.{SaysAxis}
 use Rattle.study_commands.specs.Draw.{process_said}
+use Rattle.study.specs.SetWords.{SaysAssignment}
+use Rattle.study.specs.declared.assignment.Assignment.{Assignment}
 use Rattle.study.specs.declared.axis.Axis.{Axis}
+use Rattle.sweep.specs.GroupWords.{SaysGroup}
+use Rattle.sweep.specs.declared.group.PairGroup.{PairGroup}
 
 -- one more of both
 zip_push : {A B : Type 0} (R : A → B → Type 0) (xs : List A) (ys : List B) (x : A) (y : B) → AllZip R xs ys → R x y
@@ -19,6 +23,18 @@ module _ (words : List (Bor (List ℕ))) (i : ℕ) (d : Bor (List ℕ)) (within 
       → AllZip SaysAxis (map (λ w. w.now) (take (i + 1) words)) new
   one_more axes new axis says pushed so_far =
       rw (take_more words i d within, map-append, pushed) (zip_push SaysAxis _ axes _ axis so_far says)
+
+  pub one_group_more : (groups new : List PairGroup) (group : PairGroup) → SaysGroup (get_or words i d).now group
+      → new ≡ groups ++ group ∷ [] → AllZip SaysGroup (map (λ w. w.now) (take i words)) groups
+      → AllZip SaysGroup (map (λ w. w.now) (take (i + 1) words)) new
+  one_group_more groups new group says pushed so_far =
+      rw (take_more words i d within, map-append, pushed) (zip_push SaysGroup _ groups _ group so_far says)
+
+  pub one_set_more : (set new : List Assignment) (a : Assignment) → SaysAssignment (get_or words i d).now a
+      → new ≡ set ++ a ∷ [] → AllZip SaysAssignment (map (λ w. w.now) (take i words)) set
+      → AllZip SaysAssignment (map (λ w. w.now) (take (i + 1) words)) new
+  one_set_more set new a says pushed so_far =
+      rw (take_more words i d within, map-append, pushed) (zip_push SaysAssignment _ set _ a so_far says)
 
   -- one more of the processes that are said
   pub one_said : (said new : List ℕ) (process : ℕ) → process_said (get_or words i d).now ≡ Some process

@@ -13,14 +13,15 @@ use Rattle.study_commands.proofs.Reasons.{stops_so}
 use Rattle.reporting.specs.Writing.{WroteNothing}
 use Rattle.study.specs.Grid.{GridRecord, points}
 use Rattle.study.specs.Shard.{ShardRecord, end_of as shard_end}
-use Rattle.study.specs.declared.error.ReadError.{ReadError}
+use Rattle.study_line.specs.declared.order.SourceTexts.{SourceTexts}
 use Rattle.study_line.specs.declared.order.StudyTexts.{StudyTexts}
 use Rattle.sweep.specs.Layout.{LayoutRecord}
-use Rattle.sweep.specs.Outcome.{BreaksOff, CantBeRun, IsFirstRefused, WroteStudy, WroteFirst}
+use Rattle.sweep.specs.Outcome.{BreaksOff, CantBeRun, IsFirstUnready, WroteStudy, WroteFirst}
 use Rattle.sweep.specs.StudyText.{IsTextOf, numbers_of, units_of}
 use Rattle.sweep.specs.declared.error.SweepError.{SweepError}
 use Rattle.sweep.specs.declared.error.SweepError.TheVariants as error
-use Rattle.toml.specs.Data.{Members}
+use Rattle.sweep.specs.declared.group.Group.{Group}
+use Rattle.study.specs.Sources.{SourcesRecord}
 
 -- a point of a shard is one of the study's
 point_within : (g : GridRecord) (shard : ShardRecord) (point : ℕ) → Contains (numbers_of g shard) point
@@ -35,53 +36,59 @@ point_within g shard point =
     All-contains (λ p. p < n) (numbers_of g shard) point (All-drop (λ p. p < n) _ (take till (range_with_len 0 n)) low)
 
 -- and a run of the shard that is refused
-pub cant_of_run : (file : Members) (g : GridRecord) (shard : ShardRecord) (e : SweepError) → CantBeRun file g shard e
+pub cant_of_run : (sources : SourcesRecord) (g : GridRecord) (shard : ShardRecord) (groups : List Group) (e : SweepError) → CantBeRun sources g groups shard e
     → IsOfRun g e
-cant_of_run file g shard (error.Refused point run reason) cant = (point_within g shard point cant.point_in, cant.run_in)
-cant_of_run file g shard _ cant = tt
+cant_of_run sources g shard groups (error.Refused point run reason) cant = (point_within g shard point cant.point_in, cant.run_in)
+cant_of_run sources g shard groups (error.NoSuchProcess point run group processes) cant = (point_within g shard point cant.point_in, cant.run_in)
+cant_of_run sources g shard groups error.Memory cant = tt
+cant_of_run sources g shard groups error.Write cant = tt
 
-module _ {input : Option (List ℕ)} {path : List ℕ} {study : StudyTexts} {file : Members} {g : GridRecord}
-    {shard : ShardRecord} {layout : LayoutRecord} (said : IsSaid input path study file g shard layout) where
+module _ {input : Option (List ℕ)} {texts : SourceTexts} {study : StudyTexts} {sources : SourcesRecord} {g : GridRecord}
+    {shard : ShardRecord} {layout : LayoutRecord} (said : IsSaid input texts study sources g shard layout) where
   -- a run of the study is refused
-  run_stops : (point run : ℕ) (reason : ReadError) (f : Fault) → IsFirstRefused file g shard point run reason
-      → IsRefusal f → IsBefore (StopsSweep input path study) f
+  run_stops : (point run : ℕ) (reason : SweepError) (f : Fault) → IsFirstUnready sources g layout.groups shard point run reason
+      → IsRefusal f → IsBefore (StopsSweep input texts study) f
   run_stops point run reason (Refused line) first is = inr (record {
-    file = file;
-    is_file = said.is_file;
+    sources = sources;
+    are_sources = said.are_sources;
     grid = g;
     is_grid = said.is_grid;
     shard = shard;
     is_shard = said.is_shard;
     point = point;
     run = run;
+    layout = layout;
+    is_layout = said.is_layout;
     reason = reason;
     first = first;
   })
   run_stops point run reason _ first is = absurd is
 
   -- a study can't be run
-  pub cant_stop : (e : SweepError) (f : Fault) → CantBeRun file g shard e → IsFaultOf e f
-      → IsBefore (StopsSweep input path study) f
-  cant_stop (error.Refused point run reason) f cant is = run_stops point run reason f cant is
+  pub cant_stop : (e : SweepError) (f : Fault) → CantBeRun sources g layout.groups shard e → IsFaultOf e f
+      → IsBefore (StopsSweep input texts study) f
+  cant_stop (error.Refused point run reason) f cant is = run_stops point run (error.Refused point run reason) f cant is
+  cant_stop (error.NoSuchProcess point run group processes) f cant is =
+      run_stops point run (error.NoSuchProcess point run group processes) f cant is
   cant_stop error.Memory f cant is = rw is tt
   cant_stop error.Write f cant is = absurd cant
 
-  front : (count : ℕ) (piece : List ℕ) → IsTextOf file g shard layout (take count (units_of layout.rows g shard)) piece
-      → IsSweepFront input path study piece
+  front : (count : ℕ) (piece : List ℕ) → IsTextOf sources g shard layout (take count (units_of layout.rows g shard)) piece
+      → IsSweepFront input texts study piece
   front count piece text =
-      record { file = file; grid = g; shard = shard; layout = layout; said = said; count = count; text = text }
+      record { sources = sources; grid = g; shard = shard; layout = layout; said = said; count = count; text = text }
 
   module _ {O : Type 0} (told : O → Option (List ℕ)) (failed : O → ℕ) (old new : O) where
-    pub swept : WroteStudy file g shard layout told failed old new
-        → Went told failed old new (IsSweepAnswer input path study)
+    pub swept : WroteStudy sources g shard layout told failed old new
+        → Went told failed old new (IsSweepAnswer input texts study)
     swept wrote = record {
       piece = wrote.text;
-      is_wanted = record { file = file; grid = g; shard = shard; layout = layout; said = said; text = wrote.is_text };
+      is_wanted = record { sources = sources; grid = g; shard = shard; layout = layout; said = said; text = wrote.is_text };
       written = wrote.wrote;
     }
 
-    left : WroteNothing told failed old new ⊎ WroteFirst file g shard layout told failed old new
-        → MayHaveGone told failed old new (IsSweepFront input path study)
+    left : WroteNothing told failed old new ⊎ WroteFirst sources g shard layout told failed old new
+        → MayHaveGone told failed old new (IsSweepFront input texts study)
     left (inl nothing) = inl nothing
     left (inr first) = inr (record {
       piece = first.text;
@@ -89,22 +96,31 @@ module _ {input : Option (List ℕ)} {path : List ℕ} {study : StudyTexts} {fil
       written = first.wrote;
     })
 
-    pub breaks_of_run : (e : SweepError) → BreaksOff file g shard layout told failed old new e → IsOfRun g e
+    pub breaks_of_run : (e : SweepError) → BreaksOff sources g shard layout told failed old new e → IsOfRun g e
     breaks_of_run (error.Refused point run reason) broke =
-        cant_of_run file g shard (error.Refused point run reason) broke.0
-    breaks_of_run _ broke = tt
+        cant_of_run sources g shard layout.groups (error.Refused point run reason) broke.0
+    breaks_of_run (error.NoSuchProcess point run group processes) broke =
+        cant_of_run sources g shard layout.groups (error.NoSuchProcess point run group processes) broke.0
+    breaks_of_run error.Memory broke = tt
+    breaks_of_run error.Write broke = tt
 
-    pub sweep_why : (e : SweepError) (f : Fault) → BreaksOff file g shard layout told failed old new e
-        → IsFaultOf e f → StopsSweep input path study f
+    pub sweep_why : (e : SweepError) (f : Fault) → BreaksOff sources g shard layout told failed old new e
+        → IsFaultOf e f → StopsSweep input texts study f
     sweep_why (error.Refused point run reason) f broke is =
-        stops_so (StopsSweep input path study) f (run_stops point run reason f broke.0 is)
-    sweep_why _ f broke is = rw is tt
+        stops_so (StopsSweep input texts study) f (run_stops point run (error.Refused point run reason) f broke.0 is)
+    sweep_why (error.NoSuchProcess point run group processes) f broke is =
+        stops_so (StopsSweep input texts study) f
+        (run_stops point run (error.NoSuchProcess point run group processes) f broke.0 is)
+    sweep_why error.Memory f broke is = rw is tt
+    sweep_why error.Write f broke is = rw is tt
 
-    pub sweep_leaves : (e : SweepError) (f : Fault) → BreaksOff file g shard layout told failed old new e
-        → IsFaultOf e f → LeftAt told failed old new (IsSweepFront input path study)
-        (IsSweepFront input path study) (end_of f)
+    pub sweep_leaves : (e : SweepError) (f : Fault) → BreaksOff sources g shard layout told failed old new e
+        → IsFaultOf e f → LeftAt told failed old new (IsSweepFront input texts study)
+        (IsSweepFront input texts study) (end_of f)
     sweep_leaves (error.Refused point run reason) (Refused line) broke is = broke.1
     sweep_leaves (error.Refused point run reason) _ broke is = absurd is
+    sweep_leaves (error.NoSuchProcess point run group processes) (Refused line) broke is = broke.1
+    sweep_leaves (error.NoSuchProcess point run group processes) _ broke is = absurd is
     sweep_leaves error.Memory f broke is = rw is (left broke)
     sweep_leaves error.Write f broke is = rw is (record {
       piece = broke.text;

@@ -12,8 +12,11 @@ use Rattle.study_line.specs.declared.order.Each.{Each}
 use Rattle.study_line.specs.declared.order.Each.TheVariants as each
 use Rattle.study_line.specs.declared.order.GridTexts.{GridTexts}
 use Rattle.study_line.specs.declared.order.StudyTexts.{StudyTexts}
+use Rattle.sweep.specs.GroupWords.{SaysGroup}
+use Rattle.sweep.specs.Groups.{groups_of}
 use Rattle.sweep.specs.Layout.{ArePicks, LayoutRecord}
 use Rattle.sweep.specs.StudyText.{names_of}
+use Rattle.sweep.specs.declared.group.PairGroup.{PairGroup}
 use Rattle.sweep.specs.declared.layout.Rows.{Rows}
 use Rattle.sweep.specs.declared.layout.Rows.TheVariants as rows
 
@@ -43,12 +46,21 @@ shard_word study = option_map (λ w. w.now) study.shard
 abbrev pub columns_word : StudyTexts → Option Word
 columns_word study = option_map (λ w. w.now) study.columns
 
+-- and of the groups of pairs that have rows of their own
+abbrev pub pairs_words : StudyTexts → List Word
+pairs_words study = map (λ w. w.now) study.pairs.items
+
 -- the rows tell of points or of runs, as the word says
 abbrev pub rows_for : Each → Rows
 rows_for each.Point = rows.Points
 rows_for each.Run = rows.Runs
 
--- the layout has such rows, with the columns that a word names, and with all where there is no word
-pub record IsLayout (kind : Each) (columns : Option Word) (g : GridRecord) (l : LayoutRecord) : Type 0 where
+-- the layout has such rows for the groups of pairs that words say, with the columns that a word names, and with all
+-- where there is no word
+pub record IsLayout (kind : Each) (pairs : List Word) (columns : Option Word) (g : GridRecord) (l : LayoutRecord)
+    : Type 0 where
   pub rows_are : l.rows ≡ rows_for kind
-  pub picks_are : ArePicks (names_of (rows_for kind) g) columns l.picks
+  pub groups : List PairGroup
+  pub says_groups : AllZip SaysGroup pairs groups
+  pub groups_are : l.groups ≡ groups_of groups
+  pub picks_are : ArePicks (names_of (rows_for kind) (groups_of groups) g) columns l.picks

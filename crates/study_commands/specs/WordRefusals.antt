@@ -1,23 +1,39 @@
 -- Why words of a study are refused.
-use Rattle.std.specs.Prelude.{◌≡◌, ◌⊎◌, ◌<◌, ℕ, List, map, Bool, true, false, Option, Some}
+use Rattle.std.specs.Prelude.{◌≡◌, ◌⊎◌, ◌<◌, ℕ, List, ◌++◌, map, Bool, true, false, nat_le, if◌then◌else◌, Option, Some}
+use Rattle.std.specs.Prelude.{codes, string_bytes}
 use Rattle.std.specs.List.{AllZip, Contains}
+use Rattle.diagnosis.specs.Likeness.{edits, most_edits}
+use Rattle.printable.specs.Printable.{printable}
 use Rattle.study.specs.AxisWords.{SaysAxis, SaysNoAxis, is_memory as is_axis_memory}
-use Rattle.study.specs.Grid.{GridRecord, IsFirst, is_memory as is_grid_memory}
+use Rattle.study.specs.Grid.{GridRecord, IsFirst, set_twice, is_memory as is_grid_memory}
 use Rattle.study.specs.SeedWords.{seeds_fault, seeds_said}
+use Rattle.study.specs.SetWords.{SaysAssignment, SaysNoAssignment, is_memory as is_set_memory}
+use Rattle.study.specs.Settings.{Path}
 use Rattle.study.specs.ShardWords.{shard_fault, shard_said}
 use Rattle.study.specs.Words.{Word}
+use Rattle.study.specs.declared.assignment.Assignment.{Assignment}
 use Rattle.study.specs.declared.axis.Axis.{Axis}
+use Rattle.study.specs.declared.error.AssignmentError.{AssignmentError}
 use Rattle.study.specs.declared.error.AxisError.{AxisError}
 use Rattle.study.specs.declared.error.GridError.{GridError}
 use Rattle.study.specs.declared.error.SeedsError.{SeedsError}
 use Rattle.study.specs.declared.error.ShardError.{ShardError}
+use Rattle.study_commands.specs.File.{NameInputTwice, paths_set, set_words}
 use Rattle.study_commands.specs.Study.{rows_for}
+use Rattle.study_commands.specs.declared.fault.Fault.{Fault}
+use Rattle.study_commands.specs.declared.fault.Fault.TheVariants.{Words, WordsMemory}
 use Rattle.study_line.specs.declared.order.Each.{Each}
 use Rattle.study_line.specs.declared.order.GridTexts.{GridTexts}
+use Rattle.study_line.specs.declared.order.SourceTexts.{SourceTexts}
+use Rattle.sweep.specs.GroupWords.{SaysGroup, SaysNoGroup}
+use Rattle.sweep.specs.Groups.{groups_of}
 use Rattle.sweep.specs.Layout.{IsNoLayout}
 use Rattle.sweep.specs.StudyText.{names_of}
+use Rattle.sweep.specs.declared.error.GroupError.{GroupError}
+use Rattle.sweep.specs.declared.error.GroupError.TheVariants as group
 use Rattle.sweep.specs.declared.error.LayoutError.{LayoutError}
 use Rattle.sweep.specs.declared.error.LayoutError.TheVariants as layout
+use Rattle.sweep.specs.declared.group.PairGroup.{PairGroup}
 
 abbrev pub is_layout_memory : LayoutError → Bool
 is_layout_memory layout.Memory = true
@@ -63,11 +79,69 @@ pub record SaysNoShard (word : Option Word) : Type 0 where
   pub reason : ShardError
   pub is : shard_fault (shard_said text) ≡ Some reason
 
--- there is a word that names a column which rows of this kind don't have
-pub record LacksColumn (kind : Each) (columns : Option Word) (grid : GridRecord) : Type 0 where
+abbrev pub is_group_memory : GroupError → Bool
+is_group_memory group.Memory = true
+is_group_memory _ = false
+
+-- one of the words says no group of pairs, for a reason other than memory
+pub record HasNoGroup (words : List Word) : Type 0 where
+  pub word : Word
+  pub there : Contains words word
+  pub reason : GroupError
+  pub other : is_group_memory reason ≡ false
+  pub says : SaysNoGroup word reason
+
+-- there is a word that names a column which rows of this kind, for these groups, don't have
+pub record LacksColumn (kind : Each) (groups : List PairGroup) (columns : Option Word) (grid : GridRecord)
+    : Type 0 where
   pub reason : LayoutError
   pub other : is_layout_memory reason ≡ false
-  pub is : IsNoLayout (names_of (rows_for kind) grid) columns reason
+  pub is : IsNoLayout (names_of (rows_for kind) (groups_of groups) grid) columns reason
+
+-- the words say no groups of pairs, or groups for whose rows a column is named that they don't have
+abbrev pub SaysNoLayout : Each → (pairs : List Word) → (columns : Option Word) → GridRecord → Type 0
+SaysNoLayout kind pairs columns grid = HasNoGroup pairs
+    ⊎ ((groups : List PairGroup) × AllZip SaysGroup pairs groups × LacksColumn kind groups columns grid)
+
+-- a name is perhaps meant by a word that names no column
+abbrev pub is_like : (word name : Word) → Bool
+is_like word name = nat_le (edits word name) (most_edits word)
+
+-- what is told of such a word, and of the name that is nearest to it
+abbrev pub no_column_line : (word nearest : Word) → List ℕ
+no_column_line word nearest = codes "fdstudy: words: NoColumn: " ++ (printable word ++ (codes " ("
+    ++ (if is_like word nearest
+    then codes "did you mean " ++ (printable nearest ++ codes "? fdstudy sweep --help lists the columns)\n")
+    else codes "no name is like it; fdstudy sweep --help lists the columns)\n")))
+
+-- the fault tells it, or that there was no memory for it
+abbrev pub TellsOfLayout : LayoutError → Fault → Type 0
+TellsOfLayout (layout.Unknown name nearest) (Words line) =
+    string_bytes line ≡ no_column_line (string_bytes name) (string_bytes nearest)
+TellsOfLayout error WordsMemory = Unit {0}
+TellsOfLayout error _ = ⊥
+
+-- one of the words sets no key, for a reason other than memory
+pub record HasNoAssignment (words : List Word) : Type 0 where
+  pub word : Word
+  pub there : Contains words word
+  pub reason : AssignmentError
+  pub other : is_set_memory reason ≡ false
+  pub says : SaysNoAssignment word reason
+
+-- a key is set twice, or an axis sets it
+abbrev pub IsSetTwice : GridRecord → List Assignment → Type 0
+IsSetTwice g assigned = (key : Path) × (set_twice g (paths_set assigned) ≡ Some key)
+
+-- words do so
+pub record SetTwice (words : List Word) (g : GridRecord) : Type 0 where
+  pub assigned : List Assignment
+  pub say : AllZip SaysAssignment words assigned
+  pub is : IsSetTwice g assigned
+
+-- the words that name files and set keys are refused
+abbrev pub SaysNoSources : SourceTexts → GridRecord → Type 0
+SaysNoSources texts g = HasNoAssignment (set_words texts) ⊎ (SetTwice (set_words texts) g ⊎ NameInputTwice texts)
 
 -- what counts from 1 isn't among so many
 abbrev pub IsOutside : (number count : ℕ) → Type 0

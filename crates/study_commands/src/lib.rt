@@ -13,12 +13,16 @@
 //! names and two rows, each over 20 runs.
 #![tactic(auto)]
 
+mod alone;
+mod assigned;
 mod checking;
 pub mod fault;
 mod file;
 mod lettering;
 mod limited_point;
+mod network_reason;
 mod picturing;
+mod place_reason;
 mod processes;
 pub mod progress_line;
 mod reckoning;
@@ -27,6 +31,8 @@ mod run_name;
 mod running;
 pub mod serve;
 mod showing;
+mod sources;
 mod study_check;
 mod study_words;
 mod sweeping;
+mod unknown_column;

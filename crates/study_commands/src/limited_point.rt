@@ -7,8 +7,7 @@ use crate::run_name::name_of_point;
 use diagnosis::HIGHEST_LIMIT;
 use printable::Printable;
 use std::alloc::{AllocError, Global};
-use study::Grid;
-use toml::Table;
+use study::{Grid, Sources};
 
 /// Of how many runs of a point that differ in more than their seeds the size is reckoned.
 const MOST_RECKONED: u64 = 1000;
@@ -24,7 +23,7 @@ fn next_limit(reckoned: &Reckoned) -> Option<u64> {
 /// The line of a point, from 0, of which so many runs passed their limit: its settings, and a limit that would do.
 pub(crate) fn line_of_limited(
     alloc: Global,
-    file: &Table,
+    sources: &Sources,
     grid: &Grid,
     point: u64,
     count: u64,
@@ -34,12 +33,12 @@ pub(crate) fn line_of_limited(
     let runs = grid.runs();
     let name = name_of_point(alloc, grid, point)?;
     let name = Printable(name.as_str());
-    match next_limit(&reckon_point(alloc, file, grid, point, MOST_RECKONED)?) {
+    match next_limit(&reckon_point(alloc, sources, grid, point, MOST_RECKONED)?) {
         Some(limit) => format!(in alloc;
             "fdstudy: {name}: {count} of {runs} runs passed their limit; limit={limit} would do\n"
         ),
         None => format!(in alloc;
-            "fdstudy: {name}: {count} of {runs} runs passed their limit; no limit of a file would do\n"
+            "fdstudy: {name}: {count} of {runs} runs passed their limit; no limit of a sources would do\n"
         ),
     }
 }

@@ -6,9 +6,8 @@ use crate::limited_point::line_of_limited;
 use std::alloc::{AllocError, Global};
 use std::io::Write;
 use std::time::{Clock, Duration, Instant};
-use study::Grid;
+use study::{Grid, Sources};
 use sweep::{Pass, Standing, Watcher};
-use toml::Table;
 
 /// The line is drawn anew no sooner than after so many milliseconds.
 const PAUSE: u128 = 200;
@@ -172,9 +171,9 @@ impl<C: Clock, W: Write + Drop> Watcher for ProgressLine<'_, C, W> {
     }
 
     /// Writes the line of the point. What is shown is taken away before.
-    fn limited(&mut self, file: &Table, grid: &Grid, point: u64, count: u64) {
+    fn limited(&mut self, sources: &Sources, grid: &Grid, point: u64, count: u64) {
         self.hide();
-        if let Ok(line) = line_of_limited(self.alloc, file, grid, point, count) {
+        if let Ok(line) = line_of_limited(self.alloc, sources, grid, point, count) {
             let _answer = self.faults.write_all(line.as_bytes());
         }
     }

@@ -7,9 +7,8 @@ use std::alloc::{AllocError, Global};
 use std::marker::Sync;
 use std::ops::Range;
 use std::thread::Threads;
-use study::{Axis, Grid, read_run};
+use study::{Axis, Grid, Sources, read_run};
 use sweep::in_parallel;
-use toml::Table;
 
 /// How many points are reckoned at a time.
 const BATCH: u64 = 4096;
@@ -79,7 +78,7 @@ fn combinations(axes: &[Axis]) -> u64
 /// The scenario of a run of a point, both from 0. As it was read before, there is one but for want of memory.
 fn scenario_of(
     alloc: Global,
-    file: &Table,
+    sources: &Sources,
     grid: &Grid,
     point: u64,
     run: u64,
@@ -88,7 +87,7 @@ fn scenario_of(
         return Err(AllocError);
     }
     let settings = grid.point(alloc, point)?;
-    match read_run(alloc, file, &settings, &grid.run(alloc, run)?) {
+    match read_run(alloc, sources, &settings, &grid.run(alloc, run)?) {
         Ok(scenario) => Ok(scenario),
         Err(_) => Err(AllocError),
     }
@@ -116,7 +115,7 @@ fn reckon_run(scenario: &Scenario, point: u64, run: u64, share: u64) -> Reckoned
 /// kind, which stands for all of its kind.
 pub(crate) fn reckon_point(
     alloc: Global,
-    file: &Table,
+    sources: &Sources,
     grid: &Grid,
     point: u64,
     most: u64,
@@ -128,7 +127,7 @@ pub(crate) fn reckon_point(
         let run = (kind / dealt)
             .saturating_mul(seeds)
             .saturating_add(kind % dealt);
-        let scenario = scenario_of(alloc, file, grid, point, run)?;
+        let scenario = scenario_of(alloc, sources, grid, point, run)?;
         all.join(&reckon_run(&scenario, point, run, seeds / dealt));
     }
     Ok(all)
@@ -138,7 +137,7 @@ pub(crate) fn reckon_point(
 pub(crate) fn reckon<R: Threads + Sync>(
     rt: &R,
     alloc: Global,
-    file: &Table,
+    sources: &Sources,
     grid: &Grid,
     points: Range<u64>,
     threads: u8,
@@ -147,7 +146,7 @@ pub(crate) fn reckon<R: Threads + Sync>(
     for batch in 0..points.end.saturating_sub(points.start).div_ceil(BATCH) {
         let first = points.start.saturating_add(batch.saturating_mul(BATCH));
         let count = BATCH.min(points.end.saturating_sub(first));
-        let reckon_one = |point: u64| reckon_point(alloc, file, grid, point, u64::MAX);
+        let reckon_one = |point: u64| reckon_point(alloc, sources, grid, point, u64::MAX);
         for reckoned in in_parallel(rt, alloc, first, count, threads, &reckon_one)? {
             all.join(&reckoned?);
         }

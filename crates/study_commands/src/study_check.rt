@@ -1,10 +1,11 @@
 //! The command `check` with a study: how many points and runs there are, and about how much they will be.
-ghost use Rattle.std.specs.Prelude.{◌≡◌, ◌≢◌, ◌+◌, ◌++◌, ℕ, List, false, IfOk, IfErr, length, string_bytes};
+ghost use Rattle.std.specs.Prelude.{◌≡◌, ◌+◌, ◌++◌, ℕ, List, false, IfOk, IfErr, length, string_bytes};
 ghost use Rattle.study.specs.Grid.{runs};
 ghost use Rattle.study_commands.specs.Check.{IsStudyCheck, study_begin};
 ghost use Rattle.study_commands.specs.Why.{StopsSweep};
 ghost use Rattle.study_commands.specs.Fault.{IsBefore};
-ghost use Rattle.shell.specs.Input.{TakesAtMost, input_path, most_bytes};
+ghost use Rattle.study_commands.specs.File.{NameNoInput};
+ghost use Rattle.shell.specs.Input.{TakesAtMost, most_bytes};
 ghost use Rattle.sweep.specs.StudyText.{numbers_of};
 
 use crate::fault::Fault;
@@ -20,10 +21,9 @@ use std::marker::Sync;
 use std::rt::Files;
 use std::thread::Threads;
 use std::time::Clock;
-use study::{Grid, Shard};
-use study_line::StudyTexts;
+use study::{Grid, Shard, Sources};
+use study_line::{SourceTexts, StudyTexts};
 use sweep::{Watcher, check_study};
-use toml::Table;
 
 /// About how many entries the runs have, and how long they take by so many threads.
 fn size_text(alloc: Global, reckoned: &Reckoned, threads: u8) -> Result<String, AllocError> {
@@ -50,7 +50,7 @@ fn limit_text(
     let text = format!(in alloc; "limit {its} may stop {name}, which has about {entries} entries")?;
     match limit {
         Some(limit) => format!(in alloc; "{text}; limit={limit} would do for all\n"),
-        None => format!(in alloc; "{text}; no limit of a file would do for all\n"),
+        None => format!(in alloc; "{text}; no limit of a sources would do for all\n"),
     }
 }
 
@@ -72,7 +72,7 @@ fn reckoned_text(
 fn text_of<R: Threads + Sync>(
     rt: &R,
     alloc: Global,
-    file: &Table,
+    sources: &Sources,
     grid: &Grid,
     shard: Shard,
     threads: u8,
@@ -84,7 +84,7 @@ fn text_of<R: Threads + Sync>(
     let its = shard.points(grid.points() as u32);
     let range = u64::from(its.start)..u64::from(its.end);
     let points = its.end - its.start;
-    let reckoned = reckon(rt, alloc, file, grid, range, threads)?;
+    let reckoned = reckon(rt, alloc, sources, grid, range, threads)?;
     let mut text = format!(in alloc; "ok: {points} points of {runs} runs each")?;
     text.push_str(reckoned_text(alloc, grid, &reckoned, threads)?.as_str())?;
     Ok(text)
@@ -96,21 +96,21 @@ fn text_of<R: Threads + Sync>(
 pub(crate) fn serve_study_check<R: Files + Threads + Sync + Clock, I: Read, W: Watcher>(
     rt: &R,
     alloc: Global,
-    path: &str,
+    texts: &SourceTexts<'_>,
     study: &StudyTexts<'_>,
     input: &mut I,
     watcher: &mut W,
 ) -> Result<Vec<u8>, Fault>
-    ensures text { IfOk result (λ text. IsStudyCheck (I.remaining input.old) path.now study.now text.items) }
-    ensures why { IfErr result (IsBefore (StopsSweep (I.remaining input.old) path.now study.now)) }
+    ensures text { IfOk result (λ text. IsStudyCheck (I.remaining input.old) texts.now study.now text.items) }
+    ensures why { IfErr result (IsBefore (StopsSweep (I.remaining input.old) texts.now study.now)) }
     ensures taken { TakesAtMost (most_bytes + 1) (I.remaining input.old) (I.remaining input.new) }
-    ensures untouched { path.now ≢ input_path → input.new ≡ input.old }
+    ensures untouched { NameNoInput texts.now → input.new ≡ input.old }
     ensures hidden { W.shows watcher.old ≡ false → W.shows watcher.new ≡ false }
 {
-    let (file, grid, shard, _layout) = said_over(rt, alloc, path, study, input)?;
+    let (sources, grid, shard, layout) = said_over(rt, alloc, texts, study, input)?;
     let threads = threads_for(rt, study.threads);
-    match check_study(rt, alloc, &file, &grid, shard, threads, watcher) {
-        Ok(()) => Ok(text_of(rt, alloc, &file, &grid, shard, threads)?.into_bytes()),
-        Err(error) => Err(fault_of(alloc, path, &file, &grid, &error)),
+    match check_study(rt, alloc, &sources, &grid, shard, &layout, threads, watcher) {
+        Ok(()) => Ok(text_of(rt, alloc, &sources, &grid, shard, threads)?.into_bytes()),
+        Err(error) => Err(fault_of(alloc, texts.path, &sources, &grid, &error)),
     }
 }

@@ -3,9 +3,10 @@ ghost use Rattle.std.specs.Prelude.{◌≡◌, false, Some, IfOk, IfErr, map, op
 ghost use Rattle.std.specs.List.{AllZip};
 ghost use Rattle.study_commands.specs.Fault.{IsOfWords, IsOfWordsFor};
 ghost use Rattle.study_commands.specs.Study.{IsGrid, IsShardOf};
-ghost use Rattle.study_commands.specs.WordRefusals.{HasNoAxis, SaysNoGrid, SaysNoSeeds, SaysNoShard};
+ghost use Rattle.study_commands.specs.WordRefusals.{HasNoAxis, HasNoGroup, SaysNoGrid, SaysNoSeeds, SaysNoShard, is_group_memory};
 ghost use Rattle.study.specs.AxisWords.{SaysAxis, is_memory};
 ghost use Rattle.study.specs.SeedWords.{seeds_said};
+ghost use Rattle.sweep.specs.GroupWords.{SaysGroup};
 
 use crate::fault::Fault;
 use printable::Printable;
@@ -13,6 +14,7 @@ use std::alloc::{AllocError, Global};
 use std::fmt::Debug;
 use study::{Axis, AxisError, Grid, GridError, KeyError, Seeds, SeedsError, Shard};
 use study_line::GridTexts;
+use sweep::{GroupError, PairGroup};
 
 /// The fault of a word that is refused for this reason.
 fn refused_word<E: Debug>(alloc: Global, word: &str, error: &E) -> Fault
@@ -47,6 +49,36 @@ fn axes_of(alloc: Global, words: &[&str]) -> Result<Vec<Axis>, Fault>
         axes.push(axis).map_err(|_| Fault::WordsMemory)?;
     }
     Ok(axes)
+}
+
+/// The fault of a word that says no group of pairs, with what would.
+fn group_fault(alloc: Global, word: &str, error: &GroupError) -> Fault
+    ensures { IsOfWordsFor (is_group_memory error.now ≡ false) result }
+{
+    let hint = match error {
+        GroupError::NoGroup => "pairs are OBSERVERS:SUBJECTS, each A..=B or A, joined by +",
+        GroupError::NoProcess => "processes are 1 to 256",
+        GroupError::EmptyRange => "processes are A..=B with A at most B",
+        GroupError::Memory => return Fault::WordsMemory,
+    };
+    let word = Printable(word);
+    Fault::of_words(format!(in alloc; "fdstudy: words: {error:?}: {word} ({hint})\n"))
+}
+
+/// The groups of pairs that words say, one after the other.
+pub(crate) fn groups_of(alloc: Global, words: &[&str]) -> Result<Vec<PairGroup>, Fault>
+    ensures groups { IfOk result (λ v. AllZip SaysGroup (map (λ w. w.now) words.now) v.items) }
+    ensures refused { IfErr result (IsOfWordsFor (HasNoGroup (map (λ w. w.now) words.now))) }
+{
+    let mut groups = Vec::new(alloc);
+    for word in words {
+        let group = match PairGroup::parse(alloc, word) {
+            Ok(group) => group,
+            Err(error) => return Err(group_fault(alloc, word, &error)),
+        };
+        groups.push(group).map_err(|_| Fault::WordsMemory)?;
+    }
+    Ok(groups)
 }
 
 /// The fault of a word that says no seeds, with what would.

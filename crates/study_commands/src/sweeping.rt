@@ -1,18 +1,19 @@
 //! The command `sweep`: the table of a study.
-ghost use Rattle.std.specs.Prelude.{◌≡◌, ◌≢◌, ◌^◌, ◌-◌, ◌+◌, ◌<◌, ◌≤◌, false, IfOk, IfErr, IfSome, OnOk, option_map};
+ghost use Rattle.std.specs.Prelude.{◌≡◌, ◌^◌, ◌-◌, ◌+◌, ◌<◌, ◌≤◌, false, IfOk, IfErr, IfSome, OnOk, map, option_map};
 ghost use Rattle.study_commands.specs.Fault.{IsBefore, IsOfWordsFor};
+ghost use Rattle.study_commands.specs.File.{NameNoInput};
 ghost use Rattle.study_commands.specs.Study.{IsLayout, rows_for};
 ghost use Rattle.study_commands.specs.Sweep.{GoesForSweep, IsFaultOf, IsOfRun, IsSaid};
 ghost use Rattle.study_commands.specs.Why.{StopsSweep};
-ghost use Rattle.study_commands.specs.WordRefusals.{LacksColumn, is_layout_memory};
-ghost use Rattle.toml.specs.View.{table_view};
-ghost use Rattle.shell.specs.Input.{TakesAtMost, input_path, most_bytes};
+ghost use Rattle.study_commands.specs.WordRefusals.{SaysNoLayout, TellsOfLayout, is_layout_memory};
+ghost use Rattle.study.specs.Sources.{sources_of};
+ghost use Rattle.shell.specs.Input.{TakesAtMost, most_bytes};
 
 use crate::fault::Fault;
-use crate::file::table_of;
-use crate::refused_run::line_of_run;
-use crate::study_words::{grid_of, shard_of};
-use printable::Printable;
+use crate::refused_run::{line_of_lack, line_of_run};
+use crate::sources::sources_over;
+use crate::study_words::{grid_of, groups_of, shard_of};
+use crate::unknown_column::line_of_unknown;
 use reporting::Outlet;
 use std::alloc::Global;
 use std::io::Read;
@@ -20,10 +21,9 @@ use std::marker::Sync;
 use std::rt::Files;
 use std::thread::{Threads, available_parallelism};
 use std::time::Clock;
-use study::{Grid, Shard};
-use study_line::{Each, StudyTexts};
+use study::{Grid, Shard, Sources};
+use study_line::{Each, SourceTexts, StudyTexts};
 use sweep::{Layout, LayoutError, Rows, SweepError, Watcher, sweep};
-use toml::Table;
 
 /// How many threads share the runs: as many as were asked for, or else one for each processor; at most 64.
 pub(crate) fn threads_for<R: Threads>(rt: &R, asked: Option<u64>) -> u8
@@ -43,7 +43,7 @@ pub(crate) fn threads_for<R: Threads>(rt: &R, asked: Option<u64>) -> u8
 pub(crate) fn fault_of(
     alloc: Global,
     path: &str,
-    file: &Table,
+    sources: &Sources,
     grid: &Grid,
     error: &SweepError,
 ) -> Fault
@@ -52,9 +52,15 @@ pub(crate) fn fault_of(
 {
     match error {
         SweepError::Refused { point, run, .. } => {
-            let line = line_of_run(alloc, path, file, grid, *point, *run);
+            let line = line_of_run(alloc, path, sources, grid, *point, *run);
             Fault::Refused(line.ok())
         }
+        SweepError::NoSuchProcess {
+            point,
+            run,
+            processes,
+            ..
+        } => Fault::Refused(line_of_lack(alloc, path, grid, *point, *run, *processes).ok()),
         SweepError::Memory => Fault::Memory,
         SweepError::Write => Fault::Write,
     }
@@ -72,72 +78,81 @@ fn rows_of(each: Each) -> Rows
 
 /// The fault of a word that names a column which there isn't, with one that is perhaps meant.
 fn layout_fault(alloc: Global, error: &LayoutError) -> Fault
-    ensures { IsOfWordsFor (is_layout_memory error.now ≡ false) result }
+    ensures words { IsOfWordsFor (is_layout_memory error.now ≡ false) result }
+    ensures line { TellsOfLayout error.now result }
 {
     match error {
         LayoutError::Unknown { name, nearest } => {
-            let (name, nearest) = (Printable(name.as_str()), Printable(nearest.as_str()));
-            Fault::of_words(format!(in alloc;
-                "fdstudy: words: NoColumn: {name} (did you mean {nearest}?)\n"
-            ))
+            Fault::of_words(line_of_unknown(alloc, name.as_str(), nearest.as_str()))
         }
         LayoutError::Memory => Fault::WordsMemory,
     }
 }
 
 /// The layout of the rows that words ask for.
-fn layout_of(alloc: Global, grid: &Grid, each: Each, columns: Option<&str>) -> Result<Layout, Fault>
-    ensures layout { IfOk result (IsLayout each (option_map (λ w. w.now) columns.entry) grid.now) }
-    ensures refused { IfErr result (IsOfWordsFor (LacksColumn each (option_map (λ w. w.now) columns.entry) grid.now)) }
+fn layout_of(
+    alloc: Global,
+    grid: &Grid,
+    each: Each,
+    pairs: &[&str],
+    columns: Option<&str>,
+) -> Result<Layout, Fault>
+    ensures layout { IfOk result
+        (IsLayout each (map (λ w. w.now) pairs.now) (option_map (λ w. w.now) columns.entry) grid.now) }
+    ensures refused { IfErr result (IsOfWordsFor
+        (SaysNoLayout each (map (λ w. w.now) pairs.now) (option_map (λ w. w.now) columns.entry) grid.now)) }
 {
-    Layout::new(alloc, grid, rows_of(each), columns).map_err(|error| layout_fault(alloc, &error))
+    let groups = groups_of(alloc, pairs)?;
+    Layout::new(alloc, grid, rows_of(each), groups, columns).map_err(|error| layout_fault(
+        alloc, &error,
+    ))
 }
 
-/// The study that words say of the file at a path, `-` being the input: the file's table, the grid, the shard and the
+/// The study that words say of the files that they name, `-` being the input: the files, the grid, the shard and the
 /// layout of its rows.
 pub(crate) fn said_over<R: Files, I: Read>(
     rt: &R,
     alloc: Global,
-    path: &str,
+    texts: &SourceTexts<'_>,
     study: &StudyTexts<'_>,
     input: &mut I,
-) -> Result<(Table, Grid, Shard, Layout), Fault>
-    ensures said { IfOk result (λ s. IsSaid (I.remaining input.old) path.now study.now (table_view s.0) s.1 s.2 s.3) }
-    ensures why { IfErr result (IsBefore (StopsSweep (I.remaining input.old) path.now study.now)) }
+) -> Result<(Sources, Grid, Shard, Layout), Fault>
+    ensures said { IfOk result (λ s. IsSaid (I.remaining input.old) texts.now study.now (sources_of s.0) s.1 s.2 s.3) }
+    ensures why { IfErr result (IsBefore (StopsSweep (I.remaining input.old) texts.now study.now)) }
     ensures taken { TakesAtMost (most_bytes + 1) (I.remaining input.old) (I.remaining input.new) }
-    ensures untouched { path.now ≢ input_path → input.new ≡ input.old }
+    ensures untouched { NameNoInput texts.now → input.new ≡ input.old }
 {
     let grid = grid_of(alloc, &study.grid)?;
     let shard = shard_of(alloc, study.shard)?;
-    let layout = layout_of(alloc, &grid, study.each, study.columns)?;
-    let file = table_of(rt, alloc, path, input)?;
-    Ok((file, grid, shard, layout))
+    let layout = layout_of(alloc, &grid, study.each, &study.pairs, study.columns)?;
+    let sources = sources_over(rt, alloc, texts, &grid, input)?;
+    Ok((sources, grid, shard, layout))
 }
 
 /// Answers `sweep`: the rows of the study's points, or of their runs; of the shard's where one is named.
 pub(crate) fn serve_sweep<R: Files + Threads + Sync + Clock, I: Read, O: Outlet, W: Watcher>(
     rt: &R,
     alloc: Global,
-    path: &str,
+    texts: &SourceTexts<'_>,
     study: &StudyTexts<'_>,
     input: &mut I,
     outlet: &mut O,
     watcher: &mut W,
 ) -> Result<(), Fault>
     requires { O.failed outlet.old < 2 ^ 64 - 1 }
-    ensures text { GoesForSweep O.told O.failed outlet.old outlet.new (I.remaining input.old) path.now
+    ensures text { GoesForSweep O.told O.failed outlet.old outlet.new (I.remaining input.old) texts.now
         study.now result }
-    ensures why { IfErr result (StopsSweep (I.remaining input.old) path.now study.now) }
+    ensures why { IfErr result (StopsSweep (I.remaining input.old) texts.now study.now) }
     ensures taken { TakesAtMost (most_bytes + 1) (I.remaining input.old) (I.remaining input.new) }
-    ensures untouched { path.now ≢ input_path → input.new ≡ input.old }
+    ensures untouched { NameNoInput texts.now → input.new ≡ input.old }
     ensures hidden { W.shows watcher.old ≡ false → W.shows watcher.new ≡ false }
 {
-    let (file, grid, shard, layout) = said_over(rt, alloc, path, study, input)?;
+    let (sources, grid, shard, layout) = said_over(rt, alloc, texts, study, input)?;
     let threads = threads_for(rt, study.threads);
     match sweep(
-        rt, alloc, &file, &grid, shard, &layout, threads, outlet, watcher,
+        rt, alloc, &sources, &grid, shard, &layout, threads, outlet, watcher,
     ) {
         Ok(()) => Ok(()),
-        Err(error) => Err(fault_of(alloc, path, &file, &grid, &error)),
+        Err(error) => Err(fault_of(alloc, texts.path, &sources, &grid, &error)),
     }
 }

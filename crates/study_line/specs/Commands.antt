@@ -24,13 +24,13 @@ abbrev pub seeds_rule : (needed : Bool) → Rule
 seeds_rule needed = record (option_rule (codes "seeds")) { required = needed }
 
 -- an option that may be there several times, each time with a value
-abbrev pub axis_rule : Text → Rule
-axis_rule name = record (option_rule name) { action = Some Append }
+abbrev pub repeated_rule : Text → Rule
+repeated_rule name = record (option_rule name) { action = Some Append }
 
 abbrev pub with_axes : App → App
 with_axes app =
-    with_rule (with_rule (with_rule app (axis_rule (codes "vary"))) (axis_rule (codes "over")))
-    (axis_rule (codes "deal"))
+    with_rule (with_rule (with_rule app (repeated_rule (codes "vary"))) (repeated_rule (codes "over")))
+    (repeated_rule (codes "deal"))
 
 -- the runs of a study
 abbrev pub with_grid : (needed : Bool) → App → App
@@ -64,13 +64,16 @@ tick_rule name = record (option_rule name) { parser = Some (parser.Unsigned 0 42
 abbrev pub with_ticks : App → App
 with_ticks app = with_rule (with_rule app (tick_rule (codes "from"))) (tick_rule (codes "until"))
 
--- a command that takes a path
+-- a command that takes a scenario's file, and perhaps a network's and what is set in them
 abbrev pub with_path : Text → App
-with_path name = with_rule (new_app name) path_rule
+with_path name =
+    with_rule (with_rule (with_rule (new_app name) path_rule) (option_rule (codes "network"))) (repeated_rule (codes "set"))
 
 -- what the table of a study has
 abbrev pub with_table : App → App
-with_table app = with_rule (with_rule app (option_rule (codes "columns"))) (option_rule (codes "each"))
+with_table app =
+    with_rule (with_rule (with_rule app (option_rule (codes "columns"))) (option_rule (codes "each")))
+    (repeated_rule (codes "pairs"))
 
 -- a command that takes a path and a study
 abbrev pub study_app : (needed : Bool) → Text → App

@@ -17,6 +17,7 @@ use Rattle.study_line.specs.declared.order.Order.{Order}
 use Rattle.study_line.specs.declared.order.Order.TheVariants as order
 use Rattle.study_line.specs.declared.order.Picture.{Picture}
 use Rattle.study_line.specs.declared.order.Picture.TheVariants as picture
+use Rattle.study_line.specs.declared.order.SourceTexts.{SourceTexts}
 use Rattle.study_line.specs.declared.order.StudyTexts.{StudyTexts}
 use Rattle.study_line.specs.declared.order.WordsError.{WordsError}
 use Rattle.study_line.specs.declared.order.WordsError.TheVariants as refusal
@@ -79,6 +80,12 @@ each_text each.Run = codes "run"
 abbrev pub IsEachAt : Text → List Row → Each → Type 0
 IsEachAt id rows told = text_or_else id rows (codes "point") ≡ each_text told
 
+-- the files that are named, and what is set in them
+pub record AreSourcesAt (rows : List Row) (sources : SourceTexts) : Type 0 where
+  pub path : IsTextAt (codes "path") rows sources.path.now
+  pub network : MayBeTextAt (codes "network") rows sources.network
+  pub set : map (λ t. t.now) sources.set.items ≡ texts_at (codes "set") rows
+
 -- which runs a study has
 pub record IsGridAt (rows : List Row) (grid : GridTexts) : Type 0 where
   pub seeds : IsTextAt (codes "seeds") rows grid.seeds.now
@@ -93,12 +100,13 @@ pub record IsStudyAt (rows : List Row) (study : StudyTexts) : Type 0 where
   pub threads : MayBeNumberAt (codes "threads") rows study.threads
   pub columns : MayBeTextAt (codes "columns") rows study.columns
   pub each : IsEachAt (codes "each") rows study.each
+  pub pairs : map (λ t. t.now) study.pairs.items ≡ texts_at (codes "pairs") rows
 
 -- the options that say a study
 abbrev pub study_options : List Text
 study_options =
     codes "seeds" ∷ codes "vary" ∷ codes "over" ∷ codes "deal" ∷ codes "shard" ∷ codes "threads" ∷ codes "columns"
-    ∷ codes "each" ∷ []
+    ∷ codes "each" ∷ codes "pairs" ∷ []
 
 -- a study, or none where none of its options is there
 abbrev pub MayBeStudyAt : List Row → Option StudyTexts → Type 0
@@ -109,18 +117,18 @@ MayBeStudyAt rows None = list_all (is_missing rows) study_options ≡ true
 
 -- the order is what the subcommand of this name says by its own arguments
 abbrev pub StatesIn : Text → List Row → Order → Type 0
-StatesIn name rows (order.Check path study) = (name ≡ codes "check")
-    × IsTextAt (codes "path") rows path.now × MayBeStudyAt rows study
-StatesIn name rows (order.Letters path) = (name ≡ codes "letters") × IsTextAt (codes "path") rows path.now
-StatesIn name rows (order.Draw path named from until of) = (name ≡ codes "draw")
-    × IsTextAt (codes "path") rows path.now × IsPictureAt (codes "as") rows named
+StatesIn name rows (order.Check sources study) = (name ≡ codes "check")
+    × AreSourcesAt rows sources × MayBeStudyAt rows study
+StatesIn name rows (order.Letters sources) = (name ≡ codes "letters") × AreSourcesAt rows sources
+StatesIn name rows (order.Draw sources named from until of) = (name ≡ codes "draw")
+    × AreSourcesAt rows sources × IsPictureAt (codes "as") rows named
     × MayBeTickAt (codes "from") rows from × MayBeTickAt (codes "until") rows until
     × MayBeTextAt (codes "of") rows of
-StatesIn name rows (order.Show path grid point run) = (name ≡ codes "show")
-    × IsTextAt (codes "path") rows path.now × IsGridAt rows grid
+StatesIn name rows (order.Show sources grid point run) = (name ≡ codes "show")
+    × AreSourcesAt rows sources × IsGridAt rows grid
     × IsNumberAt (codes "point") rows point × IsNumberAt (codes "run") rows run
-StatesIn name rows (order.Sweep path study) = (name ≡ codes "sweep")
-    × IsTextAt (codes "path") rows path.now × IsStudyAt rows study
+StatesIn name rows (order.Sweep sources study) = (name ≡ codes "sweep")
+    × AreSourcesAt rows sources × IsStudyAt rows study
 
 -- the order is what the subcommand that was found says
 abbrev pub StatesFound : Option (Text × List Row) → Order → Type 0

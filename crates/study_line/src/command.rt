@@ -1,7 +1,7 @@
 //! The command line, with its help.
 ghost use Rattle.std.specs.Prelude.{Some};
 ghost use Rattle.clap.specs.Words.{App, Rule, with_rule, with_subcommand};
-ghost use Rattle.study_line.specs.Commands.{HasRule, Makes, axis_rule, check_app, draw_app, letters_app, option_rule, path_rule, point_rule, run_rule, show_app, study_app, sweep_app, threads_rule, tick_rule, whole_app, with_grid, with_path};
+ghost use Rattle.study_line.specs.Commands.{HasRule, Makes, repeated_rule, check_app, draw_app, letters_app, option_rule, path_rule, point_rule, run_rule, show_app, study_app, sweep_app, threads_rule, tick_rule, whole_app, with_grid, with_path};
 
 use clap::builder::ValueParser;
 use clap::{Arg, ArgAction, Command, value_parser};
@@ -87,9 +87,74 @@ many seeds there are must be a multiple of how many combinations there are. The 
 letters: runs that share a seed share the fates of all letters, so they are no independent evidence.
 
 What is printed depends neither on the threads nor on the shards: the outputs of all shards, one after the other, are \
-that of the whole study.";
+that of the whole study.
+
+A row begins with the keys of --vary, and with `--each run` with those of --over and --deal too, `seed` and `run`. The \
+other columns tell of the runs of the row that have the layer, and are empty where there is nothing to tell:
+
+  pairs                     the group of pairs that the row counts, as --pairs says it; only with --pairs [word]
+  layer                     which detectors: 1, those of the base layer, or 2, the output of the reduction [number]
+  runs                      runs that have the layer [runs]
+  limited                   those that passed their limit; they count in no other column [runs]
+  entries                   entries of the traces [entries]
+  sent                      letters that were sent [letters]
+  lost                      letters that were lost by their links [letters]
+  pair_ticks                how long pairs were watched, over all pairs that count [ticks]
+  mistakes                  suspicions of a process by another before either crashed [suspicions]
+  mistake_ticks             how long these lasted, up to the first crash of the two [ticks]
+  mistake_recurrence        pair_ticks over mistakes, rounded down: the mean time between two of a pair [ticks]
+  mistaken_ppm              a million times mistake_ticks over pair_ticks, rounded down [millionths]
+  mistakes_squared_sum      the square of a run's mistakes, added up over the runs [suspicions squared]
+  runs_with_mistakes        runs with a mistake [runs]
+  mistakes_error            the standard error of mistakes over the runs [suspicions]
+  recurrence_sum            from the start of a mistake to that of the pair's next one, added up [ticks]
+  recurrence_count          how many these are [number]
+  duration_sum              from the start of a mistake to its end, added up [ticks]
+  duration_count            how many these are [number]
+  duration_p99              the 99th percentile of these [ticks]
+  duration_max              the longest of these [ticks]
+  good_sum                  from the end of a mistake to the start of the pair's next one, added up [ticks]
+  good_count                how many these are [number]
+  detections                pairs of which one detected the crash of the other [pairs]
+  undetected                pairs of which one was to detect the crash of the other and didn't [pairs]
+  at_once                   detections that took 0 ticks: the suspicion had begun by the crash [pairs]
+  detection_sum             from a crash to its detection, added up [ticks]
+  detection_p50             the 50th percentile of these, those that didn't come as the longest [ticks]
+  detection_p90             the 90th percentile of the same [ticks]
+  detection_p99             the 99th percentile of the same [ticks]
+  detection_max             the longest of those that came [ticks]
+  strong_completeness       runs in which from some tick on all correct processes suspect all crashed ones [runs]
+  weak_completeness         runs in which from some tick on each crashed process is suspected by a correct one [runs]
+  strong_accuracy           runs in which nobody is suspected before its crash [runs]
+  weak_accuracy             runs in which some correct process is never suspected [runs]
+  eventual_strong_accuracy  runs in which from some tick on no correct process suspects a correct one [runs]
+  eventual_weak_accuracy    runs in which from some tick on no correct process suspects one that is correct [runs]
+  to_decide                 correct processes, in runs with an algorithm [processes]
+  decided                   those of them that decided a value [processes]
+  decision_tick_sum         the ticks of these decisions, added up [ticks]
+  decision_tick_max         the last of these ticks [tick]
+  all_decided               runs in which each correct process decided, one at least [runs]
+  last_decision_p50         the 50th percentile of a run's last decision, those where one is missing last [tick]
+  last_decision_p90         the 90th percentile of the same [tick]
+  last_decision_p99         the 99th percentile of the same [tick]
+  last_decision_max         the greatest of those that came [tick]
+  rounds_p50                the 50th percentile of a run's greatest round [rounds]
+  rounds_p99                the 99th percentile of the same [rounds]
+  rounds_max                the greatest of them [rounds]
+  disagreements             runs in which two processes decided different values [runs]
+  mistake_run               the first run of the point with a mistake [number of the run]
+  detection_max_run         the first run of the point with a detection of detection_max [number of the run]
+  disagreement_run          the first run of the point with a disagreement [number of the run]";
 
 const PATH: &str = "The scenario file, of at most 8388608 bytes; `-` is standard input";
+
+const NETWORK: &str =
+    "A network file that is laid over the scenario: what its links do, and bursts, cuts, pauses and \
+records of losses, which each seed draws anew; of at most 8388608 bytes, `-` is standard input";
+
+const SET: &str =
+    "A key with the value that it has in all runs, any value of TOML, as 'proposals=[1,2,3]' or \
+'detector={kind=\"freshness\",eta=100,delta=50}', which takes the place of the whole table; may be there several times";
 
 const SEEDS: &str = "The seeds of each point's runs, from A to B";
 
@@ -117,6 +182,10 @@ const COLUMNS: &str =
 
 const EACH: &str =
     "What has a row: each `point`, with its runs added up, or each `run` [default: point]";
+
+const PAIRS: &str =
+    "A group of pairs that has rows of its own, of its observers and their subjects: each a number or A..=B, several \
+joined by `+`, as 1..=4:5..=7+5..=7:1..=4; may be there several times [default: all pairs in one row]";
 
 const PICTURE: &str =
     "Which picture: `suspicions`, who suspects whom, or `letters`, what went from whom to whom";
@@ -188,11 +257,18 @@ fn parsed_option<'a>(
     option(alloc, name, value, help, false).value_parser(values)
 }
 
+/// An option that may be there several times.
+fn repeated_option<'a>(alloc: Global, name: &'a str, value: &'a str, help: &'a str) -> Arg<'a>
+    ensures { HasRule (repeated_rule name.now) result }
+{
+    option(alloc, name, value, help, false).action(ArgAction::Append)
+}
+
 /// An option for axes, which may be there several times.
 fn axis_option<'a>(alloc: Global, name: &'a str, help: &'a str) -> Arg<'a>
-    ensures { HasRule (axis_rule name.now) result }
+    ensures { HasRule (repeated_rule name.now) result }
 {
-    option(alloc, name, "KEY=VALUE,..", help, false).action(ArgAction::Append)
+    repeated_option(alloc, name, "KEY=VALUE,..", help)
 }
 
 /// The option for the point.
@@ -225,12 +301,14 @@ fn tick_option<'a>(alloc: Global, name: &'a str, help: &'a str) -> Arg<'a>
     parsed_option(alloc, name, "T", help, values)
 }
 
-/// A command that takes a scenario file.
+/// A command that takes a scenario file, and perhaps a network file and what is set in them.
 fn path_command<'a>(alloc: Global, name: &'a str, about: &'a str, example: &'a str) -> Made<'a>
     ensures { Makes (with_path name.now) result }
 {
     let command = Command::new(alloc, name).about(about).after_help(example);
-    with_argument(Ok(command), path_argument(alloc))
+    let command = with_argument(Ok(command), path_argument(alloc));
+    let command = with_argument(command, option(alloc, "network", "FILE", NETWORK, false));
+    with_argument(command, repeated_option(alloc, "set", "KEY=VALUE", SET))
 }
 
 /// A command that takes a scenario file and the options that say which runs a study has.
@@ -264,7 +342,11 @@ fn study_command<'a>(
     let command = with_argument(command, option(alloc, "shard", "K/N", SHARD, false));
     let command = with_argument(command, threads_option(alloc));
     let command = with_argument(command, option(alloc, "columns", "NAME,..", COLUMNS, false));
-    with_argument(command, option(alloc, "each", "WHAT", EACH, false))
+    let command = with_argument(command, option(alloc, "each", "WHAT", EACH, false));
+    with_argument(
+        command,
+        repeated_option(alloc, "pairs", "OBSERVERS:SUBJECTS", PAIRS),
+    )
 }
 
 /// `draw SCENARIO --as PICTURE [--from T] [--until T] [--of P,Q]`

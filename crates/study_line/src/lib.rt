@@ -19,4 +19,4 @@
 mod command;
 mod order;
 
-pub use order::{Each, GridTexts, Order, Picture, StudyTexts, WordsError, read_words};
+pub use order::{Each, GridTexts, Order, Picture, SourceTexts, StudyTexts, WordsError, read_words};

@@ -3,13 +3,24 @@ ghost use Rattle.std.specs.Prelude.{◌≡◌, List, IfOk, IfErr, map, codes};
 ghost use Rattle.std.specs.List.{list_all};
 ghost use Rattle.clap.specs.Words.{Text, rows_of, found_of, subcommand_rows_of, fault_of, HasKind};
 ghost use Rattle.study_line.specs.Commands.{whole_app};
-ghost use Rattle.study_line.specs.Order.{Explains, IsEachAt, IsGridAt, IsNumberAt, IsPictureAt, IsStudyAt, IsTextAt, Lacks, MayBeNumberAt, MayBeStudyAt, MayBeTextAt, MayBeTickAt, Reads, States, StatesFound, StatesIn, is_missing, study_options, texts_at};
+ghost use Rattle.study_line.specs.Order.{AreSourcesAt, Explains, IsEachAt, IsGridAt, IsNumberAt, IsPictureAt, IsStudyAt, IsTextAt, Lacks, MayBeNumberAt, MayBeStudyAt, MayBeTextAt, MayBeTickAt, Reads, States, StatesFound, StatesIn, is_missing, study_options, texts_at};
 
 use crate::command::command;
 use clap::ArgMatches;
 use clap::error::ErrorKind;
 use printable::Printable;
 use std::alloc::{AllocError, Global};
+
+/// A scenario's file and what is laid over it, by texts that are still to be read. The path `-` is standard input.
+#[derive(Drop)]
+pub struct SourceTexts<'a> {
+    /// Where the scenario file is.
+    pub path: &'a str,
+    /// Where the network file is, where there is one.
+    pub network: Option<&'a str>,
+    /// What is set in them for all runs, as `proposals=[1,2]`, in order.
+    pub set: Vec<&'a str>,
+}
 
 /// Which runs a study has, by texts that are still to be read.
 #[derive(Drop)]
@@ -37,6 +48,9 @@ pub struct StudyTexts<'a> {
     pub columns: Option<&'a str>,
     /// What a row of its table tells of.
     pub each: Each,
+    /// The groups of pairs that have rows of their own, as `1..=4:5..=7`, in order; all pairs have one where there is
+    /// none.
+    pub pairs: Vec<&'a str>,
 }
 
 /// What a row of a study's table tells of.
@@ -57,26 +71,26 @@ pub enum Picture {
     Letters,
 }
 
-/// What a command line asks for. The path `-` is standard input.
+/// What a command line asks for.
 #[derive(Drop)]
 pub enum Order<'a> {
     /// To say whether the scenario file, or the scenario of each run of a study, is accepted, and where and why it
     /// isn't.
     Check {
-        /// Where the scenario file is.
-        path: &'a str,
+        /// The files, and what is set in them.
+        sources: SourceTexts<'a>,
         /// Which study, where one is said.
         study: Option<StudyTexts<'a>>,
     },
     /// To print the letters of the scenario's run.
     Letters {
-        /// Where the scenario file is.
-        path: &'a str,
+        /// The files, and what is set in them.
+        sources: SourceTexts<'a>,
     },
     /// To draw a picture of the scenario's run.
     Draw {
-        /// Where the scenario file is.
-        path: &'a str,
+        /// The files, and what is set in them.
+        sources: SourceTexts<'a>,
         /// Which picture.
         picture: Picture,
         /// The first tick that is drawn, where it is said.
@@ -88,8 +102,8 @@ pub enum Order<'a> {
     },
     /// To print the scenario file of one run.
     Show {
-        /// Where the scenario file is.
-        path: &'a str,
+        /// The files, and what is set in them.
+        sources: SourceTexts<'a>,
         /// Which runs the study has.
         grid: GridTexts<'a>,
         /// Which point, from 1.
@@ -99,8 +113,8 @@ pub enum Order<'a> {
     },
     /// To run a study and to print its table.
     Sweep {
-        /// Where the scenario file is.
-        path: &'a str,
+        /// The files, and what is set in them.
+        sources: SourceTexts<'a>,
         /// Which study.
         study: StudyTexts<'a>,
     },
@@ -205,6 +219,17 @@ fn each_at(alloc: Global, found: &ArgMatches<'_>, id: &str) -> Result<Each, Word
     }
 }
 
+/// The files that are named, and what is set in them.
+fn read_sources<'a>(alloc: Global, found: &ArgMatches<'a>) -> Result<SourceTexts<'a>, WordsError>
+    ensures { Reads (AreSourcesAt (rows_of (found_of found.now))) result }
+{
+    Ok(SourceTexts {
+        path: text_at(found, "path")?,
+        network: text_if_at(found, "network"),
+        set: texts_of(alloc, found, "set")?,
+    })
+}
+
 /// Which runs a study has.
 fn read_grid<'a>(alloc: Global, found: &ArgMatches<'a>) -> Result<GridTexts<'a>, WordsError>
     ensures { Reads (IsGridAt (rows_of (found_of found.now))) result }
@@ -228,6 +253,7 @@ fn read_study<'a>(alloc: Global, found: &ArgMatches<'a>) -> Result<StudyTexts<'a
         threads: number_if_at(found, "threads"),
         columns: text_if_at(found, "columns"),
         each,
+        pairs: texts_of(alloc, found, "pairs")?,
     })
 }
 
@@ -243,6 +269,7 @@ fn lacks_study(found: &ArgMatches<'_>) -> bool
         && lacks(found, "threads")
         && lacks(found, "columns")
         && lacks(found, "each")
+        && lacks(found, "pairs")
 }
 
 /// A study, if any of its options is there.
@@ -262,17 +289,17 @@ fn study_if_at<'a>(
 fn read_check<'a>(alloc: Global, found: &ArgMatches<'a>) -> Result<Order<'a>, WordsError>
     ensures { Reads (StatesIn (codes "check") (rows_of (found_of found.now))) result }
 {
-    let path = text_at(found, "path")?;
+    let sources = read_sources(alloc, found)?;
     let study = study_if_at(alloc, found)?;
-    Ok(Order::Check { path, study })
+    Ok(Order::Check { sources, study })
 }
 
 /// What `letters` asks for.
-fn read_letters<'a>(found: &ArgMatches<'a>) -> Result<Order<'a>, WordsError>
+fn read_letters<'a>(alloc: Global, found: &ArgMatches<'a>) -> Result<Order<'a>, WordsError>
     ensures { Reads (StatesIn (codes "letters") (rows_of (found_of found.now))) result }
 {
-    let path = text_at(found, "path")?;
-    Ok(Order::Letters { path })
+    let sources = read_sources(alloc, found)?;
+    Ok(Order::Letters { sources })
 }
 
 /// What `draw` asks for.
@@ -280,7 +307,7 @@ fn read_draw<'a>(alloc: Global, found: &ArgMatches<'a>) -> Result<Order<'a>, Wor
     ensures { Reads (StatesIn (codes "draw") (rows_of (found_of found.now))) result }
 {
     Ok(Order::Draw {
-        path: text_at(found, "path")?,
+        sources: read_sources(alloc, found)?,
         picture: picture_at(alloc, found, "as")?,
         from: tick_if_at(found, "from"),
         until: tick_if_at(found, "until"),
@@ -293,7 +320,7 @@ fn read_show<'a>(alloc: Global, found: &ArgMatches<'a>) -> Result<Order<'a>, Wor
     ensures { Reads (StatesIn (codes "show") (rows_of (found_of found.now))) result }
 {
     Ok(Order::Show {
-        path: text_at(found, "path")?,
+        sources: read_sources(alloc, found)?,
         grid: read_grid(alloc, found)?,
         point: number_at(found, "point")?,
         run: number_at(found, "run")?,
@@ -304,9 +331,9 @@ fn read_show<'a>(alloc: Global, found: &ArgMatches<'a>) -> Result<Order<'a>, Wor
 fn read_sweep<'a>(alloc: Global, found: &ArgMatches<'a>) -> Result<Order<'a>, WordsError>
     ensures { Reads (StatesIn (codes "sweep") (rows_of (found_of found.now))) result }
 {
-    let path = text_at(found, "path")?;
+    let sources = read_sources(alloc, found)?;
     let study = read_study(alloc, found)?;
-    Ok(Order::Sweep { path, study })
+    Ok(Order::Sweep { sources, study })
 }
 
 /// What a subcommand's name and matches ask for.
@@ -320,7 +347,7 @@ fn read_found<'a>(
     if name == "check" {
         read_check(alloc, found)
     } else if name == "letters" {
-        read_letters(found)
+        read_letters(alloc, found)
     } else if name == "draw" {
         read_draw(alloc, found)
     } else if name == "show" {

@@ -1,22 +1,23 @@
 -- How a sweep ends: what went out, and which run was refused.
-use Rattle.sweep.proofs.Words.{◌≡◌, ℕ, ◌+◌, ◌-◌, ◌*◌, ◌/◌, ◌%◌, ◌<◌, ◌≤◌, ⊎_elim, inl, inr, List, [], ◌++◌, length, take, Option, refl, sym, ap, ◌∙◌, subst, arith, append-nil, Contains, range_with_len, slice_index_or, lt_of_mul-lt-mul_right, mul-le-mul_right, length-range_with_len, get_or-range_with_len, div-add-mod', mod_below, Members, Wrote, WrotePart, wrote_both, wrote_then_part, GridRecord, runs, ShardRecord, LayoutRecord, unit_count, HasScenarioAt, IsFirstRefusal, WroteUpTo, StopsBelow, HeaderFails, Text, header_of, numbers_of, units_in, units_of, HasRowsOf, IsTextOf, SweepError}
-use Rattle.study.specs.declared.error.ReadError.{ReadError}
-use Rattle.sweep.specs.Outcome.{IsBefore, HasScenario, IsFirstRefused, HaveScenarios, CantBeRun, WroteStudy, BreaksOff}
+use Rattle.sweep.proofs.Words.{◌≡◌, ℕ, ◌+◌, ◌-◌, ◌*◌, ◌/◌, ◌%◌, ◌<◌, ◌≤◌, ⊎_elim, inl, inr, List, [], ◌++◌, length, take, Option, refl, sym, ap, ◌∙◌, subst, arith, append-nil, Contains, range_with_len, slice_index_or, lt_of_mul-lt-mul_right, mul-le-mul_right, length-range_with_len, get_or-range_with_len, div-add-mod', mod_below, SourcesRecord, Wrote, WrotePart, wrote_both, wrote_then_part, GridRecord, runs, ShardRecord, LayoutRecord, unit_count, IsReadyAt, IsFirstRefusal, WroteUpTo, StopsBelow, HeaderFails, Text, header_of, numbers_of, units_in, units_of, HasRowsOf, IsTextOf, Group, SweepError}
+use Rattle.sweep.specs.Outcome.{IsBefore, IsReady, CantRun, IsFirstUnready, AreReady, CantBeRun, WroteStudy, BreaksOff}
 use Rattle.sweep.specs.declared.error.SweepError.TheVariants as error
 use Rattle.sweep.proofs.Numbered.{point_is, run_is, number_below}
 use Rattle.sweep.proofs.Zipped.{range_taken}
 use Rattle.sweep.proofs.Units.{unit_range, unit_count-sub}
 
-module _ (file : Members) (g : GridRecord) (shard : ShardRecord) (layout : LayoutRecord)
+module _ (sources : SourcesRecord) (g : GridRecord) (shard : ShardRecord) (layout : LayoutRecord)
     {O : Type 0} (told : O → Option Text) (failed : O → ℕ) where
-  pub breaks_at_check : (old : O) (e : SweepError) → CantBeRun file g shard e → BreaksOff file g shard layout told failed old old e
+  pub breaks_at_check : (old : O) (e : SweepError) → CantBeRun sources g layout.groups shard e → BreaksOff sources g shard layout told failed old old e
   breaks_at_check old (error.Refused point run reason) refusal = (refusal, record { bytes = refl; failures = refl })
+  breaks_at_check old (error.NoSuchProcess point run group processes) refusal = (refusal, record { bytes = refl; failures = refl })
   breaks_at_check old error.Memory refusal = inl (record { bytes = refl; failures = refl })
   breaks_at_check old error.Write refusal = absurd refusal
 
   pub breaks_at_header : (old new : O) (e : SweepError) → HeaderFails g shard layout told failed old new e
-      → BreaksOff file g shard layout told failed old new e
+      → BreaksOff sources g shard layout told failed old new e
   breaks_at_header old new (error.Refused point run reason) fails = absurd fails
+  breaks_at_header old new (error.NoSuchProcess point run group processes) fails = absurd fails
   breaks_at_header old new error.Memory fails = inl fails
   breaks_at_header old new error.Write fails =
       let P : Text → Type 0 = λ t. WrotePart told failed old new t in
@@ -27,7 +28,7 @@ module _ (file : Members) (g : GridRecord) (shard : ShardRecord) (layout : Layou
         wrote = subst P (sym (append-nil (header_of g shard layout))) fails;
       }
 
-module _ (file : Members) (g : GridRecord) (shard : ShardRecord) (begin end : ℕ)
+module _ (sources : SourcesRecord) (g : GridRecord) (shard : ShardRecord) (begin end : ℕ)
     (is : numbers_of g shard ≡ range_with_len begin (end - begin)) where
   contains : (p : ℕ) → begin ≤ p → p < end → Contains (numbers_of g shard) p
   contains p low high =
@@ -66,50 +67,62 @@ module _ (file : Members) (g : GridRecord) (shard : ShardRecord) (begin end : �
       omega (arith, split, rows, same.1))
       before
 
-  -- the run of a point and its place there, by its number
-  run_at_number : (p r : ℕ) → r < length (runs g) → HasScenarioAt file g (p * length (runs g) + r) → HasScenario file g p r
-  run_at_number p r small here =
-      let w : ℕ = length (runs g) in
-      let R : ℕ → Type 0 = λ k. HasScenario file g k ((p * w + r) % w) in
-      let S : ℕ → Type 0 = λ k. HasScenario file g p k in
-      subst S (run_is p r w (p * w + r) small refl) (subst R (point_is p r w (p * w + r) small refl) here)
+  module _ (groups : List Group) where
+    -- the run of a point and its place there, by its number
+    run_at_number : (p r : ℕ) → r < length (runs g) → IsReadyAt sources g groups (p * length (runs g) + r) → IsReady sources g groups p r
+    run_at_number p r small here =
+        let w : ℕ = length (runs g) in
+        let R : ℕ → Type 0 = λ k. IsReady sources g groups k ((p * w + r) % w) in
+        let S : ℕ → Type 0 = λ k. IsReady sources g groups p k in
+        subst S (run_is p r w (p * w + r) small refl) (subst R (point_is p r w (p * w + r) small refl) here)
 
-  first_refused : (point run : ℕ) (reason : ReadError) → 1 ≤ length (runs g)
-      → IsFirstRefusal file g (begin * length (runs g)) (end * length (runs g)) (error.Refused point run reason)
-      → IsFirstRefused file g shard point run reason
-  first_refused point run reason some (n, low, high, refused, before) =
-      let w : ℕ = length (runs g) in
-      let split : n / w * w + n % w ≡ n = div-add-mod' n w in
-      let rest : n % w < w = mod_below n w some in
-      let up : begin < n / w + 1 = lt_of_mul-lt-mul_right w {m = begin} {n = n / w + 1} (omega (arith, split, low, rest)) in
-      let below : n / w < end = number_below w n end some high in
-      record {
-        point_in = contains point (omega (arith, up, refused.0)) (omega (arith, below, refused.0));
-        run_in = omega (arith, rest, refused.1);
-        refused = refused.2;
-        before = λ p r inside small earlier_is.
-            let in_range = within p inside in
-            let P : ℕ → Type 0 = λ k. IsBefore p r k run in
-            let Q : ℕ → Type 0 = λ k. IsBefore p r (n / w) k in
-            let lt : p * w + r < n = earlier n p r some small (subst Q refused.1 (subst P refused.0 earlier_is)) in
-            let from : begin * w ≤ p * w = mul-le-mul_right {m = begin} {n = p} w in_range.0 in
-            run_at_number p r small (before (p * w + r) (omega (arith, from)) lt);
-      }
+    first_refused : (n : ℕ) (e : SweepError) → 1 ≤ length (runs g) → begin * length (runs g) ≤ n → n < end * length (runs g)
+        → CantRun sources g groups (n / length (runs g)) (n % length (runs g)) e
+        → ((m : ℕ) → begin * length (runs g) ≤ m → m < n → IsReadyAt sources g groups m)
+        → IsFirstUnready sources g groups shard (n / length (runs g)) (n % length (runs g)) e
+    first_refused n e some low high cant before =
+        let w : ℕ = length (runs g) in
+        let split : n / w * w + n % w ≡ n = div-add-mod' n w in
+        let rest : n % w < w = mod_below n w some in
+        let up : begin < n / w + 1 = lt_of_mul-lt-mul_right w {m = begin} {n = n / w + 1} (omega (arith, split, low, rest)) in
+        let below : n / w < end = number_below w n end some high in
+        record {
+          point_in = contains (n / w) (omega (arith, up)) below;
+          run_in = rest;
+          cant_run = cant;
+          before = λ p r inside small earlier_is.
+              let in_range = within p inside in
+              let lt : p * w + r < n = earlier n p r some small earlier_is in
+              let from : begin * w ≤ p * w = mul-le-mul_right {m = begin} {n = p} w in_range.0 in
+              run_at_number p r small (before (p * w + r) (omega (arith, from)) lt);
+        }
 
-  pub cant_be_run : (e : SweepError) → 1 ≤ length (runs g)
-      → IsFirstRefusal file g (begin * length (runs g)) (end * length (runs g)) e → CantBeRun file g shard e
-  cant_be_run (error.Refused point run reason) some refusal = first_refused point run reason some refusal
-  cant_be_run error.Memory some refusal = tt
-  cant_be_run error.Write some refusal = refusal
+    -- a run that is told of is that of the number
+    placed : (e : SweepError) (p r point run : ℕ) → point ≡ p → run ≡ r → IsFirstUnready sources g groups shard p r e
+        → IsFirstUnready sources g groups shard point run e
+    placed e p r point run is_point is_run first =
+        subst (λ k. IsFirstUnready sources g groups shard point k e) (sym is_run)
+        (subst (λ k. IsFirstUnready sources g groups shard k r e) (sym is_point) first)
 
-  pub have_scenarios : ((n : ℕ) → begin * length (runs g) ≤ n → n < end * length (runs g) → HasScenarioAt file g n)
-      → HaveScenarios file g shard
-  have_scenarios all p r inside small =
-      let w : ℕ = length (runs g) in
-      let in_range = within p inside in
-      let from : begin * w ≤ p * w = mul-le-mul_right {m = begin} {n = p} w in_range.0 in
-      let to : (p + 1) * w ≤ end * w = mul-le-mul_right {m = p + 1} {n = end} w (omega (arith, in_range.1)) in
-      run_at_number p r small (all (p * w + r) (omega (arith, from)) (omega (arith, to, small)))
+    pub cant_be_run : (e : SweepError) → 1 ≤ length (runs g)
+        → IsFirstRefusal sources g groups (begin * length (runs g)) (end * length (runs g)) e → CantBeRun sources g groups shard e
+    cant_be_run (error.Refused point run reason) some (n, low, high, cant, before) =
+        let e : SweepError = error.Refused point run reason in
+        placed e _ _ point run cant.0 cant.1 (first_refused n e some low high cant before)
+    cant_be_run (error.NoSuchProcess point run group processes) some (n, low, high, cant, before) =
+        let e : SweepError = error.NoSuchProcess point run group processes in
+        placed e _ _ point run cant.0 cant.1 (first_refused n e some low high cant before)
+    cant_be_run error.Memory some refusal = tt
+    cant_be_run error.Write some (n, low, high, cant, before) = cant
+
+    pub are_ready : ((n : ℕ) → begin * length (runs g) ≤ n → n < end * length (runs g) → IsReadyAt sources g groups n)
+        → AreReady sources g groups shard
+    are_ready all p r inside small =
+        let w : ℕ = length (runs g) in
+        let in_range = within p inside in
+        let from : begin * w ≤ p * w = mul-le-mul_right {m = begin} {n = p} w in_range.0 in
+        let to : (p + 1) * w ≤ end * w = mul-le-mul_right {m = p + 1} {n = end} w (omega (arith, in_range.1)) in
+        run_at_number p r small (all (p * w + r) (omega (arith, from)) (omega (arith, to, small)))
 
   module _ (layout : LayoutRecord) {O : Type 0} (told : O → Option Text) (failed : O → ℕ) where
     -- the first unit, and the one after the last
@@ -126,24 +139,25 @@ module _ (file : Members) (g : GridRecord) (shard : ShardRecord) (begin end : �
         ∙ ap (λ n. range_with_len first n) (unit_count-sub layout.rows g begin end)
 
     module _ (old mid new : O) (header : Wrote told failed old mid (header_of g shard layout)) where
-      pub wrote_study : WroteUpTo file g layout told failed mid new first last → WroteStudy file g shard layout told failed old new
+      pub wrote_study : WroteUpTo sources g layout told failed mid new first last → WroteStudy sources g shard layout told failed old new
       wrote_study up =
-          let P : List ℕ → Type 0 = λ l. HasRowsOf file g layout l up.text in
+          let P : List ℕ → Type 0 = λ l. HasRowsOf sources g layout l up.text in
           record {
             text = header_of g shard layout ++ up.text;
             is_text = record { rows = up.text; has = subst P (sym units_are) up.has; text_is = refl };
             wrote = wrote_both told failed old mid new (header_of g shard layout) up.text header up.wrote;
           }
 
-      first_text : (unit : ℕ) (text : Text) → unit ≤ last → HasRowsOf file g layout (range_with_len first (unit - first)) text
-          → IsTextOf file g shard layout (take (unit - first) (units_of layout.rows g shard)) (header_of g shard layout ++ text)
+      first_text : (unit : ℕ) (text : Text) → unit ≤ last → HasRowsOf sources g layout (range_with_len first (unit - first)) text
+          → IsTextOf sources g shard layout (take (unit - first) (units_of layout.rows g shard)) (header_of g shard layout ++ text)
       first_text unit text le has =
           let units = ap (λ l. take (unit - first) l) units_are ∙ range_taken first (last - first) (unit - first) (omega (arith, le)) in
-          record { rows = text; has = subst (λ l. HasRowsOf file g layout l text) (sym units) has; text_is = refl }
+          record { rows = text; has = subst (λ l. HasRowsOf sources g layout l text) (sym units) has; text_is = refl }
 
-      pub breaks_at_points : (e : SweepError) → StopsBelow file g layout told failed mid new first last e
-          → BreaksOff file g shard layout told failed old new e
+      pub breaks_at_points : (e : SweepError) → StopsBelow sources g layout told failed mid new first last e
+          → BreaksOff sources g shard layout told failed old new e
       breaks_at_points (error.Refused point run reason) stops = absurd stops
+      breaks_at_points (error.NoSuchProcess point run group processes) stops = absurd stops
       breaks_at_points error.Memory (unit, le, up) = inr (record {
         count = unit - first;
         text = header_of g shard layout ++ up.text;

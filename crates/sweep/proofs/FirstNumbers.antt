@@ -1,5 +1,5 @@
 -- The numbers of the first runs in which something is so.
-use Rattle.sweep.proofs.Words.{◌≡◌, ℕ, ◌+◌, ◌<◌, ◌≤◌, max, Bool, true, false, cond, is_some, Option, None, Some, List, [], ◌∷◌, ◌++◌, length, refl, sym, ap, ◌∙◌, arith, nat_lt, ◌||◌, ◌==◌, true≢false, zero-add, count_by, flat_map, list_any, lt-ltb, ltb-true, ltb-false, list_any-append, sum_by-cons, first_of, first_with, is_above, first_number, done_on, all_detections, does, first_after, AreFirstRuns, AreRunCounts, Finished, detections, has_mistake, do_disagree, run_outcomes, greater, greatest, Trial, FirstRuns, RunCounts}
+use Rattle.sweep.proofs.Words.{◌≡◌, ℕ, ◌+◌, ◌<◌, ◌≤◌, max, Bool, true, false, cond, is_some, Option, None, Some, List, [], ◌∷◌, ◌++◌, length, refl, sym, ap, ◌∙◌, arith, nat_lt, ◌||◌, ◌==◌, true≢false, zero-add, count_by, flat_map, list_any, lt-ltb, ltb-true, ltb-false, list_any-append, sum_by-cons, first_of, first_with, is_above, first_number, done_on, all_detections, does, first_after, AreFirstRuns, AreRunCounts, Finished, detections, has_mistake, do_disagree, run_outcomes, greater, greatest, Trial, Group, FirstRuns, RunCounts}
 use Rattle.sweep.proofs.Greatest.{greatest_both, has, has_greatest, has_none_above}
 use Rattle.sweep.proofs.Layered.{detections_both}
 
@@ -23,29 +23,29 @@ some_counted {X} p (x ∷ xs) = ap (nat_lt 0) (sum_by-cons (λ y. cond (p y) 1 0
     by true later = lt-ltb 0 (1 + count_by p xs) (omega arith)
     by false later = ap (nat_lt 0) (zero-add (count_by p xs)) ∙ later
 
-module _ (layer : ℕ) where
+module _ (group : Group) (layer : ℕ) where
   -- a run with a detection after so many ticks
   abbrev has_run : ℕ → Finished → Bool
-  has_run v r = has v (detections layer r)
+  has_run v r = has v (detections group layer r)
 
   any_flat : {X Y : Type 0} (p : Y → Bool) (f : X → List Y) (xs : List X) → list_any (λ x. list_any p (f x)) xs ≡ list_any p (flat_map f xs)
   any_flat p f [] = refl
   any_flat p f (x ∷ xs) = ap (λ b. list_any p (f x) || b) (any_flat p f xs) ∙ sym (list_any-append p (f x) (flat_map f xs))
 
-  does_have : (v : ℕ) (t : Trial) → does layer (has_run v) t ≡ has v (all_detections layer (t ∷ []))
-  does_have v t = any_flat (λ w. w == v) (detections layer) (done_on layer (t ∷ []))
+  does_have : (v : ℕ) (t : Trial) → does layer (has_run v) t ≡ has v (all_detections group layer (t ∷ []))
+  does_have v t = any_flat (λ w. w == v) (detections group layer) (done_on layer (t ∷ []))
 
   -- there is such a run just where there is such a detection
-  found : (v n : ℕ) (trials : List Trial) → is_some (first_number (does layer (has_run v)) n trials) ≡ has v (all_detections layer trials)
+  found : (v n : ℕ) (trials : List Trial) → is_some (first_number (does layer (has_run v)) n trials) ≡ has v (all_detections group layer trials)
   found v n [] = refl
   found v n (t ∷ ts) =
       by (does layer (has_run v) t) (found v (n + 1) ts)
-      ∙ ap (λ b. b || has v (all_detections layer ts)) (does_have v t)
-      ∙ sym (list_any-append (λ w. w == v) (all_detections layer (t ∷ [])) (all_detections layer ts))
-      ∙ ap (has v) (sym (detections_both layer (t ∷ []) ts))
+      ∙ ap (λ b. b || has v (all_detections group layer ts)) (does_have v t)
+      ∙ sym (list_any-append (λ w. w == v) (all_detections group layer (t ∷ [])) (all_detections group layer ts))
+      ∙ ap (has v) (sym (detections_both group layer (t ∷ []) ts))
     where
-      by : (b : Bool) → is_some (first_number (does layer (has_run v)) (n + 1) ts) ≡ has v (all_detections layer ts)
-          → is_some (cond b (Some n) (first_number (does layer (has_run v)) (n + 1) ts)) ≡ (b || has v (all_detections layer ts))
+      by : (b : Bool) → is_some (first_number (does layer (has_run v)) (n + 1) ts) ≡ has v (all_detections group layer ts)
+          → is_some (cond b (Some n) (first_number (does layer (has_run v)) (n + 1) ts)) ≡ (b || has v (all_detections group layer ts))
       by true later = refl
       by false later = later
 
@@ -54,10 +54,10 @@ module _ (layer : ℕ) where
     number = first + length trials
 
     abbrev pub before : Option ℕ
-    before = greatest (all_detections layer trials)
+    before = greatest (all_detections group layer trials)
 
     abbrev here : List ℕ
-    here = all_detections layer (trial ∷ [])
+    here = all_detections group layer (trial ∷ [])
 
     keeps : (o : Option ℕ) (b : Bool) → is_some o ≡ true → first_of o b number ≡ o
     keeps (Some n) b is = refl
@@ -88,9 +88,9 @@ module _ (layer : ℕ) where
         let le : v ≤ a = ltb-false a v up in
         ap Some (omega (arith, most, le))
 
-    longest : (new old : Option ℕ) → new ≡ greater before (greatest here) → old ≡ first_after layer first trials before
-        → cond (is_above new before) (Some number) old ≡ first_after layer first (trials ++ trial ∷ []) new
-    longest None old is was = ap (λ o. o) (was ∙ ap (first_after layer first trials) (none before (greatest here) (sym is)))
+    longest : (new old : Option ℕ) → new ≡ greater before (greatest here) → old ≡ first_after group layer first trials before
+        → cond (is_above new before) (Some number) old ≡ first_after group layer first (trials ++ trial ∷ []) new
+    longest None old is was = ap (λ o. o) (was ∙ ap (first_after group layer first trials) (none before (greatest here) (sym is)))
       where
         none : (o g : Option ℕ) → greater o g ≡ None → o ≡ None
         none None g p = refl
@@ -104,22 +104,22 @@ module _ (layer : ℕ) where
             → cond b (Some number) old ≡ first_of (first_number (does layer (has_run v)) first trials) (does layer (has_run v) trial) number
         by true up =
             sym (takes (first_number (does layer (has_run v)) first trials) (does layer (has_run v) trial)
-            (found v first trials ∙ has_none_above v (all_detections layer trials) up)
+            (found v first trials ∙ has_none_above v (all_detections group layer trials) up)
             (does_have v trial ∙ has_greatest v here (rises before (greatest here) v (sym is) up)))
         by false up =
             let same : before ≡ Some v = stays before (greatest here) v (sym is) up in
-            was ∙ ap (first_after layer first trials) same
+            was ∙ ap (first_after group layer first trials) same
             ∙ sym (keeps (first_number (does layer (has_run v)) first trials) (does layer (has_run v) trial)
-            (found v first trials ∙ has_greatest v (all_detections layer trials) same))
+            (found v first trials ∙ has_greatest v (all_detections group layer trials) same))
 
     -- what is greatest of all with one more
-    pub greatest_more : greatest (all_detections layer (trials ++ trial ∷ [])) ≡ greater before (greatest here)
-    greatest_more = ap greatest (detections_both layer trials (trial ∷ [])) ∙ greatest_both (all_detections layer trials) here
+    pub greatest_more : greatest (all_detections group layer (trials ++ trial ∷ [])) ≡ greater before (greatest here)
+    greatest_more = ap greatest (detections_both group layer trials (trial ∷ [])) ∙ greatest_both (all_detections group layer trials) here
 
-    pub longest_more : (old : Option ℕ) → old ≡ first_after layer first trials before
-        → cond (is_above (greatest (all_detections layer (trials ++ trial ∷ []))) before) (Some number) old
-        ≡ first_after layer first (trials ++ trial ∷ []) (greatest (all_detections layer (trials ++ trial ∷ [])))
-    longest_more old was = longest (greatest (all_detections layer (trials ++ trial ∷ []))) old greatest_more was
+    pub longest_more : (old : Option ℕ) → old ≡ first_after group layer first trials before
+        → cond (is_above (greatest (all_detections group layer (trials ++ trial ∷ []))) before) (Some number) old
+        ≡ first_after group layer first (trials ++ trial ∷ []) (greatest (all_detections group layer (trials ++ trial ∷ [])))
+    longest_more old was = longest (greatest (all_detections group layer (trials ++ trial ∷ []))) old greatest_more was
 
     -- a test that some are counted of
     passed : (p : Finished → Bool) (n : ℕ) → n ≡ count_by p (done_on layer (trial ∷ [])) → nat_lt 0 n ≡ does layer p trial
@@ -132,12 +132,12 @@ module _ (layer : ℕ) where
         ∙ ap (λ b. first_of (first_number (does layer p) first trials) b number) (passed p n is)
         ∙ sym (first_more (does layer p) first trials trial)
 
-    pub first_runs_more : (f : FirstRuns) (counts : RunCounts) (is_longest : Bool) → AreFirstRuns layer first trials f
-        → AreRunCounts layer (done_on layer (trial ∷ [])) counts
-        → is_longest ≡ is_above (greatest (all_detections layer (trials ++ trial ∷ []))) before
-        → AreFirstRuns layer first (trials ++ trial ∷ []) (first_with f number counts is_longest)
+    pub first_runs_more : (f : FirstRuns) (counts : RunCounts) (is_longest : Bool) → AreFirstRuns group layer first trials f
+        → AreRunCounts group layer (done_on layer (trial ∷ [])) counts
+        → is_longest ≡ is_above (greatest (all_detections group layer (trials ++ trial ∷ []))) before
+        → AreFirstRuns group layer first (trials ++ trial ∷ []) (first_with f number counts is_longest)
     first_runs_more f counts is_longest are told longer = record {
-      mistake = first_passed (has_mistake layer) counts.with_mistakes f.mistake told.with_mistakes are.mistake;
+      mistake = first_passed (has_mistake group layer) counts.with_mistakes f.mistake told.with_mistakes are.mistake;
       detection_max = ap (λ b. cond b (Some number) f.detection_max) longer ∙ longest_more f.detection_max are.detection_max;
       disagreement = first_passed (λ r. do_disagree (run_outcomes r)) counts.disagreements f.disagreement told.disagreements are.disagreement;
     }

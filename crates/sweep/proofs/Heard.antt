@@ -1,5 +1,5 @@
 -- What a watcher has heard: one more number, one more point, and nothing more.
-use Rattle.sweep.proofs.Words.{◌≡◌, ℕ, ◌-◌, ◌*◌, ◌<◌, ◌≤◌, ◌==◌, Bool, true, false, not, cond, List, [], ◌∷◌, ◌++◌, refl, sym, ap, ◌∙◌, subst, map, append-nil, arith, inr, length, take, mul-sub, mul_comm, map-append, filter-append, filter_map-append, AllZip, filter, filter_map, range_with_len, ne_eqb, length-range_with_len, HaveJoined, joined_then, Members, GridRecord, runs, ShardRecord, numbers_of, News, stands, limits, standing_in, limit_in, said_of, Rise, AreLimited, HeardReading, HeardRunning, HeardOfReading, HeardOfAllReading, HeardAll, HeardSome}
+use Rattle.sweep.proofs.Words.{◌≡◌, ℕ, ◌-◌, ◌*◌, ◌<◌, ◌≤◌, ◌==◌, Bool, true, false, not, cond, List, [], ◌∷◌, ◌++◌, refl, sym, ap, ◌∙◌, subst, map, append-nil, arith, inr, length, take, mul-sub, mul_comm, map-append, filter-append, filter_map-append, AllZip, filter, filter_map, range_with_len, ne_eqb, length-range_with_len, HaveJoined, joined_then, SourcesRecord, GridRecord, runs, ShardRecord, numbers_of, News, stands, limits, standing_in, limit_in, said_of, Rise, AreLimited, HeardReading, HeardRunning, HeardOfReading, HeardOfAllReading, HeardAll, HeardSome}
 use Rattle.std.proofs.Common.{eq-eqb}
 use Rattle.sweep.specs.declared.watcher.Pass.TheVariants.{Reading, Running}
 use Rattle.sweep.specs.declared.watcher.Standing.{Standing}
@@ -61,9 +61,9 @@ module _ {W : Type 0} (heard : W → List News → W → Type 0) (points runs : 
   abbrev pub run : ℕ → Standing
   run n = record { pass = Running; points = points; runs = runs; done = n }
 
-  module _ (file : Members) (g : GridRecord) where
+  module _ (sources : SourcesRecord) (g : GridRecord) where
     pub running_begin : (old new : W) → HaveJoined heard old new (stands (run 0) ∷ [])
-        → HeardRunning heard old new file g points runs 0 []
+        → HeardRunning heard old new sources g points runs 0 []
     running_begin old new is = record {
       news = stands (run 0) ∷ [];
       heard_all = is;
@@ -75,14 +75,14 @@ module _ {W : Type 0} (heard : W → List News → W → Type 0) (points runs : 
       limited = refl;
     }
 
-    module _ (old now new : W) (done : ℕ) (complete : List ℕ) (was : HeardRunning heard old now file g points runs done complete) where
+    module _ (old now new : W) (done : ℕ) (complete : List ℕ) (was : HeardRunning heard old now sources g points runs done complete) where
       abbrev AreTold : List ℕ → List (ℕ × ℕ) → Type 0
-      AreTold = AllZip (λ point entry. (entry.0 ≡ point) × AreLimited file g point entry.1)
+      AreTold = AllZip (λ point entry. (entry.0 ≡ point) × AreLimited sources g point entry.1)
 
       -- more news, of more numbers and points, if any
       running_with : (news : List News) (more : ℕ) (numbers : List ℕ) (others : List ℕ) (counts : List (ℕ × ℕ)) → HaveJoined heard now new news
           → Rise done more numbers → filter_map standing_in news ≡ map run numbers → AreTold others counts
-          → filter_map limit_in news ≡ filter is_told counts → HeardRunning heard old new file g points runs more (complete ++ others)
+          → filter_map limit_in news ≡ filter is_told counts → HeardRunning heard old new sources g points runs more (complete ++ others)
       running_with news more numbers others counts is up standings counted limited = record {
         news = was.news ++ news;
         heard_all = joined_then heard old now new was.news news was.heard_all is;
@@ -91,28 +91,28 @@ module _ {W : Type 0} (heard : W → List News → W → Type 0) (points runs : 
         standings = filter_map-append standing_in was.news news
             ∙ (λ i. was.standings i ++ standings i) ∙ sym (map-append run (0 ∷ was.numbers) numbers);
         counts = was.counts ++ counts;
-        counted = zip_append (λ point entry. (entry.0 ≡ point) × AreLimited file g point entry.1) complete was.counts others counts was.counted counted;
+        counted = zip_append (λ point entry. (entry.0 ≡ point) × AreLimited sources g point entry.1) complete was.counts others counts was.counted counted;
         limited = filter_map-append limit_in was.news news
             ∙ (λ i. was.limited i ++ limited i) ∙ sym (filter-append is_told was.counts counts);
       }
 
       -- no more points
       running_on : (news : List News) (more : ℕ) (numbers : List ℕ) → HaveJoined heard now new news → Rise done more numbers
-          → filter_map standing_in news ≡ map run numbers → filter_map limit_in news ≡ [] → HeardRunning heard old new file g points runs more complete
+          → filter_map standing_in news ≡ map run numbers → filter_map limit_in news ≡ [] → HeardRunning heard old new sources g points runs more complete
       running_on news more numbers is up standings limited =
-          subst (HeardRunning heard old new file g points runs more) (append-nil complete) (running_with news more numbers [] [] is up standings tt limited)
+          subst (HeardRunning heard old new sources g points runs more) (append-nil complete) (running_with news more numbers [] [] is up standings tt limited)
 
-      pub running_same : HaveJoined heard now new [] → HeardRunning heard old new file g points runs done complete
+      pub running_same : HaveJoined heard now new [] → HeardRunning heard old new sources g points runs done complete
       running_same same = running_on [] done [] same refl refl refl
 
       -- one more number
       pub running_more : (more : ℕ) → done < more → HaveJoined heard now new (stands (run more) ∷ [])
-          → HeardRunning heard old new file g points runs more complete
+          → HeardRunning heard old new sources g points runs more complete
       running_more more lt is = running_on (stands (run more) ∷ []) more (more ∷ []) is (lt, refl) refl refl
 
       -- one more point
-      pub running_point : (point count : ℕ) → AreLimited file g point count → HaveJoined heard now new (said_of point count)
-          → HeardRunning heard old new file g points runs done (complete ++ point ∷ [])
+      pub running_point : (point count : ℕ) → AreLimited sources g point count → HaveJoined heard now new (said_of point count)
+          → HeardRunning heard old new sources g points runs done (complete ++ point ∷ [])
       running_point point count are said =
           running_with (said_of point count) done [] (point ∷ []) ((point, count) ∷ []) said refl (said_limit point count).0 ((refl, are), tt) (said_limit point count).1
 
@@ -147,29 +147,29 @@ module _ {W : Type 0} (heard : W → List News → W → Type 0) (g : GridRecord
         subst P count (low, reading_same heard (end - begin) (length (runs g)) old now new done up same) in
         (done, counted.0, counted.1)
 
-  module _ (file : Members) (old mid now new : W) (reading : HeardOfAllReading heard old mid g shard)
+  module _ (sources : SourcesRecord) (old mid now new : W) (reading : HeardOfAllReading heard old mid g shard)
       (same : HaveJoined heard now new []) where
-    pub run_all : HeardRunning heard mid now file g (end - begin) (length (runs g)) ((end - begin) * length (runs g)) (range_with_len begin (end - begin))
-        → HeardAll heard old new file g shard
+    pub run_all : HeardRunning heard mid now sources g (end - begin) (length (runs g)) ((end - begin) * length (runs g)) (range_with_len begin (end - begin))
+        → HeardAll heard old new sources g shard
     run_all up =
-        let P : ℕ → Type 0 = λ n. HeardRunning heard mid new file g n (length (runs g)) (n * length (runs g)) (range_with_len begin (end - begin)) in
-        let Q : List ℕ → Type 0 = λ l. HeardRunning heard mid new file g (length (numbers_of g shard)) (length (runs g)) (length (numbers_of g shard) * length (runs g)) l in
+        let P : ℕ → Type 0 = λ n. HeardRunning heard mid new sources g n (length (runs g)) (n * length (runs g)) (range_with_len begin (end - begin)) in
+        let Q : List ℕ → Type 0 = λ l. HeardRunning heard mid new sources g (length (numbers_of g shard)) (length (runs g)) (length (numbers_of g shard) * length (runs g)) l in
         record {
           between = mid;
           reading = reading;
-          running = subst Q (sym is) (subst P count (running_same heard (end - begin) (length (runs g)) file g mid now new ((end - begin) * length (runs g)) (range_with_len begin (end - begin)) up same));
+          running = subst Q (sym is) (subst P count (running_same heard (end - begin) (length (runs g)) sources g mid now new ((end - begin) * length (runs g)) (range_with_len begin (end - begin)) up same));
         }
 
     pub run_some : (done complete : ℕ) × (done ≤ (end - begin) * length (runs g)) × (complete ≤ end - begin)
-        × HeardRunning heard mid now file g (end - begin) (length (runs g)) done (range_with_len begin complete)
-        → HeardSome heard old new file g shard
+        × HeardRunning heard mid now sources g (end - begin) (length (runs g)) done (range_with_len begin complete)
+        → HeardSome heard old new sources g shard
     run_some (done, complete, low, few, up) =
-        let P : ℕ → Type 0 = λ n. (done ≤ n * length (runs g)) × HeardRunning heard mid new file g n (length (runs g)) done (range_with_len begin complete) in
-        let Q : List ℕ → Type 0 = λ l. HeardRunning heard mid new file g (length (numbers_of g shard)) (length (runs g)) done l in
+        let P : ℕ → Type 0 = λ n. (done ≤ n * length (runs g)) × HeardRunning heard mid new sources g n (length (runs g)) done (range_with_len begin complete) in
+        let Q : List ℕ → Type 0 = λ l. HeardRunning heard mid new sources g (length (numbers_of g shard)) (length (runs g)) done l in
         let first : range_with_len begin complete ≡ take complete (numbers_of g shard) =
         sym (range_taken begin (end - begin) complete few) ∙ ap (λ l. take complete l) (sym is) in
         let counted : P (length (numbers_of g shard)) =
-        subst P count (low, running_same heard (end - begin) (length (runs g)) file g mid now new done (range_with_len begin complete) up same) in
+        subst P count (low, running_same heard (end - begin) (length (runs g)) sources g mid now new done (range_with_len begin complete) up same) in
         inr (record {
           between = mid;
           reading = reading;

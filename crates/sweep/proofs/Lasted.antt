@@ -1,5 +1,5 @@
 -- How long the mistakes of the pairs that count were.
-use Rattle.sweep.proofs.Words.{◌≡◌, ℕ, zero, suc, ◌+◌, ◌-◌, ◌*◌, ◌≤◌, List, [], ◌∷◌, ◌++◌, map, get_or, ◌∙◌, refl, arith, All, AllByRecursion, flat_map, All-filter, All-from_recursion, EntryRecord, numbers_to, others, AreDurations, lengths_of, lists_in, PairMeasures, Record, counts_on, counted_of}
+use Rattle.sweep.proofs.Words.{◌≡◌, ℕ, zero, suc, ◌+◌, ◌-◌, ◌*◌, ◌≤◌, List, [], ◌∷◌, ◌++◌, map, get_or, ◌∙◌, refl, arith, All, AllByRecursion, flat_map, All-filter, All-from_recursion, EntryRecord, numbers_to, others, AreDurations, lengths_of, lists_in, PairMeasures, Record, counts_on, counted_of, Group}
 use Rattle.process_api.proofs.Lists.{both, images, weaker, filtered, numbers_are}
 use Rattle.reporting.specs.Measures.{layer_measures, pair_measures, pair_durations}
 use Rattle.reporting.specs.declared.durations.Durations.{Durations}
@@ -23,7 +23,7 @@ each_measure S trace layer P each = All-from_recursion P _ (go (numbers_to S.pro
         (weaker (λ p. (1 ≤ p) × (p ≤ S.processes)) (λ p. P (pair_measures S trace layer q p)) (λ p h. each q p a.0.0 a.0.1 h.0 h.1) (others S.processes q)
         (filtered (λ p. (1 ≤ p) × (p ≤ S.processes)) _ (numbers_to S.processes) (numbers_are S.processes)))) (go qs a.1)
 
-module _ (S : Record) (trace : List EntryRecord) (layer : ℕ) (d : Durations) (are : AreDurations S layer trace d) where
+module _ (group : Group) (S : Record) (trace : List EntryRecord) (layer : ℕ) (d : Durations) (are : AreDurations S layer trace d) where
   abbrev IsLasted : PairMeasures → Type 0
   IsLasted m = lengths_of d m.observer m.subject ≡ pair_durations S trace layer m.observer m.subject
 
@@ -36,8 +36,8 @@ module _ (S : Record) (trace : List EntryRecord) (layer : ℕ) (d : Durations) (
       let column : suc j - 1 ≡ j = omega arith in
       (λ z. get_or (lists_in d.pairs.items) (row z * are.processes z + column z) []) ∙ are.each i j (omega (arith, l)) (omega (arith, m))
 
-  pub lasted_of : flat_map (λ m. lengths_of d m.observer m.subject) (counted_of layer S (layer_measures S trace layer))
-      ≡ flat_map (λ m. pair_durations S trace layer m.observer m.subject) (counted_of layer S (layer_measures S trace layer))
+  pub lasted_of : flat_map (λ m. lengths_of d m.observer m.subject) (counted_of group layer S (layer_measures S trace layer))
+      ≡ flat_map (λ m. pair_durations S trace layer m.observer m.subject) (counted_of group layer S (layer_measures S trace layer))
   lasted_of =
-      flat_same (λ m. lengths_of d m.observer m.subject) (λ m. pair_durations S trace layer m.observer m.subject) (counted_of layer S (layer_measures S trace layer))
-      (All-filter (λ m. counts_on layer S m.observer m.subject) IsLasted (layer_measures S trace layer) (each_measure S trace layer IsLasted lasted_measures))
+      flat_same (λ m. lengths_of d m.observer m.subject) (λ m. pair_durations S trace layer m.observer m.subject) (counted_of group layer S (layer_measures S trace layer))
+      (All-filter (λ m. counts_on group layer S m.observer m.subject) IsLasted (layer_measures S trace layer) (each_measure S trace layer IsLasted lasted_measures))

@@ -1,5 +1,5 @@
 -- The runs that have a layer, and what is added up of them.
-use Rattle.sweep.proofs.Words.{◌≡◌, ℕ, ◌+◌, ◌*◌, ◌^◌, ◌<◌, ◌≤◌, Bool, true, false, cond, is_some, Option, Some, None, List, [], ◌∷◌, ◌++◌, length, sym, ap, ◌∙◌, refl, subst, arith, nat_lt, ◌||◌, ◌==◌, length-append, cons_option, count_by, filter_map, flat_map, list_any, lt-ltb, flat_map-append, filter-append, filter_map-append, count_by-le-length, length-filter, Record, layer_plus, has_layer, on_layer, finished_of, finish_of, done_on, all_pairs, all_durations, all_detections, last_decisions, top_rounds, is_limited, AreDoneSums, AreRunCounts, AreVerdictCounts, ArePairSums, AreDecisionSums, most_runs, most_of, IsLayerWithin, Finished, counted_pairs, pair_ticks, mistakes, durations, detections, run_outcomes, deciding, last_decision, top_round, Trial, AreFitting, LayerSums}
+use Rattle.sweep.proofs.Words.{◌≡◌, ℕ, ◌+◌, ◌*◌, ◌^◌, ◌<◌, ◌≤◌, Bool, true, false, cond, is_some, Option, Some, None, List, [], ◌∷◌, ◌++◌, length, sym, ap, ◌∙◌, refl, subst, arith, nat_lt, ◌||◌, ◌==◌, length-append, cons_option, count_by, filter_map, flat_map, list_any, lt-ltb, flat_map-append, filter-append, filter_map-append, count_by-le-length, length-filter, Record, layer_plus, has_layer, on_layer, finished_of, finish_of, done_on, all_pairs, all_durations, all_detections, last_decisions, top_rounds, is_limited, AreDoneSums, AreRunCounts, AreVerdictCounts, ArePairSums, AreDecisionSums, most_runs, most_of, IsLayerWithin, Finished, counted_pairs, pair_ticks, mistakes, durations, detections, run_outcomes, deciding, last_decision, top_round, Trial, AreFitting, Group, LayerSums}
 use Rattle.sweep.proofs.Added.{added, counted, traces_added, pairs_added, decisions_added}
 
 -- ---- layers
@@ -37,15 +37,6 @@ module _ (layer : ℕ) (xs ys : List Trial) where
   pub done_both : done_on layer (xs ++ ys) ≡ done_on layer xs ++ done_on layer ys
   done_both = ap finished_of on_both ∙ filter_map-append (λ t. finish_of t.scenario t.result) (on_layer layer xs) (on_layer layer ys)
 
-  pub pairs_both : (rs qs : List Finished) → all_pairs layer (rs ++ qs) ≡ all_pairs layer rs ++ all_pairs layer qs
-  pairs_both rs qs = flat_map-append (counted_pairs layer) rs qs
-
-  pub durations_both : all_durations layer (xs ++ ys) ≡ all_durations layer xs ++ all_durations layer ys
-  durations_both = ap (flat_map (durations layer)) done_both ∙ flat_map-append (durations layer) (done_on layer xs) (done_on layer ys)
-
-  pub detections_both : all_detections layer (xs ++ ys) ≡ all_detections layer xs ++ all_detections layer ys
-  detections_both = ap (flat_map (detections layer)) done_both ∙ flat_map-append (detections layer) (done_on layer xs) (done_on layer ys)
-
   pub decisions_both : last_decisions layer (xs ++ ys) ≡ last_decisions layer xs ++ last_decisions layer ys
   decisions_both =
       ap (filter_map (λ r. last_decision (deciding r))) done_both
@@ -55,6 +46,16 @@ module _ (layer : ℕ) (xs ys : List Trial) where
   rounds_both =
       ap (filter_map (λ r. top_round (run_outcomes r))) done_both
       ∙ filter_map-append (λ r. top_round (run_outcomes r)) (done_on layer xs) (done_on layer ys)
+
+module _ (group : Group) (layer : ℕ) (xs ys : List Trial) where
+  pub pairs_both : (rs qs : List Finished) → all_pairs group layer (rs ++ qs) ≡ all_pairs group layer rs ++ all_pairs group layer qs
+  pairs_both rs qs = flat_map-append (counted_pairs group layer) rs qs
+
+  pub durations_both : all_durations group layer (xs ++ ys) ≡ all_durations group layer xs ++ all_durations group layer ys
+  durations_both = ap (flat_map (durations group layer)) (done_both layer xs ys) ∙ flat_map-append (durations group layer) (done_on layer xs) (done_on layer ys)
+
+  pub detections_both : all_detections group layer (xs ++ ys) ≡ all_detections group layer xs ++ all_detections group layer ys
+  detections_both = ap (flat_map (detections group layer)) (done_both layer xs ys) ∙ flat_map-append (detections group layer) (done_on layer xs) (done_on layer ys)
 
 pub few_on : (layer : ℕ) (xs : List Trial) → length (on_layer layer xs) ≤ length xs
 few_on layer xs = omega (arith, length-filter (λ t. has_layer layer t.scenario) xs, count_by-le-length (λ t. has_layer layer t.scenario) xs)
@@ -77,7 +78,7 @@ few_decisions layer xs = omega (arith, few_mapped (λ r. last_decision (deciding
 pub few_rounds : (layer : ℕ) (xs : List Trial) → length (top_rounds layer xs) ≤ length xs
 few_rounds layer xs = omega (arith, few_mapped (λ r. top_round (run_outcomes r)) (done_on layer xs), few_done layer xs)
 
-module _ (layer : ℕ) (xs ys : List Trial) (a b : LayerSums) (few : length xs + length ys ≤ most_runs) (p : AreFitting layer xs a) (q : AreFitting layer ys b) where
+module _ (group : Group) (layer : ℕ) (xs ys : List Trial) (a b : LayerSums) (few : length xs + length ys ≤ most_runs) (p : AreFitting group layer xs a) (q : AreFitting group layer ys b) where
   few_finished : length (done_on layer xs) + length (done_on layer ys) < 2 ^ 64
   few_finished = omega (arith, few_done layer xs, few_done layer ys)
 
@@ -96,13 +97,13 @@ module _ (layer : ℕ) (xs ys : List Trial) (a b : LayerSums) (few : length xs +
       let v = q.sums.done.verdicts in
       search (counted, few_finished)
 
-  counts_added : AreRunCounts layer (done_on layer xs ++ done_on layer ys) (layer_plus a b).counts
+  counts_added : AreRunCounts group layer (done_on layer xs ++ done_on layer ys) (layer_plus a b).counts
   counts_added =
       let u = p.sums.done.counts in
       let v = q.sums.done.counts in
       search (counted, few_finished)
 
-  done_added : AreDoneSums layer (done_on layer xs ++ done_on layer ys) (layer_plus a b)
+  done_added : AreDoneSums group layer (done_on layer xs ++ done_on layer ys) (layer_plus a b)
   done_added =
       let rs = done_on layer xs in
       let qs = done_on layer ys in
@@ -110,10 +111,10 @@ module _ (layer : ℕ) (xs ys : List Trial) (a b : LayerSums) (few : length xs +
       let e = q.sums.done in
       record {
         traces = traces_added rs qs a.traces b.traces A B (omega arith) p.within.traces q.within.traces d.traces e.traces;
-        pair_ticks = added (pair_ticks layer) rs qs a.pair_ticks b.pair_ticks A B (omega arith) d.pair_ticks e.pair_ticks p.within.pair_ticks q.within.pair_ticks;
-        pairs = subst (λ ms. ArePairSums ms (layer_plus a b).pairs) (sym (pairs_both layer xs ys rs qs))
-            (pairs_added (all_pairs layer rs) (all_pairs layer qs) a.pairs b.pairs A B (omega arith) p.within.pairs q.within.pairs d.pairs e.pairs);
-        mistakes_squared_sum = added (λ r. mistakes layer r * mistakes layer r) rs qs a.mistakes_squared_sum b.mistakes_squared_sum A B (omega arith) d.mistakes_squared_sum e.mistakes_squared_sum p.within.mistakes_squared_sum q.within.mistakes_squared_sum;
+        pair_ticks = added (pair_ticks group layer) rs qs a.pair_ticks b.pair_ticks A B (omega arith) d.pair_ticks e.pair_ticks p.within.pair_ticks q.within.pair_ticks;
+        pairs = subst (λ ms. ArePairSums ms (layer_plus a b).pairs) (sym (pairs_both group layer xs ys rs qs))
+            (pairs_added (all_pairs group layer rs) (all_pairs group layer qs) a.pairs b.pairs A B (omega arith) p.within.pairs q.within.pairs d.pairs e.pairs);
+        mistakes_squared_sum = added (λ r. mistakes group layer r * mistakes group layer r) rs qs a.mistakes_squared_sum b.mistakes_squared_sum A B (omega arith) d.mistakes_squared_sum e.mistakes_squared_sum p.within.mistakes_squared_sum q.within.mistakes_squared_sum;
         verdicts = verdicts_added;
         decisions = subst (λ os. AreDecisionSums os (layer_plus a b).decisions) (sym (flat_map-append deciding rs qs))
             (decisions_added (flat_map deciding rs) (flat_map deciding qs) a.decisions b.decisions A B (omega arith) p.within.decisions q.within.decisions d.decisions e.decisions);
@@ -123,7 +124,7 @@ module _ (layer : ℕ) (xs ys : List Trial) (a b : LayerSums) (few : length xs +
   within_both : IsLayerWithin (A + B) (layer_plus a b)
   within_both = search arith
 
-  pub layer_added : AreFitting layer (xs ++ ys) (layer_plus a b)
+  pub layer_added : AreFitting group layer (xs ++ ys) (layer_plus a b)
   layer_added =
       let long : length (xs ++ ys) ≡ length xs + length ys = length-append xs ys in
       record {
@@ -131,11 +132,11 @@ module _ (layer : ℕ) (xs ys : List Trial) (a b : LayerSums) (few : length xs +
           runs = omega (arith, p.sums.runs, q.sums.runs, few_of_layer, ap length (on_both layer xs ys), length-append (on_layer layer xs) (on_layer layer ys));
           limited = counted (λ t. is_limited t.result) (on_layer layer xs) (on_layer layer ys) a.limited b.limited few_of_layer p.sums.limited q.sums.limited
               ∙ ap (count_by (λ t. is_limited t.result)) (sym (on_both layer xs ys));
-          done = subst (λ rs. AreDoneSums layer rs (layer_plus a b)) (sym (done_both layer xs ys)) done_added;
+          done = subst (λ rs. AreDoneSums group layer rs (layer_plus a b)) (sym (done_both layer xs ys)) done_added;
         };
         few_runs = omega (arith, long, few);
         within = subst (λ m. IsLayerWithin m (layer_plus a b)) (omega (arith, long)) within_both;
-        few_detected = omega (arith, p.few_detected, q.few_detected, ap length (detections_both layer xs ys), length-append (all_detections layer xs) (all_detections layer ys), long);
+        few_detected = omega (arith, p.few_detected, q.few_detected, ap length (detections_both group layer xs ys), length-append (all_detections group layer xs) (all_detections group layer ys), long);
         few_undetected = omega (arith, p.few_undetected, q.few_undetected, long);
         few_ticks = omega (arith, p.few_ticks, q.few_ticks, long);
       }

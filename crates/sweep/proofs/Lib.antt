@@ -13,6 +13,8 @@ mod Numbered
 mod Units
 pub mod Zipped
 mod Advancing
+mod Grouped
+mod Blocks
 mod OneRow
 pub mod Places
 mod OneText

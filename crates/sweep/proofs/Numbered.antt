@@ -1,5 +1,5 @@
 -- A run's number, its point and its place there, and its unit.
-use Rattle.sweep.proofs.Words.{◌≡◌, ℕ, zero, suc, ◌+◌, ◌*◌, ◌/◌, ◌%◌, ◌<◌, ◌≤◌, arith, refl, subst, length, lt_of_mul-lt-mul_right, mod-mul-add, div-add-mod', GridRecord, runs, runs_each, unit_count, unit_point, unit_runs, Rows}
+use Rattle.sweep.proofs.Words.{◌≡◌, ℕ, zero, suc, ◌+◌, ◌*◌, ◌/◌, ◌%◌, ◌<◌, ◌≤◌, arith, refl, subst, length, lt_of_mul-lt-mul_right, mul-le-mul_right, mod-mul-add, div-add-mod', GridRecord, runs, runs_each, unit_count, unit_point, unit_runs, Rows}
 use Rattle.sweep.specs.declared.layout.Rows.TheVariants as kind
 
 -- two numbers with one remainder
@@ -61,6 +61,13 @@ module _ (rows : Rows) (g : GridRecord) where
       by : (k : Rows) → unit_count k g n * runs_each k g ≡ n * length (runs g)
       by kind.Points = refl
       by kind.Runs = omega arith
+
+  pub count_order : (a b : ℕ) → a ≤ b → unit_count rows g a ≤ unit_count rows g b
+  count_order a b le = by rows
+    where
+      by : (k : Rows) → unit_count k g a ≤ unit_count k g b
+      by kind.Points = le
+      by kind.Runs = mul-le-mul_right {m = a} {n = b} (length (runs g)) le
 
   -- a run's number is below that of the end of all points, and so are its unit's point, and its unit
   pub unit_below : (unit run points : ℕ) → run < runs_each rows g → unit * runs_each rows g + run < points * length (runs g)

@@ -1,5 +1,5 @@
 -- What a row tells is told by the runs alone.
-use Rattle.sweep.proofs.Words.{rules, ◌≡◌, ℕ, ◌*◌, ◌≤◌, ◌++◌, List, [], Option, None, Some, is_some, cond, refl, sym, ap, ◌∙◌, subst, arith, list_any, Outcome, PairMeasures, over, all_detections, last_decisions, IsDistribution, AreTraceSums, ArePairSums, AreDecisionSums, AreVerdictCounts, AreRunCounts, AreLayerSums, AreFirstRuns, AreColumns, Finished, IsPercentile, Trial, Text, layer_text, AreRowsFor, DecisionSums, FirstRuns, LayerSums, PairSums, RunCounts, TraceSums}
+use Rattle.sweep.proofs.Words.{rules, ◌≡◌, ℕ, ◌*◌, ◌≤◌, ◌++◌, List, [], ◌∷◌, Option, None, Some, is_some, cond, refl, sym, ap, ◌∙◌, subst, arith, AllZip, flat_map, list_any, Outcome, PairMeasures, over, all_detections, last_decisions, IsDistribution, AreTraceSums, ArePairSums, AreDecisionSums, AreVerdictCounts, AreRunCounts, AreLayerSums, AreFirstRuns, AreColumns, Finished, IsPercentile, Trial, Text, layer_text, AreRowsFor, AreRowsOfGroup, Group, DecisionSums, FirstRuns, LayerSums, PairSums, RunCounts, TraceSums}
 use Rattle.sweep.specs.declared.columns.Columns.{Columns}
 use Rattle.sweep.specs.declared.columns.Distribution.{Distribution}
 use Rattle.sweep.specs.declared.columns.VerdictCounts.{VerdictCounts}
@@ -32,15 +32,15 @@ one_decision_sums : (outcomes : List Outcome) (s t : DecisionSums) → AreDecisi
     → s ≡ t
 one_decision_sums outcomes s t a b = search rules
 
-module _ (layer : ℕ) where
-  one_verdict_counts : (runs : List Finished) (s t : VerdictCounts) → AreVerdictCounts layer runs s
-      → AreVerdictCounts layer runs t → s ≡ t
-  one_verdict_counts runs s t a b = search rules
+one_verdict_counts : (layer : ℕ) (runs : List Finished) (s t : VerdictCounts) → AreVerdictCounts layer runs s
+    → AreVerdictCounts layer runs t → s ≡ t
+one_verdict_counts layer runs s t a b = search rules
 
-  one_run_counts : (runs : List Finished) (s t : RunCounts) → AreRunCounts layer runs s → AreRunCounts layer runs t → s ≡ t
+module _ (group : Group) (layer : ℕ) where
+  one_run_counts : (runs : List Finished) (s t : RunCounts) → AreRunCounts group layer runs s → AreRunCounts group layer runs t → s ≡ t
   one_run_counts runs s t a b = search rules
 
-  one_layer_sums : (trials : List Trial) (s t : LayerSums) → AreLayerSums layer trials s → AreLayerSums layer trials t → s ≡ t
+  one_layer_sums : (trials : List Trial) (s t : LayerSums) → AreLayerSums group layer trials s → AreLayerSums group layer trials t → s ≡ t
   one_layer_sums trials s t a b = λ i. record {
     runs = (a.runs ∙ sym b.runs) i;
     limited = (a.limited ∙ sym b.limited) i;
@@ -48,23 +48,23 @@ module _ (layer : ℕ) where
     pair_ticks = (a.done.pair_ticks ∙ sym b.done.pair_ticks) i;
     pairs = one_pair_sums _ s.pairs t.pairs a.done.pairs b.done.pairs i;
     mistakes_squared_sum = (a.done.mistakes_squared_sum ∙ sym b.done.mistakes_squared_sum) i;
-    verdicts = one_verdict_counts _ s.verdicts t.verdicts a.done.verdicts b.done.verdicts i;
+    verdicts = one_verdict_counts layer _ s.verdicts t.verdicts a.done.verdicts b.done.verdicts i;
     decisions = one_decision_sums _ s.decisions t.decisions a.done.decisions b.done.decisions i;
     counts = one_run_counts _ s.counts t.counts a.done.counts b.done.counts i;
   }
 
   module _ (first : ℕ) (trials : List Trial) where
-    one_first_runs : (s t : FirstRuns) → AreFirstRuns layer first trials s → AreFirstRuns layer first trials t → s ≡ t
+    one_first_runs : (s t : FirstRuns) → AreFirstRuns group layer first trials s → AreFirstRuns group layer first trials t → s ≡ t
     one_first_runs s t a b = search rules
 
-    one_columns : (c d : Columns) → AreColumns layer first trials c → AreColumns layer first trials d → c ≡ d
+    one_columns : (c d : Columns) → AreColumns group layer first trials c → AreColumns group layer first trials d → c ≡ d
     one_columns c d a b =
         let e = one_layer_sums trials c.sums d.sums a.sums b.sums in
         let e0 = a.mistake_recurrence ∙ ap (λ (s : LayerSums). over s.pair_ticks s.pairs.mistakes) e ∙ sym b.mistake_recurrence in
         let e1 = a.mistaken_ppm ∙ ap (λ (s : LayerSums). over (1000000 * s.pairs.mistake_ticks) s.pair_ticks) e ∙ sym b.mistaken_ppm in
         let undetected = ap (λ (s : LayerSums). s.pairs.undetected) e in
         let undecided = ap (λ (s : LayerSums). s.counts.undecided) e in
-        let e2 = one_distribution _ _ c.detections d.detections a.detections (subst (λ n. IsDistribution (all_detections layer trials) n d.detections) (sym undetected) b.detections) in
+        let e2 = one_distribution _ _ c.detections d.detections a.detections (subst (λ n. IsDistribution (all_detections group layer trials) n d.detections) (sym undetected) b.detections) in
         let e3 = one_distribution _ _ c.last_decisions d.last_decisions a.last_decisions (subst (λ n. IsDistribution (last_decisions layer trials) n d.last_decisions) (sym undecided) b.last_decisions) in
         let e4 = one_distribution _ 0 c.rounds d.rounds a.rounds b.rounds in
         let e6 = one_distribution _ 0 c.durations d.durations a.durations b.durations in
@@ -80,12 +80,29 @@ module _ (layer : ℕ) where
           first_runs = e5 i;
         }
 
-pub one_rows_for : (picks : List ℕ) (lead : List Text) (first : ℕ) (trials : List Trial) (a b : Text)
-    → AreRowsFor picks lead first trials a → AreRowsFor picks lead first trials b → a ≡ b
-one_rows_for picks lead first trials a b x y =
-    let e = one_columns 1 first trials x.one y.one x.on_first y.on_first in
-    let f = one_columns 2 first trials x.two y.two x.on_second y.on_second in
-    x.text
-    ∙ ap (λ c. layer_text picks lead 1 c ++ cond (list_any (λ t. is_some t.scenario.share) trials) (layer_text picks lead 2 x.two) []) e
-    ∙ ap (λ c. layer_text picks lead 1 y.one ++ cond (list_any (λ t. is_some t.scenario.share) trials) (layer_text picks lead 2 c) []) f
-    ∙ sym y.text
+-- lists in step with one list are one, where what stands in step with anything is one
+pub one_list : {A B : Type 0} (R : A → B → Type 0) → ((x : A) (y z : B) → R x y → R x z → y ≡ z)
+    → (xs : List A) (ys zs : List B) → AllZip R xs ys → AllZip R xs zs → ys ≡ zs
+one_list R one [] [] [] a b = refl
+one_list R one [] [] (z ∷ zs) a b = absurd b
+one_list R one [] (y ∷ ys) zs a b = absurd a
+one_list R one (x ∷ xs) [] zs a b = absurd a
+one_list R one (x ∷ xs) (y ∷ ys) [] a b = absurd b
+one_list R one (x ∷ xs) (y ∷ ys) (z ∷ zs) a b =
+    ap (λ u. u ∷ ys) (one x y z a.0 b.0) ∙ ap (λ l. z ∷ l) (one_list R one xs ys zs a.1 b.1)
+
+module _ (picks : List ℕ) (lead : List Text) (first : ℕ) (trials : List Trial) where
+  one_group : (group : Group) (a b : Text) → AreRowsOfGroup picks lead first trials group a → AreRowsOfGroup picks lead first trials group b
+      → a ≡ b
+  one_group group a b x y =
+      let e = one_columns group 1 first trials x.one y.one x.on_first y.on_first in
+      let f = one_columns group 2 first trials x.two y.two x.on_second y.on_second in
+      x.text
+      ∙ ap (λ c. layer_text picks lead group 1 c ++ cond (list_any (λ t. is_some t.scenario.share) trials) (layer_text picks lead group 2 x.two) []) e
+      ∙ ap (λ c. layer_text picks lead group 1 y.one ++ cond (list_any (λ t. is_some t.scenario.share) trials) (layer_text picks lead group 2 c) []) f
+      ∙ sym y.text
+
+  pub one_rows_for : (groups : List Group) (a b : Text) → AreRowsFor picks lead groups first trials a
+      → AreRowsFor picks lead groups first trials b → a ≡ b
+  one_rows_for groups a b x y =
+      x.text_is ∙ ap (λ l. flat_map (λ part. part) l) (one_list (AreRowsOfGroup picks lead first trials) one_group groups x.parts y.parts x.each y.each) ∙ sym y.text_is

@@ -1,26 +1,10 @@
 -- A study has one text: the runs have one result each, and the rows are told by them.
-use Rattle.sweep.proofs.Words.{◌≡◌, ℕ, ◌<◌, ◌++◌, List, [], ◌∷◌, length, Result, Ok, Err, refl, sym, ap, ◌∙◌, subst, arith, AllZip, flat_map, Members, Record, Chosen, GridRecord, RunRecord, ShardRecord, RunResult, finished, limited, IsResult, Trial, LayoutRecord, Text, AreRowsFor, point_at, unit_point, unit_runs, unit_first, lead_of, header_of, units_of, IsTrialOf, AreRowsOf, HasRowsOf, HasOneText}
+use Rattle.sweep.proofs.Words.{◌≡◌, ℕ, ◌<◌, ◌++◌, List, length, refl, sym, ap, ◌∙◌, subst, arith, flat_map, SourcesRecord, Record, Chosen, GridRecord, RunRecord, ShardRecord, RunResult, finished, limited, IsResult, Trial, LayoutRecord, Text, AreRowsFor, point_at, unit_point, unit_runs, unit_first, lead_of, header_of, units_of, IsTrialOf, AreRowsOf, HasRowsOf, HasOneText}
 use Rattle.trace_laws.specs.ScenarioSetting.{setting_of}
 use Rattle.trace_laws.proofs.Closed.{one_trace}
-use Rattle.study.specs.Placed.{table_of_run}
-use Rattle.study.specs.Runs.{IsScenarioOf}
-use Rattle.study.specs.declared.error.PlaceError.{PlaceError}
-use Rattle.sweep.proofs.OneRow.{one_rows_for}
-
--- lists in step with one list are one, where what stands in step with anything is one
-one_list : {A B : Type 0} (R : A → B → Type 0) → ((x : A) (y z : B) → R x y → R x z → y ≡ z)
-    → (xs : List A) (ys zs : List B) → AllZip R xs ys → AllZip R xs zs → ys ≡ zs
-one_list R one [] [] [] a b = refl
-one_list R one [] [] (z ∷ zs) a b = absurd b
-one_list R one [] (y ∷ ys) zs a b = absurd a
-one_list R one (x ∷ xs) [] zs a b = absurd a
-one_list R one (x ∷ xs) (y ∷ ys) [] a b = absurd b
-one_list R one (x ∷ xs) (y ∷ ys) (z ∷ zs) a b =
-    ap (λ u. u ∷ ys) (one x y z a.0 b.0) ∙ ap (λ l. z ∷ l) (one_list R one xs ys zs a.1 b.1)
-
-one_scenario : (r : Result Members PlaceError) (S T : Record) → IsScenarioOf r S → IsScenarioOf r T → S ≡ T
-one_scenario (Ok t) S T a b = a.1 ∙ sym b.1
-one_scenario (Err e) S T a b = absurd a
+use Rattle.study.specs.Placed.{sources_of_run}
+use Rattle.study.proofs.Texts.{one_scenario}
+use Rattle.sweep.proofs.OneRow.{one_list, one_rows_for}
 
 one_result : (S : Record) (a b : RunResult) → IsResult S a → IsResult S b → a ≡ b
 one_result S (finished t) (finished u) a b = ap finished (one_trace (setting_of S) u t b.is_trace a.is_trace)
@@ -30,30 +14,30 @@ one_result S limited (finished u) a b =
     let long : S.limit < length u = a u b.is_trace in absurd (omega (arith, long, b.within))
 one_result S limited limited a b = refl
 
-one_trial : (file : Members) (settings : List Chosen) (run : RunRecord) (t u : Trial) → IsTrialOf file settings run t
-    → IsTrialOf file settings run u → t ≡ u
-one_trial file settings run t u a b =
-    let same = one_scenario (table_of_run settings run file) t.scenario u.scenario a.scenario b.scenario in
+one_trial : (sources : SourcesRecord) (settings : List Chosen) (run : RunRecord) (t u : Trial) → IsTrialOf sources settings run t
+    → IsTrialOf sources settings run u → t ≡ u
+one_trial sources settings run t u a b =
+    let same = one_scenario (sources_of_run settings run sources) t.scenario u.scenario a.scenario b.scenario in
     let P : Record → Type 0 = λ S. IsResult S u.result in
     let result = one_result t.scenario t.result u.result a.result (subst P (sym same) b.result) in
     λ i. record { scenario = same i; result = result i }
 
-module _ (file : Members) (g : GridRecord) (layout : LayoutRecord) where
-  one_rows : (unit : ℕ) (a b : Text) → AreRowsOf file g layout unit a → AreRowsOf file g layout unit b → a ≡ b
+module _ (sources : SourcesRecord) (g : GridRecord) (layout : LayoutRecord) where
+  one_rows : (unit : ℕ) (a b : Text) → AreRowsOf sources g layout unit a → AreRowsOf sources g layout unit b → a ≡ b
   one_rows unit a b x y =
       let settings : List Chosen = point_at g (unit_point layout.rows g unit) in
       let lead : List Text = lead_of layout.rows g unit in
       let first : ℕ = unit_first layout.rows g unit in
-      let same = one_list (IsTrialOf file settings) (one_trial file settings) (unit_runs layout.rows g unit) x.trials y.trials x.each y.each in
-      let P : List Trial → Type 0 = λ l. AreRowsFor layout.picks lead first l b in
-      one_rows_for layout.picks lead first x.trials a b x.told (subst P (sym same) y.told)
+      let same = one_list (IsTrialOf sources settings) (one_trial sources settings) (unit_runs layout.rows g unit) x.trials y.trials x.each y.each in
+      let P : List Trial → Type 0 = λ l. AreRowsFor layout.picks lead layout.groups first l b in
+      one_rows_for layout.picks lead first x.trials layout.groups a b x.told (subst P (sym same) y.told)
 
-  all_rows_one : (units : List ℕ) (a b : Text) → HasRowsOf file g layout units a → HasRowsOf file g layout units b → a ≡ b
+  all_rows_one : (units : List ℕ) (a b : Text) → HasRowsOf sources g layout units a → HasRowsOf sources g layout units b → a ≡ b
   all_rows_one units a b x y =
       x.text_is
-      ∙ ap (λ l. flat_map (λ r. r) l) (one_list (AreRowsOf file g layout) one_rows units x.parts y.parts x.each y.each)
+      ∙ ap (λ l. flat_map (λ r. r) l) (one_list (AreRowsOf sources g layout) one_rows units x.parts y.parts x.each y.each)
       ∙ sym y.text_is
 
-  pub one_text : (shard : ShardRecord) → HasOneText file g shard layout
+  pub one_text : (shard : ShardRecord) → HasOneText sources g shard layout
   one_text shard a b x y =
       x.text_is ∙ ap (λ t. header_of g shard layout ++ t) (all_rows_one (units_of layout.rows g shard) x.rows y.rows x.has y.has) ∙ sym y.text_is

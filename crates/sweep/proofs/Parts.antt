@@ -1,5 +1,5 @@
 -- What one run gives, layer by layer.
-use Rattle.sweep.proofs.Words.{◌≡◌, ℕ, zero, suc, ◌+◌, ◌*◌, ◌/◌, ◌^◌, ◌≤◌, Bool, true, false, ◌&&◌, cond, is_some, None, Some, List, [], ◌∷◌, ◌++◌, length, sym, ap, ◌∙◌, refl, subst, arith, append-nil, length-append, map, unwrap_or, true≢false, le_trans, zero-add, nat_lt, All, cons_option, count_by, filter_map, flat_map, list_all, sum_by, mul-le-mul_right, length-map, All-filter, sum_by-le, length-filter, count_by-le-length, end_of, verdicts, Verdicts, EntryRecord, numbers_to, others, AreFindings, RunFindings, Record, IsInRange, PairMeasures, of_verdicts, has_layer, on_layer, finished_of, done_on, all_durations, all_detections, last_decisions, top_rounds, is_limited, AreDoneSums, AreRunCounts, AreVerdictCounts, AreTraceSums, ArePairSums, AreDecisionSums, most_of, most_mistakes, IsLayerWithin, AreTracesWithin, ArePairsWithin, AreDecisionsWithin, Finished, counts_on, counted_of, counted_pairs, pair_ticks, mistakes, has_mistake, durations, detections, detection_time, is_undetected, has_decided, do_disagree, is_to_decide, deciding_of, do_all_decide, is_undecided, last_decision, top_round, run_outcomes, deciding, Trial, done_run, AreFitting, AreLayerFindings, DecisionSums, LayerSums, PairSums}
+use Rattle.sweep.proofs.Words.{◌≡◌, ℕ, zero, suc, ◌+◌, ◌*◌, ◌/◌, ◌^◌, ◌≤◌, Bool, true, false, ◌&&◌, cond, is_some, None, Some, List, [], ◌∷◌, ◌++◌, length, sym, ap, ◌∙◌, refl, subst, arith, append-nil, length-append, map, unwrap_or, true≢false, le_trans, zero-add, nat_lt, All, cons_option, count_by, filter_map, flat_map, list_all, sum_by, mul-le-mul_right, length-map, All-filter, sum_by-le, length-filter, count_by-le-length, end_of, verdicts, Verdicts, EntryRecord, numbers_to, others, AreFindings, RunFindings, Record, IsInRange, PairMeasures, of_verdicts, has_layer, on_layer, finished_of, done_on, all_durations, all_detections, last_decisions, top_rounds, is_limited, AreDoneSums, AreRunCounts, AreVerdictCounts, AreTraceSums, ArePairSums, AreDecisionSums, most_of, most_mistakes, IsLayerWithin, AreTracesWithin, ArePairsWithin, AreDecisionsWithin, Finished, counts_on, counted_of, counted_pairs, pair_ticks, mistakes, has_mistake, durations, detections, detection_time, is_undetected, has_decided, do_disagree, is_to_decide, deciding_of, do_all_decide, is_undecided, last_decision, top_round, run_outcomes, deciding, Trial, done_run, AreFitting, AreLayerFindings, Group, DecisionSums, LayerSums, PairSums}
 use Rattle.std.proofs.lemmas.List.Concat.{length-flat_map}
 use Rattle.judges.specs.Out.{suspects}
 use Rattle.judges.specs.Outcomes.{outcome, outcomes}
@@ -69,7 +69,7 @@ below_end test (suc t) = by (test t) (below_end test t)
     by true le = omega arith
     by false le = omega arith
 
-module _ (S : Record) (trace : List EntryRecord) (ranges : IsInRange S) (layer : ℕ) where
+module _ (group : Group) (S : Record) (trace : List EntryRecord) (ranges : IsInRange S) (layer : ℕ) where
   pair_mistakes : (q p : ℕ) → (pair_measures S trace layer q p).mistakes ≤ 10000000
   unfolding pair_measures
   pair_mistakes q p =
@@ -83,26 +83,26 @@ module _ (S : Record) (trace : List EntryRecord) (ranges : IsInRange S) (layer :
       omega (arith, le, ranges.horizon_high)
 
   abbrev pub counts : PairMeasures → Bool
-  counts m = counts_on layer S m.observer m.subject
+  counts m = counts_on group layer S m.observer m.subject
 
-  few_counted : length (counted_of layer S (layer_measures S trace layer)) ≤ 2 ^ 17
+  few_counted : length (counted_of group layer S (layer_measures S trace layer)) ≤ 2 ^ 17
   few_counted =
       omega (arith, length-filter counts (layer_measures S trace layer), count_by-le-length counts (layer_measures S trace layer), few_pairs S trace ranges layer)
 
   -- a sum over the pairs that count, each of which gives at most one for each tick
   few_each : (f : PairMeasures → ℕ) → ((q p : ℕ) → f (pair_measures S trace layer q p) ≤ 10000000)
-      → sum_by f (counted_of layer S (layer_measures S trace layer)) ≤ most_mistakes 1
+      → sum_by f (counted_of group layer S (layer_measures S trace layer)) ≤ most_mistakes 1
   few_each f each =
       let all = layer_measures S trace layer in
       let low : All (λ m. f m ≤ 10000000) all = each_measure S trace layer (λ m. f m ≤ 10000000) (λ q p _ _ _ _. each q p) in
-      let sum : sum_by f (counted_of layer S all) ≤ length (counted_of layer S all) * 10000000 =
-      sum_by-le f 10000000 (counted_of layer S all) (All-filter counts (λ m. f m ≤ 10000000) all low) in
+      let sum : sum_by f (counted_of group layer S all) ≤ length (counted_of group layer S all) * 10000000 =
+      sum_by-le f 10000000 (counted_of group layer S all) (All-filter counts (λ m. f m ≤ 10000000) all low) in
       omega (arith, sum, few_counted)
 
-  run_mistakes : sum_by (λ m. m.mistakes) (counted_of layer S (layer_measures S trace layer)) ≤ most_mistakes 1
+  run_mistakes : sum_by (λ m. m.mistakes) (counted_of group layer S (layer_measures S trace layer)) ≤ most_mistakes 1
   run_mistakes = few_each (λ m. m.mistakes) pair_mistakes
 
-  run_ticks : sum_by (λ m. m.mistake_ticks) (counted_of layer S (layer_measures S trace layer)) ≤ most_mistakes 1
+  run_ticks : sum_by (λ m. m.mistake_ticks) (counted_of group layer S (layer_measures S trace layer)) ≤ most_mistakes 1
   run_ticks = few_each (λ m. m.mistake_ticks) pair_mistake_ticks
 
 square_high : (m : ℕ) → m ≤ 2 ^ 41 → m * m ≤ 2 ^ 82
@@ -115,7 +115,7 @@ square_high m le =
 pub pairs_raised : (A B : ℕ) (s : PairSums) → A ≤ B → ArePairsWithin A s → ArePairsWithin B s
 pairs_raised A B s le w = search arith
 
-module _ (layer : ℕ) (S : Record) (trace : List EntryRecord) (has : has_layer layer S ≡ true) where
+module _ (group : Group) (layer : ℕ) (S : Record) (trace : List EntryRecord) (has : has_layer layer S ≡ true) where
   abbrev pub one : Finished
   one = record { scenario = S; trace = trace }
 
@@ -128,11 +128,11 @@ module _ (layer : ℕ) (S : Record) (trace : List EntryRecord) (has : has_layer 
   done_one : done_on layer (trial ∷ []) ≡ one ∷ []
   done_one = ap finished_of on_one
 
-  pub durations_one : all_durations layer (trial ∷ []) ≡ durations layer one
-  durations_one = ap (flat_map (durations layer)) done_one ∙ append-nil (durations layer one)
+  pub durations_one : all_durations group layer (trial ∷ []) ≡ durations group layer one
+  durations_one = ap (flat_map (durations group layer)) done_one ∙ append-nil (durations group layer one)
 
-  pub detections_one : all_detections layer (trial ∷ []) ≡ detections layer one
-  detections_one = ap (flat_map (detections layer)) done_one ∙ append-nil (detections layer one)
+  pub detections_one : all_detections group layer (trial ∷ []) ≡ detections group layer one
+  detections_one = ap (flat_map (detections group layer)) done_one ∙ append-nil (detections group layer one)
 
   pub decisions_one : last_decisions layer (trial ∷ []) ≡ cons_option (last_decision (deciding one)) []
   decisions_one = ap (filter_map (λ r. last_decision (deciding r))) done_one
@@ -141,12 +141,12 @@ module _ (layer : ℕ) (S : Record) (trace : List EntryRecord) (has : has_layer 
   rounds_one = ap (filter_map (λ r. top_round (run_outcomes r))) done_one
 
   module _ (summary : Summary) (v : Verdicts) (pairs counted : List PairMeasures) (sums : LayerSums)
-      (found : AreLayerFindings layer S trace summary v pairs) (is : counted ≡ counted_of layer S pairs)
+      (found : AreLayerFindings layer S trace summary v pairs) (is : counted ≡ counted_of group layer S pairs)
       (decisions : DecisionSums) (own : AreOwnSums S summary v counted (deciding_of S summary.outcomes.items) decisions sums)
       (decided : AreDecisionSums (deciding_of S summary.outcomes.items) decisions)
       (d : AreDecisionsWithin (length (deciding_of S summary.outcomes.items) * 2 ^ 64) decisions) where
-    counted_is : counted ≡ counted_pairs layer one
-    counted_is = is ∙ ap (counted_of layer S) found.measured
+    counted_is : counted ≡ counted_pairs group layer one
+    counted_is = is ∙ ap (counted_of group layer S) found.measured
 
     deciding_is : deciding_of S summary.outcomes.items ≡ deciding one
     deciding_is = ap (deciding_of S) found.summed.decided
@@ -168,39 +168,39 @@ module _ (layer : ℕ) (S : Record) (trace : List EntryRecord) (has : has_layer 
       eventual_weak_accuracy = omega arith;
     })
 
-    mistakes_is : sums.pairs.mistakes ≡ mistakes layer one
+    mistakes_is : sums.pairs.mistakes ≡ mistakes group layer one
     mistakes_is = own.pairs.mistakes ∙ ap (sum_by (λ m. m.mistakes)) counted_is
 
     mistakes_high : sums.pairs.mistakes ≤ 2 ^ 41
-    mistakes_high = omega (arith, mistakes_is, run_mistakes S trace found.ranges layer)
+    mistakes_high = omega (arith, mistakes_is, run_mistakes group S trace found.ranges layer)
 
     squared_is : sums.mistakes_squared_sum ≡ sums.pairs.mistakes * sums.pairs.mistakes
     squared_is = omega (arith, own.squared, square_high sums.pairs.mistakes mistakes_high)
 
-    counts_one : AreRunCounts layer (one ∷ []) sums.counts
+    counts_one : AreRunCounts group layer (one ∷ []) sums.counts
     counts_one =
         let c = own.counts in
         record {
-          with_mistakes = c.with_mistakes ∙ ap (λ n. cond (nat_lt 0 n) 1 0) mistakes_is ∙ sym (zero-add (cond (has_mistake layer one) 1 0));
+          with_mistakes = c.with_mistakes ∙ ap (λ n. cond (nat_lt 0 n) 1 0) mistakes_is ∙ sym (zero-add (cond (has_mistake group layer one) 1 0));
           all_decided = c.all_decided ∙ ap (λ n. cond (nat_lt 0 n && list_all has_decided (deciding_of S summary.outcomes.items)) 1 0) decided.to_decide
               ∙ ap (λ os. cond (do_all_decide os) 1 0) deciding_is ∙ sym (zero-add (cond (do_all_decide (deciding one)) 1 0));
           undecided = c.undecided ∙ ap (λ os. cond (is_undecided os) 1 0) deciding_is ∙ sym (zero-add (cond (is_undecided (deciding one)) 1 0));
           disagreements = c.disagreements ∙ ap (λ os. cond (do_disagree os) 1 0) found.summed.decided ∙ sym (zero-add (cond (do_disagree (run_outcomes one)) 1 0));
         }
 
-    done_alone : AreDoneSums layer (one ∷ []) sums
+    done_alone : AreDoneSums group layer (one ∷ []) sums
     done_alone = record {
       traces = traces_one;
-      pair_ticks = own.pair_ticks ∙ ap (sum_by (λ m. end_of S m.observer m.subject)) counted_is ∙ sym (zero-add (pair_ticks layer one));
-      pairs = subst (λ ms. ArePairSums ms sums.pairs) (counted_is ∙ sym (append-nil (counted_pairs layer one))) own.pairs;
-      mistakes_squared_sum = squared_is ∙ ap (λ m. m * m) mistakes_is ∙ sym (zero-add (mistakes layer one * mistakes layer one));
+      pair_ticks = own.pair_ticks ∙ ap (sum_by (λ m. end_of S m.observer m.subject)) counted_is ∙ sym (zero-add (pair_ticks group layer one));
+      pairs = subst (λ ms. ArePairSums ms sums.pairs) (counted_is ∙ sym (append-nil (counted_pairs group layer one))) own.pairs;
+      mistakes_squared_sum = squared_is ∙ ap (λ m. m * m) mistakes_is ∙ sym (zero-add (mistakes group layer one * mistakes group layer one));
       verdicts = verdicts_one;
       decisions = rw own.decisions (subst (λ os. AreDecisionSums os decisions) (deciding_is ∙ sym (append-nil (deciding one))) decided);
       counts = counts_one;
     }
 
     few : length counted ≤ 2 ^ 17
-    few = subst (λ ms. length ms ≤ 2 ^ 17) (sym counted_is) (few_counted S trace found.ranges layer)
+    few = subst (λ ms. length ms ≤ 2 ^ 17) (sym counted_is) (few_counted group S trace found.ranges layer)
 
     fewer : length (deciding_of S summary.outcomes.items) ≤ 256
     fewer =
@@ -231,16 +231,16 @@ module _ (layer : ℕ) (S : Record) (trace : List EntryRecord) (has : has_layer 
           });
         }
 
-    pub fitting_one : AreFitting layer (trial ∷ []) sums
+    pub fitting_one : AreFitting group layer (trial ∷ []) sums
     fitting_one = record {
       sums = record {
         runs = own.runs ∙ ap length (sym on_one);
         limited = own.limited ∙ ap (count_by (λ (t : Trial). is_limited t.result)) (sym on_one);
-        done = subst (λ rs. AreDoneSums layer rs sums) (sym done_one) done_alone;
+        done = subst (λ rs. AreDoneSums group layer rs sums) (sym done_one) done_alone;
       };
       few_runs = omega arith;
       within = within_one;
-      few_detected = omega (arith, ap length detections_one, few_mapped (λ (m : PairMeasures). detection_time m.detection) (counted_pairs layer one), ap length counted_is, few);
+      few_detected = omega (arith, ap length detections_one, few_mapped (λ (m : PairMeasures). detection_time m.detection) (counted_pairs group layer one), ap length counted_is, few);
       few_undetected = omega (arith, own.pairs.undetected, count_by-le-length (λ (m : PairMeasures). is_undetected m.detection) counted, few);
-      few_ticks = omega (arith, own.pairs.mistake_ticks, ap (sum_by (λ (m : PairMeasures). m.mistake_ticks)) counted_is, run_ticks S trace found.ranges layer);
+      few_ticks = omega (arith, own.pairs.mistake_ticks, ap (sum_by (λ (m : PairMeasures). m.mistake_ticks)) counted_is, run_ticks group S trace found.ranges layer);
     }

@@ -39,8 +39,8 @@ pub use Rattle.scenario_record.specs.Record.{Record}
 pub use Rattle.study.specs.Grid.{GridRecord, RunRecord, paths_of, points, runs}
 pub use Rattle.study.specs.Settings.{Chosen, chosen, key_text, path_of}
 pub use Rattle.study.specs.Shard.{ShardRecord}
-pub use Rattle.toml.specs.Data.{Members}
-pub use Rattle.toml.specs.View.{table_view}
+pub use Rattle.study.specs.Sources.{SourcesRecord}
+pub use Rattle.study.specs.Sources.{sources_of}
 pub use Rattle.trace_laws.proofs.Joining.{joined_then, none_joined}
 pub use Rattle.trace_laws.specs.Joins.{HaveJoined}
 pub use Rattle.sweep.specs.Inside.Adding.{decisions_plus, differ, first_of, first_with, is_above, layer_plus, of_outcome, of_verdicts, pairs_plus, plus, plus_few, tick_or_zero, traces_plus}
@@ -49,15 +49,15 @@ pub use Rattle.sweep.specs.Counted.{passing}
 pub use Rattle.sweep.specs.Fitting.{AreDecisionsWithin, ArePairsWithin, AreTracesWithin, IsLayerWithin, most_mistakes, most_of, most_runs, most_values}
 pub use Rattle.sweep.specs.Layout.{IsNearest, IsNoLayout, IsRefusal, IsUnknown, LayoutRecord, TellsOf, place_of}
 pub use Rattle.sweep.specs.Inside.Limits.{AreUnderWay, TellsOn, next_counted}
-pub use Rattle.sweep.specs.Inside.Numbering.{AreNumbersAt, AreNumbersFrom, HasScenarioAt, IsAnswerAt, IsFirstRefusal, IsRefusalAt, runs_each, unit_count}
+pub use Rattle.sweep.specs.Inside.Numbering.{AreNumbersAt, AreNumbersFrom, IsAnswerAt, IsFirstRefusal, IsReadyAt, IsRefusalAt, runs_each, unit_count}
 pub use Rattle.sweep.specs.OneRun.{Finished, counted_of, counted_pairs, counts_on, decided_value, deciding, deciding_of, decision_tick, detection_ticks, detection_time, detections, do_all_decide, do_differ, do_disagree, durations, has_decided, has_mistake, is_at_once, is_to_decide, is_undecided, is_undetected, last_decision, mistakes, noted_round, pair_ticks, run_outcomes, times_of, top_round}
 pub use Rattle.sweep.specs.Parallel.{AreAnswers, ArePlaces, IsPlaced, with_answers, with_columns}
 pub use Rattle.sweep.specs.Percentile.{IsPercentile, IsRanked, at_most, greater, greatest}
 pub use Rattle.sweep.specs.Inside.Progress.{AreAdded, GoesOn, HeaderFails, IsUnderWay, StopsBelow, WroteFrontUpTo, WroteUpTo, next_run}
 pub use Rattle.sweep.specs.Results.{IsResult, RunResult, Trial, done_run, finished, limited}
-pub use Rattle.sweep.specs.RowText.{AreRowsFor, Text, header_text, layer_text, number_text, picked}
+pub use Rattle.sweep.specs.RowText.{AreRowsFor, AreRowsOfGroup, Text, header_text, layer_text, number_text, picked}
 pub use Rattle.sweep.specs.StudyText.{AreRowsOf, HasOneText, HasRowsOf, IsStudyText, IsTextOf, IsTrialOf, ShardsMakeWhole, header_of, lead_of, names_of, numbers_of, point_at, run_at, unit_first, unit_point, unit_run, unit_runs, units_in, units_of, values}
-pub use Rattle.sweep.specs.Sums.{AddsOneMore, AreFitting, AreLayerFindings, AreNumbers, AreSums}
+pub use Rattle.sweep.specs.Sums.{AddsOneMore, AddsRun, AreFitting, AreGroupNumbers, AreLayerFindings, AreNumbers, AreSums, AreUnitSums}
 pub use Rattle.sweep.specs.Watching.{AreLimited, HeardAll, HeardOfAllReading, HeardOfReading, HeardReading, HeardRunning, HeardSome, HeardSomeRunning, News, Rise, limit_in, limits, said_of, standing_in, stands}
 pub use Rattle.sweep.specs.declared.columns.DecisionSums.{DecisionSums}
 pub use Rattle.sweep.specs.declared.columns.FirstRuns.{FirstRuns}
@@ -66,5 +66,8 @@ pub use Rattle.sweep.specs.declared.columns.PairSums.{PairSums}
 pub use Rattle.sweep.specs.declared.columns.RunCounts.{RunCounts}
 pub use Rattle.sweep.specs.declared.columns.TraceSums.{TraceSums}
 pub use Rattle.sweep.specs.declared.error.SweepError.{SweepError}
+pub use Rattle.sweep.specs.declared.group.Group.{Group}
 pub use Rattle.sweep.specs.declared.layout.Rows.{Rows}
+pub use Rattle.sweep.specs.declared.run_numbers.GroupNumbers.{GroupNumbers}
 pub use Rattle.sweep.specs.declared.run_numbers.RunNumbers.{RunNumbers}
+pub use Rattle.sweep.specs.declared.unit_sums.UnitSums.{UnitSums}

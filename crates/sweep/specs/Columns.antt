@@ -19,6 +19,7 @@ use Rattle.sweep.specs.declared.columns.PairSums.{PairSums}
 use Rattle.sweep.specs.declared.columns.RunCounts.{RunCounts}
 use Rattle.sweep.specs.declared.columns.TraceSums.{TraceSums}
 use Rattle.sweep.specs.declared.columns.VerdictCounts.{VerdictCounts}
+use Rattle.sweep.specs.declared.group.Group.{Group}
 
 -- ---- the runs that are added up
 
@@ -106,40 +107,7 @@ module _ (layer : ℕ) where
         ≡ count_verdicts (λ v. is_some v.eventual_strong_accuracy) runs
     pub eventual_weak_accuracy : s.eventual_weak_accuracy ≡ count_verdicts (λ v. is_some v.eventual_weak_accuracy) runs
 
-  -- in how many runs something is so
-  pub record AreRunCounts (runs : List Finished) (s : RunCounts) : Type 0 where
-    pub with_mistakes : s.with_mistakes ≡ count_by (has_mistake layer) runs
-    pub all_decided : s.all_decided ≡ count_by (λ r. do_all_decide (deciding r)) runs
-    pub undecided : s.undecided ≡ count_by (λ r. is_undecided (deciding r)) runs
-    pub disagreements : s.disagreements ≡ count_by (λ r. do_disagree (run_outcomes r)) runs
-
-  -- the measures of all pairs of the runs that count
-  abbrev pub all_pairs : List Finished → List PairMeasures
-  all_pairs runs = flat_map (counted_pairs layer) runs
-
-  -- what the runs that are done add up to
-  pub record AreDoneSums (runs : List Finished) (s : LayerSums) : Type 0 where
-    pub traces : AreTraceSums runs s.traces
-    pub pair_ticks : s.pair_ticks ≡ sum_by (pair_ticks layer) runs
-    pub pairs : ArePairSums (all_pairs runs) s.pairs
-    pub mistakes_squared_sum : s.mistakes_squared_sum ≡ sum_by (λ r. mistakes layer r * mistakes layer r) runs
-    pub verdicts : AreVerdictCounts runs s.verdicts
-    pub decisions : AreDecisionSums (flat_map deciding runs) s.decisions
-    pub counts : AreRunCounts runs s.counts
-
-  pub record AreLayerSums (trials : List Trial) (s : LayerSums) : Type 0 where
-    pub runs : s.runs ≡ length (on_layer layer trials)
-    pub limited : s.limited ≡ count_by (λ t. is_limited t.result) (on_layer layer trials)
-    pub done : AreDoneSums (done_on layer trials) s
-
-  -- how long each mistake was that ended, the times of all detections, the ticks of the last decisions, and the
-  -- greatest rounds
-  abbrev pub all_durations : List Trial → List ℕ
-  all_durations trials = flat_map (durations layer) (done_on layer trials)
-
-  abbrev pub all_detections : List Trial → List ℕ
-  all_detections trials = flat_map (detections layer) (done_on layer trials)
-
+  -- the ticks of the last decisions, and the greatest rounds
   abbrev pub last_decisions : List Trial → List ℕ
   last_decisions trials = filter_map (λ r. last_decision (deciding r)) (done_on layer trials)
 
@@ -150,18 +118,53 @@ module _ (layer : ℕ) where
   abbrev pub does : (Finished → Bool) → Trial → Bool
   does passes t = list_any passes (done_on layer (t ∷ []))
 
+module _ (group : Group) (layer : ℕ) where
+  -- in how many runs something is so
+  pub record AreRunCounts (runs : List Finished) (s : RunCounts) : Type 0 where
+    pub with_mistakes : s.with_mistakes ≡ count_by (has_mistake group layer) runs
+    pub all_decided : s.all_decided ≡ count_by (λ r. do_all_decide (deciding r)) runs
+    pub undecided : s.undecided ≡ count_by (λ r. is_undecided (deciding r)) runs
+    pub disagreements : s.disagreements ≡ count_by (λ r. do_disagree (run_outcomes r)) runs
+
+  -- the measures of all pairs of the runs that count
+  abbrev pub all_pairs : List Finished → List PairMeasures
+  all_pairs runs = flat_map (counted_pairs group layer) runs
+
+  -- what the runs that are done add up to
+  pub record AreDoneSums (runs : List Finished) (s : LayerSums) : Type 0 where
+    pub traces : AreTraceSums runs s.traces
+    pub pair_ticks : s.pair_ticks ≡ sum_by (pair_ticks group layer) runs
+    pub pairs : ArePairSums (all_pairs runs) s.pairs
+    pub mistakes_squared_sum : s.mistakes_squared_sum
+        ≡ sum_by (λ r. mistakes group layer r * mistakes group layer r) runs
+    pub verdicts : AreVerdictCounts layer runs s.verdicts
+    pub decisions : AreDecisionSums (flat_map deciding runs) s.decisions
+    pub counts : AreRunCounts runs s.counts
+
+  pub record AreLayerSums (trials : List Trial) (s : LayerSums) : Type 0 where
+    pub runs : s.runs ≡ length (on_layer layer trials)
+    pub limited : s.limited ≡ count_by (λ t. is_limited t.result) (on_layer layer trials)
+    pub done : AreDoneSums (done_on layer trials) s
+
+  -- how long each mistake was that ended, and the times of all detections
+  abbrev pub all_durations : List Trial → List ℕ
+  all_durations trials = flat_map (durations group layer) (done_on layer trials)
+
+  abbrev pub all_detections : List Trial → List ℕ
+  all_detections trials = flat_map (detections group layer) (done_on layer trials)
+
   -- of the runs from the first on that have a detection after so many ticks, the number of the first
   abbrev pub first_after : (first : ℕ) → List Trial → Option ℕ → Option ℕ
   first_after first trials None = None
   first_after first trials (Some v) =
-      first_number (does (λ r. list_any (λ t. t == v) (detections layer r))) first trials
+      first_number (does layer (λ r. list_any (λ t. t == v) (detections group layer r))) first trials
 
   module _ (first : ℕ) (trials : List Trial) where
     -- the numbers of the first runs in which something is so, where all runs are numbered from the first on
     pub record AreFirstRuns (f : FirstRuns) : Type 0 where
-      pub mistake : f.mistake ≡ first_number (does (has_mistake layer)) first trials
+      pub mistake : f.mistake ≡ first_number (does layer (has_mistake group layer)) first trials
       pub detection_max : f.detection_max ≡ first_after first trials (greatest (all_detections trials))
-      pub disagreement : f.disagreement ≡ first_number (does (λ r. do_disagree (run_outcomes r))) first trials
+      pub disagreement : f.disagreement ≡ first_number (does layer (λ r. do_disagree (run_outcomes r))) first trials
 
     -- what the layer's row tells of the runs
     pub record AreColumns (c : Columns) : Type 0 where
@@ -170,6 +173,6 @@ module _ (layer : ℕ) where
       pub mistaken_ppm : c.mistaken_ppm ≡ over (1000000 * c.sums.pairs.mistake_ticks) c.sums.pair_ticks
       pub durations : IsDistribution (all_durations trials) 0 c.durations
       pub detections : IsDistribution (all_detections trials) c.sums.pairs.undetected c.detections
-      pub last_decisions : IsDistribution (last_decisions trials) c.sums.counts.undecided c.last_decisions
-      pub rounds : IsDistribution (top_rounds trials) 0 c.rounds
+      pub last_decisions : IsDistribution (last_decisions layer trials) c.sums.counts.undecided c.last_decisions
+      pub rounds : IsDistribution (top_rounds layer trials) 0 c.rounds
       pub first_runs : AreFirstRuns c.first_runs

@@ -6,11 +6,14 @@ use Rattle.scenario.specs.Table.{same_text}
 use Rattle.sweep.specs.RowText.{Text}
 use Rattle.sweep.specs.declared.error.LayoutError.{LayoutError}
 use Rattle.sweep.specs.declared.error.LayoutError.TheVariants as error
+use Rattle.sweep.specs.declared.group.Group.{Group}
 use Rattle.sweep.specs.declared.layout.Rows.{Rows}
 
 pub record LayoutRecord : Type 0 where
   -- what a row tells of
   pub rows : Rows
+  -- which pairs rows count: a unit has rows of each of these groups
+  pub groups : List Group
   -- the places of its fields among those of all columns, from 0
   pub picks : List ℕ
 

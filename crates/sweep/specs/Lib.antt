@@ -1,5 +1,7 @@
 pub mod Percentile
 pub mod Results
+pub mod Groups
+pub mod GroupWords
 pub mod OneRun
 pub mod Columns
 pub mod ColumnTable

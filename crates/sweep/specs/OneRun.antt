@@ -17,7 +17,9 @@ use Rattle.reporting.specs.declared.pair_measures.Detection.TheVariants.{Na, NoT
 use Rattle.reporting.specs.declared.pair_measures.PairMeasures.{PairMeasures}
 use Rattle.scenario_record.specs.Numbers.{is_idle}
 use Rattle.scenario_record.specs.Record.{Record}
+use Rattle.sweep.specs.Groups.{is_in}
 use Rattle.sweep.specs.Percentile.{greatest}
+use Rattle.sweep.specs.declared.group.Group.{Group}
 
 -- a run that is done
 pub record Finished : Type 0 where
@@ -31,14 +33,14 @@ abbrev pub watch_of : DetectorNumbers → Watch
 watch_of (Timeout numbers) = numbers.watch
 watch_of (Freshness numbers) = numbers.watch
 
--- whether the pair of observer q and subject p counts: on layer 1 it does where q's detector watches p, on layer 2 each
--- does
-abbrev pub counts_on : (layer : ℕ) → Record → (q p : ℕ) → Bool
-counts_on layer S q p = if layer == 1 then is_watched q S.processes (watch_of S.detector) p else true
+-- whether the pair of observer q and subject p counts: it is of the group, and on layer 1 q's detector watches p
+abbrev pub counts_on : Group → (layer : ℕ) → Record → (q p : ℕ) → Bool
+counts_on group layer S q p =
+    is_in group q p && (if layer == 1 then is_watched q S.processes (watch_of S.detector) p else true)
 
 -- those of the measures that are of pairs that count
-abbrev pub counted_of : (layer : ℕ) → Record → List PairMeasures → List PairMeasures
-counted_of layer S all = filter (λ m. counts_on layer S m.observer m.subject) all
+abbrev pub counted_of : Group → (layer : ℕ) → Record → List PairMeasures → List PairMeasures
+counted_of group layer S all = filter (λ m. counts_on group layer S m.observer m.subject) all
 
 abbrev pub detection_time : Detection → Option ℕ
 detection_time Na = None
@@ -66,10 +68,10 @@ detection_ticks (At ticks) = ticks
 abbrev pub times_of : List PairMeasures → List ℕ
 times_of pairs = filter_map (λ m. detection_time m.detection) pairs
 
-module _ (layer : ℕ) (r : Finished) where
+module _ (group : Group) (layer : ℕ) (r : Finished) where
   -- the measures of the pairs that count
   abbrev pub counted_pairs : List PairMeasures
-  counted_pairs = counted_of layer r.scenario (layer_measures r.scenario r.trace layer)
+  counted_pairs = counted_of group layer r.scenario (layer_measures r.scenario r.trace layer)
 
   -- for how many ticks these pairs are watched: each below the end of its measures
   abbrev pub pair_ticks : ℕ

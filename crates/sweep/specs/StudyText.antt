@@ -1,22 +1,24 @@
 -- The text of a study: rows that tell what became of all runs, of those of a point together or of each alone.
 use Rattle.std.specs.Prelude.{◌≡◌, ◌==◌, ℕ, ◌+◌, ◌*◌, ◌/◌, ◌%◌, if◌then◌else◌, List, [], ◌∷◌, ◌++◌, length, map, get_or, codes, decimal}
 use Rattle.std.specs.List.{AllZip, flat_map, range_with_len}
-use Rattle.toml.specs.Data.{Members}
+use Rattle.study.specs.Sources.{SourcesRecord}
 use Rattle.study.specs.Settings.{Path, Chosen, key_text, given_text}
 use Rattle.study.specs.Grid.{GridRecord, RunRecord, points, keys, runs}
-use Rattle.study.specs.Placed.{table_of_run}
+use Rattle.study.specs.Placed.{sources_of_run}
 use Rattle.study.specs.Runs.{IsScenarioOf}
 use Rattle.study.specs.Shard.{ShardRecord, block}
 use Rattle.sweep.specs.ColumnTable.{column_names}
+use Rattle.sweep.specs.Groups.{group_names}
 use Rattle.sweep.specs.Layout.{LayoutRecord}
 use Rattle.sweep.specs.Results.{Trial, IsTrial}
 use Rattle.sweep.specs.RowText.{Text, header_text, AreRowsFor}
+use Rattle.sweep.specs.declared.group.Group.{Group}
 use Rattle.sweep.specs.declared.layout.Rows.{Rows}
 use Rattle.sweep.specs.declared.layout.Rows.TheVariants as kind
 
--- what became of a run of a point: its scenario is that of the file's table with the settings of both
-pub record IsTrialOf (file : Members) (settings : List Chosen) (run : RunRecord) (t : Trial) : Type 0 where
-  pub scenario : IsScenarioOf (table_of_run settings run file) t.scenario
+-- what became of a run of a point: its scenario is that of the files with the settings of both
+pub record IsTrialOf (sources : SourcesRecord) (settings : List Chosen) (run : RunRecord) (t : Trial) : Type 0 where
+  pub scenario : IsScenarioOf (sources_of_run settings run sources) t.scenario
   pub result : IsTrial t
 
 -- the settings of the point of this number, from 0
@@ -60,8 +62,8 @@ unit_first kind.Runs g run = run % length (runs g) + 1
 abbrev pub unit_run : Rows → GridRecord → (unit run : ℕ) → RunRecord
 unit_run rows g unit run = get_or (unit_runs rows g unit) run (record { settings = []; seed = 0 })
 
--- ---- what a row begins with: what the varied keys are set to; and before a run what its own keys are set to, its
--- ---- seed and its number
+-- ---- what a row begins with, before its group's word: what the varied keys are set to; and of a run what its own
+-- ---- keys are set to, its seed and its number
 
 abbrev pub values : List Chosen → List Text
 values settings = map (λ s. given_text s.value) settings
@@ -84,22 +86,24 @@ abbrev pub lead_names : Rows → GridRecord → List Text
 lead_names kind.Points g = map key_text (keys g)
 lead_names kind.Runs g = map key_text (keys g) ++ map key_text (run_keys g) ++ codes "seed" ∷ codes "run" ∷ []
 
-abbrev pub names_of : Rows → GridRecord → List Text
-names_of rows g = lead_names rows g ++ column_names
+abbrev pub names_of : Rows → List Group → GridRecord → List Text
+names_of rows groups g = lead_names rows g ++ (group_names groups ++ column_names)
 
 -- ---- the text
 
 -- the first shard begins with the header
 abbrev pub header_of : GridRecord → ShardRecord → LayoutRecord → Text
-header_of g shard layout = if shard.number == 1 then header_text layout.picks (names_of layout.rows g) else []
+header_of g shard layout =
+    if shard.number == 1 then header_text layout.picks (names_of layout.rows layout.groups g) else []
 
-module _ (file : Members) (g : GridRecord) (layout : LayoutRecord) where
+module _ (sources : SourcesRecord) (g : GridRecord) (layout : LayoutRecord) where
   -- the rows of a point tell of all its runs, those of a run of it alone
   pub record AreRowsOf (unit : ℕ) (rows : Text) : Type 0 where
     pub trials : List Trial
-    pub each : AllZip (IsTrialOf file (point_at g (unit_point layout.rows g unit)))
+    pub each : AllZip (IsTrialOf sources (point_at g (unit_point layout.rows g unit)))
         (unit_runs layout.rows g unit) trials
-    pub told : AreRowsFor layout.picks (lead_of layout.rows g unit) (unit_first layout.rows g unit) trials rows
+    pub told : AreRowsFor layout.picks (lead_of layout.rows g unit) layout.groups (unit_first layout.rows g unit)
+        trials rows
 
   -- the rows of these points or runs, one after the other
   pub record HasRowsOf (units : List ℕ) (text : Text) : Type 0 where
@@ -107,11 +111,11 @@ module _ (file : Members) (g : GridRecord) (layout : LayoutRecord) where
     pub each : AllZip AreRowsOf units parts
     pub text_is : text ≡ flat_map (λ rows. rows) parts
 
-module _ (file : Members) (g : GridRecord) (shard : ShardRecord) (layout : LayoutRecord) where
+module _ (sources : SourcesRecord) (g : GridRecord) (shard : ShardRecord) (layout : LayoutRecord) where
   -- a shard's text with the rows of these
   pub record IsTextOf (units : List ℕ) (text : Text) : Type 0 where
     pub rows : Text
-    pub has : HasRowsOf file g layout units rows
+    pub has : HasRowsOf sources g layout units rows
     pub text_is : text ≡ header_of g shard layout ++ rows
 
   -- the text of a shard has the rows of all its points, or of all their runs
@@ -125,8 +129,8 @@ module _ (file : Members) (g : GridRecord) (shard : ShardRecord) (layout : Layou
   HasOneText = (a b : Text) → IsStudyText a → IsStudyText b → a ≡ b
 
 -- the texts of so many shards, one after the other, are the text of the whole
-abbrev pub ShardsMakeWhole : Members → GridRecord → LayoutRecord → ℕ → Type 0
-ShardsMakeWhole file g layout of = (texts : List Text)
-    → AllZip (λ number text. IsStudyText file g (record { number = number; of = of }) layout text)
+abbrev pub ShardsMakeWhole : SourcesRecord → GridRecord → LayoutRecord → ℕ → Type 0
+ShardsMakeWhole sources g layout of = (texts : List Text)
+    → AllZip (λ number text. IsStudyText sources g (record { number = number; of = of }) layout text)
     (range_with_len 1 of) texts
-    → IsStudyText file g (record { number = 1; of = 1 }) layout (flat_map (λ text. text) texts)
+    → IsStudyText sources g (record { number = 1; of = 1 }) layout (flat_map (λ text. text) texts)

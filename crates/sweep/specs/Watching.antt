@@ -2,7 +2,7 @@
 use Rattle.std.specs.Prelude.{◌≡◌, ◌⊎◌, ◌-◌, ◌<◌, ◌≤◌, ◌*◌, ◌==◌, ℕ, if◌then◌else◌, not, Option, None, Some, List, [], ◌∷◌, length, map, take}
 use Rattle.std.specs.List.{AllZip, count_by, filter, filter_map, range_with_len}
 use Rattle.trace_laws.specs.Joins.{HaveJoined}
-use Rattle.toml.specs.Data.{Members}
+use Rattle.study.specs.Sources.{SourcesRecord}
 use Rattle.study.specs.Grid.{GridRecord, runs}
 use Rattle.study.specs.Shard.{ShardRecord}
 use Rattle.sweep.specs.Columns.{is_limited}
@@ -36,9 +36,9 @@ Rise first last [] = first ≡ last
 Rise first last (n ∷ ns) = (first < n) × Rise n last ns
 
 -- so many of a point's runs passed their limit
-pub record AreLimited (file : Members) (g : GridRecord) (point : ℕ) (count : ℕ) : Type 0 where
+pub record AreLimited (sources : SourcesRecord) (g : GridRecord) (point : ℕ) (count : ℕ) : Type 0 where
   pub trials : List Trial
-  pub each : AllZip (IsTrialOf file (point_at g point)) (runs g) trials
+  pub each : AllZip (IsTrialOf sources (point_at g point)) (runs g) trials
   pub counted : count ≡ count_by (λ t. is_limited t.result) trials
 
 module _ {W : Type 0} (heard : W → List News → W → Type 0) (old new : W) where
@@ -51,7 +51,7 @@ module _ {W : Type 0} (heard : W → List News → W → Type 0) (old new : W) w
 
   -- the same of the runs that are run; and of each of these points of which runs passed their limit how many did, in
   -- the order of the points
-  pub record HeardRunning (file : Members) (g : GridRecord) (points runs done : ℕ) (complete : List ℕ) : Type 0 where
+  pub record HeardRunning (sources : SourcesRecord) (g : GridRecord) (points runs done : ℕ) (complete : List ℕ) : Type 0 where
     pub news : List News
     pub heard_all : HaveJoined heard old new news
     pub numbers : List ℕ
@@ -59,7 +59,7 @@ module _ {W : Type 0} (heard : W → List News → W → Type 0) (old new : W) w
     pub standings : filter_map standing_in news
         ≡ map (λ n. record { pass = Running; points = points; runs = runs; done = n }) (0 ∷ numbers)
     pub counts : List (ℕ × ℕ)
-    pub counted : AllZip (λ point entry. (entry.0 ≡ point) × AreLimited file g point entry.1) complete counts
+    pub counted : AllZip (λ point entry. (entry.0 ≡ point) × AreLimited sources g point entry.1) complete counts
     pub limited : filter_map limit_in news ≡ filter (λ entry. not (entry.1 == 0)) counts
 
 module _ {W : Type 0} (heard : W → List News → W → Type 0) (old new : W) where
@@ -72,26 +72,26 @@ module _ {W : Type 0} (heard : W → List News → W → Type 0) (old new : W) w
   HeardOfReading g shard = HeardSomeReading (length (numbers_of g shard)) (length (runs g))
 
   -- of all runs of the points from one up to another that they are run, and of some
-  abbrev pub HeardAllRunning : Members → GridRecord → (begin end : ℕ) → Type 0
-  HeardAllRunning file g begin end = HeardRunning heard old new file g (end - begin) (length (runs g))
+  abbrev pub HeardAllRunning : SourcesRecord → GridRecord → (begin end : ℕ) → Type 0
+  HeardAllRunning sources g begin end = HeardRunning heard old new sources g (end - begin) (length (runs g))
       ((end - begin) * length (runs g)) (range_with_len begin (end - begin))
 
-  abbrev pub HeardSomeRunning : Members → GridRecord → (begin end : ℕ) → Type 0
-  HeardSomeRunning file g begin end = (done count : ℕ) × (done ≤ (end - begin) * length (runs g))
-      × (count ≤ end - begin) × HeardRunning heard old new file g (end - begin) (length (runs g)) done (range_with_len begin count)
+  abbrev pub HeardSomeRunning : SourcesRecord → GridRecord → (begin end : ℕ) → Type 0
+  HeardSomeRunning sources g begin end = (done count : ℕ) × (done ≤ (end - begin) * length (runs g))
+      × (count ≤ end - begin) × HeardRunning heard old new sources g (end - begin) (length (runs g)) done (range_with_len begin count)
 
   -- of all that they are read
   abbrev pub HeardOfAllReading : GridRecord → ShardRecord → Type 0
   HeardOfAllReading g shard = HeardReading heard old new (length (numbers_of g shard)) (length (runs g))
       (length (numbers_of g shard) * length (runs g))
 
-module _ {W : Type 0} (heard : W → List News → W → Type 0) (old new : W) (file : Members) (g : GridRecord)
+module _ {W : Type 0} (heard : W → List News → W → Type 0) (old new : W) (sources : SourcesRecord) (g : GridRecord)
     (shard : ShardRecord) where
   -- of all runs that they are read, and then that they are run
   pub record HeardAll : Type 0 where
     pub between : W
     pub reading : HeardOfAllReading heard old between g shard
-    pub running : HeardRunning heard between new file g (length (numbers_of g shard)) (length (runs g))
+    pub running : HeardRunning heard between new sources g (length (numbers_of g shard)) (length (runs g))
         (length (numbers_of g shard) * length (runs g)) (numbers_of g shard)
 
   -- of all that they are read, and then of some that they are run
@@ -101,7 +101,7 @@ module _ {W : Type 0} (heard : W → List News → W → Type 0) (old new : W) (
     pub done : ℕ
     pub done_low : done ≤ length (numbers_of g shard) * length (runs g)
     pub complete : ℕ
-    pub running : HeardRunning heard between new file g (length (numbers_of g shard)) (length (runs g)) done
+    pub running : HeardRunning heard between new sources g (length (numbers_of g shard)) (length (runs g)) done
         (take complete (numbers_of g shard))
 
   -- of some

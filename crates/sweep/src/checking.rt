@@ -1,24 +1,26 @@
 //! Reads every run's scenario, before the first run starts.
 ghost use Rattle.std.specs.Prelude.{◌≡◌, ℕ, ◌-◌, ◌*◌, ◌^◌, ◌<◌, ◌≤◌, true, false, length, slice_index_or};
 ghost use Rattle.std.specs.Prelude.{OnOk, IfErr, IfNone, IfSome};
-ghost use Rattle.toml.specs.View.{table_view};
+ghost use Rattle.study.specs.Sources.{sources_of};
 ghost use Rattle.study.specs.Grid.{points, runs};
 ghost use Rattle.study.specs.Runs.{is_memory};
-ghost use Rattle.sweep.specs.Inside.Numbering.{point_of, HasScenarioAt, IsRefusalAt, IsFirstRefusal};
-ghost use Rattle.sweep.specs.Outcome.{HaveScenarios, CantBeRun};
+ghost use Rattle.sweep.specs.Inside.Numbering.{point_of, IsLack, IsReadyAt, IsRefusalAt, IsFirstRefusal};
+ghost use Rattle.sweep.specs.Groups.{first_above};
+ghost use Rattle.sweep.specs.Outcome.{AreReady, CantBeRun};
 ghost use Rattle.sweep.specs.Watching.{HeardReading, HeardSomeReading, HeardOfReading, HeardOfAllReading};
 
 use crate::batches::Batches;
 use crate::error::SweepError;
+use crate::group::Group;
+use crate::layout::Layout;
 use crate::numbering::{points_of, scenario_of};
 use crate::watcher::{Pass, Standing, Watcher};
-use scenario::ScenarioError;
+use scenario::{Scenario, ScenarioError};
 use std::alloc::{AllocError, Global};
 use std::marker::Sync;
 use std::thread::Threads;
 use std::time::Clock;
-use study::{Grid, PlaceError, ReadError, Shard};
-use toml::Table;
+use study::{Grid, PlaceError, ReadError, Shard, Sources};
 
 /// Whether memory was refused.
 fn is_want_of_memory(reason: &ReadError) -> bool
@@ -31,36 +33,63 @@ fn is_want_of_memory(reason: &ReadError) -> bool
     }
 }
 
-/// Whether the run of this number has a scenario.
-fn is_read(alloc: Global, file: &Table, grid: &Grid, number: u64) -> bool
+/// The place of the first of the groups that names a process above this one.
+fn first_above(groups: &[Group], process: u16) -> Option<usize>
+    ensures { result ≡ first_above process groups.now }
+{
+    groups.iter().position(|group| group.is_above(process))
+}
+
+/// Whether the run of this number can be run: it has a scenario, and in this all processes that groups name.
+fn is_ready(alloc: Global, sources: &Sources, grid: &Grid, groups: &[Group], number: u64) -> bool
     requires some { 1 ≤ length (runs grid.now) }
     requires within { point_of grid.now number < length (points grid.now) }
-    ensures { result ≡ true → HasScenarioAt (table_view file.now) grid.now number }
+    ensures { result ≡ true → IsReadyAt (sources_of sources.now) grid.now groups.now number }
 {
-    match scenario_of(alloc, file, grid, number) {
-        Ok(_scenario) => true,
+    match scenario_of(alloc, sources, grid, number) {
+        Ok(scenario) => first_above(groups, scenario.processes()).is_none(),
         Err(_reason) => false,
     }
 }
 
-/// Why the run of this number has no scenario. Where it has one after all, memory was refused before.
-fn refusal(alloc: Global, file: &Table, grid: &Grid, number: u64) -> SweepError
+/// Why a scenario, which a run has, can't be run. Where it can after all, memory was refused before.
+fn lack(scenario: &Scenario, groups: &[Group], point: u64, run: u64) -> SweepError
+    ensures { IsLack scenario.now groups.now point run result }
+{
+    let processes = scenario.processes();
+    match first_above(groups, processes) {
+        Some(group) => SweepError::NoSuchProcess {
+            point,
+            run,
+            group,
+            processes,
+        },
+        None => SweepError::Memory,
+    }
+}
+
+/// Why the run of this number can't be run.
+fn refusal(
+    alloc: Global,
+    sources: &Sources,
+    grid: &Grid,
+    groups: &[Group],
+    number: u64,
+) -> SweepError
     requires some { 1 ≤ length (runs grid.now) }
     requires within { point_of grid.now number < length (points grid.now) }
-    ensures { IsRefusalAt (table_view file.now) grid.now number result }
+    ensures { IsRefusalAt (sources_of sources.now) grid.now groups.now number result }
 {
-    let Err(reason) = scenario_of(alloc, file, grid, number) else {
-        return SweepError::Memory;
+    let runs = grid.runs();
+    let (point, run) = (number / runs, number % runs);
+    let reason = match scenario_of(alloc, sources, grid, number) {
+        Ok(scenario) => return lack(&scenario, groups, point, run),
+        Err(reason) => reason,
     };
     if is_want_of_memory(&reason) {
         return SweepError::Memory;
     }
-    let runs = grid.runs();
-    SweepError::Refused {
-        point: number / runs,
-        run: number % runs,
-        reason,
-    }
+    SweepError::Refused { point, run, reason }
 }
 
 /// The first place that is `false`.
@@ -77,12 +106,13 @@ fn first_false(all: &[bool]) -> Option<usize>
 ///
 /// # Errors
 ///
-/// `Refused` for the first run that has none, or `Memory`.
+/// `Refused` or `NoSuchProcess` for the first run that can't be run, or `Memory`.
 fn check_runs<R: Threads + Sync + Clock, W: Watcher>(
     rt: &R,
     alloc: Global,
-    file: &Table,
+    sources: &Sources,
     grid: &Grid,
+    groups: &[Group],
     begin: u64,
     end: u64,
     threads: u8,
@@ -93,8 +123,8 @@ fn check_runs<R: Threads + Sync + Clock, W: Watcher>(
     requires within { end ≤ length (points grid.now) }
     requires room { length (points grid.now) * length (runs grid.now) < 2 ^ 64 }
     ensures ok { OnOk result ((n : ℕ) → begin * length (runs grid.now) ≤ n → n < end * length (runs grid.now)
-        → HasScenarioAt (table_view file.now) grid.now n) }
-    ensures err { IfErr result (IsFirstRefusal (table_view file.now) grid.now
+        → IsReadyAt (sources_of sources.now) grid.now groups.now n) }
+    ensures err { IfErr result (IsFirstRefusal (sources_of sources.now) grid.now groups.now
         (begin * length (runs grid.now)) (end * length (runs grid.now))) }
     ensures heard { OnOk result (HeardReading W.heard watcher.old watcher.new (end - begin) (length (runs grid.now))
         ((end - begin) * length (runs grid.now))) }
@@ -119,10 +149,10 @@ fn check_runs<R: Threads + Sync + Clock, W: Watcher>(
             alloc,
             next,
             past,
-            &|number| is_read(alloc, file, grid, number),
+            &|number| is_ready(alloc, sources, grid, groups, number),
         )?;
         if let Some(place) = first_false(&are_read) {
-            return Err(refusal(alloc, file, grid, next + place as u64));
+            return Err(refusal(alloc, sources, grid, groups, next + place as u64));
         }
         next += are_read.len() as u64;
         let done = next - first;
@@ -131,30 +161,43 @@ fn check_runs<R: Threads + Sync + Clock, W: Watcher>(
     Ok(())
 }
 
-/// Reads the scenarios of all runs of a shard's points, by so many threads. The watcher hears how many are read: that
+/// Reads the scenarios of all runs of a shard's points, by so many threads. They have the processes that the layout's
+/// groups name. The watcher hears how many are read: that
 /// none is, and then ever more, up to all of them. What it shows is taken away at the end.
 ///
 /// # Errors
 ///
-/// `Refused` for the first run that has no scenario, or `Memory`.
+/// For the first run that can't be run `Refused`, where it has no scenario, or `NoSuchProcess`, where a group names a
+/// process above its own; or `Memory`.
 pub fn check_study<R: Threads + Sync + Clock, W: Watcher>(
     rt: &R,
     alloc: Global,
-    file: &Table,
+    sources: &Sources,
     grid: &Grid,
     shard: Shard,
+    layout: &Layout,
     threads: u8,
     watcher: &mut W,
 ) -> Result<(), SweepError>
-    ensures ok { OnOk result (HaveScenarios (table_view file.now) grid.now shard) }
-    ensures err { IfErr result (CantBeRun (table_view file.now) grid.now shard) }
+    ensures ok { OnOk result (AreReady (sources_of sources.now) grid.now layout.now.groups shard) }
+    ensures err { IfErr result (CantBeRun (sources_of sources.now) grid.now layout.now.groups shard) }
     ensures heard { OnOk result (HeardOfAllReading W.heard watcher.old watcher.new grid.now shard) }
     ensures heard_some { IfErr result (λ _. HeardOfReading W.heard watcher.old watcher.new grid.now shard) }
     ensures hidden { W.shows watcher.new ≡ false }
 {
     let _runs = grid.runs();
     let (begin, end) = points_of(grid, shard);
-    let answer = check_runs(rt, alloc, file, grid, begin, end, threads, watcher);
+    let answer = check_runs(
+        rt,
+        alloc,
+        sources,
+        grid,
+        layout.groups(),
+        begin,
+        end,
+        threads,
+        watcher,
+    );
     watcher.hide();
     answer
 }

@@ -18,6 +18,18 @@ pub enum SweepError {
         /// Why it is refused; never for want of memory.
         reason: ReadError,
     },
+    /// A group of pairs names a process that a run doesn't have.
+    #[error("a run has fewer processes than a group of pairs names")]
+    NoSuchProcess {
+        /// The run's point, from 0.
+        point: u64,
+        /// The run of the point, from 0.
+        run: u64,
+        /// The place of the first such group among all, from 0.
+        group: usize,
+        /// How many processes the run has.
+        processes: u16,
+    },
     /// Memory was refused.
     #[error("out of memory")]
     Memory,
@@ -33,6 +45,34 @@ impl From<AllocError> for SweepError {
 
     fn from(_: AllocError) -> SweepError {
         SweepError::Memory
+    }
+}
+
+/// Why a word says no group of pairs, in the order in which the reasons are looked for in each part of it. `Memory` may
+/// come at any point.
+#[derive(Clone, Copy, Debug, PartialEq, Eq, Error)]
+pub enum GroupError {
+    /// A part isn't `OBSERVERS:SUBJECTS`, each of these `A..=B` or `A`, with natural numbers.
+    #[error("no group of pairs")]
+    NoGroup,
+    /// A process is below 1 or above 256.
+    #[error("a process is below 1 or above 256")]
+    NoProcess,
+    /// The last process of a side is below the first.
+    #[error("a range of processes is empty")]
+    EmptyRange,
+    /// Memory was refused.
+    #[error("out of memory")]
+    Memory,
+}
+
+impl From<AllocError> for GroupError {
+    ghost use Rattle.sweep.specs.declared.error.GroupError.TheVariants.{Memory};
+
+    ghost from_gives = { λ _ e. e ≡ Memory };
+
+    fn from(_: AllocError) -> GroupError {
+        GroupError::Memory
     }
 }
 

@@ -2,12 +2,14 @@
 ghost use Rattle.std.specs.Prelude.{◌≡◌, ◌*◌, ◌<◌, ◌≤◌, ◌^◌, length, map, string_bytes, option_map, Some, IfOk, IfErr};
 ghost use Rattle.std.specs.List.{range_with_len};
 ghost use Rattle.study.specs.Grid.{runs};
+ghost use Rattle.sweep.specs.Groups.{groups_of as groups_in};
 ghost use Rattle.sweep.specs.Layout.{place_of as place_in};
 ghost use Rattle.sweep.specs.Layout.{ArePicks, IsNearest, TellsOf, IsRefusal, IsNoLayout};
 ghost use Rattle.sweep.specs.Inside.Numbering.{runs_each as runs_of_unit, unit_count};
 ghost use Rattle.sweep.specs.StudyText.{names_of as names_in, unit_first};
 
 use crate::error::LayoutError;
+use crate::group::{Group, PairGroup, groups_of};
 use crate::names::names_of;
 use diagnosis::edits_between;
 use std::alloc::{AllocError, Global};
@@ -27,6 +29,7 @@ pub enum Rows {
 #[derive(Drop)]
 pub struct Layout {
     rows: Rows,
+    groups: Vec<Group>,
     picks: Vec<usize>,
 }
 
@@ -35,7 +38,7 @@ impl Model for Layout {
 
     ghost Value = { LayoutRecord };
 
-    ghost view = { λ l. record { rows = l.rows; picks = l.picks.items } };
+    ghost view = { λ l. record { rows = l.rows; groups = l.groups.items; picks = l.picks.items } };
 }
 
 /// The place of the first of the names that is this word.
@@ -102,11 +105,13 @@ fn all_places(alloc: Global, count: usize) -> Result<Vec<usize>, AllocError>
 
 impl Layout {
     /// The layout of rows that tell of points or of runs, with the columns of these names between commas, in this
-    /// order, or with all columns. A name may come twice.
+    /// order, or with all columns. A name may come twice. A unit has rows for each of these groups of pairs, in their
+    /// order, or for all pairs where there is no group.
     ///
     /// Rows of points have the keys of the grid's varied axes, by their texts, then `layer` and the columns of
     /// [`Columns`](crate::Columns). Rows of runs have the varied keys and the keys of the other axes, then `seed`,
-    /// `run` (its number in its point, from 1), `layer` and these columns.
+    /// `run` (its number in its point, from 1), `layer` and these columns. Before `layer` both have `pairs`, the word
+    /// of the group, where there is a group.
     ///
     /// # Errors
     ///
@@ -115,14 +120,18 @@ impl Layout {
         alloc: Global,
         grid: &Grid,
         rows: Rows,
+        groups: Vec<PairGroup>,
         columns: Option<&str>,
     ) -> Result<Layout, LayoutError>
         ensures rows { IfOk result (λ l. l.rows ≡ rows) }
-        ensures picks { IfOk result
-            (λ l. ArePicks (names_in rows grid.now) (option_map (λ w. w.now) columns.entry) l.picks) }
-        ensures err { IfErr result (IsNoLayout (names_in rows grid.now) (option_map (λ w. w.now) columns.entry)) }
+        ensures groups { IfOk result (λ l. l.groups ≡ groups_in groups.items) }
+        ensures picks { IfOk result (λ l. ArePicks (names_in rows (groups_in groups.items) grid.now)
+            (option_map (λ w. w.now) columns.entry) l.picks) }
+        ensures err { IfErr result (IsNoLayout (names_in rows (groups_in groups.items) grid.now)
+            (option_map (λ w. w.now) columns.entry)) }
     {
-        let names = names_of(alloc, grid, rows)?;
+        let groups = groups_of(alloc, groups)?;
+        let names = names_of(alloc, grid, rows, &groups)?;
         let picks = match columns {
             Some(columns) => {
                 let words = words_between(alloc, columns, ',')?;
@@ -130,7 +139,11 @@ impl Layout {
             }
             None => all_places(alloc, names.len())?,
         };
-        Ok(Layout { rows, picks })
+        Ok(Layout {
+            rows,
+            groups,
+            picks,
+        })
     }
 
     /// What a row tells of.
@@ -138,6 +151,13 @@ impl Layout {
         ensures { result ≡ self.now.rows }
     {
         self.rows
+    }
+
+    /// The groups of which it has rows.
+    pub fn groups(&self) -> &[Group]
+        ensures { result.now ≡ self.now.groups }
+    {
+        &self.groups
     }
 
     /// The places of a row's fields among those of all columns, from 0.

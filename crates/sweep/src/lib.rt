@@ -1,12 +1,16 @@
 //! The rows of a study: sums over the runs of each of its points.
 //!
 //! A run is done within its limit and has a trace, or it passes the limit (`specs/Results.antt`). [`RunNumbers`] is
-//! what one run gives, [`PointSums`] what the runs of a point add up to, and [`Table`] forms the text of rows. What a
+//! what one run gives, [`UnitSums`] what the runs of a point add up to, and [`Table`] forms the text of rows. What a
 //! row tells is defined by sums, counts and quantifiers over a list of runs (`specs/Columns.antt`), and so are its
 //! columns (`specs/ColumnTable.antt`) and how it is written (`specs/RowText.antt`). A [`Layout`] says whether rows tell
 //! of points or of single runs, and which columns they have (`specs/Layout.antt`). It is proved that the sums of a
 //! point, to which runs were added one by one, are those of the list of these runs, and that the text has the rows of
 //! all points, or of all runs (`specs/StudyText.antt`).
+//!
+//! A layout may have groups of pairs of processes ([`PairGroup`], `specs/Groups.antt`), as words say them
+//! (`specs/GroupWords.antt`). Then a point has its rows once for each group, and what is of pairs counts those of the
+//! group. A run is done and measured once, whatever the groups.
 //!
 //! Lengths of mistakes, detection times, ticks of last decisions and rounds are kept with how often each came, so
 //! memory grows with how many different ones there are, and not with the runs. Sums have 128 bits, and are exact of up
@@ -28,6 +32,8 @@ mod columns;
 mod decisions;
 mod error;
 mod fields;
+mod group;
+mod group_words;
 mod laws;
 mod layout;
 mod limits;
@@ -44,6 +50,7 @@ mod standard_error;
 mod sweeping;
 mod table;
 mod texts;
+mod unit_sums;
 mod value_counts;
 mod watcher;
 
@@ -52,12 +59,14 @@ pub use columns::{
     Columns, DecisionSums, Distribution, FirstRuns, LayerSums, PairSums, RunCounts, TraceSums,
     VerdictCounts,
 };
-pub use error::{LayoutError, SweepError};
+pub use error::{GroupError, LayoutError, SweepError};
+pub use group::{Group, PairBlock, PairGroup, Processes};
 pub use laws::{law_one_text, law_shard_texts};
 pub use layout::{Layout, Rows};
 pub use parallel::in_parallel;
 pub use point_sums::PointSums;
-pub use run_numbers::RunNumbers;
+pub use run_numbers::{GroupNumbers, RunNumbers};
 pub use sweeping::sweep;
 pub use table::Table;
+pub use unit_sums::UnitSums;
 pub use watcher::{Pass, Standing, Unwatched, Watcher};

@@ -1,24 +1,23 @@
 //! How many runs of each point passed their limit, which the watcher is told.
 ghost use Rattle.std.specs.Prelude.{◌≡◌, ◌+◌, ◌*◌, ◌^◌, ◌<◌, ◌≤◌, [], ◌∷◌, length};
 ghost use Rattle.trace_laws.specs.Joins.{HaveJoined};
-ghost use Rattle.toml.specs.Data.{Members};
+ghost use Rattle.study.specs.Sources.{SourcesRecord};
 ghost use Rattle.study.specs.Grid.{GridRecord, points, runs};
 ghost use Rattle.sweep.specs.Watching.{said_of};
 
 use crate::run_numbers::RunNumbers;
 use crate::watcher::Watcher;
-use study::Grid;
-use toml::Table;
+use study::{Grid, Sources};
 
 /// Says of a point, whose runs are in, how many of them passed their limit, if one did.
-fn say<W: Watcher>(file: &Table, grid: &Grid, point: u64, count: u64, watcher: &mut W)
+fn say<W: Watcher>(sources: &Sources, grid: &Grid, point: u64, count: u64, watcher: &mut W)
     requires { point < length (points grid.now) }
     ensures { HaveJoined W.heard watcher.old watcher.new (said_of point count) }
 {
     if count == 0 {
         return;
     }
-    watcher.limited(file, grid, point, count);
+    watcher.limited(sources, grid, point, count);
 }
 
 /// Of a point the number of the runs that are in, and how many of these passed their limit.
@@ -37,7 +36,7 @@ impl Limits {
     pub fn at(point: u64) -> Limits
         ensures point { result.point ≡ point }
         ensures run { result.run ≡ 0 }
-        ensures counted { (file : Members) (g : GridRecord) → AreCounted file g result }
+        ensures counted { (sources : SourcesRecord) (g : GridRecord) → AreCounted sources g result }
     {
         Limits {
             point,
@@ -48,7 +47,13 @@ impl Limits {
 
     /// Takes the next run in. After the last of its point the watcher is told how many passed their limit, if one did,
     /// and the next point begins.
-    fn add<W: Watcher>(&mut self, file: &Table, grid: &Grid, numbers: &RunNumbers, watcher: &mut W)
+    fn add<W: Watcher>(
+        &mut self,
+        sources: &Sources,
+        grid: &Grid,
+        numbers: &RunNumbers,
+        watcher: &mut W,
+    )
         requires point { self.old.point < length (points grid.now) }
         requires run { self.old.run < length (runs grid.now) }
         requires few { length (points grid.now) < 2 ^ 64 }
@@ -58,18 +63,18 @@ impl Limits {
     {
         let runs = grid.runs();
         self.run += 1;
-        self.count += numbers.first.sums.limited.min(1);
+        self.count += u64::from(numbers.is_limited);
         if self.run < runs {
             return;
         }
-        say(file, grid, self.point, self.count, watcher);
+        say(sources, grid, self.point, self.count, watcher);
         *self = Limits::at(self.point + 1);
     }
 
     /// Takes runs in, one after the other.
     pub fn add_all<W: Watcher>(
         &mut self,
-        file: &Table,
+        sources: &Sources,
         grid: &Grid,
         numbers: &[RunNumbers],
         watcher: &mut W,
@@ -83,7 +88,7 @@ impl Limits {
         ensures heard { TellsOn grid.now W.heard watcher.old watcher.new numbers.now self.old self.new }
     {
         for each in numbers {
-            self.add(file, grid, each, watcher);
+            self.add(sources, grid, each, watcher);
         }
     }
 }

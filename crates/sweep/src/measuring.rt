@@ -1,12 +1,13 @@
 //! Runs scenarios and measures them.
 ghost use Rattle.std.specs.Prelude.{◌≡◌, ◌+◌, ◌*◌, ◌^◌, ◌<◌, ◌≤◌, length, IfOk};
-ghost use Rattle.toml.specs.View.{table_view};
+ghost use Rattle.study.specs.Sources.{sources_of};
 ghost use Rattle.study.specs.Grid.{points, runs};
 ghost use Rattle.sweep.specs.Inside.Numbering.{point_of, IsAnswerAt, AreNumbersFrom};
 ghost use Rattle.sweep.specs.Results.{RunResult, IsResult};
 ghost use Rattle.sweep.specs.Sums.{AreNumbers};
 
 use crate::batches::Batches;
+use crate::group::Group;
 use crate::numbering::scenario_of;
 use crate::parallel::all_of;
 use crate::run_numbers::RunNumbers;
@@ -18,22 +19,26 @@ use std::alloc::{AllocError, Global};
 use std::marker::Sync;
 use std::thread::Threads;
 use std::time::Clock;
-use study::Grid;
-use toml::Table;
+use study::{Grid, Sources};
 
-/// What the run of a scenario gives to the sums. A run that passes its limit is counted, and gives nothing else.
-fn measure_scenario(alloc: Global, scenario: &Scenario) -> Result<RunNumbers, AllocError>
+/// What the run of a scenario gives to the sums of these groups. It is run and measured once. A run that passes its
+/// limit is counted, and gives nothing else.
+fn measure_scenario(
+    alloc: Global,
+    scenario: &Scenario,
+    groups: &[Group],
+) -> Result<RunNumbers, AllocError>
     ensures { IfOk result (λ n. (r : RunResult) × IsResult scenario.now r
-        × AreNumbers (record { scenario = scenario.now; result = r }) n) }
+        × AreNumbers groups.now (record { scenario = scenario.now; result = r }) n) }
 {
     let _ticks = scenario.horizon();
     let machines = machines_of(alloc, scenario)?;
     match measure_list(alloc, scenario, machines) {
         Ok((findings, durations)) => {
-            let numbers = RunNumbers::of_run(alloc, scenario, &findings, &durations)?;
+            let numbers = RunNumbers::of_run(alloc, scenario, groups, &findings, &durations)?;
             Ok(numbers)
         }
-        Err(RunError::Limit) => Ok(RunNumbers::of_limited(alloc, scenario)),
+        Err(RunError::Limit) => RunNumbers::of_limited(alloc, scenario, groups),
         Err(_) => Err(AllocError),
     }
 }
@@ -41,18 +46,19 @@ fn measure_scenario(alloc: Global, scenario: &Scenario) -> Result<RunNumbers, Al
 /// What the run of this number gives. Its scenario was read before: what refuses it now is want of memory.
 fn measure_run(
     alloc: Global,
-    file: &Table,
+    sources: &Sources,
     grid: &Grid,
+    groups: &[Group],
     number: u64,
 ) -> Result<RunNumbers, AllocError>
     requires some { 1 ≤ length (runs grid.now) }
     requires within { point_of grid.now number < length (points grid.now) }
-    ensures { IsAnswerAt (table_view file.now) grid.now number result }
+    ensures { IsAnswerAt (sources_of sources.now) grid.now groups.now number result }
 {
-    let Ok(scenario) = scenario_of(alloc, file, grid, number) else {
+    let Ok(scenario) = scenario_of(alloc, sources, grid, number) else {
         return Err(AllocError);
     };
-    measure_scenario(alloc, &scenario)
+    measure_scenario(alloc, &scenario, groups)
 }
 
 /// What the runs of a batch give: of the first of those from one number up to another, one at least.
@@ -63,8 +69,9 @@ fn measure_run(
 pub(crate) fn measure_batch<R: Threads + Sync + Clock>(
     rt: &R,
     alloc: Global,
-    file: &Table,
+    sources: &Sources,
     grid: &Grid,
+    groups: &[Group],
     first: u64,
     end: u64,
     batches: &mut Batches,
@@ -75,14 +82,14 @@ pub(crate) fn measure_batch<R: Threads + Sync + Clock>(
     requires room { length (points grid.now) * length (runs grid.now) < 2 ^ 64 }
     ensures some { IfOk result (λ v. 1 ≤ length v.items) }
     ensures within { IfOk result (λ v. first + length v.items ≤ end) }
-    ensures numbers { IfOk result (λ v. AreNumbersFrom (table_view file.now) grid.now first v.items) }
+    ensures numbers { IfOk result (λ v. AreNumbersFrom (sources_of sources.now) grid.now groups.now first v.items) }
 {
     let answers = batches.run(
         rt,
         alloc,
         first,
         end,
-        &|number| measure_run(alloc, file, grid, number),
+        &|number| measure_run(alloc, sources, grid, groups, number),
     )?;
     all_of(alloc, answers)
 }

@@ -3,10 +3,12 @@ ghost use Rattle.std.specs.Prelude.{◌≡◌, ◌++◌, ◌∷◌, [], ◌≤�
 ghost use Rattle.study.specs.Grid.{paths_of};
 ghost use Rattle.study.specs.Settings.{chosen, path_of, key_text};
 ghost use Rattle.sweep.specs.ColumnTable.{column_names};
+ghost use Rattle.sweep.specs.Groups.{group_names};
 ghost use Rattle.sweep.specs.StudyText.{lead_names, names_of as names_in};
 
 use crate::column_table::columns_of;
 use crate::columns::Columns;
+use crate::group::{Group, are_any_said};
 use crate::layout::Rows;
 use std::alloc::{AllocError, Global};
 use study::{Axis, Choice, Grid, Key};
@@ -95,13 +97,35 @@ fn push_column_names(alloc: Global, names: &mut Vec<String>) -> Result<(), Alloc
     Ok(())
 }
 
-/// The names of all columns of rows that tell of points, or of runs.
-pub(crate) fn names_of(alloc: Global, grid: &Grid, rows: Rows) -> Result<Vec<String>, AllocError>
-    ensures names { IfOk result (λ v. map string_bytes v.items ≡ names_in rows grid.now) }
+/// Adds the name of the column for groups' words, where groups are said.
+fn push_group_names(
+    alloc: Global,
+    names: &mut Vec<String>,
+    groups: &[Group],
+) -> Result<(), AllocError>
+    ensures { OnOk result (map string_bytes names.new.items
+        ≡ map string_bytes names.old.items ++ group_names groups.now) }
+{
+    if are_any_said(groups) {
+        push_names(alloc, names, &["pairs"])
+    } else {
+        Ok(())
+    }
+}
+
+/// The names of all columns of rows that tell of points, or of runs, and count the pairs of these groups.
+pub(crate) fn names_of(
+    alloc: Global,
+    grid: &Grid,
+    rows: Rows,
+    groups: &[Group],
+) -> Result<Vec<String>, AllocError>
+    ensures names { IfOk result (λ v. map string_bytes v.items ≡ names_in rows groups.now grid.now) }
     ensures some { IfOk result (λ v. 1 ≤ length v.items) }
 {
     let mut names = Vec::new(alloc);
     push_lead_names(alloc, &mut names, grid, rows)?;
+    push_group_names(alloc, &mut names, groups)?;
     push_column_names(alloc, &mut names)?;
     Ok(names)
 }

@@ -1,7 +1,7 @@
 //! Runs by numbers: those of all points, one point after the other.
 ghost use Rattle.std.specs.Prelude.{◌≡◌, ◌-◌, ◌<◌, ◌≤◌, false, true, length, IfOk, IfErr};
 ghost use Rattle.std.specs.List.{range_with_len};
-ghost use Rattle.toml.specs.View.{table_view};
+ghost use Rattle.study.specs.Sources.{sources_of};
 ghost use Rattle.study.specs.Grid.{points, runs};
 ghost use Rattle.study.specs.Runs.{IsScenarioOf, IsRefusedFor, is_memory};
 ghost use Rattle.sweep.specs.Inside.Numbering.{point_of, table_at};
@@ -9,8 +9,7 @@ ghost use Rattle.sweep.specs.StudyText.{numbers_of};
 
 use scenario::Scenario;
 use std::alloc::{AllocError, Global};
-use study::{Grid, PlaceError, ReadError, Shard, read_run};
-use toml::Table;
+use study::{Grid, PlaceError, ReadError, Shard, Sources, read_run};
 
 fn want_of_memory(error: AllocError) -> ReadError
     ensures { is_memory result ≡ true }
@@ -25,20 +24,20 @@ fn want_of_memory(error: AllocError) -> ReadError
 /// As [`read_run`].
 pub(crate) fn scenario_of(
     alloc: Global,
-    file: &Table,
+    sources: &Sources,
     grid: &Grid,
     number: u64,
 ) -> Result<Scenario, ReadError>
     requires some { 1 ≤ length (runs grid.now) }
     requires within { point_of grid.now number < length (points grid.now) }
-    ensures ok { IfOk result (IsScenarioOf (table_at (table_view file.now) grid.now number)) }
+    ensures ok { IfOk result (IsScenarioOf (table_at (sources_of sources.now) grid.now number)) }
     ensures err { IfErr result (λ e. is_memory e ≡ false
-        → IsRefusedFor (table_at (table_view file.now) grid.now number) e) }
+        → IsRefusedFor (table_at (sources_of sources.now) grid.now number) e) }
 {
     let runs = grid.runs();
     let point = grid.point(alloc, number / runs).map_err(want_of_memory)?;
     let run = grid.run(alloc, number % runs).map_err(want_of_memory)?;
-    read_run(alloc, file, &point, &run)
+    read_run(alloc, sources, &point, &run)
 }
 
 /// The shard's first point, from 0, and the one after its last.

@@ -10,6 +10,7 @@ ghost use Rattle.sweep.specs.OneRun.{counted_of, counts_on, detection_ticks, det
 ghost use Rattle.sweep.specs.OneRun.{times_of, watch_of};
 
 use crate::columns::PairSums;
+use crate::group::Group;
 use judges::end_tick;
 use process_api::{DetectorNumbers, Watch};
 use reporting::{Detection, Durations, PairMeasures};
@@ -26,10 +27,13 @@ fn watch_of(numbers: DetectorNumbers) -> Watch
     }
 }
 
-/// Whether a pair counts: on layer 1 it does where its observer's detector watches its subject, on layer 2 each does.
-fn counts_on(scenario: &Scenario, layer: u8, pair: &PairMeasures) -> bool
-    ensures { result ≡ counts_on layer scenario.now pair.now.observer pair.now.subject }
+/// Whether a pair counts: where it is of the group, and on layer 1 its observer's detector watches its subject.
+fn counts_on(scenario: &Scenario, group: &Group, layer: u8, pair: &PairMeasures) -> bool
+    ensures { result ≡ counts_on group.now layer scenario.now pair.now.observer pair.now.subject }
 {
+    if !group.has(pair.observer, pair.subject) {
+        return false;
+    }
     if layer == 1 {
         let watch = watch_of(scenario.detector());
         watch.takes_in(pair.observer, scenario.processes(), pair.subject)
@@ -38,19 +42,20 @@ fn counts_on(scenario: &Scenario, layer: u8, pair: &PairMeasures) -> bool
     }
 }
 
-/// The measures of the pairs that count on a layer.
+/// The measures of the pairs of a group that count on a layer.
 pub(crate) fn counted_of(
     alloc: Global,
     scenario: &Scenario,
+    group: &Group,
     layer: u8,
     pairs: &[PairMeasures],
 ) -> Result<Vec<PairMeasures>, AllocError>
-    ensures { IfOk result (λ counted. counted.items ≡ counted_of layer scenario.now pairs.now) }
+    ensures { IfOk result (λ counted. counted.items ≡ counted_of group.now layer scenario.now pairs.now) }
 {
     pairs
         .iter()
         .copied()
-        .filter(|pair| counts_on(scenario, layer, pair))
+        .filter(|pair| counts_on(scenario, group, layer, pair))
         .collect(alloc)
 }
 

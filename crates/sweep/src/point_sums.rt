@@ -1,11 +1,12 @@
-//! The sums of a point.
+//! The sums of a point, of a group of pairs.
 ghost use Rattle.std.specs.Prelude.{◌≡◌, [], ℕ, List, is_some, OnOk};
 ghost use Rattle.std.specs.List.{list_any};
 ghost use Rattle.sweep.specs.Columns.{AreColumns, over};
 ghost use Rattle.sweep.specs.Results.{Trial};
+ghost use Rattle.sweep.specs.declared.group.Group.{Group};
 
 use crate::columns::{Columns, FirstRuns, LayerSums};
-use crate::run_numbers::{LayerNumbers, RunNumbers};
+use crate::run_numbers::{GroupNumbers, LayerNumbers};
 use crate::value_counts::{ValueCounts, is_above};
 use std::alloc::{AllocError, Global};
 
@@ -34,7 +35,7 @@ impl LayerValues {
 
     /// No run is counted.
     fn new(alloc: Global) -> LayerValues
-        ensures { (layer : ℕ) → AreLayerValues layer [] result }
+        ensures { (group : Group) (layer : ℕ) → AreLayerValues group layer [] result }
     {
         LayerValues {
             durations: ValueCounts::new(alloc),
@@ -68,7 +69,7 @@ impl LayerTotals {
 
     /// No run is added up.
     fn new(alloc: Global) -> LayerTotals
-        ensures { (layer first : ℕ) → AreLayerTotals layer [] first result }
+        ensures { (group : Group) (layer first : ℕ) → AreLayerTotals group layer [] first result }
     {
         LayerTotals {
             sums: LayerSums::default(),
@@ -90,8 +91,8 @@ impl LayerTotals {
     }
 
     fn columns(&self) -> Columns
-        ensures { (layer first : ℕ) (trials : List Trial) → AreLayerTotals layer trials first self.now
-            → AreColumns layer first trials result }
+        ensures { (group : Group) (layer first : ℕ) (trials : List Trial)
+            → AreLayerTotals group layer trials first self.now → AreColumns group layer first trials result }
     {
         let sums = self.sums;
         let undecided = u128::from(sums.counts.undecided);
@@ -111,8 +112,8 @@ impl LayerTotals {
     }
 }
 
-/// The sums of a point, over the runs that were added. Memory grows with how many different lengths of mistakes,
-/// detection times, ticks of last decisions and rounds there are, and not with the runs.
+/// The sums of a point, over the runs that were added, of a group of pairs. Memory grows with how many different lengths
+/// of mistakes, detection times, ticks of last decisions and rounds there are, and not with the runs.
 #[derive(Drop)]
 pub struct PointSums {
     first: LayerTotals,
@@ -126,7 +127,7 @@ impl PointSums {
 
     /// No run was added. The first run that is has this number.
     pub fn new(alloc: Global, first: u64) -> PointSums
-        ensures { AreSums first [] result }
+        ensures { (group : Group) → AreSums group first [] result }
     {
         PointSums {
             first: LayerTotals::new(alloc),
@@ -140,7 +141,7 @@ impl PointSums {
     /// # Errors
     ///
     /// `AllocError` where memory was refused. Then the sums are to be dropped: a part of the run may be added.
-    pub fn add(&mut self, numbers: &RunNumbers) -> Result<(), AllocError>
+    pub(crate) fn add(&mut self, numbers: &GroupNumbers) -> Result<(), AllocError>
         ensures { OnOk result (AddsOneMore numbers.now self.old self.new) }
     {
         let number = self.next;
@@ -151,16 +152,16 @@ impl PointSums {
 
     /// What the row of layer 1 tells.
     pub fn first(&self) -> Columns
-        ensures { (first : ℕ) (trials : List Trial) → AreSums first trials self.now
-            → AreColumns 1 first trials result }
+        ensures { (group : Group) (first : ℕ) (trials : List Trial) → AreSums group first trials self.now
+            → AreColumns group 1 first trials result }
     {
         self.first.columns()
     }
 
     /// What the row of layer 2 tells, where some run has a reduction.
     pub fn second(&self) -> Columns
-        ensures { (first : ℕ) (trials : List Trial) → AreSums first trials self.now
-            → AreColumns 2 first trials result }
+        ensures { (group : Group) (first : ℕ) (trials : List Trial) → AreSums group first trials self.now
+            → AreColumns group 2 first trials result }
     {
         self.second.columns()
     }
@@ -168,7 +169,7 @@ impl PointSums {
     /// Whether some run has a reduction, whose output is layer 2.
     #[tactic(auto, using(crate::proofs::Layered::any_shared))]
     pub fn has_second(&self) -> bool
-        ensures { (first : ℕ) (trials : List Trial) → AreSums first trials self.now
+        ensures { (group : Group) (first : ℕ) (trials : List Trial) → AreSums group first trials self.now
             → result ≡ list_any (λ t. is_some t.scenario.share) trials }
     {
         self.second.sums.runs > 0

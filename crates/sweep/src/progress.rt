@@ -1,16 +1,16 @@
 //! How far a sweep has come: the unit whose runs are added up, and which of them are in.
-ghost use Rattle.std.specs.Prelude.{◌≡◌, ◌+◌, ◌-◌, ◌*◌, ◌^◌, ◌<◌, ◌≤◌, [], ◌∷◌, length, OnOk, IfErr};
-ghost use Rattle.toml.specs.Data.{Members};
+ghost use Rattle.std.specs.Prelude.{◌≡◌, ◌+◌, ◌-◌, ◌*◌, ◌^◌, ◌<◌, ◌≤◌, [], ◌∷◌, length, IfOk, OnOk, IfErr};
+ghost use Rattle.study.specs.Sources.{SourcesRecord};
 ghost use Rattle.study.specs.Grid.{points, runs};
 ghost use Rattle.sweep.specs.Inside.Numbering.{runs_each};
 
 use crate::error::SweepError;
 use crate::layout::Layout;
-use crate::point_sums::PointSums;
 use crate::run_numbers::RunNumbers;
 use crate::texts::{rows_of, write_text};
+use crate::unit_sums::UnitSums;
 use reporting::Outlet;
-use std::alloc::Global;
+use std::alloc::{AllocError, Global};
 use study::Grid;
 
 /// The sums of a unit, with those of its runs that come before `run`.
@@ -18,24 +18,30 @@ use study::Grid;
 pub(crate) struct Progress {
     pub unit: u64,
     pub run: u64,
-    pub sums: PointSums,
+    pub sums: UnitSums,
 }
 
 impl Progress {
     ghost use Rattle.sweep.specs.Inside.Progress.{AreAdded, GoesOn, StopsAt, next_run};
 
     /// No run of the unit is in.
-    pub fn at(alloc: Global, grid: &Grid, layout: &Layout, unit: u64) -> Progress
-        ensures unit { result.unit ≡ unit }
-        ensures run { result.run ≡ 0 }
-        ensures added { (file : Members) → 1 ≤ runs_each layout.now.rows grid.now
-            → AreAdded file grid.now layout.now result }
+    pub fn at(
+        alloc: Global,
+        grid: &Grid,
+        layout: &Layout,
+        unit: u64,
+    ) -> Result<Progress, AllocError>
+        ensures unit { IfOk result (λ p. p.unit ≡ unit) }
+        ensures run { IfOk result (λ p. p.run ≡ 0) }
+        ensures added { IfOk result (λ p. (sources : SourcesRecord) → 1 ≤ runs_each layout.now.rows grid.now
+            → AreAdded sources grid.now layout.now p) }
     {
-        Progress {
+        let first = layout.first_run(grid, unit);
+        Ok(Progress {
             unit,
             run: 0,
-            sums: PointSums::new(alloc, layout.first_run(grid, unit)),
-        }
+            sums: UnitSums::new(alloc, layout.groups(), first)?,
+        })
     }
 
     /// Takes the next run in. After the last of its unit the unit's rows go out, and the next unit begins.
@@ -68,7 +74,7 @@ impl Progress {
         }
         let text = rows_of(alloc, grid, layout, self.unit, &self.sums)?;
         write_text(&text, outlet)?;
-        *self = Progress::at(alloc, grid, layout, self.unit + 1);
+        *self = Progress::at(alloc, grid, layout, self.unit + 1)?;
         Ok(())
     }
 

@@ -7,12 +7,14 @@ ghost use Rattle.scenario_record.specs.Record.{Record};
 ghost use Rattle.sweep.specs.Inside.Adding.{of_verdicts};
 ghost use Rattle.sweep.specs.Columns.{AreDecisionSums, has_layer};
 ghost use Rattle.sweep.specs.Inside.OwnSums.{AreOwnSums};
+ghost use Rattle.sweep.specs.declared.group.Group.{Group as GroupRecord};
 ghost use Rattle.sweep.specs.Results.{Trial, limited as limited_result, done_run};
 
 use crate::columns::{DecisionSums, LayerSums, RunCounts, TraceSums, VerdictCounts};
 use crate::decisions::{
     deciding_of, do_all_decide, do_disagree, last_decision, sum_decisions, top_round,
 };
+use crate::group::Group;
 use crate::pairs::{counted_of, detection_times, durations_of, sum_ends, sum_pairs};
 use judges::Verdicts;
 use reporting::{Durations, PairMeasures, RunDurations, RunFindings, Summary};
@@ -88,10 +90,10 @@ impl LayerNumbers {
 
     /// Of a run that adds nothing: it passed its limit, which is counted, or it hasn't this layer.
     fn of_nothing(alloc: Global, limited: u64) -> LayerNumbers
-        ensures limited { limited ≡ 1 → (layer : ℕ) (S : Record) → has_layer layer S ≡ true
-            → AreLayerNumbers layer (record { scenario = S; result = limited_result } ∷ []) result }
-        ensures none { limited ≡ 0 → (layer : ℕ) (trial : Trial) → has_layer layer trial.scenario ≡ false
-            → AreLayerNumbers layer (trial ∷ []) result }
+        ensures limited { limited ≡ 1 → (group : GroupRecord) (layer : ℕ) (S : Record) → has_layer layer S ≡ true
+            → AreLayerNumbers group layer (record { scenario = S; result = limited_result } ∷ []) result }
+        ensures none { limited ≡ 0 → (group : GroupRecord) (layer : ℕ) (trial : Trial)
+            → has_layer layer trial.scenario ≡ false → AreLayerNumbers group layer (trial ∷ []) result }
     {
         LayerNumbers {
             sums: LayerSums {
@@ -107,9 +109,11 @@ impl LayerNumbers {
     }
 
     /// Of a run that is done: its summary, and its verdicts, its measures and how long its mistakes were on this layer.
+    /// The pairs of the group count.
     fn of_run(
         alloc: Global,
         scenario: &Scenario,
+        group: &Group,
         layer: u8,
         summary: &Summary,
         verdicts: &Verdicts,
@@ -117,9 +121,9 @@ impl LayerNumbers {
         durations: &Durations,
     ) -> Result<LayerNumbers, AllocError>
         ensures { IfOk result
-            (AreOfFindings layer scenario.now summary.now verdicts.now pairs.now durations.now) }
+            (AreOfFindings group.now layer scenario.now summary.now verdicts.now pairs.now durations.now) }
     {
-        let counted = counted_of(alloc, scenario, layer, pairs)?;
+        let counted = counted_of(alloc, scenario, group, layer, pairs)?;
         let deciding = deciding_of(alloc, scenario, &summary.outcomes)?;
         let durations = durations_of(alloc, &counted, durations)?;
         let detections = detection_times(alloc, &counted)?;
@@ -142,11 +146,67 @@ fn is_shared(scenario: &Scenario) -> bool
     scenario.share().is_some()
 }
 
-/// What one run gives to the sums of its point.
+/// What one run gives to the sums of a group of pairs.
 #[derive(Drop)]
-pub struct RunNumbers {
+pub struct GroupNumbers {
     pub(crate) first: LayerNumbers,
     pub(crate) second: LayerNumbers,
+}
+
+impl GroupNumbers {
+    ghost use Rattle.sweep.specs.Sums.{AreGroupNumbers};
+
+    /// What a run gives that is done.
+    fn of_run(
+        alloc: Global,
+        scenario: &Scenario,
+        group: &Group,
+        findings: &RunFindings,
+        durations: &RunDurations,
+    ) -> Result<GroupNumbers, AllocError>
+        ensures { IfOk result (λ n. (found : MeasuresRun scenario.now findings.now durations.now)
+            → AreGroupNumbers group.now (done_run scenario.now found.trace) n) }
+    {
+        let _shared = is_shared(scenario);
+        let (summary, pairs) = (&findings.summary, &findings.measures);
+        let (own, lasted) = (&findings.first, &durations.first);
+        let verdicts = match &findings.second {
+            Some(verdicts) => verdicts,
+            None => {
+                let first = LayerNumbers::of_run(
+                    alloc, scenario, group, 1, summary, own, pairs, lasted,
+                )?;
+                let second = LayerNumbers::of_nothing(alloc, 0);
+                return Ok(GroupNumbers { first, second });
+            }
+        };
+        let (first, second) = pairs.split_at(pairs.len() / 2);
+        let first = LayerNumbers::of_run(alloc, scenario, group, 1, summary, own, first, lasted)?;
+        let lasted = &durations.second;
+        let second = LayerNumbers::of_run(
+            alloc, scenario, group, 2, summary, verdicts, second, lasted,
+        )?;
+        Ok(GroupNumbers { first, second })
+    }
+
+    /// What a run gives that passed its limit, whatever the group.
+    fn of_limited(alloc: Global, scenario: &Scenario) -> GroupNumbers
+        ensures { (group : GroupRecord)
+            → AreGroupNumbers group (record { scenario = scenario.now; result = limited_result }) result }
+    {
+        GroupNumbers {
+            first: LayerNumbers::of_nothing(alloc, 1),
+            second: LayerNumbers::of_nothing(alloc, u64::from(is_shared(scenario))),
+        }
+    }
+}
+
+/// What one run gives to the sums of its point, for each group of pairs.
+#[derive(Drop)]
+pub struct RunNumbers {
+    pub(crate) groups: Vec<GroupNumbers>,
+    /// Whether it passed its limit.
+    pub(crate) is_limited: bool,
 }
 
 impl RunNumbers {
@@ -160,37 +220,42 @@ impl RunNumbers {
     pub fn of_run(
         alloc: Global,
         scenario: &Scenario,
+        groups: &[Group],
         findings: &RunFindings,
         durations: &RunDurations,
     ) -> Result<RunNumbers, AllocError>
         ensures { IfOk result (λ n. (found : MeasuresRun scenario.now findings.now durations.now)
-            → AreNumbers (done_run scenario.now found.trace) n) }
+            → AreNumbers groups.now (done_run scenario.now found.trace) n) }
     {
-        let _shared = is_shared(scenario);
-        let (summary, pairs) = (&findings.summary, &findings.measures);
-        let (own, lasted) = (&findings.first, &durations.first);
-        let verdicts = match &findings.second {
-            Some(verdicts) => verdicts,
-            None => {
-                let first = LayerNumbers::of_run(alloc, scenario, 1, summary, own, pairs, lasted)?;
-                let second = LayerNumbers::of_nothing(alloc, 0);
-                return Ok(RunNumbers { first, second });
-            }
-        };
-        let (first, second) = pairs.split_at(pairs.len() / 2);
-        let first = LayerNumbers::of_run(alloc, scenario, 1, summary, own, first, lasted)?;
-        let lasted = &durations.second;
-        let second = LayerNumbers::of_run(alloc, scenario, 2, summary, verdicts, second, lasted)?;
-        Ok(RunNumbers { first, second })
+        let mut numbers = Vec::new(alloc);
+        for group in groups {
+            numbers.push(GroupNumbers::of_run(alloc, scenario, group, findings, durations)?)?;
+        }
+        Ok(RunNumbers {
+            groups: numbers,
+            is_limited: false,
+        })
     }
 
     /// What a run gives that passed its limit: it is counted, and adds nothing else.
-    pub fn of_limited(alloc: Global, scenario: &Scenario) -> RunNumbers
-        ensures { AreNumbers (record { scenario = scenario.now; result = limited_result }) result }
+    ///
+    /// # Errors
+    ///
+    /// Where memory was refused.
+    pub fn of_limited(
+        alloc: Global,
+        scenario: &Scenario,
+        groups: &[Group],
+    ) -> Result<RunNumbers, AllocError>
+        ensures { IfOk result (AreNumbers groups.now (record { scenario = scenario.now; result = limited_result })) }
     {
-        RunNumbers {
-            first: LayerNumbers::of_nothing(alloc, 1),
-            second: LayerNumbers::of_nothing(alloc, u64::from(is_shared(scenario))),
+        let mut numbers = Vec::new(alloc);
+        for _group in groups {
+            numbers.push(GroupNumbers::of_limited(alloc, scenario))?;
         }
+        Ok(RunNumbers {
+            groups: numbers,
+            is_limited: true,
+        })
     }
 }

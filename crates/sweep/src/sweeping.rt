@@ -1,6 +1,6 @@
 //! Sweeps: all runs of a study's points, and the rows that tell of them.
 ghost use Rattle.std.specs.Prelude.{◌≡◌, ◌^◌, ◌-◌, ◌*◌, ◌<◌, ◌≤◌, false, length, OnOk, IfErr};
-ghost use Rattle.toml.specs.View.{table_view};
+ghost use Rattle.study.specs.Sources.{sources_of};
 ghost use Rattle.study.specs.Grid.{points, runs};
 ghost use Rattle.sweep.specs.Outcome.{WroteStudy, BreaksOff};
 ghost use Rattle.sweep.specs.Inside.Progress.{WrotePoints, StopsInPoints};
@@ -21,15 +21,14 @@ use std::alloc::Global;
 use std::marker::Sync;
 use std::thread::Threads;
 use std::time::Clock;
-use study::{Grid, Shard};
-use toml::Table;
+use study::{Grid, Shard, Sources};
 
 /// Runs all runs of the points from one number up to another, and writes the rows of each unit when its last run is
 /// in. The watcher hears of the beginning, and whenever more runs are in.
 fn write_points<R: Threads + Sync + Clock, O: Outlet, W: Watcher>(
     rt: &R,
     alloc: Global,
-    file: &Table,
+    sources: &Sources,
     grid: &Grid,
     layout: &Layout,
     begin: u64,
@@ -44,19 +43,18 @@ fn write_points<R: Threads + Sync + Clock, O: Outlet, W: Watcher>(
     requires within { end ≤ length (points grid.now) }
     requires room { length (points grid.now) * length (runs grid.now) < 2 ^ 64 }
     ensures done { OnOk result (WrotePoints grid.now layout.now O.told O.failed outlet.old outlet.new
-        (table_view file.now) begin end) }
+        (sources_of sources.now) begin end) }
     ensures stops { IfErr result (StopsInPoints grid.now layout.now O.told O.failed outlet.old outlet.new
-        (table_view file.now) begin end) }
+        (sources_of sources.now) begin end) }
     ensures heard { OnOk result
-        (HeardAllRunning W.heard watcher.old watcher.new (table_view file.now) grid.now begin end) }
+        (HeardAllRunning W.heard watcher.old watcher.new (sources_of sources.now) grid.now begin end) }
     ensures heard_some { IfErr result
-        (λ _. HeardSomeRunning W.heard watcher.old watcher.new (table_view file.now) grid.now begin end) }
+        (λ _. HeardSomeRunning W.heard watcher.old watcher.new (sources_of sources.now) grid.now begin end) }
 {
     let runs = grid.runs();
     let points = end - begin;
     let mut batches = Batches::new(threads);
     let mut limits = Limits::at(begin);
-    let mut progress = Progress::at(alloc, grid, layout, layout.unit_count(grid, begin));
     let (first, past) = (begin * runs, end * runs);
     let mut next = first;
     let begun = Standing {
@@ -66,10 +64,20 @@ fn write_points<R: Threads + Sync + Clock, O: Outlet, W: Watcher>(
         done: 0,
     };
     watcher.hear(begun);
+    let mut progress = Progress::at(alloc, grid, layout, layout.unit_count(grid, begin))?;
     while next < past {
-        let numbers = measure_batch(rt, alloc, file, grid, next, past, &mut batches)?;
+        let numbers = measure_batch(
+            rt,
+            alloc,
+            sources,
+            grid,
+            layout.groups(),
+            next,
+            past,
+            &mut batches,
+        )?;
         watcher.make_way();
-        limits.add_all(file, grid, &numbers, watcher);
+        limits.add_all(sources, grid, &numbers, watcher);
         progress.take_all(alloc, grid, layout, &numbers, outlet)?;
         next += numbers.len() as u64;
         let done = next - first;
@@ -79,13 +87,13 @@ fn write_points<R: Threads + Sync + Clock, O: Outlet, W: Watcher>(
 }
 
 /// Sweeps the points of a shard of a study: runs all their runs by so many threads, and writes rows with the layout's
-/// columns, one for each layer of a point, with sums over its runs, or of each run. The first shard begins with the
-/// header. The threads and the watcher change nothing of the text.
+/// columns, one for each group of pairs and each layer of a point, with sums over its runs, or of each run. The first
+/// shard begins with the header. The threads and the watcher change nothing of the text.
 ///
 /// Every run's scenario is read before the first run starts. Runs are read, and then run, in batches that take about a
 /// second by the clock, and rows go out soon after the last run that they tell of is in. Memory doesn't grow with
 /// the runs: what is held is what a batch gives, of 256 runs for each thread at most, with the length of each mistake
-/// in them, and the sums of a point.
+/// in them for each group, and the sums of a point.
 ///
 /// The watcher hears of how many of the shard's runs the scenarios are read, from none up to all of them, and then how
 /// many are run. It is told when rows are to go out, and before that of each point of whose runs some passed their
@@ -93,13 +101,13 @@ fn write_points<R: Threads + Sync + Clock, O: Outlet, W: Watcher>(
 ///
 /// # Errors
 ///
-/// `Refused` where a run of the shard has no scenario, for the first such run; then nothing went out. `Memory` where
-/// memory was refused: then nothing went out, or the header and the first points' or runs' rows. `Write` where a put
-/// failed: then a front part of these.
+/// `Refused` or `NoSuchProcess` where a run of the shard has no scenario, or not all processes that a group names, for
+/// the first such run; then nothing went out. `Memory` where memory was refused: then nothing went out, or the header
+/// and the first points' or runs' rows. `Write` where a put failed: then a front part of these.
 pub fn sweep<R: Threads + Sync + Clock, O: Outlet, W: Watcher>(
     rt: &R,
     alloc: Global,
-    file: &Table,
+    sources: &Sources,
     grid: &Grid,
     shard: Shard,
     layout: &Layout,
@@ -109,20 +117,20 @@ pub fn sweep<R: Threads + Sync + Clock, O: Outlet, W: Watcher>(
 ) -> Result<(), SweepError>
     requires failures { O.failed outlet.old < 2 ^ 64 - 1 }
     ensures done { OnOk result
-        (WroteStudy (table_view file.now) grid.now shard layout.now O.told O.failed outlet.old outlet.new) }
+        (WroteStudy (sources_of sources.now) grid.now shard layout.now O.told O.failed outlet.old outlet.new) }
     ensures breaks_off { IfErr result
-        (BreaksOff (table_view file.now) grid.now shard layout.now O.told O.failed outlet.old outlet.new) }
-    ensures heard { OnOk result (HeardAll W.heard watcher.old watcher.new (table_view file.now) grid.now shard) }
+        (BreaksOff (sources_of sources.now) grid.now shard layout.now O.told O.failed outlet.old outlet.new) }
+    ensures heard { OnOk result (HeardAll W.heard watcher.old watcher.new (sources_of sources.now) grid.now shard) }
     ensures heard_some { IfErr result
-        (λ _. HeardSome W.heard watcher.old watcher.new (table_view file.now) grid.now shard) }
+        (λ _. HeardSome W.heard watcher.old watcher.new (sources_of sources.now) grid.now shard) }
     ensures hidden { W.shows watcher.new ≡ false }
 {
-    check_study(rt, alloc, file, grid, shard, threads, watcher)?;
+    check_study(rt, alloc, sources, grid, shard, layout, threads, watcher)?;
     write_header(alloc, grid, shard, layout, outlet)?;
     let _runs = grid.runs();
     let (begin, end) = points_of(grid, shard);
     let answer = write_points(
-        rt, alloc, file, grid, layout, begin, end, threads, outlet, watcher,
+        rt, alloc, sources, grid, layout, begin, end, threads, outlet, watcher,
     );
     watcher.hide();
     answer

@@ -3,16 +3,19 @@ ghost use Rattle.std.specs.Prelude.{◌≡◌, ◌<◌, ◌++◌, [], length, ma
 ghost use Rattle.study.specs.Grid.{points};
 ghost use Rattle.csv.specs.Records.{fields_of};
 ghost use Rattle.sweep.specs.ColumnTable.{numbers_of};
+ghost use Rattle.sweep.specs.Groups.{group_word};
 ghost use Rattle.sweep.specs.RowText.{number_text, header_text, layer_text, line_text, picked};
 ghost use Rattle.sweep.specs.StudyText.{names_of as names_in, unit_point, lead_of};
 
 use crate::column_table::columns_of;
 use crate::columns::Columns;
 use crate::fields::{push_numbers, push_settings, push_texts};
+use crate::group::Group;
 use crate::layout::{Layout, Rows};
 use crate::names::names_of;
 use crate::picking::push_picked;
 use crate::point_sums::PointSums;
+use crate::unit_sums::UnitSums;
 use csv::{StringRecord, Writer};
 use std::alloc::{AllocError, Global};
 use study::Grid;
@@ -59,6 +62,16 @@ fn push_lead(
     }
 }
 
+/// The word of a group, where it has one.
+fn push_word(fields: &mut StringRecord, group: &Group) -> Result<(), AllocError>
+    ensures { OnOk result (fields_of fields.new ≡ fields_of fields.old ++ group_word group.now) }
+{
+    match group {
+        Group::All => Ok(()),
+        Group::Said(group) => fields.push_field(group.word.as_str()),
+    }
+}
+
 /// The text of a study, as its rows are formed. Its lines have the same number of fields.
 #[derive(Drop)]
 pub struct Table {
@@ -66,7 +79,7 @@ pub struct Table {
 }
 
 impl Table {
-    ghost use Rattle.sweep.specs.Fields.{AddsRowsOfSums, IsBetweenLines, text_of};
+    ghost use Rattle.sweep.specs.Fields.{AddsRowsOfGroup, AddsRowsOfSums, IsBetweenLines, text_of};
 
     /// No line yet.
     pub fn new(alloc: Global) -> Table
@@ -113,9 +126,9 @@ impl Table {
         requires { IsBetweenLines self.old }
         ensures between { OnOk result (IsBetweenLines self.new) }
         ensures text { OnOk result (text_of self.new
-            ≡ text_of self.old ++ header_text layout.now.picks (names_in layout.now.rows grid.now)) }
+            ≡ text_of self.old ++ header_text layout.now.picks (names_in layout.now.rows layout.now.groups grid.now)) }
     {
-        let names = names_of(alloc, grid, layout.rows())?;
+        let names = names_of(alloc, grid, layout.rows(), layout.groups())?;
         let mut all = StringRecord::new(alloc);
         push_texts(&mut all, &names)?;
         self.push_fields(alloc, layout, &all)
@@ -128,6 +141,7 @@ impl Table {
         grid: &Grid,
         layout: &Layout,
         unit: u64,
+        group: &Group,
         layer: u8,
         columns: &Columns,
     ) -> Result<(), AllocError>
@@ -135,16 +149,41 @@ impl Table {
         requires within { unit_point layout.now.rows grid.now unit < length (points grid.now) }
         ensures between { OnOk result (IsBetweenLines self.new) }
         ensures text { OnOk result (text_of self.new ≡ text_of self.old
-            ++ layer_text layout.now.picks (lead_of layout.now.rows grid.now unit) layer columns.now) }
+            ++ layer_text layout.now.picks (lead_of layout.now.rows grid.now unit) group.now layer columns.now) }
     {
         let mut all = StringRecord::new(alloc);
         push_lead(alloc, &mut all, grid, layout.rows(), unit)?;
+        push_word(&mut all, group)?;
         push_columns(&mut all, layer, columns)?;
         self.push_fields(alloc, layout, &all)
     }
 
-    /// Adds the rows of a point, from 0, whose runs were added up: that of layer 1, and that of layer 2 where some run
-    /// has a reduction. Where rows tell of runs, it is the run of this number, from 0, of all points' runs.
+    /// Adds the rows of a unit for a group: that of layer 1, and that of layer 2 where some run has a reduction.
+    fn push_group(
+        &mut self,
+        alloc: Global,
+        grid: &Grid,
+        layout: &Layout,
+        unit: u64,
+        group: &Group,
+        sums: &PointSums,
+    ) -> Result<(), AllocError>
+        requires between { IsBetweenLines self.old }
+        requires within { unit_point layout.now.rows grid.now unit < length (points grid.now) }
+        ensures between { OnOk result (IsBetweenLines self.new) }
+        ensures text { OnOk result (AddsRowsOfGroup layout.now grid.now unit group.now sums.now self.old self.new) }
+    {
+        let (first, second) = (sums.first(), sums.second());
+        self.push_layer(alloc, grid, layout, unit, group, 1, &first)?;
+        if sums.has_second() {
+            self.push_layer(alloc, grid, layout, unit, group, 2, &second)?;
+        }
+        Ok(())
+    }
+
+    /// Adds the rows of a point, from 0, whose runs were added up: for each group of the layout that of layer 1, and
+    /// that of layer 2 where some run has a reduction. Where rows tell of runs, it is the run of this number, from 0,
+    /// of all points' runs.
     ///
     /// # Errors
     ///
@@ -155,17 +194,17 @@ impl Table {
         grid: &Grid,
         layout: &Layout,
         unit: u64,
-        sums: &PointSums,
+        sums: &UnitSums,
     ) -> Result<(), AllocError>
         requires between { IsBetweenLines self.old }
         requires within { unit_point layout.now.rows grid.now unit < length (points grid.now) }
         ensures between { OnOk result (IsBetweenLines self.new) }
-        ensures text { OnOk result (AddsRowsOfSums layout.now grid.now unit sums.now self.old self.new) }
+        ensures text { OnOk result
+            (AddsRowsOfSums layout.now grid.now unit layout.now.groups sums.now self.old self.new) }
     {
-        let (first, second) = (sums.first(), sums.second());
-        self.push_layer(alloc, grid, layout, unit, 1, &first)?;
-        if sums.has_second() {
-            self.push_layer(alloc, grid, layout, unit, 2, &second)?;
+        let (groups, its) = (layout.groups(), sums.groups());
+        for place in 0..groups.len().min(its.len()) {
+            self.push_group(alloc, grid, layout, unit, &groups[place], &its[place])?;
         }
         Ok(())
     }

@@ -9,15 +9,16 @@ ghost use Rattle.sweep.specs.StudyText.{names_of, unit_point, header_of as shard
 
 use crate::error::SweepError;
 use crate::layout::Layout;
-use crate::point_sums::PointSums;
 use crate::table::Table;
+use crate::unit_sums::UnitSums;
 use reporting::{Outlet, put_all};
 use std::alloc::{AllocError, Global};
 use study::{Grid, Shard};
 
 /// The header of a study.
 pub(crate) fn header_of(alloc: Global, grid: &Grid, layout: &Layout) -> Result<Vec<u8>, AllocError>
-    ensures { IfOk result (λ t. t.items ≡ header_text layout.now.picks (names_of layout.now.rows grid.now)) }
+    ensures { IfOk result (λ t. t.items
+        ≡ header_text layout.now.picks (names_of layout.now.rows layout.now.groups grid.now)) }
 {
     let mut table = Table::new(alloc);
     table.push_header(alloc, grid, layout)?;
@@ -30,7 +31,7 @@ pub(crate) fn rows_of(
     grid: &Grid,
     layout: &Layout,
     unit: u64,
-    sums: &PointSums,
+    sums: &UnitSums,
 ) -> Result<Vec<u8>, AllocError>
     requires { unit_point layout.now.rows grid.now unit < length (points grid.now) }
     ensures { IfOk result (λ t. AreRowsOfSums layout.now grid.now unit sums.now t.items) }

@@ -3,8 +3,7 @@ ghost use Rattle.std.specs.Prelude.{◌≡◌, ◌<◌, ◌∷◌, [], false, Bo
 ghost use Rattle.trace_laws.specs.Joins.{HaveJoined};
 ghost use Rattle.study.specs.Grid.{points};
 
-use study::Grid;
-use toml::Table;
+use study::{Grid, Sources};
 
 /// What is done with the runs of a sweep, one after the other.
 #[derive(Clone, Copy, Debug, PartialEq, Eq)]
@@ -44,7 +43,7 @@ pub trait Watcher {
 
     /// The last run of a point of this study, from 0, is in, and so many of the point's runs passed their limit. What
     /// is shown is taken away before that is told.
-    fn limited(&mut self, file: &Table, grid: &Grid, point: u64, count: u64)
+    fn limited(&mut self, sources: &Sources, grid: &Grid, point: u64, count: u64)
         requires { point < length (points grid.now) }
         ensures told { HaveJoined heard self.old self.new (limits point count ∷ []) }
         ensures hidden { shows self.new ≡ false };
@@ -70,7 +69,7 @@ impl Watcher for Unwatched {
 
     fn hear(&mut self, _standing: Standing) {}
 
-    fn limited(&mut self, _file: &Table, _grid: &Grid, _point: u64, _count: u64) {}
+    fn limited(&mut self, _sources: &Sources, _grid: &Grid, _point: u64, _count: u64) {}
 
     fn make_way(&mut self) {}
 

@@ -28,7 +28,7 @@ const FEWEST_IS: &str = "2 10 2 1000000 1 none None; timeout 4 3 5 1 all; \
     1 None None >2 2 3 0 []; 2 None None >1 2 3 0 []";
 
 /// A file with every key.
-const EVERY: &str = "version = 2
+pub const EVERY: &str = "version = 2
 processes = 3
 horizon = 10000000
 lookahead = 7
@@ -185,15 +185,20 @@ fn push_one(
     Ok(())
 }
 
+/// What a scenario says, as text.
+pub fn told(rt: &impl Abort, alloc: Global, scenario: &Scenario) -> String {
+    let mut told = String::new(alloc);
+    push_all(&mut told, scenario).expect(rt, NO_MEMORY);
+    for before in 0..scenario.processes() {
+        push_one(rt, &mut told, scenario, before + 1).expect(rt, NO_MEMORY);
+    }
+    told
+}
+
 /// What the scenario of a file says, as text.
 fn told_of(rt: &impl Abort, alloc: Global, file: &str) -> String {
     let scenario = read_scenario(alloc, file.as_bytes()).expect(rt, "not a scenario");
-    let mut told = String::new(alloc);
-    push_all(&mut told, &scenario).expect(rt, NO_MEMORY);
-    for before in 0..scenario.processes() {
-        push_one(rt, &mut told, &scenario, before + 1).expect(rt, NO_MEMORY);
-    }
-    told
+    told(rt, alloc, &scenario)
 }
 
 /// What the scenario of a file says is this, or has this part.

@@ -1,7 +1,7 @@
 //! The laws at work: the points and the texts of shards one after the other, and of the whole; the seeds of runs.
 ghost use Rattle.std.specs.Prelude.{◌≡◌, ◌≤◌, ◌<◌, ◌-◌, ◌==◌, ℕ, [], length, map, IfOk, IfSome};
 ghost use Rattle.std.specs.List.{count_by, flat_map, range_with_len};
-ghost use Rattle.toml.specs.View.{table_view};
+ghost use Rattle.study.specs.Sources.{sources_of};
 ghost use Rattle.study.specs.Combinations.{combinations};
 ghost use Rattle.study.specs.Grid.{runs, turn};
 ghost use Rattle.sweep.specs.StudyText.{IsStudyText};
@@ -14,15 +14,14 @@ use std::marker::Sync;
 use std::ops::Range;
 use std::thread::Threads;
 use std::time::Clock;
-use study::{Grid, Shard, law_shards};
+use study::{Grid, Shard, Sources, law_shards};
 use sweep::{Layout, SweepError, Unwatched, law_one_text, law_shard_texts, sweep};
-use toml::Table;
 
 /// The texts of so many shards, one after the other: it is a text of the whole study.
 fn sweep_shards<R: Threads + Sync + Clock>(
     rt: &R,
     alloc: Global,
-    file: &Table,
+    sources: &Sources,
     grid: &Grid,
     layout: &Layout,
     shards: u32,
@@ -30,7 +29,7 @@ fn sweep_shards<R: Threads + Sync + Clock>(
 ) -> Result<MemoryOutlet, SweepError>
     requires some { 1 ≤ shards }
     ensures whole { IfOk result
-        (λ o. IsStudyText (table_view file.now) grid.now (record { number = 1; of = 1 }) layout.now o.bytes) }
+        (λ o. IsStudyText (sources_of sources.now) grid.now (record { number = 1; of = 1 }) layout.now o.bytes) }
 {
     let mut outlet = MemoryOutlet::new(alloc);
     for before in 0..shards {
@@ -40,7 +39,7 @@ fn sweep_shards<R: Threads + Sync + Clock>(
         sweep(
             rt,
             alloc,
-            file,
+            sources,
             grid,
             shard,
             layout,
@@ -49,7 +48,7 @@ fn sweep_shards<R: Threads + Sync + Clock>(
             &mut Unwatched,
         )?;
     }
-    law_shard_texts(file, grid, layout, shards);
+    law_shard_texts(sources, grid, layout, shards);
     Ok(outlet)
 }
 
@@ -57,7 +56,7 @@ fn sweep_shards<R: Threads + Sync + Clock>(
 fn shards_and_whole<R: Threads + Sync + Clock>(
     rt: &R,
     alloc: Global,
-    file: &Table,
+    sources: &Sources,
     grid: &Grid,
     layout: &Layout,
     shards: u32,
@@ -66,12 +65,12 @@ fn shards_and_whole<R: Threads + Sync + Clock>(
     requires some { 1 ≤ shards }
     ensures same { IfOk result (λ both. both.0.bytes ≡ both.1.bytes) }
 {
-    let parts = sweep_shards(rt, alloc, file, grid, layout, shards, threads)?;
+    let parts = sweep_shards(rt, alloc, sources, grid, layout, shards, threads)?;
     let mut whole = MemoryOutlet::new(alloc);
     sweep(
         rt,
         alloc,
-        file,
+        sources,
         grid,
         Shard::whole(),
         layout,
@@ -79,7 +78,7 @@ fn shards_and_whole<R: Threads + Sync + Clock>(
         &mut whole,
         &mut Unwatched,
     )?;
-    law_one_text(file, grid, Shard::whole(), layout);
+    law_one_text(sources, grid, Shard::whole(), layout);
     Ok((parts, whole))
 }
 
@@ -92,7 +91,7 @@ fn shards_make_the_whole(rt: HostRuntime) {
         let both = shards_and_whole(
             &rt,
             alloc,
-            &seven.file,
+            &seven.sources,
             &seven.grid,
             &seven.layout,
             shards,

@@ -1,4 +1,7 @@
 //! What tests share: runs, the settings of a point, and the text of its rows.
+ghost use Rattle.std.specs.Prelude.{◌≡◌};
+ghost use Rattle.sweep.specs.declared.layout.Rows.TheVariants as kind;
+
 use super::studies::layout_of;
 use crate::comparisons::{NO_MEMORY, is_text};
 use crate::findings::{outcome, quiet, without_mistake};
@@ -9,7 +12,7 @@ use scenario::Scenario;
 use std::alloc::Global;
 use std::process::Abort;
 use study::Grid;
-use sweep::{PointSums, Rows, RunNumbers, Table};
+use sweep::{Columns, Group, Layout, Rows, RunNumbers, Table, UnitSums};
 
 /// The first line after the names of the varied keys.
 pub const HEADER: &str =
@@ -76,7 +79,12 @@ pub fn run_of<R: Abort>(
         first: durations(rt, alloc, 2, &[]),
         second: durations(rt, alloc, 2, &[]),
     };
-    RunNumbers::of_run(alloc, scenario, found, &none).expect(rt, NO_MEMORY)
+    RunNumbers::of_run(alloc, scenario, &[Group::All], found, &none).expect(rt, NO_MEMORY)
+}
+
+/// What a run gives that passed its limit.
+pub fn limited_run<R: Abort>(rt: &R, alloc: Global, scenario: &Scenario) -> RunNumbers {
+    RunNumbers::of_limited(alloc, scenario, &[Group::All]).expect(rt, NO_MEMORY)
 }
 
 /// What the run of one crash gives, with this detection.
@@ -96,23 +104,53 @@ pub fn grid_of<R: Abort>(rt: &R, alloc: Global, vary: &str) -> Grid {
     Grid::new(alloc, vary, Vec::new(alloc), Vec::new(alloc), 1, 1).expect(rt, "no study")
 }
 
-/// The text of the rows of a grid's first point with these sums.
-pub fn rows_of<R: Abort>(rt: &R, alloc: Global, grid: &Grid, sums: &PointSums) -> Vec<u8> {
-    let layout = layout_of(rt, alloc, grid, Rows::Points, None);
+/// The sums over these runs, of which the first has this number, of each of these groups of pairs.
+pub fn sums_of<R: Abort>(
+    rt: &R,
+    alloc: Global,
+    groups: &[Group],
+    first: u64,
+    runs: &[RunNumbers],
+) -> UnitSums {
+    let mut sums = UnitSums::new(alloc, groups, first).expect(rt, NO_MEMORY);
+    for run in runs {
+        sums.add(run).expect(rt, NO_MEMORY);
+    }
+    sums
+}
+
+/// What the row of layer 1 tells of all pairs.
+pub fn first_of<R: Abort>(rt: &R, sums: &UnitSums) -> Columns {
+    sums.groups().first().expect(rt, "no group").first()
+}
+
+/// The text of the rows of a grid's first point with these sums, in this layout.
+pub fn rows_in<R: Abort>(
+    rt: &R,
+    alloc: Global,
+    grid: &Grid,
+    layout: &Layout,
+    sums: &UnitSums,
+) -> Vec<u8>
+    requires { layout.now.rows ≡ kind.Points }
+{
     assert!(rt; grid.points() > 0);
     let mut table = Table::new(alloc);
     table
-        .push_unit(alloc, grid, &layout, 0, sums)
+        .push_unit(alloc, grid, layout, 0, sums)
         .expect(rt, NO_MEMORY);
     table.into_text().expect(rt, NO_MEMORY)
 }
 
+/// The text of such rows that count all pairs, with all columns.
+pub fn rows_of<R: Abort>(rt: &R, alloc: Global, grid: &Grid, sums: &UnitSums) -> Vec<u8> {
+    let layout = layout_of(rt, alloc, grid, Rows::Points, None);
+    rows_in(rt, alloc, grid, &layout, sums)
+}
+
 /// The rows of these runs' point, at one time-out, are these.
 pub fn are_rows<R: Abort>(rt: &R, alloc: Global, runs: &[RunNumbers], timeout: &str, wanted: &str) {
-    let mut sums = PointSums::new(alloc, 1);
-    for run in runs {
-        sums.add(run).expect(rt, NO_MEMORY);
-    }
+    let sums = sums_of(rt, alloc, &[Group::All], 1, runs);
     let axis = format!(in alloc; "detector.timeout={timeout}").expect(rt, NO_MEMORY);
     let grid = grid_of(rt, alloc, &axis);
     is_text(rt, &rows_of(rt, alloc, &grid, &sums), wanted);

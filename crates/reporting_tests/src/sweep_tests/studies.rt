@@ -8,19 +8,18 @@ use std::marker::Sync;
 use std::process::Abort;
 use std::thread::Threads;
 use std::time::Clock;
-use study::{Grid, Shard};
+use study::{Grid, Shard, Sources};
 use sweep::{Layout, Rows, Unwatched, sweep};
-use toml::Table;
 
 /// A study of the file in which process 2 of two crashes at tick 3, with rows for points and all columns.
 #[derive(Drop)]
 pub struct Study {
-    pub file: Table,
+    pub sources: Sources,
     pub grid: Grid,
     pub layout: Layout,
 }
 
-/// The layout of such rows with these columns.
+/// The layout of such rows, which count all pairs, with these columns.
 pub fn layout_of<R: Abort>(
     rt: &R,
     alloc: Global,
@@ -30,18 +29,18 @@ pub fn layout_of<R: Abort>(
 ) -> Layout
     ensures { result.rows ≡ rows }
 {
-    Layout::new(alloc, grid, rows, columns).expect(rt, "no layout")
+    Layout::new(alloc, grid, rows, Vec::new(alloc), columns).expect(rt, "no layout")
 }
 
 /// The study that varies some keys and adds up over others, of the seeds from 1 to the last.
 pub fn study_of<R: Abort>(rt: &R, alloc: Global, vary: &str, over: &str, last_seed: u64) -> Study {
     let text = file_of(rt, alloc, 2, 10, CRASH_AT_3);
-    let file = toml::table_from_str(alloc, text.as_str());
+    let file = toml::table_from_str(alloc, text.as_str()).expect(rt, "no TOML");
     let (vary, over) = (axes(rt, alloc, vary), axes(rt, alloc, over));
     let grid = Grid::new(alloc, vary, over, Vec::new(alloc), 1, last_seed).expect(rt, "no study");
     let layout = layout_of(rt, alloc, &grid, Rows::Points, None);
     Study {
-        file: file.expect(rt, "no TOML"),
+        sources: Sources::of_scenario(file),
         grid,
         layout,
     }
@@ -73,7 +72,7 @@ pub fn swept<R: Threads + Sync + Clock + Abort>(
     let answer = sweep(
         rt,
         alloc,
-        &study.file,
+        &study.sources,
         &study.grid,
         Shard::whole(),
         &study.layout,

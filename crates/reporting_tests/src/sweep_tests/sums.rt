@@ -1,6 +1,7 @@
 //! The rows of points whose runs are worked by hand.
 use super::points::{
-    HEADER, are_rows, crash_at_3, crash_run, durations, grid_of, one_crash, rows_of, run_of,
+    HEADER, are_rows, crash_at_3, crash_run, durations, first_of, grid_of, limited_run, one_crash,
+    rows_of, run_of, sums_of,
 };
 use super::studies::layout_of;
 use crate::comparisons::{NO_MEMORY, is_text, same};
@@ -11,7 +12,7 @@ use reporting::{Detection, PairMeasures, RunDurations, RunFindings};
 use scenario::read_scenario;
 use std::alloc::Global;
 use std::process::Abort;
-use sweep::{FirstRuns, PointSums, Rows, RunNumbers, Table};
+use sweep::{FirstRuns, Group, Rows, RunNumbers, Table};
 
 /// One run, whose crash is detected after 6 ticks: each pair is watched for the 3 ticks before the crash. Four runs,
 /// with detections after 6 and 4 ticks, none, and a run that passed its limit, which is counted alone: of the three
@@ -31,7 +32,7 @@ fn one_crash_runs(rt: HostRuntime) {
         crash_run(&rt, alloc, Some(9), Detection::At(6)),
         crash_run(&rt, alloc, Some(7), Detection::At(4)),
         crash_run(&rt, alloc, None, Detection::NoTick),
-        RunNumbers::of_limited(alloc, &scenario),
+        limited_run(&rt, alloc, &scenario),
     ];
     are_rows(
         &rt,
@@ -43,7 +44,7 @@ fn one_crash_runs(rt: HostRuntime) {
     are_rows(
         &rt,
         alloc,
-        &[RunNumbers::of_limited(alloc, &scenario)],
+        &[limited_run(&rt, alloc, &scenario)],
         "5",
         "5,1,1,1,,,,,,,,,,,,,,,,,,,,,,,,,,,,,,,,,,,,,,,,,,,,,,,,,\n",
     );
@@ -87,7 +88,7 @@ fn two_layers(rt: HostRuntime) {
         first: durations(&rt, alloc, 2, &[&[], &[2]]),
         second: durations(&rt, alloc, 2, &[&[9], &[]]),
     };
-    let shared = RunNumbers::of_run(alloc, &with, &shared(&rt, alloc), &lasted);
+    let shared = RunNumbers::of_run(alloc, &with, &[Group::All], &shared(&rt, alloc), &lasted);
     let runs = [
         shared.expect(&rt, NO_MEMORY),
         crash_run(&rt, alloc, Some(7), Detection::At(4)),
@@ -103,7 +104,7 @@ fn two_layers(rt: HostRuntime) {
     are_rows(
         &rt,
         alloc,
-        &[RunNumbers::of_limited(alloc, &with)],
+        &[limited_run(&rt, alloc, &with)],
         "5",
         "5,1,1,1,,,,,,,,,,,,,,,,,,,,,,,,,,,,,,,,,,,,,,,,,,,,,,,,,\n\
          5,2,1,1,,,,,,,,,,,,,,,,,,,,,,,,,,,,,,,,,,,,,,,,,,,,,,,,,\n",
@@ -169,7 +170,7 @@ fn decisions(rt: HostRuntime) {
 }
 
 /// Three processes in a circle, of which each watches the next alone. The second crashes at tick 3.
-const CIRCLE: &str = "version = 1
+pub const CIRCLE: &str = "version = 1
 processes = 3
 horizon = 10
 lookahead = 2
@@ -190,7 +191,7 @@ at = 3
 
 /// What is found of a run of them: a mistake of 2 ticks about process 3 by process 2, which watches it, and five by
 /// process 1, which doesn't. Process 1 suspected process 2 already as that crashed, and process 3 doesn't watch it.
-fn circle<R: Abort>(rt: &R, alloc: Global) -> RunFindings {
+pub fn circle<R: Abort>(rt: &R, alloc: Global) -> RunFindings {
     let pairs = [
         quiet(rt, 1, 1, 2, Detection::At(0)),
         PairMeasures {
@@ -225,9 +226,15 @@ fn watched_pairs(rt: HostRuntime) {
         first: durations(&rt, alloc, 3, &[&[], &[], &[3, 4], &[], &[], &[2]]),
         second: durations(&rt, alloc, 3, &[]),
     };
-    let run = RunNumbers::of_run(alloc, &scenario, &circle(&rt, alloc), &lasted);
+    let run = RunNumbers::of_run(
+        alloc,
+        &scenario,
+        &[Group::All],
+        &circle(&rt, alloc),
+        &lasted,
+    );
     let runs = [
-        RunNumbers::of_limited(alloc, &scenario),
+        limited_run(&rt, alloc, &scenario),
         run.expect(&rt, NO_MEMORY),
     ];
     are_rows(
@@ -237,16 +244,13 @@ fn watched_pairs(rt: HostRuntime) {
         "5",
         "5,1,2,1,12,4,0,16,1,2,16,125000,1,1,,0,0,2,1,2,2,0,0,1,0,1,0,0,0,0,0,1,1,1,1,1,1,0,0,0,,0,,,,,,,,0,2,2,\n",
     );
-    let mut sums = PointSums::new(alloc, 7);
-    for run in &runs {
-        sums.add(run).expect(&rt, NO_MEMORY);
-    }
+    let sums = sums_of(&rt, alloc, &[Group::All], 7, &runs);
     let wanted = FirstRuns {
         mistake: Some(8),
         detection_max: Some(8),
         disagreement: None,
     };
-    same(&rt, &sums.first().first_runs, &wanted);
+    same(&rt, &first_of(&rt, &sums).first_runs, &wanted);
 }
 
 /// The first line, a setting with a quote, and the rows of a point without settings and without runs.
@@ -270,7 +274,12 @@ fn lines(rt: HostRuntime) {
         "\"a \"\"b\"\"\",1,0,0,,,,,,,,,,,,,,,,,,,,,,,,,,,,,,,,,,,,,,,,,,,,,,,,,\n",
     );
     let grid = grid_of(&rt, alloc, "");
-    let rows = rows_of(&rt, alloc, &grid, &PointSums::new(alloc, 1));
+    let rows = rows_of(
+        &rt,
+        alloc,
+        &grid,
+        &sums_of(&rt, alloc, &[Group::All], 1, &[]),
+    );
     is_text(
         &rt,
         &rows,

@@ -23,7 +23,7 @@ fn ends_well<R: Threads + Sync + Clock + Abort>(
     let answer = sweep(
         rt,
         alloc,
-        &study.file,
+        &study.sources,
         &study.grid,
         Shard::whole(),
         &study.layout,

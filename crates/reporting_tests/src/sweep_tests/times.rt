@@ -1,11 +1,11 @@
 //! Percentiles of the times after which crashes were detected.
-use super::points::{crash_at_3, one_crash, run_of};
+use super::points::{crash_at_3, first_of, one_crash, run_of, sums_of};
 use crate::comparisons::{NO_MEMORY, same};
 use crate::findings::quiet;
 use reporting::Detection::{self, At, NoTick};
 use std::alloc::Global;
 use std::process::Abort;
-use sweep::{Columns, Distribution, PointSums, RunNumbers};
+use sweep::{Columns, Distribution, Group, RunNumbers, UnitSums};
 
 /// What a run gives in which crashes are detected like this, one for each pair.
 fn run_with<R: Abort>(rt: &R, alloc: Global, detections: &[Detection]) -> RunNumbers {
@@ -77,18 +77,17 @@ const CASES: [Case; 4] = [
 fn percentiles(rt: HostRuntime) {
     let alloc = rt.alloc();
     for (detections, counts, wanted) in &CASES {
-        let mut sums = PointSums::new(alloc, 1);
         let run = run_with(&rt, alloc, detections);
-        sums.add(&run).expect(&rt, NO_MEMORY);
-        are_times(&rt, &sums.first(), *counts, *wanted);
+        let sums = sums_of(&rt, alloc, &[Group::All], 1, &[run]);
+        are_times(&rt, &first_of(&rt, &sums), *counts, *wanted);
     }
-    let mut hundred = PointSums::new(alloc, 1);
+    let mut hundred = UnitSums::new(alloc, &[Group::All], 1).expect(&rt, NO_MEMORY);
     for before in 0..100 {
         let time = (before + 49) % 100 + 1;
         let run = run_with(&rt, alloc, &[At(time)]);
         hundred.add(&run).expect(&rt, NO_MEMORY);
     }
-    let columns = hundred.first();
+    let columns = first_of(&rt, &hundred);
     are_times(
         &rt,
         &columns,
@@ -96,6 +95,6 @@ fn percentiles(rt: HostRuntime) {
         [Some(50), Some(90), Some(99), Some(100)],
     );
     same(&rt, &columns.first_runs.detection_max, &Some(51));
-    let none = PointSums::new(alloc, 1).first();
-    are_times(&rt, &none, (0, 0), [None; 4]);
+    let none = sums_of(&rt, alloc, &[Group::All], 1, &[]);
+    are_times(&rt, &first_of(&rt, &none), (0, 0), [None; 4]);
 }

@@ -6,9 +6,8 @@ use std::alloc::Global;
 use std::marker::Sync;
 use std::thread::Threads;
 use std::time::Clock;
-use study::{Grid, Shard};
+use study::{Grid, Shard, Sources};
 use sweep::{Pass, Standing, SweepError, Watcher, sweep};
-use toml::Table;
 
 /// Keeps the last that it heard, whether each was one more of the same sweep, how often it heard of runs that are in,
 /// and of how many runs it heard that they passed their limit, with the last point where that was so.
@@ -49,7 +48,7 @@ impl Watcher for Keeper {
         self.shows = true;
     }
 
-    fn limited(&mut self, _file: &Table, _grid: &Grid, point: u64, count: u64) {
+    fn limited(&mut self, _sources: &Sources, _grid: &Grid, point: u64, count: u64) {
         let before = match self.limited {
             Some((_, before)) => before,
             None => 0,
@@ -89,7 +88,7 @@ fn heard_of<R: Threads + Sync + Clock>(
     match sweep(
         rt,
         alloc,
-        &study.file,
+        &study.sources,
         &study.grid,
         shard,
         &study.layout,
@@ -148,7 +147,7 @@ fn breaks_off(rt: HostRuntime) {
     let answer = sweep(
         &rt,
         alloc,
-        &seven.file,
+        &seven.sources,
         &seven.grid,
         Shard::whole(),
         &seven.layout,

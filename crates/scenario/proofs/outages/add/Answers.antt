@@ -1,13 +1,13 @@
-use Rattle.std.proofs.Common.{◌<◌, ◌++◌, ◌∷◌, [], ap, sym, ◌∙◌, length, slice_set, arith}
-use Rattle.std.proofs.lemmas.List.{map-set, get_or-map}
+use Rattle.std.proofs.Common.{◌∙◌, ℕ, Result, Ok, Err, OnOk}
 use Rattle.scenario.specs.Parts.{outages_in}
+use Rattle.scenario.proofs.Cuts.{one_added}
 use Rattle.scenario.proofs.outages.add.Goals as goal
 
-pub returns : goal.returns
-returns c =
-    let lists = c.args.outages.now.items in
-    let inside : c.args.place < length lists = omega (arith, c.requires, c.args.outages.now.ok.0) in
-    map-set (λ v. v.items) lists c.args.place c.push.new.self
-    ∙ ap (slice_set (outages_in lists) c.args.place)
-    (c.in_ok-push.ensures.items
-    ∙ ap (λ es. es ++ c.args.outage ∷ []) (ap (λ v. v.items) c.index_mut.ensures.value ∙ sym (get_or-map (λ v. v.items) lists c.args.place c.index_mut.result.now [] inside)))
+on_ok : {T E : Type 0} (r : Result T E) (A B : Type 0) → (A → B) → OnOk r A → OnOk r B
+on_ok (Ok x) A B f a = f a
+on_ok (Err e) A B f a = tt
+
+pub returns-clause-lists : goal.returns-clause-lists
+returns-clause-lists c = λ tables its e f are.
+    let pair : ℕ × ℕ = (c.args.pair.from, c.args.pair.to) in
+    on_ok c.push_at.result _ _ (λ pushed. rw c.place_of.ensures.value at pushed ∙ one_added c.args.n (outages_in c.args.lists.now.items) tables its pair c.args.pair.outage are e f c.requires.processes) c.push_at.ensures

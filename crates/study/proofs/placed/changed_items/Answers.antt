@@ -1,17 +1,16 @@
 use Rattle.std.proofs.Common.{◌≡◌, ◌∙◌, ◌+◌, ap, sym, subst, drop, [], ◌∷◌, ◌++◌, rules}
 use Rattle.toml.specs.Data.{table}
-use Rattle.toml.specs.View.{table_view, items_view}
+use Rattle.toml.specs.View.{view, table_view, items_view}
 use Rattle.toml.specs.declared.value.Value.TheVariants.{Table}
 use Rattle.toml.proofs.Views.{view-Table}
-use Rattle.study.specs.Settings.{given_by}
-use Rattle.study.specs.Placed.{data_of, put_in_each}
+use Rattle.study.specs.Placed.{put_in_each}
 use Rattle.study.proofs.Placing.{after, put_more, put_all}
 use Rattle.study.proofs.placed.changed_items.Goals as goal
 
 pub loop-item-preserved : goal.loop-item-preserved
 loop-item-preserved c =
     let key = c.args.key.now in
-    let value = data_of (given_by c.args.setting.now) in
+    let value = view c.args.value.now in
     let items = c.args.items.now in
     let all = put_in_each key value (items_view items) in
     let set = Table c.set_here.new.table in
@@ -23,5 +22,5 @@ loop-item-preserved c =
 
 pub returns-clause-ok : goal.returns-clause-ok
 returns-clause-ok c =
-    put_all c.args.key.now (data_of (given_by c.args.setting.now)) c.args.items.now c.loop-item.item-index
+    put_all c.args.key.now (view c.args.value.now) c.args.items.now c.loop-item.item-index
     c.loop-item.changed.items _ c.loop-item-test.false c.loop-item.invariant

@@ -1,16 +1,15 @@
 use Rattle.std.proofs.Common.{◌≡◌, ◌≢◌, ◌∙◌, ◌≤◌, Ok, ap, sym, subst, length, vec_len, arith}
 use Rattle.std.proofs.lemmas.Bool.{eqb-false}
 use Rattle.std.proofs.lemmas.Result.{on_ok_weaker}
-use Rattle.toml.specs.View.{table_view, items_view}
+use Rattle.toml.specs.View.{view, table_view, items_view}
 use Rattle.toml.proofs.Views.{view-Array}
-use Rattle.study.specs.Settings.{given_by}
-use Rattle.study.specs.Placed.{data_of, put, put_in_each}
+use Rattle.study.specs.Placed.{put, put_in_each}
 use Rattle.study.proofs.Placing.{every_set}
 use Rattle.study.proofs.placed.set_in_every.Goals as goal
 
 pub returns-clause-ok : goal.returns-clause-ok
 returns-clause-ok c =
-    let d = data_of (given_by c.args.setting.now) in
+    let d = view c.args.value.now in
     let items = c.in_ok-items.items in
     let differs : vec_len items ≢ 0 = eqb-false (vec_len items) 0 (sym c.is_empty.ensures ∙ c.if-is_empty.false) in
     let some : 1 ≤ length items.items = omega (arith, items.ok.0) in

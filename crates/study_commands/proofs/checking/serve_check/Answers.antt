@@ -1,32 +1,16 @@
-use Rattle.diagnosis.specs.Diagnosis.{AcceptsAs}
-use Rattle.study_commands.proofs.Reasons.{bytes_file, file_check}
+use Rattle.std.proofs.Common.{◌≡◌, ◌∙◌, sym, true}
+use Rattle.std.proofs.lemmas.Result.{IfOk-weaker}
+use Rattle.study_commands.specs.File.{is_alone}
+use Rattle.study_commands.proofs.Standing.{own_scenario}
 use Rattle.study_commands.proofs.checking.serve_check.Goals as goal
 
-pub returns-in-Accepted-clause-text : goal.returns-in-Accepted-clause-text
-returns-in-Accepted-clause-text g c =
-    let a = c.in-Accepted.accepted in
-    let its : AcceptsAs c.in_ok-bytes.bytes.items a =
-    rw (c.in-Accepted.is, c.deref.ensures.value) at c.in_ok-accepted.ensures in
-    record {
-      bytes = c.in_ok-bytes.bytes.items;
-      are_bytes = c.in_ok-bytes.ensures.bytes;
-      scenario = its.stands_for;
-      accepted = its.accepts;
-      entries = a.estimate.entries;
-      seconds = a.estimate.seconds;
-      text =
-          rw (
-            c.into_bytes.ensures.value,
-            ← its.describes.in_window,
-            ← its.describes.window,
-            ← its.describes.processes,
-            ← its.describes.horizon,
-            ← its.describes.limit,
-          )
-          c.in_ok-line_of-in-Accepted.ensures;
-    }
-
-pub returns-clause-why : goal.returns-clause-why
-returns-clause-why g c =
-    let refuses = rw (c.in-Refused.is, c.deref.ensures.value) at c.in_ok-accepted.ensures in
-    file_check _ _ _ (bytes_file _ _ _ _ c.in_ok-bytes.ensures.bytes (c.fault_of.ensures _ refuses))
+pub returns-then-is_alone-clause-text : goal.returns-then-is_alone-clause-text
+returns-then-is_alone-clause-text g c =
+    let texts = c.args.texts.now in
+    let alone : is_alone texts ≡ true = sym c.is_alone.ensures ∙ c.if-is_alone.true in
+    IfOk-weaker c.check_own.result _ _
+    (λ text told. record {
+      scenario = told.0;
+      is_scenario = own_scenario (g.I.Read.remaining c.args.input.now) texts told.0 alone told.1;
+      tells = told.2;
+    }) c.check_own.ensures.text

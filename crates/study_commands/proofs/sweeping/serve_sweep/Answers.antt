@@ -3,20 +3,20 @@ use Rattle.study_commands.proofs.sweeping.serve_sweep.Goals as goal
 
 pub fault_of-requires : goal.fault_of-requires
 fault_of-requires g c =
-    breaks_of_run c.in_ok-file.ensures.said g.O.Outlet.told g.O.Outlet.failed c.args.outlet.now c.sweep.new.outlet
+    breaks_of_run c.in_ok-sources.ensures.said g.O.Outlet.told g.O.Outlet.failed c.args.outlet.now c.sweep.new.outlet
     c.in-Err.error c.in-Err.ensures.breaks_off
 
 pub returns-in-Ok-clause-text : goal.returns-in-Ok-clause-text
 returns-in-Ok-clause-text g c =
-    swept c.in_ok-file.ensures.said g.O.Outlet.told g.O.Outlet.failed c.args.outlet.now c.sweep.new.outlet
+    swept c.in_ok-sources.ensures.said g.O.Outlet.told g.O.Outlet.failed c.args.outlet.now c.sweep.new.outlet
     c.in-Ok.ensures.done
 
 pub returns-clause-text : goal.returns-clause-text
 returns-clause-text g c =
-    sweep_leaves c.in_ok-file.ensures.said g.O.Outlet.told g.O.Outlet.failed c.args.outlet.now c.sweep.new.outlet
+    sweep_leaves c.in_ok-sources.ensures.said g.O.Outlet.told g.O.Outlet.failed c.args.outlet.now c.sweep.new.outlet
     c.in-Err.error c.fault_of.result c.in-Err.ensures.breaks_off c.fault_of.ensures
 
 pub returns-clause-why : goal.returns-clause-why
 returns-clause-why g c =
-    sweep_why c.in_ok-file.ensures.said g.O.Outlet.told g.O.Outlet.failed c.args.outlet.now c.sweep.new.outlet
+    sweep_why c.in_ok-sources.ensures.said g.O.Outlet.told g.O.Outlet.failed c.args.outlet.now c.sweep.new.outlet
     c.in-Err.error c.fault_of.result c.in-Err.ensures.breaks_off c.fault_of.ensures

@@ -8,4 +8,5 @@ returns c =
     let app = new_app c.args.name.now in
     let begun : app_of c.after_help-command.result ≡ app = search rules in
     let local : IsLocal c.after_help-command.result = search rules in
-    c.with_argument.ensures app path_rule c.path_argument.ensures (begun, local)
+    c.with_argument.ensures _ _ c.repeated_option.ensures (c.with_argument-command-2.ensures _ _ c.option.ensures
+    (c.with_argument-command.ensures app path_rule c.path_argument.ensures (begun, local)))

@@ -1,4 +1,4 @@
-use Rattle.sweep.proofs.Words.{rules, ◌≡◌, ◌≤◌, ◌<◌, ◌+◌, ◌-◌, ◌*◌, ℕ, Bool, true, length, arith, subst, slice_index_or, mul-le-mul_right, table_view, points, runs, HasScenarioAt, IsFirstRefusal, HeardReading}
+use Rattle.sweep.proofs.Words.{rules, ◌≡◌, ◌≤◌, ◌<◌, ◌+◌, ◌-◌, ◌*◌, ℕ, Bool, true, length, arith, subst, slice_index_or, mul-le-mul_right, sources_of, points, runs, IsReadyAt, IsFirstRefusal, HeardReading}
 use Rattle.sweep.proofs.Heard.{reading_begin, reading_more, all_done, within_all}
 use Rattle.sweep.proofs.Numbered.{number_below}
 use Rattle.sweep.proofs.Reading.{if_any_err, read_more, first_refusal}
@@ -23,28 +23,30 @@ refusal-requires-clause-within g c =
 
 pub returns-in-Some-clause-err : goal.returns-in-Some-clause-err
 returns-in-Some-clause-err g c =
-    let file = table_view c.args.file.now in
+    let sources = sources_of c.args.sources.now in
+    let groups = c.args.groups.now in
     let grid = c.args.grid.now in
     let w : ℕ = length (runs grid) in
     let begin : ℕ = c.args.begin in
     let end : ℕ = c.args.end in
     let each : (i : ℕ) (d : Bool) → i < c.in-Some.place → slice_index_or c.in_ok-are_read.are_read.items i d ≡ true
-    → HasScenarioAt file grid (c.loop-next.next + i) =
+    → IsReadyAt sources grid groups (c.loop-next.next + i) =
     λ i d lt yes. let h = (c.in_ok-are_read.ensures.answers.each i d (search rules)).met in search rules in
-    let before : (n : ℕ) → begin * c.runs-runs.result ≤ n → n < c.loop-next.next + c.in-Some.place → HasScenarioAt file grid n =
-    read_more file grid (begin * c.runs-runs.result) c.loop-next.next c.in-Some.place c.in_ok-are_read.are_read.items c.loop-next.invariant.read each (search rules) in
-    let P : ℕ → Type 0 = λ n. IsFirstRefusal file grid (begin * n) (end * n) c.refusal.result in
+    let before : (n : ℕ) → begin * c.runs-runs.result ≤ n → n < c.loop-next.next + c.in-Some.place → IsReadyAt sources grid groups n =
+    read_more sources grid groups (begin * c.runs-runs.result) c.loop-next.next c.in-Some.place c.in_ok-are_read.are_read.items c.loop-next.invariant.read each (search rules) in
+    let P : ℕ → Type 0 = λ n. IsFirstRefusal sources grid groups (begin * n) (end * n) c.refusal.result in
     subst P c.runs-runs.ensures.value
-    (first_refusal file grid (begin * c.runs-runs.result) (end * c.runs-runs.result) (c.loop-next.next + c.in-Some.place) c.refusal.result (search rules) (search rules) (search rules) before)
+    (first_refusal sources grid groups (begin * c.runs-runs.result) (end * c.runs-runs.result) (c.loop-next.next + c.in-Some.place) c.refusal.result (search rules) (search rules) (search rules) before)
 
 pub loop-next-preserved : goal.loop-next-preserved
 loop-next-preserved g c =
-    let file = table_view c.args.file.now in
+    let sources = sources_of c.args.sources.now in
+    let groups = c.args.groups.now in
     let inv = c.loop-next.invariant in
     let items = c.in_ok-are_read.are_read.items in
     let len : c.len.result ≡ length items = search rules in
     let each : (i : ℕ) (d : Bool) → i < c.len.result → slice_index_or items i d ≡ true
-    → HasScenarioAt file c.args.grid.now (c.loop-next.next + i) =
+    → IsReadyAt sources c.args.grid.now groups (c.loop-next.next + i) =
     λ i d lt yes. let h = (c.in_ok-are_read.ensures.answers.each i d (omega (arith, lt, len))).met in search rules in
     let all : (i : ℕ) (d : Bool) → i < c.len.result → slice_index_or items i d ≡ true =
     λ i d lt. let within : i < length items = omega (arith, lt, len) in search rules in
@@ -53,15 +55,16 @@ loop-next-preserved g c =
       high = search rules;
       heard = reading_more g.W.Watcher.heard (c.args.end - c.args.begin) c.runs-runs.result c.args.watcher.now c.loop-next.watcher c.hear-in-loop-next.new.self _ _
           inv.heard (search rules) c.hear-in-loop-next.ensures;
-      read = read_more file c.args.grid.now (c.args.begin * c.runs-runs.result) c.loop-next.next c.len.result items inv.read each all;
+      read = read_more sources c.args.grid.now groups (c.args.begin * c.runs-runs.result) c.loop-next.next c.len.result items inv.read each all;
     }
 
 pub returns-clause-ok : goal.returns-clause-ok
 returns-clause-ok g c =
-    let file = table_view c.args.file.now in
+    let sources = sources_of c.args.sources.now in
+    let groups = c.args.groups.now in
     let grid = c.args.grid.now in
     let inv = c.loop-next.invariant in
-    let P : ℕ → Type 0 = λ w. (n : ℕ) → c.args.begin * w ≤ n → n < c.args.end * w → HasScenarioAt file grid n in
+    let P : ℕ → Type 0 = λ w. (n : ℕ) → c.args.begin * w ≤ n → n < c.args.end * w → IsReadyAt sources grid groups n in
     subst P c.runs-runs.ensures.value (λ n low high. inv.read n low (omega (arith, high, c.loop-next-test.false)))
 
 pub returns-clause-heard : goal.returns-clause-heard

@@ -1,4 +1,4 @@
-use Rattle.sweep.proofs.Words.{◌≤◌, ◌<◌, ◌-◌, ◌*◌, ℕ, table_view, HasScenarioAt, HeardReading}
+use Rattle.sweep.proofs.Words.{◌≤◌, ◌<◌, ◌-◌, ◌*◌, ℕ, sources_of, IsReadyAt, HeardReading}
 use Rattle.sweep.proofs.checking.check_runs.Given as goal
 
 abbrev pub invariant-loop-next : goal.invariant-loop-next
@@ -6,7 +6,7 @@ invariant-loop-next g l = record {
   low : l.begin * l.runs ≤ l.next;
   high : l.next ≤ l.end * l.runs;
   heard : HeardReading g.W.Watcher.heard l.fn.watcher l.watcher l.points l.runs (l.next - l.begin * l.runs);
-  read : (n : ℕ) → l.begin * l.runs ≤ n → n < l.next → HasScenarioAt (table_view l.file) l.grid n;
+  read : (n : ℕ) → l.begin * l.runs ≤ n → n < l.next → IsReadyAt (sources_of l.sources) l.grid l.groups n;
 }
 
 abbrev pub decreases-loop-next : goal.decreases-loop-next

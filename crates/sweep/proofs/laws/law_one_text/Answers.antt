@@ -1,6 +1,6 @@
-use Rattle.sweep.proofs.Words.{table_view}
+use Rattle.sweep.proofs.Words.{sources_of}
 use Rattle.sweep.proofs.OneText.{one_text}
 use Rattle.sweep.proofs.laws.law_one_text.Goals as goal
 
 pub returns : goal.returns
-returns c = one_text (table_view c.args.file.now) c.args.grid.now c.args.layout.now c.args.shard
+returns c = one_text (sources_of c.args.sources.now) c.args.grid.now c.args.layout.now c.args.shard

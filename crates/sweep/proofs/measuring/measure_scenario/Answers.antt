@@ -1,4 +1,4 @@
-use Rattle.sweep.proofs.Words.{rules, MeasuresRun, finished, limited}
+use Rattle.sweep.proofs.Words.{rules, IfOk-weaker, MeasuresRun, finished, limited}
 use Rattle.reporting.specs.Printed.{IsLonger}
 use Rattle.sweep.proofs.measuring.measure_scenario.Goals as goal
 
@@ -10,4 +10,4 @@ returns-in_ok-numbers-in-Ok c =
 pub returns-in-Err-Limit : goal.returns-in-Err-Limit
 returns-in-Err-Limit c =
     let long : IsLonger c.args.scenario.now = search rules in
-    (limited, long, c.of_limited.ensures)
+    IfOk-weaker c.of_limited.result _ _ (λ n are. (limited, long, are)) c.of_limited.ensures

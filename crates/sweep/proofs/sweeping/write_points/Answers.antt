@@ -1,38 +1,56 @@
-use Rattle.sweep.proofs.Words.{rules, ◌≡◌, ℕ, ◌+◌, ◌-◌, ◌*◌, ◌<◌, ◌≤◌, length, arith, sym, ap, ◌∙◌, subst, range_with_len, mul-le-mul_right, table_view, wrote_nothing, points, runs, AreUnderWay, runs_each, unit_count, WroteUpTo, HeardRunning}
+use Rattle.sweep.proofs.Words.{rules, ◌≡◌, ℕ, ◌+◌, ◌-◌, ◌*◌, ◌<◌, ◌≤◌, length, arith, sym, ap, ◌∙◌, subst, range_with_len, mul-le-mul_right, sources_of, wrote_nothing, points, runs, AreUnderWay, runs_each, unit_count, WroteUpTo, HeardRunning}
 use Rattle.sweep.specs.declared.error.SweepError.TheVariants.{Memory}
 use Rattle.sweep.proofs.Reading.{if_err, if_any_err}
-use Rattle.sweep.proofs.Numbered.{point_at_end, point_below, count_each, some_each}
+use Rattle.sweep.proofs.Numbered.{point_at_end, point_below, count_each, count_order, some_each}
 use Rattle.sweep.proofs.Advancing.{wrote_none}
 use Rattle.sweep.proofs.Heard.{all_done}
-use Rattle.sweep.proofs.Limiting.{way_begin, way_same, way_more, heard_up_to}
+use Rattle.sweep.proofs.Limiting.{way_begin, way_same, way_more, heard_at_begin, heard_up_to}
 use Rattle.sweep.proofs.sweeping.write_points.Goals as goal
 
 pub loop-next-init : goal.loop-next-init
 loop-next-init g c =
-    let file = table_view c.args.file.now in
+    let sources = sources_of c.args.sources.now in
     let grid = c.args.grid.now in
     let layout = c.args.layout.now in
     let first : ℕ = unit_count layout.rows grid c.args.begin in
-    let at : c.at-progress.result.unit ≡ first = c.at-progress.ensures.unit ∙ c.unit_count.ensures in
+    let at : c.in_ok-progress.progress.unit ≡ first = c.in_ok-progress.ensures.unit ∙ c.unit_count.ensures in
     let some : 1 ≤ runs_each layout.rows grid = some_each layout.rows grid c.requires.some in
-    let P : ℕ → Type 0 = λ n. WroteUpTo file grid layout g.O.Outlet.told g.O.Outlet.failed c.args.outlet.now c.args.outlet.now first n in
+    let P : ℕ → Type 0 = λ n. WroteUpTo sources grid layout g.O.Outlet.told g.O.Outlet.failed c.args.outlet.now c.args.outlet.now first n in
     let e : c.args.begin * c.runs-runs.result ≡ c.args.begin * length (runs grid) = ap (λ n. c.args.begin * n) c.runs-runs.ensures.value in
     record {
       failures = search rules;
-      run_low = omega (arith, c.at-progress.ensures.run, some);
-      number = omega (arith, ap (λ n. n * runs_each layout.rows grid) at, count_each layout.rows grid c.args.begin, e, c.at-progress.ensures.run);
+      run_low = omega (arith, c.in_ok-progress.ensures.run, some);
+      number = omega (arith, ap (λ n. n * runs_each layout.rows grid) at, count_each layout.rows grid c.args.begin, e, c.in_ok-progress.ensures.run);
       high = rw e (mul-le-mul_right {m = c.args.begin} {n = c.args.end} (length (runs grid)) c.requires.order);
       low = omega (arith, e);
       limits_low = omega (arith, c.at-limits.ensures.run, c.requires.some);
       limits_number = omega (arith, ap (λ n. n * length (runs grid)) c.at-limits.ensures.point, e, c.at-limits.ensures.run);
-      heard = subst (λ n. AreUnderWay file grid g.W.Watcher.heard c.args.watcher.now c.hear.new.self (c.args.end - c.args.begin) n c.args.begin c.at-limits.result) (omega (arith, e))
-          (way_begin file grid g.W.Watcher.heard c.args.watcher.now c.hear.new.self (c.args.end - c.args.begin) c.runs-runs.result c.args.begin c.at-limits.result
-          c.runs-runs.ensures.value c.at-limits.ensures.point (c.at-limits.ensures.counted file grid) c.hear.ensures);
+      heard = subst (λ n. AreUnderWay sources grid g.W.Watcher.heard c.args.watcher.now c.hear.new.self (c.args.end - c.args.begin) n c.args.begin c.at-limits.result) (omega (arith, e))
+          (way_begin sources grid g.W.Watcher.heard c.args.watcher.now c.hear.new.self (c.args.end - c.args.begin) c.runs-runs.result c.args.begin c.at-limits.result
+          c.runs-runs.ensures.value c.at-limits.ensures.point (c.at-limits.ensures.counted sources grid) c.hear.ensures);
       way = record {
-        out = subst P (sym at) (wrote_none file grid layout g.O.Outlet.told g.O.Outlet.failed c.args.outlet.now first (wrote_nothing g.O.Outlet.told g.O.Outlet.failed c.args.outlet.now));
-        added = c.at-progress.ensures.added file some;
+        out = subst P (sym at) (wrote_none sources grid layout g.O.Outlet.told g.O.Outlet.failed c.args.outlet.now first (wrote_nothing g.O.Outlet.told g.O.Outlet.failed c.args.outlet.now));
+        added = c.in_ok-progress.ensures.added sources some;
       };
     }
+
+pub returns-in_err-progress-clause-stops : goal.returns-in_err-progress-clause-stops
+returns-in_err-progress-clause-stops g c =
+    let grid = c.args.grid.now in
+    let layout = c.args.layout.now in
+    let first : ℕ = unit_count layout.rows grid c.args.begin in
+    if_err c.from_residual.result _ Memory (search rules) (
+      first,
+      count_order layout.rows grid c.args.begin c.args.end c.requires.order,
+      wrote_none (sources_of c.args.sources.now) grid layout g.O.Outlet.told g.O.Outlet.failed c.args.outlet.now first
+          (wrote_nothing g.O.Outlet.told g.O.Outlet.failed c.args.outlet.now),
+    )
+
+pub returns-in_err-progress-clause-heard_some : goal.returns-in_err-progress-clause-heard_some
+returns-in_err-progress-clause-heard_some g c =
+    let sources = sources_of c.args.sources.now in
+    if_any_err c.from_residual.result _ (heard_at_begin sources c.args.grid.now g.W.Watcher.heard c.args.watcher.now c.hear.new.self c.args.begin c.args.end
+    c.runs-runs.result c.at-limits.result c.runs-runs.ensures.value c.at-limits.ensures.point (c.at-limits.ensures.counted sources c.args.grid.now) c.hear.ensures)
 
 -- a batch's end is at most the end of all points' runs
 module _ (points runs end next count : ℕ) where
@@ -49,7 +67,7 @@ returns-in_err-numbers-clause-stops g c =
     let before = rw c.runs-runs.ensures.value at c.loop-next-test.true in
     let below = point_below c.loop-next.progress.unit c.loop-next.progress.run (runs_each rows grid) c.loop-next.next inv.run_low inv.number
     (unit_count rows grid c.args.end) (omega (arith, before, count_each rows grid c.args.end)) in
-    if_err c.from_residual.result _ Memory (search rules) (c.loop-next.progress.unit, omega (arith, below), inv.way.out)
+    if_err c.from_residual-in_err-numbers.result _ Memory (search rules) (c.loop-next.progress.unit, omega (arith, below), inv.way.out)
 
 pub add_all-requires-clause-within : goal.add_all-requires-clause-within
 add_all-requires-clause-within g c =
@@ -69,15 +87,15 @@ returns-in_err-take_all-clause-stops g c =
     let within = rw c.runs-runs.ensures.value at c.in_ok-numbers.ensures.within in
     let stops = rw c.deref-in-loop-next.ensures.value at c.in_err-take_all.ensures.stops in
     if_err c.from_residual-in_err-take_all.result _ c.in_err-take_all.field-0.0 (search rules)
-    (stops (table_view c.args.file.now) c.args.outlet.now (unit_count rows grid c.args.begin) (unit_count rows grid c.args.end)
-    (omega (arith, inv.number, within, count_each rows grid c.args.end)) (rw inv.number c.in_ok-numbers.ensures.numbers) inv.way)
+    (stops (sources_of c.args.sources.now) c.args.outlet.now (unit_count rows grid c.args.begin) (unit_count rows grid c.args.end)
+    (omega (arith, inv.number, within, count_each rows grid c.args.end)) (rw inv.number (rw c.groups.ensures at c.in_ok-numbers.ensures.numbers)) inv.way)
 
 grows : (next low count : ℕ) → low ≤ next → 1 ≤ count → next - low < next + count - low
 grows next low count le some = omega arith
 
 pub loop-next-preserved : goal.loop-next-preserved
 loop-next-preserved g c =
-    let file = table_view c.args.file.now in
+    let sources = sources_of c.args.sources.now in
     let grid = c.args.grid.now in
     let layout = c.args.layout.now in
     let inv = c.loop-next.invariant in
@@ -85,8 +103,8 @@ loop-next-preserved g c =
     let e : c.args.begin * c.runs-runs.result ≡ c.args.begin * length (runs grid) = ap (λ n. c.args.begin * n) c.runs-runs.ensures.value in
     let heard = rw c.deref.ensures.value at c.add_all.ensures.heard in
     let done = rw c.deref-in-loop-next.ensures.value at c.in_ok-take_all.ensures.done in
-    let way = way_same file grid g.W.Watcher.heard c.args.watcher.now c.loop-next.watcher c.make_way.new.self points _ c.args.begin c.loop-next.limits inv.heard c.make_way.ensures in
-    let added = heard file c.args.watcher.now points _ c.args.begin (rw inv.limits_number c.in_ok-numbers.ensures.numbers) way in
+    let way = way_same sources grid g.W.Watcher.heard c.args.watcher.now c.loop-next.watcher c.make_way.new.self points _ c.args.begin c.loop-next.limits inv.heard c.make_way.ensures in
+    let added = heard sources c.groups.result.now c.args.watcher.now points _ c.args.begin (rw inv.limits_number c.in_ok-numbers.ensures.numbers) way in
     let said = rw e at c.hear-in-loop-next.ensures in
     let some : 1 ≤ c.len.result = search rules in
     record {
@@ -97,9 +115,9 @@ loop-next-preserved g c =
       low = omega (arith, inv.low);
       limits_low = search rules;
       limits_number = search rules;
-      heard = way_more file grid g.W.Watcher.heard c.args.watcher.now c.add_all.new.watcher c.hear-in-loop-next.new.self points _ c.args.begin c.add_all.new.self added
+      heard = way_more sources grid g.W.Watcher.heard c.args.watcher.now c.add_all.new.watcher c.hear-in-loop-next.new.self points _ c.args.begin c.add_all.new.self added
           c.runs-runs.result _ c.runs-runs.ensures.value (grows c.loop-next.next (c.args.begin * length (runs grid)) c.len.result inv.low some) said;
-      way = done file c.args.outlet.now (unit_count layout.rows grid c.args.begin) (rw inv.number c.in_ok-numbers.ensures.numbers) inv.way;
+      way = done sources c.args.outlet.now (unit_count layout.rows grid c.args.begin) (rw inv.number (rw c.groups.ensures at c.in_ok-numbers.ensures.numbers)) inv.way;
     }
 
 pub returns-clause-done : goal.returns-clause-done
@@ -109,7 +127,7 @@ returns-clause-done g c =
     let inv = c.loop-next.invariant in
     let last : ℕ = unit_count layout.rows grid c.args.end in
     let past = rw c.runs-runs.ensures.value at c.loop-next-test.false in
-    let P : ℕ → Type 0 = λ n. WroteUpTo (table_view c.args.file.now) grid layout g.O.Outlet.told g.O.Outlet.failed c.args.outlet.now c.loop-next.outlet (unit_count layout.rows grid c.args.begin) n in
+    let P : ℕ → Type 0 = λ n. WroteUpTo (sources_of c.args.sources.now) grid layout g.O.Outlet.told g.O.Outlet.failed c.args.outlet.now c.loop-next.outlet (unit_count layout.rows grid c.args.begin) n in
     subst P (point_at_end c.loop-next.progress.unit c.loop-next.progress.run (runs_each layout.rows grid) c.loop-next.next inv.run_low inv.number last
     (omega (arith, inv.high, past, count_each layout.rows grid c.args.end))) inv.way.out
 
@@ -118,7 +136,7 @@ returns-clause-done g c =
 pub returns-in_err-numbers-clause-heard_some : goal.returns-in_err-numbers-clause-heard_some
 returns-in_err-numbers-clause-heard_some g c =
     let inv = c.loop-next.invariant in
-    if_any_err c.from_residual.result _ (heard_up_to (table_view c.args.file.now) c.args.grid.now g.W.Watcher.heard c.args.watcher.now c.loop-next.watcher
+    if_any_err c.from_residual-in_err-numbers.result _ (heard_up_to (sources_of c.args.sources.now) c.args.grid.now g.W.Watcher.heard c.args.watcher.now c.loop-next.watcher
     c.args.begin c.args.end c.loop-next.next c.loop-next.limits inv.limits_low (omega (arith, inv.limits_number, inv.high)) inv.high inv.heard)
 
 up_to : (new old next more count bound : ℕ) → new ≡ old + more → old ≡ next → more ≡ count → next + count ≤ bound → new ≤ bound
@@ -126,15 +144,15 @@ up_to new old next more count bound is from long le = omega arith
 
 pub returns-in_err-take_all-clause-heard_some : goal.returns-in_err-take_all-clause-heard_some
 returns-in_err-take_all-clause-heard_some g c =
-    let file = table_view c.args.file.now in
+    let sources = sources_of c.args.sources.now in
     let grid = c.args.grid.now in
     let inv = c.loop-next.invariant in
     let within = rw c.runs-runs.ensures.value at c.in_ok-numbers.ensures.within in
     let heard = rw c.deref.ensures.value at c.add_all.ensures.heard in
-    let way = way_same file grid g.W.Watcher.heard c.args.watcher.now c.loop-next.watcher c.make_way.new.self (c.args.end - c.args.begin) _ c.args.begin c.loop-next.limits inv.heard c.make_way.ensures in
-    let added = heard file c.args.watcher.now (c.args.end - c.args.begin) _ c.args.begin (rw inv.limits_number c.in_ok-numbers.ensures.numbers) way in
+    let way = way_same sources grid g.W.Watcher.heard c.args.watcher.now c.loop-next.watcher c.make_way.new.self (c.args.end - c.args.begin) _ c.args.begin c.loop-next.limits inv.heard c.make_way.ensures in
+    let added = heard sources c.groups.result.now c.args.watcher.now (c.args.end - c.args.begin) _ c.args.begin (rw inv.limits_number c.in_ok-numbers.ensures.numbers) way in
     let len : length c.deref.result.now ≡ length c.in_ok-numbers.numbers.items = ap length c.deref.ensures.value in
-    if_any_err c.from_residual-in_err-take_all.result _ (heard_up_to file grid g.W.Watcher.heard c.args.watcher.now c.add_all.new.watcher
+    if_any_err c.from_residual-in_err-take_all.result _ (heard_up_to sources grid g.W.Watcher.heard c.args.watcher.now c.add_all.new.watcher
     c.args.begin c.args.end c.loop-next.next c.add_all.new.self c.add_all.ensures.run (up_to _ _ c.loop-next.next _ _ _ c.add_all.ensures.number inv.limits_number len within) inv.high added)
 
 pub returns-clause-heard : goal.returns-clause-heard
@@ -146,6 +164,6 @@ returns-clause-heard g c =
     let past = rw c.runs-runs.ensures.value at c.loop-next-test.false in
     let whole : c.loop-next.next ≡ end * w = omega (arith, inv.high, past) in
     let last = point_at_end c.loop-next.limits.point c.loop-next.limits.run w c.loop-next.next inv.limits_low inv.limits_number end whole in
-    let R : ℕ → ℕ → Type 0 = λ m n. HeardRunning g.W.Watcher.heard c.args.watcher.now c.loop-next.watcher (table_view c.args.file.now) c.args.grid.now (end - begin) w m
+    let R : ℕ → ℕ → Type 0 = λ m n. HeardRunning g.W.Watcher.heard c.args.watcher.now c.loop-next.watcher (sources_of c.args.sources.now) c.args.grid.now (end - begin) w m
     (range_with_len begin (n - begin)) in
     subst (R _) last (subst (λ m. R m c.loop-next.limits.point) (all_done begin end w c.loop-next.next whole) inv.heard.told)

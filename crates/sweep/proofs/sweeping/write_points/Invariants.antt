@@ -1,4 +1,4 @@
-use Rattle.sweep.proofs.Words.{◌≡◌, ◌<◌, ◌≤◌, ◌-◌, ◌*◌, length, table_view, runs, runs_each, unit_count, IsUnderWay, next_run, AreUnderWay, next_counted}
+use Rattle.sweep.proofs.Words.{◌≡◌, ◌<◌, ◌≤◌, ◌-◌, ◌*◌, length, sources_of, runs, runs_each, unit_count, IsUnderWay, next_run, AreUnderWay, next_counted}
 use Rattle.sweep.proofs.sweeping.write_points.Given as goal
 
 abbrev pub invariant-loop-next : goal.invariant-loop-next
@@ -10,8 +10,8 @@ invariant-loop-next g l = record {
   low : l.begin * length (runs l.grid) ≤ l.next;
   limits_low : l.limits.run < length (runs l.grid);
   limits_number : next_counted l.grid l.limits ≡ l.next;
-  heard : AreUnderWay (table_view l.file) l.grid g.W.Watcher.heard l.fn.watcher l.watcher (l.end - l.begin) (l.next - l.begin * length (runs l.grid)) l.begin l.limits;
-  way : IsUnderWay (table_view l.file) l.grid l.layout g.O.Outlet.told g.O.Outlet.failed l.initial.outlet l.outlet
+  heard : AreUnderWay (sources_of l.sources) l.grid g.W.Watcher.heard l.fn.watcher l.watcher (l.end - l.begin) (l.next - l.begin * length (runs l.grid)) l.begin l.limits;
+  way : IsUnderWay (sources_of l.sources) l.grid l.layout g.O.Outlet.told g.O.Outlet.failed l.initial.outlet l.outlet
       (unit_count l.layout.rows l.grid l.begin) l.progress;
 }
 

@@ -1,5 +1,5 @@
 use Rattle.std.proofs.Common.{◌++◌, Some, sym, ap, ◌∙◌, subst}
-use Rattle.toml.specs.View.{table_view}
+use Rattle.study.specs.Sources.{sources_of}
 use Rattle.reporting.specs.Outlet.{Held}
 use Rattle.study.specs.Shard.{ShardRecord}
 use Rattle.sweep.specs.Outcome.{WroteStudy}
@@ -9,9 +9,9 @@ use Rattle.reporting_tests.proofs.sweep_tests.laws.shards_and_whole.Goals as goa
 -- both are the one text of the whole
 pub returns : goal.returns
 returns g c =
-    let P : ShardRecord → Type 0 = λ s. WroteStudy (table_view c.args.file.now) c.args.grid.now s c.args.layout.now
+    let P : ShardRecord → Type 0 = λ s. WroteStudy (sources_of c.args.sources.now) c.args.grid.now s c.args.layout.now
     (λ (o : Held). Some o.bytes) (λ o. o.failures) c.new-whole.result c.sweep.new.outlet in
-    let Q : ShardRecord → Type 0 = λ s. HasOneText (table_view c.args.file.now) c.args.grid.now s c.args.layout.now in
+    let Q : ShardRecord → Type 0 = λ s. HasOneText (sources_of c.args.sources.now) c.args.grid.now s c.args.layout.now in
     let out = subst P c.whole.ensures c.in_ok-sweep.ensures.done in
     let one = subst Q c.whole-3.ensures c.law_one_text.ensures in
     let same = one c.in_ok-parts.parts.bytes out.text c.in_ok-parts.ensures.whole out.is_text in

@@ -1,6 +1,6 @@
-use Rattle.toml.specs.View.{table_view}
+use Rattle.study.specs.Sources.{sources_of}
 use Rattle.reporting_tests.proofs.InTurn.{AreOut}
 use Rattle.reporting_tests.proofs.sweep_tests.laws.sweep_shards.Given as goal
 
 abbrev pub invariant-loop-before : goal.invariant-loop-before
-invariant-loop-before g l = AreOut (table_view l.file) l.grid l.layout l.shards l.before l.outlet
+invariant-loop-before g l = AreOut (sources_of l.sources) l.grid l.layout l.shards l.before l.outlet

@@ -3,7 +3,7 @@ use Rattle.sweep.proofs.Layered.{few_done, few_decisions, few_rounds}
 use Rattle.sweep.proofs.point_sums.LayerTotals.columns.Goals as goal
 
 pub returns : goal.returns
-returns c layer first trials totals =
+returns c group layer first trials totals =
     let s = c.args.self.now.sums in
     let fit = totals.fitting in
     let million : c.saturating_mul.result ≡ 1000000 * s.pairs.mistake_ticks = omega (arith, c.saturating_mul.ensures, fit.few_ticks, fit.few_runs) in
@@ -14,8 +14,8 @@ returns c layer first trials totals =
       sums = fit.sums;
       mistake_recurrence = c.over.ensures;
       mistaken_ppm = c.over-2.ensures ∙ ap (λ n. over n s.pair_ticks) million;
-      durations = c.distribution.ensures (all_durations layer trials) (omega (arith, totals.values.few_lasted, fit.few_runs)) (omega arith) totals.values.lasted;
-      detections = c.distribution-2.ensures (all_detections layer trials) (omega (arith, fit.few_detected, fit.few_runs)) few_undetected totals.values.detected;
+      durations = c.distribution.ensures (all_durations group layer trials) (omega (arith, totals.values.few_lasted, fit.few_runs)) (omega arith) totals.values.lasted;
+      detections = c.distribution-2.ensures (all_detections group layer trials) (omega (arith, fit.few_detected, fit.few_runs)) few_undetected totals.values.detected;
       last_decisions = subst (λ n. IsDistribution (last_decisions layer trials) n c.distribution-3.result) c.from-undecided.ensures
           (c.distribution-3.ensures (last_decisions layer trials) (omega (arith, few_decisions layer trials, fit.few_runs)) few_undecided totals.values.decided);
       rounds = c.distribution-4.ensures (top_rounds layer trials) (omega (arith, few_rounds layer trials, fit.few_runs)) (omega arith) totals.values.rounds;

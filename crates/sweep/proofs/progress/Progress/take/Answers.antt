@@ -10,47 +10,58 @@ rows_of-requires g c =
     unit_below c.args.layout.now.rows c.args.grid.now c.args.self.now.unit c.args.self.now.run _ c.requires.run c.requires.within
 
 pub returns-then-self-runs-clause-done : goal.returns-then-self-runs-clause-done
-returns-then-self-runs-clause-done g c = λ file start begin numbers way.
-    let more = added_to file c.args.grid.now c.args.layout.now c.args.self.now c.args.numbers.now _ c.in_ok-add.ensures (omega (arith, c.runs_each-runs.ensures.value, c.runs_each-runs.ensures.high)) numbers way.added in
+returns-then-self-runs-clause-done g c = λ sources start begin numbers way.
+    let more = added_to sources c.args.grid.now c.args.layout.now c.args.self.now c.args.numbers.now c.add.new.self c.in_ok-add.ensures (omega (arith, c.runs_each-runs.ensures.value, c.runs_each-runs.ensures.high)) numbers way.added in
     record { out = way.out; added = record { trials = more.trials; each = more.each; summed = more.summed; run_low = search rules } }
 
 pub returns-in_err-add-clause-stops : goal.returns-in_err-add-clause-stops
 returns-in_err-add-clause-stops g c =
-    if_err c.from_residual.result _ Memory (search rules) (λ file start begin end few numbers way.
+    if_err c.from_residual.result _ Memory (search rules) (λ sources start begin end few numbers way.
     let below = point_below c.args.self.now.unit c.args.self.now.run (runs_each c.args.layout.now.rows c.args.grid.now) _ c.requires.run refl end (omega (arith, few)) in
     (c.args.self.now.unit, omega (arith, below), way.out))
 
 pub returns-in_err-text-clause-stops : goal.returns-in_err-text-clause-stops
 returns-in_err-text-clause-stops g c =
-    if_err c.from_residual-in_err-text.result _ Memory (search rules) (λ file start begin end few numbers way.
+    if_err c.from_residual-in_err-text.result _ Memory (search rules) (λ sources start begin end few numbers way.
     let below = point_below c.args.self.now.unit c.args.self.now.run (runs_each c.args.layout.now.rows c.args.grid.now) _ c.requires.run refl end (omega (arith, few)) in
     (c.args.self.now.unit, omega (arith, below), way.out))
 
 pub returns-in_err-write_text-clause-stops : goal.returns-in_err-write_text-clause-stops
 returns-in_err-write_text-clause-stops g c =
-    if_err c.from_residual-in_err-write_text.result _ Write (search rules) (λ file start begin end few numbers way.
+    if_err c.from_residual-in_err-write_text.result _ Write (search rules) (λ sources start begin end few numbers way.
     let grid = c.args.grid.now in
     let layout = c.args.layout.now in
     let p = c.args.self.now in
     let below = point_below p.unit p.run (runs_each layout.rows grid) _ c.requires.run refl end (omega (arith, few)) in
-    let more = added_to file grid layout p c.args.numbers.now _ c.in_ok-add.ensures (omega (arith, c.runs_each-runs.ensures.value, c.runs_each-runs.ensures.high)) numbers way.added in
-    let rows = rows_added file grid layout p _ c.in_ok-text.text.items more (omega arith) c.in_ok-text.ensures in
-    (p.unit + 1, omega (arith, below), wrote_front file grid layout g.O.Outlet.told g.O.Outlet.failed start c.args.outlet.now c.write_text.new.outlet begin p.unit c.in_ok-text.text.items way.out rows (search rules)))
+    let more = added_to sources grid layout p c.args.numbers.now c.add.new.self c.in_ok-add.ensures (omega (arith, c.runs_each-runs.ensures.value, c.runs_each-runs.ensures.high)) numbers way.added in
+    let rows = rows_added sources grid layout p c.add.new.self c.in_ok-text.text.items more (omega arith) c.in_ok-text.ensures in
+    (p.unit + 1, omega (arith, below), wrote_front sources grid layout g.O.Outlet.told g.O.Outlet.failed start c.args.outlet.now c.write_text.new.outlet begin p.unit c.in_ok-text.text.items way.out rows (search rules)))
 
-pub returns-clause-done : goal.returns-clause-done
-returns-clause-done g c = λ file start begin numbers way.
+pub returns-in_err-self-clause-stops : goal.returns-in_err-self-clause-stops
+returns-in_err-self-clause-stops g c =
+    if_err c.from_residual-in_err-self.result _ Memory (search rules) (λ sources start begin end few numbers way.
     let grid = c.args.grid.now in
     let layout = c.args.layout.now in
     let p = c.args.self.now in
-    let more = added_to file grid layout p c.args.numbers.now _ c.in_ok-add.ensures (omega (arith, c.runs_each-runs.ensures.value, c.runs_each-runs.ensures.high)) numbers way.added in
-    let rows = rows_added file grid layout p _ c.in_ok-text.text.items more (omega arith) c.in_ok-text.ensures in
-    let P : ℕ → Type 0 = λ n. WroteUpTo file grid layout g.O.Outlet.told g.O.Outlet.failed start c.write_text.new.outlet begin n in
+    let below = point_below p.unit p.run (runs_each layout.rows grid) _ c.requires.run refl end (omega (arith, few)) in
+    let more = added_to sources grid layout p c.args.numbers.now c.add.new.self c.in_ok-add.ensures (omega (arith, c.runs_each-runs.ensures.value, c.runs_each-runs.ensures.high)) numbers way.added in
+    let rows = rows_added sources grid layout p c.add.new.self c.in_ok-text.text.items more (omega arith) c.in_ok-text.ensures in
+    (p.unit + 1, omega (arith, below), wrote_more sources grid layout g.O.Outlet.told g.O.Outlet.failed start c.args.outlet.now c.write_text.new.outlet begin p.unit c.in_ok-text.text.items way.out rows (search rules)))
+
+pub returns-clause-done : goal.returns-clause-done
+returns-clause-done g c = λ sources start begin numbers way.
+    let grid = c.args.grid.now in
+    let layout = c.args.layout.now in
+    let p = c.args.self.now in
+    let more = added_to sources grid layout p c.args.numbers.now c.add.new.self c.in_ok-add.ensures (omega (arith, c.runs_each-runs.ensures.value, c.runs_each-runs.ensures.high)) numbers way.added in
+    let rows = rows_added sources grid layout p c.add.new.self c.in_ok-text.text.items more (omega arith) c.in_ok-text.ensures in
+    let P : ℕ → Type 0 = λ n. WroteUpTo sources grid layout g.O.Outlet.told g.O.Outlet.failed start c.write_text.new.outlet begin n in
     record {
-      out = subst P (sym c.at.ensures.unit)
-          (wrote_more file grid layout g.O.Outlet.told g.O.Outlet.failed start c.args.outlet.now c.write_text.new.outlet begin p.unit c.in_ok-text.text.items way.out rows (search rules));
-      added = c.at.ensures.added file (omega arith);
+      out = subst P (sym c.in_ok-self.ensures.unit)
+          (wrote_more sources grid layout g.O.Outlet.told g.O.Outlet.failed start c.args.outlet.now c.write_text.new.outlet begin p.unit c.in_ok-text.text.items way.out rows (search rules));
+      added = c.in_ok-self.ensures.added sources (omega arith);
     }
 
 pub returns-clause-number : goal.returns-clause-number
 returns-clause-number g c =
-    omega (arith, ap (λ n. n * runs_each c.args.layout.now.rows c.args.grid.now) c.at.ensures.unit, c.at.ensures.run, c.requires.run, c.if-self-runs.false, c.runs_each-runs.ensures.value)
+    omega (arith, ap (λ n. n * runs_each c.args.layout.now.rows c.args.grid.now) c.in_ok-self.ensures.unit, c.in_ok-self.ensures.run, c.requires.run, c.if-self-runs.false, c.runs_each-runs.ensures.value)

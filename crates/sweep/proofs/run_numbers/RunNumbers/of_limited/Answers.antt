@@ -1,21 +1,13 @@
-use Rattle.sweep.proofs.Words.{◌≡◌, ℕ, Bool, true, false, is_some, cond, refl, sym, ◌∙◌, [], ◌∷◌, Record, has_layer, Trial, limited, rules}
-use Rattle.sweep.specs.Sums.{AreLayerNumbers}
-use Rattle.sweep.specs.declared.run_numbers.LayerNumbers.{LayerNumbers}
-use Rattle.sweep.proofs.Layered.{has_first, has_second}
+use Rattle.sweep.proofs.Words.{rules, ◌≡◌, ◌+◌, ◌++◌, ◌∷◌, [], take, sym, subst, AllZip, AreGroupNumbers, Group, GroupNumbers, limited}
+use Rattle.sweep.proofs.Grouped.{zip_more}
 use Rattle.sweep.proofs.run_numbers.RunNumbers.of_limited.Goals as goal
 
-second : (S : Record) (n : LayerNumbers) (b : Bool) (count : ℕ) → b ≡ is_some S.share → count ≡ cond b 1 0
-    → (count ≡ 1 → (layer : ℕ) (T : Record) → has_layer layer T ≡ true → AreLayerNumbers layer (record { scenario = T; result = limited } ∷ []) n)
-    → (count ≡ 0 → (layer : ℕ) (t : Trial) → has_layer layer t.scenario ≡ false → AreLayerNumbers layer (t ∷ []) n)
-    → AreLayerNumbers 2 (record { scenario = S; result = limited } ∷ []) n
-second S n true count is one some none = some one 2 S (has_second S ∙ sym is)
-second S n false count is zero some none = none zero 2 (record { scenario = S; result = limited }) (has_second S ∙ sym is)
-
-pub returns : goal.returns
-returns c =
-    let S = c.args.scenario.now in
-    let count : c.from.result ≡ cond c.is_shared.result 1 0 = search rules in
-    record {
-      first = c.of_nothing.ensures.limited refl 1 S (has_first S);
-      second = second S c.of_nothing-2.result c.is_shared.result c.from.result c.is_shared.ensures.value count c.of_nothing-2.ensures.limited c.of_nothing-2.ensures.none;
-    }
+pub loop-group-preserved : goal.loop-group-preserved
+loop-group-preserved c =
+    let R : Group → GroupNumbers → Type 0 = λ group n. AreGroupNumbers group (record { scenario = c.args.scenario.now; result = limited }) n in
+    let groups = c.args.groups.now in
+    let i = c.loop-group._group-index in
+    let group = c._group-item.result in
+    let pushed : c.push.new.self.items ≡ c.loop-group.numbers.items ++ c.of_limited.result ∷ [] = search rules in
+    subst (AllZip R (take (i + 1) groups)) (sym pushed)
+    (zip_more R groups c.loop-group.numbers.items i group c.of_limited.result c.loop-group-test.true c._group-item.is c.loop-group.invariant (c.of_limited.ensures group))

@@ -1,32 +1,27 @@
-use Rattle.sweep.proofs.Words.{◌++◌, [], cond, ap, sym, ◌∙◌, append_assoc, append-nil, lead_of, layer_text}
+use Rattle.sweep.proofs.Words.{rules, ◌<◌, ◌≤◌, length, min, get_or, ap, ◌∙◌, arith}
+use Rattle.sweep.proofs.Grouped.{rows_more, rows_all}
 use Rattle.sweep.proofs.table.Table.push_unit.Goals as goal
 
-pub returns-in_ok-push_layer-2-clause-text : goal.returns-in_ok-push_layer-2-clause-text
-returns-in_ok-push_layer-2-clause-text c number trials sums =
-    let first = layer_text c.args.layout.now.picks (lead_of c.args.layout.now.rows c.args.grid.now c.args.unit) 1 c.first-first.result in
-    let second = layer_text c.args.layout.now.picks (lead_of c.args.layout.now.rows c.args.grid.now c.args.unit) 2 c.second-second.result in (
-      first ++ second,
-      record {
-        one = c.first-first.result;
-        two = c.second-second.result;
-        on_first = c.first-first.ensures number trials sums;
-        on_second = c.second-second.ensures number trials sums;
-        text = ap (λ b. first ++ cond b second []) (sym c.if-has_second.true ∙ c.has_second.ensures number trials sums);
-      },
-      c.in_ok-push_layer-2.ensures.text ∙ ap (λ t. t ++ second) c.in_ok-push_layer.ensures.text ∙ append_assoc _ first second,
-    )
+pub loop-place-preserved : goal.loop-place-preserved
+loop-place-preserved c =
+    let layout = c.args.layout.now in
+    let i = c.loop-place.place in
+    let group = c.index-groups-place.result in
+    let s = c.index-its-place.result in
+    let some = ap length c.groups-groups.ensures in
+    let lt : i < min (length layout.groups) (length c.args.sums.now.groups.items) =
+    omega (arith, c.loop-place-test.true, c.min-place-end.ensures, some, ap length c.groups-its.ensures) in
+    record {
+      between = search rules;
+      low = omega (arith, lt);
+      rows = rows_more layout c.args.grid.now c.args.unit c.args.sums.now i group s c.args.self.now c.loop-place.self c.push_group.new.self (omega (arith, lt))
+          (c.index-groups-place.is ∙ ap (λ l. get_or l i group) c.groups-groups.ensures) (c.index-its-place.is ∙ ap (λ l. get_or l i s) c.groups-its.ensures)
+          c.loop-place.invariant.rows c.in_ok-push_group.ensures.text;
+    }
 
-pub returns-else-has_second-clause-text : goal.returns-else-has_second-clause-text
-returns-else-has_second-clause-text c number trials sums =
-    let first = layer_text c.args.layout.now.picks (lead_of c.args.layout.now.rows c.args.grid.now c.args.unit) 1 c.first-first.result in
-    let second = layer_text c.args.layout.now.picks (lead_of c.args.layout.now.rows c.args.grid.now c.args.unit) 2 c.second-second.result in (
-      first,
-      record {
-        one = c.first-first.result;
-        two = c.second-second.result;
-        on_first = c.first-first.ensures number trials sums;
-        on_second = c.second-second.ensures number trials sums;
-        text = sym (append-nil first) ∙ ap (λ b. first ++ cond b second []) (sym c.if-has_second.false ∙ c.has_second.ensures number trials sums);
-      },
-      c.in_ok-push_layer.ensures.text,
-    )
+pub returns-clause-text : goal.returns-clause-text
+returns-clause-text c =
+    let inv = c.loop-place.invariant in
+    let past : min (length c.args.layout.now.groups) (length c.args.sums.now.groups.items) ≤ c.loop-place.place =
+    omega (arith, c.loop-place-test.false, c.min-place-end.ensures, ap length c.groups-groups.ensures, ap length c.groups-its.ensures) in
+    rows_all c.args.layout.now c.args.grid.now c.args.unit c.args.sums.now c.loop-place.place c.args.self.now c.loop-place.self (omega (arith, inv.low)) past inv.rows

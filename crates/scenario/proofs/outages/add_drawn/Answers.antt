@@ -1,0 +1,29 @@
+use Rattle.std.proofs.Common.{◌∙◌, ◌++◌, ◌∷◌, [], ap, sym, refl, map, take, append_assoc}
+use Rattle.std.proofs.lemmas.List.{append-nil}
+use Rattle.scenario.specs.Text.{each_pairs_outages}
+use Rattle.scenario.specs.Drawn.{outage_table}
+use Rattle.scenario.specs.Rules.{is_bad_outage}
+use Rattle.scenario.proofs.DrawnTables.{drawn_more, bad_among, good_more}
+use Rattle.scenario.proofs.outages.add_drawn.Goals as goal
+
+pub loop-outage-init : goal.loop-outage-init
+loop-outage-init c = record { clean = refl; all = c.requires.all; lists = λ tables are. rw (append-nil tables) are }
+
+pub loop-outage-preserved : goal.loop-outage-preserved
+loop-outage-preserved c =
+    let n = c.args.n in
+    let i = c.loop-outage.outage-index in
+    let o = c.outage-item.result in
+    let done = map outage_table (take i c.args.drawn.now) in
+    let more = drawn_more c.args.drawn.now i o c.loop-outage-test.true c.outage-item.is in
+    record {
+      clean = good_more c.args.drawn.now i o c.loop-outage-test.true c.outage-item.is (is_bad_outage n) c.loop-outage.invariant.clean (sym c.in-Some.ensures.test);
+      all = c.in_ok-add.ensures.all;
+      lists = λ tables are.
+          c.in_ok-add.ensures.lists (tables ++ done) (outage_table o) c.in-Some.ensures.pair c.in-Some.ensures.outage (c.loop-outage.invariant.lists tables are)
+          ∙ ap (λ ts. each_pairs_outages ts n) (append_assoc tables done (outage_table o ∷ []) ∙ ap (λ ts. tables ++ ts) (sym more));
+    }
+
+pub returns-in_default-clause-err : goal.returns-in_default-clause-err
+returns-in_default-clause-err c = λ other.
+    (refl, bad_among c.args.drawn.now c.loop-outage.outage-index c.outage-item.result c.loop-outage-test.true c.outage-item.is (is_bad_outage c.args.n) (sym c.in_default.ensures.test))

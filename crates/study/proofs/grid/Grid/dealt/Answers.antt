@@ -1,0 +1,10 @@
+use Rattle.std.proofs.Common.{◌≡◌, ◌∙◌, ap, sym, map}
+use Rattle.study.specs.Settings.{choices}
+use Rattle.study.specs.Grid.{GridRecord, paths_of, keys_of}
+use Rattle.study.proofs.Points.{first_keys}
+use Rattle.study.proofs.grid.Grid.dealt.Goals as goal
+
+pub returns-clause-keys : goal.returns-clause-keys
+returns-clause-keys c =
+    let its : map choices c.self.inside.deal.items ≡ c.args.self.now.deal = ap (λ (g : GridRecord). g.deal) c.self.view_is in
+    ap paths_of c.deref.ensures.value ∙ (sym (first_keys c.self.inside.deal.items) ∙ ap keys_of its)

@@ -1,0 +1,10 @@
+use Rattle.std.proofs.Common.{◌≡◌, ◌∙◌, ap, sym, map}
+use Rattle.study.specs.Settings.{choices}
+use Rattle.study.specs.Grid.{GridRecord, paths_of, keys_of}
+use Rattle.study.proofs.Points.{first_keys}
+use Rattle.study.proofs.grid.Grid.over.Goals as goal
+
+pub returns-clause-keys : goal.returns-clause-keys
+returns-clause-keys c =
+    let its : map choices c.self.inside.over.items ≡ c.args.self.now.over = ap (λ (g : GridRecord). g.over) c.self.view_is in
+    ap paths_of c.deref.ensures.value ∙ (sym (first_keys c.self.inside.over.items) ∙ ap keys_of its)

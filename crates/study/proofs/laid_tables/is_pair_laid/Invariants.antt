@@ -1,0 +1,9 @@
+use Rattle.std.proofs.Common.{◌≡◌, drop}
+use Rattle.std.specs.List.{list_any}
+use Rattle.scenario.specs.Text.{same_pair}
+use Rattle.study.proofs.laid_tables.is_pair_laid.Given as goal
+
+abbrev pub invariant-loop-link : goal.invariant-loop-link
+invariant-loop-link l =
+    list_any (λ x. same_pair (l.from, l.to) (x.from, x.to)) l.laid
+    ≡ list_any (λ x. same_pair (l.from, l.to) (x.from, x.to)) (drop l.link-index l.laid)

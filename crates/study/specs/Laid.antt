@@ -1,0 +1,166 @@
+-- The table of a run: its scenario's, over which its network is laid.
+use Rattle.std.specs.Prelude.{◌≡◌, ◌<◌, ◌≤◌, ◌==◌, ℕ, pos, List, [], ◌∷◌, ◌++◌, map, filter, length, codes, Bool, true, false, not, ◌&&◌, ◌||◌, nat_le, Option, None, MatchOption, if◌then◌else◌}
+use Rattle.std.specs.List.{list_any}
+use Rattle.std.specs.Option.{option_map_or}
+use Rattle.toml.specs.Data.{Data, integer, array, table, Items, no_items, item, Members, no_members, get_member, as_array, as_table}
+use Rattle.process_api.specs.Bounds.{most_processes}
+use Rattle.toml.specs.View.{table_view}
+use Rattle.scenario.specs.Drawn.{with_outages}
+use Rattle.scenario.specs.Table.{is_of}
+use Rattle.scenario.specs.Text.{number_at, is_second, pair_of, same_pair, processes_of}
+use Rattle.scenario.specs.declared.field.Kind.TheVariants as kind
+use Rattle.network.specs.Above.{groups_of, AreWithin, HasAbove}
+use Rattle.network.specs.Drawn.{drawn_of, most_outages}
+use Rattle.network.specs.Laid.{laid_links}
+use Rattle.network.specs.Refusals.{IsNetworkOf, Refuses}
+use Rattle.network.specs.declared.above.Above.{Above}
+use Rattle.network.specs.declared.field.TableKind.{TableKind}
+use Rattle.network.specs.declared.laid.LaidLink.{LaidLink}
+use Rattle.network.specs.declared.network.Network.{Network}
+use Rattle.scenario.specs.declared.drawn.LinkOutage.{LinkOutage}
+use Rattle.network.specs.declared.refusal.NetworkError.{NetworkError}
+use Rattle.study.specs.Placed.{put}
+use Rattle.study.specs.Sources.{SourcesRecord}
+use Rattle.study.specs.declared.error.PlaceError.{PlaceError}
+use Rattle.study.specs.declared.extent.Extent.{Extent}
+use Rattle.study.specs.declared.laid_run.LaidRun.{LaidRun}
+use Rattle.study.specs.declared.error.PlaceError.TheVariants as error
+
+-- ---- the run
+
+abbrev pub horizon_of : Members → ℕ
+horizon_of t = number_at (codes "horizon") 0 t
+
+abbrev pub seed_of : Members → ℕ
+seed_of t = number_at (codes "seed") 0 t
+
+-- the processes and the horizon of the table are those that a run can have
+unfoldable pub is_run : Members → Bool
+is_run t = (nat_le 1 (processes_of t) && nat_le (processes_of t) most_processes) && nat_le (horizon_of t) 10000000
+
+pub record IsExtentOf (t : Members) (e : Extent) : Type 0 where
+  pub is_run : is_run t ≡ true
+  pub processes : e.processes ≡ processes_of t
+  pub horizon : e.horizon ≡ horizon_of t
+  pub seed : e.seed ≡ seed_of t
+
+-- what the network lays over the links of the run, and what it draws
+abbrev pub laid_in : Members → Network → List LaidLink
+laid_in t its = laid_links its.links.items (processes_of t)
+
+abbrev pub drawn_in : Members → Network → List LinkOutage
+drawn_in t its = drawn_of (processes_of t) (horizon_of t) (seed_of t) its
+
+-- ---- tables of a scenario's file
+
+-- a table with these numbers at these keys
+abbrev pub with_numbers : List (List ℕ × ℕ) → Members
+with_numbers [] = no_members
+with_numbers (n ∷ ns) = put n.0 (integer (pos n.1)) (with_numbers ns)
+
+unfoldable pub link_table : LaidLink → Data
+link_table l = table (with_numbers ((codes "from", l.from) ∷ (codes "to", l.to)
+    ∷ (codes "min", l.link.min) ∷ (codes "max", l.link.max) ∷ (codes "loss", l.link.loss) ∷ []))
+
+-- ---- arrays of tables
+
+abbrev pub listed : Items → List Data
+listed no_items = []
+listed (item d ds) = d ∷ listed ds
+
+abbrev pub items_from : List Data → Items
+items_from [] = no_items
+items_from (d ∷ ds) = item d (items_from ds)
+
+-- what stands in an array
+abbrev pub values_in : Data → List Data
+values_in d = option_map_or listed (as_array d) []
+
+-- with the values of the array of tables at a key changed; there are none where there is no such key. What is no array
+-- of tables stays as it is
+unfoldable pub with_tables : (key : List ℕ) → (List Data → List Data) → Members → Members
+with_tables key change t =
+    option_map_or (λ d. if is_of kind.Tables d then put key (array (items_from (change (values_in d)))) t else t)
+    (get_member key t) (put key (array (items_from (change []))) t)
+
+-- what is asked of the code: whatever the values are changed to, the table stays; or these are changed
+abbrev pub StaysAsItIs : (key : List ℕ) → Members → Type 0
+StaysAsItIs key t = (change : List Data → List Data) → with_tables key change t ≡ t
+
+abbrev pub HasValues : (key : List ℕ) → List Data → Members → Type 0
+HasValues key ds t =
+    (change : List Data → List Data) → with_tables key change t ≡ put key (array (items_from (change ds))) t
+
+-- ---- what is laid over the table
+
+-- a table of `links` is of a link that is laid
+abbrev pub is_laid : List LaidLink → Data → Bool
+is_laid laid d = option_map_or (λ t. list_any (λ l. same_pair (pair_of t) (l.from, l.to)) laid) (as_table d) false
+
+-- the tables of other links, and then those that are laid
+abbrev pub laid_over : List LaidLink → List Data → List Data
+laid_over laid ds = filter (λ d. not (is_laid laid d)) ds ++ map link_table laid
+
+unfoldable pub lay_links : List LaidLink → Members → Members
+lay_links laid t = if length laid == 0 then t else with_tables (codes "links") (laid_over laid) t
+
+-- the links are laid, and then the outages are there besides that the table itself draws
+abbrev pub lay : Network → Members → Members
+lay its t = with_outages (drawn_in t its) (lay_links (laid_in t its) t)
+
+-- the table that is laid, by the one over which links are laid and the outages that are drawn
+abbrev pub table_of_laid : LaidRun → Members
+table_of_laid r = with_outages r.outages.items (table_view r.table)
+
+-- ---- whether a network can be laid
+
+-- it has tables of which outages are drawn
+unfoldable pub has_sources : Network → Bool
+has_sources its = not (length its.bursts.items == 0) || (not (length its.cuts.items == 0)
+    || (not (length its.pauses.items == 0) || not (length its.replays.items == 0)))
+
+-- only a table of version 2 has outages
+abbrev pub is_new_enough : Members → Network → Bool
+is_new_enough t its = is_second t || not (has_sources its)
+
+abbrev pub AreAllThere : Members → Network → Type 0
+AreAllThere t its = (k : TableKind) → AreWithin (processes_of t) (groups_of its k)
+
+-- the file's network fits the run: it names processes that are there, and draws nothing where that can't be said
+pub record Fits (t file : Members) (its : Network) : Type 0 where
+  pub is : IsNetworkOf file its
+  pub all_there : AreAllThere t its
+  pub version : is_new_enough t its ≡ true
+
+-- with the network of the file laid over it, the table is this one
+pub record IsLaidBy (t file laid : Members) : Type 0 where
+  pub its : Network
+  pub fits : Fits t file its
+  pub few : length (drawn_in t its) ≤ most_outages
+  pub laid_is : laid ≡ lay its t
+
+-- why it can't be, in the order in which the reasons are looked for
+pub data CantBeLaid (t file : Members) : PlaceError → Type 0 where
+  refused : {e : NetworkError} → Refuses e file → CantBeLaid t file (error.Network e)
+  above : (its : Network) {a : Above} → IsNetworkOf file its
+      → HasAbove (processes_of t) (groups_of its a.kind) a.number a.key.now a.process
+      → CantBeLaid t file (error.ProcessAbove a)
+  older : (its : Network) → IsNetworkOf file its → AreAllThere t its → is_new_enough t its ≡ false
+      → CantBeLaid t file error.OlderFile
+  too_many : (its : Network) → Fits t file its → most_outages < length (drawn_in t its)
+      → CantBeLaid t file error.TooManyOutages
+
+-- ---- the table of a run
+
+-- the network's file that is laid, if one is: none over a table whose processes or horizon no run can have, which the
+-- scenario's own rules refuse
+abbrev pub file_over : SourcesRecord → Option Members
+file_over s = if is_run s.scenario then s.network else None
+
+-- the table for which the files stand
+abbrev pub IsLaid : SourcesRecord → Members → Type 0
+IsLaid s t = MatchOption (file_over s) (t ≡ s.scenario) (λ file. IsLaidBy s.scenario file t)
+
+-- they stand for none, for this reason
+abbrev pub IsUnlaid : SourcesRecord → PlaceError → Type 0
+IsUnlaid s e = MatchOption (file_over s) ⊥ (λ file. CantBeLaid s.scenario file e)

@@ -1,0 +1,191 @@
+//! Tables of links and of outages, laid over those of a scenario's table.
+ghost use Rattle.std.specs.Prelude.{◌≡◌, ◌++◌, ◌∷◌, [], codes, pos, not, true, filter, map, IfOk, OnOk, IfErr, MatchOption, if◌then◌else◌};
+ghost use Rattle.std.specs.List.{list_any};
+ghost use Rattle.toml.specs.Data.{integer, table};
+ghost use Rattle.toml.specs.View.{view, table_view};
+ghost use Rattle.scenario.specs.Drawn.{outage_table, with_outages};
+ghost use Rattle.scenario.specs.Text.{same_pair};
+ghost use Rattle.study.specs.Placed.{put as put_member, is_memory};
+ghost use Rattle.study.specs.Laid as spec;
+ghost use Rattle.study.specs.Laid.{link_table, StaysAsItIs, HasValues};
+
+use crate::error::PlaceError;
+use crate::extent_of::natural_at;
+use crate::placed::{put, value_at};
+use network::{LaidLink, LinkOutage};
+use process_api::Pid;
+use scenario::Kind;
+use std::alloc::{AllocError, Global};
+use toml::{Table, Value};
+
+/// A change of a table, unless memory was refused.
+type Done = Result<(), PlaceError>;
+
+/// Puts a number at a key of a table.
+fn put_number(alloc: Global, table: &mut Table, key: &str, number: u32) -> Done
+    ensures ok { OnOk result (table_view table.new
+        ≡ put_member key.now (integer (pos number)) (table_view table.old)) }
+    ensures err { IfErr result (λ e. is_memory e ≡ true) }
+{
+    put(alloc, table, key, Value::Integer(i64::from(number)))
+}
+
+/// Puts the ends of a link into a table.
+fn put_ends(alloc: Global, table: &mut Table, from: Pid, to: Pid) -> Done
+    ensures ok { OnOk result (table_view table.new ≡ put_member (codes "from") (integer (pos from))
+        (put_member (codes "to") (integer (pos to)) (table_view table.old))) }
+    ensures err { IfErr result (λ e. is_memory e ≡ true) }
+{
+    put_number(alloc, table, "to", u32::from(to.number()))?;
+    put_number(alloc, table, "from", u32::from(from.number()))
+}
+
+/// The table of a link that is laid.
+#[tactic(auto, unfolding(crate::specs::Laid::link_table), using(crate::proofs::Placing::writing))]
+fn link_value(alloc: Global, laid: LaidLink) -> Result<Value, PlaceError>
+    ensures ok { IfOk result (λ v. view v ≡ link_table laid) }
+    ensures err { IfErr result (λ e. is_memory e ≡ true) }
+{
+    let mut table = Table::new(alloc);
+    put_number(alloc, &mut table, "loss", laid.link.loss)?;
+    put_number(alloc, &mut table, "max", laid.link.max)?;
+    put_number(alloc, &mut table, "min", laid.link.min)?;
+    put_ends(alloc, &mut table, laid.from, laid.to)?;
+    Ok(Value::Table(table))
+}
+
+/// The table of a drawn outage.
+#[tactic(auto, using(crate::proofs::Placing::writing))]
+fn outage_value(alloc: Global, outage: LinkOutage) -> Result<Value, PlaceError>
+    ensures ok { IfOk result (λ v. view v ≡ table (outage_table outage)) }
+    ensures err { IfErr result (λ e. is_memory e ≡ true) }
+{
+    let mut table = Table::new(alloc);
+    put_number(alloc, &mut table, "until", outage.until)?;
+    put_number(alloc, &mut table, "begin", outage.begin)?;
+    put_ends(alloc, &mut table, outage.from, outage.to)?;
+    Ok(Value::Table(table))
+}
+
+/// Copies of what the array of tables at a key has: nothing where there is no such key. None: something else is there.
+fn values_at(alloc: Global, table: &Table, key: &str) -> Result<Option<Vec<Value>>, PlaceError>
+    ensures ok { IfOk result (λ found. MatchOption found (StaysAsItIs key.now (table_view table.now))
+        (λ v. HasValues key.now (map view v.items) (table_view table.now))) }
+    ensures err { IfErr result (λ e. is_memory e ≡ true) }
+{
+    let Some(value) = value_at(table, key) else {
+        return Ok(Some(Vec::new(alloc)));
+    };
+    if !Kind::Tables.takes(value) {
+        return Ok(None);
+    }
+    match value.clone() {
+        Ok(Value::Array(values)) => Ok(Some(values)),
+        Ok(_) => Ok(None),
+        Err(error) => Err(PlaceError::Memory(error)),
+    }
+}
+
+/// Whether a pair is that of a link that is laid.
+fn is_pair_laid(laid: &[LaidLink], from: u64, to: u64) -> bool
+    ensures { result ≡ list_any (λ l. same_pair (from, to) (l.from, l.to)) laid.now }
+{
+    for link in laid {
+        if from == u64::from(link.from.number()) && to == u64::from(link.to.number()) {
+            return true;
+        }
+    }
+    false
+}
+
+/// Whether a value is the table of a link that is laid.
+fn is_laid(laid: &[LaidLink], value: &Value) -> bool
+    ensures { result ≡ spec.is_laid laid.now (view value.now) }
+{
+    match value.as_table() {
+        Some(table) => is_pair_laid(laid, natural_at(table, "from"), natural_at(table, "to")),
+        None => false,
+    }
+}
+
+/// Adds a copy of a value, unless it is the table of a link that is laid.
+fn push_other(others: &mut Vec<Value>, value: &Value, laid: &[LaidLink]) -> Result<(), AllocError>
+    ensures { OnOk result (map view others.new.items
+        ≡ map view others.old.items ++ (if spec.is_laid laid.now (view value.now) then [] else view value.now ∷ [])) }
+{
+    if !is_laid(laid, value) {
+        others.push(value.clone()?)?;
+    }
+    Ok(())
+}
+
+/// Copies of the tables of other links than those that are laid.
+fn other_links(alloc: Global, values: &[Value], laid: &[LaidLink]) -> Result<Vec<Value>, AllocError>
+    ensures { IfOk result (λ v. map view v.items ≡ filter (λ d. not (spec.is_laid laid.now d)) (map view values.now)) }
+{
+    let mut others = Vec::new(alloc);
+    for value in values {
+        push_other(&mut others, value, laid)?;
+    }
+    Ok(others)
+}
+
+/// Adds the tables of links that are laid.
+fn push_links(alloc: Global, values: &mut Vec<Value>, laid: &[LaidLink]) -> Done
+    ensures ok { OnOk result (map view values.new.items ≡ map view values.old.items ++ map link_table laid.now) }
+    ensures err { IfErr result (λ e. is_memory e ≡ true) }
+{
+    for link in laid {
+        let value = link_value(alloc, *link)?;
+        values
+            .push(value)
+            .map_err(|_| PlaceError::Memory(AllocError))?;
+    }
+    Ok(())
+}
+
+/// Adds the tables of drawn outages.
+fn push_outages(alloc: Global, values: &mut Vec<Value>, drawn: &[LinkOutage]) -> Done
+    ensures ok { OnOk result (map view values.new.items
+        ≡ map view values.old.items ++ map table (map outage_table drawn.now)) }
+    ensures err { IfErr result (λ e. is_memory e ≡ true) }
+{
+    for outage in drawn {
+        let value = outage_value(alloc, *outage)?;
+        values
+            .push(value)
+            .map_err(|_| PlaceError::Memory(AllocError))?;
+    }
+    Ok(())
+}
+
+/// Lays links over those of a table.
+pub(crate) fn lay_links(alloc: Global, table: &mut Table, laid: &[LaidLink]) -> Done
+    ensures ok { OnOk result (table_view table.new ≡ spec.lay_links laid.now (table_view table.old)) }
+    ensures err { IfErr result (λ e. is_memory e ≡ true) }
+{
+    if laid.is_empty() {
+        return Ok(());
+    }
+    let Some(values) = values_at(alloc, table, "links")? else {
+        return Ok(());
+    };
+    let mut links = other_links(alloc, &values, laid).map_err(PlaceError::Memory)?;
+    push_links(alloc, &mut links, laid)?;
+    put(alloc, table, "links", Value::Array(links))
+}
+
+/// Puts drawn outages into a table, behind those that it has.
+pub(crate) fn lay_outages(alloc: Global, table: &mut Table, drawn: &[LinkOutage]) -> Done
+    ensures ok { OnOk result (table_view table.new ≡ with_outages drawn.now (table_view table.old)) }
+    ensures err { IfErr result (λ e. is_memory e ≡ true) }
+{
+    if drawn.is_empty() {
+        return Ok(());
+    }
+    let Some(mut values) = values_at(alloc, table, "outage")? else {
+        return Ok(());
+    };
+    push_outages(alloc, &mut values, drawn)?;
+    put(alloc, table, "outage", Value::Array(values))
+}
