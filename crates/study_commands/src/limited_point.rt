@@ -38,7 +38,7 @@ pub(crate) fn line_of_limited(
             "fdstudy: {name}: {count} of {runs} runs passed their limit; limit={limit} would do\n"
         ),
         None => format!(in alloc;
-            "fdstudy: {name}: {count} of {runs} runs passed their limit; no limit of a sources would do\n"
+            "fdstudy: {name}: {count} of {runs} runs passed their limit; no limit of a file would do\n"
         ),
     }
 }

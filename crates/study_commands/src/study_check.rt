@@ -50,7 +50,7 @@ fn limit_text(
     let text = format!(in alloc; "limit {its} may stop {name}, which has about {entries} entries")?;
     match limit {
         Some(limit) => format!(in alloc; "{text}; limit={limit} would do for all\n"),
-        None => format!(in alloc; "{text}; no limit of a sources would do for all\n"),
+        None => format!(in alloc; "{text}; no limit of a file would do for all\n"),
     }
 }
 
