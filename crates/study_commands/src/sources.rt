@@ -26,16 +26,16 @@ pub(crate) fn is_place_memory(error: &PlaceError) -> bool
     matches!(error, PlaceError::Memory(_))
 }
 
-/// The line of files in which words can't set a key: which word it is, and why.
+/// The line of files, as they were before, in which words can't set a key: which word it is, and why.
 fn line_of_set(
     alloc: Global,
     texts: &SourceTexts<'_>,
-    sources: &mut Sources,
+    mut files: Sources,
     assignments: &[Assignment],
 ) -> Result<String, AllocError> {
     let path = Printable(texts.path);
     for (word, assignment) in texts.set.iter().zip(assignments) {
-        if let Err(error) = sources.set(alloc, from_ref(assignment)) {
+        if let Err(error) = files.set(alloc, from_ref(assignment)) {
             let (word, why) = (Printable(word), place_reason(alloc, &error)?);
             return format!(in alloc; "{path}: {word}: {why}\n");
         }
@@ -53,10 +53,11 @@ fn with_set(
     ensures set { IfOk result (λ s. assign_all assignments.now (sources_of sources) ≡ Ok (sources_of s)) }
     ensures why { IfErr result (CannotSet assignments.now (sources_of sources)) }
 {
+    let files = sources.copy().map_err(|_| Fault::Memory)?;
     match sources.set(alloc, assignments) {
         Ok(()) => Ok(sources),
         Err(error) if is_place_memory(&error) => Err(Fault::Memory),
-        Err(_) => Err(Fault::Refused(line_of_set(alloc, texts, &mut sources, assignments).ok())),
+        Err(_) => Err(Fault::Refused(line_of_set(alloc, texts, files, assignments).ok())),
     }
 }
 
