@@ -87,7 +87,66 @@ many seeds there are must be a multiple of how many combinations there are. The 
 letters: runs that share a seed share the fates of all letters, so they are no independent evidence.
 
 What is printed depends neither on the threads nor on the shards: the outputs of all shards, one after the other, are \
-that of the whole study.";
+that of the whole study. Before the first run standard error has a line for each thing that may mislead: detectors \
+that can suspect nobody before the horizon, dealt crash ticks that leave a part of the period out, varied keys of \
+`link` where every pair has a link of its own, and outages of the file that all runs share.
+
+A row begins with the keys of --vary, and with `--each run` with those of --over and --deal too, `seed` and `run`. The \
+other columns tell of the runs of the row that have the layer, and are empty where there is nothing to tell:
+
+  pairs                     the group of pairs that the row counts, as --pairs says it; only with --pairs [word]
+  layer                     which detectors: 1, those of the base layer, or 2, the output of the reduction [number]
+  runs                      runs that have the layer [runs]
+  limited                   those that passed their limit; they count in no other column [runs]
+  entries                   entries of the traces [entries]
+  sent                      letters that were sent [letters]
+  lost                      letters that were lost by their links [letters]
+  pair_ticks                how long pairs were watched, over all pairs that count [ticks]
+  mistakes                  suspicions of a process by another before either crashed [suspicions]
+  mistake_ticks             how long these lasted, up to the first crash of the two [ticks]
+  mistake_recurrence        pair_ticks over mistakes, rounded down: the mean time between two of a pair [ticks]
+  mistaken_ppm              a million times mistake_ticks over pair_ticks, rounded down [millionths]
+  mistakes_squared_sum      the square of a run's mistakes, added up over the runs [suspicions squared]
+  runs_with_mistakes        runs with a mistake [runs]
+  mistakes_error            the standard error of mistakes over the runs [suspicions]
+  recurrence_sum            from the start of a mistake to that of the pair's next one, added up [ticks]
+  recurrence_count          how many these are [number]
+  duration_sum              from the start of a mistake to its end, added up [ticks]
+  duration_count            how many these are [number]
+  duration_p99              the 99th percentile of these [ticks]
+  duration_max              the longest of these [ticks]
+  good_sum                  from the end of a mistake to the start of the pair's next one, added up [ticks]
+  good_count                how many these are [number]
+  detections                pairs of which one detected the crash of the other [pairs]
+  undetected                pairs of which one was to detect the crash of the other and didn't [pairs]
+  at_once                   detections that took 0 ticks: the suspicion had begun by the crash [pairs]
+  detection_sum             from a crash to its detection, added up [ticks]
+  detection_p50             the 50th percentile of these, those that didn't come as the longest [ticks]
+  detection_p90             the 90th percentile of the same [ticks]
+  detection_p99             the 99th percentile of the same [ticks]
+  detection_max             the longest of those that came [ticks]
+  strong_completeness       runs in which from some tick on all correct processes suspect all crashed ones [runs]
+  weak_completeness         runs in which from some tick on each crashed process is suspected by a correct one [runs]
+  strong_accuracy           runs in which nobody is suspected before its crash [runs]
+  weak_accuracy             runs in which some correct process is never suspected [runs]
+  eventual_strong_accuracy  runs in which from some tick on no correct process suspects a correct one [runs]
+  eventual_weak_accuracy    runs in which from some tick on no correct process suspects one that is correct [runs]
+  to_decide                 correct processes, in runs with an algorithm [processes]
+  decided                   those of them that decided a value [processes]
+  decision_tick_sum         the ticks of these decisions, added up [ticks]
+  decision_tick_max         the last of these ticks [tick]
+  all_decided               runs in which each correct process decided, one at least [runs]
+  last_decision_p50         the 50th percentile of a run's last decision, those where one is missing last [tick]
+  last_decision_p90         the 90th percentile of the same [tick]
+  last_decision_p99         the 99th percentile of the same [tick]
+  last_decision_max         the greatest of those that came [tick]
+  rounds_p50                the 50th percentile of a run's greatest round [rounds]
+  rounds_p99                the 99th percentile of the same [rounds]
+  rounds_max                the greatest of them [rounds]
+  disagreements             runs in which two processes decided different values [runs]
+  mistake_run               the first run of the point with a mistake [number of the run]
+  detection_max_run         the first run of the point with a detection of detection_max [number of the run]
+  disagreement_run          the first run of the point with a disagreement [number of the run]";
 
 const PATH: &str = "The scenario file, of at most 8388608 bytes; `-` is standard input";
 
