@@ -31,7 +31,7 @@ fn number(table: &Table, key: &str) -> i64
 
 /// The number at a key; 0 where there is none, or a negative one.
 #[tactic(auto, unfolding(scenario::specs::Text::number_at))]
-pub(crate) fn natural_at(table: &Table, key: &str) -> u64
+pub fn natural_at(table: &Table, key: &str) -> u64
     ensures value { result ≡ number_at key.now 0 (table_view table.now) }
     ensures high { result < 2 ^ 63 }
 {

@@ -122,6 +122,13 @@ impl Grid {
         &self.deal
     }
 
+    /// How many seeds there are, at most 1,000,000,000,000.
+    pub fn seeds(&self) -> u64
+        ensures { result ≡ self.now.seeds }
+    {
+        self.seeds
+    }
+
     /// How many runs each point has, at most 1,000,000,000,000.
     pub fn runs(&self) -> u64
         ensures value { result ≡ length (runs self.now) }

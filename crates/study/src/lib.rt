@@ -51,10 +51,11 @@ pub use error::{
     AssignmentError, AxisError, GridError, KeyError, PlaceError, ReadError, SeedsError, ShardError,
     TextError,
 };
+pub use extent_of::natural_at;
 pub use file_key::FileKey;
 pub use grid::Grid;
 pub use key::Key;
-pub use placed::law_settings;
+pub use placed::{law_settings, value_at};
 pub use read::{read_alone, read_run, run_table, table_alone};
 pub use run::Run;
 pub use seeds::Seeds;

@@ -32,7 +32,7 @@ fn value_of(alloc: Global, setting: &Setting) -> Result<Value, AllocError>
 
 /// The value at a key of a table, if there is one.
 #[tactic(auto, using(toml::proofs::Views::table_get))]
-pub(crate) fn value_at<'a>(table: &'a Table, key: &str) -> Option<&'a Value>
+pub fn value_at<'a>(table: &'a Table, key: &str) -> Option<&'a Value>
     ensures { option_map (λ v. view v.now) result ≡ get_member key.now (table_view table.now) }
 {
     table.get(key)

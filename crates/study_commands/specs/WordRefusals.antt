@@ -1,6 +1,9 @@
 -- Why words of a study are refused.
-use Rattle.std.specs.Prelude.{◌≡◌, ◌⊎◌, ◌<◌, ℕ, List, map, Bool, true, false, Option, Some}
+use Rattle.std.specs.Prelude.{◌≡◌, ◌⊎◌, ◌<◌, ℕ, List, ◌++◌, map, Bool, true, false, nat_le, if◌then◌else◌, Option, Some}
+use Rattle.std.specs.Prelude.{codes, string_bytes}
 use Rattle.std.specs.List.{AllZip, Contains}
+use Rattle.diagnosis.specs.Likeness.{edits, most_edits}
+use Rattle.printable.specs.Printable.{printable}
 use Rattle.study.specs.AxisWords.{SaysAxis, SaysNoAxis, is_memory as is_axis_memory}
 use Rattle.study.specs.Grid.{GridRecord, IsFirst, is_memory as is_grid_memory}
 use Rattle.study.specs.SeedWords.{seeds_fault, seeds_said}
@@ -12,6 +15,8 @@ use Rattle.study.specs.declared.error.GridError.{GridError}
 use Rattle.study.specs.declared.error.SeedsError.{SeedsError}
 use Rattle.study.specs.declared.error.ShardError.{ShardError}
 use Rattle.study_commands.specs.Study.{rows_for}
+use Rattle.study_commands.specs.declared.fault.Fault.{Fault}
+use Rattle.study_commands.specs.declared.fault.Fault.TheVariants.{Words, WordsMemory}
 use Rattle.study_line.specs.declared.order.Each.{Each}
 use Rattle.study_line.specs.declared.order.GridTexts.{GridTexts}
 use Rattle.sweep.specs.GroupWords.{SaysGroup, SaysNoGroup}
@@ -91,6 +96,24 @@ pub record LacksColumn (kind : Each) (groups : List PairGroup) (columns : Option
 abbrev pub SaysNoLayout : Each → (pairs : List Word) → (columns : Option Word) → GridRecord → Type 0
 SaysNoLayout kind pairs columns grid = HasNoGroup pairs
     ⊎ ((groups : List PairGroup) × AllZip SaysGroup pairs groups × LacksColumn kind groups columns grid)
+
+-- a name is perhaps meant by a word that names no column
+abbrev pub is_like : (word name : Word) → Bool
+is_like word name = nat_le (edits word name) (most_edits word)
+
+-- what is told of such a word, and of the name that is nearest to it
+abbrev pub no_column_line : (word nearest : Word) → List ℕ
+no_column_line word nearest = codes "fdstudy: words: NoColumn: " ++ (printable word ++ (codes " ("
+    ++ ((if is_like word nearest then codes "did you mean " ++ (printable nearest ++ codes "? ")
+    else codes "no name is like it; ")
+    ++ codes "fdstudy sweep --help lists the columns)\n")))
+
+-- the fault tells it, or that there was no memory for it
+abbrev pub TellsOfLayout : LayoutError → Fault → Type 0
+TellsOfLayout (layout.Unknown name nearest) (Words line) =
+    string_bytes line ≡ no_column_line (string_bytes name) (string_bytes nearest)
+TellsOfLayout error WordsMemory = Unit {0}
+TellsOfLayout error _ = ⊥
 
 -- what counts from 1 isn't among so many
 abbrev pub IsOutside : (number count : ℕ) → Type 0

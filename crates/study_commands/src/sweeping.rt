@@ -4,7 +4,7 @@ ghost use Rattle.study_commands.specs.Fault.{IsBefore, IsOfWordsFor};
 ghost use Rattle.study_commands.specs.Study.{IsLayout, rows_for};
 ghost use Rattle.study_commands.specs.Sweep.{GoesForSweep, IsFaultOf, IsOfRun, IsSaid};
 ghost use Rattle.study_commands.specs.Why.{StopsSweep};
-ghost use Rattle.study_commands.specs.WordRefusals.{SaysNoLayout, is_layout_memory};
+ghost use Rattle.study_commands.specs.WordRefusals.{SaysNoLayout, TellsOfLayout, is_layout_memory};
 ghost use Rattle.study.specs.Sources.{sources_of};
 ghost use Rattle.shell.specs.Input.{TakesAtMost, input_path, most_bytes};
 
@@ -12,7 +12,7 @@ use crate::fault::Fault;
 use crate::file::sources_at;
 use crate::refused_run::{line_of_lack, line_of_run};
 use crate::study_words::{grid_of, groups_of, shard_of};
-use printable::Printable;
+use crate::unknown_column::line_of_unknown;
 use reporting::Outlet;
 use std::alloc::Global;
 use std::io::Read;
@@ -77,14 +77,12 @@ fn rows_of(each: Each) -> Rows
 
 /// The fault of a word that names a column which there isn't, with one that is perhaps meant.
 fn layout_fault(alloc: Global, error: &LayoutError) -> Fault
-    ensures { IsOfWordsFor (is_layout_memory error.now ≡ false) result }
+    ensures words { IsOfWordsFor (is_layout_memory error.now ≡ false) result }
+    ensures line { TellsOfLayout error.now result }
 {
     match error {
         LayoutError::Unknown { name, nearest } => {
-            let (name, nearest) = (Printable(name.as_str()), Printable(nearest.as_str()));
-            Fault::of_words(format!(in alloc;
-                "fdstudy: words: NoColumn: {name} (did you mean {nearest}?)\n"
-            ))
+            Fault::of_words(line_of_unknown(alloc, name.as_str(), nearest.as_str()))
         }
         LayoutError::Memory => Fault::WordsMemory,
     }
