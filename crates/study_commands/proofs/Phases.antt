@@ -2,7 +2,6 @@
 use Rattle.std.proofs.Common.{◌≡◌, ◌⊎◌, inl, inr, ◌∙◌, ap, sym, refl, subst, ℕ, zero, suc, ◌+◌, ◌-◌, ◌<◌, ◌≤◌, ◌==◌, ◌||◌, ◌%◌, Bool, true, false, cond, List, [], ◌∷◌, ◌++◌, map, max, fold, take, get_or, length, length-append, add-one, arith, eqb, All, zip}
 use Rattle.std.proofs.Math.Bool.{or-true}
 use Rattle.std.proofs.lemmas.Bool.{eq-eqb, ne_eqb}
-use Rattle.std.proofs.lemmas.List.Filters.{dedup_is}
 use Rattle.std.proofs.lemmas.List.Kept.{IsStrictlySortedBy-dedup}
 use Rattle.std.proofs.lemmas.List.Sorted.{list_any-IsPermutation}
 use Rattle.std.proofs.lemmas.Nat.{mod_below}
@@ -105,16 +104,19 @@ unfolding IsStrictlySortedBy Rise Below
 rise_of low bound [] sorted below first = tt
 rise_of low bound (x ∷ []) sorted below first = (first x [] refl, below.0, tt)
 rise_of low bound (x ∷ (y ∷ ys)) sorted below first =
-    let lt : x < y = subst (λ r. MatchOrdering r (x < y) (x ≡ y) (y < x)) sorted.0.0 (ranks x y) in
-    (first x (y ∷ ys) refl, below.0, rise_of (x + 1) bound (y ∷ ys) sorted.1 below.1
-    (λ z zs is. let same : y ≡ z = cc in omega (arith, lt, same)))
+    let lt : x < y = subst (λ r. MatchOrdering r (x < y) (x ≡ y) (y < x)) sorted.0.0 (ranks x y) in (
+      first x (y ∷ ys) refl,
+      below.0,
+      rise_of (x + 1) bound (y ∷ ys) sorted.1 below.1
+          (λ z zs is. let same : y ≡ z = cc in omega (arith, lt, same)),
+    )
 
 below_of : (bound : ℕ) (xs : List ℕ) → ((v : ℕ) → has v xs ≡ true → v < bound) → Below bound xs
 unfolding Below
 below_of bound [] all = tt
 below_of bound (x ∷ xs) all = (
   all x (ap (λ b. b || has x xs) (eq-eqb x x refl)),
-  below_of bound xs (λ v is. all v (ap (λ b. (x == v) || b) is ∙ or-true (x == v)))
+  below_of bound xs (λ v is. all v (ap (λ b. (x == v) || b) is ∙ or-true (x == v))),
 )
 
 phase_low : (period v : ℕ) (ticks : List ℕ) → 1 ≤ period → list_any (λ t. t % period == v) ticks ≡ true → v < period

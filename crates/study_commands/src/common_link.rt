@@ -124,10 +124,7 @@ pub(crate) fn uses_link(alloc: Global, table: &Table, processes: u16) -> Result<
 }
 
 /// Of each of these runs how many processes it has, where no letters do.
-pub(crate) fn unlinked_of(
-    alloc: Global,
-    runs: &[FirstRun],
-) -> Result<Vec<Option<u16>>, AllocError>
+pub(crate) fn unlinked_of(alloc: Global, runs: &[FirstRun]) -> Result<Vec<Option<u16>>, AllocError>
     ensures { IfOk result (λ v. v.items ≡ map (λ r. unlinked_where r.uses_link r.processes) runs.now) }
 {
     runs.iter()

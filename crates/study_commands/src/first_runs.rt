@@ -1,6 +1,5 @@
 //! The first runs of points, as far as they are looked at.
 ghost use Rattle.std.specs.Prelude.{◌≡◌, ◌≤◌, ◌-◌, ◌<◌, IfOk, length};
-ghost use Rattle.scenario.specs.Text.{record_of};
 ghost use Rattle.study.specs.Grid.{points};
 ghost use Rattle.study.specs.Sources.{sources_of};
 ghost use Rattle.study_commands.specs.Inside.Warned.{AreFirst, IsFirstOf, IsRunOf};

@@ -1,5 +1,5 @@
 //! Detectors that can suspect nobody before the horizon.
-ghost use Rattle.std.specs.Prelude.{◌≡◌, ◌+◌, ◌≤◌, map, IfOk};
+ghost use Rattle.std.specs.Prelude.{◌≡◌, ◌+◌, map, IfOk};
 ghost use Rattle.scenario_record.specs.Numbers.{AreInRange};
 ghost use Rattle.study_commands.specs.Warnings.{first_suspicion as first_suspicion_of, late_with};
 
@@ -37,10 +37,7 @@ pub(crate) fn late_of(detector: DetectorNumbers, horizon: u32) -> Option<Late>
 }
 
 /// The same of each of these runs.
-pub(crate) fn lates_of(
-    alloc: Global,
-    runs: &[FirstRun],
-) -> Result<Vec<Option<Late>>, AllocError>
+pub(crate) fn lates_of(alloc: Global, runs: &[FirstRun]) -> Result<Vec<Option<Late>>, AllocError>
     ensures { IfOk result (λ v. v.items ≡ map (λ r. late_with r.detector r.horizon) runs.now) }
 {
     runs.iter()

@@ -67,7 +67,11 @@ fn uneven(alloc: Global, period: u64, ticks: &[u64]) -> Result<Option<Spread>, A
     let phases = all.len() as u64;
     let gap = greatest_gap(period, &all);
     let is_wide = gap.saturating_mul(phases) > 2 * period;
-    Ok(is_wide.then_some(Spread { period, phases, gap }))
+    Ok(is_wide.then_some(Spread {
+        period,
+        phases,
+        gap,
+    }))
 }
 
 /// How many ticks there are between two rounds of a detector's letters.

@@ -70,17 +70,14 @@ fn points_text(
 }
 
 /// The line of points whose detectors can suspect nobody before the horizon.
-fn late_line(
-    alloc: Global,
-    grid: &Grid,
-    of: u64,
-    its: &Found<Late>,
-) -> Result<String, AllocError>
+fn late_line(alloc: Global, grid: &Grid, of: u64, its: &Found<Late>) -> Result<String, AllocError>
     ensures { IfOk result (λ s. string_bytes s ≡ warning_line grid.now of (lates its.now)) }
 {
     let points = points_text(alloc, grid, of, its.points, its.first)?;
     let late = late_text(alloc, its.what)?;
-    format!(in alloc; "fdstudy: no detector can suspect anybody before the horizon at {points}: {late}")
+    format!(in alloc;
+        "fdstudy: no detector can suspect anybody before the horizon at {points}: {late}"
+    )
 }
 
 /// The line of points at which the crash ticks that a key is dealt are uneven.

@@ -4,7 +4,8 @@ ghost use Rattle.study.specs.Sources.{sources_of};
 ghost use Rattle.study.specs.Grid.{points, runs};
 ghost use Rattle.sweep.specs.Outcome.{WroteStudy, BreaksOff};
 ghost use Rattle.sweep.specs.Inside.Progress.{WrotePoints, StopsInPoints};
-ghost use Rattle.sweep.specs.Watching.{HeardAllRunning, HeardSomeRunning, HeardAll, HeardAllRuns, HeardSome, HeardSomeRuns};
+ghost use Rattle.sweep.specs.Watching.{HeardAllRunning, HeardSomeRunning};
+ghost use Rattle.sweep.specs.Watching.{HeardAll, HeardAllRuns, HeardSome, HeardSomeRuns};
 
 use crate::batches::Batches;
 use crate::checking::check_study;

@@ -1,6 +1,6 @@
 -- What the functions that find warnings have in hand.
-use Rattle.std.specs.Prelude.{◌≡◌, ◌+◌, ◌<◌, ◌==◌, ◌&&◌, not, ℕ, List, [], length, map, filter, slice_get, slice_index_or}
-use Rattle.std.specs.Prelude.{Bool, Option, option_and_then, option_map, if◌then◌else◌}
+use Rattle.std.specs.Prelude.{◌≡◌, ◌+◌, ◌<◌, ◌==◌, ◌&&◌, not, ℕ, List, [], length, map, filter}
+use Rattle.std.specs.Prelude.{slice_get, slice_index_or, Bool, Option, option_and_then, option_map, if◌then◌else◌}
 use Rattle.std.specs.List.{list_any}
 use Rattle.std.specs.Option.{option_map_or}
 use Rattle.scenario.specs.Table.{all_items, is_table, the_tables}

@@ -1,7 +1,7 @@
-use Rattle.std.proofs.Common.{◌≡◌, ◌∙◌, ◌++◌, ap, sym, rules, append_assoc, map, option_to_list, take}
+use Rattle.std.proofs.Common.{◌∙◌, ◌++◌, ap, sym, append_assoc, map, option_to_list, take}
 use Rattle.std.specs.List.{filter_map}
 use Rattle.std.specs.Option.{option_map}
-use Rattle.study.specs.Settings.{choices, path_of}
+use Rattle.study.specs.Settings.{choices}
 use Rattle.study_commands.specs.Inside.Warned.{dealt_of}
 use Rattle.study_commands.specs.Warnings.{dealt_to}
 use Rattle.study_commands.proofs.AddedItems.{map_option}

@@ -1,4 +1,4 @@
-use Rattle.std.proofs.Common.{◌≡◌, ◌∙◌, ◌++◌, ap, sym, rules, get_or, option_to_list, take}
+use Rattle.std.proofs.Common.{◌≡◌, ◌∙◌, ◌++◌, ap, sym, rules, option_to_list, take}
 use Rattle.std.specs.List.{filter_map}
 use Rattle.study.specs.Settings.{choices, settings_in}
 use Rattle.study_commands.specs.Inside.Warned.{tick_said}

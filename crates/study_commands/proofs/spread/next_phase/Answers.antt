@@ -1,4 +1,4 @@
-use Rattle.std.proofs.Common.{◌≡◌, ◌+◌, ◌<◌, ◌≤◌, ◌∙◌, ap, arith, get_or, length, rules, sym}
+use Rattle.std.proofs.Common.{◌≡◌, ◌+◌, ◌<◌, ◌≤◌, ◌∙◌, arith, get_or, length, rules, sym}
 use Rattle.study_commands.proofs.Phases.{next_inside, next_last}
 use Rattle.study_commands.proofs.spread.next_phase.Goals as goal
 
