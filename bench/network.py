@@ -4,14 +4,18 @@
     bench/network.py outages FILE SEED PROCESSES HORIZON    one outage a line: sender receiver begin until
     bench/network.py words SEED STREAM PLACE ..             words of a stream, in hexadecimal
     bench/network.py lengths FILE SEEDS                     how gaps and lengths are spread, over so many seeds
+    bench/network.py shown FILE SCENARIO SEEDS [FDSTUDY]    whether `fdstudy show` prints what is drawn here, from seed 1
 
 It needs Python 3.11 or later, and nothing else.
 """
 import math
+import os
 import struct
+import subprocess
 import sys
 import tomllib
 
+ROOT = os.path.dirname(os.path.dirname(os.path.abspath(__file__)))
 MOST_OUTAGES = 100_000
 KINDS = {"bursts": 0, "cuts": 1, "pauses": 2, "replays": 3}
 
@@ -158,6 +162,45 @@ def outages(network, seed, processes, horizon):
     return drawn
 
 
+def laid_links(network, scenario):
+    """The tables of `links` of a run: the file's of pairs of which the network says nothing, and then the network's."""
+    processes = scenario["processes"]
+    said = {}
+    for table in network.get("links", []):
+        for pair in links_of(table, processes):
+            said[pair] = (table["min"], table["max"], table.get("loss", 0))
+    own = [(it["from"], it["to"], it["min"], it["max"], it["loss"]) for it in scenario.get("links", [])]
+    return [it for it in own if it[:2] not in said] + [(*pair, *said[pair]) for pair in sorted(said)]
+
+
+def shown(network_path, scenario_path, seeds, fdstudy):
+    """Whether the file that `show` prints of each seed's run has just the links and the outages that it should have."""
+    with open(network_path, "rb") as file:
+        network = tomllib.load(file)
+    with open(scenario_path, "rb") as file:
+        scenario = tomllib.load(file)
+    own = [(it["from"], it["to"], it["begin"], it["until"]) for it in scenario.get("outage", [])]
+    links_wanted = laid_links(network, scenario)
+    count = 0
+    for seed in range(1, seeds + 1):
+        words = [fdstudy, "show", scenario_path, "--network", network_path, "--seeds", f"1..={seeds}",
+                 "--point", "1", "--run", str(seed)]
+        text = subprocess.run(words, check=True, capture_output=True, text=True).stdout
+        run = tomllib.loads(text)
+        drawn = outages(network, seed, scenario["processes"], scenario["horizon"])
+        got = [(it["from"], it["to"], it["begin"], it["until"]) for it in run.get("outage", [])]
+        links_got = [(it["from"], it["to"], it["min"], it["max"], it["loss"]) for it in run.get("links", [])]
+        others = {key: value for key, value in run.items() if key not in ("seed", "links", "outage")}
+        kept = {key: value for key, value in scenario.items() if key not in ("seed", "links", "outage")}
+        if run["seed"] != seed or got != own + drawn or links_got != links_wanted or others != kept:
+            print(f"seed {seed}: the file that is shown differs")
+            return False
+        count += len(drawn)
+    name = os.path.basename(network_path)
+    print(f"{name}: {seeds} seeds, {len(links_wanted)} links, {count} drawn outages: the same")
+    return True
+
+
 def spread(draws, name, mean, wanted):
     """Whether the mean and the percentiles of draws are within 3 standard errors of those that they should have."""
     draws = sorted(draws)
@@ -217,6 +260,12 @@ def main(words):
         for place in map(int, words[3:]):
             print(f"{chacha8_block(seed, number, place // 16)[place % 16]:08x}")
         return 0
+    if words[:1] == ["shown"]:
+        fdstudy = words[4] if len(words) > 4 else os.path.join(ROOT, "crates/fdstudy/out/fdstudy")
+        return 0 if shown(words[1], words[2], int(words[3]), fdstudy) else 1
+    if len(words) < 2:
+        print(__doc__, file=sys.stderr)
+        return 2
     with open(words[1], "rb") as file:
         network = tomllib.load(file)
     if words[0] == "outages":

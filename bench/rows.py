@@ -5,8 +5,8 @@
 
 Three studies of twelve points each, over files of its own: a detector under losses with crashes that are dealt to the
 seeds, a coordinator whose processes crash, and detectors that watch the next process alone and share what they suspect,
-with a limit that some runs pass. The first and the last come once more with rows for groups of pairs. Of each run it
-takes the file that `fdstudy show` prints, and the report and the trace that `fdbench list` gives of it. It shares no
+with a limit that some runs pass. The first and the last come once more with rows for groups of pairs, and one of two
+points comes under each of the networks of bench/networks. Of each run it takes the file that `fdstudy show` prints, and the report and the trace that `fdbench list` gives of it. It shares no
 code with the programs: crashes, pairs, ranks and the lengths of mistakes are worked out here anew. It prints what
 differs, and ends with status 1 where something does.
 """
@@ -107,6 +107,17 @@ GROUPS = {
     "lossy": ["1:2..=4", "1..=2:1..=3+3..=4:2+2:3", "4:4"],
     "next": ["1..=3:1..=3", "1..=2:2..=3+2..=5:3..=5+5:1", "3:1..=2"],
 }
+NETWORKS = ["links", "bursts", "cuts", "pauses", "replays"]
+
+
+def network_studies():
+    """A study of two points under each of the networks."""
+    with open(os.path.join(ROOT, "bench/networks/four.toml"), encoding="utf-8") as file:
+        four = file.read()
+    for name in NETWORKS:
+        network = os.path.join(ROOT, f"bench/networks/{name}.toml")
+        yield f"network {name}", four, ["--network", network, "--vary", "detector.timeout=70,140",
+                                        "--deal", "crash[1].at=1490..=1510:10"]
 
 
 def run(words, given=""):
@@ -281,14 +292,14 @@ def row_of(runs, layer):
     return row
 
 
-def compare(name, file, words, groups, asked):
+def compare(name, file, words, groups, asked, points=12):
     """Compares a study's rows with the sums of its runs. Answers how many fields were compared, and how many differ."""
     study = ["-", "--seeds", f"1..={asked.seeds}", *words]
     named = [it for group in groups for it in ("--pairs", group)]
     rows = list(csv.DictReader(io.StringIO(must([asked.fdstudy, "sweep", *study, *named], file))))
     per_point = asked.seeds * (2 if "--over" in words else 1)
     fields = differ = limited = 0
-    for point in range(1, 13):
+    for point in range(1, points + 1):
         runs = []
         for number in range(1, per_point + 1):
             text = must([asked.fdstudy, "show", *study, "--point", str(point), "--run", str(number)], file)
@@ -311,7 +322,7 @@ def compare(name, file, words, groups, asked):
                           f"{column} is {found[column]}, and not {text}")
     if rows:
         sys.exit(f"rows: {name} has {len(rows)} rows more than points and layers")
-    print(f"{name}: {fields} fields of 12 points, {limited} runs limited, {differ} fields differ")
+    print(f"{name}: {fields} fields of {points} points, {limited} runs limited, {differ} fields differ")
     return differ
 
 
@@ -323,6 +334,7 @@ def main():
     asked = words.parse_args()
     differ = sum(compare(*study, [], asked) for study in STUDIES)
     differ += sum(compare(*study, GROUPS[study[0]], asked) for study in STUDIES if study[0] in GROUPS)
+    differ += sum(compare(*study, [], asked, 2) for study in network_studies())
     return 1 if differ else 0
 
 

@@ -13,7 +13,7 @@ use Rattle.network.specs.Spells.{ticks_of, words_taken, first_ticks_of, first_wo
 use Rattle.network.specs.Episodes.{Coming, coming, cut_at, episodes, first, next}
 use Rattle.network.specs.Drawn.{on_each, outage_on}
 use Rattle.network.specs.declared.group.Ends.{Ends}
-use Rattle.network.specs.declared.outages.LinkOutage.{LinkOutage}
+use Rattle.scenario.specs.declared.drawn.LinkOutage.{LinkOutage}
 use Rattle.network.specs.declared.rhythm.Rhythm.{Rhythm}
 
 -- of a list by numbers, a front that passes stays

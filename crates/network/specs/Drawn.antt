@@ -7,7 +7,7 @@ use Rattle.network.specs.Words.{place_of, stream_number, stream_of, words_of}
 use Rattle.network.specs.Episodes.{episodes}
 use Rattle.network.specs.Replays.{replayed}
 use Rattle.network.specs.declared.outages.TheConstants.{MOST_OUTAGES}
-use Rattle.network.specs.declared.outages.LinkOutage.{LinkOutage}
+use Rattle.scenario.specs.declared.drawn.LinkOutage.{LinkOutage}
 use Rattle.network.specs.declared.group.Ends.{Ends}
 use Rattle.network.specs.declared.group.Group.TheVariants.{All}
 use Rattle.network.specs.declared.kind.Kind.TheVariants as kind

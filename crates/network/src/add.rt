@@ -5,7 +5,8 @@ ghost use Rattle.network.specs.Drawn.{most_outages, outage_on};
 
 use crate::error::DrawError;
 use crate::group::Ends;
-use crate::outages::{Drawn, LinkOutage};
+use crate::outages::Drawn;
+use scenario::LinkOutage;
 use scenario_record::Outage;
 
 /// What of a run its outages depend on, besides the network.

@@ -9,7 +9,8 @@ ghost use Rattle.network.specs.Words.{most_tables};
 use crate::add::Course;
 use crate::error::DrawError;
 use crate::network::{Burst, Cut, Network, Pause, Replay};
-use crate::outages::{Drawn, LinkOutage};
+use crate::outages::Drawn;
+use scenario::LinkOutage;
 use std::alloc::Global;
 
 /// Adds the outages of all bursts.

@@ -3,25 +3,12 @@ ghost use Rattle.std.specs.Prelude.{◌≡◌, ◌<◌, ◌≤◌, ◌++◌, ◌
 ghost use Rattle.network.specs.Drawn.{most_outages};
 
 use crate::error::DrawError;
-use process_api::Pid;
+use scenario::LinkOutage;
 use std::alloc::Global;
 use std::marker::Model;
 
 /// The most outages that are drawn in a run.
 pub const MOST_OUTAGES: usize = 100_000;
-
-/// A time during which a link loses all letters that are sent on it: what a table of `outage` says.
-#[derive(Clone, Copy, Debug, PartialEq, Eq)]
-pub struct LinkOutage {
-    /// The sender.
-    pub from: Pid,
-    /// The receiver.
-    pub to: Pid,
-    /// The first tick of it, 0 to 9,999,999.
-    pub begin: u32,
-    /// The first tick after it, above `begin`, at most the horizon.
-    pub until: u32,
-}
 
 /// What is drawn so far, never more than [`MOST_OUTAGES`]. Contracts see the list.
 #[derive(Drop)]
@@ -31,7 +18,7 @@ pub(crate) struct Drawn {
 
 impl Model for Drawn {
     ghost use Rattle.std.specs.Prelude.{List, length, ◌≤◌};
-    ghost use Rattle.network.specs.declared.outages.LinkOutage.{LinkOutage};
+    ghost use Rattle.scenario.specs.declared.drawn.LinkOutage.{LinkOutage};
     ghost use Rattle.network.specs.declared.outages.TheConstants.{MOST_OUTAGES};
 
     ghost Value = { List LinkOutage };

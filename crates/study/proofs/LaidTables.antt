@@ -1,15 +1,20 @@
 -- Arrays of tables, as the code changes them.
-use Rattle.std.proofs.Common.{◌≡◌, ℕ, List, [], ◌∷◌, map, length, codes, ◌==◌, Bool, true, false, Option, Some, None, if◌then◌else◌, refl, sym, ◌∙◌, ap}
+use Rattle.std.proofs.Common.{◌≡◌, ℕ, List, [], ◌∷◌, ◌++◌, map, length, codes, ◌==◌, Bool, true, false, not, Option, Some, None, option_and_then, if◌then◌else◌, refl, sym, ◌∙◌, ap, arith}
 use Rattle.std.specs.Option.{option_map_or}
-use Rattle.toml.specs.Data.{Data, array, Members, get_member}
-use Rattle.toml.specs.View.{view, items_view}
+use Rattle.std.specs.Ordering.{nat_cmp, match_ordering}
+use Rattle.std.specs.Cmp.Lexicographic.{slice_cmp}
+use Rattle.std.proofs.lemmas.Bool.{eqb-true}
+use Rattle.std.proofs.lemmas.List.{map-append}
+use Rattle.toml.specs.Data.{Data, string, integer, float, boolean, datetime, array, table, Items, no_items, item, Members, no_members, member, get_member, as_array}
+use Rattle.toml.specs.View.{view, items_of, items_view}
 use Rattle.toml.specs.declared.value.Value.{Value}
-use Rattle.scenario.specs.Table.{is_of}
+use Rattle.scenario.specs.Table.{all_items, is_table, the_tables, tables_at, is_of, is_mistyped}
+use Rattle.scenario.specs.Drawn.{outage_table, with_outages, put as put_drawn}
+use Rattle.scenario.specs.declared.drawn.LinkOutage.{LinkOutage}
 use Rattle.scenario.specs.declared.field.Kind.TheVariants as kind
-use Rattle.study.specs.Placed.{put}
 use Rattle.network.specs.declared.laid.LaidLink.{LaidLink}
-use Rattle.network.specs.declared.outages.LinkOutage.{LinkOutage}
-use Rattle.study.specs.Laid.{listed, items_from, values_in, with_tables, StaysAsItIs, HasValues, laid_over, lay_links, drawn_after, lay_outages}
+use Rattle.study.specs.Placed.{put}
+use Rattle.study.specs.Laid.{listed, items_from, values_in, with_tables, StaysAsItIs, HasValues, laid_over, lay_links}
 
 -- an array's values, and back
 pub values_listed : (vs : List Value) → listed (items_view vs) ≡ map view vs
@@ -82,17 +87,102 @@ module _ (laid : List LaidLink) (t : Members) where
   unfolding lay_links
   links_laid = changes (codes "links") (laid_over laid) (length laid == 0) t
 
-module _ (drawn : List LinkOutage) (t : Members) where
-  pub none_drawn : (length drawn == 0) ≡ true → t ≡ lay_outages drawn t
-  unfolding lay_outages
-  none_drawn = nothing_changes (codes "outage") (drawn_after drawn) (length drawn == 0) t
+-- ---- what is drawn
 
-  pub outages_stay : (length drawn == 0) ≡ false → StaysAsItIs (codes "outage") t → t ≡ lay_outages drawn t
-  unfolding lay_outages
-  outages_stay = stays (codes "outage") (drawn_after drawn) (length drawn == 0) t
+-- the tables that are there, and then the drawn ones
+abbrev drawn_after : List LinkOutage → List Data → List Data
+drawn_after drawn ds = ds ++ map table (map outage_table drawn)
 
-  pub outages_laid : (new : Members) (old_values values : List Value) → (length drawn == 0) ≡ false
-      → HasValues (codes "outage") (map view old_values) t → map view values ≡ drawn_after drawn (map view old_values)
-      → new ≡ put (codes "outage") (array (items_view values)) t → new ≡ lay_outages drawn t
-  unfolding lay_outages
-  outages_laid = changes (codes "outage") (drawn_after drawn) (length drawn == 0) t
+-- a value is put at a key in the same way
+same_put : (k : List ℕ) (d : Data) (t : Members) → put k d t ≡ put_drawn k d t
+same_put k d no_members = refl
+same_put k d (member l e ms) =
+    ap (λ new. match_ordering (slice_cmp nat_cmp k l) (member k d (member l e ms)) (member l d ms) (member l e new))
+    (same_put k d ms)
+
+same_items : (ds : List Data) → items_from ds ≡ items_of ds
+same_items [] = refl
+same_items (d ∷ ds) = ap (item d) (same_items ds)
+
+-- what stands in an array of tables is those tables
+only_tables : (ds : Items) → all_items is_table ds ≡ true → listed ds ≡ map table (the_tables ds)
+only_tables no_items all = refl
+only_tables (item (table ms) ds) all = ap (λ es. table ms ∷ es) (only_tables ds all)
+only_tables (item (string s) ds) all = cc
+only_tables (item (integer z) ds) all = cc
+only_tables (item (float x) ds) all = cc
+only_tables (item (boolean b) ds) all = cc
+only_tables (item (datetime t) ds) all = cc
+only_tables (item (array es) ds) all = cc
+
+-- drawn outages behind these tables, as values and as tables
+same_values : (drawn : List LinkOutage) (ds : List Data) (ts : List Members) → ds ≡ map table ts
+    → items_from (drawn_after drawn ds) ≡ items_of (map table (ts ++ map outage_table drawn))
+same_values drawn ds ts are =
+    same_items (drawn_after drawn ds)
+    ∙ (ap (λ es. items_of (es ++ map table (map outage_table drawn))) are
+    ∙ ap items_of (sym (map-append table ts (map outage_table drawn))))
+
+-- the tables of an array, where it is one of tables
+abbrev tables_in : Items → List Members
+tables_in ds = if all_items is_table ds then the_tables ds else []
+
+-- the table with these tables at the key, and those of drawn outages behind them
+abbrev put_behind : List ℕ → List LinkOutage → Members → List Members → Members
+put_behind key drawn t ts = put_drawn key (array (items_of (map table (ts ++ map outage_table drawn)))) t
+
+-- with drawn outages at the key, by what is there
+abbrev drawn_at_key : List ℕ → List LinkOutage → Members → Option Data → Members
+drawn_at_key key drawn t found =
+    if option_map_or (λ d. not (is_of kind.Tables d)) found false then t
+    else put_behind key drawn t (option_map_or tables_in (option_and_then as_array found) [])
+
+module _ (key : List ℕ) (drawn : List LinkOutage) (t : Members) where
+  puts_same : (ds : List Data) (ts : List Members) → ds ≡ map table ts
+      → put key (array (items_from (drawn_after drawn ds))) t ≡ put_behind key drawn t ts
+  puts_same ds ts are =
+      same_put key (array (items_from (drawn_after drawn ds))) t
+      ∙ ap (λ es. put_drawn key (array es) t) (same_values drawn ds ts are)
+
+  in_array : (ds : Items) (all : Bool) → all_items is_table ds ≡ all
+      → (if all then put key (array (items_from (drawn_after drawn (listed ds)))) t else t)
+      ≡ (if not all then t else put_behind key drawn t (if all then the_tables ds else []))
+  in_array ds true is = puts_same (listed ds) (the_tables ds) (only_tables ds is)
+  in_array ds false is = refl
+
+  same_at_key : (found : Option Data) → at_key key (drawn_after drawn) t found ≡ drawn_at_key key drawn t found
+  same_at_key None = puts_same [] [] refl
+  same_at_key (Some (array ds)) = in_array ds (all_items is_table ds) refl
+  same_at_key (Some (string s)) = refl
+  same_at_key (Some (integer z)) = refl
+  same_at_key (Some (float x)) = refl
+  same_at_key (Some (boolean b)) = refl
+  same_at_key (Some (datetime d)) = refl
+  same_at_key (Some (table ms)) = refl
+
+-- drawn outages are there as tables behind those of the file
+by_tables : (o : LinkOutage) (os : List LinkOutage) (t : Members)
+    → with_tables (codes "outage") (drawn_after (o ∷ os)) t ≡ with_outages (o ∷ os) t
+unfolding with_tables with_outages is_mistyped tables_at
+by_tables o os t = same_at_key (codes "outage") (o ∷ os) t (get_member (codes "outage") t)
+
+pub none_drawn : (drawn : List LinkOutage) (t : Members) → (length drawn == 0) ≡ true → t ≡ with_outages drawn t
+unfolding with_outages
+none_drawn [] t is = refl
+none_drawn (o ∷ os) t is =
+    let none : length (o ∷ os) ≡ 0 = eqb-true (length (o ∷ os)) 0 is in
+    absurd (omega arith)
+
+pub outages_stay : (drawn : List LinkOutage) (t : Members) → (length drawn == 0) ≡ false
+    → StaysAsItIs (codes "outage") t → t ≡ with_outages drawn t
+outages_stay [] t is as_it_is = cc
+outages_stay (o ∷ os) t is as_it_is = sym (as_it_is (drawn_after (o ∷ os))) ∙ by_tables o os t
+
+pub outages_laid : (drawn : List LinkOutage) (t new : Members) (old_values values : List Value)
+    → (length drawn == 0) ≡ false → HasValues (codes "outage") (map view old_values) t
+    → map view values ≡ map view old_values ++ map table (map outage_table drawn)
+    → new ≡ put (codes "outage") (array (items_view values)) t → new ≡ with_outages drawn t
+outages_laid [] t new old_values values is has made put_is = cc
+outages_laid (o ∷ os) t new old_values values is has made put_is =
+    changes (codes "outage") (drawn_after (o ∷ os)) false t new old_values values refl has made put_is
+    ∙ by_tables o os t

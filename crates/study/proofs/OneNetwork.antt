@@ -11,7 +11,7 @@ use Rattle.network.specs.Drawn.{on_each, of_each, of_burst, of_cut, of_pause, of
 use Rattle.network.specs.Reading.{Said, ticks, values, mean, said_of, SaysLink, SaysBurst, SaysCut, SaysPause, SaysReplay, SaysNetwork}
 use Rattle.network.specs.declared.group.Group.TheVariants.{All}
 use Rattle.network.specs.declared.kind.Kind.TheVariants as kind
-use Rattle.network.specs.declared.outages.LinkOutage.{LinkOutage}
+use Rattle.scenario.specs.declared.drawn.LinkOutage.{LinkOutage}
 use Rattle.network.specs.declared.spell.Spell.{Spell}
 use Rattle.network.specs.declared.spell.Spell.TheVariants as spell
 use Rattle.network.specs.declared.rhythm.Rhythm.{Rhythm}

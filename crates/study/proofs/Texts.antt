@@ -4,12 +4,13 @@ use Rattle.std.proofs.lemmas.Option.{same_Some}
 use Rattle.toml.specs.Data.{Members, members_depth}
 use Rattle.toml.specs.Parse.{parse_document}
 use Rattle.scenario_record.specs.Record.{Record}
+use Rattle.scenario.specs.Drawn.{with_outages}
 use Rattle.scenario.specs.Text.{record_of, processes_of}
 use Rattle.scenario.specs.Refusals.{Rule, rule_at, rules, table_rules, Accepts}
 use Rattle.scenario.specs.Groups.{Passes}
 use Rattle.network.specs.Laid.{laid_links}
 use Rattle.study.specs.Sources.{SourcesRecord}
-use Rattle.study.specs.Laid.{horizon_of, seed_of, lay_links, lay_outages, IsLaidBy, file_over}
+use Rattle.study.specs.Laid.{horizon_of, seed_of, lay_links, IsLaidBy, file_over}
 use Rattle.study.proofs.OneNetwork.{one_drawn, one_links}
 use Rattle.study.specs.Runs.{RunSources, IsRunTable, StandsFor, IsScenarioOf, IsTextOf, IsRunText}
 
@@ -44,7 +45,7 @@ one_laid_by : (t f u v : Members) → IsLaidBy t f u → IsLaidBy t f v → u �
 one_laid_by t f u v a b =
     let drawn = one_drawn (processes_of t) (horizon_of t) (seed_of t) f a.its b.its a.fits.is.says b.fits.is.says in
     let links = one_links _ a.its.links.items b.its.links.items a.fits.is.says.links b.fits.is.says.links in
-    a.laid_is ∙ ((λ i. lay_outages (drawn i) (lay_links (laid_links (links i) (processes_of t)) t)) ∙ sym b.laid_is)
+    a.laid_is ∙ ((λ i. with_outages (drawn i) (lay_links (laid_links (links i) (processes_of t)) t)) ∙ sym b.laid_is)
 
 one_laid : (s : SourcesRecord) (o : Option Members) (u v : Members)
     → MatchOption o (u ≡ s.scenario) (λ f. IsLaidBy s.scenario f u)

@@ -4,6 +4,8 @@ use Rattle.std.specs.List.{list_any}
 use Rattle.std.specs.Option.{option_map_or}
 use Rattle.toml.specs.Data.{Data, integer, array, table, Items, no_items, item, Members, no_members, get_member, as_array, as_table}
 use Rattle.process_api.specs.Bounds.{most_processes}
+use Rattle.toml.specs.View.{table_view}
+use Rattle.scenario.specs.Drawn.{with_outages}
 use Rattle.scenario.specs.Table.{is_of}
 use Rattle.scenario.specs.Text.{number_at, is_second, pair_of, same_pair, processes_of}
 use Rattle.scenario.specs.declared.field.Kind.TheVariants as kind
@@ -15,12 +17,13 @@ use Rattle.network.specs.declared.above.Above.{Above}
 use Rattle.network.specs.declared.field.TableKind.{TableKind}
 use Rattle.network.specs.declared.laid.LaidLink.{LaidLink}
 use Rattle.network.specs.declared.network.Network.{Network}
-use Rattle.network.specs.declared.outages.LinkOutage.{LinkOutage}
+use Rattle.scenario.specs.declared.drawn.LinkOutage.{LinkOutage}
 use Rattle.network.specs.declared.refusal.NetworkError.{NetworkError}
 use Rattle.study.specs.Placed.{put}
 use Rattle.study.specs.Sources.{SourcesRecord}
 use Rattle.study.specs.declared.error.PlaceError.{PlaceError}
 use Rattle.study.specs.declared.extent.Extent.{Extent}
+use Rattle.study.specs.declared.laid_run.LaidRun.{LaidRun}
 use Rattle.study.specs.declared.error.PlaceError.TheVariants as error
 
 -- ---- the run
@@ -58,10 +61,6 @@ with_numbers (n ∷ ns) = put n.0 (integer (pos n.1)) (with_numbers ns)
 unfoldable pub link_table : LaidLink → Data
 link_table l = table (with_numbers ((codes "from", l.from) ∷ (codes "to", l.to)
     ∷ (codes "min", l.link.min) ∷ (codes "max", l.link.max) ∷ (codes "loss", l.link.loss) ∷ []))
-
-unfoldable pub outage_table : LinkOutage → Data
-outage_table o = table (with_numbers ((codes "from", o.from) ∷ (codes "to", o.to)
-    ∷ (codes "begin", o.begin) ∷ (codes "until", o.until) ∷ []))
 
 -- ---- arrays of tables
 
@@ -105,15 +104,13 @@ laid_over laid ds = filter (λ d. not (is_laid laid d)) ds ++ map link_table lai
 unfoldable pub lay_links : List LaidLink → Members → Members
 lay_links laid t = if length laid == 0 then t else with_tables (codes "links") (laid_over laid) t
 
--- the tables that are there, and then the drawn ones
-abbrev pub drawn_after : List LinkOutage → List Data → List Data
-drawn_after drawn ds = ds ++ map outage_table drawn
-
-unfoldable pub lay_outages : List LinkOutage → Members → Members
-lay_outages drawn t = if length drawn == 0 then t else with_tables (codes "outage") (drawn_after drawn) t
-
+-- the links are laid, and then the outages are there besides that the table itself draws
 abbrev pub lay : Network → Members → Members
-lay its t = lay_outages (drawn_in t its) (lay_links (laid_in t its) t)
+lay its t = with_outages (drawn_in t its) (lay_links (laid_in t its) t)
+
+-- the table that is laid, by the one over which links are laid and the outages that are drawn
+abbrev pub table_of_laid : LaidRun → Members
+table_of_laid r = with_outages r.outages.items (table_view r.table)
 
 -- ---- whether a network can be laid
 

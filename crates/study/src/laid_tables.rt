@@ -1,12 +1,13 @@
 //! Tables of links and of outages, laid over those of a scenario's table.
 ghost use Rattle.std.specs.Prelude.{◌≡◌, ◌++◌, ◌∷◌, [], codes, pos, not, true, filter, map, IfOk, OnOk, IfErr, MatchOption, if◌then◌else◌};
 ghost use Rattle.std.specs.List.{list_any};
-ghost use Rattle.toml.specs.Data.{integer};
+ghost use Rattle.toml.specs.Data.{integer, table};
 ghost use Rattle.toml.specs.View.{view, table_view};
+ghost use Rattle.scenario.specs.Drawn.{outage_table, with_outages};
 ghost use Rattle.scenario.specs.Text.{same_pair};
 ghost use Rattle.study.specs.Placed.{put as put_member, is_memory};
 ghost use Rattle.study.specs.Laid as spec;
-ghost use Rattle.study.specs.Laid.{link_table, outage_table, StaysAsItIs, HasValues};
+ghost use Rattle.study.specs.Laid.{link_table, StaysAsItIs, HasValues};
 
 use crate::error::PlaceError;
 use crate::extent_of::natural_at;
@@ -54,9 +55,9 @@ fn link_value(alloc: Global, laid: LaidLink) -> Result<Value, PlaceError>
 }
 
 /// The table of a drawn outage.
-#[tactic(auto, unfolding(crate::specs::Laid::outage_table), using(crate::proofs::Placing::writing))]
+#[tactic(auto, using(crate::proofs::Placing::writing))]
 fn outage_value(alloc: Global, outage: LinkOutage) -> Result<Value, PlaceError>
-    ensures ok { IfOk result (λ v. view v ≡ outage_table outage) }
+    ensures ok { IfOk result (λ v. view v ≡ table (outage_table outage)) }
     ensures err { IfErr result (λ e. is_memory e ≡ true) }
 {
     let mut table = Table::new(alloc);
@@ -145,7 +146,8 @@ fn push_links(alloc: Global, values: &mut Vec<Value>, laid: &[LaidLink]) -> Done
 
 /// Adds the tables of drawn outages.
 fn push_outages(alloc: Global, values: &mut Vec<Value>, drawn: &[LinkOutage]) -> Done
-    ensures ok { OnOk result (map view values.new.items ≡ map view values.old.items ++ map outage_table drawn.now) }
+    ensures ok { OnOk result (map view values.new.items
+        ≡ map view values.old.items ++ map table (map outage_table drawn.now)) }
     ensures err { IfErr result (λ e. is_memory e ≡ true) }
 {
     for outage in drawn {
@@ -173,9 +175,9 @@ pub(crate) fn lay_links(alloc: Global, table: &mut Table, laid: &[LaidLink]) -> 
     put(alloc, table, "links", Value::Array(links))
 }
 
-/// Adds drawn outages to those of a table.
+/// Puts drawn outages into a table, behind those that it has.
 pub(crate) fn lay_outages(alloc: Global, table: &mut Table, drawn: &[LinkOutage]) -> Done
-    ensures ok { OnOk result (table_view table.new ≡ spec.lay_outages drawn.now (table_view table.old)) }
+    ensures ok { OnOk result (table_view table.new ≡ with_outages drawn.now (table_view table.old)) }
     ensures err { IfErr result (λ e. is_memory e ≡ true) }
 {
     if drawn.is_empty() {

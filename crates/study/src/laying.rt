@@ -1,17 +1,19 @@
 //! A network laid over a scenario's table.
-ghost use Rattle.std.specs.Prelude.{◌≡◌, ◌<◌, ◌≤◌, false, length, IfOk, OnOk, IfErr};
+ghost use Rattle.std.specs.Prelude.{◌≡◌, ◌<◌, ◌≤◌, false, true, length, IfOk, IfErr};
 ghost use Rattle.toml.specs.View.{table_view};
+ghost use Rattle.scenario.specs.Drawn.{with_outages};
 ghost use Rattle.scenario.specs.Text.{processes_of};
 ghost use Rattle.network.specs.Drawn.{drawn_of, most_outages};
 ghost use Rattle.network.specs.Ranges.{IsNetwork};
 ghost use Rattle.study.specs.Laid as spec;
-ghost use Rattle.study.specs.Laid.{IsExtentOf, Fits, IsLaidBy, CantBeLaid, IsLaid, IsUnlaid};
+ghost use Rattle.study.specs.Laid.{IsExtentOf, Fits, IsLaidBy, CantBeLaid, IsLaid, IsUnlaid, table_of_laid};
 ghost use Rattle.study.specs.Placed.{is_memory};
 ghost use Rattle.study.specs.Sources.{sources_of};
 
 use crate::error::PlaceError;
 use crate::extent::Extent;
 use crate::extent_of::{extent_of, is_second};
+use crate::laid_run::LaidRun;
 use crate::laid_tables::{lay_links, lay_outages};
 use crate::sources::Sources;
 use network::{
@@ -91,15 +93,16 @@ fn draw_over(
     }
 }
 
-/// Lays the network of a file over a run's table.
+/// Lays the links of a file's network over a run's table. `Ok` is what the network draws besides.
 fn lay_over(
     alloc: Global,
     table: &mut Table,
     file: &Table,
     extent: Extent,
-) -> Result<(), PlaceError>
+) -> Result<Vec<LinkOutage>, PlaceError>
     requires { IsExtentOf (table_view table.old) extent }
-    ensures ok { OnOk result (IsLaidBy (table_view table.old) (table_view file.now) (table_view table.new)) }
+    ensures ok { IfOk result (λ v. IsLaidBy (table_view table.old) (table_view file.now)
+        (with_outages v.items (table_view table.new))) }
     ensures err { IfErr result (λ e. is_memory e ≡ false
         → CantBeLaid (table_view table.old) (table_view file.now) e) }
 {
@@ -107,23 +110,50 @@ fn lay_over(
     let drawn = draw_over(alloc, &network, extent)?;
     let laid = laid_links(alloc, &network.links, extent.processes).map_err(PlaceError::Memory)?;
     lay_links(alloc, table, &laid)?;
-    lay_outages(alloc, table, &drawn)
+    Ok(drawn)
 }
 
-/// The table of a run for which its files stand: the scenario's, over which the network's file is laid where there is
-/// one.
-pub(crate) fn laid(alloc: Global, sources: Sources) -> Result<Table, PlaceError>
-    ensures ok { IfOk result (λ t. IsLaid (sources_of sources) (table_view t)) }
+impl LaidRun {
+    /// A run over whose table nothing is laid.
+    #[tactic(auto, unfolding(scenario::specs::Drawn::with_outages))]
+    fn of_table(alloc: Global, table: Table) -> LaidRun
+        ensures { table_of_laid result ≡ table_view table }
+    {
+        LaidRun {
+            table,
+            outages: Vec::new(alloc),
+        }
+    }
+
+    /// The run's table, with tables of the drawn outages.
+    pub(crate) fn into_table(self, alloc: Global) -> Result<Table, PlaceError>
+        ensures ok { IfOk result (λ t. table_view t ≡ table_of_laid self) }
+        ensures err { IfErr result (λ e. is_memory e ≡ true) }
+    {
+        let LaidRun { mut table, outages } = self;
+        lay_outages(alloc, &mut table, &outages)?;
+        Ok(table)
+    }
+}
+
+/// What the files of a run stand for: the scenario's table, over which the network's file is laid where there is one.
+pub(crate) fn laid(alloc: Global, sources: Sources) -> Result<LaidRun, PlaceError>
+    ensures ok { IfOk result (λ r. IsLaid (sources_of sources) (table_of_laid r)) }
     ensures err { IfErr result (λ e. is_memory e ≡ false → IsUnlaid (sources_of sources) e) }
 {
     let Sources {
         mut scenario,
         network,
     } = sources;
-    if let Some(file) = &network {
-        if let Some(extent) = extent_of(&scenario) {
-            lay_over(alloc, &mut scenario, file, extent)?;
-        }
-    }
-    Ok(scenario)
+    let Some(file) = &network else {
+        return Ok(LaidRun::of_table(alloc, scenario));
+    };
+    let Some(extent) = extent_of(&scenario) else {
+        return Ok(LaidRun::of_table(alloc, scenario));
+    };
+    let outages = lay_over(alloc, &mut scenario, file, extent)?;
+    Ok(LaidRun {
+        table: scenario,
+        outages,
+    })
 }

@@ -27,6 +27,7 @@ mod grid;
 mod grid_checks;
 mod key;
 mod key_words;
+mod laid_run;
 mod laid_tables;
 mod laying;
 mod placed;

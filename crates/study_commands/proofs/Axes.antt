@@ -1,9 +1,11 @@
--- Axes, groups of pairs and processes of words, one after the other.
+-- Axes, groups of pairs, assignments and processes of words, one after the other.
 use Rattle.std.proofs.Common.{◌≡◌, ℕ, ◌+◌, ◌<◌, List, [], ◌∷◌, ◌++◌, map, length, get_or, take, Bor, Some}
 use Rattle.std.proofs.lemmas.List.{map-append, take_more}
 use Rattle.std.specs.List.{AllZip}
 use Rattle.study.specs.AxisWords.{SaysAxis}
 use Rattle.study_commands.specs.Draw.{process_said}
+use Rattle.study.specs.SetWords.{SaysAssignment}
+use Rattle.study.specs.declared.assignment.Assignment.{Assignment}
 use Rattle.study.specs.declared.axis.Axis.{Axis}
 use Rattle.sweep.specs.GroupWords.{SaysGroup}
 use Rattle.sweep.specs.declared.group.PairGroup.{PairGroup}
@@ -27,6 +29,12 @@ module _ (words : List (Bor (List ℕ))) (i : ℕ) (d : Bor (List ℕ)) (within 
       → AllZip SaysGroup (map (λ w. w.now) (take (i + 1) words)) new
   one_group_more groups new group says pushed so_far =
       rw (take_more words i d within, map-append, pushed) (zip_push SaysGroup _ groups _ group so_far says)
+
+  pub one_set_more : (set new : List Assignment) (a : Assignment) → SaysAssignment (get_or words i d).now a
+      → new ≡ set ++ a ∷ [] → AllZip SaysAssignment (map (λ w. w.now) (take i words)) set
+      → AllZip SaysAssignment (map (λ w. w.now) (take (i + 1) words)) new
+  one_set_more set new a says pushed so_far =
+      rw (take_more words i d within, map-append, pushed) (zip_push SaysAssignment _ set _ a so_far says)
 
   -- one more of the processes that are said
   pub one_said : (said new : List ℕ) (process : ℕ) → process_said (get_or words i d).now ≡ Some process

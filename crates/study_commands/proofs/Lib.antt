@@ -9,3 +9,5 @@ pub mod Findings
 pub mod FirstRuns
 pub mod Dealt
 pub mod CommonLink
+pub mod Standing
+pub mod Naming

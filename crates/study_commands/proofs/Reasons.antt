@@ -1,17 +1,21 @@
 -- Why commands stop, for each of their faults.
-use Rattle.std.proofs.Common.{ℕ, List, None, Option, String}
+use Rattle.std.proofs.Common.{◌⊎◌, ℕ, List, None, Option, String}
 use Rattle.std.specs.declared.alloc.Global.{Global}
 use Rattle.study_commands.specs.Fault.{IsBefore, IsOfWordsFor}
 use Rattle.study_commands.specs.File.{AreBytes, IsScenario}
-use Rattle.study_commands.specs.Refusal.{IsBeforeReading, IsOfBytes, IsOfFile, IsOfTable, IsRight, IsToldWith, IsUnread}
+use Rattle.study_commands.specs.Refusal.{AreNoSources, IsBeforeReading, IsOfBytes, IsOfFile, IsOfOwnFile, IsOfSources}
+use Rattle.study_commands.specs.Refusal.{IsOfTable, IsRight, IsToldWith, IsUnread}
 use Rattle.study_commands.specs.Refusal.{refusal_text, FileRefusal, broken}
 use Rattle.study_commands.specs.Runs.{IsOfRun, StopsLetters}
-use Rattle.study_commands.specs.Why.{HasNone, IsOfStudy, IsOfText, StopsCheck}
+use Rattle.study_commands.specs.Why.{HasNone, IsOfStudy, IsOfText, IsTooLong, StopsCheck}
+use Rattle.study_commands.specs.WordRefusals.{SaysNoSources}
 use Rattle.study_commands.specs.declared.fault.Fault.{Fault}
 use Rattle.study_commands.specs.declared.fault.Fault.TheVariants.{Limit, Memory, Refused, Words, WordsMemory, Write}
 use Rattle.scenario.specs.Refusals.{IsDocumentOf}
 use Rattle.scenario_record.specs.Record.{Record}
+use Rattle.study.specs.Grid.{GridRecord}
 use Rattle.study.specs.Runs.{RunSources}
+use Rattle.study_line.specs.declared.order.SourceTexts.{SourceTexts}
 
 -- a fault that comes before anything is written is one
 pub stops_so : (Holds : Fault → Type 0) (f : Fault) → IsBefore Holds f → Holds f
@@ -40,15 +44,11 @@ module _ (input : Option (List ℕ)) (path : List ℕ) where
 
   -- its bytes are refused
   pub bytes_file : (bytes : List ℕ) (f : Fault) → AreBytes input path bytes → IsOfBytes path bytes f
-      → IsOfFile input path f
+      → IsOfOwnFile input path f
   bytes_file bytes (Refused line) are is =
       record { refusal = broken is.diagnosed; right = (bytes, are, is.refuses); says = is.says }
   bytes_file bytes Memory are is = tt
   bytes_file bytes _ are is = absurd is
-
-  pub file_check : (f : Fault) → IsOfFile input path f → IsBefore (StopsCheck input path) f
-  file_check Write is = absurd is
-  file_check _ is = is
 
   pub bytes_table : (bytes : List ℕ) (f : Fault) → AreBytes input path bytes → IsDocumentOf bytes None
       → IsOfBytes path bytes f → IsOfTable input path f
@@ -57,16 +57,37 @@ module _ (input : Option (List ℕ)) (path : List ℕ) where
   bytes_table bytes Memory are none is = tt
   bytes_table bytes _ are none is = absurd is
 
+module _ (input : Option (List ℕ)) (texts : SourceTexts) where
+  pub file_check : (f : Fault) → IsOfFile input texts f → IsBefore (StopsCheck input texts) f
+  file_check Write is = absurd is
+  file_check _ is = is
+
+  pub file_letters : (f : Fault) → IsOfFile input texts f → IsBefore (StopsLetters input texts) f
+  file_letters Write is = absurd is
+  file_letters Limit is = absurd is
+  file_letters _ is = is
+
   -- the run of its scenario is
-  pub letters_of_run : (s : Record) (f : Fault) → IsScenario input path s → IsOfRun s f
-      → IsBefore (StopsLetters input path) f
+  pub letters_of_run : (s : Record) (f : Fault) → IsScenario input texts s → IsOfRun s f
+      → IsBefore (StopsLetters input texts) f
   letters_of_run s Limit at is = (s, at, is)
   letters_of_run s Memory at is = tt
   letters_of_run s _ at is = absurd is
 
+  -- words that name files and set keys are refused, or the files, and a command over a study stops for that
+  pub sources_stop : (OfWords : Type 0) (OfFile : Option (String Global) → Type 0) (g : GridRecord) (f : Fault)
+      → IsOfSources input texts g f → (SaysNoSources texts g → OfWords)
+      → ((line : Option (String Global)) → AreNoSources input texts line → OfFile line)
+      → IsBefore (IsOfStudy OfWords OfFile) f
+  sources_stop OfWords OfFile g (Words line) is words files = words is
+  sources_stop OfWords OfFile g WordsMemory is words files = tt
+  sources_stop OfWords OfFile g (Refused line) is words files = files line is
+  sources_stop OfWords OfFile g Memory is words files = tt
+  sources_stop OfWords OfFile g _ is words files = absurd is
+
 -- a run has no text
 pub study_text : (OfWords : Type 0) (OfFile : Option (String Global) → Type 0) (table : RunSources)
-    (f : Fault) → IsOfText table f → (HasNone table → (line : Option (String Global)) → OfFile line)
+    (f : Fault) → IsOfText table f → (HasNone table ⊎ IsTooLong table → (line : Option (String Global)) → OfFile line)
     → IsBefore (IsOfStudy OfWords OfFile) f
 study_text OfWords OfFile table (Refused line) is then = then is line
 study_text OfWords OfFile table Memory is then = tt

@@ -4,16 +4,19 @@ use Rattle.std.proofs.Common.{subst}
 use Rattle.drawing.specs.Refusals.{IsMemory, letters_refusal}
 use Rattle.drawing.specs.declared.error.DrawError.{DrawError}
 use Rattle.study.specs.Words.{Word}
-use Rattle.study_commands.specs.Draw.{AreNamed, IsOfPicture, IsRefused, StopsPicture, TellsOf, end_of_ticks, first_tick}
-use Rattle.study_commands.specs.Fault.{IsBefore}
+use Rattle.study_commands.specs.Draw.{AreNamed, IsOfPicture, IsRefused, NamesNone, StopsPicture, TellsOf, end_of_ticks}
+use Rattle.study_commands.specs.Draw.{first_tick}
+use Rattle.study_commands.specs.Fault.{IsBefore, IsOfWordsFor}
 use Rattle.study_commands.specs.File.{IsScenario}
 use Rattle.study_commands.specs.declared.fault.Fault.{Fault}
-use Rattle.study_commands.specs.declared.fault.Fault.TheVariants.{Limit, Memory, NotDrawn}
+use Rattle.study_commands.specs.Refusal.{IsOfFile}
+use Rattle.study_commands.specs.declared.fault.Fault.TheVariants.{Limit, Memory, NotDrawn, Refused, Words, WordsMemory}
 use Rattle.letters.specs.Letters.{AreLetters}
 use Rattle.letters.specs.declared.letter.Letter.{Letter}
 use Rattle.scenario_record.specs.Record.{Record}
 use Rattle.study_line.specs.declared.order.Picture.{Picture}
 use Rattle.study_line.specs.declared.order.Picture.TheVariants as picture
+use Rattle.study_line.specs.declared.order.SourceTexts.{SourceTexts}
 
 -- what speaks against a picture is what its refusal says, unless memory was refused
 pub memory_or_refused : {T : Type 0} (r : Result T DrawError) (error : DrawError) (o : Option DrawError)
@@ -38,13 +41,30 @@ told_as named s of from until error (NotDrawn told line) (inr refused) tells =
 told_as named s of from until error Memory why tells = tt
 told_as named s of from until error _ why tells = absurd tells
 
--- the fault of a picture of the file's scenario
-pub picture_stops : (input : Option (List ℕ)) (path : List ℕ) (named : Picture) (from until : Option ℕ)
-    (word : Option Word) (s : Record) (of : List ℕ) (f : Fault) → IsScenario input path s → AreNamed named word of
+-- the fault of a picture of the files' scenario
+pub picture_stops : (input : Option (List ℕ)) (texts : SourceTexts) (named : Picture) (from until : Option ℕ)
+    (word : Option Word) (s : Record) (of : List ℕ) (f : Fault) → IsScenario input texts s → AreNamed named word of
     → IsOfPicture named s of (first_tick from) (end_of_ticks s until) f
-    → IsBefore (StopsPicture input path named from until word) f
-picture_stops input path named from until word s of (NotDrawn error line) at are is =
+    → IsBefore (StopsPicture input texts named from until word) f
+picture_stops input texts named from until word s of (NotDrawn error line) at are is =
     record { of = of; are_named = are; scenario = s; is_scenario = at; refused = is }
-picture_stops input path named from until word s of Limit at are is = (s, at, is.0, is.1)
-picture_stops input path named from until word s of Memory at are is = tt
-picture_stops input path named from until word s of _ at are is = absurd is
+picture_stops input texts named from until word s of Limit at are is = (s, at, is.0, is.1)
+picture_stops input texts named from until word s of Memory at are is = tt
+picture_stops input texts named from until word s of _ at are is = absurd is
+
+-- that of words or files
+pub files_stop : (input : Option (List ℕ)) (texts : SourceTexts) (named : Picture) (from until : Option ℕ)
+    (word : Option Word) (f : Fault) → IsOfFile input texts f → IsBefore (StopsPicture input texts named from until word) f
+files_stop input texts named from until word (Words line) is = inr is
+files_stop input texts named from until word WordsMemory is = tt
+files_stop input texts named from until word (Refused line) is = is
+files_stop input texts named from until word Memory is = tt
+files_stop input texts named from until word _ is = absurd is
+
+-- that of processes that aren't named
+pub names_stop : (input : Option (List ℕ)) (texts : SourceTexts) (named : Picture) (from until : Option ℕ)
+    (word : Option Word) (f : Fault) → IsOfWordsFor (NamesNone named word) f
+    → IsBefore (StopsPicture input texts named from until word) f
+names_stop input texts named from until word (Words line) is = inl is
+names_stop input texts named from until word WordsMemory is = tt
+names_stop input texts named from until word _ is = absurd is

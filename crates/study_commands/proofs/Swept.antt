@@ -13,6 +13,7 @@ use Rattle.study_commands.proofs.Reasons.{stops_so}
 use Rattle.reporting.specs.Writing.{WroteNothing}
 use Rattle.study.specs.Grid.{GridRecord, points}
 use Rattle.study.specs.Shard.{ShardRecord, end_of as shard_end}
+use Rattle.study_line.specs.declared.order.SourceTexts.{SourceTexts}
 use Rattle.study_line.specs.declared.order.StudyTexts.{StudyTexts}
 use Rattle.sweep.specs.Layout.{LayoutRecord}
 use Rattle.sweep.specs.Outcome.{BreaksOff, CantBeRun, IsFirstUnready, WroteStudy, WroteFirst}
@@ -42,11 +43,11 @@ cant_of_run sources g shard groups (error.NoSuchProcess point run group processe
 cant_of_run sources g shard groups error.Memory cant = tt
 cant_of_run sources g shard groups error.Write cant = tt
 
-module _ {input : Option (List ℕ)} {path : List ℕ} {study : StudyTexts} {sources : SourcesRecord} {g : GridRecord}
-    {shard : ShardRecord} {layout : LayoutRecord} (said : IsSaid input path study sources g shard layout) where
+module _ {input : Option (List ℕ)} {texts : SourceTexts} {study : StudyTexts} {sources : SourcesRecord} {g : GridRecord}
+    {shard : ShardRecord} {layout : LayoutRecord} (said : IsSaid input texts study sources g shard layout) where
   -- a run of the study is refused
   run_stops : (point run : ℕ) (reason : SweepError) (f : Fault) → IsFirstUnready sources g layout.groups shard point run reason
-      → IsRefusal f → IsBefore (StopsSweep input path study) f
+      → IsRefusal f → IsBefore (StopsSweep input texts study) f
   run_stops point run reason (Refused line) first is = inr (record {
     sources = sources;
     are_sources = said.are_sources;
@@ -65,7 +66,7 @@ module _ {input : Option (List ℕ)} {path : List ℕ} {study : StudyTexts} {sou
 
   -- a study can't be run
   pub cant_stop : (e : SweepError) (f : Fault) → CantBeRun sources g layout.groups shard e → IsFaultOf e f
-      → IsBefore (StopsSweep input path study) f
+      → IsBefore (StopsSweep input texts study) f
   cant_stop (error.Refused point run reason) f cant is = run_stops point run (error.Refused point run reason) f cant is
   cant_stop (error.NoSuchProcess point run group processes) f cant is =
       run_stops point run (error.NoSuchProcess point run group processes) f cant is
@@ -73,13 +74,13 @@ module _ {input : Option (List ℕ)} {path : List ℕ} {study : StudyTexts} {sou
   cant_stop error.Write f cant is = absurd cant
 
   front : (count : ℕ) (piece : List ℕ) → IsTextOf sources g shard layout (take count (units_of layout.rows g shard)) piece
-      → IsSweepFront input path study piece
+      → IsSweepFront input texts study piece
   front count piece text =
       record { sources = sources; grid = g; shard = shard; layout = layout; said = said; count = count; text = text }
 
   module _ {O : Type 0} (told : O → Option (List ℕ)) (failed : O → ℕ) (old new : O) where
     pub swept : WroteStudy sources g shard layout told failed old new
-        → Went told failed old new (IsSweepAnswer input path study)
+        → Went told failed old new (IsSweepAnswer input texts study)
     swept wrote = record {
       piece = wrote.text;
       is_wanted = record { sources = sources; grid = g; shard = shard; layout = layout; said = said; text = wrote.is_text };
@@ -87,7 +88,7 @@ module _ {input : Option (List ℕ)} {path : List ℕ} {study : StudyTexts} {sou
     }
 
     left : WroteNothing told failed old new ⊎ WroteFirst sources g shard layout told failed old new
-        → MayHaveGone told failed old new (IsSweepFront input path study)
+        → MayHaveGone told failed old new (IsSweepFront input texts study)
     left (inl nothing) = inl nothing
     left (inr first) = inr (record {
       piece = first.text;
@@ -104,18 +105,18 @@ module _ {input : Option (List ℕ)} {path : List ℕ} {study : StudyTexts} {sou
     breaks_of_run error.Write broke = tt
 
     pub sweep_why : (e : SweepError) (f : Fault) → BreaksOff sources g shard layout told failed old new e
-        → IsFaultOf e f → StopsSweep input path study f
+        → IsFaultOf e f → StopsSweep input texts study f
     sweep_why (error.Refused point run reason) f broke is =
-        stops_so (StopsSweep input path study) f (run_stops point run (error.Refused point run reason) f broke.0 is)
+        stops_so (StopsSweep input texts study) f (run_stops point run (error.Refused point run reason) f broke.0 is)
     sweep_why (error.NoSuchProcess point run group processes) f broke is =
-        stops_so (StopsSweep input path study) f
+        stops_so (StopsSweep input texts study) f
         (run_stops point run (error.NoSuchProcess point run group processes) f broke.0 is)
     sweep_why error.Memory f broke is = rw is tt
     sweep_why error.Write f broke is = rw is tt
 
     pub sweep_leaves : (e : SweepError) (f : Fault) → BreaksOff sources g shard layout told failed old new e
-        → IsFaultOf e f → LeftAt told failed old new (IsSweepFront input path study)
-        (IsSweepFront input path study) (end_of f)
+        → IsFaultOf e f → LeftAt told failed old new (IsSweepFront input texts study)
+        (IsSweepFront input texts study) (end_of f)
     sweep_leaves (error.Refused point run reason) (Refused line) broke is = broke.1
     sweep_leaves (error.Refused point run reason) _ broke is = absurd is
     sweep_leaves (error.NoSuchProcess point run group processes) (Refused line) broke is = broke.1

@@ -5,14 +5,14 @@ use Rattle.diagnosis.specs.declared.answer.Accepted.{Accepted}
 use Rattle.study.specs.Sources.{SourcesRecord}
 use Rattle.study.specs.Grid.{GridRecord, runs}
 use Rattle.study.specs.Shard.{ShardRecord}
-use Rattle.study_commands.specs.File.{AreBytes}
+use Rattle.study_commands.specs.File.{IsScenario}
 use Rattle.study_commands.specs.Sweep.{IsSaid}
+use Rattle.study_line.specs.declared.order.SourceTexts.{SourceTexts}
 use Rattle.study_line.specs.declared.order.StudyTexts.{StudyTexts}
 use Rattle.sweep.specs.Layout.{LayoutRecord}
 use Rattle.sweep.specs.Outcome.{AreReady}
 use Rattle.sweep.specs.StudyText.{numbers_of}
 use Rattle.scenario_record.specs.Record.{Record}
-use Rattle.scenario.specs.Refusals.{Accepts}
 
 -- that a run of about so many entries may have more than its limit, where that is so
 abbrev pub limit_text : (limit entries : ℕ) → List ℕ
@@ -40,17 +40,19 @@ abbrev pub accepted_line : Accepted → List ℕ
 accepted_line a =
     accepted_text a.processes a.horizon a.limit a.window a.estimate.entries a.estimate.seconds a.estimate.in_window
 
--- the file is accepted, and these are its processes, its horizon, its limit and its longest window, which has its share
--- of the entries. How near the estimate of all entries comes isn't said
-pub record IsCheckAnswer (input : Option (List ℕ)) (path : List ℕ) (piece : List ℕ) : Type 0 where
-  pub bytes : List ℕ
-  pub are_bytes : AreBytes input path bytes
-  pub scenario : Record
-  pub accepted : Accepts bytes scenario
+-- these are the scenario's processes, its horizon, its limit and its longest window, which has its share of the entries.
+-- How near the estimate of all entries comes isn't said
+pub record TellsOf (s : Record) (piece : List ℕ) : Type 0 where
   pub entries : ℕ
   pub seconds : ℕ
-  pub text : piece ≡ accepted_text scenario.processes scenario.horizon scenario.limit (longest_window scenario)
-      entries seconds (entries_in (longest_window scenario) entries scenario.horizon)
+  pub text : piece ≡ accepted_text s.processes s.horizon s.limit (longest_window s)
+      entries seconds (entries_in (longest_window s) entries s.horizon)
+
+-- the files stand for a scenario, and it is told of
+pub record IsCheckAnswer (input : Option (List ℕ)) (texts : SourceTexts) (piece : List ℕ) : Type 0 where
+  pub scenario : Record
+  pub is_scenario : IsScenario input texts scenario
+  pub tells : TellsOf scenario piece
 
 -- the begin of the text of a study whose runs are all accepted
 abbrev pub study_begin : (points runs : ℕ) → List ℕ
@@ -59,12 +61,12 @@ study_begin points runs =
 
 -- all runs of the study that can be swept can be run, of the shard's points where one is named, and the text
 -- begins with how many points and runs these are. What is reckoned of them, and of their limits, isn't said
-pub record IsStudyCheck (input : Option (List ℕ)) (path : List ℕ) (study : StudyTexts) (piece : List ℕ) : Type 0 where
+pub record IsStudyCheck (input : Option (List ℕ)) (texts : SourceTexts) (study : StudyTexts) (piece : List ℕ) : Type 0 where
   pub sources : SourcesRecord
   pub grid : GridRecord
   pub shard : ShardRecord
   pub layout : LayoutRecord
-  pub said : IsSaid input path study sources grid shard layout
+  pub said : IsSaid input texts study sources grid shard layout
   pub each : AreReady sources grid layout.groups shard
   pub reckoned : List ℕ
   pub text : piece ≡ study_begin (length (numbers_of grid shard)) (length (runs grid)) ++ reckoned

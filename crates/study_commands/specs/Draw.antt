@@ -9,9 +9,10 @@ use Rattle.drawing.specs.Suspicions.{DrawsSuspicions}
 use Rattle.drawing.specs.declared.error.DrawError.{DrawError}
 use Rattle.trace_laws.specs.ScenarioSetting.{setting_of}
 use Rattle.trace_laws.specs.World.{IsTrace}
-use Rattle.study_commands.specs.File.{IsScenario}
+use Rattle.study_commands.specs.File.{IsScenario, no_axes}
 use Rattle.study_commands.specs.Refusal.{IsOfFile}
 use Rattle.study_commands.specs.Runs.{IsTooLong}
+use Rattle.study_commands.specs.WordRefusals.{SaysNoSources}
 use Rattle.study_commands.specs.declared.fault.Fault.{Fault}
 use Rattle.study_commands.specs.declared.fault.Fault.TheVariants.{Limit, Memory, NotDrawn, Words, WordsMemory, Write}
 use Rattle.letters.specs.Letters.{AreLetters}
@@ -20,6 +21,7 @@ use Rattle.process_api.specs.EntryRecord.{EntryRecord}
 use Rattle.scenario_record.specs.Record.{Record}
 use Rattle.study_line.specs.declared.order.Picture.{Picture}
 use Rattle.study_line.specs.declared.order.Picture.TheVariants as picture
+use Rattle.study_line.specs.declared.order.SourceTexts.{SourceTexts}
 
 -- the text is the picture of who suspects whom at these ticks of the scenario's run, and nothing speaks against it
 pub record ShowsSuspicions (s : Record) (from until : ℕ) (text : List ℕ) : Type 0 where
@@ -71,13 +73,13 @@ first_tick from = unwrap_or from 0
 abbrev pub end_of_ticks : Record → Option ℕ → ℕ
 end_of_ticks s until = unwrap_or until s.horizon
 
--- the piece is the picture of the run of the file's scenario
-pub record IsDrawAnswer (input : Option (List ℕ)) (path : List ℕ) (named : Picture) (from until : Option ℕ)
+-- the piece is the picture of the run of the files' scenario
+pub record IsDrawAnswer (input : Option (List ℕ)) (texts : SourceTexts) (named : Picture) (from until : Option ℕ)
     (word : Option Word) (piece : List ℕ) : Type 0 where
   pub of : List ℕ
   pub are_named : AreNamed named word of
   pub scenario : Record
-  pub is_scenario : IsScenario input path scenario
+  pub is_scenario : IsScenario input texts scenario
   pub shows : Shows named scenario of (first_tick from) (end_of_ticks scenario until) piece
 
 -- ---- refusals
@@ -104,24 +106,24 @@ IsOfPicture named s of from until Limit = IsTooLong s × (refusal s from until �
 IsOfPicture named s of from until Memory = Unit {0}
 IsOfPicture named s of from until _ = ⊥
 
--- the picture of the file's scenario with the processes that a word names is refused for this
-pub record IsRefusedPicture (input : Option (List ℕ)) (path : List ℕ) (named : Picture) (from until : Option ℕ)
+-- the picture of the files' scenario with the processes that a word names is refused for this
+pub record IsRefusedPicture (input : Option (List ℕ)) (texts : SourceTexts) (named : Picture) (from until : Option ℕ)
     (word : Option Word) (error : DrawError) : Type 0 where
   pub of : List ℕ
   pub are_named : AreNamed named word of
   pub scenario : Record
-  pub is_scenario : IsScenario input path scenario
+  pub is_scenario : IsScenario input texts scenario
   pub refused : IsRefused named scenario of (first_tick from) (end_of_ticks scenario until) error
 
--- `draw` stops for its words, for its file, for a picture or a run of the file's scenario that is refused, for want of
+-- `draw` stops for its words, for its files, for a picture or a run of their scenario that is refused, for want of
 -- memory or at a failed write
-abbrev pub StopsPicture : Option (List ℕ) → (path : List ℕ) → Picture → (from until : Option ℕ) → Option Word → Fault
+abbrev pub StopsPicture : Option (List ℕ) → SourceTexts → Picture → (from until : Option ℕ) → Option Word → Fault
     → Type 0
-StopsPicture input path named from until word (Words line) = NamesNone named word
-StopsPicture input path named from until word (NotDrawn error line) =
-    IsRefusedPicture input path named from until word error
-StopsPicture input path named from until word Limit =
-    (s : Record) × IsScenario input path s × IsTooLong s × (refusal s (first_tick from) (end_of_ticks s until) ≡ None)
-StopsPicture input path named from until word WordsMemory = Unit {0}
-StopsPicture input path named from until word Write = Unit {0}
-StopsPicture input path named from until word fault = IsOfFile input path fault
+StopsPicture input texts named from until word (Words line) = NamesNone named word ⊎ SaysNoSources texts no_axes
+StopsPicture input texts named from until word (NotDrawn error line) =
+    IsRefusedPicture input texts named from until word error
+StopsPicture input texts named from until word Limit =
+    (s : Record) × IsScenario input texts s × IsTooLong s × (refusal s (first_tick from) (end_of_ticks s until) ≡ None)
+StopsPicture input texts named from until word WordsMemory = Unit {0}
+StopsPicture input texts named from until word Write = Unit {0}
+StopsPicture input texts named from until word fault = IsOfFile input texts fault

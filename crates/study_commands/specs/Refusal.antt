@@ -1,14 +1,26 @@
--- Why the file at a path is refused, and how that is told.
-use Rattle.std.specs.Prelude.{◌≡◌, ◌≢◌, ◌<◌, ℕ, List, ◌++◌, length, Option, None, IfSome, String, codes, string_bytes}
+-- Why files are refused, and how that is told.
+use Rattle.std.specs.Prelude.{◌≡◌, ◌≢◌, ◌<◌, ◌⊎◌, ℕ, List, ◌++◌, length, false, Option, None, Some, IfSome, Ok, Err, String, codes, string_bytes}
 use Rattle.std.specs.declared.alloc.Global.{Global}
 use Rattle.diagnosis.specs.Diagnosis.{RefusesFor}
 use Rattle.diagnosis.specs.Text.{refused_text}
 use Rattle.diagnosis.specs.declared.answer.Refused.{Refused as Diagnosed}
 use Rattle.printable.specs.Printable.{printable}
-use Rattle.study_commands.specs.File.{AreBytes}
+use Rattle.study_commands.specs.File.{AreBytes, AreFiles, AreSources, IsTable, is_alone, network_path, no_axes, set_words}
+use Rattle.study_commands.specs.WordRefusals.{SaysNoSources}
 use Rattle.study_commands.specs.declared.fault.Fault.{Fault}
-use Rattle.study_commands.specs.declared.fault.Fault.TheVariants.{Memory, Refused}
+use Rattle.study_commands.specs.declared.fault.Fault.TheVariants.{Memory, Refused, Words, WordsMemory}
+use Rattle.scenario.specs.Groups.{Decided}
 use Rattle.scenario.specs.Refusals.{IsDocumentOf}
+use Rattle.std.specs.List.{AllZip}
+use Rattle.study.specs.Grid.{GridRecord}
+use Rattle.study.specs.Placed.{assign_all, is_memory as is_place_memory}
+use Rattle.study.specs.Runs.{IsRefusedFor, is_memory}
+use Rattle.study.specs.SetWords.{SaysAssignment}
+use Rattle.study.specs.Sources.{SourcesRecord}
+use Rattle.study.specs.declared.assignment.Assignment.{Assignment}
+use Rattle.study.specs.declared.error.PlaceError.{PlaceError}
+use Rattle.study.specs.declared.error.ReadError.{ReadError}
+use Rattle.study_line.specs.declared.order.SourceTexts.{SourceTexts}
 use Rattle.shell.specs.Input.{input_path, most_bytes}
 
 -- the line, where there was memory for one
@@ -45,14 +57,14 @@ module _ (path : List ℕ) where
   IsToldWith text _ = ⊥
 
   -- the bytes are refused, and the line says why
-  pub record AreRefused (bytes : List ℕ) (line : Option (String Global)) : Type 0 where
+  pub record AreBytesRefused (bytes : List ℕ) (line : Option (String Global)) : Type 0 where
     pub diagnosed : Diagnosed
     pub refuses : RefusesFor bytes diagnosed
     pub says : Says line (line_with (refused_text diagnosed))
 
   -- the fault is that the bytes are refused, or that memory was
   abbrev pub IsOfBytes : List ℕ → Fault → Type 0
-  IsOfBytes bytes (Refused line) = AreRefused bytes line
+  IsOfBytes bytes (Refused line) = AreBytesRefused bytes line
   IsOfBytes bytes Memory = Unit {0}
   IsOfBytes bytes _ = ⊥
 
@@ -95,12 +107,77 @@ module _ (input : Option (List ℕ)) (path : List ℕ) where
   IsUnread _ = ⊥
 
   -- the fault is that the file is refused, or that memory was
-  abbrev pub IsOfFile : Fault → Type 0
-  IsOfFile (Refused line) = IsRefusedFile line
-  IsOfFile Memory = Unit {0}
-  IsOfFile _ = ⊥
+  abbrev pub IsOfOwnFile : Fault → Type 0
+  IsOfOwnFile (Refused line) = IsRefusedFile line
+  IsOfOwnFile Memory = Unit {0}
+  IsOfOwnFile _ = ⊥
 
   abbrev pub IsOfTable : Fault → Type 0
   IsOfTable (Refused line) = IsNoTable line
   IsOfTable Memory = Unit {0}
   IsOfTable _ = ⊥
+
+module _ (input : Option (List ℕ)) where
+  -- a network's file is named that can't be read or is no TOML, and the line says why
+  abbrev pub IsNoNetwork : (path : Option (List ℕ)) → (line : Option (String Global)) → Type 0
+  IsNoNetwork None line = ⊥
+  IsNoNetwork (Some path) line = IsNoTable input path line
+
+  -- the fault is that, or that memory was refused
+  abbrev pub IsOfNetwork : (path : Option (List ℕ)) → Fault → Type 0
+  IsOfNetwork path (Refused line) = IsNoNetwork path line
+  IsOfNetwork path Memory = Unit {0}
+  IsOfNetwork path _ = ⊥
+
+  module _ (texts : SourceTexts) where
+    -- one of the files can't be read or is no TOML, and the line says why
+    abbrev pub AreNoFiles : (line : Option (String Global)) → Type 0
+    AreNoFiles line = IsNoTable input texts.path.now line ⊎ IsNoNetwork (network_path texts) line
+
+    abbrev pub IsOfFiles : Fault → Type 0
+    IsOfFiles (Refused line) = AreNoFiles line
+    IsOfFiles Memory = Unit {0}
+    IsOfFiles _ = ⊥
+
+    -- a key that words set has no place in the files
+    pub record IsUnset : Type 0 where
+      pub files : SourcesRecord
+      pub are_files : AreFiles input texts files
+      pub assigned : List Assignment
+      pub say : AllZip SaysAssignment (set_words texts) assigned
+      pub reason : PlaceError
+      pub other : is_place_memory reason ≡ false
+      pub is : assign_all assigned files ≡ Err reason
+
+    -- there are no such files
+    abbrev pub AreNoSources : (line : Option (String Global)) → Type 0
+    AreNoSources line = AreNoFiles line ⊎ IsUnset
+
+    -- the fault is that the words are refused that name the files and set keys, or the files, or that memory was
+    abbrev pub IsOfSources : GridRecord → Fault → Type 0
+    IsOfSources g (Words line) = SaysNoSources texts g
+    IsOfSources g WordsMemory = Unit {0}
+    IsOfSources g (Refused line) = AreNoSources line
+    IsOfSources g Memory = Unit {0}
+    IsOfSources g _ = ⊥
+
+    -- the files stand for no scenario
+    pub record IsNoScenario : Type 0 where
+      pub sources : SourcesRecord
+      pub are_sources : AreSources input texts no_axes sources
+      pub reason : ReadError
+      pub other : is_memory reason ≡ false
+      pub refused : IsRefusedFor (Ok sources) reason
+
+    -- a scenario's file alone is refused, and the line says why; or other files are
+    abbrev pub AreRefused : (line : Option (String Global)) → Type 0
+    AreRefused line =
+        Decided (is_alone texts) (IsRefusedFile input texts.path.now line) (AreNoSources line ⊎ IsNoScenario)
+
+    -- the fault is that words or files are refused, or that memory was
+    abbrev pub IsOfFile : Fault → Type 0
+    IsOfFile (Words line) = SaysNoSources texts no_axes
+    IsOfFile WordsMemory = Unit {0}
+    IsOfFile (Refused line) = AreRefused line
+    IsOfFile Memory = Unit {0}
+    IsOfFile _ = ⊥

@@ -1,4 +1,4 @@
--- Runs of the file's scenario that are refused.
+-- Runs of the files' scenario that are refused.
 use Rattle.std.specs.Prelude.{◌<◌, ℕ, List, length, Option}
 use Rattle.trace_laws.specs.ScenarioSetting.{setting_of}
 use Rattle.trace_laws.specs.World.{IsTrace}
@@ -10,6 +10,7 @@ use Rattle.study_commands.specs.declared.fault.Fault.{Fault}
 use Rattle.study_commands.specs.declared.fault.Fault.TheVariants.{Limit, Memory, Write}
 use Rattle.process_api.specs.EntryRecord.{EntryRecord}
 use Rattle.scenario_record.specs.Record.{Record}
+use Rattle.study_line.specs.declared.order.SourceTexts.{SourceTexts}
 
 -- a run by the event list is refused for its limit or for want of memory
 abbrev pub fault_of_run : RunError → Fault
@@ -26,9 +27,9 @@ IsOfRun s Limit = IsTooLong s
 IsOfRun s Memory = Unit {0}
 IsOfRun s _ = ⊥
 
--- `letters` stops for its file, for a run of its scenario that is longer than the limit, for want of memory or at a
+-- `letters` stops for its words, for its files, for a run of its scenario that is longer than the limit, for want of memory or at a
 -- failed write
-abbrev pub StopsLetters : Option (List ℕ) → (path : List ℕ) → Fault → Type 0
-StopsLetters input path Limit = (s : Record) × IsScenario input path s × IsTooLong s
-StopsLetters input path Write = Unit {0}
-StopsLetters input path fault = IsOfFile input path fault
+abbrev pub StopsLetters : Option (List ℕ) → SourceTexts → Fault → Type 0
+StopsLetters input texts Limit = (s : Record) × IsScenario input texts s × IsTooLong s
+StopsLetters input texts Write = Unit {0}
+StopsLetters input texts fault = IsOfFile input texts fault

@@ -1,13 +1,13 @@
 -- What the program does for a command line.
-use Rattle.std.specs.Prelude.{◌≡◌, ◌≢◌, ◌⊎◌, ◌++◌, ℕ, List, Option, Result, codes, string_bytes}
-use Rattle.study_commands.specs.Answer.{Answers, Leaves, Writes, path_of}
+use Rattle.std.specs.Prelude.{◌≡◌, ◌⊎◌, ◌++◌, ℕ, List, Option, Result, codes, string_bytes}
+use Rattle.study_commands.specs.Answer.{Answers, Leaves, Writes, texts_of}
 use Rattle.study_commands.specs.Fault.{end_of, line_of, status_of}
+use Rattle.study_commands.specs.File.{NameNoInput}
 use Rattle.study_commands.specs.Why.{StopsFor}
 use Rattle.study_commands.specs.declared.fault.Fault.{Fault}
 use Rattle.study_commands.specs.declared.fault.Fault.TheVariants.{Form, Words, WordsMemory, Write}
 use Rattle.printable.specs.Printable.{printable, printable_lines}
 use Rattle.shell.specs.Ending.{Goes, IsWhy as Why}
-use Rattle.shell.specs.Input.{input_path}
 use Rattle.study_line.specs.Order.{AsksHelp, Explains, States}
 use Rattle.study_line.specs.declared.order.Order.{Order}
 use Rattle.study_line.specs.declared.order.WordsError.{WordsError}
@@ -81,4 +81,4 @@ IsHelp _ = ⊥
 
 -- no order that the words state names standard input
 abbrev pub NamesNoInput : List (List ℕ) → Type 0
-NamesNoInput words = (asked : Order) → States words asked → path_of asked ≢ input_path
+NamesNoInput words = (asked : Order) → States words asked → NameNoInput (texts_of asked)

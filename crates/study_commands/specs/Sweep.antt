@@ -9,16 +9,17 @@ use Rattle.study_commands.specs.declared.fault.Fault.TheVariants.{Memory, Write}
 use Rattle.shell.specs.Ending.{Goes}
 use Rattle.study.specs.Grid.{GridRecord, points, runs}
 use Rattle.study.specs.Shard.{ShardRecord}
+use Rattle.study_line.specs.declared.order.SourceTexts.{SourceTexts}
 use Rattle.study_line.specs.declared.order.StudyTexts.{StudyTexts}
 use Rattle.sweep.specs.Layout.{LayoutRecord}
 use Rattle.sweep.specs.StudyText.{IsStudyText, IsTextOf, units_of}
 use Rattle.sweep.specs.declared.error.SweepError.{SweepError}
 use Rattle.sweep.specs.declared.error.SweepError.TheVariants as error
 
--- the study that words say of the file, and the layout of its rows
-module _ (input : Option (List ℕ)) (path : List ℕ) (study : StudyTexts) where
+-- the study that words say of the files, and the layout of its rows
+module _ (input : Option (List ℕ)) (texts : SourceTexts) (study : StudyTexts) where
   pub record IsSaid (sources : SourcesRecord) (grid : GridRecord) (shard : ShardRecord) (layout : LayoutRecord) : Type 0 where
-    pub are_sources : AreSources input path sources
+    pub are_sources : AreSources input texts grid sources
     pub is_grid : IsGrid study.grid grid
     pub is_shard : IsShardOf (shard_word study) shard
     pub is_layout : IsLayout study.each (pairs_words study) (columns_word study) grid layout
@@ -44,10 +45,10 @@ module _ (input : Option (List ℕ)) (path : List ℕ) (study : StudyTexts) wher
 
 -- what went out for a sweep: its text, or the rows of the first points
 abbrev pub GoesForSweep : {O A : Type 0} (told : O → Option (List ℕ)) (failed : O → ℕ) (old new : O) → Option (List ℕ)
-    → (path : List ℕ) → StudyTexts → Result A Fault → Type 0
-GoesForSweep told failed old new input path study outcome =
-    let front = IsSweepFront input path study in
-    Goes end_of told failed old new (IsSweepAnswer input path study) front front outcome
+    → SourceTexts → StudyTexts → Result A Fault → Type 0
+GoesForSweep told failed old new input texts study outcome =
+    let front = IsSweepFront input texts study in
+    Goes end_of told failed old new (IsSweepAnswer input texts study) front front outcome
 
 -- the fault of a sweep that breaks off: of a run that is refused its line isn't said
 abbrev pub IsFaultOf : SweepError → Fault → Type 0

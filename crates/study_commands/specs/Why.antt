@@ -1,21 +1,23 @@
--- Why an order isn't carried out: which of its words, its file or its runs are refused.
-use Rattle.std.specs.Prelude.{◌≡◌, ◌⊎◌, ℕ, List, length, false, Option, None, Some, String, option_map}
+-- Why an order isn't carried out: which of its words, its files or its runs are refused.
+use Rattle.std.specs.Prelude.{◌≡◌, ◌⊎◌, ◌<◌, ℕ, List, length, false, Option, None, Some, String, option_map}
 use Rattle.std.specs.declared.alloc.Global.{Global}
 use Rattle.study_commands.specs.Draw.{StopsPicture}
 use Rattle.study_commands.specs.File.{AreSources}
-use Rattle.study_commands.specs.Refusal.{IsNoTable, IsOfFile}
+use Rattle.study_commands.specs.Refusal.{AreNoSources, IsOfFile}
 use Rattle.study_commands.specs.Runs.{StopsLetters}
 use Rattle.study_commands.specs.Show.{IsPlace}
 use Rattle.study_commands.specs.Study.{IsGrid, IsLayout, IsShardOf, columns_word, pairs_words, shard_word}
-use Rattle.study_commands.specs.WordRefusals.{IsOutside, SaysNoGrid, SaysNoLayout, SaysNoShard}
+use Rattle.study_commands.specs.WordRefusals.{IsOutside, SaysNoGrid, SaysNoLayout, SaysNoShard, SaysNoSources}
 use Rattle.study_commands.specs.declared.fault.Fault.{Fault}
 use Rattle.study_commands.specs.declared.fault.Fault.TheVariants.{Memory, Refused, Words, WordsMemory, Write}
 use Rattle.study.specs.Grid.{GridRecord, points, runs}
 use Rattle.study.specs.Placed.{sources_of_run}
-use Rattle.study.specs.Runs.{HasNoText, RunSources, is_text_memory}
+use Rattle.shell.specs.Input.{most_bytes}
+use Rattle.study.specs.Runs.{HasNoText, IsRunText, RunSources, is_text_memory}
 use Rattle.study.specs.Shard.{ShardRecord}
 use Rattle.study.specs.declared.error.TextError.{TextError}
 use Rattle.study_line.specs.declared.order.GridTexts.{GridTexts}
+use Rattle.study_line.specs.declared.order.SourceTexts.{SourceTexts}
 use Rattle.study_line.specs.declared.order.StudyTexts.{StudyTexts}
 use Rattle.study_line.specs.declared.order.Order.{Order}
 use Rattle.study_line.specs.declared.order.Order.TheVariants as order
@@ -25,7 +27,7 @@ use Rattle.sweep.specs.StudyText.{point_at, run_at}
 use Rattle.sweep.specs.declared.error.SweepError.{SweepError}
 use Rattle.study.specs.Sources.{SourcesRecord}
 
--- a command over a study stops for its words, for its file or a run of it, for want of memory or at a failed write
+-- a command over a study stops for its words, for its files or a run of it, for want of memory or at a failed write
 abbrev pub IsOfStudy : (OfWords : Type 0) (OfFile : Option (String Global) → Type 0) → Fault → Type 0
 IsOfStudy OfWords OfFile (Words line) = OfWords
 IsOfStudy OfWords OfFile WordsMemory = Unit {0}
@@ -40,48 +42,55 @@ pub record HasNone (r : RunSources) : Type 0 where
   pub other : is_text_memory reason ≡ false
   pub has_none : HasNoText r reason
 
--- the fault is that a run has no text, or that memory was refused
+-- its text is longer than a file may be
+pub record IsTooLong (r : RunSources) : Type 0 where
+  pub text : List ℕ
+  pub is_text : IsRunText r text
+  pub long : most_bytes < length text
+
+-- the fault is that a run has no text that can be a file's, or that memory was refused
 abbrev pub IsOfText : RunSources → Fault → Type 0
-IsOfText r (Refused line) = HasNone r
+IsOfText r (Refused line) = HasNone r ⊎ IsTooLong r
 IsOfText r Memory = Unit {0}
 IsOfText r _ = ⊥
 
-module _ (input : Option (List ℕ)) (path : List ℕ) where
-  -- `check` stops for its file, for want of memory or at a failed write
+module _ (input : Option (List ℕ)) (texts : SourceTexts) where
+  -- `check` stops for its words, for its files, for want of memory or at a failed write
   abbrev pub StopsCheck : Fault → Type 0
   StopsCheck Write = Unit {0}
-  StopsCheck fault = IsOfFile input path fault
+  StopsCheck fault = IsOfFile input texts fault
 
   module _ (words : GridTexts) where
     module _ (point run : ℕ) where
-      -- the words say no grid, or one that has no such point or run
+      -- the words say no grid, or one that has no such point or run, or over which they say no files
       abbrev pub NamesNoRun : Type 0
       NamesNoRun = SaysNoGrid words
           ⊎ ((g : GridRecord) × IsGrid words g
-          × (IsOutside point (length (points g)) ⊎ IsOutside run (length (runs g))))
+          × (IsOutside point (length (points g)) ⊎ (IsOutside run (length (runs g)) ⊎ SaysNoSources texts g)))
 
-      -- the run has no text
+      -- the run has no text that can be a file's
       pub record IsUnshown : Type 0 where
-        pub sources : SourcesRecord
-        pub are_sources : AreSources input path sources
         pub grid : GridRecord
         pub is_grid : IsGrid words grid
+        pub sources : SourcesRecord
+        pub are_sources : AreSources input texts grid sources
         pub point_place : ℕ
         pub is_point : IsPlace point (length (points grid)) point_place
         pub run_place : ℕ
         pub is_run : IsPlace run (length (runs grid)) run_place
-        pub has_none : HasNone (sources_of_run (point_at grid point_place) (run_at grid run_place) sources)
+        pub none : let r = sources_of_run (point_at grid point_place) (run_at grid run_place) sources in
+            HasNone r ⊎ IsTooLong r
 
       abbrev pub StopsShow : Fault → Type 0
-      StopsShow = IsOfStudy NamesNoRun (λ line. IsNoTable input path line ⊎ IsUnshown)
+      StopsShow = IsOfStudy NamesNoRun (λ line. AreNoSources input texts line ⊎ IsUnshown)
 
   module _ (study : StudyTexts) where
     -- a run of the study can't be run, of the shard's where one is named, and each before it can
     pub record HasRefusedRun : Type 0 where
-      pub sources : SourcesRecord
-      pub are_sources : AreSources input path sources
       pub grid : GridRecord
       pub is_grid : IsGrid study.grid grid
+      pub sources : SourcesRecord
+      pub are_sources : AreSources input texts grid sources
       pub shard : ShardRecord
       pub is_shard : IsShardOf (shard_word study) shard
       pub point : ℕ
@@ -93,29 +102,29 @@ module _ (input : Option (List ℕ)) (path : List ℕ) where
 
     -- a command over a study and its file stops for words, for the file or for a run
     abbrev pub StopsRuns : (OfWords : Type 0) → Fault → Type 0
-    StopsRuns OfWords = IsOfStudy OfWords (λ line. IsNoTable input path line ⊎ HasRefusedRun)
+    StopsRuns OfWords = IsOfStudy OfWords (λ line. AreNoSources input texts line ⊎ HasRefusedRun)
 
-    -- the words say no grid, no shard, no group of pairs, or columns that its rows don't have
+    -- the words say no grid, no shard, no group of pairs, columns that its rows don't have, or no files
     abbrev pub SaysNoSweep : Type 0
     SaysNoSweep = SaysNoGrid study.grid
         ⊎ (SaysNoShard (shard_word study)
         ⊎ ((g : GridRecord) × IsGrid study.grid g
-        × SaysNoLayout study.each (pairs_words study) (columns_word study) g))
+        × (SaysNoLayout study.each (pairs_words study) (columns_word study) g ⊎ SaysNoSources texts g)))
 
     -- `check` of a study stops where `sweep` does before the first run
     abbrev pub StopsSweep : Fault → Type 0
     StopsSweep = StopsRuns SaysNoSweep
 
--- a check stops for this fault, of the file or of a study over it
-abbrev pub StopsChecked : Option (List ℕ) → (path : List ℕ) → Option StudyTexts → Fault → Type 0
-StopsChecked input path None fault = StopsCheck input path fault
-StopsChecked input path (Some study) fault = StopsSweep input path study fault
+-- a check stops for this fault, of the files or of a study over them
+abbrev pub StopsChecked : Option (List ℕ) → SourceTexts → Option StudyTexts → Fault → Type 0
+StopsChecked input texts None fault = StopsCheck input texts fault
+StopsChecked input texts (Some study) fault = StopsSweep input texts study fault
 
 -- an order isn't carried out for this fault
 abbrev pub StopsFor : Option (List ℕ) → Order → Fault → Type 0
-StopsFor input (order.Check path study) fault = StopsChecked input path.now study fault
-StopsFor input (order.Letters path) fault = StopsLetters input path.now fault
-StopsFor input (order.Draw path named from until of) fault =
-    StopsPicture input path.now named from until (option_map (λ w. w.now) of) fault
-StopsFor input (order.Show path grid point run) fault = StopsShow input path.now grid point run fault
-StopsFor input (order.Sweep path study) fault = StopsSweep input path.now study fault
+StopsFor input (order.Check texts study) fault = StopsChecked input texts study fault
+StopsFor input (order.Letters texts) fault = StopsLetters input texts fault
+StopsFor input (order.Draw texts named from until of) fault =
+    StopsPicture input texts named from until (option_map (λ w. w.now) of) fault
+StopsFor input (order.Show texts grid point run) fault = StopsShow input texts grid point run fault
+StopsFor input (order.Sweep texts study) fault = StopsSweep input texts study fault

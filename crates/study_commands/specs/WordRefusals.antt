@@ -5,20 +5,26 @@ use Rattle.std.specs.List.{AllZip, Contains}
 use Rattle.diagnosis.specs.Likeness.{edits, most_edits}
 use Rattle.printable.specs.Printable.{printable}
 use Rattle.study.specs.AxisWords.{SaysAxis, SaysNoAxis, is_memory as is_axis_memory}
-use Rattle.study.specs.Grid.{GridRecord, IsFirst, is_memory as is_grid_memory}
+use Rattle.study.specs.Grid.{GridRecord, IsFirst, set_twice, is_memory as is_grid_memory}
 use Rattle.study.specs.SeedWords.{seeds_fault, seeds_said}
+use Rattle.study.specs.SetWords.{SaysAssignment, SaysNoAssignment, is_memory as is_set_memory}
+use Rattle.study.specs.Settings.{Path}
 use Rattle.study.specs.ShardWords.{shard_fault, shard_said}
 use Rattle.study.specs.Words.{Word}
+use Rattle.study.specs.declared.assignment.Assignment.{Assignment}
 use Rattle.study.specs.declared.axis.Axis.{Axis}
+use Rattle.study.specs.declared.error.AssignmentError.{AssignmentError}
 use Rattle.study.specs.declared.error.AxisError.{AxisError}
 use Rattle.study.specs.declared.error.GridError.{GridError}
 use Rattle.study.specs.declared.error.SeedsError.{SeedsError}
 use Rattle.study.specs.declared.error.ShardError.{ShardError}
+use Rattle.study_commands.specs.File.{NameInputTwice, paths_set, set_words}
 use Rattle.study_commands.specs.Study.{rows_for}
 use Rattle.study_commands.specs.declared.fault.Fault.{Fault}
 use Rattle.study_commands.specs.declared.fault.Fault.TheVariants.{Words, WordsMemory}
 use Rattle.study_line.specs.declared.order.Each.{Each}
 use Rattle.study_line.specs.declared.order.GridTexts.{GridTexts}
+use Rattle.study_line.specs.declared.order.SourceTexts.{SourceTexts}
 use Rattle.sweep.specs.GroupWords.{SaysGroup, SaysNoGroup}
 use Rattle.sweep.specs.Groups.{groups_of}
 use Rattle.sweep.specs.Layout.{IsNoLayout}
@@ -114,6 +120,28 @@ TellsOfLayout (layout.Unknown name nearest) (Words line) =
     string_bytes line ≡ no_column_line (string_bytes name) (string_bytes nearest)
 TellsOfLayout error WordsMemory = Unit {0}
 TellsOfLayout error _ = ⊥
+
+-- one of the words sets no key, for a reason other than memory
+pub record HasNoAssignment (words : List Word) : Type 0 where
+  pub word : Word
+  pub there : Contains words word
+  pub reason : AssignmentError
+  pub other : is_set_memory reason ≡ false
+  pub says : SaysNoAssignment word reason
+
+-- a key is set twice, or an axis sets it
+abbrev pub IsSetTwice : GridRecord → List Assignment → Type 0
+IsSetTwice g assigned = (key : Path) × (set_twice g (paths_set assigned) ≡ Some key)
+
+-- words do so
+pub record SetTwice (words : List Word) (g : GridRecord) : Type 0 where
+  pub assigned : List Assignment
+  pub say : AllZip SaysAssignment words assigned
+  pub is : IsSetTwice g assigned
+
+-- the words that name files and set keys are refused
+abbrev pub SaysNoSources : SourceTexts → GridRecord → Type 0
+SaysNoSources texts g = HasNoAssignment (set_words texts) ⊎ (SetTwice (set_words texts) g ⊎ NameInputTwice texts)
 
 -- what counts from 1 isn't among so many
 abbrev pub IsOutside : (number count : ℕ) → Type 0

@@ -1,10 +1,10 @@
-//! The file that a path names.
-ghost use Rattle.std.specs.Prelude.{◌≡◌, ◌≢◌, ◌+◌, ℕ, List, IfOk, IfErr};
+//! The files that paths name.
+ghost use Rattle.std.specs.Prelude.{◌≡◌, ◌≢◌, ◌+◌, ℕ, List, Some, IfOk, IfErr, option_map};
 ghost use Rattle.diagnosis.specs.Diagnosis.{RefusesFor};
 ghost use Rattle.toml.specs.View.{table_view};
 ghost use Rattle.study.specs.Sources.{sources_of};
-ghost use Rattle.study_commands.specs.File.{AreBytes, AreSources, IsScenario, IsTable};
-ghost use Rattle.study_commands.specs.Refusal.{IsOfBytes, IsOfFile, IsOfTable, IsToldWith, IsUnread};
+ghost use Rattle.study_commands.specs.File.{AreBytes, AreFiles, IsOwnScenario, IsTable, MayBeTable, NameInputTwice, NameNoInput};
+ghost use Rattle.study_commands.specs.Refusal.{IsOfBytes, IsOfFiles, IsOfNetwork, IsOfOwnFile, IsOfTable, IsToldWith, IsUnread};
 ghost use Rattle.shell.specs.Input.{TakesAtMost, input_path, most_bytes};
 
 use crate::fault::Fault;
@@ -16,6 +16,7 @@ use std::alloc::Global;
 use std::io::Read;
 use std::rt::Files;
 use study::Sources;
+use study_line::SourceTexts;
 use toml::Table;
 
 /// The fault of a file that is refused, told with this text.
@@ -85,31 +86,52 @@ fn table_of<R: Files, I: Read>(
     }
 }
 
-/// The files of a study over the file at a path; `-` is the input.
-pub(crate) fn sources_at<R: Files, I: Read>(
+/// The table of the network's file, where a path names one; `-` is the input.
+fn network_of<R: Files, I: Read>(
     rt: &R,
     alloc: Global,
-    path: &str,
+    path: Option<&str>,
+    input: &mut I,
+) -> Result<Option<Table>, Fault>
+    ensures network { IfOk result (λ t. MayBeTable (I.remaining input.old) (option_map (λ w. w.now) path.entry)
+        (option_map table_view t)) }
+    ensures why { IfErr result (IsOfNetwork (I.remaining input.old) (option_map (λ w. w.now) path.entry)) }
+    ensures taken { TakesAtMost (most_bytes + 1) (I.remaining input.old) (I.remaining input.new) }
+    ensures untouched { option_map (λ w. w.now) path.entry ≢ Some input_path → input.new ≡ input.old }
+{
+    match path {
+        Some(path) => Ok(Some(table_of(rt, alloc, path, input)?)),
+        None => Ok(None),
+    }
+}
+
+/// The files that are named; `-` is the input, for one of them at most.
+pub(crate) fn files_of<R: Files, I: Read>(
+    rt: &R,
+    alloc: Global,
+    texts: &SourceTexts<'_>,
     input: &mut I,
 ) -> Result<Sources, Fault>
-    ensures sources { IfOk result (λ s. AreSources (I.remaining input.old) path.now (sources_of s)) }
-    ensures why { IfErr result (IsOfTable (I.remaining input.old) path.now) }
+    requires { ¬ NameInputTwice texts.now }
+    ensures files { IfOk result (λ s. AreFiles (I.remaining input.old) texts.now (sources_of s)) }
+    ensures why { IfErr result (IsOfFiles (I.remaining input.old) texts.now) }
     ensures taken { TakesAtMost (most_bytes + 1) (I.remaining input.old) (I.remaining input.new) }
-    ensures untouched { path.now ≢ input_path → input.new ≡ input.old }
+    ensures untouched { NameNoInput texts.now → input.new ≡ input.old }
 {
-    let file = table_of(rt, alloc, path, input)?;
-    Ok(Sources::of_scenario(file))
+    let scenario = table_of(rt, alloc, texts.path, input)?;
+    let network = network_of(rt, alloc, texts.network, input)?;
+    Ok(Sources { scenario, network })
 }
 
 /// The scenario of the file at a path; `-` is the input.
-pub(crate) fn scenario_at<R: Files, I: Read>(
+pub(crate) fn own_scenario_at<R: Files, I: Read>(
     rt: &R,
     alloc: Global,
     path: &str,
     input: &mut I,
 ) -> Result<Scenario, Fault>
-    ensures scenario { IfOk result (IsScenario (I.remaining input.old) path.now) }
-    ensures why { IfErr result (IsOfFile (I.remaining input.old) path.now) }
+    ensures scenario { IfOk result (IsOwnScenario (I.remaining input.old) path.now) }
+    ensures why { IfErr result (IsOfOwnFile (I.remaining input.old) path.now) }
     ensures taken { TakesAtMost (most_bytes + 1) (I.remaining input.old) (I.remaining input.new) }
     ensures untouched { path.now ≢ input_path → input.new ≡ input.old }
 {

@@ -17,6 +17,8 @@
 #![tactic(auto)]
 
 mod adding;
+mod alone;
+mod assigned;
 mod checking;
 mod common_link;
 mod dealt_ticks;
@@ -29,7 +31,9 @@ mod late;
 mod lettering;
 mod limited_point;
 mod link_keys;
+mod network_reason;
 mod picturing;
+mod place_reason;
 mod processes;
 pub mod progress_line;
 mod reckoning;
@@ -39,6 +43,7 @@ mod running;
 pub mod serve;
 mod shared_outages;
 mod showing;
+mod sources;
 mod spread;
 mod study_check;
 mod study_words;

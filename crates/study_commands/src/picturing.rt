@@ -1,13 +1,14 @@
 //! The command `draw`: pictures of a scenario's run.
-ghost use Rattle.std.specs.Prelude.{◌≡◌, ◌≢◌, ◌+◌, IfErr, IfOk, None, Some, map, option_map};
+ghost use Rattle.std.specs.Prelude.{◌≡◌, ◌+◌, IfErr, IfOk, None, Some, map, option_map};
 ghost use Rattle.drawing.specs.Refusals.{refusal};
 ghost use Rattle.study_commands.specs.Draw.{AreNamed, HasNoProcess, IsDrawAnswer, IsOfPicture, NamesNone};
 ghost use Rattle.study_commands.specs.Draw.{Shows, StopsPicture, TellsOf, process_said};
 ghost use Rattle.study_commands.specs.Fault.{IsBefore, IsOfWordsFor};
-ghost use Rattle.shell.specs.Input.{TakesAtMost, input_path, most_bytes};
+ghost use Rattle.study_commands.specs.File.{NameNoInput};
+ghost use Rattle.shell.specs.Input.{TakesAtMost, most_bytes};
 
+use crate::alone::scenario_at;
 use crate::fault::Fault;
-use crate::file::scenario_at;
 use crate::processes::process_of;
 use crate::running::{letters_of, trace_of};
 use drawing::{DrawError, check_ticks, draw_letters, draw_suspicions};
@@ -18,7 +19,7 @@ use std::alloc::Global;
 use std::io::Read;
 use std::rt::Files;
 use study::words_between;
-use study_line::Picture;
+use study_line::{Picture, SourceTexts};
 
 /// The processes that pieces of a word name.
 fn named_by(alloc: Global, pieces: &[&str]) -> Result<Vec<Pid>, Fault>
@@ -100,31 +101,31 @@ fn picture_of(
     }
 }
 
-/// Answers `draw`: a picture of the run of the file's scenario, as SVG; where nothing is said, from tick 0 to the
+/// Answers `draw`: a picture of the run of the files' scenario, as SVG; where nothing is said, from tick 0 to the
 /// horizon. What its processes and these ticks refuse is told before the run is made.
 pub(crate) fn serve_draw<R: Files, I: Read>(
     rt: &R,
     alloc: Global,
-    path: &str,
+    texts: &SourceTexts<'_>,
     picture: Picture,
     from: Option<u32>,
     until: Option<u32>,
     of: Option<&str>,
     input: &mut I,
 ) -> Result<Vec<u8>, Fault>
-    ensures text { IfOk result (λ text. IsDrawAnswer (I.remaining input.old) path.now picture from until
+    ensures text { IfOk result (λ text. IsDrawAnswer (I.remaining input.old) texts.now picture from until
         (option_map (λ w. w.now) of.entry) text.items) }
-    ensures refused { IfErr result (IsBefore (StopsPicture (I.remaining input.old) path.now picture from until
+    ensures refused { IfErr result (IsBefore (StopsPicture (I.remaining input.old) texts.now picture from until
         (option_map (λ w. w.now) of.entry))) }
     ensures taken { TakesAtMost (most_bytes + 1) (I.remaining input.old) (I.remaining input.new) }
-    ensures untouched { path.now ≢ input_path → input.new ≡ input.old }
+    ensures untouched { NameNoInput texts.now → input.new ≡ input.old }
 {
     let of = processes_named(alloc, picture, of)?;
-    let scenario = scenario_at(rt, alloc, path, input)?;
+    let scenario = scenario_at(rt, alloc, texts, input)?;
     let from = from.unwrap_or(0);
     let until = until.unwrap_or(scenario.horizon());
     match check_ticks(&scenario, from, until) {
-        Ok(()) => picture_of(alloc, path, picture, &scenario, &of, from, until),
-        Err(error) => Err(fault_of(alloc, path, error)),
+        Ok(()) => picture_of(alloc, texts.path, picture, &scenario, &of, from, until),
+        Err(error) => Err(fault_of(alloc, texts.path, error)),
     }
 }

@@ -2,11 +2,13 @@
 ghost use Rattle.std.specs.Prelude.{◌<◌, length};
 ghost use Rattle.study.specs.Grid.{points, runs};
 
+use crate::place_reason::place_reason;
 use crate::run_name::name_of_run;
 use diagnosis::{Diagnosis, diagnose_table};
 use printable::Printable;
 use std::alloc::{AllocError, Global};
-use study::{Choice, Grid, PlaceError, Run, Sources, run_table};
+use study::{Choice, Grid, Run, Sources, run_table, table_alone};
+use toml::Table;
 
 /// What `check` says of a run's file, or why there is none.
 fn reason_of(
@@ -17,13 +19,31 @@ fn reason_of(
 ) -> Result<String, AllocError> {
     let table = match run_table(alloc, sources, settings, run) {
         Ok(table) => table,
-        Err(PlaceError::Memory(error)) => return Err(error),
-        Err(error) => return format!(in alloc; "{error:?}: {error}"),
+        Err(error) => return place_reason(alloc, &error),
     };
-    match diagnose_table(alloc, &table)? {
+    table_reason(alloc, &table)
+}
+
+/// What `check` says of a table that is refused.
+fn table_reason(alloc: Global, table: &Table) -> Result<String, AllocError> {
+    match diagnose_table(alloc, table)? {
         Diagnosis::Refused(refused) => format!(in alloc; "{refused}"),
         Diagnosis::Accepted(_) => Err(AllocError),
     }
+}
+
+/// The line of files that are refused as they stand, with the scenario's own seed.
+pub(crate) fn line_alone(
+    alloc: Global,
+    path: &str,
+    sources: &Sources,
+) -> Result<String, AllocError> {
+    let why = match table_alone(alloc, sources) {
+        Ok(table) => table_reason(alloc, &table)?,
+        Err(error) => place_reason(alloc, &error)?,
+    };
+    let path = Printable(path);
+    format!(in alloc; "{path}: {why}\n")
 }
 
 /// The line of a run of a point, both from 0, that has only so many processes, below one that a group of pairs names.
@@ -42,6 +62,23 @@ pub(crate) fn line_of_lack(
     let text = format!(in alloc;
         "{path}: {name}: NoSuchProcess: its processes are 1 to {processes}"
     )?;
+    let text = Printable(text.as_str());
+    format!(in alloc; "{text}\n")
+}
+
+/// The line of a run of a point, both from 0, whose text is longer than a file may be.
+pub(crate) fn line_of_length(
+    alloc: Global,
+    path: &str,
+    grid: &Grid,
+    point: u64,
+    run: u64,
+) -> Result<String, AllocError>
+    requires point { point < length (points grid.now) }
+    requires run { run < length (runs grid.now) }
+{
+    let name = name_of_run(alloc, grid, point, run)?;
+    let text = format!(in alloc; "{path}: {name}: TooLong: more than 8388608 bytes")?;
     let text = Printable(text.as_str());
     format!(in alloc; "{text}\n")
 }

@@ -1,14 +1,15 @@
 //! One run of the program.
 ghost use Rattle.std.specs.Prelude.{◌≡◌, ◌≢◌, ◌⊎◌, ◌^◌, ◌-◌, ◌+◌, ◌<◌, ◌≤◌, false, IfErr, IfOk, OnOk, map};
-ghost use Rattle.study_commands.specs.Answer.{Answers, GoesFor, IsNoSweep, path_of};
+ghost use Rattle.study_commands.specs.Answer.{Answers, GoesFor, IsNoSweep, texts_of};
 ghost use Rattle.study_commands.specs.Fault.{IsBefore, end_of};
+ghost use Rattle.study_commands.specs.File.{NameNoInput};
 ghost use Rattle.study_commands.specs.Serve.{GoesForWords, IsAsked, IsHelp, IsReason, IsWhy, LeftOf};
 ghost use Rattle.study_commands.specs.Serve.{NamesNoInput, Serves, ServesFor, TellsLine, TellsOf, other_word_line};
 ghost use Rattle.printable.specs.Printable.{printable_lines};
 ghost use Rattle.study_commands.specs.Why.{StopsFor};
 ghost use Rattle.reporting.specs.Writing.{WroteNothing};
 ghost use Rattle.shell.specs.Ending.{MayHaveGone, Puts, Tells, Went, WentPart};
-ghost use Rattle.shell.specs.Input.{TakesAtMost, input_path, most_bytes};
+ghost use Rattle.shell.specs.Input.{TakesAtMost, most_bytes};
 
 use crate::checking::serve_check;
 use crate::fault::Fault;
@@ -41,28 +42,28 @@ fn text_of<R: Files + Threads + Sync + Clock, I: Read, W: Watcher>(
     ensures text { IfOk result (λ text. Answers (I.remaining input.old) order.now text.items) }
     ensures why { IfErr result (IsBefore (StopsFor (I.remaining input.old) order.now)) }
     ensures taken { TakesAtMost (most_bytes + 1) (I.remaining input.old) (I.remaining input.new) }
-    ensures untouched { path_of order.now ≢ input_path → input.new ≡ input.old }
+    ensures untouched { NameNoInput (texts_of order.now) → input.new ≡ input.old }
     ensures hidden { W.shows watcher.old ≡ false → W.shows watcher.new ≡ false }
 {
     match order {
-        Order::Check { path, study } => match study {
-            None => serve_check(rt, alloc, path, input),
-            Some(study) => serve_study_check(rt, alloc, path, study, input, watcher),
+        Order::Check { sources, study } => match study {
+            None => serve_check(rt, alloc, sources, input),
+            Some(study) => serve_study_check(rt, alloc, sources, study, input, watcher),
         },
-        Order::Letters { path } => serve_letters(rt, alloc, path, input),
+        Order::Letters { sources } => serve_letters(rt, alloc, sources, input),
         Order::Draw {
-            path,
+            sources,
             picture,
             from,
             until,
             of,
-        } => serve_draw(rt, alloc, path, *picture, *from, *until, *of, input),
+        } => serve_draw(rt, alloc, sources, *picture, *from, *until, *of, input),
         Order::Show {
-            path,
+            sources,
             grid,
             point,
             run,
-        } => serve_show(rt, alloc, path, grid, *point, *run, input),
+        } => serve_show(rt, alloc, sources, grid, *point, *run, input),
         Order::Sweep { .. } => unreachable!(),
     }
 }
@@ -79,13 +80,13 @@ fn carry_out<R: Files + Threads + Sync + Clock, I: Read, O: Outlet, W: Watcher>(
     requires { O.failed outlet.old < 2 ^ 64 - 1 }
     ensures text { GoesFor O.told O.failed outlet.old outlet.new (I.remaining input.old) order.now result }
     ensures taken { TakesAtMost (most_bytes + 1) (I.remaining input.old) (I.remaining input.new) }
-    ensures untouched { path_of order.now ≢ input_path → input.new ≡ input.old }
+    ensures untouched { NameNoInput (texts_of order.now) → input.new ≡ input.old }
     ensures why { IfErr result (StopsFor (I.remaining input.old) order.now) }
     ensures hidden { W.shows watcher.old ≡ false → W.shows watcher.new ≡ false }
 {
     match order {
-        Order::Sweep { path, study } => {
-            serve_sweep(rt, alloc, path, study, input, outlet, watcher)
+        Order::Sweep { sources, study } => {
+            serve_sweep(rt, alloc, sources, study, input, outlet, watcher)
         }
         _ => put_bytes(&text_of(rt, alloc, order, input, watcher)?, outlet),
     }
@@ -158,7 +159,7 @@ fn answer_words<R: Files + Threads + Sync + Clock, I: Read, O: Outlet, W: Watche
 /// | 3 | the run passes its limit, or memory was refused |
 /// | 4 | writing to the outlet failed |
 ///
-/// Faults are looked for in this order: words, file, processes and ticks of a picture, runs, letters of a picture. So 1
+/// Faults are looked for in this order: words, files, processes and ticks of a picture, runs, letters of a picture. So 1
 /// comes only where the words make a whole order. Nothing of the input is taken but for an order that names `-`.
 ///
 /// With status 1 or 2 nothing was written, and with 3 nothing but by `sweep`: its first line and the rows of the first

@@ -1,10 +1,11 @@
 //! The command `check` with a study: how many points and runs there are, and about how much they will be.
-ghost use Rattle.std.specs.Prelude.{◌≡◌, ◌≢◌, ◌+◌, ◌++◌, ℕ, List, false, IfOk, IfErr, length, string_bytes};
+ghost use Rattle.std.specs.Prelude.{◌≡◌, ◌+◌, ◌++◌, ℕ, List, false, IfOk, IfErr, length, string_bytes};
 ghost use Rattle.study.specs.Grid.{runs};
 ghost use Rattle.study_commands.specs.Check.{IsStudyCheck, study_begin};
 ghost use Rattle.study_commands.specs.Why.{StopsSweep};
 ghost use Rattle.study_commands.specs.Fault.{IsBefore};
-ghost use Rattle.shell.specs.Input.{TakesAtMost, input_path, most_bytes};
+ghost use Rattle.study_commands.specs.File.{NameNoInput};
+ghost use Rattle.shell.specs.Input.{TakesAtMost, most_bytes};
 ghost use Rattle.sweep.specs.StudyText.{numbers_of};
 
 use crate::fault::Fault;
@@ -21,7 +22,7 @@ use std::rt::Files;
 use std::thread::Threads;
 use std::time::Clock;
 use study::{Grid, Shard, Sources};
-use study_line::StudyTexts;
+use study_line::{SourceTexts, StudyTexts};
 use sweep::{Watcher, check_study};
 
 /// About how many entries the runs have, and how long they take by so many threads.
@@ -95,21 +96,21 @@ fn text_of<R: Threads + Sync>(
 pub(crate) fn serve_study_check<R: Files + Threads + Sync + Clock, I: Read, W: Watcher>(
     rt: &R,
     alloc: Global,
-    path: &str,
+    texts: &SourceTexts<'_>,
     study: &StudyTexts<'_>,
     input: &mut I,
     watcher: &mut W,
 ) -> Result<Vec<u8>, Fault>
-    ensures text { IfOk result (λ text. IsStudyCheck (I.remaining input.old) path.now study.now text.items) }
-    ensures why { IfErr result (IsBefore (StopsSweep (I.remaining input.old) path.now study.now)) }
+    ensures text { IfOk result (λ text. IsStudyCheck (I.remaining input.old) texts.now study.now text.items) }
+    ensures why { IfErr result (IsBefore (StopsSweep (I.remaining input.old) texts.now study.now)) }
     ensures taken { TakesAtMost (most_bytes + 1) (I.remaining input.old) (I.remaining input.new) }
-    ensures untouched { path.now ≢ input_path → input.new ≡ input.old }
+    ensures untouched { NameNoInput texts.now → input.new ≡ input.old }
     ensures hidden { W.shows watcher.old ≡ false → W.shows watcher.new ≡ false }
 {
-    let (sources, grid, shard, layout) = said_over(rt, alloc, path, study, input)?;
+    let (sources, grid, shard, layout) = said_over(rt, alloc, texts, study, input)?;
     let threads = threads_for(rt, study.threads);
     match check_study(rt, alloc, &sources, &grid, shard, &layout, threads, watcher) {
         Ok(()) => Ok(text_of(rt, alloc, &sources, &grid, shard, threads)?.into_bytes()),
-        Err(error) => Err(fault_of(alloc, path, &sources, &grid, &error)),
+        Err(error) => Err(fault_of(alloc, texts.path, &sources, &grid, &error)),
     }
 }

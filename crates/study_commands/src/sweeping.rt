@@ -1,16 +1,17 @@
 //! The command `sweep`: the table of a study.
-ghost use Rattle.std.specs.Prelude.{◌≡◌, ◌≢◌, ◌^◌, ◌-◌, ◌+◌, ◌<◌, ◌≤◌, false, IfOk, IfErr, IfSome, OnOk, map, option_map};
+ghost use Rattle.std.specs.Prelude.{◌≡◌, ◌^◌, ◌-◌, ◌+◌, ◌<◌, ◌≤◌, false, IfOk, IfErr, IfSome, OnOk, map, option_map};
 ghost use Rattle.study_commands.specs.Fault.{IsBefore, IsOfWordsFor};
+ghost use Rattle.study_commands.specs.File.{NameNoInput};
 ghost use Rattle.study_commands.specs.Study.{IsLayout, rows_for};
 ghost use Rattle.study_commands.specs.Sweep.{GoesForSweep, IsFaultOf, IsOfRun, IsSaid};
 ghost use Rattle.study_commands.specs.Why.{StopsSweep};
 ghost use Rattle.study_commands.specs.WordRefusals.{SaysNoLayout, TellsOfLayout, is_layout_memory};
 ghost use Rattle.study.specs.Sources.{sources_of};
-ghost use Rattle.shell.specs.Input.{TakesAtMost, input_path, most_bytes};
+ghost use Rattle.shell.specs.Input.{TakesAtMost, most_bytes};
 
 use crate::fault::Fault;
-use crate::file::sources_at;
 use crate::refused_run::{line_of_lack, line_of_run};
+use crate::sources::sources_over;
 use crate::study_words::{grid_of, groups_of, shard_of};
 use crate::unknown_column::line_of_unknown;
 use reporting::Outlet;
@@ -21,7 +22,7 @@ use std::rt::Files;
 use std::thread::{Threads, available_parallelism};
 use std::time::Clock;
 use study::{Grid, Shard, Sources};
-use study_line::{Each, StudyTexts};
+use study_line::{Each, SourceTexts, StudyTexts};
 use sweep::{Layout, LayoutError, Rows, SweepError, Watcher, sweep};
 
 /// How many threads share the runs: as many as were asked for, or else one for each processor; at most 64.
@@ -107,24 +108,24 @@ fn layout_of(
     ))
 }
 
-/// The study that words say of the file at a path, `-` being the input: the file's table, the grid, the shard and the
+/// The study that words say of the files that they name, `-` being the input: the files, the grid, the shard and the
 /// layout of its rows.
 pub(crate) fn said_over<R: Files, I: Read>(
     rt: &R,
     alloc: Global,
-    path: &str,
+    texts: &SourceTexts<'_>,
     study: &StudyTexts<'_>,
     input: &mut I,
 ) -> Result<(Sources, Grid, Shard, Layout), Fault>
-    ensures said { IfOk result (λ s. IsSaid (I.remaining input.old) path.now study.now (sources_of s.0) s.1 s.2 s.3) }
-    ensures why { IfErr result (IsBefore (StopsSweep (I.remaining input.old) path.now study.now)) }
+    ensures said { IfOk result (λ s. IsSaid (I.remaining input.old) texts.now study.now (sources_of s.0) s.1 s.2 s.3) }
+    ensures why { IfErr result (IsBefore (StopsSweep (I.remaining input.old) texts.now study.now)) }
     ensures taken { TakesAtMost (most_bytes + 1) (I.remaining input.old) (I.remaining input.new) }
-    ensures untouched { path.now ≢ input_path → input.new ≡ input.old }
+    ensures untouched { NameNoInput texts.now → input.new ≡ input.old }
 {
     let grid = grid_of(alloc, &study.grid)?;
     let shard = shard_of(alloc, study.shard)?;
     let layout = layout_of(alloc, &grid, study.each, &study.pairs, study.columns)?;
-    let sources = sources_at(rt, alloc, path, input)?;
+    let sources = sources_over(rt, alloc, texts, &grid, input)?;
     Ok((sources, grid, shard, layout))
 }
 
@@ -132,26 +133,26 @@ pub(crate) fn said_over<R: Files, I: Read>(
 pub(crate) fn serve_sweep<R: Files + Threads + Sync + Clock, I: Read, O: Outlet, W: Watcher>(
     rt: &R,
     alloc: Global,
-    path: &str,
+    texts: &SourceTexts<'_>,
     study: &StudyTexts<'_>,
     input: &mut I,
     outlet: &mut O,
     watcher: &mut W,
 ) -> Result<(), Fault>
     requires { O.failed outlet.old < 2 ^ 64 - 1 }
-    ensures text { GoesForSweep O.told O.failed outlet.old outlet.new (I.remaining input.old) path.now
+    ensures text { GoesForSweep O.told O.failed outlet.old outlet.new (I.remaining input.old) texts.now
         study.now result }
-    ensures why { IfErr result (StopsSweep (I.remaining input.old) path.now study.now) }
+    ensures why { IfErr result (StopsSweep (I.remaining input.old) texts.now study.now) }
     ensures taken { TakesAtMost (most_bytes + 1) (I.remaining input.old) (I.remaining input.new) }
-    ensures untouched { path.now ≢ input_path → input.new ≡ input.old }
+    ensures untouched { NameNoInput texts.now → input.new ≡ input.old }
     ensures hidden { W.shows watcher.old ≡ false → W.shows watcher.new ≡ false }
 {
-    let (sources, grid, shard, layout) = said_over(rt, alloc, path, study, input)?;
+    let (sources, grid, shard, layout) = said_over(rt, alloc, texts, study, input)?;
     let threads = threads_for(rt, study.threads);
     match sweep(
         rt, alloc, &sources, &grid, shard, &layout, threads, outlet, watcher,
     ) {
         Ok(()) => Ok(()),
-        Err(error) => Err(fault_of(alloc, path, &sources, &grid, &error)),
+        Err(error) => Err(fault_of(alloc, texts.path, &sources, &grid, &error)),
     }
 }

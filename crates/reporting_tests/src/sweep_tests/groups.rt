@@ -34,7 +34,7 @@ fn layout_for<R: Abort>(
     words: &[&str],
     columns: Option<&str>,
 ) -> Layout
-    ensures { result.rows ≡ kind.Points }
+    ensures { result.rows ≡ Rows.Points }
 {
     let groups = groups_of(rt, alloc, words);
     Layout::new(alloc, grid, Rows::Points, groups, columns).expect(rt, "no layout")

@@ -1,6 +1,6 @@
 use Rattle.std.proofs.Common.{◌≡◌, ◌<◌, ◌∙◌, subst, ◌++◌, List, length, rules}
 use Rattle.network.specs.Drawn.{drawn_of, most_outages, of_burst, of_cut, of_each, of_pause, of_replay}
-use Rattle.network.specs.declared.outages.LinkOutage.{LinkOutage}
+use Rattle.scenario.specs.declared.drawn.LinkOutage.{LinkOutage}
 use Rattle.network.proofs.Adding.{front_full}
 use Rattle.network.proofs.drawing.draw.Goals as goal
 

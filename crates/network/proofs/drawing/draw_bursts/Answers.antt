@@ -4,7 +4,7 @@ use Rattle.std.proofs.lemmas.List.{take_all}
 use Rattle.std.proofs.lemmas.List.FromFn.{length-enumerate_from}
 use Rattle.network.specs.Drawn.{most_outages, of_burst}
 use Rattle.network.specs.declared.network.Burst.{Burst}
-use Rattle.network.specs.declared.outages.LinkOutage.{LinkOutage}
+use Rattle.scenario.specs.declared.drawn.LinkOutage.{LinkOutage}
 use Rattle.network.proofs.Adding.{adds_more, full_more, numbered_at}
 use Rattle.network.proofs.drawing.draw_bursts.Goals as goal
 

@@ -1,9 +1,9 @@
 use Rattle.std.proofs.Common.{◌≡◌, ◌∙◌, ◌<◌, ◌≤◌, false, length, ap, sym, subst, rules}
-use Rattle.std.proofs.lemmas.Result.{on_ok_weaker}
 use Rattle.toml.specs.View.{table_view}
+use Rattle.scenario.specs.Drawn.{with_outages}
 use Rattle.network.specs.Drawn.{drawn_of, most_outages}
 use Rattle.network.specs.Laid.{laid_links}
-use Rattle.study.specs.Laid.{laid_in, drawn_in, lay_links, lay_outages, CantBeLaid, too_many}
+use Rattle.study.specs.Laid.{laid_in, drawn_in, lay_links, CantBeLaid, too_many}
 use Rattle.study.specs.Placed.{is_memory}
 use Rattle.study.proofs.KeyNames.{carried}
 use Rattle.study.proofs.laying.lay_over.Goals as goal
@@ -31,11 +31,11 @@ returns-clause-ok c =
     let links : c.in_ok-laid.laid.items ≡ laid_links c.deref.result.now c.args.extent.processes = search rules in
     let laid : c.deref-2.result.now ≡ laid_in t its =
     c.deref-2.ensures.value ∙ (links ∙ (λ i. laid_links (c.deref.ensures.value i) (e.processes i))) in
-    on_ok_weaker c.lay_outages.result (λ is. record {
+    record {
       its = its;
       fits = c.in_ok-network.ensures.ok;
       few = subst (λ os. length os ≤ most_outages) drawn c.in_ok-drawn.ensures.few;
       laid_is =
-          is ∙ (ap (λ os. lay_outages os (table_view c.lay_links.new.table)) (c.deref-3.ensures.value ∙ drawn)
-          ∙ ap (lay_outages (drawn_in t its)) (c.in_ok-lay_links.ensures.ok ∙ ap (λ ls. lay_links ls t) laid));
-    }) c.lay_outages.ensures.ok
+          ap (λ os. with_outages os (table_view c.lay_links.new.table)) drawn
+          ∙ ap (with_outages (drawn_in t its)) (c.in_ok-lay_links.ensures.ok ∙ ap (λ ls. lay_links ls t) laid);
+    }

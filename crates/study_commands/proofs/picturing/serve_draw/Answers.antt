@@ -21,7 +21,7 @@ pub returns-in-Ok-clause-refused : goal.returns-in-Ok-clause-refused
 returns-in-Ok-clause-refused g c =
     IfErr-weaker c.picture_of.result _ _
     (λ fault is.
-    picture_stops (g.I.Read.remaining c.args.input.now) c.args.path.now c.args.picture c.args.from c.args.until
+    picture_stops (g.I.Read.remaining c.args.input.now) c.args.texts.now c.args.picture c.args.from c.args.until
     (option_map (λ w. w.now) c.args.of) c.in_ok-scenario.scenario c.in_ok-of.of.items fault
     c.in_ok-scenario.ensures.scenario c.in_ok-of.ensures.named
     (rw (c.deref.ensures.value, c.unwrap_or-from.ensures, c.unwrap_or-until.ensures, c.horizon.ensures.value) at is))
@@ -33,7 +33,7 @@ returns-clause-refused g c =
     let s = c.in_ok-scenario.scenario in
     let is : IsOfPicture c.args.picture s of c.unwrap_or-from.result c.unwrap_or-until.result c.fault_of.result =
     search rules in
-    picture_stops (g.I.Read.remaining c.args.input.now) c.args.path.now c.args.picture c.args.from c.args.until
+    picture_stops (g.I.Read.remaining c.args.input.now) c.args.texts.now c.args.picture c.args.from c.args.until
     (option_map (λ w. w.now) c.args.of) s of c.fault_of.result c.in_ok-scenario.ensures.scenario
     c.in_ok-of.ensures.named
     (rw (c.unwrap_or-from.ensures, c.unwrap_or-until.ensures, c.horizon.ensures.value) at is)

@@ -1,37 +1,48 @@
-use Rattle.std.proofs.Common.{rules, inr}
+use Rattle.std.proofs.Common.{rules, inl, inr}
 use Rattle.study.specs.Sources.{sources_of}
 use Rattle.study_commands.specs.Fault.{IsBefore}
 use Rattle.study_commands.specs.Why.{StopsShow}
-use Rattle.study_commands.proofs.Reasons.{study_text}
+use Rattle.study_commands.proofs.Reasons.{sources_stop, study_text}
 use Rattle.study_commands.proofs.showing.serve_show.Goals as goal
 
 pub returns-clause-text : goal.returns-clause-text
 returns-clause-text g c = record {
-  sources = sources_of c.in_ok-sources.sources;
-  are_sources = c.in_ok-sources.ensures.sources;
   grid = c.in_ok-grid.grid;
   is_grid = c.in_ok-grid.ensures.grid;
+  sources = sources_of c.in_ok-sources.sources;
+  are_sources = c.in_ok-sources.ensures.sources;
   point_place = c.in_ok-point_place.point_place;
   is_point = rw c.points.ensures.value at c.in_ok-point_place.ensures.place;
   run_place = c.in_ok-run_place.run_place;
   is_run = rw c.runs.ensures.value at c.in_ok-run_place.ensures.place;
   text = rw c.into_bytes.ensures.value c.in_ok-text.ensures.text;
+  is_short = rw c.into_bytes.ensures.value c.in_ok-text.ensures.short;
 }
+
+pub returns-in_err-sources-clause-why : goal.returns-in_err-sources-clause-why
+returns-in_err-sources-clause-why g c =
+    let f = c.in_err-sources.field-0.0 in
+    let input = g.I.Read.remaining c.args.input.now in
+    let grid = c.in_ok-grid.grid in
+    let why : IsBefore (StopsShow input c.args.texts.now c.args.words.now c.args.point c.args.run) f =
+    sources_stop input c.args.texts.now _ _ grid f c.in_err-sources.ensures.why
+    (λ none. inr (grid, c.in_ok-grid.ensures.grid, inr (inr none))) (λ line none. inl none) in
+    search rules
 
 pub returns-in_err-text-clause-why : goal.returns-in_err-text-clause-why
 returns-in_err-text-clause-why g c =
     let f = c.in_err-text.field-0.0 in
     let input = g.I.Read.remaining c.args.input.now in
-    let why : IsBefore (StopsShow input c.args.path.now c.args.words.now c.args.point c.args.run) f =
+    let why : IsBefore (StopsShow input c.args.texts.now c.args.words.now c.args.point c.args.run) f =
     study_text _ _ _ f c.in_err-text.ensures.refused (λ none line. inr (record {
-      sources = sources_of c.in_ok-sources.sources;
-      are_sources = c.in_ok-sources.ensures.sources;
       grid = c.in_ok-grid.grid;
       is_grid = c.in_ok-grid.ensures.grid;
+      sources = sources_of c.in_ok-sources.sources;
+      are_sources = c.in_ok-sources.ensures.sources;
       point_place = c.in_ok-point_place.point_place;
       is_point = rw c.points.ensures.value at c.in_ok-point_place.ensures.place;
       run_place = c.in_ok-run_place.run_place;
       is_run = rw c.runs.ensures.value at c.in_ok-run_place.ensures.place;
-      has_none = none;
+      none = none;
     })) in
     search rules

@@ -10,7 +10,7 @@ use Rattle.network.specs.Drawn.{burst_on, most_outages, of_burst, on_each}
 use Rattle.network.specs.Inside.Coming.{to_come}
 use Rattle.network.specs.declared.group.Ends.{Ends}
 use Rattle.network.specs.declared.kind.Kind.TheVariants as kind
-use Rattle.network.specs.declared.outages.LinkOutage.{LinkOutage}
+use Rattle.scenario.specs.declared.drawn.LinkOutage.{LinkOutage}
 use Rattle.network.proofs.Adding.{full_more}
 use Rattle.network.proofs.network.Burst.draw.Goals as goal
 

@@ -4,7 +4,7 @@ use Rattle.std.proofs.lemmas.List.{take_all}
 use Rattle.std.proofs.lemmas.Grind.{common_steps}
 use Rattle.network.specs.Groups.{holds}
 use Rattle.network.specs.Drawn.{most_outages, of_pause, pause_of}
-use Rattle.network.specs.declared.outages.LinkOutage.{LinkOutage}
+use Rattle.scenario.specs.declared.drawn.LinkOutage.{LinkOutage}
 use Rattle.network.proofs.Adding.{full_more}
 use Rattle.network.proofs.network.Pause.draw.Goals as goal
 

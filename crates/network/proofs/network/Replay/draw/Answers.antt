@@ -4,7 +4,7 @@ use Rattle.std.proofs.lemmas.List.FromFn.{length-range_with_len}
 use Rattle.network.specs.Drawn.{most_outages, on_each}
 use Rattle.network.specs.Replays.{replayed_in}
 use Rattle.network.specs.Inside.Coming.{to_come}
-use Rattle.network.specs.declared.outages.LinkOutage.{LinkOutage}
+use Rattle.scenario.specs.declared.drawn.LinkOutage.{LinkOutage}
 use Rattle.network.proofs.Adding.{adds_more, all_taken, full_more, number_at}
 use Rattle.network.proofs.Records.{replayed-turns}
 use Rattle.network.proofs.network.Replay.draw.Goals as goal

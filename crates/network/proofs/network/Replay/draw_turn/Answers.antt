@@ -6,7 +6,7 @@ use Rattle.std.proofs.lemmas.Grind.{common_steps}
 use Rattle.scenario_record.specs.declared.outage.Outage.{Outage}
 use Rattle.network.specs.Drawn.{most_outages, on_each}
 use Rattle.network.specs.Replays.{left_of}
-use Rattle.network.specs.declared.outages.LinkOutage.{LinkOutage}
+use Rattle.scenario.specs.declared.drawn.LinkOutage.{LinkOutage}
 use Rattle.network.proofs.Adding.{each_group, full_more}
 use Rattle.network.proofs.network.Replay.draw_turn.Goals as goal
 

@@ -1,7 +1,7 @@
 use Rattle.std.proofs.Common.{subst, ℕ, List}
 use Rattle.study_commands.specs.Refusal.{IsOfBytes}
 use Rattle.study_commands.proofs.Reasons.{bytes_file}
-use Rattle.study_commands.proofs.file.scenario_at.Goals as goal
+use Rattle.study_commands.proofs.file.own_scenario_at.Goals as goal
 
 pub returns-clause-why : goal.returns-clause-why
 returns-clause-why g c =

@@ -1,0 +1,7 @@
+use Rattle.std.proofs.Common.{map, take}
+use Rattle.std.specs.List.{AllZip}
+use Rattle.study.specs.SetWords.{SaysAssignment}
+use Rattle.study_commands.proofs.assigned.assignments_of.Given as goal
+
+abbrev pub invariant-loop-word : goal.invariant-loop-word
+invariant-loop-word l = AllZip SaysAssignment (map (λ w. w.now) (take l.word-index l.words)) l.assignments.items

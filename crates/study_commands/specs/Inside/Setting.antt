@@ -1,0 +1,34 @@
+-- Files in which keys can't be set, and files that stand for no scenario.
+use Rattle.std.specs.Prelude.{◌≡◌, List, false, Ok, Err}
+use Rattle.study.specs.Placed.{assign_all, is_memory as is_place_memory}
+use Rattle.study.specs.Runs.{IsRefusedFor, is_memory}
+use Rattle.study.specs.Sources.{SourcesRecord}
+use Rattle.study.specs.declared.assignment.Assignment.{Assignment}
+use Rattle.study.specs.declared.error.PlaceError.{PlaceError}
+use Rattle.study.specs.declared.error.ReadError.{ReadError}
+use Rattle.study_commands.specs.declared.fault.Fault.{Fault}
+use Rattle.study_commands.specs.declared.fault.Fault.TheVariants.{Memory, Refused}
+
+-- why not, for a reason other than memory
+pub record IsUnsetIn (assigned : List Assignment) (files : SourcesRecord) : Type 0 where
+  pub reason : PlaceError
+  pub other : is_place_memory reason ≡ false
+  pub is : assign_all assigned files ≡ Err reason
+
+-- the fault is that they can't, or that memory was refused
+abbrev pub CannotSet : List Assignment → SourcesRecord → Fault → Type 0
+CannotSet assigned files (Refused line) = IsUnsetIn assigned files
+CannotSet assigned files Memory = Unit {0}
+CannotSet assigned files _ = ⊥
+
+-- why files stand for no scenario, other than for want of memory
+pub record HasNone (sources : SourcesRecord) : Type 0 where
+  pub reason : ReadError
+  pub other : is_memory reason ≡ false
+  pub refused : IsRefusedFor (Ok sources) reason
+
+-- the fault is that they stand for none, or that memory was refused
+abbrev pub StandsForNone : SourcesRecord → Fault → Type 0
+StandsForNone sources (Refused line) = HasNone sources
+StandsForNone sources Memory = Unit {0}
+StandsForNone sources _ = ⊥
