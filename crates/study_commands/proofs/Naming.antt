@@ -1,7 +1,8 @@
 -- Files of which one at most is standard input.
-use Rattle.std.proofs.Common.{◌≡◌, ◌≢◌, ◌⊎◌, inl, inr, ap, refl, sym, subst, ℕ, List, Bool, true, false, Option, None, Some}
+use Rattle.std.proofs.Common.{◌≡◌, ◌≢◌, ◌⊎◌, inl, inr, ap, refl, sym, subst, ℕ, List, Bool, true, false, Option, None, Some, String}
 use Rattle.std.proofs.lemmas.Slice.Eq.{bytes_eq-Decides}
-use Rattle.std.specs.Cmp.Lexicographic.{bytes_eq}
+use Rattle.std.specs.Str.{bytes_eq}
+use Rattle.std.specs.declared.alloc.Global.{Global}
 use Rattle.toml.specs.Data.{Members}
 use Rattle.shell.specs.Input.{TakesAtMost, input_path}
 use Rattle.study_commands.specs.File.{AreBytes, MayBeTable, NameInputTwice, network_path}
@@ -10,8 +11,6 @@ use Rattle.study_commands.specs.Refusal.{too_long, unreadable}
 use Rattle.study_commands.specs.declared.fault.Fault.{Fault}
 use Rattle.study_commands.specs.declared.fault.Fault.TheVariants.{Memory, Refused}
 use Rattle.study_line.specs.declared.order.SourceTexts.{SourceTexts}
-use Rattle.std.specs.declared.alloc.Global.{Global}
-use Rattle.std.proofs.Common.{String}
 
 by_test : (a b : List ℕ) (r : Bool) → bytes_eq a b ≡ r → (a ≡ b) ⊎ (a ≢ b)
 by_test a b true told = inl ((bytes_eq-Decides a b).0 told)

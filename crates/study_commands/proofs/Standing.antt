@@ -1,6 +1,7 @@
 -- Files that stand for a scenario, or for none.
-use Rattle.std.proofs.Common.{◌≡◌, ◌⊎◌, ◌==◌, ◌&&◌, inl, inr, refl, subst, sym, ℕ, suc, List, [], ◌∷◌, length, map, Bool, true, false, not, cond}
+use Rattle.std.proofs.Common.{◌≡◌, ◌⊎◌, ◌==◌, arith, ◌&&◌, inl, inr, refl, subst, sym, ℕ, suc, List, [], ◌∷◌, length, map, Bool, true, false, not, cond}
 use Rattle.std.proofs.Common.{Bor, Option, None, Some, is_some, option_map, String, MatchOption}
+use Rattle.std.proofs.lemmas.Bool.{ne_eqb}
 use Rattle.std.specs.List.{AllZip}
 use Rattle.scenario.specs.Groups.{Decided, Passes}
 use Rattle.scenario.specs.Refusals.{Rule, rule_at, rules, table_rules}
@@ -23,7 +24,7 @@ use Rattle.study_commands.specs.declared.fault.Fault.TheVariants.{Memory, Refuse
 use Rattle.study_line.specs.declared.order.SourceTexts.{SourceTexts}
 
 -- a scenario's file alone is the table of its run
-none_laid : (t : Members) (b : Bool) → MatchOption {Members} (cond b None None) (t ≡ t) (λ file. IsLaidBy t file t)
+none_laid : (t : Members) (b : Bool) → MatchOption {T = Members} (cond b None None) (t ≡ t) (λ file. IsLaidBy t file t)
 none_laid t true = refl
 none_laid t false = refl
 
@@ -43,8 +44,9 @@ alone_words : (network : Option (Bor (List ℕ))) (words : List (Bor (List ℕ))
     → (not (is_some network) && (length words == 0)) ≡ true
     → (option_map (λ w. w.now) network ≡ None) × (map (λ w. w.now) words ≡ [])
 alone_words None [] is = (refl, refl)
-alone_words None (w ∷ ws) is = (refl, cc is)
-alone_words (Some w) ws is = (cc is, cc is)
+alone_words None (w ∷ ws) is =
+    let no : (length (w ∷ ws) == 0) ≡ false = ne_eqb (length (w ∷ ws)) 0 (λ e. omega (arith, e)) in (refl, cc (is, no))
+alone_words (Some w) ws is = let no : false ≡ true = is in (cc no, cc no)
 
 module _ (input : Option (List ℕ)) (texts : SourceTexts) where
   -- its scenario is the one for which it stands

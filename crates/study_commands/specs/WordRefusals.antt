@@ -110,9 +110,9 @@ is_like word name = nat_le (edits word name) (most_edits word)
 -- what is told of such a word, and of the name that is nearest to it
 abbrev pub no_column_line : (word nearest : Word) → List ℕ
 no_column_line word nearest = codes "fdstudy: words: NoColumn: " ++ (printable word ++ (codes " ("
-    ++ ((if is_like word nearest then codes "did you mean " ++ (printable nearest ++ codes "? ")
-    else codes "no name is like it; ")
-    ++ codes "fdstudy sweep --help lists the columns)\n")))
+    ++ (if is_like word nearest
+    then codes "did you mean " ++ (printable nearest ++ codes "? fdstudy sweep --help lists the columns)\n")
+    else codes "no name is like it; fdstudy sweep --help lists the columns)\n")))
 
 -- the fault tells it, or that there was no memory for it
 abbrev pub TellsOfLayout : LayoutError → Fault → Type 0

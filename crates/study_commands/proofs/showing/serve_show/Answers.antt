@@ -1,8 +1,10 @@
-use Rattle.std.proofs.Common.{rules, inl, inr}
+use Rattle.std.proofs.Common.{rules, inl, inr, length}
+use Rattle.study.specs.Grid.{points, runs}
 use Rattle.study.specs.Sources.{sources_of}
-use Rattle.study_commands.specs.Fault.{IsBefore}
+use Rattle.study_commands.specs.Fault.{IsBefore, IsOfWordsFor}
+use Rattle.study_commands.specs.WordRefusals.{IsOutside}
 use Rattle.study_commands.specs.Why.{StopsShow}
-use Rattle.study_commands.proofs.Reasons.{sources_stop, study_text}
+use Rattle.study_commands.proofs.Reasons.{sources_stop, study_text, words_stop}
 use Rattle.study_commands.proofs.showing.serve_show.Goals as goal
 
 pub returns-clause-text : goal.returns-clause-text
@@ -18,6 +20,28 @@ returns-clause-text g c = record {
   text = rw c.into_bytes.ensures.value c.in_ok-text.ensures.text;
   is_short = rw c.into_bytes.ensures.value c.in_ok-text.ensures.short;
 }
+
+pub returns-in_err-point_place-clause-why : goal.returns-in_err-point_place-clause-why
+returns-in_err-point_place-clause-why g c =
+    let f = c.in_err-point_place.field-0.0 in
+    let input = g.I.Read.remaining c.args.input.now in
+    let grid = c.in_ok-grid.grid in
+    let refused : IsOfWordsFor (IsOutside c.args.point (length (points grid))) f =
+    rw c.points.ensures.value at c.in_err-point_place.ensures.refused in
+    let why : IsBefore (StopsShow input c.args.texts.now c.args.words.now c.args.point c.args.run) f =
+    words_stop _ _ _ f refused (λ out. inr (grid, c.in_ok-grid.ensures.grid, inl out)) in
+    search rules
+
+pub returns-in_err-run_place-clause-why : goal.returns-in_err-run_place-clause-why
+returns-in_err-run_place-clause-why g c =
+    let f = c.in_err-run_place.field-0.0 in
+    let input = g.I.Read.remaining c.args.input.now in
+    let grid = c.in_ok-grid.grid in
+    let refused : IsOfWordsFor (IsOutside c.args.run (length (runs grid))) f =
+    rw c.runs.ensures.value at c.in_err-run_place.ensures.refused in
+    let why : IsBefore (StopsShow input c.args.texts.now c.args.words.now c.args.point c.args.run) f =
+    words_stop _ _ _ f refused (λ out. inr (grid, c.in_ok-grid.ensures.grid, inr (inl out))) in
+    search rules
 
 pub returns-in_err-sources-clause-why : goal.returns-in_err-sources-clause-why
 returns-in_err-sources-clause-why g c =

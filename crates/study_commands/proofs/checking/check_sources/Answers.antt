@@ -1,0 +1,44 @@
+use Rattle.std.proofs.Common.{refl}
+use Rattle.diagnosis.specs.Diagnosis.{AcceptsTableAs, RefusesTableFor}
+use Rattle.scenario.specs.Text.{record_of}
+use Rattle.study.specs.declared.error.ReadError.TheVariants as error
+use Rattle.toml.specs.View.{table_view}
+use Rattle.study_commands.proofs.checking.check_sources.Goals as goal
+
+pub returns-in-Accepted-clause-text : goal.returns-in-Accepted-clause-text
+returns-in-Accepted-clause-text c =
+    let a = c.in-Accepted.accepted in
+    let t = table_view c.in_ok-table.table in
+    let its : AcceptsTableAs t a = rw c.in-Accepted.is at c.in_ok-accepted.ensures in (
+      record_of t,
+      record {
+        table = t;
+        is_table = c.in_ok-table.ensures.table;
+        stands_for = record { accepted = its.passes; record_is = refl };
+      },
+      record {
+        entries = a.estimate.entries;
+        seconds = a.estimate.seconds;
+        text =
+            rw (
+              c.into_bytes.ensures.value,
+              ← its.describes.in_window,
+              ← its.describes.window,
+              ← its.describes.processes,
+              ← its.describes.horizon,
+              ← its.describes.limit,
+            )
+            c.in_ok-line_of-in-Accepted.ensures;
+      },
+    )
+
+pub returns-clause-why : goal.returns-clause-why
+returns-clause-why c =
+    let r = c.in-Refused.refused in
+    let t = table_view c.in_ok-table.table in
+    let its : RefusesTableFor t r = rw c.in-Refused.is at c.in_ok-accepted.ensures in
+    record {
+      reason = error.Scenario r.refusal;
+      other = its.other;
+      refused = record { table = t; is_table = c.in_ok-table.ensures.table; is_first = its.first };
+    }
