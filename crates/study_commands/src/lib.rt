@@ -36,6 +36,7 @@ mod picturing;
 mod place_reason;
 mod processes;
 pub mod progress_line;
+mod ready;
 mod reckoning;
 mod refused_run;
 mod run_name;
