@@ -1,5 +1,5 @@
 -- Where a study stops, and what a sweep leaves.
-use Rattle.std.proofs.Common.{ℕ, ◌<◌, ◌⊎◌, inl, inr, refl, List, length, take, Option, arith}
+use Rattle.std.proofs.Common.{◌≡◌, ℕ, ◌<◌, ◌⊎◌, inl, inr, refl, subst, sym, Result, Err, IfErr, List, length, take, Option, arith}
 use Rattle.std.specs.List.{All, Contains, range_with_len}
 use Rattle.std.proofs.lemmas.List.Elements.{All-contains, All-drop, All-take}
 use Rattle.std.proofs.lemmas.List.FromFn.{length-range_with_len, get_or-range_with_len}
@@ -22,6 +22,10 @@ use Rattle.sweep.specs.declared.error.SweepError.{SweepError}
 use Rattle.sweep.specs.declared.error.SweepError.TheVariants as error
 use Rattle.sweep.specs.declared.group.Group.{Group}
 use Rattle.study.specs.Sources.{SourcesRecord}
+
+-- what stands for a failure stands where that is answered
+pub if_err : {A F : Type 0} (r : Result A F) (Stands : F → Type 0) (f : F) → r ≡ Err f → Stands f → IfErr r Stands
+if_err r Stands f is stands = subst (λ answer. IfErr answer Stands) (sym is) stands
 
 -- a point of a shard is one of the study's
 point_within : (g : GridRecord) (shard : ShardRecord) (point : ℕ) → Contains (numbers_of g shard) point
