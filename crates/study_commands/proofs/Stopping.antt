@@ -6,7 +6,7 @@ use Rattle.study_commands.specs.Inside.Statuses.{has_status}
 use Rattle.study_commands.specs.Serve.{IsAsked, IsHelp, IsReason, TellsLine, TellsOf}
 use Rattle.study_commands.specs.Why.{StopsFor}
 use Rattle.study_commands.specs.declared.fault.Fault.{Fault}
-use Rattle.study_commands.specs.declared.fault.Fault.TheVariants.{Memory, Words, WordsMemory, Write}
+use Rattle.study_commands.specs.declared.fault.Fault.TheVariants.{Words, WordsMemory, Write}
 use Rattle.reporting.specs.Writing.{Wrote, WrotePart}
 use Rattle.shell.proofs.Going.{goes_as, put_goes}
 use Rattle.shell.specs.Ending.{End, HasStatus, Puts, begun, cut, untouched}

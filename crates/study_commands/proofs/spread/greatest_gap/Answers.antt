@@ -1,4 +1,4 @@
-use Rattle.std.proofs.Common.{◌≡◌, ◌-◌, ◌∙◌, ap, sym, rules, fold, max}
+use Rattle.std.proofs.Common.{◌≡◌, ◌∙◌, ap, sym, rules, fold, max}
 use Rattle.study_commands.proofs.Phases.{all_gaps, gap_more}
 use Rattle.study_commands.proofs.spread.greatest_gap.Goals as goal
 
