@@ -64,7 +64,7 @@ pub enum PlaceError {
     #[error("the network file names a process that the run does not have")]
     ProcessAbove(Above),
     /// The network's file draws outages, and the scenario's version isn't 2.
-    #[error("outages are drawn over a file of version 1")]
+    #[error("outages are drawn over a file whose version isn't 2")]
     OlderFile,
     /// In the run more than 100,000 outages are drawn.
     #[error("too many outages are drawn")]

@@ -1,6 +1,6 @@
 -- Files that stand for a scenario, or for none.
 use Rattle.std.proofs.Common.{◌≡◌, ◌⊎◌, ◌==◌, arith, ◌&&◌, inl, inr, refl, subst, sym, ℕ, suc, List, [], ◌∷◌, length, map, Bool, true, false, not, cond}
-use Rattle.std.proofs.Common.{Bor, Option, None, Some, is_some, option_map, String, MatchOption}
+use Rattle.std.proofs.Common.{Bor, Option, None, Some, is_some, option_map, MatchOption}
 use Rattle.std.proofs.lemmas.Bool.{ne_eqb}
 use Rattle.std.specs.List.{AllZip}
 use Rattle.scenario.specs.Groups.{Decided, Passes}

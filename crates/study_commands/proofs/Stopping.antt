@@ -1,13 +1,15 @@
 -- What stands where a run of the program stops.
-use Rattle.std.proofs.Common.{◌≡◌, ◌⊎◌, ap, inl, inr, refl, ℕ, List, Option, None, Some, Result, IfErr, OnOk, arith}
+use Rattle.std.proofs.Common.{◌≡◌, ◌⊎◌, ◌≤◌, ap, inl, inr, refl, ℕ, List, Option, None, Some, Result, Ok, Err, IfErr, OnOk, arith}
 use Rattle.study_commands.specs.Answer.{Answers, GoesFor, IsNoSweep, Writes}
 use Rattle.study_commands.specs.Fault.{end_of, status_of}
+use Rattle.study_commands.specs.Inside.Statuses.{has_status}
 use Rattle.study_commands.specs.Serve.{IsAsked, IsHelp, IsReason, TellsLine, TellsOf}
 use Rattle.study_commands.specs.Why.{StopsFor}
 use Rattle.study_commands.specs.declared.fault.Fault.{Fault}
-use Rattle.study_commands.specs.declared.fault.Fault.TheVariants.{Memory, Words, WordsMemory, Write}
+use Rattle.study_commands.specs.declared.fault.Fault.TheVariants.{Words, WordsMemory, Write}
 use Rattle.reporting.specs.Writing.{Wrote, WrotePart}
 use Rattle.shell.proofs.Going.{goes_as, put_goes}
+use Rattle.shell.specs.Ending.{End, HasStatus, Puts, begun, cut, untouched}
 use Rattle.study_line.specs.Order.{AsksHelp, Explains}
 use Rattle.study_line.specs.declared.order.Order.{Order}
 use Rattle.study_line.specs.declared.order.Order.TheVariants as order
@@ -45,6 +47,13 @@ pub asks_help : (words : List (List ℕ)) (reason : WordsError) → IsHelp reaso
 asks_help words (refusal.Help text) is explains = explains
 asks_help words _ is explains = absurd is
 
+-- so words whose help was told asked for it
+pub help_told : {O A : Type 0} (told : O → Option (List ℕ)) (failed : O → ℕ) (old new : O) (words : List (List ℕ))
+    (reason : WordsError) (r : Result A Fault) → Puts end_of told failed old new (λ _. IsHelp reason) r
+    → Explains words reason → OnOk r (AsksHelp words)
+help_told told failed old new words reason (Ok a) put explains = asks_help words reason put.is_wanted explains
+help_told told failed old new words reason (Err fault) put explains = tt
+
 -- words that state no order end with 2, or with 4 where help can't be written
 line_status : (text : List ℕ) (f : Fault) → TellsLine text f → status_of f ≡ 2
 line_status text (Words line) is = refl
@@ -63,3 +72,15 @@ pub asked_so : (input : Option (List ℕ)) (words : List (List ℕ)) (f : Fault)
 asked_so input words f (inr stopped) at = (stopped.asked, stopped.stated)
 asked_so input words f (inl unasked) at =
     absurd (omega (arith, at, unasked_status unasked.reason f unasked.tells))
+
+-- with 0 nothing stopped, and what stands then does
+some_status : (end : End) (n : ℕ) → HasStatus end n → 1 ≤ n
+some_status untouched n is = omega (arith, is)
+some_status begun n is = omega (arith, is)
+some_status cut n is = omega (arith, is)
+
+pub at_zero : {A : Type 0} (n : ℕ) (Done : Type 0) (Tells : Fault → Type 0) (r : Result A Fault) → OnOk r Done
+    → IfErr r (λ fault. (n ≡ status_of fault) × Tells fault) → n ≡ 0 → Done
+at_zero n Done Tells (Ok a) done failed zero = done
+at_zero n Done Tells (Err fault) done failed zero =
+    absurd (omega (arith, zero, failed.0, some_status (end_of fault) (status_of fault) (has_status fault)))

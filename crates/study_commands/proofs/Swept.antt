@@ -1,5 +1,5 @@
 -- Where a study stops, and what a sweep leaves.
-use Rattle.std.proofs.Common.{ℕ, ◌<◌, ◌⊎◌, inl, inr, List, length, take, Option, arith}
+use Rattle.std.proofs.Common.{◌≡◌, ℕ, ◌<◌, ◌⊎◌, inl, inr, refl, subst, sym, Result, Err, IfErr, List, length, take, Option, arith}
 use Rattle.std.specs.List.{All, Contains, range_with_len}
 use Rattle.std.proofs.lemmas.List.Elements.{All-contains, All-drop, All-take}
 use Rattle.std.proofs.lemmas.List.FromFn.{length-range_with_len, get_or-range_with_len}
@@ -22,6 +22,10 @@ use Rattle.sweep.specs.declared.error.SweepError.{SweepError}
 use Rattle.sweep.specs.declared.error.SweepError.TheVariants as error
 use Rattle.sweep.specs.declared.group.Group.{Group}
 use Rattle.study.specs.Sources.{SourcesRecord}
+
+-- what stands for a failure stands where that is answered
+pub if_err : {A F : Type 0} (r : Result A F) (Stands : F → Type 0) (f : F) → r ≡ Err f → Stands f → IfErr r Stands
+if_err r Stands f is stands = subst (λ answer. IfErr answer Stands) (sym is) stands
 
 -- a point of a shard is one of the study's
 point_within : (g : GridRecord) (shard : ShardRecord) (point : ℕ) → Contains (numbers_of g shard) point
@@ -77,6 +81,20 @@ module _ {input : Option (List ℕ)} {texts : SourceTexts} {study : StudyTexts} 
       → IsSweepFront input texts study piece
   front count piece text =
       record { sources = sources; grid = g; shard = shard; layout = layout; said = said; count = count; text = text }
+
+  -- so nothing is run, and nothing goes out
+  module _ {O : Type 0} (told : O → Option (List ℕ)) (failed : O → ℕ) (old : O) where
+    nothing : WroteNothing told failed old old
+    nothing = record { bytes = refl; failures = refl }
+
+    pub unready_leaves : (e : SweepError) (f : Fault) → CantBeRun sources g layout.groups shard e → IsFaultOf e f
+        → LeftAt told failed old old (IsSweepFront input texts study) (IsSweepFront input texts study) (end_of f)
+    unready_leaves (error.Refused point run reason) (Refused line) cant is = nothing
+    unready_leaves (error.Refused point run reason) _ cant is = absurd is
+    unready_leaves (error.NoSuchProcess point run group processes) (Refused line) cant is = nothing
+    unready_leaves (error.NoSuchProcess point run group processes) _ cant is = absurd is
+    unready_leaves error.Memory f cant is = rw is (inl nothing)
+    unready_leaves error.Write f cant is = absurd cant
 
   module _ {O : Type 0} (told : O → Option (List ℕ)) (failed : O → ℕ) (old new : O) where
     pub swept : WroteStudy sources g shard layout told failed old new

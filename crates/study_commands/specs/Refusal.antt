@@ -5,7 +5,7 @@ use Rattle.diagnosis.specs.Diagnosis.{RefusesFor}
 use Rattle.diagnosis.specs.Text.{refused_text}
 use Rattle.diagnosis.specs.declared.answer.Refused.{Refused as Diagnosed}
 use Rattle.printable.specs.Printable.{printable}
-use Rattle.study_commands.specs.File.{AreBytes, AreFiles, AreSources, IsTable, is_alone, network_path, no_axes, set_words}
+use Rattle.study_commands.specs.File.{AreBytes, AreFiles, AreSources, is_alone, network_path, no_axes, set_words}
 use Rattle.study_commands.specs.WordRefusals.{SaysNoSources}
 use Rattle.study_commands.specs.declared.fault.Fault.{Fault}
 use Rattle.study_commands.specs.declared.fault.Fault.TheVariants.{Memory, Refused, Words, WordsMemory}

@@ -1,5 +1,7 @@
 //! The command `check`: what a scenario file has, or where it breaks a rule and why.
-ghost use Rattle.std.specs.Prelude.{◌≡◌, ◌≢◌, ◌+◌, Ok, IfOk, IfErr, string_bytes};
+ghost use Rattle.std.specs.Prelude.{◌≡◌, ◌≢◌, ◌+◌, false, Ok, IfOk, IfErr, OnOk, string_bytes};
+ghost use Rattle.scenario.specs.Refusals.{Accepts};
+ghost use Rattle.scenario.specs.Text.{record_of};
 ghost use Rattle.scenario_record.specs.Record.{Record};
 ghost use Rattle.study.specs.Runs.{IsScenarioOf};
 ghost use Rattle.study.specs.Sources.{sources_of};
@@ -8,19 +10,26 @@ ghost use Rattle.study_commands.specs.Fault.{IsBefore};
 ghost use Rattle.study_commands.specs.File.{IsOwnScenario, NameNoInput};
 ghost use Rattle.study_commands.specs.Inside.Setting.{StandsForNone};
 ghost use Rattle.study_commands.specs.Refusal.{IsOfOwnFile};
+ghost use Rattle.study_commands.specs.Told.{IsToldOfFile};
+ghost use Rattle.study_commands.specs.WarningText.{IsWarnedOf};
 ghost use Rattle.study_commands.specs.Why.{StopsCheck};
 ghost use Rattle.shell.specs.Input.{TakesAtMost, input_path, most_bytes};
+ghost use Rattle.toml.specs.View.{table_view};
 
 use crate::alone::{is_alone, sources_alone, table_of_sources};
 use crate::fault::Fault;
 use crate::file::{bytes_of, fault_of};
+use crate::warn::warn_of;
+use crate::warned::Warned;
 use diagnosis::{Accepted, Diagnosis, Refused, diagnose, diagnose_table};
 use printable::Printable;
+use scenario::{read_scenario, read_table};
 use std::alloc::{AllocError, Global};
 use std::io::Read;
 use std::rt::Files;
 use study::Sources;
 use study_line::SourceTexts;
+use toml::Table;
 
 /// That a run may have more entries than its limit, where that is so.
 fn limit_line(alloc: Global, limit: u64, entries: u64) -> Result<String, AllocError>
@@ -56,22 +65,41 @@ fn line_of(alloc: Global, accepted: &Accepted) -> Result<String, AllocError>
     )
 }
 
-/// What `check` says of the file at a path alone; `-` is the input.
-fn check_own<R: Files, I: Read>(
+/// Tells what may mislead of the scenario of accepted bytes.
+fn warn_of_bytes<W: Warned>(alloc: Global, bytes: &[u8], watcher: &mut W) -> Result<(), AllocError>
+    ensures told { OnOk result ((s : Record) × Accepts bytes.now s × IsWarnedOf W.warned watcher.old watcher.new s) }
+    ensures hidden { W.shows watcher.old ≡ false → W.shows watcher.new ≡ false }
+{
+    match read_scenario(alloc, bytes) {
+        Ok(scenario) => warn_of(alloc, &scenario, watcher),
+        Err(_) => Err(AllocError),
+    }
+}
+
+/// What `check` says of the file at a path alone; `-` is the input. The watcher is told before what may mislead of it.
+fn check_own<R: Files, I: Read, W: Warned>(
     rt: &R,
     alloc: Global,
     path: &str,
     input: &mut I,
+    watcher: &mut W,
 ) -> Result<Vec<u8>, Fault>
     ensures text { IfOk result (λ text. (s : Record) × IsOwnScenario (I.remaining input.old) path.now s
         × TellsOf s text.items) }
     ensures why { IfErr result (IsOfOwnFile (I.remaining input.old) path.now) }
     ensures taken { TakesAtMost (most_bytes + 1) (I.remaining input.old) (I.remaining input.new) }
     ensures untouched { path.now ≢ input_path → input.new ≡ input.old }
+    ensures told { OnOk result ((s : Record) × IsOwnScenario (I.remaining input.old) path.now s
+        × IsWarnedOf W.warned watcher.old watcher.new s) }
+    ensures hidden { W.shows watcher.old ≡ false → W.shows watcher.new ≡ false }
 {
     let bytes = bytes_of(rt, alloc, path, input)?;
     match diagnose(alloc, &bytes)? {
-        Diagnosis::Accepted(accepted) => Ok(line_of(alloc, &accepted)?.into_bytes()),
+        Diagnosis::Accepted(accepted) => {
+            let text = line_of(alloc, &accepted)?;
+            warn_of_bytes(alloc, &bytes, watcher)?;
+            Ok(text.into_bytes())
+        }
         Diagnosis::Refused(refused) => Err(fault_of(alloc, path, &refused)),
     }
 }
@@ -82,15 +110,39 @@ fn line_of_refused(alloc: Global, path: &str, refused: &Refused) -> Result<Strin
     format!(in alloc; "{path}: {refused}\n")
 }
 
-/// What `check` says of files as they stand, with the scenario's own seed.
-fn check_sources(alloc: Global, path: &str, sources: &Sources) -> Result<Vec<u8>, Fault>
+/// Tells what may mislead of the scenario of an accepted table.
+fn warn_of_table<W: Warned>(alloc: Global, table: &Table, watcher: &mut W) -> Result<(), AllocError>
+    ensures told { OnOk result (IsWarnedOf W.warned watcher.old watcher.new (record_of (table_view table.now))) }
+    ensures hidden { W.shows watcher.old ≡ false → W.shows watcher.new ≡ false }
+{
+    match read_table(alloc, table) {
+        Ok(scenario) => warn_of(alloc, &scenario, watcher),
+        Err(_) => Err(AllocError),
+    }
+}
+
+/// What `check` says of files as they stand, with the scenario's own seed. The watcher is told before what may mislead
+/// of them.
+fn check_sources<W: Warned>(
+    alloc: Global,
+    path: &str,
+    sources: &Sources,
+    watcher: &mut W,
+) -> Result<Vec<u8>, Fault>
     ensures text { IfOk result (λ text. (s : Record) × IsScenarioOf (Ok (sources_of sources.now)) s
         × TellsOf s text.items) }
     ensures why { IfErr result (StandsForNone (sources_of sources.now)) }
+    ensures told { OnOk result ((s : Record) × IsScenarioOf (Ok (sources_of sources.now)) s
+        × IsWarnedOf W.warned watcher.old watcher.new s) }
+    ensures hidden { W.shows watcher.old ≡ false → W.shows watcher.new ≡ false }
 {
     let table = table_of_sources(alloc, path, sources)?;
     match diagnose_table(alloc, &table)? {
-        Diagnosis::Accepted(accepted) => Ok(line_of(alloc, &accepted)?.into_bytes()),
+        Diagnosis::Accepted(accepted) => {
+            let text = line_of(alloc, &accepted)?;
+            warn_of_table(alloc, &table, watcher)?;
+            Ok(text.into_bytes())
+        }
         Diagnosis::Refused(refused) => Err(Fault::Refused(line_of_refused(
             alloc, path, &refused,
         ).ok())),
@@ -98,21 +150,24 @@ fn check_sources(alloc: Global, path: &str, sources: &Sources) -> Result<Vec<u8>
 }
 
 /// Answers `check`: how many processes accepted files have, the horizon, about how much a run of it and a window are,
-/// and where its limit may stop that.
-pub(crate) fn serve_check<R: Files, I: Read>(
+/// and where its limit may stop that. The watcher is told before what may mislead of them.
+pub(crate) fn serve_check<R: Files, I: Read, W: Warned>(
     rt: &R,
     alloc: Global,
     texts: &SourceTexts<'_>,
     input: &mut I,
+    watcher: &mut W,
 ) -> Result<Vec<u8>, Fault>
     ensures text { IfOk result (λ text. IsCheckAnswer (I.remaining input.old) texts.now text.items) }
     ensures why { IfErr result (IsBefore (StopsCheck (I.remaining input.old) texts.now)) }
     ensures taken { TakesAtMost (most_bytes + 1) (I.remaining input.old) (I.remaining input.new) }
     ensures untouched { NameNoInput texts.now → input.new ≡ input.old }
+    ensures told { OnOk result (IsToldOfFile W.warned watcher.old watcher.new (I.remaining input.old) texts.now) }
+    ensures hidden { W.shows watcher.old ≡ false → W.shows watcher.new ≡ false }
 {
     if is_alone(texts) {
-        return check_own(rt, alloc, texts.path, input);
+        return check_own(rt, alloc, texts.path, input, watcher);
     }
     let sources = sources_alone(rt, alloc, texts, input)?;
-    check_sources(alloc, texts.path, &sources)
+    check_sources(alloc, texts.path, &sources, watcher)
 }

@@ -1,8 +1,9 @@
-//! What standard error tells of a sweep: on a terminal, in one line, how far it has come; and of points of which runs
-//! passed their limit.
+//! What standard error tells of a study: what may mislead of it; on a terminal, in one line, how far a sweep has come;
+//! and of points of which runs passed their limit.
 ghost use Rattle.std.specs.Prelude.{◌≡◌, ◌≤◌, ◌==◌, false, not, true};
 
 use crate::limited_point::line_of_limited;
+use crate::warned::Warned;
 use std::alloc::{AllocError, Global};
 use std::io::Write;
 use std::time::{Clock, Duration, Instant};
@@ -59,10 +60,10 @@ fn text_of(alloc: Global, standing: &Standing, gone: Duration) -> Result<String,
     format!(in alloc; "{share}, {left} left")
 }
 
-/// Tells of a point of which runs passed their limit, in a line of its own; and where standard error is a terminal,
-/// shows there, in one line, how far a sweep has come. Where the clock can't be read, memory is refused or writing
-/// fails, nothing new is shown. Where the rows go to a terminal too, which may be the same, the line is taken away
-/// before they do, and put back after.
+/// Tells warnings, and of a point of which runs passed their limit, in lines of their own; and where standard error is
+/// a terminal, shows there, in one line, how far a sweep has come. Where the clock can't be read, memory is refused or
+/// writing fails, nothing new is shown. Where the rows go to a terminal too, which may be the same, the line is taken
+/// away before they do, and put back after.
 #[derive(Drop)]
 pub struct ProgressLine<'a, C: Clock, W: Write + Drop> {
     clock: &'a C,
@@ -176,5 +177,14 @@ impl<C: Clock, W: Write + Drop> Watcher for ProgressLine<'_, C, W> {
         if let Ok(line) = line_of_limited(self.alloc, sources, grid, point, count) {
             let _answer = self.faults.write_all(line.as_bytes());
         }
+    }
+}
+
+impl<C: Clock, W: Write + Drop> Warned for ProgressLine<'_, C, W> {
+    ghost warned = { λ _ _ _. Unit {0} };
+
+    fn warn(&mut self, line: &str) {
+        self.clear();
+        let _answer = self.faults.write_all(line.as_bytes());
     }
 }

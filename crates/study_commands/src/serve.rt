@@ -5,6 +5,7 @@ ghost use Rattle.study_commands.specs.Fault.{IsBefore, end_of};
 ghost use Rattle.study_commands.specs.File.{NameNoInput};
 ghost use Rattle.study_commands.specs.Serve.{GoesForWords, IsAsked, IsHelp, IsReason, IsWhy, LeftOf};
 ghost use Rattle.study_commands.specs.Serve.{NamesNoInput, Serves, ServesFor, TellsLine, TellsOf, other_word_line};
+ghost use Rattle.study_commands.specs.Told.{IsTold, IsToldFor};
 ghost use Rattle.printable.specs.Printable.{printable_lines};
 ghost use Rattle.study_commands.specs.Why.{StopsFor};
 ghost use Rattle.reporting.specs.Writing.{WroteNothing};
@@ -18,6 +19,7 @@ use crate::picturing::serve_draw;
 use crate::showing::serve_show;
 use crate::study_check::serve_study_check;
 use crate::sweeping::serve_sweep;
+use crate::warned::Warned;
 use printable::{Printable, PrintableLines};
 use reporting::Outlet;
 use shell::{ended, put_bytes, put_text};
@@ -28,10 +30,9 @@ use std::rt::Files;
 use std::thread::Threads;
 use std::time::Clock;
 use study_line::{Order, StudyTexts, WordsError, read_words};
-use sweep::Watcher;
 
 /// The text that an order asks for, of all but a sweep.
-fn text_of<R: Files + Threads + Sync + Clock, I: Read, W: Watcher>(
+fn text_of<R: Files + Threads + Sync + Clock, I: Read, W: Warned>(
     rt: &R,
     alloc: Global,
     order: &Order<'_>,
@@ -43,11 +44,13 @@ fn text_of<R: Files + Threads + Sync + Clock, I: Read, W: Watcher>(
     ensures why { IfErr result (IsBefore (StopsFor (I.remaining input.old) order.now)) }
     ensures taken { TakesAtMost (most_bytes + 1) (I.remaining input.old) (I.remaining input.new) }
     ensures untouched { NameNoInput (texts_of order.now) → input.new ≡ input.old }
+    ensures told { OnOk result
+        (IsTold W.heard W.warned watcher.old watcher.new (I.remaining input.old) order.now) }
     ensures hidden { W.shows watcher.old ≡ false → W.shows watcher.new ≡ false }
 {
     match order {
         Order::Check { sources, study } => match study {
-            None => serve_check(rt, alloc, sources, input),
+            None => serve_check(rt, alloc, sources, input, watcher),
             Some(study) => serve_study_check(rt, alloc, sources, study, input, watcher),
         },
         Order::Letters { sources } => serve_letters(rt, alloc, sources, input),
@@ -69,7 +72,7 @@ fn text_of<R: Files + Threads + Sync + Clock, I: Read, W: Watcher>(
 }
 
 /// Does what an order asks for.
-fn carry_out<R: Files + Threads + Sync + Clock, I: Read, O: Outlet, W: Watcher>(
+fn carry_out<R: Files + Threads + Sync + Clock, I: Read, O: Outlet, W: Warned>(
     rt: &R,
     alloc: Global,
     order: &Order<'_>,
@@ -82,6 +85,8 @@ fn carry_out<R: Files + Threads + Sync + Clock, I: Read, O: Outlet, W: Watcher>(
     ensures taken { TakesAtMost (most_bytes + 1) (I.remaining input.old) (I.remaining input.new) }
     ensures untouched { NameNoInput (texts_of order.now) → input.new ≡ input.old }
     ensures why { IfErr result (StopsFor (I.remaining input.old) order.now) }
+    ensures told { OnOk result
+        (IsTold W.heard W.warned watcher.old watcher.new (I.remaining input.old) order.now) }
     ensures hidden { W.shows watcher.old ≡ false → W.shows watcher.new ≡ false }
 {
     match order {
@@ -125,7 +130,7 @@ fn tell<O: Outlet>(alloc: Global, error: &WordsError, outlet: &mut O) -> Result<
 }
 
 /// Does what words ask for, or tells of them: the first is the program's name.
-fn answer_words<R: Files + Threads + Sync + Clock, I: Read, O: Outlet, W: Watcher>(
+fn answer_words<R: Files + Threads + Sync + Clock, I: Read, O: Outlet, W: Warned>(
     rt: &R,
     alloc: Global,
     words: &[&str],
@@ -139,6 +144,8 @@ fn answer_words<R: Files + Threads + Sync + Clock, I: Read, O: Outlet, W: Watche
     ensures why { IfErr result (IsReason (I.remaining input.old) (map (λ w. w.now) words.now)) }
     ensures taken { TakesAtMost (most_bytes + 1) (I.remaining input.old) (I.remaining input.new) }
     ensures untouched { NamesNoInput (map (λ w. w.now) words.now) → input.new ≡ input.old }
+    ensures told { OnOk result (IsToldFor W.heard W.warned watcher.old watcher.new (I.remaining input.old)
+        (map (λ w. w.now) words.now)) }
     ensures hidden { W.shows watcher.old ≡ false → W.shows watcher.new ≡ false }
 {
     match read_words(alloc, words) {
@@ -165,8 +172,10 @@ fn answer_words<R: Files + Threads + Sync + Clock, I: Read, O: Outlet, W: Watche
 /// With status 1 or 2 nothing was written, and with 3 nothing but by `sweep`: its first line and the rows of the first
 /// points may have gone out. With 4 a front part of the text went out.
 ///
-/// The watcher hears how far a `sweep` has come. What it shows is taken away before a fault is told.
-pub fn serve<R: Files + Threads + Sync + Clock, I: Read, O: Outlet, F: Outlet, W: Watcher>(
+/// The watcher hears how far a `sweep` has come. After all scenarios of a study were read, and before its first run, it
+/// is told in lines what may mislead of it; of the files of a lone `check` too. What it shows is taken away before a
+/// fault is told.
+pub fn serve<R: Files + Threads + Sync + Clock, I: Read, O: Outlet, F: Outlet, W: Warned>(
     rt: &R,
     alloc: Global,
     words: &[&str],
@@ -192,6 +201,8 @@ pub fn serve<R: Files + Threads + Sync + Clock, I: Read, O: Outlet, F: Outlet, W
         result ≢ 0 → Tells F.told F.failed faults.old faults.new why }
     ensures taken { TakesAtMost (most_bytes + 1) (I.remaining input.old) (I.remaining input.new) }
     ensures untouched { NamesNoInput (map (λ w. w.now) words.now) → input.new ≡ input.old }
+    ensures warned { result ≡ 0 → IsToldFor W.heard W.warned watcher.old watcher.new (I.remaining input.old)
+        (map (λ w. w.now) words.now) }
     ensures hidden { W.shows watcher.old ≡ false → W.shows watcher.new ≡ false }
 {
     let outcome = answer_words(rt, alloc, words, input, outlet, watcher);

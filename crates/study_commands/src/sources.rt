@@ -53,6 +53,9 @@ fn with_set(
     ensures set { IfOk result (λ s. assign_all assignments.now (sources_of sources) ≡ Ok (sources_of s)) }
     ensures why { IfErr result (CannotSet assignments.now (sources_of sources)) }
 {
+    if assignments.is_empty() {
+        return Ok(sources);
+    }
     let files = sources.copy().map_err(|_| Fault::Memory)?;
     match sources.set(alloc, assignments) {
         Ok(()) => Ok(sources),

@@ -1,7 +1,8 @@
 //! The command `check` with a study: how many points and runs there are, and about how much they will be.
-ghost use Rattle.std.specs.Prelude.{◌≡◌, ◌+◌, ◌++◌, ℕ, List, false, IfOk, IfErr, length, string_bytes};
+ghost use Rattle.std.specs.Prelude.{◌≡◌, ◌+◌, ◌++◌, ℕ, List, false, IfOk, IfErr, OnOk, length, string_bytes};
 ghost use Rattle.study.specs.Grid.{runs};
 ghost use Rattle.study_commands.specs.Check.{IsStudyCheck, study_begin};
+ghost use Rattle.study_commands.specs.Told.{IsToldOfCheck};
 ghost use Rattle.study_commands.specs.Why.{StopsSweep};
 ghost use Rattle.study_commands.specs.Fault.{IsBefore};
 ghost use Rattle.study_commands.specs.File.{NameNoInput};
@@ -10,9 +11,11 @@ ghost use Rattle.sweep.specs.StudyText.{numbers_of};
 
 use crate::fault::Fault;
 use crate::progress_line::time_of;
+use crate::ready::make_ready;
 use crate::reckoning::{Above, Reckoned, reckon};
 use crate::run_name::name_of_run;
-use crate::sweeping::{fault_of, said_over, threads_for};
+use crate::sweeping::{said_over, threads_for};
+use crate::warned::Warned;
 use diagnosis::ENTRIES_A_SECOND;
 use printable::Printable;
 use std::alloc::{AllocError, Global};
@@ -23,7 +26,6 @@ use std::thread::Threads;
 use std::time::Clock;
 use study::{Grid, Shard, Sources};
 use study_line::{SourceTexts, StudyTexts};
-use sweep::{Watcher, check_study};
 
 /// About how many entries the runs have, and how long they take by so many threads.
 fn size_text(alloc: Global, reckoned: &Reckoned, threads: u8) -> Result<String, AllocError> {
@@ -92,8 +94,8 @@ fn text_of<R: Threads + Sync>(
 
 /// Answers `check` with a study: how many points and runs there are, of the shard where one is named, about how many
 /// entries they have, how long that takes, and of a run that its limit may stop. The scenario of each run is read. It
-/// is refused where `sweep` is before the first run.
-pub(crate) fn serve_study_check<R: Files + Threads + Sync + Clock, I: Read, W: Watcher>(
+/// is refused where `sweep` is before the first run. The watcher is told before what may mislead of the study.
+pub(crate) fn serve_study_check<R: Files + Threads + Sync + Clock, I: Read, W: Warned>(
     rt: &R,
     alloc: Global,
     texts: &SourceTexts<'_>,
@@ -105,12 +107,14 @@ pub(crate) fn serve_study_check<R: Files + Threads + Sync + Clock, I: Read, W: W
     ensures why { IfErr result (IsBefore (StopsSweep (I.remaining input.old) texts.now study.now)) }
     ensures taken { TakesAtMost (most_bytes + 1) (I.remaining input.old) (I.remaining input.new) }
     ensures untouched { NameNoInput texts.now → input.new ≡ input.old }
+    ensures told { OnOk result
+        (IsToldOfCheck W.heard W.warned watcher.old watcher.new (I.remaining input.old) texts.now study.now) }
     ensures hidden { W.shows watcher.old ≡ false → W.shows watcher.new ≡ false }
 {
     let (sources, grid, shard, layout) = said_over(rt, alloc, texts, study, input)?;
     let threads = threads_for(rt, study.threads);
-    match check_study(rt, alloc, &sources, &grid, shard, &layout, threads, watcher) {
-        Ok(()) => Ok(text_of(rt, alloc, &sources, &grid, shard, threads)?.into_bytes()),
-        Err(error) => Err(fault_of(alloc, texts.path, &sources, &grid, &error)),
-    }
+    make_ready(
+        rt, alloc, texts.path, &sources, &grid, shard, &layout, threads, watcher,
+    )?;
+    Ok(text_of(rt, alloc, &sources, &grid, shard, threads)?.into_bytes())
 }

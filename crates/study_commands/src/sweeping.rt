@@ -4,16 +4,19 @@ ghost use Rattle.study_commands.specs.Fault.{IsBefore, IsOfWordsFor};
 ghost use Rattle.study_commands.specs.File.{NameNoInput};
 ghost use Rattle.study_commands.specs.Study.{IsLayout, rows_for};
 ghost use Rattle.study_commands.specs.Sweep.{GoesForSweep, IsFaultOf, IsOfRun, IsSaid};
+ghost use Rattle.study_commands.specs.Told.{IsToldOfSweep};
 ghost use Rattle.study_commands.specs.Why.{StopsSweep};
 ghost use Rattle.study_commands.specs.WordRefusals.{SaysNoLayout, TellsOfLayout, is_layout_memory};
 ghost use Rattle.study.specs.Sources.{sources_of};
 ghost use Rattle.shell.specs.Input.{TakesAtMost, most_bytes};
 
 use crate::fault::Fault;
+use crate::ready::make_ready;
 use crate::refused_run::{line_of_lack, line_of_run};
 use crate::sources::sources_over;
 use crate::study_words::{grid_of, groups_of, shard_of};
 use crate::unknown_column::line_of_unknown;
+use crate::warned::Warned;
 use reporting::Outlet;
 use std::alloc::Global;
 use std::io::Read;
@@ -23,7 +26,7 @@ use std::thread::{Threads, available_parallelism};
 use std::time::Clock;
 use study::{Grid, Shard, Sources};
 use study_line::{Each, SourceTexts, StudyTexts};
-use sweep::{Layout, LayoutError, Rows, SweepError, Watcher, sweep};
+use sweep::{Layout, LayoutError, Rows, SweepError, run_study};
 
 /// How many threads share the runs: as many as were asked for, or else one for each processor; at most 64.
 pub(crate) fn threads_for<R: Threads>(rt: &R, asked: Option<u64>) -> u8
@@ -129,8 +132,9 @@ pub(crate) fn said_over<R: Files, I: Read>(
     Ok((sources, grid, shard, layout))
 }
 
-/// Answers `sweep`: the rows of the study's points, or of their runs; of the shard's where one is named.
-pub(crate) fn serve_sweep<R: Files + Threads + Sync + Clock, I: Read, O: Outlet, W: Watcher>(
+/// Answers `sweep`: the rows of the study's points, or of their runs; of the shard's where one is named. The watcher is
+/// told before the first run what may mislead of the study.
+pub(crate) fn serve_sweep<R: Files + Threads + Sync + Clock, I: Read, O: Outlet, W: Warned>(
     rt: &R,
     alloc: Global,
     texts: &SourceTexts<'_>,
@@ -145,11 +149,16 @@ pub(crate) fn serve_sweep<R: Files + Threads + Sync + Clock, I: Read, O: Outlet,
     ensures why { IfErr result (StopsSweep (I.remaining input.old) texts.now study.now) }
     ensures taken { TakesAtMost (most_bytes + 1) (I.remaining input.old) (I.remaining input.new) }
     ensures untouched { NameNoInput texts.now → input.new ≡ input.old }
+    ensures told { OnOk result
+        (IsToldOfSweep W.heard W.warned watcher.old watcher.new (I.remaining input.old) texts.now study.now) }
     ensures hidden { W.shows watcher.old ≡ false → W.shows watcher.new ≡ false }
 {
     let (sources, grid, shard, layout) = said_over(rt, alloc, texts, study, input)?;
     let threads = threads_for(rt, study.threads);
-    match sweep(
+    make_ready(
+        rt, alloc, texts.path, &sources, &grid, shard, &layout, threads, watcher,
+    )?;
+    match run_study(
         rt, alloc, &sources, &grid, shard, &layout, threads, outlet, watcher,
     ) {
         Ok(()) => Ok(()),

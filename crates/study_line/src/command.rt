@@ -87,7 +87,9 @@ many seeds there are must be a multiple of how many combinations there are. The 
 letters: runs that share a seed share the fates of all letters, so they are no independent evidence.
 
 What is printed depends neither on the threads nor on the shards: the outputs of all shards, one after the other, are \
-that of the whole study.
+that of the whole study. Before the first run standard error has a line for each thing that may mislead: detectors \
+that can suspect nobody before the horizon, dealt crash ticks that leave a part of the period out, varied keys of \
+`link` where every pair has a link of its own, and outages of the file that all runs share.
 
 A row begins with the keys of --vary, and with `--each run` with those of --over and --deal too, `seed` and `run`. The \
 other columns tell of the runs of the row that have the layer, and are empty where there is nothing to tell:

@@ -1,5 +1,5 @@
 -- What a watcher has heard: one more number, one more point, and nothing more.
-use Rattle.sweep.proofs.Words.{◌≡◌, ℕ, ◌-◌, ◌*◌, ◌<◌, ◌≤◌, ◌==◌, Bool, true, false, not, cond, List, [], ◌∷◌, ◌++◌, refl, sym, ap, ◌∙◌, subst, map, append-nil, arith, inr, length, take, mul-sub, mul_comm, map-append, filter-append, filter_map-append, AllZip, filter, filter_map, range_with_len, ne_eqb, length-range_with_len, HaveJoined, joined_then, SourcesRecord, GridRecord, runs, ShardRecord, numbers_of, News, stands, limits, standing_in, limit_in, said_of, Rise, AreLimited, HeardReading, HeardRunning, HeardOfReading, HeardOfAllReading, HeardAll, HeardSome}
+use Rattle.sweep.proofs.Words.{◌≡◌, ℕ, ◌-◌, ◌*◌, ◌<◌, ◌≤◌, ◌==◌, Bool, true, false, not, cond, List, [], ◌∷◌, ◌++◌, refl, sym, ap, ◌∙◌, subst, map, append-nil, arith, inl, inr, length, take, mul-sub, mul_comm, map-append, filter-append, filter_map-append, AllZip, filter, filter_map, range_with_len, ne_eqb, length-range_with_len, HaveJoined, joined_then, SourcesRecord, GridRecord, runs, ShardRecord, numbers_of, News, stands, limits, standing_in, limit_in, said_of, Rise, AreLimited, HeardReading, HeardRunning, HeardOfReading, HeardOfAllReading, HeardAllRuns, HeardSomeRuns, HeardSome}
 use Rattle.std.proofs.Common.{eq-eqb}
 use Rattle.sweep.specs.declared.watcher.Pass.TheVariants.{Reading, Running}
 use Rattle.sweep.specs.declared.watcher.Standing.{Standing}
@@ -147,22 +147,17 @@ module _ {W : Type 0} (heard : W → List News → W → Type 0) (g : GridRecord
         subst P count (low, reading_same heard (end - begin) (length (runs g)) old now new done up same) in
         (done, counted.0, counted.1)
 
-  module _ (sources : SourcesRecord) (old mid now new : W) (reading : HeardOfAllReading heard old mid g shard)
-      (same : HaveJoined heard now new []) where
+  module _ (sources : SourcesRecord) (mid now new : W) (same : HaveJoined heard now new []) where
     pub run_all : HeardRunning heard mid now sources g (end - begin) (length (runs g)) ((end - begin) * length (runs g)) (range_with_len begin (end - begin))
-        → HeardAll heard old new sources g shard
+        → HeardAllRuns heard mid new sources g shard
     run_all up =
         let P : ℕ → Type 0 = λ n. HeardRunning heard mid new sources g n (length (runs g)) (n * length (runs g)) (range_with_len begin (end - begin)) in
         let Q : List ℕ → Type 0 = λ l. HeardRunning heard mid new sources g (length (numbers_of g shard)) (length (runs g)) (length (numbers_of g shard) * length (runs g)) l in
-        record {
-          between = mid;
-          reading = reading;
-          running = subst Q (sym is) (subst P count (running_same heard (end - begin) (length (runs g)) sources g mid now new ((end - begin) * length (runs g)) (range_with_len begin (end - begin)) up same));
-        }
+        subst Q (sym is) (subst P count (running_same heard (end - begin) (length (runs g)) sources g mid now new ((end - begin) * length (runs g)) (range_with_len begin (end - begin)) up same))
 
     pub run_some : (done complete : ℕ) × (done ≤ (end - begin) * length (runs g)) × (complete ≤ end - begin)
         × HeardRunning heard mid now sources g (end - begin) (length (runs g)) done (range_with_len begin complete)
-        → HeardSome heard old new sources g shard
+        → HeardSomeRuns heard mid new sources g shard
     run_some (done, complete, low, few, up) =
         let P : ℕ → Type 0 = λ n. (done ≤ n * length (runs g)) × HeardRunning heard mid new sources g n (length (runs g)) done (range_with_len begin complete) in
         let Q : List ℕ → Type 0 = λ l. HeardRunning heard mid new sources g (length (numbers_of g shard)) (length (runs g)) done l in
@@ -171,10 +166,16 @@ module _ {W : Type 0} (heard : W → List News → W → Type 0) (g : GridRecord
         let counted : P (length (numbers_of g shard)) =
         subst P count (low, running_same heard (end - begin) (length (runs g)) sources g mid now new done (range_with_len begin complete) up same) in
         inr (record {
-          between = mid;
-          reading = reading;
           done = done;
           done_low = counted.0;
           complete = complete;
           running = subst Q first counted.1;
         })
+
+-- of some runs, after all were read
+pub read_then_some : {W : Type 0} (heard : W → List News → W → Type 0) (old mid new : W) (sources : SourcesRecord) (g : GridRecord) (shard : ShardRecord)
+    → HeardOfAllReading heard old mid g shard → HeardSomeRuns heard mid new sources g shard → HeardSome heard old new sources g shard
+read_then_some {W} heard old mid new sources g shard reading (inl same) =
+    let P : W → Type 0 = λ w. HeardOfAllReading heard old w g shard in
+    inl (length (numbers_of g shard) * length (runs g), omega arith, subst P (sym same) reading)
+read_then_some heard old mid new sources g shard reading (inr some) = inr (record { between = mid; reading = reading; running = some })

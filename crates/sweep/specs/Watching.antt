@@ -87,22 +87,36 @@ module _ {W : Type 0} (heard : W → List News → W → Type 0) (old new : W) w
 
 module _ {W : Type 0} (heard : W → List News → W → Type 0) (old new : W) (sources : SourcesRecord) (g : GridRecord)
     (shard : ShardRecord) where
+  -- of all runs of the shard that they are run
+  abbrev pub HeardAllRuns : Type 0
+  HeardAllRuns = HeardRunning heard old new sources g (length (numbers_of g shard)) (length (runs g))
+      (length (numbers_of g shard) * length (runs g)) (numbers_of g shard)
+
+  -- of some
+  pub record HeardOfRuns : Type 0 where
+    pub done : ℕ
+    pub done_low : done ≤ length (numbers_of g shard) * length (runs g)
+    pub complete : ℕ
+    pub running : HeardRunning heard old new sources g (length (numbers_of g shard)) (length (runs g)) done
+        (take complete (numbers_of g shard))
+
+  -- of some, or of nothing
+  abbrev pub HeardSomeRuns : Type 0
+  HeardSomeRuns = (new ≡ old) ⊎ HeardOfRuns
+
+module _ {W : Type 0} (heard : W → List News → W → Type 0) (old new : W) (sources : SourcesRecord) (g : GridRecord)
+    (shard : ShardRecord) where
   -- of all runs that they are read, and then that they are run
   pub record HeardAll : Type 0 where
     pub between : W
     pub reading : HeardOfAllReading heard old between g shard
-    pub running : HeardRunning heard between new sources g (length (numbers_of g shard)) (length (runs g))
-        (length (numbers_of g shard) * length (runs g)) (numbers_of g shard)
+    pub running : HeardAllRuns heard between new sources g shard
 
   -- of all that they are read, and then of some that they are run
   pub record HeardOfRunning : Type 0 where
     pub between : W
     pub reading : HeardOfAllReading heard old between g shard
-    pub done : ℕ
-    pub done_low : done ≤ length (numbers_of g shard) * length (runs g)
-    pub complete : ℕ
-    pub running : HeardRunning heard between new sources g (length (numbers_of g shard)) (length (runs g)) done
-        (take complete (numbers_of g shard))
+    pub running : HeardOfRuns heard between new sources g shard
 
   -- of some
   abbrev pub HeardSome : Type 0

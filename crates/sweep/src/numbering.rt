@@ -41,7 +41,7 @@ pub(crate) fn scenario_of(
 }
 
 /// The shard's first point, from 0, and the one after its last.
-pub(crate) fn points_of(grid: &Grid, shard: Shard) -> (u64, u64)
+pub fn points_of(grid: &Grid, shard: Shard) -> (u64, u64)
     ensures order { result.0 ≤ result.1 }
     ensures within { result.1 ≤ length (points grid.now) }
     ensures numbers { numbers_of grid.now shard ≡ range_with_len result.0 (result.1 - result.0) }

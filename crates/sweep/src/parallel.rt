@@ -33,7 +33,7 @@ fn answer_some<T: Drop, F: Fn(u64) -> T>(
 }
 
 /// All of the answers, where none is missing.
-pub(crate) fn all_of<T: Drop>(
+pub fn all_of<T: Drop>(
     alloc: Global,
     answers: Vec<Result<T, AllocError>>,
 ) -> Result<Vec<T>, AllocError>

@@ -4,7 +4,8 @@ ghost use Rattle.study.specs.Sources.{sources_of};
 ghost use Rattle.study.specs.Grid.{points, runs};
 ghost use Rattle.sweep.specs.Outcome.{WroteStudy, BreaksOff};
 ghost use Rattle.sweep.specs.Inside.Progress.{WrotePoints, StopsInPoints};
-ghost use Rattle.sweep.specs.Watching.{HeardAllRunning, HeardSomeRunning, HeardAll, HeardSome};
+ghost use Rattle.sweep.specs.Watching.{HeardAllRunning, HeardSomeRunning};
+ghost use Rattle.sweep.specs.Watching.{HeardAll, HeardAllRuns, HeardSome, HeardSomeRuns};
 
 use crate::batches::Batches;
 use crate::checking::check_study;
@@ -86,6 +87,43 @@ fn write_points<R: Threads + Sync + Clock, O: Outlet, W: Watcher>(
     Ok(())
 }
 
+/// Runs all runs of the points of a shard of a study, of which all scenarios were read before, as [`check_study`] does,
+/// and writes their rows, as [`sweep`] tells. What the watcher shows is taken away at the end.
+///
+/// # Errors
+///
+/// `Memory` and `Write`, as [`sweep`].
+pub fn run_study<R: Threads + Sync + Clock, O: Outlet, W: Watcher>(
+    rt: &R,
+    alloc: Global,
+    sources: &Sources,
+    grid: &Grid,
+    shard: Shard,
+    layout: &Layout,
+    threads: u8,
+    outlet: &mut O,
+    watcher: &mut W,
+) -> Result<(), SweepError>
+    requires failures { O.failed outlet.old < 2 ^ 64 - 1 }
+    ensures done { OnOk result
+        (WroteStudy (sources_of sources.now) grid.now shard layout.now O.told O.failed outlet.old outlet.new) }
+    ensures breaks_off { IfErr result
+        (BreaksOff (sources_of sources.now) grid.now shard layout.now O.told O.failed outlet.old outlet.new) }
+    ensures heard { OnOk result (HeardAllRuns W.heard watcher.old watcher.new (sources_of sources.now) grid.now shard) }
+    ensures heard_some { IfErr result
+        (λ _. HeardSomeRuns W.heard watcher.old watcher.new (sources_of sources.now) grid.now shard) }
+    ensures hidden { W.shows watcher.old ≡ false → W.shows watcher.new ≡ false }
+{
+    let _runs = grid.runs();
+    write_header(alloc, grid, shard, layout, outlet)?;
+    let (begin, end) = points_of(grid, shard);
+    let answer = write_points(
+        rt, alloc, sources, grid, layout, begin, end, threads, outlet, watcher,
+    );
+    watcher.hide();
+    answer
+}
+
 /// Sweeps the points of a shard of a study: runs all their runs by so many threads, and writes rows with the layout's
 /// columns, one for each group of pairs and each layer of a point, with sums over its runs, or of each run. The first
 /// shard begins with the header. The threads and the watcher change nothing of the text.
@@ -126,12 +164,7 @@ pub fn sweep<R: Threads + Sync + Clock, O: Outlet, W: Watcher>(
     ensures hidden { W.shows watcher.new ≡ false }
 {
     check_study(rt, alloc, sources, grid, shard, layout, threads, watcher)?;
-    write_header(alloc, grid, shard, layout, outlet)?;
-    let _runs = grid.runs();
-    let (begin, end) = points_of(grid, shard);
-    let answer = write_points(
-        rt, alloc, sources, grid, layout, begin, end, threads, outlet, watcher,
-    );
-    watcher.hide();
-    answer
+    run_study(
+        rt, alloc, sources, grid, shard, layout, threads, outlet, watcher,
+    )
 }

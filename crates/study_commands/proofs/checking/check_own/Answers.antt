@@ -25,8 +25,16 @@ returns-in-Accepted-clause-text g c =
               ← its.describes.horizon,
               ← its.describes.limit,
             )
-            c.in_ok-line_of-in-Accepted.ensures;
+            c.in_ok-text-in-Accepted.ensures;
       },
+    )
+
+pub returns-in-Accepted-clause-told : goal.returns-in-Accepted-clause-told
+returns-in-Accepted-clause-told g c =
+    let told = rw c.deref-in-Accepted.ensures.value at c.in_ok-warn_of_bytes-in-Accepted.ensures.told in (
+      told.0,
+      record { bytes = c.in_ok-bytes.bytes.items; are_bytes = c.in_ok-bytes.ensures.bytes; accepted = told.1 },
+      told.2,
     )
 
 pub returns-clause-why : goal.returns-clause-why

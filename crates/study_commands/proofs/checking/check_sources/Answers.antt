@@ -6,7 +6,7 @@ use Rattle.toml.specs.View.{table_view}
 use Rattle.study_commands.proofs.checking.check_sources.Goals as goal
 
 pub returns-in-Accepted-clause-text : goal.returns-in-Accepted-clause-text
-returns-in-Accepted-clause-text c =
+returns-in-Accepted-clause-text g c =
     let a = c.in-Accepted.accepted in
     let t = table_view c.in_ok-table.table in
     let its : AcceptsTableAs t a = rw c.in-Accepted.is at c.in_ok-accepted.ensures in (
@@ -28,12 +28,25 @@ returns-in-Accepted-clause-text c =
               ← its.describes.horizon,
               ← its.describes.limit,
             )
-            c.in_ok-line_of-in-Accepted.ensures;
+            c.in_ok-text-in-Accepted.ensures;
       },
     )
 
+pub returns-in-Accepted-clause-told : goal.returns-in-Accepted-clause-told
+returns-in-Accepted-clause-told g c =
+    let t = table_view c.in_ok-table.table in
+    let its : AcceptsTableAs t c.in-Accepted.accepted = rw c.in-Accepted.is at c.in_ok-accepted.ensures in (
+      record_of t,
+      record {
+        table = t;
+        is_table = c.in_ok-table.ensures.table;
+        stands_for = record { accepted = its.passes; record_is = refl };
+      },
+      c.in_ok-warn_of_table-in-Accepted.ensures.told,
+    )
+
 pub returns-clause-why : goal.returns-clause-why
-returns-clause-why c =
+returns-clause-why g c =
     let r = c.in-Refused.refused in
     let t = table_view c.in_ok-table.table in
     let its : RefusesTableFor t r = rw c.in-Refused.is at c.in_ok-accepted.ensures in

@@ -1,5 +1,6 @@
 use Rattle.std.proofs.Common.{◌≡◌, ◌∙◌, sym, true}
-use Rattle.std.proofs.lemmas.Result.{IfOk-weaker}
+use Rattle.std.proofs.lemmas.Result.{IfOk-weaker, on_ok_weaker}
+use Rattle.study.specs.Sources.{sources_of}
 use Rattle.study_commands.specs.File.{is_alone}
 use Rattle.study_commands.proofs.Standing.{own_scenario}
 use Rattle.study_commands.proofs.checking.serve_check.Goals as goal
@@ -14,3 +15,25 @@ returns-then-is_alone-clause-text g c =
       is_scenario = own_scenario (g.I.Read.remaining c.args.input.now) texts told.0 alone told.1;
       tells = told.2;
     }) c.check_own.ensures.text
+
+pub returns-then-is_alone-clause-told : goal.returns-then-is_alone-clause-told
+returns-then-is_alone-clause-told g c =
+    let texts = c.args.texts.now in
+    let alone : is_alone texts ≡ true = sym c.is_alone.ensures ∙ c.if-is_alone.true in
+    on_ok_weaker c.check_own.result (λ told. record {
+      scenario = told.0;
+      is_scenario = own_scenario (g.I.Read.remaining c.args.input.now) texts told.0 alone told.1;
+      told = told.2;
+    }) c.check_own.ensures.told
+
+pub returns-clause-told : goal.returns-clause-told
+returns-clause-told g c =
+    on_ok_weaker c.check_sources.result (λ told. record {
+      scenario = told.0;
+      is_scenario = record {
+        sources = sources_of c.in_ok-sources.sources;
+        are_sources = c.in_ok-sources.ensures.sources;
+        is_of = told.1;
+      };
+      told = told.2;
+    }) c.check_sources.ensures.told

@@ -1,8 +1,5 @@
-use Rattle.study_commands.proofs.Naming.{StaysOnce, network_read, network_refused, stays_once, taken_once}
-use Rattle.study.specs.Sources.{sources_of}
-use Rattle.std.proofs.Common.{option_map, rules, IfErr}
-use Rattle.shell.specs.Input.{most_bytes}
-use Rattle.toml.specs.View.{table_view}
+use Rattle.study_commands.proofs.Naming.{network_read, network_refused, stays_once, taken_once}
+use Rattle.std.proofs.Common.{rules}
 use Rattle.study_commands.specs.Refusal.{IsOfFiles}
 use Rattle.study_commands.proofs.file.files_of.Goals as goal
 

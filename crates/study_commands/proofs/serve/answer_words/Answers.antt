@@ -1,9 +1,9 @@
-use Rattle.std.proofs.Common.{map, inl, inr}
-use Rattle.std.proofs.lemmas.Result.{IfErr-weaker}
+use Rattle.std.proofs.Common.{map, inl, inr, refl}
+use Rattle.std.proofs.lemmas.Result.{IfErr-weaker, on_ok_weaker}
 use Rattle.study_line.specs.Order.{States}
 use Rattle.study_commands.specs.Answer.{Answers, Leaves, Writes}
 use Rattle.study_commands.specs.Fault.{end_of}
-use Rattle.study_commands.proofs.Stopping.{asks_help}
+use Rattle.study_commands.proofs.Stopping.{asks_help, help_told}
 use Rattle.shell.proofs.Going.{for_help, for_order}
 use Rattle.study_commands.proofs.serve.answer_words.Goals as goal
 
@@ -31,3 +31,13 @@ returns-in-Err-clause-why g c =
     IfErr-weaker c.tell.result _ _
     (λ fault is. inl (record { reason = c.in-Err.error; explains = c.in-Err.ensures.refused; tells = is }))
     c.tell.ensures.why
+
+pub returns-in-Ok-clause-told : goal.returns-in-Ok-clause-told
+returns-in-Ok-clause-told g c =
+    on_ok_weaker c.carry_out.result (λ told. inl (c.in-Ok.order, c.in-Ok.ensures.stated, told)) c.carry_out.ensures.told
+
+pub returns-in-Err-clause-told : goal.returns-in-Err-clause-told
+returns-in-Err-clause-told g c =
+    let words = map (λ w. w.now) c.args.words.now in
+    on_ok_weaker c.tell.result (λ asks. inr (asks, refl))
+    (help_told _ _ _ _ words c.in-Err.error c.tell.result c.tell.ensures.text c.in-Err.ensures.refused)

@@ -1,5 +1,5 @@
 use Rattle.std.proofs.Common.{rules}
-use Rattle.std.proofs.lemmas.Result.{IfErr-weaker}
+use Rattle.std.proofs.lemmas.Result.{IfErr-weaker, on_ok_weaker}
 use Rattle.study_commands.proofs.Stopping.{no_sweep, stops_at_write, text_goes}
 use Rattle.study_commands.proofs.serve.carry_out.Goals as goal
 
@@ -24,3 +24,10 @@ pub returns-in_ok-text_of-in_default-clause-why : goal.returns-in_ok-text_of-in_
 returns-in_ok-text_of-in_default-clause-why g c =
     IfErr-weaker c.put_bytes.result _ _ (λ fault part. rw part.0 (stops_at_write _ c.args.order.now))
     c.put_bytes.ensures.part
+
+pub returns-in-Sweep-clause-told : goal.returns-in-Sweep-clause-told
+returns-in-Sweep-clause-told g c = rw c.in-Sweep.is c.serve_sweep.ensures.told
+
+pub returns-in_ok-text_of-in_default-clause-told : goal.returns-in_ok-text_of-in_default-clause-told
+returns-in_ok-text_of-in_default-clause-told g c =
+    on_ok_weaker c.put_bytes.result (λ _. c.in_ok-text_of-in_default.ensures.told) c.put_bytes.ensures.whole

@@ -2,7 +2,8 @@ use Rattle.std.proofs.Common.{map, subst, ◌≡◌, ◌⊎◌, ℕ, arith}
 use Rattle.study_commands.specs.Fault.{end_of, line_of, status_of}
 use Rattle.study_commands.specs.Serve.{IsReason, LeftOf, Serves, ServesFor}
 use Rattle.study_commands.specs.Inside.Statuses.{has_status}
-use Rattle.study_commands.proofs.Stopping.{asked_so}
+use Rattle.study_commands.specs.Told.{IsToldFor}
+use Rattle.study_commands.proofs.Stopping.{asked_so, at_zero}
 use Rattle.shell.proofs.Leaving.{ends}
 use Rattle.study_commands.proofs.serve.serve.Goals as goal
 
@@ -30,5 +31,8 @@ returns g c =
       why = all.why;
       taken = outcome.ensures.taken;
       untouched = outcome.ensures.untouched;
+      warned = λ zero.
+          let Told = IsToldFor g.W.Watcher.heard g.W.Warned.warned c.args.watcher.now outcome.new.watcher input words in
+          at_zero c.ended.result Told _ outcome.result outcome.ensures.told c.ended.ensures.failed zero;
       hidden = outcome.ensures.hidden;
     }

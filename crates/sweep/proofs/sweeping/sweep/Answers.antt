@@ -1,7 +1,7 @@
-use Rattle.sweep.proofs.Words.{rules, ◌*◌, inl, length, arith, IfOk-weaker, MatchResult-weaker, sources_of, runs, numbers_of}
+use Rattle.sweep.proofs.Words.{rules, inl, IfOk-weaker, MatchResult-weaker, sources_of}
 use Rattle.sweep.proofs.Reading.{if_err, if_any_err}
-use Rattle.sweep.proofs.Heard.{run_all, run_some}
-use Rattle.sweep.proofs.Ending.{breaks_at_check, breaks_at_header, wrote_study, breaks_at_points}
+use Rattle.sweep.proofs.Heard.{read_then_some}
+use Rattle.sweep.proofs.Ending.{breaks_at_check}
 use Rattle.sweep.proofs.sweeping.sweep.Goals as goal
 
 pub returns-in_err-check_study-clause-breaks_off : goal.returns-in_err-check_study-clause-breaks_off
@@ -13,42 +13,14 @@ returns-in_err-check_study-clause-breaks_off g c =
 pub returns-in_err-check_study-clause-heard_some : goal.returns-in_err-check_study-clause-heard_some
 returns-in_err-check_study-clause-heard_some g c = if_any_err c.from_residual.result _ (inl c.in_err-check_study.ensures.heard_some)
 
-pub returns-in_err-write_header-clause-breaks_off :
-    goal.returns-in_err-write_header-clause-breaks_off
-returns-in_err-write_header-clause-breaks_off g c =
-    if_err c.from_residual-in_err-write_header.result _ c.in_err-write_header.field-0.0 (search rules)
-    (breaks_at_header (sources_of c.args.sources.now) c.args.grid.now c.args.shard c.args.layout.now g.O.Outlet.told g.O.Outlet.failed c.args.outlet.now
-    c.write_header.new.outlet c.in_err-write_header.field-0.0 c.in_err-write_header.ensures.part)
-
-pub returns-in_err-write_header-clause-heard_some :
-    goal.returns-in_err-write_header-clause-heard_some
-returns-in_err-write_header-clause-heard_some g c =
-    let grid = c.args.grid.now in
-    if_any_err c.from_residual-in_err-write_header.result _
-    (inl (length (numbers_of grid c.args.shard) * length (runs grid), omega arith, c.in_ok-check_study.ensures.heard))
-
-pub returns-clause-done : goal.returns-clause-done
-returns-clause-done g c =
-    IfOk-weaker c.write_points-answer.result _ _
-    (λ u up. wrote_study (sources_of c.args.sources.now) c.args.grid.now c.args.shard c.points_of-begin.result.0 c.points_of-begin.result.1 c.points_of-begin.ensures.numbers c.args.layout.now g.O.Outlet.told g.O.Outlet.failed c.args.outlet.now
-    c.write_header.new.outlet c.write_points-answer.new.outlet c.in_ok-write_header.ensures.whole up)
-    c.write_points-answer.ensures.done
-
-pub returns-clause-breaks_off : goal.returns-clause-breaks_off
-returns-clause-breaks_off g c =
-    MatchResult-weaker c.write_points-answer.result c.write_points-answer.ensures.stops (λ u h. h)
-    (λ e stops. breaks_at_points (sources_of c.args.sources.now) c.args.grid.now c.args.shard c.points_of-begin.result.0 c.points_of-begin.result.1 c.points_of-begin.ensures.numbers c.args.layout.now g.O.Outlet.told g.O.Outlet.failed c.args.outlet.now
-    c.write_header.new.outlet c.write_points-answer.new.outlet c.in_ok-write_header.ensures.whole e stops)
-
 pub returns-clause-heard : goal.returns-clause-heard
 returns-clause-heard g c =
-    IfOk-weaker c.write_points-answer.result _ _
-    (λ u up. run_all g.W.Watcher.heard c.args.grid.now c.args.shard c.points_of-begin.result.0 c.points_of-begin.result.1 c.points_of-begin.ensures.numbers (sources_of c.args.sources.now) c.args.watcher.now c.check_study.new.watcher
-    c.write_points-answer.new.watcher c.hide.new.self c.in_ok-check_study.ensures.heard c.hide.ensures.same up)
-    c.write_points-answer.ensures.heard
+    IfOk-weaker c.run_study.result _ _
+    (λ u up. record { between = c.check_study.new.watcher; reading = c.in_ok-check_study.ensures.heard; running = up })
+    c.run_study.ensures.heard
 
 pub returns-clause-heard_some : goal.returns-clause-heard_some
 returns-clause-heard_some g c =
-    MatchResult-weaker c.write_points-answer.result c.write_points-answer.ensures.heard_some (λ u h. h)
-    (λ e some. run_some g.W.Watcher.heard c.args.grid.now c.args.shard c.points_of-begin.result.0 c.points_of-begin.result.1 c.points_of-begin.ensures.numbers (sources_of c.args.sources.now) c.args.watcher.now c.check_study.new.watcher
-    c.write_points-answer.new.watcher c.hide.new.self c.in_ok-check_study.ensures.heard c.hide.ensures.same some)
+    MatchResult-weaker c.run_study.result c.run_study.ensures.heard_some (λ u h. h)
+    (λ e some. read_then_some g.W.Watcher.heard c.args.watcher.now c.check_study.new.watcher c.run_study.new.watcher (sources_of c.args.sources.now)
+    c.args.grid.now c.args.shard c.in_ok-check_study.ensures.heard some)

@@ -1,0 +1,70 @@
+-- What a watcher is told in lines: what may mislead of a scenario or a study, after its scenarios were read, and before
+-- its first run.
+use Rattle.std.specs.Prelude.{◌≡◌, ◌⊎◌, ℕ, List, Option, None, Some}
+use Rattle.scenario_record.specs.Record.{Record}
+use Rattle.study.specs.Grid.{GridRecord}
+use Rattle.study.specs.Shard.{ShardRecord}
+use Rattle.study.specs.Sources.{SourcesRecord}
+use Rattle.study_commands.specs.File.{IsScenario}
+use Rattle.study_commands.specs.Sweep.{IsSaid}
+use Rattle.study_commands.specs.WarningText.{IsWarnedOf, IsWarnedOfStudy}
+use Rattle.study_line.specs.Order.{AsksHelp, States}
+use Rattle.study_line.specs.declared.order.Order.{Order}
+use Rattle.study_line.specs.declared.order.Order.TheVariants as order
+use Rattle.study_line.specs.declared.order.SourceTexts.{SourceTexts}
+use Rattle.study_line.specs.declared.order.StudyTexts.{StudyTexts}
+use Rattle.sweep.specs.Layout.{LayoutRecord}
+use Rattle.sweep.specs.Watching.{HeardAllRuns, HeardOfAllReading, News}
+
+-- a watcher is told of the scenario of the files, and of nothing else
+pub record IsToldOfFile {W : Type 0} (warned : W → List (List ℕ) → W → Type 0) (old new : W)
+    (input : Option (List ℕ)) (texts : SourceTexts) : Type 0 where
+  pub scenario : Record
+  pub is_scenario : IsScenario input texts scenario
+  pub told : IsWarnedOf warned old new scenario
+
+module _ {W : Type 0} (heard : W → List News → W → Type 0) (warned : W → List (List ℕ) → W → Type 0) where
+  -- it hears that all runs are read, and is told of the study then
+  pub record IsToldAfterReading (old new : W) (sources : SourcesRecord) (g : GridRecord) (shard : ShardRecord)
+      : Type 0 where
+    pub read : W
+    pub reading : HeardOfAllReading heard old read g shard
+    pub told : IsWarnedOfStudy warned read new sources g shard
+
+  module _ (old new : W) (input : Option (List ℕ)) (texts : SourceTexts) where
+    module _ (study : StudyTexts) where
+      -- of the study that words say of the files
+      pub record IsToldOfCheck : Type 0 where
+        pub sources : SourcesRecord
+        pub grid : GridRecord
+        pub shard : ShardRecord
+        pub layout : LayoutRecord
+        pub said : IsSaid input texts study sources grid shard layout
+        pub told : IsToldAfterReading old new sources grid shard
+
+      -- and where it is swept it hears of its runs after that
+      pub record IsToldOfSweep : Type 0 where
+        pub sources : SourcesRecord
+        pub grid : GridRecord
+        pub shard : ShardRecord
+        pub layout : LayoutRecord
+        pub said : IsSaid input texts study sources grid shard layout
+        pub begun : W
+        pub told : IsToldAfterReading old begun sources grid shard
+        pub running : HeardAllRuns heard begun new sources grid shard
+
+    abbrev pub IsToldOfChecked : Option StudyTexts → Type 0
+    IsToldOfChecked None = IsToldOfFile warned old new input texts
+    IsToldOfChecked (Some study) = IsToldOfCheck study
+
+  module _ (old new : W) (input : Option (List ℕ)) where
+    -- what it hears and is told for an order: of `letters`, `draw` and `show` nothing
+    abbrev pub IsTold : Order → Type 0
+    IsTold (order.Check texts study) = IsToldOfChecked old new input texts study
+    IsTold (order.Sweep texts study) = IsToldOfSweep old new input texts study
+    IsTold _ = new ≡ old
+
+    -- and for words: where they ask for help nothing
+    abbrev pub IsToldFor : (words : List (List ℕ)) → Type 0
+    IsToldFor words =
+        ((asked : Order) × States words asked × IsTold asked) ⊎ (AsksHelp words × (new ≡ old))
