@@ -282,4 +282,78 @@ ended $?
 grep -q '^run,0,0,0,lost,0$' out || is_wrong "a letter between two outages is lost: $(sed -n 4p out)"
 end
 
+# A run of 256 processes over 10,000,000 ticks, with a network that reaches the last of both. The file that `show` prints
+# has to have just the outages and links that another program draws.
+begin "a network over 256 processes and 10,000,000 ticks is drawn as another program draws it"
+sed -e 's/^version = 1/version = 2/' -e 's/^processes = 2/processes = 256/' -e 's/^horizon = 10$/horizon = 10000000/' \
+    one.toml > greatest.toml
+cat > greatest.network.toml <<'END'
+[[bursts]]
+from = [255, 256]
+to = "all"
+gap = { values = [1700000, 2300000, 900000] }
+length = { values = [3000, 40000] }
+
+[[cuts]]
+between = [[1, 2, 250], [7, 256]]
+gap = 1100000
+length = 70000
+
+[[pauses]]
+processes = [7, 256]
+gap = { values = [900000, 1900000] }
+length = 50000
+
+[[replays]]
+from = [256]
+to = [9]
+both = true
+lasts = 1000000
+outages = [[999000, 1000000], [0, 7]]
+
+[[links]]
+from = [256]
+to = "all"
+both = true
+min = 2
+max = 4
+END
+endings=("0 greatest.network.toml: 1 seeds, 510 links, * drawn outages: the same")
+timeout 60 python3 "$root/bench/network.py" shown greatest.network.toml greatest.toml 1 $fdstudy > err 2>&1
+ended $?
+end
+
+begin "a network has at most 100,000 values in a list"
+values_of() {
+    echo '[[bursts]]'
+    echo 'from = "all"'
+    echo 'to = "all"'
+    echo 'gap = 9000000'
+    echo "length = { values = [$(yes 5, | head -n "$1" | tr -d '\n')] }"
+}
+sed 's/^version = 1/version = 2/' one.toml > two.toml
+values_of 100000 > values.toml
+wants 0 ok $fdstudy check two.toml --network values.toml
+values_of 100001 > more.toml
+wants "1 two.toml: network: TooManyValues: *length* has more than 100000 values" nothing $fdstudy check two.toml --network more.toml
+end
+
+# 65,280 links and some 80,000 outages make a file of more bytes than a scenario's may have.
+begin "a file that is shown has at most 8,388,608 bytes"
+cat > long.network.toml <<END
+[[links]]
+from = "all"
+to = "all"
+min = 1000000
+max = 1000000
+
+[[pauses]]
+processes = [$(seq -s, 160)]
+gap = 5000000
+length = 4900000
+END
+wants "1 greatest.toml: run 1 of point 1*: TooLong: more than 8388608 bytes" nothing \
+    $fdstudy show greatest.toml --network long.network.toml --seeds 1 --point 1
+end
+
 sum_up
