@@ -333,7 +333,7 @@ values_of() {
 }
 sed 's/^version = 1/version = 2/' one.toml > two.toml
 values_of 100000 > values.toml
-wants 0 ok $fdstudy check two.toml --network values.toml
+wants 0 checked $fdstudy check two.toml --network values.toml
 values_of 100001 > more.toml
 wants "1 two.toml: network: TooManyValues: *length* has more than 100000 values" nothing $fdstudy check two.toml --network more.toml
 end
@@ -348,9 +348,9 @@ min = 1000000
 max = 1000000
 
 [[pauses]]
-processes = [$(seq -s, 160)]
-gap = 5000000
-length = 4900000
+processes = [$(seq -s, 120)]
+gap = 3000000
+length = 1000000
 END
 wants "1 greatest.toml: run 1 of point 1*: TooLong: more than 8388608 bytes" nothing \
     $fdstudy show greatest.toml --network long.network.toml --seeds 1 --point 1
