@@ -3,11 +3,10 @@ ghost use Rattle.std.specs.Prelude.{◌≡◌, ◌++◌, [], List, ℕ, IfOk, On
 ghost use Rattle.reporting.specs.Rows.{row_of, written};
 ghost use Rattle.reporting.specs.TraceText.{Holds, fields_of, handed, trace_text};
 
-use crate::digits::digits_of;
+use crate::digits::Digits;
 use crate::kinds::name_of_kind;
-use crate::notes::text_of_notes;
+use crate::notes::form_notes;
 use csv::Writer;
-use itoa::Buffer;
 use process_api::{Entry, Follower, follow_all};
 use std::alloc::{AllocError, Global};
 use std::mem;
@@ -15,10 +14,38 @@ use std::mem;
 /// The first line of a trace's text.
 pub const HEADER: &[u8] = b"tick,receiver,sender,number,kind,sent,lost,notes\n";
 
+/// The texts of a row's fields, which the next row forms anew only where they differ.
+#[derive(Drop)]
+struct Fields {
+    tick: Digits,
+    receiver: Digits,
+    sender: Digits,
+    number: Digits,
+    sent: Digits,
+    lost: Digits,
+    notes: Vec<u8>,
+}
+
+impl Fields {
+    /// Those of no row yet.
+    fn new(alloc: Global) -> Fields {
+        Fields {
+            tick: Digits::new(),
+            receiver: Digits::new(),
+            sender: Digits::new(),
+            number: Digits::new(),
+            sent: Digits::new(),
+            lost: Digits::new(),
+            notes: Vec::new(alloc),
+        }
+    }
+}
+
 /// The text of a trace, or of rows of it, that grows with its entries.
 #[derive(Drop)]
 pub struct TraceText {
     writer: Writer<Vec<u8>>,
+    fields: Fields,
     alloc: Global,
 }
 
@@ -29,7 +56,12 @@ impl TraceText {
     {
         let header = Vec::from_slice(alloc, header)?;
         let writer = Writer::from_writer(header);
-        Ok(TraceText { writer, alloc })
+        let fields = Fields::new(alloc);
+        Ok(TraceText {
+            writer,
+            fields,
+            alloc,
+        })
     }
 
     /// Adds the row of an entry. None of its fields calls for quotes.
@@ -41,18 +73,26 @@ impl TraceText {
         ensures { OnOk result ((text : List ℕ) → Holds self.old text
             → Holds self.new (text ++ row_of (fields_of entry.now))) }
     {
-        let notes = text_of_notes(self.alloc, &entry.notes)?;
-        let (mut tick, mut receiver, mut sender) = (Buffer::new(), Buffer::new(), Buffer::new());
-        let (mut number, mut sent, mut lost) = (Buffer::new(), Buffer::new(), Buffer::new());
+        self.fields.tick.give(u64::from(entry.key.tick));
+        self.fields
+            .receiver
+            .give(u64::from(entry.key.receiver.number()));
+        self.fields
+            .sender
+            .give(u64::from(entry.key.sender.number()));
+        self.fields.number.give(entry.key.number);
+        self.fields.sent.give(u64::from(entry.sent));
+        self.fields.lost.give(u64::from(entry.lost));
+        form_notes(&mut self.fields.notes, &entry.notes)?;
         let written = self.writer.write_fields(&[
-            digits_of(&mut tick, u64::from(entry.key.tick)).as_bytes(),
-            digits_of(&mut receiver, u64::from(entry.key.receiver.number())).as_bytes(),
-            digits_of(&mut sender, u64::from(entry.key.sender.number())).as_bytes(),
-            digits_of(&mut number, entry.key.number).as_bytes(),
+            self.fields.tick.text(),
+            self.fields.receiver.text(),
+            self.fields.sender.text(),
+            self.fields.number.text(),
             name_of_kind(entry.kind).as_bytes(),
-            digits_of(&mut sent, u64::from(entry.sent)).as_bytes(),
-            digits_of(&mut lost, u64::from(entry.lost)).as_bytes(),
-            notes.as_slice(),
+            self.fields.sent.text(),
+            self.fields.lost.text(),
+            self.fields.notes.as_slice(),
         ]);
         match written {
             Ok(()) => Ok(()),
