@@ -1,13 +1,17 @@
 //! The text of a trace.
-ghost use Rattle.std.specs.Prelude.{◌≡◌, ◌++◌, [], List, ℕ, IfOk, OnOk, length};
-ghost use Rattle.reporting.specs.Rows.{row_of, written};
+ghost use Rattle.std.specs.Prelude.{◌≡◌, ◌++◌, [], List, ℕ, IfOk, OnOk, length, map};
+ghost use Rattle.csv.specs.Writing.{default_writer};
+ghost use Rattle.reporting.specs.Inside.Plain.{IsPlain, ArePlain};
+ghost use Rattle.reporting.specs.Inside.RowTexts.{texts_of};
+ghost use Rattle.reporting.specs.Kinds.{kind_text};
+ghost use Rattle.reporting.specs.Rows.{row_of, written, IsBetween};
 ghost use Rattle.reporting.specs.TraceText.{Holds, fields_of, handed, trace_text};
 
 use crate::digits::Digits;
 use crate::kinds::name_of_kind;
 use crate::notes::form_notes;
 use csv::Writer;
-use process_api::{Entry, Follower, follow_all};
+use process_api::{Entry, Follower, Kind, follow_all};
 use std::alloc::{AllocError, Global};
 use std::mem;
 
@@ -38,6 +42,51 @@ impl Fields {
             lost: Digits::new(),
             notes: Vec::new(alloc),
         }
+    }
+
+    /// Puts an entry's in their place.
+    fn put(&mut self, entry: &Entry) -> Result<(), AllocError>
+        ensures texts { OnOk result (texts_of self.new (kind_text entry.now.kind) ≡ fields_of entry.now) }
+        ensures plain { OnOk result (IsPlain self.new.notes.items) }
+    {
+        self.tick.give(u64::from(entry.key.tick));
+        self.receiver.give(u64::from(entry.key.receiver.number()));
+        self.sender.give(u64::from(entry.key.sender.number()));
+        self.number.give(entry.key.number);
+        self.sent.give(u64::from(entry.sent));
+        self.lost.give(u64::from(entry.lost));
+        form_notes(&mut self.notes, &entry.notes)
+    }
+}
+
+/// The texts of these fields, with a kind's name among them.
+fn row_in<'a>(fields: &'a Fields, kind: &'a str) -> [&'a [u8]; 8]
+    ensures texts { map (λ text. text.now) result ≡ texts_of fields.now kind.now }
+    ensures plain { IsPlain fields.now.notes.items → IsPlain kind.now → ArePlain (map (λ text. text.now) result) }
+{
+    [
+        fields.tick.text(),
+        fields.receiver.text(),
+        fields.sender.text(),
+        fields.number.text(),
+        kind.as_bytes(),
+        fields.sent.text(),
+        fields.lost.text(),
+        fields.notes.as_slice(),
+    ]
+}
+
+/// Writes the row of these fields and a kind's name. None of them calls for quotes.
+fn write_row(writer: &mut Writer<Vec<u8>>, fields: &Fields, kind: Kind) -> Result<(), AllocError>
+    ensures between { OnOk result (IsPlain fields.now.notes.items → IsBetween default_writer writer.old
+        → IsBetween default_writer writer.new) }
+    ensures text { OnOk result (IsPlain fields.now.notes.items → IsBetween default_writer writer.old
+        → written writer.new ≡ written writer.old ++ row_of (texts_of fields.now (kind_text kind))) }
+{
+    let written = writer.write_fields(&row_in(fields, name_of_kind(kind)));
+    match written {
+        Ok(()) => Ok(()),
+        Err(_) => Err(AllocError),
     }
 }
 
@@ -73,31 +122,8 @@ impl TraceText {
         ensures { OnOk result ((text : List ℕ) → Holds self.old text
             → Holds self.new (text ++ row_of (fields_of entry.now))) }
     {
-        self.fields.tick.give(u64::from(entry.key.tick));
-        self.fields
-            .receiver
-            .give(u64::from(entry.key.receiver.number()));
-        self.fields
-            .sender
-            .give(u64::from(entry.key.sender.number()));
-        self.fields.number.give(entry.key.number);
-        self.fields.sent.give(u64::from(entry.sent));
-        self.fields.lost.give(u64::from(entry.lost));
-        form_notes(&mut self.fields.notes, &entry.notes)?;
-        let written = self.writer.write_fields(&[
-            self.fields.tick.text(),
-            self.fields.receiver.text(),
-            self.fields.sender.text(),
-            self.fields.number.text(),
-            name_of_kind(entry.kind).as_bytes(),
-            self.fields.sent.text(),
-            self.fields.lost.text(),
-            self.fields.notes.as_slice(),
-        ]);
-        match written {
-            Ok(()) => Ok(()),
-            Err(_) => Err(AllocError),
-        }
+        self.fields.put(entry)?;
+        write_row(&mut self.writer, &self.fields, entry.kind)
     }
 
     /// How many bytes have left `csv`'s own buffer, which holds 8,192 at most.
