@@ -42,7 +42,3 @@ plain_kind kind.Dead = refl
 
 pub plain_name : (name : List ℕ) (k : Kind) → name ≡ kind_text k → IsPlain name
 plain_name name k is = subst IsPlain (sym is) (plain_kind k)
-
--- a field that was copied
-pub field : {given formed wanted : List ℕ} → given ≡ formed → formed ≡ wanted → IsPlain formed → (given ≡ wanted) × IsPlain given
-field copied is plain = (copied ∙ is, subst IsPlain (sym copied) plain)

@@ -3,3 +3,4 @@ pub mod Knows
 pub mod Values
 pub mod Plain
 pub mod Findings
+pub mod RowTexts

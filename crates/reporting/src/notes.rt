@@ -1,5 +1,5 @@
 //! The text of an entry's notes.
-ghost use Rattle.std.specs.Prelude.{◌≡◌, ◌++◌, ◌∷◌, decimal, IfOk, OnOk};
+ghost use Rattle.std.specs.Prelude.{◌≡◌, ◌++◌, ◌∷◌, decimal, OnOk};
 ghost use Rattle.std.specs.List.{flat_map};
 ghost use Rattle.reporting.specs.Inside.Plain.{IsPlain};
 ghost use Rattle.reporting.specs.TraceText.{note_text, notes_text};
@@ -8,9 +8,6 @@ use crate::digits::digits_of;
 use itoa::Buffer;
 use process_api::Note;
 use std::alloc::{AllocError, Global};
-
-/// How many bytes there is room for at first, so that few notes take memory once.
-const ROOM: usize = 64;
 
 /// Appends a word and a number.
 fn append_number(text: &mut Vec<u8>, word: &[u8], number: u64) -> Result<(), AllocError>
@@ -58,18 +55,26 @@ fn append_others(text: &mut Vec<u8>, notes: &[Note]) -> Result<(), AllocError>
     Ok(())
 }
 
-/// The text of an entry's notes. Where there are none it takes no memory.
-pub(crate) fn text_of_notes(alloc: Global, notes: &[Note]) -> Result<Vec<u8>, AllocError>
-    ensures text { IfOk result (λ text. text.items ≡ notes_text notes.now) }
-    ensures plain { IfOk result (λ text. IsPlain text.items) }
+/// Appends the text of notes, of which there is one at least.
+#[inline(never)]
+fn append_notes(text: &mut Vec<u8>, first: Note, others: &[Note]) -> Result<(), AllocError>
+    ensures text { OnOk result (text.new.items
+        ≡ text.old.items ++ (note_text first ++ flat_map (λ n. 32 ∷ note_text n) others.now)) }
+    ensures plain { OnOk result (IsPlain text.old.items → IsPlain text.new.items) }
 {
+    append_note(text, first)?;
+    append_others(text, others)
+}
+
+/// Puts the text of an entry's notes in the place of what the buffer held. Where there are none it takes no memory.
+#[inline(always)]
+pub(crate) fn form_notes(text: &mut Vec<u8>, notes: &[Note]) -> Result<(), AllocError>
+    ensures text { OnOk result (text.new.items ≡ notes_text notes.now) }
+    ensures plain { OnOk result (IsPlain text.new.items) }
+{
+    text.clear();
     match notes.split_first() {
-        None => Ok(Vec::new(alloc)),
-        Some((first, others)) => {
-            let mut text = Vec::with_capacity(alloc, ROOM)?;
-            append_note(&mut text, *first)?;
-            append_others(&mut text, others)?;
-            Ok(text)
-        }
+        None => Ok(()),
+        Some((first, others)) => append_notes(text, *first, others),
     }
 }

@@ -1,24 +1,100 @@
 //! The text of a trace.
-ghost use Rattle.std.specs.Prelude.{◌≡◌, ◌++◌, [], List, ℕ, IfOk, OnOk, length};
-ghost use Rattle.reporting.specs.Rows.{row_of, written};
+ghost use Rattle.std.specs.Prelude.{◌≡◌, ◌++◌, [], List, ℕ, IfOk, OnOk, length, map};
+ghost use Rattle.csv.specs.Writing.{default_writer};
+ghost use Rattle.reporting.specs.Inside.Plain.{IsPlain, ArePlain};
+ghost use Rattle.reporting.specs.Inside.RowTexts.{texts_of};
+ghost use Rattle.reporting.specs.Kinds.{kind_text};
+ghost use Rattle.reporting.specs.Rows.{row_of, written, IsBetween};
 ghost use Rattle.reporting.specs.TraceText.{Holds, fields_of, handed, trace_text};
 
-use crate::digits::digits_of;
+use crate::digits::Digits;
 use crate::kinds::name_of_kind;
-use crate::notes::text_of_notes;
+use crate::notes::form_notes;
 use csv::Writer;
-use itoa::Buffer;
-use process_api::{Entry, Follower, follow_all};
+use process_api::{Entry, Follower, Kind, follow_all};
 use std::alloc::{AllocError, Global};
 use std::mem;
 
 /// The first line of a trace's text.
 pub const HEADER: &[u8] = b"tick,receiver,sender,number,kind,sent,lost,notes\n";
 
+/// The texts of a row's fields, which the next row forms anew only where they differ.
+#[derive(Drop)]
+struct Fields {
+    tick: Digits,
+    receiver: Digits,
+    sender: Digits,
+    number: Digits,
+    sent: Digits,
+    lost: Digits,
+    notes: Vec<u8>,
+}
+
+impl Fields {
+    /// Those of no row yet.
+    fn new(alloc: Global) -> Fields {
+        Fields {
+            tick: Digits::new(),
+            receiver: Digits::new(),
+            sender: Digits::new(),
+            number: Digits::new(),
+            sent: Digits::new(),
+            lost: Digits::new(),
+            notes: Vec::new(alloc),
+        }
+    }
+
+    /// Puts an entry's in their place.
+    fn put(&mut self, entry: &Entry) -> Result<(), AllocError>
+        ensures texts { OnOk result (texts_of self.new (kind_text entry.now.kind) ≡ fields_of entry.now) }
+        ensures plain { OnOk result (IsPlain self.new.notes.items) }
+    {
+        self.tick.give(u64::from(entry.key.tick));
+        self.receiver.give(u64::from(entry.key.receiver.number()));
+        self.sender.give(u64::from(entry.key.sender.number()));
+        self.number.give(entry.key.number);
+        self.sent.give(u64::from(entry.sent));
+        self.lost.give(u64::from(entry.lost));
+        form_notes(&mut self.notes, &entry.notes)
+    }
+}
+
+/// The texts of these fields, with a kind's name among them.
+fn row_in<'a>(fields: &'a Fields, kind: &'a str) -> [&'a [u8]; 8]
+    ensures texts { map (λ text. text.now) result ≡ texts_of fields.now kind.now }
+    ensures plain { IsPlain fields.now.notes.items → IsPlain kind.now → ArePlain (map (λ text. text.now) result) }
+{
+    [
+        fields.tick.text(),
+        fields.receiver.text(),
+        fields.sender.text(),
+        fields.number.text(),
+        kind.as_bytes(),
+        fields.sent.text(),
+        fields.lost.text(),
+        fields.notes.as_slice(),
+    ]
+}
+
+/// Writes the row of these fields and a kind's name. None of them calls for quotes.
+fn write_row(writer: &mut Writer<Vec<u8>>, fields: &Fields, kind: Kind) -> Result<(), AllocError>
+    ensures between { OnOk result (IsPlain fields.now.notes.items → IsBetween default_writer writer.old
+        → IsBetween default_writer writer.new) }
+    ensures text { OnOk result (IsPlain fields.now.notes.items → IsBetween default_writer writer.old
+        → written writer.new ≡ written writer.old ++ row_of (texts_of fields.now (kind_text kind))) }
+{
+    let written = writer.write_fields(&row_in(fields, name_of_kind(kind)));
+    match written {
+        Ok(()) => Ok(()),
+        Err(_) => Err(AllocError),
+    }
+}
+
 /// The text of a trace, or of rows of it, that grows with its entries.
 #[derive(Drop)]
 pub struct TraceText {
     writer: Writer<Vec<u8>>,
+    fields: Fields,
     alloc: Global,
 }
 
@@ -29,7 +105,12 @@ impl TraceText {
     {
         let header = Vec::from_slice(alloc, header)?;
         let writer = Writer::from_writer(header);
-        Ok(TraceText { writer, alloc })
+        let fields = Fields::new(alloc);
+        Ok(TraceText {
+            writer,
+            fields,
+            alloc,
+        })
     }
 
     /// Adds the row of an entry. None of its fields calls for quotes.
@@ -41,23 +122,8 @@ impl TraceText {
         ensures { OnOk result ((text : List ℕ) → Holds self.old text
             → Holds self.new (text ++ row_of (fields_of entry.now))) }
     {
-        let notes = text_of_notes(self.alloc, &entry.notes)?;
-        let (mut tick, mut receiver, mut sender) = (Buffer::new(), Buffer::new(), Buffer::new());
-        let (mut number, mut sent, mut lost) = (Buffer::new(), Buffer::new(), Buffer::new());
-        let written = self.writer.write_fields(&[
-            digits_of(&mut tick, u64::from(entry.key.tick)).as_bytes(),
-            digits_of(&mut receiver, u64::from(entry.key.receiver.number())).as_bytes(),
-            digits_of(&mut sender, u64::from(entry.key.sender.number())).as_bytes(),
-            digits_of(&mut number, entry.key.number).as_bytes(),
-            name_of_kind(entry.kind).as_bytes(),
-            digits_of(&mut sent, u64::from(entry.sent)).as_bytes(),
-            digits_of(&mut lost, u64::from(entry.lost)).as_bytes(),
-            notes.as_slice(),
-        ]);
-        match written {
-            Ok(()) => Ok(()),
-            Err(_) => Err(AllocError),
-        }
+        self.fields.put(entry)?;
+        write_row(&mut self.writer, &self.fields, entry.kind)
     }
 
     /// How many bytes have left `csv`'s own buffer, which holds 8,192 at most.
