@@ -9,6 +9,8 @@
 #![tactic(auto)]
 
 mod by_tick;
+mod joined;
+mod lane;
 mod merging;
 
 pub use merging::merge;
