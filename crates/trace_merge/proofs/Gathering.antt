@@ -1,13 +1,21 @@
 -- Entries that are moved from parts, tick by tick.
-use Rattle.std.proofs.Common.{◌≡◌, ◌<◌, ◌-◌, ◌^◌, ℕ, zero, suc, sym, ap, ◌∙◌, subst, List, [], ◌∷◌, ◌++◌, map, length, set, get_or, append_assoc, min, arith, Option, None, Some, MatchOption, IsPermutation}
+use Rattle.std.proofs.Common.{◌≡◌, ◌<◌, ◌-◌, ◌^◌, ℕ, zero, suc, sym, ap, ◌∙◌, subst, List, [], ◌∷◌, ◌++◌, map, length, set, get_or, append_assoc, min, arith, Option, None, Some, MatchOption, IsPermutation, Vec, Global}
 use Rattle.std.specs.Option.{unwrap_or}
 use Rattle.std.proofs.lemmas.List.{append-nil}
 use Rattle.std.proofs.lemmas.List.Sorted.{IsPermutation-trans, IsPermutation-append_left, IsPermutation-append_right, IsPermutation-append_comm}
 use Rattle.process_api.specs.EntryRecord.{EntryRecord}
+use Rattle.process_api.specs.declared.entry.Entry.{Entry}
+use Rattle.trace_merge.specs.declared.by_tick.Lane.{Lane}
 use Rattle.trace_merge.specs.Parts.{all_of}
 
 abbrev Part : Type 0
 Part = List EntryRecord
+
+abbrev pub items_of : Vec Entry Global → Part
+items_of part = part.items
+
+abbrev pub rest_of : Lane → Part
+rest_of lane = lane.rest.items
 
 -- one part more
 pub all_of-more : {X : Type 0} (f : X → Part) (xs : List X) (x : X) → all_of (map f (xs ++ x ∷ [])) ≡ all_of (map f xs) ++ f x

@@ -59,8 +59,7 @@ test_of_rising [] h = refl
 test_of_rising (e ∷ es) h =
     subst IsTrue (sym (ap (λ b. b && is_rising es) (true_all (λ f. is_before e.key f.key) es h.0))) (test_of_rising es h.1)
 
--- ---- one entry more, after the last
-
+-- one entry more, after the last
 pub rising_more : (es : List EntryRecord) (k : ℕ) (last e : EntryRecord) → k + 1 ≡ length es → get_or es k last ≡ last → Before last e → Rising es → Rising (es ++ e ∷ [])
 rising_more [] k last e n is b r = (tt, tt)
 rising_more (x ∷ []) zero last e n is b r = ((subst (λ l. Before l e) (sym is) b, tt), (tt, tt))

@@ -3,9 +3,42 @@ ghost use Rattle.std.specs.Prelude.{◌≡◌, ◌^◌, ◌<◌, ◌++◌, [], m
 ghost use Rattle.trace_merge.specs.Parts.{all_of};
 
 use crate::joined::Joined;
-use crate::lane::Lane;
 use process_api::{Entry, RunError};
 use std::alloc::Global;
+
+/// A part of which the first entries have been taken.
+#[derive(Drop)]
+struct Lane {
+    // no entry that is left is before this tick, so that up to it the entries needn't be looked at
+    next: Option<u32>,
+    // what is left, the next entry last
+    rest: Vec<Entry>,
+}
+
+impl Lane {
+    /// Moves the entries up to a tick to the end of a list. Answers the tick of the next one, or none where all were
+    /// moved.
+    fn take_up_to(&mut self, merged: &mut Joined, tick: u32) -> Result<Option<u32>, RunError>
+        ensures same { OnOk result (IsPermutation (merged.old.entries.items ++ self.old.rest.items)
+            (merged.new.entries.items ++ self.new.rest.items)) }
+        ensures later { IfOk result (λ next. MatchOption next (self.new.rest.items ≡ []) (λ t. tick < t)) }
+        ensures err { IfErr result (λ e. e ≡ RunError.Memory) }
+    {
+        match self.next {
+            Some(next) if tick < next => return Ok(Some(next)),
+            _ => self.next = None,
+        }
+        while let Some(last) = self.rest.last() {
+            let next = last.key.tick;
+            if tick < next {
+                self.next = Some(next);
+                return Ok(Some(next));
+            }
+            merged.push(self.rest.take_last())?;
+        }
+        Ok(None)
+    }
+}
 
 /// Moves the entries up to a tick of each part, one part after the other, to the end of a list. Answers the least tick
 /// at which a part goes on, or none where all are taken.
@@ -34,8 +67,10 @@ fn lanes_of(alloc: Global, parts: Vec<Vec<Entry>>) -> Result<Vec<Lane>, RunError
     ensures err { IfErr result (λ e. e ≡ RunError.Memory) }
 {
     let mut lanes = Vec::with_capacity(alloc, parts.len())?;
-    for part in parts {
-        lanes.push(Lane::of(part))?;
+    for mut part in parts {
+        part.reverse();
+        let next = Some(0);
+        lanes.push(Lane { next, rest: part })?;
     }
     Ok(lanes)
 }
@@ -55,7 +90,9 @@ pub(crate) fn gather(alloc: Global, parts: Vec<Vec<Entry>>) -> Result<Joined, Ru
         IsPermutation (all_of (map (λ part. part.items) parts.items)) joined.entries.items) }
     ensures err { IfErr result (λ e. e ≡ RunError.Memory) }
 {
-    let mut merged = Joined::with_room(alloc, room_for(&parts))?;
+    let entries = Vec::with_capacity(alloc, room_for(&parts))?;
+    let rises = true;
+    let mut merged = Joined { entries, rises };
     let mut lanes = lanes_of(alloc, parts)?;
     let mut at = Some(0);
     while let Some(tick) = at {

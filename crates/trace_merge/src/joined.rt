@@ -1,12 +1,10 @@
 //! Entries that are joined one by one.
-ghost use Rattle.std.specs.Prelude.{◌≡◌, ◌++◌, [], ◌∷◌, true, IsTrue, OnOk, IfOk, IfErr};
+ghost use Rattle.std.specs.Prelude.{◌≡◌, ◌++◌, [], ◌∷◌, true, IsTrue, OnOk, IfErr};
 ghost use Rattle.process_api.specs.Order.{is_rising};
 
 use process_api::{Entry, RunError};
-use std::alloc::Global;
 
-/// Entries, and whether their keys rise strictly. That is seen as each is joined, so that the list isn't gone through
-/// once more for it.
+/// Entries, and whether their keys rise strictly, which is seen as each is joined.
 #[derive(Drop)]
 pub(crate) struct Joined {
     pub(crate) entries: Vec<Entry>,
@@ -25,17 +23,6 @@ fn goes_on(entries: &[Entry], entry: &Entry) -> bool
 }
 
 impl Joined {
-    /// No entries, with room for so many.
-    pub(crate) fn with_room(alloc: Global, room: usize) -> Result<Joined, RunError>
-        ensures none { IfOk result (λ joined. joined.entries.items ≡ []) }
-        ensures err { IfErr result (λ e. e ≡ RunError.Memory) }
-    {
-        Ok(Joined {
-            entries: Vec::with_capacity(alloc, room)?,
-            rises: true,
-        })
-    }
-
     /// One entry more.
     pub(crate) fn push(&mut self, entry: Entry) -> Result<(), RunError>
         ensures more { OnOk result (self.new.entries.items ≡ self.old.entries.items ++ entry ∷ []) }

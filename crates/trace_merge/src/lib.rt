@@ -10,7 +10,6 @@
 
 mod by_tick;
 mod joined;
-mod lane;
 mod merging;
 
 pub use merging::merge;

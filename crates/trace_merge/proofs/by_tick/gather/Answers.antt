@@ -1,28 +1,23 @@
-use Rattle.std.proofs.Common.{◌≡◌, ◌<◌, ◌++◌, [], List, map, ap, ◌∙◌, sym, subst, length, Vec, Global, MatchOption, IsPermutation}
+use Rattle.std.proofs.Common.{◌≡◌, ◌<◌, ◌++◌, [], List, map, ap, ◌∙◌, sym, subst, length, MatchOption, IsPermutation}
 use Rattle.std.proofs.lemmas.List.{with_items_is}
 use Rattle.std.proofs.lemmas.List.Sorted.{IsPermutation-trans}
 use Rattle.process_api.specs.EntryRecord.{EntryRecord}
-use Rattle.process_api.specs.declared.entry.Entry.{Entry}
-use Rattle.trace_merge.specs.declared.lane.Lane.{Lane}
+use Rattle.trace_merge.specs.declared.by_tick.Lane.{Lane}
 use Rattle.trace_merge.specs.Parts.{all_of}
-use Rattle.trace_merge.proofs.Gathering.{still, still_fewer}
+use Rattle.trace_merge.proofs.Gathering.{items_of, rest_of, still, still_fewer}
 use Rattle.trace_merge.proofs.by_tick.gather.Goals as goal
 
-abbrev items_of : Vec Entry Global → List EntryRecord
-items_of part = part.items
-
 abbrev rests : List Lane → List EntryRecord
-rests lanes = all_of (map (λ lane. lane.rest.items) lanes)
+rests lanes = all_of (map rest_of lanes)
 
 pub loop-at-preserved : goal.loop-at-preserved
 loop-at-preserved c =
     let v = c.loop-at.lanes in
     let new = c.take_tick.new.lanes in
     let to = c.take_tick.new.merged.entries.items in
-    let was : c.deref_mut.result.now ≡ v.items = c.deref_mut.ensures.value in
-    let is = ap rests (with_items_is v new (c.take_tick.auto.lanes ∙ (ap length was ∙ sym v.ok.0))) in
+    let is = ap rests (with_items_is v new (c.take_tick.auto.lanes ∙ (ap length c.deref_mut.ensures.value ∙ sym v.ok.0))) in
     let goes : IsPermutation (c.loop-at.merged.entries.items ++ rests v.items) (to ++ rests new) =
-    subst (λ ls. IsPermutation (c.loop-at.merged.entries.items ++ rests ls) (to ++ rests new)) was c.in_ok-at.ensures.same in
+    subst (λ ls. IsPermutation (c.loop-at.merged.entries.items ++ rests ls) (to ++ rests new)) c.deref_mut.ensures.value c.in_ok-at.ensures.same in
     record {
       same = subst (λ es. IsPermutation (all_of (map items_of c.args.parts.items)) (to ++ es)) (sym is) (IsPermutation-trans _ _ _ c.loop-at.invariant.same goes);
       done = λ e. is ∙ subst (λ o. MatchOption o (rests new ≡ []) (λ t. c.in-Some.tick < t)) e c.in_ok-at.ensures.later;

@@ -1,16 +1,11 @@
-use Rattle.std.proofs.Common.{◌≡◌, ◌+◌, ◌<◌, ◌++◌, [], Some, List, map, take, ap, ◌∙◌, sym, subst, arith, min, length, MatchOption, slice_set}
+use Rattle.std.proofs.Common.{◌≡◌, ◌+◌, ◌<◌, ◌++◌, [], Some, map, take, ap, ◌∙◌, sym, subst, arith, min, length, MatchOption, slice_set}
 use Rattle.std.specs.Option.{unwrap_or}
 use Rattle.std.proofs.lemmas.List.{length-set, take_more_set}
 use Rattle.std.proofs.lemmas.List.Sorted.{IsPermutation-trans}
-use Rattle.process_api.specs.EntryRecord.{EntryRecord}
-use Rattle.trace_merge.specs.declared.lane.Lane.{Lane}
 use Rattle.trace_merge.specs.Parts.{all_of}
-use Rattle.trace_merge.proofs.Gathering.{one_moved, all_of-more, later_least, later_same}
+use Rattle.trace_merge.proofs.Gathering.{rest_of, one_moved, all_of-more, later_least, later_same}
 use Rattle.trace_merge.proofs.by_tick.take_tick.Goals.{in-Some, in_default}
 use Rattle.trace_merge.proofs.by_tick.take_tick.Goals as goal
-
-abbrev rest_of : Lane → List EntryRecord
-rest_of lane = lane.rest.items
 
 pub loop-at-preserved : goal.loop-at-preserved
 loop-at-preserved c =
