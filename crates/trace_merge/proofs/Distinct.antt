@@ -1,10 +1,10 @@
 -- Entries whose keys differ, and that are put in order.
-use Rattle.std.proofs.Common.{◌≡◌, ◌≢◌, refl, sym, ap, ◌∙◌, subst, Bool, true, false, true≢false, IsTrue, List, [], ◌∷◌, ◌++◌, map, suc, arith, get_or, is_lt, is_eq, Less, Equal, Greater, Ordering, ◌+◌}
+use Rattle.std.proofs.Common.{◌≡◌, ◌≢◌, refl, sym, ap, ◌∙◌, subst, Bool, false, true≢false, IsTrue, List, [], ◌∷◌, ◌++◌, map, suc, arith, get_or, is_lt, is_eq, Less, Equal, Greater, Ordering, ◌+◌}
 use Rattle.std.specs.List.{All, AllByRecursion, IsDistinct}
 use Rattle.std.specs.List.Sorted.{IsPermutation, IsSortedBy, IsSortedByKey}
 use Rattle.std.specs.Ordering.{eq_by_cmp, ordering_reverse}
 use Rattle.std.proofs.lemmas.Cmp.{tied_itself}
-use Rattle.std.proofs.lemmas.List.Sorted.{IsPermutation-map, IsPermutation-trans}
+use Rattle.std.proofs.lemmas.List.Sorted.{IsPermutation-map}
 use Rattle.std.proofs.lemmas.Map.Keys.{IsDistinct-IsPermutation}
 use Rattle.process_api.specs.Order.{key_cmp, is_less, is_before, is_rising}
 use Rattle.process_api.specs.EntryRecord.{EntryRecord}

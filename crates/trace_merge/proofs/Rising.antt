@@ -1,5 +1,5 @@
 -- Rising entries.
-use Rattle.std.proofs.Common.{◌≡◌, ◌≢◌, ◌⊎◌, inl, inr, refl, sym, ap, ◌∙◌, subst, Bool, true, false, ◌&&◌, IsTrue, List, [], ◌∷◌, ◌++◌, Less, Equal, Greater, Ordering, true≢false}
+use Rattle.std.proofs.Common.{◌≡◌, ◌≢◌, ◌⊎◌, ℕ, ◌+◌, zero, suc, inl, inr, refl, sym, ap, ◌∙◌, subst, Bool, true, false, ◌&&◌, IsTrue, List, [], ◌∷◌, ◌++◌, length, get_or, Less, Equal, Greater, Ordering, true≢false, arith}
 use Rattle.std.specs.List.{AllByRecursion, list_all}
 use Rattle.process_api.specs.Order.{key_cmp, is_less, is_before, is_rising}
 use Rattle.process_api.specs.EntryRecord.{EntryRecord}
@@ -58,3 +58,13 @@ pub test_of_rising : (es : List EntryRecord) → Rising es → IsTrue (is_rising
 test_of_rising [] h = refl
 test_of_rising (e ∷ es) h =
     subst IsTrue (sym (ap (λ b. b && is_rising es) (true_all (λ f. is_before e.key f.key) es h.0))) (test_of_rising es h.1)
+
+-- one entry more, after the last
+pub rising_more : (es : List EntryRecord) (k : ℕ) (last e : EntryRecord) → k + 1 ≡ length es → get_or es k last ≡ last → Before last e → Rising es → Rising (es ++ e ∷ [])
+rising_more [] k last e n is b r = (tt, tt)
+rising_more (x ∷ []) zero last e n is b r = ((subst (λ l. Before l e) (sym is) b, tt), (tt, tt))
+rising_more (x ∷ []) (suc k) last e n is b r = absurd (omega (arith, n))
+rising_more (x ∷ y ∷ ys) zero last e n is b r = absurd (omega (arith, n))
+rising_more (x ∷ y ∷ ys) (suc k) last e n is b r =
+    let more : Rising (y ∷ ys ++ e ∷ []) = rising_more (y ∷ ys) k last e (omega (arith, n)) is b r.1 in
+    ((r.0.0, weaker (Before y) (Before x) (λ z later. before-trans x y z r.0.0 later) (ys ++ e ∷ []) more.0), more)

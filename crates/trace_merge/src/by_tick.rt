@@ -1,75 +1,78 @@
 //! The entries of all parts, tick by tick.
-ghost use Rattle.std.specs.Prelude.{◌≡◌, ◌≤◌, ◌<◌, ◌++◌, [], map, length, IfOk, OnOk, IfErr, MatchOption, IsPermutation};
+ghost use Rattle.std.specs.Prelude.{◌≡◌, ◌^◌, ◌<◌, ◌++◌, [], map, OnOk, IfOk, IfErr, MatchOption, IsPermutation};
 ghost use Rattle.trace_merge.specs.Parts.{all_of};
-ghost use Rattle.trace_merge.specs.Inside.Ticks.{BeginsBy, SomeBegins};
 
+use crate::joined::Joined;
 use process_api::{Entry, RunError};
 use std::alloc::Global;
-use std::collections::VecDeque;
 
-/// Moves the entries up to a tick from the front of one part to the end of another.
-fn move_up_to(to: &mut Vec<Entry>, from: &mut VecDeque<Entry>, tick: u32) -> Result<(), RunError>
-    ensures same { OnOk result (to.new.items ++ from.new.items ≡ to.old.items ++ from.old.items) }
-    ensures none { OnOk result (length from.new.items ≤ length from.old.items) }
-    ensures some { OnOk result (BeginsBy tick from.old.items → length from.new.items < length from.old.items) }
-    ensures err { IfErr result (λ e. e ≡ RunError.Memory) }
-{
-    while let Some(entry) = from.pop_front_if(|first| first.key.tick <= tick) {
-        to.push(entry)?;
-    }
-    Ok(())
+/// A part of which the first entries have been taken.
+#[derive(Drop)]
+struct Lane {
+    // no entry that is left is before this tick, so that up to it the entries needn't be looked at
+    next: Option<u32>,
+    // what is left, the next entry last
+    rest: Vec<Entry>,
 }
 
-/// Moves the entries up to a tick from the front of each part, one part after the other, to the end of a list. Answers
-/// what is left of the parts.
-fn take_tick(
-    alloc: Global,
-    merged: &mut Vec<Entry>,
-    parts: Vec<VecDeque<Entry>>,
-    tick: u32,
-) -> Result<Vec<VecDeque<Entry>>, RunError>
-    ensures same { IfOk result (λ left. IsPermutation
-        (merged.old.items ++ all_of (map (λ part. part.items) parts.items))
-        (merged.new.items ++ all_of (map (λ part. part.items) left.items))) }
-    ensures fewer { IfOk result (λ left. SomeBegins tick (map (λ part. part.items) parts.items)
-        → length (all_of (map (λ part. part.items) left.items))
-        < length (all_of (map (λ part. part.items) parts.items))) }
-    ensures err { IfErr result (λ e. e ≡ RunError.Memory) }
-{
-    let mut left = Vec::with_capacity(alloc, parts.len())?;
-    for mut part in parts {
-        move_up_to(merged, &mut part, tick)?;
-        left.push(part)?;
+impl Lane {
+    /// Moves the entries up to a tick to the end of a list. Answers the tick of the next one, or none where all were
+    /// moved.
+    fn take_up_to(&mut self, merged: &mut Joined, tick: u32) -> Result<Option<u32>, RunError>
+        ensures same { OnOk result (IsPermutation (merged.old.entries.items ++ self.old.rest.items)
+            (merged.new.entries.items ++ self.new.rest.items)) }
+        ensures later { IfOk result (λ next. MatchOption next (self.new.rest.items ≡ []) (λ t. tick < t)) }
+        ensures err { IfErr result (λ e. e ≡ RunError.Memory) }
+    {
+        match self.next {
+            Some(next) if tick < next => return Ok(Some(next)),
+            _ => self.next = None,
+        }
+        while let Some(last) = self.rest.last() {
+            let next = last.key.tick;
+            if tick < next {
+                self.next = Some(next);
+                return Ok(Some(next));
+            }
+            merged.push(self.rest.take_last())?;
+        }
+        Ok(None)
     }
-    Ok(left)
 }
 
-/// The least tick at which a part begins, or none where no part has an entry.
-fn least_tick(parts: &[VecDeque<Entry>]) -> Option<u32>
-    ensures { MatchOption result (all_of (map (λ part. part.items) parts.now) ≡ [])
-        (λ tick. SomeBegins tick (map (λ part. part.items) parts.now)) }
+/// Moves the entries up to a tick of each part, one part after the other, to the end of a list. Answers the least tick
+/// at which a part goes on, or none where all are taken.
+fn take_tick(merged: &mut Joined, lanes: &mut [Lane], tick: u32) -> Result<Option<u32>, RunError>
+    ensures same { OnOk result (IsPermutation
+        (merged.old.entries.items ++ all_of (map (λ lane. lane.rest.items) lanes.old))
+        (merged.new.entries.items ++ all_of (map (λ lane. lane.rest.items) lanes.new))) }
+    ensures later { IfOk result (λ next. MatchOption next
+        (all_of (map (λ lane. lane.rest.items) lanes.new) ≡ []) (λ t. tick < t)) }
+    ensures fits { tick < 2 ^ 32 }
+    ensures err { IfErr result (λ e. e ≡ RunError.Memory) }
 {
     let mut least: Option<u32> = None;
-    for part in parts {
-        if let Some(first) = part.front() {
-            let tick = first.key.tick;
-            least = Some(least.unwrap_or(tick).min(tick));
+    for at in 0..lanes.len() {
+        if let Some(next) = lanes[at].take_up_to(merged, tick)? {
+            least = Some(least.unwrap_or(next).min(next));
         }
     }
-    least
+    Ok(least)
 }
 
-/// The parts, ready to be taken from the front.
-fn queues_of(alloc: Global, parts: Vec<Vec<Entry>>) -> Result<Vec<VecDeque<Entry>>, RunError>
-    ensures same { IfOk result (λ queues. map (λ part. part.items) queues.items
-        ≡ map (λ part. part.items) parts.items) }
+/// The parts, ready to be taken.
+fn lanes_of(alloc: Global, parts: Vec<Vec<Entry>>) -> Result<Vec<Lane>, RunError>
+    ensures same { IfOk result (λ lanes. IsPermutation (all_of (map (λ part. part.items) parts.items))
+        (all_of (map (λ lane. lane.rest.items) lanes.items))) }
     ensures err { IfErr result (λ e. e ≡ RunError.Memory) }
 {
-    let mut queues = Vec::with_capacity(alloc, parts.len())?;
-    for part in parts {
-        queues.push(VecDeque::from(part))?;
+    let mut lanes = Vec::with_capacity(alloc, parts.len())?;
+    for mut part in parts {
+        part.reverse();
+        let next = Some(0);
+        lanes.push(Lane { next, rest: part })?;
     }
-    Ok(queues)
+    Ok(lanes)
 }
 
 /// How many entries the parts have.
@@ -82,14 +85,18 @@ fn room_for(parts: &[Vec<Entry>]) -> usize {
 }
 
 /// The entries of all parts: those of the least tick first, of these the first part's first, and so on.
-pub(crate) fn gather(alloc: Global, parts: Vec<Vec<Entry>>) -> Result<Vec<Entry>, RunError>
-    ensures same { IfOk result (λ v. IsPermutation (all_of (map (λ part. part.items) parts.items)) v.items) }
+pub(crate) fn gather(alloc: Global, parts: Vec<Vec<Entry>>) -> Result<Joined, RunError>
+    ensures same { IfOk result (λ joined.
+        IsPermutation (all_of (map (λ part. part.items) parts.items)) joined.entries.items) }
     ensures err { IfErr result (λ e. e ≡ RunError.Memory) }
 {
-    let mut merged = Vec::with_capacity(alloc, room_for(&parts))?;
-    let mut left = queues_of(alloc, parts)?;
-    while let Some(tick) = least_tick(&left) {
-        left = take_tick(alloc, &mut merged, left, tick)?;
+    let entries = Vec::with_capacity(alloc, room_for(&parts))?;
+    let rises = true;
+    let mut merged = Joined { entries, rises };
+    let mut lanes = lanes_of(alloc, parts)?;
+    let mut at = Some(0);
+    while let Some(tick) = at {
+        at = take_tick(&mut merged, &mut lanes, tick)?;
     }
     Ok(merged)
 }

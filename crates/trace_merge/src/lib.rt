@@ -9,6 +9,7 @@
 #![tactic(auto)]
 
 mod by_tick;
+mod joined;
 mod merging;
 
 pub use merging::merge;

@@ -11,7 +11,7 @@ use std::alloc::Global;
 /// keys, which holds exactly their entries. No entry is copied.
 ///
 /// It goes tick by tick and, in a tick, part by part: where the parts are of one receiver each and come by rising
-/// receiver, the entries are in order then, and putting them in order does nothing.
+/// receiver, the entries are in order then, which is seen as they are joined, and nothing is left to put in order.
 ///
 /// # Errors
 ///
@@ -24,7 +24,10 @@ pub fn merge(alloc: Global, parts: Vec<Vec<Entry>>) -> Result<Vec<Entry>, RunErr
     ensures same { IfOk result (λ v. IsPermutation (all_of (map (λ part. part.items) parts.items)) v.items) }
     ensures err { IfErr result (λ e. e ≡ RunError.Memory) }
 {
-    let mut merged = gather(alloc, parts)?;
-    merged.sort_unstable_by_key(|entry| entry.key);
-    Ok(merged)
+    let mut joined = gather(alloc, parts)?;
+    if joined.rises {
+        return Ok(joined.entries);
+    }
+    joined.entries.sort_unstable_by_key(|entry| entry.key);
+    Ok(joined.entries)
 }

@@ -1,28 +1,34 @@
-use Rattle.std.proofs.Common.{◌≡◌, ◌++◌, ◌∷◌, [], ap, ◌∙◌, sym, subst}
-use Rattle.std.specs.Vec.Iter.{into_iter_items}
-use Rattle.std.proofs.lemmas.List.{map-append, nil_from_length}
-use Rattle.trace_merge.proofs.Gathering.{items_of, lists_of, IsTaking, taking_goes, taken_fewer}
+use Rattle.std.proofs.Common.{◌≡◌, ◌+◌, ◌<◌, ◌++◌, [], Some, map, take, ap, ◌∙◌, sym, subst, arith, min, length, MatchOption, slice_set}
+use Rattle.std.specs.Option.{unwrap_or}
+use Rattle.std.proofs.lemmas.List.{length-set, take_more_set}
+use Rattle.std.proofs.lemmas.List.Sorted.{IsPermutation-trans}
+use Rattle.trace_merge.specs.Parts.{all_of}
+use Rattle.trace_merge.proofs.Gathering.{rest_of, one_moved, all_of-more, later_least, later_same}
+use Rattle.trace_merge.proofs.by_tick.take_tick.Goals.{in-Some, in_default}
 use Rattle.trace_merge.proofs.by_tick.take_tick.Goals as goal
 
-pub loop-part-preserved : goal.loop-part-preserved
-loop-part-preserved c =
-    let first = c.args.merged.now.items in
-    let all = lists_of c.args.parts.items in
-    let rest = into_iter_items c.next.new.self in
-    let left = c.loop-part.left.items in
-    let part = c.in-Some.part in
-    let others = c.move_up_to.new.from in
-    let e : into_iter_items c.loop-part.part-iterator ≡ part ∷ rest = c.in-Some.ensures.steps.0 in
-    let more : lists_of c.push.new.self.items ≡ lists_of left ++ others.items ∷ [] = ap lists_of c.in_ok-push.ensures.items ∙ map-append items_of left (others ∷ []) in
-    let was : IsTaking c.args.tick first all c.loop-part.merged.items (lists_of left) (part.items ∷ lists_of rest) =
-    subst (λ vs. IsTaking c.args.tick first all c.loop-part.merged.items (lists_of left) (lists_of vs)) e c.loop-part.invariant in
-    let moved = c.in_ok-move_up_to.ensures in
-    subst (λ ls. IsTaking c.args.tick first all c.move_up_to.new.to.items ls (lists_of rest)) (sym more)
-    (taking_goes c.args.tick first all c.loop-part.merged.items c.move_up_to.new.to.items (lists_of left) (lists_of rest) part.items others.items was moved.same moved.none moved.some)
-
-pub returns-clause-fewer : goal.returns-clause-fewer
-returns-clause-fewer c =
-    let none : into_iter_items c.loop-part.part-iterator ≡ [] = nil_from_length _ (sym c.loop-part.part-iterator.rest.ok.0 ∙ c.in-None.ensures.steps.0) in
-    let h : IsTaking c.args.tick c.args.merged.now.items (lists_of c.args.parts.items) c.loop-part.merged.items (lists_of c.loop-part.left.items) [] =
-    subst (λ vs. IsTaking c.args.tick c.args.merged.now.items (lists_of c.args.parts.items) c.loop-part.merged.items (lists_of c.loop-part.left.items) (lists_of vs)) none c.loop-part.invariant in
-    taken_fewer c.args.tick c.args.merged.now.items (lists_of c.args.parts.items) c.loop-part.merged.items (lists_of c.loop-part.left.items) h
+pub loop-at-preserved : goal.loop-at-preserved
+loop-at-preserved c =
+    let tick = c.args.tick in
+    let lanes = c.loop-at.lanes in
+    let at = c.loop-at.at in
+    let new = c.take_up_to.new.self in
+    let h = c.loop-at.invariant in
+    let low : at < length lanes = omega (arith, c.loop-at-test.true, h.count) in
+    let before = all_of (map rest_of (take at lanes)) in
+    let more : all_of (map rest_of (take (at + 1) (slice_set lanes at new))) ≡ before ++ new.rest.items =
+    ap (λ ls. all_of (map rest_of ls)) (take_more_set lanes at new low) ∙ all_of-more rest_of (take at lanes) new in
+    record {
+      same = IsPermutation-trans _ _ _ h.same (one_moved rest_of c.loop-at.merged.entries.items c.take_up_to.new.merged.entries.items lanes at c.index-lanes-at.result new low c.in_ok-next.ensures.same);
+      count = length-set lanes at new ∙ h.count;
+      later = subst (λ es. MatchOption c.match-branch-2.least (es ≡ []) (λ t. tick < t)) (sym more) (elim c.match-branch-2.branch [
+        | in-Some w ↦
+            let n = w.in-Some.next in
+            let least : c.match-branch-2.least ≡ Some (min (unwrap_or c.loop-at.least n) n) = w.least-is ∙ ap Some (w.min.ensures ∙ ap (λ m. min m n) w.unwrap_or.ensures) in
+            let next : tick < n = subst (λ o. MatchOption o (new.rest.items ≡ []) (λ t. tick < t)) w.in-Some.is c.in_ok-next.ensures.later in
+            subst (λ o. MatchOption o (before ++ new.rest.items ≡ []) (λ t. tick < t)) (sym least) (later_least tick (before ≡ []) c.loop-at.least n h.later next)
+        | in_default w ↦
+            let none : new.rest.items ≡ [] = subst (λ o. MatchOption o (new.rest.items ≡ []) (λ t. tick < t)) w.in_default.is c.in_ok-next.ensures.later in
+            subst (λ o. MatchOption o (before ++ new.rest.items ≡ []) (λ t. tick < t)) (sym w.least-is) (later_same tick before new.rest.items c.loop-at.least h.later none)
+      ]);
+    }

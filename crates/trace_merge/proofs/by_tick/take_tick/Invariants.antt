@@ -1,9 +1,10 @@
-use Rattle.std.proofs.Common.{map}
-use Rattle.std.specs.Vec.Iter.{into_iter_items}
-use Rattle.trace_merge.proofs.Gathering.{IsTaking}
+use Rattle.std.proofs.Common.{◌≡◌, ◌<◌, ◌++◌, [], map, take, length, MatchOption, IsPermutation}
+use Rattle.trace_merge.specs.Parts.{all_of}
 use Rattle.trace_merge.proofs.by_tick.take_tick.Given as goal
 
-abbrev pub invariant-loop-part : goal.invariant-loop-part
-invariant-loop-part l =
-    IsTaking l.fn.tick l.fn.merged.items (map (λ p. p.items) l.fn.parts.items) l.merged.items
-    (map (λ p. p.items) l.left.items) (map (λ p. p.items) (into_iter_items l.part-iterator))
+abbrev pub invariant-loop-at : goal.invariant-loop-at
+invariant-loop-at l = record {
+  same : IsPermutation (l.fn.merged.entries.items ++ all_of (map (λ p. p.rest.items) l.fn.lanes)) (l.merged.entries.items ++ all_of (map (λ p. p.rest.items) l.lanes));
+  count : length l.lanes ≡ length l.fn.lanes;
+  later : MatchOption l.least (all_of (map (λ p. p.rest.items) (take l.at l.lanes)) ≡ []) (λ t. l.tick < t);
+}

@@ -1,17 +1,11 @@
-use Rattle.std.proofs.Common.{rules, List}
-use Rattle.std.specs.Global.{Vec}
-use Rattle.std.specs.List.Sorted.{IsPermutation}
+use Rattle.std.proofs.Common.{rules}
 use Rattle.std.proofs.lemmas.List.Sorted.{IsPermutation-trans, answers_always}
-use Rattle.process_api.specs.EntryRecord.{EntryRecord}
-use Rattle.process_api.specs.declared.entry.Entry.{Entry}
 use Rattle.trace_merge.proofs.Distinct.{merged_rising}
+use Rattle.trace_merge.proofs.Gathering.{items_of}
 use Rattle.trace_merge.proofs.merging.merge.Goals as goal
 
-abbrev items_of : Vec Entry → List EntryRecord
-items_of v = v.items
-
 pub returns-clause-same : goal.returns-clause-same
-returns-clause-same c = IsPermutation-trans _ _ _ c.in_ok-merged.ensures.same c.sort_unstable_by_key.ensures.permutation
+returns-clause-same c = IsPermutation-trans _ _ _ c.in_ok-joined.ensures.same c.sort_unstable_by_key.ensures.permutation
 
 pub returns-clause-rising : goal.returns-clause-rising
 returns-clause-rising c =

@@ -1,0 +1,8 @@
+use Rattle.std.proofs.Common.{◌++◌, map, IsPermutation}
+use Rattle.std.specs.Vec.Iter.{into_iter_items}
+use Rattle.trace_merge.specs.Parts.{all_of}
+use Rattle.trace_merge.proofs.by_tick.lanes_of.Given as goal
+
+abbrev pub invariant-loop-part : goal.invariant-loop-part
+invariant-loop-part l =
+    IsPermutation (all_of (map (λ p. p.items) l.fn.parts.items)) (all_of (map (λ p. p.rest.items) l.lanes.items) ++ all_of (map (λ p. p.items) (into_iter_items l.part-iterator)))

@@ -1,0 +1,35 @@
+//! Entries that are joined one by one.
+ghost use Rattle.std.specs.Prelude.{◌≡◌, ◌++◌, [], ◌∷◌, true, IsTrue, OnOk, IfErr};
+ghost use Rattle.process_api.specs.Order.{is_rising};
+
+use process_api::{Entry, RunError};
+
+/// Entries, and whether their keys rise strictly, which is seen as each is joined.
+#[derive(Drop)]
+pub(crate) struct Joined {
+    pub(crate) entries: Vec<Entry>,
+    pub(crate) rises: bool,
+    pub(crate) ghost seen: { rises ≡ true → IsTrue (is_rising entries.items) },
+}
+
+/// Whether an entry comes after those of a list, where these rise.
+fn goes_on(entries: &[Entry], entry: &Entry) -> bool
+    ensures { result ≡ true → IsTrue (is_rising entries.now) → IsTrue (is_rising (entries.now ++ entry.now ∷ [])) }
+{
+    match entries.last() {
+        Some(last) => last.key.is_before(&entry.key),
+        None => true,
+    }
+}
+
+impl Joined {
+    /// One entry more.
+    pub(crate) fn push(&mut self, entry: Entry) -> Result<(), RunError>
+        ensures more { OnOk result (self.new.entries.items ≡ self.old.entries.items ++ entry ∷ []) }
+        ensures err { IfErr result (λ e. e ≡ RunError.Memory) }
+    {
+        self.rises = self.rises && goes_on(&self.entries, &entry);
+        self.entries.push(entry)?;
+        Ok(())
+    }
+}
