@@ -6,7 +6,7 @@ use Rattle.reporting.specs.Rows.{written}
 use Rattle.reporting.specs.TraceText.{rows_text}
 use Rattle.reporting.specs.Writing.{Wrote, WrotePart}
 use Rattle.reporting.proofs.Fed.{err_part, on_ok, split_at}
-use Rattle.qos_report.proofs.Streamed.{all_out, first_out, front_more, front_none, part_out}
+use Rattle.qos_report.proofs.Streamed.{all_out, first_out, front_more, front_none, part_out, under_way_first}
 use Rattle.qos_report.proofs.streaming.write_rows.Goals as goal
 
 pub returns-in_err-rows-clause-front : goal.returns-in_err-rows-clause-front
@@ -24,6 +24,9 @@ returns-in_err-write_row-clause-front g c =
     (subst (WroteFront told failed c.args.outlet.now c.write_row.new.outlet true) (sym (split_at es i entry c.loop-entry-test.true c.entry-item.is))
     (front_more told failed true c.args.outlet.now c.write_row.new.outlet (take i es ++ entry ∷ []) (drop (suc i) es)
     (c.in_err-write_row.ensures.front c.args.outlet.now (take i es) c.loop-entry.invariant)))
+
+pub loop-entry-init : goal.loop-entry-init
+loop-entry-init g c = under_way_first g.O.Outlet.told g.O.Outlet.failed c.args.outlet.now c.in_ok-rows.rows c.in_ok-rows.ensures
 
 pub loop-entry-preserved : goal.loop-entry-preserved
 loop-entry-preserved g c =
