@@ -353,7 +353,7 @@ def try_answers(tried):
     log = SimpleNamespace(tick=0.001, hours=10.0)
 
     def row(bound, letters, mistakes, times):
-        setting = settings.Setting("freshness", letters, 1000 // letters, bound, 1, 0)
+        setting = settings.Setting("freshness", letters, 1000 // letters, bound, 1, bound // (1000 // letters))
         most = settings.most_rate(mistakes, mistakes**0.5, log.hours)
         return judging.Row(setting, settings.Count(mistakes, 10.0, mistakes / 10, 0.1, most, 0.0, times), None, None)
 

@@ -13,6 +13,7 @@ have, how far they can be trusted, and for each wish a setting, and writes a fol
 import argparse
 import os
 import shutil
+import signal
 import sys
 import tempfile
 from dataclasses import dataclass
@@ -107,15 +108,16 @@ class Advice:
     answers: list
 
 
-def advised(asked, folder):
-    """Writes the network files to a folder, and sweeps the settings over them."""
+def advised(asked, folder, rates=None):
+    """Writes the network files to a folder, and sweeps the settings over them, or those of some rates alone."""
     log, plan, left = read_logs(asked)
     counted, without = rows_of(log, asked)
     name = ", ".join(it.track.name for it in log.measured)
     first = [f"What {printable(name, 90)} had; 1 tick = {ms(log.tick)} ms. Made by suite/advise.", TOLD]
     for kind, text in (("replayed", fitting.replayed_text), ("fitted", fitting.fitted_text)):
         write(folder, f"{kind}.network.toml", told_first(first) + "".join(text(plan, log)))
-    swept = sweeping.sweep([it for it, _ in counted], log, plan, asked, folder)
+    chosen = [it for it, _ in counted if rates is None or it.letters in rates]
+    swept = sweeping.sweep(chosen, log, plan, asked, folder)
     rows = [judging.Row(it, count, *(swept.get((kind, it)) for kind in sweeping.KINDS)) for it, count in counted]
     return Advice(log, plan, left, without, rows, [judging.answer(rows, it, log) for it in wishes_of(asked)])
 
@@ -164,6 +166,7 @@ def put_in_place(folder, path):
 
 def main(arguments):
     asked = words_of(arguments)
+    signal.signal(signal.SIGTERM, lambda *_: sys.exit(143))  # so that nothing half-written is left
     try:
         wishes_of(asked)
         letters_of(asked.letters)

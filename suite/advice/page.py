@@ -131,7 +131,7 @@ def answer_cards(answers, log):
         else:
             yield f"<p>{escape(it.why[0].upper() + it.why[1:])}.</p><p>{escape(it.cost[0].upper() + it.cost[1:])}.</p>" \
                 if it.cost else f"<p>{escape(it.why[0].upper() + it.why[1:])}.</p>"
-        if it.row and row.doubt:
+        if it.row and row.doubt and row.log.mistakes:
             yield f'<p class="note">The network files don\'t show it: {escape(row.doubt)}.</p>'
         yield "</article>"
     yield "</div>"

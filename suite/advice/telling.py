@@ -59,6 +59,8 @@ def assumed(log, plan, one_way):
     yield (f"A tick is {ms(log.tick)} ms; delays are rounded up to it. Bounds of time-outs grow by one tick after each "
            "mistake, as the detector's least, and runs begin anew each 5 minutes or each 20 time-outs.")
     yield "A crash comes at any time alike, and a detection is counted by the letters of the log before it."
+    yield ("For fewer letters a second than the log has, each so many-th of its letters is taken, in every way that there is, "
+           "and what is told is the mean: so a setting may have part of a mistake.")
 
 
 def times(ticks, log):
@@ -79,7 +81,7 @@ def answered(found, log):
         yield f"{wish}: not shown. {found.why[0].upper()}{found.why[1:]}."
         yield f"Nearest comes {name(row.setting, log)}: {found.cost}."
     yield f"Detected after {times(row.log.detected, log)} ms (median, 99th percentile, greatest), by the log."
-    if found.row and row.doubt:
+    if found.row and row.doubt and row.log.mistakes:
         yield f"The network files don't show it: {row.doubt}."
 
 

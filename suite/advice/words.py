@@ -70,4 +70,6 @@ def often(hourly):
     """A rate for people: `12 times an hour`, `once in 3.2 h`."""
     if hourly == 0:
         return "never"
-    return f"{number(hourly)} times an hour" if hourly > 1 else f"once in {span(3600 / hourly)}"
+    if hourly <= 1:
+        return "once an hour" if hourly == 1 else f"once in {span(3600 / hourly)}"
+    return f"{number(hourly)} times an hour"
