@@ -42,12 +42,16 @@ class Point:
     runs: int
     crashes: str
     seeds: str
-    pairs: int
+    processes: int
+
+    @property
+    def pairs(self):
+        return self.processes * (self.processes - 1)
 
     @property
     def cost(self):
         checks = self.setting.period / self.setting.check if self.setting.detector == "timeouts" else 1
-        return self.runs * self.horizon / self.setting.period * (self.pairs + checks)
+        return self.runs * self.horizon / self.setting.period * self.processes * (self.processes + checks)
 
     def axes(self):
         setting = self.setting
@@ -75,7 +79,7 @@ def point_of(kind, setting, log, plan, pair_hours):
     wanted = pair_hours * HOUR / (pairs * horizon * log.tick)
     runs = phases * max(1, round(wanted / phases))
     first = (zlib.crc32(f"{kind}:{setting.row}".encode()) << 20) + 1
-    return Point(kind, setting, horizon, runs, crashes, f"{first}..={first + runs - 1}", pairs)
+    return Point(kind, setting, horizon, runs, crashes, f"{first}..={first + runs - 1}", plan.processes)
 
 
 def swept(point, log, plan, fdstudy, folder):

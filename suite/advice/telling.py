@@ -18,7 +18,8 @@ def trusted(log, one_way):
     length, bursts = length_of(log), sum(len(it.bursts) for it in log.measured)
     letters = sum(len(it.delays) for it in log.measured)
     silence = max(it.longest_silence() for it in log.measured)
-    yield (f"The log is {span(length)} long. What never happened in it may still happen up to three times in its length "
+    logs = "The log is" if len(log.measured) == 1 else "The logs are, all in all,"
+    yield (f"{logs} {span(length)} long. What never happened in that time may still happen up to three times in as long "
            f"(95 % confidence), so no setting can be promised to make fewer than {number(3 / log.hours)} mistakes an hour.")
     if silence:
         yield (f"The longest time in which no letter came in time is {span(silence)}. The fitted bursts are never longer "

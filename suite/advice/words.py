@@ -61,7 +61,7 @@ def span(seconds):
     if seconds < 1:
         return f"{ms(seconds)} ms"
     for unit, name in ((86400, "days"), (3600, "h"), (60, "min"), (1, "s")):
-        if seconds >= {86400: 10, 3600: 1, 60: 2, 1: 1}[unit] * unit:
+        if seconds >= {86400: 20, 3600: 1, 60: 2, 1: 1}[unit] * unit:
             return f"{round(seconds / unit, 1):g} {name}"
     return f"{seconds:g} s"
 
