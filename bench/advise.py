@@ -198,8 +198,8 @@ def drawn_run(draws, detector):
     """A scenario with its numbers drawn, and what they are."""
     period = draws.randint(2, 40)
     least = draws.randint(1, 15)
-    run = SimpleNamespace(detector=detector, period=period, bound=draws.randint(1, 4 * period), check=draws.randint(1, period),
-                          grow=draws.randint(1, 9), horizon=draws.randint(200, 1500),
+    run = SimpleNamespace(detector=detector, period=period, bound=draws.randint(1, 4 * period),
+                          check=draws.randint(1, period), grow=draws.randint(1, 9), horizon=draws.randint(200, 1500),
                           crash=draws.choice([10_000_000, draws.randint(1, 1400)]))
     if detector == "freshness":
         kind = f'kind = "freshness"\neta = {period}\ndelta = {run.bound}'
@@ -392,11 +392,12 @@ def try_command(tried, asked):
 
 
 def main():
-    words_ = argparse.ArgumentParser(description=__doc__, formatter_class=argparse.RawDescriptionHelpFormatter)
+    options = argparse.ArgumentParser(description=__doc__, formatter_class=argparse.RawDescriptionHelpFormatter)
     for name in ("fdstudy", "fdbench"):
-        words_.add_argument(f"--{name}", default=os.environ.get(name.upper()) or os.path.join(ROOT, f"crates/{name}/out/{name}"))
-    words_.add_argument("--runs", type=int, default=100, help="how many runs of each detector (100)")
-    asked = words_.parse_args()
+        built = os.path.join(ROOT, f"crates/{name}/out/{name}")
+        options.add_argument(f"--{name}", default=os.environ.get(name.upper()) or built)
+    options.add_argument("--runs", type=int, default=100, help="how many runs of each detector (100)")
+    asked = options.parse_args()
     tried = Tried()
     for part in (try_ping, try_ping_lines, try_stretches, try_csv, try_words, try_detections, try_fits, try_answers):
         part(tried)

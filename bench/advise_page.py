@@ -24,7 +24,7 @@ from html import unescape
 ROOT = os.path.dirname(os.path.dirname(os.path.abspath(__file__)))
 WIDTHS = (1200, 420)
 SCHEMES = {"light": 1, "dark": 0}
-TALL = 6000
+TALL, HIGH = 6000, 2400
 # what the page is asked of its layout: boxes of texts that leave something, or lie on one another
 ASKED = """
 const wrong = [], texts = [];
@@ -109,7 +109,9 @@ def pixels(path):
 def unfiltered(kind, row, above, size):
     """A row of a PNG, by the row above it."""
     if kind == 2:
-        return bytearray((one + other) & 255 for one, other in zip(row, above))
+        # all bytes at once: the low seven bits are added, and the eighth without its carry
+        one, other, low = int.from_bytes(row), int.from_bytes(above), int.from_bytes(b"\x7f" * len(row))
+        return bytearray((((one & low) + (other & low)) ^ ((one ^ other) & ~low)).to_bytes(len(row)))
     if kind:
         for x in range(len(row)):
             left = row[x - size] if x >= size else 0
@@ -159,7 +161,8 @@ def try_page(tried, asked, page):
             with tempfile.TemporaryDirectory() as folder:
                 shot = os.path.join(folder, "shot.png")
                 shutil.copy(page, os.path.join(folder, "page.html"))
-                chromium(asked, folder, f"--window-size={width},{WIDTHS[0] * 2}", f"--screenshot={shot}",
+                chromium(asked, folder, f"--window-size={width},{HIGH}", f"--screenshot={shot}",
+                         f"--force-device-scale-factor={1 if asked.shots else 0.5}",
                          f"--blink-settings=preferredColorScheme={number}", f"file://{folder}/page.html")
                 tried.good(f"{name}, {width} wide, {scheme}: no picture", os.path.exists(shot))
                 if os.path.exists(shot):

@@ -4,22 +4,20 @@
     bench/made_logs.py [--only NAME].. [--hours N] [--swept RATES] [--jobs N] [--page FILE]
 
 Five processes make hours of letters, ten a second, each by a random stream of its own; what each does stands below. One
-hour of each is written as CSV and goes through `suite/advise`, with its sweeps. The same settings, those with a bound
-beyond the delays and those that wishes got, are counted straight from N (100) other hours. Of each setting the mistakes of `advise`, by the log and
-by both network files, are compared with the mean of the other hours; an error is that of one hour, the greater of what
-`advise` says and of the deviation among the other hours, with that of the mean and of the sweep. Of each wish that is
-answered as shown it is asked whether the other hours keep it, and of each setting whether they keep what its mistakes are
-at most, as 95 in 100 should. It prints a table, which with --page takes the place of the one in FILE, and ends with
-status 1 where a mean is more than 3 errors off, or what was shown isn't kept.
+hour of each is written as CSV and goes through `suite/advise`, with its sweeps, or those of RATES of letters alone. The
+same settings, those with a bound beyond the delays and those that wishes got, are counted straight from N (100) other
+hours. Of each setting the mistakes of `advise`, by the log and by both network files, are compared with the mean of the
+other hours. An error is that of one hour, the greater of what `advise` says and of the deviation among the other hours,
+with that of the mean and of the sweep. Of each wish that is answered as shown it is asked whether the other hours keep
+it, and of each setting whether they keep what its mistakes are at most, as 95 in 100 should. It prints a table, which
+with --page takes the place of the one in FILE, and ends with status 1 where a mean is more than 3 errors off, or what was
+shown isn't kept.
 """
 import argparse
-import concurrent.futures
-import csv
 import math
 import os
 import random
 import re
-import subprocess
 import sys
 import tempfile
 from types import SimpleNamespace
@@ -27,7 +25,7 @@ from types import SimpleNamespace
 ROOT = os.path.dirname(os.path.dirname(os.path.abspath(__file__)))
 sys.dont_write_bytecode = True
 sys.path.insert(0, os.path.join(ROOT, "suite"))
-from advice import command, measuring, reading, settings  # noqa: E402
+from advice import command, reading, settings  # noqa: E402
 
 INTERVAL, LETTERS = 0.1, 36_000
 FIRST = 1_000_000  # the seed of the hour that becomes a log

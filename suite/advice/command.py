@@ -28,7 +28,8 @@ TOLD = "replayed.network.toml has the losses as they were; fitted.network.toml d
 
 
 def words_of(arguments):
-    words = argparse.ArgumentParser(prog="advise", description=__doc__, formatter_class=argparse.RawDescriptionHelpFormatter)
+    words = argparse.ArgumentParser(prog="advise", description=__doc__,
+                                    formatter_class=argparse.RawDescriptionHelpFormatter)
     words.add_argument("logs", nargs="+", metavar="LOG")
     words.add_argument("--to", default="advice", metavar="FOLDER", help="the folder that is written (advice)")
     words.add_argument("--one-way", action="store_true", help="the delays are of one way, and not of round trips")
@@ -150,7 +151,8 @@ def refuse_other_folders(path):
     if os.path.lexists(path):
         others = sorted(set(os.listdir(path)) - set(FILES)) if os.path.isdir(path) else [path]
         if others:
-            raise Refused(f"{printable(path, 200)}: is there, and has {printable(others[0], 200)}; --to names another folder")
+            raise Refused(f"{printable(path, 200)}: is there, and has {printable(others[0], 200)}; "
+                          "--to names another folder")
 
 
 def put_in_place(folder, path):

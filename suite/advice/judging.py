@@ -28,8 +28,8 @@ class Row:
             return f"{number(self.log.mistakes)} in the log, fewer than {FEW}"
         if self.replayed is None or self.fitted is None:
             return "no run of the files is long enough for it"
-        far = [f"the {name} file says {number(it.rate)}" for name, it in (("replayed", self.replayed), ("fitted", self.fitted))
-               if apart(it, self.log) > ERRORS]
+        files = (("replayed", self.replayed), ("fitted", self.fitted))
+        far = [f"the {name} file says {number(it.rate)}" for name, it in files if apart(it, self.log) > ERRORS]
         return f"the log says {number(self.log.rate)} an hour, but {' and '.join(far)}" if far else ""
 
     def time(self, place):

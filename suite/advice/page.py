@@ -56,7 +56,8 @@ svg .title { font-size: 13.5px; }
 .legend { display: flex; flex-wrap: wrap; gap: 0.3rem 1.2rem; padding: 0; list-style: none; font-size: 0.88rem; }
 .legend li { display: flex; align-items: center; gap: 0.4rem; margin: 0; }
 .legend svg { width: 22px; height: 16px; flex: none; }
-.facts { display: grid; grid-template-columns: repeat(auto-fill, minmax(min(100%, 10.5rem), 1fr)); gap: 0.6rem 1rem; margin: 0.5rem 0; }
+.facts { display: grid; grid-template-columns: repeat(auto-fill, minmax(min(100%, 10.5rem), 1fr)); gap: 0.6rem 1rem;
+  margin: 0.5rem 0; }
 .facts dt { color: var(--soft); font-size: 0.85rem; }
 .facts dd { margin: 0; font-variant-numeric: tabular-nums; }
 .wide { overflow-x: auto; margin: 0.75rem 0; }
@@ -159,7 +160,8 @@ def measured_section(log, left):
           "there as lost.</p>"
     if left:
         yield f"<details><summary>{counted(len(left), 'line')} left out</summary>"
-        yield from listed([str(it) for it in left[:LINES]] + ([f"and {len(left) - LINES} more"] if len(left) > LINES else []))
+        more = [f"and {len(left) - LINES} more"] if len(left) > LINES else []
+        yield from listed([*map(str, left[:LINES]), *more])
         yield "</details>"
 
 
@@ -170,7 +172,7 @@ def colours_of(rows):
 
 def legend(colours):
     signs = [(f'<path class="line {colour}" d="M1 8H21"/><circle class="dot {colour}" cx="11" cy="8" r="3"/>',
-              f"{letters:g} letters a second") for letters, colour in colours.items()]
+              f"{letters:g} letter{'' if letters == 1 else 's'} a second") for letters, colour in colours.items()]
     signs += [('<path class="line c6" d="M11 1V15"/><circle class="dot c6" cx="11" cy="8" r="3"/>',
                "straight from the log, with its standard error"),
               ('<path class="dot c6" d="M7 5h8l-4 7z"/>', "none in the log: at most (95 %)"),

@@ -131,7 +131,8 @@ class Rate:
                 continue
             each = max(1, self.log.horizon(setting) // self.period)
             for begin in range(0, len(part.delays), each):
-                letters = Alives(part.delays[begin : begin + each], self.period, floor=self.period + self.floor - self.log.least)
+                floor = self.period + self.floor - self.log.least
+                letters = Alives(part.delays[begin : begin + each], self.period, floor=floor)
                 yield part, part.begin + begin * self.period * self.log.tick, letters
 
 
