@@ -100,15 +100,15 @@ def answer(rows, wish, log):
                       "it detects soonest")
     if both:
         return Answer(wish, soonest(both), None, "of the settings that do it this one detects soonest")
-    return unmet(wish, within, shown, log)
+    return unmet(wish, within, shown if within else shown or rows, log)
 
 
 def unmet(wish, within, shown, log):
     """Of a wish that no setting is shown to meet what comes nearest, and what it'd cost."""
     if not within:
-        best = soonest(shown) if wish.hourly < math.inf else None
-        cost = f"it detects within {span(best.time(2) * log.tick)}" if best else ""
-        return Answer(wish, None, best, f"no setting of these detects each crash within {span(wish.detect)}", cost)
+        best = soonest(shown)
+        return Answer(wish, None, best, f"no setting of these detects each crash within {span(wish.detect)}",
+                      f"it detects within {span(best.time(2) * log.tick)}; its mistakes: {spoken_rate(best)}")
     if shown:
         other, near = soonest(shown), fewest(within)
         return Answer(wish, None, near, f"no setting that detects each crash within {span(wish.detect)} is shown to make so "

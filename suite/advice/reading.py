@@ -100,7 +100,7 @@ def lines_of(path):
 def read(paths, one_way):
     """The tracks of all logs, and the lines that were left out."""
     tracks, left = [], []
-    for path in paths:
+    for path in dict.fromkeys(paths):
         lines = lines_of(path)
         first = next((it for it in lines if it.strip()), "")
         names = [it.strip().lower() for it in first.split(",")]
@@ -136,7 +136,7 @@ def joined(tracks):
 
 
 def ping_tracks(path, lines, left):
-    track, probes = Track(path, ()), Probes()
+    track, probes = Track(printable(path, 200), ()), Probes()
     for place, line in enumerate(lines, 1):
         if line.startswith("PING "):
             add_probes(track, probes)
@@ -224,7 +224,7 @@ def csv_tracks(path, lines, names, left):
         pairs.setdefault(tuple(values[:-2]), []).append(values[-2:])
     found = []
     for pair, rows in pairs.items():
-        track = Track(f"{pair[0]} to {pair[1]}" if pair else path, pair)
+        track = Track(printable(" to ".join(pair) if pair else path, 200), pair)
         track.unordered = sum(later < at for (at, _), (later, _) in zip(rows, rows[1:]))
         rows.sort(key=lambda it: it[0])
         add_stretches(track, [it[0] for it in rows], [it[1] for it in rows])
