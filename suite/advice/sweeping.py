@@ -85,10 +85,7 @@ def point_of(kind, setting, log, plan, pair_hours):
 def swept(point, log, plan, fdstudy, folder):
     network = os.path.join(folder, f"{point.kind}.network.toml")
     words = [fdstudy, "sweep", "-", "--network", network, *point.axes(), "--columns", COLUMNS, "--threads", "1"]
-    try:
-        ran = subprocess.run(words, input=scenario_text(plan, log, point.horizon), capture_output=True, text=True)
-    except OSError as error:
-        raise Refused(f"{fdstudy}: {error.strerror}") from None
+    ran = subprocess.run(words, input=scenario_text(plan, log, point.horizon), capture_output=True, text=True)
     if ran.returncode:
         said = ran.stderr.strip().splitlines()
         raise Refused(f"{fdstudy}: status {ran.returncode} of {point.kind} {point.setting.row}: {''.join(said[-1:])}")
@@ -100,8 +97,19 @@ def swept(point, log, plan, fdstudy, folder):
                  point.seeds, point.horizon, point.crashes)
 
 
+def make_ready(fdstudy):
+    """The repository's program is proved and built first, where it has to be; it says so by itself."""
+    try:
+        status = subprocess.run([fdstudy, "--help"], stdout=subprocess.DEVNULL).returncode
+    except OSError as error:
+        raise Refused(f"{fdstudy}: {error.strerror}") from None
+    if status:
+        raise Refused(f"{fdstudy}: status {status} of --help")
+
+
 def sweep(settings, log, plan, asked, folder):
     """What both network files say of each setting: by kind and setting; the dearest are run first."""
+    make_ready(asked.fdstudy)
     points = [point_of(kind, it, log, plan, asked.hours) for kind in KINDS for it in settings]
     points = sorted((it for it in points if it), key=lambda it: -it.cost)
     found, told = {}, sys.stderr.isatty()
