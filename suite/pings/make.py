@@ -16,7 +16,8 @@ on which this log was made hasn't, so the relay has netem's models, for each dir
 - from 95 s to 95.8 s, and from 210 s to 211.6 s, the relay stands still: what came meanwhile goes out at the end.
 
 Packets may overtake each other. What the relay draws is the same each time, but not when the machine lets it run: the
-log is a measurement, and comes out otherwise when it is made again.
+log is a measurement, and comes out otherwise when it is made again. This one is the quietest of six that were made on a
+machine with much other work; in the others the machine stood still now and then, ping and the relay with it.
 """
 import argparse
 import ctypes
