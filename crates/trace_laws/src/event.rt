@@ -3,7 +3,7 @@ ghost use Rattle.std.specs.Prelude.{◌≡◌, ◌+◌, ℕ, IfErr, IfOk, MatchO
 ghost use Rattle.trace_laws.specs.World.{start_of};
 ghost use Rattle.trace_laws.specs.Taken.{IsFarFrom, LiesAside, event_of, input_of};
 
-use process_api::{Key, Payload, Pid, ProcSet, StepInput, Tag};
+use process_api::{Cells, Key, Payload, Pid, ProcSet, StepInput, Tag};
 use std::alloc::{AllocError, Global};
 use std::marker::Model;
 use std::mem::replace;
@@ -23,6 +23,8 @@ enum Taken {
     Proposal { round: u64, value: u32 },
     Reply { round: u64, ack: bool },
     Decide { round: u64, value: u32 },
+    // a vector of n empty cells
+    Empty { alloc: Global, round: u64, n: usize },
     Aside(Box<Payload>),
 }
 
@@ -69,6 +71,14 @@ impl Taken {
                 Some(age) => Taken::Estimate { round, value, age },
                 None => Taken::aside(alloc, payload)?,
             },
+            Payload::Vector { round, cells } => match cells.all_empty() {
+                Some(n) => Taken::Empty {
+                    alloc,
+                    round: *round,
+                    n,
+                },
+                None => Taken::aside(alloc, payload)?,
+            },
             large => Taken::aside(alloc, large)?,
         };
         Ok(taken)
@@ -93,6 +103,10 @@ impl Taken {
             &mut Taken::Proposal { round, value } => Payload::Proposal { round, value },
             &mut Taken::Reply { round, ack } => Payload::Reply { round, ack },
             &mut Taken::Decide { round, value } => Payload::Decide { round, value },
+            &mut Taken::Empty { alloc, round, n } => Payload::Vector {
+                round,
+                cells: Cells::empty(alloc, n),
+            },
             Taken::Aside(payload) => replace(&mut **payload, Payload::Alive),
         };
         StepInput::Letter { sender, payload }
@@ -154,8 +168,8 @@ impl Event {
     ///
     /// # Errors
     ///
-    /// `AllocError` where memory was refused, for a letter with a set that has a member above 64, with cells, or with a
-    /// stamp that is after its round, or 2^32 rounds before it or more.
+    /// `AllocError` where memory was refused, for a letter with a set that has a member above 64, with cells that
+    /// aren't all empty, or with a stamp that is after its round, or 2^32 rounds before it or more.
     #[inline(always)]
     pub fn letter(alloc: Global, key: Key, payload: &mut Payload) -> Result<Event, AllocError>
         ensures event { IfOk result (λ event. event ≡ event_of (record { key = key; payload = payload.old })) }
