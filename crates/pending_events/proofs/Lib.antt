@@ -2,3 +2,4 @@ pub mod Falling
 pub mod Dealing
 pub mod Nearby
 pub mod Ordered
+pub mod Rows

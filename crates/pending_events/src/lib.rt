@@ -13,5 +13,7 @@ mod calendar;
 mod joins;
 mod lanes;
 mod pending;
+mod row;
 
 pub use pending::Pending;
+pub use row::Row;

@@ -12,7 +12,6 @@ ghost use Rattle.windows.specs.Refusals.{IsRefusalOfOne};
 use crate::agenda::Agenda;
 use crate::outbox::Outbox;
 use mailboxes::{SharedMailboxes, Slip};
-use pending_events::Pending;
 use process_api::{Action, Entry, Key, Pid, Process, RunError, StepInput};
 use scenario_record::Scenario;
 use std::alloc::{AllocError, Global};
@@ -45,7 +44,7 @@ impl<M: Process> Berth<M> {
         alloc: Global,
         scenario: &Scenario,
         machine: M,
-        pending: Pending,
+        pending: Agenda,
     ) -> Result<Berth<M>, AllocError>
         requires { IsMindIn scenario.now (M.mind machine) }
         ensures process { IfOk result (λ b. process_of M.mind b.seat ≡ opened (M.mind machine)) }
@@ -56,7 +55,7 @@ impl<M: Process> Berth<M> {
         let seat = Seat::new(alloc, scenario, machine)?;
         Ok(Berth {
             seat,
-            pending: Agenda::new(alloc, pending)?,
+            pending,
             part: Vec::new(alloc),
             actions: Vec::new(alloc),
         })

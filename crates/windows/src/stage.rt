@@ -14,10 +14,10 @@ ghost use Rattle.window_laws.specs.Machine.{StandsFor};
 ghost use Rattle.windows.specs.Refusals.{IsRefusalOfOne};
 ghost use Rattle.windows.specs.Stage.{stage_of, start_event, delivered, IsOpened, IsNextStart, IsStageAfter};
 
+use crate::agenda::Agenda;
 use crate::berth::Berth;
 use crate::halves::{empty_and_merge, threads_for};
 use mailboxes::{Mailboxes, Slip};
-use pending_events::Pending;
 use process_api::{Entry, Letter, Pid, Process, RunError};
 use scenario_record::Scenario;
 use std::alloc::{AllocError, Global};
@@ -52,15 +52,6 @@ pub(crate) struct Ran<M> {
     pub workers: usize,
 }
 
-/// The start of a process, alone.
-fn start_of(alloc: Global, p: Pid) -> Result<Pending, AllocError>
-    ensures { IfOk result (λ m. m ≡ start_event p) }
-{
-    let mut pending = Pending::new(alloc)?;
-    pending.join(Event::start(p))?;
-    Ok(pending)
-}
-
 /// The machines, each in its berth with its start.
 fn berths_of<M: Process>(
     alloc: Global,
@@ -74,7 +65,7 @@ fn berths_of<M: Process>(
 {
     let mut berths = Vec::new(alloc);
     for machine in machines {
-        let pending = start_of(alloc, machine.pid())?;
+        let pending = Agenda::new(alloc, machine.pid())?;
         berths.push(Berth::new(alloc, scenario, machine, pending)?)?;
     }
     Ok(berths)
