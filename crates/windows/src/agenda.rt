@@ -1,5 +1,5 @@
 //! What lies ahead of a process.
-ghost use Rattle.std.specs.Prelude.{◌≡◌, ◌<◌, ◌++◌, ◌∷◌, [], List, map, MatchOption, IfOk, OnOk, OnErr};
+ghost use Rattle.std.specs.Prelude.{◌≡◌, ◌<◌, ◌++◌, ◌∷◌, [], ℕ, List, map, MatchOption, IfOk, OnOk, OnErr};
 ghost use Rattle.std.specs.FinMap as events;
 ghost use Rattle.trace_laws.specs.Step.{Event as EventPair};
 ghost use Rattle.trace_laws.specs.World.{IsLeast, NoneBelow, joined};
@@ -89,6 +89,13 @@ fn append<T: Drop>(list: &mut Vec<T>, mut more: Vec<T>) -> Result<(), AllocError
     list.append(&mut more)
 }
 
+/// The event that a letter becomes.
+fn opened(alloc: Global, mut letter: Letter) -> Result<Event, AllocError>
+    ensures { IfOk result (λ event. event ≡ event_of letter) }
+{
+    Event::letter(alloc, letter.key, &mut letter.payload)
+}
+
 /// Events below a tick, and others.
 #[derive(Drop)]
 struct Parted {
@@ -144,8 +151,8 @@ impl Parted {
             → IsParted end es self.old → IsParted end (es ++ map event_of letters.items) self.new) }
     {
         let alloc = *letters.allocator();
-        for mut letter in letters {
-            self.file(Event::letter(alloc, letter.key, &mut letter.payload)?)?;
+        for letter in letters {
+            self.file(opened(alloc, letter)?)?;
         }
         Ok(())
     }
@@ -240,7 +247,11 @@ impl Agenda {
         let end = lists.end;
         settle(lists, end)?;
         if tick < end {
-            return lists.row.join(event);
+            // the row is gone where memory is refused
+            let mut row = replace(&mut lists.row, Row::new(*lists.later.allocator()));
+            row.join(event)?;
+            lists.row = row;
+            return Ok(());
         }
         lists.later.push(event)?;
         lists.next = earlier(lists.next, Some(tick));
