@@ -27,6 +27,9 @@ pub(crate) struct Lists {
     letters: Vec<Letter>,
     // the least tick of the last two, if there are any
     next: Option<u32>,
+    // without events, kept for their memory
+    due: Vec<Event>,
+    rest: Vec<Event>,
 }
 
 /// The pending events of a process. Contracts see the finite set of them.
@@ -107,16 +110,18 @@ struct Parted {
 }
 
 impl Parted {
-    /// No events, with room for so many.
-    fn new(alloc: Global, end: u32, room: usize) -> Result<Parted, AllocError>
-        ensures { IfOk result (IsParted end []) }
+    /// No events, in the memory of these lists.
+    fn new(end: u32, mut due: Vec<Event>, mut later: Vec<Event>) -> Parted
+        ensures { IsParted end [] result }
     {
-        Ok(Parted {
+        due.clear();
+        later.clear();
+        Parted {
             end,
-            due: Vec::with_capacity(alloc, room)?,
-            later: Vec::new(alloc),
+            due,
+            later,
             next: None,
-        })
+        }
     }
 
     /// One more event.
@@ -134,12 +139,12 @@ impl Parted {
         Ok(())
     }
 
-    /// Further events, in their order.
-    fn file_events(&mut self, events: Vec<Event>) -> Result<(), AllocError>
+    /// Further events, in their order. Their list keeps its memory.
+    fn file_events(&mut self, events: &mut Vec<Event>) -> Result<(), AllocError>
         ensures { OnOk result ((end : ℕ) (es : List EventPair)
-            → IsParted end es self.old → IsParted end (es ++ events.items) self.new) }
+            → IsParted end es self.old → IsParted end (es ++ events.old.items) self.new) }
     {
-        for event in events {
+        for event in events.drain(..) {
             self.file(event)?;
         }
         Ok(())
@@ -169,12 +174,14 @@ fn no_events(alloc: Global) -> Lists
         later: Vec::new(alloc),
         letters: Vec::new(alloc),
         next: None,
+        due: Vec::new(alloc),
+        rest: Vec::new(alloc),
     }
 }
 
-/// Events in one list, in the order in which they joined, but for letters, which joined last.
-fn take_events(mut row: Row, later: Vec<Event>) -> Result<Vec<Event>, AllocError>
-    ensures { IfOk result (λ v. joined events.empty v.items ≡ joined row later.items) }
+/// The events of a row, which is empty then, and others after them.
+fn take_events(row: &mut Row, later: Vec<Event>) -> Result<Vec<Event>, AllocError>
+    ensures { IfOk result (λ v. joined events.empty v.items ≡ joined row.old later.items) }
 {
     let mut events = row.take_all()?;
     append(&mut events, later)?;
@@ -187,16 +194,21 @@ fn part(end: u32, lists: Lists) -> Result<Lists, AllocError>
     ensures same { IfOk result (λ new. all_in new ≡ all_in lists) }
     ensures parted { IfOk result (λ new. (new.end ≡ end) × (new.letters.items ≡ [])) }
 {
-    let alloc = *lists.later.allocator();
-    let mut parted = Parted::new(alloc, end, lists.letters.len())?;
-    parted.file_events(take_events(lists.row, lists.later)?)?;
+    let mut row = lists.row;
+    let letters = Vec::new(*lists.letters.allocator());
+    let mut events = take_events(&mut row, lists.later)?;
+    let mut parted = Parted::new(end, lists.due, lists.rest);
+    parted.file_events(&mut events)?;
     parted.file_letters(lists.letters)?;
+    row.fill(&mut parted.due)?;
     Ok(Lists {
-        row: Row::of(parted.due)?,
+        row,
         end,
         later: parted.later,
-        letters: Vec::new(alloc),
+        letters,
         next: parted.next,
+        due: parted.due,
+        rest: events,
     })
 }
 
