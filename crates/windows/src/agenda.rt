@@ -144,8 +144,10 @@ impl Parted {
         ensures { OnOk result ((end : ℕ) (es : List EventPair)
             → IsParted end es self.old → IsParted end (es ++ events.old.items) self.new) }
     {
-        for event in events.drain(..) {
-            self.file(event)?;
+        let mut place = 0;
+        while place < events.len() {
+            self.file(events[place].take())?;
+            place += 1;
         }
         Ok(())
     }
