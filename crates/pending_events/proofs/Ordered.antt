@@ -11,9 +11,8 @@ use Rattle.std.specs.Map.{lookup}
 use Rattle.std.specs.Ordering.{eq_by_cmp}
 use Rattle.std.specs.Cmp.{nat_cmp_total}
 use Rattle.std.proofs.lemmas.Map.Views.{All-found}
-use Rattle.pending_events.specs.Pending.{IsEmpty, IsLeastTick}
-use Rattle.trace_laws.specs.World.{Has, IsLeast}
-use Rattle.trace_laws.proofs.Runs.{least_below}
+use Rattle.pending_events.specs.Pending.{IsEmpty}
+use Rattle.trace_laws.specs.World.{IsLeast}
 use Rattle.std.proofs.lemmas.Bool.{cases_eq, cases_lt}
 use Rattle.std.proofs.lemmas.Cmp.{tied_itself}
 use Rattle.std.proofs.lemmas.List.Elements.{recursion_from_All}
@@ -310,44 +309,3 @@ pub taken_removed : (r : Option Event) (tick : ℕ) (old new : List Event) (late
     → MatchOption r (seen new later ≡ seen old later) (λ e. seen new later ≡ events.remove (seen old later) e.0)
 taken_removed None tick old new later h is = ap (λ es. seen es later) (is.1 ∙ sym is.0)
 taken_removed (Some e) tick old new later h is = pop_same tick old new later e h is
-
--- ---- the tick of the least event
-
-last_found : (es : List Event) → 0 < length es → (k : Key) × (y : StepInput) × (latest k es ≡ Some y)
-last_found [] long = absurd (omega (arith, long))
-last_found (e ∷ es) long = elim (latest e.0 es) as (λ o. latest e.0 es ≡ o → (k : Key) × (y : StepInput) × (latest k (e ∷ es) ≡ Some y)) [
-  | Some y ↦ λ is. (e.0, y, latest_cons e.0 e es ∙ ap (λ o. option_or o (cond (eq_by_cmp key_cmp e.0 e.0) (Some e.1) None)) is)
-  | None ↦ λ is. (e.0, e.1, latest_cons e.0 e es ∙ (ap (λ o. option_or o (cond (eq_by_cmp key_cmp e.0 e.0) (Some e.1) None)) is ∙ ap (λ b. cond b (Some e.1) None) (tied e.0 e.0 refl)))
-] refl
-
--- an event of the tick is there, and none is below it
-least_at : (m : Events) (t : ℕ) (k : Key) (y : StepInput) → Has m k y → k.tick ≡ t → ((q : Key) (z : StepInput) → Has m q z → t ≤ q.tick) → IsLeastTick m t
-least_at m t k y there at low = elim (least_below (k.tick + 1) m) [
-  | inl none ↦ absurd (omega (arith, none k y there))
-  | inr (l, x, least, below) ↦ (l, x, least, omega (arith, below, low l x least.there, at))
-]
-
-pub tick_of_due : (tick : ℕ) (due : List Event) (later : Calendar) → IsInOrder tick due later → 0 < length due → IsLeastTick (seen due later) tick
-tick_of_due tick due later h long =
-    let own = all_reverse (λ g. g.0.tick ≡ tick) due h.due_own in
-    let f = last_found due long in
-    let at : f.0.tick ≡ tick = found_is (λ k. k.tick ≡ tick) f.0 f.1 (reverse due) own f.2 in
-    least_at (seen due later) tick f.0 f.1 (get_seen tick due later h f.0 ∙ ap (λ o. option_or o (latest f.0 (held_at later f.0.tick))) f.2) at
-    (λ q z there. elim (or_cases (latest q due) _ z (sym (get_seen tick due later h q) ∙ there)) [
-      | inl found ↦ omega (arith, found_is (λ k. k.tick ≡ tick) q z (reverse due) own found)
-      | inr found ↦ omega (arith, after_due tick q.tick due later q z h long found)
-    ])
-
-pub tick_of_later : (tick : ℕ) (later : Calendar) (least : ℕ) → IsInOrder tick [] later → IsFirst later least → IsLeastTick (seen [] later) least
-tick_of_later tick later least h first =
-    let f = last_found (held_at later least) first.some in
-    let at : f.0.tick ≡ least = found_is (λ k. k.tick ≡ least) f.0 f.1 (reverse (held_at later least)) (all_reverse (λ g. g.0.tick ≡ least) (held_at later least) (held_own later h.calendar least)) f.2 in
-    least_at (seen [] later) least f.0 f.1 (get_seen tick [] later h f.0 ∙ (ap (λ t. latest f.0 (held_at later t)) at ∙ f.2)) at
-    (λ q z there. elim (cases_lt q.tick least) [
-      | inl less ↦ absurd (found_some q z (held_at later q.tick) (sym (get_seen tick [] later h q) ∙ there) (first.none_before q.tick less))
-      | inr is ↦ is
-    ])
-
-pub tick_of : (o : Option ℕ) (tick : ℕ) (later : Calendar) → IsInOrder tick [] later → MatchOption o (IsVacant later) (IsFirst later) → MatchOption o (IsEmpty (seen [] later)) (λ t. IsLeastTick (seen [] later) t)
-tick_of None tick later h is = seen_none tick later h is
-tick_of (Some least) tick later h is = tick_of_later tick later least h is
