@@ -22,13 +22,13 @@ use Rattle.process_api.specs.declared.key.Key.{Key}
 use Rattle.process_api.specs.declared.message.StepInput.{StepInput}
 use Rattle.pending_events.specs.declared.calendar.Calendar.{Calendar}
 use Rattle.pending_events.specs.Inside.Buckets.{latest, Buckets, bucket, HasTick, IsStowed, flat}
-use Rattle.pending_events.specs.Inside.Calendar.{near_at, held_at, IsVacant, IsCalendar, HoldsSame, IsAdded, IsTaken, IsInOrder, seen_at, all_held, flat_ring}
+use Rattle.pending_events.specs.Inside.Calendar.{near_at, held_at, IsVacant, IsCalendar, HoldsSame, IsAdded, IsFirst, IsTaken, IsInOrder, seen_at, all_held, flat_ring}
 use Rattle.pending_events.specs.Inside.Lanes.{events_at, first, FallsStrictly, IsOrder}
 use Rattle.trace_laws.specs.Step.{Event, Events}
 use Rattle.process_api.proofs.KeyOrder.{keys_total, exact_keys, same_or_not, ticks_rise}
 use Rattle.trace_laws.proofs.Sets.{apart, not_None, tied}
 use Rattle.process_api.proofs.Lists.{both, weaker}
-use Rattle.pending_events.proofs.Falling.{all_at, all_parts, all_reverse, falls_front, falls_last, find_append, found_is, held, latest_push, nat_apart, none_latest, not_after, not_it, or_None, strict_found}
+use Rattle.pending_events.proofs.Falling.{all_at, all_parts, all_reverse, falls_front, falls_last, find_append, found_is, held, latest_cons, latest_push, nat_apart, none_latest, not_after, not_it, or_None, strict_found}
 use Rattle.pending_events.proofs.Dealing.{none_of}
 use Rattle.pending_events.proofs.Nearby.{held_own, ring_find, calendar_of, nothing_after}
 

@@ -12,18 +12,19 @@ ghost use Rattle.trace_merge.specs.Parts.{all_of, AreDisjoint};
 ghost use Rattle.windows.specs.Inside.Closing.{IsClosedBy};
 ghost use Rattle.window_laws.specs.Machine.{StandsFor};
 ghost use Rattle.windows.specs.Refusals.{IsRefusalOfOne};
-ghost use Rattle.windows.specs.Stage.{stage_of, delivered, IsOpened, IsNextStart, IsStageAfter};
+ghost use Rattle.windows.specs.Stage.{stage_of, start_event, delivered, IsOpened, IsNextStart, IsStageAfter};
 
 use crate::agenda::Agenda;
 use crate::berth::Berth;
 use crate::halves::{empty_and_merge, threads_for};
 use mailboxes::{Mailboxes, Slip};
-use process_api::{Entry, Letter, Process, RunError};
+use process_api::{Entry, Letter, Pid, Process, RunError};
 use scenario_record::Scenario;
 use std::alloc::{AllocError, Global};
 use std::mem::replace;
 use std::sync::Wait;
 use std::thread::Threads;
+use trace_laws::Event;
 
 /// All processes of a scenario between two windows: each in its berth, the tick at which the next window starts, and
 /// how many entries the trace has so far. The parameter has no bound here, so that machines may be boxed.
