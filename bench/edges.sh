@@ -175,7 +175,7 @@ starts 0 $fdstudy sweep one.toml --seeds 1..=7 --threads 1
 starts 8 $fdstudy sweep one.toml --seeds 1..=7 --threads 3
 starts 12 $fdstudy sweep one.toml --seeds 1..=7 --threads 7
 starts 126 $fdstudy sweep one.toml --seeds 1..=64 --threads 64
-starts 6 $fdstudy check one.toml --seeds 1 --vary detector.timeout=1..=7 --threads 3
+starts 8 $fdstudy check one.toml --seeds 1 --vary detector.timeout=1..=7 --threads 3
 starts 0 taskset -c "$(taskset -cp $$ | sed 's/.*: //; s/[-,].*//')" $fdstudy sweep one.toml --seeds 1..=7
 end
 
