@@ -3,11 +3,5 @@ pub mod Stopping
 pub mod Reasons
 pub mod Refusing
 pub mod Swept
-pub mod AddedItems
-pub mod Phases
-pub mod Findings
-pub mod FirstRuns
-pub mod Dealt
-pub mod CommonLink
 pub mod Standing
 pub mod Naming

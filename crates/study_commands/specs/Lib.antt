@@ -4,8 +4,6 @@ pub mod Study
 pub mod Refusal
 pub mod WordRefusals
 pub mod Runs
-pub mod Warnings
-pub mod WarningText
 pub mod Check
 pub mod Letters
 pub mod Draw

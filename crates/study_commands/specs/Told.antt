@@ -7,7 +7,6 @@ use Rattle.study.specs.Shard.{ShardRecord}
 use Rattle.study.specs.Sources.{SourcesRecord}
 use Rattle.study_commands.specs.File.{IsScenario}
 use Rattle.study_commands.specs.Sweep.{IsSaid}
-use Rattle.study_commands.specs.WarningText.{IsWarnedOf, IsWarnedOfStudy}
 use Rattle.study_line.specs.Order.{AsksHelp, States}
 use Rattle.study_line.specs.declared.order.Order.{Order}
 use Rattle.study_line.specs.declared.order.Order.TheVariants as order
@@ -15,6 +14,7 @@ use Rattle.study_line.specs.declared.order.SourceTexts.{SourceTexts}
 use Rattle.study_line.specs.declared.order.StudyTexts.{StudyTexts}
 use Rattle.sweep.specs.Layout.{LayoutRecord}
 use Rattle.sweep.specs.Watching.{HeardAllRuns, HeardOfAllReading, News}
+use Rattle.warnings.specs.WarningText.{IsWarnedOf, IsWarnedOfStudy}
 
 -- a watcher is told of the scenario of the files, and of nothing else
 pub record IsToldOfFile {W : Type 0} (warned : W → List (List ℕ) → W → Type 0) (old new : W)

@@ -11,16 +11,14 @@ ghost use Rattle.study_commands.specs.File.{IsOwnScenario, NameNoInput};
 ghost use Rattle.study_commands.specs.Inside.Setting.{StandsForNone};
 ghost use Rattle.study_commands.specs.Refusal.{IsOfOwnFile};
 ghost use Rattle.study_commands.specs.Told.{IsToldOfFile};
-ghost use Rattle.study_commands.specs.WarningText.{IsWarnedOf};
 ghost use Rattle.study_commands.specs.Why.{StopsCheck};
 ghost use Rattle.shell.specs.Input.{TakesAtMost, input_path, most_bytes};
 ghost use Rattle.toml.specs.View.{table_view};
+ghost use Rattle.warnings.specs.WarningText.{IsWarnedOf};
 
 use crate::alone::{is_alone, sources_alone, table_of_sources};
 use crate::fault::Fault;
 use crate::file::{bytes_of, fault_of};
-use crate::warn::warn_of;
-use crate::warned::Warned;
 use diagnosis::{Accepted, Diagnosis, Refused, diagnose, diagnose_table};
 use printable::Printable;
 use scenario::{read_scenario, read_table};
@@ -30,6 +28,7 @@ use std::rt::Files;
 use study::Sources;
 use study_line::SourceTexts;
 use toml::Table;
+use warnings::{Warned, warn_of};
 
 /// That a run may have more entries than its limit, where that is so.
 fn limit_line(alloc: Global, limit: u64, entries: u64) -> Result<String, AllocError>

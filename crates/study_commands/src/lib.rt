@@ -9,28 +9,20 @@
 //! pictures by `drawing`, and the command line by `study_line`. The process ends with the status, by the contract of
 //! `finish` of `shell`.
 //!
-//! Before the first run a [`warned::Warned`] is told in lines what may mislead of a scenario or a study
-//! (`specs/Warnings.antt`, `specs/WarningText.antt`, `specs/Told.antt`).
+//! Before the first run a [`warnings::Warned`] is told in lines what may mislead of a scenario or a study
+//! (`specs/Told.antt`). The lines are defined and found by `warnings`.
 //!
 //! For example, the words `fdstudy sweep - --seeds 1..=20 --vary detector.timeout=5,10` print the line of the columns'
 //! names and two rows, each over 20 runs.
 #![tactic(auto)]
 
-mod adding;
 mod alone;
 mod assigned;
 mod checking;
-mod common_link;
-mod dealt_ticks;
 pub mod fault;
 mod file;
-mod first_run;
-mod first_runs;
-mod found;
-mod late;
 mod lettering;
 mod limited_point;
-mod link_keys;
 mod network_reason;
 mod picturing;
 mod place_reason;
@@ -39,18 +31,11 @@ pub mod progress_line;
 mod ready;
 mod reckoning;
 mod refused_run;
-mod run_name;
 mod running;
 pub mod serve;
-mod shared_outages;
 mod showing;
 mod sources;
-mod spread;
 mod study_check;
 mod study_words;
 mod sweeping;
 mod unknown_column;
-mod warn;
-pub mod warned;
-mod warning;
-mod warning_line;

@@ -3,11 +3,11 @@ ghost use Rattle.std.specs.Prelude.{◌<◌, length};
 ghost use Rattle.study.specs.Grid.{points};
 
 use crate::reckoning::{Reckoned, reckon_point};
-use crate::run_name::name_of_point;
 use diagnosis::HIGHEST_LIMIT;
 use printable::Printable;
 use std::alloc::{AllocError, Global};
 use study::{Grid, Sources};
+use warnings::name_of_point;
 
 /// Of how many runs of a point that differ in more than their seeds the size is reckoned.
 const MOST_RECKONED: u64 = 1000;

@@ -3,12 +3,12 @@
 ghost use Rattle.std.specs.Prelude.{◌≡◌, ◌≤◌, ◌==◌, false, not, true};
 
 use crate::limited_point::line_of_limited;
-use crate::warned::Warned;
 use std::alloc::{AllocError, Global};
 use std::io::Write;
 use std::time::{Clock, Duration, Instant};
 use study::{Grid, Sources};
 use sweep::{Pass, Standing, Watcher};
+use warnings::Warned;
 
 /// The line is drawn anew no sooner than after so many milliseconds.
 const PAUSE: u128 = 200;

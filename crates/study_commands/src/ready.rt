@@ -7,14 +7,13 @@ ghost use Rattle.sweep.specs.Outcome.{AreReady, CantBeRun};
 
 use crate::fault::Fault;
 use crate::sweeping::fault_of;
-use crate::warn::warn_of_study;
-use crate::warned::Warned;
 use std::alloc::Global;
 use std::marker::Sync;
 use std::thread::Threads;
 use std::time::Clock;
 use study::{Grid, Shard, Sources};
 use sweep::{Layout, SweepError, check_study};
+use warnings::{Warned, warn_of_study};
 
 /// Reads the scenarios of all runs of a shard's points, by so many threads, and then tells the watcher what may mislead
 /// of the study. The fault is that of the first run that can't be run, or of memory.

@@ -3,12 +3,12 @@ ghost use Rattle.std.specs.Prelude.{◌<◌, length};
 ghost use Rattle.study.specs.Grid.{points, runs};
 
 use crate::place_reason::place_reason;
-use crate::run_name::name_of_run;
 use diagnosis::{Diagnosis, diagnose_table};
 use printable::Printable;
 use std::alloc::{AllocError, Global};
 use study::{Choice, Grid, Run, Sources, run_table, table_alone};
 use toml::Table;
+use warnings::name_of_run;
 
 /// What `check` says of a run's file, or why there is none.
 fn reason_of(

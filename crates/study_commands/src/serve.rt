@@ -19,7 +19,6 @@ use crate::picturing::serve_draw;
 use crate::showing::serve_show;
 use crate::study_check::serve_study_check;
 use crate::sweeping::serve_sweep;
-use crate::warned::Warned;
 use printable::{Printable, PrintableLines};
 use reporting::Outlet;
 use shell::{ended, put_bytes, put_text};
@@ -30,6 +29,7 @@ use std::rt::Files;
 use std::thread::Threads;
 use std::time::Clock;
 use study_line::{Order, StudyTexts, WordsError, read_words};
+use warnings::Warned;
 
 /// The text that an order asks for, of all but a sweep.
 fn text_of<R: Files + Threads + Sync + Clock, I: Read, W: Warned>(

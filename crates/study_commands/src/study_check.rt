@@ -13,9 +13,7 @@ use crate::fault::Fault;
 use crate::progress_line::time_of;
 use crate::ready::make_ready;
 use crate::reckoning::{Above, Reckoned, reckon};
-use crate::run_name::name_of_run;
 use crate::sweeping::{said_over, threads_for};
-use crate::warned::Warned;
 use diagnosis::ENTRIES_A_SECOND;
 use printable::Printable;
 use std::alloc::{AllocError, Global};
@@ -26,6 +24,7 @@ use std::thread::Threads;
 use std::time::Clock;
 use study::{Grid, Shard, Sources};
 use study_line::{SourceTexts, StudyTexts};
+use warnings::{Warned, name_of_run};
 
 /// About how many entries the runs have, and how long they take by so many threads.
 fn size_text(alloc: Global, reckoned: &Reckoned, threads: u8) -> Result<String, AllocError> {

@@ -16,7 +16,6 @@ use crate::refused_run::{line_of_lack, line_of_run};
 use crate::sources::sources_over;
 use crate::study_words::{grid_of, groups_of, shard_of};
 use crate::unknown_column::line_of_unknown;
-use crate::warned::Warned;
 use reporting::Outlet;
 use std::alloc::Global;
 use std::io::Read;
@@ -27,6 +26,7 @@ use std::time::Clock;
 use study::{Grid, Shard, Sources};
 use study_line::{Each, SourceTexts, StudyTexts};
 use sweep::{Layout, LayoutError, Rows, SweepError, run_study};
+use warnings::Warned;
 
 /// How many threads share the runs: as many as were asked for, or else one for each processor; at most 64.
 pub(crate) fn threads_for<R: Threads>(rt: &R, asked: Option<u64>) -> u8

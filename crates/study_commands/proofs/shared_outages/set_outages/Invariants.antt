@@ -1,9 +1,0 @@
-use Rattle.std.proofs.Common.{◌≡◌, map, drop}
-use Rattle.std.specs.List.{list_any}
-use Rattle.study.specs.Settings.{choices}
-use Rattle.study_commands.specs.Warnings.{sets_outage}
-use Rattle.study_commands.proofs.shared_outages.set_outages.Given as goal
-
-abbrev pub invariant-loop-axis : goal.invariant-loop-axis
-invariant-loop-axis l =
-    list_any sets_outage (map choices l.axes) ≡ list_any sets_outage (map choices (drop l.axis-index l.axes))

@@ -1,0 +1,9 @@
+use Rattle.std.proofs.Common.{◌≡◌, ◌+◌, ◌-◌}
+use Rattle.std.specs.List.{list_any, range_with_len}
+use Rattle.warnings.specs.Warnings.{sends_by_link}
+use Rattle.warnings.proofs.common_link.do_any_send.Given as goal
+
+abbrev pub invariant-loop-from : goal.invariant-loop-from
+invariant-loop-from l =
+    list_any (sends_by_link l.pairs l.processes) (range_with_len 1 l.processes)
+    ≡ list_any (sends_by_link l.pairs l.processes) (range_with_len l.from (l.processes + 1 - l.from))

@@ -1,0 +1,9 @@
+use Rattle.std.proofs.Common.{◌≡◌, ◌+◌, ◌-◌}
+use Rattle.std.specs.List.{list_any, range_with_len}
+use Rattle.warnings.specs.Inside.Warned.{is_no_end}
+use Rattle.warnings.proofs.common_link.lacks_end.Given as goal
+
+abbrev pub invariant-loop-to : goal.invariant-loop-to
+invariant-loop-to l =
+    list_any (is_no_end l.ends l.from) (range_with_len 1 l.processes)
+    ≡ list_any (is_no_end l.ends l.from) (range_with_len l.to (l.processes + 1 - l.to))

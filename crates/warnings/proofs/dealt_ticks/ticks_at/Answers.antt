@@ -1,0 +1,20 @@
+use Rattle.std.proofs.Common.{◌≡◌, ◌∙◌, ◌++◌, ap, sym, rules, option_to_list, take}
+use Rattle.std.specs.List.{filter_map}
+use Rattle.study.specs.Settings.{choices, settings_in}
+use Rattle.warnings.specs.Inside.Warned.{tick_said}
+use Rattle.warnings.specs.Warnings.{tick_in}
+use Rattle.warnings.proofs.Dealt.{ticks_more}
+use Rattle.warnings.proofs.dealt_ticks.ticks_at.Goals as goal
+
+pub loop-value-preserved : goal.loop-value-preserved
+loop-value-preserved c =
+    let axis = c.args.axis.now in
+    let k = c.loop-value.value-index in
+    let values = c.deref-value-items.ensures.value in
+    let so_far = filter_map (tick_in c.args.place) (take k (choices axis)) in
+    let said : c.tick_at.result ≡ tick_said c.args.place (settings_in c.value-item.result) = search rules in
+    c.in_ok-push_some.ensures
+    ∙ ap (λ l. l ++ option_to_list c.tick_at.result) c.loop-value.invariant
+    ∙ ap (λ o. so_far ++ option_to_list o) said
+    ∙ sym (ticks_more axis c.args.place k c.value-item.result (rw values at c.loop-value-test.true)
+    (rw values at c.value-item.is))

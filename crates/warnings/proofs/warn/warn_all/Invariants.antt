@@ -1,0 +1,12 @@
+use Rattle.std.proofs.Common.{◌≡◌, false, map, take}
+use Rattle.warnings.specs.Inside.Warned.{warning_of}
+use Rattle.warnings.specs.WarningText.{warning_line}
+use Rattle.trace_laws.specs.Joins.{HaveJoined}
+use Rattle.warnings.proofs.warn.warn_all.Given as goal
+
+abbrev pub invariant-loop-warning : goal.invariant-loop-warning
+invariant-loop-warning g l = record {
+  told : HaveJoined g.W.Warned.warned l.fn.watcher l.watcher
+      (map (warning_line l.grid l.of) (map warning_of (take l.warning-index l.warnings)));
+  hidden : g.W.Watcher.shows l.fn.watcher ≡ false → g.W.Watcher.shows l.watcher ≡ false;
+}

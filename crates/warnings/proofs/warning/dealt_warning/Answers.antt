@@ -1,0 +1,19 @@
+use Rattle.std.proofs.Common.{◌≡◌, ◌∙◌, ap, length, map}
+use Rattle.std.proofs.lemmas.List.{length-map}
+use Rattle.std.specs.Option.{option_map}
+use Rattle.study.specs.Settings.{path_of}
+use Rattle.warnings.proofs.FirstRuns.{found_at, same_unevens}
+use Rattle.warnings.specs.Warnings.{period_of, uneven_in, unevens}
+use Rattle.warnings.proofs.warning.dealt_warning.Goals as goal
+
+pub returns : goal.returns
+returns c = λ tables are.
+    let runs = c.args.runs.now in
+    let ticks = c.args.dealt.now.ticks.items in
+    let taken : c.deref-2.result.now ≡ map (λ r. uneven_in (period_of r.detector) ticks) runs =
+    c.deref-2.ensures.value ∙ c.in_ok-unevens.ensures
+    ∙ ap (λ ts. map (λ r. uneven_in (period_of r.detector) ts) runs) c.deref.ensures.value in
+    let long : length c.deref-2.result.now ≡ length runs = ap length taken ∙ length-map runs _ in
+    c.uneven_found.ensures
+    ∙ ap (option_map (unevens (path_of c.args.dealt.now.key.now))) (c.first_of.ensures
+    ∙ found_at c.args.begin (length runs) c.deref-2.result.now _ (taken ∙ same_unevens ticks tables runs are) long)

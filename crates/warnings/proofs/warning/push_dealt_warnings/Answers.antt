@@ -1,0 +1,13 @@
+use Rattle.std.proofs.Common.{length}
+use Rattle.std.specs.List.{range_with_len}
+use Rattle.warnings.proofs.AddedItems.{added}
+use Rattle.warnings.specs.Inside.Warned.{dealt_of, warning_of}
+use Rattle.warnings.specs.Warnings.{warning_of_dealt}
+use Rattle.warnings.proofs.warning.push_dealt_warnings.Goals as goal
+
+pub loop-each-preserved : goal.loop-each-preserved
+loop-each-preserved c = λ tables are.
+    added (warning_of_dealt (range_with_len c.args.begin (length c.args.runs.now)) tables) dealt_of c.args.dealt.now
+    c.loop-each.each-index c.each-item.result c.loop-each-test.true c.each-item.is warning_of c.args.all.now.items
+    c.loop-each.all.items c.push_some.new.all.items c.in_ok-dealt_warning.field-0 c.in_ok-push_some.ensures
+    (c.loop-each.invariant tables are) (c.in_ok-dealt_warning.ensures tables are)

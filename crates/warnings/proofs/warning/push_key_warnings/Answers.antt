@@ -1,0 +1,23 @@
+use Rattle.std.proofs.Common.{◌≡◌, ◌∙◌, ◌++◌, ap, length, map}
+use Rattle.std.proofs.lemmas.List.{length-map}
+use Rattle.std.proofs.lemmas.Result.{on_ok_weaker}
+use Rattle.std.specs.List.{filter_map}
+use Rattle.std.specs.Option.{option_map}
+use Rattle.study.specs.Settings.{path_of}
+use Rattle.warnings.proofs.FirstRuns.{found_at, same_unlinked}
+use Rattle.warnings.specs.Inside.Warned.{warning_of}
+use Rattle.warnings.specs.Warnings.{unlinked_where, unused}
+use Rattle.warnings.proofs.warning.push_key_warnings.Goals as goal
+
+pub returns : goal.returns
+returns c =
+    let runs = c.args.runs.now in
+    let before = map warning_of c.args.all.now.items in
+    let paths = map (λ k. path_of k.now) c.args.keys.now in
+    let taken : c.deref.result.now ≡ map (λ r. unlinked_where r.uses_link r.processes) runs =
+    c.deref.ensures.value ∙ c.in_ok-unlinked.ensures in
+    let long : length c.deref.result.now ≡ length runs = ap length taken ∙ length-map runs _ in
+    on_ok_weaker c.push_found.result (λ is. λ tables are. is
+    ∙ ap (λ o. before ++ filter_map (λ p. option_map (unused p) o) paths) (c.first_of.ensures
+    ∙ found_at c.args.begin (length runs) c.deref.result.now _ (taken ∙ same_unlinked tables runs are) long))
+    c.push_found.ensures

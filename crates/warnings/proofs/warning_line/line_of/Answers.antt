@@ -1,0 +1,11 @@
+use Rattle.std.proofs.Common.{◌∙◌, ap, sym}
+use Rattle.std.proofs.lemmas.Result.{IfOk-weaker}
+use Rattle.warnings.specs.Inside.Warned.{warning_of}
+use Rattle.warnings.specs.WarningText.{warning_line}
+use Rattle.warnings.proofs.warning_line.line_of.Goals as goal
+
+pub returns-in-Unused : goal.returns-in-Unused
+returns-in-Unused c =
+    IfOk-weaker c.unused_line.result _ _
+    (λ s is. is ∙ ap (λ w. warning_line c.args.grid.now c.args.of (warning_of w)) (sym c.in-Unused.is))
+    c.unused_line.ensures

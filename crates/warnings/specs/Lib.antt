@@ -1,0 +1,3 @@
+pub mod Warnings
+pub mod WarningText
+pub mod Inside

@@ -1,0 +1,82 @@
+-- Lines of warnings, and who is told them.
+use Rattle.std.specs.Prelude.{ℕ, ◌+◌, codes, decimal, List, [], ◌∷◌, ◌++◌, map, length, option_map, option_to_list}
+use Rattle.std.specs.List.{AllZip}
+use Rattle.printable.specs.Printable.{printable}
+use Rattle.scenario_record.specs.Record.{Record}
+use Rattle.study.specs.Grid.{GridRecord}
+use Rattle.study.specs.Settings.{Chosen, given_text, key_text}
+use Rattle.study.specs.Shard.{ShardRecord}
+use Rattle.study.specs.Sources.{SourcesRecord}
+use Rattle.sweep.specs.StudyText.{numbers_of, point_at}
+use Rattle.toml.specs.Data.{Members}
+use Rattle.trace_laws.specs.Joins.{HaveJoined}
+use Rattle.warnings.specs.Warnings.{IsFirst, Warning, late, lates, outages, unevens, unused, warnings}
+use Rattle.warnings.specs.declared.late.Late.{Late}
+use Rattle.warnings.specs.declared.spread.Spread.{Spread}
+
+-- a key and what it is set to, after this
+abbrev pub choice_text : (before : List ℕ) → Chosen → List ℕ
+choice_text before c = before ++ (key_text c.path ++ (codes "=" ++ given_text c.value))
+
+-- keys and what they are set to, this before the first of them
+abbrev pub choices_text : (before : List ℕ) → List Chosen → List ℕ
+choices_text before [] = []
+choices_text before (c ∷ cs) = choice_text before c ++ choices_text (codes ", ") cs
+
+-- a point, counted from 0, as `point 2 with detector.timeout=8, link.loss=0`, and without any settings as `point 1`
+abbrev pub point_name : GridRecord → (point : ℕ) → List ℕ
+point_name g point = codes "point " ++ (decimal (point + 1) ++ choices_text (codes " with ") (point_at g point))
+
+-- from which tick on it could suspect, and where the run ends
+abbrev pub late_text : Late → List ℕ
+late_text its =
+    codes "from tick " ++ (decimal its.from ++ (codes " on, horizon " ++ (decimal its.horizon ++ codes "\n")))
+
+abbrev pub lone_late_line : Late → List ℕ
+lone_late_line its =
+    codes "fdstudy: no detector can suspect anybody before the horizon: " ++ late_text its
+
+-- how many different phases there are, of which period, with which greatest gap
+abbrev pub spread_text : Spread → List ℕ
+spread_text its =
+    decimal its.phases ++ (codes " different phases of the period " ++ (decimal its.period
+    ++ (codes ", with a gap of " ++ (decimal its.gap ++ codes " ticks"))))
+
+-- that each pair of so many processes has a link of its own
+abbrev pub pairs_text : (processes : ℕ) → List ℕ
+pairs_text processes =
+    codes "each pair of " ++ (decimal processes ++ codes " processes has a table of its own in links\n")
+
+-- at how many of so many points, and at which first
+abbrev pub points_text : GridRecord → (of points first : ℕ) → List ℕ
+points_text g of points first =
+    decimal points ++ (codes " of " ++ (decimal of ++ (codes " points, first at " ++ printable (point_name g first))))
+
+module _ (g : GridRecord) (of : ℕ) where
+  abbrev pub warning_line : Warning → List ℕ
+  warning_line (lates its) =
+      codes "fdstudy: no detector can suspect anybody before the horizon at "
+      ++ (points_text g of its.points its.first ++ (codes ": " ++ late_text its.what))
+  warning_line (unevens key its) =
+      codes "fdstudy: " ++ (printable (key_text key) ++ (codes " is dealt " ++ (spread_text its.what
+      ++ (codes ", at " ++ (points_text g of its.points its.first ++ codes "\n")))))
+  warning_line (unused key its) =
+      codes "fdstudy: no link uses " ++ (printable (key_text key) ++ (codes " at "
+      ++ (points_text g of its.points its.first ++ (codes ": " ++ pairs_text its.what))))
+  warning_line outages =
+      codes "fdstudy: at each point every run has the same outages of the scenario file, "
+      ++ codes "so runs are no independent evidence of them\n"
+
+-- ---- who is told
+
+module _ {W : Type 0} (warned : W → List (List ℕ) → W → Type 0) (old new : W) where
+  -- of the scenario, if there is anything to warn of
+  abbrev pub IsWarnedOf : Record → Type 0
+  IsWarnedOf s = HaveJoined warned old new (option_to_list (option_map lone_late_line (late s)))
+
+  -- of the study: its lines, one after the other, and nothing else
+  pub record IsWarnedOfStudy (sources : SourcesRecord) (g : GridRecord) (shard : ShardRecord) : Type 0 where
+    pub tables : List Members
+    pub each : AllZip (IsFirst sources g) (numbers_of g shard) tables
+    pub told : HaveJoined warned old new (map (warning_line g (length (numbers_of g shard)))
+        (warnings (numbers_of g shard) tables sources g))
