@@ -2,7 +2,7 @@
 """Times the program: `list` with the report and with the trace, and `run` by 1, 2 and 4 workers with the report.
 
     bench/bench.py [--program P] [--beside P] [--before P] [--rounds N] [--only NAME,..] [--modes MODE,..]
-                   [--horizon PER_CENT] [--same]
+                   [--horizon PER_CENT] [--same] [--wide]
 
 For each scenario of this folder and each mode it prints the best time of N rounds (3), millions of entries a second, the
 most memory that the process had (20 MiB are the least that is shown: they are Python's, before the program begins), and
@@ -13,7 +13,7 @@ busy machine slows all modes alike; compare times of one table alone. What is pr
 P is the program's file; where none is named, ./fdbench proves and builds it. --beside times another program that takes
 the words `list PATH --print WHAT` and writes the same bytes, and adds the ratio of both times. --before times another
 state of the program in the same rounds and modes, and prints its rows too. --same compares the bytes first, by their
-hashes. --horizon runs a part of each scenario. Modes are list-report, list-trace, run-1 and so on.
+hashes. --horizon runs a part of each scenario. --wide takes the scenarios with wide windows. Modes are list-report, list-trace, run-1 and so on.
 """
 import argparse
 import hashlib
@@ -27,6 +27,7 @@ import time
 HERE = os.path.dirname(os.path.abspath(__file__))
 ROOT = os.path.dirname(HERE)
 SCENARIOS = ["sure_16", "lossy_64", "shared_64", "storm_64", "wide_64", "lossy_long"]
+WIDE = ["wide_64_100", "wide_64", "wide_64_2000", "wide_256_500", "wide_256_2000", "vectors_128"]
 MODES = ["list-report", "list-trace", "run-1", "run-2", "run-4"]
 
 
@@ -129,7 +130,10 @@ def main():
     parser.add_argument("--modes", default=",".join(MODES))
     parser.add_argument("--horizon", type=int, default=100)
     parser.add_argument("--same", action="store_true")
+    parser.add_argument("--wide", action="store_true")
     given = parser.parse_args()
+    if given.wide:
+        given.only = ",".join(WIDE)
     if given.program is None:
         subprocess.run([os.path.join(ROOT, "fdbench"), "--help"], stdout=subprocess.DEVNULL, check=True)
         given.program = os.path.join(ROOT, "crates", "fdbench", "out", "fdbench")

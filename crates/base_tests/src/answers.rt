@@ -45,12 +45,12 @@ fn push_letter(alloc: Global, text: &mut String, payload: &Payload) -> Result<()
             write!(text, "suspects:{suspects:?}")
         }
         Payload::Vector { round, cells } => {
-            let cells = cells.copy()?.into_vec();
+            let cells = cells.copy()?.into_vec()?;
             write!(text, "vector:{round}")?;
             push_cells(text, &cells)
         }
         Payload::Last { cells } => {
-            let cells = cells.copy()?.into_vec();
+            let cells = cells.copy()?.into_vec()?;
             text.push_str("last")?;
             push_cells(text, &cells)
         }

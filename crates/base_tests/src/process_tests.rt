@@ -109,7 +109,7 @@ fn cells_are_copied(rt: HostRuntime) {
     same(&rt, &cells, &three);
     let found = (cells.get(Pid::after(1)), cells.get(Pid::after(3)));
     same(&rt, &found, &(Some(20), None));
-    same(&rt, &cells.into_vec().len(), &3);
+    same(&rt, &cells.into_vec().expect(&rt, NO_MEMORY).len(), &3);
 }
 
 #[test]

@@ -1,19 +1,10 @@
 -- What holds of 1 to n, looked at one by one.
-use Rattle.std.proofs.Common.{◌≡◌, ◌⊎◌, inl, inr, ℕ, zero, suc, ◌+◌, ◌≤◌, ◌<◌, refl, sym, ap, ◌∙◌, Bool, true, false, ◌&&◌, ◌||◌, Option, None, Some, is_some, true≢false, List, [], ◌∷◌, ◌++◌, map, arith}
-use Rattle.std.proofs.Math.Bool.{and-false, or-true}
-use Rattle.process_api.specs.ConsensusS.{all_to, any_to, first_to, or_else}
+use Rattle.std.proofs.Common.{◌≡◌, ◌⊎◌, inl, inr, ℕ, zero, suc, ◌+◌, ◌≤◌, ◌<◌, refl, sym, ap, ◌∙◌, Bool, true, ◌||◌, Option, None, Some, is_some, true≢false, List, [], ◌∷◌, ◌++◌, map, arith}
+use Rattle.std.proofs.Math.Bool.{or-true}
+use Rattle.process_api.specs.ConsensusS.{any_to, first_to, or_else}
 
 at_last : (q n : ℕ) → q ≤ suc n → (q ≡ suc n) ⊎ (q ≤ n)
 at_last q n h = grind arith
-
--- one that isn't meant is enough
-pub all_fails : (n : ℕ) (which : ℕ → Bool) (q : ℕ) → 1 ≤ q → q ≤ n → which q ≡ false → all_to n which ≡ false
-all_fails zero which q low high none = absurd (omega arith)
-all_fails (suc n) which q low high none = go (at_last q n high) (λ h. all_fails n which q low h none)
-  where
-    go : (q ≡ suc n) ⊎ (q ≤ n) → (q ≤ n → all_to n which ≡ false) → (all_to n which && which (suc n)) ≡ false
-    go (inl e) before = ap (λ b. all_to n which && b) (ap which (sym e) ∙ none) ∙ and-false (all_to n which)
-    go (inr h) before = ap (λ b. b && which (suc n)) (before h)
 
 -- one that is meant is enough
 pub any_holds : (n : ℕ) (which : ℕ → Bool) (q : ℕ) → 1 ≤ q → q ≤ n → which q ≡ true → any_to n which ≡ true

@@ -59,13 +59,7 @@ pub(crate) fn is_over(letters: &Letters<Cells>, n: u16, round: u64, suspects: &P
     requires { n ≤ most_processes }
     ensures { result ≡ all_to n (λ q. is_some (kept_of letters.now round q) || set.contains suspects.now q) }
 {
-    let settled = settled(letters, round, suspects);
-    for before in 0..n {
-        if !settled.contains(Pid::after(before)) {
-            return false;
-        }
-    }
-    true
+    settled(letters, round, suspects).has_all(n)
 }
 
 /// What the letter of a sender in a round tells of cell `k`.

@@ -41,7 +41,7 @@ module _ (n : ℕ) (boxes : List MailboxId) (homes : List HomeView) (lists : Lis
     pub back_to_empty : bs ≡ drop n boxes → hs ≡ drop n homes → ls ≡ drop n lists → AreToEmpty bs hs ls
     back_to_empty b h l = subst (λ (p : List MailboxId × (List HomeView × List (Vec Letter))). AreToEmpty p.0 p.1.0 p.1.1) (λ i. (sym b i, (sym h i, sym l i))) to_empty-drop
 
-abbrev items_of : Vec Letter → List Letter
+abbrev pub items_of : Vec Letter → List Letter
 items_of v = v.items
 
 AreEmptied-append : (boxes more : List MailboxId) (hs ks as' bs : List HomeView) (xs ys : List (Vec Letter)) → AreEmptied boxes hs as' xs → AreEmptied more ks bs ys → AreEmptied (boxes ++ more) (hs ++ ks) (as' ++ bs) (xs ++ ys)

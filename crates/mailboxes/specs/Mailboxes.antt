@@ -4,6 +4,7 @@ use Rattle.std.specs.Prelude.{◌≡◌, refl, ℕ, ◌-◌, List, [], ◌∷◌
 use Rattle.std.specs.Global.{Vec}
 use Rattle.std.specs.List.{flat_map}
 use Rattle.process_api.specs.declared.message.Letter.{Letter}
+use Rattle.ledger.specs.Places.{each_with}
 use Rattle.mailboxes.specs.Mailbox.{MailboxId}
 
 -- which mailboxes they are, by receiver, and how many slips were made
@@ -40,11 +41,17 @@ list_of lists r = slice_index_or lists (r - 1) []
 abbrev pub unused : List MailboxId → SlipView
 unused mailboxes = slip_of mailboxes (replicate (length mailboxes) [])
 
+-- the lists of all receivers with one letter more
+abbrev pub filed : List (List Letter) → Letter → List (List Letter)
+filed lists x = slice_set lists (x.key.receiver - 1) (list_of lists x.key.receiver ++ x ∷ [])
+
 -- the slip after one letter more was posted by it
 abbrev pub with_letter : SlipView → Letter → SlipView
-with_letter s x =
-    let r = x.key.receiver in
-    slip_of s.mailboxes (slice_set s.posted (r - 1) (list_of s.posted r ++ x ∷ []))
+with_letter s x = slip_of s.mailboxes (filed s.posted x)
+
+-- the slip after the letters of these lists, one for each receiver, were posted by it
+abbrev pub with_lists : SlipView → List (List Letter) → SlipView
+with_lists s lists = slip_of s.mailboxes (each_with (◌++◌) s.posted lists)
 
 -- all letters that these slips posted to receiver r
 abbrev pub posted_to : List SlipView → ℕ → List Letter

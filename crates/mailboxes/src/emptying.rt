@@ -4,13 +4,13 @@ ghost use Rattle.std.specs.Thread.{IsSync};
 ghost use Rattle.mailboxes.specs.Inside.Emptying.{AreToEmpty, AreEmptied};
 
 use crate::mailbox::{Home, Mailbox};
-use process_api::Letter;
 use std::alloc::{AllocError, Global};
 use std::sync::Wait;
 use std::thread::{Threads, join};
+use trace_laws::Parcel;
 
 /// The owner's passes, and the lists with the letters.
-pub(crate) type Emptied = (Vec<Home>, Vec<Vec<Letter>>);
+pub(crate) type Emptied = (Vec<Home>, Vec<Vec<Parcel>>);
 
 /// Moves the letters of each mailbox into a list of its own, in some order, once every slip is back. The mailboxes are
 /// as they were at first then. Answers the owner's passes, and the lists.
@@ -19,7 +19,7 @@ pub(crate) fn empty_in_turn<R: Wait>(
     alloc: Global,
     boxes: &[Mailbox],
     homes: Vec<Home>,
-    lists: Vec<Vec<Letter>>,
+    lists: Vec<Vec<Parcel>>,
 ) -> Result<Emptied, AllocError>
     requires { AreToEmpty boxes.now homes.items lists.items }
     ensures { IfOk result (λ r. AreEmptied boxes.now homes.items r.0.items r.1.items) }
@@ -47,7 +47,7 @@ pub(crate) fn empty_by<R: Threads + Wait + Sync>(
     threads: usize,
     boxes: &[Mailbox],
     mut homes: Vec<Home>,
-    mut lists: Vec<Vec<Letter>>,
+    mut lists: Vec<Vec<Parcel>>,
 ) -> Result<Emptied, AllocError>
     requires { AreToEmpty boxes.now homes.items lists.items }
     ensures { IfOk result (λ r. AreEmptied boxes.now homes.items r.0.items r.1.items) }

@@ -18,6 +18,9 @@
 //! which slips are made and taken back. They aren't shared: one thread has each of them at a time. [`Mailboxes::empty`]
 //! gives the lists that `collect` gives, and the mailboxes back as new ones; [`Mailboxes::empty_by`] does the same by
 //! several threads, each of which has the passes of mailboxes of its own, once every slip is back.
+//!
+//! Letters lie in the mailboxes as a [`trace_laws::Parcel`] each. A worker that posts many lays them into a [`Tray`]
+//! first, by receiver. It posts those of one receiver one after the other, so that threads seldom wait for one another.
 #![tactic(auto)]
 
 mod emptying;
@@ -26,7 +29,9 @@ mod mailboxes;
 mod rule;
 mod shared;
 mod slip;
+mod tray;
 
 pub use mailboxes::Mailboxes;
 pub use shared::SharedMailboxes;
 pub use slip::Slip;
+pub use tray::Tray;

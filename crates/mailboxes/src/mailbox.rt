@@ -8,14 +8,14 @@ ghost use Rattle.mailboxes.specs.Mailbox.{ticket_of, home_of, one_out, one_back}
 use crate::rule::{EachOnce, Pop, Push};
 use crossbeam_queue::{RuledSegQueue, SegPass};
 use ledger::{Account, Settling, Ticketing};
-use process_api::Letter;
 use std::alloc::{AllocError, Global};
 use std::marker::Model;
 use std::sync::Wait;
+use trace_laws::Parcel;
 
-type Queue = RuledSegQueue<Letter, Account<Letter>, EachOnce>;
+type Queue = RuledSegQueue<Parcel, Account<Parcel>, EachOnce>;
 
-type Pass = SegPass<Letter, Account<Letter>>;
+type Pass = SegPass<Parcel, Account<Parcel>>;
 
 /// The queue of one receiver. Contracts see which it is.
 pub(crate) struct Mailbox {
@@ -45,7 +45,7 @@ pub(crate) struct Ticket {
 
 impl Model for Ticket {
     ghost use Rattle.std.specs.Prelude.{◌≡◌, None};
-    ghost use Rattle.process_api.specs.contracts.message.Letter as letter;
+    ghost use Rattle.trace_laws.specs.contracts.parcel.Parcel as letter;
     ghost use Rattle.mailboxes.specs.contracts.mailbox.Mailbox as mailbox;
     ghost use Rattle.mailboxes.specs.Mailbox.{TicketView, ticket_code, ticket_of};
     ghost use Rattle.ledger.specs.Ledger.{new_pass, has_put};
@@ -69,7 +69,7 @@ pub(crate) struct Home {
 
 impl Model for Home {
     ghost use Rattle.std.specs.Prelude.{◌≡◌, None, [], ◌-◌, ◌≢◌, ◌≤◌};
-    ghost use Rattle.process_api.specs.contracts.message.Letter as letter;
+    ghost use Rattle.trace_laws.specs.contracts.parcel.Parcel as letter;
     ghost use Rattle.mailboxes.specs.contracts.mailbox.Mailbox as mailbox;
     ghost use Rattle.mailboxes.specs.Mailbox.{HomeView, home_code, home_of};
 
@@ -109,8 +109,8 @@ impl Mailbox {
         &self,
         rt: &R,
         ticket: &mut Ticket,
-        letter: Letter,
-    ) -> Result<(), Letter>
+        letter: Parcel,
+    ) -> Result<(), Parcel>
         requires { ticket.old.mailbox ≡ self.now }
         ensures mailbox { ticket.new.mailbox ≡ ticket.old.mailbox }
         ensures ok { OnOk result (ticket.new ≡ ticket_of ticket.old.mailbox (ticket.old.posted ++ letter ∷ [])) }
@@ -118,6 +118,30 @@ impl Mailbox {
         ensures back { IfErr result (λ x. x ≡ letter) }
     {
         self.queue.push_as::<Push, R>(rt, &mut ticket.pass, letter)
+    }
+
+    /// Posts letters in their order. The list keeps its memory. Where memory is refused, nothing is known of what was
+    /// posted, nor of the list.
+    pub(crate) fn post_list<R: Wait>(
+        &self,
+        rt: &R,
+        ticket: &mut Ticket,
+        letters: &mut Vec<Parcel>,
+    ) -> Result<(), AllocError>
+        requires { ticket.old.mailbox ≡ self.now }
+        ensures mailbox { ticket.new.mailbox ≡ ticket.old.mailbox }
+        ensures ok { OnOk result
+            (ticket.new ≡ ticket_of ticket.old.mailbox (ticket.old.posted ++ letters.old.items)) }
+        ensures empty { OnOk result (letters.new.items ≡ []) }
+    {
+        // The first letter is taken from the end.
+        letters.reverse();
+        while let Some(letter) = letters.pop() {
+            if self.post(rt, ticket, letter).is_err() {
+                return Err(AllocError);
+            }
+        }
+        Ok(())
     }
 
     /// Takes a ticket back.
@@ -136,7 +160,7 @@ impl Mailbox {
         &self,
         rt: &R,
         home: Home,
-        letters: &mut Vec<Letter>,
+        letters: &mut Vec<Parcel>,
     ) -> Result<Home, AllocError>
         requires home { home.mailbox ≡ self.now }
         requires out { home.out ≡ 0 }
@@ -157,7 +181,7 @@ fn drain<R: Wait>(
     rt: &R,
     queue: &Queue,
     pass: &mut Pass,
-    letters: &mut Vec<Letter>,
+    letters: &mut Vec<Parcel>,
 ) -> Result<(), AllocError>
     requires pass { IsSegPassOf queue.now pass.old × (pass.old.id ≡ 0) }
     requires all { pass.old.me.view.client.parts ≡ pass.old.me.view.client.made }

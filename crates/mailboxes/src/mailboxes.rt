@@ -9,11 +9,13 @@ use crate::emptying::{empty_by, empty_in_turn};
 use crate::mailbox::Home;
 use crate::shared::SharedMailboxes;
 use crate::slip::Slip;
+use crate::tray::empty_lists;
 use process_api::{Letter, RunError};
 use std::alloc::{AllocError, Global};
 use std::marker::Model;
 use std::sync::Wait;
 use std::thread::Threads;
+use trace_laws::Parcel;
 
 /// A mailbox for each receiver, 1 to n. Contracts see which they are, and how many slips were made.
 #[derive(Drop)]
@@ -34,6 +36,28 @@ impl Model for Mailboxes {
 
     ghost invariant = { λ m. (m.shared ≡ map (λ h. h.mailbox) m.homes.items)
         × All (λ h. (h.out ≡ m.slips) × (h.back ≡ [])) m.homes.items };
+}
+
+// The letters of a list.
+fn letters_of(alloc: Global, list: Vec<Parcel>) -> Result<Vec<Letter>, AllocError>
+    ensures { IfOk result (λ letters. letters.items ≡ list.items) }
+{
+    let mut letters = Vec::with_capacity(alloc, list.len())?;
+    for parcel in list {
+        letters.push(parcel.into_letter())?;
+    }
+    Ok(letters)
+}
+
+// The letters of each list.
+fn letters_of_all(alloc: Global, lists: Vec<Vec<Parcel>>) -> Result<Vec<Vec<Letter>>, AllocError>
+    ensures { IfOk result (λ all. letters_in all.items ≡ letters_in lists.items) }
+{
+    let mut all = Vec::with_capacity(alloc, lists.len())?;
+    for list in lists {
+        all.push(letters_of(alloc, list)?)?;
+    }
+    Ok(all)
 }
 
 impl Mailboxes {
@@ -88,7 +112,11 @@ impl Mailboxes {
         ensures err { OnErr result (slip.new ≡ slip.old) }
         ensures back { IfErr result (λ x. x ≡ letter) }
     {
-        self.shared.post(rt, slip, letter)
+        let parcel = Parcel::pack(*self.homes.allocator(), letter)?;
+        match self.shared.post(rt, slip, parcel) {
+            Ok(()) => Ok(()),
+            Err(parcel) => Err(parcel.into_letter()),
+        }
     }
 
     /// The letters of each receiver, the list of receiver r at place r - 1: those that the slips posted to it, each as
@@ -108,21 +136,16 @@ impl Mailboxes {
         ensures err { IfErr result (λ e. e ≡ Memory) }
     {
         let lists = self.lists(alloc)?;
-        let (_mailboxes, letters) = self.empty(rt, alloc, lists, slips)?;
-        Ok(letters)
+        let (_mailboxes, parcels) = self.empty(rt, alloc, lists, slips)?;
+        Ok(letters_of_all(alloc, parcels)?)
     }
 
     /// An empty list for each receiver. The error is that memory was refused.
-    pub fn lists(&self, alloc: Global) -> Result<Vec<Vec<Letter>>, AllocError>
+    pub fn lists(&self, alloc: Global) -> Result<Vec<Vec<Parcel>>, AllocError>
         ensures count { IfOk result (λ lists. vec_len lists ≡ length self.now.mailboxes) }
         ensures empty { IfOk result (λ lists. All (λ l. l.items ≡ []) lists.items) }
     {
-        let count = self.homes.len();
-        let mut lists = Vec::with_capacity(alloc, count)?;
-        for _ in 0..count {
-            lists.push_reserved(Vec::new(alloc));
-        }
-        Ok(lists)
+        empty_lists(alloc, self.homes.len())
     }
 
     /// As `collect`, into lists that are empty, one for each receiver, so that their room is used again. The mailboxes
@@ -131,9 +154,9 @@ impl Mailboxes {
         self,
         rt: &R,
         alloc: Global,
-        lists: Vec<Vec<Letter>>,
+        lists: Vec<Vec<Parcel>>,
         slips: Vec<Slip>,
-    ) -> Result<(Mailboxes, Vec<Vec<Letter>>), RunError>
+    ) -> Result<(Mailboxes, Vec<Vec<Parcel>>), RunError>
         requires all { vec_len slips ≡ self.slips }
         requires slips { All (IsSlipOf self.mailboxes) slips.items }
         requires count { vec_len lists ≡ length self.mailboxes }
@@ -165,9 +188,9 @@ impl Mailboxes {
         rt: &R,
         alloc: Global,
         threads: usize,
-        lists: Vec<Vec<Letter>>,
+        lists: Vec<Vec<Parcel>>,
         slips: Vec<Slip>,
-    ) -> Result<(Mailboxes, Vec<Vec<Letter>>), RunError>
+    ) -> Result<(Mailboxes, Vec<Vec<Parcel>>), RunError>
         requires all { vec_len slips ≡ self.slips }
         requires slips { All (IsSlipOf self.mailboxes) slips.items }
         requires count { vec_len lists ≡ length self.mailboxes }

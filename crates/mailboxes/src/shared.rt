@@ -1,15 +1,17 @@
 //! The part of the mailboxes that threads share: the queues.
-ghost use Rattle.std.specs.Prelude.{◌≡◌, ◌≤◌, ◌<◌, ◌+◌, [], length, map, IfOk, IfErr, OnOk, OnErr, vec_len};
+ghost use Rattle.std.specs.Prelude.{◌≡◌, ◌≤◌, ◌<◌, ◌+◌, ◌++◌, [], length, map, replicate, IfOk, IfErr, OnOk, OnErr, vec_len};
 ghost use Rattle.std.specs.List.{All};
+ghost use Rattle.ledger.specs.Places.{each_with};
 ghost use Rattle.mailboxes.specs.Mailbox.{one_out, all_back};
-ghost use Rattle.mailboxes.specs.Mailboxes.{IsSlipOf, unused, with_letter};
+ghost use Rattle.mailboxes.specs.Mailboxes.{IsSlipOf, letters_in, unused, with_letter, with_lists};
 
 use crate::mailbox::{Home, Mailbox, Ticket};
 use crate::slip::Slip;
-use process_api::{Key, Letter};
+use crate::tray::{Tray, place_of};
 use std::alloc::{AllocError, Global};
 use std::marker::Model;
 use std::sync::Wait;
+use trace_laws::Parcel;
 
 /// The queues of the mailboxes, one for each receiver, by which threads post. Contracts see which they are.
 #[derive(Drop)]
@@ -36,7 +38,7 @@ impl SharedMailboxes {
 
     /// Posts a letter to its receiver, 1 to n. Where memory is refused the letter comes back, and the slip and the
     /// mailboxes are as they were.
-    pub fn post<R: Wait>(&self, rt: &R, slip: &mut Slip, letter: Letter) -> Result<(), Letter>
+    pub fn post<R: Wait>(&self, rt: &R, slip: &mut Slip, letter: Parcel) -> Result<(), Parcel>
         requires slip { IsSlipOf self.now slip.old }
         requires receiver { letter.key.receiver ≤ length self.now }
         ensures slip { IsSlipOf self.now slip.new }
@@ -44,8 +46,42 @@ impl SharedMailboxes {
         ensures err { OnErr result (slip.new ≡ slip.old) }
         ensures back { IfErr result (λ x. x ≡ letter) }
     {
-        let at = place_of(&letter.key);
+        let at = place_of(&letter.key());
         self.boxes[at].post(rt, &mut slip.tickets[at], letter)
+    }
+
+    /// Posts the letters of a tray, receiver by receiver, those to one in the order in which they came. The slip keeps
+    /// the tray's memory. The error is that memory was refused. Of what was posted by the slip nothing is known then.
+    pub fn post_all<R: Wait>(&self, rt: &R, slip: &mut Slip, tray: Tray) -> Result<(), AllocError>
+        requires slip { IsSlipOf self.now slip.old }
+        requires tray { length tray ≡ length self.now }
+        ensures slip { IsSlipOf self.now slip.new }
+        ensures ok { OnOk result (slip.new ≡ with_lists slip.old tray) }
+    {
+        let Tray { mut lists } = tray;
+        self.post_lists(rt, &mut slip.tickets, &mut lists)?;
+        slip.spare = lists;
+        Ok(())
+    }
+
+    // Posts the letters of each list by the ticket at its place. The lists are empty then.
+    fn post_lists<R: Wait>(
+        &self,
+        rt: &R,
+        tickets: &mut Vec<Ticket>,
+        lists: &mut Vec<Vec<Parcel>>,
+    ) -> Result<(), AllocError>
+        requires tickets { map (λ t. t.mailbox) tickets.old.items ≡ self.now }
+        requires lists { length lists.old.items ≡ length self.now }
+        ensures tickets { map (λ t. t.mailbox) tickets.new.items ≡ self.now }
+        ensures posted { OnOk result (map (λ t. t.posted) tickets.new.items
+            ≡ each_with (◌++◌) (map (λ t. t.posted) tickets.old.items) (letters_in lists.old.items)) }
+        ensures empty { OnOk result (letters_in lists.new.items ≡ replicate (length self.now) []) }
+    {
+        for at in 0..lists.len() {
+            self.boxes[at].post_list(rt, &mut tickets[at], &mut lists[at])?;
+        }
+        Ok(())
     }
 
     /// Empty mailboxes for receivers 1 to n, with the owner's pass of each.
@@ -76,7 +112,10 @@ impl SharedMailboxes {
             let ticket = self.boxes[at].ticket(&mut homes[at]);
             tickets.push_reserved(ticket);
         }
-        Ok(Slip { tickets })
+        Ok(Slip {
+            tickets,
+            spare: Vec::new(alloc),
+        })
     }
 
     /// Takes a slip back.
@@ -87,18 +126,11 @@ impl SharedMailboxes {
         ensures homes { homes.new.items ≡ all_back homes.old.items slip.posted }
         ensures lists { length slip.posted ≡ vec_len homes.old }
     {
-        let Slip { tickets } = slip;
+        let Slip { tickets, .. } = slip;
         let mut at = 0;
         for ticket in tickets {
             self.boxes[at].take_back(&mut homes[at], ticket);
             at += 1;
         }
     }
-}
-
-// The place of the receiver's mailbox.
-fn place_of(key: &Key) -> usize
-    ensures { result + 1 ≡ key.now.receiver }
-{
-    usize::from(key.receiver.number()) - 1
 }

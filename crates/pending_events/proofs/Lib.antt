@@ -1,4 +1,4 @@
 pub mod Falling
-pub mod Dealing
+pub mod Rows
 pub mod Nearby
-pub mod Ordered
+pub mod Parted

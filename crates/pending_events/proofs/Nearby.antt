@@ -1,70 +1,61 @@
 -- Events in a ring and a map, by their ticks.
-use Rattle.std.proofs.Common.{◌≡◌, ◌≢◌, ◌⊎◌, ◌≤◌, ◌<◌, inl, inr, refl, sym, ap, ◌∙◌, subst, arith, false, List, [], ◌∷◌, ◌++◌, reverse, length, Option, Some, None, true≢false, ℕ, zero, suc, nat_cmp, IsSome, length-append, append_assoc, ◌+◌, ◌%◌, ◌^◌, leb, ltb, slice_set, min, unwrap_or, MatchOption, is_gt, Result, Ok, Err, OnOk, OnErr}
+use Rattle.std.proofs.Common.{◌≡◌, ◌≢◌, ◌⊎◌, ◌≤◌, ◌<◌, inl, inr, refl, sym, ap, ◌∙◌, subst, arith, Less, Equal, Bool, true, false, cond, List, [], ◌∷◌, ◌++◌, reverse, length, map, Option, Some, None, is_eq, true≢false, ℕ, zero, suc, nat_cmp, IsSome, length-append, ◌+◌, ◌%◌, slice_set, min, unwrap_or, option_map, MatchOption, is_gt, get_or, Result, Ok, Err, OnOk, OnErr}
 use Rattle.std.specs.Global.{Vec}
 use Rattle.std.specs.BTreeMap as tree
+use Rattle.std.specs.FinMap as events
 use Rattle.std.specs.FinMap.{find}
-use Rattle.std.specs.List.{AllByRecursion}
-use Rattle.std.specs.Option.{option_or}
-use Rattle.std.proofs.lemmas.Bool.{and_from, and_parts, cases_eq, cases_lt, cond-false, cond-true, false_from_ne_true, le-leb, leb-true, lt-ltb, ltb-true}
-use Rattle.std.proofs.lemmas.Bool.Decides.{nat_tests}
 use Rattle.std.specs.Map.{lookup}
-use Rattle.std.proofs.lemmas.List.{append-nil}
+use Rattle.std.specs.Ordering.{eq_by_cmp}
+use Rattle.std.specs.Cmp.{nat_cmp_total}
+use Rattle.std.specs.List.{AllByRecursion}
+use Rattle.std.specs.List.Sorted.{IsStrictlySortedBy}
+use Rattle.std.specs.Option.{option_or}
+use Rattle.std.proofs.lemmas.Bool.{cases_eq, cases_lt}
+use Rattle.std.proofs.lemmas.Bool.Decides.{nat_tests}
+use Rattle.std.proofs.lemmas.Cmp.{tied_itself}
+use Rattle.std.proofs.lemmas.List.{reverse-reverse}
+use Rattle.std.proofs.lemmas.List.Elements.{recursion_from_All}
+use Rattle.std.proofs.lemmas.Map.Views.{All-found}
 use Rattle.process_api.specs.Order.{key_cmp}
 use Rattle.process_api.specs.declared.key.Key.{Key}
+use Rattle.process_api.specs.declared.message.StepInput.{StepInput}
 use Rattle.pending_events.specs.declared.calendar.Calendar.{Calendar}
-use Rattle.pending_events.specs.Inside.Buckets.{latest, Buckets, bucket, HasTick, IsFiled}
-use Rattle.pending_events.specs.Inside.Calendar.{IsNear, near_at, held_at, IsVacant, IsCalendar, HoldsSame, IsAdded, IsFirst, IsTaken, NoneAhead, flat_ring}
-use Rattle.pending_events.specs.Inside.Lanes.{lane}
-use Rattle.trace_laws.specs.Step.{Event}
+use Rattle.pending_events.specs.Inside.Buckets.{latest, Buckets, bucket, HasTick, IsFiled, flat}
+use Rattle.pending_events.specs.Inside.Calendar.{IsNear, IsVacant, IsCalendar, IsAdded, IsFirst, IsTaken, NoneAhead, all_held, all_in, flat_ring, found, lane}
+use Rattle.trace_laws.specs.Step.{Event, Events}
 use Rattle.process_api.proofs.Lists.{both, weaker}
-use Rattle.pending_events.proofs.Falling.{find_append, held, none_latest, or_None}
-use Rattle.pending_events.proofs.Dealing.{lane_set, lane_kept, lane_past}
+use Rattle.pending_events.proofs.Falling.{find_append, latest_append, none_latest, not_here, or_None}
+use Rattle.pending_events.proofs.Rows.{get_joined}
 
--- ---- the year
+abbrev pub calendar_of : ℕ → Vec (Vec Event) → Buckets → Calendar
+calendar_of from ring map = record { from = from; ring = ring; map = map }
 
-pub near_or : (from t : ℕ) → IsNear from t ⊎ (IsNear from t → ⊥)
-near_or from t = elim (cases_lt t from) [
-  | inl before ↦ inr (λ n. omega (arith, before, n.low))
-  | inr low ↦ elim (cases_lt t (from + 1024)) [ inl high ↦ inl (record { low = low; high = high }) | inr past ↦ inr (λ n. omega (arith, past, n.high)) ]
-]
+-- ---- places of a ring
 
-module _ (from : ℕ) (ring : List (Vec Event)) (t : ℕ) where
-  pub near_in : IsNear from t → near_at from ring t ≡ lane ring (t % 1024)
-  unfolding near_at
-  near_in n = cond-true _ _ _ (and_from _ _ (le-leb from t n.low) (lt-ltb t (from + 1024) n.high))
+pub lane_set : (ls : List (Vec Event)) (i : ℕ) (v : Vec Event) → i < length ls → lane (slice_set ls i v) i ≡ v.items
+lane_set [] i v h = absurd (omega (arith, h))
+lane_set (x ∷ xs) zero v h = refl
+lane_set (x ∷ xs) (suc i) v h = lane_set xs i v (omega (arith, h))
 
-  pub near_out : (IsNear from t → ⊥) → near_at from ring t ≡ []
-  unfolding near_at
-  near_out far =
-      cond-false _ _ _ (false_from_ne_true _ (λ is.
-      let p = and_parts (leb from t) (ltb t (from + 1024)) is in
-      far (record { low = leb-true from t p.0; high = ltb-true t (from + 1024) p.1 })))
+pub lane_kept : (ls : List (Vec Event)) (i : ℕ) (v : Vec Event) (j : ℕ) → j ≢ i → lane (slice_set ls i v) j ≡ lane ls j
+lane_kept [] i v j n = refl
+lane_kept (x ∷ xs) zero v zero n = absurd (n refl)
+lane_kept (x ∷ xs) zero v (suc j) n = refl
+lane_kept (x ∷ xs) (suc i) v zero n = refl
+lane_kept (x ∷ xs) (suc i) v (suc j) n = lane_kept xs i v j (λ e. n (ap suc e))
 
-  -- by cases: what lies at the place of a tick of the year, and nothing at another tick
-  by_near : (P : List Event → Type 0) → (IsNear from t → P (lane ring (t % 1024))) → ((IsNear from t → ⊥) → P []) → P (near_at from ring t)
-  by_near P here far = elim (near_or from t) [ inl n ↦ subst P (sym (near_in n)) (here n) | inr n ↦ subst P (sym (near_out n)) (far n) ]
+pub lane_there : (ls : List (Vec Event)) (i : ℕ) (d : Vec Event) → i < length ls → (get_or ls i d).items ≡ lane ls i
+lane_there [] i d h = absurd (omega (arith, h))
+lane_there (x ∷ xs) zero d h = refl
+lane_there (x ∷ xs) (suc i) d h = lane_there xs i d (omega (arith, h))
 
-  pub near_none : (IsNear from t → lane ring (t % 1024) ≡ []) → near_at from ring t ≡ []
-  near_none h = by_near (λ es. es ≡ []) h (λ _. refl)
+pub lane_pushed : (ls : List (Vec Event)) (v : Vec Event) (j : ℕ) → v.items ≡ [] → lane (ls ++ v ∷ []) j ≡ lane ls j
+lane_pushed [] v zero e = e
+lane_pushed [] v (suc j) e = refl
+lane_pushed (x ∷ xs) v zero e = refl
+lane_pushed (x ∷ xs) v (suc j) e = lane_pushed xs v j e
 
--- of two ticks of the year with one rest
-pub one_tick : (from a b : ℕ) → IsNear from a → IsNear from b → a % 1024 ≡ b % 1024 → a ≡ b
-one_tick from a b h i e = omega (arith, h.low, h.high, i.low, i.high, e)
-
--- ---- what lies where
-
-abbrev pub Placed : ℕ → List (Vec Event) → Type 0
-Placed from ring = (place : ℕ) → AllByRecursion (λ e. IsNear from e.0.tick × (e.0.tick % 1024 ≡ place)) (lane ring place)
-
-pub near_own : (from : ℕ) (ring : List (Vec Event)) → Placed from ring → (t : ℕ) → AllByRecursion (λ e. e.0.tick ≡ t) (near_at from ring t)
-near_own from ring placed t =
-    by_near from ring t (AllByRecursion (λ e. e.0.tick ≡ t))
-    (λ n. weaker _ _ (λ e h. one_tick from e.0.tick t h.0 n h.1) (lane ring (t % 1024)) (placed (t % 1024))) (λ _. tt)
-
-pub held_own : (c : Calendar) → IsCalendar c → (t : ℕ) → AllByRecursion (λ e. e.0.tick ≡ t) (held_at c t)
-held_own c h t = both (λ e. e.0.tick ≡ t) (bucket c.map t) (near_at c.from c.ring.items t) (h.own t) (near_own c.from c.ring.items h.placed t)
-
--- ---- what is found in a ring
+-- ---- what is found
 
 none_in : (vs : List (Vec Event)) (q : Key) → ((o : ℕ) → latest q (lane vs o) ≡ None) → find key_cmp q (flat_ring vs) ≡ None
 none_in [] q h = refl
@@ -81,72 +72,68 @@ at_place (v ∷ vs) (suc p) q h =
     find_append q (reverse v.items) (flat_ring vs)
     ∙ (ap (λ o. option_or o (find key_cmp q (flat_ring vs))) (h 0 (λ e. omega (arith, e))) ∙ at_place vs p q (λ o n. h (suc o) (λ e. n (omega (arith, e)))))
 
-not_there : (from p : ℕ) (q : Key) (es : List Event) → AllByRecursion (λ e. IsNear from e.0.tick × (e.0.tick % 1024 ≡ p)) es → (IsNear from q.tick → q.tick % 1024 ≡ p → ⊥) → latest q es ≡ None
-not_there from p q es own never =
-    none_latest q es (weaker _ _ (λ e h s. let at = ap (λ (k : Key). k.tick) s in never (subst (IsNear from) (sym at) h.0) (ap (λ t. t % 1024) at ∙ h.1)) es own)
+-- events of another tick are not found
+pub other_tick : (t : ℕ) (q : Key) (es : List Event) → AllByRecursion (λ e. e.0.tick ≡ t) es → q.tick ≢ t → latest q es ≡ None
+other_tick t q es own n = none_latest q es (weaker _ _ (λ e is s. n (ap (λ (k : Key). k.tick) s ∙ is)) es own)
 
-pub ring_find : (from : ℕ) (ring : List (Vec Event)) → Placed from ring → (q : Key) → find key_cmp q (flat_ring ring) ≡ latest q (near_at from ring q.tick)
-ring_find from ring placed q =
-    by_near from ring q.tick (λ es. find key_cmp q (flat_ring ring) ≡ latest q es)
-    (λ _. at_place ring (q.tick % 1024) q (λ o other. not_there from o q (lane ring o) (placed o) (λ _ is. other (sym is))))
-    (λ far. none_in ring q (λ o. not_there from o q (lane ring o) (placed o) (λ is _. far is)))
+abbrev Row : Type 0
+Row = ℕ × Vec Event
 
--- ---- the year moves forward
+abbrev IsOwnRow : Row → Type 0
+IsOwnRow p = AllByRecursion (λ e. e.0.tick ≡ p.0) p.1.items
 
-some_there : (f : Event) (fs : List Event) → f ∷ fs ≡ [] → ⊥
-some_there f fs e = cc
+abbrev held : Option (Vec Event) → List Event
+held o = unwrap_or (option_map (λ v. v.items) o) []
 
-module _ (from to : ℕ) (ring : List (Vec Event)) (placed : Placed from ring) (further : from ≤ to) (passed : (t : ℕ) → t < to → near_at from ring t ≡ []) where
-  left_behind : (t : ℕ) → IsNear from t → t < to → lane ring (t % 1024) ≡ []
-  left_behind t n low = sym (near_in from ring t n) ∙ passed t low
+nat_apart : (a b : ℕ) → b ≢ a → eq_by_cmp nat_cmp a b ≡ false
+nat_apart a b n = grind (arith, nat_tests)
 
-  still_near : (t : ℕ) → IsNear from t → (lane ring (t % 1024) ≡ [] → ⊥) → IsNear to t
-  still_near t n some = elim (cases_lt t to) [
-    | inl less ↦ absurd (some (left_behind t n less))
-    | inr ahead ↦ record { low = ahead; high = omega (arith, n.high, further) }
-  ]
+same_tick : (a b : ℕ) → a ≡ b → is_eq (nat_cmp a b) ≡ true
+same_tick a b e = ap is_eq (subst (λ x. nat_cmp a x ≡ Equal) e (tied_itself nat_cmp_total a))
 
-  pub placed_on : Placed to ring
-  placed_on p = go (lane ring p) refl
-    where
-      go : (es : List Event) → lane ring p ≡ es → AllByRecursion (λ e. IsNear to e.0.tick × (e.0.tick % 1024 ≡ p)) (lane ring p)
-      go [] is = subst (AllByRecursion (λ e. IsNear to e.0.tick × (e.0.tick % 1024 ≡ p))) (sym is) tt
-      go (f ∷ fs) is = weaker _ _ (λ e h. (still_near e.0.tick h.0 (λ none. some_there f fs (sym is ∙ (ap (lane ring) (sym h.1) ∙ none))), h.1)) (lane ring p) (placed p)
+abbrev tree_keys : List Row → List ℕ
+tree_keys ps = map (λ p. p.0) ps
 
-  new_ahead : (t : ℕ) → IsNear to t → (IsNear from t → ⊥) → lane ring (t % 1024) ≡ []
-  new_ahead t n far = go (lane ring (t % 1024)) refl (placed (t % 1024))
-    where
-      go : (es : List Event) → lane ring (t % 1024) ≡ es → AllByRecursion (λ e. IsNear from e.0.tick × (e.0.tick % 1024 ≡ t % 1024)) es → es ≡ []
-      go [] is own = refl
-      go (f ∷ fs) is own =
-          let at = own.0 in
-          absurd (elim (cases_lt f.0.tick to) [
-            | inl less ↦ some_there f fs (sym is ∙ (ap (lane ring) (sym at.1) ∙ left_behind f.0.tick at.0 less))
-            | inr ahead ↦ far (subst (IsNear from) (one_tick to f.0.tick t (record { low = ahead; high = omega (arith, at.0.high, further) }) n at.1) at.0)
-          ])
+not_above : (t : ℕ) (ps : List Row) → AllByRecursion (λ y. nat_cmp t y ≡ Less) (tree_keys ps) → lookup (tree.is_at (nat_cmp t)) ps ≡ None
+not_above t [] h = refl
+not_above t (p ∷ ps) h = ap (λ r. cond (is_eq r) (Some p.1) (lookup (tree.is_at (nat_cmp t)) ps)) h.0 ∙ not_above t ps h.1
 
-  pub near_on : (t : ℕ) → near_at to ring t ≡ near_at from ring t
-  near_on t =
-      by_near to ring t (λ es. es ≡ near_at from ring t)
-      (λ n. sym (by_near from ring t (λ es. es ≡ lane ring (t % 1024)) (λ _. refl) (λ far. sym (new_ahead t n far))))
-      (λ far. sym (elim (cases_lt t to) [
-        | inl less ↦ passed t less
-        | inr ahead ↦ near_none from ring t (λ m. absurd (far (record { low = ahead; high = omega (arith, m.high, further) })))
-      ]))
+flat_find : (ps : List Row) → IsStrictlySortedBy nat_cmp (tree_keys ps) → AllByRecursion IsOwnRow ps → (q : Key) → find key_cmp q (flat ps) ≡ latest q (held (lookup (tree.is_at (nat_cmp q.tick)) ps))
+unfolding IsStrictlySortedBy
+flat_find [] rising own q = refl
+flat_find (p ∷ ps) rising own q =
+    let rest : Option (Vec Event) = lookup (tree.is_at (nat_cmp q.tick)) ps in
+    find_append q (reverse p.1.items) (flat ps) ∙ (ap (option_or (latest q p.1.items)) (flat_find ps rising.1 own.1 q) ∙ elim (cases_eq q.tick p.0) [
+      | inl e ↦
+          ap (λ o. option_or (latest q p.1.items) (latest q (held o))) (not_above q.tick ps (subst (λ t. AllByRecursion (λ y. nat_cmp t y ≡ Less) (tree_keys ps)) (sym e) rising.0))
+          ∙ (or_None (latest q p.1.items) ∙ ap (λ b. latest q (held (cond b (Some p.1) rest))) (sym (same_tick q.tick p.0 e)))
+      | inr other ↦
+          ap (λ o. option_or o (latest q (held rest))) (other_tick p.0 q p.1.items own.0 other)
+          ∙ ap (λ b. latest q (held (cond b (Some p.1) rest))) (sym (nat_apart q.tick p.0 (λ e. other (sym e))))
+    ])
 
--- ---- calendars of parts
+own_rows : (m : Buckets) → tree.IsOrdered nat_cmp m → ((t : ℕ) → AllByRecursion (λ e. e.0.tick ≡ t) (bucket m t)) → AllByRecursion IsOwnRow m.entries
+own_rows m ordered own = recursion_from_All IsOwnRow m.entries (λ k d h.
+    let p = get_or m.entries k d in
+    subst (AllByRecursion (λ e. e.0.tick ≡ p.0)) (ap held (All-found nat_cmp_total m ordered k d h)) (own p.0))
 
-abbrev pub calendar_of : ℕ → Vec (Vec Event) → Buckets → Calendar
-calendar_of from ring map = record { from = from; ring = ring; map = map }
+-- what is found in a row and a calendar
+pub get_in : (row : Events) (c : Calendar) → IsCalendar c → (q : Key) → events.get (all_in row c) q ≡ option_or (found c q) (events.get row q)
+get_in row c h q =
+    let in_ring = at_place c.ring.items (q.tick % 1024) q (λ o other. none_latest q (lane c.ring.items o) (weaker _ _ (λ e is s. other (sym (ap (λ (k : Key). k.tick % 1024) s ∙ is.1))) (lane c.ring.items o) (h.placed o))) in
+    let in_map = flat_find c.map.entries h.ordered (own_rows c.map h.ordered h.own) q in
+    get_joined (all_held c) row q
+    ∙ ap (λ o. option_or o (events.get row q)) (ap (find key_cmp q) (reverse-reverse (flat_ring c.ring.items ++ flat c.map.entries))
+    ∙ (find_append q (flat_ring c.ring.items) (flat c.map.entries) ∙ (λ i. option_or (in_ring i) (in_map i))))
 
--- ---- parts of what is held
+-- ---- buckets of the map
 
-pub nothing_after : (xs ys : List Event) → xs ++ ys ≡ [] → ys ≡ []
-nothing_after [] ys h = h
-nothing_after (x ∷ xs) ys h = absurd (some_there x (xs ++ ys) h)
-
-pub nothing_both : (xs ys : List Event) → xs ≡ [] → ys ≡ [] → xs ++ ys ≡ []
-nothing_both xs ys h i = ap (λ zs. zs ++ ys) h ∙ i
+pub filed_new : (m n : Buckets) (tick : ℕ) (event : Event) (v : Vec Event) → tree.Updates nat_cmp m n tick (Some v) → tree.get nat_cmp m tick ≡ None → v.items ≡ event ∷ [] → IsFiled m n tick event
+filed_new m n tick event v h none is = record {
+  here = ap held h.1 ∙ (is ∙ ap (λ o. held o ++ event ∷ []) (sym none));
+  others = λ t other. ap held (h.2 t (nat_apart tick t other));
+  has = λ t there other. subst IsSome (h.2 t (nat_apart tick t other)) there;
+}
 
 pub no_rows : (m : Buckets) → (0 < length m.entries → ⊥) → (t : ℕ) → HasTick m t → ⊥
 no_rows m none t there = elim m.entries as (λ ps. (0 < length ps → ⊥) → IsSome (lookup (tree.is_at (nat_cmp t)) ps) → ⊥) [
@@ -154,77 +141,14 @@ no_rows m none t there = elim m.entries as (λ ps. (0 < length ps → ⊥) → I
   | p ∷ ps ↦ λ f h. f (omega arith)
 ] none there
 
-pub no_listed : (m : Buckets) (t : ℕ) → (HasTick m t → ⊥) → bucket m t ≡ []
+no_listed : (m : Buckets) (t : ℕ) → (HasTick m t → ⊥) → bucket m t ≡ []
 no_listed m t none = elim (tree.get nat_cmp m t) as (λ o. (IsSome o → ⊥) → held o ≡ []) [ None ↦ λ f. refl | Some b ↦ λ f. absurd (f refl) ] none
 
-pub near_past : (from : ℕ) (ring : List (Vec Event)) (t : ℕ) → length ring ≤ t % 1024 → near_at from ring t ≡ []
-near_past from ring t h = near_none from ring t (λ _. lane_past ring (t % 1024) h)
-
-pub vacant_of : (from : ℕ) (ring : Vec (Vec Event)) (map : Buckets) → ((p : ℕ) → lane ring.items p ≡ []) → ((t : ℕ) → HasTick map t → ⊥) → IsVacant (calendar_of from ring map)
-vacant_of from ring map none never t =
-    nothing_both (bucket map t) (near_at from ring.items t) (no_listed map t (never t)) (near_none from ring.items t (λ _. none (t % 1024)))
-
--- ---- a bucket of the ring changed
-
-pub near_kept : (from t0 : ℕ) (ring : List (Vec Event)) (near : IsNear from t0) (ring2 : List (Vec Event)) → ((p : ℕ) → p ≢ t0 % 1024 → lane ring2 p ≡ lane ring p) → (t : ℕ) → t ≢ t0 → near_at from ring2 t ≡ near_at from ring t
-near_kept from t0 ring near ring2 others t other = elim (near_or from t) [
-  | inl n ↦ near_in from ring2 t n ∙ (others (t % 1024) (λ e. other (one_tick from t t0 n near e)) ∙ sym (near_in from ring t n))
-  | inr far ↦ near_out from ring2 t far ∙ sym (near_out from ring t far)
-]
-
-pub set_left : (ring : List (Vec Event)) (i : ℕ) (v : Vec Event) → i < length ring → v.items ≡ [] → (p : ℕ) → (lane (slice_set ring i v) p ≡ []) ⊎ (lane (slice_set ring i v) p ≡ lane ring p)
-set_left ring i v inside none p = elim (cases_eq p i) [
-  | inl e ↦ inl (ap (lane (slice_set ring i v)) e ∙ (lane_set ring i v inside ∙ none))
-  | inr n ↦ inr (lane_kept ring i v p n)
-]
-
--- ---- an event comes
-
-pub in_result : {X Y : Type 0} (r : Result X Y) (P Q : Type 0) → OnOk r P → OnErr r Q → P ⊎ Q
-in_result (Ok x) P Q p q = inl p
-in_result (Err e) P Q p q = inr q
-
-module _ (c : Calendar) (h : IsCalendar c) (ring2 : Vec (Vec Event)) (tick : ℕ) (event : Event) (near : IsNear c.from tick) (others : (p : ℕ) → p ≢ tick % 1024 → lane ring2.items p ≡ lane c.ring.items p) where
-  pub near_calendar : event.0.tick ≡ tick → (lane ring2.items (tick % 1024) ≡ lane c.ring.items (tick % 1024) ++ event ∷ []) ⊎ (lane ring2.items (tick % 1024) ≡ lane c.ring.items (tick % 1024)) → IsCalendar (calendar_of c.from ring2 c.map)
-  near_calendar own_tick here = record {
-    ordered = h.ordered;
-    full = h.full;
-    own = h.own;
-    placed = λ p. elim (cases_eq p (tick % 1024)) [
-      | inl e ↦ elim here [
-        | inl more ↦
-            subst (AllByRecursion (λ f. IsNear c.from f.0.tick × (f.0.tick % 1024 ≡ p))) (sym (ap (lane ring2.items) e ∙ more))
-            (both (λ f. IsNear c.from f.0.tick × (f.0.tick % 1024 ≡ p)) (lane c.ring.items (tick % 1024)) (event ∷ [])
-            (subst (λ o. AllByRecursion (λ f. IsNear c.from f.0.tick × (f.0.tick % 1024 ≡ p)) (lane c.ring.items o)) e (h.placed p))
-            ((subst (IsNear c.from) (sym own_tick) near, ap (λ t. t % 1024) own_tick ∙ sym e), tt))
-        | inr same ↦ subst (AllByRecursion (λ f. IsNear c.from f.0.tick × (f.0.tick % 1024 ≡ p))) (sym (ap (lane ring2.items) e ∙ (same ∙ ap (lane c.ring.items) (sym e)))) (h.placed p)
-      ]
-      | inr n ↦ subst (AllByRecursion (λ f. IsNear c.from f.0.tick × (f.0.tick % 1024 ≡ p))) (sym (others p n)) (h.placed p)
-    ];
-    room = h.room;
-  }
-
-  pub near_added : lane ring2.items (tick % 1024) ≡ lane c.ring.items (tick % 1024) ++ event ∷ [] → IsAdded c (calendar_of c.from ring2 c.map) tick event
-  near_added more = record {
-    here =
-        ap (λ es. bucket c.map tick ++ es) (near_in c.from ring2.items tick near ∙ (more ∙ ap (λ es. es ++ event ∷ []) (sym (near_in c.from c.ring.items tick near))))
-        ∙ sym (append_assoc (bucket c.map tick) (near_at c.from c.ring.items tick) (event ∷ []));
-    others = λ t n. ap (λ es. bucket c.map t ++ es) (near_kept c.from tick c.ring.items near ring2.items others t n);
-  }
-
-  pub near_same : lane ring2.items (tick % 1024) ≡ lane c.ring.items (tick % 1024) → HoldsSame c (calendar_of c.from ring2 c.map)
-  near_same same t = ap (λ es. bucket c.map t ++ es) (elim (cases_eq t tick) [
-    | inl e ↦
-        ap (near_at c.from ring2.items) e
-        ∙ (near_in c.from ring2.items tick near ∙ (same ∙ (sym (near_in c.from c.ring.items tick near) ∙ ap (near_at c.from c.ring.items) (sym e))))
-    | inr n ↦ near_kept c.from tick c.ring.items near ring2.items others t n
-  ])
-
 -- another map, with other events of one tick
-pub other_map : (c : Calendar) → IsCalendar c → (m : Buckets) → tree.IsOrdered nat_cmp m → (tick : ℕ)
+other_map : (c : Calendar) → IsCalendar c → (m : Buckets) → tree.IsOrdered nat_cmp m → (tick : ℕ) → c.from ≤ tick
     → AllByRecursion (λ e. e.0.tick ≡ tick) (bucket m tick) → (HasTick m tick → 0 < length (bucket m tick))
     → ((t : ℕ) → t ≢ tick → bucket m t ≡ bucket c.map t) → ((t : ℕ) → HasTick m t → t ≢ tick → HasTick c.map t) → IsCalendar (calendar_of c.from c.ring m)
-other_map c h m ordered tick own full others has = record {
+other_map c h m ordered tick low own full others has = record {
   ordered = ordered;
   full = λ t there. elim (cases_eq t tick) [
     | inl e ↦ subst (λ u. 0 < length (bucket m u)) (sym e) (full (subst (HasTick m) e there))
@@ -234,111 +158,227 @@ other_map c h m ordered tick own full others has = record {
     | inl e ↦ subst (λ u. AllByRecursion (λ f. f.0.tick ≡ u) (bucket m u)) (sym e) own
     | inr other ↦ subst (AllByRecursion (λ f. f.0.tick ≡ t)) (sym (others t other)) (h.own t)
   ];
+  soon = λ t there. elim (cases_eq t tick) [ inl e ↦ omega (arith, e, low) | inr other ↦ h.soon t (has t there other) ];
   placed = h.placed;
+  long = h.long;
   room = h.room;
 }
 
-pub listed_added : (c : Calendar) (m : Buckets) (tick : ℕ) (event : Event) → IsFiled c.map m tick event → near_at c.from c.ring.items tick ≡ [] → IsAdded c (calendar_of c.from c.ring m) tick event
-listed_added c m tick event filed none = record {
-  here =
-      ap (λ es. bucket m tick ++ es) none
-      ∙ (append-nil (bucket m tick)
-      ∙ (filed.here
-      ∙ ap (λ es. es ++ event ∷ []) (sym (ap (λ es. bucket c.map tick ++ es) none ∙ append-nil (bucket c.map tick)))));
-  others = λ t other. ap (λ es. es ++ near_at c.from c.ring.items t) (filed.others t other);
-}
+-- ---- no event
+
+module _ (ring : Vec (Vec Event)) (map : Buckets) (none : (p : ℕ) → lane ring.items p ≡ []) (never : (t : ℕ) → HasTick map t → ⊥) where
+  pub vacant_of : IsVacant (calendar_of 0 ring map)
+  vacant_of q = λ i. option_or (latest q (none (q.tick % 1024) i)) (latest q (no_listed map q.tick (never q.tick) i))
+
+  pub new_calendar : tree.IsOrdered nat_cmp map → length ring.items ≡ 1024 → IsCalendar (calendar_of 0 ring map)
+  new_calendar ordered long = record {
+    ordered = ordered;
+    full = λ t there. absurd (never t there);
+    own = λ t. subst (AllByRecursion (λ e. e.0.tick ≡ t)) (sym (no_listed map t (never t))) tt;
+    soon = λ t there. absurd (never t there);
+    placed = λ p. subst (AllByRecursion (λ e. IsNear 0 e.0.tick × (e.0.tick % 1024 ≡ p))) (sym (none p)) tt;
+    long = long;
+    room = omega arith;
+  }
+
+-- ---- an event comes
+
+or_front : (b : Bool) (x : StepInput) (a o : Option StepInput) → option_or (option_or (cond b (Some x) None) a) o ≡ cond b (Some x) (option_or a o)
+or_front true x a o = refl
+or_front false x a o = refl
+
+pub in_result : {X Y : Type 0} (r : Result X Y) (P Q : Type 0) → OnOk r P → OnErr r Q → P ⊎ Q
+in_result (Ok x) P Q p q = inl p
+in_result (Err e) P Q p q = inr q
+
+module _ (c : Calendar) (h : IsCalendar c) (tick : ℕ) (event : Event) (own_tick : event.0.tick ≡ tick) (low : c.from ≤ tick) where
+  at_other : (q : Key) → q.tick ≢ tick → q ≢ event.0
+  at_other q n s = n (ap (λ (k : Key). k.tick) s ∙ own_tick)
+
+  module _ (ring2 : Vec (Vec Event)) (high : tick < c.from + 1024) (others : (p : ℕ) → p ≢ tick % 1024 → lane ring2.items p ≡ lane c.ring.items p) (long : length ring2.items ≡ length c.ring.items) where
+    abbrev Has : List Event → ℕ → Type 0
+    Has es p = AllByRecursion (λ f. IsNear c.from f.0.tick × (f.0.tick % 1024 ≡ p)) es
+
+    pub near_calendar : (lane ring2.items (tick % 1024) ≡ lane c.ring.items (tick % 1024) ++ event ∷ []) ⊎ (lane ring2.items (tick % 1024) ≡ lane c.ring.items (tick % 1024)) → IsCalendar (calendar_of c.from ring2 c.map)
+    near_calendar here = record {
+      ordered = h.ordered;
+      full = h.full;
+      own = h.own;
+      soon = h.soon;
+      placed = λ p. elim (cases_eq p (tick % 1024)) [
+        | inl e ↦ subst (λ o. Has (lane ring2.items o) o) (sym e) (elim here [
+          | inl more ↦ subst (λ es. Has es (tick % 1024)) (sym more)
+              (both (λ f. IsNear c.from f.0.tick × (f.0.tick % 1024 ≡ tick % 1024)) (lane c.ring.items (tick % 1024)) (event ∷ []) (h.placed (tick % 1024))
+              ((record { low = omega (arith, low, own_tick); high = omega (arith, high, own_tick) }, ap (λ t. t % 1024) own_tick), tt))
+          | inr same ↦ subst (λ es. Has es (tick % 1024)) (sym same) (h.placed (tick % 1024))
+        ])
+        | inr n ↦ subst (λ es. Has es p) (sym (others p n)) (h.placed p)
+      ];
+      long = long ∙ h.long;
+      room = h.room;
+    }
+
+    pub near_added : lane ring2.items (tick % 1024) ≡ lane c.ring.items (tick % 1024) ++ event ∷ [] → IsAdded c (calendar_of c.from ring2 c.map) event
+    near_added more q =
+        let listed = latest q (bucket c.map q.tick) in
+        elim (cases_eq (q.tick % 1024) (tick % 1024)) [
+          | inl s ↦
+              let at = ap (lane ring2.items) s ∙ (more ∙ ap (λ es. es ++ event ∷ []) (ap (lane c.ring.items) (sym s))) in
+              ap (λ es. option_or (latest q es) listed) at
+              ∙ (ap (λ o. option_or o listed) (latest_append q (lane c.ring.items (q.tick % 1024)) (event ∷ [])) ∙ or_front (eq_by_cmp key_cmp q event.0) event.1 (latest q (lane c.ring.items (q.tick % 1024))) listed)
+          | inr n ↦ ap (λ es. option_or (latest q es) listed) (others (q.tick % 1024) n) ∙ sym (not_here q event (found c q) (at_other q (λ s. n (ap (λ t. t % 1024) s))))
+        ]
+
+    pub near_same : lane ring2.items (tick % 1024) ≡ lane c.ring.items (tick % 1024) → (q : Key) → found (calendar_of c.from ring2 c.map) q ≡ found c q
+    near_same same q = ap (λ es. option_or (latest q es) (latest q (bucket c.map q.tick))) (elim (cases_eq (q.tick % 1024) (tick % 1024)) [
+      | inl s ↦ ap (lane ring2.items) s ∙ (same ∙ ap (lane c.ring.items) (sym s))
+      | inr n ↦ others (q.tick % 1024) n
+    ])
+
+  module _ (m : Buckets) (ordered : tree.IsOrdered nat_cmp m) where
+    pub filed_added : c.from + 1024 ≤ tick → IsFiled c.map m tick event → IsAdded c (calendar_of c.from c.ring m) event
+    filed_added far filed q = elim (cases_eq q.tick tick) [
+      | inl s ↦
+          let b = eq_by_cmp key_cmp q event.0 in
+          let old = bucket c.map q.tick in
+          let none : latest q (lane c.ring.items (q.tick % 1024)) ≡ None =
+          none_latest q (lane c.ring.items (q.tick % 1024)) (weaker _ _ (λ e is t. omega (arith, is.0.high, far, s, ap (λ (k : Key). k.tick) t)) (lane c.ring.items (q.tick % 1024)) (h.placed (q.tick % 1024))) in
+          let at = ap (bucket m) s ∙ (filed.here ∙ ap (λ t. bucket c.map t ++ event ∷ []) (sym s)) in
+          (λ i. option_or (none i) (latest q (at i)))
+          ∙ (latest_append q old (event ∷ [])
+          ∙ (sym (or_None (option_or (cond b (Some event.1) None) (latest q old))) ∙ (or_front b event.1 (latest q old) None ∙ ap (cond b (Some event.1)) (or_None (latest q old) ∙ sym (ap (λ o. option_or o (latest q old)) none)))))
+      | inr n ↦ ap (λ es. option_or (latest q (lane c.ring.items (q.tick % 1024))) (latest q es)) (filed.others q.tick n) ∙ sym (not_here q event (found c q) (at_other q n))
+    ]
 
 -- ---- the first tick
 
--- a tick before the first that the map has, where it has one
-abbrev pub IsBeforeListed : Option ℕ → ℕ → Type 0
-IsBeforeListed None t = Unit {0}
-IsBeforeListed (Some first) t = t < first
-
-abbrev pub IsListedFirst : Buckets → Option ℕ → Type 0
+abbrev IsListedFirst : Buckets → Option ℕ → Type 0
 IsListedFirst m o = MatchOption o ((t : ℕ) → HasTick m t → ⊥) (λ tick. HasTick m tick × tree.IsLowerBound nat_cmp m tick)
 
-not_before : (t first : ℕ) → t < first → is_gt (nat_cmp first t) ≡ false → ⊥
-not_before t first less h = grind (arith, nat_tests)
+not_less : (t first : ℕ) → is_gt (nat_cmp first t) ≡ false → first ≤ t
+not_less t first h = grind (arith, nat_tests)
 
-none_listed : (m : Buckets) (o : Option ℕ) → IsListedFirst m o → (t : ℕ) → IsBeforeListed o t → bucket m t ≡ []
-none_listed m None h t before = no_listed m t (h t)
-none_listed m (Some first) h t before = no_listed m t (λ there. not_before t first before (h.1 t there))
+some_there : (f : Event) (fs : List Event) → f ∷ fs ≡ [] → ⊥
+some_there f fs e = cc
 
-pub first_listed : (c : Calendar) (o : Option ℕ) → IsCalendar c → IsListedFirst c.map o → ((t : ℕ) → IsNear c.from t → IsBeforeListed o t → lane c.ring.items (t % 1024) ≡ []) → MatchOption o (IsVacant c) (IsFirst c)
-first_listed c None h listed none = λ t.
-    nothing_both (bucket c.map t) (near_at c.from c.ring.items t) (none_listed c.map None listed t tt) (near_none c.from c.ring.items t (λ n. none t n tt))
-first_listed c (Some first) h listed none = record {
-  some = omega (arith, h.full first listed.0, length-append (bucket c.map first) (near_at c.from c.ring.items first));
-  none_before = λ t before. nothing_both (bucket c.map t) (near_at c.from c.ring.items t) (none_listed c.map (Some first) listed t before) (near_none c.from c.ring.items t (λ n. none t n before));
-}
+module _ (c : Calendar) (h : IsCalendar c) (o : Option ℕ) (listed : IsListedFirst c.map o) (end : ℕ) (is : end ≡ min (c.from + 1024) (unwrap_or o 4294967295)) where
+  above : (m : Buckets) (o : Option ℕ) → IsListedFirst m o → (tick : ℕ) → tick ≤ unwrap_or o 4294967295 → (t : ℕ) → HasTick m t → tick ≤ t
+  above m None h tick le t there = absurd (h t there)
+  above m (Some first) h tick le t there = let least = not_less t first (h.1 t there) in omega (arith, least, le)
 
-pub first_near : (c : Calendar) (o : Option ℕ) (tick : ℕ) → IsListedFirst c.map o → IsNear c.from tick → IsBeforeListed o tick → NoneAhead c.ring.items c.from tick → 0 < length (lane c.ring.items (tick % 1024)) → IsFirst c tick
-first_near c o tick listed near before none some = record {
-  some = omega (arith, some, ap length (near_in c.from c.ring.items tick near), length-append (bucket c.map tick) (near_at c.from c.ring.items tick));
-  none_before = λ t less.
-      nothing_both (bucket c.map t) (near_at c.from c.ring.items t) (none_listed c.map o listed t (sooner o t less before)) (near_none c.from c.ring.items t (λ n. none t n.low less));
-}
-  where
-    sooner : (o : Option ℕ) (t : ℕ) → t < tick → IsBeforeListed o tick → IsBeforeListed o t
-    sooner None t less b = tt
-    sooner (Some first) t less b = omega (arith, less, b)
+  ahead : (end : ℕ) → NoneAhead c.ring.items c.from end → (p : ℕ) → AllByRecursion (λ e. IsNear c.from e.0.tick × (end ≤ e.0.tick)) (lane c.ring.items p)
+  ahead end none p = go (lane c.ring.items p) refl
+    where
+      go : (es : List Event) → lane c.ring.items p ≡ es → AllByRecursion (λ e. IsNear c.from e.0.tick × (end ≤ e.0.tick)) (lane c.ring.items p)
+      go [] e = subst (AllByRecursion (λ e. IsNear c.from e.0.tick × (end ≤ e.0.tick))) (sym e) tt
+      go (f ∷ fs) e = weaker _ _ (λ g at. (
+        at.0,
+        elim (cases_lt g.0.tick end) [
+          | inl less ↦ absurd (some_there f fs (sym e ∙ (ap (lane c.ring.items) (sym at.1) ∙ none g.0.tick at.0.low less)))
+          | inr past ↦ past
+        ],
+      )) (lane c.ring.items p) (h.placed p)
 
--- where the part of the year ends that is looked through
-module _ (from end : ℕ) (room : from + 1024 < 2 ^ 32) where
-  pub sooner_than : (o : Option ℕ) → end ≡ min (from + 1024) (unwrap_or o 4294967295) → (t : ℕ) → t < end → (t < from + 1024) × IsBeforeListed o t
-  sooner_than None is t less = (omega (arith, is, less), tt)
-  sooner_than (Some first) is t less = (omega (arith, is, less), omega (arith, is, less))
+  pub first_near : (tick : ℕ) → c.from ≤ tick → tick < end → NoneAhead c.ring.items c.from tick → 0 < length (lane c.ring.items (tick % 1024)) → IsFirst c tick
+  first_near tick low less none some = record {
+    listed = above c.map o listed tick (omega (arith, less, is));
+    ahead = λ p. weaker _ _ (λ e at. at.1) (lane c.ring.items p) (ahead tick none p);
+    some = omega (arith, some, length-append (bucket c.map tick) (lane c.ring.items (tick % 1024)));
+    from = low;
+  }
 
-  pub within_end : (o : Option ℕ) → end ≡ min (from + 1024) (unwrap_or o 4294967295) → (t : ℕ) → t < from + 1024 → IsBeforeListed o t → t < end
-  within_end None is t less before = omega (arith, is, less, room)
-  within_end (Some first) is t less before = omega (arith, is, less, before)
+  pub first_listed : NoneAhead c.ring.items c.from end → MatchOption o (IsVacant c) (IsFirst c)
+  first_listed none = go o listed is
+    where
+      go : (o : Option ℕ) → IsListedFirst c.map o → end ≡ min (c.from + 1024) (unwrap_or o 4294967295) → MatchOption o (IsVacant c) (IsFirst c)
+      go None never e = λ q. let p = q.tick % 1024 in
+          (λ i. option_or (none_latest q (lane c.ring.items p) (weaker _ _ (λ f at s. omega (arith, at.0.high, at.1, e, h.room)) (lane c.ring.items p) (ahead end none p)) i) (latest q (no_listed c.map q.tick (never q.tick) i)))
+      go (Some first) there e = record {
+        listed = above c.map (Some first) there first (omega arith);
+        ahead = λ p. weaker _ _ (λ f at. omega (arith, at.0.high, at.1, e)) (lane c.ring.items p) (ahead end none p);
+        some = omega (arith, h.full first there.0, length-append (bucket c.map first) (lane c.ring.items (first % 1024)));
+        from = h.soon first there.0;
+      }
 
 -- ---- the events of the first tick go
 
-module _ (c : Calendar) (h : IsCalendar c) (tick : ℕ) (ring2 : Vec (Vec Event)) (map2 : Buckets) (first : IsFirst c tick)
-    (left : (p : ℕ) → (lane ring2.items p ≡ []) ⊎ (lane ring2.items p ≡ lane c.ring.items p))
-    (gone : near_at c.from ring2.items tick ≡ []) (others : (t : ℕ) → t ≢ tick → near_at c.from ring2.items t ≡ near_at c.from c.ring.items t)
-    (none : HasTick map2 tick → ⊥) (same : (t : ℕ) → t ≢ tick → tree.get nat_cmp map2 t ≡ tree.get nat_cmp c.map t) (ordered : tree.IsOrdered nat_cmp map2) where
+all_both : (P Q : Event → Type 0) (es : List Event) → AllByRecursion P es → AllByRecursion Q es → AllByRecursion (λ e. P e × Q e) es
+all_both P Q [] h i = tt
+all_both P Q (e ∷ es) h i = ((h.0, i.0), all_both P Q es h.1 i.1)
+
+module _ (c : Calendar) (h : IsCalendar c) (tick : ℕ) (first : IsFirst c tick) (ring2 : Vec (Vec Event)) (gone : lane ring2.items (tick % 1024) ≡ [])
+    (others : (p : ℕ) → p ≢ tick % 1024 → lane ring2.items p ≡ lane c.ring.items p) (long : length ring2.items ≡ 1024) (map2 : Buckets)
+    (none : HasTick map2 tick → ⊥) (same : (t : ℕ) → t ≢ tick → tree.get nat_cmp map2 t ≡ tree.get nat_cmp c.map t) (ordered : tree.IsOrdered nat_cmp map2) (to : ℕ) (is : to ≡ min tick 4294966271) where
+  in_ring : (p : ℕ) → AllByRecursion (λ e. (IsNear c.from e.0.tick × (e.0.tick % 1024 ≡ p)) × (tick ≤ e.0.tick)) (lane c.ring.items p)
+  in_ring p = all_both _ _ (lane c.ring.items p) (h.placed p) (first.ahead p)
+
+  own_lane : AllByRecursion (λ e. e.0.tick ≡ tick) (lane c.ring.items (tick % 1024))
+  own_lane = weaker _ _ (λ e at. omega (arith, at.0.0.high, at.0.1, at.1, first.from)) (lane c.ring.items (tick % 1024)) (in_ring (tick % 1024))
+
   map_left : IsCalendar (calendar_of c.from c.ring map2)
   map_left =
-      other_map c h map2 ordered tick (subst (AllByRecursion (λ f. f.0.tick ≡ tick)) (sym (no_listed map2 tick none)) tt) (λ there. absurd (none there))
+      other_map c h map2 ordered tick first.from (subst (AllByRecursion (λ f. f.0.tick ≡ tick)) (sym (no_listed map2 tick none)) tt) (λ there. absurd (none there))
       (λ t other. ap held (same t other)) (λ t there other. subst IsSome (same t other) there)
 
-  placed_left : Placed c.from ring2.items
-  placed_left p = elim (left p) [
-    | inl e ↦ subst (AllByRecursion (λ f. IsNear c.from f.0.tick × (f.0.tick % 1024 ≡ p))) (sym e) tt
-    | inr e ↦ subst (AllByRecursion (λ f. IsNear c.from f.0.tick × (f.0.tick % 1024 ≡ p))) (sym e) (h.placed p)
+  left_after : (t : ℕ) → HasTick map2 t → tick < t
+  left_after t there = elim (cases_eq t tick) [
+    | inl e ↦ absurd (none (subst (HasTick map2) e there))
+    | inr other ↦ let low = first.listed t (subst IsSome (same t other) there) in omega (arith, low, other)
   ]
 
-  module _ (to : ℕ) (further : c.from ≤ to) (up_to : c.from < to → to ≤ tick) (room : to + 1024 < 2 ^ 32) where
-    passed : (t : ℕ) → t < to → near_at c.from ring2.items t ≡ []
-    passed t low = elim (cases_lt t c.from) [
-      | inl before ↦ near_out c.from ring2.items t (λ n. omega (arith, n.low, before))
-      | inr ahead ↦
-          let early : t < tick = omega (arith, low, up_to (omega (arith, ahead, low))) in
-          others t (λ e. omega (arith, e, early)) ∙ nothing_after (bucket c.map t) (near_at c.from c.ring.items t) (first.none_before t early)
-    ]
+  pub next_calendar : IsCalendar (calendar_of to ring2 map2)
+  next_calendar = record {
+    ordered = ordered;
+    full = map_left.full;
+    own = map_left.own;
+    soon = λ t there. let after = left_after t there in omega (arith, after, is);
+    placed = λ p. elim (cases_eq p (tick % 1024)) [
+      | inl e ↦ subst (AllByRecursion (λ f. IsNear to f.0.tick × (f.0.tick % 1024 ≡ p))) (sym (ap (lane ring2.items) e ∙ gone)) tt
+      | inr n ↦ subst (AllByRecursion (λ f. IsNear to f.0.tick × (f.0.tick % 1024 ≡ p))) (sym (others p n))
+          (weaker _ _ (λ e at. (record { low = omega (arith, at.1, is); high = omega (arith, at.0.0.high, first.from, h.room, is) }, at.0.1)) (lane c.ring.items p) (in_ring p))
+    ];
+    long = long;
+    room = omega (arith, is);
+  }
 
-    pub next_calendar : IsCalendar (calendar_of to ring2 map2)
-    next_calendar = record {
-      ordered = ordered;
-      full = map_left.full;
-      own = map_left.own;
-      placed = placed_on c.from to ring2.items placed_left further passed;
-      room = room;
-    }
+  abbrev new : Calendar
+  new = calendar_of to ring2 map2
 
-    next_held : (t : ℕ) → held_at (calendar_of to ring2 map2) t ≡ bucket map2 t ++ near_at c.from ring2.items t
-    next_held t = ap (λ es. bucket map2 t ++ es) (near_on c.from to ring2.items placed_left further passed t)
+  abbrev taken : List Event
+  taken = bucket c.map tick ++ lane c.ring.items (tick % 1024)
 
-    pub next_taken : (taken : List Event) → taken ≡ held_at c tick → IsTaken c (calendar_of to ring2 map2) tick taken
-    next_taken taken whole = record {
-      first = first;
-      whole = whole;
-      gone = next_held tick ∙ nothing_both (bucket map2 tick) (near_at c.from ring2.items tick) (no_listed map2 tick none) gone;
-      others = λ t other.
-          next_held t
-          ∙ (ap (λ es. es ++ near_at c.from ring2.items t) (ap held (same t other))
-          ∙ ap (λ es. bucket c.map t ++ es) (others t other));
-    }
+  own_taken : AllByRecursion (λ e. e.0.tick ≡ tick) taken
+  own_taken = both (λ e. e.0.tick ≡ tick) (bucket c.map tick) (lane c.ring.items (tick % 1024)) (h.own tick) own_lane
+
+  none_left : (q : Key) → q.tick ≤ tick → found new q ≡ None
+  none_left q low = λ i. option_or (of_ring i) (latest q (no_listed map2 q.tick (λ there. let after = left_after q.tick there in omega (arith, after, low)) i))
+    where
+      of_ring : latest q (lane ring2.items (q.tick % 1024)) ≡ None
+      of_ring = elim (cases_eq (q.tick % 1024) (tick % 1024)) [
+        | inl e ↦ ap (latest q) (ap (lane ring2.items) e ∙ gone)
+        | inr n ↦ ap (latest q) (others (q.tick % 1024) n)
+            ∙ none_latest q (lane c.ring.items (q.tick % 1024)) (weaker _ _ (λ e at s. let t = ap (λ (k : Key). k.tick) s in n (ap (λ u. u % 1024) (omega (arith, at, t, low)))) (lane c.ring.items (q.tick % 1024)) (first.ahead (q.tick % 1024)))
+      ]
+
+  same_left : (q : Key) → q.tick ≢ tick → found c q ≡ found new q
+  same_left q n = λ i. option_or (of_ring i) (latest q (held (sym (same q.tick n) i)))
+    where
+      of_ring : latest q (lane c.ring.items (q.tick % 1024)) ≡ latest q (lane ring2.items (q.tick % 1024))
+      of_ring = elim (cases_eq (q.tick % 1024) (tick % 1024)) [
+        | inl e ↦ ap (λ p. latest q (lane c.ring.items p)) e ∙ (other_tick tick q (lane c.ring.items (tick % 1024)) own_lane n ∙ sym (ap (latest q) (ap (lane ring2.items) e ∙ gone)))
+        | inr m ↦ ap (latest q) (sym (others (q.tick % 1024) m))
+      ]
+
+  pub next_taken : IsTaken c new tick taken
+  next_taken = record {
+    some = first.some;
+    own = own_taken;
+    same = λ q. elim (cases_eq q.tick tick) [
+      | inl e ↦
+          ap (λ t. option_or (latest q (lane c.ring.items (t % 1024))) (latest q (bucket c.map t))) e
+          ∙ (sym (latest_append q (bucket c.map tick) (lane c.ring.items (tick % 1024))) ∙ sym (ap (λ o. option_or o (latest q taken)) (none_left q (omega (arith, e)))))
+      | inr n ↦ same_left q n ∙ (sym (or_None (found new q)) ∙ ap (option_or (found new q)) (sym (other_tick tick q taken own_taken n)))
+    ];
+    gone = none_left;
+    from = omega (arith, is);
+  }

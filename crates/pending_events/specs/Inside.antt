@@ -1,5 +1,4 @@
 -- words that private functions and proofs of this crate use alone: no public contract rests on them
 pub mod Buckets
 pub mod Calendar
-pub mod Due
-pub mod Lanes
+pub mod Order

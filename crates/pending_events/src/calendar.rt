@@ -1,13 +1,11 @@
 //! Events by their ticks: a ring of buckets for the ticks ahead, and a map of buckets for all others.
-ghost use Rattle.std.specs.Prelude.{◌≡◌, ◌≢◌, ◌+◌, ◌++◌, ◌<◌, ◌≤◌, ◌%◌, ◌^◌, ◌⊎◌, ℕ, [], ◌∷◌, IfOk, MatchOption, OnErr, OnOk, false, length, true, vec_len};
+ghost use Rattle.std.specs.Prelude.{◌≡◌, ◌≢◌, ◌+◌, ◌++◌, ◌<◌, ◌≤◌, ◌%◌, ℕ, [], ◌∷◌, IfOk, MatchOption, OnErr, OnOk, false, length, true, vec_len};
 ghost use Rattle.std.specs.BTreeMap.{IsLowerBound, IsOrdered, get};
 ghost use Rattle.std.specs.Ordering.{nat_cmp};
-ghost use Rattle.pending_events.specs.Inside.Buckets.{HasTick, bucket};
-ghost use Rattle.pending_events.specs.Inside.Calendar.{HoldsSame, IsAdded, IsCalendar, IsFirst, IsNear, IsTaken, IsVacant, NoneAhead, near_at, year};
-ghost use Rattle.pending_events.specs.Inside.Lanes.{lane};
+ghost use Rattle.process_api.specs.declared.key.Key.{Key as KeyValue};
+ghost use Rattle.pending_events.specs.Inside.Buckets.{HasTick, IsFiled, IsSame, bucket};
+ghost use Rattle.pending_events.specs.Inside.Calendar.{IsAdded, IsCalendar, IsFirst, IsTaken, IsVacant, NoneAhead, found, lane, year};
 
-use crate::buckets::{file, furnish};
-use crate::lanes::open_lanes;
 use std::alloc::{AllocError, Global};
 use std::collections::BTreeMap;
 use std::mem;
@@ -20,7 +18,7 @@ const YEAR: u32 = 1024;
 const LAST_YEAR: u32 = u32::MAX - YEAR;
 
 /// Events by their ticks. The year is the 1,024 ticks from `from` on. An event of the year lies in the ring: the place
-/// of its bucket is its tick's rest by 1,024, so each tick of the year has a place of its own. Every other event lies
+/// of its bucket is its tick's rest by 1,024, so each tick of the year has a place of its own. Every later event lies
 /// in the map. The year only moves forward, to the tick whose events are taken. So of the events of one tick those in
 /// the map came first.
 #[derive(Drop)]
@@ -36,9 +34,12 @@ impl Calendar {
     pub(crate) fn new(alloc: Global) -> Result<Calendar, AllocError>
         ensures calendar { IfOk result (λ c. IsCalendar c) }
         ensures vacant { IfOk result (λ c. IsVacant c) }
+        ensures from { IfOk result (λ c. c.from ≡ 0) }
     {
         let mut ring = Vec::new(alloc);
-        open_lanes(alloc, &mut ring, YEAR as usize - 1)?;
+        while ring.len() < YEAR as usize {
+            ring.push(Vec::new(alloc))?;
+        }
         Ok(Calendar {
             from: 0,
             ring,
@@ -59,35 +60,44 @@ impl Calendar {
         }
     }
 
-    /// Takes the events of the least tick.
-    pub(crate) fn take_first(&mut self) -> Result<Option<(u32, Vec<Event>)>, AllocError>
+    /// Takes the events of the least tick, in two parts: those that lay in the map, which came first, and others.
+    pub(crate) fn take_first(&mut self) -> Option<(u32, Vec<Event>, Vec<Event>)>
         requires { IsCalendar self.old }
         ensures calendar { IsCalendar self.new }
-        ensures taken { IfOk result (λ r. MatchOption r
-            (IsVacant self.old × IsVacant self.new)
-            (λ p. IsTaken self.old self.new p.0 p.1.items)) }
+        ensures taken { MatchOption result
+            (IsVacant self.old × (self.new ≡ self.old))
+            (λ p. IsTaken self.old self.new p.0 (p.1.items ++ p.2.items)) }
     {
-        let Some(tick) = self.least_tick() else {
-            return Ok(None);
-        };
+        let tick = self.least_tick()?;
         let alloc = *self.ring.allocator();
         let listed = take_listed(alloc, &mut self.map, tick);
-        let near = take_near(alloc, self.from, &mut self.ring, tick);
-        let bucket = followed_by(listed, near)?;
-        self.from = self.from.max(tick.min(LAST_YEAR));
-        Ok(Some((tick, bucket)))
+        let near = take_near(alloc, &mut self.ring, tick);
+        self.from = tick.min(LAST_YEAR);
+        Some((tick, listed, near))
     }
-}
 
-/// Whether a tick is in the year.
-#[inline(always)]
-fn is_near(from: u32, tick: u32) -> bool
-    requires { from + year < 2 ^ 32 }
-    ensures yes { result ≡ true → IsNear from tick }
-    ensures no { IsNear from tick → result ≡ true }
-{
-    // a tick before the year wraps to one that is further ahead than a year
-    tick.wrapping_sub(from) < YEAR
+    /// Adds an event to those of its tick, which is this.
+    #[inline(always)]
+    pub(crate) fn add(
+        &mut self,
+        spare: &mut Vec<Vec<Event>>,
+        tick: u32,
+        event: Event,
+    ) -> Result<(), AllocError>
+        requires calendar { IsCalendar self.old }
+        requires tick { event.0.tick ≡ tick }
+        requires from { self.old.from ≤ tick }
+        ensures calendar { IsCalendar self.new }
+        ensures ok { OnOk result (IsAdded self.old self.new event) }
+        ensures err { OnErr result ((q : KeyValue) → found self.new q ≡ found self.old q) }
+        ensures from { self.new.from ≡ self.old.from }
+    {
+        if tick < self.from + YEAR {
+            return put_near(spare, &mut self.ring, (tick % YEAR) as usize, event);
+        }
+        let alloc = *self.ring.allocator();
+        file(alloc, spare, &mut self.map, tick, event)
+    }
 }
 
 /// The least tick of a map.
@@ -103,15 +113,17 @@ fn least_listed(map: &BTreeMap<u32, Vec<Event>>) -> Option<u32>
 
 /// Whether there are events in the bucket at a tick's place.
 fn is_filled(ring: &[Vec<Event>], tick: u32) -> bool
+    requires { length ring.now ≡ year }
     ensures yes { result ≡ true → 0 < length (lane ring.now (tick % year)) }
     ensures no { result ≡ false → lane ring.now (tick % year) ≡ [] }
 {
     let place = (tick % YEAR) as usize;
-    place < ring.len() && !ring[place].is_empty()
+    !ring[place].is_empty()
 }
 
 /// The first tick of a part of the year with events at its place.
 fn first_filled(ring: &[Vec<Event>], from: u32, end: u32) -> Option<u32>
+    requires { length ring.now ≡ year }
     ensures { MatchOption result (NoneAhead ring.now from end) (λ tick.
         (from ≤ tick) × (tick < end) × NoneAhead ring.now from tick × (0 < length (lane ring.now (tick % year)))) }
 {
@@ -133,31 +145,27 @@ fn take_listed(alloc: Global, map: &mut BTreeMap<u32, Vec<Event>>, tick: u32) ->
     map.remove(&tick).unwrap_or(Vec::new(alloc))
 }
 
-/// Takes the events of a tick out of the ring, if the tick is in the year.
-fn take_near(alloc: Global, from: u32, ring: &mut Vec<Vec<Event>>, tick: u32) -> Vec<Event>
-    requires { from + year < 2 ^ 32 }
-    ensures whole { result.items ≡ near_at from ring.old.items tick }
-    ensures gone { near_at from ring.new.items tick ≡ [] }
-    ensures others { (t : ℕ) → t ≢ tick → near_at from ring.new.items t ≡ near_at from ring.old.items t }
-    ensures left { (place : ℕ) → (lane ring.new.items place ≡ [])
-        ⊎ (lane ring.new.items place ≡ lane ring.old.items place) }
+/// Takes the events at a tick's place out of the ring.
+fn take_near(alloc: Global, ring: &mut Vec<Vec<Event>>, tick: u32) -> Vec<Event>
+    requires { length ring.old.items ≡ year }
+    ensures whole { result.items ≡ lane ring.old.items (tick % year) }
+    ensures gone { lane ring.new.items (tick % year) ≡ [] }
+    ensures others { (p : ℕ) → p ≢ tick % year → lane ring.new.items p ≡ lane ring.old.items p }
+    ensures long { length ring.new.items ≡ year }
 {
     let place = (tick % YEAR) as usize;
-    if is_near(from, tick) && place < ring.len() {
-        return mem::replace(&mut ring[place], Vec::new(alloc));
-    }
-    Vec::new(alloc)
+    mem::replace(&mut ring[place], Vec::new(alloc))
 }
 
-/// Events, and then others.
-fn followed_by(mut early: Vec<Event>, mut late: Vec<Event>) -> Result<Vec<Event>, AllocError>
-    ensures { IfOk result (λ v. v.items ≡ early.items ++ late.items) }
+/// Gives an empty bucket the memory of one that was kept for reuse.
+fn furnish(spare: &mut Vec<Vec<Event>>, bucket: &mut Vec<Event>)
+    requires { bucket.old.items ≡ [] }
+    ensures { bucket.new.items ≡ [] }
 {
-    if early.is_empty() {
-        return Ok(late);
+    if let Some(mut kept) = spare.pop() {
+        kept.clear();
+        *bucket = kept;
     }
-    early.append(&mut late)?;
-    Ok(early)
 }
 
 /// Adds an event to the end of a bucket.
@@ -190,28 +198,31 @@ fn put_near(
     ensures ok { OnOk result (lane ring.new.items place ≡ lane ring.old.items place ++ event ∷ []) }
     ensures err { OnErr result (lane ring.new.items place ≡ lane ring.old.items place) }
     ensures others { (other : ℕ) → other ≢ place → lane ring.new.items other ≡ lane ring.old.items other }
+    ensures long { length ring.new.items ≡ length ring.old.items }
 {
     put_last(spare, &mut ring[place], event)
 }
 
-/// Adds an event to those of its tick, which is this.
+/// Adds an event to the bucket of a tick in the map.
 #[inline(always)]
-pub(crate) fn add(
+fn file(
     alloc: Global,
     spare: &mut Vec<Vec<Event>>,
-    calendar: &mut Calendar,
+    map: &mut BTreeMap<u32, Vec<Event>>,
     tick: u32,
     event: Event,
 ) -> Result<(), AllocError>
-    requires calendar { IsCalendar calendar.old }
-    requires tick { event.0.tick ≡ tick }
-    ensures calendar { IsCalendar calendar.new }
-    ensures ok { OnOk result (IsAdded calendar.old calendar.new tick event) }
-    ensures err { OnErr result (HoldsSame calendar.old calendar.new) }
+    ensures ok { OnOk result (IsFiled map.old map.new tick event) }
+    ensures err { OnErr result (IsSame map.old map.new) }
+    ensures ordered { IsOrdered nat_cmp map.new }
 {
-    let place = (tick % YEAR) as usize;
-    if place < calendar.ring.len() && is_near(calendar.from, tick) {
-        return put_near(spare, &mut calendar.ring, place, event);
+    if let Some(bucket) = map.get_mut(&tick) {
+        bucket.push(event)?;
+        return Ok(());
     }
-    file(alloc, spare, &mut calendar.map, tick, event)
+    let mut bucket = Vec::new(alloc);
+    furnish(spare, &mut bucket);
+    bucket.push(event)?;
+    map.insert(tick, bucket)?;
+    Ok(())
 }

@@ -12,6 +12,7 @@ pub mod Minds
 pub mod Numbering
 pub mod OneWord
 pub mod Told
+pub mod Vectors
 pub mod Rising
 pub mod Rows
 pub mod TimeoutLaws

@@ -9,6 +9,7 @@ use Rattle.std.proofs.lemmas.Cmp.{tied_itself, nat_cmp_total}
 use Rattle.std.proofs.lemmas.Bool.{cases_eq, eq-eqb, ne_eqb, eqb-true}
 use Rattle.std.proofs.lemmas.Bool.Decides.{nat_tests}
 use Rattle.process_api.specs.Inside.Bits.{members}
+use Rattle.process_api.specs.ConsensusS.{all_to}
 use Rattle.process_api.specs.Coordinator.{keep}
 use Rattle.process_api.specs.Letters.{by_number, by_row, in_row, of_sender}
 use Rattle.process_api.specs.Rounds.{count_to}
@@ -142,8 +143,22 @@ len_members s (suc n) = len-more (λ i. set.contains s (suc i)) n ∙ ap (λ k. 
 cut : (s : Processes) (n q : ℕ) → set.contains s 0 ≡ false → ((nat_lt 0 q && nat_le q n) && set.contains s (suc (q - 1))) ≡ (set.contains s q && nat_le q n)
 cut s n q none = grind (none, arith, nat_tests)
 
+len-up_to : (s : Processes) (n : ℕ) → set.contains s 0 ≡ false → set.len (up_to n s) ≡ count_to n (set.contains s)
+len-up_to s n none =
+    ap set.len (same_members (up_to n s) (members n (λ i. set.contains s (suc i))) (λ q. contains-up_to n s q ∙ sym (contains-members (λ i. set.contains s (suc i)) n q ∙ cut s n q none)))
+    ∙ len_members s n
+
 -- the senders of a row are counted
 pub counted : {X : Type 0} (s : Processes) (xs : List (Option X)) (n : ℕ) → AreSenders s xs → set.len (up_to n s) ≡ count_to n (λ q. is_some (cell_of xs q))
-counted s xs n were =
-    ap set.len (same_members (up_to n s) (members n (λ i. set.contains s (suc i))) (λ q. contains-up_to n s q ∙ sym (contains-members (λ i. set.contains s (suc i)) n q ∙ cut s n q (were 0))))
-    ∙ (len_members s n ∙ ap (count_to n) (λ i q. were q i))
+counted s xs n were = len-up_to s n (were 0) ∙ ap (count_to n) (λ i q. were q i)
+
+-- all are meant, if so many are
+one_more_all : (n k : ℕ) (all b : Bool) → k ≤ n → nat_eq k n ≡ all → nat_eq (k + cond b 1 0) (suc n) ≡ (all && b)
+one_more_all n k all b most h = grind (most, h, arith, nat_tests)
+
+count_all : (n : ℕ) (f : ℕ → Bool) → nat_eq (count_to n f) n ≡ all_to n f
+count_all zero f = refl
+count_all (suc n) f = one_more_all n (count_to n f) (all_to n f) (f (suc n)) (count_most n f) (count_all n f)
+
+pub len_all : (told : ℕ → Bool) (m n : ℕ) → nat_eq (set.len (up_to n (members m told))) n ≡ all_to n (set.contains (members m told))
+len_all told m n = ap (λ k. nat_eq k n) (len-up_to (members m told) n (contains-members told m 0)) ∙ count_all n (set.contains (members m told))

@@ -1,5 +1,5 @@
 //! Vectors of proposals.
-ghost use Rattle.std.specs.Prelude.{◌≡◌, ◌==◌, IfOk, length, nat_eq};
+ghost use Rattle.std.specs.Prelude.{◌≡◌, ◌==◌, IfOk, IfSome, None, get_or, length, nat_eq, replicate};
 ghost use Rattle.std.specs.Option.{option_eq};
 ghost use Rattle.std.specs.Cmp.Lexicographic.{pointwise};
 ghost use Rattle.std.specs.Cmp.Rules.{comparing};
@@ -7,21 +7,26 @@ ghost use Rattle.std.proofs.Common.{rules};
 ghost use Rattle.process_api.specs.Cells.{cell};
 
 use crate::pid::Pid;
-use std::alloc::AllocError;
+use std::alloc::{AllocError, Global};
 use std::marker::Model;
 
 /// For each process what is known of its proposal. Contracts see the list of cells: process k has cell k, from 1.
 #[derive(Debug, Drop)]
 pub struct Cells {
+    // without the empty ones at the end
     cells: Vec<Option<u32>>,
+    // how many there are, with those
+    count: usize,
 }
 
 impl Model for Cells {
-    ghost use Rattle.std.specs.Prelude.{ℕ, List, Option};
+    ghost use Rattle.std.specs.Prelude.{ℕ, ◌-◌, ◌≤◌, ◌++◌, List, Option, None, length, replicate};
 
     ghost Value = { List (Option ℕ) };
 
-    ghost view = { λ s. s.cells.items };
+    ghost view = { λ s. s.cells.items ++ replicate (s.count - length s.cells.items) None };
+
+    ghost invariant = { λ s. length s.cells.items ≤ s.count };
 }
 
 impl PartialEq for Cells {
@@ -30,7 +35,15 @@ impl PartialEq for Cells {
     ghost laws = { Prim.search (comparing, rules) };
 
     fn eq(&self, other: &Cells) -> bool {
-        self.cells == other.cells
+        if self.count != other.count {
+            return false;
+        }
+        for place in 0..self.count {
+            if self.at(place) != other.at(place) {
+                return false;
+            }
+        }
+        true
     }
 }
 
@@ -43,16 +56,50 @@ impl Cells {
     pub fn new(cells: Vec<Option<u32>>) -> Cells
         ensures { result ≡ cells.items }
     {
-        Cells { cells }
+        let count = cells.len();
+        let mut cells = cells;
+        while let Some(None) = cells.last() {
+            let _ = cells.pop();
+        }
+        Cells { cells, count }
     }
 
     /// The cell of a process. A cell past the end is empty.
     pub fn get(&self, process: Pid) -> Option<u32>
         ensures { result ≡ cell self.now process }
     {
-        let place = usize::from(process.number()) - 1;
+        self.at(usize::from(process.number()) - 1)
+    }
+
+    /// The cell at a place, from 0.
+    fn at(&self, place: usize) -> Option<u32>
+        ensures { result ≡ get_or self.now place None }
+    {
         if place < self.cells.len() {
             self.cells[place]
+        } else {
+            None
+        }
+    }
+
+    /// So many empty cells.
+    #[inline(always)]
+    pub fn empty(alloc: Global, count: usize) -> Cells
+        ensures { result ≡ replicate count None }
+    {
+        Cells {
+            cells: Vec::new(alloc),
+            count,
+        }
+    }
+
+    /// How many cells there are, where each is empty.
+    #[inline(always)]
+    pub fn all_empty(&self) -> Option<usize>
+        ensures { IfSome result (λ count. self.now ≡ replicate count None) }
+    {
+        if self.cells.is_empty() {
+            Some(self.count)
         } else {
             None
         }
@@ -62,14 +109,14 @@ impl Cells {
     pub fn len(&self) -> usize
         ensures { result ≡ length self.now }
     {
-        self.cells.len()
+        self.count
     }
 
     /// Whether there is no cell.
     pub fn is_empty(&self) -> bool
         ensures { result ≡ nat_eq (length self.now) 0 }
     {
-        self.cells.is_empty()
+        self.count == 0
     }
 
     /// The same cells, in memory of their own.
@@ -81,13 +128,18 @@ impl Cells {
         ensures { IfOk result (λ copied. copied ≡ self.now) }
     {
         let cells = Vec::from_slice(*self.cells.allocator(), &self.cells)?;
-        Ok(Cells { cells })
+        Ok(Cells {
+            cells,
+            count: self.count,
+        })
     }
 
     /// The cells, of process 1 first.
-    pub fn into_vec(self) -> Vec<Option<u32>>
-        ensures { result.items ≡ self }
+    pub fn into_vec(self) -> Result<Vec<Option<u32>>, AllocError>
+        ensures { IfOk result (λ v. v.items ≡ self) }
     {
-        self.cells
+        let mut cells = self.cells;
+        cells.resize(self.count, None)?;
+        Ok(cells)
     }
 }

@@ -3,6 +3,7 @@ ghost use Rattle.std.specs.Prelude.{◌≡◌, nat_eq, IsNone, IfSome};
 ghost use Rattle.std.specs.Iterator.{YieldsFirst, item_count};
 ghost use Rattle.std.specs.FinSet as set;
 ghost use Rattle.std.specs.Cmp.{partial_equiv_from_equiv};
+ghost use Rattle.process_api.specs.ConsensusS.{all_to};
 ghost use Rattle.process_api.specs.InOrder.{in_order};
 ghost use Rattle.process_api.specs.Sets.{HasAbove, of_word, up_to};
 
@@ -116,6 +117,13 @@ impl ProcSet {
         ProcSet {
             words: low(&self.words, usize::from(n)),
         }
+    }
+
+    /// Whether each of processes 1 to n is in the set.
+    pub fn has_all(&self, n: u16) -> bool
+        ensures { result ≡ all_to n (set.contains self.now) }
+    {
+        count(&low(&self.words, usize::from(n))) == u32::from(n)
     }
 
     /// How many members the set has, 0 to [`MOST_PROCESSES`](crate::MOST_PROCESSES).

@@ -28,16 +28,11 @@ fn takes_least_first(rt: HostRuntime) {
     for event in [check, Event::start(pid(2)), Event::start(pid(1))] {
         pending.join(event).expect(&rt, NO_MEMORY);
     }
-    same(&rt, &pending.least_tick(), &Some(0));
-    are_taken(&rt, &mut pending, &[(0, 1, 0), (0, 2, 0)]);
-    let none = pending.take_below(3).expect(&rt, NO_MEMORY);
-    assert!(rt; none.is_none());
-    let event = pending.take_below(4).expect(&rt, NO_MEMORY);
-    let (key, _) = event.expect(&rt, TOO_FEW);
-    same(&rt, &(key.tick, pending.least_tick()), &(3, None));
+    are_taken(&rt, &mut pending, &[(0, 1, 0), (0, 2, 0), (3, 1, 2)]);
+    assert!(rt; take(&rt, &mut pending).is_none());
 }
 
-/// So many events of one tick that they are put in order by way of lanes.
+/// Many events of one tick, of which each receiver has several.
 #[test]
 fn takes_many_in_order(rt: HostRuntime) {
     let mut pending = Pending::new(rt.alloc()).expect(&rt, NO_MEMORY);

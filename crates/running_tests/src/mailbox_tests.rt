@@ -10,6 +10,7 @@ use std::alloc::{AllocError, Global};
 use std::process::Abort;
 use std::sync::Wait;
 use std::thread::{Threads, join_mut};
+use trace_laws::Parcel;
 
 /// A letter of process 1 with this number.
 fn letter(receiver: Pid, number: u64) -> Letter
@@ -80,6 +81,19 @@ fn letters_of_slips(rt: HostRuntime) {
     have_numbers(&rt, alloc, &lists, &[&[], &[1, 1], &[]]);
 }
 
+/// The letters of these lists.
+fn opened(alloc: Global, lists: Vec<Vec<Parcel>>) -> Result<Vec<Vec<Letter>>, AllocError> {
+    let mut all = Vec::new(alloc);
+    for list in lists {
+        let mut letters = Vec::new(alloc);
+        for parcel in list {
+            letters.push(parcel.into_letter())?;
+        }
+        all.push(letters)?;
+    }
+    Ok(all)
+}
+
 /// Empties mailboxes of which one slip was made.
 fn empty<R: Abort + Wait>(
     rt: &R,
@@ -95,7 +109,8 @@ fn empty<R: Abort + Wait>(
     let lists = mailboxes.lists(alloc).expect(rt, NO_MEMORY);
     let slips = vec![in alloc; slip].expect(rt, NO_MEMORY);
     let emptied = mailboxes.empty(rt, alloc, lists, slips);
-    emptied.expect(rt, NO_MEMORY)
+    let (mailboxes, lists) = emptied.expect(rt, NO_MEMORY);
+    (mailboxes, opened(alloc, lists).expect(rt, NO_MEMORY))
 }
 
 #[test]
@@ -130,9 +145,20 @@ fn no_slip_no_letter(rt: HostRuntime) {
     }
 }
 
-/// Posts letters with 1,000 numbers from `first` to this receiver.
+/// A parcel with the letter of this number.
+fn parcel<R: Abort>(rt: &R, alloc: Global, receiver: Pid, number: u64) -> Parcel
+    ensures { result.key.receiver ≡ receiver }
+{
+    match Parcel::pack(alloc, letter(receiver, number)) {
+        Ok(parcel) => parcel,
+        Err(_) => panic!(rt; "memory was refused"),
+    }
+}
+
+/// Posts letters with 1,000 numbers from `first` to this receiver, each by itself.
 fn post_many<R: Abort + Wait>(
     rt: &R,
+    alloc: Global,
     mailboxes: &SharedMailboxes,
     slip: &mut Slip,
     receiver: Pid,
@@ -144,9 +170,32 @@ fn post_many<R: Abort + Wait>(
     ensures slip { IsSlipOf mailboxes.now slip.new }
 {
     for number in first..first + 1000 {
-        let posted = mailboxes.post(rt, slip, letter(receiver, number));
+        let posted = mailboxes.post(rt, slip, parcel(rt, alloc, receiver, number));
         assert!(rt; posted.is_ok());
     }
+}
+
+/// The same by a tray.
+fn post_together<R: Abort + Wait>(
+    rt: &R,
+    alloc: Global,
+    mailboxes: &SharedMailboxes,
+    slip: &mut Slip,
+    receiver: Pid,
+    first: u64,
+)
+    requires slip { IsSlipOf mailboxes.now slip.old }
+    requires receiver { receiver ≤ length mailboxes.now }
+    requires first { first ≤ 1000000 }
+    ensures slip { IsSlipOf mailboxes.now slip.new }
+{
+    let mut tray = slip.tray().expect(rt, NO_MEMORY);
+    for number in first..first + 1000 {
+        let filed = tray.put(parcel(rt, alloc, receiver, number));
+        filed.expect(rt, NO_MEMORY);
+    }
+    let posted = mailboxes.post_all(rt, slip, tray);
+    posted.expect(rt, NO_MEMORY);
 }
 
 #[test]
@@ -159,8 +208,8 @@ fn two_threads_post_to_one_receiver(rt: HostRuntime) {
     let shared = mailboxes.shared();
     join_mut(
         &rt,
-        &mut || post_many(&rt, shared, &mut first, two, 1),
-        &mut || post_many(&rt, shared, &mut second, two, 1001),
+        &mut || post_many(&rt, alloc, shared, &mut first, two, 1),
+        &mut || post_together(&rt, alloc, shared, &mut second, two, 1001),
     );
     let slips = vec![in alloc; first, second].expect(&rt, NO_MEMORY);
     let lists = mailboxes.collect(&rt, alloc, slips);
@@ -190,7 +239,8 @@ fn post_and_empty_by<R: Abort + Threads + Wait + Sync>(
     let lists = mailboxes.lists(alloc).expect(rt, NO_MEMORY);
     let slips = vec![in alloc; first, second].expect(rt, NO_MEMORY);
     let emptied = mailboxes.empty_by(rt, alloc, threads, lists, slips);
-    emptied.expect(rt, NO_MEMORY)
+    let (mailboxes, lists) = emptied.expect(rt, NO_MEMORY);
+    (mailboxes, opened(alloc, lists).expect(rt, NO_MEMORY))
 }
 
 #[test]

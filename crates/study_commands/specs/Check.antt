@@ -7,6 +7,7 @@ use Rattle.study.specs.Grid.{GridRecord, runs}
 use Rattle.study.specs.Shard.{ShardRecord}
 use Rattle.study_commands.specs.File.{IsScenario}
 use Rattle.study_commands.specs.Sweep.{IsSaid}
+use Rattle.study_commands.specs.declared.checking.TheConstants.{WORTH_FOUR_WORKERS}
 use Rattle.study_line.specs.declared.order.SourceTexts.{SourceTexts}
 use Rattle.study_line.specs.declared.order.StudyTexts.{StudyTexts}
 use Rattle.sweep.specs.Layout.{LayoutRecord}
@@ -23,7 +24,8 @@ limit_text limit entries =
 abbrev pub window_text : (ticks entries : ℕ) → List ℕ
 window_text ticks entries =
     codes "windows of " ++ (decimal ticks ++ (codes " ticks have about " ++ (decimal entries
-    ++ codes " entries: list is likely faster\n")))
+    ++ (if nat_lt entries WORTH_FOUR_WORKERS then codes " entries: list is likely faster\n"
+    else codes " entries: run by 4 workers is likely faster\n"))))
 
 -- an accepted file's line, and what is told behind it
 abbrev pub told_size : (processes horizon entries seconds : ℕ) → List ℕ → List ℕ

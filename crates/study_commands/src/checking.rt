@@ -42,14 +42,23 @@ fn limit_line(alloc: Global, limit: u64, entries: u64) -> Result<String, AllocEr
     }
 }
 
-/// How long the windows of a run may be, about how much they then are, and which way is likely faster: no run by
-/// windows that was measured, on 4 cores, was faster than the list (docs/SPEED.md, 'By windows').
+/// From so many entries a window on, a run by 4 workers was the quicker one where it was measured, on 4 cores
+/// (docs/SPEED.md, 'By windows').
+pub const WORTH_FOUR_WORKERS: u64 = 50_000;
+
+/// How long the windows of a run may be, about how much they then are, and which way is likely faster.
 fn window_line(alloc: Global, ticks: u32, entries: u64) -> Result<String, AllocError>
     ensures { IfOk result (λ s. string_bytes s ≡ window_text ticks entries) }
 {
-    format!(in alloc;
-        "windows of {ticks} ticks have about {entries} entries: list is likely faster\n"
-    )
+    if entries < WORTH_FOUR_WORKERS {
+        format!(in alloc;
+            "windows of {ticks} ticks have about {entries} entries: list is likely faster\n"
+        )
+    } else {
+        format!(in alloc;
+            "windows of {ticks} ticks have about {entries} entries: run by 4 workers is likely faster\n"
+        )
+    }
 }
 
 /// The lines of an accepted file.

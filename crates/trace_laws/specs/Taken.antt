@@ -8,7 +8,7 @@ use Rattle.process_api.specs.declared.message.StepInput.TheVariants as input
 use Rattle.trace_laws.specs.Step.{Event}
 use Rattle.trace_laws.specs.declared.event.Taken.{Taken}
 use Rattle.trace_laws.specs.declared.event.Taken.TheVariants as taken
-use Rattle.std.specs.Prelude.{ℕ, ◌-◌, ◌+◌, ◌<◌, ◌≤◌, ◌^◌, ◌⊎◌, ⊤}
+use Rattle.std.specs.Prelude.{ℕ, ◌-◌, ◌+◌, ◌<◌, ◌≤◌, ◌^◌, ◌⊎◌, ⊤, replicate, None}
 
 -- what a process takes, where this one is the sender
 abbrev pub input_of : ℕ → Taken → StepInput
@@ -21,17 +21,27 @@ input_of sender (taken.Estimate round value age) = input.Letter sender (payload.
 input_of sender (taken.Proposal round value) = input.Letter sender (payload.Proposal round value)
 input_of sender (taken.Reply round ack) = input.Letter sender (payload.Reply round ack)
 input_of sender (taken.Decide round value) = input.Letter sender (payload.Decide round value)
+input_of sender (taken.Empty alloc round n) = input.Letter sender (payload.Vector round (replicate n None))
 input_of sender (taken.Aside what) = input.Letter sender what.value
 
 -- the event that a letter becomes
 abbrev pub event_of : Letter → Event
 event_of x = (x.key, input.Letter x.key.sender x.payload)
 
+-- what a letter says, where this is one
+abbrev pub said_in : StepInput → Payload
+said_in (input.Letter sender said) = said
+said_in _ = payload.Alive
+
+-- the letter that became this event
+abbrev pub letter_of : Event → Letter
+letter_of e = record { key = e.0; payload = said_in e.1 }
+
 -- a stamp that is after its round, or 2^32 rounds before it or more
 abbrev pub IsFarFrom : (round stamp : ℕ) → Type 0
 IsFarFrom round stamp = (round < stamp) ⊎ (stamp + 2 ^ 32 ≤ round)
 
--- what takes memory of its own: a set with a member above 64, cells, or a stamp that is far from its round
+-- what takes memory of its own: a set with a member above 64, cells (not if all are empty), or a stamp that is far from its round
 abbrev pub LiesAside : Payload → Type 0
 LiesAside (payload.Suspects set) = HasAbove 64 set
 LiesAside (payload.Vector round cells) = ⊤

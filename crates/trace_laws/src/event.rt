@@ -1,9 +1,9 @@
 //! Events: what waits for a process.
-ghost use Rattle.std.specs.Prelude.{◌≡◌, ◌+◌, ℕ, IfErr, IfOk, MatchOption};
+ghost use Rattle.std.specs.Prelude.{◌≡◌, ◌+◌, ℕ, IfErr, IfOk, MatchOption, OnErr};
 ghost use Rattle.trace_laws.specs.World.{start_of};
 ghost use Rattle.trace_laws.specs.Taken.{IsFarFrom, LiesAside, event_of, input_of};
 
-use process_api::{Key, Payload, Pid, ProcSet, StepInput, Tag};
+use process_api::{Cells, Key, Payload, Pid, ProcSet, StepInput, Tag};
 use std::alloc::{AllocError, Global};
 use std::marker::Model;
 use std::mem::replace;
@@ -23,6 +23,8 @@ enum Taken {
     Proposal { round: u64, value: u32 },
     Reply { round: u64, ack: bool },
     Decide { round: u64, value: u32 },
+    // a vector of n empty cells
+    Empty { alloc: Global, round: u64, n: usize },
     Aside(Box<Payload>),
 }
 
@@ -36,12 +38,19 @@ fn age_of(round: u64, stamp: u64) -> Option<u32>
 }
 
 impl Taken {
-    /// What a large letter says, which is moved out of its place.
+    /// What a large letter says, which is moved out of its place, unless memory is refused.
     fn aside(alloc: Global, payload: &mut Payload) -> Result<Taken, AllocError>
-        ensures { IfOk result (λ taken. (sender : ℕ) → input_of sender taken ≡ StepInput.Letter sender payload.old) }
+        ensures input { IfOk result (λ taken.
+            (sender : ℕ) → input_of sender taken ≡ StepInput.Letter sender payload.old) }
+        ensures back { OnErr result (payload.new ≡ payload.old) }
     {
-        let large = replace(payload, Payload::Alive);
-        Ok(Taken::Aside(Box::new(alloc, large)?))
+        match Box::new(alloc, replace(payload, Payload::Alive)) {
+            Ok(large) => Ok(Taken::Aside(large)),
+            Err(refused) => {
+                *payload = refused.value;
+                Err(AllocError)
+            }
+        }
     }
 
     /// What a letter says. What is left in its place then means nothing.
@@ -50,6 +59,7 @@ impl Taken {
         ensures input { IfOk result (λ taken.
             (sender : ℕ) → input_of sender taken ≡ StepInput.Letter sender payload.old) }
         ensures large { IfErr result (λ _. LiesAside payload.old) }
+        ensures back { OnErr result (payload.new ≡ payload.old) }
     {
         let taken = match payload {
             Payload::Alive => Taken::Alive,
@@ -67,6 +77,14 @@ impl Taken {
                 stamp,
             } => match age_of(round, stamp) {
                 Some(age) => Taken::Estimate { round, value, age },
+                None => Taken::aside(alloc, payload)?,
+            },
+            Payload::Vector { round, cells } => match cells.all_empty() {
+                Some(n) => Taken::Empty {
+                    alloc,
+                    round: *round,
+                    n,
+                },
                 None => Taken::aside(alloc, payload)?,
             },
             large => Taken::aside(alloc, large)?,
@@ -93,6 +111,10 @@ impl Taken {
             &mut Taken::Proposal { round, value } => Payload::Proposal { round, value },
             &mut Taken::Reply { round, ack } => Payload::Reply { round, ack },
             &mut Taken::Decide { round, value } => Payload::Decide { round, value },
+            &mut Taken::Empty { alloc, round, n } => Payload::Vector {
+                round,
+                cells: Cells::empty(alloc, n),
+            },
             Taken::Aside(payload) => replace(&mut **payload, Payload::Alive),
         };
         StepInput::Letter { sender, payload }
@@ -154,12 +176,14 @@ impl Event {
     ///
     /// # Errors
     ///
-    /// `AllocError` where memory was refused, for a letter with a set that has a member above 64, with cells, or with a
-    /// stamp that is after its round, or 2^32 rounds before it or more.
+    /// `AllocError` where memory was refused, for a letter with a set that has a member above 64, with cells that
+    /// aren't all empty, or with a stamp that is after its round, or 2^32 rounds before it or more. It is in its place
+    /// then.
     #[inline(always)]
     pub fn letter(alloc: Global, key: Key, payload: &mut Payload) -> Result<Event, AllocError>
         ensures event { IfOk result (λ event. event ≡ event_of (record { key = key; payload = payload.old })) }
         ensures large { IfErr result (λ _. LiesAside payload.old) }
+        ensures back { OnErr result (payload.new ≡ payload.old) }
     {
         let taken = Taken::letter(alloc, payload)?;
         Ok(Event { key, taken })

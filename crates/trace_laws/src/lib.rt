@@ -9,7 +9,8 @@
 //! (`proofs/Closed.antt`); each entry but a start has one cause, an earlier one, and each event that a step adds below
 //! the horizon is one entry (`proofs/Effects.antt`). The contract that names these laws is that of `law_only_history` of
 //! `event_list`, and the runs of `event_list` and `windows` rest on them. The only code is an [`Event`], which
-//! waits for its receiver, and [`Joins`], the trait of whoever takes the events of a step.
+//! waits for its receiver, a [`Parcel`], which is a letter on its way, and [`Joins`], the trait of whoever takes the
+//! events of a step.
 //!
 //! For example, of two processes that send each other a letter at tick 0 the trace begins with both starts, in the
 //! order of their numbers.
@@ -17,6 +18,8 @@
 
 mod event;
 mod joins;
+mod parcel;
 
 pub use event::Event;
 pub use joins::Joins;
+pub use parcel::Parcel;

@@ -5,14 +5,15 @@ ghost use Rattle.trace_merge.specs.Parts.{all_of};
 use crate::joined::Joined;
 use process_api::{Entry, RunError};
 use std::alloc::Global;
+use std::collections::VecDeque;
 
 /// A part of which the first entries have been taken.
 #[derive(Drop)]
 struct Lane {
     // no entry that is left is before this tick, so that up to it the entries needn't be looked at
     next: Option<u32>,
-    // what is left, the next entry last
-    rest: Vec<Entry>,
+    // what is left
+    rest: VecDeque<Entry>,
 }
 
 impl Lane {
@@ -28,13 +29,16 @@ impl Lane {
             Some(next) if tick < next => return Ok(Some(next)),
             _ => self.next = None,
         }
-        while let Some(last) = self.rest.last() {
-            let next = last.key.tick;
+        while let Some(first) = self.rest.front() {
+            let next = first.key.tick;
             if tick < next {
                 self.next = Some(next);
                 return Ok(Some(next));
             }
-            merged.push(self.rest.take_last())?;
+            let Some(entry) = self.rest.pop_front() else {
+                unreachable!()
+            };
+            merged.push(entry)?;
         }
         Ok(None)
     }
@@ -67,10 +71,12 @@ fn lanes_of(alloc: Global, parts: Vec<Vec<Entry>>) -> Result<Vec<Lane>, RunError
     ensures err { IfErr result (λ e. e ≡ RunError.Memory) }
 {
     let mut lanes = Vec::with_capacity(alloc, parts.len())?;
-    for mut part in parts {
-        part.reverse();
+    for part in parts {
         let next = Some(0);
-        lanes.push(Lane { next, rest: part })?;
+        lanes.push(Lane {
+            next,
+            rest: part.into(),
+        })?;
     }
     Ok(lanes)
 }

@@ -11,7 +11,7 @@ use Rattle.steps.specs.Seat.{process_of, own_of, IsSeated}
 use Rattle.steps.specs.declared.seat.Seat.{Seat}
 use Rattle.trace_laws.specs.Step.{Event, Events, Process, Made, step}
 use Rattle.trace_laws.specs.World.{Pair, Has, entries}
-use Rattle.mailboxes.specs.Mailboxes.{SlipView, with_letter}
+use Rattle.mailboxes.specs.Mailboxes.{SlipView, filed, with_letter}
 use Rattle.trace_laws.specs.Taken.{event_of}
 use Rattle.window_laws.specs.Machine.{for_others}
 use Rattle.window_laws.specs.Window.{BerthRun}
@@ -27,10 +27,15 @@ abbrev pub with_letters : SlipView → List Letter → SlipView
 with_letters slip [] = slip
 with_letters slip (x ∷ letters) = with_letters (with_letter slip x) letters
 
--- just the letters of these events to others than process p were posted by the slip, in order
-abbrev pub ArePosted : (p : ℕ) → List Event → (old new : SlipView) → Type 0
-ArePosted p es old new =
-    (letters : List Letter) × (map event_of letters ≡ for_others p es) × (new ≡ with_letters old letters)
+-- the lists of all receivers after further letters came into them, in this order
+abbrev pub all_filed : List (List Letter) → List Letter → List (List Letter)
+all_filed lists [] = lists
+all_filed lists (x ∷ letters) = all_filed (filed lists x) letters
+
+-- just the letters of these events to others than process p came into the lists of their receivers, in order
+abbrev pub AreFiled : (p : ℕ) → List Event → (old new : List (List Letter)) → Type 0
+AreFiled p es old new =
+    (letters : List Letter) × (map event_of letters ≡ for_others p es) × (new ≡ all_filed old letters)
 
 module _ {M : Type 0} (mind : M → Mind) (s : Record) where
   -- what the process in a seat makes of an event

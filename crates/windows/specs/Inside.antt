@@ -3,3 +3,4 @@ pub mod Outbox
 pub mod Workers
 pub mod Shared
 pub mod Closing
+pub mod Agenda

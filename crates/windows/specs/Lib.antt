@@ -1,5 +1,4 @@
 pub mod Plan
-pub mod Agenda
 pub mod Berth
 pub mod Stage
 pub mod Refusals

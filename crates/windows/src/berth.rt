@@ -5,14 +5,13 @@ ghost use Rattle.process_api.specs.declared.message.Letter.{Letter};
 ghost use Rattle.steps.specs.Seat.{process_of, own_of, IsMindIn, IsSeated};
 ghost use Rattle.trace_laws.specs.World.{joined, opened};
 ghost use Rattle.mailboxes.specs.Mailboxes.{IsSlipOf};
-ghost use Rattle.windows.specs.Berth.{with_letters, made_in, most_in_part, ArePosted, IsBerth, IsBerthOf, IsLong, RanTo};
+ghost use Rattle.windows.specs.Berth.{with_letters, made_in, most_in_part, AreFiled, IsBerth, IsBerthOf, IsLong, RanTo};
 ghost use Rattle.window_laws.specs.Machine.{for_self};
 ghost use Rattle.windows.specs.Refusals.{IsRefusalOfOne};
 
 use crate::agenda::Agenda;
 use crate::outbox::Outbox;
-use mailboxes::{SharedMailboxes, Slip};
-use pending_events::Pending;
+use mailboxes::{SharedMailboxes, Slip, Tray};
 use process_api::{Action, Entry, Key, Pid, Process, RunError, StepInput};
 use scenario_record::Scenario;
 use std::alloc::{AllocError, Global};
@@ -45,7 +44,7 @@ impl<M: Process> Berth<M> {
         alloc: Global,
         scenario: &Scenario,
         machine: M,
-        pending: Pending,
+        pending: Agenda,
     ) -> Result<Berth<M>, AllocError>
         requires { IsMindIn scenario.now (M.mind machine) }
         ensures process { IfOk result (λ b. process_of M.mind b.seat ≡ opened (M.mind machine)) }
@@ -56,7 +55,7 @@ impl<M: Process> Berth<M> {
         let seat = Seat::new(alloc, scenario, machine)?;
         Ok(Berth {
             seat,
-            pending: Agenda::new(alloc, pending)?,
+            pending,
             part: Vec::new(alloc),
             actions: Vec::new(alloc),
         })
@@ -78,21 +77,18 @@ impl<M: Process> Berth<M> {
 
     /// Makes the step of an event that was taken from the pending ones: the machine's turn, which hands on what it
     /// causes, and the entry joins the part.
-    fn take<R: Wait>(
+    fn take(
         &mut self,
-        rt: &R,
         streams: &Streams<'_>,
-        mailboxes: &SharedMailboxes,
-        slip: &mut Slip,
+        tray: &mut Tray,
         event: (Key, StepInput),
     ) -> Result<(), AllocError>
         requires seated { (most : ℕ) × IsSeated M.mind streams.now most self.old.seat
             × (most + most_step_actions < 2 ^ 64) }
         requires own { event.0.receiver ≡ own_of M.mind self.old.seat }
-        requires slip { IsSlipOf mailboxes.now slip.old }
-        requires boxes { length mailboxes.now ≡ streams.now.processes }
+        requires tray { length tray.old ≡ streams.now.processes }
 
-        ensures slip { IsSlipOf mailboxes.now slip.new }
+        ensures tray { length tray.new ≡ length tray.old }
         ensures process { OnOk result (process_of M.mind self.new.seat
             ≡ (made_in M.mind streams.now self.old.seat event.0 event.1).process) }
         ensures own { OnOk result (own_of M.mind self.new.seat ≡ own_of M.mind self.old.seat) }
@@ -102,16 +98,15 @@ impl<M: Process> Berth<M> {
             (for_self event.0.receiver (made_in M.mind streams.now self.old.seat event.0 event.1).added)) }
         ensures part { OnOk result (self.new.part.items
             ≡ self.old.part.items ++ (made_in M.mind streams.now self.old.seat event.0 event.1).entry ∷ []) }
-        ensures letters { OnOk result (ArePosted event.0.receiver
-            (made_in M.mind streams.now self.old.seat event.0 event.1).added slip.old slip.new) }
+        ensures letters { OnOk result (AreFiled event.0.receiver
+            (made_in M.mind streams.now self.old.seat event.0 event.1).added tray.old tray.new) }
     {
         let (key, input) = event;
         let mut outbox = Outbox {
-            rt,
+            alloc: *self.part.allocator(),
             own: key.receiver,
             pending: &mut self.pending,
-            mailboxes,
-            slip: &mut *slip,
+            tray: &mut *tray,
         };
         let seat = &mut self.seat;
         let actions = &mut self.actions;
@@ -178,9 +173,11 @@ pub fn run_berth<M: Process, R: Wait>(
     if berth.part.len() as u64 > left {
         return Err(RunError::Limit);
     }
+    let mut tray = slip.tray()?;
     while let Some(event) = berth.pending.take_below(end)? {
         check_room(berth.part.len() as u64, left)?;
-        berth.take(rt, streams, mailboxes, slip, event)?;
+        berth.take(streams, &mut tray, event)?;
     }
+    mailboxes.post_all(rt, slip, tray)?;
     Ok(())
 }

@@ -9,14 +9,15 @@ ghost use Rattle.trace_merge.specs.Parts.{all_of, AreDisjoint};
 ghost use Rattle.windows.specs.Inside.Closing.{AreLettersOf};
 
 use mailboxes::{Mailboxes, Slip};
-use process_api::{Entry, Letter, RunError};
+use process_api::{Entry, RunError};
 use std::alloc::Global;
 use std::sync::Wait;
 use std::thread::{Threads, join};
+use trace_laws::Parcel;
 use trace_merge::merge;
 
 /// The mailboxes, as new ones are, and the letters that they had, of receiver 1 first.
-pub(crate) type Emptied = (Mailboxes, Vec<Vec<Letter>>);
+pub(crate) type Emptied = (Mailboxes, Vec<Vec<Parcel>>);
 
 /// How many entries are worth a thread. To start one and join it costs some 50 microseconds, about as long as it takes
 /// to merge so many entries, or to take so many letters out of their mailboxes.

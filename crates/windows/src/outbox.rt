@@ -1,25 +1,22 @@
 //! Where what a process causes in a window goes.
 
 use crate::agenda::Agenda;
-use mailboxes::{SharedMailboxes, Slip};
-use process_api::{Key, Letter, Payload, Pid};
-use std::alloc::AllocError;
-use std::mem::replace;
-use std::sync::Wait;
-use trace_laws::{Event, Joins};
+use mailboxes::Tray;
+use process_api::{Key, Payload, Pid};
+use std::alloc::{AllocError, Global};
+use trace_laws::{Event, Joins, Parcel};
 
-/// Takes what a process causes in a window: an event of its own joins its pending ones, and a letter to another is
-/// posted.
+/// Takes what a process causes in a window: an event of its own joins its pending ones, and a letter to another waits
+/// to be posted.
 #[derive(Drop)]
-pub(crate) struct Outbox<'a, R> {
-    pub rt: &'a R,
+pub(crate) struct Outbox<'a> {
+    pub alloc: Global,
     pub own: Pid,
     pub pending: &'a mut Agenda,
-    pub mailboxes: &'a SharedMailboxes,
-    pub slip: &'a mut Slip,
+    pub tray: &'a mut Tray,
 }
 
-impl<R: Wait> Joins for Outbox<'_, R> {
+impl Joins for Outbox<'_> {
     ghost use Rattle.windows.specs.Inside.Outbox.{HandedOn, IsFor};
 
     ghost serves = { IsFor };
@@ -33,11 +30,6 @@ impl<R: Wait> Joins for Outbox<'_, R> {
 
     #[inline(always)]
     fn send(&mut self, key: Key, payload: &mut Payload) -> Result<(), AllocError> {
-        let payload = replace(payload, Payload::Alive);
-        let letter = Letter { key, payload };
-        if self.mailboxes.post(self.rt, self.slip, letter).is_err() {
-            return Err(AllocError);
-        }
-        Ok(())
+        self.tray.put(Parcel::new(self.alloc, key, payload)?)
     }
 }

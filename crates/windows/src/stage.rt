@@ -14,17 +14,17 @@ ghost use Rattle.window_laws.specs.Machine.{StandsFor};
 ghost use Rattle.windows.specs.Refusals.{IsRefusalOfOne};
 ghost use Rattle.windows.specs.Stage.{stage_of, start_event, delivered, IsOpened, IsNextStart, IsStageAfter};
 
+use crate::agenda::Agenda;
 use crate::berth::Berth;
 use crate::halves::{empty_and_merge, threads_for};
 use mailboxes::{Mailboxes, Slip};
-use pending_events::Pending;
-use process_api::{Entry, Letter, Pid, Process, RunError};
+use process_api::{Entry, Pid, Process, RunError};
 use scenario_record::Scenario;
 use std::alloc::{AllocError, Global};
 use std::mem::replace;
 use std::sync::Wait;
 use std::thread::Threads;
-use trace_laws::Event;
+use trace_laws::Parcel;
 
 /// All processes of a scenario between two windows: each in its berth, the tick at which the next window starts, and
 /// how many entries the trace has so far. The parameter has no bound here, so that machines may be boxed.
@@ -52,15 +52,6 @@ pub(crate) struct Ran<M> {
     pub workers: usize,
 }
 
-/// The start of a process, alone.
-fn start_of(alloc: Global, p: Pid) -> Result<Pending, AllocError>
-    ensures { IfOk result (λ m. m ≡ start_event p) }
-{
-    let mut pending = Pending::new(alloc)?;
-    pending.join(Event::start(p))?;
-    Ok(pending)
-}
-
 /// The machines, each in its berth with its start.
 fn berths_of<M: Process>(
     alloc: Global,
@@ -74,7 +65,7 @@ fn berths_of<M: Process>(
 {
     let mut berths = Vec::new(alloc);
     for machine in machines {
-        let pending = start_of(alloc, machine.pid())?;
+        let pending = Agenda::new(alloc, machine.pid())?;
         berths.push(Berth::new(alloc, scenario, machine, pending)?)?;
     }
     Ok(berths)
@@ -115,7 +106,7 @@ fn take_parts<M: Process>(
 fn deliver_all<M: Process>(
     alloc: Global,
     berths: Vec<Berth<M>>,
-    letters: Vec<Vec<Letter>>,
+    letters: Vec<Vec<Parcel>>,
 ) -> Result<Vec<Berth<M>>, AllocError>
     requires { vec_len letters ≡ vec_len berths }
     ensures seats { IfOk result (λ r. map (λ b. b.seat) r.items ≡ map (λ b. b.seat) berths.items) }

@@ -41,10 +41,3 @@ pub record IsSame (old new : Buckets) : Type 0 where
 abbrev pub flat : List (ℕ × Vec Event) → List Event
 flat [] = []
 flat (p ∷ ps) = reverse p.1.items ++ flat ps
-
--- these events of a tick came as its bucket
-pub record IsStowed (old new : Buckets) (tick : ℕ) (due : List Event) : Type 0 where
-  pub here : bucket new tick ≡ due
-  pub others : (t : ℕ) → t ≢ tick → bucket new t ≡ bucket old t
-  pub has : (t : ℕ) → HasTick new t → (t ≢ tick → HasTick old t)
-  pub ordered : tree.IsOrdered nat_cmp new

@@ -1,7 +1,8 @@
 use Rattle.std.proofs.Common.{◌≡◌, ◌<◌, ◌++◌, ◌∷◌, ◌∙◌, length, ap, arith, []}
+use Rattle.std.proofs.lemmas.List.{length-set}
 use Rattle.std.proofs.lemmas.Result.{on_err_weaker, on_ok_weaker}
-use Rattle.pending_events.specs.Inside.Lanes.{lane}
-use Rattle.pending_events.proofs.Dealing.{lane_set, lane_kept, lane_there}
+use Rattle.pending_events.specs.Inside.Calendar.{lane}
+use Rattle.pending_events.proofs.Nearby.{lane_set, lane_kept, lane_there}
 use Rattle.pending_events.proofs.calendar.put_near.Goals as goal
 
 pub returns : goal.returns
@@ -14,4 +15,5 @@ returns c =
       ok = on_ok_weaker c.put_last.result (λ more. lane_set ls c.args.place v inside ∙ (more ∙ ap (λ es. es ++ c.args.event ∷ []) there)) c.put_last.ensures.ok;
       err = on_err_weaker c.put_last.result (λ same. lane_set ls c.args.place v inside ∙ (same ∙ there)) c.put_last.ensures.err;
       others = λ other n. lane_kept ls c.args.place v other n;
+      long = length-set ls c.args.place v;
     }

@@ -1,6 +1,7 @@
-use Rattle.std.proofs.Common.{take}
-use Rattle.windows.specs.Agenda.{IsSoonestOf}
+use Rattle.std.proofs.Common.{map, take}
+use Rattle.trace_laws.specs.Taken.{event_of}
+use Rattle.windows.specs.Inside.Agenda.{IsSoonestOf}
 use Rattle.windows.proofs.agenda.soonest_of.Given as goal
 
 abbrev pub invariant-loop-letter : goal.invariant-loop-letter
-invariant-loop-letter l = IsSoonestOf (take l.letter-index l.fn.letters) l.soonest
+invariant-loop-letter l = IsSoonestOf (map event_of (take l.letter-index l.fn.letters)) l.soonest

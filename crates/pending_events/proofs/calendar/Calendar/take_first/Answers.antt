@@ -1,22 +1,19 @@
-use Rattle.std.proofs.Common.{◌≤◌, ◌<◌, ◌+◌, ◌^◌, ◌++◌, ◌∙◌, ap, arith}
+use Rattle.std.proofs.Common.{subst, sym, ◌≡◌, ◌++◌, ◌%◌}
 use Rattle.pending_events.specs.Inside.Buckets.{bucket}
-use Rattle.pending_events.proofs.Nearby.{next_calendar, next_taken}
+use Rattle.pending_events.specs.Inside.Calendar.{IsTaken, lane}
+use Rattle.pending_events.proofs.Nearby.{calendar_of, next_calendar, next_taken}
 use Rattle.pending_events.proofs.calendar.Calendar.take_first.Goals as goal
 
 pub returns : goal.returns
 returns c =
     let f = c.args.self.now in
-    let tick = c.in-Some.tick in
+    let tick = c.in_ok-tick.tick in
     let ring = c.take_near-near.new.ring in
     let map = c.take_listed-listed.new.map in
     let n = c.take_near-near.ensures in
     let m = c.take_listed-listed.ensures in
-    let to = c.max-self.result in
-    let further : f.from ≤ to = omega (arith, c.max-self.ensures) in
-    let up_to : f.from < to → to ≤ tick = λ more. omega (arith, more, c.max-self.ensures, c.min.ensures) in
-    let room : to + 1024 < 2 ^ 32 = omega (arith, c.max-self.ensures, c.min.ensures, c.requires.room) in
+    let whole : c.take_listed-listed.result.items ++ c.take_near-near.result.items ≡ bucket f.map tick ++ lane f.ring.items (tick % 1024) = λ i. m.whole i ++ n.whole i in
     record {
-      calendar = next_calendar f c.requires tick ring map c.in-Some.ensures n.left n.gone n.others m.gone m.others m.ordered to further up_to room;
-      taken = next_taken f c.requires tick ring map c.in-Some.ensures n.left n.gone n.others m.gone m.others m.ordered to further up_to room c.in_ok-bucket.bucket.items
-          (c.in_ok-bucket.ensures ∙ (ap (λ es. es ++ c.take_near-near.result.items) m.whole ∙ ap (λ es. bucket f.map tick ++ es) n.whole));
+      calendar = next_calendar f c.requires tick c.in_ok-tick.ensures ring n.gone n.others n.long map m.gone m.others m.ordered c.min-self.result c.min-self.ensures;
+      taken = subst (IsTaken f (calendar_of c.min-self.result ring map) tick) (sym whole) (next_taken f c.requires tick c.in_ok-tick.ensures ring n.gone n.others n.long map m.gone m.others m.ordered c.min-self.result c.min-self.ensures);
     }

@@ -1,0 +1,6 @@
+use Rattle.std.proofs.Common.{◌≡◌, ◌++◌}
+use Rattle.std.specs.Vec.Iter.{into_iter_items}
+use Rattle.mailboxes.proofs.mailboxes.letters_of.Given as goal
+
+abbrev pub invariant-loop-parcel : goal.invariant-loop-parcel
+invariant-loop-parcel l = l.letters.items ++ into_iter_items l.parcel-iterator ≡ l.fn.list.items

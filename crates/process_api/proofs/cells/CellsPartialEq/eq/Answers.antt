@@ -1,0 +1,26 @@
+use Rattle.std.proofs.Common.{◌≡◌, ◌==◌, sym, ap, ◌∙◌, length, get_or, true, None, arith}
+use Rattle.std.specs.Option.{option_eq}
+use Rattle.process_api.proofs.Vectors.{alike, granted, one_more, refuted, unlike, wide}
+use Rattle.process_api.proofs.cells.CellsPartialEq.eq.Goals as goal
+
+pub returns-then-ne : goal.returns-then-ne
+returns-then-ne c =
+    let mine = c.args.self.now in
+    let other = c.args.other.now in
+    let long : length mine ≡ c.self.inside.count = ap length (sym c.self.view_is) ∙ wide c.self.inside.cells.items c.self.inside.count c.self.invariant in
+    sym (unlike (option_eq ◌==◌) None mine other c.loop-place.place (omega (arith, long, c.loop-place-test.true))
+    ((λ i. option_eq ◌==◌ (sym c.at.ensures i) (sym c.at-in-loop-place.ensures i)) ∙ refuted _ (sym c.if-ne.true ∙ c.ne.ensures)))
+
+pub loop-place-preserved : goal.loop-place-preserved
+loop-place-preserved c =
+    one_more (λ j. option_eq ◌==◌ (get_or c.args.self.now j None) (get_or c.args.other.now j None) ≡ true) c.loop-place.place c.loop-place.invariant
+    ((λ i. option_eq ◌==◌ (sym c.at.ensures i) (sym c.at-in-loop-place.ensures i)) ∙ granted _ (sym c.if-ne.false ∙ c.ne.ensures))
+
+pub returns : goal.returns
+returns c =
+    let mine = c.args.self.now in
+    let other = c.args.other.now in
+    let long : length mine ≡ c.self.inside.count = ap length (sym c.self.view_is) ∙ wide c.self.inside.cells.items c.self.inside.count c.self.invariant in
+    let as_long : length other ≡ c.other.inside.count = ap length (sym c.other.view_is) ∙ wide c.other.inside.cells.items c.other.inside.count c.other.invariant in
+    sym (alike (option_eq ◌==◌) None mine other (long ∙ (c.if-self-other.false ∙ sym as_long))
+    (λ i within. c.loop-place.invariant i (omega (arith, within, long, c.loop-place-test.false))))

@@ -1,0 +1,10 @@
+use Rattle.std.proofs.Common.{◌≡◌, ◌++◌, ℕ, List, map}
+use Rattle.std.specs.Vec.Iter.{into_iter_items}
+use Rattle.trace_laws.specs.Step.{Event}
+use Rattle.trace_laws.specs.Taken.{event_of}
+use Rattle.windows.specs.Inside.Agenda.{IsParted}
+use Rattle.windows.proofs.agenda.Parted.file_letters.Given as goal
+
+abbrev pub invariant-loop-letter : goal.invariant-loop-letter
+invariant-loop-letter l = (end : ℕ) (es : List Event) → IsParted end es l.fn.self
+    → (done : List Event) × (done ++ map event_of (into_iter_items l.letter-iterator) ≡ es ++ map event_of l.fn.letters.items) × IsParted end done l.self
