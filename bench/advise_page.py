@@ -24,12 +24,13 @@ from html import unescape
 ROOT = os.path.dirname(os.path.dirname(os.path.abspath(__file__)))
 WIDTHS = (1200, 420)
 SCHEMES = {"light": 1, "dark": 0}
-TALL, HIGH = 6000, 2400
+TALL = 6000
 # what the page is asked of its layout: boxes of texts that leave something, or lie on one another
 ASKED = """
 const wrong = [], texts = [];
 const wide = document.documentElement.scrollWidth, window_ = document.documentElement.clientWidth;
 if (wide > window_) wrong.push(`the page is ${wide} wide, and the window ${window_}`);
+const high = Math.ceil(document.querySelector('main').getBoundingClientRect().bottom);
 for (const it of document.querySelectorAll('details')) it.open = true;
 for (const text of document.querySelectorAll('figure svg text')) {
   const box = text.getBoundingClientRect(), frame = text.ownerSVGElement.getBoundingClientRect();
@@ -54,7 +55,7 @@ if (small.length) wrong.push(`too small to read: ${small[0]}`);
 const answer = document.createElement('pre');
 answer.id = 'answer';
 answer.textContent = JSON.stringify({wrong, pictures, words: document.body.innerText.split(/\\s+/).length,
-  high: document.documentElement.scrollHeight});
+  high});
 document.body.append(answer);
 """
 
@@ -161,7 +162,7 @@ def try_page(tried, asked, page):
             with tempfile.TemporaryDirectory() as folder:
                 shot = os.path.join(folder, "shot.png")
                 shutil.copy(page, os.path.join(folder, "page.html"))
-                chromium(asked, folder, f"--window-size={width},{HIGH}", f"--screenshot={shot}",
+                chromium(asked, folder, f"--window-size={width},{found['high']}", f"--screenshot={shot}",
                          f"--force-device-scale-factor={1 if asked.shots else 0.5}",
                          f"--blink-settings=preferredColorScheme={number}", f"file://{folder}/page.html")
                 tried.good(f"{name}, {width} wide, {scheme}: no picture", os.path.exists(shot))

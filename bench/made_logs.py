@@ -7,11 +7,11 @@ Five processes make hours of letters, ten a second, each by a random stream of i
 hour of each is written as CSV and goes through `suite/advise`, with its sweeps, or those of RATES of letters alone. The
 same settings, those with a bound beyond the delays and those that wishes got, are counted straight from N (100) other
 hours. Of each setting the mistakes of `advise`, by the log and by both network files, are compared with the mean of the
-other hours. An error is that of one hour, the greater of what `advise` says and of the deviation among the other hours,
-with that of the mean and of the sweep. Of each wish that is answered as shown it is asked whether the other hours keep
-it, and of each setting whether they keep what its mistakes are at most, as 95 in 100 should. It prints a table, which
-with --page takes the place of the one in FILE, and ends with status 1 where a mean is more than 3 errors off, or what was
-shown isn't kept.
+other hours; rows of the files that `advise` itself says aren't to be believed are counted apart. An error is that of one
+hour, the greater of what `advise` says and of the deviation among the other hours, with that of the mean and of the sweep.
+Of each wish that is answered as shown it is asked whether the other hours keep it, and of each setting whether they keep
+what its mistakes are at most, as 95 in 100 should. It prints a table, which with --page takes the place of the one in
+FILE, and ends with status 1 where a mean is more than 3 errors off, or what was shown isn't kept.
 """
 import argparse
 import math
@@ -190,16 +190,27 @@ def off(rate, own, swept, mean, deviation, hours):
     return abs(rate - mean) / whole if whole else (0.0 if rate == mean else math.inf)
 
 
+def within(errors):
+    if not errors:
+        return "none"
+    return ", ".join(str(sum(it <= most for it, _ in errors)) for most in (1, 2, 3)) + f" of {len(errors)}"
+
+
+def apart(errors):
+    """Of the rows that aren't to be believed."""
+    return f"; {sum(it <= 3 for it, _ in errors)} of {len(errors)} others" if errors else ""
+
+
 def line_of(name, made, found, hours):
     """A process's line of the table, and what is wrong."""
     cells, wrong, means = [], [], {row.setting: mean for row, mean, _ in found}
     kinds = [("log", lambda it: it.log), ("replayed", lambda it: it.replayed), ("fitted", lambda it: it.fitted)]
     for kind, of in kinds:
-        errors = [(off(of(row).rate, row.log.error, 0.0 if kind == "log" else of(row).error, mean, deviation, hours),
-                   row.setting.row) for row, mean, deviation in found if of(row) and row.setting.bears >= 0]
-        within = ", ".join(str(sum(it <= most for it, _ in errors)) for most in (1, 2, 3))
-        cells.append(f"{within} of {len(errors)}")
-        wrong += [f"{name}: {kind}, {row}: {it:.1f} errors off" for it, row in errors if it > 3]
+        errors = [(off(of(row).rate, row.log.error, 0.0 if kind == "log" else of(row).error, mean, deviation, hours), row)
+                  for row, mean, deviation in found if of(row) and row.setting.bears >= 0]
+        believed = [it for it in errors if kind == "log" or not it[1].doubt]
+        cells.append(within(believed) + apart([it for it in errors if it not in believed]))
+        wrong += [f"{name}: {kind}, {row.setting.row}: {it:.1f} errors off" for it, row in believed if it > 3]
     kept = [mean <= row.log.most for row, mean, _ in found]
     answers = []
     for it in made.answers:
@@ -212,7 +223,7 @@ def line_of(name, made, found, hours):
     return [name, *cells, f"{sum(kept)} of {len(kept)}", "; ".join(answers)], wrong
 
 
-HEADS = ["One hour with", "By the log: within 1, 2, 3 errors", "Replayed", "Fitted", "Bounds kept",
+HEADS = ["One hour with", "By the log: within 1, 2, 3 errors", "Replayed, of believed rows", "Fitted", "Bounds kept",
          "Wishes, with what the others have"]
 
 

@@ -4,11 +4,13 @@
     bench/suite.py [--jobs N] [--points N]
 
 It makes all quick points again (suite/results/quick is of `suite.py run --quick --to results/quick`), and of each study
-of suite/results the cheapest points of N parts of its list (12). It runs each of the latter by `--each run` too: the runs
-have different seeds, which no other point of the study has, and their mistakes, entries and decisions come to those of
-the point's row. From the committed rows it makes the tables, the pictures and the page anew. Of the page each row that is
-named has to be there with the values that stand beside it, as in (`rack_5:freshness:all:10:1`: mistakes 16). It prints
-what differs, and ends with status 1 where something does.
+of suite/results the cheapest points of N parts of its list (12), twins and systems among them. It runs each of the latter
+by `--each run` too: the runs have different seeds, which no other point of the study has, and their mistakes, entries and
+decisions come to those of the point's row. From the committed rows it makes the tables, the pictures and the pages anew.
+Of the pages each row that is named has to be there with the values that stand beside it, as in
+(`rack_5:freshness:all:10:1`: mistakes 16). Consensus over a twin has to run with the settings of its table, and
+its bursts have to lose as many letters as the network. It prints what differs, and ends with status 1 where something
+does. The environment's FDSTUDY names another program.
 """
 import argparse
 import csv
@@ -24,6 +26,7 @@ ROOT = os.path.dirname(os.path.dirname(os.path.abspath(__file__)))
 SUITE = os.path.join(ROOT, "suite")
 sys.dont_write_bytecode = True
 sys.path.insert(0, SUITE)
+import page  # noqa: E402
 import suite  # noqa: E402
 
 NAMED = re.compile(r"`([\w]+(?::[\w-]+){2,6})`(?:: ((?:\w+ [^\s,;)]+(?:, )?)+))?")
@@ -86,16 +89,45 @@ def runs_of(point):
     return [it for it in csv.DictReader(io.StringIO(ran.stdout)) if int(it["layer"]) == point.layer]
 
 
-def compare_page(faults, folder):
-    page = os.path.join(folder, "README.md")
-    shutil.copy(os.path.join(SUITE, "README.md"), page)
-    words = ["page.py", "--to", folder, "--page", page]
-    subprocess.run([sys.executable, *words], cwd=SUITE, check=True, stdout=subprocess.DEVNULL)
-    made = {"README.md": "", "settings.csv": "results", "theory.csv": "results"}
+def compare_pages(faults, folder):
+    for name in page.PAGES:
+        shutil.copy(os.path.join(SUITE, name), folder)
+    for program in ("page.py", "systems.py"):
+        words = [program, "--to", folder, "--pages", folder]
+        subprocess.run([sys.executable, *words], cwd=SUITE, check=True, stdout=subprocess.DEVNULL)
+    made = {"settings.csv": "results", "theory.csv": "results", "systems.csv": "", **dict.fromkeys(page.PAGES, "")}
     made.update({it: "pictures" for it in os.listdir(os.path.join(SUITE, "pictures"))})
     for name, place in sorted(made.items()):
         committed = text(os.path.join(SUITE, place, name))
         faults.compare(f"suite/{place}/{name}", committed, text(os.path.join(folder, name)))
+
+
+def compare_wishes(faults):
+    """The settings of the twins' consensus are those of the table, where it has one."""
+    known, wished = rows("frontiers.csv"), list(csv.DictReader(io.StringIO(text(os.path.join(
+        SUITE, "results", "settings.csv")))))
+    for network in (it for it in suite.networks([]) if it.laid):
+        for row in wished:
+            if (row["network"], row["detector"], row["letters"]) == (network.name, "freshness", str(suite.LETTERS[0])):
+                faults.compare(f"networks.csv, {network.name}: {row['wish']}", known[row["row"]]["bears"],
+                               network.line[row["wish"]])
+
+
+def compare_losses(faults):
+    """The bursts of a twin lose as many letters of each link, in the mean, as the network loses one by one."""
+    for network in (it for it in suite.networks([]) if it.laid):
+        shares = dict.fromkeys(network.links, 0.0)
+        for table in network.laid["bursts"]:
+            ends = [range(1, network.count + 1) if table[it] == "all" else table[it] for it in ("from", "to")]
+            gap, length = suite.mean_of(table["gap"]), suite.mean_of(table["length"])
+            pairs = {(one, other) for one in ends[0] for other in ends[1] if one != other}
+            if table.get("both"):
+                pairs |= {(other, one) for one, other in pairs}
+            for pair in pairs:
+                shares[pair] += length / (gap + length)
+        faults.compare(f"{network.name}: letters of 1000 that bursts lose",
+                       {pair: loss for pair, (_, _, loss) in network.links.items()},
+                       {pair: round(1000 * it, 6) for pair, it in shares.items()})
 
 
 def compare_sentences(faults):
@@ -103,10 +135,11 @@ def compare_sentences(faults):
     for name in (*suite.STUDIES, "theory"):
         for row, values in rows(name + ".csv").items():
             known.setdefault(row, {}).update(values)
-    for row, values in NAMED.findall(re.sub(r"\s+", " ", text(os.path.join(SUITE, "README.md")))):
-        faults.compare(f"README.md names {row}", True, row in known)
-        for name, value in re.findall(r"(\w+) ([^\s,;)]+)", values):
-            faults.compare(f"README.md, {row}: {name}", known.get(row, {}).get(name), value)
+    for place in page.PAGES:
+        for row, values in NAMED.findall(re.sub(r"\s+", " ", text(os.path.join(SUITE, place)))):
+            faults.compare(f"{place} names {row}", True, row in known)
+            for name, value in re.findall(r"(\w+) ([^\s,;)]+)", values):
+                faults.compare(f"{place}, {row}: {name}", known.get(row, {}).get(name), value)
 
 
 def main():
@@ -116,7 +149,9 @@ def main():
     asked = words.parse_args()
     faults = Faults()
     with tempfile.TemporaryDirectory() as folder:
-        compare_page(faults, folder)
+        compare_pages(faults, folder)
+        compare_wishes(faults)
+        compare_losses(faults)
         compare_sentences(faults)
         compare_quick(faults, folder, asked.jobs)
     for study in suite.STUDIES:

@@ -24,6 +24,8 @@ from .words import Refused, hourly_of, ms, printable, seconds_of
 HOME = os.path.dirname(os.path.dirname(os.path.abspath(__file__)))
 FILES = ("page.html", "settings.csv", "scenario.toml", "replayed.network.toml", "fitted.network.toml")
 SHOWN = 10  # lines that were left out
+UNSWEPT = ("The settings weren't swept over the network files (--no-sweeps): what is said of them is the count straight "
+           "from the log alone, and no row says whether the files agree with it.")
 TOLD = "replayed.network.toml has the losses as they were; fitted.network.toml draws their gaps and lengths."
 
 
@@ -37,6 +39,8 @@ def words_of(arguments):
     words.add_argument("--detect", metavar="TIME", help="each crash is detected within so long, as 1s")
     words.add_argument("--wrong", metavar="RATE", help="so many mistakes of a pair, as 1/day")
     words.add_argument("--hours", type=float, default=15, help="hours of pairs that a sweep has, about (15)")
+    words.add_argument("--no-sweeps", action="store_true",
+                       help="nothing is swept: the count straight from the logs answers alone, and needs no program")
     words.add_argument("--jobs", type=int, default=len(os.sched_getaffinity(0)), help="how many sweeps run at once")
     words.add_argument("--fdstudy", default=os.environ.get("FDSTUDY") or os.path.join(os.path.dirname(HOME), "fdstudy"),
                        help="the program (the environment's FDSTUDY, or that of this repository)")
@@ -83,10 +87,12 @@ def rows_of(log, asked):
         rate = settings.Rate(log, letters)
         found = [(it, settings.count(log, rate, it)) for it in settings.grid(log, rate)] if rate.parts else []
         found = [it for it in found if it[1] is not None]
+        slowest = max(interval for it in log.measured for interval in it.intervals)
         if not found:
-            slowest = max(interval for it in log.measured for interval in it.intervals)
             without.append(f"{letters:g} letters a second can't be judged: the log has a probe each {ms(slowest)} ms. "
-                           f"Ping more often, as with ping -D -O -i {1 / letters:g}.")
+                           f"Ping more often, as with ping -D -O -i {0.9 / letters:.2g}.")
+        elif slowest * letters > 1.01:
+            without.append(f"The log has a probe each {ms(slowest)} ms, which counts as {letters:g} letters a second.")
         counted += found
     if not counted:
         raise Refused(" ".join(without))
@@ -118,8 +124,10 @@ def advised(asked, folder, rates=None):
     for kind, text in (("replayed", fitting.replayed_text), ("fitted", fitting.fitted_text)):
         write(folder, f"{kind}.network.toml", told_first(first) + "".join(text(plan, log)))
     chosen = [it for it, _ in counted if rates is None or it.letters in rates]
-    swept = sweeping.sweep(chosen, log, plan, asked, folder)
-    rows = [judging.Row(it, count, *(swept.get((kind, it)) for kind in sweeping.KINDS)) for it, count in counted]
+    swept = {} if asked.no_sweeps else sweeping.sweep(chosen, log, plan, asked, folder)
+    rows = [judging.Row(it, count, *(swept.get((kind, it)) for kind in sweeping.KINDS), not asked.no_sweeps)
+            for it, count in counted]
+    without += [UNSWEPT] if asked.no_sweeps else []
     return Advice(log, plan, left, without, rows, [judging.answer(rows, it, log) for it in wishes_of(asked)])
 
 
@@ -130,7 +138,7 @@ def write_folder(asked):
     with tempfile.TemporaryDirectory(prefix=".advise.", dir=parent) as folder:
         made = advised(asked, folder)
         log, plan, rows, answers = made.log, made.plan, made.rows, made.answers
-        best = next((it.row or it.near for it in answers if it.row or it.near), rows[0])
+        best = next((it.best for it in answers if it.best), rows[0])
         write(folder, "scenario.toml", told_first(
             [f"Under the network files beside it; 1 tick = {ms(log.tick)} ms. Made by suite/advise.",
              f"The detector: {judging.name(best.setting, log)}."]) + fitting.scenario_text(

@@ -146,7 +146,7 @@ class Frontier:
         self.detector, self.log, self.colours = detector, log, colours
         self.marked = {}
         for it in answers:
-            row = it.row or it.near
+            row = it.best
             if row and row.setting.detector == detector:
                 self.marked.setdefault(row.setting, []).append(it.wish.name)
         self.floor = 3 / log.hours
@@ -179,7 +179,7 @@ class Frontier:
 
     def marks(self, row, colour):
         x, y = self.across.at(self.time(row)), self.down.at(row.log.rate or row.log.most)
-        kind = f"{colour} faint" if row.doubt else colour
+        kind = f"{colour} faint" if row.is_swept and row.doubt else colour
         if row.log.rate:
             top = self.down.at(row.log.rate + row.log.error)
             bottom = self.down.at(max(self.lowest, row.log.rate - row.log.error, row.log.rate / 3))

@@ -16,6 +16,7 @@ class Row:
     log: object
     replayed: object
     fitted: object
+    is_swept: bool = True  # whether sweeps were wanted
 
     @property
     def doubt(self):
@@ -23,14 +24,26 @@ class Row:
         if self.setting.bears < 0:
             return "its bound lies among the delays, of which the files know two numbers"
         if not self.log.mistakes:
-            return "none in the log: at most 3 in its length; beyond what was measured"
+            return "none in the log: at most 3 in its length; beyond what was measured" + self.above
         if self.log.mistakes < FEW:
-            return f"{number(self.log.mistakes)} in the log, fewer than {FEW}"
+            return f"{number(self.log.mistakes)} in the log, fewer than {FEW}" + self.above
+        if not self.is_swept:
+            return "its sweeps were left out"
         if self.replayed is None or self.fitted is None:
             return "no run of the files is long enough for it"
+        far = self.told(lambda it: apart(it, self.log) > ERRORS)
+        return f"the log says {number(self.log.rate)} an hour, but {far}" if far else ""
+
+    @property
+    def above(self):
+        """Where the log has few mistakes, and a file more than the log says that they are at most."""
+        far = self.told(lambda it: it.rate - ERRORS * it.error > self.log.most)
+        return f"; an hour has at most {number(self.log.most)}, but {far}" if far else ""
+
+    def told(self, is_far):
+        """Which files say otherwise."""
         files = (("replayed", self.replayed), ("fitted", self.fitted))
-        far = [f"the {name} file says {number(it.rate)}" for name, it in files if apart(it, self.log) > ERRORS]
-        return f"the log says {number(self.log.rate)} an hour, but {' and '.join(far)}" if far else ""
+        return " and ".join(f"the {name} file says {number(it.rate)}" for name, it in files if it and is_far(it))
 
     def time(self, place):
         """Ticks of detection by the log: 0 the median, 1 the 99th percentile, 2 the greatest."""
@@ -64,13 +77,19 @@ USUAL = [Wish("quick", 60.0, math.inf), Wish("middle", 1.0, math.inf), Wish("saf
 
 @dataclass
 class Answer:
-    """What a wish gets: `row` is what is shown to do it, `near` what comes nearest where there is none."""
+    """What a wish gets: `row` is what is shown to do it, `near` what comes nearest where there is none; `other` is the
+    answer of the other detector's settings."""
 
     wish: Wish
     row: object
     near: object
     why: str
     cost: str = ""
+    other: object = None
+
+    @property
+    def best(self):
+        return self.row or self.near
 
 
 def soonest(rows):
@@ -89,6 +108,14 @@ def fewest(rows):
 
 
 def answer(rows, wish, log):
+    found = answer_of(rows, wish, log)
+    others = [it for it in rows if found.best and it.setting.detector != found.best.setting.detector]
+    if others:
+        found.other = answer_of(others, wish, log)
+    return found
+
+
+def answer_of(rows, wish, log):
     within = [it for it in rows if it.time(2) * log.tick <= wish.detect]
     shown = [it for it in rows if it.log.most <= wish.hourly]
     both = [it for it in within if it in shown]

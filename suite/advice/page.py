@@ -4,10 +4,14 @@ from html import escape
 from . import drawing
 from .judging import FEW, name, soonest, spoken_rate
 from .measuring import summary
-from .telling import assumed, length_of, times, trusted
+from .telling import assumed, length_of, otherwise, times, trusted
 from .words import counted, number, often, printable, span
 
 COLOURS = ("c1", "c2", "c3", "c4", "c5", "c6")
+DETECTORS = ("With a time-out a machine is suspected when nothing has come from it for so long; that is looked at 20 times "
+             "from one letter to the next. With freshness points letters have numbers and are sent at fixed times, and each "
+             "has to be there delta after its time; else the machine is suspected until this letter or a later one comes. "
+             "That takes clocks that agree, which a time-out doesn't.")
 TRACKS = 6  # of which the losses are drawn
 LINES = 20  # that were left out
 STYLE = """
@@ -25,11 +29,12 @@ h2 { font-size: 1.25rem; margin: 2.5rem 0 0.75rem; padding-top: 1rem; border-top
 h3 { font-size: 1.05rem; margin: 0 0 0.4rem; }
 p, ul { margin: 0.5rem 0; max-width: 50rem; overflow-wrap: anywhere; }
 li { margin: 0.3rem 0; }
-.soft, caption, .note { color: var(--soft); }
+.soft, .note { color: var(--soft); }
 .cards { display: grid; grid-template-columns: repeat(auto-fit, minmax(min(100%, 19rem), 1fr)); gap: 1rem; }
 .card { background: var(--card); border-radius: 0.5rem; border-left: 0.3rem solid var(--bad); padding: 0.9rem 1rem; }
 .card.shown { border-left-color: var(--good); }
 .card p { font-size: 0.93rem; }
+.cards + .note { margin-top: 1rem; }
 .card .big { font-size: 1.15rem; font-weight: 600; }
 .tag { font-size: 0.8rem; font-weight: 600; color: var(--bad); }
 .shown .tag { color: var(--good); }
@@ -62,22 +67,25 @@ svg .title { font-size: 13.5px; }
 .facts dd { margin: 0; font-variant-numeric: tabular-nums; }
 .wide { overflow-x: auto; margin: 0.75rem 0; }
 table { border-collapse: collapse; font-size: 0.88rem; }
-caption { text-align: left; padding: 0.25rem 0; }
+p.over { font-size: 0.88rem; margin: 1rem 0 0; }
+p.over + .wide { margin-top: 0.25rem; }
 th, td { text-align: right; padding: 0.25rem 0.7rem; border-bottom: 1px solid var(--rule); vertical-align: top; }
 th { font-weight: 600; white-space: nowrap; }
 td { font-variant-numeric: tabular-nums; white-space: nowrap; }
 th:first-child, td:first-child, .words { text-align: left; }
 td.words { white-space: normal; min-width: 16rem; }
+@media (max-width: 40rem) { th, td { white-space: normal; padding: 0.25rem 0.2rem; } table { font-size: 0.78rem; }
+  .less { display: none; } td.words { min-width: 4.5rem; } ul { padding-left: 1.25rem; } ul.legend { padding: 0; } }
 pre { background: var(--card); border-radius: 0.5rem; padding: 0.75rem 1rem; overflow-x: auto; font-size: 0.85rem; }
 summary { cursor: pointer; font-weight: 600; }
 """
 
 
-def table(heads, rows, caption, words=()):
-    """A table; the columns of `words` are text."""
-    kinds = [' class="words"' if place in words else "" for place in range(len(heads))]
+def table(heads, rows, caption, words=(), less=()):
+    """A table; the columns of `words` are text, and those of `less` are left out in narrow windows."""
+    kinds = [' class="words"' if place in words else ' class="less"' if place in less else "" for place in range(len(heads))]
+    yield f'<p class="soft over">{escape(caption)}</p>'
     yield f'<div class="wide" role="region" aria-label="{escape(caption)}" tabindex="0"><table>'
-    yield f"<caption>{escape(caption)}</caption>"
     yield "<thead><tr>" + "".join(f'<th scope="col"{kind}>{escape(it)}</th>' for it, kind in zip(heads, kinds))
     yield "</tr></thead><tbody>"
     for row in rows:
@@ -117,7 +125,7 @@ def opening(log, names):
 def answer_cards(answers, log):
     yield '<h2>What was wished, and what does it</h2><div class="cards">'
     for it in answers:
-        row = it.row or it.near
+        row = it.best
         shown = " shown" if it.row else ""
         yield f'<article class="card{shown}"><h3>{escape(it.wish.name)}</h3><p class="soft">{escape(it.wish.words)}</p>'
         yield f'<p class="tag">{"Shown by the log" if it.row else "Not shown" + (": the nearest" if row else "")}</p>'
@@ -132,10 +140,12 @@ def answer_cards(answers, log):
         else:
             yield f"<p>{escape(it.why[0].upper() + it.why[1:])}.</p><p>{escape(it.cost[0].upper() + it.cost[1:])}.</p>" \
                 if it.cost else f"<p>{escape(it.why[0].upper() + it.why[1:])}.</p>"
-        if it.row and row.doubt and row.log.mistakes:
+        if it.row and row.is_swept and row.doubt and row.log.mistakes:
             yield f'<p class="note">The network files don\'t show it: {escape(row.doubt)}.</p>'
+        yield from (f"<p>{escape(words)}</p>" for words in otherwise(it, log))
         yield "</article>"
     yield "</div>"
+    yield f'<p class="note">{escape(DETECTORS)}</p>'
 
 
 def measured_section(log, left):
@@ -170,14 +180,14 @@ def colours_of(rows):
     return {it: COLOURS[place % len(COLOURS)] for place, it in enumerate(letters)}
 
 
-def legend(colours):
+def legend(colours, is_swept):
     signs = [(f'<path class="line {colour}" d="M1 8H21"/><circle class="dot {colour}" cx="11" cy="8" r="3"/>',
               f"{letters:g} letter{'' if letters == 1 else 's'} a second") for letters, colour in colours.items()]
     signs += [('<path class="line c6" d="M11 1V15"/><circle class="dot c6" cx="11" cy="8" r="3"/>',
                "straight from the log, with its standard error"),
               ('<path class="dot c6" d="M7 5h8l-4 7z"/>', "none in the log: at most (95 %)"),
-              ('<circle class="line c6" cx="11" cy="8" r="5.5"/>', "replayed file"),
-              ('<path class="line c6" d="M6.5 3.5l9 9m0 -9l-9 9"/>', "fitted file"),
+              *([('<circle class="line c6" cx="11" cy="8" r="5.5"/>', "replayed file"),
+                 ('<path class="line c6" d="M6.5 3.5l9 9m0 -9l-9 9"/>', "fitted file")] if is_swept else []),
               ('<circle class="chosen" cx="11" cy="8" r="6.5"/>', "what a wish got"),
               ('<rect class="unknown" width="22" height="16"/>', "rarer than the log can promise")]
     yield '<ul class="legend">'
@@ -186,18 +196,19 @@ def legend(colours):
 
 
 def frontier_section(log, rows, answers):
-    colours = colours_of(rows)
+    colours, is_swept = colours_of(rows), any(it.is_swept for it in rows)
     yield "<h2>What detection costs</h2>"
     yield "<p>Each mark is a setting: the further left, the sooner a crash is detected; the further down, the rarer a live " \
-          "machine is suspected. The count straight from the log and both network files should stand together. Faint " \
-          "marks aren't to be believed as rows of the files; the table says why.</p>"
+          "machine is suspected." + (" The count straight from the log and both network files should stand together. Faint "
+                                     "marks aren't to be believed as rows of the files; the table says why."
+                                     if is_swept else "") + "</p>"
     yield '<div class="figures">'
     for detector in ("freshness", "timeouts"):
         yield "<figure>"
         yield from drawing.frontier(detector, rows, log, colours, answers)
         yield "</figure>"
     yield "</div>"
-    yield from legend(colours)
+    yield from legend(colours, is_swept)
 
 
 def setting_cells(row, log):
@@ -219,10 +230,10 @@ def tables_section(log, rows, answers):
                 if row:
                     lines.append([wish.name, f"{letters:g}", setting_cells(row, log)[1], times(row.log.detected, log),
                                   number(row.log.mistakes), number(row.log.most), "shown" if best else
-                                  "not shown: outlasts the log"])
+                                  "not shown, but it outlasts the log"])
         yield from table(["Wish", "Letters a second", key, "Detected after, ms", "Mistakes in the log", "An hour, at most",
                           "By the log"], lines, f"For each wish and rate of letters the soonest setting of {words}; "
-                         "detection is the median, the 99th percentile and the greatest", (6,))
+                         "detection is the median, the 99th percentile and the greatest", (6,), (4,))
     yield f"<details><summary>All {len(rows)} settings</summary>"
     for detector, words, key in (("freshness", "Freshness points", "delta, ms"), ("timeouts", "Time-outs", "timeout, ms")):
         mine = [it for it in rows if it.setting.detector == detector]
@@ -243,7 +254,7 @@ def swept_cell(swept):
 
 
 def onward(log, answers, rows):
-    row = next((it.row or it.near for it in answers if it.row or it.near), rows[0])
+    row = next((it.best for it in answers if it.best), rows[0])
     key = "delta" if row.setting.detector == "freshness" else "timeout"
     bound, period = row.setting.bound, row.setting.period
     values = f"{max(1, bound - period // 2)},{bound},{bound + period}"

@@ -12,6 +12,7 @@ RUN = 300  # seconds of a run, at least
 BLOCKS = (60, 12)  # parts of the log, for errors
 DETECTORS = ("freshness", "timeouts")
 LADDER = (0, 1, 2, 3, 4, 6, 8, 12, 16, 24, 32, 48, 64, 96, 128, 192, 256, 384, 512, 768, 1024, 1536, 2048, 3072, 4096)
+NEAR = 0.1  # by so much the log's interval may be longer than that of the letters, as ping's is by the clocks of kernels
 AMONG = (50, 90, 99)  # percentiles of the delay at which bounds among the delays stand
 
 
@@ -92,10 +93,10 @@ class Rate:
 
     def add(self, number, before, stretch, delays):
         ratio = self.period * self.log.tick / stretch.interval
-        if ratio < 0.95:
+        if ratio < 1 - NEAR:
             return
         whole = round(ratio)
-        if abs(ratio - whole) <= 0.05 * whole:
+        if ratio < 1 or abs(ratio - whole) <= 0.05 * whole:
             chosen = [delays[phase::whole] for phase in range(whole)]
         else:
             whole = int(ratio)

@@ -98,7 +98,11 @@ def swept(point, log, plan, fdstudy, folder):
 
 
 def make_ready(fdstudy):
-    """The repository's program is proved and built first, where it has to be; it says so by itself."""
+    """The repository's program is proved and built first, where it has to be; it says by itself how far that is."""
+    crates = os.path.join(os.path.dirname(os.path.realpath(fdstudy)), "crates", "fdstudy")
+    if os.path.isdir(crates) and not os.path.exists(os.path.join(crates, "out", "fdstudy")):
+        print("advise: fdstudy is proved and built first, which takes a good while; --no-sweeps answers without it",
+              file=sys.stderr, flush=True)
     try:
         status = subprocess.run([fdstudy, "--help"], stdout=subprocess.DEVNULL).returncode
     except OSError as error:

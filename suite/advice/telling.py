@@ -24,7 +24,9 @@ def trusted(log, one_way):
     if silence:
         yield (f"The longest time in which no letter came in time is {span(silence)}. The fitted bursts are never longer "
                "than that, and nothing here knows of longer ones.")
-    if bursts < FEW:
+    if not bursts:
+        yield "No letter of it is lost, so it doesn't tell how losses come."
+    elif bursts < FEW:
         yield (f"There {'is' if bursts == 1 else 'are'} {counted(bursts, 'burst')} of losses: too few to say how often they "
                "come, or how long they are.")
     if letters < 10_000:
@@ -70,7 +72,7 @@ def times(ticks, log):
 
 def answered(found, log):
     """The sentences that answer a wish."""
-    row = found.row or found.near
+    row = found.best
     wish = f"{found.wish.name} ({found.wish.words})"
     if row is None:
         yield f"{wish}: no setting of these does it."
@@ -80,10 +82,21 @@ def answered(found, log):
         yield f"Why this one: {found.why}. Mistakes of a pair: {spoken_rate(row)}."
     else:
         yield f"{wish}: not shown. {found.why[0].upper()}{found.why[1:]}."
-        yield f"Nearest comes {name(row.setting, log)}: {found.cost}."
+        yield f"The nearest: {name(row.setting, log)}; {found.cost}."
     yield f"Detected after {times(row.log.detected, log)} ms (median, 99th percentile, greatest), by the log."
-    if found.row and row.doubt and row.log.mistakes:
+    if found.row and row.is_swept and row.doubt and row.log.mistakes:
         yield f"The network files don't show it: {row.doubt}."
+    yield from otherwise(found, log)
+
+
+def otherwise(found, log):
+    """What the other detector has for the wish."""
+    if not found.other or not found.other.best:
+        return
+    row = found.other.best
+    shown = ", which isn't shown to do it" if found.row and not found.other.row else ""
+    yield (f"By the other detector: {name(row.setting, log)}{shown}; detected after {times(row.log.detected, log)} ms; "
+           f"mistakes: {spoken_rate(row)}.")
 
 
 def report(log, left, rates_left, answers, one_way):
