@@ -1,9 +1,9 @@
 #!/usr/bin/env python3
-"""page.py [--from FOLDER] [--to FOLDER]: what the rows of the suite come to.
+"""page.py [--from FOLDER] [--to FOLDER] [--pages FOLDER]: what the rows of the suite come to.
 
 Reads frontiers.csv and consensus.csv of the one folder (results/), and writes settings.csv, theory.csv and a picture of
-each network, NETWORK.svg, to the other: to results/ and pictures/ where none is named. There it also puts the tables of
-README.md in their places. It prints the table of settings.
+each network, NETWORK.svg, to the other: to results/ and pictures/ where none is named. There, or in the folder of
+--pages, it also puts the tables of README.md and details.md in their places. It prints the table of settings.
 """
 import argparse
 import csv
@@ -20,6 +20,8 @@ from suite import HOME, LETTERS, WISHES, networks, time_outs, up_to  # noqa: E40
 HOUR = 3600
 AT_MOST = {"quick": 60.0, "middle": 1.0, "safe": 0.01}  # mistakes of a pair in an hour
 WORDS = 2**32
+FEW_RUNS = 10  # with mistakes
+PAGES = ("README.md", "details.md")
 
 
 def rows(folder, name):
@@ -36,20 +38,31 @@ def write(folder, name, lines):
 
 
 class Rates:
-    """The mistakes of a pair in an hour, of a row, and what they are at most, with 95 % confidence."""
+    """The mistakes of a pair in an hour, of a row, and what they are at most, with 95 % confidence. Where so many pairs
+    fail together, they are as few mistakes as hours as long as less than ten runs have one. The time before a suspicion
+    may begin counts in twins alone."""
 
-    def __init__(self, row, network):
+    def __init__(self, row, network, tick_us=None, opening=0, together=1):
         mistakes, runs = int(row["mistakes"]), int(row["runs"])
-        tick = int(network.line["tick_us"]) / 1e6
-        self.hours = int(row["pair_ticks"]) * tick / HOUR
+        tick = (tick_us or int(network.line["tick_us"])) / 1e6
+        self.hours = (int(row["pair_ticks"]) - opening * runs * len(network.pairs)) * tick / HOUR
         self.mistakes = mistakes
+        self.together = together
         # by how much a run's mistakes vary more than a Poisson number: with the reduction all take over one's mistake
-        bunch = network.count - 1 if row["watch"] == "shared" else 1
+        bunch = network.count - 1 if row.get("watch") == "shared" else 1
         if mistakes and runs > 1:
             square = int(row["mistakes_squared_sum"])
             bunch = max(1.0, (square - mistakes * mistakes / runs) / (runs - 1) / (mistakes / runs))
+        if together > 1 and int(row["runs_with_mistakes"]) < FEW_RUNS:
+            bunch = max(bunch, together)
         self.rate = mistakes / self.hours
         self.most = bunch * most_of(mistakes / bunch) / self.hours
+        self.least = bunch * least_of(mistakes / bunch) / self.hours
+
+    @property
+    def hours_apart(self):
+        """Hours of what fails apart: of the network, of a machine or of a pair."""
+        return self.hours / self.together
 
     def is_sure(self):
         """Whether it rests on 100 mistakes, or is told by the hour."""
@@ -59,12 +72,31 @@ class Rates:
         return number(self.rate) if self.is_sure() else f"< {number(self.most)}"
 
 
+def rates_of(row, network):
+    """Those of a row of frontiers.csv."""
+    if not network.laid:
+        return Rates(row, network)
+    bound, period = int(row["bound"]), int(row["period"])
+    if row["detector"] == "freshness":
+        opening = period + bound
+    else:
+        opening = up_to(bound, time_outs(network, period, 0, "full")["check"])
+    return Rates(row, network, opening=opening, together=network.together)
+
+
 def most_of(count):
     """What a Poisson number is at most on the mean, at 95 %, where `count` was seen (by Wilson and Hilferty's form)."""
     if count == 0:
         return 3.0
     more = count + 1
     return more * (1 - 1 / (9 * more) + 1.6449 / (3 * math.sqrt(more))) ** 3
+
+
+def least_of(count):
+    """What a Poisson number is at least on the mean, at 95 %."""
+    if count == 0:
+        return 0.0
+    return count * max(0.0, 1 - 1 / (9 * count) - 1.6449 / (3 * math.sqrt(count))) ** 3
 
 
 def number(value):
@@ -102,42 +134,75 @@ def settings(frontiers, found):
                 kind = name, detector, "all", str(letters)
                 mine = [it for it in frontiers if (it["network"], it["detector"], it["watch"], it["letters"]) == kind]
                 for wish in WISHES:
-                    fit = [it for it in mine if Rates(it, network).most <= AT_MOST[wish] and it["detection_p99"]]
+                    fit = [it for it in mine if rates_of(it, network).most <= AT_MOST[wish] and it["detection_p99"]]
                     if fit:
                         by = min(fit, key=lambda it: (int(it["detection_p99"]), it["at"] != "full"))
                         chosen[name, detector, letters, wish] = by
     return chosen
 
 
+def why_none(frontiers, network, detector, letters, wish):
+    """Where no setting was shown to do it: whether some may do it, which ran for too few hours to be shown. Where none was
+    tried it says nothing."""
+    kind = network.name, detector, "all", str(letters)
+    mine = [it for it in frontiers if (it["network"], it["detector"], it["watch"], it["letters"]) == kind]
+    if not mine:
+        return ""
+    return "not shown" if any(rates_of(it, network).least <= AT_MOST[wish] for it in mine) else "none"
+
+
 def settings_lines(chosen, found):
     yield ["network", "wish", "detector", "letters", "row", "period_ms", "bound_ms", "p50_ms", "p99_ms", "greatest_ms",
            "mistakes", "pair_hours", "mistakes_an_hour", "at_most_an_hour", "mistaken_ppm"]
     for (name, detector, letters, wish), row in chosen.items():
-        rates, scale = Rates(row, found[name]), Scale(found[name])
+        rates, scale = rates_of(row, found[name]), Scale(found[name])
         times = [scale.exact(row[it]).replace(",", "") for it in (
             "period", "bound", "detection_p50", "detection_p99", "detection_max")]
         yield [name, wish, detector, letters, row["row"], *times, row["mistakes"], f"{rates.hours:.1f}",
                f"{rates.rate:.3g}", f"{rates.most:.3g}", row["mistaken_ppm"]]
 
 
-def settings_table(chosen, found):
-    yield "| Network | Wish | `delta`, ms | Detected after, ms | Mistakes an hour | `timeout`, ms | " \
-          "Detected after, ms | Mistakes an hour | With 5, 2, 1 letters |"
-    yield "|" + "---|" * 9
-    for name, network in found.items():
-        scale = Scale(network)
+def settings_table(chosen, found, frontiers):
+    """The settings of each twin, and beside them its network's own one, and what that makes of the twin; of a network
+    without a twin its own alone."""
+    yield "| Network | Wish | `delta`, ms | Detected after | Mistakes an hour | `timeout`, ms | Detected after | " \
+          "Mistakes an hour | 5, 2, 1 letters | Losses one by one: `delta` | Detected | Mistakes | With bursts |"
+    yield "|" + "---|" * 13
+    by_name, have = {it["row"]: it for it in frontiers}, {it.line["over"] for it in found.values()}
+    for twin in (it for it in found.values() if it.name not in have):
+        scale, network = Scale(twin), found.get(twin.line["over"])
         for wish in WISHES:
             cells = []
             for detector in ("freshness", "timeouts"):
-                row = chosen.get((name, detector, LETTERS[0], wish))
+                row = chosen.get((twin.name, detector, LETTERS[0], wish))
                 if row is None:
-                    cells += ["none", "", ""]
+                    cells += [why_none(frontiers, twin, detector, LETTERS[0], wish), "", ""]
                     continue
-                times = " / ".join(scale.text(row[f"detection_{it}"]) for it in ("p50", "p99", "max"))
-                cells += [scale.exact(row["bound"]), times, Rates(row, network).text()]
-            fewer = [chosen.get((name, "freshness", it, wish)) for it in LETTERS[1:]]
-            cells.append(", ".join("none" if it is None else scale.text(it["detection_p99"]) for it in fewer))
+                cells += [scale.exact(row["bound"]), detected(row, scale), rates_of(row, twin).text()]
+            fewer = []
+            for letters in LETTERS[1:]:
+                row = chosen.get((twin.name, "freshness", letters, wish))
+                fewer.append(scale.text(row["detection_p99"]) if row else
+                             why_none(frontiers, twin, "freshness", letters, wish))
+            cells.append(", ".join(it for it in fewer if it))
+            cells += one_by_one(chosen.get((network.name, "freshness", LETTERS[0], wish)), network, twin, by_name) \
+                if network else [""] * 4
+            name = twin.line["over"] or twin.name
             yield f"| {name if wish == WISHES[0] else ''} | {wish} | " + " | ".join(cells) + " |"
+
+
+def detected(row, scale):
+    return "/".join(scale.text(row[f"detection_{it}"]) or "∞" for it in ("p50", "p99", "max"))
+
+
+def one_by_one(row, network, twin, by_name):
+    """What is found where losses come one by one, and what that makes of the twin."""
+    if row is None:
+        return ["none", "", "", ""]
+    there = by_name.get(f"{twin.name}:freshness:all:{LETTERS[0]}:{row['bears']}") if row["at"] == "full" else None
+    scale = Scale(network)
+    return [scale.exact(row["bound"]), scale.text(row["detection_p99"]), rates_of(row, network).text(),
+            rates_of(there, twin).text() if there else ""]
 
 
 # ---- closed forms
@@ -271,7 +336,7 @@ def theory_lines(frontiers, found):
            "above_bound", "detection_p50_expected", "detection_p50"]
     for row in frontiers:
         network, forms, median = found[row["network"]], ["", "", row["mistakes"], ""], ""
-        if row["watch"] != "all":
+        if row["watch"] != "all" or network.laid:
             continue
         period, bound = int(row["period"]), detection_bound(row, network)
         if row["detector"] == "freshness":
@@ -346,7 +411,8 @@ class Axes:
         for x in self.ticks():
             at = self.across(x)
             yield f'<path class="grid" d="M{at} {TOP}V{HEIGHT - BOTTOM}"/>'
-            yield f'<text x="{at}" y="{HEIGHT - BOTTOM + 18}" text-anchor="middle">{x:,g}</text>'
+            label = f"{x:,.0f}" if x >= 1 else f"{x:g}"
+            yield f'<text x="{at}" y="{HEIGHT - BOTTOM + 18}" text-anchor="middle">{label}</text>'
         for power in range(self.y[0], self.y[1] + 1):
             at = self.down(10.0**power)
             yield f'<path class="grid" d="M{LEFT} {at}H{WIDTH - RIGHT}"/>'
@@ -369,7 +435,7 @@ def mark(detector, x, y, colour):
 
 def drawn(row, network, axes):
     """A row's marks: what was seen, and where that is too little, up to what it is at most."""
-    tick, rates, colour = int(network.line["tick_us"]) / 1000, Rates(row, network), COLOURS[int(row["letters"])]
+    tick, rates, colour = int(network.line["tick_us"]) / 1000, rates_of(row, network), COLOURS[int(row["letters"])]
     median, x, greatest = (int(row[f"detection_{it}"]) * tick for it in ("p50", "p99", "max"))
     y = rates.rate if rates.mistakes else rates.most
     yield f'<path class="line" stroke="{colour}" ' \
@@ -400,21 +466,26 @@ def legend():
         yield f'<g transform="translate(0 {TOP + 12 + 18 * place})">{sign}<text x="{x + 26}">{words}</text></g>'
 
 
+def title_of(network):
+    title = network.text[2 : network.text.index("\n")].split(";")[0].rstrip(".")
+    return title + (", with " + " and ".join(network.laid) if network.laid else "")
+
+
 def picture(network, frontiers):
     mine = [it for it in frontiers if it["network"] == network.name and it["watch"] == "all" and it["detection_p99"]]
     tick = int(network.line["tick_us"]) / 1000
     lows = [int(it["detection_p50"]) * tick for it in mine]
-    rates = [Rates(it, network) for it in mine]
+    rates = [rates_of(it, network) for it in mine]
     curves = {}
     for letters in LETTERS:
         deltas = [int(it["bound"]) for it in mine if it["detector"] == "freshness" and int(it["letters"]) == letters]
-        if deltas and "outage" not in network.file:
+        if deltas and "outage" not in network.file and not network.laid:
             curves[letters] = list(theory_curve(network, letters, min(deltas), max(deltas)))
     heights = [it.rate or it.most for it in rates]
     floor = min(heights) / 3
     axes = Axes([max(it, tick) for it in lows] + [int(it["detection_max"]) * tick for it in mine],
                 [floor, max(heights + [it.most for it in rates])])
-    title = network.text[2 : network.text.index("\n")].split(";")[0].rstrip(".")
+    title = title_of(network)
     yield f'<svg xmlns="http://www.w3.org/2000/svg" viewBox="0 0 {WIDTH} {HEIGHT}" width="{WIDTH}" height="{HEIGHT}" ' \
           'font-family="sans-serif" font-size="13" fill="#222">'
     yield "<style>.line,.grid,.frame{fill:none}.grid{stroke:#ddd}.frame{stroke:#222}" \
@@ -446,16 +517,19 @@ def consensus_table(consensus, found):
     kinds = dict.fromkeys((it["network"], it["crash"], it["links"]) for it in consensus)
     for name, crash, links in kinds:
         # a rack differs by its delays alone; how lossy links change it is shown once
-        if name.startswith("rack") or links == "lossy" and (name, crash, "sure") in kinds and crash != "none":
+        if name.startswith("rack_") or links == "lossy" and (name, crash, "sure") in kinds and crash != "none":
             continue
         cells = []
         for algorithm in ("es", "s"):
-            mine = [by_name[f"{name}:{algorithm}:freshness:{wish}:{crash}:{links}"] for wish in WISHES]
+            mine = [by_name.get(f"{name}:{algorithm}:freshness:{wish}:{crash}:{links}") for wish in WISHES]
+            if not all(mine):
+                cells += ["", ""]
+                continue
             cells.append(", ".join(decided(it, Scale(found[name])) for it in mine))
             if algorithm == "es":
                 cells.append(", ".join(it["rounds_p50"] for it in mine))
             cells.append(f"{letters_of(mine[1]):,.0f}")
-        cells.append(", ".join(it["disagreements"] for it in mine))
+        cells.append(", ".join(it["disagreements"] for it in mine) if all(mine) else "")
         yield f"| {name if name != shown else ''} | {crash} | {links} | " + " | ".join(cells) + " |"
         shown = name
 
@@ -481,7 +555,7 @@ def main():
     words = argparse.ArgumentParser(description=__doc__.partition("\n")[0])
     words.add_argument("--from", dest="home", default=os.path.join(HOME, "results"))
     words.add_argument("--to")
-    words.add_argument("--page", help="the page that gets the tables, where it isn't README.md")
+    words.add_argument("--pages", help="the folder of the pages that get the tables, where it isn't this one")
     asked = words.parse_args()
     frontiers = rows(asked.home, "frontiers")
     found = {it.name: it for it in networks(sorted({it["network"] for it in frontiers}))}
@@ -495,15 +569,23 @@ def main():
     for name, network in found.items():
         with open(os.path.join(pictures, name + ".svg"), "w", encoding="utf-8") as file:
             file.write("\n".join(picture(network, frontiers)) + "\n")
-    print("\n".join(settings_table(chosen, found)))
-    if asked.to is None or asked.page:
-        page_path = asked.page or os.path.join(HOME, "README.md")
-        with open(page_path, encoding="utf-8") as file:
+    wished = list(settings_table(chosen, found, frontiers))
+    print("\n".join(wished))
+    if asked.to is None or asked.pages:
+        fill(asked.pages, {"settings": wished, "theory": theory_table(list(theory_lines(frontiers, found))),
+                           "consensus": consensus_table(rows(asked.home, "consensus"), found)})
+
+
+def fill(folder, tables):
+    """Puts the tables in their places, on whichever page that is."""
+    lines = {name: list(table) for name, table in tables.items()}
+    for name in PAGES:
+        path = os.path.join(folder or HOME, name)
+        with open(path, encoding="utf-8") as file:
             page = file.read()
-        page = placed(page, "settings", settings_table(chosen, found))
-        page = placed(page, "theory", theory_table(list(theory_lines(frontiers, found))))
-        page = placed(page, "consensus", consensus_table(rows(asked.home, "consensus"), found))
-        with open(page_path, "w", encoding="utf-8") as file:
+        for table, its in lines.items():
+            page = placed(page, table, its)
+        with open(path, "w", encoding="utf-8") as file:
             file.write(page)
 
 
