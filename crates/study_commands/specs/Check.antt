@@ -20,12 +20,14 @@ abbrev pub limit_text : (limit entries : ℕ) → List ℕ
 limit_text limit entries =
     if nat_lt limit entries then codes "limit " ++ (decimal limit ++ codes " may stop the run\n") else []
 
--- how long windows may be, about how many entries they then have, and which way is faster
+-- how long windows may be, about how many entries they then have, and which way is likely faster
 abbrev pub window_text : (ticks entries : ℕ) → List ℕ
 window_text ticks entries =
-    codes "windows of " ++ (decimal ticks ++ (codes " ticks have about " ++ (decimal entries
-    ++ (if nat_lt entries WORTH_FOUR_WORKERS then codes " entries: list is likely faster\n"
-    else codes " entries: run by 4 workers is likely faster\n"))))
+    if nat_lt entries WORTH_FOUR_WORKERS
+    then codes "windows of " ++ (decimal ticks ++ (codes " ticks have about " ++ (decimal entries
+    ++ codes " entries: list is likely faster\n")))
+    else codes "windows of " ++ (decimal ticks ++ (codes " ticks have about " ++ (decimal entries
+    ++ codes " entries: run by 4 workers is likely faster\n")))
 
 -- an accepted file's line, and what is told behind it
 abbrev pub told_size : (processes horizon entries seconds : ℕ) → List ℕ → List ℕ
