@@ -1,10 +1,11 @@
 //! Vectors of proposals.
-ghost use Rattle.std.specs.Prelude.{◌≡◌, ◌==◌, IfOk, IfSome, None, get_or, length, nat_eq, replicate};
+ghost use Rattle.std.specs.Prelude.{◌≡◌, ◌==◌, ◌-◌, IfOk, MatchOption, None, Some, false, get_or, length, nat_eq, replicate, true};
+ghost use Rattle.std.specs.List.{slice_get};
 ghost use Rattle.std.specs.Option.{option_eq};
 ghost use Rattle.std.specs.Cmp.Lexicographic.{pointwise};
 ghost use Rattle.std.specs.Cmp.Rules.{comparing};
 ghost use Rattle.std.proofs.Common.{rules};
-ghost use Rattle.process_api.specs.Cells.{cell};
+ghost use Rattle.process_api.specs.Cells.{EndsFilled, IsSomeKnown, cell};
 
 use crate::pid::Pid;
 use std::alloc::{AllocError, Global};
@@ -13,7 +14,7 @@ use std::marker::Model;
 /// For each process what is known of its proposal. Contracts see the list of cells: process k has cell k, from 1.
 #[derive(Debug, Drop)]
 pub struct Cells {
-    // without the empty ones at the end
+    // without the empty ones at the end: the last is filled
     cells: Vec<Option<u32>>,
     // how many there are, with those
     count: usize,
@@ -21,12 +22,13 @@ pub struct Cells {
 
 impl Model for Cells {
     ghost use Rattle.std.specs.Prelude.{ℕ, ◌-◌, ◌≤◌, ◌++◌, List, Option, None, length, replicate};
+    ghost use Rattle.process_api.specs.Cells.{EndsFilled};
 
     ghost Value = { List (Option ℕ) };
 
     ghost view = { λ s. s.cells.items ++ replicate (s.count - length s.cells.items) None };
 
-    ghost invariant = { λ s. length s.cells.items ≤ s.count };
+    ghost invariant = { λ s. (length s.cells.items ≤ s.count) × EndsFilled s.cells.items };
 }
 
 impl PartialEq for Cells {
@@ -51,6 +53,17 @@ impl Eq for Cells {
     ghost laws = { Prim.search (comparing, rules) };
 }
 
+/// Whether there are cells, and the last of them is empty.
+fn ends_empty(cells: &[Option<u32>]) -> bool
+    ensures yes { result ≡ true → slice_get cells.now (length cells.now - 1) ≡ Some None }
+    ensures no { result ≡ false → EndsFilled cells.now }
+{
+    match cells.last() {
+        Some(last) => last.is_none(),
+        None => false,
+    }
+}
+
 impl Cells {
     /// These cells, of process 1 first.
     pub fn new(cells: Vec<Option<u32>>) -> Cells
@@ -58,7 +71,7 @@ impl Cells {
     {
         let count = cells.len();
         let mut cells = cells;
-        while let Some(None) = cells.last() {
+        while ends_empty(&cells) {
             let _ = cells.pop();
         }
         Cells { cells, count }
@@ -96,7 +109,7 @@ impl Cells {
     /// How many cells there are, where each is empty.
     #[inline(always)]
     pub fn all_empty(&self) -> Option<usize>
-        ensures { IfSome result (λ count. self.now ≡ replicate count None) }
+        ensures { MatchOption result (IsSomeKnown self.now) (λ count. self.now ≡ replicate count None) }
     {
         if self.cells.is_empty() {
             Some(self.count)

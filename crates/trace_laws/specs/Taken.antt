@@ -1,4 +1,5 @@
 -- What the code's events and letters are.
+use Rattle.process_api.specs.Cells.{IsSomeKnown}
 use Rattle.process_api.specs.Sets.{HasAbove, of_word}
 use Rattle.process_api.specs.declared.message.Letter.{Letter}
 use Rattle.process_api.specs.declared.message.Payload.{Payload}
@@ -41,10 +42,11 @@ letter_of e = record { key = e.0; payload = said_in e.1 }
 abbrev pub IsFarFrom : (round stamp : ℕ) → Type 0
 IsFarFrom round stamp = (round < stamp) ⊎ (stamp + 2 ^ 32 ≤ round)
 
--- what takes memory of its own: a set with a member above 64, cells (not if all are empty), or a stamp that is far from its round
+-- what takes memory of its own: a set with a member above 64, cells of a round of which one is filled, all cells of the
+-- last round, or a stamp that is far from its round
 abbrev pub LiesAside : Payload → Type 0
 LiesAside (payload.Suspects set) = HasAbove 64 set
-LiesAside (payload.Vector round cells) = ⊤
+LiesAside (payload.Vector round cells) = IsSomeKnown cells
 LiesAside (payload.Last cells) = ⊤
 LiesAside (payload.Estimate round value stamp) = IsFarFrom round stamp
 LiesAside _ = ⊥

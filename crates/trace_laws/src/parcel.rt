@@ -49,6 +49,7 @@ impl Parcel {
     /// The same of a whole letter, which comes back where memory was refused.
     pub fn pack(alloc: Global, mut letter: Letter) -> Result<Parcel, Letter>
         ensures ok { IfOk result (λ p. p ≡ letter) }
+        ensures large { IfErr result (λ x. LiesAside x.payload) }
         ensures back { IfErr result (λ x. x ≡ letter) }
     {
         match Parcel::new(alloc, letter.key, &mut letter.payload) {

@@ -253,10 +253,7 @@ impl Agenda {
         let end = lists.end;
         settle(lists, end)?;
         if tick < end {
-            // the row is gone where memory is refused
-            let mut row = replace(&mut lists.row, Row::new(*lists.later.allocator()));
-            row.join(event)?;
-            lists.row = row;
+            lists.row.join(event)?;
             return Ok(());
         }
         lists.later.push(event)?;

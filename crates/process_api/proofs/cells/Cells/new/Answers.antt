@@ -1,4 +1,4 @@
-use Rattle.std.proofs.Common.{◌≡◌, ◌<◌, ◌-◌, ◌∷◌, [], ◌++◌, length, replicate, sym, ap, ◌∙◌, append-nil, Some, None, option_to_list, option_copied, slice_get, arith}
+use Rattle.std.proofs.Common.{◌≡◌, ◌<◌, ◌-◌, ◌∷◌, [], ◌++◌, length, replicate, sym, ap, ◌∙◌, append-nil, Some, None, option_to_list, slice_get, arith}
 use Rattle.std.proofs.lemmas.Option.{get_or_from_slice_get, slice_get_within}
 use Rattle.process_api.proofs.Vectors.{one_fewer, trimmed}
 use Rattle.process_api.proofs.cells.Cells.new.Goals as goal
@@ -15,8 +15,7 @@ loop-cells-preserved c =
     let before = c.loop-cells.cells in
     let seen = c.deref.result.now in
     let after = c.pop.new.self.items in
-    let last : slice_get seen (length seen - 1) ≡ Some None =
-    sym c.last.ensures.value ∙ (ap option_copied c.in-Some-None.is ∙ ap Some c.in-Some-None.field-0-is) in
+    let last : slice_get seen (length seen - 1) ≡ Some None = c.ends_empty.ensures.yes c.loop-cells-test.true in
     let within : length seen - 1 < length seen = slice_get_within seen (length seen - 1) None last in
     let same : length seen ≡ before.len = ap length c.deref.ensures.value ∙ sym before.ok.0 in
     let empty : slice_get before.items (before.len - 1) ≡ Some None =

@@ -7,7 +7,7 @@ pub returns-then-ne : goal.returns-then-ne
 returns-then-ne c =
     let mine = c.args.self.now in
     let other = c.args.other.now in
-    let long : length mine ≡ c.self.inside.count = ap length (sym c.self.view_is) ∙ wide c.self.inside.cells.items c.self.inside.count c.self.invariant in
+    let long : length mine ≡ c.self.inside.count = ap length (sym c.self.view_is) ∙ wide c.self.inside.cells.items c.self.inside.count c.self.invariant.0 in
     sym (unlike (option_eq ◌==◌) None mine other c.loop-place.place (omega (arith, long, c.loop-place-test.true))
     ((λ i. option_eq ◌==◌ (sym c.at.ensures i) (sym c.at-in-loop-place.ensures i)) ∙ refuted _ (sym c.if-ne.true ∙ c.ne.ensures)))
 
@@ -20,7 +20,7 @@ pub returns : goal.returns
 returns c =
     let mine = c.args.self.now in
     let other = c.args.other.now in
-    let long : length mine ≡ c.self.inside.count = ap length (sym c.self.view_is) ∙ wide c.self.inside.cells.items c.self.inside.count c.self.invariant in
-    let as_long : length other ≡ c.other.inside.count = ap length (sym c.other.view_is) ∙ wide c.other.inside.cells.items c.other.inside.count c.other.invariant in
+    let long : length mine ≡ c.self.inside.count = ap length (sym c.self.view_is) ∙ wide c.self.inside.cells.items c.self.inside.count c.self.invariant.0 in
+    let as_long : length other ≡ c.other.inside.count = ap length (sym c.other.view_is) ∙ wide c.other.inside.cells.items c.other.inside.count c.other.invariant.0 in
     sym (alike (option_eq ◌==◌) None mine other (long ∙ (c.if-self-other.false ∙ sym as_long))
     (λ i within. c.loop-place.invariant i (omega (arith, within, long, c.loop-place-test.false))))

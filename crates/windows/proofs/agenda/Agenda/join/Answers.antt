@@ -14,8 +14,9 @@ use Rattle.windows.proofs.agenda.Agenda.join.Goals as goal
 
 pub invariant_of-self-in_err-join : goal.invariant_of-self-in_err-join
 invariant_of-self-in_err-join c =
+    let a = c.settle.new.lists in
     let h = c.in_ok-settle.ensures.lists in
-    record { below = λ k y there. absurd (not_None y (sym (events.get-empty key_cmp k) ∙ subst (λ m. Has m k y) (c.replace-row.ensures.after ∙ c.new.ensures) there)); from = h.from; next = h.next }
+    record { below = λ k y there. h.below k y (subst (λ m. Has m k y) c.in_err-join.ensures.err there); from = h.from; next = h.next }
 
 early : (c : goal.After-drop-lists-then-tick-end) → c.args.event.0.tick < c.settle.new.lists.end
 early c = omega (arith, ap (λ k. k.tick) c.key-tick.ensures, c.if-tick-end.true, c.in_ok-settle.ensures.settled.0)
