@@ -26,11 +26,12 @@ use Rattle.process_api.specs.declared.message.StepInput.{StepInput}
 use Rattle.process_api.specs.declared.message.StepInput.TheVariants as input
 use Rattle.process_api.proofs.Lists.{both, images, always}
 
--- what an algorithm may do: it sends no letter of another part, and notes no suspicion and no trust
+-- what an algorithm may do: it sends no letter of another part, asks for no wake, and notes no suspicion and no trust
 abbrev pub IsOfAlgorithm : Action → Type 0
 IsOfAlgorithm (action.Send to payload.Alive) = ⊥
 IsOfAlgorithm (action.Send to (payload.Heartbeat number)) = ⊥
 IsOfAlgorithm (action.Send to (payload.Suspects shared)) = ⊥
+IsOfAlgorithm (action.Wake pause tag) = ⊥
 IsOfAlgorithm (action.Note (note.Suspect layer who)) = ⊥
 IsOfAlgorithm (action.Note (note.Trust layer who)) = ⊥
 IsOfAlgorithm a = Unit {0}

@@ -11,4 +11,6 @@ mod Examples
 pub mod Joining
 pub mod Finishing
 pub mod Resting
+mod Bounded
+mod Least
 pub mod Written

@@ -1,8 +1,8 @@
--- Every row of layer 2 with a mistake or a detection rests on an earlier suspicion of layer 1.
-use Rattle.std.proofs.Common.{◌≡◌, inl, inr, ℕ, zero, suc, ◌<◌, ◌≤◌, refl, sym, ap, ◌∙◌, subst, Bool, true, cond, arith, List, [], ◌∷◌, map, Option, None, Some}
+-- Every row of layer 2 with a mistake or a detection rests on an earlier suspicion of layer 1, and every row of layer 1
+-- keeps to the bounds.
+use Rattle.std.proofs.Common.{◌≡◌, inl, inr, ℕ, zero, suc, ◌<◌, ◌≤◌, refl, sym, subst, Bool, true, arith, List, [], ◌∷◌, map, Option, None, Some}
 use Rattle.std.specs.List.{All, AllByRecursion, flat_map}
 use Rattle.std.proofs.lemmas.Bool.{cases_Bool, cond-false, cond_both}
-use Rattle.std.proofs.lemmas.Option.{cond_some}
 use Rattle.std.proofs.lemmas.List.Elements.{All-from_recursion}
 use Rattle.process_api.specs.EntryRecord.{EntryRecord}
 use Rattle.process_api.specs.Numbers.{numbers_to, others}
@@ -14,15 +14,21 @@ use Rattle.trace_laws.specs.ScenarioSetting.{setting_of}
 use Rattle.trace_laws.specs.World.{IsTrace}
 use Rattle.judges.specs.Crashes.{crash_tick, end_of}
 use Rattle.judges.specs.Out.{suspects}
-use Rattle.judges.specs.Ticks.{all_from, first_of, least_below, least_from}
+use Rattle.judges.specs.Ticks.{all_from, least_from}
 use Rattle.judges.proofs.Blamed.{blamed_by_out, shares_suspicions}
 use Rattle.judges.proofs.Lasting.{all_from-at}
 use Rattle.judges.proofs.Meaning.{verdicts_mean}
+use Rattle.detector_bounds.specs.Bounds.{KeepsBounds}
+use Rattle.detector_bounds.proofs.Kept.{bounds_kept}
+use Rattle.reporting.specs.Bounded.{IsBounded}
 use Rattle.reporting.specs.Distances.{count_below}
 use Rattle.reporting.specs.Grounds.{HasGrounds}
 use Rattle.reporting.specs.Measures.{starts, delay_after, is_measured, detection, measured, pair_measures, layer_measures, layers, all_measures}
 use Rattle.reporting.specs.Resting.{HasBlame, RestsOnBlame}
 use Rattle.reporting.specs.declared.pair_measures.Detection.TheVariants.{Na, At}
+use Rattle.reporting.specs.declared.pair_measures.PairMeasures.{PairMeasures}
+use Rattle.reporting.proofs.Bounded.{bounded}
+use Rattle.reporting.proofs.Least.{least_passes}
 
 -- ---- ticks
 
@@ -32,14 +38,6 @@ some_counted test (suc t) h = elim (cases_Bool (test t)) [
   | inl is ↦ (t, omega arith, is)
   | inr is ↦ let r = some_counted test t (omega (arith, h, cond-false {A = ℕ} (test t) 1 0 is)) in (r.0, omega (arith, r.1), r.2)
 ]
-
-least_passes : (test : ℕ → Bool) (end t : ℕ) → least_below test end ≡ Some t → (t < end) × (test t ≡ true)
-least_passes test zero t e = absurd (cc)
-least_passes test (suc u) t e =
-    elim (least_below test u) as (λ o. least_below test u ≡ o → first_of o (cond (test u) (Some u) None) ≡ Some t → (t < suc u) × (test t ≡ true)) [
-      | None ↦ λ _ same. let r = cond_some (test u) u t same in (omega (arith, r.1), ap test (sym r.1) ∙ r.0)
-      | Some v ↦ λ is same. let r = least_passes test u t (is ∙ same) in (omega (arith, r.0), r.1)
-    ] refl e
 
 -- a detection is by the suspicion that lasts to the horizon
 detected : (S : Record) (q p : ℕ) (suspected : ℕ → Bool) (ticks : ℕ) → detection S q p suspected ≡ At ticks
@@ -77,19 +75,28 @@ module _ (S : Record) (ranges : IsInRange S) (trace : List EntryRecord) (is_trac
   unfolding pair_measures
   rests layer q p two = subst (λ l. HasBlame S trace (measured S l q p (suspects l trace q p))) (sym two) (has_blame q p)
 
-  all_by_recursion : AllByRecursion (RestsOnBlame S trace) (all_measures S trace)
+  each_row : (P : PairMeasures → Type 0) → ((layer q p : ℕ) → P (pair_measures S trace layer q p)) → All P (all_measures S trace)
   unfolding all_measures layer_measures
-  all_by_recursion =
-      all_flat (RestsOnBlame S trace) (layer_measures S trace) (layers S) (λ layer.
-      all_flat (RestsOnBlame S trace) (λ q. map (pair_measures S trace layer q) (others S.processes q)) (numbers_to S.processes) (λ q.
-      images (RestsOnBlame S trace) (pair_measures S trace layer q) (others S.processes q) (always (λ p. RestsOnBlame S trace (pair_measures S trace layer q p)) (rests layer q) (others S.processes q))))
+  each_row P each =
+      All-from_recursion P (all_measures S trace)
+      (all_flat P (layer_measures S trace) (layers S) (λ layer.
+      all_flat P (λ q. map (pair_measures S trace layer q) (others S.processes q)) (numbers_to S.processes) (λ q.
+      images P (pair_measures S trace layer q) (others S.processes q) (always (λ p. P (pair_measures S trace layer q p)) (each layer q) (others S.processes q)))))
 
   pub all_rest : All (RestsOnBlame S trace) (all_measures S trace)
-  all_rest = All-from_recursion (RestsOnBlame S trace) (all_measures S trace) all_by_recursion
+  all_rest = each_row (RestsOnBlame S trace) rests
+
+  keeps : KeepsBounds S trace
+  keeps = bounds_kept S ranges trace is_trace
+
+  pub all_bounded : All (IsBounded S trace) (all_measures S trace)
+  all_bounded = each_row (IsBounded S trace) (bounded S trace keeps)
 
   pub has_grounds : HasGrounds S trace
   has_grounds = record {
     meaning = verdicts_mean S trace;
     shares = shares_suspicions S ranges trace is_trace;
     blame = all_rest;
+    bounds = keeps;
+    bounded = all_bounded;
   }

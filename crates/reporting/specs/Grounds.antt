@@ -6,6 +6,8 @@ use Rattle.scenario_record.specs.Record.{Record}
 use Rattle.judges.specs.Blame.{SharesSuspicions}
 use Rattle.judges.specs.Meaning.{AreVerdicts}
 use Rattle.judges.specs.Verdicts.{verdicts}
+use Rattle.detector_bounds.specs.Bounds.{KeepsBounds}
+use Rattle.reporting.specs.Bounded.{IsBounded}
 use Rattle.reporting.specs.Measures.{all_measures}
 use Rattle.reporting.specs.Resting.{RestsOnBlame}
 
@@ -16,3 +18,6 @@ pub record HasGrounds (S : Record) (trace : List EntryRecord) : Type 0 where
   pub shares : SharesSuspicions trace
   -- each measured mistake or detection on layer 2 is of a process that some base detector had suspected by then
   pub blame : All (RestsOnBlame S trace) (all_measures S trace)
+  -- the bounds of the detector are kept, by the trace and by each measured row
+  pub bounds : KeepsBounds S trace
+  pub bounded : All (IsBounded S trace) (all_measures S trace)

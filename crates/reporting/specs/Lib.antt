@@ -16,5 +16,6 @@ pub mod Printed
 pub mod Running
 pub mod Measured
 pub mod Resting
+pub mod Bounded
 pub mod Grounds
 pub mod Inside

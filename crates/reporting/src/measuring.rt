@@ -3,6 +3,7 @@ ghost use Rattle.std.specs.Prelude.{◌≡◌, All, IfOk};
 ghost use Rattle.trace_laws.specs.ScenarioSetting.{setting_of};
 ghost use Rattle.trace_laws.specs.World.{IsTrace};
 ghost use Rattle.judges.specs.Blame.{SharesSuspicions};
+ghost use Rattle.reporting.specs.Bounded.{IsBounded};
 ghost use Rattle.reporting.specs.Measures.{all_measures};
 ghost use Rattle.reporting.specs.Resting.{RestsOnBlame};
 
@@ -25,6 +26,9 @@ use std::alloc::{AllocError, Global};
 /// a process that some base detector had suspected before: by the tick at which such a mistake starts, and by the tick
 /// at which the suspicion starts that lasts to the horizon.
 ///
+/// And each row of layer 1 keeps to the bounds that no run breaks (`detector_bounds`): a correct observer detects the
+/// crash of whom it watches no later than they say, and makes no mistake over a reliable link.
+///
 /// # Errors
 ///
 /// Where a growth was refused.
@@ -36,6 +40,8 @@ pub fn measures(
     ensures rows { IfOk result (λ rows. rows.items ≡ all_measures scenario.now trace.now) }
     ensures blame { IfOk result (λ rows. IsTrace (setting_of scenario.now) trace.now
         → All (RestsOnBlame scenario.now trace.now) rows.items) }
+    ensures bounds { IfOk result (λ rows. IsTrace (setting_of scenario.now) trace.now
+        → All (IsBounded scenario.now trace.now) rows.items) }
     ensures shares { IsTrace (setting_of scenario.now) trace.now → SharesSuspicions trace.now }
 {
     let _ticks = scenario.horizon();

@@ -1,10 +1,11 @@
 use Rattle.std.proofs.Common.{◌<◌, ◌^◌, sym, ap, ◌∙◌, subst, false, length, [], rules}
 use Rattle.std.specs.List.{All}
 use Rattle.judges.proofs.Blamed.{shares_suspicions}
+use Rattle.reporting.specs.Bounded.{IsBounded}
 use Rattle.reporting.specs.Measures.{all_measures}
 use Rattle.reporting.specs.Resting.{RestsOnBlame}
 use Rattle.reporting.proofs.Followed.{measuring_same, measuring_told}
-use Rattle.reporting.proofs.Resting.{all_rest}
+use Rattle.reporting.proofs.Resting.{all_bounded, all_rest}
 use Rattle.reporting.proofs.measuring.measures.Goals as goal
 
 pub returns-clause-rows : goal.returns-clause-rows
@@ -19,6 +20,10 @@ returns-clause-rows c =
 pub returns-clause-blame : goal.returns-clause-blame
 returns-clause-blame c is_trace =
     subst (All (RestsOnBlame c.args.scenario.now c.args.trace.now)) (sym (returns-clause-rows c)) (all_rest c.args.scenario.now c.horizon-ticks.ensures.ranges c.args.trace.now is_trace)
+
+pub returns-clause-bounds : goal.returns-clause-bounds
+returns-clause-bounds c is_trace =
+    subst (All (IsBounded c.args.scenario.now c.args.trace.now)) (sym (returns-clause-rows c)) (all_bounded c.args.scenario.now c.horizon-ticks.ensures.ranges c.args.trace.now is_trace)
 
 pub returns-in_err-measuring-clause-shares : goal.returns-in_err-measuring-clause-shares
 returns-in_err-measuring-clause-shares c is_trace = shares_suspicions c.args.scenario.now c.horizon-ticks.ensures.ranges c.args.trace.now is_trace

@@ -1,0 +1,4 @@
+-- Freshness points.
+pub mod Steps
+pub mod Known
+pub mod Bounded

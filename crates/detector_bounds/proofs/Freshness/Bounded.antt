@@ -1,0 +1,185 @@
+-- Whom q suspects at the end of a tick, with freshness points.
+use Rattle.std.proofs.Common.{◌≡◌, ◌≢◌, ℕ, zero, suc, ◌+◌, ◌*◌, ◌<◌, ◌≤◌, inl, inr, refl, sym, ap, ◌∙◌, subst, Bool, true, false, not, ◌&&◌, nat_eq, nat_le, List, arith, Option, None, Some, unwrap_or}
+use Rattle.std.proofs.lemmas.Bool.{cases_lt, cases_Bool, le-leb, lt-leb, leb-false, leb-true, eq-eqb, not-true, and_parts, and_right}
+use Rattle.process_api.specs.EntryRecord.{EntryRecord}
+use Rattle.process_api.specs.Freshness.{FreshnessState, opening_freshness, watches, is_stale}
+use Rattle.process_api.specs.Numbers.{is_process}
+use Rattle.process_api.specs.declared.message.StepInput.TheVariants as input
+use Rattle.process_api.specs.declared.numbers.DetectorNumbers.TheVariants as numbers
+use Rattle.process_api.specs.declared.numbers.FreshnessNumbers.{FreshnessNumbers}
+use Rattle.process_api.proofs.FreshnessLaws.{contains-suspected}
+use Rattle.process_api.proofs.Minds.{and_true}
+use Rattle.scenario_record.specs.Ranges.{IsInRange}
+use Rattle.scenario_record.specs.Record.{Record, crash, link, place_in}
+use Rattle.trace_laws.specs.ScenarioSetting.{setting_of}
+use Rattle.trace_laws.specs.Setting.{has_crashed}
+use Rattle.trace_laws.specs.World.{IsTrace, start_of, entries}
+use Rattle.trace_laws.proofs.Sound.{setting_sound}
+use Rattle.judges.specs.Crashes.{crash_tick}
+use Rattle.judges.specs.Meaning.{IsProcess, Suspects}
+use Rattle.judges.specs.Out.{out}
+use Rattle.process_api.specs.Watching.{is_other, is_watched}
+use Rattle.scenario_record.specs.Numbers.{AreInRange}
+use Rattle.scenario_record.specs.declared.link.Link.{Link}
+use Rattle.detector_bounds.specs.Bounds.{detected_at, HasNoMistake, KeepsBounds}
+use Rattle.detector_bounds.specs.Detected.{trusts, detected_by, longest}
+use Rattle.detector_bounds.specs.Multiples.{last_before}
+use Rattle.detector_bounds.specs.Watched.{watch_of, IsTimely, Watches, IsReliable}
+use Rattle.detector_bounds.proofs.Fates.{delivers}
+use Rattle.detector_bounds.proofs.Verdicts.{pairs_keep}
+use Rattle.detector_bounds.proofs.Added.{Delivers}
+use Rattle.detector_bounds.proofs.Ending.{IsEnd, ending, holds_at}
+use Rattle.detector_bounds.proofs.Freshness.Known.{Knows, kept}
+use Rattle.detector_bounds.proofs.Instances.{fresh_step, fresh_suspects, runs_freshness}
+use Rattle.detector_bounds.proofs.Machines.{state_of}
+use Rattle.detector_bounds.proofs.Multiples.{mul-next, less_multiple, after_last, last_is_before}
+use Rattle.detector_bounds.proofs.Standing.{stands_kept, out_is}
+
+process_is : (n p : ℕ) → 1 ≤ p → p ≤ n → is_process n p ≡ true
+process_is n p low high = and_true _ _ (le-leb 1 p low) (le-leb p n high)
+
+-- nobody is suspected who isn't watched
+module _ (s : Record) (is : IsInRange s) (its : FreshnessNumbers) (kind : s.detector ≡ numbers.Freshness its) (trace : List EntryRecord) (is_trace : IsTrace (setting_of s) trace) (t : ℕ) (below : t < s.horizon) (q p : ℕ)
+    (p_low : 1 ≤ p) (p_high : p ≤ s.processes) where
+  abbrev at_end : IsEnd (setting_of s) (setting_sound s is) trace (t + 1)
+  at_end = ending (setting_of s) (setting_sound s is) trace is_trace (t + 1) (omega (arith, below))
+
+  abbrev observer : FreshnessState
+  observer = state_of (setting_of s) opening_freshness (fresh_step s its) (fresh_suspects s its) (runs_freshness s its kind) at_end.world q
+
+  out_stale : out 1 trace q t p ≡ is_stale (place_in s q) its observer p
+  out_stale =
+      out_is (setting_of s) (setting_sound s is) opening_freshness (fresh_step s its) (fresh_suspects s its) (runs_freshness s its kind) trace t at_end
+      (holds_at (setting_of s) (setting_sound s is) trace (t + 1) at_end _ (stands_kept (setting_of s) (setting_sound s is) opening_freshness (fresh_step s its) (fresh_suspects s its) (runs_freshness s its kind) t)) q p (process_is s.processes p p_low p_high)
+      ∙ (contains-suspected (place_in s q) its observer p ∙ ap (λ b. b && is_stale (place_in s q) its observer p) (process_is s.processes p p_low p_high))
+
+  pub unwatched : watches (place_in s q) its p ≡ false → out 1 trace q t p ≡ false
+  unwatched free = out_stale ∙ ap (λ b. b && (nat_le 1 observer.reached && not (observer.came p observer.reached))) free
+
+  -- of a pair that watches
+  module _ (q_low : 1 ≤ q) (q_high : q ≤ s.processes) (apart : q ≢ p) (watched : watches (place_in s q) its p ≡ true) (eta_low : 1 ≤ its.eta) where
+    abbrev Known : Type 0
+    Known = Knows s is its kind q p q_low q_high p_low p_high apart watched eta_low t at_end.world (entries at_end.history)
+
+    known : Known
+    known = holds_at (setting_of s) (setting_sound s is) trace (t + 1) at_end (Knows s is its kind q p q_low q_high p_low p_high apart watched eta_low t) (kept s is its kind q p q_low q_high p_low p_high apart watched eta_low t below)
+
+    abbrev subject : FreshnessState
+    subject = state_of (setting_of s) opening_freshness (fresh_step s its) (fresh_suspects s its) (runs_freshness s its kind) at_end.world p
+
+    -- the next point, and the next heartbeat, come later
+    point_later : ((u : ℕ) → u ≤ t → has_crashed (crash s q) u ≡ false) → t < observer.reached * its.eta + (its.eta + its.delta)
+    point_later up = elim (known.checks.there up) [
+      | inl start ↦ absurd (omega (arith, at_end.none_left (start_of q) input.Start start))
+      | inr (inl late) ↦ omega (arith, below, late)
+      | inr (inr (key, wake)) ↦ omega (arith, at_end.none_left key _ wake.1, known.checks.only key wake)
+    ]
+
+    beat_later : ((u : ℕ) → u ≤ t → has_crashed (crash s p) u ≡ false) → t < subject.sent * its.eta + its.eta
+    beat_later up = elim (known.beats.there up) [
+      | inl start ↦ absurd (omega (arith, at_end.none_left (start_of p) input.Start start))
+      | inr (inl late) ↦ omega (arith, below, late)
+      | inr (inr (key, wake)) ↦ omega (arith, at_end.none_left key _ wake.1, known.beats.only key wake)
+    ]
+
+    -- p crashed, and the point after its last heartbeat was reached
+    pub suspected_from : (c : ℕ) → crash s p ≡ Some c → ((u : ℕ) → u ≤ t → has_crashed (crash s q) u ≡ false) → (last_before its.eta c + 1) * its.eta + its.delta ≤ t → out 1 trace q t p ≡ true
+    suspected_from c crashes up late =
+        out_stale ∙ and_true _ _ watched (and_true _ _ (le-leb 1 observer.reached (omega (arith, beyond))) (ap not stale))
+      where
+        beyond : last_before its.eta c + 1 ≤ observer.reached
+        beyond = let l = less_multiple (last_before its.eta c + 1) (observer.reached + 1) its.eta (omega (arith, point_later up, late, mul-next observer.reached its.eta)) in omega (arith, l)
+
+        sent_before : observer.reached ≤ subject.sent → ⊥
+        sent_before high = elim known.sent_low [
+          | inl none ↦ omega (arith, none, high, beyond)
+          | inr low ↦
+              let alive : nat_le c (subject.sent * its.eta) ≡ false = ap (λ o. has_crashed o (subject.sent * its.eta)) (sym crashes) ∙ low.1 in
+              let before : subject.sent * its.eta < c = leb-false c (subject.sent * its.eta) alive in
+              let l = less_multiple subject.sent (last_before its.eta c + 1) its.eta (omega (arith, before, after_last its.eta c eta_low)) in
+              omega (arith, l, high, beyond)
+        ]
+
+        stale : observer.came p observer.reached ≡ false
+        stale = elim (cases_Bool (observer.came p observer.reached)) [ inl h ↦ absurd (sent_before (known.came observer.reached h)) | inr h ↦ h ]
+
+    -- both are up, and the link delivers in time
+    pub trusted : (most : ℕ) → most ≤ its.delta → ((u : ℕ) → u ≤ t → has_crashed (crash s p) u ≡ false) → ((u : ℕ) → u ≤ t → has_crashed (crash s q) u ≡ false)
+        → ((now : ℕ) → Delivers (setting_of s) p now q most) → out 1 trace q t p ≡ false
+    trusted most timely p_up q_up delivers = out_stale ∙ (and_right (watches (place_in s q) its p) _ fresh)
+      where
+        heard : 1 ≤ observer.reached → observer.came p observer.reached ≡ true
+        heard first = elim known.reached_low [
+          | inl none ↦ absurd (omega (arith, none, first))
+          | inr point ↦
+              let within : observer.reached ≤ subject.sent = (let l = less_multiple observer.reached (subject.sent + 1) its.eta (omega (arith, beat_later p_up, point, mul-next subject.sent its.eta)) in omega (arith, l)) in
+              elim (known.arrives most q_up delivers observer.reached first within) [
+                | inl came ↦ came
+                | inr (inl late) ↦ absurd (omega (arith, late, below, point, timely))
+                | inr (inr (key, at, there, tick)) ↦ absurd (omega (arith, at_end.none_left key _ there, tick, point, timely))
+              ]
+        ]
+
+        fresh : (nat_le 1 observer.reached && not (observer.came p observer.reached)) ≡ false
+        fresh = elim (cases_lt 0 observer.reached) [
+          | inl first ↦ and_right (nat_le 1 observer.reached) _ (ap not (heard (omega (arith, first))))
+          | inr none ↦ ap (λ b. b && not (observer.came p observer.reached)) (lt-leb 1 observer.reached (omega (arith, none)))
+        ]
+
+-- ---- so a scenario with freshness points keeps the bounds
+
+-- a process is up before it crashes
+up_before : (o : Option ℕ) (horizon u : ℕ) → u < unwrap_or o (suc horizon) → has_crashed o u ≡ false
+up_before None horizon u h = refl
+up_before (Some at) horizon u h = lt-leb at u h
+
+up_until : (s : Record) (p t : ℕ) → t < crash_tick s p → (u : ℕ) → u ≤ t → has_crashed (crash s p) u ≡ false
+up_until s p t h u l = up_before (crash s p) s.horizon u (omega (arith, h, l))
+
+-- whom q watches is another process
+watched_is : (s : Record) (q p : ℕ) → Watches s q p → (1 ≤ p) × (p ≤ s.processes) × (q ≢ p)
+watched_is s q p (own, w) =
+    let other = and_parts (is_process s.processes p) (not (nat_eq p q)) (and_parts (is_other q s.processes p) _ w).0 in
+    let one = and_parts (nat_le 1 p) (nat_le p s.processes) other.0 in
+    (leb-true 1 p one.0, leb-true p s.processes one.1, λ same. cc (not-true (nat_eq p q) other.1, eq-eqb p q (sym same)))
+
+module _ (s : Record) (is : IsInRange s) (its : FreshnessNumbers) (kind : s.detector ≡ numbers.Freshness its) (trace : List EntryRecord) (is_trace : IsTrace (setting_of s) trace) where
+  eta_low : 1 ≤ its.eta
+  eta_low = (subst AreInRange kind is.numbers).eta_low
+
+  watches_is : (q p : ℕ) (b : Bool) → is_watched q s.processes (watch_of s.detector) p ≡ b → watches (place_in s q) its p ≡ b
+  watches_is q p b h = ap (λ k. is_watched q s.processes (watch_of k) p) (sym kind) ∙ h
+
+  detected_is : (q p c : ℕ) → detected_at s trace q p c ≡ (last_before its.eta c + 1) * its.eta + its.delta
+  detected_is q p c = ap (λ k. detected_by k (link s p q) (trusts trace q p) c) kind
+
+  soon_after : (c : ℕ) (l : Link) (n : ℕ) → (last_before its.eta c + 1) * its.eta + its.delta ≤ c + longest (numbers.Freshness its) l n c
+  soon_after zero l n = omega (arith, mul-next (last_before its.eta 0) its.eta, last_is_before its.eta 0 eta_low)
+  soon_after (suc before) l n = omega (arith, mul-next (last_before its.eta (suc before)) its.eta, last_is_before its.eta (suc before) eta_low, eta_low)
+
+  no_mistake : (q p : ℕ) → Watches s q p → IsReliable s p q → HasNoMistake s trace q p
+  no_mistake q p w r t early suspects =
+      let below : t < s.horizon = omega (arith, early) in
+      let other = watched_is s q p w in
+      let linked = is.links p q other.0 other.1 w.0.0 w.0.1 in
+      cc (
+        suspects,
+        trusted s is its kind trace is_trace t below q p other.0 other.1 w.0.0 w.0.1 other.2 (watches_is q p true w.1) eta_low (link s p q).max (subst (λ k. IsTimely k (link s p q)) kind r.timely)
+            (up_until s p t (omega (arith, early))) (up_until s q t (omega (arith, early))) (delivers s p q linked.min_high r.no_loss r.no_outage),
+      )
+
+  watched_alone : (q p t : ℕ) → IsProcess s q → IsProcess s p → t < s.horizon → Suspects s trace 1 q p t → Watches s q p
+  watched_alone q p t of_q of_p below suspects = elim (cases_Bool (is_watched q s.processes (watch_of s.detector) p)) [
+    | inl w ↦ (of_q, w)
+    | inr free ↦ absurd (cc (suspects, unwatched s is its kind trace is_trace t below q p of_p.0 of_p.1 (watches_is q p false free)))
+  ]
+
+  pub freshness_keeps : KeepsBounds s trace
+  freshness_keeps = pairs_keep s trace (record {
+    detects = λ q p c correct w crashes t late below.
+        let other = watched_is s q p w in
+        suspected_from s is its kind trace is_trace t below q p other.0 other.1 w.0.0 w.0.1 other.2 (watches_is q p true w.1) eta_low c crashes.1 (up_until s q t (omega (arith, below, correct.1))) (omega (arith, late, detected_is q p c));
+    soon = λ q p c w crashes. omega (arith, detected_is q p c, soon_after c (link s p q) (trusts trace q p), ap (λ k. longest k (link s p q) (trusts trace q p) c) kind);
+    accurate = no_mistake;
+    watched = watched_alone;
+  })

@@ -1,0 +1,29 @@
+-- Multiples of a period.
+use Rattle.std.proofs.Common.{◌≡◌, ℕ, ◌+◌, ◌-◌, ◌*◌, ◌<◌, ◌≤◌, add-one, ap, ◌∙◌, arith}
+use Rattle.std.proofs.Math.Nat.{suc-mul, le-mul_of_pos_right, lt_of_mul-lt-mul_right, div-mul-le_self}
+use Rattle.std.proofs.lemmas.Nat.{mod_below, div-add-mod'}
+use Rattle.detector_bounds.specs.Multiples.{last_before, multiple_from}
+
+pub mul-next : (n m : ℕ) → (n + 1) * m ≡ n * m + m
+mul-next n m = ap (λ k. k * m) (add-one n) ∙ suc-mul n m
+
+pub le-mul : (n m : ℕ) → 1 ≤ m → n ≤ n * m
+le-mul n m low = le-mul_of_pos_right n (omega (arith, low))
+
+-- of two multiples of one period, the number of the lesser is less
+pub less_multiple : (n m period : ℕ) → n * period < m * period → n < m
+less_multiple n m period h = lt_of_mul-lt-mul_right period h
+
+module _ (period tick : ℕ) (low : 1 ≤ period) where
+  -- the next multiple isn't before the tick, and the last one is, unless it is the first of all
+  pub after_last : tick ≤ (last_before period tick + 1) * period
+  after_last = omega (arith, div-add-mod' (tick - 1) period, mod_below (tick - 1) period (omega (arith, low)), mul-next (last_before period tick) period)
+
+  pub last_is_before : last_before period tick * period ≤ tick - 1
+  last_is_before = div-mul-le_self (tick - 1) period
+
+  pub from_tick : tick ≤ multiple_from period tick
+  from_tick = omega (arith, div-add-mod' (tick + (period - 1)) period, mod_below (tick + (period - 1)) period (omega (arith, low)), low)
+
+  pub soon_from : multiple_from period tick ≤ tick + (period - 1)
+  soon_from = div-mul-le_self (tick + (period - 1)) period

@@ -1,0 +1,13 @@
+-- Machines that have a time-out detector below other parts.
+use Rattle.std.specs.Prelude.{ℕ}
+use Rattle.process_api.specs.Place.{Place}
+use Rattle.process_api.specs.Timeout.{opening_timeout, step_timeout}
+use Rattle.process_api.specs.declared.numbers.TimeoutNumbers.{TimeoutNumbers}
+use Rattle.trace_laws.specs.Setting.{Setting}
+use Rattle.detector_bounds.proofs.Machines.{RunsDetector}
+
+abbrev pub place_of : {Mind : Type 0} → Setting Mind → ℕ → Place
+place_of S p = record { own = p; processes = S.processes; horizon = S.horizon }
+
+abbrev pub RunsTimeout : {Mind : Type 0} → Setting Mind → TimeoutNumbers → Type 1
+RunsTimeout S numbers = RunsDetector S (opening_timeout numbers) (λ p d now x. step_timeout (place_of S p) numbers d now x) (λ p d. d.suspects)

@@ -1,0 +1,4 @@
+pub mod Multiples
+pub mod Watched
+pub mod Detected
+pub mod Bounds
