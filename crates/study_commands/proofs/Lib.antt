@@ -10,4 +10,5 @@ pub mod FirstRuns
 pub mod Dealt
 pub mod CommonLink
 pub mod Standing
+pub mod Accepted
 pub mod Naming

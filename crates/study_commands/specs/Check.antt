@@ -1,10 +1,12 @@
 -- What `check` answers.
 use Rattle.std.specs.Prelude.{◌≡◌, ℕ, if◌then◌else◌, nat_lt, List, [], length, ◌++◌, codes, decimal, Option}
+use Rattle.promised.specs.Promised.{promised}
 use Rattle.diagnosis.specs.Diagnosis.{entries_in, longest_window}
 use Rattle.diagnosis.specs.declared.answer.Accepted.{Accepted}
 use Rattle.study.specs.Sources.{SourcesRecord}
 use Rattle.study.specs.Grid.{GridRecord, runs}
 use Rattle.study.specs.Shard.{ShardRecord}
+use Rattle.study_commands.specs.BoundsText.{bounds_text}
 use Rattle.study_commands.specs.File.{IsScenario}
 use Rattle.study_commands.specs.Sweep.{IsSaid}
 use Rattle.study_commands.specs.declared.checking.TheConstants.{WORTH_FOUR_WORKERS}
@@ -45,12 +47,13 @@ accepted_line a =
     accepted_text a.processes a.horizon a.limit a.window a.estimate.entries a.estimate.seconds a.estimate.in_window
 
 -- these are the scenario's processes, its horizon, its limit and its longest window, which has its share of the entries.
--- How near the estimate of all entries comes isn't said
+-- How near the estimate of all entries comes isn't said. After that comes what no run of the scenario breaks
 pub record TellsOf (s : Record) (piece : List ℕ) : Type 0 where
   pub entries : ℕ
   pub seconds : ℕ
   pub text : piece ≡ accepted_text s.processes s.horizon s.limit (longest_window s)
       entries seconds (entries_in (longest_window s) entries s.horizon)
+      ++ bounds_text s.detector (promised s)
 
 -- the files stand for a scenario, and it is told of
 pub record IsCheckAnswer (input : Option (List ℕ)) (texts : SourceTexts) (piece : List ℕ) : Type 0 where

@@ -6,6 +6,7 @@ pub mod WordRefusals
 pub mod Runs
 pub mod Warnings
 pub mod WarningText
+pub mod BoundsText
 pub mod Check
 pub mod Letters
 pub mod Draw

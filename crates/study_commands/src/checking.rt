@@ -1,10 +1,12 @@
 //! The command `check`: what a scenario file has, or where it breaks a rule and why.
-ghost use Rattle.std.specs.Prelude.{◌≡◌, ◌≢◌, ◌+◌, false, Ok, IfOk, IfErr, OnOk, string_bytes};
+ghost use Rattle.std.specs.Prelude.{◌≡◌, ◌≢◌, ◌+◌, ◌++◌, false, Ok, IfOk, IfErr, OnOk, string_bytes};
+ghost use Rattle.promised.specs.Promised.{promised};
 ghost use Rattle.scenario.specs.Refusals.{Accepts};
 ghost use Rattle.scenario.specs.Text.{record_of};
 ghost use Rattle.scenario_record.specs.Record.{Record};
 ghost use Rattle.study.specs.Runs.{IsScenarioOf};
 ghost use Rattle.study.specs.Sources.{sources_of};
+ghost use Rattle.study_commands.specs.BoundsText.{bounds_text};
 ghost use Rattle.study_commands.specs.Check.{IsCheckAnswer, TellsOf, accepted_line, limit_text, window_text};
 ghost use Rattle.study_commands.specs.Fault.{IsBefore};
 ghost use Rattle.study_commands.specs.File.{IsOwnScenario, NameNoInput};
@@ -17,13 +19,14 @@ ghost use Rattle.shell.specs.Input.{TakesAtMost, input_path, most_bytes};
 ghost use Rattle.toml.specs.View.{table_view};
 
 use crate::alone::{is_alone, sources_alone, table_of_sources};
+use crate::bounds_lines::bounds_lines;
 use crate::fault::Fault;
 use crate::file::{bytes_of, fault_of};
 use crate::warn::warn_of;
 use crate::warned::Warned;
 use diagnosis::{Accepted, Diagnosis, Refused, diagnose, diagnose_table};
 use printable::Printable;
-use scenario::{read_scenario, read_table};
+use scenario::{Scenario, read_scenario, read_table};
 use std::alloc::{AllocError, Global};
 use std::io::Read;
 use std::rt::Files;
@@ -74,13 +77,31 @@ fn line_of(alloc: Global, accepted: &Accepted) -> Result<String, AllocError>
     )
 }
 
-/// Tells what may mislead of the scenario of accepted bytes.
-fn warn_of_bytes<W: Warned>(alloc: Global, bytes: &[u8], watcher: &mut W) -> Result<(), AllocError>
-    ensures told { OnOk result ((s : Record) × Accepts bytes.now s × IsWarnedOf W.warned watcher.old watcher.new s) }
+/// The lines of an accepted scenario. The watcher is told before what may mislead of it.
+fn tell_of<W: Warned>(
+    alloc: Global,
+    accepted: &Accepted,
+    scenario: &Scenario,
+    watcher: &mut W,
+) -> Result<Vec<u8>, AllocError>
+    ensures text { IfOk result (λ text. text.items
+        ≡ accepted_line accepted.now ++ bounds_text scenario.now.detector (promised scenario.now)) }
+    ensures told { OnOk result (IsWarnedOf W.warned watcher.old watcher.new scenario.now) }
     ensures hidden { W.shows watcher.old ≡ false → W.shows watcher.new ≡ false }
 {
+    let size = line_of(alloc, accepted)?;
+    let bounds = bounds_lines(alloc, scenario)?;
+    let text = format!(in alloc; "{size}{bounds}")?;
+    warn_of(alloc, scenario, watcher)?;
+    Ok(text.into_bytes())
+}
+
+/// The scenario of accepted bytes.
+fn scenario_of_bytes(alloc: Global, bytes: &[u8]) -> Result<Scenario, AllocError>
+    ensures { IfOk result (λ s. Accepts bytes.now s) }
+{
     match read_scenario(alloc, bytes) {
-        Ok(scenario) => warn_of(alloc, &scenario, watcher),
+        Ok(scenario) => Ok(scenario),
         Err(_) => Err(AllocError),
     }
 }
@@ -105,9 +126,8 @@ fn check_own<R: Files, I: Read, W: Warned>(
     let bytes = bytes_of(rt, alloc, path, input)?;
     match diagnose(alloc, &bytes)? {
         Diagnosis::Accepted(accepted) => {
-            let text = line_of(alloc, &accepted)?;
-            warn_of_bytes(alloc, &bytes, watcher)?;
-            Ok(text.into_bytes())
+            let scenario = scenario_of_bytes(alloc, &bytes)?;
+            Ok(tell_of(alloc, &accepted, &scenario, watcher)?)
         }
         Diagnosis::Refused(refused) => Err(fault_of(alloc, path, &refused)),
     }
@@ -119,13 +139,12 @@ fn line_of_refused(alloc: Global, path: &str, refused: &Refused) -> Result<Strin
     format!(in alloc; "{path}: {refused}\n")
 }
 
-/// Tells what may mislead of the scenario of an accepted table.
-fn warn_of_table<W: Warned>(alloc: Global, table: &Table, watcher: &mut W) -> Result<(), AllocError>
-    ensures told { OnOk result (IsWarnedOf W.warned watcher.old watcher.new (record_of (table_view table.now))) }
-    ensures hidden { W.shows watcher.old ≡ false → W.shows watcher.new ≡ false }
+/// The scenario of an accepted table.
+fn scenario_of_table(alloc: Global, table: &Table) -> Result<Scenario, AllocError>
+    ensures { IfOk result (λ s. s ≡ record_of (table_view table.now)) }
 {
     match read_table(alloc, table) {
-        Ok(scenario) => warn_of(alloc, &scenario, watcher),
+        Ok(scenario) => Ok(scenario),
         Err(_) => Err(AllocError),
     }
 }
@@ -148,9 +167,8 @@ fn check_sources<W: Warned>(
     let table = table_of_sources(alloc, path, sources)?;
     match diagnose_table(alloc, &table)? {
         Diagnosis::Accepted(accepted) => {
-            let text = line_of(alloc, &accepted)?;
-            warn_of_table(alloc, &table, watcher)?;
-            Ok(text.into_bytes())
+            let scenario = scenario_of_table(alloc, &table)?;
+            Ok(tell_of(alloc, &accepted, &scenario, watcher)?)
         }
         Diagnosis::Refused(refused) => Err(Fault::Refused(line_of_refused(
             alloc, path, &refused,
@@ -159,7 +177,7 @@ fn check_sources<W: Warned>(
 }
 
 /// Answers `check`: how many processes accepted files have, the horizon, about how much a run of it and a window are,
-/// and where its limit may stop that. The watcher is told before what may mislead of them.
+/// where its limit may stop that, and what no run of it breaks. The watcher is told before what may mislead of them.
 pub(crate) fn serve_check<R: Files, I: Read, W: Warned>(
     rt: &R,
     alloc: Global,

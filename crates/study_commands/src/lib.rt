@@ -19,6 +19,7 @@
 mod adding;
 mod alone;
 mod assigned;
+mod bounds_lines;
 mod checking;
 mod common_link;
 mod dealt_ticks;

@@ -1,40 +1,40 @@
-use Rattle.diagnosis.specs.Diagnosis.{AcceptsAs}
+use Rattle.std.proofs.Common.{◌≡◌}
+use Rattle.diagnosis.specs.Diagnosis.{AcceptsAs, Describes}
+use Rattle.scenario.specs.Refusals.{Accepts}
+use Rattle.promised.specs.Promised.{promised}
+use Rattle.study_commands.proofs.Accepted.{same_scenario, told_more}
 use Rattle.study_commands.proofs.Reasons.{bytes_file}
+use Rattle.study_commands.specs.BoundsText.{bounds_text}
 use Rattle.study_commands.proofs.checking.check_own.Goals as goal
 
 pub returns-in-Accepted-clause-text : goal.returns-in-Accepted-clause-text
 returns-in-Accepted-clause-text g c =
     let a = c.in-Accepted.accepted in
-    let its : AcceptsAs c.in_ok-bytes.bytes.items a =
-    rw (c.in-Accepted.is, c.deref.ensures.value) at c.in_ok-accepted.ensures in (
-      its.stands_for,
-      record {
-        bytes = c.in_ok-bytes.bytes.items;
-        are_bytes = c.in_ok-bytes.ensures.bytes;
-        accepted = its.accepts;
-      },
+    let s = c.in_ok-scenario-in-Accepted.scenario in
+    let bytes = c.in_ok-bytes.bytes.items in
+    let its : AcceptsAs bytes a = rw (c.in-Accepted.is, c.deref.ensures.value) at c.in_ok-accepted.ensures in
+    let accepts : Accepts bytes s = rw c.deref-in-Accepted.ensures.value at c.in_ok-scenario-in-Accepted.ensures in
+    let same : its.stands_for ≡ s = same_scenario bytes its.stands_for s its.accepts accepts in
+    let describes : Describes s a = rw same at its.describes in (
+      s,
+      record { bytes = bytes; are_bytes = c.in_ok-bytes.ensures.bytes; accepted = accepts },
       record {
         entries = a.estimate.entries;
         seconds = a.estimate.seconds;
         text =
-            rw (
-              c.into_bytes.ensures.value,
-              ← its.describes.in_window,
-              ← its.describes.window,
-              ← its.describes.processes,
-              ← its.describes.horizon,
-              ← its.describes.limit,
-            )
-            c.in_ok-text-in-Accepted.ensures;
+            told_more s a describes (bounds_text s.detector (promised s)) _
+            c.in_ok-tell_of-in-Accepted.ensures.text;
       },
     )
 
 pub returns-in-Accepted-clause-told : goal.returns-in-Accepted-clause-told
 returns-in-Accepted-clause-told g c =
-    let told = rw c.deref-in-Accepted.ensures.value at c.in_ok-warn_of_bytes-in-Accepted.ensures.told in (
-      told.0,
-      record { bytes = c.in_ok-bytes.bytes.items; are_bytes = c.in_ok-bytes.ensures.bytes; accepted = told.1 },
-      told.2,
+    let s = c.in_ok-scenario-in-Accepted.scenario in
+    let bytes = c.in_ok-bytes.bytes.items in
+    let accepts : Accepts bytes s = rw c.deref-in-Accepted.ensures.value at c.in_ok-scenario-in-Accepted.ensures in (
+      s,
+      record { bytes = bytes; are_bytes = c.in_ok-bytes.ensures.bytes; accepted = accepts },
+      c.in_ok-tell_of-in-Accepted.ensures.told,
     )
 
 pub returns-clause-why : goal.returns-clause-why

@@ -1,8 +1,13 @@
-use Rattle.std.proofs.Common.{refl}
+use Rattle.std.proofs.Common.{◌∙◌, ◌++◌, ap, refl}
 use Rattle.diagnosis.specs.Diagnosis.{AcceptsTableAs, RefusesTableFor}
+use Rattle.promised.specs.Promised.{promised}
 use Rattle.scenario.specs.Text.{record_of}
+use Rattle.scenario_record.specs.Record.{Record}
 use Rattle.study.specs.declared.error.ReadError.TheVariants as error
 use Rattle.toml.specs.View.{table_view}
+use Rattle.study_commands.proofs.Accepted.{told_more}
+use Rattle.study_commands.specs.BoundsText.{bounds_text}
+use Rattle.study_commands.specs.Check.{accepted_line}
 use Rattle.study_commands.proofs.checking.check_sources.Goals as goal
 
 pub returns-in-Accepted-clause-text : goal.returns-in-Accepted-clause-text
@@ -20,15 +25,10 @@ returns-in-Accepted-clause-text g c =
         entries = a.estimate.entries;
         seconds = a.estimate.seconds;
         text =
-            rw (
-              c.into_bytes.ensures.value,
-              ← its.describes.in_window,
-              ← its.describes.window,
-              ← its.describes.processes,
-              ← its.describes.horizon,
-              ← its.describes.limit,
-            )
-            c.in_ok-text-in-Accepted.ensures;
+            told_more (record_of t) a its.describes (bounds_text (record_of t).detector (promised (record_of t))) _
+            (c.in_ok-tell_of-in-Accepted.ensures.text
+            ∙ ap (λ (s : Record). accepted_line a ++ bounds_text s.detector (promised s))
+            c.in_ok-scenario-in-Accepted.ensures);
       },
     )
 
@@ -42,7 +42,7 @@ returns-in-Accepted-clause-told g c =
         is_table = c.in_ok-table.ensures.table;
         stands_for = record { accepted = its.passes; record_is = refl };
       },
-      c.in_ok-warn_of_table-in-Accepted.ensures.told,
+      rw c.in_ok-scenario-in-Accepted.ensures at c.in_ok-tell_of-in-Accepted.ensures.told,
     )
 
 pub returns-clause-why : goal.returns-clause-why

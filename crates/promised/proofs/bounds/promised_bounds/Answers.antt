@@ -1,0 +1,19 @@
+use Rattle.std.proofs.Common.{◌≡◌, rules}
+use Rattle.promised.specs.Links.{watched_links}
+use Rattle.promised.specs.Promised.{promised}
+use Rattle.promised.proofs.Promising.{same_numbers}
+use Rattle.promised.proofs.bounds.promised_bounds.Goals as goal
+
+pub returns : goal.returns
+returns c =
+    let S = c.args.scenario.now in
+    let detector : c.detector-detector.result ≡ S.detector = c.detector-detector.ensures.value in
+    let horizon : c.horizon-horizon.result ≡ S.horizon = c.horizon-horizon.ensures.value in
+    let links : c.in_ok-links.links.items ≡ watched_links S = c.in_ok-links.ensures in
+    same_numbers _ (promised S)
+    (rw (c.greatest_latency.ensures, c.deref.ensures.value, links, detector))
+    (rw (c.is_any_late.ensures, c.deref-2.ensures.value, links, detector, horizon))
+    (search rules)
+    (rw (c.count_reliable.ensures, c.deref-3.ensures.value, links, detector))
+    (rw (c.count_lossy.ensures, c.deref-4.ensures.value, links))
+    (rw (c.greatest_needed.ensures, c.deref-5.ensures.value, links, detector))

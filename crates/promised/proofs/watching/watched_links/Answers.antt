@@ -1,0 +1,7 @@
+use Rattle.std.proofs.Common.{rules}
+use Rattle.promised.proofs.Linking.{each_more}
+use Rattle.promised.specs.Links.{links_to}
+use Rattle.promised.proofs.watching.watched_links.Goals as goal
+
+pub loop-before-preserved : goal.loop-before-preserved
+loop-before-preserved c = search (rules, each_more (links_to c.args.scenario.now) c.loop-before.before)

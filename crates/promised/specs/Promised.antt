@@ -1,0 +1,62 @@
+-- What no run of a scenario breaks, in numbers.
+use Rattle.std.specs.Prelude.{ℕ, zero, ◌+◌, ◌-◌, ◌==◌, max, nat_le, Bool, false, not, ◌&&◌, ◌||◌}
+use Rattle.std.specs.Prelude.{List, length, filter, filter_map, map, count_by, Option, option_map}
+use Rattle.std.specs.List.{list_any, reduce}
+use Rattle.std.specs.Option.{option_map_or}
+use Rattle.process_api.specs.declared.numbers.DetectorNumbers.{DetectorNumbers}
+use Rattle.process_api.specs.declared.numbers.DetectorNumbers.TheVariants.{Timeout, Freshness}
+use Rattle.scenario_record.specs.Record.{Record}
+use Rattle.scenario_record.specs.declared.link.Link.{Link}
+use Rattle.detector_bounds.specs.Detected.{detected_by}
+use Rattle.promised.specs.Links.{watched_links}
+use Rattle.promised.specs.declared.bounds.PromisedBounds.{PromisedBounds}
+use Rattle.promised.specs.declared.watching.WatchedLink.{WatchedLink}
+
+-- the greatest of some numbers; none where there are none
+abbrev pub greatest : List ℕ → Option ℕ
+greatest = reduce max
+
+-- a link may lose letters
+abbrev pub loses : WatchedLink → Bool
+loses w = not (w.link.loss == 0) || w.has_outage
+
+-- the least `delta` or `timeout` with which a link is timely
+abbrev pub needed : DetectorNumbers → Link → ℕ
+needed (Timeout its) link = max link.max (link.max - link.min + its.period)
+needed (Freshness its) link = link.max
+
+-- the detector's `delta` or `timeout`
+abbrev pub patience : DetectorNumbers → ℕ
+patience (Timeout its) = its.timeout
+patience (Freshness its) = its.delta
+
+module _ (d : DetectorNumbers) where
+  abbrev pub is_timely : Link → Bool
+  is_timely link = nat_le (needed d link) (patience d)
+
+  -- a link can bring no mistake
+  abbrev pub is_reliable : WatchedLink → Bool
+  is_reliable w = not (loses w) && is_timely w.link
+
+  -- how long after its crash a link's sender is suspected to the end, where there is a crash to be detected
+  abbrev pub latency : WatchedLink → Option ℕ
+  latency w = option_map (λ crash. detected_by d w.link 0 crash - crash) w.crash
+
+  -- that comes at the horizon or later
+  abbrev pub is_late : (horizon : ℕ) → WatchedLink → Bool
+  is_late horizon w = option_map_or (λ crash. nat_le horizon (detected_by d w.link 0 crash)) w.crash false
+
+module _ (S : Record) where
+  -- the links that lose no letters
+  abbrev pub lossless : List WatchedLink
+  lossless = filter (λ w. not (loses w)) (watched_links S)
+
+  abbrev pub promised : PromisedBounds
+  promised = record {
+    detection = greatest (filter_map (latency S.detector) (watched_links S));
+    is_late = list_any (is_late S.detector S.horizon) (watched_links S);
+    watched = length (watched_links S);
+    reliable = count_by (is_reliable S.detector) (watched_links S);
+    lossy = count_by loses (watched_links S);
+    needed = greatest (map (λ w. needed S.detector w.link) lossless);
+  }
