@@ -554,7 +554,7 @@ def text_of(rows):
 
 
 def run_points(points, jobs, told):
-    """Runs the points, the dearest ones first. Answers their rows in order."""
+    """Runs the points, the costliest ones first. Answers their rows in order."""
     began, last, whole = time.monotonic(), 0, sum(it.cost for it in points)
     with concurrent.futures.ThreadPoolExecutor(jobs) as pool:
         started = {pool.submit(rows_of, it): it for it in sorted(points, key=lambda it: -it.cost)}

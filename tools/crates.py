@@ -73,6 +73,14 @@ class Crates:
             return os.path.join(out, name), os.path.join(out, name + ".sum")
         return os.path.join(out, "rlib", name + ".rlib"), os.path.join(out, "rlib", "sum")
 
+    def is_built(self, name, total):
+        """Whether what is built of a crate was made from what has this sum."""
+        made, kept = self.made(name)
+        if not (os.path.exists(made) and os.path.isfile(kept)):
+            return False
+        with open(kept, encoding="ascii") as file:
+            return file.read() == total
+
     def words(self, name, jobs):
         """The checker's words for a crate, whose folder it is to run in."""
         words = ["--crate-name", name, "src/main.rt" if self.is_program(name) else "src/lib.rt"]

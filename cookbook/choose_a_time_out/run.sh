@@ -8,5 +8,7 @@ mkdir -p out
     --vary detector.timeout=60..=620:40 --deal 'crash[1].at=10000..=10180:20' > out/cluster_5.csv
 ../../fdstudy sweep cluster_50.toml --seeds 1..=500 --vary detector.period=50,100,200 \
     --vary detector.timeout=140..=620:120 --deal 'crash[1].at=2500..=2660:40' > out/cluster_50.csv
-gnuplot -e "processes = 5" picture.gp > cluster_5.svg
-gnuplot -e "processes = 50" picture.gp > cluster_50.svg
+gnuplot -e "processes = 5" picture.gp > out/cluster_5.svg
+gnuplot -e "processes = 50" picture.gp > out/cluster_50.svg
+# the pictures take their places once all are drawn
+mv out/cluster_5.svg out/cluster_50.svg .

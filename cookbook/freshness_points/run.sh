@@ -8,4 +8,6 @@ mkdir -p out
     --deal 'crash[1].at=90000..=90090:10' > out/time_outs.csv
 ../../fdstudy sweep freshness.toml --seeds 1..=500 --vary detector.delta=20..=300:20 \
     --deal 'crash[1].at=90000..=90090:10' > out/freshness.csv
-gnuplot picture.gp > freshness.svg
+gnuplot picture.gp > out/freshness.svg
+# the pictures take their places once all are drawn
+mv out/freshness.svg .

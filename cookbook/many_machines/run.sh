@@ -9,5 +9,7 @@ parallel --will-cite './one_shard.sh {} 8 > out/shard_{}.csv' ::: 1 2 3 4 5 6 7 
 cat out/shard_1.csv out/shard_2.csv out/shard_3.csv out/shard_4.csv \
     out/shard_5.csv out/shard_6.csv out/shard_7.csv out/shard_8.csv > out/together.csv
 cmp out/whole.csv out/together.csv
-gnuplot picture.gp > shards.svg
+gnuplot picture.gp > out/shards.svg
+# the pictures take their places once all are drawn
+mv out/shards.svg .
 echo "the same: $(wc -l < out/whole.csv) lines"

@@ -3,8 +3,10 @@
 set -eu
 cd "$(dirname "$0")"
 mkdir -p out
-../../fdstudy draw cluster.toml --as suspicions > suspicions.svg
-../../fdstudy draw cluster.toml --as letters > letters.svg
+../../fdstudy draw cluster.toml --as suspicions > out/suspicions.svg
+../../fdstudy draw cluster.toml --as letters > out/letters.svg
+# the pictures take their places once all are drawn
+mv out/suspicions.svg out/letters.svg .
 ../../fdbench list cluster.toml --print trace > out/trace.csv
 ../../fdbench list cluster.toml --print report > out/report.csv
 ../../fdstudy letters cluster.toml > out/letters.csv

@@ -11,5 +11,7 @@ for end in 60 170 1000; do
     awk -F, '{ n = split($8, notes, " "); for (i = 1; i <= n; i++) if (notes[i] ~ /^decided/) print $1 "," $2 "," notes[i] }' \
         "out/trace_$end.csv"
 done
-../../fdstudy draw out/until_1000.toml --as suspicions > suspicions.svg
-../../fdstudy draw out/until_170.toml --as letters --from 145 --until 195 > letters.svg
+../../fdstudy draw out/until_1000.toml --as suspicions > out/suspicions.svg
+../../fdstudy draw out/until_170.toml --as letters --from 145 --until 195 > out/letters.svg
+# the pictures take their places once all are drawn
+mv out/suspicions.svg out/letters.svg .

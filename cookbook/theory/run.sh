@@ -23,5 +23,7 @@ mkdir -p out
     --vary detector.timeout=1391..=3091:100 > out/long.csv
 
 python3 theory.py
-gnuplot -e 'what = "theory"' picture.gp > theory.svg
-gnuplot -e 'what = "comparison"' picture.gp > comparison.svg
+gnuplot -e 'what = "theory"' picture.gp > out/theory.svg
+gnuplot -e 'what = "comparison"' picture.gp > out/comparison.svg
+# the pictures take their places once all are drawn
+mv out/theory.svg out/comparison.svg .

@@ -13,4 +13,6 @@ rm -f out/run.db
 sqlite3 out/run.db < load.sql
 sqlite3 out/run.db < questions.sql
 python3 rates.py out/study.csv
-gnuplot picture.gp > rates.svg
+gnuplot picture.gp > out/rates.svg
+# the pictures take their places once all are drawn
+mv out/rates.svg .

@@ -112,7 +112,7 @@ def make_ready(fdstudy):
 
 
 def sweep(settings, log, plan, asked, folder):
-    """What both network files say of each setting: by kind and setting; the dearest are run first."""
+    """What both network files say of each setting: by kind and setting; the costliest are run first."""
     make_ready(asked.fdstudy)
     points = [point_of(kind, it, log, plan, asked.hours) for kind in KINDS for it in settings]
     points = sorted((it for it in points if it), key=lambda it: -it.cost)
