@@ -3,11 +3,14 @@
 //!
 //! What a run prints is compared by the crate `transcripts`. Here stands what no printed text shows: inputs and outlets
 //! that fail, files by their paths, calls of the library, threads that must overlap, plans and windows as a gate sees
-//! them, agreement with many seeds, sums over many reports, and the line of progress.
+//! them, agreement with many seeds, bounds of detectors that are met exactly, sums over many reports, and the line of
+//! progress.
 #![tactic(auto)]
 
 #[cfg(test)]
 mod agreement;
+#[cfg(test)]
+mod bounds;
 #[cfg(test)]
 mod files;
 #[cfg(test)]

@@ -18,11 +18,11 @@ invariant_of-self-in_err-join c =
     let h = c.in_ok-settle.ensures.lists in
     record { below = λ k y there. h.below k y (subst (λ m. Has m k y) c.in_err-join.ensures.err there); from = h.from; next = h.next }
 
-early : (c : goal.After-drop-lists-then-tick-end) → c.args.event.0.tick < c.settle.new.lists.end
+early : (c : goal.In_ok-join) → c.args.event.0.tick < c.settle.new.lists.end
 early c = omega (arith, ap (λ k. k.tick) c.key-tick.ensures, c.if-tick-end.true, c.in_ok-settle.ensures.settled.0)
 
-grown : (c : goal.After-drop-lists-then-tick-end) → c.join.new.self ≡ events.insert c.settle.new.lists.row c.args.event.0 c.args.event.1
-grown c = c.in_ok-join.ensures ∙ ap (λ m. events.insert m c.args.event.0 c.args.event.1) c.replace-row.ensures.value
+grown : (c : goal.In_ok-join) → c.join.new.self ≡ events.insert c.settle.new.lists.row c.args.event.0 c.args.event.1
+grown c = c.in_ok-join.ensures.ok
 
 pub invariant_of-self-then-tick-end : goal.invariant_of-self-then-tick-end
 invariant_of-self-then-tick-end c =
