@@ -77,8 +77,9 @@ impl<M: Process> Berth<M> {
 
     /// Makes the step of an event that was taken from the pending ones: the machine's turn, which hands on what it
     /// causes, and the entry joins the part.
-    fn take(
+    fn take<R: Wait>(
         &mut self,
+        rt: &R,
         streams: &Streams<'_>,
         tray: &mut Tray,
         event: (Key, StepInput),
@@ -103,6 +104,7 @@ impl<M: Process> Berth<M> {
     {
         let (key, input) = event;
         let mut outbox = Outbox {
+            rt,
             alloc: *self.part.allocator(),
             own: key.receiver,
             pending: &mut self.pending,
@@ -174,9 +176,9 @@ pub fn run_berth<M: Process, R: Wait>(
         return Err(RunError::Limit);
     }
     let mut tray = slip.tray()?;
-    while let Some(event) = berth.pending.take_below(end)? {
+    while let Some(event) = berth.pending.take_below(rt, end)? {
         check_room(berth.part.len() as u64, left)?;
-        berth.take(streams, &mut tray, event)?;
+        berth.take(rt, streams, &mut tray, event)?;
     }
     mailboxes.post_all(rt, slip, tray)?;
     Ok(())

@@ -16,11 +16,10 @@
 //! than the plan has, and deals these processes to the workers' deques in turn, by rising number. Then it starts the
 //! workers, each a thread. A worker takes a berth, tells the [`Gate`], and has [`run_berth`] run it to the window's
 //! end; it pops its own deque, and when that is empty it steals from the others, the next one first, until it found
-//! each empty. When all workers are joined, the starter takes what is left in the deques. Then the mailboxes are
-//! emptied and the parts are merged, side by side where there is more than one worker and the parts are worth a thread,
-//! and each process takes its letters. Where several refusals are met, that of a thread is answered before that of
-//! memory, and this before that of a place in the trace. The merged part goes to a [`Sink`], and the next window opens
-//! at the least pending tick.
+//! each empty. When all workers are joined, the starter takes what is left in the deques. Then the parts are merged, and
+//! each process gets its mailbox as it is: whoever runs it next empties it. Where several refusals are met, that of a
+//! thread is answered before that of memory, and this before that of a place in the trace. The merged part goes to a
+//! [`Sink`], and the next window opens at the least pending tick.
 //!
 //! That each berth comes out of the deques once is the promise of the crate `deques`. It rests on the ledger of each:
 //! what was put is, counted with repetitions, what all passes have taken and what it holds, and whoever pops or steals

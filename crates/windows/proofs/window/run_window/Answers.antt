@@ -1,4 +1,4 @@
-use Rattle.std.proofs.Common.{rules, ◌≡◌, ◌+◌, ◌-◌, min, sym, ap, ◌∙◌, subst}
+use Rattle.std.proofs.Common.{rules, ◌≡◌, ◌+◌, ◌-◌, min, sym, ap, ◌∙◌, subst, arith}
 use Rattle.std.specs.Global.{Vec}
 use Rattle.std.specs.List.{All}
 use Rattle.std.proofs.lemmas.Result.{IfOk-weaker}
@@ -11,7 +11,7 @@ use Rattle.windows.specs.Stage.{IsCountOfWorkers}
 use Rattle.windows.specs.Inside.Workers.{IsReady, RiseBy, HasLong}
 use Rattle.windows.specs.declared.berth.Berth.{Berth}
 use Rattle.windows.proofs.Closing.{stage_ready, stage_rises, long_limit}
-use Rattle.windows.proofs.Posted.{sum_of, of_same, many_by, rising_by, disjoint_by, limit_by, next_by}
+use Rattle.windows.proofs.Posted.{sum_of, of_same, many_by, rising_by, disjoint_by, one_by, limit_by, next_by}
 use Rattle.windows.proofs.Refused.{one_refused}
 use Rattle.windows.proofs.window.run_window.Goals as goal
 
@@ -59,6 +59,14 @@ close-requires-clause-disjoint g c κs within =
     let end : c.min-end.result ≡ end_of (setting_of old.scenario.now) c.args.plan.now.window old.start = c.min-end.ensures ∙ (λ i. min (old.start + c.window.ensures.value i) (c.horizon.ensures.value i)) in
     let by = of_same (λ s e bs. IsOutcomeBy g.M.Process.mind s e bs c.in_ok-ran.ran.berths.items c.in_ok-ran.ran.slips.items) _ _ _ _ _ _ c.new-streams.ensures end (ap (λ (v : Vec _). v.items) c.replace-berths.ensures.value) c.in_ok-ran.ensures.outcome in
     disjoint_by g.M.Process.mind old c.processes-processes.ensures.ranges c.requires.stage.0 c.requires.stage.1 c.args.plan.now.window c.requires.plan _ _ by
+
+pub close-requires-clause-one : goal.close-requires-clause-one
+close-requires-clause-one g c κs within =
+    let old = c.args.stage.now in
+    let end : c.min-end.result ≡ end_of (setting_of old.scenario.now) c.args.plan.now.window old.start = c.min-end.ensures ∙ (λ i. min (old.start + c.window.ensures.value i) (c.horizon.ensures.value i)) in
+    let by = of_same (λ s e bs. IsOutcomeBy g.M.Process.mind s e bs c.in_ok-ran.ran.berths.items c.in_ok-ran.ran.slips.items) _ _ _ _ _ _ c.new-streams.ensures end (ap (λ (v : Vec _). v.items) c.replace-berths.ensures.value) c.in_ok-ran.ensures.outcome in
+    let many = many_by g.M.Process.mind old c.processes-processes.ensures.ranges c.requires.stage.0 c.requires.stage.1 c.args.plan.now.window c.requires.plan _ _ by in
+    λ r low high. one_by g.M.Process.mind old c.processes-processes.ensures.ranges c.requires.stage.0 c.requires.stage.1 c.args.plan.now.window c.requires.plan _ _ by r low (omega (arith, high, many, c.in_ok-ran.ran.berths.ok.0))
 
 pub returns : goal.returns
 returns g c =
