@@ -46,12 +46,11 @@ differ_joined [] ys r e a = e
 differ_joined (x ∷ xs) ys r e a = (front_differs x xs ys r.0 a.0, differ_joined xs ys r.1 e a.1)
 
 -- of parts that rise and share no key
-module _ {X : Type 0} (f : X → List EntryRecord) where
-  all_differ : (ps : List X) → All (λ p. IsTrue (is_rising (f p))) ps → AreDisjoint (map f ps) → Differ (all_of (map f ps))
-  unfolding IsDistinct
-  all_differ [] rising apart = tt
-  all_differ (p ∷ ps) rising apart =
-      differ_joined (f p) (all_of (map f ps)) (rising_of_test (f p) (rising 0 p (omega arith))) (all_differ ps (λ k d l. rising (suc k) d (omega (arith, l))) apart.1) apart.0
+all_differ : (ps : List (List EntryRecord)) → All (λ p. IsTrue (is_rising p)) ps → AreDisjoint ps → Differ (all_of ps)
+unfolding IsDistinct
+all_differ [] rising apart = tt
+all_differ (p ∷ ps) rising apart =
+    differ_joined p (all_of ps) (rising_of_test p (rising 0 p (omega arith))) (all_differ ps (λ k d l. rising (suc k) d (omega (arith, l))) apart.1) apart.0
 
 -- ---- in another order
 
@@ -94,6 +93,5 @@ rising_sorted (e ∷ f ∷ fs) s d =
     ((after, weaker (Before f) (Before e) (λ g b. before-trans e f g after b) fs rest.0), rest)
 
 -- the entries of all parts, in any order and then sorted by their keys, rise
-pub merged_rising : {X : Type 0} (f : X → List EntryRecord) (ps : List X) (sorted : List EntryRecord) → IsPermutation (all_of (map f ps)) sorted → IsSortedByKey (λ (e : EntryRecord). e.key) key_cmp sorted
-    → All (λ p. IsTrue (is_rising (f p))) ps → AreDisjoint (map f ps) → IsTrue (is_rising sorted)
-merged_rising f ps sorted same s rising apart = test_of_rising sorted (rising_sorted sorted s (differ_moved (all_of (map f ps)) sorted same (all_differ f ps rising apart)))
+pub merged_rising : (ps : List (List EntryRecord)) (sorted : List EntryRecord) → IsPermutation (all_of ps) sorted → IsSortedByKey (λ (e : EntryRecord). e.key) key_cmp sorted → All (λ p. IsTrue (is_rising p)) ps → AreDisjoint ps → IsTrue (is_rising sorted)
+merged_rising ps sorted same s rising apart = test_of_rising sorted (rising_sorted sorted s (differ_moved (all_of ps) sorted same (all_differ ps rising apart)))

@@ -1,6 +1,8 @@
 -- Rising entries.
-use Rattle.std.proofs.Common.{◌≡◌, ◌≢◌, ◌⊎◌, ℕ, ◌+◌, zero, suc, inl, inr, refl, sym, ap, ◌∙◌, subst, Bool, true, false, ◌&&◌, IsTrue, List, [], ◌∷◌, ◌++◌, length, get_or, Less, Equal, Greater, Ordering, true≢false, arith}
+use Rattle.std.proofs.Common.{◌≡◌, ◌≢◌, ◌⊎◌, ℕ, ◌+◌, zero, suc, inl, inr, refl, sym, ap, ◌∙◌, subst, Bool, true, false, ◌&&◌, IsTrue, List, [], ◌∷◌, ◌++◌, length, get_or, Less, Equal, Greater, Ordering, true≢false, arith, Some, slice_get}
 use Rattle.std.specs.List.{AllByRecursion, list_all}
+use Rattle.std.proofs.lemmas.List.{length-append, get_or-append-add}
+use Rattle.std.proofs.lemmas.Option.{slice_get_within, get_or_from_slice_get}
 use Rattle.process_api.specs.Order.{key_cmp, is_less, is_before, is_rising}
 use Rattle.process_api.specs.EntryRecord.{EntryRecord}
 use Rattle.process_api.proofs.KeyOrder.{keys_total, before_or_not}
@@ -59,12 +61,23 @@ test_of_rising [] h = refl
 test_of_rising (e ∷ es) h =
     subst IsTrue (sym (ap (λ b. b && is_rising es) (true_all (λ f. is_before e.key f.key) es h.0))) (test_of_rising es h.1)
 
--- one entry more, after the last
-pub rising_more : (es : List EntryRecord) (k : ℕ) (last e : EntryRecord) → k + 1 ≡ length es → get_or es k last ≡ last → Before last e → Rising es → Rising (es ++ e ∷ [])
-rising_more [] k last e n is b r = (tt, tt)
-rising_more (x ∷ []) zero last e n is b r = ((subst (λ l. Before l e) (sym is) b, tt), (tt, tt))
-rising_more (x ∷ []) (suc k) last e n is b r = absurd (omega (arith, n))
-rising_more (x ∷ y ∷ ys) zero last e n is b r = absurd (omega (arith, n))
-rising_more (x ∷ y ∷ ys) (suc k) last e n is b r =
-    let more : Rising (y ∷ ys ++ e ∷ []) = rising_more (y ∷ ys) k last e (omega (arith, n)) is b r.1 in
-    ((r.0.0, weaker (Before y) (Before x) (λ z later. before-trans x y z r.0.0 later) (ys ++ e ∷ []) more.0), more)
+-- entries that rise after the last of others
+rising_join : (xs : List EntryRecord) (k : ℕ) (last y : EntryRecord) (ys : List EntryRecord) → k + 1 ≡ length xs → get_or xs k last ≡ last → Before last y → Rising xs → Rising (y ∷ ys) → Rising (xs ++ y ∷ ys)
+rising_join [] k last y ys n is b r s = s
+rising_join (x ∷ []) zero last y ys n is b r s =
+    let first : Before x y = subst (λ l. Before l y) (sym is) b in
+    ((first, weaker (Before y) (Before x) (λ z later. before-trans x y z first later) ys s.0), s)
+rising_join (x ∷ []) (suc k) last y ys n is b r s = absurd (omega (arith, n))
+rising_join (x ∷ z ∷ zs) zero last y ys n is b r s = absurd (omega (arith, n))
+rising_join (x ∷ z ∷ zs) (suc k) last y ys n is b r s =
+    let more : Rising (z ∷ zs ++ y ∷ ys) = rising_join (z ∷ zs) k last y ys (omega (arith, n)) is b r.1 s in
+    ((r.0.0, weaker (Before z) (Before x) (λ w later. before-trans x z w r.0.0 later) (zs ++ y ∷ ys) more.0), more)
+
+-- the same, where the others end with these
+pub rises_on : (before xs : List EntryRecord) (k : ℕ) (last y : EntryRecord) (more : List EntryRecord) → slice_get xs k ≡ Some last → k + 1 ≡ length xs → slice_get more 0 ≡ Some y → Before last y
+    → IsTrue (is_rising (before ++ xs)) → IsTrue (is_rising more) → IsTrue (is_rising ((before ++ xs) ++ more))
+rises_on before xs k last y [] at n from b r s = absurd (omega (arith, slice_get_within [] 0 y from))
+rises_on before xs k last y (z ∷ ys) at n from b r s =
+    test_of_rising ((before ++ xs) ++ z ∷ ys)
+    (rising_join (before ++ xs) (length before + k) last z ys (omega (arith, n, length-append before xs)) (get_or-append-add before xs k last ∙ get_or_from_slice_get xs k last last at)
+    (subst (λ e. Before last e) (sym (get_or_from_slice_get (z ∷ ys) 0 y z from)) b) (rising_of_test (before ++ xs) r) (rising_of_test (z ∷ ys) s))

@@ -1,5 +1,6 @@
 -- Parts of a trace, and what they hold together.
-use Rattle.std.specs.Prelude.{◌≢◌, List, [], ◌∷◌, ◌++◌}
+use Rattle.std.specs.Prelude.{◌≢◌, List, [], ◌∷◌, ◌++◌, map}
+use Rattle.std.specs.Global.{Vec}
 use Rattle.std.specs.List.{AllByRecursion}
 use Rattle.process_api.specs.EntryRecord.{EntryRecord}
 
@@ -16,3 +17,7 @@ AreApart xs ys = AllByRecursion (λ x. AllByRecursion (λ y. x.key ≢ y.key) ys
 abbrev pub AreDisjoint : List (List EntryRecord) → Type 0
 AreDisjoint [] = Unit {0}
 AreDisjoint (part ∷ parts) = AreApart part (all_of parts) × AreDisjoint parts
+
+-- the entries of all lists of lists
+abbrev pub all_in : List (Vec (Vec EntryRecord)) → List EntryRecord
+all_in places = all_of (map (λ lists. all_of (map (λ list. list.items) lists.items)) places)

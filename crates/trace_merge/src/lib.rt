@@ -8,8 +8,11 @@
 //! (3,1,1,2).
 #![tactic(auto)]
 
+mod by_list;
 mod by_tick;
 mod joined;
 mod merging;
+mod part;
 
 pub use merging::merge;
+pub use part::Part;

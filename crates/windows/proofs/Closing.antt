@@ -129,8 +129,8 @@ module _ {M : Type 0} (mind : M → Mind) (old : Stage M) (ranges : IsInRange ol
       let here : slice_get olds i ≡ Some h.0 = subst (λ n. slice_get olds n ≡ Some h.0) (before_suc i) h.1 in
       subst (IsBerth mind s (suc i) (most_step_actions * old.so_far)) (same_Some h.0 b (sym here ∙ at)) h.2
 
-  part_at : (i : ℕ) (b : Berth M) → slice_get olds i ≡ Some b → b.part.items ≡ []
-  part_at i b at = sym (at_index i (map (λ z. z.part.items) olds) b.part.items [] (there_map (λ z. z.part.items) olds i b at)) ∙ (is.stands 0).part (suc i)
+  part_at : (i : ℕ) (b : Berth M) → slice_get olds i ≡ Some b → b.part ≡ []
+  part_at i b at = sym (at_index i (map (λ z. z.part) olds) b.part [] (there_map (λ z. z.part) olds i b at)) ∙ (is.stands 0).part (suc i)
 
   pub stage_ready : All (IsReady mind s) olds
   stage_ready = all_at (IsReady mind s) olds (λ i b at. ((suc i, more_put mind s (suc i) _ _ b (omega (arith, is.within, ranges.limit_high)) (berth_at i b at)), part_at i b at))
@@ -182,7 +182,7 @@ module _ {M : Type 0} (mind : M → Mind) (old : Stage M) (ranges : IsInRange ol
         let r = own_run S sound window short is.world is.is_world g (is.stands window) p in
         let here = in_stage at.0 b at.1 in
         let run = subst (IsRunAt p r.0 r.1 r.2 r.3) (λ i. (sym here.0 i, sym here.1 i)) r.4 in
-        let more : left < length b.part.items + length r.0 = long r.0 r.1 r.2 r.3 (subst (λ q. BerthRun S q end (process_of mind b.seat) b.pending r.0 r.1 r.2 r.3) (sym (berth_at at.0 b at.1).is) run) in
+        let more : left < length b.part + length r.0 = long r.0 r.1 r.2 r.3 (subst (λ q. BerthRun S q end (process_of mind b.seat) b.pending r.0 r.1 r.2 r.3) (sym (berth_at at.0 b at.1).is) run) in
         let same : r.0 ≡ pairs_of p list = pairs_are S sound window short is.world is.is_world g (is.stands window) list after all.2 p r.0 r.1 r.2 r.3 r.4 in
         omega (arith, more, ap length (part_at at.0 b at.1), ap length same, no_more_one p list, far trace is_trace, sum, is.so_far)
 
@@ -215,7 +215,7 @@ module _ {M : Type 0} (mind : M → Mind) (old : Stage M) (ranges : IsInRange ol
       -- each process ran what the list made of it
       ran : (i : ℕ) (t : Stay M) → slice_get o.stays i ≡ Some t
           → BerthRun S (suc i) end (g.process (suc i)) (g.own (suc i)) (pairs_of (suc i) list) (process_of mind t.after.seat) t.after.pending (map event_of (letters (suc i)))
-          × (t.after.part.items ≡ entries (pairs_of (suc i) list))
+          × (t.after.part ≡ entries (pairs_of (suc i) list))
       ran i t at =
           let here = old_at i t at in
           let same = in_stage i t.before here in
@@ -228,19 +228,19 @@ module _ {M : Type 0} (mind : M → Mind) (old : Stage M) (ranges : IsInRange ol
             r.part ∙ ap (λ es. es ++ entries r.history) (part_at i t.before here) ∙ ap entries pairs,
           )
 
-      part_is : (i : ℕ) (b : Berth M) → slice_get news i ≡ Some b → b.part.items ≡ entries (pairs_of (suc i) list)
+      part_is : (i : ℕ) (b : Berth M) → slice_get news i ≡ Some b → b.part ≡ entries (pairs_of (suc i) list)
       part_is i b at =
           let t = stay_at i (omega (arith, slice_get_within news i b at, news_many)) in
-          ap (λ (z : Berth M). z.part.items) (same_Some b t.0.after (sym at ∙ new_at i t.0 t.1)) ∙ (ran i t.0 t.1).1
+          ap (λ (z : Berth M). z.part) (same_Some b t.0.after (sym at ∙ new_at i t.0 t.1)) ∙ (ran i t.0 t.1).1
 
       abbrev parts : List (List EntryRecord)
-      parts = map (λ b. b.part.items) news
+      parts = map (λ b. b.part) news
 
       parts_at : (i : ℕ) (part : List EntryRecord) → slice_get parts i ≡ Some part → part ≡ entries (pairs_of (1 + i) list)
-      parts_at i part at = let r = from_map (λ b. b.part.items) news i part at in let one : suc i ≡ 1 + i = omega arith in sym r.2 ∙ part_is i r.0 r.1 ∙ ap (λ p. entries (pairs_of p list)) one
+      parts_at i part at = let r = from_map (λ b. b.part) news i part at in let one : suc i ≡ 1 + i = omega arith in sym r.2 ∙ part_is i r.0 r.1 ∙ ap (λ p. entries (pairs_of p list)) one
 
-      pub outcome_rising : All (λ b. IsTrue (is_rising b.part.items)) news
-      outcome_rising = all_at (λ b. IsTrue (is_rising b.part.items)) news (λ i b at. subst (λ es. IsTrue (is_rising es)) (sym (part_is i b at)) (rising_entries (pairs_of (suc i) list) (pairs_rise (suc i) list list_rises)))
+      pub outcome_rising : All (λ b. IsTrue (is_rising b.part)) news
+      outcome_rising = all_at (λ b. IsTrue (is_rising b.part)) news (λ i b at. subst (λ es. IsTrue (is_rising es)) (sym (part_is i b at)) (rising_entries (pairs_of (suc i) list) (pairs_rise (suc i) list list_rises)))
         where
           list_rises : IsRising list
           list_rises = rising_pairs list (closed_of_run S sound end list is.world after is.is_world all.2.run).rising
@@ -266,7 +266,7 @@ module _ {M : Type 0} (mind : M → Mind) (old : Stage M) (ranges : IsInRange ol
           letters : slice_get lists i ≡ Some list_of_i
           seat : b.seat ≡ t.after.seat
           pending : b.pending ≡ joined t.after.pending (map event_of list_of_i)
-          part : b.part.items ≡ []
+          part : b.part ≡ []
 
         row : (i : ℕ) → i < s.processes → (t : Stay M) × (b : Berth M) × (l : List Letter) × IsRow i t b l
         row i inside =
@@ -277,7 +277,7 @@ module _ {M : Type 0} (mind : M → Mind) (old : Stage M) (ranges : IsInRange ol
             let m : slice_get (map (λ (z : Berth M). z.pending) berths) i ≡ Some (joined t.0.after.pending (map event_of l.0)) =
             ap (λ ms. slice_get ms i) closed.pending ∙ at_delivered (map (λ (z : Berth M). z.pending) news) lists i t.0.after.pending l.0 (there_map (λ (z : Berth M). z.pending) news i t.0.after here) l.1 in
             let pending = same_Some _ _ (sym (there_map (λ (z : Berth M). z.pending) berths i b.0 b.1) ∙ m) in
-            (t.0, b.0, l.0, record { stay = t.1; berth = b.1; letters = l.1; seat = b.2; pending = pending; part = all_place (λ z. z.part.items ≡ []) berths closed.parts i b.0 b.1 })
+            (t.0, b.0, l.0, record { stay = t.1; berth = b.1; letters = l.1; seat = b.2; pending = pending; part = all_place (λ z. z.part ≡ []) berths closed.parts i b.0 b.1 })
 
         count_new : length berths ≡ s.processes
         count_new = sym (length-map berths (λ b. b.seat)) ∙ (ap length closed.seats ∙ (length-map news (λ b. b.seat) ∙ news_many))
@@ -410,8 +410,8 @@ module _ {M : Type 0} (mind : M → Mind) (old : Stage M) (ranges : IsInRange ol
         new_part p = go (is_or_not S p)
           where
             go : IsProcess S p ⊎ ¬ (IsProcess S p) → h.part p ≡ []
-            go (inl own) = by_place s.processes (λ p. h.part p ≡ []) (λ i inside. let r = row i inside in at_index i _ r.1.part.items [] (there_map (λ b. b.part.items) berths i r.1 r.3.berth) ∙ r.3.part) p own
-            go (inr not) = nobody (λ b. b.part.items) [] p not
+            go (inl own) = by_place s.processes (λ p. h.part p ≡ []) (λ i inside. let r = row i inside in at_index i _ r.1.part [] (there_map (λ b. b.part) berths i r.1 r.3.berth) ∙ r.3.part) p own
+            go (inr not) = nobody (λ b. b.part) [] p not
 
         are_berths : AreBerths S window g (λ p. pairs_of p list) rest events_of h
         are_berths = record {
@@ -450,7 +450,7 @@ module _ {M : Type 0} (mind : M → Mind) (old : Stage M) (ranges : IsInRange ol
             to : (e : EntryRecord) → IsIn e merged → (p : ℕ) × (1 ≤ p) × (p ≤ S.processes) × IsIn e (law.1.part p)
             to e i =
                 let r = in_all parts e (contains_in _ e (Contains-permutation _ _ e (IsPermutation-sym _ _ closed.same) (in_contains merged e i))) in
-                let b = from_map (λ b. b.part.items) news r.0 r.1 r.2 in
+                let b = from_map (λ b. b.part) news r.0 r.1 r.2 in
                 let own = own_at r.0 (omega (arith, slice_get_within news r.0 b.0 b.1, news_many)) in
                 (suc r.0, own.0, own.1, subst (IsIn e) (sym b.2 ∙ part_is r.0 b.0 b.1 ∙ sym (law.5 (suc r.0) own)) r.3)
 
@@ -458,7 +458,7 @@ module _ {M : Type 0} (mind : M → Mind) (old : Stage M) (ranges : IsInRange ol
             from e p own i = by_place s.processes (λ p. IsIn e (entries (pairs_of p list)) → IsIn e merged) (λ j inside m.
                 let t = stay_at j inside in
                 let b = new_at j t.0 t.1 in
-                let k = all_in parts j t.0.after.part.items (there_map (λ b. b.part.items) news j t.0.after b) e (subst (IsIn e) (sym (part_is j t.0.after b)) m) in
+                let k = all_in parts j t.0.after.part (there_map (λ b. b.part) news j t.0.after b) e (subst (IsIn e) (sym (part_is j t.0.after b)) m) in
                 contains_in merged e (Contains-permutation _ _ e closed.same (in_contains _ e k))) p own (subst (IsIn e) (law.5 p own) i)
 
         merged_is : merged ≡ entries list
@@ -471,12 +471,12 @@ module _ {M : Type 0} (mind : M → Mind) (old : Stage M) (ranges : IsInRange ol
             at_home i inside =
                 let r = row i inside in
                 let was = (all_place (IsStay mind s end) o.stays o.each i r.0 r.3.stay).1 (suc i) (most_step_actions * old.so_far) (berth_at i r.0.before (old_at i r.0 r.3.stay)) in
-                let few = part_few parts i r.0.after.part.items (there_map (λ b. b.part.items) news i r.0.after (new_at i r.0 r.3.stay)) in
-                let more : most_step_actions * old.so_far + most_step_actions * length r.0.after.part.items ≤ most_step_actions * new.so_far = omega (arith, few, length_permutation _ _ closed.same, closed.longer) in (
+                let few = part_few parts i r.0.after.part (there_map (λ b. b.part) news i r.0.after (new_at i r.0 r.3.stay)) in
+                let more : most_step_actions * old.so_far + most_step_actions * length r.0.after.part ≤ most_step_actions * new.so_far = omega (arith, few, length_permutation _ _ closed.same, closed.longer) in (
                   r.1,
                   subst (λ n. slice_get berths n ≡ Some r.1) (sym (before_suc i)) r.3.berth,
                   record {
-                    seated = subst (λ z. IsSeated mind s (most_step_actions * new.so_far + most_step_actions * length r.1.part.items) z) (sym r.3.seat) (record {
+                    seated = subst (λ z. IsSeated mind s (most_step_actions * new.so_far + most_step_actions * length r.1.part) z) (sym r.3.seat) (record {
                       low = was.seated.low;
                       high = was.seated.high;
                       is_mind = was.seated.is_mind;

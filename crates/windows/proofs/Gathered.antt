@@ -231,7 +231,7 @@ module _ {M : Type 0} (mind : M → Mind) (s : Record) (end : ℕ) (mailboxes : 
   idle_silent (b ∷ bs) t x (inr i) j = idle_silent bs t x i j
 
   idle_stay : (b : Berth M) → NoneBelow end b.pending → IsStay mind s end (stay b b [])
-  idle_stay b none = (record { history = []; run = (none, refl, refl, refl); part = sym (append-nil b.part.items) }, λ p most is. is)
+  idle_stay b none = (record { history = []; run = (none, refl, refl, refl); part = sym (append-nil b.part) }, λ p most is. is)
 
   -- those with nothing to run join
   pub run_with_idle : (olds put rest done news : List (Berth M)) (slips : List SlipView) → AreRun mind s end mailboxes put done slips → IsPermutation olds (put ++ rest)

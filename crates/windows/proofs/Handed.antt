@@ -8,14 +8,23 @@ use Rattle.trace_laws.proofs.Closed.{one_trace}
 use Rattle.windows.specs.Sink.{TookAll}
 use Rattle.window_laws.specs.Theorems.{end_to_end}
 
--- one part more
-pub took_more : {K : Type 0} (took : K → List EntryRecord → K → Type 0) (old mid new : K) (parts : List (List EntryRecord)) (part : List EntryRecord) → TookAll took old parts mid → took mid part new → TookAll took old (parts ++ part ∷ []) new
-took_more took old mid new [] part all more = (new, subst (λ a. took a part new) all more, refl)
-took_more took old mid new (x ∷ parts) part all more = (all.0, all.1, took_more took all.0 mid new parts part all.2 more)
+-- further parts
+pub took_on : {K : Type 0} (took : K → List EntryRecord → K → Type 0) (old mid new : K) (parts more : List (List EntryRecord)) → TookAll took old parts mid → TookAll took mid more new → TookAll took old (parts ++ more) new
+took_on took old mid new [] more all later = subst (λ a. TookAll took a more new) all later
+took_on took old mid new (x ∷ parts) more all later = (all.0, all.1, took_on took all.0 mid new parts more all.2 later)
+
+pub end_to_end_on : (parts more : List (List EntryRecord)) → end_to_end (parts ++ more) ≡ end_to_end parts ++ end_to_end more
+end_to_end_on [] more = refl
+end_to_end_on (x ∷ parts) more = ap (λ es. x ++ es) (end_to_end_on parts more) ∙ sym (append_assoc x (end_to_end parts) (end_to_end more))
 
 pub end_to_end_more : (parts : List (List EntryRecord)) (part : List EntryRecord) → end_to_end (parts ++ part ∷ []) ≡ end_to_end parts ++ part
-end_to_end_more [] part = append-nil part
-end_to_end_more (x ∷ parts) part = ap (λ es. x ++ es) (end_to_end_more parts part) ∙ sym (append_assoc x (end_to_end parts) part)
+end_to_end_more parts part = end_to_end_on parts (part ∷ []) ∙ ap (λ es. end_to_end parts ++ es) (append-nil part)
+
+-- what is at the front of a part, which comes next, is next
+pub next_front : (before part front last rest more whole : List EntryRecord) → part ≡ (front ++ last) ++ rest → whole ≡ (before ++ part) ++ more → whole ≡ ((before ++ front) ++ last) ++ (rest ++ more)
+next_front before part front last rest more whole is all =
+    all ∙ ap (λ es. (before ++ es) ++ more) is ∙ ap (λ es. es ++ more) (sym (append_assoc before (front ++ last) rest))
+    ∙ append_assoc (before ++ (front ++ last)) rest more ∙ ap (λ es. es ++ (rest ++ more)) (sym (append_assoc before front last))
 
 -- what holds anyhow holds of a refusal
 pub on_err : {A E : Type 0} (r : Result A E) (P : Type 0) → P → OnErr r P

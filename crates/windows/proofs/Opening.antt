@@ -125,8 +125,8 @@ module _ {M : Type 0} (mind : M → Mind) (stage : Stage M) (ranges : IsInRange 
     no_part p = go (is_or_not S p)
       where
         go : IsProcess S p ⊎ ¬ (IsProcess S p) → g.part p ≡ []
-        go (inl own) = by_place s.processes (λ p. g.part p ≡ []) (λ i inside. let b = first i inside in at_index i (map (λ z. z.part.items) stage.berths.items) b.0.part.items [] (there_map (λ z. z.part.items) stage.berths.items i b.0 b.1.0) ∙ b.1.3.2) p own
-        go (inr not) = nobody (λ z. z.part.items) [] p not
+        go (inl own) = by_place s.processes (λ p. g.part p ≡ []) (λ i inside. let b = first i inside in at_index i (map (λ z. z.part) stage.berths.items) b.0.part [] (there_map (λ z. z.part) stage.berths.items i b.0 b.1.0) ∙ b.1.3.2) p own
+        go (inr not) = nobody (λ z. z.part) [] p not
 
     pub opening_stands : StandsFor S window g (opening S)
     opening_stands = record {

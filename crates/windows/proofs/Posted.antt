@@ -53,13 +53,13 @@ module _ {M : Type 0} (mind : M → Mind) (old : Stage M) (ranges : IsInRange ol
   pub many_by : length news ≡ s.processes
   many_by = sym (outcome_many mind old ranges trace_so_far is window short news lists as_posted) ∙ as_posted.count
 
-  pub rising_by : All (λ b. IsTrue (is_rising b.part.items)) news
+  pub rising_by : All (λ b. IsTrue (is_rising b.part)) news
   rising_by = outcome_rising mind old ranges trace_so_far is window short news lists as_posted
 
-  pub disjoint_by : AreDisjoint (map (λ b. b.part.items) news)
+  pub disjoint_by : AreDisjoint (map (λ b. b.part) news)
   disjoint_by = outcome_disjoint mind old ranges trace_so_far is window short news lists as_posted
 
-  pub limit_by : (left : ℕ) → left + old.so_far ≡ s.limit → left < length (all_of (map (λ b. b.part.items) news)) → (trace : List EntryRecord) → IsTrace (setting_of s) trace → s.limit < length trace
+  pub limit_by : (left : ℕ) → left + old.so_far ≡ s.limit → left < length (all_of (map (λ b. b.part) news)) → (trace : List EntryRecord) → IsTrace (setting_of s) trace → s.limit < length trace
   limit_by = outcome_limit mind old ranges trace_so_far is window short news lists as_posted
 
   pub next_by : (new : Stage M) → new.scenario.now ≡ old.scenario.now → (left : ℕ) → left + old.so_far ≡ s.limit → (merged : List EntryRecord) → IsClosedBy mind left old.so_far news slips merged new

@@ -46,12 +46,12 @@ module _ {M : Type 0} (mind : M → Mind) (s : Record) where
   abbrev pub IsLong : (end left : ℕ) → Berth M → Type 0
   IsLong end left b = (history : List Pair) (after : Process Mind) (rest : Events) (letters : List Event)
       → BerthRun (setting_of s) (own_of mind b.seat) end (process_of mind b.seat) b.pending history after rest letters
-      → left < length b.part.items + length history
+      → left < length b.part + length history
 
   -- process p in its berth: it put at most so much on each link before the open window, and 4,096 letters and wakes for
   -- each entry of its part since, and its pending events are its own
   pub record IsBerth (p most : ℕ) (berth : Berth M) : Type 0 where
-    pub seated : IsSeated mind s (most + most_step_actions * length berth.part.items) berth.seat
+    pub seated : IsSeated mind s (most + most_step_actions * length berth.part) berth.seat
     pub is : own_of mind berth.seat ≡ p
     pub own : (key : Key) (input : StepInput) → Has berth.pending key input → key.receiver ≡ p
 
@@ -64,4 +64,4 @@ module _ {M : Type 0} (mind : M → Mind) (s : Record) where
     pub history : List Pair
     pub run : BerthRun (setting_of s) p end (process_of mind old.seat) old.pending history
         (process_of mind new.seat) new.pending (map event_of letters)
-    pub part : new.part.items ≡ old.part.items ++ entries history
+    pub part : new.part ≡ old.part ++ entries history

@@ -26,6 +26,22 @@ abbrev pub TookAll : {K : Type 0} → (took : K → List EntryRecord → K → T
 TookAll took old [] new = new ≡ old
 TookAll {K} took old (part ∷ more) new = (mid : K) × took old part mid × TookAll took mid more new
 
+module _ {K : Type 0} (took : K → List EntryRecord → K → Type 0) (part : List EntryRecord) where
+  -- the sink took a part, in lists that came one after the other
+  abbrev pub TookLists : (old new : K) → Type 0
+  TookLists old new = (lists : List (List EntryRecord)) × TookAll took old lists new × (end_to_end lists ≡ part)
+
+  -- The sink took lists at the front of a part, and was handed nothing more; or it took a front of one more, which comes
+  -- next in the part
+  pub record TookSome (took_front : K → List EntryRecord → K → Type 0) (old new : K) : Type 0 where
+    pub lists : List (List EntryRecord)
+    pub mid : K
+    pub took_all : TookAll took old lists mid
+    pub last : List EntryRecord
+    pub ended : ((last ≡ []) × (new ≡ mid)) ⊎ took_front mid last new
+    pub rest : List EntryRecord
+    pub front : part ≡ (end_to_end lists ++ last) ++ rest
+
 module _ {K : Type 0} (took : K → List EntryRecord → K → Type 0) {Mind : Type 0} (S : Setting Mind) where
   -- the sink took the trace, in parts
   pub record TookTrace (old new : K) : Type 0 where

@@ -52,7 +52,7 @@ pub record IsNextStart (horizon : ℕ) (own : List Events) (next : ℕ) : Type 0
 module _ {M : Type 0} (mind : M → Mind) where
   -- a berth in which nothing was done yet but that its start is pending
   abbrev pub IsOpened : Record → Berth M → Type 0
-  IsOpened s b = IsSeated mind s 0 b.seat × (b.pending ≡ start_event (own_of mind b.seat)) × (b.part.items ≡ [])
+  IsOpened s b = IsSeated mind s 0 b.seat × (b.pending ≡ start_event (own_of mind b.seat)) × (b.part ≡ [])
 
   -- the stage at the opening of a window of this length: nobody holds a process, and no letter is on its way
   abbrev pub stage_of : (window : ℕ) → Stage M → StageRecord Mind
@@ -63,7 +63,7 @@ module _ {M : Type 0} (mind : M → Mind) where
         start = stage.start;
         process = λ p. of_process p (map (λ b. process_of mind b.seat) stage.berths.items) (opening_process S p);
         own = own;
-        part = λ p. of_process p (map (λ b. b.part.items) stage.berths.items) [];
+        part = λ p. of_process p (map (λ b. b.part) stage.berths.items) [];
         status = λ p. first_status (end_of S window stage.start) (own p);
         tray = λ a. events.empty;
         mailbox = λ r. events.empty;
@@ -98,9 +98,9 @@ module _ {M : Type 0} (mind : M → Mind) where
       (merged : List EntryRecord) (new : Stage M) : Type 0 where
     pub seats : map (λ b. b.seat) new.berths.items ≡ map (λ b. b.seat) berths
     pub pending : map (λ b. b.pending) new.berths.items ≡ delivered (map (λ b. b.pending) berths) letters
-    pub parts : All (λ b. b.part.items ≡ []) new.berths.items
+    pub parts : All (λ b. b.part ≡ []) new.berths.items
     pub rising : IsTrue (is_rising merged)
-    pub same : IsPermutation (all_of (map (λ b. b.part.items) berths)) merged
+    pub same : IsPermutation (all_of (map (λ b. b.part) berths)) merged
     pub few : length merged ≤ left
     pub longer : new.so_far ≡ so_far + length merged
     pub start : IsNextStart new.scenario.now.horizon (map (λ b. b.pending) new.berths.items) new.start

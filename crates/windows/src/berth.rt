@@ -1,5 +1,5 @@
 //! One process of a window: its machine, its pending events, and its part of the trace.
-ghost use Rattle.std.specs.Prelude.{◌≡◌, ◌≤◌, ◌<◌, ◌+◌, ◌*◌, ◌^◌, ◌++◌, [], ◌∷◌, ℕ, List, length, vec_len, IfErr, IfOk, OnOk, IsErrOf};
+ghost use Rattle.std.specs.Prelude.{◌≡◌, ◌≤◌, ◌<◌, ◌+◌, ◌*◌, ◌^◌, ◌++◌, [], ◌∷◌, ℕ, List, length, IfErr, IfOk, OnOk, IsErrOf};
 ghost use Rattle.process_api.specs.Bounds.{most_step_actions};
 ghost use Rattle.process_api.specs.declared.message.Letter.{Letter};
 ghost use Rattle.steps.specs.Seat.{process_of, own_of, IsMindIn, IsSeated};
@@ -12,12 +12,13 @@ ghost use Rattle.windows.specs.Refusals.{IsRefusalOfOne};
 use crate::agenda::Agenda;
 use crate::outbox::Outbox;
 use mailboxes::{SharedMailboxes, Slip, Tray};
-use process_api::{Action, Entry, Key, Pid, Process, RunError, StepInput};
+use process_api::{Action, Key, Pid, Process, RunError, StepInput};
 use scenario_record::Scenario;
 use std::alloc::{AllocError, Global};
 use std::sync::Wait;
 use steps::{Nobody, Seat};
 use streams::Streams;
+use trace_merge::Part;
 
 /// How many entries a part can have. No memory takes so many, and the counts on a link have room for twice of them.
 pub(crate) const MOST_IN_PART: u64 = 1 << 50;
@@ -29,7 +30,7 @@ pub struct Berth<M = Box<dyn Process>> {
     pub(crate) seat: Seat<M>,
     pub(crate) pending: Agenda,
     // the entries of the open window, in the order of their keys
-    pub(crate) part: Vec<Entry>,
+    pub(crate) part: Part,
     // room for what a machine answers
     actions: Vec<Action>,
 }
@@ -50,13 +51,13 @@ impl<M: Process> Berth<M> {
         ensures process { IfOk result (λ b. process_of M.mind b.seat ≡ opened (M.mind machine)) }
         ensures seated { IfOk result (λ b. IsSeated M.mind scenario.now 0 b.seat) }
         ensures pending { IfOk result (λ b. b.pending ≡ pending) }
-        ensures part { IfOk result (λ b. b.part.items ≡ []) }
+        ensures part { IfOk result (λ b. b.part ≡ []) }
     {
         let seat = Seat::new(alloc, scenario, machine)?;
         Ok(Berth {
             seat,
             pending,
-            part: Vec::new(alloc),
+            part: Part::new(alloc),
             actions: Vec::new(alloc),
         })
     }
@@ -69,8 +70,8 @@ impl<M: Process> Berth<M> {
     }
 
     /// The entries of the open window, in the order of their keys.
-    pub fn part(&self) -> &[Entry]
-        ensures { result.now ≡ self.now.part.items }
+    pub fn part(&self) -> &Part
+        ensures { result.now ≡ self.now.part }
     {
         &self.part
     }
@@ -96,14 +97,14 @@ impl<M: Process> Berth<M> {
             → IsSeated M.mind streams.now (most + most_step_actions) self.new.seat) }
         ensures pending { OnOk result (self.new.pending ≡ joined self.old.pending
             (for_self event.0.receiver (made_in M.mind streams.now self.old.seat event.0 event.1).added)) }
-        ensures part { OnOk result (self.new.part.items
-            ≡ self.old.part.items ++ (made_in M.mind streams.now self.old.seat event.0 event.1).entry ∷ []) }
+        ensures part { OnOk result (self.new.part
+            ≡ self.old.part ++ (made_in M.mind streams.now self.old.seat event.0 event.1).entry ∷ []) }
         ensures letters { OnOk result (AreFiled event.0.receiver
             (made_in M.mind streams.now self.old.seat event.0 event.1).added tray.old tray.new) }
     {
         let (key, input) = event;
         let mut outbox = Outbox {
-            alloc: *self.part.allocator(),
+            alloc: *self.actions.allocator(),
             own: key.receiver,
             pending: &mut self.pending,
             tray: &mut *tray,
@@ -166,16 +167,16 @@ pub fn run_berth<M: Process, R: Wait>(
         × RanTo M.mind streams.now p end berth.old berth.new letters × (slip.new ≡ with_letters slip.old letters)) }
     ensures berth { OnOk result ((p most : ℕ)
         → IsBerth M.mind streams.now p most berth.old → IsBerth M.mind streams.now p most berth.new) }
-    ensures within { OnOk result (vec_len berth.new.part ≤ left) }
+    ensures within { OnOk result (length berth.new.part ≤ left) }
     ensures errors { IfErr result IsRefusalOfOne }
     ensures limit { IsErrOf result RunError.Limit → IsLong M.mind streams.now end left berth.old }
 {
-    if berth.part.len() as u64 > left {
+    if berth.part.len() > left {
         return Err(RunError::Limit);
     }
     let mut tray = slip.tray()?;
     while let Some(event) = berth.pending.take_below(end)? {
-        check_room(berth.part.len() as u64, left)?;
+        check_room(berth.part.len(), left)?;
         berth.take(streams, &mut tray, event)?;
     }
     mailboxes.post_all(rt, slip, tray)?;

@@ -7,7 +7,7 @@ ghost use Rattle.trace_laws.specs.ScenarioSetting.{setting_of};
 ghost use Rattle.trace_laws.specs.World.{IsTrace};
 ghost use Rattle.windows.specs.Plan.{IsPlanFor};
 ghost use Rattle.windows.specs.Refusals.{IsRefusal};
-ghost use Rattle.windows.specs.Sink.{TookTrace, TookFront, TookClosed, writes_of};
+ghost use Rattle.windows.specs.Sink.{TookTrace, TookFront, TookClosed, TookLists, TookSome, IsRefusalOfSink, writes_of};
 
 use crate::gate::Gate;
 use crate::plan::Plan;
@@ -20,6 +20,21 @@ use std::alloc::Global;
 use std::marker::Sync;
 use std::sync::Wait;
 use std::thread::Threads;
+use trace_merge::Part;
+
+/// Hands a window's part to a sink, list by list.
+fn hand_on<K: Sink>(sink: &mut K, part: Part) -> Result<(), RunError>
+    requires failures { K.failed sink.old < 2 ^ 64 - 1 }
+    ensures whole { OnOk result (TookLists K.took part sink.old sink.new) }
+    ensures front { OnErr result (TookSome K.took part K.took_front sink.old sink.new) }
+    ensures errors { IfErr result IsRefusalOfSink }
+    ensures count { K.failed sink.new ≡ K.failed sink.old + writes_of result }
+{
+    for list in part.into_lists()? {
+        sink.part(list)?;
+    }
+    Ok(())
+}
 
 /// Runs machines by windows of the plan's length, each shared by the plan's workers, up to the horizon. There is one
 /// machine for each process, of process 1 first, and each opens as the scenario says; the plan's window is no longer
@@ -61,7 +76,7 @@ pub fn run_windows_into<M: Process, G: Gate, K: Sink, R: Threads + Wait + Sync>(
     let mut stage = Stage::open(alloc, scenario, machines)?;
     while !stage.finished() {
         let part = run_window(rt, alloc, &mut stage, plan, gate)?;
-        sink.part(part)?;
+        hand_on(sink, part)?;
     }
     Ok(())
 }

@@ -11,6 +11,10 @@ use streams::Streams;
 #[derive(Drop)]
 pub(crate) struct Window<'s> {
     pub streams: Streams<'s>,
+    /// The tick at which it starts.
+    pub start: u32,
+    /// After so many ticks the entries are cut, so that each range can be merged by another thread.
+    pub cut: u32,
     /// The tick at which it ends.
     pub end: u32,
     /// How many entries fit into the trace yet.

@@ -18,13 +18,13 @@ use crate::agenda::Agenda;
 use crate::berth::Berth;
 use crate::halves::{empty_and_merge, threads_for};
 use mailboxes::{Mailboxes, Slip};
-use process_api::{Entry, Pid, Process, RunError};
+use process_api::{Pid, Process, RunError};
 use scenario_record::Scenario;
 use std::alloc::{AllocError, Global};
-use std::mem::replace;
 use std::sync::Wait;
 use std::thread::Threads;
 use trace_laws::Parcel;
+use trace_merge::Part;
 
 /// All processes of a scenario between two windows: each in its berth, the tick at which the next window starts, and
 /// how many entries the trace has so far. The parameter has no bound here, so that machines may be boxed.
@@ -36,6 +36,8 @@ pub struct Stage<'s, M = Box<dyn Process>> {
     pub(crate) start: u32,
     // how many entries the windows so far have
     pub(crate) so_far: u64,
+    // how many entries the window before has
+    pub(crate) made: u64,
     /// How many workers ran the window before, and 0 where there was none.
     pub(crate) workers: usize,
     // those of the window before, if there was one, to be used again
@@ -72,31 +74,29 @@ fn berths_of<M: Process>(
 }
 
 /// A berth gives its part of the window, and keeps an empty one.
-fn take_part<M>(alloc: Global, berth: &mut Berth<M>) -> Result<Vec<Entry>, AllocError>
+fn take_part<M>(berth: &mut Berth<M>) -> Result<Part, AllocError>
     ensures seat { OnOk result (berth.new.seat ≡ berth.old.seat) }
     ensures pending { OnOk result (berth.new.pending ≡ berth.old.pending) }
-    ensures empty { OnOk result (berth.new.part.items ≡ []) }
-    ensures entries { IfOk result (λ v. v.items ≡ berth.old.part.items) }
+    ensures empty { OnOk result (berth.new.part ≡ []) }
+    ensures entries { IfOk result (λ part. part ≡ berth.old.part) }
 {
-    // as much room as this window's part took
-    let next = Vec::with_capacity(alloc, berth.part.len())?;
-    Ok(replace(&mut berth.part, next))
+    berth.part.take()
 }
 
 /// Each berth gives its part of the window. Answers the berths, and the parts in the same order.
 fn take_parts<M: Process>(
     alloc: Global,
     berths: Vec<Berth<M>>,
-) -> Result<(Vec<Berth<M>>, Vec<Vec<Entry>>), AllocError>
+) -> Result<(Vec<Berth<M>>, Vec<Part>), AllocError>
     ensures seats { IfOk result (λ r. map (λ b. b.seat) r.0.items ≡ map (λ b. b.seat) berths.items) }
     ensures pending { IfOk result (λ r. map (λ b. b.pending) r.0.items ≡ map (λ b. b.pending) berths.items) }
-    ensures empty { IfOk result (λ r. All (λ b. b.part.items ≡ []) r.0.items) }
-    ensures parts { IfOk result (λ r. map (λ v. v.items) r.1.items ≡ map (λ b. b.part.items) berths.items) }
+    ensures empty { IfOk result (λ r. All (λ b. b.part ≡ []) r.0.items) }
+    ensures parts { IfOk result (λ r. r.1.items ≡ map (λ b. b.part) berths.items) }
 {
     let mut done = Vec::with_capacity(alloc, berths.len())?;
     let mut parts = Vec::with_capacity(alloc, berths.len())?;
     for mut berth in berths {
-        parts.push(take_part(alloc, &mut berth)?)?;
+        parts.push(take_part(&mut berth)?)?;
         done.push(berth)?;
     }
     Ok((done, parts))
@@ -167,6 +167,7 @@ impl<'s, M: Process> Stage<'s, M> {
             berths,
             start: 0,
             so_far: 0,
+            made: 0,
             workers: 0,
             mailboxes: None,
         })
@@ -208,8 +209,9 @@ impl<'s, M: Process> Stage<'s, M> {
         self.start == self.scenario.horizon()
     }
 
-    /// Closes a window: the mailboxes are emptied, and the parts that the berths have of it are merged; where it is
-    /// worth it, at once, by no more threads than there were workers. Each of these had a slip, and so had the starter.
+    /// Closes a window: the mailboxes are emptied, then the parts that the berths have of it are merged; where it is
+    /// worth it, by several threads, but no more than there were workers. Each of these had a slip, and so had the
+    /// starter.
     /// Then each berth takes the letters of its mailbox. The next window starts at the least pending tick. Answers the
     /// merged part, which has at most `left` entries.
     ///
@@ -223,22 +225,22 @@ impl<'s, M: Process> Stage<'s, M> {
         alloc: Global,
         ran: Ran<M>,
         left: u64,
-    ) -> Result<Vec<Entry>, RunError>
+    ) -> Result<Part, RunError>
         requires few { ran.workers + 1 ≡ vec_len ran.slips }
         requires all { vec_len ran.slips ≡ ran.mailboxes.slips }
         requires slips { All (IsSlipOf ran.mailboxes.mailboxes) ran.slips.items }
         requires boxes { length ran.mailboxes.mailboxes ≡ vec_len ran.berths }
-        requires rising { All (λ b. IsTrue (is_rising b.part.items)) ran.berths.items }
-        requires disjoint { AreDisjoint (map (λ b. b.part.items) ran.berths.items) }
+        requires rising { All (λ b. IsTrue (is_rising b.part)) ran.berths.items }
+        requires disjoint { AreDisjoint (map (λ b. b.part) ran.berths.items) }
         requires room { self.old.so_far + left < 2 ^ 64 }
 
         ensures scenario { self.new.scenario.now ≡ self.old.scenario.now }
         ensures closed { IfOk result (λ merged. IsClosedBy M.mind left self.old.so_far ran.berths.items
-            ran.slips.items merged.items self.new) }
+            ran.slips.items merged self.new) }
         ensures workers { IfOk result (λ _. self.new.workers ≡ ran.workers) }
         ensures errors { IfErr result IsRefusalOfOne }
         ensures limit { IsErrOf result RunError.Limit
-            → left < length (all_of (map (λ b. b.part.items) ran.berths.items)) }
+            → left < length (all_of (map (λ b. b.part) ran.berths.items)) }
     {
         let (mailboxes, slips) = (ran.mailboxes, ran.slips);
         let (berths, parts) = take_parts(alloc, ran.berths)?;
@@ -246,11 +248,12 @@ impl<'s, M: Process> Stage<'s, M> {
         let (merged, emptied) = empty_and_merge(rt, alloc, threads, parts, mailboxes, slips)?;
         let (mailboxes, letters) = emptied;
         let berths = deliver_all(alloc, berths, letters)?;
-        let made = merged.len() as u64;
+        let made = merged.len();
         if made > left {
             return Err(RunError::Limit);
         }
         self.so_far += made;
+        self.made = made;
         self.workers = ran.workers;
         self.start = next_start(&berths, self.scenario.horizon());
         self.berths = berths;

@@ -20,19 +20,21 @@ ghost use Rattle.windows.specs.Inside.Workers.{RiseBy, dealt_to, given_to};
 use crate::berth::Berth;
 use crate::gate::Gate;
 use crate::gather::{gather, part, run_rest, starts_of};
+use crate::halves::WORTH_A_THREAD;
 use crate::plan::Plan;
 use crate::shared::{Shared, Window};
 use crate::stage::{Ran, Stage};
 use crate::workers::{Start, Work, start_workers};
 use deques::deal;
 use mailboxes::{Mailboxes, Slip};
-use process_api::{Entry, Process, RunError};
+use process_api::{Process, RunError};
 use std::alloc::{AllocError, Global};
 use std::mem::replace;
 use std::sync::Wait;
 use std::thread;
 use std::thread::Threads;
 use streams::Streams;
+use trace_merge::Part;
 
 /// Starts the workers in a scope of their own, in which each is joined.
 fn in_threads<M: Process, G: Gate, R: Threads + Wait + Sync>(
@@ -212,11 +214,20 @@ fn run_all<M: Process, G: Gate, R: Threads + Wait + Sync>(
     })
 }
 
+/// Into how many ranges of ticks a window is cut for the merging of its parts, 1 to 4: one for each thread that would
+/// have closed the window before, which had so many entries.
+fn ranges_for(workers: u16, made: u64) -> u32
+    ensures { 0 < result }
+{
+    let threads = u64::from(workers).min(made / WORTH_A_THREAD as u64);
+    threads.clamp(1, 4) as u32
+}
+
 /// Runs the next window of a stage. The smaller of the plan's workers and the number of processes with an event below
 /// the window's end are started, each a thread. These processes are dealt to them in turn; a worker takes its own, one
 /// after the other, then those of others that are left, and runs them; and the workers are joined. Then the mailboxes
-/// are emptied and the parts of the trace merged, at once where that is worth a thread, by no more threads than there
-/// were workers, and the letters are delivered. Answers the merged part. The next window starts at the least pending
+/// are emptied, and the parts of the trace merged, each by several threads where that is worth it, but by no more than
+/// there were workers, and the letters are delivered. Answers the merged part. The next window starts at the least pending
 /// tick, so that none is opened in which nothing happens.
 ///
 /// # Errors
@@ -230,15 +241,15 @@ pub fn run_window<M: Process, G: Gate, R: Threads + Wait + Sync>(
     stage: &mut Stage<'_, M>,
     plan: &Plan,
     gate: &G,
-) -> Result<Vec<Entry>, RunError>
+) -> Result<Part, RunError>
     requires stage { IsStage M.mind stage.old }
     requires plan { IsPlanFor stage.old.scenario.now plan.now }
     requires open { stage.old.start < stage.old.scenario.now.horizon }
 
     ensures scenario { OnOk result (stage.new.scenario.now ≡ stage.old.scenario.now) }
     ensures stage { IfOk result (λ part. (trace : List EntryRecord)
-        → IsStageAfter M.mind trace stage.old → IsStageAfter M.mind (trace ++ part.items) stage.new) }
-    ensures run { IfOk result (λ part. IsWindowRun M.mind plan.now.window stage.old stage.new part.items) }
+        → IsStageAfter M.mind trace stage.old → IsStageAfter M.mind (trace ++ part) stage.new) }
+    ensures run { IfOk result (λ part. IsWindowRun M.mind plan.now.window stage.old stage.new part) }
     ensures workers { IfOk result (λ _. IsCountOfWorkers
         (end_of (setting_of stage.old.scenario.now) plan.now.window stage.old.start) plan.now.workers
         stage.old.berths.items stage.new.workers) }
@@ -252,7 +263,14 @@ pub fn run_window<M: Process, G: Gate, R: Threads + Wait + Sync>(
     let end = (stage.start + plan.window()).min(scenario.horizon());
     let left = scenario.limit() - stage.so_far;
     let streams = Streams::new(scenario);
-    let window = Window { streams, end, left };
+    let (start, ranges) = (stage.start, ranges_for(plan.workers(), stage.made));
+    let window = Window {
+        streams,
+        start,
+        cut: (end - start).div_ceil(ranges),
+        end,
+        left,
+    };
     let berths = replace(&mut stage.berths, Vec::new(alloc));
     let workers = plan.workers();
     let ran = run_all(rt, alloc, gate, workers, mailboxes, &window, berths)?;

@@ -13,7 +13,7 @@ ghost use Rattle.windows.specs.Inside.Workers.{IsReady};
 
 use crate::berth::{Berth, run_berth};
 use crate::gate::Gate;
-use crate::shared::Shared;
+use crate::shared::{Shared, Window};
 use deques::Hand;
 use mailboxes::Slip;
 use process_api::{Process, RunError};
@@ -37,6 +37,14 @@ pub(crate) struct Work<M> {
     pub done: Vec<Berth<M>>,
 }
 
+/// A berth whose entries will be cut where the window is.
+fn cut_for<M>(window: &Window<'_>, mut berth: Berth<M>) -> Berth<M>
+    ensures { result ≡ berth }
+{
+    berth.part.cut(window.start, window.cut);
+    berth
+}
+
 /// Tells the gate of a berth that worker `worker` has taken, runs it, and adds it to those that are done.
 ///
 /// # Errors
@@ -47,7 +55,7 @@ pub(crate) fn run_taken<M: Process, G: Gate, R: Wait>(
     rt: &R,
     shared: &Shared<'_, M, G>,
     worker: u16,
-    mut berth: Berth<M>,
+    berth: Berth<M>,
     slip: &mut Slip,
     done: &mut Vec<Berth<M>>,
 ) -> Result<(), RunError>
@@ -60,6 +68,7 @@ pub(crate) fn run_taken<M: Process, G: Gate, R: Wait>(
 {
     shared.gate.entered(rt, worker, berth.pid());
     let window = shared.window;
+    let mut berth = cut_for(window, berth);
     let streams = &window.streams;
     let mailboxes = shared.mailboxes;
     let left = window.left;

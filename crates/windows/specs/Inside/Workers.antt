@@ -51,7 +51,7 @@ module _ {M : Type 0} where
   module _ (mind : M → Mind) (s : Record) where
     -- a process of the scenario, for which nothing was done in this window yet
     abbrev pub IsReady : Berth M → Type 0
-    IsReady b = IsBerthOf mind s b × (b.part.items ≡ [])
+    IsReady b = IsBerthOf mind s b × (b.part ≡ [])
 
     -- the process took its events below the end, and stays in its berth
     abbrev pub IsStay : (end : ℕ) → Stay M → Type 0

@@ -1,8 +1,8 @@
-use Rattle.std.proofs.Common.{◌≡◌, ◌-◌, true, sym, ap, ◌∙◌, subst, length, arith}
-use Rattle.std.proofs.lemmas.Option.{slice_get_within, get_or_from_slice_get}
+use Rattle.std.proofs.Common.{◌≡◌, ◌-◌, [], refl, true, ◌∷◌, sym, ap, ◌∙◌, subst, length, arith}
+use Rattle.std.proofs.lemmas.Option.{slice_get_within}
 use Rattle.process_api.specs.Order.{is_before}
 use Rattle.process_api.specs.EntryRecord.{EntryRecord}
-use Rattle.trace_merge.proofs.Rising.{Before, rising_more, rising_of_test, test_of_rising}
+use Rattle.trace_merge.proofs.Rising.{Before, rises_on}
 use Rattle.trace_merge.proofs.joined.goes_on.Goals as goal
 
 pub returns-in-Some : goal.returns-in-Some
@@ -17,4 +17,4 @@ returns-in-Some c follows rising =
     let key = ap (λ (x : EntryRecord). x.key) c.entry.view_is in
     let before : Before last e =
     subst (λ k. is_before k e.key ≡ true) last_key (subst (λ k. is_before c.last-in-Some.inside.key k ≡ true) key (sym c.is_before.ensures ∙ follows)) in
-    test_of_rising _ (rising_more es at last e (omega (arith, within)) (get_or_from_slice_get es at last last is) before (rising_of_test es rising))
+    rises_on [] es at last e (e ∷ []) is (omega (arith, within)) refl before rising refl

@@ -24,7 +24,7 @@ loop-tray-init g c =
         [],
         c.in_ok-tray.ensures.empty,
         [],
-        sym (append-nil b.part.items),
+        sym (append-nil b.part),
         berth_opens (setting_of c.args.streams.now) (own_of g.M.Process.mind b.seat) c.args.end (process_of g.M.Process.mind b.seat) b.pending (λ key x h. is.own key x h ∙ sym is.is),
       );
       seated = λ most h. h;
@@ -34,8 +34,7 @@ loop-tray-init g c =
 pub take-requires-clause-seated : goal.take-requires-clause-seated
 take-requires-clause-seated g c κs within =
     let most = most_step_actions * most_in_part in
-    let now = c.loop-tray.berth.part in
-    (most + most_step_actions * length now.items, c.loop-tray.invariant.seated most c.requires.berth.1.seated, omega (arith, c.in_ok-check_room.ensures.ok.1, c.len-in-Some.ensures, now.ok.0))
+    (most + most_step_actions * length c.loop-tray.berth.part, c.loop-tray.invariant.seated most c.requires.berth.1.seated, omega (arith, c.in_ok-check_room.ensures.ok.1, c.len-in-Some.ensures))
 
 pub loop-tray-preserved : goal.loop-tray-preserved
 loop-tray-preserved g c =
@@ -49,7 +48,7 @@ loop-tray-preserved g c =
     let removed = rw c.in-Some.is at c.in_ok-event.ensures.removed in
     let done = c.in_ok-take.ensures in
     let entry = (made_in mind c.args.streams.now old.seat c.in-Some.event.0 c.in-Some.event.1).entry in
-    let longer : length new.part.items ≡ length old.part.items + 1 = one_longer old.part.items new.part.items _ done.part in
+    let longer : length new.part ≡ length old.part + 1 = one_longer old.part new.part _ done.part in
     record {
       fits = done.tray ∙ i.fits;
       own = done.own ∙ i.own;
@@ -57,13 +56,13 @@ loop-tray-preserved g c =
         i.stands.0 ++ done.letters.0,
         done.letters.2 ∙ (ap (λ z. all_filed z done.letters.0) i.stands.1 ∙ filed_more _ i.stands.0 done.letters.0),
         made ++ entry ∷ [],
-        done.part ∙ ap (λ es. es ++ entry ∷ []) i.stands.3 ∙ append_assoc b.part.items made (entry ∷ []),
+        done.part ∙ ap (λ es. es ++ entry ∷ []) i.stands.3 ∙ append_assoc b.part made (entry ∷ []),
         stands_next (setting_of c.args.streams.now) (own_of mind b.seat) c.args.end (process_of mind b.seat) b.pending (process_of mind old.seat) old.pending made i.stands.0 i.stands.4
             c.in-Some.event.0 c.in-Some.event.1 taken.0 taken.1 (process_of mind new.seat) c.take_below.new.self new.pending (made ++ entry ∷ []) done.letters.0 done.process removed done.pending refl done.letters.1,
       );
-      seated = λ most h. let same : (most + most_step_actions * length old.part.items) + most_step_actions ≡ most + most_step_actions * length new.part.items = omega (arith, longer) in
-          subst (λ n. IsSeated mind c.args.streams.now n new.seat) same (done.seated (most + most_step_actions * length old.part.items) (i.seated most h));
-      within = omega (arith, longer, new.part.ok.0, old.part.ok.0, c.len-in-Some.ensures, c.in_ok-check_room.ensures.ok.0);
+      seated = λ most h. let same : (most + most_step_actions * length old.part) + most_step_actions ≡ most + most_step_actions * length new.part = omega (arith, longer) in
+          subst (λ n. IsSeated mind c.args.streams.now n new.seat) same (done.seated (most + most_step_actions * length old.part) (i.seated most h));
+      within = omega (arith, longer, c.len-in-Some.ensures, c.in_ok-check_room.ensures.ok.0);
     }
 
 pub take-requires-clause-own : goal.take-requires-clause-own
@@ -76,11 +75,11 @@ pub loop-tray-smaller : goal.loop-tray-smaller
 loop-tray-smaller g c =
     let old = c.loop-tray.berth.part in
     let new = c.take.new.self.part in
-    let longer : length new.items ≡ length old.items + 1 = one_longer old.items new.items _ c.in_ok-take.ensures.part in
-    omega (arith, longer, new.ok.0, old.ok.0, c.len-in-Some.ensures, c.in_ok-check_room.ensures.ok.0)
+    let longer : length new ≡ length old + 1 = one_longer old new _ c.in_ok-take.ensures.part in
+    omega (arith, longer, c.len-in-Some.ensures, c.in_ok-check_room.ensures.ok.0)
 
 pub returns-then-len-left-clause-limit : goal.returns-then-len-left-clause-limit
-returns-then-len-left-clause-limit g c is history after rest letters run = omega (arith, c.if-len-left.true, c.len.ensures, c.args.berth.now.part.ok.0)
+returns-then-len-left-clause-limit g c is history after rest letters run = omega (arith, c.if-len-left.true, c.len.ensures)
 
 pub returns-in_err-check_room-clause-limit : goal.returns-in_err-check_room-clause-limit
 returns-in_err-check_room-clause-limit g c is history after rest letters run =
@@ -94,7 +93,7 @@ returns-in_err-check_room-clause-limit g c is history after rest letters run =
     berth_longer (setting_of c.args.streams.now) (own_of mind b.seat) c.args.end (process_of mind b.seat) b.pending (process_of mind old.seat) old.pending made (map event_of i.stands.0) i.stands.4
     c.in-Some.event.0 c.in-Some.event.1 taken.0 taken.1 history after rest letters run in
     let full : c.args.left ≤ c.len-in-Some.result = c.check_room.ensures.limit (search rules) in
-    omega (arith, longer, full, c.len-in-Some.ensures, old.part.ok.0, ap length i.stands.3, length-append b.part.items made)
+    omega (arith, longer, full, c.len-in-Some.ensures, ap length i.stands.3, length-append b.part made)
 
 pub returns-clause-within : goal.returns-clause-within
 returns-clause-within g c = c.loop-tray.invariant.within
@@ -115,7 +114,7 @@ returns-clause-ran g c =
         history = was.history;
         run = subst (λ m. BerthRun S p c.args.end (process_of mind b.seat) b.pending was.history (process_of mind old.seat) m (map event_of i.stands.0)) (sym (rw c.in_default.is at c.in_ok-event.ensures.removed))
             (subst (λ q. BerthRun S q c.args.end (process_of mind b.seat) b.pending was.history (process_of mind old.seat) old.pending (map event_of i.stands.0)) is run);
-        part = i.stands.3 ∙ ap (λ es. b.part.items ++ es) was.part_is;
+        part = i.stands.3 ∙ ap (λ es. b.part ++ es) was.part_is;
       },
       c.in_ok-post_all.ensures.ok ∙ ((λ j. with_lists (c.in_ok-tray.ensures.slip j) (i.stands.1 j)) ∙ posted_filed c.args.slip.now _ i.stands.0 (sym c.in_ok-tray.ensures.fits)),
     )

@@ -18,11 +18,11 @@ invariant-loop-tray g l =
     record {
       fits : length l.tray ≡ length l.fn.mailboxes;
       own : own_of mind l.berth.seat ≡ p;
-      stands : (letters : List Letter) × (l.tray ≡ all_filed (replicate (length l.fn.slip.mailboxes) []) letters) × (made : List EntryRecord) × (l.berth.part.items ≡ b.part.items ++ made)
+      stands : (letters : List Letter) × (l.tray ≡ all_filed (replicate (length l.fn.slip.mailboxes) []) letters) × (made : List EntryRecord) × (l.berth.part ≡ b.part ++ made)
           × BerthStands (setting_of s) p l.end (process_of mind b.seat) b.pending (process_of mind l.berth.seat) l.berth.pending made (map event_of letters);
-      seated : (most : _) → IsSeated mind s (most + most_step_actions * length b.part.items) b.seat → IsSeated mind s (most + most_step_actions * length l.berth.part.items) l.berth.seat;
-      within : vec_len l.berth.part ≤ l.left;
+      seated : (most : _) → IsSeated mind s (most + most_step_actions * length b.part) b.seat → IsSeated mind s (most + most_step_actions * length l.berth.part) l.berth.seat;
+      within : length l.berth.part ≤ l.left;
     }
 
 abbrev pub decreases-loop-tray : goal.decreases-loop-tray
-decreases-loop-tray g l = l.left - vec_len l.berth.part
+decreases-loop-tray g l = l.left - length l.berth.part

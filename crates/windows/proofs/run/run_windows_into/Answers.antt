@@ -4,10 +4,11 @@ use Rattle.std.proofs.lemmas.List.Elements.{All-nil}
 use Rattle.process_api.specs.EntryRecord.{EntryRecord}
 use Rattle.trace_laws.specs.ScenarioSetting.{setting_of}
 use Rattle.trace_laws.specs.World.{IsTrace}
+use Rattle.windows.specs.Sink.{TookSome}
 use Rattle.windows.specs.Stage.{IsStageAfter}
 use Rattle.window_laws.specs.Theorems.{end_to_end}
 use Rattle.windows.proofs.Closing.{stage_trace}
-use Rattle.windows.proofs.Handed.{took_more, end_to_end_more, on_err, trace_within}
+use Rattle.windows.proofs.Handed.{took_on, end_to_end_on, next_front, on_err, trace_within}
 use Rattle.windows.proofs.Cut.{stage_cut, not_of_sink}
 use Rattle.windows.proofs.Refused.{not_err}
 use Rattle.windows.proofs.run.run_windows_into.Goals as goal
@@ -49,8 +50,8 @@ returns-in_err-part-clause-closed g c = λ is.
       after = stage_cut g.M.Process.mind c.loop-alloc.stage (end_to_end parts.0) parts.2 c.args.scenario.now was.scenario c.horizon-horizon.ensures.ranges;
     }
 
-pub returns-in_err-part-2-clause-closed : goal.returns-in_err-part-2-clause-closed
-returns-in_err-part-2-clause-closed g c = λ is. absurd (not_of_sink c.from_residual-in_err-part-2.result (search rules) is)
+pub returns-in_err-hand_on-clause-closed : goal.returns-in_err-hand_on-clause-closed
+returns-in_err-hand_on-clause-closed g c = λ is. absurd (not_of_sink c.from_residual-in_err-hand_on.result (search rules) is)
 
 pub returns-in_err-part-clause-limit : goal.returns-in_err-part-clause-limit
 returns-in_err-part-clause-limit g c is =
@@ -61,32 +62,37 @@ pub loop-alloc-preserved : goal.loop-alloc-preserved
 loop-alloc-preserved g c =
     let mind = g.M.Process.mind in
     let was = c.loop-alloc.invariant in
-    let part = c.in_ok-part.part.items in
+    let took = c.in_ok-hand_on.ensures.whole in
+    let same : end_to_end (was.parts.0 ++ took.0) ≡ end_to_end was.parts.0 ++ c.in_ok-part.part = end_to_end_on was.parts.0 took.0 ∙ ap (λ es. end_to_end was.parts.0 ++ es) took.2 in
     record {
       parts = (
-        was.parts.0 ++ part ∷ [],
-        took_more g.K.Sink.took c.args.sink.now c.loop-alloc.sink c.part.new.self was.parts.0 part was.parts.1 (search rules),
-        subst (λ es. IsStageAfter mind es c.run_window.new.stage) (sym (end_to_end_more was.parts.0 part)) (c.in_ok-part.ensures.stage (end_to_end was.parts.0) was.parts.2),
+        was.parts.0 ++ took.0,
+        took_on g.K.Sink.took c.args.sink.now c.loop-alloc.sink c.hand_on.new.sink was.parts.0 took.0 was.parts.1 took.1,
+        subst (λ es. IsStageAfter mind es c.run_window.new.stage) (sym same) (c.in_ok-part.ensures.stage (end_to_end was.parts.0) was.parts.2),
       );
       scenario = search rules;
       failed = search rules;
     }
 
-pub returns-in_err-part-2-clause-front : goal.returns-in_err-part-2-clause-front
-returns-in_err-part-2-clause-front g c =
+pub returns-in_err-hand_on-clause-front : goal.returns-in_err-hand_on-clause-front
+returns-in_err-hand_on-clause-front g c =
     let mind = g.M.Process.mind in
     let was = c.loop-alloc.invariant in
-    let part = c.in_ok-part.part.items in
+    let part = c.in_ok-part.part in
     let scenario : c.run_window.new.stage.scenario.now ≡ c.args.scenario.now = search rules in
-    on_err c.from_residual-in_err-part-2.result _ (record {
-      parts = was.parts.0;
-      mid = c.loop-alloc.sink;
-      took_all = was.parts.1;
-      last = part;
-      ended = inr (search rules);
+    let some : TookSome g.K.Sink.took part g.K.Sink.took_front c.loop-alloc.sink c.hand_on.new.sink = search rules in
+    on_err c.from_residual-in_err-hand_on.result _ (record {
+      parts = was.parts.0 ++ some.lists;
+      mid = some.mid;
+      took_all = took_on g.K.Sink.took c.args.sink.now c.loop-alloc.sink some.mid was.parts.0 some.lists was.parts.1 some.took_all;
+      last = some.last;
+      ended = some.ended;
       front = λ whole t.
-          let r = stage_cut mind c.run_window.new.stage (end_to_end was.parts.0 ++ part) (c.in_ok-part.ensures.stage (end_to_end was.parts.0) was.parts.2) c.args.scenario.now scenario c.horizon-horizon.ensures.ranges whole t in
-          (r.0, r.1);
+          let r = stage_cut mind c.run_window.new.stage (end_to_end was.parts.0 ++ part) (c.in_ok-part.ensures.stage (end_to_end was.parts.0) was.parts.2) c.args.scenario.now scenario c.horizon-horizon.ensures.ranges whole t in (
+            some.rest ++ r.0,
+            next_front (end_to_end was.parts.0) part (end_to_end some.lists) some.last some.rest r.0 whole some.front r.1
+                ∙ ap (λ es. (es ++ some.last) ++ (some.rest ++ r.0)) (sym (end_to_end_on was.parts.0 some.lists)),
+          );
     })
 
 pub returns-clause-trace : goal.returns-clause-trace

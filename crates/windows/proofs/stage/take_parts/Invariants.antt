@@ -10,6 +10,6 @@ invariant-loop-berth g l =
     record {
       seats : map (λ b. b.seat) l.done.items ++ map (λ b. b.seat) rest ≡ map (λ b. b.seat) l.fn.berths.items;
       pending : map (λ b. b.pending) l.done.items ++ map (λ b. b.pending) rest ≡ map (λ b. b.pending) l.fn.berths.items;
-      empty : All (λ b. b.part.items ≡ []) l.done.items;
-      parts : map (λ v. v.items) l.parts.items ++ map (λ b. b.part.items) rest ≡ map (λ b. b.part.items) l.fn.berths.items;
+      empty : All (λ b. b.part ≡ []) l.done.items;
+      parts : l.parts.items ++ map (λ b. b.part) rest ≡ map (λ b. b.part) l.fn.berths.items;
     }

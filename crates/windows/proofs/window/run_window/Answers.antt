@@ -73,10 +73,10 @@ returns g c =
     record {
       scenario = IfOk-weaker c.close.result _ _ (λ part closed. c.close.ensures.scenario) c.close.ensures.closed;
       stage = IfOk-weaker c.close.result _ _
-          (λ part closed trace is. (next_by mind old c.processes-processes.ensures.ranges trace is c.args.plan.now.window c.requires.plan _ _ by c.close.new.self c.close.ensures.scenario left sum part.items closed).0)
+          (λ part closed trace is. (next_by mind old c.processes-processes.ensures.ranges trace is c.args.plan.now.window c.requires.plan _ _ by c.close.new.self c.close.ensures.scenario left sum part closed).0)
           c.close.ensures.closed;
       run = IfOk-weaker c.close.result _ _
-          (λ part closed. (next_by mind old c.processes-processes.ensures.ranges c.requires.stage.0 c.requires.stage.1 c.args.plan.now.window c.requires.plan _ _ by c.close.new.self c.close.ensures.scenario left sum part.items closed).1)
+          (λ part closed. (next_by mind old c.processes-processes.ensures.ranges c.requires.stage.0 c.requires.stage.1 c.args.plan.now.window c.requires.plan _ _ by c.close.new.self c.close.ensures.scenario left sum part closed).1)
           c.close.ensures.closed;
       workers = IfOk-weaker c.close.result _ _
           (λ part count. subst (IsCountOfWorkers _ _ old.berths.items) (sym count) (of_same (λ w e bs. IsCountOfWorkers e w bs ran.workers) _ _ _ _ _ _ c.workers-workers.ensures.value end same c.in_ok-ran.ensures.workers))

@@ -1,5 +1,6 @@
 use Rattle.std.proofs.Common.{rules, ◌≡◌, [], ap, subst, sym, ◌∙◌, arith, length, IsTrue}
-use Rattle.std.specs.Global.{Vec}
+use Rattle.std.specs.List.{All}
+use Rattle.std.proofs.lemmas.List.Elements.{All-map}
 use Rattle.std.proofs.lemmas.List.{length-map}
 use Rattle.std.proofs.lemmas.List.Sorted.{length_permutation}
 use Rattle.process_api.specs.Order.{is_rising}
@@ -14,9 +15,7 @@ use Rattle.windows.proofs.stage.Stage.close.Goals as goal
 
 pub empty_and_merge-requires-clause-rising : goal.empty_and_merge-requires-clause-rising
 empty_and_merge-requires-clause-rising g c κs within =
-    all_at (λ v. IsTrue (is_rising v.items)) c.in_ok-berths.parts.items
-    (λ i v at. let b = same_at (λ z. z.part.items) (λ z. z.items) c.args.ran.berths.items c.in_ok-berths.parts.items (sym c.in_ok-berths.ensures.parts) i v at in
-    subst (λ es. IsTrue (is_rising es)) b.2 (all_place (λ z. IsTrue (is_rising z.part.items)) c.args.ran.berths.items c.requires.rising i b.0 b.1))
+    subst (All (λ part. IsTrue (is_rising part))) (sym c.in_ok-berths.ensures.parts) (All-map (λ part. IsTrue (is_rising part)) (λ (z : Berth _). z.part) c.args.ran.berths.items c.requires.rising)
 
 pub deliver_all-requires-after_bounds : goal.deliver_all-requires-after_bounds
 deliver_all-requires-after_bounds g c κs within =
@@ -26,12 +25,11 @@ deliver_all-requires-after_bounds g c κs within =
 
 pub returns-then-made-left-clause-limit : goal.returns-then-made-left-clause-limit
 returns-then-made-left-clause-limit g c =
-    λ _. omega (arith, c.if-made-left.true, c.len-made.ensures, c.in_ok-merged.merged.ok.0, length_permutation _ _ c.in_ok-merged.ensures.same, ap (λ ps. length (all_of ps)) c.in_ok-berths.ensures.parts)
+    λ _. omega (arith, c.if-made-left.true, c.len-made.ensures, length_permutation _ _ c.in_ok-merged.ensures.same, ap (λ ps. length (all_of ps)) c.in_ok-berths.ensures.parts)
 
 pub returns-clause-closed : goal.returns-clause-closed
 returns-clause-closed g c =
     let part_of = λ (z : Berth _). z.part in
-    let items_of = λ (v : Vec _). v.items in
     let letters = letters_in c.in_ok-merged.emptied.1.items in
     let few : length c.args.ran.mailboxes.mailboxes ≡ length c.args.ran.berths.items = c.requires.boxes ∙ c.args.ran.berths.ok.0 in (
       letters,
@@ -39,9 +37,9 @@ returns-clause-closed g c =
       record {
         seats = c.in_ok-berths-2.ensures.seats ∙ c.in_ok-berths.ensures.seats;
         pending = c.in_ok-berths-2.ensures.pending ∙ ap (λ ms. delivered ms letters) c.in_ok-berths.ensures.pending;
-        parts = all_at (λ b. b.part.items ≡ []) c.in_ok-berths-2.berths.items
+        parts = all_at (λ b. b.part ≡ []) c.in_ok-berths-2.berths.items
             (λ i b at. let a = same_at part_of part_of c.in_ok-berths.berths.items c.in_ok-berths-2.berths.items (sym c.in_ok-berths-2.ensures.parts) i b at in
-            ap items_of (sym a.2) ∙ all_place (λ b. b.part.items ≡ []) c.in_ok-berths.berths.items c.in_ok-berths.ensures.empty i a.0 a.1);
+            sym a.2 ∙ all_place (λ b. b.part ≡ []) c.in_ok-berths.berths.items c.in_ok-berths.ensures.empty i a.0 a.1);
         rising = c.in_ok-merged.ensures.rising;
         same = search rules;
         few = search rules;

@@ -9,10 +9,10 @@ berths_of-requires-after_bounds g c κs within = machines_open c.args.scenario.n
 
 pub returns-clause-opening : goal.returns-clause-opening
 returns-clause-opening g c =
-    λ window. opening_stands g.M.Process.mind (record { scenario = c.args.scenario; berths = c.in_ok-berths.berths; start = 0; so_far = 0; workers = 0; mailboxes = None }) c.processes-processes.ensures.ranges refl refl
+    λ window. opening_stands g.M.Process.mind (record { scenario = c.args.scenario; berths = c.in_ok-berths.berths; start = 0; so_far = 0; made = 0; workers = 0; mailboxes = None }) c.processes-processes.ensures.ranges refl refl
     (c.in_ok-berths.ensures.processes ∙ ap (map opened) c.requires) c.in_ok-berths.ensures.berths window
 
 pub returns-clause-stage : goal.returns-clause-stage
 returns-clause-stage g c =
-    opening_stage g.M.Process.mind (record { scenario = c.args.scenario; berths = c.in_ok-berths.berths; start = 0; so_far = 0; workers = 0; mailboxes = None }) c.processes-processes.ensures.ranges refl refl
+    opening_stage g.M.Process.mind (record { scenario = c.args.scenario; berths = c.in_ok-berths.berths; start = 0; so_far = 0; made = 0; workers = 0; mailboxes = None }) c.processes-processes.ensures.ranges refl refl
     (c.in_ok-berths.ensures.processes ∙ ap (map opened) c.requires) c.in_ok-berths.ensures.berths
