@@ -20,7 +20,7 @@ fn cells_by<F: Fn(Pid) -> Option<u32>>(alloc: Global, n: u16, cell: F) -> Result
     for before in 0..n {
         cells.push(cell(Pid::after(before)))?;
     }
-    Ok(Cells::new(cells))
+    Cells::new(cells)
 }
 
 /// What a process knows as it opens: its own proposal.

