@@ -256,6 +256,9 @@ def main():
     words.add_argument("--seed", type=int, default=1)
     words.add_argument("--check")
     asked = words.parse_args()
+    # proved and built first, where it has to be: what is said of that is no line of a run
+    for program in filter(None, (asked.fdbench, asked.check)):
+        subprocess.run([program, "--help"], stdout=subprocess.DEVNULL, check=True)
     draw = random.Random(asked.seed)
     counts, broken = collections.Counter(), 0
     with tempfile.TemporaryDirectory() as folder:

@@ -147,8 +147,7 @@ def main():
     words.add_argument("--jobs", type=int, default=len(os.sched_getaffinity(0)))
     words.add_argument("--points", type=int, default=12)
     asked = words.parse_args()
-    # proved and built first, where it has to be, so that nothing of that is taken for a fault
-    subprocess.run([suite.FDSTUDY, "--help"], stdout=subprocess.DEVNULL, check=True)
+    suite.make_ready()
     faults = Faults()
     with tempfile.TemporaryDirectory() as folder:
         compare_pages(faults, folder)

@@ -533,6 +533,11 @@ def points_of(study, asked):
     return points
 
 
+def make_ready():
+    """The program is proved and built first, where it has to be: what is said of that is no line of a point's run."""
+    subprocess.run([FDSTUDY, "--help"], stdout=subprocess.DEVNULL, check=True)
+
+
 def rows_of(point):
     """Runs a point. Answers its row, as the values of its columns."""
     ran = subprocess.run([FDSTUDY, *point.command()], input=point.text, capture_output=True, text=True, cwd=HOME)
@@ -579,6 +584,7 @@ def order_points(asked):
 
 
 def order_shard(asked):
+    make_ready()
     points = points_of(asked.study, asked)
     k, n = (int(it) for it in asked.shard.split("/"))
     block = points[len(points) * (k - 1) // n : len(points) * k // n]
@@ -590,6 +596,7 @@ def order_shard(asked):
 
 
 def order_run(asked):
+    make_ready()
     os.makedirs(asked.to, exist_ok=True)
     for study in STUDIES:
         points = points_of(study, asked)
