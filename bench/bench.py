@@ -11,7 +11,7 @@ by wall and by processor. A window of `run` is as long as the scenario's lookahe
 busy machine slows all modes alike; compare times of one table alone. What is printed goes nowhere.
 
 P is the program's file; where none is named, ./fdbench proves and builds it. --beside times another program that takes
-the words `list PATH --print WHAT` and writes the same bytes, and adds the ratio of both times. --before times another
+the arguments `list PATH --print WHAT` and writes the same bytes, and adds the ratio of both times. --before times another
 state of the program in the same rounds and modes, and prints its rows too. --same compares the bytes first, by their
 hashes. --horizon runs a part of each scenario. --wide takes the scenarios with wide windows. Modes are list-report, list-trace, run-1 and so on.
 """
@@ -79,7 +79,7 @@ def entries_of(program, path):
 
 
 def same_as_list(mode, path, window):
-    """The words of the list's run that writes the same bytes."""
+    """The arguments of the list's run that writes the same bytes."""
     return ["list", path, "--print", "trace" if mode == "list-trace" else "report"]
 
 

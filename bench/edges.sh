@@ -23,7 +23,7 @@ cp "$root/examples/one_crash.toml" one.toml
 echo ok > ok
 : > nothing
 
-# Runs the words after the first two, and wants the ending $1 and, whatever the status, the bytes of the file $2.
+# Runs the arguments after the first two, and requires the ending $1 and, whatever the status, the bytes of the file $2.
 wants() {
     local ending=$1 bytes=$2
     shift 2
@@ -74,7 +74,7 @@ wants "3 fdbench: run: Limit" nothing $fdbench run - --workers 2 --window 2 --pr
 end
 
 # each word is needed: the last one alone says that the output is that of one run
-begin "orders of many words"
+begin "orders of many arguments"
 wants 0 listed $fdbench run - --workers 2 --window 2 --print trace < one.toml
 columns=detector.timeout,detector.grow,link.loss,seed,run,undetected
 printf '%s\n' $columns 5,1,0,3,1,0 5,1,0,4,2,0 > table
@@ -98,7 +98,7 @@ wants 0 ok $fdbench check "$path/one.toml"
 wants 0 checked $fdstudy check "$path/one.toml"
 end
 
-begin "words that are not UTF-8"
+begin "arguments that are not UTF-8"
 for word in $'\xff' $'one.toml\xc3'; do
     wants "2 fdbench: words: Form" nothing $fdbench check "$word"
     wants "2 fdstudy: words: NoText: a word is not UTF-8" nothing $fdstudy check "$word"
@@ -149,7 +149,7 @@ wants 0 ok $fdbench check - < most.toml
 wants 0 checked $fdstudy check - < most.toml
 end
 
-# Runs the words after the first, which have to start $1 threads.
+# Runs the arguments after the first, which have to start $1 threads.
 starts() {
     local count=$1
     shift

@@ -30,7 +30,7 @@ echo ok > "$folder/ok"
 echo same > "$folder/same"
 
 # Splits the order $1 into words, and says how it may end where it is refused memory. What starts threads may be refused
-# one for want of memory.
+# one because memory was refused.
 split() {
     read -r -a words <<< "$1"
     memory=("2 fdbench: words: Memory" "1 fdbench: scenario: Memory")

@@ -1,6 +1,6 @@
-"""The crates of this repository, what each stands on, and the words by which the checker is called for one.
+"""The crates of this repository, on which others each depends, and the arguments with which the checker is called for one.
 
-A library is built of its statements alone, as the gate builds it: what stands above needs no more, and loads it quickly.
+A library is built of its statements alone, as the gate builds it: the crates above need no more, and load it quickly.
 It goes into the crate's out/rlib/, with a sum of all that it was made from. `rt` makes its own there, with proofs, where a
 command of its needs them.
 """
@@ -16,7 +16,7 @@ OTHER_COST = 15
 
 
 class Crates:
-    """The crates of crates.txt, by name, each after those that it stands on."""
+    """The crates of crates.txt, by name, each after those on which it depends."""
 
     def __init__(self):
         self.kit = os.path.dirname(subprocess.run(["rt", "doc"], capture_output=True, text=True, check=True).stdout.strip())
@@ -82,7 +82,7 @@ class Crates:
             return file.read() == total
 
     def words(self, name, jobs):
-        """The checker's words for a crate, whose folder it is to run in."""
+        """The checker's arguments for a crate, in whose folder it has to run."""
         words = ["--crate-name", name, "src/main.rt" if self.is_program(name) else "src/lib.rt"]
         for it in self.of_kit[name]:
             words += ["--extern", f"{it}={self.kit}/rlibs/{it}.rlib"]

@@ -10,7 +10,7 @@ CREATE TABLE letters (sent INTEGER, sender INTEGER, receiver INTEGER, number INT
 -- a lost letter is never due
 UPDATE letters SET due = NULL WHERE due = '';
 
--- The columns of a study hang on what it varies, so .import makes the table, and a view makes the numbers.
+-- The columns of a study depend on the keys that it varies, so .import makes the table, and a view makes the numbers.
 .import out/study.csv study_text
 CREATE VIEW study AS
 SELECT CAST("detector.period" AS INTEGER) AS period, CAST("detector.timeout" AS INTEGER) AS timeout,
