@@ -1,10 +1,10 @@
 #!/usr/bin/env python3
 """page.py [--from FOLDER] [--to FOLDER] [--pages FOLDER]: what the rows of the suite come to.
 
-Reads frontiers.csv and consensus.csv of the one folder (results/), and writes settings.csv, wishes.csv, theory.csv,
-decisions.csv and a picture of each network, NETWORK.svg, to the other: to results/ and pictures/ where none is named.
-There, or in the folder of --pages, it also puts the tables of README.md and details.md in their places. It prints the
-table of settings.
+Reads frontiers.csv and consensus.csv of the one folder (results/), and writes settings.csv, wishes.csv, theory.csv and a
+picture of each network, NETWORK.svg, to the other: to results/ and pictures/ where none is named. There, or in the
+folder of --pages, it also puts the tables of README.md and details.md in their places, and with these decisions.csv
+beside the others. It prints the table of settings.
 """
 import argparse
 import csv
