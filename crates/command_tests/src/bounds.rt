@@ -1,4 +1,4 @@
-//! Runs that meet the bounds of their detectors exactly, and runs with a mistake, where a condition lacks by one tick.
+//! Runs that meet the bounds of their detectors exactly, and runs with a mistake, where a condition fails by one tick.
 
 use crate::judged::trace_of;
 use crate::runs::{NO_MEMORY, changed, same, scenario_of};

@@ -1,10 +1,10 @@
 //! Bounds of base detectors that no run breaks: by when a crash is detected, and which links bring no mistake.
 //!
-//! [`law_bounds`] says them of every trace of a scenario (`specs/Bounds.antt`), in the scenario's numbers alone and, for
-//! time-outs, with the trusts that the observer noted. Layer 1 is meant throughout: whom a process suspects at a tick
-//! is what its notes say at the end of that tick.
+//! [`law_bounds`] says them of every trace of a scenario (`specs/Bounds.antt`), in the scenario's numbers alone and,
+//! for time-outs, with the trusts that the observer noted. All this is of layer 1. The notes of a process, as they
+//! stand at the end of a tick, say whom it suspects at that tick.
 //!
-//! As an example, let `eta` be 10 and `delta` 3. A process that crashes at tick 21 sent its last heartbeat, the second,
+//! For example, let `eta` be 10 and `delta` 3. A process that crashes at tick 21 sent its last heartbeat, the second,
 //! at tick 20; the third point lies at tick 33, so that whoever watches it suspects it from there to the end.
 #![tactic(auto)]
 

@@ -1,4 +1,4 @@
-//! What no run of a scenario breaks, in numbers.
+//! Bounds that no run of a scenario breaks, in numbers.
 ghost use Rattle.std.specs.Prelude.{◌≡◌, IfOk, count_by, filter, filter_map, map, not};
 ghost use Rattle.std.specs.List.{list_any};
 ghost use Rattle.promised.specs.Promised.{greatest, is_late, is_reliable, is_timely, latency};

@@ -1,4 +1,4 @@
-//! By when the crash of a process is detected by who never takes a suspicion back.
+//! The tick by which the crash of a process is detected by a process that never takes a suspicion back.
 ghost use Rattle.std.specs.Prelude.{◌≡◌, ◌≤◌, ◌+◌};
 ghost use Rattle.detector_bounds.specs.Detected.{detected_by, last_letter};
 ghost use Rattle.scenario_record.specs.Numbers.{AreInRange};

@@ -1,4 +1,4 @@
-//! What no run breaks on layer 2.
+//! Bounds of layer 2 that no run breaks.
 ghost use Rattle.std.specs.Prelude.{List};
 ghost use Rattle.process_api.specs.EntryRecord.{EntryRecord};
 ghost use Rattle.trace_laws.specs.ScenarioSetting.{setting_of};

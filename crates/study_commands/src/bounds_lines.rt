@@ -1,4 +1,4 @@
-//! What no run of a scenario breaks, in lines.
+//! Bounds that no run of a scenario breaks, in lines.
 ghost use Rattle.std.specs.Prelude.{◌≡◌, IfOk, string_bytes};
 ghost use Rattle.promised.specs.Promised.{promised};
 ghost use Rattle.study_commands.specs.BoundsText.{bounds_text, detection_text, key_of, lossy_text};

@@ -1,4 +1,4 @@
-//! What a command line asks for.
+//! Orders: the tasks that a command line asks for.
 ghost use Rattle.std.specs.Prelude.{◌≡◌, List, IfOk, IfErr, map, codes};
 ghost use Rattle.std.specs.List.{list_all};
 ghost use Rattle.clap.specs.Words.{Text, rows_of, found_of, subcommand_rows_of, fault_of, HasKind};
