@@ -1,6 +1,6 @@
 -- Which wakes and letters the actions of a step add, and when they come.
 use Rattle.std.proofs.Common.{◌≡◌, ◌≢◌, ◌⊎◌, ℕ, ◌+◌, ◌≤◌, inl, inr, refl, sym, ap, ◌∙◌, subst, Bool, true, false, cond, if◌then◌else◌, List, [], ◌∷◌, ◌++◌, arith, ◌==◌}
-use Rattle.std.proofs.lemmas.Bool.{cond_both, cases_lt, lt-ltb, eqb-true, ne_eqb}
+use Rattle.std.proofs.lemmas.Bool.{cond_both, cases_lt, lt-ltb, eqb-true, eq-eqb, ne_eqb}
 use Rattle.process_api.specs.declared.action.Action.{Action}
 use Rattle.process_api.specs.declared.action.Action.TheVariants as action
 use Rattle.process_api.specs.declared.key.Key.{Key}
@@ -268,4 +268,29 @@ module _ {Mind : Type 0} (S : Setting Mind) where
         here = elim (in_time_there key (input.Letter p y)) [
           | inl late ↦ inl (omega (arith, late, f.2))
           | inr j ↦ inr (key, in_left _ (joining S p now counts (action.Send to y)) (added S p now (counted p counts (action.Send to y)) actions) (subst (IsIn (key, input.Letter p y)) (sym joins) j), refl, omega (arith, f.2))
+        ]
+
+    -- a letter to oneself comes at the next tick
+    abbrev pub OwnComes : List Event → Payload → Type 0
+    OwnComes events y = (S.horizon ≤ now + 1) ⊎ ((key : Key) × IsIn (key, input.Letter p y) events × (key.receiver ≡ p) × (key.tick ≡ now + 1))
+
+    pub own_comes : (counts : ℕ → ℕ) (actions : List Action) (y : Payload) → IsIn (action.Send p y) actions → OwnComes (added S p now counts actions) y
+    own_comes counts [] y i = absurd i
+    own_comes counts (a ∷ actions) y (inr i) = elim (own_comes (counted p counts a) actions y i) [
+      | inl late ↦ inl late
+      | inr r ↦ inr (r.0, in_right _ (joining S p now counts a) (added S p now (counted p counts a) actions) r.1, r.2, r.3)
+    ]
+    own_comes counts (a ∷ actions) y (inl e) = subst (λ z. OwnComes (added S p now counts (z ∷ actions)) y) e here
+      where
+        key : Key
+        key = record { tick = now + 1; receiver = p; sender = p; number = counts p + 1 }
+
+        joins : joining S p now counts (action.Send p y) ≡ in_time S.horizon key (input.Letter p y)
+        joins =
+            ap (λ b. cond b (in_time S.horizon (record { tick = now + 1; receiver = p; sender = p; number = counts p + 1 }) (input.Letter p y)) (by_fate S.horizon (S.fate p p (counts p + 1) now) (record { tick = now; receiver = p; sender = p; number = counts p + 1 }) (input.Letter p y))) (eq-eqb p p refl)
+
+        here : OwnComes (added S p now counts (action.Send p y ∷ actions)) y
+        here = elim (in_time_there key (input.Letter p y)) [
+          | inl late ↦ inl late
+          | inr j ↦ inr (key, in_left _ (joining S p now counts (action.Send p y)) (added S p now (counted p counts (action.Send p y)) actions) (subst (IsIn (key, input.Letter p y)) (sym joins) j), refl, refl)
         ]

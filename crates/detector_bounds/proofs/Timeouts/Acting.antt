@@ -40,7 +40,7 @@ module _ (numbers : TimeoutNumbers) where
   IsDone x (action.Wake pause tag.Check) = IsChecking x × (pause ≡ numbers.check)
   IsDone x a = Unit {0}
 
-  above_done : (x : StepInput) (a : Action) → IsAbove a → IsDone x a
+  above_done : (x : StepInput) (a : Action) → IsAbove 1 a → IsDone x a
   above_done x (action.Send to payload.Alive) none = absurd none
   above_done x (action.Wake pause tag.Beat) none = absurd none
   above_done x (action.Wake pause tag.Check) none = absurd none
@@ -64,9 +64,9 @@ module _ (numbers : TimeoutNumbers) where
         (λ _. cond_both _ (trusted_again place numbers s now q) (still (noticed place numbers s now q)) Are (λ _. (tt, tt)) (λ _. tt)) (λ _. tt)
     step_done s now x = tt
 
-    pub all_done : (s : TimeoutState) (now : ℕ) (x : StepInput) (upper : List Action) → AllByRecursion IsAbove upper
+    pub all_done : (s : TimeoutState) (now : ℕ) (x : StepInput) (upper : List Action) → AllByRecursion (IsAbove 1) upper
         → AllByRecursion (IsDone x) ((step_timeout place numbers s now x).actions ++ upper)
-    all_done s now x upper of_upper = both (IsDone x) _ upper (step_done s now x) (weaker IsAbove (IsDone x) (above_done x) upper of_upper)
+    all_done s now x upper of_upper = both (IsDone x) _ upper (step_done s now x) (weaker (IsAbove 1) (IsDone x) (above_done x) upper of_upper)
 
     -- ---- what it surely does
 

@@ -2,7 +2,9 @@
 use Rattle.std.proofs.Common.{◌≡◌, ◌≢◌, ℕ, zero, suc, ◌+◌, ◌-◌, ◌*◌, ◌<◌, ◌≤◌, refl, sym, ap, ◌∙◌, subst, true, false, not, nat_eq, nat_le, Option, None, Some, List, arith, le-leb, leb-true, leb-false, unwrap_or, eq-eqb, ◌/◌}
 use Rattle.std.specs.FinSet as set
 use Rattle.std.proofs.lemmas.Bool.{and_parts, lt-leb}
+use Rattle.process_api.specs.Detector.{suspected_by}
 use Rattle.process_api.specs.EntryRecord.{EntryRecord}
+use Rattle.process_api.specs.Mind.{Mind}
 use Rattle.process_api.specs.Numbers.{is_process}
 use Rattle.process_api.specs.Timeout.{watches, opening_timeout}
 use Rattle.process_api.specs.Watching.{is_watched}
@@ -16,21 +18,20 @@ use Rattle.streams.specs.Fate.{fate_of}
 use Rattle.streams.specs.declared.fate.Fate.TheVariants.{Delay}
 use Rattle.trace_laws.specs.ScenarioSetting.{setting_of}
 use Rattle.trace_laws.specs.Setting.{IsSound, has_crashed}
-use Rattle.trace_laws.specs.World.{IsTrace, entries}
+use Rattle.trace_laws.specs.World.{World, NoneBelow, IsTrace, entries}
 use Rattle.trace_laws.proofs.Sound.{setting_sound}
 use Rattle.judges.specs.Crashes.{crash_tick}
 use Rattle.judges.specs.Meaning.{IsProcess, IsCorrect, From, Suspects}
 use Rattle.judges.specs.Out.{out}
 use Rattle.detector_bounds.specs.Bounds.{detected_at, HasNoMistake, CrashesAt, KeepsBounds}
 use Rattle.detector_bounds.specs.Detected.{trusts, last_letter, grown, detected_by, longest}
-use Rattle.detector_bounds.specs.Multiples.{multiple_from}
 use Rattle.detector_bounds.specs.Watched.{Watches, IsReliable, IsTimely, watch_of}
-use Rattle.detector_bounds.proofs.Ending.{IsEnd, ending, holds_at}
+use Rattle.detector_bounds.proofs.Ending.{IsKept, IsEnd, ending, holds_at}
 use Rattle.detector_bounds.proofs.Fates.{fate_within, delivers}
-use Rattle.detector_bounds.proofs.Instances.{runs_timeout, timeout_step, timeout_suspects}
+use Rattle.detector_bounds.proofs.Instances.{runs_timeout, timeout_step, timeout_suspects, timeout_seen}
 use Rattle.detector_bounds.proofs.Standing.{Stands, stands_first, stands_next, out_is}
 use Rattle.detector_bounds.proofs.Timeouts.Joined.{RunsTimeout, place_of}
-use Rattle.detector_bounds.proofs.Timeouts.Detecting.{IsPair, AreTicks, suspected_then}
+use Rattle.detector_bounds.proofs.Timeouts.Detecting.{IsPair, AreTicks, suspected_then, Awaits, awaits_kept, firm}
 use Rattle.detector_bounds.proofs.Timeouts.Products.{from_tick, soon_after, at_most_last, last_is_before}
 use Rattle.detector_bounds.proofs.Timeouts.Trusted.{trusts-append}
 use Rattle.detector_bounds.proofs.Timeouts.Watched.{suspects_watched}
@@ -39,10 +40,10 @@ use Rattle.detector_bounds.proofs.Timeouts.Trusting as trusting
 use Rattle.detector_bounds.proofs.Timeouts.Stepping.{state_in}
 
 module _ (s : Record) (ranges : IsInRange s) (its : TimeoutNumbers) (kind : s.detector ≡ Timeout its) where
-  sound : IsSound (setting_of s)
+  abbrev pub sound : IsSound (setting_of s)
   sound = setting_sound s ranges
 
-  abbrev runs : RunsTimeout (setting_of s) its
+  abbrev pub runs : RunsTimeout (setting_of s) its
   runs = runs_timeout s its kind
 
   in_range : AreTimeoutInRange its
@@ -98,16 +99,16 @@ module _ (s : Record) (ranges : IsInRange s) (its : TimeoutNumbers) (kind : s.de
   -- ---- detection
 
   module _ (trace : List EntryRecord) (q p c : ℕ) (watching : Watches s q p) (crashes : CrashesAt s trace p c) where
-    abbrev last : ℕ
+    abbrev pub last : ℕ
     last = last_letter its (link s p q) c
 
-    abbrev total : ℕ
+    abbrev pub total : ℕ
     total = trusts trace q p
 
-    abbrev until : ℕ
+    abbrev pub until : ℕ
     until = detected_by (Timeout its) (link s p q) total c
 
-    until_is : detected_at s trace q p c ≡ until
+    pub until_is : detected_at s trace q p c ≡ until
     until_is = ap (λ k. detected_by k (link s p q) total c) kind
 
     delays : (link s p q).min ≤ (link s p q).max
@@ -120,7 +121,7 @@ module _ (s : Record) (ranges : IsInRange s) (its : TimeoutNumbers) (kind : s.de
         go zero none = absurd (omega (arith, none))
         go (suc before) early = omega (arith, at, at_most_last j its.period (suc before) in_range.period_low (omega (arith, at, early)), (fate_within s p q delays number t delay f).1)
 
-    ticks : until < s.horizon → AreTicks (setting_of s) sound its runs q p last until total
+    pub ticks : until < s.horizon → AreTicks (setting_of s) sound its runs q p last until total
     ticks below = record {
       by_last = by_last;
       number = (last + grown its total + (its.check - 1)) / its.check;
@@ -130,18 +131,34 @@ module _ (s : Record) (ranges : IsInRange s) (its : TimeoutNumbers) (kind : s.de
       some_timeout = in_range.timeout_low;
     }
 
+    pub pair : IsCorrect s q → IsPair (setting_of s) sound its runs q p
+    pair correct = record {
+      watching = watching.0;
+      watched = watched q p watching;
+      apart = apart q p watching;
+      up = λ u early. correct_up (crash s q) u correct.1 early;
+    }
+
     pub timeout_detects : IsTrace (setting_of s) trace → IsCorrect s q → From s (Suspects s trace 1 q p) (detected_at s trace q p c)
     timeout_detects is_trace correct t behind below =
         let e = at_end trace is_trace t below in
         let since : until ≤ t = omega (arith, behind, until_is) in
-        let pair : IsPair (setting_of s) sound its runs q p = record {
-          watching = watching.0;
-          watched = watched q p watching;
-          apart = apart q p watching;
-          up = λ u early. correct_up (crash s q) u correct.1 early;
-        } in
         out_then trace is_trace t below q p (is_other q p watching).0
-        ∙ suspected_then (setting_of s) sound its runs q p pair last until total (ticks (omega (arith, since, below))) t e.history e.world e.run since (few_trusts trace is_trace t below q p)
+        ∙ suspected_then (setting_of s) sound its runs q p (pair correct) last until total (ticks (omega (arith, since, below))) t e.history e.world e.run since (few_trusts trace is_trace t below q p)
+
+    -- for layer 2: at every step from then on
+    module _ (correct : IsCorrect s q) (early : until < s.horizon) where
+      abbrev pub Firmly : World Mind → List EntryRecord → Type 0
+      Firmly = Awaits (setting_of s) sound its runs q p (pair correct) last until total (ticks early)
+
+      pub firmly_kept : (end : ℕ) → IsKept (setting_of s) sound end Firmly
+      firmly_kept = awaits_kept (setting_of s) sound its runs q p (pair correct) last until total (ticks early)
+
+      pub firmly : (v : World Mind) (past : List EntryRecord) → Firmly v past → trusts past q p ≤ total → NoneBelow (detected_at s trace q p c + 1) v.pending
+          → set.contains (suspected_by (v.process q).mind.lower.place (v.process q).mind.lower.detector) p ≡ true
+      firmly v past k few none =
+          ap (λ z. set.contains z p) (timeout_seen s its kind q (v.process q).mind ((k few).1.based.fits q))
+          ∙ firm (setting_of s) sound its runs q p (pair correct) last until total (ticks early) v past k few (subst (λ n. NoneBelow (n + 1) v.pending) until_is none)
 
     pub timeout_soon : detected_at s trace q p c ≤ c + longest s.detector (link s p q) total c
     timeout_soon = subst (λ k. detected_by k (link s p q) total c ≤ c + longest k (link s p q) total c) (sym kind) (go c)

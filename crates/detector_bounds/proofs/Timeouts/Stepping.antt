@@ -37,7 +37,7 @@ module _ {Mind : Type 0} (S : Setting Mind) (sound : IsSound S) (numbers : Timeo
   state_in w p = R.part (w.process p).mind
 
   -- a world of such machines in which nothing is pending below a tick
-  pub record IsBased (now : ℕ) (w : World Mind) : Type 1 where
+  pub record IsBased (now : ℕ) (w : World Mind) : Type 0 where
     pub is_world : IsWorld S w
     pub fits : (p : ℕ) → R.has p (w.process p).mind
     pub from : NoneBelow now w.pending
@@ -77,7 +77,7 @@ module _ {Mind : Type 0} (S : Setting Mind) (sound : IsSound S) (numbers : Timeo
       ];
     }
 
-    followed : IsFollowed (step_timeout (place_of S k.receiver) numbers (state_in w k.receiver) k.tick x).actions (S.react before.mind k.tick x).actions
+    followed : IsFollowed 1 (step_timeout (place_of S k.receiver) numbers (state_in w k.receiver) k.tick x).actions (S.react before.mind k.tick x).actions
     followed = R.acts k.receiver before.mind k.tick x (b.fits k.receiver)
 
     stepped : R.part (S.react before.mind k.tick x).state ≡ (step_timeout (place_of S k.receiver) numbers (state_in w k.receiver) k.tick x).state
