@@ -62,7 +62,7 @@ module _ {Mind : Type 0} (S : Setting Mind) (sound : IsSound S) where
   pub holds_at : (trace : List EntryRecord) (end : ℕ) (e : IsEnd trace end) (P : World Mind → List EntryRecord → Type 0) → IsKept end P → P e.world (entries e.history)
   holds_at trace end e P kept = (run_keeps end P kept e.history (opening S) e.world [] (opening_world S sound) kept.opens e.run).1
 
-  none_at : (end : ℕ) (h : List Pair) (w new : World Mind) → Run S end w h new → NoneBelow end new.pending
+  pub none_at : (end : ℕ) (h : List Pair) (w new : World Mind) → Run S end w h new → NoneBelow end new.pending
   none_at end [] w new run = subst (λ (z : World Mind). NoneBelow end z.pending) (sym run.1) run.0
   none_at end (s ∷ h) w new run = none_at end h (taken S w s.0.key s.1) new run.3
 

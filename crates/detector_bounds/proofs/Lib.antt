@@ -13,6 +13,7 @@
 -- 6. Verdicts: what the bounds of pairs make of strong accuracy and strong completeness. Kept puts the two kinds of detector in.
 -- 7. Shares, Shared, Sharing: a detection of layer 1 that stands for good is in the set of the next share; once that set has come,
 --    and no set of the crashed process comes anymore, it stands for good on layer 2.
+pub mod Events
 pub mod Added
 pub mod Above
 pub mod Machines
@@ -23,6 +24,7 @@ pub mod Clock
 pub mod Instances
 pub mod Fates
 pub mod Multiples
+pub mod Others
 pub mod Freshness
 pub mod Timeouts
 pub mod Verdicts

@@ -36,9 +36,9 @@ use Rattle.detector_bounds.proofs.Added.{Delivers}
 use Rattle.detector_bounds.proofs.Clock.{Clock, due_after, clock_first, clock_still, clock_takes}
 use Rattle.detector_bounds.proofs.Ending.{IsKept, IsEnd, ending, holds_at, none_later}
 use Rattle.detector_bounds.proofs.Fates.{fate_within, delivers}
-use Rattle.detector_bounds.proofs.Freshness.Known.{in_numbers}
 use Rattle.detector_bounds.proofs.Machines.{RunsDetector, state_of, moved, own, own_up, own_down, letter_new, letter_there, own_letter_there}
 use Rattle.detector_bounds.proofs.Multiples.{mul-next, less_multiple, after_last, from_tick}
+use Rattle.detector_bounds.proofs.Others.{in_numbers}
 use Rattle.detector_bounds.proofs.Shares.{Sharer, share_step, opening_sharer, output_after, over_is, asks_shares, shares_at, shares_all, output_stays, output_gains, runs_shares, part_is, place_is}
 use Rattle.detector_bounds.proofs.Standing.{Stands, stands_first, stands_next, at_start, only_starts, out_is}
 use Rattle.detector_bounds.proofs.Timeouts.Trusted.{trusts-append}

@@ -1,11 +1,10 @@
 -- Through a run with freshness points: p sends heartbeat i at tick i * eta while it is up, q reaches point i delta ticks later, and
 -- no heartbeat that p didn't send is on its way or came to q.
-use Rattle.std.proofs.Common.{◌≡◌, ◌≢◌, ◌⊎◌, ℕ, zero, suc, ◌+◌, ◌*◌, ◌<◌, ◌≤◌, inl, inr, refl, sym, ap, ◌∙◌, subst, true, false, not, nat_le, Some, List, [], ◌∷◌, ◌++◌, arith, nat_eq}
-use Rattle.std.proofs.lemmas.Bool.{cases_lt, cases_eq, cases_Bool, ne_eqb, le-leb, leb-false}
+use Rattle.std.proofs.Common.{◌≡◌, ◌≢◌, ◌⊎◌, ℕ, ◌+◌, ◌*◌, ◌<◌, ◌≤◌, inl, inr, refl, sym, ap, ◌∙◌, subst, true, false, not, nat_le, Some, List, [], ◌∷◌, ◌++◌, arith}
+use Rattle.std.proofs.lemmas.Bool.{cases_lt, cases_Bool, le-leb, leb-false}
 use Rattle.process_api.specs.Answer.{Answer}
 use Rattle.process_api.specs.EntryRecord.{EntryRecord}
 use Rattle.process_api.specs.Freshness.{FreshnessState, opening_freshness, next, watches, is_stale}
-use Rattle.process_api.specs.Numbers.{numbers_to, others}
 use Rattle.process_api.specs.declared.action.Action.TheVariants as action
 use Rattle.process_api.specs.declared.key.Key.{Key}
 use Rattle.process_api.specs.declared.message.Payload.TheVariants as payload
@@ -23,10 +22,8 @@ use Rattle.process_api.specs.Mind.{Mind}
 use Rattle.trace_laws.specs.World.{World, Has, IsLeast, NoneBelow, IsWorld, made, taken, opening, start_of}
 use Rattle.trace_laws.proofs.Sets.{one_input}
 use Rattle.trace_laws.proofs.Sound.{setting_sound}
-use Rattle.trace_laws.proofs.Steps.{in_left, in_right}
 use Rattle.trace_laws.proofs.Worlds.{taken_cases, taken_old, taken_new}
 use Rattle.process_api.proofs.KeyOrder.{same_or_not}
-use Rattle.judges.proofs.Members.{in_filter}
 use Rattle.process_api.proofs.Minds.{and_true}
 use Rattle.detector_bounds.specs.Multiples.{last_before}
 use Rattle.detector_bounds.proofs.Added.{Delivers}
@@ -36,17 +33,8 @@ use Rattle.detector_bounds.proofs.Freshness.Steps.{asks_beats, asks_checks, sent
 use Rattle.detector_bounds.proofs.Instances.{fresh_step, fresh_suspects, runs_freshness}
 use Rattle.detector_bounds.proofs.Machines.{RunsDetector, state_of, moved, own, own_up, own_down, letter_new, letter_there}
 use Rattle.detector_bounds.proofs.Multiples.{mul-next, le-mul, less_multiple, after_last}
+use Rattle.detector_bounds.proofs.Others.{in_others}
 use Rattle.detector_bounds.proofs.Standing.{Stands, stands_first, stands_next, at_start, only_starts}
-
-pub in_numbers : (n q : ℕ) → 1 ≤ q → q ≤ n → IsIn q (numbers_to n)
-in_numbers zero q low high = absurd (omega (arith, low, high))
-in_numbers (suc n) q low high = elim (cases_eq q (suc n)) [
-  | inl last ↦ in_right q (numbers_to n) (suc n ∷ []) (inl last)
-  | inr apart ↦ in_left q (numbers_to n) (suc n ∷ []) (in_numbers n q low (omega (arith, high, apart)))
-]
-
-pub in_others : (n p q : ℕ) → 1 ≤ q → q ≤ n → q ≢ p → IsIn q (others n p)
-in_others n p q low high apart = in_filter (λ r. not (nat_eq r p)) (numbers_to n) q (in_numbers n q low high) (ap not (ne_eqb q p apart))
 
 module _ (s : Record) (is : IsInRange s) (its : FreshnessNumbers) (kind : s.detector ≡ numbers.Freshness its) (q p : ℕ)
     (q_low : 1 ≤ q) (q_high : q ≤ s.processes) (p_low : 1 ≤ p) (p_high : p ≤ s.processes) (apart : q ≢ p) (watched : watches (place_in s q) its p ≡ true) (eta_low : 1 ≤ its.eta) where

@@ -29,10 +29,10 @@ use Rattle.detector_bounds.specs.Watched.{Watches, IsReliable, IsTimely, watch_o
 use Rattle.detector_bounds.proofs.Ending.{IsKept, IsEnd, ending, holds_at}
 use Rattle.detector_bounds.proofs.Fates.{fate_within, delivers}
 use Rattle.detector_bounds.proofs.Instances.{runs_timeout, timeout_step, timeout_suspects, timeout_seen}
+use Rattle.detector_bounds.proofs.Multiples.{from_tick, soon_from, at_most_last, last_is_before}
 use Rattle.detector_bounds.proofs.Standing.{Stands, stands_first, stands_next, out_is}
 use Rattle.detector_bounds.proofs.Timeouts.Joined.{RunsTimeout, place_of}
 use Rattle.detector_bounds.proofs.Timeouts.Detecting.{IsPair, AreTicks, suspected_then, Awaits, awaits_kept, firm}
-use Rattle.detector_bounds.proofs.Timeouts.Products.{from_tick, soon_after, at_most_last, last_is_before}
 use Rattle.detector_bounds.proofs.Timeouts.Trusted.{trusts-append}
 use Rattle.detector_bounds.proofs.Timeouts.Watched.{suspects_watched}
 use Rattle.detector_bounds.proofs.Verdicts.{pairs_keep}
@@ -119,14 +119,14 @@ module _ (s : Record) (ranges : IsInRange s) (its : TimeoutNumbers) (kind : s.de
       where
         go : (c : ℕ) → t < c → t + delay ≤ last_letter its (link s p q) c
         go zero none = absurd (omega (arith, none))
-        go (suc before) early = omega (arith, at, at_most_last j its.period (suc before) in_range.period_low (omega (arith, at, early)), (fate_within s p q delays number t delay f).1)
+        go (suc before) early = omega (arith, at, at_most_last its.period (suc before) in_range.period_low j (omega (arith, at, early)), (fate_within s p q delays number t delay f).1)
 
     pub ticks : until < s.horizon → AreTicks (setting_of s) sound its runs q p last until total
     ticks below = record {
       by_last = by_last;
       number = (last + grown its total + (its.check - 1)) / its.check;
       multiple = refl;
-      after_last = omega (arith, from_tick (last + grown its total) its.check in_range.check_low);
+      after_last = omega (arith, from_tick its.check (last + grown its total) in_range.check_low);
       below = below;
       some_timeout = in_range.timeout_low;
     }
@@ -164,11 +164,11 @@ module _ (s : Record) (ranges : IsInRange s) (its : TimeoutNumbers) (kind : s.de
     timeout_soon = subst (λ k. detected_by k (link s p q) total c ≤ c + longest k (link s p q) total c) (sym kind) (go c)
       where
         go : (c : ℕ) → detected_by (Timeout its) (link s p q) total c ≤ c + longest (Timeout its) (link s p q) total c
-        go zero = omega (arith, soon_after (0 + grown its total) its.check in_range.check_low, in_range.check_low, in_range.timeout_low)
+        go zero = omega (arith, soon_from its.check (0 + grown its total) in_range.check_low, in_range.check_low, in_range.timeout_low)
         go (suc before) = omega (
           arith,
-          soon_after (last_letter its (link s p q) (suc before) + grown its total) its.check in_range.check_low,
-          last_is_before its.period (suc before),
+          soon_from its.check (last_letter its (link s p q) (suc before) + grown its total) in_range.check_low,
+          last_is_before its.period (suc before) in_range.period_low,
           in_range.check_low,
           in_range.timeout_low,
         )

@@ -23,12 +23,12 @@ use Rattle.trace_laws.proofs.Sets.{one_input}
 use Rattle.judges.proofs.Letters.{no_letter_first}
 use Rattle.detector_bounds.specs.Detected.{trusts}
 use Rattle.process_api.specs.EntryRecord.{EntryRecord}
-use Rattle.detector_bounds.proofs.Ending.{IsKept}
-use Rattle.detector_bounds.proofs.Timeouts.Ends.{starts_there, none_left}
+use Rattle.detector_bounds.proofs.Ending.{IsKept, none_at}
+use Rattle.detector_bounds.proofs.Multiples.{mul-next, more_grown, fewer_grown, multiple_after}
+use Rattle.detector_bounds.proofs.Standing.{starts_there}
 use Rattle.detector_bounds.proofs.Timeouts.Joined.{RunsTimeout, place_of}
 use Rattle.detector_bounds.proofs.Timeouts.Acting.{IsBeating, IsChecking}
 use Rattle.detector_bounds.proofs.Timeouts.Noticing.{by_input}
-use Rattle.detector_bounds.proofs.Timeouts.Products.{next_multiple, more_grown, fewer_grown, multiple_after}
 use Rattle.detector_bounds.proofs.Timeouts.Stepping.{state_in, IsBased, opening_based, is_down, later, next_based, next_state, alive_cases, beat_cases, check_pending, stays, trust_counted}
 use Rattle.detector_bounds.proofs.Timeouts.Trusted.{trusts-append}
 
@@ -92,7 +92,7 @@ module _ {Mind : Type 0} (S : Setting Mind) (sound : IsSound S) (numbers : Timeo
         | inl old ↦ v.beats key y old.1 is at
         | inr new ↦
             let j = v.beats k x least.there new.2 (sym new.0 ∙ at) in
-            (j.0 + 1, new.3 ∙ ap (λ t. t + numbers.period) j.1 ∙ sym (next_multiple j.0 numbers.period))
+            (j.0 + 1, new.3 ∙ ap (λ t. t + numbers.period) j.1 ∙ sym (mul-next j.0 numbers.period))
       ]
 
       below : k.tick < S.horizon
@@ -171,7 +171,7 @@ module _ {Mind : Type 0} (S : Setting Mind) (sound : IsSound S) (numbers : Timeo
                 checks = tt;
                 starts = λ e. absurd (cc e);
                 receiver = r.1 ∙ sym mine;
-                tick = omega (arith, r.2, tick, next_multiple c.number numbers.check);
+                tick = omega (arith, r.2, tick, mul-next c.number numbers.check);
                 in_time = omega (arith, r.2, room, tick, ticks.multiple);
               }
 
@@ -260,7 +260,7 @@ module _ {Mind : Type 0} (S : Setting Mind) (sound : IsSound S) (numbers : Timeo
         → set.contains (state_in S sound numbers R w q).suspects p ≡ true
     suspected_then t history w run behind few =
         let r = run_awaits history (t + 1) (opening S) w 0 0 opening_awaits run (omega (arith, few)) in
-        elim r.2.checking [ inl over ↦ over.0 | inr c ↦ absurd (omega (arith, none_left S (t + 1) history (opening S) w run c.key c.input_is c.there, c.in_time, behind)) ]
+        elim r.2.checking [ inl over ↦ over.0 | inr c ↦ absurd (omega (arith, none_at S sound (t + 1) history (opening S) w run c.key c.input_is c.there, c.in_time, behind)) ]
 
     -- the same at every step: what is known while q hasn't trusted p more often
     abbrev pub Awaits : World Mind → List EntryRecord → Type 0

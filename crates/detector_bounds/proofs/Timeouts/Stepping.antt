@@ -26,7 +26,7 @@ use Rattle.judges.proofs.Members.{each_of}
 use Rattle.detector_bounds.specs.Detected.{trusts}
 use Rattle.detector_bounds.proofs.Timeouts.Noticing.{notes_trust}
 use Rattle.detector_bounds.proofs.Timeouts.Trusted.{acted_note, entry_counts}
-use Rattle.detector_bounds.proofs.Timeouts.Events.{IsOf, Comes, IsAddedAt, comes_of, wake_joins, letter_joins}
+use Rattle.detector_bounds.proofs.Events.{IsOf, Comes, IsAddedAt, comes_of, wake_joins, letter_joins}
 use Rattle.detector_bounds.proofs.Above.{IsFollowed}
 use Rattle.detector_bounds.proofs.Timeouts.Joined.{RunsTimeout, place_of}
 use Rattle.detector_bounds.proofs.Timeouts.Acting.{IsBeating, IsChecking, IsDone, all_done, beats_on, checks_on, sends_on}
