@@ -1,5 +1,5 @@
--- What stands above a base detector does nothing of layer 1: it sends none of its letters, asks for none of its wakes, and notes
--- nothing of its layer.
+-- What stands above a layer does nothing of it, nor of one below: it sends none of their letters, asks for none of their wakes, and
+-- notes nothing of the layer.
 use Rattle.std.proofs.Common.{arith, ◌≡◌, ℕ, refl, sym, ap, ◌∙◌, subst, cond, List, [], ◌∷◌, ◌++◌, map, append_assoc, append-nil, inl, inr, Option, None, Some, fold, ◌==◌}
 use Rattle.std.specs.List.{AllByRecursion}
 use Rattle.std.proofs.lemmas.List.Sums.{fold-append}

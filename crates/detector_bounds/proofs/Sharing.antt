@@ -15,10 +15,11 @@ use Rattle.detector_bounds.specs.Detected.{trusts}
 use Rattle.detector_bounds.specs.Multiples.{last_before}
 use Rattle.detector_bounds.specs.Shared.{LosesNothing, silent_from, least_delay, most_delay, told_at, SharesDetection}
 use Rattle.detector_bounds.specs.Watched.{Watches}
-use Rattle.detector_bounds.proofs.Freshness.Bounded.{watched_is, up_until, Firmly, firmly_kept, firmly}
+use Rattle.detector_bounds.proofs.Freshness.Bounded.{Firmly, firmly_kept, firmly}
 use Rattle.detector_bounds.proofs.Multiples.{from_tick}
 use Rattle.detector_bounds.proofs.Shared.{shared_then}
 use Rattle.detector_bounds.proofs.Timeouts.Bounded as timeouts
+use Rattle.detector_bounds.proofs.Watching.{watched_is, up_until}
 
 module _ (s : Record) (is : IsInRange s) (trace : List EntryRecord) (is_trace : IsTrace (setting_of s) trace) where
   module _ (period w p r c t : ℕ) (shares : s.share ≡ Some period) (correct_w : IsCorrect s w) (watches : Watches s w p) (crashes : CrashesAt s trace p c) (correct_r : IsCorrect s r) (sure : LosesNothing s w r)

@@ -1,12 +1,11 @@
 -- Whom q suspects at the end of a tick, with freshness points.
-use Rattle.std.proofs.Common.{◌≡◌, ◌≢◌, ℕ, zero, suc, ◌+◌, ◌*◌, ◌<◌, ◌≤◌, inl, inr, refl, sym, ap, ◌∙◌, subst, Bool, true, false, not, ◌&&◌, nat_eq, nat_le, List, arith, Option, None, Some, unwrap_or}
+use Rattle.std.proofs.Common.{◌≡◌, ◌≢◌, ℕ, zero, suc, ◌+◌, ◌*◌, ◌<◌, ◌≤◌, inl, inr, sym, ap, ◌∙◌, subst, Bool, true, false, not, ◌&&◌, nat_le, List, arith, Some}
 use Rattle.std.specs.FinSet as set
-use Rattle.std.proofs.lemmas.Bool.{cases_lt, cases_Bool, le-leb, lt-leb, leb-true, eq-eqb, not-true, and_parts, and_right}
+use Rattle.std.proofs.lemmas.Bool.{cases_lt, cases_Bool, lt-leb, and_right}
 use Rattle.process_api.specs.EntryRecord.{EntryRecord}
 use Rattle.process_api.specs.Freshness.{FreshnessState, opening_freshness, watches, is_stale}
 use Rattle.process_api.specs.Detector.{suspected_by}
 use Rattle.process_api.specs.Mind.{Mind}
-use Rattle.process_api.specs.Numbers.{is_process}
 use Rattle.process_api.specs.declared.message.StepInput.TheVariants as input
 use Rattle.process_api.specs.declared.numbers.DetectorNumbers.TheVariants as numbers
 use Rattle.process_api.specs.declared.numbers.FreshnessNumbers.{FreshnessNumbers}
@@ -18,10 +17,9 @@ use Rattle.trace_laws.specs.ScenarioSetting.{setting_of}
 use Rattle.trace_laws.specs.Setting.{has_crashed}
 use Rattle.trace_laws.specs.World.{World, IsTrace, NoneBelow, start_of, entries}
 use Rattle.trace_laws.proofs.Sound.{setting_sound}
-use Rattle.judges.specs.Crashes.{crash_tick}
 use Rattle.judges.specs.Meaning.{IsProcess, Suspects}
 use Rattle.judges.specs.Out.{out}
-use Rattle.process_api.specs.Watching.{is_other, is_watched}
+use Rattle.process_api.specs.Watching.{is_watched}
 use Rattle.scenario_record.specs.Numbers.{AreInRange}
 use Rattle.scenario_record.specs.declared.link.Link.{Link}
 use Rattle.detector_bounds.specs.Bounds.{detected_at, HasNoMistake, KeepsBounds}
@@ -37,9 +35,7 @@ use Rattle.detector_bounds.proofs.Instances.{fresh_step, fresh_suspects, runs_fr
 use Rattle.detector_bounds.proofs.Machines.{state_of}
 use Rattle.detector_bounds.proofs.Multiples.{mul-next, less_multiple, last_is_before}
 use Rattle.detector_bounds.proofs.Standing.{stands_kept, out_is}
-
-process_is : (n p : ℕ) → 1 ≤ p → p ≤ n → is_process n p ≡ true
-process_is n p low high = and_true _ _ (le-leb 1 p low) (le-leb p n high)
+use Rattle.detector_bounds.proofs.Watching.{process_is, watched_is, up_until}
 
 -- nobody is suspected who isn't watched
 module _ (s : Record) (is : IsInRange s) (its : FreshnessNumbers) (kind : s.detector ≡ numbers.Freshness its) (trace : List EntryRecord) (is_trace : IsTrace (setting_of s) trace) (t : ℕ) (below : t < s.horizon) (q p : ℕ)
@@ -106,21 +102,6 @@ module _ (s : Record) (is : IsInRange s) (its : FreshnessNumbers) (kind : s.dete
         ]
 
 -- ---- so a scenario with freshness points keeps the bounds
-
--- a process is up before it crashes
-up_before : (o : Option ℕ) (horizon u : ℕ) → u < unwrap_or o (suc horizon) → has_crashed o u ≡ false
-up_before None horizon u h = refl
-up_before (Some at) horizon u h = lt-leb at u h
-
-pub up_until : (s : Record) (p t : ℕ) → t < crash_tick s p → (u : ℕ) → u ≤ t → has_crashed (crash s p) u ≡ false
-up_until s p t h u l = up_before (crash s p) s.horizon u (omega (arith, h, l))
-
--- whom q watches is another process
-pub watched_is : (s : Record) (q p : ℕ) → Watches s q p → (1 ≤ p) × (p ≤ s.processes) × (q ≢ p)
-watched_is s q p (own, w) =
-    let other = and_parts (is_process s.processes p) (not (nat_eq p q)) (and_parts (is_other q s.processes p) _ w).0 in
-    let one = and_parts (nat_le 1 p) (nat_le p s.processes) other.0 in
-    (leb-true 1 p one.0, leb-true p s.processes one.1, λ same. cc (not-true (nat_eq p q) other.1, eq-eqb p q (sym same)))
 
 module _ (s : Record) (is : IsInRange s) (its : FreshnessNumbers) (kind : s.detector ≡ numbers.Freshness its) (trace : List EntryRecord) (is_trace : IsTrace (setting_of s) trace) where
   pub eta_low : 1 ≤ its.eta
