@@ -8,7 +8,7 @@ ghost use Rattle.detector_bounds.specs.Shared.{SharesDetection};
 
 use scenario_record::Scenario;
 
-/// Every trace of a scenario keeps the bounds of its detector; and where its processes share, each detection comes to the
+/// Every trace of a scenario keeps the bounds of its detector. Where its processes share, each detection comes to the
 /// others in time.
 pub fn law_bounds(scenario: &Scenario)
     ensures bounds { (trace : List EntryRecord) → IsTrace (setting_of scenario.now) trace → KeepsBounds scenario.now trace }

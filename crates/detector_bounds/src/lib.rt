@@ -13,6 +13,11 @@
 //! at tick 20; the third point lies at tick 33, so that whoever watches it suspects it from there to the end. No link
 //! whose letters all come, each within 3 ticks, brings a mistake.
 //!
+//! Let all share at each 10th tick, too, and each letter take 1 to 4 ticks. Process 1 suspects process 3 for good from
+//! tick 33 on, and shares that at tick 40. So process 2 suspects process 3 on layer 2 from tick 44 on, if no set of
+//! process 3 can come at tick 41 or later: the share of tick 40 comes at tick 41 at the earliest, and has to come
+//! behind all of them.
+//!
 //! The argument stands at the head of `proofs/Lib.antt`.
 #![tactic(auto)]
 
