@@ -11,8 +11,10 @@ use scenario_record::Scenario;
 /// Every trace of a scenario keeps the bounds of its detector. Where its processes share, each detection comes to the
 /// others in time.
 pub fn law_bounds(scenario: &Scenario)
-    ensures bounds { (trace : List EntryRecord) → IsTrace (setting_of scenario.now) trace → KeepsBounds scenario.now trace }
-    ensures shared { (trace : List EntryRecord) → IsTrace (setting_of scenario.now) trace → SharesDetection scenario.now trace }
+    ensures bounds { (trace : List EntryRecord) → IsTrace (setting_of scenario.now) trace
+        → KeepsBounds scenario.now trace }
+    ensures shared { (trace : List EntryRecord) → IsTrace (setting_of scenario.now) trace
+        → SharesDetection scenario.now trace }
 {
     // A reader says that the scenario's fields are in their ranges.
     let _horizon = scenario.horizon();
