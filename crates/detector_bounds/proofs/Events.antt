@@ -64,6 +64,14 @@ module _ {Mind : Type 0} (S : Setting Mind) (p now : ℕ) where
 
   -- ---- what joins by an action
 
+  -- whatever an action of these adds, by some counts, they add
+  joins : (counts : ℕ → ℕ) (actions : List Action) (a : Action) → IsIn a actions → (c : ℕ → ℕ) × ((e : Event) → IsIn e (joining S p now c a) → IsIn e (added S p now counts actions))
+  joins counts [] a none = absurd none
+  joins counts (b ∷ actions) a (inl e) = (counts, λ event i. in_left event (joining S p now counts b) (added S p now (counted p counts b) actions) (subst (λ c. IsIn event (joining S p now counts c)) e i))
+  joins counts (b ∷ actions) a (inr i) =
+      let r = joins (counted p counts b) actions a i in
+      (r.0, λ event j. in_right event (joining S p now counts b) (added S p now (counted p counts b) actions) (r.1 event j))
+
   -- an event of this tick is added for a process
   abbrev pub IsAddedAt : (ℕ → ℕ) → List Action → (receiver tick : ℕ) → StepInput → Type 0
   IsAddedAt counts actions receiver tick x = (key : Key) × (key.receiver ≡ receiver) × (key.tick ≡ tick) × IsIn (key, x) (added S p now counts actions)
@@ -73,13 +81,10 @@ module _ {Mind : Type 0} (S : Setting Mind) (p now : ℕ) where
 
   pub wake_joins : (counts : ℕ → ℕ) (actions : List Action) (pause : ℕ) (tag : Tag) → IsIn (Wake pause tag) actions → now + pause < S.horizon
       → IsAddedAt counts actions p (now + pause) (input.Wake tag)
-  wake_joins counts [] pause tag none below = absurd none
-  wake_joins counts (a ∷ actions) pause tag (inl e) below =
-      let key : Key = record { tick = now + pause; receiver = p; sender = p; number = counts p + 1 } in
-      (key, refl, refl, in_left _ _ (added S p now (counted p counts a) actions) (subst (λ b. IsIn (key, input.Wake tag) (joining S p now counts b)) e (there_in_time key (input.Wake tag) below)))
-  wake_joins counts (a ∷ actions) pause tag (inr i) below =
-      let r = wake_joins (counted p counts a) actions pause tag i below in
-      (r.0, r.1, r.2, in_right _ (joining S p now counts a) _ r.3)
+  wake_joins counts actions pause tag i below =
+      let r = joins counts actions (Wake pause tag) i in
+      let key : Key = record { tick = now + pause; receiver = p; sender = p; number = r.0 p + 1 } in
+      (key, refl, refl, r.1 (key, input.Wake tag) (there_in_time key (input.Wake tag) below))
 
   -- a letter to another has a number, and comes by its fate
   abbrev pub Posts : (ℕ → ℕ) → List Action → (to : ℕ) → Payload → Type 0
@@ -95,17 +100,21 @@ module _ {Mind : Type 0} (S : Setting Mind) (p now : ℕ) where
       (there_in_time key (input.Letter p what) below))
 
   pub letter_joins : (counts : ℕ → ℕ) (actions : List Action) (to : ℕ) (what : Payload) → to ≢ p → IsIn (Send to what) actions → Posts counts actions to what
-  letter_joins counts [] to what other none = absurd none
-  letter_joins counts (a ∷ actions) to what other (inl e) = (
-    counts to + 1,
-    omega arith,
-    λ delay f below.
-        let key : Key = record { tick = now + delay; receiver = to; sender = p; number = counts to + 1 } in
-        (key, refl, refl, in_left _ _ (added S p now (counted p counts a) actions) (subst (λ b. IsIn (key, input.Letter p what) (joining S p now counts b)) e (posted counts to what delay other f below))),
-  )
-  letter_joins counts (a ∷ actions) to what other (inr i) =
-      let r = letter_joins (counted p counts a) actions to what other i in (
-        r.0,
-        r.1,
-        λ delay f below. let m = r.2 delay f below in (m.0, m.1, m.2, in_right _ (joining S p now counts a) _ m.3),
+  letter_joins counts actions to what other i =
+      let r = joins counts actions (Send to what) i in (
+        r.0 to + 1,
+        omega arith,
+        λ delay f below. (record { tick = now + delay; receiver = to; sender = p; number = r.0 to + 1 }, refl, refl, r.1 _ (posted r.0 to what delay other f below)),
+      )
+
+  -- a letter to itself comes at the next tick
+  pub own_joins : (counts : ℕ → ℕ) (actions : List Action) (what : Payload) → IsIn (Send p what) actions → now + 1 < S.horizon → IsAddedAt counts actions p (now + 1) (input.Letter p what)
+  own_joins counts actions what i below =
+      let r = joins counts actions (Send p what) i in
+      let key : Key = record { tick = now + 1; receiver = p; sender = p; number = r.0 p + 1 } in (
+        key,
+        refl,
+        refl,
+        r.1 (key, input.Letter p what)
+            (cond_both (p == p) _ _ (IsIn {X = Event} (key, input.Letter p what)) (λ _. there_in_time key (input.Letter p what) below) (λ other. absurd (eqb-false p p other refl))),
       )

@@ -34,11 +34,11 @@ use Rattle.trace_laws.specs.ScenarioSetting.{setting_of}
 use Rattle.trace_laws.proofs.Steps.{in_append, in_left, in_right}
 use Rattle.judges.proofs.Members.{each_of, in_image}
 use Rattle.judges.proofs.Instances.{stacked}
-use Rattle.shared_bounds.proofs.Above.{IsFollowed, lower_first}
+use Rattle.detector_bounds.proofs.Above.{IsFollowed, lower_acts_first}
 use Rattle.detector_bounds.proofs.Added.{wakes_of, wakes_of-append}
 use Rattle.detector_bounds.proofs.Clock.{asked}
 use Rattle.detector_bounds.proofs.Freshness.Steps.{no_wake_sent, no_wake_noted, nothing_sent}
-use Rattle.shared_bounds.proofs.Machines.{RunsShares}
+use Rattle.detector_bounds.proofs.Machines.{RunsDetector}
 
 -- the state of the two, but for where they stand and how often is shared
 pub record Sharer : Type 0 where
@@ -229,7 +229,7 @@ module _ (s : Record) (period : ℕ) (shares : s.share ≡ Some period) where
       → (react m now x).state.lower ≡ record { place = place_in s p; detector = (step_detector (place_in s p) m.lower.detector now x).state; reduction = Some (over_step (place_in s p) period (step_detector (place_in s p) m.lower.detector now x).state (output_of m.lower.reduction) x).state }
   lower_after p m now x h = (stacked m now x).lower ∙ ap (λ (a : Answer Lower). a.state) (stepped p m now x h)
 
-  pub runs_shares : RunsShares (setting_of s) (opening_sharer s) (λ p d now x. share_step (place_in s p) period d now x) (λ p d. d.output)
+  pub runs_shares : RunsDetector 2 (setting_of s) (opening_sharer s) (λ p d now x. share_step (place_in s p) period d now x) (λ p d. d.output)
   runs_shares = record {
     part = seen_as;
     has = HasShares;
@@ -240,7 +240,7 @@ module _ (s : Record) (period : ℕ) (shares : s.share ≡ Some period) where
         let r = ap (λ (l : Lower). l.reduction) e ∙ ap Some (over_is (place_in s p) period (step_detector (place_in s p) m.lower.detector now x).state (output_of m.lower.reduction) x) in
         (ap (λ (l : Lower). l.place) e, r ∙ ap (λ o. Some (record { period = period; output = o })) (sym (ap output_of r)));
     state = λ p m now x h. ap (λ (l : Lower). record { base = l.detector; output = output_of l.reduction }) (lower_after p m now x h);
-    acts = λ p m now x h. subst (λ xs. IsFollowed xs (react m now x).actions) (ap (λ (a : Answer Lower). a.actions) (stepped p m now x h)) (lower_first m now x);
+    acts = λ p m now x h. subst (λ xs. IsFollowed 2 xs (react m now x).actions) (ap (λ (a : Answer Lower). a.actions) (stepped p m now x h)) (lower_acts_first 2 m now x);
     trusts = λ p q. set.contains-empty nat_cmp q;
     tells = λ p d now x. share_tells (place_in s p) period d now x;
   }

@@ -28,21 +28,19 @@ use Rattle.trace_laws.specs.Setting.{Setting, IsSound, has_crashed}
 use Rattle.trace_laws.specs.World.{World, Has, IsLeast, NoneBelow, IsWorld, made, taken, opening, start_of, entries, IsTrace}
 use Rattle.trace_laws.proofs.Sets.{one_input, least_first}
 use Rattle.trace_laws.proofs.Sound.{setting_sound}
-use Rattle.trace_laws.proofs.Worlds.{taken_cases, taken_old, taken_new, made_sent}
+use Rattle.trace_laws.proofs.Worlds.{taken_cases, taken_old, taken_new}
 use Rattle.detector_bounds.specs.Detected.{trusts}
 use Rattle.detector_bounds.specs.Multiples.{last_before, multiple_from}
-use Rattle.shared_bounds.specs.Shared.{silent_from, least_delay, most_delay, LosesNothing}
+use Rattle.detector_bounds.specs.Shared.{silent_from, least_delay, most_delay, LosesNothing}
 use Rattle.detector_bounds.proofs.Added.{Delivers}
-use Rattle.detector_bounds.proofs.Clock.{due_after}
-use Rattle.shared_bounds.proofs.Clock.{Clock, clock_first, clock_still, clock_takes}
-use Rattle.detector_bounds.proofs.Ending.{IsKept, IsEnd, ending, holds_at}
+use Rattle.detector_bounds.proofs.Clock.{Clock, due_after, clock_first, clock_still, clock_takes}
+use Rattle.detector_bounds.proofs.Ending.{IsKept, IsEnd, ending, holds_at, none_later}
 use Rattle.detector_bounds.proofs.Fates.{fate_within, delivers}
-use Rattle.detector_bounds.proofs.Freshness.Known.{in_numbers}
-use Rattle.shared_bounds.proofs.Machines.{RunsShares, state_of, moved, own, own_up, own_down, letter_new, letter_there, own_letter_there}
+use Rattle.detector_bounds.proofs.Machines.{RunsDetector, state_of, moved, own, own_up, own_down, letter_new, letter_there, own_letter_there}
 use Rattle.detector_bounds.proofs.Multiples.{mul-next, less_multiple, after_last, from_tick}
-use Rattle.shared_bounds.proofs.Shares.{Sharer, share_step, opening_sharer, output_after, over_is, asks_shares, shares_at, shares_all, output_stays, output_gains, runs_shares, part_is, place_is}
-use Rattle.detector_bounds.proofs.Standing.{only_starts}
-use Rattle.shared_bounds.proofs.Standing.{Stands, stands_first, stands_next, at_start, out_is}
+use Rattle.detector_bounds.proofs.Others.{in_numbers}
+use Rattle.detector_bounds.proofs.Shares.{Sharer, share_step, opening_sharer, output_after, over_is, asks_shares, shares_at, shares_all, output_stays, output_gains, runs_shares, part_is, place_is}
+use Rattle.detector_bounds.proofs.Standing.{Stands, stands_first, stands_next, at_start, only_starts, out_is}
 use Rattle.detector_bounds.proofs.Timeouts.Trusted.{trusts-append}
 
 silent_is : (period : ℕ) (l : Link) (n : ℕ) → 1 ≤ n → silent_from period l n ≡ n * period + l.max + 1
@@ -66,7 +64,7 @@ module _ (s : Record) (is : IsInRange s) (period : ℕ) (shares : s.share ≡ So
   abbrev outputs : ℕ → Sharer → Processes
   outputs a d = d.output
 
-  abbrev R : RunsShares (setting_of s) (opening_sharer s) stepped outputs
+  abbrev R : RunsDetector 2 (setting_of s) (opening_sharer s) stepped outputs
   R = runs_shares s period shares
 
   abbrev state : World Mind → ℕ → Sharer
@@ -89,7 +87,7 @@ module _ (s : Record) (is : IsInRange s) (period : ℕ) (shares : s.share ≡ So
   first_late = from_tick period (max (from + 1) (silent - least_delay s q r)) period_low
 
   abbrev Shares : (a t : ℕ) → World Mind → (count : ℕ) → Type 0
-  Shares a t w count = Clock S sound (opening_sharer s) stepped outputs R tag.Share period period a (λ d now x. asks_shares (place_in s a) period d now x) t w (count * period + period)
+  Shares a t w count = Clock S sound (opening_sharer s) stepped outputs R tag.Share refl period period a (λ d now x. asks_shares (place_in s a) period d now x) t w (count * period + period)
 
   -- its set with p is on its way to r, and comes behind all of p's
   abbrev OnWay : World Mind → Type 0
@@ -150,9 +148,9 @@ module _ (s : Record) (is : IsInRange s) (period : ℕ) (shares : s.share ≡ So
       share_due at (input.Letter sender y) e = refl
 
       next_shares : (m : Moved a) → Shares a t new (count_after a m count)
-      next_shares (inl h) = clock_still S sound (opening_sharer s) stepped outputs R tag.Share period period a (λ d now x. asks_shares (place_in s a) period d now x) t w past key x is_world k.stands least _ clock low h.0
-      next_shares (inr h) = subst (Clock S sound (opening_sharer s) stepped outputs R tag.Share period period a (λ d now x. asks_shares (place_in s a) period d now x) t new) (share_due h.0.0 x refl)
-          (clock_takes S sound (opening_sharer s) stepped outputs R tag.Share period period a (λ d now x. asks_shares (place_in s a) period d now x) t w past key x is_world k.stands least _ clock h.0)
+      next_shares (inl h) = clock_still S sound (opening_sharer s) stepped outputs R tag.Share refl period period a (λ d now x. asks_shares (place_in s a) period d now x) t w past key x is_world k.stands least _ clock low h.0
+      next_shares (inr h) = subst (Clock S sound (opening_sharer s) stepped outputs R tag.Share refl period period a (λ d now x. asks_shares (place_in s a) period d now x) t new) (share_due h.0.0 x refl)
+          (clock_takes S sound (opening_sharer s) stepped outputs R tag.Share refl period period a (λ d now x. asks_shares (place_in s a) period d now x) t w past key x is_world k.stands least _ clock h.0)
 
     -- ---- the sets of p
 
@@ -180,7 +178,7 @@ module _ (s : Record) (is : IsInRange s) (period : ℕ) (shares : s.share ≡ So
     next_sets l shared h to = elim (taken_cases S w key x l (input.Letter p (payload.Suspects shared)) h) [
       | inr old ↦ k.sets l shared old.1 to
       | inl i ↦
-          let n = letter_new S (opening_sharer s) stepped outputs R w key x k.stands.has shared l p i in
+          let n = letter_new S (opening_sharer s) stepped outputs R w key x k.stands.has (payload.Suspects shared) refl l p i in
           let sent = sent_by p l.receiver shared n.0 n.1 in
           let last = p_last n.0 sent.0 sent.1 in
           let came = n.2 (λ same. not_r (n.0 ∙ (sym same ∙ to))) in
@@ -234,7 +232,7 @@ module _ (s : Record) (is : IsInRange s) (period : ℕ) (shares : s.share ≡ So
             (subst (λ a. Delivers S a key.tick r (link s q r).max) at (delivers s q r linked.min_high (sure.no_loss other) (sure.no_outage other) key.tick)) sent) [
               | inl late ↦ inl (omega (arith, late, when, its_most))
               | inr o ↦
-                  let n = letter_new S (opening_sharer s) stepped outputs R w key x k.stands.has shared o.0 key.receiver o.1 in
+                  let n = letter_new S (opening_sharer s) stepped outputs R w key x k.stands.has (payload.Suspects shared) refl o.0 key.receiver o.1 in
                   let came = n.2 (λ z. apart (sym o.2 ∙ (z ∙ sym at))) in
                   let delay = fate_within s q r linked.min_high came.0 key.tick came.1 ((λ j. (setting_of s).fate (at j) (sym o.2 j) came.0 key.tick) ∙ came.2) in
                   inr (o.0, shared, o.2, joins o.0 o.1, has_p, omega (arith, came.3, delay, when, first_late, its_least), omega (arith, o.3, when, its_most))
@@ -271,10 +269,7 @@ module _ (s : Record) (is : IsInRange s) (period : ℕ) (shares : s.share ≡ So
     ]
 
     none_again : NoneBelow silent w.pending → NoneBelow silent new.pending
-    none_again none l y h = elim (taken_cases S w key x l y h) [
-      | inl i ↦ omega (arith, none key x least.there, (made_sent S w key x sound is_world least.there (l, y) i).later)
-      | inr old ↦ none l y old.1
-    ]
+    none_again none = none_later S sound silent w key x is_world least.there none
 
     on_way_still : OnWay w → OnWay new ⊎ IsTold new
     on_way_still (l, shared, to, there, has_p, late, soon) = elim (same_or_not l key) [
@@ -330,9 +325,9 @@ module _ (s : Record) (is : IsInRange s) (period : ℕ) (shares : s.share ≡ So
     layer_1 = kept.opens;
     stands = stands_first S sound (opening_sharer s) stepped outputs R t;
     by_q = 0;
-    q_shares = clock_first S sound (opening_sharer s) stepped outputs R tag.Share period period q (λ d now x. asks_shares (place_in s q) period d now x) t _ q_low q_high;
+    q_shares = clock_first S sound (opening_sharer s) stepped outputs R tag.Share refl period period q (λ d now x. asks_shares (place_in s q) period d now x) t _ q_low q_high;
     by_p = 0;
-    p_shares = clock_first S sound (opening_sharer s) stepped outputs R tag.Share period period p (λ d now x. asks_shares (place_in s p) period d now x) t _ p_low p_high;
+    p_shares = clock_first S sound (opening_sharer s) stepped outputs R tag.Share refl period period p (λ d now x. asks_shares (place_in s p) period d now x) t _ p_low p_high;
     sets = λ key shared h to. absurd (cc (only_starts s.processes key (input.Letter p (payload.Suspects shared)) h).0);
     tells = λ few. inl first_multiple;
   }
