@@ -2,7 +2,7 @@
 //! detection is shared.
 //!
 //! [`law_bounds`] says them of every trace of a scenario, in the scenario's numbers alone and, for time-outs, with the
-//! trusts that the observer noted. The notes of a process, as they stand at the end of a tick, say whom it suspects then.
+//! trusts that the observer noted. The notes of a process say whom it suspects at the end of a tick.
 //!
 //! - `specs/Bounds.antt`, layer 1: whoever watches a process that crashes, and doesn't crash itself, suspects it from a
 //!   tick on, up to the horizon (`specs/Detected.antt`), which is soon after the crash; over a reliable link
