@@ -1,6 +1,7 @@
 //! What no run of a scenario breaks, in numbers.
 ghost use Rattle.std.specs.Prelude.{◌≡◌, IfOk, count_by, filter, filter_map, map, not};
 ghost use Rattle.std.specs.List.{list_any};
+ghost use Rattle.promised.specs.Kept.{KeepsPromises};
 ghost use Rattle.promised.specs.Promised.{greatest, is_late, is_reliable, is_timely, latency};
 ghost use Rattle.promised.specs.Promised.{loses, needed, promised};
 ghost use Rattle.scenario_record.specs.Numbers.{AreInRange};
@@ -135,7 +136,8 @@ fn count_lossy(links: &[WatchedLink]) -> usize
 ///
 /// Where memory was refused.
 pub fn promised_bounds(alloc: Global, scenario: &Scenario) -> Result<PromisedBounds, AllocError>
-    ensures { IfOk result (λ b. b ≡ promised scenario.now) }
+    ensures value { IfOk result (λ b. b ≡ promised scenario.now) }
+    ensures kept { IfOk result (λ b. KeepsPromises scenario.now b) }
 {
     let detector = scenario.detector();
     let horizon = scenario.horizon();
