@@ -3,3 +3,4 @@ pub mod Linking
 pub mod Reliable
 pub mod Promising
 pub mod Keeping
+mod Examples

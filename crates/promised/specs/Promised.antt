@@ -34,7 +34,7 @@ module _ (d : DetectorNumbers) where
   abbrev pub is_timely : Link → Bool
   is_timely link = nat_le (needed d link) (patience d)
 
-  -- a link can bring no mistake
+  -- a link surely brings no mistake
   abbrev pub is_reliable : WatchedLink → Bool
   is_reliable w = not (loses w) && is_timely w.link
 

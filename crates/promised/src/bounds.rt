@@ -22,12 +22,12 @@ pub struct PromisedBounds {
     pub is_late: bool,
     /// How many links are watched.
     pub watched: usize,
-    /// How many of these can bring no mistake.
+    /// How many of these surely bring no mistake.
     pub reliable: usize,
     /// How many of these have loss or outages.
     pub lossy: usize,
-    /// The least `delta` or `timeout`, in ticks, with which each of the others can bring no mistake; none where there
-    /// are no others.
+    /// The least `delta` or `timeout`, in ticks, with which each of the others surely brings no mistake; none where
+    /// there are no others.
     pub needed: Option<u64>,
 }
 
@@ -113,7 +113,7 @@ fn is_any_late(detector: DetectorNumbers, horizon: u32, links: &[WatchedLink]) -
     links.iter().any(|link| is_late(detector, horizon, link))
 }
 
-/// How many links can bring no mistake.
+/// How many links surely bring no mistake.
 fn count_reliable(detector: DetectorNumbers, links: &[WatchedLink]) -> usize
     ensures { result ≡ count_by (is_reliable detector) links.now }
 {
@@ -130,7 +130,7 @@ fn count_lossy(links: &[WatchedLink]) -> usize
     links.iter().filter(|link| loses(link)).count()
 }
 
-/// What no run of a scenario breaks, in numbers.
+/// What no run of a scenario breaks, in numbers; and that no trace of it does.
 ///
 /// # Errors
 ///
