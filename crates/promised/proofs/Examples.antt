@@ -1,5 +1,5 @@
 -- Worked bounds: what the definitions give, by computing. The numbers were reckoned by hand, from tick to tick.
-use Rattle.std.proofs.Common.{◌≡◌, ℕ, refl, Some, None, Option, Bool, true, false}
+use Rattle.std.proofs.Common.{◌≡◌, ℕ, refl, Some, None, Option, true, false}
 use Rattle.process_api.specs.declared.numbers.DetectorNumbers.{DetectorNumbers}
 use Rattle.process_api.specs.declared.numbers.DetectorNumbers.TheVariants.{Timeout, Freshness}
 use Rattle.process_api.specs.declared.numbers.Watch.TheVariants.{All}
