@@ -239,7 +239,12 @@ fn shared_just_behind_the_last_set(rt: HostRuntime) {
         let trace = trace_of(&rt, alloc, &scenario);
         let rows = measures(alloc, &scenario, &trace).expect(&rt, NO_MEMORY);
         let row = rows.last().expect(&rt, "a pair is missing");
-        let came = (row.layer, row.observer.number(), row.subject.number(), row.detection);
+        let came = (
+            row.layer,
+            row.observer.number(),
+            row.subject.number(),
+            row.detection,
+        );
         same(&rt, &came, &(2, 3, 2, Detection::At(*ticks)));
     }
 }

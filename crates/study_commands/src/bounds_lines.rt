@@ -64,7 +64,9 @@ fn lossy_line(alloc: Global, lossy: usize) -> Result<String, AllocError>
     if lossy == 0 {
         return Ok(String::new(alloc));
     }
-    format!(in alloc; "watched links with loss or outages, of whose mistakes nothing is promised: {lossy}\n")
+    format!(in alloc;
+        "watched links with loss or outages, of whose mistakes nothing is promised: {lossy}\n"
+    )
 }
 
 /// The key of a detector's file that says how long it waits.
