@@ -37,6 +37,7 @@ mod picturing;
 mod place_reason;
 mod processes;
 pub mod progress_line;
+mod range_hint;
 mod ready;
 mod reckoning;
 mod refused_run;
