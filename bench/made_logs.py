@@ -198,7 +198,7 @@ def within(errors):
 
 def apart(errors):
     """Of the rows that aren't to be believed."""
-    return f"; {sum(it <= 3 for it, _ in errors)} of {len(errors)} others" if errors else ""
+    return f"; {sum(it <= 3 for it, _ in errors)} of {len(errors)}" if errors else ""
 
 
 def line_of(name, made, found, hours):
@@ -216,15 +216,14 @@ def line_of(name, made, found, hours):
     for it in made.answers:
         near = it.row or it.near
         mean = means.get(near.setting) if near else None
-        told = "" if mean is None else f": {mean:.2g} an hour"
-        answers.append(f"{it.wish.name} {'shown' if it.row else 'not shown'}{told}")
+        answers.append(("none" if mean is None else f"{mean:.2g}") + " shown" * (it.row is not None))
         if it.row and mean is not None and mean > it.wish.hourly:
             wrong.append(f"{name}: {it.wish.name}: {near.setting.row} makes {mean:.3g} an hour")
-    return [name, *cells, f"{sum(kept)} of {len(kept)}", "; ".join(answers)], wrong
+    return [name, *cells, f"{sum(kept)} of {len(kept)}", ", ".join(answers)], wrong
 
 
-HEADS = ["One hour with", "By the log: within 1, 2, 3 errors", "Replayed, of believed rows", "Fitted", "Bounds kept",
-         "Wishes, with what the others have"]
+HEADS = ["One hour with", "By the log: within 1, 2, 3 errors", "Replayed: believed; others", "Fitted", "Bounds kept",
+         "*quick*, *middle*, *safe*: an hour"]
 
 
 def main():
@@ -239,17 +238,17 @@ def main():
     lines, wrong = [], []
     for name in asked.only or PROCESSES:
         line, faults = line_of(name, *compared(name, asked), asked.hours)
-        print("| " + " | ".join(line) + " |", flush=True)
+        print(" | ".join(line), flush=True)
         lines.append(line)
         wrong += faults
     for it in wrong:
         print(it)
     if asked.page:
-        text = "\n".join("| " + " | ".join(it) + " |" for it in [HEADS, ["---"] * len(HEADS), *lines])
+        text = "\n".join([" | ".join(HEADS), "|".join(["---"] * len(HEADS)), *map(" | ".join, lines)])
         with open(asked.page, encoding="utf-8") as file:
             page = file.read()
         with open(asked.page, "w", encoding="utf-8") as file:
-            file.write(re.sub(r"(<!-- made -->\n)(?:\|.*\n)*", lambda it: f"{it[1]}{text}\n", page))
+            file.write(re.sub(r"(<!-- made -->\n)(?:.*\|.*\n)*", lambda it: f"{it[1]}{text}\n", page))
     print(f"{len(lines)} processes, {len(wrong)} faults")
     return 1 if wrong else 0
 

@@ -7,10 +7,10 @@ It makes all quick points again (suite/results/quick is of `suite.py run --quick
 of suite/results the cheapest points of N parts of its list (12), twins and systems among them. It runs each of the latter
 by `--each run` too: the runs have different seeds, which no other point of the study has, and their mistakes, entries and
 decisions come to those of the point's row. From the committed rows it makes the tables, the pictures and the pages anew.
-Of the pages each row that is named has to be there with the values that stand beside it, as in
-(`rack_5:freshness:all:10:1`: mistakes 16). Consensus over a twin has to run with the settings of its table, and
-its bursts have to lose as many letters as the network. It prints what differs, and ends with status 1 where something
-does. The environment's FDSTUDY names another program.
+Each row that results/learned.csv names behind a sentence of the pages has to be there with the value that stands beside
+it. Consensus over a twin has to run with the settings of its table, and its bursts have to lose as many letters as the
+network. It prints what differs, and ends with status 1 where something does. The environment's FDSTUDY names another
+program.
 """
 import argparse
 import csv
@@ -29,7 +29,6 @@ sys.path.insert(0, SUITE)
 import page  # noqa: E402
 import suite  # noqa: E402
 
-NAMED = re.compile(r"`([\w]+(?::[\w-]+){2,6})`(?:: ((?:\w+ [^\s,;)]+(?:, )?)+))?")
 ADDED = ["mistakes", "entries", "sent", "lost", "detections", "pair_ticks", "to_decide", "decided"]
 
 
@@ -95,7 +94,8 @@ def compare_pages(faults, folder):
     for program in ("page.py", "systems.py"):
         words = [program, "--to", folder, "--pages", folder]
         subprocess.run([sys.executable, *words], cwd=SUITE, check=True, stdout=subprocess.DEVNULL)
-    made = {"settings.csv": "results", "theory.csv": "results", "systems.csv": "", **dict.fromkeys(page.PAGES, "")}
+    made = {**{f"{it}.csv": "results" for it in ("settings", "wishes", "theory", "decisions")}, "systems.csv": ""}
+    made.update(dict.fromkeys(page.PAGES, ""))
     made.update({it: "pictures" for it in os.listdir(os.path.join(SUITE, "pictures"))})
     for name, place in sorted(made.items()):
         committed = text(os.path.join(SUITE, place, name))
@@ -135,11 +135,12 @@ def compare_sentences(faults):
     for name in (*suite.STUDIES, "theory"):
         for row, values in rows(name + ".csv").items():
             known.setdefault(row, {}).update(values)
-    for place in page.PAGES:
-        for row, values in NAMED.findall(re.sub(r"\s+", " ", text(os.path.join(SUITE, place)))):
-            faults.compare(f"{place} names {row}", True, row in known)
-            for name, value in re.findall(r"(\w+) ([^\s,;)]+)", values):
-                faults.compare(f"{place}, {row}: {name}", known.get(row, {}).get(name), value)
+    for it in csv.DictReader(io.StringIO(text(os.path.join(SUITE, "results", "learned.csv")))):
+        head = rf"(?m)^{it['sentence']}\. \*\*|^## {it['sentence']}$"
+        faults.compare(f"{it['page']} has {it['sentence']}", True,
+                       re.search(head, text(os.path.join(SUITE, it["page"]))) is not None)
+        faults.compare(f"{it['page']}, {it['row']}: {it['column']}", known.get(it["row"], {}).get(it["column"]),
+                       it["value"])
 
 
 def main():

@@ -1,9 +1,10 @@
 #!/usr/bin/env python3
 """page.py [--from FOLDER] [--to FOLDER] [--pages FOLDER]: what the rows of the suite come to.
 
-Reads frontiers.csv and consensus.csv of the one folder (results/), and writes settings.csv, theory.csv and a picture of
-each network, NETWORK.svg, to the other: to results/ and pictures/ where none is named. There, or in the folder of
---pages, it also puts the tables of README.md and details.md in their places. It prints the table of settings.
+Reads frontiers.csv and consensus.csv of the one folder (results/), and writes settings.csv, wishes.csv, theory.csv,
+decisions.csv and a picture of each network, NETWORK.svg, to the other: to results/ and pictures/ where none is named.
+There, or in the folder of --pages, it also puts the tables of README.md and details.md in their places. It prints the
+table of settings.
 """
 import argparse
 import csv
@@ -30,7 +31,7 @@ def rows(folder, name):
 
 
 def write(folder, name, lines):
-    with open(os.path.join(folder, name + ".csv"), "w", encoding="ascii", newline="") as file:
+    with open(os.path.join(folder, name + ".csv"), "w", encoding="utf-8", newline="") as file:
         csv.writer(file, lineterminator="\n").writerows(lines)
 
 
@@ -162,12 +163,13 @@ def settings_lines(chosen, found):
                f"{rates.rate:.3g}", f"{rates.most:.3g}", row["mistaken_ppm"]]
 
 
-def settings_table(chosen, found, frontiers):
+def wishes_lines(chosen, found, frontiers):
     """The settings of each twin, and beside them its network's own one, and what that makes of the twin; of a network
-    without a twin its own alone."""
-    yield "| Network | Wish | `delta`, ms | Detected after | Mistakes an hour | `timeout`, ms | Detected after | " \
-          "Mistakes an hour | 5, 2, 1 letters | Losses one by one: `delta` | Detected | Mistakes | With bursts |"
-    yield "|" + "---|" * 13
+    without a twin its own alone. Times are in milliseconds, detections the median, the 99th percentile and the
+    greatest."""
+    yield ["network", "wish", "delta", "detected", "mistakes_an_hour", "timeout", "detected_by_time_outs",
+           "mistakes_by_time_outs", "p99_by_fewer_letters", "delta_one_by_one", "p99_one_by_one", "mistakes_one_by_one",
+           "its_mistakes_in_twin"]
     by_name, have = {it["row"]: it for it in frontiers}, {it.line["over"] for it in found.values()}
     for twin in (it for it in found.values() if it.name not in have):
         scale, network = Scale(twin), found.get(twin.line["over"])
@@ -184,11 +186,18 @@ def settings_table(chosen, found, frontiers):
                 row = chosen.get((twin.name, "freshness", letters, wish))
                 fewer.append(scale.text(row["detection_p99"]) if row else
                              why_none(frontiers, twin, "freshness", letters, wish))
-            cells.append(", ".join(it for it in fewer if it))
+            cells.append(" ".join(it.replace(" ", "_") for it in fewer if it))
             cells += one_by_one(chosen.get((network.name, "freshness", LETTERS[0], wish)), network, twin, by_name) \
                 if network else [""] * 4
-            name = twin.line["over"] or twin.name
-            yield f"| {name if wish == WISHES[0] else ''} | {wish} | " + " | ".join(cells) + " |"
+            yield [twin.line["over"] or twin.name, wish, *cells]
+
+
+def settings_table(lines):
+    """Of the lines of wishes.csv what the page shows."""
+    yield from head_of(["Network, wish", "`delta`", "Detected", "Mistakes", "`timeout`", "Detected", "Mistakes",
+                        "`delta`, one by one"])
+    for name, wish, *cells in lines[1:]:
+        yield row_of([f"{name} {wish}", *cells[:6], cells[7]])
 
 
 def detected(row, scale):
@@ -354,8 +363,8 @@ def theory_lines(frontiers, found):
 
 def theory_table(lines):
     """How far the rows are off, where ten mistakes are expected."""
-    yield "| Rows | How many | Off by at most 1 | 2 | 3 standard errors | Longest detection less its bound, ticks |"
-    yield "|" + "---|" * 6
+    yield from head_of(["Rows", "How many", "Off by at most 1", "2", "3 standard errors",
+                        "Longest detection less its bound, ticks"])
     head, *lines = lines
     found = [dict(zip(head, it)) for it in lines]
     for detector, words in (("freshness", "freshness points"), ("timeouts", "time-outs, just beyond the delays")):
@@ -364,7 +373,7 @@ def theory_table(lines):
         mine = mine if detector == "freshness" else [it for it in mine if "-" not in it["row"]]
         off = [abs(float(it["errors_off"])) for it in mine if it["errors_off"] and float(it["mistakes_expected"]) >= 10]
         within = " | ".join(str(sum(it <= errors for it in off)) for errors in (1, 2, 3))
-        yield f"| {words} | {len(off)} | {within} | {min(above)} to {max(above)} |"
+        yield f"{words} | {len(off)} | {within} | {min(above)} to {max(above)}"
 
 
 def theory_curve(network, letters, least, most):
@@ -508,36 +517,37 @@ def picture(network, frontiers):
 # ---- consensus
 
 
-def consensus_table(consensus, found):
-    """By when all have decided, of each wish, with freshness points."""
-    yield "| Network | Crashed | Links | Rotating coordinators: quick, middle, safe | Rounds | Letters | " \
-          "Exchange of vectors: quick, middle, safe | Letters | Disagree |"
-    yield "|" + "---|" * 9
-    by_name, shown = {it["row"]: it for it in consensus}, ""
-    kinds = dict.fromkeys((it["network"], it["crash"], it["links"]) for it in consensus)
-    for name, crash, links in kinds:
-        # a rack differs by its delays alone; how lossy links change it is shown once
-        if name.startswith("rack_") or links == "lossy" and (name, crash, "sure") in kinds and crash != "none":
-            continue
-        cells = []
-        for algorithm in ("es", "s"):
-            mine = [by_name.get(f"{name}:{algorithm}:freshness:{wish}:{crash}:{links}") for wish in WISHES]
-            if not all(mine):
-                cells += ["", ""]
-                continue
-            cells.append(", ".join(decided(it, Scale(found[name])) for it in mine))
-            if algorithm == "es":
-                cells.append(", ".join(it["rounds_p50"] for it in mine))
-            cells.append(f"{letters_of(mine[1]):,.0f}")
-        cells.append(", ".join(it["disagreements"] for it in mine) if all(mine) else "")
-        yield f"| {name if name != shown else ''} | {crash} | {links} | " + " | ".join(cells) + " |"
-        shown = name
+def decisions_lines(consensus, found):
+    """Of each row of consensus.csv by when all have decided, in milliseconds, and how; an empty field is infinite."""
+    yield ["row", "p50_ms", "p99_ms", "all_decided_percent", "rounds_p50", "letters", "disagreements"]
+    for row in consensus:
+        scale, share = Scale(found[row["network"]]), 100 * int(row["all_decided"]) / int(row["runs"])
+        yield [row["row"], *decided(row, scale), f"{share:.1f}", row["rounds_p50"], f"{letters_of(row):.0f}",
+               row["disagreements"]]
 
 
 def decided(row, scale):
-    times = " / ".join(scale.text(row[f"last_decision_{it}"]) or "∞" for it in ("p50", "p99"))
-    share = 100 * int(row["all_decided"]) / int(row["runs"])
-    return times if share == 100 else f"{times} ({share:.0f} %)"
+    return [scale.text(row[f"last_decision_{it}"]).replace(",", "") for it in ("p50", "p99")]
+
+
+SURE = ("sure", "bursts", "lossy")  # of these links the first that were run over are shown
+CRASHES = (("none",), ("first", "worst"), ("two",))
+
+
+def consensus_table(consensus, found):
+    """By when all have decided with the middle setting of freshness points, over each network and its twin. A rack
+    differs by its delays alone."""
+    kinds = [f"{algorithm}: {crashed}" for algorithm in ("rotating", "vectors") for crashed in ("none", "first", "two")]
+    yield from head_of(["Network", *kinds])
+    by_name = {it["row"]: it for it in consensus}
+    for name in dict.fromkeys(it["network"] for it in consensus if not it["network"].startswith("rack_")):
+        cells = []
+        for algorithm, crashes in ((algorithm, crashes) for algorithm in ("es", "s") for crashes in CRASHES):
+            rows_of = (by_name.get(f"{name}:{algorithm}:freshness:middle:{crash}:{links}")
+                       for links in SURE for crash in crashes)
+            row = next(filter(None, rows_of), None)
+            cells.append("/".join(f"{int(it):,}" if it else "∞" for it in decided(row, Scale(found[name]))) if row else "")
+        yield row_of([name, *cells])
 
 
 def letters_of(row):
@@ -545,10 +555,20 @@ def letters_of(row):
     return (int(row["sent"]) - int(row["detector_letters"])) / int(row["runs"])
 
 
+def head_of(names):
+    """The first two lines of a table without outer bars, of which no first cell may be empty."""
+    return " | ".join(names), "|".join(["---"] * len(names))
+
+
+def row_of(cells):
+    """A row of such a table; those that are empty at its end are left out."""
+    return " | ".join(cells).rstrip("| ")
+
+
 def placed(page, name, table):
     """The page with the table in its place."""
     lines = "\n".join(table)
-    return re.sub(rf"(<!-- {name} -->\n)(?:\|.*\n)*", lambda it: f"{it[1]}{lines}\n", page)
+    return re.sub(rf"(<!-- {name} -->\n)(?:.*\|.*\n)*", lambda it: f"{it[1]}{lines}\n", page)
 
 
 def main():
@@ -564,16 +584,20 @@ def main():
     pictures = asked.to or os.path.join(HOME, "pictures")
     for folder in (tables, pictures):
         os.makedirs(folder, exist_ok=True)
+    wishes, theory = list(wishes_lines(chosen, found, frontiers)), list(theory_lines(frontiers, found))
     write(tables, "settings", settings_lines(chosen, found))
-    write(tables, "theory", theory_lines(frontiers, found))
+    write(tables, "wishes", ([it.replace(",", "") for it in line] for line in wishes))
+    write(tables, "theory", theory)
     for name, network in found.items():
         with open(os.path.join(pictures, name + ".svg"), "w", encoding="utf-8") as file:
             file.write("\n".join(picture(network, frontiers)) + "\n")
-    wished = list(settings_table(chosen, found, frontiers))
+    wished = list(settings_table(wishes))
     print("\n".join(wished))
     if asked.to is None or asked.pages:
-        fill(asked.pages, {"settings": wished, "theory": theory_table(list(theory_lines(frontiers, found))),
-                           "consensus": consensus_table(rows(asked.home, "consensus"), found)})
+        consensus = rows(asked.home, "consensus")
+        write(tables, "decisions", decisions_lines(consensus, found))
+        fill(asked.pages, {"settings": wished, "theory": theory_table(theory),
+                           "consensus": consensus_table(consensus, found)})
 
 
 def fill(folder, tables):

@@ -41,9 +41,8 @@ def lines(defaults, found):
 
 def table(defaults, found):
     """Detection in seconds, and mistakes of a pair in an hour."""
-    yield "| System | Says it is alive, looks, waits: s | Detected after, s | " + " | ".join(
-        f"Mistakes, {it}" for it in SHOWN) + " |"
-    yield "|" + "---|" * (3 + len(SHOWN))
+    yield from page.head_of(["System", "Says it is alive, looks, waits: s", "Detected after, s",
+                             *(f"Mistakes, {it}" for it in SHOWN)])
     by_name = {(it["network"], it["system"]): it for it in defaults}
     for system in systems():
         mine = [by_name[it, system["name"]] for it in SHOWN if (it, system["name"]) in by_name]
@@ -52,7 +51,7 @@ def table(defaults, found):
         waits = ", ".join(f"{system[it] / 1000:g}" for it in ("period", "check", "timeout"))
         took = "/".join(f"{int(it) / 1000:.3g}" if it else "∞" for it in milliseconds(mine[min(1, len(mine) - 1)]))
         cells = [rates(it, found[it["network"]]).text() for it in mine]
-        yield f"| {titled(system)} | {waits} | {took} | " + " | ".join(cells) + " |"
+        yield page.row_of([titled(system), waits, took, *cells])
 
 
 def titled(system):

@@ -1,6 +1,7 @@
 #!/bin/sh
 # Runs freshness points under 20 settings, and freshness points and time-outs with the same letters, writes out/*.csv,
-# prints the page's tables, and draws theory.svg and comparison.svg. Wants python3 and gnuplot.
+# settings.csv and bounds.csv, prints the page's tables, and draws theory.svg and comparison.svg. Wants python3 and
+# gnuplot.
 set -eu
 cd "$(dirname "$0")"
 mkdir -p out
@@ -23,6 +24,7 @@ mkdir -p out
     --vary detector.timeout=1391..=3091:100 > out/long.csv
 
 python3 theory.py
+mv out/settings.csv out/bounds.csv .
 gnuplot -e 'what = "theory"' picture.gp > out/theory.svg
 gnuplot -e 'what = "comparison"' picture.gp > out/comparison.svg
 # the pictures take their places once all are drawn

@@ -1,7 +1,8 @@
 #!/usr/bin/env python3
 """theory.py: the closed forms of README.md beside what the sweeps of run.sh saw.
 
-Reads the sweeps' rows in out/, prints the page's tables, and writes the lines of the pictures to out/.
+Reads the sweeps' rows in out/, prints the page's tables, and writes settings.csv and bounds.csv, which have more rows
+and columns, and the lines of the pictures to out/.
 """
 import csv
 import math
@@ -166,16 +167,29 @@ def errors_off(seen, expected, error):
 
 
 def compared(seen, expected, variance, scale, digits):
-    """Three cells: what is expected, what was seen with its standard error, and by how many of these it is off."""
+    """What is expected, what was seen, its standard error, and by how many of these it is off, as four texts; and the last
+    as a number."""
     error = math.sqrt(variance)
     off = errors_off(seen, expected, error)
-    shown = f"{seen * scale:,.{digits}f} ± {error * scale:,.{digits}f}"
-    return [f"{expected * scale:,.{digits}f}", shown, f"{off:+.1f}"], off
+    return [*(f"{it * scale:.{digits}f}" for it in (expected, seen, error)), f"{off:+.1f}"], off
+
+
+def print_table(names, lines):
+    """A table without outer bars."""
+    print(" | ".join(names))
+    print("|".join(["---"] * len(names)))
+    for line in lines:
+        print(" | ".join(line))
+
+
+def write(name, lines):
+    with open(f"out/{name}.csv", "w", encoding="ascii", newline="") as file:
+        csv.writer(file, lineterminator="\n").writerows(lines)
 
 
 def print_settings():
-    print("| n | Delays | `eta` | Loss | `delta` | Mistakes | Seen | Off | % of time | Seen | Off |")
-    print("|" + "---|" * 11)
+    lines = [["processes", "min", "max", "eta", "loss", "delta", "mistakes", "mistakes_seen", "error", "errors_off",
+              "percent_of_time", "percent_seen", "percent_error", "percent_errors_off"]]
     all_off, percent_off = [], []
     for row in rows("two") + rows("three"):
         theory, horizon = freshness_of(row), row["horizon"]
@@ -185,12 +199,16 @@ def print_settings():
         time, time_off = compared(
             row["mistake_ticks"], runs * theory.mistake_ticks(horizon), runs * theory.mistake_ticks_variance(horizon),
             100 / row["pair_ticks"], 3)
-        cells = [row["processes"], f"{row['link.min']} to {row['link.max']}"]
-        cells += [row["detector.eta"], row["link.loss"], row["detector.delta"], *mistakes, *time]
-        print("| " + " | ".join(str(cell) for cell in cells) + " |")
+        setting = ("processes", "link.min", "link.max", "detector.eta", "link.loss", "detector.delta")
+        lines.append([*(str(row[it]) for it in setting), *mistakes, *time])
         all_off += [abs(off), abs(time_off)]
         if row["mistakes"] >= 1000:
             percent_off.append(100 * abs(row["mistake_ticks"] / (runs * theory.mistake_ticks(horizon)) - 1))
+    write("settings", lines)
+    print_table(["`eta`", "`delta`", "Mistakes", "Seen", "Off", "% of time", "Seen", "Off"],
+                [[eta, delta, f"{int(mistakes):,}", f"{int(seen):,}", off, time, time_seen, time_off]
+                 for _, _, _, eta, loss, delta, mistakes, seen, _, off, time, time_seen, _, time_off in lines[1:]
+                 if loss != "0"])
     within = [sum(it <= errors for it in all_off) for errors in (1, 2)]
     print(f"\nOf {len(all_off)} numbers {within[0]} are off by at most one standard error, {within[1]} by at most two,")
     print(f"and the greatest is off by {max(all_off):.1f}.")
@@ -215,6 +233,7 @@ def write_settings_lines():
 
 LETTERS, PERIOD, CHECK = Letters(100, 400, 10), 1000, 10
 OTHERS = 15  # of 16 processes
+SHOWN = ("1,199", "1,399", "1,799", "2,199", "2,399", "2,799", "3,199")  # the bounds of the page's table
 
 
 def freshness_within(bound):
@@ -246,10 +265,8 @@ def rows_by_bound():
 
 
 def print_comparison():
-    print("| Bound | Points: s apart | mistakes | seen | Time-outs: s apart | mistakes | growing | seen |")
-    print("|" + "---|" * 8)
     points, time_outs = rows_by_bound()
-    points_off, time_outs_off = [], []
+    points_off, time_outs_off, lines = [], [], []
     for bound in sorted(points):
         first, seen = freshness_within(bound), points[bound]
         mistakes = in_all_runs(first.mistakes, seen)
@@ -260,8 +277,12 @@ def print_comparison():
         time_outs_off.append(errors_off(seen["mistakes"], growing, math.sqrt(growing)))
         cells += [f"{recurrence(second):,.1f}", f"{in_all_runs(second.mistakes, seen):,.0f}"]
         cells += [f"{growing:,.0f}", f"{seen['mistakes']:,}"]
-        if bound // 100 % 2 == 1:
-            print("| " + " | ".join(cells) + " |")
+        lines.append(cells)
+    write("bounds", [["bound", "points_apart_s", "points_mistakes", "points_seen", "time_outs_apart_s",
+                      "time_outs_mistakes", "growing_mistakes", "time_outs_seen"],
+                     *([it.replace(",", "") for it in line] for line in lines)])
+    print_table(["Bound", "Points: s apart", "mistakes", "seen", "Time-outs: s apart", "mistakes", "growing", "seen"],
+                [it for it in lines if it[0] in SHOWN])
     worst = [max(map(abs, it)) for it in (points_off, time_outs_off)]
     print(f"\nOf {len(points)} bounds freshness points are off by at most {worst[0]:.1f} standard errors,")
     print(f"and time-outs that grow by at most {worst[1]:.1f} of a Poisson number's.")
