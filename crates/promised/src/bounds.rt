@@ -69,7 +69,7 @@ fn latency(detector: DetectorNumbers, link: &WatchedLink) -> Option<u64>
     ensures { result ≡ latency detector link.now }
 {
     let crash = link.crash?;
-    Some(detected_by(detector, link.link, crash).saturating_sub(u64::from(crash)))
+    Some(detected_by(detector, link.link, 0, crash).saturating_sub(u64::from(crash)))
 }
 
 /// Whether that tick isn't before the horizon.
@@ -78,7 +78,7 @@ fn is_late(detector: DetectorNumbers, horizon: u32, link: &WatchedLink) -> bool
     ensures { result ≡ is_late detector horizon link.now }
 {
     match link.crash {
-        Some(crash) => detected_by(detector, link.link, crash) >= u64::from(horizon),
+        Some(crash) => detected_by(detector, link.link, 0, crash) >= u64::from(horizon),
         None => false,
     }
 }

@@ -18,9 +18,10 @@
 //!   and then a front part of these texts went out; `Limit` comes only of a trace that is longer than the limit. After
 //!   any other refusal nothing was written (`Refuses`, there too). It starts no thread, and never answers `Spawn`.
 //! - [`measure_list`] runs a scenario as `bench_list` does, but forms no text. It tells all that is measured of the
-//!   run, and how long each mistake was that ended. On `Ok` the [`RunFindings`] and the [`RunDurations`] are those of
-//!   the scenario's trace, which is within the limit (`specs/Measured.antt`, `specs/Durations.antt`) and has the same
-//!   grounds. It answers `Limit` only where that trace is longer, and else only `Memory`.
+//!   run, how long each mistake was that ended, and how often each process was trusted again. On `Ok` the
+//!   [`RunFindings`], the [`RunDurations`] and the [`Trusts`] are those of the scenario's trace, which is within the
+//!   limit (`specs/Measured.antt`, `specs/Durations.antt`, `specs/Trusts.antt`) and has the same grounds. It answers
+//!   `Limit` only where that trace is longer, and else only `Memory`.
 //! - [`measures`] gives a row for each pair on each layer, by definition, of any trace. In the scenario's trace each
 //!   suspicion of layer 2 has an earlier one of layer 1 for the same process, and each mistake or detection on layer 2
 //!   rests on one (`specs/Resting.antt`).
@@ -70,6 +71,7 @@ mod summary;
 mod tally;
 mod telling;
 mod trace_text;
+mod trusts;
 mod values;
 mod writing;
 
@@ -94,4 +96,5 @@ pub use stream_outlet::StreamOutlet;
 pub use summary::Summary;
 pub use telling::close_running;
 pub use trace_text::{HEADER, TraceText};
+pub use trusts::Trusts;
 pub use writing::{write_if_any, write_report, write_text, write_trace};
