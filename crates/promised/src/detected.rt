@@ -29,7 +29,8 @@ fn grown(its: TimeoutNumbers, trusts: u32) -> u64
     u64::from(its.timeout) + u64::from(its.grow) * u64::from(trusts)
 }
 
-/// The tick from which a process is suspected to the end that crashes at a tick, by one that trusted it again so often.
+/// The tick from which, at the latest, a process that crashes at a tick is suspected to the end, by an observer that
+/// notes so many trusts of it in the whole run.
 pub fn detected_by(detector: DetectorNumbers, link: Link, trusts: u32, crash: u32) -> u64
     requires { AreInRange detector }
     ensures { result ≡ detected_by detector link trusts crash }
