@@ -227,12 +227,13 @@ def check_lines(scenario):
     elif found:
         most = max(max(until - crash, 0) for until, crash in found)
         until = ", as long as no suspicion is taken back" if scenario["kind"] == "timeout" else ""
-        yield f"each crash is detected within {most} ticks by each correct process that watches{until}"
+        yield f"each correct process detects each crash of whom it watches within {most} ticks{until}"
     if pairs:
-        yield f"watched links that can bring no mistake: {sum(bounds.is_reliable(p, q) for q, p in pairs)} of {len(pairs)}"
+        reliable = sum(bounds.is_reliable(p, q) for q, p in pairs)
+        yield f"watched links that surely bring no mistake: {reliable} of {len(pairs)}"
     lossy = sum(bounds.loses(p, q) for q, p in pairs)
     if lossy:
-        yield f"watched links with loss or outages, of which nothing is promised: {lossy}"
+        yield f"watched links with loss or outages, of whose mistakes nothing is promised: {lossy}"
     needed = [bounds.needed(p, q) for q, p in pairs if not bounds.loses(p, q)]
     if needed:
         key = "delta" if scenario["kind"] == "freshness" else "timeout"
@@ -242,7 +243,7 @@ def check_lines(scenario):
 def check_compared(program, path, scenario, counts):
     ran = subprocess.run([program, "check", path], capture_output=True, text=True)
     wanted = list(check_lines(scenario))
-    told = [line for line in ran.stdout.splitlines() if "mistake" in line or "crash is" in line or "some crash" in line
+    told = [line for line in ran.stdout.splitlines() if "mistake" in line or "each crash" in line or "some crash" in line
             or "nothing is promised" in line]
     counts["files checked"] += 1
     if ran.returncode or told != wanted:

@@ -83,6 +83,14 @@ def offered_by_fish(program, command):
     return {"--help"} | {"--" + option for commands, option in of if command in commands.split()}
 
 
+def offered_before_commands(program, shell):
+    """The options that a file for zsh or fish offers of the program itself."""
+    if shell == "zsh":
+        return set(re.findall(r"'(--[\w-]+)\[", re.search(r"(?m)^ +_arguments -C (.*)$", read("_" + program))[1]))
+    of = re.findall(rf"(?m)^complete -c {program} (?:-n __fish_use_subcommand )?-l (\w+)", read(program + ".fish"))
+    return {"--" + option for option in of}
+
+
 def listed(program, shell):
     """The columns that a file for zsh or fish lists."""
     text = read("_" + program if shell == "zsh" else program + ".fish")
@@ -109,7 +117,10 @@ def main():
         texts = dict(zip(["", *known.split()], tried_help(program, *known.split()))) if tries else {"": help_of(program)}
         commands = commands_in(texts[""])
         faults.compare(f"commands of {program}", commands, {*known.split(), "help"})
-        faults.compare(f"bash, {program}", commands | {"--help"}, offered_by_bash(program, ""))
+        options, _ = options_in(texts[""])
+        faults.compare(f"bash, {program}", commands | options, offered_by_bash(program, ""))
+        faults.compare(f"zsh, options of {program}", options, offered_before_commands(program, "zsh"))
+        faults.compare(f"fish, options of {program}", options, offered_before_commands(program, "fish"))
         zsh = set(re.findall(r"(?m)^        '([a-z]+):", read("_" + program)))
         fish = set(re.findall(r"(?m)use_subcommand -a (\w+)", read(program + ".fish")))
         faults.compare(f"zsh, {program}", commands, zsh)

@@ -15,7 +15,7 @@ _fdstudy() {
     local study="--shard --threads --columns --each --pairs $grid"
     COMPREPLY=()
     if [ "$COMP_CWORD" -eq 1 ]; then
-        mapfile -t COMPREPLY < <(compgen -W 'check letters draw show sweep help --help' -- "$word")
+        mapfile -t COMPREPLY < <(compgen -W 'check letters draw show sweep help --help --version' -- "$word")
         return
     fi
     case $before in

@@ -17,6 +17,7 @@ complete -c fdstudy -n __fish_use_subcommand -a help -d 'print a help text'
 complete -c fdstudy -n '__fish_seen_subcommand_from help' -a 'check letters draw show sweep'
 complete -c fdstudy -n '__fish_seen_subcommand_from check letters draw show sweep' -F
 complete -c fdstudy -l help -s h -d 'print a help text'
+complete -c fdstudy -n __fish_use_subcommand -l version -s V -d 'print the version'
 complete -c fdstudy -n '__fish_seen_subcommand_from check letters draw show sweep' -l network -r -F -d 'a network file that is laid over the scenario'
 complete -c fdstudy -n '__fish_seen_subcommand_from check letters draw show sweep' -l set -x -d 'a key with its value in all runs: KEY=VALUE'
 complete -c fdstudy -n '__fish_seen_subcommand_from check show sweep' -l seeds -x -d 'the seeds of the runs: A..=B'

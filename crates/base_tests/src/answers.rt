@@ -1,5 +1,5 @@
-//! What a part of a process does, as text: a letter with its receiver, a wake with its pause, and a note as a trace
-//! prints it.
+//! The actions of a part of a process, as text: a letter with its receiver, a wake with its pause, and a note as a
+//! trace prints it.
 use crate::comparisons::{NO_MEMORY, same};
 use process_api::{Action, Note, Payload, ProcSet, Tag};
 use std::alloc::{AllocError, Global};

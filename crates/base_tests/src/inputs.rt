@@ -1,4 +1,4 @@
-//! What a part of a process is given.
+//! The inputs of a part of a process.
 ghost use Rattle.std.specs.Prelude.{◌≡◌};
 
 use crate::comparisons::NO_MEMORY;

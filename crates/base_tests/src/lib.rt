@@ -1,4 +1,4 @@
-//! Tests of what the other crates stand on: scenarios, and what a process is made of.
+//! Tests of the crates on which the others depend: scenarios, and the parts of a process.
 //!
 //! These are the tests of `scenario`, `process_api`, `timeout_detector`, `freshness_detector`, `reduction`,
 //! `consensus_s`, `consensus_es`, `stack` and `machines`, a module for each: files of scenarios, processes, sets, keys
@@ -6,9 +6,9 @@
 //! start. They stand apart from these crates, since a crate with tests is proved twice, without them and with them, and
 //! this crate has nothing else.
 //!
-//! What they share is in modules of its own: comparisons, changes of texts (`changes`), what a part is given
-//! (`inputs`), what it does as text (`answers`), parts that are driven by rows of the two (`driving`), and a detector
-//! for what stands above one (`suspects_three`).
+//! Modules of their own have what the tests share: comparisons, changes of texts (`changes`), the inputs of a part
+//! (`inputs`), its actions as text (`answers`), parts that are driven by rows of the two (`driving`), and a detector
+//! for the parts above one (`suspects_three`).
 #![tactic(auto)]
 
 #[cfg(test)]

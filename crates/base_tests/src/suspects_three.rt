@@ -1,4 +1,4 @@
-//! A detector for tests of what stands above one.
+//! A detector for tests of the parts above one.
 ghost use Rattle.std.specs.Prelude.{◌≡◌, ◌++◌, ◌∷◌, [], OnOk};
 ghost use Rattle.process_api.specs.Answer.{to_others};
 

@@ -1,4 +1,4 @@
-//! What an order asks for, over its scenario.
+//! Carries out an order over its scenario.
 ghost use Rattle.std.specs.Prelude.{◌≡◌, ◌^◌, ◌-◌, ◌<◌, codes, IfOk, IfErr, OnOk, true};
 ghost use Rattle.bench_commands.specs.Answer.{GoesBy, GoesOver, IsCompareAnswer};
 ghost use Rattle.bench_commands.specs.Fault.{IsFirstFault, end_of};

@@ -10,6 +10,9 @@ use std::alloc::{AllocError, Global};
 /// What can be printed.
 static PRINTS: [&str; 3] = ["trace", "report", "both"];
 
+/// The program's name and its version, which is that of the file VERSION.
+const NAMED: &str = "fdbench 0.1.0";
+
 const ABOUT: &str =
     "Compares failure detectors and consensus algorithms by simulating crash-prone processes.
 
@@ -196,6 +199,7 @@ pub(crate) fn command<'a>(alloc: Global) -> Made<'a>
     ensures { IfOk result IsCommand }
 {
     let command = Command::new(alloc, "fdbench")
+        .before_help(NAMED)
         .about(ABOUT)
         .after_help(EXAMPLE);
     let checking = with_command(Ok(command), check_command(alloc));

@@ -1,4 +1,4 @@
-//! What a command line asks for.
+//! Orders: the tasks that a command line asks for.
 ghost use Rattle.std.specs.Prelude.{◌≡◌, ℕ, IfOk, IfErr, IfSome, IsNone, Some, None, List, option_map, map, codes};
 ghost use Rattle.clap.specs.Words.{rows_of, found_of, first_of, subcommand_rows_of, Text, Row};
 ghost use Rattle.command_line.specs.declared.order.Order.{Order as Asked};

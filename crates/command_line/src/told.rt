@@ -1,4 +1,4 @@
-//! What is told of words that state no order.
+//! The text about arguments that state no order.
 ghost use Rattle.std.specs.Prelude.{List};
 ghost use Rattle.clap.specs.Words.{Text};
 ghost use Rattle.command_line.specs.Order.{Explains};

@@ -1,4 +1,4 @@
-//! Runs that meet the bounds of their detectors exactly, and runs with a mistake, where a condition lacks by one tick.
+//! Runs that meet the bounds of their detectors exactly, and runs with a mistake, where a condition fails by one tick.
 
 use crate::judged::trace_of;
 use crate::runs::{NO_MEMORY, changed, same, scenario_of};
@@ -36,13 +36,15 @@ type Case = ([&'static str; 3], usize, (Detection, u64, u64));
 /// Under time-outs the last letter is sent at tick 4 and comes at 6. The observer bears with 4 ticks of silence, so
 /// that the check at tick 12 finds it overdue: `max`, the time-out and `check` after the crash, less 2. Of a process
 /// that crashes at once no letter comes, and the check at tick 6 finds 4 ticks of silence: the time-out and `check`
-/// later, less 1. The third observer suspected and trusted at tick 6, and so bears with 3 ticks more: the last letter
-/// comes at tick 10, and it suspects at tick 15.
+/// later, less 1. One that crashes at tick 4 sends none then: the last one comes at tick 2, and the check at tick 6
+/// finds it overdue. The fourth observer suspected and trusted at tick 6, and so bears with 3 ticks more: the last
+/// letter comes at tick 10, and it suspects at tick 15. The fifth suspected at ticks 1 and 4 and trusted at ticks 2
+/// and 6, with the letters of ticks 0 and 4, and so bears with 3 ticks in place of 1: it suspects at tick 9.
 ///
 /// Of freshness points the third, at tick 33, finds no heartbeat of the process that crashes at tick 21: `eta` and
 /// `delta` after the crash, less 1. Nor does the first of one that crashes at once, `eta` and `delta` later. What is
 /// to be sent at the crash's own tick isn't.
-const DETECTED: [Case; 6] = [
+const DETECTED: [Case; 8] = [
     (
         [
             "period = 4, check = 3, timeout = 4, grow = 1",
@@ -63,12 +65,30 @@ const DETECTED: [Case; 6] = [
     ),
     (
         [
+            "period = 4, check = 3, timeout = 4, grow = 1",
+            TWO_TICKS,
+            "process = 1, at = 4",
+        ],
+        1,
+        (Detection::At(2), 0, 0),
+    ),
+    (
+        [
             "period = 4, check = 3, timeout = 2, grow = 3",
             TWO_TICKS,
             "process = 2, at = 9",
         ],
         0,
         (Detection::At(6), 0, 0),
+    ),
+    (
+        [
+            "period = 4, check = 1, timeout = 1, grow = 1",
+            TWO_TICKS,
+            "process = 2, at = 8",
+        ],
+        0,
+        (Detection::At(1), 2, 3),
     ),
     (
         [FRESH, "min = 3, max = 3", "process = 1, at = 21"],
@@ -152,6 +172,30 @@ const ACCURATE: [Case; 8] = [
     ([FRESH, "min = 4, max = 4", NEVER], 0, (Detection::Na, 5, 5)),
 ];
 
+/// Three processes, each of which watches the next one and shares whom it suspects every 10 ticks. Process 2 crashes
+/// at tick 21, and its last set is from tick 20.
+const SHARED: &str = "version = 2
+processes = 3
+horizon = 100
+lookahead = 1
+seed = 1
+algorithm = \"none\"
+detector = { kind = \"freshness\", watch = \"next\", eta = 5, delta = 4 }
+share = { period = 10 }
+link = { min = 1, max = 1 }
+links = [{ from = 1, to = 3, min = 4, max = 4 }, { from = 2, to = 3, min = SLOW, max = SLOW }]
+crash = [{ process = 2, at = 21 }]
+";
+
+/// How long letters of process 2 take to process 3, and how long that one takes to detect its crash on layer 2.
+///
+/// Process 1 suspects it from tick 29 on, and process 3 hears of that at tick 34, by the share of tick 30. The last set
+/// of process 2 comes at tick 43, and process 3 trusts it again. The share of tick 40 comes at tick 44, just behind
+/// that set, and so process 3 suspects it from there on: `min` is taken off, or the share of tick 50 would be meant,
+/// which comes at tick 54. Where the last set comes one tick later, at tick 44, it comes behind the share of tick 40 in
+/// that tick, and the share of tick 50 is the first that comes behind it.
+const SHARED_JUST_BEHIND: [(&str, u32); 2] = [("23", 44 - 21), ("24", 54 - 21)];
+
 /// What the observer of a run finds of the other process.
 fn found<R: Abort>(
     rt: &R,
@@ -185,4 +229,22 @@ fn detected_just_in_time(rt: HostRuntime) {
 #[test]
 fn one_tick_less_brings_a_mistake(rt: HostRuntime) {
     are_found(&rt, rt.alloc(), &ACCURATE);
+}
+
+#[test]
+fn shared_just_behind_the_last_set(rt: HostRuntime) {
+    let alloc = rt.alloc();
+    for (slow, ticks) in &SHARED_JUST_BEHIND {
+        let scenario = scenario_of(&rt, alloc, &changed(&rt, alloc, SHARED, "SLOW", slow));
+        let trace = trace_of(&rt, alloc, &scenario);
+        let rows = measures(alloc, &scenario, &trace).expect(&rt, NO_MEMORY);
+        let row = rows.last().expect(&rt, "a pair is missing");
+        let came = (
+            row.layer,
+            row.observer.number(),
+            row.subject.number(),
+            row.detection,
+        );
+        same(&rt, &came, &(2, 3, 2, Detection::At(*ticks)));
+    }
 }

@@ -1,7 +1,7 @@
-//! Tests of `bench_commands` and `study_commands`: runs of `fdbench` and `fdstudy` over memory, from the words to the
-//! status; and of the inputs that `shell` reads.
+//! Tests of `bench_commands` and `study_commands`: runs of `fdbench` and `fdstudy` over memory, from the arguments to
+//! the status; and of the inputs that `shell` reads.
 //!
-//! What a run prints is compared by the crate `transcripts`. Here stands what no printed text shows: inputs and outlets
+//! The crate `transcripts` compares what a run prints. Here is tested what no printed text shows: inputs and outlets
 //! that fail, files by their paths, calls of the library, threads that must overlap, plans and windows as a gate sees
 //! them, agreement with many seeds, bounds of detectors that are met exactly, sums over many reports, and the line of
 //! progress.

@@ -1,4 +1,4 @@
-//! What the tests share: one run of a program over memory, and changes of files.
+//! The code that the tests share: one run of a program over memory, and changes of files.
 ghost use Rattle.std.specs.Prelude.{◌<◌, ◌^◌, ◌-◌};
 
 use reporting::{MemoryOutlet, Outlet};

@@ -1,4 +1,4 @@
-//! Traces and reports, beside what the library tells of them.
+//! Traces and reports, beside the library's numbers of them.
 
 use crate::files::{COORDINATORS, ONE_CRASH, ONE_PROCESS};
 use crate::judged::{ALL_DECIDE, NOTHING, are_outcomes, trace_of};

@@ -1,4 +1,4 @@
-//! What follows from the definition of the rotating coordinator.
+//! Laws that follow from the definition of the rotating coordinator.
 ghost use Rattle.consensus_es.specs.Laws.{ActsLittle, ChoosesBest, LeavesFewRounds, OpensOrderly, SettlesAlways, SettlesByEnds};
 
 /// Rotating coordinators, whatever the state and the input. Waits end as long as one can: after an input none is

@@ -5,19 +5,19 @@
 //! each the processes that its detector suspects by then. It answers with letters and notes. Its one contract is that
 //! of `process_api`'s `Algorithm`: on `Ok`, a call of `take` is the definition (`specs/Coordinator.antt` and
 //! `specs/Diffusion.antt` of `process_api`), and nothing else. This crate's own `specs/` only say how tables and sets
-//! in memory are seen as that definition's state, and what holds of every state that a process comes to.
+//! in memory stand for that definition's state, and what is true of every state that a process comes to.
 //!
 //! For example, process 1 of three opens with the proposal 10. At its start it notes round 1 and sends its estimate, 10
-//! with the stamp 0, to process 2, the coordinator of round 1. When process 2's proposal comes it adopts it, sends an
-//! ack to process 2, and enters round 2, whose coordinator is process 3. When a decision of round 1 comes it passes it
-//! on to all three, and notes that it has decided. From then on only decisions of other rounds have an effect: it
-//! passes each on once.
+//! with the stamp 0, to process 2, the coordinator of round 1. When the proposal of process 2 comes, process 1 adopts
+//! it, sends an ack to process 2, and enters round 2, whose coordinator is process 3. When a decision of round 1 comes,
+//! process 1 passes it on to all three, and notes that it has decided. From then on only decisions of other rounds have
+//! an effect: process 1 passes each on once.
 //!
-//! [`Diffusion`] is the second half of that by itself: the rounds whose decision was received, and who passes one on.
-//! [`Progress`] is the first half: how far a process has come. [`Membership`] is what both know of their surroundings:
-//! the own number, and among how many. [`Letters`] keeps the letters of a kind, of which [`best`] chooses the estimate
-//! with the largest stamp. [`law_settled`] says what follows from the definition: that waits end as long as one can,
-//! that one input makes few actions and leaves few rounds, and that the best estimate is chosen.
+//! [`Diffusion`] is the second half of that by itself: it has the rounds whose decision was received, and passes
+//! decisions on. [`Progress`] is the first half: it says how far a process has come. [`Membership`] is known to both:
+//! the process's own number, and the number of all processes. [`Letters`] keeps the letters of a kind, of which
+//! [`best`] chooses the estimate with the largest stamp. [`law_settled`] says what follows from the definition: waits
+//! end as long as one of them can, one input makes few actions and leaves few rounds, and the best estimate is chosen.
 #![tactic(auto)]
 
 mod consensus;

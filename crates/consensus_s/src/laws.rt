@@ -1,4 +1,4 @@
-//! What follows from the definition of consensus with S.
+//! Laws that follow from the definition of consensus with S.
 ghost use Rattle.consensus_s.specs.Laws.{RestsSettled, SettlesAlways};
 
 /// Consensus with S, whatever the state and the input. Waits end as long as one can: after an input none is over, and

@@ -1,4 +1,4 @@
-//! The letters that are kept, and what those of a round tell.
+//! The letters that are kept, and the contents of those of a round.
 ghost use Rattle.std.specs.Prelude.{◌≡◌, ◌≤◌, ℕ, ◌||◌, false, not, is_some, None, Some, OnOk};
 ghost use Rattle.std.specs.FinSet as set;
 ghost use Rattle.std.specs.Option.{option_copied};

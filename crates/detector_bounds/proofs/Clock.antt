@@ -31,8 +31,8 @@ module _ (tag : Tag) (begin period : ℕ) where
   due_after now (input.Wake for) due = if same_tag for tag then now + period else due
   due_after now (input.Letter sender what) due = due
 
-module _ {Mind D : Type 0} (S : Setting Mind) (sound : IsSound S) (first : D) (step : (p : ℕ) → D → (now : ℕ) → StepInput → Answer D) (suspects : ℕ → D → Processes) (R : RunsDetector S first step suspects)
-    (tag : Tag) (is_own : IsOwnTag tag) (begin period p : ℕ) (asks : (d : D) (now : ℕ) (x : StepInput) → wakes_of tag (step p d now x).actions ≡ asked tag begin period x) where
+module _ {Mind D : Type 0} {layer : ℕ} (S : Setting Mind) (sound : IsSound S) (first : D) (step : (p : ℕ) → D → (now : ℕ) → StepInput → Answer D) (suspects : ℕ → D → Processes) (R : RunsDetector layer S first step suspects)
+    (tag : Tag) (is_own : IsOwnTag layer tag) (begin period p : ℕ) (asks : (d : D) (now : ℕ) (x : StepInput) → wakes_of tag (step p d now x).actions ≡ asked tag begin period x) where
   abbrev pub IsWake : World Mind → Key → Type 0
   IsWake w key = (key.receiver ≡ p) × Has w.pending key (input.Wake tag)
 

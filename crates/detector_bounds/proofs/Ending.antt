@@ -17,7 +17,7 @@ module _ {Mind : Type 0} (S : Setting Mind) (sound : IsSound S) where
   runs_then end within [] g old mid new run more = subst (λ (z : World Mind). Run S S.horizon z g new) run.1 more
   runs_then end within (s ∷ h) g old mid new run more = (run.0, omega (arith, within, run.1), run.2, runs_then end within h g (taken S old s.0.key s.1) mid new run.3 more)
 
-  none_later : (end : ℕ) (w : World Mind) (key : Key) (x : StepInput) → IsWorld S w → Has w.pending key x → NoneBelow end w.pending → NoneBelow end (taken S w key x).pending
+  pub none_later : (end : ℕ) (w : World Mind) (key : Key) (x : StepInput) → IsWorld S w → Has w.pending key x → NoneBelow end w.pending → NoneBelow end (taken S w key x).pending
   none_later end w key x is there none k y h = elim (taken_cases S w key x k y h) [
     | inl i ↦ omega (arith, none key x there, (made_sent S w key x sound is there (k, y) i).later)
     | inr old ↦ none k y old.1
@@ -62,7 +62,7 @@ module _ {Mind : Type 0} (S : Setting Mind) (sound : IsSound S) where
   pub holds_at : (trace : List EntryRecord) (end : ℕ) (e : IsEnd trace end) (P : World Mind → List EntryRecord → Type 0) → IsKept end P → P e.world (entries e.history)
   holds_at trace end e P kept = (run_keeps end P kept e.history (opening S) e.world [] (opening_world S sound) kept.opens e.run).1
 
-  none_at : (end : ℕ) (h : List Pair) (w new : World Mind) → Run S end w h new → NoneBelow end new.pending
+  pub none_at : (end : ℕ) (h : List Pair) (w new : World Mind) → Run S end w h new → NoneBelow end new.pending
   none_at end [] w new run = subst (λ (z : World Mind). NoneBelow end z.pending) (sym run.1) run.0
   none_at end (s ∷ h) w new run = none_at end h (taken S w s.0.key s.1) new run.3
 

@@ -1,7 +1,7 @@
 -- A scenario's machines run its detector, whatever stands above it.
 use Rattle.std.proofs.Common.{◌≡◌, ℕ, refl, sym, ap, ◌∙◌, subst}
 use Rattle.process_api.specs.Answer.{Answer}
-use Rattle.process_api.specs.Detector.{DetectorState, ByTimeout, ByFreshness, opening_detector, step_detector}
+use Rattle.process_api.specs.Detector.{DetectorState, ByTimeout, ByFreshness, opening_detector, suspected_by, step_detector}
 use Rattle.process_api.specs.Freshness.{FreshnessState, opening_freshness, suspected, step_freshness}
 use Rattle.process_api.specs.Mind.{Lower, Mind}
 use Rattle.process_api.specs.Place.{Place}
@@ -54,7 +54,7 @@ module _ (s : Record) (its : FreshnessNumbers) (kind : s.detector ≡ numbers.Fr
   fresh_detector : (p : ℕ) (m : Mind) (now : ℕ) (x : StepInput) → HasFreshness p m → (react m now x).state.lower.detector ≡ ByFreshness its (fresh_step s its p (freshness_of m.lower.detector) now x).state
   fresh_detector p m now x h = detector_is m now x ∙ ap (λ (a : Answer DetectorState). a.state) (fresh_based p m now x h)
 
-  pub runs_freshness : RunsDetector (setting_of s) opening_freshness (fresh_step s its) (fresh_suspects s its)
+  pub runs_freshness : RunsDetector 1 (setting_of s) opening_freshness (fresh_step s its) (fresh_suspects s its)
   unfolding freshness_of
   runs_freshness = record {
     part = λ m. freshness_of m.lower.detector;
@@ -63,10 +63,14 @@ module _ (s : Record) (its : FreshnessNumbers) (kind : s.detector ≡ numbers.Fr
     opens_with = λ p. ap (λ k. freshness_of (opening_detector k)) kind;
     keeps = λ p m now x h. let e = fresh_detector p m now x h in (place_is m now x ∙ h.0, e ∙ sym (ap (λ d. ByFreshness its (freshness_of d)) e));
     state = λ p m now x h. ap freshness_of (fresh_detector p m now x h);
-    acts = λ p m now x h. subst (λ xs. IsFollowed xs (react m now x).actions) (ap (λ (a : Answer DetectorState). a.actions) (fresh_based p m now x h)) (mind_followed m now x);
+    acts = λ p m now x h. subst (λ xs. IsFollowed 1 xs (react m now x).actions) (ap (λ (a : Answer DetectorState). a.actions) (fresh_based p m now x h)) (mind_followed m now x);
     trusts = λ p q. freshness_opens (place_in s p) its q;
     tells = λ p d now x. (freshness_laws (place_in s p) its d x).notes;
   }
+
+  pub fresh_seen : (p : ℕ) (m : Mind) → runs_freshness.has p m → suspected_by m.lower.place m.lower.detector ≡ fresh_suspects s its p (runs_freshness.part m)
+  unfolding runs_freshness
+  fresh_seen p m h = λ i. suspected_by (h.0 i) (h.1 i)
 
 -- ---- time-outs
 
@@ -96,7 +100,7 @@ module _ (s : Record) (its : TimeoutNumbers) (kind : s.detector ≡ numbers.Time
   timeout_detector : (p : ℕ) (m : Mind) (now : ℕ) (x : StepInput) → HasTimeout p m → (react m now x).state.lower.detector ≡ ByTimeout its (timeout_step s its p (timeout_of its m.lower.detector) now x).state
   timeout_detector p m now x h = detector_is m now x ∙ ap (λ (a : Answer DetectorState). a.state) (timeout_based p m now x h)
 
-  pub runs_timeout : RunsDetector (setting_of s) (opening_timeout its) (timeout_step s its) (timeout_suspects s its)
+  pub runs_timeout : RunsDetector 1 (setting_of s) (opening_timeout its) (timeout_step s its) (timeout_suspects s its)
   unfolding timeout_of
   runs_timeout = record {
     part = λ m. timeout_of its m.lower.detector;
@@ -105,7 +109,11 @@ module _ (s : Record) (its : TimeoutNumbers) (kind : s.detector ≡ numbers.Time
     opens_with = λ p. ap (λ k. timeout_of its (opening_detector k)) kind;
     keeps = λ p m now x h. let e = timeout_detector p m now x h in (place_is m now x ∙ h.0, e ∙ sym (ap (λ d. ByTimeout its (timeout_of its d)) e));
     state = λ p m now x h. ap (timeout_of its) (timeout_detector p m now x h);
-    acts = λ p m now x h. subst (λ xs. IsFollowed xs (react m now x).actions) (ap (λ (a : Answer DetectorState). a.actions) (timeout_based p m now x h)) (mind_followed m now x);
+    acts = λ p m now x h. subst (λ xs. IsFollowed 1 xs (react m now x).actions) (ap (λ (a : Answer DetectorState). a.actions) (timeout_based p m now x h)) (mind_followed m now x);
     trusts = λ p q. timeout_opens its q;
     tells = λ p d now x. (timeout_laws (place_in s p) its d now x).notes;
   }
+
+  pub timeout_seen : (p : ℕ) (m : Mind) → runs_timeout.has p m → suspected_by m.lower.place m.lower.detector ≡ timeout_suspects s its p (runs_timeout.part m)
+  unfolding runs_timeout
+  timeout_seen p m h = λ i. suspected_by (h.0 i) (h.1 i)

@@ -1,4 +1,4 @@
--- Machines that have a base detector below other parts, and what one step makes of it.
+-- Machines that have a detector of a layer below other parts, and what one step makes of it.
 use Rattle.std.proofs.Common.{◌≡◌, ◌≢◌, ◌⊎◌, ℕ, ◌+◌, refl, sym, ap, ◌∙◌, subst, Bool, true, false, cond, List, [], ◌∷◌, inl, inr}
 use Rattle.std.proofs.lemmas.Bool.{cases_eq, cases_Bool}
 use Rattle.std.specs.FinSet as set
@@ -20,10 +20,10 @@ use Rattle.trace_laws.specs.World.{World, made, taken, opening}
 use Rattle.trace_laws.proofs.Steps.{in_left}
 use Rattle.trace_laws.proofs.Worlds.{by_receiver, process_at, process_other}
 use Rattle.detector_bounds.proofs.Above.{IsFollowed, IsOwnTag, IsOwnLetter, wakes_are, letters_are}
-use Rattle.detector_bounds.proofs.Added.{wakes_of, WakesIn, WakeComes, added_wake, wake_comes, one_wake, LetterCame, added_letter, Delivers, LetterComes, letter_comes}
+use Rattle.detector_bounds.proofs.Added.{wakes_of, WakesIn, WakeComes, added_wake, wake_comes, one_wake, LetterCame, added_letter, Delivers, LetterComes, letter_comes, OwnComes, own_comes}
 
 -- Each mind has a part, the state of a detector, which takes every input of its process; what stands above acts after it
-pub record RunsDetector {Mind D : Type 0} (S : Setting Mind) (opening : D) (step : (p : ℕ) → D → (now : ℕ) → StepInput → Answer D) (suspects : ℕ → D → Processes) : Type 1 where
+pub record RunsDetector {Mind D : Type 0} (layer : ℕ) (S : Setting Mind) (opening : D) (step : (p : ℕ) → D → (now : ℕ) → StepInput → Answer D) (suspects : ℕ → D → Processes) : Type 1 where
   pub part : Mind → D
   -- whether a mind of a process has such a part
   pub has : ℕ → Mind → Type 0
@@ -31,12 +31,12 @@ pub record RunsDetector {Mind D : Type 0} (S : Setting Mind) (opening : D) (step
   pub opens_with : (p : ℕ) → part (S.opening p) ≡ opening
   pub keeps : (p : ℕ) (mind : Mind) (now : ℕ) (x : StepInput) → has p mind → has p (S.react mind now x).state
   pub state : (p : ℕ) (mind : Mind) (now : ℕ) (x : StepInput) → has p mind → part (S.react mind now x).state ≡ (step p (part mind) now x).state
-  pub acts : (p : ℕ) (mind : Mind) (now : ℕ) (x : StepInput) → has p mind → IsFollowed (step p (part mind) now x).actions (S.react mind now x).actions
+  pub acts : (p : ℕ) (mind : Mind) (now : ℕ) (x : StepInput) → has p mind → IsFollowed layer (step p (part mind) now x).actions (S.react mind now x).actions
   -- it suspects nobody at first, and notes just how its suspects change
   pub trusts : (p q : ℕ) → set.contains (suspects p opening) q ≡ false
-  pub tells : (p : ℕ) (d : D) (now : ℕ) (x : StepInput) → notes_of_layer 1 (step p d now x).actions ≡ changes 1 S.processes (suspects p d) (suspects p (step p d now x).state)
+  pub tells : (p : ℕ) (d : D) (now : ℕ) (x : StepInput) → notes_of_layer layer (step p d now x).actions ≡ changes layer S.processes (suspects p d) (suspects p (step p d now x).state)
 
-module _ {Mind D : Type 0} (S : Setting Mind) (first : D) (step : (p : ℕ) → D → (now : ℕ) → StepInput → Answer D) (suspects : ℕ → D → Processes) (R : RunsDetector S first step suspects) where
+module _ {Mind D : Type 0} {layer : ℕ} (S : Setting Mind) (first : D) (step : (p : ℕ) → D → (now : ℕ) → StepInput → Answer D) (suspects : ℕ → D → Processes) (R : RunsDetector layer S first step suspects) where
   -- the state of a process's detector
   abbrev pub state_of : World Mind → ℕ → D
   state_of w p = R.part (w.process p).mind
@@ -71,8 +71,8 @@ module _ {Mind D : Type 0} (S : Setting Mind) (first : D) (step : (p : ℕ) → 
     abbrev pub acts : List Action
     acts = acts_or is_down
 
-    pub followed : IsFollowed own.actions acts
-    followed = elim is_down as (λ b. IsFollowed (own_or b).actions (acts_or b)) [
+    pub followed : IsFollowed layer own.actions acts
+    followed = elim is_down as (λ b. IsFollowed layer (own_or b).actions (acts_or b)) [
       | true ↦ record { more = []; above = tt; whole = refl }
       | false ↦ R.acts key.receiver (w.process key.receiver).mind key.tick x (all key.receiver)
     ]
@@ -102,9 +102,9 @@ module _ {Mind D : Type 0} (S : Setting Mind) (first : D) (step : (p : ℕ) → 
     state_other p other = ap (λ (z : Process Mind). R.part z.mind) (process_other S w key x p other)
 
     -- what it notes is how its suspects change
-    pub own_tells : notes_of_layer 1 own.actions ≡ changes 1 S.processes (suspects key.receiver (state_of w key.receiver)) (suspects key.receiver own.state)
-    own_tells = elim is_down as (λ b. notes_of_layer 1 (own_or b).actions ≡ changes 1 S.processes (suspects key.receiver (state_of w key.receiver)) (suspects key.receiver (own_or b).state)) [
-      | true ↦ changes-none 1 S.processes (suspects key.receiver (state_of w key.receiver))
+    pub own_tells : notes_of_layer layer own.actions ≡ changes layer S.processes (suspects key.receiver (state_of w key.receiver)) (suspects key.receiver own.state)
+    own_tells = elim is_down as (λ b. notes_of_layer layer (own_or b).actions ≡ changes layer S.processes (suspects key.receiver (state_of w key.receiver)) (suspects key.receiver (own_or b).state)) [
+      | true ↦ changes-none layer S.processes (suspects key.receiver (state_of w key.receiver))
       | false ↦ R.tells key.receiver (state_of w key.receiver) key.tick x
     ]
 
@@ -128,28 +128,33 @@ module _ {Mind D : Type 0} (S : Setting Mind) (first : D) (step : (p : ℕ) → 
 
     -- ---- the detector's wakes and letters among the events that join
 
-    pub wake_new : (tag : Tag) → IsOwnTag tag → (k : Key) → IsIn (k, input.Wake tag) (made S w key x).added → WakesIn S key.receiver key.tick (wakes_of tag own.actions) k
+    pub wake_new : (tag : Tag) → IsOwnTag layer tag → (k : Key) → IsIn (k, input.Wake tag) (made S w key x).added → WakesIn S key.receiver key.tick (wakes_of tag own.actions) k
     wake_new tag is_own k i =
-        subst (λ pauses. WakesIn S key.receiver key.tick pauses k) (wakes_are own.actions acts followed tag is_own)
+        subst (λ pauses. WakesIn S key.receiver key.tick pauses k) (wakes_are layer own.actions acts followed tag is_own)
         (added_wake S key.receiver key.tick (w.process key.receiver).counts acts k tag (subst (IsIn {X = Event} (k, input.Wake tag)) added_is i))
 
-    pub wake_there : (tag : Tag) → IsOwnTag tag → (pause : ℕ) → IsIn pause (wakes_of tag own.actions) → WakeComes S key.receiver key.tick (made S w key x).added tag (key.tick + pause)
+    pub wake_there : (tag : Tag) → IsOwnTag layer tag → (pause : ℕ) → IsIn pause (wakes_of tag own.actions) → WakeComes S key.receiver key.tick (made S w key x).added tag (key.tick + pause)
     wake_there tag is_own pause i =
         subst (λ events. WakeComes S key.receiver key.tick events tag (key.tick + pause)) (sym added_is)
-        (wake_comes S key.receiver key.tick (w.process key.receiver).counts acts tag pause (subst (IsIn pause) (sym (wakes_are own.actions acts followed tag is_own)) i))
+        (wake_comes S key.receiver key.tick (w.process key.receiver).counts acts tag pause (subst (IsIn pause) (sym (wakes_are layer own.actions acts followed tag is_own)) i))
 
-    pub wake_alone : (tag : Tag) → IsOwnTag tag → (pause : ℕ) → wakes_of tag own.actions ≡ pause ∷ [] → (k l : Key) → IsIn (k, input.Wake tag) (made S w key x).added → IsIn (l, input.Wake tag) (made S w key x).added → k ≡ l
+    pub wake_alone : (tag : Tag) → IsOwnTag layer tag → (pause : ℕ) → wakes_of tag own.actions ≡ pause ∷ [] → (k l : Key) → IsIn (k, input.Wake tag) (made S w key x).added → IsIn (l, input.Wake tag) (made S w key x).added → k ≡ l
     wake_alone tag is_own pause one k l i j =
-        one_wake S key.receiver key.tick (w.process key.receiver).counts acts tag pause (wakes_are own.actions acts followed tag is_own ∙ one) k l
+        one_wake S key.receiver key.tick (w.process key.receiver).counts acts tag pause (wakes_are layer own.actions acts followed tag is_own ∙ one) k l
         (subst (IsIn {X = Event} (k, input.Wake tag)) added_is i) (subst (IsIn {X = Event} (l, input.Wake tag)) added_is j)
 
-    pub letter_new : (y : Payload) → IsOwnLetter y → (k : Key) (s : ℕ) → IsIn (k, input.Letter s y) (made S w key x).added
+    pub letter_new : (y : Payload) → IsOwnLetter layer y → (k : Key) (s : ℕ) → IsIn (k, input.Letter s y) (made S w key x).added
         → (s ≡ key.receiver) × IsIn (action.Send k.receiver y) own.actions × (k.receiver ≢ key.receiver → LetterCame S key.receiver key.tick k)
     letter_new y is_own k s i =
         let r = added_letter S key.receiver key.tick (w.process key.receiver).counts acts k s y (subst (IsIn {X = Event} (k, input.Letter s y)) added_is i) in
-        (r.0, letters_are own.actions acts followed k.receiver y is_own r.1, r.2)
+        (r.0, letters_are layer own.actions acts followed k.receiver y is_own r.1, r.2)
 
     pub letter_there : (y : Payload) (to most : ℕ) → to ≢ key.receiver → Delivers S key.receiver key.tick to most → IsIn (action.Send to y) own.actions → LetterComes S key.receiver key.tick (made S w key x).added to most y
     letter_there y to most other delivers i =
         subst (λ events. LetterComes S key.receiver key.tick events to most y) (sym added_is)
         (letter_comes S key.receiver key.tick to most other delivers (w.process key.receiver).counts acts y (subst (IsIn (action.Send to y)) (sym followed.whole) (in_left _ own.actions followed.more i)))
+
+    pub own_letter_there : (y : Payload) → IsIn (action.Send key.receiver y) own.actions → OwnComes S key.receiver key.tick (made S w key x).added y
+    own_letter_there y i =
+        subst (λ events. OwnComes S key.receiver key.tick events y) (sym added_is)
+        (own_comes S key.receiver key.tick (w.process key.receiver).counts acts y (subst (IsIn (action.Send key.receiver y)) (sym followed.whole) (in_left _ own.actions followed.more i)))

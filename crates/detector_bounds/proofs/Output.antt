@@ -1,4 +1,4 @@
--- OUT is the detector's set: notes on layer 1 are how it changes.
+-- OUT is the set of a layer's detector: the layer's notes are how it changes.
 use Rattle.std.proofs.Common.{◌≡◌, ◌≢◌, inl, inr, ℕ, zero, suc, ◌+◌, ◌≤◌, refl, sym, ap, ◌∙◌, subst, Bool, true, false, cond, not, ◌&&◌, ◌||◌, ◌==◌, nat_eq, nat_le, List, [], ◌∷◌, ◌++◌, map, append_assoc, append-nil, fold, arith}
 use Rattle.std.specs.FinSet as set
 use Rattle.std.specs.List.{AllByRecursion, filter}
@@ -20,24 +20,25 @@ use Rattle.judges.specs.Out.{Set, nobody, with, without, after_note, notes_until
 
 -- ---- a step's notes
 
-one_layer : (l : ℕ) (x : Note) (s changed : Set) (all rest : List Note) → ((z : Set) → fold (after_note 1) z all ≡ fold (after_note 1) z rest) → after_note 1 s x ≡ cond (nat_eq l 1) changed s
-    → fold (after_note 1) (cond (nat_eq l 1) changed s) all ≡ fold (after_note 1) s (cond (nat_eq l 1) (x ∷ []) [] ++ rest)
-one_layer l x s changed all rest f is = go (nat_eq l 1) is
-  where
-    go : (b : Bool) → after_note 1 s x ≡ cond b changed s → fold (after_note 1) (cond b changed s) all ≡ fold (after_note 1) s (cond b (x ∷ []) [] ++ rest)
-    go true is = f changed ∙ ap (λ z. fold (after_note 1) z rest) (sym is)
-    go false is = f s
+module _ (layer : ℕ) where
+  one_layer : (l : ℕ) (x : Note) (s changed : Set) (all rest : List Note) → ((z : Set) → fold (after_note layer) z all ≡ fold (after_note layer) z rest) → after_note layer s x ≡ cond (nat_eq l layer) changed s
+      → fold (after_note layer) (cond (nat_eq l layer) changed s) all ≡ fold (after_note layer) s (cond (nat_eq l layer) (x ∷ []) [] ++ rest)
+  one_layer l x s changed all rest f is = go (nat_eq l layer) is
+    where
+      go : (b : Bool) → after_note layer s x ≡ cond b changed s → fold (after_note layer) (cond b changed s) all ≡ fold (after_note layer) s (cond b (x ∷ []) [] ++ rest)
+      go true is = f changed ∙ ap (λ z. fold (after_note layer) z rest) (sym is)
+      go false is = f s
 
--- only notes of layer 1 count
-layer_notes : (actions : List Action) (s : Set) → fold (after_note 1) s (noted actions) ≡ fold (after_note 1) s (notes_of_layer 1 actions)
-layer_notes [] s = refl
-layer_notes (action.Send to what ∷ actions) s = layer_notes actions s
-layer_notes (action.Wake pause tag ∷ actions) s = layer_notes actions s
-layer_notes (action.Note (note.Suspect l q) ∷ actions) s = one_layer l (note.Suspect l q) s (with s q) (noted actions) (notes_of_layer 1 actions) (λ z. layer_notes actions z) refl
-layer_notes (action.Note (note.Trust l q) ∷ actions) s = one_layer l (note.Trust l q) s (without s q) (noted actions) (notes_of_layer 1 actions) (λ z. layer_notes actions z) refl
-layer_notes (action.Note (note.Round r) ∷ actions) s = layer_notes actions s
-layer_notes (action.Note (note.Decided v) ∷ actions) s = layer_notes actions s
-layer_notes (action.Note note.NoValue ∷ actions) s = layer_notes actions s
+  -- only notes of the layer count
+  layer_notes : (actions : List Action) (s : Set) → fold (after_note layer) s (noted actions) ≡ fold (after_note layer) s (notes_of_layer layer actions)
+  layer_notes [] s = refl
+  layer_notes (action.Send to what ∷ actions) s = layer_notes actions s
+  layer_notes (action.Wake pause tag ∷ actions) s = layer_notes actions s
+  layer_notes (action.Note (note.Suspect l q) ∷ actions) s = one_layer l (note.Suspect l q) s (with s q) (noted actions) (notes_of_layer layer actions) (λ z. layer_notes actions z) refl
+  layer_notes (action.Note (note.Trust l q) ∷ actions) s = one_layer l (note.Trust l q) s (without s q) (noted actions) (notes_of_layer layer actions) (λ z. layer_notes actions z) refl
+  layer_notes (action.Note (note.Round r) ∷ actions) s = layer_notes actions s
+  layer_notes (action.Note (note.Decided v) ∷ actions) s = layer_notes actions s
+  layer_notes (action.Note note.NoValue ∷ actions) s = layer_notes actions s
 
 -- whether a process is one of these
 abbrev among : ℕ → List ℕ → Bool
@@ -74,19 +75,11 @@ one_more true false s = refl
 one_more false true s = refl
 one_more false false s = refl
 
-suspects_all : (p : ℕ) (qs : List ℕ) (s : Set) → fold (after_note 1) s (map (note.Suspect 1) qs) p ≡ (among p qs || s p)
-suspects_all p [] s = refl
-suspects_all p (q ∷ qs) s = suspects_all p qs (with s q) ∙ one_more (among p qs) (nat_eq q p) (s p)
-
 one_less : (a b s : Bool) → (not a && cond b false s) ≡ (not (b || a) && s)
 one_less true true s = refl
 one_less true false s = refl
 one_less false true s = refl
 one_less false false s = refl
-
-trusts_all : (p : ℕ) (qs : List ℕ) (s : Set) → fold (after_note 1) s (map (note.Trust 1) qs) p ≡ (not (among p qs) && s p)
-trusts_all p [] s = refl
-trusts_all p (q ∷ qs) s = trusts_all p qs (without s q) ∙ one_less (among p qs) (nat_eq q p) (s p)
 
 -- who is of 1 to n and is in the set after its changes
 changed : (was is : Bool) → (not (was && not is) && ((is && not was) || was)) ≡ is
@@ -100,18 +93,27 @@ among-gone p n from to one =
     among-filter p (λ q. set.contains from q && not (set.contains to q)) (numbers_to n)
     ∙ ap (λ b. b && (set.contains from p && not (set.contains to p))) (among-numbers p n ∙ one)
 
--- what a step notes makes of OUT what the detector's set becomes
-pub noted_out : (n p : ℕ) (before after : Processes) (actions : List Action) (s : Set) → is_process n p ≡ true → notes_of_layer 1 actions ≡ changes 1 n before after → s p ≡ set.contains before p
-    → fold (after_note 1) s (noted actions) p ≡ set.contains after p
-noted_out n p before after actions s one tells was =
-    let first : Set = fold (after_note 1) s (map (note.Suspect 1) (gone n after before)) in
-    ap (λ (z : Set). z p) (layer_notes actions s)
-    ∙ (ap (λ xs. fold (after_note 1) s xs p) tells
-    ∙ (ap (λ (z : Set). z p) (fold-append (after_note 1) s (map (note.Suspect 1) (gone n after before)) (map (note.Trust 1) (gone n before after)))
-    ∙ (trusts_all p (gone n before after) first
-    ∙ ((λ i. not (among-gone p n before after one i) && (suspects_all p (gone n after before) s i))
-    ∙ ((λ i. not (set.contains before p && not (set.contains after p)) && (among-gone p n after before one i || was i))
-    ∙ changed (set.contains before p) (set.contains after p))))))
+module _ (layer : ℕ) where
+  suspects_all : (p : ℕ) (qs : List ℕ) (s : Set) → fold (after_note layer) s (map (note.Suspect layer) qs) p ≡ (among p qs || s p)
+  suspects_all p [] s = refl
+  suspects_all p (q ∷ qs) s = ap (λ b. fold (after_note layer) (cond b (with s q) s) (map (note.Suspect layer) qs) p) (eq-eqb layer layer refl) ∙ (suspects_all p qs (with s q) ∙ one_more (among p qs) (nat_eq q p) (s p))
+
+  trusts_all : (p : ℕ) (qs : List ℕ) (s : Set) → fold (after_note layer) s (map (note.Trust layer) qs) p ≡ (not (among p qs) && s p)
+  trusts_all p [] s = refl
+  trusts_all p (q ∷ qs) s = ap (λ b. fold (after_note layer) (cond b (without s q) s) (map (note.Trust layer) qs) p) (eq-eqb layer layer refl) ∙ (trusts_all p qs (without s q) ∙ one_less (among p qs) (nat_eq q p) (s p))
+
+  -- what a step notes makes of OUT what the detector's set becomes
+  pub noted_out : (n p : ℕ) (before after : Processes) (actions : List Action) (s : Set) → is_process n p ≡ true → notes_of_layer layer actions ≡ changes layer n before after → s p ≡ set.contains before p
+      → fold (after_note layer) s (noted actions) p ≡ set.contains after p
+  noted_out n p before after actions s one tells was =
+      let first : Set = fold (after_note layer) s (map (note.Suspect layer) (gone n after before)) in
+      ap (λ (z : Set). z p) (layer_notes layer actions s)
+      ∙ (ap (λ xs. fold (after_note layer) s xs p) tells
+      ∙ (ap (λ (z : Set). z p) (fold-append (after_note layer) s (map (note.Suspect layer) (gone n after before)) (map (note.Trust layer) (gone n before after)))
+      ∙ (trusts_all p (gone n before after) first
+      ∙ ((λ i. not (among-gone p n before after one i) && (suspects_all p (gone n after before) s i))
+      ∙ ((λ i. not (set.contains before p && not (set.contains after p)) && (among-gone p n after before one i || was i))
+      ∙ changed (set.contains before p) (set.contains after p))))))
 
 -- ---- a trace
 
@@ -130,19 +132,20 @@ none_later (e ∷ later) q t after =
     ap (λ b. cond b (e.notes ++ notes_until later q t) (notes_until later q t)) (and_right (e.key.receiver == q) (nat_le e.key.tick t) (lt-leb e.key.tick t (omega (arith, after.0))))
     ∙ none_later later q t after.1
 
-pub out_so_far : (earlier later : List EntryRecord) (q t p : ℕ) → AllByRecursion (λ e. t + 1 ≤ e.key.tick) later → out 1 (earlier ++ later) q t p ≡ out 1 earlier q t p
-out_so_far earlier later q t p after =
-    ap (λ notes. fold (after_note 1) nobody notes p) (notes_until-append earlier later q t ∙ (ap (λ z. notes_until earlier q t ++ z) (none_later later q t after) ∙ append-nil _))
+module _ (layer : ℕ) where
+  pub out_so_far : (earlier later : List EntryRecord) (q t p : ℕ) → AllByRecursion (λ e. t + 1 ≤ e.key.tick) later → out layer (earlier ++ later) q t p ≡ out layer earlier q t p
+  out_so_far earlier later q t p after =
+      ap (λ notes. fold (after_note layer) nobody notes p) (notes_until-append earlier later q t ∙ (ap (λ z. notes_until earlier q t ++ z) (none_later later q t after) ∙ append-nil _))
 
--- an entry of a tick so far
-pub out_more : (past : List EntryRecord) (e : EntryRecord) (q t p : ℕ) → e.key.receiver ≡ q → e.key.tick ≤ t → out 1 (past ++ e ∷ []) q t p ≡ fold (after_note 1) (out 1 past q t) e.notes p
-out_more past e q t p at low =
-    ap (λ notes. fold (after_note 1) nobody notes p) (notes_until-append past (e ∷ []) q t
-    ∙ (ap (λ b. notes_until past q t ++ cond b (e.notes ++ []) []) (and_true (e.key.receiver == q) (nat_le e.key.tick t) (eq-eqb e.key.receiver q at) (le-leb e.key.tick t low))
-    ∙ ap (λ z. notes_until past q t ++ z) (append-nil e.notes)))
-    ∙ ap (λ (z : Set). z p) (fold-append (after_note 1) nobody (notes_until past q t) e.notes)
+  -- an entry of a tick so far
+  pub out_more : (past : List EntryRecord) (e : EntryRecord) (q t p : ℕ) → e.key.receiver ≡ q → e.key.tick ≤ t → out layer (past ++ e ∷ []) q t p ≡ fold (after_note layer) (out layer past q t) e.notes p
+  out_more past e q t p at low =
+      ap (λ notes. fold (after_note layer) nobody notes p) (notes_until-append past (e ∷ []) q t
+      ∙ (ap (λ b. notes_until past q t ++ cond b (e.notes ++ []) []) (and_true (e.key.receiver == q) (nat_le e.key.tick t) (eq-eqb e.key.receiver q at) (le-leb e.key.tick t low))
+      ∙ ap (λ z. notes_until past q t ++ z) (append-nil e.notes)))
+      ∙ ap (λ (z : Set). z p) (fold-append (after_note layer) nobody (notes_until past q t) e.notes)
 
-pub out_same : (past : List EntryRecord) (e : EntryRecord) (q t p : ℕ) → e.key.receiver ≢ q → out 1 (past ++ e ∷ []) q t p ≡ out 1 past q t p
-out_same past e q t p other =
-    ap (λ notes. fold (after_note 1) nobody notes p) (notes_until-append past (e ∷ []) q t
-    ∙ (ap (λ b. notes_until past q t ++ cond (b && nat_le e.key.tick t) (e.notes ++ []) []) (ne_eqb e.key.receiver q other) ∙ append-nil _))
+  pub out_same : (past : List EntryRecord) (e : EntryRecord) (q t p : ℕ) → e.key.receiver ≢ q → out layer (past ++ e ∷ []) q t p ≡ out layer past q t p
+  out_same past e q t p other =
+      ap (λ notes. fold (after_note layer) nobody notes p) (notes_until-append past (e ∷ []) q t
+      ∙ (ap (λ b. notes_until past q t ++ cond (b && nat_le e.key.tick t) (e.notes ++ []) []) (ne_eqb e.key.receiver q other) ∙ append-nil _))

@@ -41,7 +41,7 @@ starts_there (suc n) p low high = elim (cases_eq p (suc n)) [
       ∙ starts_there n p low (omega (arith, high, other))
 ]
 
-module _ {Mind D : Type 0} (S : Setting Mind) (sound : IsSound S) (first : D) (step : (p : ℕ) → D → (now : ℕ) → StepInput → Answer D) (suspects : ℕ → D → Processes) (R : RunsDetector S first step suspects) where
+module _ {Mind D : Type 0} {layer : ℕ} (S : Setting Mind) (sound : IsSound S) (first : D) (step : (p : ℕ) → D → (now : ℕ) → StepInput → Answer D) (suspects : ℕ → D → Processes) (R : RunsDetector layer S first step suspects) where
   abbrev pub IsUnstarted : World Mind → ℕ → Type 0
   IsUnstarted w p = Has w.pending (start_of p) input.Start
 
@@ -50,7 +50,7 @@ module _ {Mind D : Type 0} (S : Setting Mind) (sound : IsSound S) (first : D) (s
     pub has : HasAll S first step suspects R w
     pub start_or_later : (key : Key) (x : StepInput) → Has w.pending key x → IsStartOrLater key x
     pub unstarted : (p : ℕ) → IsUnstarted w p → state_of S first step suspects R w p ≡ first
-    pub outputs : (q p : ℕ) → is_process S.processes p ≡ true → out 1 past q t p ≡ set.contains (suspects q (state_of S first step suspects R w q)) p
+    pub outputs : (q p : ℕ) → is_process S.processes p ≡ true → out layer past q t p ≡ set.contains (suspects q (state_of S first step suspects R w q)) p
 
   module _ (t : ℕ) (w : World Mind) (past : List EntryRecord) (key : Key) (x : StepInput) (is : IsWorld S w) (s : Stands t w past) (least : IsLeast w.pending key x) where
     -- a step adds no start
@@ -85,11 +85,11 @@ module _ {Mind D : Type 0} (S : Setting Mind) (sound : IsSound S) (first : D) (s
     ]
 
     next_outputs : key.tick ≤ t → (q p : ℕ) → is_process S.processes p ≡ true
-        → out 1 (past ++ (made S w key x).entry ∷ []) q t p ≡ set.contains (suspects q (state_of S first step suspects R (taken S w key x) q)) p
+        → out layer (past ++ (made S w key x).entry ∷ []) q t p ≡ set.contains (suspects q (state_of S first step suspects R (taken S w key x) q)) p
     next_outputs low q p one = elim (cases_eq q key.receiver) [
-      | inl at ↦ subst (λ r. out 1 (past ++ (made S w key x).entry ∷ []) r t p ≡ set.contains (suspects r (state_of S first step suspects R (taken S w key x) r)) p) (sym at) here
+      | inl at ↦ subst (λ r. out layer (past ++ (made S w key x).entry ∷ []) r t p ≡ set.contains (suspects r (state_of S first step suspects R (taken S w key x) r)) p) (sym at) here
       | inr other ↦
-          out_same past (made S w key x).entry q t p (λ e. other (sym e ∙ receiver_is))
+          out_same layer past (made S w key x).entry q t p (λ e. other (sym e ∙ receiver_is))
           ∙ (s.outputs q p one ∙ ap (λ d. set.contains (suspects q d) p) (sym (state_other S first step suspects R w key x s.has q other)))
     ]
       where
@@ -99,13 +99,13 @@ module _ {Mind D : Type 0} (S : Setting Mind) (sound : IsSound S) (first : D) (s
         tick_is : (made S w key x).entry.key.tick ≡ key.tick
         tick_is = ap (λ (k : Key). k.tick) (key_is S first step suspects R w key x s.has)
 
-        here : out 1 (past ++ (made S w key x).entry ∷ []) key.receiver t p ≡ set.contains (suspects key.receiver (state_of S first step suspects R (taken S w key x) key.receiver)) p
+        here : out layer (past ++ (made S w key x).entry ∷ []) key.receiver t p ≡ set.contains (suspects key.receiver (state_of S first step suspects R (taken S w key x) key.receiver)) p
         here =
-            out_more past (made S w key x).entry key.receiver t p receiver_is (omega (arith, low, tick_is))
-            ∙ (ap (λ notes. fold (after_note 1) (out 1 past key.receiver t) notes p) (notes_is S first step suspects R w key x s.has)
-            ∙ (ap (λ (z : Set). z p) (notes_are (own S first step suspects R w key x s.has).actions (acts S first step suspects R w key x s.has) (followed S first step suspects R w key x s.has) (out 1 past key.receiver t))
-            ∙ (noted_out S.processes p (suspects key.receiver (state_of S first step suspects R w key.receiver)) (suspects key.receiver (own S first step suspects R w key x s.has).state)
-            (own S first step suspects R w key x s.has).actions (out 1 past key.receiver t) one (own_tells S first step suspects R w key x s.has) (s.outputs key.receiver p one)
+            out_more layer past (made S w key x).entry key.receiver t p receiver_is (omega (arith, low, tick_is))
+            ∙ (ap (λ notes. fold (after_note layer) (out layer past key.receiver t) notes p) (notes_is S first step suspects R w key x s.has)
+            ∙ (ap (λ (z : Set). z p) (notes_are layer (own S first step suspects R w key x s.has).actions (acts S first step suspects R w key x s.has) (followed S first step suspects R w key x s.has) (out layer past key.receiver t))
+            ∙ (noted_out layer S.processes p (suspects key.receiver (state_of S first step suspects R w key.receiver)) (suspects key.receiver (own S first step suspects R w key x s.has).state)
+            (own S first step suspects R w key x s.has).actions (out layer past key.receiver t) one (own_tells S first step suspects R w key x s.has) (s.outputs key.receiver p one)
             ∙ ap (λ d. set.contains (suspects key.receiver d) p) (sym (state_at S first step suspects R w key x s.has)))))
 
     pub stands_next : key.tick ≤ t → Stands t (taken S w key x) (past ++ (made S w key x).entry ∷ [])
@@ -129,5 +129,5 @@ module _ {Mind D : Type 0} (S : Setting Mind) (sound : IsSound S) (first : D) (s
 
   -- at the end of a tick below the horizon OUT is the detector's set
   pub out_is : (trace : List EntryRecord) (t : ℕ) (e : IsEnd S sound trace (t + 1)) → Stands t e.world (entries e.history) → (q p : ℕ) → is_process S.processes p ≡ true
-      → out 1 trace q t p ≡ set.contains (suspects q (state_of S first step suspects R e.world q)) p
-  out_is trace t e s q p one = ap (λ xs. out 1 xs q t p) e.whole ∙ (out_so_far (entries e.history) e.later q t p e.after ∙ s.outputs q p one)
+      → out layer trace q t p ≡ set.contains (suspects q (state_of S first step suspects R e.world q)) p
+  out_is trace t e s q p one = ap (λ xs. out layer xs q t p) e.whole ∙ (out_so_far layer (entries e.history) e.later q t p e.after ∙ s.outputs q p one)

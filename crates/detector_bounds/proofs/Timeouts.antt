@@ -1,11 +1,8 @@
-pub mod Events
 pub mod Joined
 pub mod Acting
 pub mod Stepping
 pub mod Noticing
-pub mod Products
 pub mod Trusted
-pub mod Ends
 pub mod Detecting
 pub mod Trusting
 pub mod Watched

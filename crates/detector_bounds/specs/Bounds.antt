@@ -12,7 +12,7 @@ use Rattle.detector_bounds.specs.Detected.{trusts, detected_by, longest}
 use Rattle.detector_bounds.specs.Watched.{Watches, IsReliable, watch_of}
 
 module _ (S : Record) (trace : List EntryRecord) where
-  -- the tick from which q suspects p to the end, where p crashes at tick c
+  -- the tick from which, at the latest, q suspects p to the end, where p crashes at tick c
   abbrev pub detected_at : (q p c : ℕ) → ℕ
   detected_at q p c = detected_by S.detector (link S p q) (trusts trace q p) c
 

@@ -1,15 +1,20 @@
-//! What no run breaks.
+//! Bounds that no run breaks.
 ghost use Rattle.std.specs.Prelude.{List};
 ghost use Rattle.process_api.specs.EntryRecord.{EntryRecord};
 ghost use Rattle.trace_laws.specs.ScenarioSetting.{setting_of};
 ghost use Rattle.trace_laws.specs.World.{IsTrace};
 ghost use Rattle.detector_bounds.specs.Bounds.{KeepsBounds};
+ghost use Rattle.detector_bounds.specs.Shared.{SharesDetection};
 
 use scenario_record::Scenario;
 
-/// Every trace of a scenario keeps the bounds of its detector.
+/// Every trace of a scenario keeps the bounds of its detector. Where its processes share, each detection comes to the
+/// others in time.
 pub fn law_bounds(scenario: &Scenario)
-    ensures { (trace : List EntryRecord) → IsTrace (setting_of scenario.now) trace → KeepsBounds scenario.now trace }
+    ensures bounds { (trace : List EntryRecord) → IsTrace (setting_of scenario.now) trace
+        → KeepsBounds scenario.now trace }
+    ensures shared { (trace : List EntryRecord) → IsTrace (setting_of scenario.now) trace
+        → SharesDetection scenario.now trace }
 {
     // A reader says that the scenario's fields are in their ranges.
     let _horizon = scenario.horizon();

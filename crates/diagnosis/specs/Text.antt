@@ -1,6 +1,6 @@
 -- What is said of a refused file, in words: the refusal's name, the place, and what is wrong with what is there. What is
 -- quoted from the file is printed on one line, without control characters.
-use Rattle.std.specs.Prelude.{ℕ, ℤ, List, [], ◌++◌, Bool, true, ◌&&◌, Option, Some, None, if◌then◌else◌, codes, decimal, string_bytes}
+use Rattle.std.specs.Prelude.{ℕ, ℤ, List, [], ◌++◌, Bool, true, false, ◌&&◌, ◌||◌, Option, Some, None, if◌then◌else◌, codes, decimal, string_bytes}
 use Rattle.std.specs.Borrow.{Bor}
 use Rattle.std.specs.List.{flat_map}
 use Rattle.std.specs.Fmt.{signed_decimal}
@@ -15,6 +15,7 @@ use Rattle.scenario.specs.declared.field.Kind.{Kind}
 use Rattle.scenario.specs.declared.field.Kind.TheVariants as kind
 use Rattle.scenario.specs.declared.place.Place.{Place}
 use Rattle.scenario.specs.declared.place.Place.TheVariants as place
+use Rattle.scenario.specs.declared.place.Section.TheVariants as section
 use Rattle.scenario.specs.declared.fault.UnknownKey.{UnknownKey}
 use Rattle.scenario.specs.declared.fault.WrongKind.{WrongKind}
 use Rattle.scenario.specs.declared.fault.Outside.{Outside}
@@ -50,9 +51,29 @@ suggestion_text at (Some key) = codes " (did you mean " <> path_text at key.now 
 abbrev pub second_text : List ℕ
 second_text = codes " (version 2 allows it)"
 
+abbrev pub is_detector : Place → Bool
+is_detector (place.Section section.Detector) = true
+is_detector _ = false
+
+-- keys of a detector that names freshness points, and of one that doesn't
+abbrev pub is_of_freshness : List ℕ → Bool
+is_of_freshness key = same_text key (codes "eta") || same_text key (codes "delta")
+
+abbrev pub is_of_timeout : List ℕ → Bool
+is_of_timeout key =
+    same_text key (codes "period") || (same_text key (codes "check") || (same_text key (codes "timeout")
+    || same_text key (codes "grow")))
+
+-- which kind of detector has the key, where the other one hasn't; else the key that is perhaps meant
+abbrev pub kind_hint : Place → (key : List ℕ) → (meant : Option (Bor (List ℕ))) → List ℕ
+kind_hint at key meant =
+    if is_detector at && is_of_freshness key then codes " (kind = \"freshness\" of version 2 has it)"
+    else if is_detector at && is_of_timeout key then codes " (kind = \"timeout\" has it)"
+    else suggestion_text at meant
+
 abbrev pub unknown_hint : Place → UnknownKey → (meant : Option (Bor (List ℕ))) → List ℕ
 unknown_hint at u meant =
-    if is_listed (fields_of u.in_second.now) u.key.now then second_text else suggestion_text at meant
+    if is_listed (fields_of u.in_second.now) u.key.now then second_text else kind_hint at u.key.now meant
 
 abbrev pub unknown_text : Place → UnknownKey → (meant : Option (Bor (List ℕ))) → List ℕ
 unknown_text at u meant = path_text at (printable u.key.now) <> unknown_hint at u meant

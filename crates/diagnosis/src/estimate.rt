@@ -1,4 +1,4 @@
-//! About how much a run will be.
+//! Estimates of the size of a run.
 ghost use Rattle.std.specs.Prelude.{◌≡◌, ◌≤◌, ◌<◌, ◌*◌, ◌/◌};
 ghost use Rattle.diagnosis.specs.Diagnosis.{entries_in, longest_window};
 

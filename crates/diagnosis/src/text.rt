@@ -2,15 +2,15 @@
 ghost use Rattle.std.specs.Prelude.{◌≡◌, Some};
 ghost use Rattle.std.specs.Fmt.{WritesOnOk};
 ghost use Rattle.printable.specs.Printable.{printable};
-ghost use Rattle.diagnosis.specs.Text.{path_text, suggestion_text, unknown_hint, kind_words, found_text, unit_text, wrong_kind_text, is_of_second, outside_hint, outside_text, names_text, none_of_text, proposals_text, not_before_text, fault_text, finding_text, not_toml_text, refused_text};
+ghost use Rattle.diagnosis.specs.Text.{path_text, suggestion_text, is_detector, is_of_freshness, is_of_timeout, kind_hint, unknown_hint, kind_words, found_text, unit_text, wrong_kind_text, is_of_second, outside_hint, outside_text, names_text, none_of_text, proposals_text, not_before_text, fault_text, finding_text, not_toml_text, refused_text};
 
 use crate::answer::Refused;
 use crate::told::{NotToml, Told};
 use printable::Printable;
 use process_api::MOST_PROCESSES;
 use scenario::{
-    Fault, Finding, Kind, MinAboveMax, Outside, Place, ProposalsFault, UnknownKey, WrongKind,
-    is_listed_key, lies_within,
+    Fault, Finding, Kind, MinAboveMax, Outside, Place, ProposalsFault, Section, UnknownKey,
+    WrongKind, is_listed_key, lies_within,
 };
 use std::fmt;
 
@@ -57,7 +57,46 @@ fn write_suggestion<W: fmt::Write>(
     }
 }
 
-/// Writes that version 2 has the key, or the key that is perhaps meant.
+/// Whether the place is that of the detector's table.
+fn is_of_detector(place: Place) -> bool
+    ensures { result ≡ is_detector place }
+{
+    matches!(place, Place::Section(Section::Detector))
+}
+
+/// Whether the key is one of a detector that names freshness points alone.
+fn is_freshness_key(key: &str) -> bool
+    ensures { result ≡ is_of_freshness key.now }
+{
+    key == "eta" || key == "delta"
+}
+
+/// Whether the key is one of a detector alone that names none.
+fn is_timeout_key(key: &str) -> bool
+    ensures { result ≡ is_of_timeout key.now }
+{
+    key == "period" || key == "check" || key == "timeout" || key == "grow"
+}
+
+/// Writes which kind of detector has the key, or the key that is perhaps meant.
+fn write_kind_hint<W: fmt::Write>(
+    f: &mut fmt::Formatter<W>,
+    place: Place,
+    key: &str,
+    meant: Option<&str>,
+) -> fmt::Result
+    ensures { WritesOnOk W.Write.write_str_gives f.old result (kind_hint place key.now meant.entry) f.new }
+{
+    if is_of_detector(place) && is_freshness_key(key) {
+        f.write_str(" (kind = \"freshness\" of version 2 has it)")
+    } else if is_of_detector(place) && is_timeout_key(key) {
+        f.write_str(" (kind = \"timeout\" has it)")
+    } else {
+        write_suggestion(f, place, meant)
+    }
+}
+
+/// Writes that version 2 has the key, or which kind of detector, or the key that is perhaps meant.
 fn write_unknown_hint<W: fmt::Write>(
     f: &mut fmt::Formatter<W>,
     place: Place,
@@ -69,7 +108,7 @@ fn write_unknown_hint<W: fmt::Write>(
     if is_listed_key(unknown.in_second, unknown.key) {
         f.write_str(" (version 2 allows it)")
     } else {
-        write_suggestion(f, place, meant)
+        write_kind_hint(f, place, unknown.key, meant)
     }
 }
 

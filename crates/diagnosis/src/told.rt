@@ -1,4 +1,4 @@
-//! What is told of a refused file behind its refusal's name.
+//! The text about a refused file, behind its refusal's name.
 
 use scenario::Finding;
 

@@ -1,4 +1,4 @@
-//! Texts of a picture.
+//! The texts of a picture.
 ghost use Rattle.std.specs.Prelude.{◌≡◌, ◌≤◌, ◌<◌, IfOk, string_bytes};
 ghost use Rattle.drawing.specs.Layout.{point};
 ghost use Rattle.drawing.specs.Suspicions.{own_name, pair_name, title, word};

@@ -1,15 +1,15 @@
 //! Pictures of a run, as SVG text.
 //!
 //! [`draw_suspicions`] draws who suspects whom. Each process has a group of rows: one line for itself, with its crash
-//! and its decision, and one for each other process that it suspects, with a bar for each stretch of ticks through which
-//! it does. A stretch is as long as can be within the ticks asked for (`specs/Bars.antt`); the bars of a pair are all
-//! its stretches, each once, in the order of their ticks. Where each shape stands is defined in `specs/Suspicions.antt`
-//! and `specs/Layout.antt`, and the text is that of these shapes.
+//! and its decision, and one for each other process that it suspects, with a bar for each stretch of ticks through
+//! which it does. A stretch is as long as can be within the ticks asked for (`specs/Bars.antt`); the bars of a pair are
+//! all its stretches, each once, in the order of their ticks. The place of each shape is defined in
+//! `specs/Suspicions.antt` and `specs/Layout.antt`, and the text is that of these shapes.
 //!
-//! What is drawn is small: at most [`MOST_DRAWN`] processes, ticks that the run has. All else is refused by name
-//! ([`DrawError`]).
+//! A picture is small: it has at most [`MOST_DRAWN`] processes, and only ticks that the run has. Anything else is
+//! refused by name ([`DrawError`]).
 //!
-//! As an example, let process 2 of two crash at tick 3 of 10, and process 1 note at tick 9 that it suspects it. In the
+//! For example, let process 2 of two crash at tick 3 of 10, and process 1 note at tick 9 that it suspects it. In the
 //! picture of ticks 0 to 9 the row `1: 2` has one bar, from tick 9 to the end, and a cross at tick 3.
 #![tactic(auto)]
 

@@ -1,4 +1,4 @@
-//! What stands in rows.
+//! The shapes that stand in rows.
 ghost use Rattle.std.specs.Prelude.{◌≡◌, ◌++◌, ◌≤◌, map, OnOk};
 ghost use Rattle.drawing.specs.Suspicions.{bar_shape, crash_shapes, decision_shapes, decided, life_line};
 

@@ -10,8 +10,8 @@
 //! share. `fdbench compare PATH --workers N --window N` runs the file both ways, and says whether they wrote the
 //! same.
 //!
-//! What it does for which words is said and proved in `bench_commands`: this program hands it the words, the standard
-//! streams and the files, and ends with the status that it answers.
+//! The crate `bench_commands` defines and proves what the program does for which arguments. The program hands it the
+//! arguments, the standard streams and the files, and ends with the status that it answers.
 //!
 //! For example, `fdbench list - --print trace` on a file with two processes and a horizon of 1 tick prints the header
 //! and two rows of kind `start`, and `fdbench compare - --workers 2 --window 1` on the same file prints `same`.

@@ -8,8 +8,8 @@
 //! runs are added up. `fdstudy show PATH` prints the scenario file of one of these runs, which `fdbench list -` takes,
 //! and `fdstudy letters -` and `fdstudy draw -` too.
 //!
-//! What it does for which words is said and proved in `study_commands`: this program hands it the words, the standard
-//! streams and the files, and ends with the status that it answers.
+//! The crate `study_commands` defines and proves what the program does for which arguments. The program hands it the
+//! arguments, the standard streams and the files, and ends with the status that it answers.
 //!
 //! For example, `fdstudy sweep - --seeds 1..=20 --vary detector.timeout=5,10` prints the line of the columns' names and
 //! two rows, each over 20 runs.

@@ -1,4 +1,4 @@
-//! Up to which tick each process is up.
+//! The tick up to which each process is up.
 ghost use Rattle.std.specs.Prelude.{◌≡◌, ◌≤◌, vec_len, IfOk};
 ghost use Rattle.process_api.specs.Bounds.{most_processes};
 ghost use Rattle.judges.specs.Ends.{AreEnds, end_tick};

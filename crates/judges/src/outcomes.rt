@@ -1,4 +1,4 @@
-//! What the processes of a run decided.
+//! The decisions of a run's processes.
 ghost use Rattle.std.specs.Prelude.{◌≡◌, ◌≤◌, ◌++◌, ◌∷◌, ℕ, List, [], IfOk};
 ghost use Rattle.process_api.specs.EntryRecord.{EntryRecord};
 ghost use Rattle.scenario_record.specs.Ranges.{IsInRange};

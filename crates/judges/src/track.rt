@@ -1,4 +1,4 @@
-//! What a judge keeps of one pair as a trace goes by.
+//! The state that a judge keeps of one pair as a trace goes by.
 ghost use Rattle.std.specs.Prelude.{◌≡◌};
 ghost use Rattle.judges.specs.Track.{new_track, passed, suspected_from, trusted_from};
 

@@ -1,4 +1,4 @@
-//! What a pass knows, and how passes are made and taken back.
+//! The knowledge of a pass, and how passes are made and taken back.
 
 use crossbeam_queue::protocol::{Join, Split};
 use std::collections::LinkedList;

@@ -5,17 +5,17 @@
 //! slips come back and the mailboxes are emptied.
 //!
 //! The one contract for the layers above is that of [`Mailboxes::collect`]: under every schedule of the threads, the
-//! list of receiver r has the letters that the slips posted to r, each as often as it was posted, and no others. In
-//! which order a list has them isn't said. It rests on the ledger of the queue (`ledger`): what all passes have put is,
-//! counted with repetitions, what they have taken and what the queue holds. Nothing is promised about how long a call
-//! waits, or that it returns.
+//! list of receiver r has the letters that the slips posted to r, each as often as it was posted, and no others. No
+//! order of a list is promised. The proof uses the ledger of the queue (`ledger`): counted with repetitions, the
+//! letters that all passes have put are those that they have taken and those that the queue holds. Nothing is promised
+//! about how long a call waits, or that it returns.
 //!
-//! In words: with three mailboxes and two slips, one thread posts letter a to 2 and letter b to 3 by the first slip,
-//! while another posts letter c to 2 by the second; then `collect` with both slips gives an empty list, a list of a and
-//! c in one order or the other, and the list of b alone.
+//! For example, there are three mailboxes and two slips. One thread posts letter a to 2 and letter b to 3 by the first
+//! slip, while another posts letter c to 2 by the second. Then `collect` with both slips gives an empty list, a list of
+//! a and c in one order or the other, and the list of b alone.
 //!
-//! What threads share by reference is [`SharedMailboxes`]; [`Mailboxes`] has it, and beside it the owner's passes, by
-//! which slips are made and taken back. They aren't shared: one thread has each of them at a time. [`Mailboxes::empty`]
+//! Threads share [`SharedMailboxes`] by reference. [`Mailboxes`] has it together with the owner's passes, by which
+//! slips are made and taken back. The passes aren't shared: one thread has each of them at a time. [`Mailboxes::empty`]
 //! gives the lists that `collect` gives, and the mailboxes back as new ones; [`Mailboxes::empty_by`] does the same by
 //! several threads, each of which has the passes of mailboxes of its own, once every slip is back.
 //!

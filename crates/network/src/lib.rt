@@ -1,20 +1,21 @@
-//! Network files: what a network does to links while a run lasts, which each seed draws anew.
+//! Network files, which say what a network does to links while a run lasts. Each seed draws this anew.
 //!
-//! A [`Network`] has tables of sources. A source makes outages of links: a burst those of one link, a cut those of all
-//! links between two groups at once, a pause those of all links from one process, and a replay those of one link as
-//! they were recorded. Each source draws from a stream of words of its own, under the run's seed (`specs/Words.antt`),
-//! so no other table changes what it draws. Its gaps and lengths are [`Spell`]s (`specs/Spells.antt`), which follow one
-//! another in turn (`specs/Episodes.antt`).
+//! A [`Network`] has tables of sources. A source makes outages of links. A burst makes those of one link, a cut those
+//! of all links between two groups at once, a pause those of all links from one process, and a replay those of one link
+//! as they were recorded. Each source draws from a stream of words of its own, under the run's seed
+//! (`specs/Words.antt`), so no other table changes what it draws. Its gaps and lengths are [`Spell`]s
+//! (`specs/Spells.antt`), which follow one another in turn (`specs/Episodes.antt`).
 //!
 //! [`read_network`] gives the network that the table of a TOML file stands for (`specs/Reading.antt`), or says what is
-//! wrong with the file (`specs/Refusals.antt`). How many processes a run has is not known then: [`process_above`] tells
-//! a process that the network names and a run doesn't have.
+//! wrong with the file (`specs/Refusals.antt`). The number of a run's processes isn't known then: [`process_above`]
+//! finds a process that the network names and a run doesn't have.
 //!
 //! [`draw`] gives the outages of all sources up to the horizon, in their fixed order (`specs/Drawn.antt`), and
-//! [`laid_links`] what the network says of links (`specs/Laid.antt`). Values from outside come from `bench/network.py`.
+//! [`laid_links`] gives what the network says of links (`specs/Laid.antt`). The tests take values from outside, by
+//! `bench/network.py`.
 //!
-//! For example, under seed 1 a burst of gaps of 50 ticks and lengths of 10 on the link from process 1 to process 2 of
-//! two has, up to tick 100, the outages from 6 to 16 and from 66 to 76.
+//! For example, take seed 1 and a burst with gaps of 50 ticks and lengths of 10 on the link from process 1 to process 2
+//! of two. Up to tick 100 it has the outages from tick 6 to 16 and from tick 66 to 76.
 #![tactic(auto)]
 
 mod above;

@@ -1,4 +1,4 @@
-//! What a network file says.
+//! The contents of a network file.
 
 use crate::group::{Group, LinkSet};
 use crate::rhythm::Rhythm;

@@ -1,5 +1,5 @@
-//! Outages with values from outside: `bench/network.py`, which was written apart from this program, drew them of
-//! `bench/one_of_each.toml`, which says what the network here says.
+//! Outages beside values from outside. These were drawn by `bench/network.py`, which was written apart from this
+//! program, from `bench/one_of_each.toml`, which says the same as the network here.
 ghost use Rattle.std.specs.Prelude.{◌≡◌, ◌≤◌, ◌∷◌, [], IfOk};
 ghost use Rattle.process_api.specs.Bounds.{most_processes};
 ghost use Rattle.network.specs.Ranges.{IsNetwork, IsReplay, IsRhythm, IsSpell, IsTicks};

@@ -1,4 +1,5 @@
-//! What the tables of a network file say. What isn't as it should be, and so was refused, is read as nothing.
+//! The meaning of a network file's tables. A value that isn't as it should be was refused before, and is read as
+//! nothing.
 ghost use Rattle.std.specs.Prelude.{◌≡◌, option_map, IfOk, IsPermutation};
 ghost use Rattle.std.specs.FinSet as set;
 ghost use Rattle.std.specs.List.Sorted.{IsSorted};

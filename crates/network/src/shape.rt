@@ -1,4 +1,4 @@
-//! Which values have a shape, and what is wrong with a value of a key.
+//! The values that have a shape, and the faults of a key's value.
 ghost use Rattle.std.specs.Prelude.{◌≡◌, [], false, length, option_map, option_and_then};
 ghost use Rattle.std.specs.Option.{option_map_or};
 ghost use Rattle.toml.specs.Data.{as_table, get_member};

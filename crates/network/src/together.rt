@@ -1,4 +1,4 @@
-//! What is wrong with values of a table, each of which is right by itself.
+//! Faults of several values of a table, each of which is right by itself.
 ghost use Rattle.std.specs.Prelude.{◌≡◌, ◌≤◌, ◌&&◌, not};
 ghost use Rattle.std.specs.List.{find, range_with_len};
 ghost use Rattle.process_api.specs.Bounds.{most_processes};

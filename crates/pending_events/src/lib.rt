@@ -1,7 +1,7 @@
 //! The pending events of a run: a finite set in the order of their keys, of which the least is taken.
 //!
-//! [`Pending`] and [`Row`] are seen by contracts as that set (`specs/Pending.antt`). In memory the events of a
-//! [`Pending`] lie in a bucket for each tick; its events are put in order, in a [`Row`], when its tick comes
+//! Contracts see a [`Pending`] and a [`Row`] as such a set (`specs/Pending.antt`). In memory a [`Pending`] has a bucket
+//! of events for each tick. When the tick of a bucket comes, its events are put in order, in a [`Row`]
 //! (`specs/Inside/Order.antt`). The buckets of the next 1,024 ticks lie in a ring (`specs/Inside/Calendar.antt`).
 //!
 //! For example, of the events with keys (2, 1, 2, 1) and (0, 2, 2, 0) that join in this order the second is taken

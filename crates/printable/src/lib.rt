@@ -1,10 +1,10 @@
-//! Texts as they are printed: a control character in what is quoted would change what a terminal shows.
+//! Texts as they are printed. A control character in a quoted text would change what a terminal shows.
 //!
 //! [`Printable`] is for what is quoted from a file or from a word, and prints it on one line. [`PrintableLines`] is for
-//! a text of several lines that quotes words. Both print a control character by its number, as `\u{1b}`, and all else as
-//! it is (`specs/Printable.antt`).
+//! a text of several lines that quotes words. Both print a control character by its number, as `\u{1b}`, and all else
+//! as it is (`specs/Printable.antt`).
 //!
-//! As an example, a key `a` with an escape sequence after it is printed as `a\u{1b}[31m`.
+//! For example, a key `a` with an escape sequence after it is printed as `a\u{1b}[31m`.
 #![tactic(auto)]
 
 ghost use Rattle.std.specs.Fmt.{WritesOnOk};

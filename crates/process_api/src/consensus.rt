@@ -1,4 +1,4 @@
-//! What the rotating coordinator's state is made of.
+//! The parts of the rotating coordinator's state.
 
 /// What a process would decide, and since which round: Chandra and Toueg's estimate with its time stamp
 /// (Journal of the ACM 43(2), 1996).

@@ -1,4 +1,4 @@
-//! Whoever is told the entries of a run.
+//! Followers of a run, which are told its entries.
 ghost use Rattle.std.specs.Prelude.{◌≡◌, ◌++◌, ◌∷◌, [], List, OnOk};
 ghost use Rattle.process_api.specs.EntryRecord.{EntryRecord};
 

@@ -1,4 +1,4 @@
-//! What follows from the definitions of base detectors.
+//! Laws that follow from the definitions of base detectors.
 ghost use Rattle.process_api.specs.Laws.{OpensTrusting, StepsByLaws};
 
 /// Base detectors of every kind, whatever their numbers, their state and the input. Each opens with no suspects, and in

@@ -1,4 +1,4 @@
-//! Tables of letters.
+//! Tables of letters. A letter is a message from one process to another.
 ghost use Rattle.std.specs.Prelude.{◌≡◌, OnOk, is_some};
 ghost use Rattle.std.specs.Option.{option_copied};
 ghost use Rattle.process_api.specs.Coordinator.{keep as keep_of};

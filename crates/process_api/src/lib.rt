@@ -1,22 +1,22 @@
-//! The words that every crate of the bench speaks: processes and sets of them, keys, letters, inputs, actions,
-//! notes and entries; and the traits of machines.
+//! The terms that all crates share: processes and sets of them, keys, letters, inputs, actions, notes and entries; and
+//! the traits of machines. A letter is a message from one process to another.
 //!
 //! A machine is one simulated process. It takes inputs (its start, letters, wakes), each at a tick, and answers with
-//! actions (letters, wakes, notes). What it means is a *mind*, plain data, and one definition, `react`, says what
-//! an input makes of a mind and which actions it causes (`specs/React.antt`). The one contract for the layers above
-//! is that of [`Process`]: on `Ok`, `on_input` is `react`, and nothing else.
+//! actions (letters, wakes, notes). Its meaning is a *mind*, which is plain data. One definition, `react`, says how an
+//! input changes a mind and which actions it causes (`specs/React.antt`). The one contract for the layers above is that
+//! of [`Process`]: on `Ok`, `on_input` is `react`, and nothing else.
 //!
 //! A mind has parts, each with a definition of its own in `specs/`: a base detector of some kind (`Detector` joins the
 //! kinds; there are `Timeout` and `Freshness`), perhaps a reduction over it (`Reduction`), and perhaps a consensus
 //! algorithm (`ConsensusS`, `Coordinator` with `Diffusion`). The crates that implement a part meet [`Detector`] or
-//! [`Algorithm`]. What stands above a base detector rests on its laws (`BaseDetector`), whichever its kind:
+//! [`Algorithm`]. The layers above a base detector use its laws (`BaseDetector`), whichever its kind:
 //! [`law_base_detectors`] says that each kind has them.
 //!
-//! Beside the machines stands what whoever asks for a run shares with whoever makes it: which texts are written
-//! ([`PrintChoice`]), why there is no trace ([`RunError`]), and who is told the entries as they come ([`Follower`]). A
-//! follower says what it holds after the entries that it was told, by a relation between the state that it began in and
-//! the one it is in; an option of one is a follower, a pair of two, and a vector of entries, which keeps them. What
-//! counts entries and what keeps them are told of one run by `&mut (counts, Vec::new(alloc))`.
+//! The crate also has the types that a run shares with its caller: the choice of the texts to write ([`PrintChoice`]),
+//! the reasons why there is no trace ([`RunError`]), and those who are told the entries as they come ([`Follower`]). A
+//! follower's contract is a relation between the state in which it began, the entries that it was told, and its state
+//! after them. An option of a follower is a follower too, and so are a pair of followers, and a vector of entries,
+//! which keeps them. For example, `&mut (counts, Vec::new(alloc))` counts the entries of a run and keeps them.
 #![tactic(auto)]
 
 mod action;

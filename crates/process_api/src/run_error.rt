@@ -1,4 +1,4 @@
-//! Why a run gave no trace.
+//! The reasons why a run gave no trace.
 ghost use Rattle.std.specs.Prelude.{◌≡◌};
 
 use std::alloc::{AllocError, AllocFailed};

@@ -1,2 +1,6 @@
+pub mod Elements
 pub mod Linking
+pub mod Reliable
 pub mod Promising
+pub mod Keeping
+mod Examples

@@ -1,2 +1,3 @@
 pub mod Links
 pub mod Promised
+pub mod Kept

@@ -1,5 +1,5 @@
 -- What no run of a scenario breaks, in numbers.
-use Rattle.std.specs.Prelude.{ℕ, zero, ◌+◌, ◌-◌, ◌==◌, max, nat_le, Bool, false, not, ◌&&◌, ◌||◌}
+use Rattle.std.specs.Prelude.{ℕ, ◌+◌, ◌-◌, ◌==◌, max, nat_le, Bool, false, not, ◌&&◌, ◌||◌}
 use Rattle.std.specs.Prelude.{List, length, filter, filter_map, map, count_by, Option, option_map}
 use Rattle.std.specs.List.{list_any, reduce}
 use Rattle.std.specs.Option.{option_map_or}
@@ -34,7 +34,7 @@ module _ (d : DetectorNumbers) where
   abbrev pub is_timely : Link → Bool
   is_timely link = nat_le (needed d link) (patience d)
 
-  -- a link can bring no mistake
+  -- a link surely brings no mistake
   abbrev pub is_reliable : WatchedLink → Bool
   is_reliable w = not (loses w) && is_timely w.link
 

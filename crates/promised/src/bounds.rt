@@ -1,6 +1,7 @@
-//! What no run of a scenario breaks, in numbers.
+//! Bounds that no run of a scenario breaks, in numbers.
 ghost use Rattle.std.specs.Prelude.{◌≡◌, IfOk, count_by, filter, filter_map, map, not};
 ghost use Rattle.std.specs.List.{list_any};
+ghost use Rattle.promised.specs.Kept.{KeepsPromises};
 ghost use Rattle.promised.specs.Promised.{greatest, is_late, is_reliable, is_timely, latency};
 ghost use Rattle.promised.specs.Promised.{loses, needed, promised};
 ghost use Rattle.scenario_record.specs.Numbers.{AreInRange};
@@ -21,12 +22,12 @@ pub struct PromisedBounds {
     pub is_late: bool,
     /// How many links are watched.
     pub watched: usize,
-    /// How many of these can bring no mistake.
+    /// How many of these surely bring no mistake.
     pub reliable: usize,
     /// How many of these have loss or outages.
     pub lossy: usize,
-    /// The least `delta` or `timeout`, in ticks, with which each of the others can bring no mistake; none where there
-    /// are no others.
+    /// The least `delta` or `timeout`, in ticks, with which each of the others surely brings no mistake; none where
+    /// there are no others.
     pub needed: Option<u64>,
 }
 
@@ -68,7 +69,7 @@ fn latency(detector: DetectorNumbers, link: &WatchedLink) -> Option<u64>
     ensures { result ≡ latency detector link.now }
 {
     let crash = link.crash?;
-    Some(detected_by(detector, link.link, crash).saturating_sub(u64::from(crash)))
+    Some(detected_by(detector, link.link, 0, crash).saturating_sub(u64::from(crash)))
 }
 
 /// Whether that tick isn't before the horizon.
@@ -77,7 +78,7 @@ fn is_late(detector: DetectorNumbers, horizon: u32, link: &WatchedLink) -> bool
     ensures { result ≡ is_late detector horizon link.now }
 {
     match link.crash {
-        Some(crash) => detected_by(detector, link.link, crash) >= u64::from(horizon),
+        Some(crash) => detected_by(detector, link.link, 0, crash) >= u64::from(horizon),
         None => false,
     }
 }
@@ -112,7 +113,7 @@ fn is_any_late(detector: DetectorNumbers, horizon: u32, links: &[WatchedLink]) -
     links.iter().any(|link| is_late(detector, horizon, link))
 }
 
-/// How many links can bring no mistake.
+/// How many links surely bring no mistake.
 fn count_reliable(detector: DetectorNumbers, links: &[WatchedLink]) -> usize
     ensures { result ≡ count_by (is_reliable detector) links.now }
 {
@@ -129,13 +130,14 @@ fn count_lossy(links: &[WatchedLink]) -> usize
     links.iter().filter(|link| loses(link)).count()
 }
 
-/// What no run of a scenario breaks, in numbers.
+/// What no run of a scenario breaks, in numbers; and that no trace of it does.
 ///
 /// # Errors
 ///
 /// Where memory was refused.
 pub fn promised_bounds(alloc: Global, scenario: &Scenario) -> Result<PromisedBounds, AllocError>
-    ensures { IfOk result (λ b. b ≡ promised scenario.now) }
+    ensures value { IfOk result (λ b. b ≡ promised scenario.now) }
+    ensures kept { IfOk result (λ b. KeepsPromises scenario.now b) }
 {
     let detector = scenario.detector();
     let horizon = scenario.horizon();

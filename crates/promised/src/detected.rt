@@ -1,6 +1,6 @@
-//! By when the crash of a process is detected by who never takes a suspicion back.
-ghost use Rattle.std.specs.Prelude.{◌≡◌, ◌≤◌, ◌+◌};
-ghost use Rattle.detector_bounds.specs.Detected.{detected_by, last_letter};
+//! The tick by which the crash of a process is detected.
+ghost use Rattle.std.specs.Prelude.{◌≡◌, ◌≤◌, ◌<◌, ◌+◌, ◌^◌};
+ghost use Rattle.detector_bounds.specs.Detected.{detected_by, grown, last_letter};
 ghost use Rattle.scenario_record.specs.Numbers.{AreInRange};
 
 use crate::periods::{last_before, multiple_from};
@@ -19,15 +19,26 @@ fn last_letter(its: TimeoutNumbers, link: Link, crash: u32) -> u64
     last_before(its.period, crash) * u64::from(its.period) + u64::from(link.max)
 }
 
-/// The tick from which a process is suspected to the end that crashes at a tick, by one that never trusted it again.
-pub(crate) fn detected_by(detector: DetectorNumbers, link: Link, crash: u32) -> u64
+/// What a time-out has grown to by so many trusts, at most.
+fn grown(its: TimeoutNumbers, trusts: u32) -> u64
+    requires timeout { its.timeout ≤ 1000000 }
+    requires grow { its.grow ≤ 1000000 }
+    ensures value { result ≡ grown its trusts }
+    ensures small { result < 2 ^ 62 }
+{
+    u64::from(its.timeout) + u64::from(its.grow) * u64::from(trusts)
+}
+
+/// The tick from which, at the latest, a process that crashes at a tick is suspected to the end, by an observer that
+/// notes so many trusts of it in the whole run.
+pub fn detected_by(detector: DetectorNumbers, link: Link, trusts: u32, crash: u32) -> u64
     requires { AreInRange detector }
-    ensures { result ≡ detected_by detector link 0 crash }
+    ensures { result ≡ detected_by detector link trusts crash }
 {
     match detector {
         DetectorNumbers::Timeout(its) => multiple_from(
             its.check,
-            last_letter(its, link, crash) + u64::from(its.timeout),
+            last_letter(its, link, crash) + grown(its, trusts),
         ),
         DetectorNumbers::Freshness(its) => (last_before(its.eta, crash) + 1) * u64::from(its.eta)
             + u64::from(its.delta),

@@ -1,4 +1,4 @@
-//! What takes the entries of a run by windows.
+//! Takes the entries of a run by windows.
 ghost use Rattle.std.specs.Prelude.{◌≡◌, ◌<◌, ◌^◌, ◌-◌, ◌+◌, ◌++◌, ◌∷◌, [], List, map, length, true, OnOk, OnErr, IfErr, IfOk, IsErrOf, IsTrue};
 ghost use Rattle.process_api.specs.EntryRecord.{EntryRecord};
 ghost use Rattle.process_api.specs.Numbers.{numbers_to};

@@ -1,4 +1,4 @@
-//! What the reduction itself does.
+//! The steps of the reduction itself.
 ghost use Rattle.std.specs.Prelude.{◌≡◌, ◌≤◌, ◌++◌, false, OnOk, map};
 ghost use Rattle.std.specs.FinSet as set;
 ghost use Rattle.process_api.specs.Sets.{changes};

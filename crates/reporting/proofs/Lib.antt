@@ -14,3 +14,4 @@ pub mod Resting
 mod Bounded
 mod Least
 pub mod Written
+mod Trusting

@@ -5,6 +5,7 @@ pub mod Meter
 pub mod MeterFed
 pub mod Panel
 pub mod Durations
+pub mod Trusts
 pub mod Outlet
 pub mod Writing
 pub mod Kinds

@@ -13,8 +13,10 @@ use Rattle.reporting.specs.Grounds.{HasGrounds}
 use Rattle.reporting.specs.Measures.{all_measures}
 use Rattle.reporting.specs.Printed.{IsTraceWithin}
 use Rattle.reporting.specs.Summary.{IsSummary}
+use Rattle.reporting.specs.Trusts.{AreTrusts}
 use Rattle.reporting.specs.declared.durations.RunDurations.{RunDurations}
 use Rattle.reporting.specs.declared.findings.RunFindings.{RunFindings}
+use Rattle.reporting.specs.declared.trusts.Trusts.{Trusts}
 
 -- the verdicts on layer 2, where there is a reduction
 abbrev pub second_verdicts : Record → List EntryRecord → Option Verdicts
@@ -35,11 +37,12 @@ module _ (S : Record) where
     pub second : is_some S.share ≡ true → AreDurations S 2 trace durations.second
 
   -- a run is measured: what was found is that of the scenario's trace, which is within its limit
-  pub record MeasuresRun (found : RunFindings) (durations : RunDurations) : Type 0 where
+  pub record MeasuresRun (found : RunFindings) (durations : RunDurations) (trusts : Trusts) : Type 0 where
     pub trace : List EntryRecord
     pub is_within : IsTraceWithin S trace
     pub measured : AreFindings trace found
     pub lasted : AreRunDurations trace durations
+    pub trusted : AreTrusts S.processes trace trusts
     -- each entry has less than 2^32 letters
     pub sent_high : found.summary.sent ≤ length trace * 2 ^ 32
     pub lost_high : found.summary.lost ≤ length trace * 2 ^ 32

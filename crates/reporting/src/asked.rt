@@ -1,4 +1,4 @@
-//! What is asked for.
+//! The texts that are asked for.
 ghost use Rattle.std.specs.Prelude.{◌≡◌};
 ghost use Rattle.reporting.specs.Printed.{prints_report, prints_trace};
 

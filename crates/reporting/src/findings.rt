@@ -1,4 +1,4 @@
-//! What is found of a run.
+//! The findings of a run.
 
 use crate::pair_measures::PairMeasures;
 use crate::summary::Summary;

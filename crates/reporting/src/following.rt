@@ -1,4 +1,4 @@
-//! Whoever follows a run, as it is put together.
+//! The followers of a run, put together.
 ghost use Rattle.std.specs.Prelude.{◌≡◌, [], IfOk};
 ghost use Rattle.reporting.specs.Printed.{prints_report, prints_trace};
 ghost use Rattle.reporting.specs.Running.{AreLayers, IsMeasuring, IsRecording, IsRunning, IsSumming};

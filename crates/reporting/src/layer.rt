@@ -1,4 +1,4 @@
-//! What is kept of a layer.
+//! The state that is kept of a layer.
 ghost use Rattle.std.specs.Prelude.{◌≡◌, ◌++◌, [], Bool, List, ℕ, true, IfOk, OnOk};
 ghost use Rattle.process_api.specs.EntryRecord.{EntryRecord};
 ghost use Rattle.scenario_record.specs.Record.{Record};

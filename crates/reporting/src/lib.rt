@@ -1,26 +1,27 @@
-//! What a run tells: the measures of its failure detectors, its texts, and the calls that run a scenario by the single
-//! event list and write them, or only measure it.
+//! The measures of a run's failure detectors, the texts of a run, and the calls that run a scenario by the single event
+//! list and write these texts, or only measure the run.
 //!
 //! [`measures`] gives, for each pair of processes on each layer, the quality of service of a failure detector after
 //! Chen, Toueg and Aguilera (IEEE Transactions on Computers 51(5), 2002), as sums and counts over the ticks of one run
 //! (`specs/Measures.antt`). [`write_trace`] writes a row for each entry of a trace (`specs/TraceText.antt`), and
 //! [`write_report`] a row for each number of the run, each verdict, each measure and each decision
 //! (`specs/ReportText.antt`). Texts go to an [`Outlet`]: over memory, over any writer, or over memory with a fuse that
-//! blows, which shows what a failed write leaves.
+//! blows. The last one shows what a failed write leaves.
 //!
-//! Contracts for the layers above, of which `qos_report` hands all on that a program needs:
+//! These are the contracts for the layers above. `qos_report` exports again all that a program needs:
 //!
 //! - [`bench_list`] runs a scenario over given machines. On `Ok` the outlet has grown by exactly the texts of the
 //!   scenario's trace that were asked for, the trace is within the limit, and the [`Summary`] is that trace's; with the
 //!   rotating coordinator its outcomes agree, each process decides at most once, and none notes that it ends with no
-//!   value (`Finishes` of `specs/Printed.antt`). The report's verdicts mean what their quantifiers say, and what is
-//!   suspected on layer 2 rests on layer 1 (`specs/Grounds.antt`). `Write` is answered only where a put failed, and then
-//!   a front part of these texts went out; `Limit` comes only of a trace that is longer than the limit. After any other
-//!   refusal nothing was written (`Refuses`, there too). It starts no thread, and never answers `Spawn`.
-//! - [`measure_list`] runs a scenario as `bench_list` does, forms no text, and tells all that is measured of the run,
-//!   and how long each mistake was that ended: on `Ok` the [`RunFindings`] and the [`RunDurations`] are those of the
-//!   scenario's trace, which is within the limit (`specs/Measured.antt`, `specs/Durations.antt`) and has the same
-//!   grounds. It answers `Limit` only where that trace is longer, and else only `Memory`.
+//!   value (`Finishes` of `specs/Printed.antt`). The report's verdicts mean what their quantifiers say, and each
+//!   suspicion on layer 2 rests on one of layer 1 (`specs/Grounds.antt`). `Write` is answered only where a put failed,
+//!   and then a front part of these texts went out; `Limit` comes only of a trace that is longer than the limit. After
+//!   any other refusal nothing was written (`Refuses`, there too). It starts no thread, and never answers `Spawn`.
+//! - [`measure_list`] runs a scenario as `bench_list` does, but forms no text. It tells all that is measured of the
+//!   run, how long each mistake was that ended, and how often each process was trusted again. On `Ok` the
+//!   [`RunFindings`], the [`RunDurations`] and the [`Trusts`] are those of the scenario's trace, which is within the
+//!   limit (`specs/Measured.antt`, `specs/Durations.antt`, `specs/Trusts.antt`) and has the same grounds. It answers
+//!   `Limit` only where that trace is longer, and else only `Memory`.
 //! - [`measures`] gives a row for each pair on each layer, by definition, of any trace. In the scenario's trace each
 //!   suspicion of layer 2 has an earlier one of layer 1 for the same process, and each mistake or detection on layer 2
 //!   rests on one (`specs/Resting.antt`).
@@ -31,15 +32,15 @@
 //!
 //! Nothing is ever tried again. Each text is formed whole before the first of its bytes is written. Rows are formed by
 //! `csv` over memory, their numbers by `itoa`. All that is measured of a run takes one pass over its entries, by
-//! followers put together ([`Running`]): an entry without notes is counted, and no more.
-//! That pass is the run itself, so no entry is held; of a run whose report alone is asked for nothing is held that
-//! grows with it, and of one that is only measured the length of each mistake.
+//! followers put together ([`Running`]): an entry without notes is counted, and no more. That pass is the run itself,
+//! so no entry is held. A run whose report alone is asked for holds nothing that grows with the run. A run that is only
+//! measured holds the length of each mistake.
 //!
 //! [`Rows`] is a text that grows row by row, [`TraceText`] one that grows with the entries of a trace, and
-//! [`name_of_kind`] the one table of what a kind of entry is called: the trace, the report and the list of letters are
-//! made of these.
+//! [`name_of_kind`] is the one table of the names of kinds of entries. The trace, the report and the list of letters
+//! are made of these.
 //!
-//! As an example, let process 2 of two crash at tick 3 of 10, and process 1 note at tick 9 that it suspects it. The
+//! For example, let process 2 of two crash at tick 3 of 10, and process 1 note at tick 9 that it suspects it. The
 //! report says so in the row `pair,1,1,2,detection,6`: on layer 1, observer 1 and subject 2, 6 ticks.
 #![tactic(auto)]
 
@@ -70,6 +71,7 @@ mod summary;
 mod tally;
 mod telling;
 mod trace_text;
+mod trusts;
 mod values;
 mod writing;
 
@@ -94,4 +96,5 @@ pub use stream_outlet::StreamOutlet;
 pub use summary::Summary;
 pub use telling::close_running;
 pub use trace_text::{HEADER, TraceText};
+pub use trusts::Trusts;
 pub use writing::{write_if_any, write_report, write_text, write_trace};

@@ -10,13 +10,15 @@ use crate::durations::RunDurations;
 use crate::findings::RunFindings;
 use crate::following::open_measuring;
 use crate::telling::find;
+use crate::trusts::Trusts;
 use event_list::{Nobody, RunError, run_list_into};
 use process_api::Process;
 use scenario_record::Scenario;
 use std::alloc::Global;
 
 /// Runs a scenario by one global event list and tells all that is measured of it: what the report tells, with no text
-/// formed, and how long each mistake was that ended. No entry is held: each is measured as it comes.
+/// formed, how long each mistake was that ended, and how often each process was trusted again. No entry is held: each is
+/// measured as it comes.
 ///
 /// The machines are those of processes 1 to n, in this order, each in its opening state. They are consumed.
 ///
@@ -32,15 +34,19 @@ pub fn measure_list<M: Process>(
     alloc: Global,
     scenario: &Scenario,
     machines: Vec<M>,
-) -> Result<(RunFindings, RunDurations), RunError>
+) -> Result<(RunFindings, RunDurations, Trusts), RunError>
     requires machines { map M.mind machines.items
         ≡ map (opening_mind scenario.now) (numbers_to scenario.now.processes) }
-    ensures done { IfOk result (λ told. MeasuresRun scenario.now told.0 told.1) }
+    ensures done { IfOk result (λ told. MeasuresRun scenario.now told.0 told.1 told.2) }
     ensures errors { IfErr result IsRefusal }
     ensures limit { IsErrOf result RunError.Limit → IsTooLong (setting_of scenario.now) scenario.now.limit }
 {
     let _ticks = scenario.horizon();
-    let mut measuring = open_measuring(alloc, scenario, true)?;
-    run_list_into(alloc, scenario, machines, &mut measuring, &mut Nobody)?;
-    Ok(find(alloc, measuring)?)
+    let measuring = open_measuring(alloc, scenario, true)?;
+    let trusts = Trusts::open(alloc, scenario)?;
+    let mut followers = (measuring, trusts);
+    run_list_into(alloc, scenario, machines, &mut followers, &mut Nobody)?;
+    let (measuring, trusts) = followers;
+    let (findings, durations) = find(alloc, measuring)?;
+    Ok((findings, durations, trusts))
 }

@@ -1,4 +1,4 @@
-//! What is measured of one pair of processes.
+//! The measures of one pair of processes.
 
 use process_api::Pid;
 

@@ -1,4 +1,4 @@
-//! What is counted of all pairs on one layer, and told of them.
+//! The counts of all pairs on one layer, and the numbers that are told of them.
 ghost use Rattle.std.specs.Prelude.{◌≡◌, ℕ, ◌*◌, ◌++◌, ◌<◌, List, OnOk};
 ghost use Rattle.process_api.specs.EntryRecord.{EntryRecord};
 ghost use Rattle.scenario_record.specs.Record.{Record};

@@ -1,4 +1,4 @@
-//! What is told of a run in a few numbers.
+//! The summary of a run, in a few numbers.
 
 use judges::Outcome;
 

@@ -1,4 +1,4 @@
-//! What a meter has counted so far.
+//! The counts of a meter so far.
 ghost use Rattle.std.specs.Prelude.{◌≡◌, ◌+◌, ◌<◌, ◌≤◌, ◌^◌};
 ghost use Rattle.std.specs.Option.{ForSome};
 ghost use Rattle.reporting.specs.Tally.{HasRoom, InRange, begun, finished, grown, moved};

@@ -1,4 +1,4 @@
-//! What is told of a run, as no entry follows.
+//! The numbers that are told of a run, once no entry follows.
 ghost use Rattle.std.specs.Prelude.{◌≡◌, ◌<◌, ◌^◌, ◌++◌, Bool, List, true, is_some, IfOk, OnOk, length};
 ghost use Rattle.process_api.specs.EntryRecord.{EntryRecord};
 ghost use Rattle.process_api.specs.declared.print_choice.PrintChoice.{PrintChoice};

@@ -1,4 +1,4 @@
-//! What is said of bytes that are no text, and of a file's table.
+//! Diagnoses of bytes that are no text, and of a file's table.
 use crate::comparisons::{NO_MEMORY, same};
 use diagnosis::{Diagnosis, diagnose, diagnose_table};
 

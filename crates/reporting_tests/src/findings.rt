@@ -1,4 +1,4 @@
-//! What is found of a run, as tests expect it.
+//! The findings of a run, as tests expect them.
 use crate::comparisons::same;
 use crate::traces::pid;
 use judges::{Answer, Outcome, Verdicts};

@@ -1,12 +1,12 @@
-//! Tests of what is said of files, and of what judges, measures, sweeps and draws.
+//! Tests of diagnoses of files, judges, measures, studies and pictures.
 //!
 //! These are the tests of `diagnosis`, `study`, `judges`, `letters`, `reporting`, `sweep`, `svg` and `drawing`, a
-//! module for each: what is said of a file, grids of runs and networks laid over them, verdicts and outcomes, the table
-//! of letters, measures and outlets, sums and rows of studies, and pictures, over traces and findings that are worked
-//! out by hand. What whole runs print is compared by the crate `transcripts`. They stand apart from these crates, since
-//! a crate with tests is proved twice, without them and with them, and this crate has nothing else. What they share is
-//! in modules of its own: comparisons, scenarios and traces in the form in which a trace is printed, and what is found
-//! of a run.
+//! module for each: diagnoses of files, grids of runs and networks laid over them, verdicts and outcomes, the table of
+//! letters, measures and outlets, sums and rows of studies, and pictures, over traces and findings that are worked out
+//! by hand. The crate `transcripts` compares what whole runs print. They stand apart from these crates, since a crate
+//! with tests is proved twice, without them and with them, and this crate has nothing else. Modules of their own have
+//! what the tests share: comparisons, scenarios and traces in the form in which a trace is printed, and the findings of
+//! a run.
 #![tactic(auto)]
 
 #[cfg(test)]

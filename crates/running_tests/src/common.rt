@@ -1,4 +1,4 @@
-//! What tests of several crates use.
+//! Code for the tests of several crates.
 ghost use Rattle.std.specs.Prelude.{◌≡◌, ◌≤◌};
 ghost use Rattle.process_api.specs.Bounds.{most_processes};
 

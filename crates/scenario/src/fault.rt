@@ -1,4 +1,4 @@
-//! What a table of a scenario's file has, or lacks, for which the file is refused.
+//! Faults of a table: something that it has or lacks, for which a scenario's file is refused.
 
 use crate::field::{Field, Kind};
 use process_api::Pid;

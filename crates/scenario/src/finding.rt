@@ -1,8 +1,8 @@
 //! Why a scenario's file is refused, and where.
 //!
-//! What reads a part of a file answers the refusal alone, and leaves in `found` what is wrong, and where: a [`Finding`]
-//! in each answer would be written out at each step of each proof. What `found` had before is of no account, nor what it
-//! has where nothing is refused.
+//! A function that reads a part of a file answers the refusal alone, and leaves in `found` what is wrong and where. If
+//! each answer had a [`Finding`], each step of each proof would write it out. The value of `found` before a call
+//! doesn't matter, nor does its value where nothing is refused.
 ghost use Rattle.std.specs.Prelude.{◌≡◌, Some, None};
 ghost use Rattle.toml.specs.Data.{Members};
 ghost use Rattle.scenario.specs.Place.{table_of};

@@ -1,16 +1,17 @@
-//! Scenarios: what a run is asked to do, read from a TOML file.
+//! Reads scenarios from TOML files. A scenario says what a run has to do.
 //!
 //! [`read_scenario`] takes a file's bytes and answers the [`Scenario`] that the file stands for, or the one reason for
 //! which it is refused. Its contract is this crate's one promise. `Ok` is the record of the file's table
-//! (`specs/Text.antt`), defaults filled in, and every field is in its range. An error is the refusal of the first rule
-//! that applies. Each rule is a test of the whole table by itself (`specs/Rules.antt`); the order in which they are
-//! tried is a list of its own (`specs/Refusals.antt`). So of several faults in one file the answer is always the same
-//! one, whatever the order of the file's lines. Only `Memory` may come at any point. [`read_table`] is the second half
-//! of that call: it reads the table of a file whose bytes were read already. [`read_with_outages`] reads such a table,
-//! and takes outages that were drawn besides: it answers what [`read_table`] answers of the table to which these are
-//! added (`specs/Drawn.antt`), and makes no table of them.
+//! (`specs/Text.antt`) with the defaults filled in, and every field is in its range. An error is the refusal of the
+//! first rule that applies. Each rule is a test of the whole table by itself (`specs/Rules.antt`); the order in which
+//! they are tried is a list of its own (`specs/Refusals.antt`). So a file with several faults always gets the same
+//! answer, whatever the order of its lines. Only `Memory` may be answered at any point. [`read_table`] is the second
+//! half of that call: it reads the table of a file whose bytes were read already. [`read_with_outages`] reads such a
+//! table together with outages that were drawn. Its answer is that of [`read_table`] for the table to which these
+//! outages are added (`specs/Drawn.antt`), but it makes no such table.
 //!
-//! What a [`Scenario`] is stands in `scenario_record`, below whatever runs one, and is handed on from here.
+//! The type [`Scenario`] is defined in `scenario_record`, on which the crates that run a scenario depend. It is
+//! exported again from here.
 //!
 //! For example, a file says that two processes watch each other for ten ticks, that a letter takes two ticks, and that
 //! process 2 crashes at tick 3. Then `crash` answers 3 for process 2 and nothing for process 1, `link` from 1 to 2 is

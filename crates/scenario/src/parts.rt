@@ -1,4 +1,4 @@
-//! The parts of a scenario that stand on the numbers of its top table.
+//! The parts of a scenario that depend on the numbers of its top table.
 ghost use Rattle.std.specs.Prelude.{◌≡◌, true, Some, OnOk, OnErr, IfOk, IfErr};
 ghost use Rattle.toml.specs.View.{table_view};
 ghost use Rattle.scenario.specs.Text.{algorithm_in, record_of};

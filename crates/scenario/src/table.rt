@@ -1,4 +1,4 @@
-//! What a TOML table holds at its keys, and the faults of its keys.
+//! The values of a TOML table at its keys, and the faults of its keys.
 ghost use Rattle.std.specs.Prelude.{◌≡◌, false, is_some, option_map, option_copied, option_and_then, IfOk, IfSome};
 ghost use Rattle.std.specs.List.{Contains};
 ghost use Rattle.toml.specs.View.{view, array_view, items_view, table_view};

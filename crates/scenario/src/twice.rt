@@ -1,4 +1,4 @@
-//! Tables that are of what an earlier one of their array is of.
+//! Tables that repeat the subject of an earlier one of their array.
 ghost use Rattle.std.specs.Prelude.{◌≡◌, ℕ, ◌<◌, length, IfSome};
 ghost use Rattle.toml.specs.Data.{Members};
 ghost use Rattle.toml.specs.View.{table_view};

@@ -1,12 +1,12 @@
-//! What an accepted scenario is, and what each process opens with.
+//! Accepted scenarios, and the settings with which each process opens.
 //!
-//! A [`Scenario`] is what a run is asked to do: processes, crashes, links, a horizon, a seed (`specs/Record.antt`).
-//! Each of its fields is in its range (`specs/Ranges.antt`), which [`Scenario::of`] asks for: so whoever has one needs
-//! no check of it again. How a file becomes one is the matter of `scenario`.
+//! A [`Scenario`] says what a run has to do: its processes, crashes, links, horizon and seed (`specs/Record.antt`).
+//! Each of its fields is in its range (`specs/Ranges.antt`). [`Scenario::of`] requires this, so a scenario never has to
+//! be checked again. The crate `scenario` makes one of a file.
 //!
-//! Its readers take no memory. Of a process above the number of processes [`Scenario::crash`] and
-//! [`Scenario::proposal`] answer nothing. [`Scenario::opening`] gives what a process opens with, and with it the mind
-//! of its machine (`specs/Opening.antt`).
+//! Its readers allocate no memory. [`Scenario::crash`] and [`Scenario::proposal`] answer nothing of a process above the
+//! number of processes. [`Scenario::opening`] gives the settings with which a process opens, and with them the mind of
+//! its machine (`specs/Opening.antt`).
 //!
 //! For example, where process 2 of two crashes at tick 3, `crash` answers 3 for process 2 and nothing for process 1.
 #![tactic(auto)]

@@ -1,4 +1,4 @@
-//! What a process opens with.
+//! Openings: the settings with which processes open.
 ghost use Rattle.std.specs.Prelude.{◌≡◌, ◌≤◌, not, is_some};
 ghost use Rattle.std.specs.Option.{ForSome};
 ghost use Rattle.process_api.specs.Bounds.{most_processes};

@@ -1,4 +1,4 @@
-//! The words that a program is given.
+//! The arguments that a program is given.
 ghost use Rattle.std.specs.Prelude.{◌≡◌, IfOk, map, string_bytes};
 
 use std::alloc::{AllocError, AllocGlobal, Global};

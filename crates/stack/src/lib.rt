@@ -1,7 +1,7 @@
 //! A process made of its parts.
 //!
-//! A machine of the simulation is a detector and an algorithm above it. [`Stack`] joins the two: in each step the
-//! detector acts first, and then the algorithm, which is handed whom the detector suspects by then. [`NoAlgorithm`]
+//! A machine of the simulation is a detector and an algorithm above it. [`Stack`] joins the two. In each step the
+//! detector acts first. Then the algorithm acts, which is told whom the detector suspects by then. [`NoAlgorithm`]
 //! stands where the processes run detectors alone.
 //!
 //! The one contract for the layers above is that of `Process`: a stack's mind is the two states of its parts, and on

@@ -1,11 +1,12 @@
-//! What the step of a process does.
+//! The step of a process.
 //!
-//! [`Seat::turn`] makes it: a machine with its link counts and an event go in, an entry comes out, the events that join
-//! go where the caller says ([`Joins`]), and a [`Listener`] is told of the letters (`specs/Posting.antt`). The single
-//! event list calls it, and so may whoever runs processes apart from one another, with [`Nobody`] listening.
+//! [`Seat::turn`] makes a step. A machine with its link counts and an event go in, and an entry comes out. The events
+//! that join go where the caller says ([`Joins`]), and a [`Listener`] is told of the letters (`specs/Posting.antt`).
+//! The single event list calls it. A run of processes apart from one another calls it too, with [`Nobody`] as the
+//! listener.
 //!
-//! As an example, process 1 takes its start at tick 0 and sends process 2 a letter that takes 2 ticks: the entry is the
-//! `start`, with one letter sent, and the event that joins is process 2's at tick 2.
+//! For example, process 1 takes its start at tick 0 and sends process 2 a letter that takes 2 ticks. The entry is the
+//! `start`, with one letter sent, and the event that joins is that of process 2 at tick 2.
 #![tactic(auto)]
 
 mod links;

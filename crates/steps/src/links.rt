@@ -1,4 +1,4 @@
-//! What a process puts on its links.
+//! The letters that a process puts on its links.
 ghost use Rattle.std.specs.Prelude.{◌≡◌, ◌≢◌, ◌≤◌, ◌<◌, ◌+◌, ◌^◌, ◌++◌, ◌∷◌, [], ℕ, IfOk, MatchOption, OnOk, length, replicate, vec_len};
 ghost use Rattle.std.specs.List.{AllByRecursion};
 ghost use Rattle.process_api.specs.Actions.{IsAllowed};

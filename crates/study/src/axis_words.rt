@@ -1,4 +1,4 @@
-//! Axes, as words of a command line.
+//! Axes, as arguments of a command line.
 ghost use Rattle.std.specs.Prelude.{◌≡◌, ◌<◌, ◌≤◌, ◌++◌, ◌∷◌, [], false, None, IfOk, OnOk, IfErr, map, length};
 ghost use Rattle.std.specs.List.{flat_map, AllZip};
 ghost use Rattle.study.specs.Settings.{given_by, settings_in, path_of};

@@ -1,4 +1,4 @@
-//! Keys, as words of a command line.
+//! Keys, as arguments of a command line.
 ghost use Rattle.std.specs.Prelude.{◌≡◌, ◌≢◌, ◌≤◌, ◌<◌, ◌^◌, ◌++◌, ◌∷◌, ℕ, false, codes, decimal, string_bytes, true, IfOk, IfErr, MatchOption};
 ghost use Rattle.std.specs.List.{list_all};
 ghost use Rattle.study.specs.Settings.{path_of, key_text, file_path_of, file_key_text};

@@ -1,17 +1,17 @@
-//! Studies: many runs of one scenario under a grid of settings, and what is said of all of them together.
+//! Studies: many runs of one scenario under a grid of settings.
 //!
 //! This crate says which runs a study has and what each run's scenario is. A [`Grid`] has points, all combinations of
-//! the values of its varied axes. Each point has runs: all combinations of the values that are added up with each seed,
-//! to which the combinations of the dealt axes' values are dealt in turn (`specs/Grid.antt`). The code finds a point or
-//! a run by its number, and lists none. A [`Shard`] is one of several consecutive blocks of the points
+//! the values of its varied axes. The runs of a point are all combinations of the values that are added up, each with
+//! each seed. The combinations of the dealt axes' values are dealt to the seeds in turn (`specs/Grid.antt`). The code
+//! finds a point or a run by its number, and lists none. A [`Shard`] is one of several consecutive blocks of the points
 //! (`specs/Shard.antt`).
 //!
-//! A study stands on [`Sources`]: the scenario's file, and a network's where there is one. An [`Assignment`] sets a key
-//! of them for all runs. [`read_run`] reads a run's scenario from the files with the run's values in place of theirs
-//! (`specs/Placed.antt`) and with the network's file laid over the scenario's table: its links in place of others, and
-//! what the run's seed draws as outages (`specs/Laid.antt`). [`scenario_text`] writes that table as a file, and
-//! [`read_alone`] reads the files as they stand. Keys, axes, assignments, [`Seeds`] and shards are read from words of a
-//! command line by their `parse` (`specs/KeyWords.antt`, `specs/AxisWords.antt`, `specs/SetWords.antt`,
+//! A study is made of [`Sources`]: the scenario's file, and a network's file where there is one. An [`Assignment`] sets
+//! a key of them for all runs. [`read_run`] reads a run's scenario from the files with the run's values in place of
+//! theirs (`specs/Placed.antt`) and with the network's file laid over the scenario's table: its links in place of
+//! others, and what the run's seed draws as outages (`specs/Laid.antt`). [`scenario_text`] writes that table as a file,
+//! and [`read_alone`] reads the files as they stand. Keys, axes, assignments, [`Seeds`] and shards are read from
+//! arguments of a command line by their `parse` (`specs/KeyWords.antt`, `specs/AxisWords.antt`, `specs/SetWords.antt`,
 //! `specs/SeedWords.antt`, `specs/ShardWords.antt`).
 #![tactic(auto)]
 

@@ -1,4 +1,4 @@
-//! Seeds, as words of a command line.
+//! Seeds, as arguments of a command line.
 ghost use Rattle.std.specs.Prelude.{◌≡◌, None, Some, IfOk, IfErr, MatchOption};
 ghost use Rattle.study.specs.SeedWords.{seeds_said, seeds_fault, AreEnds};
 

@@ -1,4 +1,4 @@
-//! Values for all runs, as words of a command line.
+//! Values for all runs, as arguments of a command line.
 ghost use Rattle.std.specs.Prelude.{◌≡◌, false, IfOk, IfErr};
 ghost use Rattle.toml.specs.View.{view};
 ghost use Rattle.study.specs.SetWords.{value_said, SaysAssignment, SaysNoAssignment, is_memory};

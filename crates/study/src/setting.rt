@@ -1,4 +1,4 @@
-//! What a key is set to.
+//! The value to which a key is set.
 ghost use Rattle.std.specs.Prelude.{◌≡◌};
 ghost use Rattle.study.specs.Settings.{given_by, given_text};
 

@@ -1,4 +1,4 @@
-//! What a key is set to, as a word of a command line.
+//! The value to which a key is set, as an argument of a command line.
 ghost use Rattle.std.specs.Prelude.{◌≡◌, ◌∷◌, [], None, IfOk, IfErr, MatchOption};
 ghost use Rattle.study.specs.Settings.{given_by};
 ghost use Rattle.study.specs.AxisWords.{range_by, range, piece_said, piece_fault, part_fault, values, IsFault};

@@ -1,4 +1,4 @@
-//! Shards, as words of a command line.
+//! Shards, as arguments of a command line.
 ghost use Rattle.std.specs.Prelude.{◌≡◌, None, Some, IfOk, IfErr};
 ghost use Rattle.study.specs.ShardWords.{shard_said, shard_fault};
 

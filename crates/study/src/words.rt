@@ -1,4 +1,4 @@
-//! Numbers and bounds, as words of a command line.
+//! Numbers and bounds, as arguments of a command line.
 ghost use Rattle.std.specs.Prelude.{◌≡◌, ◌≤◌, ◌<◌, ◌^◌, true, false, length, map, IfOk, MatchOption, option_map};
 ghost use Rattle.std.specs.Char.{is_ascii_digit};
 ghost use Rattle.std.specs.List.{list_all};

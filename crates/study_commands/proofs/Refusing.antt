@@ -5,11 +5,11 @@ use Rattle.drawing.specs.Refusals.{IsMemory, letters_refusal}
 use Rattle.drawing.specs.declared.error.DrawError.{DrawError}
 use Rattle.study.specs.Words.{Word}
 use Rattle.study_commands.specs.Draw.{AreNamed, IsOfPicture, IsRefused, NamesNone, StopsPicture, TellsOf, end_of_ticks}
-use Rattle.study_commands.specs.Draw.{first_tick}
+use Rattle.study_commands.specs.Draw.{first_tick, picture_line}
 use Rattle.study_commands.specs.Fault.{IsBefore, IsOfWordsFor}
 use Rattle.study_commands.specs.File.{IsScenario}
 use Rattle.study_commands.specs.declared.fault.Fault.{Fault}
-use Rattle.study_commands.specs.Refusal.{IsOfFile}
+use Rattle.study_commands.specs.Refusal.{IsOfFile, Says}
 use Rattle.study_commands.specs.declared.fault.Fault.TheVariants.{Limit, Memory, NotDrawn, Refused, Words, WordsMemory}
 use Rattle.letters.specs.Letters.{AreLetters}
 use Rattle.letters.specs.declared.letter.Letter.{Letter}
@@ -33,21 +33,23 @@ letters_why s letters of from until error are (inl memory) = inl memory
 letters_why s letters of from until error are (inr refused) = inr (inr (letters, are, refused))
 
 -- the fault that tells of it
-pub told_as : (named : Picture) (s : Record) (of : List ℕ) (from until : ℕ) (error : DrawError) (f : Fault)
-    → IsMemory error ⊎ IsRefused named s of from until error → TellsOf error f → IsOfPicture named s of from until f
-told_as named s of from until error (NotDrawn told line) (inl memory) tells = absurd (tells.1 memory)
-told_as named s of from until error (NotDrawn told line) (inr refused) tells =
-    subst (IsRefused named s of from until) (sym tells.0) refused
-told_as named s of from until error Memory why tells = tt
-told_as named s of from until error _ why tells = absurd tells
+pub told_as : (path : List ℕ) (named : Picture) (s : Record) (of : List ℕ) (from until : ℕ) (error : DrawError)
+    (f : Fault) → IsMemory error ⊎ IsRefused named s of from until error → TellsOf path s error f
+    → IsOfPicture path named s of from until f
+told_as path named s of from until error (NotDrawn told line) (inl memory) tells = absurd (tells.1 memory)
+told_as path named s of from until error (NotDrawn told line) (inr refused) tells =
+    let Is : DrawError → Type 0 = λ e. IsRefused named s of from until e × Says line (picture_line path s e) in
+    subst Is (sym tells.0) (refused, tells.2)
+told_as path named s of from until error Memory why tells = tt
+told_as path named s of from until error _ why tells = absurd tells
 
 -- the fault of a picture of the files' scenario
 pub picture_stops : (input : Option (List ℕ)) (texts : SourceTexts) (named : Picture) (from until : Option ℕ)
     (word : Option Word) (s : Record) (of : List ℕ) (f : Fault) → IsScenario input texts s → AreNamed named word of
-    → IsOfPicture named s of (first_tick from) (end_of_ticks s until) f
+    → IsOfPicture texts.path.now named s of (first_tick from) (end_of_ticks s until) f
     → IsBefore (StopsPicture input texts named from until word) f
 picture_stops input texts named from until word s of (NotDrawn error line) at are is =
-    record { of = of; are_named = are; scenario = s; is_scenario = at; refused = is }
+    record { of = of; are_named = are; scenario = s; is_scenario = at; refused = is.0; says = is.1 }
 picture_stops input texts named from until word s of Limit at are is = (s, at, is.0, is.1)
 picture_stops input texts named from until word s of Memory at are is = tt
 picture_stops input texts named from until word s of _ at are is = absurd is

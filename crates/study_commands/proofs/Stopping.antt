@@ -3,14 +3,14 @@ use Rattle.std.proofs.Common.{◌≡◌, ◌⊎◌, ◌≤◌, ap, inl, inr, ref
 use Rattle.study_commands.specs.Answer.{Answers, GoesFor, IsNoSweep, Writes}
 use Rattle.study_commands.specs.Fault.{end_of, status_of}
 use Rattle.study_commands.specs.Inside.Statuses.{has_status}
-use Rattle.study_commands.specs.Serve.{IsAsked, IsHelp, IsReason, TellsLine, TellsOf}
+use Rattle.study_commands.specs.Serve.{AreAnswered, GoesForWords, IsAsked, IsNoFault, IsReason, TellsLine, TellsOf}
 use Rattle.study_commands.specs.Why.{StopsFor}
 use Rattle.study_commands.specs.declared.fault.Fault.{Fault}
 use Rattle.study_commands.specs.declared.fault.Fault.TheVariants.{Words, WordsMemory, Write}
 use Rattle.reporting.specs.Writing.{Wrote, WrotePart}
 use Rattle.shell.proofs.Going.{goes_as, put_goes}
 use Rattle.shell.specs.Ending.{End, HasStatus, Puts, begun, cut, untouched}
-use Rattle.study_line.specs.Order.{AsksHelp, Explains}
+use Rattle.study_line.specs.Order.{AsksHelp, AsksVersion, Explains, States}
 use Rattle.study_line.specs.declared.order.Order.{Order}
 use Rattle.study_line.specs.declared.order.Order.TheVariants as order
 use Rattle.study_line.specs.declared.order.WordsError.{WordsError}
@@ -42,19 +42,45 @@ stops_at_write input (order.Check path None) = tt
 stops_at_write input (order.Check path (Some study)) = tt
 stops_at_write input _ = tt
 
--- help is told only where it was asked for
-pub asks_help : (words : List (List ℕ)) (reason : WordsError) → IsHelp reason → Explains words reason → AsksHelp words
-asks_help words (refusal.Help text) is explains = explains
-asks_help words _ is explains = absurd is
+-- help and the version are told only where they were asked for
+answered : (words : List (List ℕ)) (reason : WordsError) → Explains words reason → (piece : List ℕ)
+    → IsNoFault reason piece → AreAnswered words piece
+answered words (refusal.Help text) explains piece is = inl explains
+answered words refusal.Version explains piece is = inr (explains, is)
+answered words _ explains piece is = absurd is
 
--- so words whose help was told asked for it
-pub help_told : {O A : Type 0} (told : O → Option (List ℕ)) (failed : O → ℕ) (old new : O) (words : List (List ℕ))
-    (reason : WordsError) (r : Result A Fault) → Puts end_of told failed old new (λ _. IsHelp reason) r
-    → Explains words reason → OnOk r (AsksHelp words)
-help_told told failed old new words reason (Ok a) put explains = asks_help words reason put.is_wanted explains
-help_told told failed old new words reason (Err fault) put explains = tt
+asked_for : (words : List (List ℕ)) (piece : List ℕ) → AreAnswered words piece → AsksHelp words ⊎ AsksVersion words
+asked_for words piece (inl help) = inl help
+asked_for words piece (inr version) = inr version.0
 
--- words that state no order end with 2, or with 4 where help can't be written
+module _ {O A : Type 0} (told : O → Option (List ℕ)) (failed : O → ℕ) (old new : O) (words : List (List ℕ))
+    (r : Result A Fault) where
+  module _ (input : Option (List ℕ)) where
+    -- words that state an order go as it does
+    pub order_goes : (asked : Order) → States words asked → GoesFor told failed old new input asked r
+        → GoesForWords told failed old new input words r
+    order_goes asked stated =
+        goes_as told failed old new _ _ _ _ _ _ (λ piece is. inl (asked, stated, is))
+        (λ piece is. inl (asked, stated, is)) (λ piece is. (asked, stated, is)) end_of r
+
+    -- and words that ask for help or for the version as what is told of them
+    pub telling_goes : (reason : WordsError) → Explains words reason
+        → Puts end_of told failed old new (IsNoFault reason) r → GoesForWords told failed old new input words r
+    telling_goes reason explains =
+        goes_as told failed old new _ _ _ _ _ _ (λ piece is. inr (answered words reason explains piece is))
+        (λ piece is. inr (answered words reason explains piece is)) (λ piece is. absurd is) end_of r
+
+  -- so words of which that was told asked for it
+  pub telling_asked : (reason : WordsError) → Explains words reason
+      → Puts end_of told failed old new (IsNoFault reason) r → OnOk r (AsksHelp words ⊎ AsksVersion words)
+  telling_asked reason explains put = asked_of r put
+    where
+      asked_of : (r : Result A Fault) → Puts end_of told failed old new (IsNoFault reason) r
+          → OnOk r (AsksHelp words ⊎ AsksVersion words)
+      asked_of (Ok a) put = asked_for words put.piece (answered words reason explains put.piece put.is_wanted)
+      asked_of (Err fault) put = tt
+
+-- words that state no order end with 2, or with 4 where help or the version can't be written
 line_status : (text : List ℕ) (f : Fault) → TellsLine text f → status_of f ≡ 2
 line_status text (Words line) is = refl
 line_status text WordsMemory is = refl
@@ -62,6 +88,7 @@ line_status text _ is = absurd is
 
 unasked_status : (reason : WordsError) (f : Fault) → TellsOf reason f → (status_of f ≡ 2) ⊎ (status_of f ≡ 4)
 unasked_status (refusal.Help text) f is = inr (ap status_of is)
+unasked_status refusal.Version f is = inr (ap status_of is)
 unasked_status refusal.Form f is = inl (ap status_of is)
 unasked_status refusal.Memory f is = inl (ap status_of is)
 unasked_status _ f is = inl (line_status _ f is)

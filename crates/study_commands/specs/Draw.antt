@@ -1,16 +1,19 @@
 -- What `draw` answers.
-use Rattle.std.specs.Prelude.{◌≡◌, ◌⊎◌, ℕ, List, [], map, nat_le, ◌&&◌, Contains, Option, None, Some, unwrap_or}
-use Rattle.std.specs.Prelude.{if◌then◌else◌}
+use Rattle.std.specs.Prelude.{◌≡◌, ◌⊎◌, ℕ, ◌-◌, List, [], ◌++◌, map, nat_le, ◌&&◌, Contains, Option, None, Some}
+use Rattle.std.specs.Prelude.{String, codes, decimal, if◌then◌else◌, unwrap_or}
+use Rattle.std.specs.declared.alloc.Global.{Global}
+use Rattle.printable.specs.Printable.{printable}
 use Rattle.process_api.specs.Bounds.{most_processes}
 use Rattle.study.specs.Words.{Word, between, is_natural, natural}
 use Rattle.drawing.specs.LettersPicture.{DrawsLetters}
 use Rattle.drawing.specs.Refusals.{IsMemory, letters_refusal, refusal}
 use Rattle.drawing.specs.Suspicions.{DrawsSuspicions}
 use Rattle.drawing.specs.declared.error.DrawError.{DrawError}
+use Rattle.drawing.specs.declared.error.DrawError.TheVariants as picture_error
 use Rattle.trace_laws.specs.ScenarioSetting.{setting_of}
 use Rattle.trace_laws.specs.World.{IsTrace}
 use Rattle.study_commands.specs.File.{IsScenario, no_axes}
-use Rattle.study_commands.specs.Refusal.{IsOfFile}
+use Rattle.study_commands.specs.Refusal.{IsOfFile, Says}
 use Rattle.study_commands.specs.Runs.{IsTooLong}
 use Rattle.study_commands.specs.WordRefusals.{SaysNoSources}
 use Rattle.study_commands.specs.declared.fault.Fault.{Fault}
@@ -92,28 +95,42 @@ IsRefused picture.Letters s of from until error =
     (refusal s from until ≡ Some error)
     ⊎ ((letters : List Letter) × AreLetters s letters × (letters_refusal s letters of from until ≡ Some error))
 
--- the fault tells of this; in which words isn't said
-abbrev pub TellsOf : DrawError → Fault → Type 0
-TellsOf error (NotDrawn told line) = (told ≡ error) × (IsMemory error → ⊥)
-TellsOf error Memory = IsMemory error
-TellsOf error _ = ⊥
+-- the line of a picture of the scenario's run that is refused for this: of ticks it has those of the run
+abbrev pub picture_line : (path : List ℕ) → Record → DrawError → List ℕ
+picture_line path s picture_error.TooManyProcesses =
+    printable path ++ codes ": TooManyProcesses: there are more than 16 processes\n"
+picture_line path s picture_error.Ticks =
+    printable path ++ (codes ": Ticks: these ticks aren't those of the run, which are 0 to "
+    ++ (decimal (s.horizon - 1) ++ codes "\n"))
+picture_line path s picture_error.TooManyLetters =
+    printable path ++ codes ": TooManyLetters: there are more than 2,000 letters to draw\n"
+picture_line path s (picture_error.Memory e) = []
+
+-- the fault tells of this
+abbrev pub TellsOf : (path : List ℕ) → Record → DrawError → Fault → Type 0
+TellsOf path s error (NotDrawn told line) =
+    (told ≡ error) × (IsMemory error → ⊥) × Says line (picture_line path s error)
+TellsOf path s error Memory = IsMemory error
+TellsOf path s error _ = ⊥
 
 -- the fault is that of the picture of the scenario's run, or of the run. The run isn't made where its processes or the
 -- ticks asked for are refused
-abbrev pub IsOfPicture : Picture → Record → (of : List ℕ) (from until : ℕ) → Fault → Type 0
-IsOfPicture named s of from until (NotDrawn error line) = IsRefused named s of from until error
-IsOfPicture named s of from until Limit = IsTooLong s × (refusal s from until ≡ None)
-IsOfPicture named s of from until Memory = Unit {0}
-IsOfPicture named s of from until _ = ⊥
+abbrev pub IsOfPicture : (path : List ℕ) → Picture → Record → (of : List ℕ) (from until : ℕ) → Fault → Type 0
+IsOfPicture path named s of from until (NotDrawn error line) =
+    IsRefused named s of from until error × Says line (picture_line path s error)
+IsOfPicture path named s of from until Limit = IsTooLong s × (refusal s from until ≡ None)
+IsOfPicture path named s of from until Memory = Unit {0}
+IsOfPicture path named s of from until _ = ⊥
 
--- the picture of the files' scenario with the processes that a word names is refused for this
+-- the picture of the files' scenario with the processes that a word names is refused for this, and the line says why
 pub record IsRefusedPicture (input : Option (List ℕ)) (texts : SourceTexts) (named : Picture) (from until : Option ℕ)
-    (word : Option Word) (error : DrawError) : Type 0 where
+    (word : Option Word) (error : DrawError) (line : Option (String Global)) : Type 0 where
   pub of : List ℕ
   pub are_named : AreNamed named word of
   pub scenario : Record
   pub is_scenario : IsScenario input texts scenario
   pub refused : IsRefused named scenario of (first_tick from) (end_of_ticks scenario until) error
+  pub says : Says line (picture_line texts.path.now scenario error)
 
 -- `draw` stops for its words, for its files, for a picture or a run of their scenario that is refused, for want of
 -- memory or at a failed write
@@ -121,7 +138,7 @@ abbrev pub StopsPicture : Option (List ℕ) → SourceTexts → Picture → (fro
     → Type 0
 StopsPicture input texts named from until word (Words line) = NamesNone named word ⊎ SaysNoSources texts no_axes
 StopsPicture input texts named from until word (NotDrawn error line) =
-    IsRefusedPicture input texts named from until word error
+    IsRefusedPicture input texts named from until word error line
 StopsPicture input texts named from until word Limit =
     (s : Record) × IsScenario input texts s × IsTooLong s × (refusal s (first_tick from) (end_of_ticks s until) ≡ None)
 StopsPicture input texts named from until word WordsMemory = Unit {0}

@@ -2,3 +2,4 @@
 pub mod Statuses
 pub mod Warned
 pub mod Setting
+pub mod RangeHint

@@ -8,18 +8,24 @@ use Rattle.study_commands.specs.declared.fault.Fault.{Fault}
 use Rattle.study_commands.specs.declared.fault.Fault.TheVariants.{Form, Words, WordsMemory, Write}
 use Rattle.printable.specs.Printable.{printable, printable_lines}
 use Rattle.shell.specs.Ending.{Goes, IsWhy as Why}
-use Rattle.study_line.specs.Order.{AsksHelp, Explains, States}
+use Rattle.study_line.specs.Order.{AsksHelp, AsksVersion, Explains, States, version_text}
 use Rattle.study_line.specs.declared.order.Order.{Order}
 use Rattle.study_line.specs.declared.order.WordsError.{WordsError}
 use Rattle.study_line.specs.declared.order.WordsError.TheVariants as refusal
 
--- the piece is what the words ask for; of help its text isn't said
+-- the words ask for help or for the version, and this is told of it; of help its text isn't said
+abbrev pub AreAnswered : List (List ℕ) → List ℕ → Type 0
+AreAnswered words piece = AsksHelp words ⊎ (AsksVersion words × (piece ≡ version_text))
+
+-- the piece is what the words ask for
 abbrev pub Serves : Option (List ℕ) → List (List ℕ) → List ℕ → Type 0
-Serves input words piece = ((asked : Order) × States words asked × Answers input asked piece) ⊎ AsksHelp words
+Serves input words piece =
+    ((asked : Order) × States words asked × Answers input asked piece) ⊎ AreAnswered words piece
 
 -- the piece is what is written for the words, as far as it comes
 abbrev pub ServesFor : Option (List ℕ) → List (List ℕ) → List ℕ → Type 0
-ServesFor input words piece = ((asked : Order) × States words asked × Writes input asked piece) ⊎ AsksHelp words
+ServesFor input words piece =
+    ((asked : Order) × States words asked × Writes input asked piece) ⊎ AreAnswered words piece
 
 -- the piece is what is left of what the words ask for, where memory was refused
 abbrev pub LeftOf : Option (List ℕ) → List (List ℕ) → List ℕ → Type 0
@@ -41,9 +47,10 @@ TellsLine text (Words line) = string_bytes line ≡ text
 TellsLine text WordsMemory = Unit {0}
 TellsLine text _ = ⊥
 
--- the fault of words that state no order. Help is told well, unless it can't be written
+-- the fault of words that state no order. Help and the version are no fault, unless they can't be written
 abbrev pub TellsOf : WordsError → Fault → Type 0
 TellsOf (refusal.Help text) fault = fault ≡ Write
+TellsOf refusal.Version fault = fault ≡ Write
 TellsOf (refusal.Mistake text) fault = TellsLine (printable_lines (string_bytes text)) fault
 TellsOf (refusal.NoPicture word) fault = TellsLine (other_word_line (codes "NoPicture") (string_bytes word)) fault
 TellsOf (refusal.NoEach word) fault = TellsLine (other_word_line (codes "NoEach") (string_bytes word)) fault
@@ -74,10 +81,11 @@ IsWhy input words = Why status_of line_of (IsReason input words)
 abbrev pub IsAsked : List (List ℕ) → Type 0
 IsAsked words = (asked : Order) × States words asked
 
--- what is told of words is help
-abbrev pub IsHelp : WordsError → Type 0
-IsHelp (refusal.Help text) = Unit {0}
-IsHelp _ = ⊥
+-- what is told of words is no fault: help, or the version
+abbrev pub IsNoFault : WordsError → List ℕ → Type 0
+IsNoFault (refusal.Help text) piece = Unit {0}
+IsNoFault refusal.Version piece = piece ≡ version_text
+IsNoFault _ piece = ⊥
 
 -- no order that the words state names standard input
 abbrev pub NamesNoInput : List (List ℕ) → Type 0

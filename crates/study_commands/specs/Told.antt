@@ -8,7 +8,7 @@ use Rattle.study.specs.Sources.{SourcesRecord}
 use Rattle.study_commands.specs.File.{IsScenario}
 use Rattle.study_commands.specs.Sweep.{IsSaid}
 use Rattle.study_commands.specs.WarningText.{IsWarnedOf, IsWarnedOfStudy}
-use Rattle.study_line.specs.Order.{AsksHelp, States}
+use Rattle.study_line.specs.Order.{AsksHelp, AsksVersion, States}
 use Rattle.study_line.specs.declared.order.Order.{Order}
 use Rattle.study_line.specs.declared.order.Order.TheVariants as order
 use Rattle.study_line.specs.declared.order.SourceTexts.{SourceTexts}
@@ -64,7 +64,8 @@ module _ {W : Type 0} (heard : W → List News → W → Type 0) (warned : W →
     IsTold (order.Sweep texts study) = IsToldOfSweep old new input texts study
     IsTold _ = new ≡ old
 
-    -- and for words: where they ask for help nothing
+    -- and for words: where they ask for help or for the version nothing
     abbrev pub IsToldFor : (words : List (List ℕ)) → Type 0
     IsToldFor words =
-        ((asked : Order) × States words asked × IsTold asked) ⊎ (AsksHelp words × (new ≡ old))
+        ((asked : Order) × States words asked × IsTold asked)
+        ⊎ ((AsksHelp words ⊎ AsksVersion words) × (new ≡ old))

@@ -1,4 +1,4 @@
-//! Keys that words set for all runs.
+//! Keys that arguments set for all runs.
 ghost use Rattle.std.specs.Prelude.{◌≡◌, false, None, IfErr, IfOk, OnOk, map};
 ghost use Rattle.std.specs.List.{AllZip};
 ghost use Rattle.study.specs.Grid.{set_twice};

@@ -1,4 +1,4 @@
-//! What no run of a scenario breaks, in lines.
+//! Bounds that no run of a scenario breaks, in lines.
 ghost use Rattle.std.specs.Prelude.{◌≡◌, IfOk, string_bytes};
 ghost use Rattle.promised.specs.Promised.{promised};
 ghost use Rattle.study_commands.specs.BoundsText.{bounds_text, detection_text, key_of, lossy_text};
@@ -21,11 +21,11 @@ fn within_line(alloc: Global, detector: DetectorNumbers, ticks: u64) -> Result<S
 {
     match detector {
         DetectorNumbers::Timeout(_) => format!(in alloc;
-            "each crash is detected within {ticks} ticks by each correct process that watches, \
+            "each correct process detects each crash of whom it watches within {ticks} ticks, \
 as long as no suspicion is taken back\n"
         ),
         DetectorNumbers::Freshness(_) => format!(in alloc;
-            "each crash is detected within {ticks} ticks by each correct process that watches\n"
+            "each correct process detects each crash of whom it watches within {ticks} ticks\n"
         ),
     }
 }
@@ -47,24 +47,26 @@ fn detection_line(
     }
 }
 
-/// How many watched links can bring no mistake, where any are watched.
+/// How many watched links surely bring no mistake, where any are watched.
 fn reliable_line(alloc: Global, watched: usize, reliable: usize) -> Result<String, AllocError>
     ensures { IfOk result (λ s. string_bytes s ≡ reliable_text watched reliable) }
 {
     if watched == 0 {
         return Ok(String::new(alloc));
     }
-    format!(in alloc; "watched links that can bring no mistake: {reliable} of {watched}\n")
+    format!(in alloc; "watched links that surely bring no mistake: {reliable} of {watched}\n")
 }
 
-/// Of how many watched links nothing is promised, where there are such links.
+/// Over how many watched links there may be mistakes, whatever the delays, where there are such links.
 fn lossy_line(alloc: Global, lossy: usize) -> Result<String, AllocError>
     ensures { IfOk result (λ s. string_bytes s ≡ lossy_text lossy) }
 {
     if lossy == 0 {
         return Ok(String::new(alloc));
     }
-    format!(in alloc; "watched links with loss or outages, of which nothing is promised: {lossy}\n")
+    format!(in alloc;
+        "watched links with loss or outages, of whose mistakes nothing is promised: {lossy}\n"
+    )
 }
 
 /// The key of a detector's file that says how long it waits.
@@ -91,7 +93,7 @@ fn needed_line(
             "with {key} {ticks} or more no link without loss and outages can bring a mistake\n"
         ),
         Some(_) => format!(in alloc;
-            "no {key} that a file may have is enough for the links without loss and outages\n"
+            "no {key} that a file may have is sure to be enough for the links without loss and outages\n"
         ),
         None => Ok(String::new(alloc)),
     }

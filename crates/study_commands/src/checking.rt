@@ -1,4 +1,4 @@
-//! The command `check`: what a scenario file has, or where it breaks a rule and why.
+//! The command `check`, which says what a scenario file has, or where it breaks a rule and why.
 ghost use Rattle.std.specs.Prelude.{◌≡◌, ◌≢◌, ◌+◌, ◌++◌, false, Ok, IfOk, IfErr, OnOk, string_bytes};
 ghost use Rattle.promised.specs.Promised.{promised};
 ghost use Rattle.scenario.specs.Refusals.{Accepts};

@@ -1,4 +1,4 @@
-//! What is looked at of a point's first run.
+//! The facts that are looked at in a point's first run.
 ghost use Rattle.scenario_record.specs.Numbers.{AreInRange, AreInRange-prop};
 
 use process_api::DetectorNumbers;

@@ -1,4 +1,4 @@
-//! What is found at points of a study.
+//! Findings at points of a study.
 ghost use Rattle.std.specs.Prelude.{◌≡◌, ◌+◌, ◌^◌, ◌<◌, is_some, length};
 ghost use Rattle.std.specs.List.{count_by, position, range_with_len};
 ghost use Rattle.study_commands.specs.Warnings.{found};

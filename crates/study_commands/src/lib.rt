@@ -1,19 +1,19 @@
-//! The commands of `fdstudy`: from the words of a command line to what goes out and the exit status.
+//! The commands of `fdstudy`: from the arguments of a command line to the texts that go out and the exit status.
 //!
-//! The one contract is that of [`serve::serve`]: with status 0 the outlet grows by what the words ask for, which for
-//! `sweep` is the study's text, for `show` the run's, for `check` the lines of an accepted file, for `letters` the text
-//! of the letters of its run and for `draw` a picture of it; with status 4 by a front part of it; with another status
-//! by nothing, but that a `sweep` of status 3 may leave the rows of the first points. Each command has a module and a
-//! file of definitions: `specs/Sweep.antt`, `specs/Show.antt`, `specs/Check.antt`, `specs/Letters.antt` and
-//! `specs/Draw.antt`. The study's text is defined by `sweep`, its grid and its words by `study`, letters by `letters`,
-//! pictures by `drawing`, and the command line by `study_line`. The process ends with the status, by the contract of
-//! `finish` of `shell`.
+//! The one contract is that of [`serve::serve`]: with status 0 the outlet grows by what the arguments ask for, which
+//! for `sweep` is the study's text, for `show` the run's, for `check` the lines of an accepted file, for `letters` the
+//! text of the letters of its run and for `draw` a picture of it; with status 4 by a front part of it; with another
+//! status by nothing, but that a `sweep` of status 3 may leave the rows of the first points. Each command has a module
+//! and a file of definitions: `specs/Sweep.antt`, `specs/Show.antt`, `specs/Check.antt`, `specs/Letters.antt` and
+//! `specs/Draw.antt`. The study's text is defined by `sweep`, its grid and its arguments by `study`, letters by
+//! `letters`, pictures by `drawing`, and the command line by `study_line`. The process ends with the status, by the
+//! contract of `finish` of `shell`.
 //!
-//! Before the first run a [`warned::Warned`] is told in lines what may mislead of a scenario or a study
+//! Before the first run a [`warned::Warned`] is told, in lines, what may mislead in a scenario or a study
 //! (`specs/Warnings.antt`, `specs/WarningText.antt`, `specs/Told.antt`).
 //!
-//! For example, the words `fdstudy sweep - --seeds 1..=20 --vary detector.timeout=5,10` print the line of the columns'
-//! names and two rows, each over 20 runs.
+//! For example, the command `fdstudy sweep - --seeds 1..=20 --vary detector.timeout=5,10` prints the line of the
+//! columns' names and two rows, each over 20 runs.
 #![tactic(auto)]
 
 mod adding;
@@ -37,6 +37,7 @@ mod picturing;
 mod place_reason;
 mod processes;
 pub mod progress_line;
+mod range_hint;
 mod ready;
 mod reckoning;
 mod refused_run;

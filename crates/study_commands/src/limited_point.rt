@@ -1,4 +1,4 @@
-//! What is said of a point of which runs passed their limit.
+//! The line about a point of which runs passed their limit.
 ghost use Rattle.std.specs.Prelude.{◌<◌, length};
 ghost use Rattle.study.specs.Grid.{points};
 

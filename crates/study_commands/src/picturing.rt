@@ -1,8 +1,8 @@
 //! The command `draw`: pictures of a scenario's run.
-ghost use Rattle.std.specs.Prelude.{◌≡◌, ◌+◌, IfErr, IfOk, None, Some, map, option_map};
+ghost use Rattle.std.specs.Prelude.{◌≡◌, ◌+◌, IfErr, IfOk, None, Some, map, option_map, string_bytes};
 ghost use Rattle.drawing.specs.Refusals.{refusal};
 ghost use Rattle.study_commands.specs.Draw.{AreNamed, HasNoProcess, IsDrawAnswer, IsOfPicture, NamesNone};
-ghost use Rattle.study_commands.specs.Draw.{Shows, StopsPicture, TellsOf, process_said};
+ghost use Rattle.study_commands.specs.Draw.{Shows, StopsPicture, TellsOf, picture_line, process_said};
 ghost use Rattle.study_commands.specs.Fault.{IsBefore, IsOfWordsFor};
 ghost use Rattle.study_commands.specs.File.{NameNoInput};
 ghost use Rattle.shell.specs.Input.{TakesAtMost, most_bytes};
@@ -15,7 +15,7 @@ use drawing::{DrawError, check_ticks, draw_letters, draw_suspicions};
 use printable::Printable;
 use process_api::Pid;
 use scenario::Scenario;
-use std::alloc::Global;
+use std::alloc::{AllocError, Global};
 use std::io::Read;
 use std::rt::Files;
 use study::words_between;
@@ -56,18 +56,41 @@ fn processes_named(alloc: Global, picture: Picture, word: Option<&str>) -> Resul
     }
 }
 
-/// The fault of a picture that is refused, with its name and its reason.
-fn fault_of(alloc: Global, path: &str, error: DrawError) -> Fault
-    ensures { TellsOf error result }
+/// The line of a picture of the scenario's run that is refused, with the name of the reason and what it says.
+fn line_of(
+    alloc: Global,
+    path: &str,
+    scenario: &Scenario,
+    error: &DrawError,
+) -> Result<String, AllocError>
+    ensures { IfOk result (λ line. string_bytes line ≡ picture_line path.now scenario.now error.now) }
 {
-    let name = match &error {
-        DrawError::TooManyProcesses => "TooManyProcesses",
-        DrawError::Ticks => "Ticks",
-        DrawError::TooManyLetters => "TooManyLetters",
-        DrawError::Memory(_) => return Fault::Memory,
-    };
     let path = Printable(path);
-    let line = format!(in alloc; "{path}: {name}: {error}\n").ok();
+    match error {
+        DrawError::TooManyProcesses => format!(in alloc;
+            "{path}: TooManyProcesses: there are more than 16 processes\n"
+        ),
+        DrawError::Ticks => {
+            let last = scenario.horizon() - 1;
+            format!(in alloc;
+                "{path}: Ticks: these ticks aren't those of the run, which are 0 to {last}\n"
+            )
+        }
+        DrawError::TooManyLetters => format!(in alloc;
+            "{path}: TooManyLetters: there are more than 2,000 letters to draw\n"
+        ),
+        DrawError::Memory(error) => Err(*error),
+    }
+}
+
+/// The fault of a picture of the scenario's run that is refused.
+fn fault_of(alloc: Global, path: &str, scenario: &Scenario, error: DrawError) -> Fault
+    ensures { TellsOf path.now scenario.now error result }
+{
+    if let DrawError::Memory(_) = &error {
+        return Fault::Memory;
+    }
+    let line = line_of(alloc, path, scenario, &error).ok();
     Fault::NotDrawn(error, line)
 }
 
@@ -83,19 +106,19 @@ fn picture_of(
 ) -> Result<Vec<u8>, Fault>
     requires { refusal scenario.now from until ≡ None }
     ensures shows { IfOk result (λ text. Shows picture scenario.now of.now from until text.items) }
-    ensures refused { IfErr result (IsOfPicture picture scenario.now of.now from until) }
+    ensures refused { IfErr result (IsOfPicture path.now picture scenario.now of.now from until) }
 {
     let trace = trace_of(alloc, scenario)?;
     match picture {
         Picture::Suspicions => match draw_suspicions(alloc, scenario, &trace, from, until) {
             Ok(text) => Ok(text),
-            Err(error) => Err(fault_of(alloc, path, error)),
+            Err(error) => Err(fault_of(alloc, path, scenario, error)),
         },
         Picture::Letters => {
             let letters = letters_of(alloc, scenario)?;
             match draw_letters(alloc, scenario, &trace, &letters, of, from, until) {
                 Ok(text) => Ok(text),
-                Err(error) => Err(fault_of(alloc, path, error)),
+                Err(error) => Err(fault_of(alloc, path, scenario, error)),
             }
         }
     }
@@ -126,6 +149,6 @@ pub(crate) fn serve_draw<R: Files, I: Read>(
     let until = until.unwrap_or(scenario.horizon());
     match check_ticks(&scenario, from, until) {
         Ok(()) => picture_of(alloc, texts.path, picture, &scenario, &of, from, until),
-        Err(error) => Err(fault_of(alloc, texts.path, error)),
+        Err(error) => Err(fault_of(alloc, texts.path, &scenario, error)),
     }
 }

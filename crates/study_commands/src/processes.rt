@@ -1,4 +1,4 @@
-//! Processes, as words of a command line.
+//! Processes, as arguments of a command line.
 ghost use Rattle.std.specs.Prelude.{◌≡◌};
 ghost use Rattle.study_commands.specs.Draw.{process_said};
 

@@ -1,5 +1,5 @@
-//! What standard error tells of a study: what may mislead of it; on a terminal, in one line, how far a sweep has come;
-//! and of points of which runs passed their limit.
+//! The lines of a study on standard error: warnings; on a terminal, in one line, how far a sweep has come; and the
+//! points of which runs passed their limit.
 ghost use Rattle.std.specs.Prelude.{◌≡◌, ◌≤◌, ◌==◌, false, not, true};
 
 use crate::limited_point::line_of_limited;

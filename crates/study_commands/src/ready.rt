@@ -1,4 +1,4 @@
-//! Studies that are ready for their first run: all scenarios are read, and what may mislead is told.
+//! Studies that are ready for their first run: all scenarios are read, and warnings are told.
 ghost use Rattle.std.specs.Prelude.{◌≡◌, false, IfErr, OnOk};
 ghost use Rattle.study.specs.Sources.{sources_of};
 ghost use Rattle.study_commands.specs.Sweep.{IsFaultOf};

@@ -1,4 +1,4 @@
-//! About how much a study will be, by the estimates of its runs. No proof says how near this comes.
+//! The estimated size of a study, by the estimates of its runs. No proof says how near this comes.
 ghost use Rattle.std.specs.Prelude.{◌≤◌};
 
 use diagnosis::{HIGHEST_LIMIT, estimate_of};

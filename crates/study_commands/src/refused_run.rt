@@ -3,9 +3,11 @@ ghost use Rattle.std.specs.Prelude.{◌<◌, length};
 ghost use Rattle.study.specs.Grid.{points, runs};
 
 use crate::place_reason::place_reason;
+use crate::range_hint::range_hint;
 use crate::run_name::name_of_run;
 use diagnosis::{Diagnosis, diagnose_table};
 use printable::Printable;
+use scenario::ScenarioError;
 use std::alloc::{AllocError, Global};
 use study::{Choice, Grid, Run, Sources, run_table, table_alone};
 use toml::Table;
@@ -21,13 +23,16 @@ fn reason_of(
         Ok(table) => table,
         Err(error) => return place_reason(alloc, &error),
     };
-    table_reason(alloc, &table)
+    table_reason(alloc, &table, range_hint(settings, &run.settings))
 }
 
-/// What `check` says of a table that is refused.
-fn table_reason(alloc: Global, table: &Table) -> Result<String, AllocError> {
+/// What `check` says of a table that is refused, with a hint where a value is of another kind than its key's.
+fn table_reason(alloc: Global, table: &Table, hint: &str) -> Result<String, AllocError> {
     match diagnose_table(alloc, table)? {
-        Diagnosis::Refused(refused) => format!(in alloc; "{refused}"),
+        Diagnosis::Refused(refused) => match &refused.refusal {
+            ScenarioError::WrongKind => format!(in alloc; "{refused}{hint}"),
+            _ => format!(in alloc; "{refused}"),
+        },
         Diagnosis::Accepted(_) => Err(AllocError),
     }
 }
@@ -39,7 +44,7 @@ pub(crate) fn line_alone(
     sources: &Sources,
 ) -> Result<String, AllocError> {
     let why = match table_alone(alloc, sources) {
-        Ok(table) => table_reason(alloc, &table)?,
+        Ok(table) => table_reason(alloc, &table, "")?,
         Err(error) => place_reason(alloc, &error)?,
     };
     let path = Printable(path);

@@ -3,7 +3,7 @@ ghost use Rattle.std.specs.Prelude.{◌≡◌, ◌≢◌, ◌⊎◌, ◌^◌, �
 ghost use Rattle.study_commands.specs.Answer.{Answers, GoesFor, IsNoSweep, texts_of};
 ghost use Rattle.study_commands.specs.Fault.{IsBefore, end_of};
 ghost use Rattle.study_commands.specs.File.{NameNoInput};
-ghost use Rattle.study_commands.specs.Serve.{GoesForWords, IsAsked, IsHelp, IsReason, IsWhy, LeftOf};
+ghost use Rattle.study_commands.specs.Serve.{GoesForWords, IsAsked, IsNoFault, IsReason, IsWhy, LeftOf};
 ghost use Rattle.study_commands.specs.Serve.{NamesNoInput, Serves, ServesFor, TellsLine, TellsOf, other_word_line};
 ghost use Rattle.study_commands.specs.Told.{IsTold, IsToldFor};
 ghost use Rattle.printable.specs.Printable.{printable_lines};
@@ -29,7 +29,7 @@ use std::marker::Sync;
 use std::rt::Files;
 use std::thread::Threads;
 use std::time::Clock;
-use study_line::{Order, StudyTexts, WordsError, read_words};
+use study_line::{Order, StudyTexts, WordsError, read_words, version_line};
 
 /// The text that an order asks for, of all but a sweep.
 fn text_of<R: Files + Threads + Sync + Clock, I: Read, W: Warned>(
@@ -113,14 +113,15 @@ fn mistake(alloc: Global, text: &str) -> Fault
     Fault::of_words(format!(in alloc; "{lines}"))
 }
 
-/// Tells of words that state no order: help goes to the outlet, all else is a fault.
+/// Tells of words that state no order: help and the version go to the outlet, all else is a fault.
 fn tell<O: Outlet>(alloc: Global, error: &WordsError, outlet: &mut O) -> Result<(), Fault>
     requires { O.failed outlet.old < 2 ^ 64 - 1 }
-    ensures text { Puts end_of O.told O.failed outlet.old outlet.new (λ _. IsHelp error.now) result }
+    ensures text { Puts end_of O.told O.failed outlet.old outlet.new (IsNoFault error.now) result }
     ensures why { IfErr result (TellsOf error.now) }
 {
     match error {
         WordsError::Help(text) => put_text(text.as_str(), outlet),
+        WordsError::Version => put_text(version_line(), outlet),
         WordsError::Mistake(text) => Err(mistake(alloc, text.as_str())),
         WordsError::NoPicture(word) => Err(other_word(alloc, "NoPicture", word.as_str())),
         WordsError::NoEach(word) => Err(other_word(alloc, "NoEach", word.as_str())),
@@ -160,7 +161,7 @@ fn answer_words<R: Files + Threads + Sync + Clock, I: Read, O: Outlet, W: Warned
 ///
 /// | Status | When |
 /// |---|---|
-/// | 0 | done, or help was shown |
+/// | 0 | done, or help or the version was shown |
 /// | 1 | the file, the scenario of a run or the picture is refused |
 /// | 2 | the words are refused |
 /// | 3 | the run passes its limit, or memory was refused |

@@ -1,4 +1,4 @@
-//! The files of a study, with what words set in them.
+//! The files of a study, with the values that arguments set in them.
 ghost use Rattle.std.specs.Prelude.{◌≡◌, ◌+◌, false, Err, Ok, IfErr, IfOk};
 ghost use Rattle.shell.specs.Input.{TakesAtMost, most_bytes};
 ghost use Rattle.study.specs.Placed.{assign_all, is_memory};

@@ -1,4 +1,4 @@
-//! The command `check` with a study: how many points and runs there are, and about how much they will be.
+//! The command `check` with a study: how many points and runs there are, and about how large they will be.
 ghost use Rattle.std.specs.Prelude.{◌≡◌, ◌+◌, ◌++◌, ℕ, List, false, IfOk, IfErr, OnOk, length, string_bytes};
 ghost use Rattle.study.specs.Grid.{runs};
 ghost use Rattle.study_commands.specs.Check.{IsStudyCheck, study_begin};

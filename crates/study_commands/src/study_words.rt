@@ -1,4 +1,4 @@
-//! Studies, as words of a command line.
+//! Studies, as arguments of a command line.
 ghost use Rattle.std.specs.Prelude.{◌≡◌, false, Some, IfOk, IfErr, map, option_map};
 ghost use Rattle.std.specs.List.{AllZip};
 ghost use Rattle.study_commands.specs.Fault.{IsOfWords, IsOfWordsFor};

@@ -1,4 +1,4 @@
-//! Words that name a column which there isn't.
+//! Arguments that name a column which there isn't.
 ghost use Rattle.std.specs.Prelude.{◌≡◌, IfOk, string_bytes};
 ghost use Rattle.study_commands.specs.WordRefusals.{is_like as is_like_to, no_column_line};
 

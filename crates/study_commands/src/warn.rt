@@ -1,4 +1,4 @@
-//! Tells what may mislead of a scenario or a study, before the first run.
+//! Tells the warnings of a scenario or a study, before the first run.
 ghost use Rattle.std.specs.Prelude.{◌≡◌, false, map, OnOk};
 ghost use Rattle.study.specs.Sources.{sources_of};
 ghost use Rattle.study_commands.specs.Inside.Warned.{warning_of};

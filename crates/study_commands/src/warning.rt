@@ -1,4 +1,4 @@
-//! What is warned of before the runs of a study.
+//! The warnings before the runs of a study.
 ghost use Rattle.std.specs.Prelude.{◌≡◌, ◌+◌, ◌++◌, ◌^◌, ◌<◌, List, IfOk, OnOk, length, map, option_map};
 ghost use Rattle.std.specs.List.{AllZip, filter_map, range_with_len};
 ghost use Rattle.study.specs.Settings.{path_of};

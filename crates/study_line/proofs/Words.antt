@@ -54,6 +54,7 @@ all_texts (Some s) all none is at = ap (λ o. option_map_or (λ ts. ts) o []) at
 pub lacks_part : {X Y : Type 0} (Part : X → Type 0) (Whole : Y → Type 0)
     → ((y : Y) → Whole y → (x : X) × Part x) → (e : WordsError) → Lacks Part e → Lacks Whole e
 lacks_part Part Whole parts (refusal.Help text) h = h
+lacks_part Part Whole parts refusal.Version h = h
 lacks_part Part Whole parts (refusal.Mistake text) h = h
 lacks_part Part Whole parts refusal.Memory h = tt
 lacks_part Part Whole parts _ h = λ y whole. let part = parts y whole in h part.0 part.1
@@ -89,6 +90,7 @@ module _ (c : Command) (words : List Text) (is : app_of c ≡ whole_app) where
       → IfErr r (Lacks (StatesFound (subcommand_rows_of m))) → IfErr r (Explains words)
   nothing_by_words m has taken (Ok asked) h = tt
   nothing_by_words m has taken (Err (refusal.Help text)) h = absurd h
+  nothing_by_words m has taken (Err refusal.Version) h = absurd h
   nothing_by_words m has taken (Err (refusal.Mistake text)) h = absurd h
   nothing_by_words m has taken (Err refusal.Memory) h = tt
   nothing_by_words m has taken (Err _) h = record {

@@ -95,9 +95,10 @@ show_app = with_rule (with_rule (with_grid true (with_path (codes "show"))) poin
 abbrev pub sweep_app : App
 sweep_app = study_app true (codes "sweep")
 
--- the program's command, which is nothing without one of these
+-- the program's command, which has a version, and is nothing without one of these
 abbrev pub top_app : App
-top_app = let app = new_app (codes "fdstudy") in record app { top = record app.top { subcommand_required = true } }
+top_app = let app = new_app (codes "fdstudy") in
+    record app { top = record app.top { subcommand_required = true; has_version = true } }
 
 -- the commands about one scenario
 abbrev pub with_scenario : App → App

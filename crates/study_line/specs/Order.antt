@@ -8,7 +8,7 @@ use Rattle.std.specs.Str.Parse.{ParsesUnsigned}
 use Rattle.std.specs.declared.num.ParseIntError.{ParseIntError}
 use Rattle.clap.specs.Words.{Row, Text, subcommand_of, all_of, first_of, one_of, fault_of, IsAmong}
 use Rattle.clap.specs.declared.error.kind.ErrorKind.{ErrorKind}
-use Rattle.clap.specs.declared.error.kind.ErrorKind.TheVariants.{DisplayHelp}
+use Rattle.clap.specs.declared.error.kind.ErrorKind.TheVariants.{DisplayHelp, DisplayVersion}
 use Rattle.study_line.specs.Commands.{whole_app}
 use Rattle.study_line.specs.declared.order.Each.{Each}
 use Rattle.study_line.specs.declared.order.Each.TheVariants as each
@@ -149,11 +149,21 @@ pub record StatesNothing (words : List Text) : Type 0 where
 abbrev pub AsksHelp : List Text → Type 0
 AsksHelp words = IsAmong DisplayHelp (fault_of whole_app words)
 
--- what is told of the words: help where they ask for it, a mistake where clap refuses them for another reason
+-- they ask for the version
+abbrev pub AsksVersion : List Text → Type 0
+AsksVersion words = IsAmong DisplayVersion (fault_of whole_app words)
+
+-- what is printed then
+abbrev pub version_text : Text
+version_text = codes "fdstudy 0.1.0\n"
+
+-- what is told of the words: help or the version where they ask for it, a mistake where clap refuses them for another
+-- reason
 abbrev pub Explains : List Text → WordsError → Type 0
 Explains words (refusal.Help text) = AsksHelp words
+Explains words refusal.Version = AsksVersion words
 Explains words (refusal.Mistake text) =
-    (kind : ErrorKind) × (kind ≢ DisplayHelp) × IsAmong kind (fault_of whole_app words)
+    (kind : ErrorKind) × (kind ≢ DisplayHelp) × (kind ≢ DisplayVersion) × IsAmong kind (fault_of whole_app words)
 Explains words (refusal.NoPicture word) = StatesNothing words
 Explains words (refusal.NoEach word) = StatesNothing words
 Explains words refusal.Form = StatesNothing words

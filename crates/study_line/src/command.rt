@@ -3,6 +3,7 @@ ghost use Rattle.std.specs.Prelude.{Some};
 ghost use Rattle.clap.specs.Words.{App, Rule, with_rule, with_subcommand};
 ghost use Rattle.study_line.specs.Commands.{HasRule, Makes, repeated_rule, check_app, draw_app, letters_app, option_rule, path_rule, point_rule, run_rule, show_app, study_app, sweep_app, threads_rule, tick_rule, whole_app, with_grid, with_path};
 
+use crate::version::version_line;
 use clap::builder::ValueParser;
 use clap::{Arg, ArgAction, Command, value_parser};
 use std::alloc::{AllocError, Global};
@@ -375,7 +376,10 @@ fn show_command<'a>(alloc: Global) -> Made<'a>
 pub(crate) fn command<'a>(alloc: Global) -> Made<'a>
     ensures { Makes whole_app result }
 {
+    let named = version_line().trim_end();
     let command = Command::new(alloc, "fdstudy")
+        .version(named)
+        .before_help(named)
         .about(ABOUT)
         .after_help(EXAMPLE)
         .subcommand_required(true);

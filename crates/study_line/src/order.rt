@@ -1,4 +1,4 @@
-//! What a command line asks for.
+//! Orders: the tasks that a command line asks for.
 ghost use Rattle.std.specs.Prelude.{◌≡◌, List, IfOk, IfErr, map, codes};
 ghost use Rattle.std.specs.List.{list_all};
 ghost use Rattle.clap.specs.Words.{Text, rows_of, found_of, subcommand_rows_of, fault_of, HasKind};
@@ -125,6 +125,8 @@ pub enum Order<'a> {
 pub enum WordsError {
     /// They ask for help, which is this.
     Help(String),
+    /// They ask for the version.
+    Version,
     /// `clap` refuses them, and says why. What it quotes of them has no control characters.
     Mistake(String),
     /// `clap` takes them, but no picture is named so.
@@ -380,13 +382,16 @@ fn text_of(alloc: Global, words: &[&str], error: &clap::Error) -> Result<String,
     told.as_ref().unwrap_or(error).to_string(alloc)
 }
 
-/// What is told of words that `clap` refuses, or for which it shows help.
+/// What is told of words that `clap` refuses, or for which it shows help or the version.
 fn told_of(alloc: Global, words: &[&str], error: &clap::Error) -> WordsError
     ensures { (read : List Text) → HasKind (fault_of whole_app read) error.now → Explains read result }
 {
     let kind = error.kind();
     if kind == ErrorKind::OutOfMemory {
         return WordsError::Memory;
+    }
+    if kind == ErrorKind::DisplayVersion {
+        return WordsError::Version;
     }
     match text_of(alloc, words, error) {
         Ok(text) if kind == ErrorKind::DisplayHelp => WordsError::Help(text),
@@ -399,7 +404,7 @@ fn told_of(alloc: Global, words: &[&str], error: &clap::Error) -> WordsError
 ///
 /// # Errors
 ///
-/// `Help` where they ask for help, `Mistake` where `clap` refuses them, `NoPicture` and `NoEach` where it takes them
+/// `Help` where they ask for help, `Version` where they ask for the version, `Mistake` where `clap` refuses them, `NoPicture` and `NoEach` where it takes them
 /// but no picture, or nothing that a row tells of, is named so, `Form` where it takes them but a part of the order is
 /// missing, and `Memory`. As `clap` knows which parts must always be there, a missing one of these is a `Mistake`; the
 /// seeds of `check` must be there only with other options of a study.

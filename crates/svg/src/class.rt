@@ -1,4 +1,4 @@
-//! What shapes show.
+//! Classes of shapes, which say what a shape shows.
 ghost use Rattle.std.specs.Prelude.{◌≡◌};
 ghost use Rattle.svg.specs.Elements.{class_name};
 

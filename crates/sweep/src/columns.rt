@@ -1,4 +1,4 @@
-//! What a row tells of a point's runs on a layer.
+//! The numbers of a point's runs on a layer, as a row tells them.
 
 /// Sums over the traces of runs.
 #[derive(Clone, Copy, Default)]

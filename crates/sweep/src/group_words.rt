@@ -1,4 +1,4 @@
-//! Groups of pairs, as words of a command line.
+//! Groups of pairs, as arguments of a command line.
 ghost use Rattle.std.specs.Prelude.{◌≡◌, ◌≢◌, true, false, map, option_map, IfOk, IfErr, MatchOption};
 ghost use Rattle.study.specs.Words.{bounds, is_natural, natural};
 ghost use Rattle.sweep.specs.GroupWords.{AreEnds, SayBlocks, SayNoBlocks, SaysGroup, SaysNoGroup};

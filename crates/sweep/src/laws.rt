@@ -1,4 +1,4 @@
-//! What holds of the texts of studies.
+//! Laws of the texts of studies.
 ghost use Rattle.std.specs.Prelude.{◌≤◌};
 ghost use Rattle.study.specs.Sources.{sources_of};
 ghost use Rattle.sweep.specs.StudyText.{HasOneText, ShardsMakeWhole};

@@ -1,4 +1,4 @@
-//! What the rows of a text tell of, and which columns they have.
+//! Layouts: the subjects of a text's rows, and their columns.
 ghost use Rattle.std.specs.Prelude.{◌≡◌, ◌*◌, ◌<◌, ◌≤◌, ◌^◌, length, map, string_bytes, option_map, Some, IfOk, IfErr};
 ghost use Rattle.std.specs.List.{range_with_len};
 ghost use Rattle.study.specs.Grid.{runs};

@@ -1,27 +1,27 @@
 //! The rows of a study: sums over the runs of each of its points.
 //!
-//! A run is done within its limit and has a trace, or it passes the limit (`specs/Results.antt`). [`RunNumbers`] is
-//! what one run gives, [`UnitSums`] what the runs of a point add up to, and [`Table`] forms the text of rows. What a
-//! row tells is defined by sums, counts and quantifiers over a list of runs (`specs/Columns.antt`), and so are its
-//! columns (`specs/ColumnTable.antt`) and how it is written (`specs/RowText.antt`). A [`Layout`] says whether rows tell
+//! A run is done within its limit and has a trace, or it passes the limit (`specs/Results.antt`). [`RunNumbers`] are
+//! the numbers of one run, [`UnitSums`] are the sums over the runs of a point, and [`Table`] forms the text of rows.
+//! The numbers of a row are defined by sums, counts and quantifiers over a list of runs (`specs/Columns.antt`), and so
+//! are its columns (`specs/ColumnTable.antt`) and its text (`specs/RowText.antt`). A [`Layout`] says whether rows tell
 //! of points or of single runs, and which columns they have (`specs/Layout.antt`). It is proved that the sums of a
-//! point, to which runs were added one by one, are those of the list of these runs, and that the text has the rows of
-//! all points, or of all runs (`specs/StudyText.antt`).
+//! point, to which runs were added one by one, are those of the list of these runs. It is proved too that the text has
+//! the rows of all points, or of all runs (`specs/StudyText.antt`).
 //!
 //! A layout may have groups of pairs of processes ([`PairGroup`], `specs/Groups.antt`), as words say them
-//! (`specs/GroupWords.antt`). Then a point has its rows once for each group, and what is of pairs counts those of the
-//! group. A run is done and measured once, whatever the groups.
+//! (`specs/GroupWords.antt`). Then a point has its rows once for each group, and the columns about pairs count those of
+//! the group. A run is done and measured once, whatever the groups.
 //!
-//! Lengths of mistakes, detection times, ticks of last decisions and rounds are kept with how often each came, so
-//! memory grows with how many different ones there are, and not with the runs. Sums have 128 bits, and are exact of up
-//! to 1,000,000,000,000 runs.
+//! Lengths of mistakes, detection times, ticks of last decisions and rounds are kept with how often each came. So
+//! memory grows with the number of different ones, and not with the runs. Sums have 128 bits, and are exact for up to
+//! 1,000,000,000,000 runs.
 //!
 //! [`in_parallel`] shares out calls for consecutive numbers among threads, and gives what they answer in the numbers'
 //! order (`specs/Parallel.antt`). A sweep has its runs read and done by it.
 //!
-//! As an example, let process 2 of two crash at tick 3 of 10, process 1 detect it at tick 9, and the study have this
-//! one run, with `detector.timeout` 5. Its row begins `5,1,1,0,12,4,0,6,`: a time-out of 5, layer 1, one run, none
-//! that passed its limit, 12 entries, 4 letters sent, none lost, and 6 ticks of watching, 3 for each of the two pairs.
+//! For example, let process 2 of two crash at tick 3 of 10, process 1 detect it at tick 9, and the study have this one
+//! run, with `detector.timeout` 5. Its row begins `5,1,1,0,12,4,0,6,`: a time-out of 5, layer 1, one run, no run that
+//! passed its limit, 12 entries, 4 letters sent, none lost, and 6 ticks of watching, 3 for each of the two pairs.
 #![tactic(auto)]
 
 mod adding;

@@ -1,4 +1,4 @@
-//! What one run gives to the sums of its point.
+//! The numbers that one run adds to the sums of its point.
 ghost use Rattle.std.specs.Prelude.{◌≡◌, ◌∷◌, [], ℕ, List, IfOk, is_some, true, false};
 ghost use Rattle.judges.specs.declared.outcomes.Outcome.{Outcome as OutcomeRecord};
 ghost use Rattle.reporting.specs.Measured.{MeasuresRun};

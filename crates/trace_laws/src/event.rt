@@ -1,4 +1,4 @@
-//! Events: what waits for a process.
+//! Events, which wait for a process.
 ghost use Rattle.std.specs.Prelude.{◌≡◌, ◌+◌, ℕ, IfErr, IfOk, MatchOption, OnErr};
 ghost use Rattle.trace_laws.specs.World.{start_of};
 ghost use Rattle.trace_laws.specs.Taken.{IsFarFrom, LiesAside, event_of, input_of};

@@ -1,4 +1,4 @@
-//! Where the events of a step go.
+//! Those who take the events of a step.
 ghost use Rattle.std.specs.Prelude.{◌≢◌, ◌≤◌, ◌∷◌, [], ℕ, List, OnOk};
 ghost use Rattle.trace_laws.specs.Joins.{HaveJoined, Serves, StillServes};
 ghost use Rattle.trace_laws.specs.Step.{Event as Pair};

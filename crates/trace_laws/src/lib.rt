@@ -1,16 +1,16 @@
-//! What a scenario's trace is, and what follows from that, whatever code makes it.
+//! The definition of a scenario's trace, and laws that follow from it, whatever code makes the trace.
 //!
-//! `specs/World.antt` has the single event list: all pending events, of which the least is taken, and what its step
-//! makes of the processes and adds to the events (`specs/Step.antt`). Detectors, algorithms and fates are unknown to
-//! it: it sees a scenario as a `Setting` (`specs/Setting.antt`), and `specs/ScenarioSetting.antt` makes one of a
+//! `specs/World.antt` defines the single event list. It has all pending events and takes the least of them. The step of
+//! that event changes the processes and adds events (`specs/Step.antt`). The list doesn't know detectors, algorithms or
+//! fates: it sees a scenario as a `Setting` (`specs/Setting.antt`), and `specs/ScenarioSetting.antt` makes one of a
 //! scenario. `specs/History.antt` says what a closed history is, whatever the order in which events are taken.
 //!
-//! Proved here: a scenario has exactly one trace, it is a closed history, and every closed history has its entries
-//! (`proofs/Closed.antt`); each entry but a start has one cause, an earlier one, and each event that a step adds below
-//! the horizon is one entry (`proofs/Effects.antt`). The contract that names these laws is that of `law_only_history` of
-//! `event_list`, and the runs of `event_list` and `windows` rest on them. The only code is an [`Event`], which
-//! waits for its receiver, a [`Parcel`], which is a letter on its way, and [`Joins`], the trait of whoever takes the
-//! events of a step.
+//! It is proved here that a scenario has exactly one trace, that this trace is a closed history, and that every closed
+//! history has its entries (`proofs/Closed.antt`). It is also proved that each entry but a start has one cause, which
+//! is an earlier entry, and that each event which a step adds below the horizon is one entry (`proofs/Effects.antt`).
+//! The contract of `law_only_history` of `event_list` names these laws, and the runs of `event_list` and `windows` use
+//! them. The only code is an [`Event`], which waits for its receiver, a [`Parcel`], which is a letter on its way, and
+//! [`Joins`], the trait of whoever takes the events of a step.
 //!
 //! For example, of two processes that send each other a letter at tick 0 the trace begins with both starts, in the
 //! order of their numbers.

@@ -4,7 +4,7 @@
 //! trace. The one contract for the layers above: [`merge`] answers a strictly rising list of exactly the entries of
 //! the parts.
 //!
-//! As an example, parts with the keys (0,1,1,0) (3,1,1,2), no key, and (0,2,2,0) merge to the keys (0,1,1,0) (0,2,2,0)
+//! For example, parts with the keys (0,1,1,0) (3,1,1,2), no key, and (0,2,2,0) merge to the keys (0,1,1,0) (0,2,2,0)
 //! (3,1,1,2).
 #![tactic(auto)]
 

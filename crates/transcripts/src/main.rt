@@ -1,4 +1,4 @@
-//! `transcripts`: runs what a transcript says through `fdbench` and `fdstudy`, and compares what they print.
+//! `transcripts`: runs the commands of a transcript through `fdbench` and `fdstudy`, and compares what they print.
 //!
 //! The transcript is standard input. A block begins with a line `== HEAD`, and its body goes up to the next one:
 //!
@@ -11,17 +11,18 @@
 //! | `sha256`, then a command | the digest of what it writes to standard output, as hexadecimal digits |
 //! | `rows PART`, then a command | the lines that have this part, of what it prints, and `N rows` |
 //!
-//! In the words of a command `␤` is a line feed.
+//! In the arguments of a command `␤` is a line feed.
 //!
-//! Before what is printed changes of the input may stand, and after it further changes with what is printed then: each
-//! is a case of its own, over the file that the head names. Changes are lines that begin with `-`, which are looked for
-//! in the file as whole lines, and below them lines that begin with `+`, which take their place. Lines with `+` alone,
-//! or after an empty line, come at the file's end. A line that begins with `# ` is a remark, in a file too.
+//! Changes of the input may stand before the printed text. Further changes may follow, each with the text that is
+//! printed then. Each is a case of its own, over the file that the head names. Changes are lines that begin with `-`,
+//! which are looked for in the file as whole lines, and below them lines that begin with `+`, which take their place.
+//! Lines with `+` alone, or after an empty line, come at the file's end. A line that begins with `# ` is a remark, in a
+//! file too.
 //!
-//! What is printed is standard output; then the lines of standard error, each after `! `; then, but for status 0, a line
-//! `status N`. The line `...` stands for any lines, `...PART` for any lines and one that has this part, and `BEGIN...END`
-//! for a line that begins and ends so. Empty lines at the end of a body are nothing. The two programs are run over
-//! memory, by [`bench_commands::serve`] and [`study_commands::serve`].
+//! The printed text is standard output; then the lines of standard error, each after `! `; then, but for status 0, a
+//! line `status N`. The line `...` stands for any lines, `...PART` for any lines and one that has this part, and
+//! `BEGIN...END` for a line that begins and ends so. Empty lines at the end of a body are nothing. The two programs are
+//! run over memory, by [`bench_commands::serve`] and [`study_commands::serve`].
 //!
 //! It prints each case that came out otherwise, with what was printed, and then how many cases there were, and of these
 //! how many failed.

@@ -1,4 +1,4 @@
-//! What is printed, beside a pattern of it.
+//! A printed text, beside a pattern of it.
 
 use crate::changes::push_line;
 use std::alloc::{AllocError, Global};

@@ -1,4 +1,4 @@
-//! What lies ahead of a process.
+//! The pending events of a process in a window.
 ghost use Rattle.std.specs.Prelude.{◌≡◌, ◌<◌, ◌++◌, ◌∷◌, [], ℕ, List, map, MatchOption, IfOk, OnOk, OnErr};
 ghost use Rattle.std.specs.FinMap as events;
 ghost use Rattle.trace_laws.specs.Step.{Event as EventPair};

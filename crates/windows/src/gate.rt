@@ -1,4 +1,4 @@
-//! What a worker calls when it has taken a process, before that process makes its first step of the window.
+//! Gates. A worker calls its gate when it has taken a process, before that process makes its first step of the window.
 use process_api::Pid;
 use std::marker::Sync;
 use std::sync::Wait;

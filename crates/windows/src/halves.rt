@@ -1,5 +1,5 @@
-//! The two halves of a window's close, of which neither needs the other: the mailboxes are emptied, and the parts of
-//! the trace are merged.
+//! The two halves of a window's close: the mailboxes are emptied, and the parts of the trace are merged. Neither half
+//! needs the other.
 ghost use Rattle.std.specs.Prelude.{◌≡◌, ◌≤◌, ◌<◌, length, map, IsTrue, IfOk, IfErr, vec_len, IsPermutation};
 ghost use Rattle.std.specs.List.{All};
 ghost use Rattle.process_api.specs.Order.{is_rising};

@@ -7,31 +7,31 @@
 //! Systems, Wiley, 2000). A [`Plan`] says how many workers there are and how long a window is.
 //!
 //! The definition is a machine over single acts of the workers, in `window_laws`: a run is any list of allowed acts
-//! whose one close is the last. [`law_any_order`] says that the order of the acts means nothing. What each process makes
-//! of a window by itself is what some run makes, so it is enough to run each process to the window's end, wherever and
-//! whenever that happens.
+//! whose one close is the last. [`law_any_order`] says that the order of the acts doesn't matter. Some run makes of a
+//! window just what each process makes of it by itself. So it is enough to run each process to the window's end,
+//! wherever and whenever that happens.
 //!
 //! The code runs it so. A [`Stage`] has a [`Berth`] for each process: its machine, its pending events, and its part of
-//! the trace. [`run_window`] takes a worker for each process that has an event below the window's end, but no more
-//! than the plan has, and deals these processes to the workers' deques in turn, by rising number. Then it starts the
+//! the trace. [`run_window`] takes a worker for each process that has an event below the window's end, but no more than
+//! the plan has, and deals these processes to the workers' deques in turn, by rising number. Then it starts the
 //! workers, each a thread. A worker takes a berth, tells the [`Gate`], and has [`run_berth`] run it to the window's
-//! end; it pops its own deque, and when that is empty it steals from the others, the next one first, until it found
-//! each empty. When all workers are joined, the starter takes what is left in the deques. Then the mailboxes are
-//! emptied and the parts are merged, side by side where there is more than one worker and the parts are worth a thread,
-//! and each process takes its letters. Where several refusals are met, that of a thread is answered before that of
-//! memory, and this before that of a place in the trace. The merged part goes to a [`Sink`], and the next window opens
-//! at the least pending tick.
+//! end. It pops its own deque. When that is empty it steals from the others, the next one first, until it has found
+//! each of them empty. When all workers are joined, the starter takes what is left in the deques. Then the mailboxes
+//! are emptied and the parts are merged, side by side where there is more than one worker and the parts are worth a
+//! thread, and each process takes its letters. Where several refusals are met, that of a thread is answered before that
+//! of memory, and this before that of a place in the trace. The merged part goes to a [`Sink`], and the next window
+//! opens at the least pending tick.
 //!
-//! That each berth comes out of the deques once is the promise of the crate `deques`. It rests on the ledger of each:
-//! what was put is, counted with repetitions, what all passes have taken and what it holds, and whoever pops or steals
-//! gets one of those that were put.
+//! The crate `deques` promises that each berth comes out of the deques once. Its proof uses the ledger of each deque:
+//! counted with repetitions, the items that were put are those that all passes have taken and those that the deque
+//! holds. A pop or a steal gets one of the items that were put.
 //!
 //! The one contract for the layers above is that of [`run_windows_into`]: on `Ok`, under every schedule of the threads,
 //! the sink took the trace that the event list gives; [`run_windows`] is the same with a sink that keeps. No contract
 //! says that a call returns, that threads run at once, or which worker takes which process.
 //!
-//! As an example, two processes send each other letters that take 2 ticks, one at tick 0 and one every 4 ticks, look at
-//! each other every 3 ticks, and the second crashes at tick 3; the horizon is 10. Windows of 2 ticks have 2, 4, 2, 2
+//! For example, two processes send each other letters that take 2 ticks, one at tick 0 and one every 4 ticks. They look
+//! at each other every 3 ticks, and the second crashes at tick 3. The horizon is 10. Windows of 2 ticks have 2, 4, 2, 2
 //! and 2 entries, whoever runs first in each.
 #![tactic(auto)]
 

@@ -1,4 +1,4 @@
-//! Where what a process causes in a window goes.
+//! Takes the events and letters that a process causes in a window.
 
 use crate::agenda::Agenda;
 use mailboxes::Tray;

@@ -1,4 +1,4 @@
-//! What the workers of a window share.
+//! The data that the workers of a window share.
 ghost use Rattle.std.specs.Prelude.{◌≡◌, length};
 
 use crate::berth::Berth;

@@ -1,9 +1,11 @@
 -- Whom q suspects at the end of a tick, with freshness points.
-use Rattle.std.proofs.Common.{◌≡◌, ◌≢◌, ℕ, zero, suc, ◌+◌, ◌*◌, ◌<◌, ◌≤◌, inl, inr, refl, sym, ap, ◌∙◌, subst, Bool, true, false, not, ◌&&◌, nat_eq, nat_le, List, arith, Option, None, Some, unwrap_or}
-use Rattle.std.proofs.lemmas.Bool.{cases_lt, cases_Bool, le-leb, lt-leb, leb-false, leb-true, eq-eqb, not-true, and_parts, and_right}
+use Rattle.std.proofs.Common.{◌≡◌, ◌≢◌, ℕ, zero, suc, ◌+◌, ◌*◌, ◌<◌, ◌≤◌, inl, inr, sym, ap, ◌∙◌, subst, Bool, true, false, not, ◌&&◌, nat_le, List, arith, Some}
+use Rattle.std.specs.FinSet as set
+use Rattle.std.proofs.lemmas.Bool.{cases_lt, cases_Bool, lt-leb, and_right}
 use Rattle.process_api.specs.EntryRecord.{EntryRecord}
 use Rattle.process_api.specs.Freshness.{FreshnessState, opening_freshness, watches, is_stale}
-use Rattle.process_api.specs.Numbers.{is_process}
+use Rattle.process_api.specs.Detector.{suspected_by}
+use Rattle.process_api.specs.Mind.{Mind}
 use Rattle.process_api.specs.declared.message.StepInput.TheVariants as input
 use Rattle.process_api.specs.declared.numbers.DetectorNumbers.TheVariants as numbers
 use Rattle.process_api.specs.declared.numbers.FreshnessNumbers.{FreshnessNumbers}
@@ -13,12 +15,11 @@ use Rattle.scenario_record.specs.Ranges.{IsInRange}
 use Rattle.scenario_record.specs.Record.{Record, crash, link, place_in}
 use Rattle.trace_laws.specs.ScenarioSetting.{setting_of}
 use Rattle.trace_laws.specs.Setting.{has_crashed}
-use Rattle.trace_laws.specs.World.{IsTrace, start_of, entries}
+use Rattle.trace_laws.specs.World.{World, IsTrace, NoneBelow, start_of, entries}
 use Rattle.trace_laws.proofs.Sound.{setting_sound}
-use Rattle.judges.specs.Crashes.{crash_tick}
 use Rattle.judges.specs.Meaning.{IsProcess, Suspects}
 use Rattle.judges.specs.Out.{out}
-use Rattle.process_api.specs.Watching.{is_other, is_watched}
+use Rattle.process_api.specs.Watching.{is_watched}
 use Rattle.scenario_record.specs.Numbers.{AreInRange}
 use Rattle.scenario_record.specs.declared.link.Link.{Link}
 use Rattle.detector_bounds.specs.Bounds.{detected_at, HasNoMistake, KeepsBounds}
@@ -28,15 +29,13 @@ use Rattle.detector_bounds.specs.Watched.{watch_of, IsTimely, Watches, IsReliabl
 use Rattle.detector_bounds.proofs.Fates.{delivers}
 use Rattle.detector_bounds.proofs.Verdicts.{pairs_keep}
 use Rattle.detector_bounds.proofs.Added.{Delivers}
-use Rattle.detector_bounds.proofs.Ending.{IsEnd, ending, holds_at}
-use Rattle.detector_bounds.proofs.Freshness.Known.{Knows, kept}
-use Rattle.detector_bounds.proofs.Instances.{fresh_step, fresh_suspects, runs_freshness}
+use Rattle.detector_bounds.proofs.Ending.{IsKept, IsEnd, ending, holds_at}
+use Rattle.detector_bounds.proofs.Freshness.Known.{Knows, kept, firm, state}
+use Rattle.detector_bounds.proofs.Instances.{fresh_step, fresh_suspects, runs_freshness, fresh_seen}
 use Rattle.detector_bounds.proofs.Machines.{state_of}
-use Rattle.detector_bounds.proofs.Multiples.{mul-next, less_multiple, after_last, last_is_before}
+use Rattle.detector_bounds.proofs.Multiples.{mul-next, less_multiple, last_is_before}
 use Rattle.detector_bounds.proofs.Standing.{stands_kept, out_is}
-
-process_is : (n p : ℕ) → 1 ≤ p → p ≤ n → is_process n p ≡ true
-process_is n p low high = and_true _ _ (le-leb 1 p low) (le-leb p n high)
+use Rattle.detector_bounds.proofs.Watching.{process_is, watched_is, up_until}
 
 -- nobody is suspected who isn't watched
 module _ (s : Record) (is : IsInRange s) (its : FreshnessNumbers) (kind : s.detector ≡ numbers.Freshness its) (trace : List EntryRecord) (is_trace : IsTrace (setting_of s) trace) (t : ℕ) (below : t < s.horizon) (q p : ℕ)
@@ -67,14 +66,7 @@ module _ (s : Record) (is : IsInRange s) (its : FreshnessNumbers) (kind : s.dete
     abbrev subject : FreshnessState
     subject = state_of (setting_of s) opening_freshness (fresh_step s its) (fresh_suspects s its) (runs_freshness s its kind) at_end.world p
 
-    -- the next point, and the next heartbeat, come later
-    point_later : ((u : ℕ) → u ≤ t → has_crashed (crash s q) u ≡ false) → t < observer.reached * its.eta + (its.eta + its.delta)
-    point_later up = elim (known.checks.there up) [
-      | inl start ↦ absurd (omega (arith, at_end.none_left (start_of q) input.Start start))
-      | inr (inl late) ↦ omega (arith, below, late)
-      | inr (inr (key, wake)) ↦ omega (arith, at_end.none_left key _ wake.1, known.checks.only key wake)
-    ]
-
+    -- the next heartbeat comes later
     beat_later : ((u : ℕ) → u ≤ t → has_crashed (crash s p) u ≡ false) → t < subject.sent * its.eta + its.eta
     beat_later up = elim (known.beats.there up) [
       | inl start ↦ absurd (omega (arith, at_end.none_left (start_of p) input.Start start))
@@ -84,24 +76,7 @@ module _ (s : Record) (is : IsInRange s) (its : FreshnessNumbers) (kind : s.dete
 
     -- p crashed, and the point after its last heartbeat was reached
     pub suspected_from : (c : ℕ) → crash s p ≡ Some c → ((u : ℕ) → u ≤ t → has_crashed (crash s q) u ≡ false) → (last_before its.eta c + 1) * its.eta + its.delta ≤ t → out 1 trace q t p ≡ true
-    suspected_from c crashes up late =
-        out_stale ∙ and_true _ _ watched (and_true _ _ (le-leb 1 observer.reached (omega (arith, beyond))) (ap not stale))
-      where
-        beyond : last_before its.eta c + 1 ≤ observer.reached
-        beyond = let l = less_multiple (last_before its.eta c + 1) (observer.reached + 1) its.eta (omega (arith, point_later up, late, mul-next observer.reached its.eta)) in omega (arith, l)
-
-        sent_before : observer.reached ≤ subject.sent → ⊥
-        sent_before high = elim known.sent_low [
-          | inl none ↦ omega (arith, none, high, beyond)
-          | inr low ↦
-              let alive : nat_le c (subject.sent * its.eta) ≡ false = ap (λ o. has_crashed o (subject.sent * its.eta)) (sym crashes) ∙ low.1 in
-              let before : subject.sent * its.eta < c = leb-false c (subject.sent * its.eta) alive in
-              let l = less_multiple subject.sent (last_before its.eta c + 1) its.eta (omega (arith, before, after_last its.eta c eta_low)) in
-              omega (arith, l, high, beyond)
-        ]
-
-        stale : observer.came p observer.reached ≡ false
-        stale = elim (cases_Bool (observer.came p observer.reached)) [ inl h ↦ absurd (sent_before (known.came observer.reached h)) | inr h ↦ h ]
+    suspected_from c crashes up late = out_stale ∙ firm s is its kind q p q_low q_high p_low p_high apart watched eta_low t at_end.world (entries at_end.history) known t c below up crashes late at_end.none_left
 
     -- both are up, and the link delivers in time
     pub trusted : (most : ℕ) → most ≤ its.delta → ((u : ℕ) → u ≤ t → has_crashed (crash s p) u ≡ false) → ((u : ℕ) → u ≤ t → has_crashed (crash s q) u ≡ false)
@@ -128,26 +103,11 @@ module _ (s : Record) (is : IsInRange s) (its : FreshnessNumbers) (kind : s.dete
 
 -- ---- so a scenario with freshness points keeps the bounds
 
--- a process is up before it crashes
-up_before : (o : Option ℕ) (horizon u : ℕ) → u < unwrap_or o (suc horizon) → has_crashed o u ≡ false
-up_before None horizon u h = refl
-up_before (Some at) horizon u h = lt-leb at u h
-
-up_until : (s : Record) (p t : ℕ) → t < crash_tick s p → (u : ℕ) → u ≤ t → has_crashed (crash s p) u ≡ false
-up_until s p t h u l = up_before (crash s p) s.horizon u (omega (arith, h, l))
-
--- whom q watches is another process
-watched_is : (s : Record) (q p : ℕ) → Watches s q p → (1 ≤ p) × (p ≤ s.processes) × (q ≢ p)
-watched_is s q p (own, w) =
-    let other = and_parts (is_process s.processes p) (not (nat_eq p q)) (and_parts (is_other q s.processes p) _ w).0 in
-    let one = and_parts (nat_le 1 p) (nat_le p s.processes) other.0 in
-    (leb-true 1 p one.0, leb-true p s.processes one.1, λ same. cc (not-true (nat_eq p q) other.1, eq-eqb p q (sym same)))
-
 module _ (s : Record) (is : IsInRange s) (its : FreshnessNumbers) (kind : s.detector ≡ numbers.Freshness its) (trace : List EntryRecord) (is_trace : IsTrace (setting_of s) trace) where
-  eta_low : 1 ≤ its.eta
+  pub eta_low : 1 ≤ its.eta
   eta_low = (subst AreInRange kind is.numbers).eta_low
 
-  watches_is : (q p : ℕ) (b : Bool) → is_watched q s.processes (watch_of s.detector) p ≡ b → watches (place_in s q) its p ≡ b
+  pub watches_is : (q p : ℕ) (b : Bool) → is_watched q s.processes (watch_of s.detector) p ≡ b → watches (place_in s q) its p ≡ b
   watches_is q p b h = ap (λ k. is_watched q s.processes (watch_of k) p) (sym kind) ∙ h
 
   detected_is : (q p c : ℕ) → detected_at s trace q p c ≡ (last_before its.eta c + 1) * its.eta + its.delta
@@ -183,3 +143,19 @@ module _ (s : Record) (is : IsInRange s) (its : FreshnessNumbers) (kind : s.dete
     accurate = no_mistake;
     watched = watched_alone;
   })
+
+  -- for layer 2: at every step from then on
+  module _ (t : ℕ) (below : t < s.horizon) (q p c : ℕ) (w : Watches s q p) (crashes : crash s p ≡ Some c) (up : (u : ℕ) → u ≤ t → has_crashed (crash s q) u ≡ false) (late : detected_at s trace q p c ≤ t) where
+    abbrev pub Firmly : World Mind → List EntryRecord → Type 0
+    Firmly = let other = watched_is s q p w in Knows s is its kind q p w.0.0 w.0.1 other.0 other.1 other.2 (watches_is q p true w.1) eta_low t
+
+    pub firmly_kept : IsKept (setting_of s) (setting_sound s is) (t + 1) Firmly
+    firmly_kept = let other = watched_is s q p w in kept s is its kind q p w.0.0 w.0.1 other.0 other.1 other.2 (watches_is q p true w.1) eta_low t below
+
+    pub firmly : (v : World Mind) (past : List EntryRecord) → Firmly v past → NoneBelow (detected_at s trace q p c + 1) v.pending → set.contains (suspected_by (v.process q).mind.lower.place (v.process q).mind.lower.detector) p ≡ true
+    firmly v past k none =
+        let other = watched_is s q p w in
+        ap (λ z. set.contains z p) (fresh_seen s its kind q (v.process q).mind (k.stands.has q))
+        ∙ (contains-suspected (place_in s q) its (state s is its kind q p w.0.0 w.0.1 other.0 other.1 other.2 (watches_is q p true w.1) eta_low v q) p
+        ∙ and_true _ _ (process_is s.processes p other.0 other.1)
+        (firm s is its kind q p w.0.0 w.0.1 other.0 other.1 other.2 (watches_is q p true w.1) eta_low t v past k (detected_at s trace q p c) c (omega (arith, below, late)) up crashes (omega (arith, detected_is q p c)) none))

@@ -1,11 +1,10 @@
 -- Through a run with freshness points: p sends heartbeat i at tick i * eta while it is up, q reaches point i delta ticks later, and
 -- no heartbeat that p didn't send is on its way or came to q.
-use Rattle.std.proofs.Common.{◌≡◌, ◌≢◌, ◌⊎◌, ℕ, zero, suc, ◌+◌, ◌*◌, ◌<◌, ◌≤◌, inl, inr, refl, sym, ap, ◌∙◌, subst, true, false, not, List, [], ◌∷◌, ◌++◌, arith, nat_eq}
-use Rattle.std.proofs.lemmas.Bool.{cases_lt, cases_eq, ne_eqb}
+use Rattle.std.proofs.Common.{◌≡◌, ◌≢◌, ◌⊎◌, ℕ, ◌+◌, ◌*◌, ◌<◌, ◌≤◌, inl, inr, refl, sym, ap, ◌∙◌, subst, true, false, not, nat_le, Some, List, [], ◌∷◌, ◌++◌, arith}
+use Rattle.std.proofs.lemmas.Bool.{cases_lt, cases_Bool, le-leb, leb-false}
 use Rattle.process_api.specs.Answer.{Answer}
 use Rattle.process_api.specs.EntryRecord.{EntryRecord}
-use Rattle.process_api.specs.Freshness.{FreshnessState, opening_freshness, next, watches}
-use Rattle.process_api.specs.Numbers.{numbers_to, others}
+use Rattle.process_api.specs.Freshness.{FreshnessState, opening_freshness, next, watches, is_stale}
 use Rattle.process_api.specs.declared.action.Action.TheVariants as action
 use Rattle.process_api.specs.declared.key.Key.{Key}
 use Rattle.process_api.specs.declared.message.Payload.TheVariants as payload
@@ -20,31 +19,22 @@ use Rattle.trace_laws.specs.History.{IsIn}
 use Rattle.trace_laws.specs.ScenarioSetting.{setting_of}
 use Rattle.trace_laws.specs.Setting.{Setting, IsSound, has_crashed}
 use Rattle.process_api.specs.Mind.{Mind}
-use Rattle.trace_laws.specs.World.{World, Has, IsLeast, IsWorld, made, taken, opening}
+use Rattle.trace_laws.specs.World.{World, Has, IsLeast, NoneBelow, IsWorld, made, taken, opening, start_of}
 use Rattle.trace_laws.proofs.Sets.{one_input}
 use Rattle.trace_laws.proofs.Sound.{setting_sound}
-use Rattle.trace_laws.proofs.Steps.{in_left, in_right}
 use Rattle.trace_laws.proofs.Worlds.{taken_cases, taken_old, taken_new}
 use Rattle.process_api.proofs.KeyOrder.{same_or_not}
-use Rattle.judges.proofs.Members.{in_filter}
+use Rattle.process_api.proofs.Minds.{and_true}
+use Rattle.detector_bounds.specs.Multiples.{last_before}
 use Rattle.detector_bounds.proofs.Added.{Delivers}
 use Rattle.detector_bounds.proofs.Clock.{Clock, due_after, clock_first, clock_still, clock_takes}
 use Rattle.detector_bounds.proofs.Ending.{IsKept}
 use Rattle.detector_bounds.proofs.Freshness.Steps.{asks_beats, asks_checks, sent_after, reached_after, sent_is, reached_is, came_from, came_stays, came_now, sends, sends_beat}
 use Rattle.detector_bounds.proofs.Instances.{fresh_step, fresh_suspects, runs_freshness}
 use Rattle.detector_bounds.proofs.Machines.{RunsDetector, state_of, moved, own, own_up, own_down, letter_new, letter_there}
-use Rattle.detector_bounds.proofs.Multiples.{mul-next, le-mul}
+use Rattle.detector_bounds.proofs.Multiples.{mul-next, le-mul, less_multiple, after_last}
+use Rattle.detector_bounds.proofs.Others.{in_others}
 use Rattle.detector_bounds.proofs.Standing.{Stands, stands_first, stands_next, at_start, only_starts}
-
-pub in_numbers : (n q : ℕ) → 1 ≤ q → q ≤ n → IsIn q (numbers_to n)
-in_numbers zero q low high = absurd (omega (arith, low, high))
-in_numbers (suc n) q low high = elim (cases_eq q (suc n)) [
-  | inl last ↦ in_right q (numbers_to n) (suc n ∷ []) (inl last)
-  | inr apart ↦ in_left q (numbers_to n) (suc n ∷ []) (in_numbers n q low (omega (arith, high, apart)))
-]
-
-pub in_others : (n p q : ℕ) → 1 ≤ q → q ≤ n → q ≢ p → IsIn q (others n p)
-in_others n p q low high apart = in_filter (λ r. not (nat_eq r p)) (numbers_to n) q (in_numbers n q low high) (ap not (ne_eqb q p apart))
 
 module _ (s : Record) (is : IsInRange s) (its : FreshnessNumbers) (kind : s.detector ≡ numbers.Freshness its) (q p : ℕ)
     (q_low : 1 ≤ q) (q_high : q ≤ s.processes) (p_low : 1 ≤ p) (p_high : p ≤ s.processes) (apart : q ≢ p) (watched : watches (place_in s q) its p ≡ true) (eta_low : 1 ≤ its.eta) where
@@ -54,7 +44,7 @@ module _ (s : Record) (is : IsInRange s) (its : FreshnessNumbers) (kind : s.dete
   abbrev sound : IsSound (setting_of s)
   sound = setting_sound s is
 
-  abbrev R : RunsDetector (setting_of s) opening_freshness (fresh_step s its) (fresh_suspects s its)
+  abbrev R : RunsDetector 1 (setting_of s) opening_freshness (fresh_step s its) (fresh_suspects s its)
   R = runs_freshness s its kind
 
   abbrev pub state : World Mind → ℕ → FreshnessState
@@ -320,3 +310,32 @@ module _ (s : Record) (is : IsInRange s) (its : FreshnessNumbers) (kind : s.dete
 
   pub kept : (t : ℕ) → t < s.horizon → IsKept S sound (t + 1) (Knows t)
   kept t below = record { opens = knows_first t; keeps = λ w past key x is_world k least early. knows_next t below w past key x is_world k least (omega (arith, early)) }
+
+  -- once the point after p's last heartbeat lies behind, q suspects p for good
+  pub firm : (t : ℕ) (w : World Mind) (past : List EntryRecord) → Knows t w past → (from c : ℕ) → from < s.horizon → IsUp q t → crash s p ≡ Some c → (last_before its.eta c + 1) * its.eta + its.delta ≤ from → NoneBelow (from + 1) w.pending
+      → is_stale (place_in s q) its (state w q) p ≡ true
+  firm t w past k from c early up crashes late none =
+      and_true _ _ watched (and_true _ _ (le-leb 1 (state w q).reached (omega (arith, beyond))) (ap not stale))
+    where
+      point_later : from < (state w q).reached * its.eta + (its.eta + its.delta)
+      point_later = elim (k.checks.there up) [
+        | inl start ↦ absurd (omega (arith, none (start_of q) input.Start start))
+        | inr (inl over) ↦ omega (arith, early, over)
+        | inr (inr (key, wake)) ↦ omega (arith, none key _ wake.1, k.checks.only key wake)
+      ]
+
+      beyond : last_before its.eta c + 1 ≤ (state w q).reached
+      beyond = let l = less_multiple (last_before its.eta c + 1) ((state w q).reached + 1) its.eta (omega (arith, point_later, late, mul-next (state w q).reached its.eta)) in omega (arith, l)
+
+      sent_before : (state w q).reached ≤ (state w p).sent → ⊥
+      sent_before high = elim k.sent_low [
+        | inl nothing ↦ omega (arith, nothing, high, beyond)
+        | inr low ↦
+            let alive : nat_le c ((state w p).sent * its.eta) ≡ false = ap (λ o. has_crashed o ((state w p).sent * its.eta)) (sym crashes) ∙ low.1 in
+            let before : (state w p).sent * its.eta < c = leb-false c ((state w p).sent * its.eta) alive in
+            let l = less_multiple (state w p).sent (last_before its.eta c + 1) its.eta (omega (arith, before, after_last its.eta c eta_low)) in
+            omega (arith, l, high, beyond)
+      ]
+
+      stale : (state w q).came p (state w q).reached ≡ false
+      stale = elim (cases_Bool ((state w q).came p (state w q).reached)) [ inl h ↦ absurd (sent_before (k.came (state w q).reached h)) | inr h ↦ h ]

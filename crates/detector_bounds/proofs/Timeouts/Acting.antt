@@ -1,9 +1,9 @@
 -- What a step of the time-out detector does, by its input.
-use Rattle.std.proofs.Common.{◌≡◌, ◌≢◌, ℕ, zero, suc, ◌≤◌, inl, inr, refl, not, nat_eq, List, [], ◌∷◌, ◌++◌, map, arith}
-use Rattle.std.specs.List.{AllByRecursion, filter}
-use Rattle.std.proofs.lemmas.Bool.{cases_eq, cond_both}
+use Rattle.std.proofs.Common.{◌≡◌, ◌≢◌, ℕ, ◌≤◌, inl, inr, refl, List, ◌++◌, map}
+use Rattle.std.specs.List.{AllByRecursion}
+use Rattle.std.proofs.lemmas.Bool.{cond_both}
 use Rattle.process_api.specs.Answer.{Answer, still}
-use Rattle.process_api.specs.Numbers.{numbers_to, others}
+use Rattle.process_api.specs.Numbers.{others}
 use Rattle.process_api.specs.Place.{Place}
 use Rattle.process_api.specs.Timeout.{TimeoutState, alive_to_others, watches, overdue, noticed, trusted_again, heard, step_timeout}
 use Rattle.process_api.specs.declared.action.Action.{Action}
@@ -19,6 +19,7 @@ use Rattle.process_api.proofs.Sending.{sent_to_others}
 use Rattle.trace_laws.specs.History.{IsIn}
 use Rattle.trace_laws.proofs.Steps.{in_left, in_right, in_images}
 use Rattle.detector_bounds.proofs.Above.{IsAbove}
+use Rattle.detector_bounds.proofs.Others.{in_others}
 
 -- at these inputs a process sends Alive letters and goes on to its next Beat
 abbrev pub IsBeating : StepInput → Type 0
@@ -40,7 +41,7 @@ module _ (numbers : TimeoutNumbers) where
   IsDone x (action.Wake pause tag.Check) = IsChecking x × (pause ≡ numbers.check)
   IsDone x a = Unit {0}
 
-  above_done : (x : StepInput) (a : Action) → IsAbove a → IsDone x a
+  above_done : (x : StepInput) (a : Action) → IsAbove 1 a → IsDone x a
   above_done x (action.Send to payload.Alive) none = absurd none
   above_done x (action.Wake pause tag.Beat) none = absurd none
   above_done x (action.Wake pause tag.Check) none = absurd none
@@ -64,9 +65,9 @@ module _ (numbers : TimeoutNumbers) where
         (λ _. cond_both _ (trusted_again place numbers s now q) (still (noticed place numbers s now q)) Are (λ _. (tt, tt)) (λ _. tt)) (λ _. tt)
     step_done s now x = tt
 
-    pub all_done : (s : TimeoutState) (now : ℕ) (x : StepInput) (upper : List Action) → AllByRecursion IsAbove upper
+    pub all_done : (s : TimeoutState) (now : ℕ) (x : StepInput) (upper : List Action) → AllByRecursion (IsAbove 1) upper
         → AllByRecursion (IsDone x) ((step_timeout place numbers s now x).actions ++ upper)
-    all_done s now x upper of_upper = both (IsDone x) _ upper (step_done s now x) (weaker IsAbove (IsDone x) (above_done x) upper of_upper)
+    all_done s now x upper of_upper = both (IsDone x) _ upper (step_done s now x) (weaker (IsAbove 1) (IsDone x) (above_done x) upper of_upper)
 
     -- ---- what it surely does
 
@@ -81,22 +82,9 @@ module _ (numbers : TimeoutNumbers) where
     checks_on s now x is = absurd is
 
     -- each other process is written to
-    in_numbers : (n q : ℕ) → 1 ≤ q → q ≤ n → IsIn q (numbers_to n)
-    in_numbers zero q low high = absurd (omega (arith, low, high))
-    in_numbers (suc n) q low high = elim (cases_eq q (suc n)) [
-      | inl last ↦ in_right q (numbers_to n) (suc n ∷ []) (inl last)
-      | inr apart ↦ in_left q (numbers_to n) (suc n ∷ []) (in_numbers n q low (omega (arith, high, apart)))
-    ]
-
-    in_others : (p : ℕ) (qs : List ℕ) (q : ℕ) → q ≢ p → IsIn q qs → IsIn q (filter (λ r. not (nat_eq r p)) qs)
-    in_others p [] q apart none = absurd none
-    in_others p (r ∷ qs) q apart i = cond_both (not (nat_eq r p)) (r ∷ filter (λ r. not (nat_eq r p)) qs) (filter (λ r. not (nat_eq r p)) qs) (IsIn q)
-        (λ _. elim i [ inl e ↦ inl e | inr later ↦ inr (in_others p qs q apart later) ])
-        (λ is. elim i [ inl e ↦ absurd (apart (grind (e, is, arith))) | inr later ↦ in_others p qs q apart later ])
-
     letter_there : (q : ℕ) → 1 ≤ q → q ≤ place.processes → q ≢ place.own → IsIn (action.Send q payload.Alive) (alive_to_others place numbers)
     letter_there q low high apart =
-        in_images (λ r. action.Send r payload.Alive) q (others place.processes place.own) (in_others place.own (numbers_to place.processes) q apart (in_numbers place.processes q low high))
+        in_images (λ r. action.Send r payload.Alive) q (others place.processes place.own) (in_others place.processes place.own q low high apart)
 
     pub sends_on : (s : TimeoutState) (now : ℕ) (x : StepInput) → IsBeating x → (q : ℕ) → 1 ≤ q → q ≤ place.processes → q ≢ place.own
         → IsIn (action.Send q payload.Alive) (step_timeout place numbers s now x).actions

@@ -1,14 +1,14 @@
 -- Every trace of a scenario with time-outs keeps their bounds.
-use Rattle.std.proofs.Common.{◌≡◌, ◌≢◌, ℕ, zero, suc, ◌+◌, ◌-◌, ◌*◌, ◌<◌, ◌≤◌, refl, sym, ap, ◌∙◌, subst, true, false, not, nat_eq, nat_le, Option, None, Some, List, arith, le-leb, leb-true, leb-false, unwrap_or, eq-eqb, ◌/◌}
+use Rattle.std.proofs.Common.{◌≡◌, ◌≢◌, ℕ, zero, suc, ◌+◌, ◌-◌, ◌*◌, ◌<◌, ◌≤◌, refl, sym, ap, ◌∙◌, subst, true, false, Option, Some, List, arith, leb-false, ◌/◌}
 use Rattle.std.specs.FinSet as set
-use Rattle.std.proofs.lemmas.Bool.{and_parts, lt-leb}
+use Rattle.process_api.specs.Detector.{suspected_by}
 use Rattle.process_api.specs.EntryRecord.{EntryRecord}
+use Rattle.process_api.specs.Mind.{Mind}
 use Rattle.process_api.specs.Numbers.{is_process}
 use Rattle.process_api.specs.Timeout.{watches, opening_timeout}
 use Rattle.process_api.specs.Watching.{is_watched}
 use Rattle.process_api.specs.declared.numbers.DetectorNumbers.TheVariants.{Timeout}
 use Rattle.process_api.specs.declared.numbers.TimeoutNumbers.{TimeoutNumbers}
-use Rattle.process_api.proofs.Minds.{and_true}
 use Rattle.scenario_record.specs.Numbers.{AreInRange, AreTimeoutInRange}
 use Rattle.scenario_record.specs.Ranges.{IsInRange}
 use Rattle.scenario_record.specs.Record.{Record, crash, link}
@@ -16,33 +16,33 @@ use Rattle.streams.specs.Fate.{fate_of}
 use Rattle.streams.specs.declared.fate.Fate.TheVariants.{Delay}
 use Rattle.trace_laws.specs.ScenarioSetting.{setting_of}
 use Rattle.trace_laws.specs.Setting.{IsSound, has_crashed}
-use Rattle.trace_laws.specs.World.{IsTrace, entries}
+use Rattle.trace_laws.specs.World.{World, NoneBelow, IsTrace, entries}
 use Rattle.trace_laws.proofs.Sound.{setting_sound}
 use Rattle.judges.specs.Crashes.{crash_tick}
 use Rattle.judges.specs.Meaning.{IsProcess, IsCorrect, From, Suspects}
 use Rattle.judges.specs.Out.{out}
 use Rattle.detector_bounds.specs.Bounds.{detected_at, HasNoMistake, CrashesAt, KeepsBounds}
 use Rattle.detector_bounds.specs.Detected.{trusts, last_letter, grown, detected_by, longest}
-use Rattle.detector_bounds.specs.Multiples.{multiple_from}
 use Rattle.detector_bounds.specs.Watched.{Watches, IsReliable, IsTimely, watch_of}
-use Rattle.detector_bounds.proofs.Ending.{IsEnd, ending, holds_at}
+use Rattle.detector_bounds.proofs.Ending.{IsKept, IsEnd, ending, holds_at}
 use Rattle.detector_bounds.proofs.Fates.{fate_within, delivers}
-use Rattle.detector_bounds.proofs.Instances.{runs_timeout, timeout_step, timeout_suspects}
+use Rattle.detector_bounds.proofs.Instances.{runs_timeout, timeout_step, timeout_suspects, timeout_seen}
+use Rattle.detector_bounds.proofs.Multiples.{from_tick, soon_from, at_most_last, last_is_before}
 use Rattle.detector_bounds.proofs.Standing.{Stands, stands_first, stands_next, out_is}
 use Rattle.detector_bounds.proofs.Timeouts.Joined.{RunsTimeout, place_of}
-use Rattle.detector_bounds.proofs.Timeouts.Detecting.{IsPair, AreTicks, suspected_then}
-use Rattle.detector_bounds.proofs.Timeouts.Products.{from_tick, soon_after, at_most_last, last_is_before}
+use Rattle.detector_bounds.proofs.Timeouts.Detecting.{IsPair, AreTicks, suspected_then, Awaits, awaits_kept, firm}
 use Rattle.detector_bounds.proofs.Timeouts.Trusted.{trusts-append}
 use Rattle.detector_bounds.proofs.Timeouts.Watched.{suspects_watched}
+use Rattle.detector_bounds.proofs.Watching.{process_is, watched_is, up_until, down_from}
 use Rattle.detector_bounds.proofs.Verdicts.{pairs_keep}
 use Rattle.detector_bounds.proofs.Timeouts.Trusting as trusting
 use Rattle.detector_bounds.proofs.Timeouts.Stepping.{state_in}
 
 module _ (s : Record) (ranges : IsInRange s) (its : TimeoutNumbers) (kind : s.detector ≡ Timeout its) where
-  sound : IsSound (setting_of s)
+  abbrev pub sound : IsSound (setting_of s)
   sound = setting_sound s ranges
 
-  abbrev runs : RunsTimeout (setting_of s) its
+  abbrev pub runs : RunsTimeout (setting_of s) its
   runs = runs_timeout s its kind
 
   in_range : AreTimeoutInRange its
@@ -54,14 +54,14 @@ module _ (s : Record) (ranges : IsInRange s) (its : TimeoutNumbers) (kind : s.de
     watched : watches (place_of (setting_of s) q) its p ≡ true
     watched = ap (λ k. is_watched q s.processes (watch_of k) p) (sym kind) ∙ watching.1
 
-    is_other : (is_process s.processes p ≡ true) × (not (nat_eq p q) ≡ true)
-    is_other = and_parts _ _ (and_parts _ _ watching.1).0
-
     apart : q ≢ p
-    apart e = absurd (cc (ap not (eq-eqb p q (sym e)), is_other.1))
+    apart = (watched_is s q p watching).2
 
     subject : IsProcess s p
-    subject = let parts = and_parts _ _ is_other.0 in (leb-true 1 p parts.0, leb-true p s.processes parts.1)
+    subject = let other = watched_is s q p watching in (other.0, other.1)
+
+    subject_is : is_process s.processes p ≡ true
+    subject_is = process_is s.processes p subject.0 subject.1
 
   -- ---- at the end of a tick
 
@@ -84,30 +84,22 @@ module _ (s : Record) (ranges : IsInRange s) (its : TimeoutNumbers) (kind : s.de
 
   -- ---- crashes
 
-  correct_up : (o : Option ℕ) (t : ℕ) → s.horizon ≤ unwrap_or o (suc s.horizon) → t < s.horizon → has_crashed o t ≡ false
-  correct_up None t late below = refl
-  correct_up (Some at) t late below = lt-leb at t (omega (arith, late, below))
-
   up_before : (o : Option ℕ) (c t : ℕ) → o ≡ Some c → has_crashed o t ≡ false → t < c
   up_before o c t is up = leb-false c t (ap (λ z. has_crashed z t) (sym is) ∙ up)
-
-  down_after : (o : Option ℕ) (t : ℕ) → has_crashed o t ≡ true → unwrap_or o (suc s.horizon) ≤ t
-  down_after None t down = absurd (cc down)
-  down_after (Some at) t down = leb-true at t down
 
   -- ---- detection
 
   module _ (trace : List EntryRecord) (q p c : ℕ) (watching : Watches s q p) (crashes : CrashesAt s trace p c) where
-    abbrev last : ℕ
+    abbrev pub last : ℕ
     last = last_letter its (link s p q) c
 
-    abbrev total : ℕ
+    abbrev pub total : ℕ
     total = trusts trace q p
 
-    abbrev until : ℕ
+    abbrev pub until : ℕ
     until = detected_by (Timeout its) (link s p q) total c
 
-    until_is : detected_at s trace q p c ≡ until
+    pub until_is : detected_at s trace q p c ≡ until
     until_is = ap (λ k. detected_by k (link s p q) total c) kind
 
     delays : (link s p q).min ≤ (link s p q).max
@@ -118,40 +110,56 @@ module _ (s : Record) (ranges : IsInRange s) (its : TimeoutNumbers) (kind : s.de
       where
         go : (c : ℕ) → t < c → t + delay ≤ last_letter its (link s p q) c
         go zero none = absurd (omega (arith, none))
-        go (suc before) early = omega (arith, at, at_most_last j its.period (suc before) in_range.period_low (omega (arith, at, early)), (fate_within s p q delays number t delay f).1)
+        go (suc before) early = omega (arith, at, at_most_last its.period (suc before) in_range.period_low j (omega (arith, at, early)), (fate_within s p q delays number t delay f).1)
 
-    ticks : until < s.horizon → AreTicks (setting_of s) sound its runs q p last until total
+    pub ticks : until < s.horizon → AreTicks (setting_of s) sound its runs q p last until total
     ticks below = record {
       by_last = by_last;
       number = (last + grown its total + (its.check - 1)) / its.check;
       multiple = refl;
-      after_last = omega (arith, from_tick (last + grown its total) its.check in_range.check_low);
+      after_last = omega (arith, from_tick its.check (last + grown its total) in_range.check_low);
       below = below;
       some_timeout = in_range.timeout_low;
+    }
+
+    pub pair : IsCorrect s q → IsPair (setting_of s) sound its runs q p
+    pair correct = record {
+      watching = watching.0;
+      watched = watched q p watching;
+      apart = apart q p watching;
+      up = λ u early. up_until s q u (omega (arith, early, correct.1)) u (omega arith);
     }
 
     pub timeout_detects : IsTrace (setting_of s) trace → IsCorrect s q → From s (Suspects s trace 1 q p) (detected_at s trace q p c)
     timeout_detects is_trace correct t behind below =
         let e = at_end trace is_trace t below in
         let since : until ≤ t = omega (arith, behind, until_is) in
-        let pair : IsPair (setting_of s) sound its runs q p = record {
-          watching = watching.0;
-          watched = watched q p watching;
-          apart = apart q p watching;
-          up = λ u early. correct_up (crash s q) u correct.1 early;
-        } in
-        out_then trace is_trace t below q p (is_other q p watching).0
-        ∙ suspected_then (setting_of s) sound its runs q p pair last until total (ticks (omega (arith, since, below))) t e.history e.world e.run since (few_trusts trace is_trace t below q p)
+        out_then trace is_trace t below q p (subject_is q p watching)
+        ∙ suspected_then (setting_of s) sound its runs q p (pair correct) last until total (ticks (omega (arith, since, below))) t e.history e.world e.run since (few_trusts trace is_trace t below q p)
+
+    -- for layer 2: at every step from then on
+    module _ (correct : IsCorrect s q) (early : until < s.horizon) where
+      abbrev pub Firmly : World Mind → List EntryRecord → Type 0
+      Firmly = Awaits (setting_of s) sound its runs q p (pair correct) last until total (ticks early)
+
+      pub firmly_kept : (end : ℕ) → IsKept (setting_of s) sound end Firmly
+      firmly_kept = awaits_kept (setting_of s) sound its runs q p (pair correct) last until total (ticks early)
+
+      pub firmly : (v : World Mind) (past : List EntryRecord) → Firmly v past → trusts past q p ≤ total → NoneBelow (detected_at s trace q p c + 1) v.pending
+          → set.contains (suspected_by (v.process q).mind.lower.place (v.process q).mind.lower.detector) p ≡ true
+      firmly v past k few none =
+          ap (λ z. set.contains z p) (timeout_seen s its kind q (v.process q).mind ((k few).1.based.fits q))
+          ∙ firm (setting_of s) sound its runs q p (pair correct) last until total (ticks early) v past k few (subst (λ n. NoneBelow (n + 1) v.pending) until_is none)
 
     pub timeout_soon : detected_at s trace q p c ≤ c + longest s.detector (link s p q) total c
     timeout_soon = subst (λ k. detected_by k (link s p q) total c ≤ c + longest k (link s p q) total c) (sym kind) (go c)
       where
         go : (c : ℕ) → detected_by (Timeout its) (link s p q) total c ≤ c + longest (Timeout its) (link s p q) total c
-        go zero = omega (arith, soon_after (0 + grown its total) its.check in_range.check_low, in_range.check_low, in_range.timeout_low)
+        go zero = omega (arith, soon_from its.check (0 + grown its total) in_range.check_low, in_range.check_low, in_range.timeout_low)
         go (suc before) = omega (
           arith,
-          soon_after (last_letter its (link s p q) (suc before) + grown its total) its.check in_range.check_low,
-          last_is_before its.period (suc before),
+          soon_from its.check (last_letter its (link s p q) (suc before) + grown its total) in_range.check_low,
+          last_is_before its.period (suc before) in_range.period_low,
           in_range.check_low,
           in_range.timeout_low,
         )
@@ -171,8 +179,8 @@ module _ (s : Record) (ranges : IsInRange s) (its : TimeoutNumbers) (kind : s.de
       subject = subject q p watching;
       watched = watched q p watching;
       apart = apart q p watching;
-      p_up = λ t below down. down_after (crash s p) t down;
-      q_up = λ t below down. down_after (crash s q) t down;
+      p_up = λ t below down. down_from s p t down;
+      q_up = λ t below down. down_from s q t down;
     }
 
     timely : trusting.IsTimely (setting_of s) sound its runs q p (link s p q).min (link s p q).max
@@ -191,13 +199,13 @@ module _ (s : Record) (ranges : IsInRange s) (its : TimeoutNumbers) (kind : s.de
         let below : t < s.horizon = omega (arith, early) in
         let e = at_end trace is_trace t below in
         trusting.trusted_then (setting_of s) sound its runs q p (crash_tick s p) (crash_tick s q) watches_it (link s p q).min (link s p q).max timely
-        t e.history e.world e.run (omega (arith, early)) (omega (arith, early)) (sym (out_then trace is_trace t below q p (is_other q p watching).0) ∙ suspected)
+        t e.history e.world e.run (omega (arith, early)) (omega (arith, early)) (sym (out_then trace is_trace t below q p (subject_is q p watching)) ∙ suspected)
 
   -- nobody suspects whom it doesn't watch
   pub timeout_watched : (trace : List EntryRecord) → IsTrace (setting_of s) trace → (q p t : ℕ) → IsProcess s q → IsProcess s p → t < s.horizon → Suspects s trace 1 q p t → Watches s q p
   timeout_watched trace is_trace q p t of_q of_p below suspected =
       let e = at_end trace is_trace t below in
-      let one : is_process s.processes p ≡ true = and_true (nat_le 1 p) (nat_le p s.processes) (le-leb 1 p of_p.0) (le-leb p s.processes of_p.1) in (
+      let one : is_process s.processes p ≡ true = process_is s.processes p of_p.0 of_p.1 in (
         of_q,
         ap (λ k. is_watched q s.processes (watch_of k) p) kind
             ∙ suspects_watched (setting_of s) sound its runs q p e.history (t + 1) e.world e.run (sym (out_then trace is_trace t below q p one) ∙ suspected),

@@ -17,16 +17,18 @@ use Rattle.process_api.specs.declared.numbers.TimeoutNumbers.{TimeoutNumbers}
 use Rattle.process_api.proofs.KeyOrder.{same_or_not}
 use Rattle.streams.specs.declared.fate.Fate.TheVariants as fate
 use Rattle.trace_laws.specs.Setting.{Setting, IsSound, IsProcess, has_crashed}
-use Rattle.trace_laws.specs.World.{World, Pair, Has, IsLeast, Run, made, taken, opening, entries, start_of}
+use Rattle.trace_laws.specs.World.{World, Pair, Has, IsLeast, NoneBelow, Run, made, taken, opening, entries, start_of}
 use Rattle.trace_laws.proofs.Closed.{starts_are}
 use Rattle.trace_laws.proofs.Sets.{one_input}
 use Rattle.judges.proofs.Letters.{no_letter_first}
 use Rattle.detector_bounds.specs.Detected.{trusts}
-use Rattle.detector_bounds.proofs.Timeouts.Ends.{starts_there, none_left}
+use Rattle.process_api.specs.EntryRecord.{EntryRecord}
+use Rattle.detector_bounds.proofs.Ending.{IsKept, none_at}
+use Rattle.detector_bounds.proofs.Multiples.{mul-next, more_grown, fewer_grown, multiple_after}
+use Rattle.detector_bounds.proofs.Standing.{starts_there}
 use Rattle.detector_bounds.proofs.Timeouts.Joined.{RunsTimeout, place_of}
 use Rattle.detector_bounds.proofs.Timeouts.Acting.{IsBeating, IsChecking}
 use Rattle.detector_bounds.proofs.Timeouts.Noticing.{by_input}
-use Rattle.detector_bounds.proofs.Timeouts.Products.{next_multiple, more_grown, fewer_grown, multiple_after}
 use Rattle.detector_bounds.proofs.Timeouts.Stepping.{state_in, IsBased, opening_based, is_down, later, next_based, next_state, alive_cases, beat_cases, check_pending, stays, trust_counted}
 use Rattle.detector_bounds.proofs.Timeouts.Trusted.{trusts-append}
 
@@ -66,7 +68,7 @@ module _ {Mind : Type 0} (S : Setting Mind) (sound : IsSound S) (numbers : Timeo
       pub tick : key.tick ≡ number * numbers.check
       pub in_time : key.tick ≤ until
 
-    pub record IsAwaiting (count now : ℕ) (w : World Mind) : Type 1 where
+    pub record IsAwaiting (count now : ℕ) (w : World Mind) : Type 0 where
       pub based : IsBased S sound numbers R now w
       pub beats : (key : Key) (y : StepInput) → Has w.pending key y → IsBeating y → key.receiver ≡ p → (j : ℕ) × (key.tick ≡ j * numbers.period)
       pub letters : (key : Key) → Has w.pending key (input.Letter p payload.Alive) → key.receiver ≡ q → key.tick ≤ last
@@ -90,7 +92,7 @@ module _ {Mind : Type 0} (S : Setting Mind) (sound : IsSound S) (numbers : Timeo
         | inl old ↦ v.beats key y old.1 is at
         | inr new ↦
             let j = v.beats k x least.there new.2 (sym new.0 ∙ at) in
-            (j.0 + 1, new.3 ∙ ap (λ t. t + numbers.period) j.1 ∙ sym (next_multiple j.0 numbers.period))
+            (j.0 + 1, new.3 ∙ ap (λ t. t + numbers.period) j.1 ∙ sym (mul-next j.0 numbers.period))
       ]
 
       below : k.tick < S.horizon
@@ -169,7 +171,7 @@ module _ {Mind : Type 0} (S : Setting Mind) (sound : IsSound S) (numbers : Timeo
                 checks = tt;
                 starts = λ e. absurd (cc e);
                 receiver = r.1 ∙ sym mine;
-                tick = omega (arith, r.2, tick, next_multiple c.number numbers.check);
+                tick = omega (arith, r.2, tick, mul-next c.number numbers.check);
                 in_time = omega (arith, r.2, room, tick, ticks.multiple);
               }
 
@@ -258,4 +260,22 @@ module _ {Mind : Type 0} (S : Setting Mind) (sound : IsSound S) (numbers : Timeo
         → set.contains (state_in S sound numbers R w q).suspects p ≡ true
     suspected_then t history w run behind few =
         let r = run_awaits history (t + 1) (opening S) w 0 0 opening_awaits run (omega (arith, few)) in
-        elim r.2.checking [ inl over ↦ over.0 | inr c ↦ absurd (omega (arith, none_left S (t + 1) history (opening S) w run c.key c.input_is c.there, c.in_time, behind)) ]
+        elim r.2.checking [ inl over ↦ over.0 | inr c ↦ absurd (omega (arith, none_at S sound (t + 1) history (opening S) w run c.key c.input_is c.there, c.in_time, behind)) ]
+
+    -- the same at every step: what is known while q hasn't trusted p more often
+    abbrev pub Awaits : World Mind → List EntryRecord → Type 0
+    Awaits w past = trusts past q p ≤ total → (now : ℕ) × IsAwaiting (trusts past q p) now w
+
+    pub awaits_kept : (end : ℕ) → IsKept S sound end Awaits
+    awaits_kept end = record {
+      opens = λ few. (0, opening_awaits);
+      keeps = λ w past k x is_world awaits least early few.
+          let all = trusts-append past ((made S w k x).entry ∷ []) q p in
+          let before : trusts past q p ≤ total = omega (arith, few, all) in
+          let v = awaits before in
+          (k.tick, subst (λ n. IsAwaiting n k.tick (taken S w k x)) (sym all) (next_awaits (trusts past q p) v.0 w v.1 k x least before));
+    }
+
+    -- and once nothing up to until is pending, p is suspected for good
+    pub firm : (w : World Mind) (past : List EntryRecord) → Awaits w past → trusts past q p ≤ total → NoneBelow (until + 1) w.pending → set.contains (state_in S sound numbers R w q).suspects p ≡ true
+    firm w past awaits few none = elim (awaits few).1.checking [ inl over ↦ over.0 | inr c ↦ absurd (omega (arith, none c.key c.input_is c.there, c.in_time)) ]

@@ -10,4 +10,4 @@ abbrev pub place_of : {Mind : Type 0} → Setting Mind → ℕ → Place
 place_of S p = record { own = p; processes = S.processes; horizon = S.horizon }
 
 abbrev pub RunsTimeout : {Mind : Type 0} → Setting Mind → TimeoutNumbers → Type 1
-RunsTimeout S numbers = RunsDetector S (opening_timeout numbers) (λ p d now x. step_timeout (place_of S p) numbers d now x) (λ p d. d.suspects)
+RunsTimeout S numbers = RunsDetector 1 S (opening_timeout numbers) (λ p d now x. step_timeout (place_of S p) numbers d now x) (λ p d. d.suspects)

@@ -26,7 +26,7 @@ use Rattle.judges.proofs.Members.{each_of}
 use Rattle.detector_bounds.specs.Detected.{trusts}
 use Rattle.detector_bounds.proofs.Timeouts.Noticing.{notes_trust}
 use Rattle.detector_bounds.proofs.Timeouts.Trusted.{acted_note, entry_counts}
-use Rattle.detector_bounds.proofs.Timeouts.Events.{IsOf, Comes, IsAddedAt, comes_of, wake_joins, letter_joins}
+use Rattle.detector_bounds.proofs.Events.{IsOf, Comes, IsAddedAt, comes_of, wake_joins, letter_joins}
 use Rattle.detector_bounds.proofs.Above.{IsFollowed}
 use Rattle.detector_bounds.proofs.Timeouts.Joined.{RunsTimeout, place_of}
 use Rattle.detector_bounds.proofs.Timeouts.Acting.{IsBeating, IsChecking, IsDone, all_done, beats_on, checks_on, sends_on}
@@ -37,7 +37,7 @@ module _ {Mind : Type 0} (S : Setting Mind) (sound : IsSound S) (numbers : Timeo
   state_in w p = R.part (w.process p).mind
 
   -- a world of such machines in which nothing is pending below a tick
-  pub record IsBased (now : ℕ) (w : World Mind) : Type 1 where
+  pub record IsBased (now : ℕ) (w : World Mind) : Type 0 where
     pub is_world : IsWorld S w
     pub fits : (p : ℕ) → R.has p (w.process p).mind
     pub from : NoneBelow now w.pending
@@ -77,7 +77,7 @@ module _ {Mind : Type 0} (S : Setting Mind) (sound : IsSound S) (numbers : Timeo
       ];
     }
 
-    followed : IsFollowed (step_timeout (place_of S k.receiver) numbers (state_in w k.receiver) k.tick x).actions (S.react before.mind k.tick x).actions
+    followed : IsFollowed 1 (step_timeout (place_of S k.receiver) numbers (state_in w k.receiver) k.tick x).actions (S.react before.mind k.tick x).actions
     followed = R.acts k.receiver before.mind k.tick x (b.fits k.receiver)
 
     stepped : R.part (S.react before.mind k.tick x).state ≡ (step_timeout (place_of S k.receiver) numbers (state_in w k.receiver) k.tick x).state

@@ -19,7 +19,8 @@ use Rattle.streams.specs.declared.fate.Fate.TheVariants as fate
 use Rattle.trace_laws.specs.Setting.{Setting, IsSound, IsProcess, has_crashed}
 use Rattle.trace_laws.specs.World.{World, Pair, Has, IsLeast, Run, taken, opening, start_of}
 use Rattle.trace_laws.proofs.Sets.{one_input}
-use Rattle.detector_bounds.proofs.Timeouts.Ends.{starts_there, none_left}
+use Rattle.detector_bounds.proofs.Ending.{none_at}
+use Rattle.detector_bounds.proofs.Standing.{starts_there}
 use Rattle.detector_bounds.proofs.Timeouts.Joined.{RunsTimeout, place_of}
 use Rattle.detector_bounds.proofs.Timeouts.Acting.{IsBeating}
 use Rattle.detector_bounds.proofs.Timeouts.Noticing.{by_input}
@@ -259,6 +260,6 @@ module _ {Mind : Type 0} (S : Setting Mind) (sound : IsSound S) (numbers : Timeo
         go r.0 r.1 (r.2.brief was)
       where
         go : (then : ℕ) → then < t + 1 → IsBrief w then → ⊥
-        go then before (inl (key, there, to, at)) = omega (arith, none_left S (t + 1) history (opening S) w run key (input.Letter p payload.Alive) there, at, before)
+        go then before (inl (key, there, to, at)) = omega (arith, none_at S sound (t + 1) history (opening S) w run key (input.Letter p payload.Alive) there, at, before)
         go then before (inr (inl crash)) = omega (arith, crash, before, p_up)
         go then before (inr (inr crash)) = omega (arith, crash, before, q_up)

@@ -1,11 +1,13 @@
-use Rattle.std.proofs.Common.{◌≡◌, rules}
+use Rattle.std.proofs.Common.{◌≡◌, rules, subst, sym}
+use Rattle.promised.specs.Kept.{KeepsPromises}
 use Rattle.promised.specs.Links.{watched_links}
 use Rattle.promised.specs.Promised.{promised}
 use Rattle.promised.proofs.Promising.{same_numbers}
+use Rattle.promised.proofs.Keeping.{promises_kept}
 use Rattle.promised.proofs.bounds.promised_bounds.Goals as goal
 
-pub returns : goal.returns
-returns c =
+pub returns-clause-value : goal.returns-clause-value
+returns-clause-value c =
     let S = c.args.scenario.now in
     let detector : c.detector-detector.result ≡ S.detector = c.detector-detector.ensures.value in
     let horizon : c.horizon-horizon.result ≡ S.horizon = c.horizon-horizon.ensures.value in
@@ -17,3 +19,8 @@ returns c =
     (rw (c.count_reliable.ensures, c.deref-3.ensures.value, links, detector))
     (rw (c.count_lossy.ensures, c.deref-4.ensures.value, links))
     (rw (c.greatest_needed.ensures, c.deref-5.ensures.value, links, detector))
+
+pub returns-clause-kept : goal.returns-clause-kept
+returns-clause-kept c =
+    let S = c.args.scenario.now in
+    subst (KeepsPromises S) (sym (returns-clause-value c)) (promises_kept S c.horizon-horizon.ensures.ranges)

@@ -5,7 +5,7 @@ use Rattle.study_commands.proofs.bounds_lines.bounds_lines.Goals as goal
 pub returns : goal.returns
 returns c =
     let s = c.args.scenario.now in
-    let bounds : c.in_ok-bounds.bounds ≡ promised s = c.in_ok-bounds.ensures in
+    let bounds : c.in_ok-bounds.bounds ≡ promised s = c.in_ok-bounds.ensures.value in
     let detector : c.detector-detector.result ≡ s.detector = c.detector-detector.ensures.value in
     rw (
       c.in_ok-detection.ensures,

@@ -31,7 +31,8 @@ pub returns-clause-refused : goal.returns-clause-refused
 returns-clause-refused g c =
     let of = c.in_ok-of.of.items in
     let s = c.in_ok-scenario.scenario in
-    let is : IsOfPicture c.args.picture s of c.unwrap_or-from.result c.unwrap_or-until.result c.fault_of.result =
+    let is : IsOfPicture c.args.texts.now.path.now c.args.picture s of c.unwrap_or-from.result c.unwrap_or-until.result
+    c.fault_of.result =
     search rules in
     picture_stops (g.I.Read.remaining c.args.input.now) c.args.texts.now c.args.picture c.args.from c.args.until
     (option_map (λ w. w.now) c.args.of) s of c.fault_of.result c.in_ok-scenario.ensures.scenario

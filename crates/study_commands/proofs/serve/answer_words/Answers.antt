@@ -1,17 +1,12 @@
 use Rattle.std.proofs.Common.{map, inl, inr, refl}
 use Rattle.std.proofs.lemmas.Result.{IfErr-weaker, on_ok_weaker}
-use Rattle.study_line.specs.Order.{States}
-use Rattle.study_commands.specs.Answer.{Answers, Leaves, Writes}
-use Rattle.study_commands.specs.Fault.{end_of}
-use Rattle.study_commands.proofs.Stopping.{asks_help, help_told}
-use Rattle.shell.proofs.Going.{for_help, for_order}
+use Rattle.study_commands.proofs.Stopping.{order_goes, telling_asked, telling_goes}
 use Rattle.study_commands.proofs.serve.answer_words.Goals as goal
 
 pub returns-in-Ok-clause-text : goal.returns-in-Ok-clause-text
 returns-in-Ok-clause-text g c =
-    let input = g.I.Read.remaining c.args.input.now in
-    for_order _ _ _ _ end_of c.carry_out.result (States (map (λ w. w.now) c.args.words.now)) (Answers input)
-    (Writes input) (Leaves input) _ c.in-Ok.order c.in-Ok.ensures.stated c.carry_out.ensures.text
+    order_goes _ _ _ _ (map (λ w. w.now) c.args.words.now) c.carry_out.result
+    (g.I.Read.remaining c.args.input.now) c.in-Ok.order c.in-Ok.ensures.stated c.carry_out.ensures.text
 
 pub returns-in-Ok-clause-why : goal.returns-in-Ok-clause-why
 returns-in-Ok-clause-why g c =
@@ -21,10 +16,8 @@ returns-in-Ok-clause-why g c =
 
 pub returns-in-Err-clause-text : goal.returns-in-Err-clause-text
 returns-in-Err-clause-text g c =
-    let input = g.I.Read.remaining c.args.input.now in
-    let words = map (λ w. w.now) c.args.words.now in
-    for_help _ _ _ _ end_of c.tell.result (States words) (Answers input) (Writes input) (Leaves input) _ _
-    (λ is. asks_help words c.in-Err.error is c.in-Err.ensures.refused) c.tell.ensures.text
+    telling_goes _ _ _ _ (map (λ w. w.now) c.args.words.now) c.tell.result (g.I.Read.remaining c.args.input.now)
+    c.in-Err.error c.in-Err.ensures.refused c.tell.ensures.text
 
 pub returns-in-Err-clause-why : goal.returns-in-Err-clause-why
 returns-in-Err-clause-why g c =
@@ -38,6 +31,6 @@ returns-in-Ok-clause-told g c =
 
 pub returns-in-Err-clause-told : goal.returns-in-Err-clause-told
 returns-in-Err-clause-told g c =
-    let words = map (λ w. w.now) c.args.words.now in
     on_ok_weaker c.tell.result (λ asks. inr (asks, refl))
-    (help_told _ _ _ _ words c.in-Err.error c.tell.result c.tell.ensures.text c.in-Err.ensures.refused)
+    (telling_asked _ _ _ _ (map (λ w. w.now) c.args.words.now) c.tell.result c.in-Err.error c.in-Err.ensures.refused
+    c.tell.ensures.text)
