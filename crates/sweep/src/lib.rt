@@ -26,6 +26,7 @@
 
 mod adding;
 mod batches;
+mod bounds;
 mod checking;
 mod column_table;
 mod columns;
@@ -56,8 +57,8 @@ mod watcher;
 
 pub use checking::check_study;
 pub use columns::{
-    Columns, DecisionSums, Distribution, FirstRuns, LayerSums, PairSums, RunCounts, TraceSums,
-    VerdictCounts,
+    Columns, DecisionSums, DetectionBounds, Distribution, FirstRuns, LayerSums, PairSums,
+    RunCounts, TraceSums, VerdictCounts,
 };
 pub use error::{GroupError, LayoutError, SweepError};
 pub use group::{Group, PairBlock, PairGroup, Processes};
