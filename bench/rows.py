@@ -196,7 +196,7 @@ class Run:
         return (own or [self.file["link"]])[0]["max"]
 
     def bound(self, observer, subject):
-        """How many ticks after its crash, at most, the subject is suspected to the end on layer 1; None where that is not
+        """How many ticks after its crash, at most, the subject is suspected to the end on layer 1; None where that isn't
         before the horizon."""
         its, crash = self.file["detector"], self.crashes[subject]
         if its.get("kind") == "freshness":
@@ -310,7 +310,8 @@ def row_of(runs, layer):
     row["mistakes_error"] = error_of(len(done), row["mistakes"], row["mistakes_squared_sum"])
     row["mistake_recurrence"] = row["pair_ticks"] // row["mistakes"] if row["mistakes"] else None
     row["mistaken_ppm"] = 1000000 * row["mistake_ticks"] // row["pair_ticks"] if row["pair_ticks"] else None
-    row |= detections(done, layer) | decisions(done) | {"detection_bound": detection_bound(done) if layer == 1 else None}
+    row |= detections(done, layer) | decisions(done)
+    row["detection_bound"] = detection_bound(done) if layer == 1 else None
     for name in VERDICTS:
         row[name] = sum(run.values("verdict", layer, 0, 0)[name] not in ("no", "none") for run in done)
     row["mistake_run"] = first(runs, lambda run: layer in run.layers and mistakes_of(run, layer) > 0)

@@ -68,8 +68,8 @@ is_to_detect Na = false
 is_to_detect NoTick = true
 is_to_detect (At ticks) = true
 
--- how many ticks after the crash of p, at most, q suspects it to the end on layer 1, where it trusted it again so often:
--- whatever befalls, it does from its bound on. None where that tick isn't before the horizon
+-- how many ticks after the crash of p, at most, q suspects it to the end on layer 1, where it trusted it again so
+-- often: from this tick on it does, in whatever run. None where the tick isn't before the horizon
 abbrev pub bound_after : Record → (trusts q p : ℕ) → Option ℕ
 bound_after S trusts q p =
     if nat_lt (detected_by S.detector (link S p q) trusts (crash_tick S p)) S.horizon

@@ -8,8 +8,9 @@
 //! point, to which runs were added one by one, are those of the list of these runs, and that the text has the rows of
 //! all points, or of all runs (`specs/StudyText.antt`).
 //!
-//! A row of layer 1 tells a bound of its detections, by what no run breaks (`detector_bounds`) and the trusts of its runs,
-//! where each lies before the horizon. It is proved that then each crash that was to be detected was, and none later.
+//! A row of layer 1 tells a bound of its detections, by what no run breaks (`detector_bounds`) and the trusts of its
+//! runs, where each lies before the horizon. It is proved that then each crash that was to be detected was, and none
+//! later.
 //!
 //! A layout may have groups of pairs of processes ([`PairGroup`], `specs/Groups.antt`), as words say them
 //! (`specs/GroupWords.antt`). Then a point has its rows once for each group, and what is of pairs counts those of the
